@@ -1,0 +1,122 @@
+-- Fields that stand in the input: how each is read, and what it means that a value stands there
+-- (ISO/IEC 18181-1, notation of bundles and of the field types u(n), Bool and U32).
+use Rattle.std.specs.Prelude.{◌≡◌, ℕ, zero, suc, ◌+◌, ◌*◌, ◌^◌, ◌≤◌, List, [], ◌∷◌, length, Bool, nat_lt, ◌==◌, if◌then◌else◌, MatchBool, Option, Some, None, Result, Ok, Err}
+use Rattle.jxlm_base.specs.Bits.{bits_at}
+use Rattle.jxlm_base.specs.Decoding.{Found}
+use Rattle.jxlm_base.specs.Fault.{Fault, Eof, Refused, bitstream_fault, fault_of, UnlessMemory}
+use Rattle.jxlm_base.specs.declared.bits.BitstreamError.{BitstreamError}
+use Rattle.jxlm_base.specs.declared.bits.U32Spec.{U32Spec}
+use Rattle.jxlm_base.specs.declared.bits.U32Spec.TheVariants.{Const, Offset}
+use Rattle.jxlm_base.specs.declared.error.Error.{Error}
+
+-- A kind of field, over bytes and places in bits.
+pub record Grammar (X : Type 0) : Type 1 where
+  -- what is read at a place: the value and the place behind it, or the first fault and the reader's place
+  pub read : List ℕ → ℕ → Result (Found X) Refused
+  -- the value stands from the first place to the second, in any of its spellings
+  pub Stands : List ℕ → ℕ → X → ℕ → Type 0
+
+-- The two laws of a field: what is read stands there; what stands there is read.
+pub record IsExact {X : Type 0} (field : Grammar X) : Type 0 where
+  pub read_stands : (bytes : List ℕ) (p : ℕ) (found : Found X) → field.read bytes p ≡ Ok found → field.Stands bytes p found.value found.position
+  pub stands_read : (bytes : List ℕ) (p : ℕ) (x : X) (q : ℕ) → field.Stands bytes p x q → field.read bytes p ≡ Ok (record { value = x; position = q })
+
+-- what follows a reading that found something
+abbrev pub behind : {X Y : Type 0} → Result (Found X) Refused → (Found X → Result (Found Y) Refused) → Result (Found Y) Refused
+behind (Ok found) next = next found
+behind (Err e) next = Err e
+
+-- a reading whose fault leaves the reader at p
+abbrev pub undone : {X : Type 0} → ℕ → Result (Found X) Refused → Result (Found X) Refused
+undone p (Ok found) = Ok found
+undone p (Err e) = Err (record { fault = e.fault; position = Some p })
+
+-- u(n): the number of n bits, which must all be there
+abbrev pub number : ℕ → Grammar ℕ
+number n = record {
+  read = λ bytes p. if nat_lt (8 * length bytes) (p + n) then Err (record { fault = Eof; position = Some p }) else Ok (record { value = bits_at bytes p n; position = p + n });
+  Stands = λ bytes p v q. (p + n ≤ 8 * length bytes) × (v ≡ bits_at bytes p n) × (q ≡ p + n);
+}
+
+-- a value that takes no bits
+abbrev pub give : {X : Type 0} → X → Grammar X
+give x = record { read = λ bytes p. Ok (record { value = x; position = p }); Stands = λ bytes p y q. (y ≡ x) × (q ≡ p) }
+
+-- no value has this meaning
+abbrev pub refuse : {X : Type 0} → Fault → Grammar X
+refuse fault = record { read = λ bytes p. Err (record { fault = fault; position = Some p }); Stands = λ bytes p y q. ⊥ }
+
+-- one field, and behind it one that may depend on its value
+infixl 10 ◌>>=◌
+abbrev pub ◌>>=◌ : {X Y : Type 0} → Grammar X → (X → Grammar Y) → Grammar Y
+◌>>=◌ {X} field next = record {
+  read = λ bytes p. behind (field.read bytes p) (λ found. (next found.value).read bytes found.position);
+  Stands = λ bytes p y q. (x : X) × (m : ℕ) × field.Stands bytes p x m × (next x).Stands bytes m y q;
+}
+
+-- the first field where the test holds, else the second
+abbrev pub either : {X : Type 0} → Bool → Grammar X → Grammar X → Grammar X
+either b yes_field no_field = record {
+  read = λ bytes p. if b then yes_field.read bytes p else no_field.read bytes p;
+  Stands = λ bytes p x q. MatchBool b (yes_field.Stands bytes p x q) (no_field.Stands bytes p x q);
+}
+
+-- fields that are cut off together: a fault leaves the reader before them all
+abbrev pub whole : {X : Type 0} → Grammar X → Grammar X
+whole field = record { read = λ bytes p. undone p (field.read bytes p); Stands = field.Stands }
+
+-- n fields of one kind
+abbrev pub repeated : {X : Type 0} → ℕ → Grammar X → Grammar (List X)
+repeated zero field = give []
+repeated (suc n) field = do
+  x ← field
+  xs ← repeated n field
+  give (x ∷ xs)
+
+-- Bool
+abbrev pub flag : Grammar Bool
+flag = do
+  bit ← number 1
+  give (bit == 1)
+
+-- a part of a U32: a constant, or n bits above a least value
+abbrev pub part : U32Spec → Grammar ℕ
+part (Const n) = give n
+part (Offset least n) = do
+  v ← number n
+  give (least + v)
+
+-- U32: two bits choose one of four parts; cut off, it leaves the reader before them
+abbrev pub selected : U32Spec → U32Spec → U32Spec → U32Spec → Grammar ℕ
+selected d0 d1 d2 d3 = do
+  selector ← number 2
+  either (selector == 0) (part d0) (either (selector == 1) (part d1) (either (selector == 2) (part d2) (part d3)))
+
+abbrev pub u32 : U32Spec → U32Spec → U32Spec → U32Spec → Grammar ℕ
+u32 d0 d1 d2 d3 = whole (selected d0 d1 d2 d3)
+
+-- the greatest value of a part is a 32-bit number
+abbrev pub FitsU32 : U32Spec → Type 0
+FitsU32 (Const n) = Unit {0}
+FitsU32 (Offset least n) = (n ≤ 32) × (least + 2 ^ n ≤ 2 ^ 32)
+
+-- What a read answered, seen by view, and where it left the reader, is what reading gives.
+abbrev pub Reads : {X Y : Type 0} → (X → Y) → Result X BitstreamError → ℕ → Result (Found Y) Refused → Type 0
+Reads view (Ok x) q reading = reading ≡ Ok (record { value = view x; position = q })
+Reads view (Err e) q reading = reading ≡ Err (record { fault = bitstream_fault e; position = Some q })
+
+-- the reader stands there, where a place is named; where none is, it is the decoder's own matter
+abbrev pub StandsAtPlace : Option ℕ → ℕ → Type 0
+StandsAtPlace None q = Unit {0}
+StandsAtPlace (Some p) q = q ≡ p
+
+-- the reading is refused by this fault, and the reader stands at q
+pub record IsRefused {Y : Type 0} (reading : Result (Found Y) Refused) (fault : Fault) (q : ℕ) : Type 0 where
+  pub place : Option ℕ
+  pub refuses : reading ≡ Err (record { fault = fault; position = place })
+  pub stands : StandsAtPlace place q
+
+-- What a call answered, seen by view, and where it left the reader, is what reading gives; memory may be refused at any time.
+abbrev pub Answers : {X Y : Type 0} → (X → Y) → Result X Error → ℕ → Result (Found Y) Refused → Type 0
+Answers view (Ok x) q reading = reading ≡ Ok (record { value = view x; position = q })
+Answers view (Err e) q reading = UnlessMemory (fault_of e) (IsRefused reading (fault_of e) q)

@@ -1,0 +1,12 @@
+pub mod Bits
+pub mod Decoding
+pub mod Fault
+pub mod Grammar
+pub mod Grid
+pub mod GridLends
+pub mod Numbers
+pub mod Plain
+pub mod PlainLaws
+pub mod Region
+pub mod Rewrites
+pub mod Subgrid

@@ -1,0 +1,158 @@
+//! Bits of the input, least significant first.
+
+ghost use Rattle.std.specs.Prelude.{◌≡◌, ℕ, ◌+◌, ◌*◌, ◌^◌, ◌-◌, ◌<◌, ◌≤◌, ◌↔◌, min, length, IfOk, IfErr, IsTrue, Bool};
+
+use thiserror::Error;
+
+/// Why a read of the input is refused.
+#[derive(Clone, Copy, Debug, PartialEq, Eq, Error)]
+pub enum BitstreamError {
+    /// The input ends before the field does.
+    #[error("unexpected end of input")]
+    UnexpectedEof,
+    /// A number that names nothing.
+    #[error("invalid enum value {value} for {name}")]
+    InvalidEnum { name: &'static str, value: u32 },
+    /// A limit of the profile is passed.
+    #[error("{0}")]
+    ProfileConformance(&'static str),
+}
+
+impl BitstreamError {
+    ghost use Rattle.jxlm_base.specs.declared.bits.BitstreamError.TheVariants.{UnexpectedEof};
+
+    /// Whether the input ended too early.
+    pub fn unexpected_eof(&self) -> bool
+        ensures { IsTrue result ↔ self.now ≡ UnexpectedEof }
+    {
+        matches!(self, BitstreamError::UnexpectedEof)
+    }
+}
+
+/// A part of a `U32` field: a constant, or a number of bits above an offset.
+#[derive(Clone, Copy, Debug, PartialEq, Eq)]
+pub enum U32Spec {
+    /// This number, which takes no bits.
+    Const(u32),
+    /// The offset, and so many bits more.
+    Offset(u32, u32),
+}
+
+/// The input, and a place in it.
+#[derive(Clone, Copy)]
+pub struct Bitstream<'a> {
+    bytes: &'a [u8],
+    at: u128,
+    ghost within: { at ≤ 8 * length bytes.now },
+}
+
+impl<'a> Bitstream<'a> {
+    ghost use Rattle.jxlm_base.specs.Bits.{bytes_of, position_of, bits_at};
+    ghost use Rattle.jxlm_base.specs.Grammar.{flag, part, selected, u32 as the_u32, FitsU32, Reads};
+
+    /// The start of the input.
+    pub fn new(bytes: &'a [u8]) -> Self
+        ensures bytes { bytes_of result ≡ bytes.now }
+        ensures position { position_of result ≡ 0 }
+    {
+        Bitstream { bytes, at: 0 }
+    }
+
+    /// How many bits were read; `u64::MAX` stands for more.
+    pub fn position(&self) -> u64
+        ensures { result ≡ min (position_of self.now) (2 ^ 64 - 1) }
+    {
+        if self.at < 1 << 64 {
+            self.at as u64
+        } else {
+            u64::MAX
+        }
+    }
+
+    /// The next `n` bits as a number, the first bit the least significant.
+    pub fn read_bits(&mut self, n: u32) -> Result<u32, BitstreamError>
+        requires { n ≤ 32 }
+        ensures ok { IfOk result (λ v. (position_of self.old + n ≤ 8 * length (bytes_of self.old)) × (v ≡ bits_at (bytes_of self.old) (position_of self.old) n) × (position_of self.new ≡ position_of self.old + n)) }
+        ensures below { IfOk result (λ v. v < 2 ^ n) }
+        ensures err { IfErr result (λ e. (8 * length (bytes_of self.old) < position_of self.old + n) × (e ≡ BitstreamError.UnexpectedEof) × (self.new ≡ self.old)) }
+        ensures bytes { bytes_of self.new ≡ bytes_of self.old }
+    {
+        let all = self.bytes.len() as u128 * 8;
+        let end = self.at + u128::from(n);
+        if end > all {
+            return Err(BitstreamError::UnexpectedEof);
+        }
+        let mut value = 0u32;
+        for j in 0..n {
+            let place = self.at + u128::from(j);
+            let byte = self.bytes[(place / 8) as usize];
+            let bit = (byte >> (place % 8) as u32) % 2;
+            value += u32::from(bit) << j;
+        }
+        self.at = end;
+        Ok(value)
+    }
+
+    /// The next bit as a truth value.
+    pub fn read_bool(&mut self) -> Result<bool, BitstreamError>
+        ensures gives { Reads (λ v. v) result (position_of self.new) (flag.read (bytes_of self.old) (position_of self.old)) }
+        ensures bytes { bytes_of self.new ≡ bytes_of self.old }
+    {
+        Ok(self.read_bits(1)? == 1)
+    }
+
+    fn read_part(&mut self, d: U32Spec) -> Result<u32, BitstreamError>
+        requires fits { FitsU32 d }
+        ensures gives { Reads (λ v. v) result (position_of self.new) ((part d).read (bytes_of self.old) (position_of self.old)) }
+        ensures bytes { bytes_of self.new ≡ bytes_of self.old }
+    {
+        match d {
+            U32Spec::Const(value) => Ok(value),
+            U32Spec::Offset(least, n) => {
+                let value = self.read_bits(n)?;
+                Ok(least + value)
+            }
+        }
+    }
+
+    fn read_selected(
+        &mut self,
+        d0: U32Spec,
+        d1: U32Spec,
+        d2: U32Spec,
+        d3: U32Spec,
+    ) -> Result<u32, BitstreamError>
+        requires fits { FitsU32 d0 × FitsU32 d1 × FitsU32 d2 × FitsU32 d3 }
+        ensures gives { Reads (λ v. v) result (position_of self.new) ((selected d0 d1 d2 d3).read (bytes_of self.old) (position_of self.old)) }
+        ensures bytes { bytes_of self.new ≡ bytes_of self.old }
+    {
+        let selector = self.read_bits(2)?;
+        if selector == 0 {
+            self.read_part(d0)
+        } else if selector == 1 {
+            self.read_part(d1)
+        } else if selector == 2 {
+            self.read_part(d2)
+        } else {
+            self.read_part(d3)
+        }
+    }
+
+    /// A `U32` field: two bits choose one of the four parts.
+    pub fn read_u32(
+        &mut self,
+        d0: U32Spec,
+        d1: U32Spec,
+        d2: U32Spec,
+        d3: U32Spec,
+    ) -> Result<u32, BitstreamError>
+        requires fits { FitsU32 d0 × FitsU32 d1 × FitsU32 d2 × FitsU32 d3 }
+        ensures gives { Reads (λ v. v) result (position_of self.new) ((the_u32 d0 d1 d2 d3).read (bytes_of self.old) (position_of self.old)) }
+        ensures bytes { bytes_of self.new ≡ bytes_of self.old }
+    {
+        let mut ahead = *self;
+        let value = ahead.read_selected(d0, d1, d2, d3)?;
+        *self = ahead;
+        Ok(value)
+    }
+}

@@ -1,0 +1,10 @@
+//! The base of the decoder: bits, faults, samples, grids, entropy decoders.
+#![tactic(auto)]
+
+pub mod bits;
+pub mod decoder;
+pub mod error;
+pub mod grid;
+pub mod plain;
+pub mod sample;
+pub mod subgrid;

@@ -1,0 +1,208 @@
+//! The two types of a sample.
+ghost use Rattle.std.specs.Prelude.{◌≡◌, ℤ, pos, ◌+ℤ◌, ◌*ℤ◌, FitsSigned, refl, MatchResult};
+ghost use Rattle.std.specs.Int.{Width, w16, w32, int_wrap};
+ghost use Rattle.jxlm_base.specs.Grid.{meanings};
+ghost use Rattle.jxlm_base.specs.Numbers.{unpack, clamped_gradient};
+
+use crate::grid::AlignedGrid;
+
+/// What a sample's type computes. Contracts see a sample as the whole number that it stands for.
+pub trait Sealed: Copy + Default {
+    // the number that a sample stands for, the sample of a number, and the type's width
+    ghost to_int: { Self → ℤ };
+
+    ghost from_int: { ℤ → Self };
+
+    ghost width: { Width };
+
+    /// The signed number of a token, reduced to the type's width: 2k stands for k, and 2k + 1 for -k - 1.
+    fn unpack_signed_u32(value: u32) -> Self
+        ensures { result ≡ Self.from_int (int_wrap Self.width (unpack value)) };
+
+    /// The sum, reduced to the type's width.
+    fn add(self, rhs: Self) -> Self
+        ensures { result ≡ Self.from_int (int_wrap Self.width (Self.to_int self +ℤ Self.to_int rhs)) };
+
+    /// The product with `mul`, and `add` more, reduced to the type's width.
+    fn wrapping_muladd_i32(self, mul: i32, add: i32) -> Self
+        ensures { result ≡ Self.from_int (int_wrap Self.width (Self.to_int self *ℤ mul +ℤ add)) };
+
+    /// `n + w - nw`, clamped between the lesser and the greater of `n` and `w`.
+    fn grad_clamped(n: Self, w: Self, nw: Self) -> Self
+        ensures { result ≡ Self.from_int (clamped_gradient (Self.to_int n) (Self.to_int w) (Self.to_int nw)) };
+
+    /// The grid itself, `Ok` where its samples are `i32`.
+    fn try_into_grid_i32(grid: AlignedGrid<Self>) -> Result<AlignedGrid<i32>, AlignedGrid<Self>>
+        ensures { MatchResult result (λ g. g ≡ meanings Self.to_int grid) (λ g. g ≡ grid) };
+
+    /// The grid itself, `Ok` where its samples are `i16`.
+    fn try_into_grid_i16(grid: AlignedGrid<Self>) -> Result<AlignedGrid<i16>, AlignedGrid<Self>>
+        ensures { MatchResult result (λ g. g ≡ meanings Self.to_int grid) (λ g. g ≡ grid) };
+
+    ghost to_int_from_int: { (n : ℤ) → to_int (from_int n) ≡ n };
+
+    ghost from_int_to_int: { (x : Self) → from_int (to_int x) ≡ x };
+
+    ghost default_is_zero: { (x : Self) → Self.is_default x → x ≡ from_int (pos 0) };
+
+    ghost clone_is_same: { (x y : Self) → Self.is_clone x y → y ≡ x };
+}
+
+/// A sample of a Modular image: `i32` or `i16`.
+pub trait Sample: Copy + Default + Sealed + 'static {
+    /// The number, reduced to the type's width.
+    fn from_i32(value: i32) -> Self
+        ensures { result ≡ Self.from_int (int_wrap Self.width value) };
+
+    /// The number, reduced to the type's width.
+    fn from_u32(value: u32) -> Self
+        ensures { result ≡ Self.from_int (int_wrap Self.width (pos value)) };
+
+    /// The number itself.
+    fn to_i64(self) -> i64
+        ensures { result ≡ Self.to_int self };
+
+    /// The number itself.
+    fn to_i32(self) -> i32
+        ensures value { result ≡ Self.to_int self }
+        ensures fits { FitsSigned Self.width (Self.to_int self) };
+}
+
+fn reduced_to_i16(value: i32) -> i16
+    ensures { result ≡ int_wrap w16 value }
+{
+    (value.rem_euclid(65536) as u16).cast_signed()
+}
+
+impl Sealed for i32 {
+    ghost to_int = { λ x. x };
+
+    ghost from_int = { λ n. n };
+
+    ghost width = { w32 };
+
+    fn unpack_signed_u32(value: u32) -> i32 {
+        let half = (value / 2) as i32;
+        if value % 2 == 0 { half } else { -1 - half }
+    }
+
+    #[tactic(auto, using(std::proofs::lemmas::Int::wraps))]
+    fn add(self, rhs: i32) -> i32 {
+        self.wrapping_add(rhs)
+    }
+
+    fn wrapping_muladd_i32(self, mul: i32, add: i32) -> i32 {
+        self.wrapping_mul(mul).wrapping_add(add)
+    }
+
+    fn grad_clamped(n: i32, w: i32, nw: i32) -> i32 {
+        let low = n.min(w) as i64;
+        let high = n.max(w) as i64;
+        (n as i64 + w as i64 - nw as i64).clamp(low, high) as i32
+    }
+
+    fn try_into_grid_i32(grid: AlignedGrid<i32>) -> Result<AlignedGrid<i32>, AlignedGrid<i32>>
+        ensures { MatchResult result (λ g. g ≡ meanings (λ x. x) grid) (λ g. g ≡ grid) }
+    {
+        Ok(grid)
+    }
+
+    fn try_into_grid_i16(grid: AlignedGrid<i32>) -> Result<AlignedGrid<i16>, AlignedGrid<i32>>
+        ensures { MatchResult result (λ g. g ≡ meanings (λ x. x) grid) (λ g. g ≡ grid) }
+    {
+        Err(grid)
+    }
+
+    ghost to_int_from_int = { λ n. refl };
+
+    ghost from_int_to_int = { λ x. refl };
+
+    ghost default_is_zero = { λ x h. h };
+
+    ghost clone_is_same = { λ x y h. h };
+}
+
+impl Sealed for i16 {
+    ghost to_int = { λ x. x };
+
+    ghost from_int = { λ n. n };
+
+    ghost width = { w16 };
+
+    fn unpack_signed_u32(value: u32) -> i16 {
+        let half = (value / 2) as i32;
+        reduced_to_i16(if value % 2 == 0 { half } else { -1 - half })
+    }
+
+    #[tactic(auto, using(std::proofs::lemmas::Int::wraps))]
+    fn add(self, rhs: i16) -> i16 {
+        self.wrapping_add(rhs)
+    }
+
+    fn wrapping_muladd_i32(self, mul: i32, add: i32) -> i16 {
+        self.wrapping_mul(reduced_to_i16(mul))
+            .wrapping_add(reduced_to_i16(add))
+    }
+
+    fn grad_clamped(n: i16, w: i16, nw: i16) -> i16 {
+        let low = n.min(w) as i32;
+        let high = n.max(w) as i32;
+        (n as i32 + w as i32 - nw as i32).clamp(low, high) as i16
+    }
+
+    fn try_into_grid_i32(grid: AlignedGrid<i16>) -> Result<AlignedGrid<i32>, AlignedGrid<i16>>
+        ensures { MatchResult result (λ g. g ≡ meanings (λ x. x) grid) (λ g. g ≡ grid) }
+    {
+        Err(grid)
+    }
+
+    fn try_into_grid_i16(grid: AlignedGrid<i16>) -> Result<AlignedGrid<i16>, AlignedGrid<i16>>
+        ensures { MatchResult result (λ g. g ≡ meanings (λ x. x) grid) (λ g. g ≡ grid) }
+    {
+        Ok(grid)
+    }
+
+    ghost to_int_from_int = { λ n. refl };
+
+    ghost from_int_to_int = { λ x. refl };
+
+    ghost default_is_zero = { λ x h. h };
+
+    ghost clone_is_same = { λ x y h. h };
+}
+
+impl Sample for i32 {
+    fn from_i32(value: i32) -> i32 {
+        value
+    }
+
+    fn from_u32(value: u32) -> i32 {
+        value.cast_signed()
+    }
+
+    fn to_i64(self) -> i64 {
+        i64::from(self)
+    }
+
+    fn to_i32(self) -> i32 {
+        self
+    }
+}
+
+impl Sample for i16 {
+    fn from_i32(value: i32) -> i16 {
+        reduced_to_i16(value)
+    }
+
+    fn from_u32(value: u32) -> i16 {
+        reduced_to_i16(value.cast_signed())
+    }
+
+    fn to_i64(self) -> i64 {
+        i64::from(self)
+    }
+
+    fn to_i32(self) -> i32 {
+        i32::from(self)
+    }
+}
