@@ -60,7 +60,8 @@ pub trait Sample: Copy + Default + Sealed + 'static {
 
     /// The number itself.
     fn to_i64(self) -> i64
-        ensures { result ≡ Self.to_int self };
+        ensures value { result ≡ Self.to_int self }
+        ensures fits { FitsSigned Self.width (Self.to_int self) };
 
     /// The number itself.
     fn to_i32(self) -> i32
