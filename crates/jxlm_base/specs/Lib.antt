@@ -9,4 +9,5 @@ pub mod Plain
 pub mod PlainLaws
 pub mod Region
 pub mod Rewrites
+pub mod SampleLaws
 pub mod Subgrid

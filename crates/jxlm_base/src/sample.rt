@@ -3,6 +3,7 @@ ghost use Rattle.std.specs.Prelude.{◌≡◌, ℤ, pos, ◌+ℤ◌, ◌*ℤ◌,
 ghost use Rattle.std.specs.Int.{Width, w16, w32, int_wrap};
 ghost use Rattle.jxlm_base.specs.Grid.{meanings};
 ghost use Rattle.jxlm_base.specs.Numbers.{unpack, clamped_gradient};
+ghost use Rattle.jxlm_base.specs.SampleLaws.{fits_wider, int_wrap-narrow, int_wrap_again};
 
 use crate::grid::AlignedGrid;
 
@@ -46,6 +47,10 @@ pub trait Sealed: Copy + Default {
     ghost default_is_zero: { (x : Self) → Self.is_default x → x ≡ from_int (pos 0) };
 
     ghost clone_is_same: { (x y : Self) → Self.is_clone x y → y ≡ x };
+
+    ghost fits_i32: { (z : ℤ) → FitsSigned width z → FitsSigned w32 z };
+
+    ghost wraps_after_i32: { (z : ℤ) → int_wrap width (int_wrap w32 z) ≡ int_wrap width z };
 }
 
 /// A sample of a Modular image: `i32` or `i16`.
@@ -121,6 +126,10 @@ impl Sealed for i32 {
     ghost default_is_zero = { λ x h. h };
 
     ghost clone_is_same = { λ x y h. h };
+
+    ghost fits_i32 = { λ z h. h };
+
+    ghost wraps_after_i32 = { int_wrap_again };
 }
 
 impl Sealed for i16 {
@@ -170,6 +179,10 @@ impl Sealed for i16 {
     ghost default_is_zero = { λ x h. h };
 
     ghost clone_is_same = { λ x y h. h };
+
+    ghost fits_i32 = { fits_wider };
+
+    ghost wraps_after_i32 = { int_wrap-narrow };
 }
 
 impl Sample for i32 {
