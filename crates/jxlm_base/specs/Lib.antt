@@ -7,7 +7,7 @@ pub mod GridLends
 pub mod Numbers
 pub mod Plain
 pub mod PlainLaws
-pub mod Region
+pub mod Regions
 pub mod Rewrites
 pub mod SampleLaws
 pub mod Subgrid
