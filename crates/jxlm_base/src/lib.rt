@@ -6,5 +6,6 @@ pub mod decoder;
 pub mod error;
 pub mod grid;
 pub mod plain;
+pub mod region;
 pub mod sample;
 pub mod subgrid;
