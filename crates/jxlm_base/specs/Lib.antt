@@ -8,6 +8,5 @@ pub mod Numbers
 pub mod Plain
 pub mod PlainLaws
 pub mod Regions
-pub mod Rewrites
 pub mod SampleLaws
 pub mod Subgrid

@@ -8,4 +8,4 @@ pub mod grid;
 pub mod plain;
 pub mod region;
 pub mod sample;
-pub mod subgrid;
+mod subgrid;
