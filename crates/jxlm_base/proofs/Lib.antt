@@ -4,4 +4,5 @@ pub mod GridLaws
 pub mod ItemLoop
 pub mod PlainGives
 pub mod Regions
+pub mod Tokens
 pub mod Wraps

@@ -60,3 +60,8 @@ AreApart r s = (b x y : ℕ) → HasCell r b x y → HasCell s b x y → ⊥
 -- no two of the regions share a cell
 abbrev pub LieApart : List Region → Type 0
 LieApart rs = AllPairs AreApart rs
+
+-- Where no two regions share a cell, a write to a cell of one changes that cell of its grid, and no other grid.
+abbrev pub WritesChangeOneGrid : List Region → Type 0
+WritesChangeOneGrid rs = (store : List (Grid ℤ)) (i x y : ℕ) (v : ℤ) (d : Region) → AllLie rs store → i < length rs → let r : Region = get_or rs i d in
+    x < r.width → y < r.height → map (grid_of (with_region_cell store r x y v)) rs ≡ slice_set (map (grid_of store) rs) i (with_cell (grid_of store r) x y v)

@@ -5,6 +5,7 @@ pub mod bits;
 pub mod decoder;
 pub mod error;
 pub mod grid;
+pub mod laws;
 pub mod plain;
 pub mod region;
 pub mod sample;
