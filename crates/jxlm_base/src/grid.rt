@@ -145,3 +145,75 @@ impl<S: Copy> AlignedGrid<S> {
         self.cells.slice_mut(start..start + self.width)
     }
 }
+
+#[cfg(test)]
+mod tests {
+    use super::*;
+    use crate::sample::Sample;
+    use std::test::Fail;
+
+    /// The samples, row by row.
+    fn samples<S: Sample>(alloc: Global, grid: &AlignedGrid<S>) -> Result<Vec<i32>, OutOfMemory> {
+        let mut samples = Vec::new(alloc);
+        for y in 0..grid.height() {
+            for sample in grid.get_row(y) {
+                samples.push(sample.to_i32())?;
+            }
+        }
+        Ok(samples)
+    }
+
+    /// The samples of a grid after writes, and of a copy that was made between them.
+    fn written<S: Sample>(alloc: Global) -> Result<(Vec<i32>, Vec<i32>), OutOfMemory> {
+        let mut grid = AlignedGrid::<S>::new(alloc, 3, 2)?;
+        for cell in grid.get_row_mut(1) {
+            *cell = S::from_i32(5);
+        }
+        *grid.get_mut(2, 1) = S::from_i32(-7);
+        let copy = grid.try_clone(alloc)?;
+        *grid.get_mut(0, 0) = grid.get(2, 1);
+        Ok((samples(alloc, &grid)?, samples(alloc, &copy)?))
+    }
+
+    #[test]
+    fn writes_and_copies(rt: HostRuntime) -> Result<(), Fail> {
+        for (grid, copy) in [written::<i32>(rt.alloc())?, written::<i16>(rt.alloc())?] {
+            assert_eq!(rt; grid.as_slice(), [-7, 0, 0, 5, 5, -7].as_slice());
+            assert_eq!(rt; copy.as_slice(), [0, 0, 0, 5, 5, -7].as_slice());
+        }
+        Ok(())
+    }
+
+    /// The sides of a grid, or why there is none.
+    fn sides<S: Sample>(
+        alloc: Global,
+        width: usize,
+        height: usize,
+    ) -> Result<(usize, usize), OutOfMemory> {
+        let grid = AlignedGrid::<S>::new(alloc, width, height)?;
+        Ok((grid.width(), grid.height()))
+    }
+
+    #[test]
+    fn sides_of_grids(rt: HostRuntime) {
+        for (width, height) in [(0, 0), (5, 0), (usize::MAX, 0), (0, 9), (1, 7)] {
+            assert_eq!(rt;
+                sides::<i32>(rt.alloc(), width, height),
+                Ok((width, height))
+            );
+            assert_eq!(rt;
+                sides::<i16>(rt.alloc(), width, height),
+                Ok((width, height))
+            );
+        }
+        for (width, height) in [
+            (usize::MAX, 2),
+            (2, usize::MAX),
+            (usize::MAX, 1),
+            (4294967296, 4294967296),
+        ] {
+            assert_eq!(rt; sides::<i32>(rt.alloc(), width, height), Err(OutOfMemory));
+            assert_eq!(rt; sides::<i16>(rt.alloc(), width, height), Err(OutOfMemory));
+        }
+    }
+}

@@ -34,3 +34,39 @@ pub fn region_set<S: Copy>(
     prove!(region.x < grid.width() && region.y < grid.height());
     *grid.get_mut(region.x + x, region.y + y) = value;
 }
+
+#[cfg(test)]
+mod tests {
+    use super::*;
+    use crate::grid::OutOfMemory;
+    use crate::sample::Sample;
+    use std::alloc::Global;
+    use std::test::Fail;
+
+    /// What stands in the second grid of a store after a write through a region of it.
+    fn written<S: Sample>(alloc: Global) -> Result<(i32, i32, i32), OutOfMemory> {
+        let first = AlignedGrid::<S>::new(alloc, 4, 3)?;
+        let second = AlignedGrid::<S>::new(alloc, 5, 4)?;
+        let mut store = vec![in alloc; first, second]?;
+        let region = Region {
+            buffer: 1,
+            x: 2,
+            y: 1,
+            width: 2,
+            height: 3,
+        };
+        region_set(&mut store, region, 1, 2, S::from_i32(-4));
+        Ok((
+            region_get(&store, region, 1, 2).to_i32(),
+            region_get(&store, region, 0, 2).to_i32(),
+            store[1].get(3, 3).to_i32(),
+        ))
+    }
+
+    #[test]
+    fn a_write_through_a_region(rt: HostRuntime) -> Result<(), Fail> {
+        assert_eq!(rt; written::<i32>(rt.alloc())?, (-4, 0, -4));
+        assert_eq!(rt; written::<i16>(rt.alloc())?, (-4, 0, -4));
+        Ok(())
+    }
+}

@@ -220,3 +220,56 @@ impl Sample for i16 {
         i32::from(self)
     }
 }
+
+#[cfg(test)]
+mod tests {
+    use super::*;
+    use crate::grid::OutOfMemory;
+    use std::alloc::Global;
+    use std::test::Fail;
+
+    /// The numbers of tokens, of reduced numbers and of an operation, through any sample.
+    fn numbers<S: Sample>(values: [u32; 4]) -> [i64; 7] {
+        let [first, second, third, fourth] = values;
+        let a = S::unpack_signed_u32(first);
+        let b = S::unpack_signed_u32(second);
+        let c = S::from_u32(third);
+        let d = S::from_i32(-70000);
+        [
+            a.to_i64(),
+            b.to_i64(),
+            c.to_i64(),
+            d.to_i64(),
+            a.add(S::from_u32(fourth)).to_i64(),
+            b.wrapping_muladd_i32(65537, -1).to_i64(),
+            i64::from(S::grad_clamped(c, d, a).to_i32()),
+        ]
+    }
+
+    #[test]
+    fn both_widths(rt: HostRuntime) {
+        let values = [65536, 131071, 4294967295, 2147483648];
+        let narrow = [-32768, 0, -1, -4464, -32768, -1, -1];
+        let wide = [32768, -65536, -1, -70000, -2147450880, -65537, -70000];
+        assert_eq!(rt; numbers::<i16>(values).as_slice(), narrow.as_slice());
+        assert_eq!(rt; numbers::<i32>(values).as_slice(), wide.as_slice());
+        assert_eq!(rt; i32::unpack_signed_u32(4294967295), -2147483648);
+        assert_eq!(rt; i32::unpack_signed_u32(4294967294), 2147483647);
+        assert_eq!(rt; i16::grad_clamped(32767, 32767, -32768), 32767);
+        assert_eq!(rt; i32::grad_clamped(-2147483648, 2147483647, 5), -6);
+    }
+
+    /// Whether the grid is one of `i32`, and whether it is one of `i16`.
+    fn kinds<S: Sample>(alloc: Global) -> Result<(bool, bool), OutOfMemory> {
+        let wide = S::try_into_grid_i32(AlignedGrid::new(alloc, 2, 1)?).is_ok();
+        let narrow = S::try_into_grid_i16(AlignedGrid::new(alloc, 2, 1)?).is_ok();
+        Ok((wide, narrow))
+    }
+
+    #[test]
+    fn grids_of_a_width(rt: HostRuntime) -> Result<(), Fail> {
+        assert_eq!(rt; kinds::<i32>(rt.alloc())?, (true, false));
+        assert_eq!(rt; kinds::<i16>(rt.alloc())?, (false, true));
+        Ok(())
+    }
+}
