@@ -1,5 +1,5 @@
 //! The two types of a sample.
-ghost use Rattle.std.specs.Prelude.{◌≡◌, ℤ, pos, ◌+ℤ◌, ◌*ℤ◌, FitsSigned, refl, MatchResult};
+ghost use Rattle.std.specs.Prelude.{◌≡◌, ◌↔◌, ℤ, pos, IsOk, ◌+ℤ◌, ◌*ℤ◌, FitsSigned, refl, MatchResult};
 ghost use Rattle.std.specs.Int.{Width, w16, w32, int_wrap};
 ghost use Rattle.jxlm_base.specs.Grid.{meanings};
 ghost use Rattle.jxlm_base.specs.Numbers.{unpack, clamped_gradient};
@@ -34,11 +34,13 @@ pub trait Sealed: Copy + Default {
 
     /// The grid itself, `Ok` where its samples are `i32`.
     fn try_into_grid_i32(grid: AlignedGrid<Self>) -> Result<AlignedGrid<i32>, AlignedGrid<Self>>
-        ensures { MatchResult result (λ g. g ≡ meanings Self.to_int grid) (λ g. g ≡ grid) };
+        ensures same { MatchResult result (λ g. g ≡ meanings Self.to_int grid) (λ g. g ≡ grid) }
+        ensures kind { IsOk result ↔ (Self.width ≡ w32) };
 
     /// The grid itself, `Ok` where its samples are `i16`.
     fn try_into_grid_i16(grid: AlignedGrid<Self>) -> Result<AlignedGrid<i16>, AlignedGrid<Self>>
-        ensures { MatchResult result (λ g. g ≡ meanings Self.to_int grid) (λ g. g ≡ grid) };
+        ensures same { MatchResult result (λ g. g ≡ meanings Self.to_int grid) (λ g. g ≡ grid) }
+        ensures kind { IsOk result ↔ (Self.width ≡ w16) };
 
     ghost to_int_from_int: { (n : ℤ) → to_int (from_int n) ≡ n };
 
@@ -108,13 +110,13 @@ impl Sealed for i32 {
     }
 
     fn try_into_grid_i32(grid: AlignedGrid<i32>) -> Result<AlignedGrid<i32>, AlignedGrid<i32>>
-        ensures { MatchResult result (λ g. g ≡ meanings (λ x. x) grid) (λ g. g ≡ grid) }
+        ensures { result ≡ Ok grid }
     {
         Ok(grid)
     }
 
     fn try_into_grid_i16(grid: AlignedGrid<i32>) -> Result<AlignedGrid<i16>, AlignedGrid<i32>>
-        ensures { MatchResult result (λ g. g ≡ meanings (λ x. x) grid) (λ g. g ≡ grid) }
+        ensures { result ≡ Err grid }
     {
         Err(grid)
     }
@@ -140,8 +142,7 @@ impl Sealed for i16 {
     ghost width = { w16 };
 
     fn unpack_signed_u32(value: u32) -> i16 {
-        let half = (value / 2) as i32;
-        reduced_to_i16(if value % 2 == 0 { half } else { -1 - half })
+        reduced_to_i16(i32::unpack_signed_u32(value))
     }
 
     #[tactic(auto, using(std::proofs::lemmas::Int::wraps))]
@@ -161,13 +162,13 @@ impl Sealed for i16 {
     }
 
     fn try_into_grid_i32(grid: AlignedGrid<i16>) -> Result<AlignedGrid<i32>, AlignedGrid<i16>>
-        ensures { MatchResult result (λ g. g ≡ meanings (λ x. x) grid) (λ g. g ≡ grid) }
+        ensures { result ≡ Err grid }
     {
         Err(grid)
     }
 
     fn try_into_grid_i16(grid: AlignedGrid<i16>) -> Result<AlignedGrid<i16>, AlignedGrid<i16>>
-        ensures { MatchResult result (λ g. g ≡ meanings (λ x. x) grid) (λ g. g ≡ grid) }
+        ensures { result ≡ Ok grid }
     {
         Ok(grid)
     }
@@ -195,7 +196,7 @@ impl Sample for i32 {
     }
 
     fn to_i64(self) -> i64 {
-        i64::from(self)
+        self.into()
     }
 
     fn to_i32(self) -> i32 {
