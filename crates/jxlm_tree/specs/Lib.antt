@@ -1,0 +1,10 @@
+pub mod DraftReading
+pub mod Neighbours
+pub mod Predictions
+pub mod Properties
+pub mod SelfCorrecting
+pub mod SelfCorrectingRanges
+pub mod Tree
+pub mod TreeCode
+pub mod TreeReading
+pub mod WeightsHeader

@@ -1,0 +1,58 @@
+-- Decision trees (ISO/IEC 18181-1, Modular: meta-adaptive trees). They are told by what stands at their leaves.
+use Rattle.std.specs.Prelude.{ℕ, ◌+◌, max, ℤ, int_lt, if◌then◌else◌, List, [], ◌∷◌, ◌++◌}
+use Rattle.jxlm_tree.specs.declared.flat.Leaf.{Leaf}
+
+-- a tree: a leaf, or a decision on a property and a value, with the trees to the left and to the right
+pub data Shape (L : Type 0) : Type 0 where
+  leaf : L → Shape L
+  decision : ℕ → ℤ → Shape L → Shape L → Shape L
+
+-- one node of a listing
+pub data Node (L : Type 0) : Type 0 where
+  leaf_node : L → Node L
+  decision_node : ℕ → ℤ → Node L
+
+module _ {L : Type 0} where
+  -- the leaf that is reached: to the left where the property is greater than the value
+  abbrev pub walk : Shape L → (ℕ → ℤ) → L
+  walk (leaf l) f = l
+  walk (decision k value left right) f = if int_lt value (f k) then walk left f else walk right f
+
+  -- the greatest number of decisions from the root to a leaf
+  abbrev pub depth : Shape L → ℕ
+  depth (leaf l) = 0
+  depth (decision k value left right) = max (depth left) (depth right) + 1
+
+  -- how many nodes there are
+  abbrev pub node_count : Shape L → ℕ
+  node_count (leaf l) = 1
+  node_count (decision k value left right) = 1 + node_count left + node_count right
+
+  -- rows of one tree to the left of those of another
+  abbrev pub beside : List (List (Node L)) → List (List (Node L)) → List (List (Node L))
+  beside [] bs = bs
+  beside (a ∷ as') [] = a ∷ as'
+  beside (a ∷ as') (b ∷ bs) = (a ++ b) ∷ beside as' bs
+
+  -- the rows of a tree, from the root down, each from left to right
+  abbrev pub rows : Shape L → List (List (Node L))
+  rows (leaf l) = (leaf_node l ∷ []) ∷ []
+  rows (decision k value left right) = (decision_node k value ∷ []) ∷ beside (rows left) (rows right)
+
+  -- rows one behind another
+  abbrev pub in_a_row : List (List (Node L)) → List (Node L)
+  in_a_row [] = []
+  in_a_row (a ∷ as') = a ++ in_a_row as'
+
+  -- the nodes level by level, the left child before the right
+  abbrev pub levels : Shape L → List (Node L)
+  levels t = in_a_row (rows t)
+
+-- a tree, and the decoder of its leaves' clusters
+pub record Config (S : Type 0) : Type 0 where
+  pub tree : Shape Leaf
+  pub decoder : S
+
+-- the tree that is one leaf, and its decoder
+abbrev pub one_leaf : {S : Type 0} → Leaf → S → Config S
+one_leaf l s = record { tree = leaf l; decoder = s }

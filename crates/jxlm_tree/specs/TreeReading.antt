@@ -1,0 +1,217 @@
+-- How a tree is read (ISO/IEC 18181-1, Modular: decoding of meta-adaptive trees), by what a decoder means.
+use Rattle.std.specs.Prelude.{◌≡◌, ℕ, zero, suc, ◌+◌, ◌-◌, ◌*◌, ◌^◌, ◌<◌, ◌≤◌, ◌⊎◌, min, nat_lt, if◌then◌else◌, ℤ, FitsSigned, List, [], ◌∷◌, slice_get, slice_index, Contains, Bool, true, false, IsTrue, Option, None, Some, Result, Ok, Err, codes}
+use Rattle.std.specs.Int.{w32}
+use Rattle.jxlm_base.specs.Decoding.{Found, Taken, Meaning}
+use Rattle.jxlm_base.specs.Fault.{Fault, BadEnum, BadProfile, BadTree, OfDecoder, Refused, fault_of, UnlessMemory, ◌>>=◌}
+use Rattle.jxlm_base.specs.Grammar.{IsRefused}
+use Rattle.jxlm_base.specs.Numbers.{unpack}
+use Rattle.jxlm_base.specs.declared.decoder.DecoderError.{DecoderError}
+use Rattle.jxlm_base.specs.declared.error.Error.{Error}
+use Rattle.jxlm_tree.specs.Predictions.{predictors}
+use Rattle.jxlm_tree.specs.Tree.{Node, Config, leaf_node, decision_node, levels, depth}
+use Rattle.jxlm_tree.specs.declared.flat.Leaf.{Leaf}
+use Rattle.jxlm_tree.specs.declared.predictor.Predictor.{Predictor}
+use Rattle.jxlm_tree.specs.declared.predictor.Predictor.TheVariants.{Zero, West, North, AvgWestAndNorth, Select, Gradient, SelfCorrecting, NorthEast, NorthWest, WestWest, AvgWestAndNorthWest, AvgNorthAndNorthWest, AvgNorthAndNorthEast, AvgAll}
+
+-- refused, with the reader at p
+abbrev pub refused_at : {X : Type 0} → ℕ → Fault → Result X Refused
+refused_at p fault = Err (record { fault = fault; position = Some p })
+
+-- what a call of the decoder gives; its fault leaves the reader at that place
+abbrev pub through : {X : Type 0} → Option ℕ → Result X DecoderError → Result X Refused
+through place (Ok x) = Ok x
+through place (Err e) = Err (record { fault = OfDecoder e; position = place })
+
+-- the predictor of a number; there are fourteen
+abbrev pub predictor_of : ℕ → ℕ → Result Predictor Refused
+predictor_of number p = from_list (slice_get predictors number) where
+  from_list : Option Predictor → Result Predictor Refused
+  from_list (Some predictor) = Ok predictor
+  from_list None = refused_at p (BadEnum (codes "MaProperty") number)
+
+-- what is read of a leaf: all but its cluster
+pub record Draft : Type 0 where
+  pub predictor : Predictor
+  pub offset : ℤ
+  pub multiplier : ℕ
+
+-- what was read, and the decoder's state and the place behind it
+pub record Drawn (X S : Type 0) : Type 0 where
+  pub value : X
+  pub state : S
+  pub position : ℕ
+
+-- the nodes of a tree, and the decoder of its leaves' clusters
+pub record Listing (S : Type 0) : Type 0 where
+  pub nodes : List (Node Leaf)
+  pub decoder : S
+
+-- The leaves, numbered from k on in their order, have the clusters of their numbers.
+abbrev pub with_clusters : List ℕ → ℕ → List (Node Draft) → List (Node Leaf)
+with_clusters clusters k [] = []
+with_clusters clusters k (decision_node property value ∷ rest) = decision_node property value ∷ with_clusters clusters k rest
+with_clusters clusters k (leaf_node l ∷ rest) =
+    leaf_node (record { cluster = slice_index clusters k; predictor = l.predictor; offset = l.offset; multiplier = l.multiplier }) ∷ with_clusters clusters (suc k) rest
+
+-- how many leaves there are
+abbrev pub leaf_count : List (Node Draft) → ℕ
+leaf_count [] = 0
+leaf_count (decision_node k value ∷ rest) = leaf_count rest
+leaf_count (leaf_node l ∷ rest) = suc (leaf_count rest)
+
+-- how many nodes a node calls for behind it
+abbrev pub children : Node Draft → ℕ
+children (leaf_node l) = 0
+children (decision_node k value) = 2
+
+-- A tree has at most node_limit + 1 nodes, and at most 2 ^ 26.
+abbrev pub most_nodes : ℕ → ℕ
+most_nodes node_limit = min (2 ^ 26) (node_limit + 1)
+
+-- how a tree with more nodes is refused
+abbrev pub limit_fault : ℕ → Fault
+limit_fault node_limit = if nat_lt (node_limit + 1) (2 ^ 26) then BadProfile (codes "MA tree limit exceeded") else BadTree
+
+-- a single token other than 0 before each node would make each node a decision
+abbrev pub is_endless : Option ℕ → Bool
+is_endless None = false
+is_endless (Some zero) = false
+is_endless (Some (suc k)) = true
+
+-- the predictors that are offered: zero, west and the gradient
+abbrev pub is_offered : Predictor → Bool
+is_offered Zero = true
+is_offered West = true
+is_offered North = false
+is_offered AvgWestAndNorth = false
+is_offered Select = false
+is_offered Gradient = true
+is_offered SelfCorrecting = false
+is_offered NorthEast = false
+is_offered NorthWest = false
+is_offered WestWest = false
+is_offered AvgWestAndNorthWest = false
+is_offered AvgNorthAndNorthWest = false
+is_offered AvgNorthAndNorthEast = false
+is_offered AvgAll = false
+
+abbrev pub IsOffered : Predictor → Type 0
+IsOffered predictor = IsTrue (is_offered predictor)
+
+-- a predictor that is not offered is refused
+abbrev pub offered : ℕ → Predictor → Result Predictor Refused
+offered p predictor = if is_offered predictor then Ok predictor else refused_at p (BadProfile (codes "predictor not available"))
+
+-- no property is offered: a decision is refused behind the number of its property
+abbrev pub offered_property : ℕ → ℕ → Result ℕ Refused
+offered_property p k = refused_at p (BadProfile (codes "property not available"))
+
+-- What is known of a leaf that was read: its cluster is one of the decoder's, its predictor is offered, and its numbers lie in these ranges.
+pub record IsLeafOf (clusters : List ℕ) (l : Leaf) : Type 0 where
+  pub cluster : Contains clusters l.cluster
+  pub predictor : IsOffered l.predictor
+  pub offset : FitsSigned w32 l.offset
+  pub least : 1 ≤ l.multiplier
+  pub below : l.multiplier < 2 ^ 31
+
+module _ {S : Type 0} (d : Meaning S) (bytes : List ℕ) where
+  -- the read of a context; its fault leaves the reader where it stood
+  abbrev pub read_context : ℕ → S → ℕ → Result (Drawn ℕ S) Refused
+  read_context context s p = drawn (d.read s bytes p (slice_index (d.cluster_map s) context) 0) where
+    drawn : Result (Taken S) DecoderError → Result (Drawn ℕ S) Refused
+    drawn (Ok taken) = Ok (record { value = taken.token; state = taken.state; position = taken.position })
+    drawn (Err e) = refused_at p (OfDecoder e)
+
+  -- the predictor of a leaf
+  unfoldable pub predictor_at : S → ℕ → Result (Drawn Predictor S) Refused
+  predictor_at s p = do
+    number ← read_context 2 s p
+    named ← predictor_of number.value number.position
+    predictor ← offered number.position named
+    Ok (record { value = predictor; state = number.state; position = number.position })
+
+  -- the multiplier of a leaf: (factor + 1) * 2 ^ log, below 2 ^ 31
+  unfoldable pub multiplier_at : S → ℕ → Result (Drawn ℕ S) Refused
+  multiplier_at s p = do
+    log ← read_context 4 s p
+    if nat_lt 30 log.value then refused_at log.position BadTree else (do
+      factor ← read_context 5 log.state log.position
+      if nat_lt (2 ^ (31 - log.value) - 2) factor.value then refused_at factor.position BadTree else
+          Ok (record { value = (factor.value + 1) * 2 ^ log.value; state = factor.state; position = factor.position }))
+
+  -- a leaf: predictor, offset and multiplier
+  unfoldable pub leaf_at : S → ℕ → Result (Drawn Draft S) Refused
+  leaf_at s p = do
+    predictor ← predictor_at s p
+    offset ← read_context 3 predictor.state predictor.position
+    multiplier ← multiplier_at offset.state offset.position
+    Ok (record {
+      value = record { predictor = predictor.value; offset = unpack offset.value; multiplier = multiplier.value };
+      state = multiplier.state;
+      position = multiplier.position;
+    })
+
+  -- a node: 0 stands before a leaf, and k + 1 before a decision on property k, which its value follows
+  unfoldable pub node_at : S → ℕ → Result (Drawn (Node Draft) S) Refused
+  node_at s p = do
+    kind ← read_context 1 s p
+    of_kind kind.value kind.state kind.position
+    where
+      of_kind : ℕ → S → ℕ → Result (Drawn (Node Draft) S) Refused
+      of_kind zero s p = do
+        read ← leaf_at s p
+        Ok (record { value = leaf_node read.value; state = read.state; position = read.position })
+      of_kind (suc k) s p = do
+        property ← offered_property p k
+        value ← read_context 0 s p
+        Ok (record { value = decision_node property (unpack value.value); state = value.state; position = value.position })
+
+  -- `missing` nodes, and those that they call for; `room` more may be read, and where one is missing then, the tree is refused by `limit`
+  unfoldable pub nodes_at : Fault → ℕ → ℕ → S → ℕ → Result (Drawn (List (Node Draft)) S) Refused
+  nodes_at limit room zero s p = Ok (record { value = []; state = s; position = p })
+  nodes_at limit zero (suc missing) s p = refused_at p limit
+  nodes_at limit (suc room) (suc missing) s p = do
+    first ← node_at s p
+    others ← nodes_at limit room (missing + children first.value) first.state first.position
+    Ok (record { value = first.value ∷ others.value; state = others.state; position = others.position })
+
+  -- the nodes of a tree by a decoder that stands before its tokens
+  unfoldable pub drafts_at : ℕ → S → ℕ → Result (Found (List (Node Draft))) Refused
+  drafts_at node_limit s p = if is_endless (d.single_token s (slice_index (d.cluster_map s) 1)) then refused_at p BadTree else (do
+    start ← through (Some p) (d.begin s bytes p)
+    nodes ← nodes_at (limit_fault node_limit) (most_nodes node_limit) 1 start.value start.position
+    ended ← through (Some nodes.position) (d.finalize nodes.state)
+    Ok (record { value = nodes.value; position = nodes.position }))
+
+  -- the nodes of the tree at a place, level by level: a decoder of six contexts, the nodes, and a decoder with a context for each leaf
+  unfoldable pub listing_at : ℕ → ℕ → Result (Found (Listing S)) Refused
+  listing_at node_limit p = do
+    decoder ← through None (d.parse bytes p 6)
+    nodes ← drafts_at node_limit decoder.value decoder.position
+    leaves ← through None (d.parse bytes nodes.position (leaf_count nodes.value))
+    Ok (record {
+      value = record { nodes = with_clusters (d.cluster_map leaves.value) 0 nodes.value; decoder = leaves.value };
+      position = leaves.position;
+    })
+
+  module _ (node_limit depth_limit : ℕ) (p : ℕ) where
+    -- at place p stand the nodes of this tree, level by level, and the decoder of its leaves' clusters, up to place q
+    abbrev pub IsListedAt : Config S → ℕ → Type 0
+    IsListedAt config q = listing_at node_limit p ≡ Ok (record { value = record { nodes = levels config.tree; decoder = config.decoder }; position = q })
+
+    -- that is the tree at place p, with its decoder, and q is the place behind both
+    pub record IsTreeAt (config : Config S) (q : ℕ) : Type 0 where
+      pub reads : IsListedAt config q
+      pub within : depth config.tree ≤ depth_limit
+
+    -- the tree at place p is too deep, and q is the place behind it
+    pub record IsTooDeep (fault : Fault) (q : ℕ) : Type 0 where
+      pub config : Config S
+      pub reads : IsListedAt config q
+      pub beyond : depth_limit < depth config.tree
+      pub refusal : fault ≡ BadProfile (codes "decoded MA tree is too deep")
+
+    -- What reading a tree answers, and where it leaves the reader: the tree, or the fault of the first check that fails; memory may be refused at any time.
+    abbrev pub TreeGives : Result (Config S) Error → ℕ → Type 0
+    TreeGives (Ok config) q = IsTreeAt config q
+    TreeGives (Err e) q = UnlessMemory (fault_of e) (IsRefused (listing_at node_limit p) (fault_of e) q ⊎ IsTooDeep (fault_of e) q)

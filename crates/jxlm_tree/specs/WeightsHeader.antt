@@ -1,0 +1,38 @@
+-- The weights of the self-correcting predictor, as they stand in the input (ISO/IEC 18181-1, Modular: the bundle WPHeader).
+use Rattle.std.specs.Prelude.{◌≡◌, ℕ, true, false, Result, Ok, Err}
+use Rattle.jxlm_base.specs.Decoding.{Found}
+use Rattle.jxlm_base.specs.Fault.{Refused, fault_of}
+use Rattle.jxlm_base.specs.Grammar.{Grammar, IsRefused, number, flag, give, either, ◌>>=◌}
+use Rattle.jxlm_base.specs.declared.error.Error.{Error}
+use Rattle.jxlm_tree.specs.declared.predictor.WpHeader.{WpHeader}
+
+-- the usual weights
+abbrev pub default_weights : WpHeader
+default_weights = record { default_wp = true; wp_p1 = 16; wp_p2 = 10; wp_p3a = 7; wp_p3b = 7; wp_p3c = 7; wp_p3d = 0; wp_p3e = 0; wp_w0 = 13; wp_w1 = 12; wp_w2 = 12; wp_w3 = 12 }
+
+-- weights that are listed: seven numbers of 5 bits and four of 4 bits
+abbrev pub listed_weights : Grammar WpHeader
+listed_weights = do
+  p1 ← number 5
+  p2 ← number 5
+  p3a ← number 5
+  p3b ← number 5
+  p3c ← number 5
+  p3d ← number 5
+  p3e ← number 5
+  w0 ← number 4
+  w1 ← number 4
+  w2 ← number 4
+  w3 ← number 4
+  give (record { default_wp = false; wp_p1 = p1; wp_p2 = p2; wp_p3a = p3a; wp_p3b = p3b; wp_p3c = p3c; wp_p3d = p3d; wp_p3e = p3e; wp_w0 = w0; wp_w1 = w1; wp_w2 = w2; wp_w3 = w3 })
+
+-- a flag, and behind it the weights where they are not the usual ones
+abbrev pub wp_header : Grammar WpHeader
+wp_header = do
+  usual ← flag
+  either usual (give default_weights) listed_weights
+
+-- What a call that takes no memory answered, and where it left the reader, is what reading gives.
+abbrev pub AnswersExactly : {X : Type 0} → Result X Error → ℕ → Result (Found X) Refused → Type 0
+AnswersExactly (Ok x) q reading = reading ≡ Ok (record { value = x; position = q })
+AnswersExactly (Err e) q reading = IsRefused reading (fault_of e) q
