@@ -1,6 +1,6 @@
 //! Bits of the input, least significant first.
 
-ghost use Rattle.std.specs.Prelude.{◌≡◌, ℕ, ◌+◌, ◌*◌, ◌^◌, ◌-◌, ◌<◌, ◌≤◌, ◌↔◌, min, length, IfOk, IfErr, IsTrue, Bool};
+ghost use Rattle.std.specs.Prelude.{◌≡◌, ℕ, ◌+◌, ◌*◌, ◌/◌, ◌%◌, ◌^◌, ◌-◌, ◌<◌, ◌≤◌, ◌↔◌, min, length, slice_index, IfOk, IfErr, IsTrue, Bool};
 
 use thiserror::Error;
 
@@ -42,8 +42,10 @@ pub enum U32Spec {
 #[derive(Clone, Copy)]
 pub struct Bitstream<'a> {
     bytes: &'a [u8],
-    at: u128,
-    ghost within: { at ≤ 8 * length bytes.now },
+    byte: usize,
+    bit: u32,
+    ghost in_byte: { bit < 8 },
+    ghost within: { 8 * byte + bit ≤ 8 * length bytes.now },
 }
 
 impl<'a> Bitstream<'a> {
@@ -55,17 +57,45 @@ impl<'a> Bitstream<'a> {
         ensures bytes { bytes_of result ≡ bytes.now }
         ensures position { position_of result ≡ 0 }
     {
-        Bitstream { bytes, at: 0 }
+        Bitstream {
+            bytes,
+            byte: 0,
+            bit: 0,
+        }
     }
 
     /// How many bits were read; `u64::MAX` stands for more.
     pub fn position(&self) -> u64
         ensures { result ≡ min (position_of self.now) (2 ^ 64 - 1) }
     {
-        if self.at < 1 << 64 {
-            self.at as u64
+        if self.byte as u64 <= u64::MAX / 8 {
+            8 * self.byte as u64 + u64::from(self.bit)
         } else {
             u64::MAX
+        }
+    }
+
+    // The eight bytes from the reader's own on; past the end they are 0.
+    fn eight_bytes(&self) -> [u8; 8]
+        ensures { (j : ℕ) → j < 8 → slice_index result j ≡ slice_index self.now.bytes.now (self.now.byte + j) }
+    {
+        let (b, i) = (self.bytes, self.byte);
+        let left = b.len() - i;
+        if left >= 8 {
+            [
+                b[i],
+                b[i + 1],
+                b[i + 2],
+                b[i + 3],
+                b[i + 4],
+                b[i + 5],
+                b[i + 6],
+                b[i + 7],
+            ]
+        } else {
+            let mut eight = [0; 8];
+            eight[..left].copy_from_slice(&b[i..]);
+            eight
         }
     }
 
@@ -77,20 +107,15 @@ impl<'a> Bitstream<'a> {
         ensures err { IfErr result (λ e. (8 * length (bytes_of self.old) < position_of self.old + n) × (e ≡ BitstreamError.UnexpectedEof) × (self.new ≡ self.old)) }
         ensures bytes { bytes_of self.new ≡ bytes_of self.old }
     {
-        let all = self.bytes.len() as u128 * 8;
-        let end = self.at + u128::from(n);
-        if end > all {
+        let end = self.bit + n;
+        if end.div_ceil(8) as usize > self.bytes.len() - self.byte {
             return Err(BitstreamError::UnexpectedEof);
         }
-        let mut value = 0u32;
-        for j in 0..n {
-            let place = self.at + u128::from(j);
-            let byte = self.bytes[(place / 8) as usize];
-            let bit = (byte >> (place % 8) as u32) % 2;
-            value += u32::from(bit) << j;
-        }
-        self.at = end;
-        Ok(value)
+        let word = u64::from_le_bytes(self.eight_bytes());
+        let value = (word >> self.bit) % (1 << n);
+        self.byte += (end / 8) as usize;
+        self.bit = end % 8;
+        Ok(value as u32)
     }
 
     /// The next bit as a truth value.
