@@ -38,6 +38,35 @@ pub enum U32Spec {
     Offset(u32, u32),
 }
 
+// Eight bytes from byte i on.
+fn eight_at(b: &[u8], i: usize) -> [u8; 8]
+    requires { i + 8 ≤ length b.now }
+    ensures { (j : ℕ) → j < 8 → slice_index result j ≡ slice_index b.now (i + j) }
+{
+    [
+        b[i],
+        b[i + 1],
+        b[i + 2],
+        b[i + 3],
+        b[i + 4],
+        b[i + 5],
+        b[i + 6],
+        b[i + 7],
+    ]
+}
+
+// The fewer than eight bytes from byte i on, and behind them zeros.
+fn last_at(b: &[u8], i: usize) -> [u8; 8]
+    requires here { i ≤ length b.now }
+    requires few { length b.now < i + 8 }
+    ensures { (j : ℕ) → j < 8 → slice_index result j ≡ slice_index b.now (i + j) }
+{
+    let rest = &b[i..];
+    let mut eight = [0; 8];
+    eight[..rest.len()].copy_from_slice(rest);
+    eight
+}
+
 /// The input, and a place in it.
 #[derive(Clone, Copy)]
 pub struct Bitstream<'a> {
@@ -75,27 +104,15 @@ impl<'a> Bitstream<'a> {
         }
     }
 
-    // The eight bytes from the reader's own on; past the end they are 0.
-    fn eight_bytes(&self) -> [u8; 8]
-        ensures { (j : ℕ) → j < 8 → slice_index result j ≡ slice_index self.now.bytes.now (self.now.byte + j) }
+    // The 64 bits from the start of the reader's byte on; past the end they are 0.
+    fn word(&self) -> u64
+        ensures { (b n : ℕ) → b + n ≤ 64 → result / 2 ^ b % 2 ^ n ≡ bits_at self.now.bytes.now (8 * self.now.byte + b) n }
     {
-        let (b, i) = (self.bytes, self.byte);
-        let left = b.len() - i;
+        let left = self.bytes.len() - self.byte;
         if left >= 8 {
-            [
-                b[i],
-                b[i + 1],
-                b[i + 2],
-                b[i + 3],
-                b[i + 4],
-                b[i + 5],
-                b[i + 6],
-                b[i + 7],
-            ]
+            u64::from_le_bytes(eight_at(self.bytes, self.byte))
         } else {
-            let mut eight = [0; 8];
-            eight[..left].copy_from_slice(&b[i..]);
-            eight
+            u64::from_le_bytes(last_at(self.bytes, self.byte))
         }
     }
 
@@ -111,8 +128,7 @@ impl<'a> Bitstream<'a> {
         if end.div_ceil(8) as usize > self.bytes.len() - self.byte {
             return Err(BitstreamError::UnexpectedEof);
         }
-        let word = u64::from_le_bytes(self.eight_bytes());
-        let value = (word >> self.bit) % (1 << n);
+        let value = (self.word() >> self.bit) % (1 << n);
         self.byte += (end / 8) as usize;
         self.bit = end % 8;
         Ok(value as u32)
