@@ -1,5 +1,6 @@
 pub mod BitsLemmas
 pub mod Cells
+pub mod GrammarLaws
 pub mod ItemLoop
 pub mod PlainGives
 pub mod Wraps
