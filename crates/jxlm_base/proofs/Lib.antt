@@ -1,6 +1,7 @@
 pub mod BitsLemmas
 pub mod Cells
 pub mod GridLaws
+pub mod GrammarLaws
 pub mod ItemLoop
 pub mod PlainGives
 pub mod Regions

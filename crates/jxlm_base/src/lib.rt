@@ -1,6 +1,7 @@
 //! The base of the decoder: bits, faults, samples, grids, entropy decoders.
 #![tactic(auto)]
 
+pub mod bit_laws;
 pub mod bits;
 pub mod decoder;
 pub mod error;
