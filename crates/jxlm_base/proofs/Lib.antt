@@ -1,5 +1,6 @@
 pub mod BitsLemmas
 pub mod Cells
+pub mod DecodingLaws
 pub mod ItemLoop
 pub mod PlainGives
 pub mod Wraps
