@@ -3,4 +3,5 @@ pub mod Cells
 pub mod DecodingLaws
 pub mod ItemLoop
 pub mod PlainGives
+pub mod PlainTokens
 pub mod Wraps
