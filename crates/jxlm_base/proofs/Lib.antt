@@ -6,4 +6,6 @@ pub mod ItemLoop
 pub mod PlainGives
 pub mod Regions
 pub mod Tokens
+pub mod DecodingLaws
+pub mod PlainTokens
 pub mod Wraps

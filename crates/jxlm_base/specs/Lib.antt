@@ -9,4 +9,7 @@ pub mod Plain
 pub mod PlainLaws
 pub mod Regions
 pub mod SampleLaws
+pub mod PlainTokens
+pub mod Region
+pub mod Rewrites
 pub mod Subgrid
