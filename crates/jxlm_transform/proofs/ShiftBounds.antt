@@ -1,12 +1,12 @@
 -- Sides and shifts of a channel that may be given.
-use Rattle.std.proofs.Common.{◌≡◌, ℕ, ◌+◌, ◌*◌, ◌/◌, ◌%◌, ◌^◌, ◌<◌, ◌≤◌, Bool, true, false, IsTrue, if◌then◌else◌, ℤ, pos, refl, arith}
+use Rattle.std.proofs.Common.{◌≡◌, ℕ, ◌+◌, ◌*◌, ◌/◌, ◌%◌, ◌^◌, ◌<◌, ◌≤◌, Bool, true, false, IsTrue, if◌then◌else◌, ℤ, pos, refl, arith, rules, List}
 use Rattle.std.proofs.Math.Nat.{le-mul_of_pos_right}
 use Rattle.std.proofs.lemmas.Nat.{pow_pos, div-add-mod'}
 use Rattle.std.proofs.lemmas.Int.{ints, to_z_pos}
 use Rattle.std.specs.Int.{w32, div_ceil, cast_signed}
 use Rattle.std.specs.Int.RustNames.{unsigned_abs}
 use Rattle.jxlm_transform.specs.Params.{IsSide}
-use Rattle.jxlm_transform.specs.Shifts.{upsampled_side, shift_size, hshift, vshift, IsShift, IsValidShift}
+use Rattle.jxlm_transform.specs.Shifts.{upsampled_side, shift_size, jpeg_shift, hshift, vshift, IsShift, IsValidShift}
 use Rattle.jxlm_transform.specs.declared.param.ChannelShift.{ChannelShift}
 use Rattle.jxlm_transform.specs.declared.param.ChannelShift.TheVariants.{JpegUpsampling, Shifts, Raw}
 
@@ -14,6 +14,7 @@ use Rattle.jxlm_transform.specs.declared.param.ChannelShift.TheVariants.{JpegUps
 pub div_ceil-le_self : (n m : ℕ) → 0 < m → div_ceil n m ≤ n
 div_ceil-le_self n m h = omega (arith, div-add-mod' n m, le-mul_of_pos_right (n / m) h)
 
+-- a side of a channel of a JPEG picture can be greater by one than the picture's, but does not pass the limit
 IsSide-upsampled_side : (has halved : Bool) (n : ℕ) → IsSide n → IsSide (upsampled_side has halved n)
 IsSide-upsampled_side false halved n h = h
 IsSide-upsampled_side true false n h = omega arith
@@ -47,3 +48,7 @@ pub IsShift-hshift : (s : ChannelShift) → IsValidShift s → IsShift (hshift s
 IsShift-hshift (JpegUpsampling has_h h has_v v) valid = (halvings h, halvings v)
 IsShift-hshift (Shifts s) valid = rw (hshift-shifts s valid) (IsShift-pos s valid, IsShift-pos s valid)
 IsShift-hshift (Raw h v) valid = valid
+
+-- A channel of a JPEG picture is halved only where some channel is.
+pub IsValidShift-jpeg_shift : (values : List ℕ) (i : ℕ) → IsValidShift (jpeg_shift values i)
+IsValidShift-jpeg_shift values i = (search rules, search rules)

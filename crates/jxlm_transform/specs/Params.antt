@@ -1,8 +1,7 @@
 -- What an image is read by.
-use Rattle.std.specs.Prelude.{◌≡◌, ℕ, ◌≤◌, ◌^◌, List, length, Option}
+use Rattle.std.specs.Prelude.{ℕ, ◌≤◌, ◌^◌, length}
 use Rattle.std.specs.Int.{IsPowerOfTwo}
 use Rattle.std.specs.List.{All}
-use Rattle.jxlm_base.specs.declared.grid.OutOfMemory.{OutOfMemory}
 use Rattle.jxlm_transform.specs.declared.param.ChannelShift.{ChannelShift}
 use Rattle.jxlm_transform.specs.declared.param.ModularChannelParams.{ModularChannelParams}
 use Rattle.jxlm_transform.specs.declared.param.ModularParams.{ModularParams}
@@ -34,7 +33,3 @@ pub record IsValidParams {D : Type 0} (p : ModularParams D) : Type 0 where
 -- a channel with this shift in a picture of these sides
 abbrev pub sized : ℕ → ℕ → ChannelShift → ModularChannelParams
 sized width height shift = record { width = width; height = height; shift = shift }
-
--- the only value of its type
-abbrev pub out_of_memory : OutOfMemory
-out_of_memory = record {}

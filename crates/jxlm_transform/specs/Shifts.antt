@@ -29,7 +29,8 @@ vshift (JpegUpsampling has_h h has_v v) = if v then pos 1 else pos 0
 vshift (Shifts s) = cast_signed w32 s
 vshift (Raw h v) = v
 
--- The channel of this index, by the values of three channels: 0 is halved both ways wherever another isn't, 1 not at all, 2 down alone, 3 across alone.
+-- The channel of this index, by the values of three channels: 0 may be halved along both sides, 1 along none, 2 down alone,
+-- 3 across alone; it is halved where some channel isn't.
 abbrev pub jpeg_shift : List ℕ → ℕ → ChannelShift
 jpeg_shift values i =
     let value : ℕ = slice_index values i in

@@ -4,10 +4,11 @@ ghost use Rattle.std.specs.Prelude.{◌≡◌, ◌<◌, ◌≤◌, ◌↔◌, �
 ghost use Rattle.std.specs.Int.{div_ceil};
 ghost use Rattle.std.specs.List.{All, list_any};
 ghost use Rattle.jxlm_transform.specs.Shifts.{IsValidShift, shift_size, jpeg_shift, hshift, vshift, IsShift, upsampled_side as the_upsampled_side};
-ghost use Rattle.jxlm_transform.specs.Params.{IsSide, IsValidChannel, IsGroupDim, IsValidParams, sized, out_of_memory};
+ghost use Rattle.jxlm_transform.specs.Params.{IsSide, IsValidChannel, IsGroupDim, IsValidParams, sized};
+ghost use Rattle.jxlm_base.specs.Fault.{NoMemory, fault_of};
 
 use jxlm_base::decoder::Decoder;
-use jxlm_base::error::{Error, Result};
+use jxlm_base::error::Result;
 use jxlm_base::grid::OutOfMemory;
 use jxlm_tree::ma::MaConfig;
 use std::alloc::Global;
@@ -43,8 +44,9 @@ impl ChannelShift {
         ChannelShift::Shifts(shift)
     }
 
-    /// The shift of channel `idx` of a JPEG picture of three channels, each with its value: 0 is
-    /// halved wherever another channel isn't, 1 not at all, 2 down alone, 3 across alone.
+    /// The shift of channel `idx` of a JPEG picture of three channels, each with its value: 0 may be
+    /// halved both ways, 1 not at all, 2 down alone, 3 across alone; it is halved along a side where
+    /// some channel isn't. Values are at most 3, and `idx` below 3.
     pub fn from_jpeg_upsampling(jpeg_upsampling: [u32; 3], idx: usize) -> ChannelShift
         requires values { All (λ v. v ≤ 3) jpeg_upsampling }
         requires index { idx < 3 }
@@ -62,24 +64,25 @@ impl ChannelShift {
         }
     }
 
-    /// How often the width is halved.
+    /// How often the width is halved. `Shifts(s)` gives s as a signed number, which is negative
+    /// from 2^31 on.
     pub fn hshift(&self) -> i32
         ensures { result ≡ hshift self.now }
     {
         match *self {
             ChannelShift::JpegUpsampling { h_subsample, .. } => i32::from(h_subsample),
-            ChannelShift::Shifts(shift) => shift.cast_signed(),
+            ChannelShift::Shifts(both) => both.cast_signed(),
             ChannelShift::Raw(hshift, _) => hshift,
         }
     }
 
-    /// How often the height is halved.
+    /// How often the height is halved; `Shifts(s)` as in [`ChannelShift::hshift`].
     pub fn vshift(&self) -> i32
         ensures { result ≡ vshift self.now }
     {
         match *self {
             ChannelShift::JpegUpsampling { v_subsample, .. } => i32::from(v_subsample),
-            ChannelShift::Shifts(shift) => shift.cast_signed(),
+            ChannelShift::Shifts(both) => both.cast_signed(),
             ChannelShift::Raw(_, vshift) => vshift,
         }
     }
@@ -106,10 +109,7 @@ impl ChannelShift {
                 upsampled_side(has_h_subsample, h_subsample, width),
                 upsampled_side(has_v_subsample, v_subsample, height),
             ),
-            ChannelShift::Shifts(shift) => (
-                shifted_side(width, shift),
-                shifted_side(height, shift),
-            ),
+            ChannelShift::Shifts(both) => (shifted_side(width, both), shifted_side(height, both)),
             ChannelShift::Raw(hshift, vshift) => (
                 shifted_side(width, hshift.unsigned_abs()),
                 shifted_side(height, vshift.unsigned_abs()),
@@ -127,7 +127,7 @@ impl ChannelShift {
                 has_v_subsample,
                 v_subsample,
             } => (has_h_subsample || !h_subsample) && (has_v_subsample || !v_subsample),
-            ChannelShift::Shifts(shift) => shift <= 30,
+            ChannelShift::Shifts(both) => both <= 30,
             ChannelShift::Raw(hshift, vshift) => is_shift(hshift) && is_shift(vshift),
         }
     }
@@ -188,7 +188,7 @@ pub struct ModularChannelParams {
 impl ModularChannelParams {
     /// A channel of these sides.
     pub fn new(width: u32, height: u32) -> ModularChannelParams
-        ensures { result ≡ record { width = width; height = height; shift = ChannelShift.Shifts 0 } }
+        ensures { result ≡ sized width height (ChannelShift.Shifts 0) }
     {
         ModularChannelParams::with_shift(width, height, ChannelShift::from_shift(0))
     }
@@ -203,7 +203,8 @@ impl ModularChannelParams {
     ) -> ModularChannelParams
         requires values { All (λ v. v ≤ 3) jpeg_upsampling }
         requires index { idx < 3 }
-        ensures { result ≡ record { width = width; height = height; shift = jpeg_shift jpeg_upsampling idx } }
+        ensures channel { result ≡ sized width height (jpeg_shift jpeg_upsampling idx) }
+        ensures valid { IsValidShift result.shift }
     {
         let shift = ChannelShift::from_jpeg_upsampling(jpeg_upsampling, idx);
         ModularChannelParams::with_shift(width, height, shift)
@@ -211,7 +212,7 @@ impl ModularChannelParams {
 
     /// A channel with this shift in a picture of these sides.
     pub fn with_shift(width: u32, height: u32, shift: ChannelShift) -> ModularChannelParams
-        ensures { result ≡ record { width = width; height = height; shift = shift } }
+        ensures { result ≡ sized width height shift }
     {
         ModularChannelParams {
             width,
@@ -253,7 +254,7 @@ impl<'a, D: Decoder> ModularParams<'a, D> {
         ensures bit_depth { IfOk result (λ p. p.bit_depth ≡ bit_depth) }
         ensures channels { IfOk result (λ p. p.channels.items ≡ map (sized width height) channel_shifts.items) }
         ensures ma_config { IfOk result (λ p. p.ma_config ≡ ma_config.entry) }
-        ensures err { IfErr result (λ e. e ≡ Error.Buffer out_of_memory) }
+        ensures err { IfErr result (λ e. fault_of e ≡ NoMemory) }
     {
         let channels = channel_shifts
             .into_iter()
@@ -270,7 +271,12 @@ impl<'a, D: Decoder> ModularParams<'a, D> {
         channels: Vec<ModularChannelParams>,
         ma_config: Option<&'a MaConfig<D>>,
     ) -> ModularParams<'a, D>
-        ensures { result ≡ record { group_dim = group_dim; bit_depth = bit_depth; channels = channels; ma_config = ma_config.entry } }
+        ensures { result ≡ record {
+          group_dim = group_dim;
+          bit_depth = bit_depth;
+          channels = channels;
+          ma_config = ma_config.entry;
+        } }
     {
         ModularParams {
             group_dim,
