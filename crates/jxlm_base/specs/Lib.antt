@@ -10,6 +10,4 @@ pub mod PlainLaws
 pub mod Regions
 pub mod SampleLaws
 pub mod PlainTokens
-pub mod Region
-pub mod Rewrites
 pub mod Subgrid
