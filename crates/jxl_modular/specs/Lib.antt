@@ -2,6 +2,8 @@ pub mod Part
 pub mod Rule
 pub mod Coded
 pub mod Decode
+pub mod Image
+pub mod Layout
 pub mod Progress
 pub mod Reading
 pub mod Token

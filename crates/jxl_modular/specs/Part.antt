@@ -99,7 +99,7 @@ cells_of [] = []
 cells_of (g ∷ grids) = g.cells ++ cells_of grids
 
 -- whole grids of the sizes of the channels
-abbrev pub Fits : List Channel → List (Grid ℤ) → Type 0
+abbrev pub Fits : {X : Type 0} → List Channel → List (Grid X) → Type 0
 Fits [] [] = Unit {0}
 Fits [] (g ∷ grids) = ⊥
 Fits (c ∷ channels) [] = ⊥

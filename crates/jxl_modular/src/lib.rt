@@ -1,5 +1,10 @@
-//! Parts of images, and how their samples are coded.
+//! Modular images of JPEG XL.
 #![tactic(auto)]
 
+mod channels;
 mod decode;
+mod header;
 pub mod image;
+mod laws;
+
+pub use channels::ModularChannelInfo;
