@@ -1,5 +1,5 @@
 -- How far the decoding of a part has come: what its loops over channels, rows and columns keep.
-use Rattle.std.specs.Prelude.{◌≡◌, ℕ, ◌+◌, ◌*◌, ◌<◌, ℤ, List, [], ◌∷◌, take, drop, length, map, get_or, Err}
+use Rattle.std.specs.Prelude.{◌≡◌, ℕ, ◌+◌, ◌*◌, ◌<◌, ℤ, List, [], ◌∷◌, take, drop, length, map, get_or, Bool, Err}
 use Rattle.std.specs.List.{All}
 use Rattle.std.specs.Int.{Width}
 use Rattle.jxlm_base.specs.Decoding.{Meaning}
@@ -9,7 +9,8 @@ use Rattle.jxlm_base.specs.declared.decoder.DecoderError.{DecoderError}
 use Rattle.jxlm_base.specs.declared.subgrid.Region.{Region}
 use Rattle.jxlm_tree.specs.Tree.{leaf}
 use Rattle.jxlm_tree.specs.declared.flat.Leaf.{Leaf}
-use Rattle.jxl_modular.specs.Coded.{part_rule, IsCoded}
+use Rattle.jxl_modular.specs.Coded.{part_rule, IsCoded, IsCodedToTheEnd}
+use Rattle.jxl_modular.specs.Decode.{Fails}
 use Rattle.jxl_modular.specs.Part.{Part, Channel, channel, cell_count, cells_before, cells_of, greatest_width, Fits}
 
 module _ {S : Type 0} (d : Meaning S) (w : Width) (part : Part) (bytes : List ℕ) (decoder : S) (p0 : ℕ) (old : List (Grid ℤ)) where
@@ -58,6 +59,17 @@ module _ {S : Type 0} (d : Meaning S) (w : Width) (bytes : List ℕ) (l : Leaf) 
   abbrev pub Stops : DecoderError → Type 0
   Stops e = (part : Part) (decoder : S) (p0 : ℕ) (old : List (Grid ℤ)) → Suits part regions l m →
       Reached d w part bytes decoder p0 old (from part) (grids_in regions store) s p → Stopped d w part bytes decoder p0 old e (grids_in regions store') p'
+
+module _ {S : Type 0} (d : Meaning S) (w : Width) (bytes : List ℕ) (l : Leaf) (m : ℕ) (regions : List Region) (decoder : S) (old : List (Grid ℤ)) (p : ℕ) (new : List (Grid ℤ)) (q : ℕ) where
+  -- each part of these regions is coded to the end
+  abbrev pub DecodesAll : Type 0
+  DecodesAll = (part : Part) → Suits part regions l m → Fits part.channels (grids_in regions old) →
+      IsCodedToTheEnd d w part bytes decoder p (grids_in regions new) q × Fits part.channels (grids_in regions new)
+
+  -- each part of these regions that has cells is refused by e, and stays as partial as it was
+  abbrev pub DecodesSome : DecoderError → Type 0
+  DecodesSome e = (part : Part) (partial : Bool) → Suits part regions l m → Fits part.channels (grids_in regions old) → 0 < cell_count part.channels →
+      (tried : ℕ) × Fails d w part bytes decoder (record { position = p; grids = grids_in regions old; partial = partial }) (record { position = q; grids = grids_in regions new; partial = partial }) e tried
 
 module _ {S : Type 0} where
   -- buffer b of a store; a grid of no cells where there is none

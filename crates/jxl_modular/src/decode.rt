@@ -1,6 +1,6 @@
 //! The loops that decode the samples of a part, in the order of its cells.
 
-ghost use Rattle.std.specs.Prelude.{◌≡◌, ℕ, ℤ, pos, ◌+ℤ◌, ◌*ℤ◌, ◌+◌, ◌*◌, ◌^◌, ◌<◌, ◌≤◌, List, Some, Ok, Err, OnOk, OnErr, IfErr, Contains, FitsSigned, get_or, length, slice_index_or};
+ghost use Rattle.std.specs.Prelude.{◌≡◌, ℕ, ℤ, pos, ◌+ℤ◌, ◌*ℤ◌, ◌+◌, ◌*◌, ◌^◌, ◌<◌, ◌≤◌, List, Some, Ok, Err, OnOk, OnErr, IfErr, Contains, ◌≢◌, FitsSigned, get_or, length, slice_index_or};
 ghost use Rattle.std.specs.Int.{w32, int_wrap};
 ghost use Rattle.jxlm_base.specs.Bits.{bytes_of, position_of};
 ghost use Rattle.jxlm_base.specs.Grid.{cell};
@@ -9,7 +9,7 @@ ghost use Rattle.jxlm_tree.specs.Neighbours as neighbours;
 ghost use Rattle.jxlm_tree.specs.TreeReading.{IsOffered};
 ghost use Rattle.jxlm_base.specs.Numbers.{unpack};
 ghost use Rattle.jxl_modular.specs.Part.{cells_before, cell_count};
-ghost use Rattle.jxl_modular.specs.Progress.{GoesOn, Stops, KeepsOutside, place_of};
+ghost use Rattle.jxl_modular.specs.Progress.{GoesOn, Stops, DecodesAll, DecodesSome, KeepsOutside, place_of};
 ghost use Rattle.jxl_modular.specs.Reading.{prediction_at, ReadsCell, region_at};
 
 use jxlm_base::bits::Bitstream;
@@ -129,6 +129,7 @@ fn decode_cell<S: Sample, D: Decoder>(
     requires multiplier { leaf.multiplier < 2 ^ 31 }
     ensures ok { OnOk result (ReadsCell D.meaning S.width S.to_int S.from_int (bytes_of bits.old) leaf multiplier region x y store.old decoder.old (position_of bits.old) store.new decoder.new (position_of bits.new)) }
     ensures err { IfErr result (λ e. (D.meaning.read decoder.old (bytes_of bits.old) (position_of bits.old) leaf.cluster multiplier ≡ Err e) × (store.new ≡ store.old) × (decoder.new ≡ decoder.old) × (position_of bits.new ≡ position_of bits.old)) }
+    ensures memory { IfErr result (λ e. e ≢ DecoderError.OutOfMemory) }
     ensures bytes { bytes_of bits.new ≡ bytes_of bits.old }
 {
     let token = decoder.read_varint_with_multiplier_clustered(bits, leaf.cluster, multiplier)?;
@@ -160,6 +161,7 @@ fn decode_row<S: Sample, D: Decoder>(
     ensures err { IfErr result (λ e. Stops D.meaning S.width (bytes_of bits.old) leaf multiplier regions.now (λ part. place_of part i 0 y) (λ part. place_of part i 0 (y + 1)) (store_meanings S.to_int store.old) decoder.old (position_of bits.old) (store_meanings S.to_int store.new) (position_of bits.new) e) }
     ensures keeps { KeepsOutside regions.now store.old store.new }
     ensures clusters { OnOk result (D.meaning.cluster_map decoder.new ≡ D.meaning.cluster_map decoder.old) }
+    ensures memory { IfErr result (λ e. e ≢ DecoderError.OutOfMemory) }
     ensures bytes { bytes_of bits.new ≡ bytes_of bits.old }
 {
     let region = regions[i];
@@ -189,6 +191,7 @@ fn decode_channel<S: Sample, D: Decoder>(
     ensures err { IfErr result (λ e. Stops D.meaning S.width (bytes_of bits.old) leaf multiplier regions.now (λ part. cells_before part.channels i) (λ part. cells_before part.channels (i + 1)) (store_meanings S.to_int store.old) decoder.old (position_of bits.old) (store_meanings S.to_int store.new) (position_of bits.new) e) }
     ensures keeps { KeepsOutside regions.now store.old store.new }
     ensures clusters { OnOk result (D.meaning.cluster_map decoder.new ≡ D.meaning.cluster_map decoder.old) }
+    ensures memory { IfErr result (λ e. e ≢ DecoderError.OutOfMemory) }
     ensures bytes { bytes_of bits.new ≡ bytes_of bits.old }
 {
     let region = regions[i];
@@ -218,10 +221,40 @@ fn decode_channels<S: Sample, D: Decoder>(
     ensures ok { OnOk result (GoesOn D.meaning S.width (bytes_of bits.old) leaf multiplier regions.now (λ part. 0) (λ part. cell_count part.channels) (store_meanings S.to_int store.old) decoder.old (position_of bits.old) (store_meanings S.to_int store.new) (position_of bits.new) decoder.new) }
     ensures err { IfErr result (λ e. Stops D.meaning S.width (bytes_of bits.old) leaf multiplier regions.now (λ part. 0) (λ part. cell_count part.channels) (store_meanings S.to_int store.old) decoder.old (position_of bits.old) (store_meanings S.to_int store.new) (position_of bits.new) e) }
     ensures keeps { KeepsOutside regions.now store.old store.new }
+    ensures memory { IfErr result (λ e. e ≢ DecoderError.OutOfMemory) }
     ensures bytes { bytes_of bits.new ≡ bytes_of bits.old }
 {
     for i in 0..regions.len() {
         decode_channel(bits, decoder, store, regions, leaf, multiplier, i)?;
     }
+    Ok(())
+}
+
+/// Decodes all samples of a part: the decoder begins, the channels are read in order, and the decoder accepts the end.
+///
+/// A fault is that of the beginning, of the read of one cell, or of the end; the cells before are decoded then, and the
+/// others as they were.
+pub(crate) fn decode_part<S: Sample, D: Decoder>(
+    bits: &mut Bitstream<'_>,
+    decoder: &mut D,
+    store: &mut [AlignedGrid<S>],
+    regions: &[Region],
+    leaf: Leaf,
+    multiplier: u32,
+) -> Result<(), DecoderError>
+    requires lie { AllLie regions.now store.old }
+    requires apart { LieApart regions.now }
+    requires cluster { Contains (D.meaning.cluster_map decoder.old) leaf.cluster }
+    requires offered { IsOffered leaf.predictor }
+    requires multiplier { leaf.multiplier < 2 ^ 31 }
+    ensures ok { OnOk result (DecodesAll D.meaning S.width (bytes_of bits.old) leaf multiplier regions.now decoder.old (store_meanings S.to_int store.old) (position_of bits.old) (store_meanings S.to_int store.new) (position_of bits.new)) }
+    ensures err { IfErr result (λ e. DecodesSome D.meaning S.width (bytes_of bits.old) leaf multiplier regions.now decoder.old (store_meanings S.to_int store.old) (position_of bits.old) (store_meanings S.to_int store.new) (position_of bits.new) e) }
+    ensures keeps { KeepsOutside regions.now store.old store.new }
+    ensures memory { IfErr result (λ e. e ≢ DecoderError.OutOfMemory) }
+    ensures bytes { bytes_of bits.new ≡ bytes_of bits.old }
+{
+    decoder.begin(bits)?;
+    decode_channels(bits, decoder, store, regions, leaf, multiplier)?;
+    decoder.finalize()?;
     Ok(())
 }
