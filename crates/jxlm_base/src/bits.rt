@@ -100,7 +100,7 @@ impl<'a> Bitstream<'a> {
         }
     }
 
-    /// How many bits lie before the place: those that were read. `u64::MAX` stands for more than that.
+    /// How many bits lie before the place, or `u64::MAX` where they are more than that.
     pub fn position(&self) -> u64
         ensures { result ≡ min (position_of self.now) (2 ^ 64 - 1) }
     {
@@ -123,8 +123,8 @@ impl<'a> Bitstream<'a> {
         }
     }
 
-    /// The next `n` bits, at most 32, as a number: `u(n)`. The first bit is the least significant; no bits are 0, also at
-    /// the end.
+    /// The next `n` bits, at most 32, as a number: `u(n)`. The first bit is the least significant. For
+    /// `n` = 0 the number is 0, also at the end.
     ///
     /// `UnexpectedEof` where fewer than `n` bits are left: the reader is then unchanged.
     pub fn read_bits(&mut self, n: u32) -> Result<u32, BitstreamError>

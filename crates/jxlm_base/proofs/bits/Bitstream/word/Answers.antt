@@ -1,4 +1,4 @@
-use Rattle.std.proofs.Common.{◌≡◌, ℕ, ◌<◌, rules}
+use Rattle.std.proofs.Common.{rules}
 use Rattle.jxlm_base.proofs.BitsLemmas.{Copies, word_part}
 use Rattle.jxlm_base.proofs.bits.Bitstream.word.Goals as goal
 
