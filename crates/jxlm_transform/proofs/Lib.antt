@@ -1,0 +1,3 @@
+pub mod ImageChannels
+pub mod Powers
+pub mod ShiftBounds

@@ -1,0 +1,35 @@
+-- What an image is read by.
+use Rattle.std.specs.Prelude.{ℕ, ◌≤◌, ◌^◌, length}
+use Rattle.std.specs.Int.{IsPowerOfTwo}
+use Rattle.std.specs.List.{All}
+use Rattle.jxlm_transform.specs.declared.param.ChannelShift.{ChannelShift}
+use Rattle.jxlm_transform.specs.declared.param.ModularChannelParams.{ModularChannelParams}
+use Rattle.jxlm_transform.specs.declared.param.ModularParams.{ModularParams}
+use Rattle.jxlm_transform.specs.Shifts.{IsValidShift}
+
+-- a side that a picture may have
+abbrev pub IsSide : ℕ → Type 0
+IsSide n = n ≤ 2 ^ 30
+
+-- a channel that may be given
+pub record IsValidChannel (c : ModularChannelParams) : Type 0 where
+  pub width : IsSide c.width
+  pub height : IsSide c.height
+  pub shift : IsValidShift c.shift
+
+-- a side that the groups of an image may have
+pub record IsGroupDim (n : ℕ) : Type 0 where
+  pub least : 2 ≤ n
+  pub greatest : n ≤ 2 ^ 20
+  pub power : IsPowerOfTwo n
+
+-- parameters that an image may be read by
+pub record IsValidParams {D : Type 0} (p : ModularParams D) : Type 0 where
+  pub group_dim : IsGroupDim p.group_dim
+  pub bit_depth : p.bit_depth ≤ 32
+  pub count : length p.channels.items ≤ 2 ^ 20
+  pub channels : All IsValidChannel p.channels.items
+
+-- a channel with this shift in a picture of these sides
+abbrev pub sized : ℕ → ℕ → ChannelShift → ModularChannelParams
+sized width height shift = record { width = width; height = height; shift = shift }

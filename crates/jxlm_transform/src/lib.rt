@@ -1,0 +1,4 @@
+//! What an image's channels are, and what transforms do to them.
+#![tactic(auto)]
+
+pub mod param;

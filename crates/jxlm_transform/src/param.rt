@@ -1,0 +1,432 @@
+//! What an image is read by: the sizes and shifts of its channels, and its limits.
+
+ghost use Rattle.std.specs.Prelude.{◌≡◌, ◌<◌, ◌≤◌, ◌↔◌, ◌^◌, ◌==◌, ◌&&◌, ◌||◌, IsTrue, IfOk, IfErr, map};
+ghost use Rattle.std.specs.Int.{div_ceil};
+ghost use Rattle.std.specs.List.{All, list_any};
+ghost use Rattle.jxlm_transform.specs.Shifts.{IsValidShift, shift_size, jpeg_shift, hshift, vshift, IsShift, upsampled_side as the_upsampled_side};
+ghost use Rattle.jxlm_transform.specs.Params.{IsSide, IsValidChannel, IsGroupDim, IsValidParams, sized};
+ghost use Rattle.jxlm_base.specs.Fault.{NoMemory, fault_of};
+
+use jxlm_base::decoder::Decoder;
+use jxlm_base::error::Result;
+use jxlm_base::grid::OutOfMemory;
+use jxlm_tree::ma::MaConfig;
+use std::alloc::Global;
+
+/// The greatest side of a picture.
+const MAX_SIDE: u32 = 1 << 30;
+
+/// The greatest number of channels given.
+const MAX_CHANNELS: usize = 1 << 20;
+
+/// How a channel is smaller than the picture it belongs to.
+#[derive(Clone, Copy, Debug, PartialEq, Eq)]
+pub enum ChannelShift {
+    /// The channel of a JPEG picture: whether some channel is halved across or down, and whether
+    /// this one is.
+    JpegUpsampling {
+        has_h_subsample: bool,
+        h_subsample: bool,
+        has_v_subsample: bool,
+        v_subsample: bool,
+    },
+    /// So many halvings of both sides.
+    Shifts(u32),
+    /// So many halvings across, and so many down.
+    Raw(i32, i32),
+}
+
+impl ChannelShift {
+    /// So many halvings of both sides.
+    pub fn from_shift(shift: u32) -> ChannelShift
+        ensures { result ≡ ChannelShift.Shifts shift }
+    {
+        ChannelShift::Shifts(shift)
+    }
+
+    /// The shift of channel `idx` of a JPEG picture of three channels, each with its value: 0 may be
+    /// halved both ways, 1 not at all, 2 down alone, 3 across alone; it is halved along a side where
+    /// some channel isn't. Values are at most 3, and `idx` below 3.
+    pub fn from_jpeg_upsampling(jpeg_upsampling: [u32; 3], idx: usize) -> ChannelShift
+        requires values { All (λ v. v ≤ 3) jpeg_upsampling }
+        requires index { idx < 3 }
+        ensures shift { result ≡ jpeg_shift jpeg_upsampling idx }
+        ensures valid { IsValidShift result }
+    {
+        let has_h_subsample = has_value(&jpeg_upsampling, 1, 2);
+        let has_v_subsample = has_value(&jpeg_upsampling, 1, 3);
+        let value = jpeg_upsampling[idx];
+        ChannelShift::JpegUpsampling {
+            has_h_subsample,
+            h_subsample: is_halved(has_h_subsample, value, 3),
+            has_v_subsample,
+            v_subsample: is_halved(has_v_subsample, value, 2),
+        }
+    }
+
+    /// How often the width is halved. `Shifts(s)` gives s as a signed number, which is negative
+    /// from 2^31 on.
+    pub fn hshift(&self) -> i32
+        ensures { result ≡ hshift self.now }
+    {
+        match *self {
+            ChannelShift::JpegUpsampling { h_subsample, .. } => i32::from(h_subsample),
+            ChannelShift::Shifts(both) => both.cast_signed(),
+            ChannelShift::Raw(hshift, _) => hshift,
+        }
+    }
+
+    /// How often the height is halved; `Shifts(s)` as in [`ChannelShift::hshift`].
+    pub fn vshift(&self) -> i32
+        ensures { result ≡ vshift self.now }
+    {
+        match *self {
+            ChannelShift::JpegUpsampling { v_subsample, .. } => i32::from(v_subsample),
+            ChannelShift::Shifts(both) => both.cast_signed(),
+            ChannelShift::Raw(_, vshift) => vshift,
+        }
+    }
+
+    /// The sides of a channel with this shift in a picture of these sides. The picture's sides are
+    /// at most 2^30, and so are the channel's; shifts are from 0 to 30, and a side is halved only
+    /// where some channel's is.
+    pub fn shift_size(&self, size: (u32, u32)) -> (u32, u32)
+        requires width { IsSide size.0 }
+        requires height { IsSide size.1 }
+        requires valid { IsValidShift self.now }
+        ensures size { result ≡ shift_size self.now size }
+        ensures bounded_width { IsSide result.0 }
+        ensures bounded_height { IsSide result.1 }
+    {
+        let (width, height) = size;
+        match *self {
+            ChannelShift::JpegUpsampling {
+                has_h_subsample,
+                h_subsample,
+                has_v_subsample,
+                v_subsample,
+            } => (
+                upsampled_side(has_h_subsample, h_subsample, width),
+                upsampled_side(has_v_subsample, v_subsample, height),
+            ),
+            ChannelShift::Shifts(both) => (shifted_side(width, both), shifted_side(height, both)),
+            ChannelShift::Raw(hshift, vshift) => (
+                shifted_side(width, hshift.unsigned_abs()),
+                shifted_side(height, vshift.unsigned_abs()),
+            ),
+        }
+    }
+
+    fn is_valid(&self) -> bool
+        ensures { IsTrue result ↔ IsValidShift self.now }
+    {
+        match *self {
+            ChannelShift::JpegUpsampling {
+                has_h_subsample,
+                h_subsample,
+                has_v_subsample,
+                v_subsample,
+            } => (has_h_subsample || !h_subsample) && (has_v_subsample || !v_subsample),
+            ChannelShift::Shifts(both) => both <= 30,
+            ChannelShift::Raw(hshift, vshift) => is_shift(hshift) && is_shift(vshift),
+        }
+    }
+}
+
+/// Whether some channel has one of two values.
+fn has_value(values: &[u32], a: u32, b: u32) -> bool
+    ensures { result ≡ list_any (λ v. v == a || v == b) values.now }
+{
+    values.iter().any(|v| *v == a || *v == b)
+}
+
+/// Whether a channel with this value is halved along a side along which some channel may be; the
+/// value `alone` halves this side alone.
+fn is_halved(some_halved: bool, value: u32, alone: u32) -> bool
+    ensures { result ≡ (some_halved && (value == 0 || value == alone)) }
+{
+    some_halved && (value == 0 || value == alone)
+}
+
+/// A side, halved so many times.
+fn shifted_side(side: u32, shift: u32) -> u32
+    requires { shift ≤ 30 }
+    ensures { result ≡ div_ceil side (2 ^ shift) }
+{
+    side.div_ceil(1 << shift)
+}
+
+/// A side of a channel of a JPEG picture.
+fn upsampled_side(has_subsample: bool, subsample: bool, side: u32) -> u32
+    requires { IsSide side }
+    ensures { result ≡ the_upsampled_side has_subsample subsample side }
+{
+    let half = side.div_ceil(2);
+    if !has_subsample {
+        side
+    } else if subsample {
+        half
+    } else {
+        2 * half
+    }
+}
+
+fn is_shift(shift: i32) -> bool
+    ensures { IsTrue result ↔ IsShift shift }
+{
+    (0..=30).contains(&shift)
+}
+
+/// A channel of an image: the sides of the picture, and how the channel is smaller than it.
+#[derive(Clone, Copy)]
+pub struct ModularChannelParams {
+    pub width: u32,
+    pub height: u32,
+    pub shift: ChannelShift,
+}
+
+impl ModularChannelParams {
+    /// A channel of these sides.
+    pub fn new(width: u32, height: u32) -> ModularChannelParams
+        ensures { result ≡ sized width height (ChannelShift.Shifts 0) }
+    {
+        ModularChannelParams::with_shift(width, height, ChannelShift::from_shift(0))
+    }
+
+    /// Channel `idx` of a JPEG picture of three channels, each with its value, as in
+    /// [`ChannelShift::from_jpeg_upsampling`].
+    pub fn jpeg(
+        width: u32,
+        height: u32,
+        jpeg_upsampling: [u32; 3],
+        idx: usize,
+    ) -> ModularChannelParams
+        requires values { All (λ v. v ≤ 3) jpeg_upsampling }
+        requires index { idx < 3 }
+        ensures channel { result ≡ sized width height (jpeg_shift jpeg_upsampling idx) }
+        ensures valid { IsValidShift result.shift }
+    {
+        let shift = ChannelShift::from_jpeg_upsampling(jpeg_upsampling, idx);
+        ModularChannelParams::with_shift(width, height, shift)
+    }
+
+    /// A channel with this shift in a picture of these sides.
+    pub fn with_shift(width: u32, height: u32, shift: ChannelShift) -> ModularChannelParams
+        ensures { result ≡ sized width height shift }
+    {
+        ModularChannelParams {
+            width,
+            height,
+            shift,
+        }
+    }
+
+    fn is_valid(&self) -> bool
+        ensures { IsTrue result ↔ IsValidChannel self.now }
+    {
+        self.width <= MAX_SIDE && self.height <= MAX_SIDE && self.shift.is_valid()
+    }
+}
+
+/// What an image is read by: the side of its groups, the depth of its samples, its channels, and
+/// the global tree if there is one.
+#[derive(Drop)]
+pub struct ModularParams<'a, D: Decoder> {
+    pub group_dim: u32,
+    pub bit_depth: u32,
+    pub channels: Vec<ModularChannelParams>,
+    pub ma_config: Option<&'a MaConfig<D>>,
+}
+
+impl<'a, D: Decoder> ModularParams<'a, D> {
+    /// An image of these sides with a channel for each shift. It is refused for want of memory
+    /// alone.
+    pub fn new(
+        alloc: Global,
+        width: u32,
+        height: u32,
+        group_dim: u32,
+        bit_depth: u32,
+        channel_shifts: Vec<ChannelShift>,
+        ma_config: Option<&'a MaConfig<D>>,
+    ) -> Result<ModularParams<'a, D>>
+        ensures group_dim { IfOk result (λ p. p.group_dim ≡ group_dim) }
+        ensures bit_depth { IfOk result (λ p. p.bit_depth ≡ bit_depth) }
+        ensures channels { IfOk result (λ p. p.channels.items ≡ map (sized width height) channel_shifts.items) }
+        ensures ma_config { IfOk result (λ p. p.ma_config ≡ ma_config.entry) }
+        ensures err { IfErr result (λ e. fault_of e ≡ NoMemory) }
+    {
+        let channels = channel_shifts
+            .into_iter()
+            .map(|shift| ModularChannelParams::with_shift(width, height, shift))
+            .collect(alloc)
+            .map_err(|_| OutOfMemory)?;
+        Ok(ModularParams::with_channels(group_dim, bit_depth, channels, ma_config))
+    }
+
+    /// An image of these channels.
+    pub fn with_channels(
+        group_dim: u32,
+        bit_depth: u32,
+        channels: Vec<ModularChannelParams>,
+        ma_config: Option<&'a MaConfig<D>>,
+    ) -> ModularParams<'a, D>
+        ensures { result ≡ record {
+          group_dim = group_dim;
+          bit_depth = bit_depth;
+          channels = channels;
+          ma_config = ma_config.entry;
+        } }
+    {
+        ModularParams {
+            group_dim,
+            bit_depth,
+            channels,
+            ma_config,
+        }
+    }
+
+    /// Whether an image may be read by these: sides are at most 2^30 and shifts from 0 to 30, a
+    /// channel is halved only where some channel is, samples have at most 32 bits, a group's side
+    /// is a power of two from 2 to 2^20, and there are at most 2^20 channels.
+    pub fn is_valid(&self) -> bool
+        ensures { IsTrue result ↔ IsValidParams self.now }
+    {
+        self.channels.len() <= MAX_CHANNELS
+            && self.channels.iter().all(|channel| channel.is_valid())
+            && self.bit_depth <= 32
+            && is_group_dim(self.group_dim)
+    }
+}
+
+fn is_group_dim(group_dim: u32) -> bool
+    ensures { IsTrue result ↔ IsGroupDim group_dim }
+{
+    (2..=1 << 20).contains(&group_dim) && group_dim.is_power_of_two()
+}
+
+#[cfg(test)]
+mod tests {
+    use super::*;
+    use jxlm_base::plain::PlainDecoder;
+    use std::result::Result;
+    use std::test::Fail;
+
+    // The values 1, 2 and 0: the first channel is halved nowhere, the second down, the third both ways.
+    #[test]
+    fn jpeg_sizes(rt: HostRuntime) {
+        let first = ChannelShift::from_jpeg_upsampling([1, 2, 0], 0);
+        let second = ChannelShift::from_jpeg_upsampling([1, 2, 0], 1);
+        let third = ModularChannelParams::jpeg(5, 7, [1, 2, 0], 2);
+        assert_eq!(rt; first.shift_size((5, 7)), (6, 8));
+        assert_eq!(rt; second.shift_size((5, 7)), (6, 4));
+        assert_eq!(rt; third.shift.shift_size((third.width, third.height)), (3, 4));
+        assert_eq!(rt; (second.hshift(), second.vshift()), (0, 1));
+    }
+
+    #[test]
+    fn shifted_sizes(rt: HostRuntime) {
+        let both = ChannelShift::from_shift(2);
+        assert_eq!(rt; both.shift_size((9, 4)), (3, 1));
+        assert_eq!(rt; (both.hshift(), both.vshift()), (2, 2));
+        assert_eq!(rt; ChannelShift::from_shift(4294967295).hshift(), -1);
+        let each = ModularChannelParams::with_shift(9, 4, ChannelShift::Raw(3, 1));
+        assert_eq!(rt; each.shift.shift_size((9, 4)), (2, 2));
+        assert_eq!(rt;
+            ModularChannelParams::new(9, 4).shift,
+            ChannelShift::Shifts(0)
+        );
+    }
+
+    #[test]
+    fn one_size_of_all_channels(rt: HostRuntime) -> Result<(), Fail> {
+        let shifts = vec![in rt.alloc(); ChannelShift::Shifts(0), ChannelShift::Raw(1, 0)]?;
+        let params = ModularParams::<PlainDecoder>::new(rt.alloc(), 5, 3, 2, 8, shifts, None)?;
+        assert_eq!(rt; params.channels.len(), 2);
+        assert_eq!(rt;
+            (params.channels[1].width, params.channels[1].height),
+            (5, 3)
+        );
+        assert_eq!(rt; params.channels[1].shift, ChannelShift::Raw(1, 0));
+        assert!(rt; params.is_valid());
+        Ok(())
+    }
+
+    // Whether an image of one such channel may be read.
+    fn channel_is_valid(
+        rt: &HostRuntime,
+        width: u32,
+        height: u32,
+        shift: ChannelShift,
+    ) -> Result<bool, Fail> {
+        let channel = ModularChannelParams::with_shift(width, height, shift);
+        let channels = vec![in rt.alloc(); channel]?;
+        let params = ModularParams::<PlainDecoder>::with_channels(256, 8, channels, None);
+        Ok(params.is_valid())
+    }
+
+    // Whether an image without channels may be read.
+    fn is_valid(rt: &HostRuntime, group_dim: u32, bit_depth: u32) -> bool {
+        let channels = Vec::new(rt.alloc());
+        ModularParams::<PlainDecoder>::with_channels(
+            group_dim, bit_depth, channels, None,
+        ).is_valid()
+    }
+
+    #[test]
+    fn limits_of_channels(rt: HostRuntime) -> Result<(), Fail> {
+        let none = ChannelShift::Shifts(0);
+        assert!(rt; channel_is_valid(&rt, 1 << 30, 1 << 30, none)?);
+        assert!(rt; channel_is_valid(&rt, 0, 0, none)?);
+        assert!(rt; !channel_is_valid(&rt, (1 << 30) + 1, 1, none)?);
+        assert!(rt; !channel_is_valid(&rt, 1, (1 << 30) + 1, none)?);
+        assert!(rt; channel_is_valid(&rt, 1, 1, ChannelShift::Shifts(30))?);
+        assert!(rt; !channel_is_valid(&rt, 1, 1, ChannelShift::Shifts(31))?);
+        assert!(rt; channel_is_valid(&rt, 1, 1, ChannelShift::Raw(30, 30))?);
+        assert!(rt; !channel_is_valid(&rt, 1, 1, ChannelShift::Raw(31, 0))?);
+        assert!(rt; !channel_is_valid(&rt, 1, 1, ChannelShift::Raw(0, 31))?);
+        assert!(rt; !channel_is_valid(&rt, 1, 1, ChannelShift::Raw(-1, 0))?);
+        assert!(rt; !channel_is_valid(&rt, 1, 1, ChannelShift::Raw(0, -1))?);
+        Ok(())
+    }
+
+    #[test]
+    fn limits_of_jpeg_channels(rt: HostRuntime) -> Result<(), Fail> {
+        for among in [false, true] {
+            for halved in [false, true] {
+                let across = ChannelShift::JpegUpsampling {
+                    has_h_subsample: among,
+                    h_subsample: halved,
+                    has_v_subsample: false,
+                    v_subsample: false,
+                };
+                let down = ChannelShift::JpegUpsampling {
+                    has_h_subsample: false,
+                    h_subsample: false,
+                    has_v_subsample: among,
+                    v_subsample: halved,
+                };
+                assert_eq!(rt; channel_is_valid(&rt, 1, 1, across)?, among || !halved);
+                assert_eq!(rt; channel_is_valid(&rt, 1, 1, down)?, among || !halved);
+            }
+        }
+        Ok(())
+    }
+
+    #[test]
+    fn limits_of_an_image(rt: HostRuntime) -> Result<(), Fail> {
+        assert!(rt; is_valid(&rt, 2, 0));
+        assert!(rt; is_valid(&rt, 1 << 20, 32));
+        assert!(rt; !is_valid(&rt, 256, 33));
+        for group_dim in [0, 1, 3, 255, 1 << 21, 1 << 31] {
+            assert!(rt; !is_valid(&rt, group_dim, 8), "{group_dim}");
+        }
+        let channel = ModularChannelParams::new(1, 1);
+        for (count, fits) in [(1 << 20, true), ((1 << 20) + 1, false)] {
+            let channels = vec![in rt.alloc(); channel; count]?;
+            let params = ModularParams::<PlainDecoder>::with_channels(256, 8, channels, None);
+            assert_eq!(rt; params.is_valid(), fits);
+        }
+        Ok(())
+    }
+}
