@@ -2,7 +2,7 @@
 
 ghost use Rattle.std.specs.Prelude.{◌≡◌, ◌≤◌, ◌<◌, ◌^◌, IfOk};
 ghost use Rattle.jxlm_base.specs.Bits.{bytes_of, position_of};
-ghost use Rattle.jxlm_base.specs.Grammar.{Reads, number};
+ghost use Rattle.jxlm_base.specs.Grammar.{IsExact, Reads, number};
 ghost use Rattle.jxlm_tree.specs.SelfCorrecting.{IsHeader};
 ghost use Rattle.jxlm_tree.specs.SelfCorrectingRanges.{AlwaysInRange};
 ghost use Rattle.jxlm_tree.specs.WeightsHeader.{AnswersExactly, default_weights, listed_weights, wp_header};
@@ -184,6 +184,12 @@ pub fn self_correcting_stays_in_range()
     ensures { AlwaysInRange }
 {}
 
+/// The weights of a header are read exactly: what is read as weights stands there, and weights that
+/// stand there are read.
+pub fn weights_are_read_exactly()
+    ensures { IsExact wp_header }
+{}
+
 #[cfg(test)]
 mod tests {
     use super::*;
@@ -247,7 +253,8 @@ mod tests {
     }
 
     #[test]
-    fn ranges() {
+    fn laws() {
         self_correcting_stays_in_range();
+        weights_are_read_exactly();
     }
 }
