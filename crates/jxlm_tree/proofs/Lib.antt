@@ -5,3 +5,4 @@ pub mod Multipliers
 pub mod OneNode
 pub mod Ranges
 pub mod Reading
+pub mod WeightsLaws

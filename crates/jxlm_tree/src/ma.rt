@@ -34,9 +34,12 @@ pub struct MaConfigParams {
 pub struct MaConfig<D: Decoder> {
     leaf: Leaf,
     decoder: D,
+    num_tree_nodes: usize,
+    tree_depth: usize,
 }
 
 impl<D: Decoder> Model for MaConfig<D> {
+    ghost use Rattle.std.specs.Prelude.{◌≡◌};
     ghost use Rattle.jxlm_tree.specs.Tree.{Config, one_leaf};
     ghost use Rattle.jxlm_tree.specs.TreeReading.{IsLeafOf};
     ghost use Rattle.jxlm_tree.specs.TreeCode.{coded_config};
@@ -48,7 +51,7 @@ impl<D: Decoder> Model for MaConfig<D> {
 
     ghost view = { λ c. one_leaf c.leaf c.decoder };
 
-    ghost invariant = { λ c. IsLeafOf (D.meaning.cluster_map c.decoder) c.leaf };
+    ghost invariant = { λ c. IsLeafOf (D.meaning.cluster_map c.decoder) c.leaf × (c.num_tree_nodes ≡ 1) × (c.tree_depth ≡ 0) };
 }
 
 impl<D: Decoder> MaConfig<D> {
@@ -76,7 +79,12 @@ impl<D: Decoder> MaConfig<D> {
             offset: draft.offset,
             multiplier: draft.multiplier,
         };
-        Ok(MaConfig { leaf, decoder })
+        Ok(MaConfig {
+            leaf,
+            decoder,
+            num_tree_nodes: 1,
+            tree_depth: 0,
+        })
     }
 
     /// The decoder of the leaves' clusters.
@@ -90,16 +98,14 @@ impl<D: Decoder> MaConfig<D> {
     pub fn num_tree_nodes(&self) -> usize
         ensures { result ≡ node_count self.now.tree }
     {
-        let _ = &self.leaf;
-        1
+        self.num_tree_nodes
     }
 
     /// The greatest number of decisions from the root to a leaf.
     pub fn tree_depth(&self) -> usize
         ensures { result ≡ depth self.now.tree }
     {
-        let _ = &self.leaf;
-        0
+        self.tree_depth
     }
 
     /// The leaf that is the whole tree.
@@ -245,3 +251,156 @@ pub fn each_listing_is_of_a_tree<D: Decoder>()
 pub fn no_two_trees_share_a_listing()
     ensures { (t u : Shape Leaf) → levels t ≡ levels u → t ≡ u }
 {}
+
+#[cfg(test)]
+mod tests {
+    use super::*;
+    use jxlm_base::decoder::DecoderError;
+    use jxlm_base::plain::PlainDecoder;
+    use std::test::Fail;
+
+    const SMALLEST: MaConfigParams = MaConfigParams {
+        node_limit: 0,
+        depth_limit: 0,
+    };
+
+    type Fields = (u8, Predictor, i32, u32);
+
+    // The fields of the leaf that stands at the reader's place, and the place behind the tree.
+    fn leaf_at(rt: &HostRuntime, bits: &mut Bitstream<'_>) -> Result<(Fields, u64)> {
+        let config: MaConfig<PlainDecoder> = MaConfig::parse(rt.alloc(), bits, SMALLEST)?;
+        let leaf = config.leaf();
+        let fields = (leaf.cluster, leaf.predictor, leaf.offset, leaf.multiplier);
+        Ok((fields, bits.position()))
+    }
+
+    // How the tree at the start of the bytes is refused, and where the reader stands then.
+    fn refusal(rt: &HostRuntime, bytes: &[u8]) -> (Option<Error>, u64) {
+        let mut bits = Bitstream::new(bytes);
+        let error = leaf_at(rt, &mut bits).err();
+        (error, bits.position())
+    }
+
+    // The tree of a header whose first four bits are read: six contexts of one cluster.
+    #[test]
+    fn trees_of_whole_streams(rt: HostRuntime) -> std::result::Result<(), Fail> {
+        let gradient = [0x42, 0x00, 0x04, 0x00, 0x04, 0x0e, 0x05, 0xc0, 0x20, 0x06];
+        let mut bits = Bitstream::new(&gradient);
+        bits.read_bits(4)?;
+        let fields = (0, Predictor::Gradient, 0, 1);
+        assert_eq!(rt; leaf_at(&rt, &mut bits)?, (fields, 68));
+
+        let zero = [0x82, 0x00, 0x40, 0x80, 0x04, 0x12, 0x3a, 0x08, 0x40, 0x61];
+        let mut bits = Bitstream::new(&zero);
+        bits.read_bits(4)?;
+        let fields = (0, Predictor::Zero, 5, 2);
+        assert_eq!(rt; leaf_at(&rt, &mut bits)?, (fields, 79));
+        Ok(())
+    }
+
+    // West, offset -2^31, multiplier 5 * 2^3, the second of two clusters; each context of the
+    // tree's decoder has a cluster of its own.
+    const WEST: [u8; 18] = [
+        0x14, 0x84, 0x0c, 0x15, 0x42, 0x80, 0x00, 0x2a, 0x14, 0xe2, 0xff, 0xff, 0xff, 0x7f, 0x10,
+        0x22, 0x08, 0x06,
+    ];
+
+    #[test]
+    fn a_leaf_and_its_decoder(rt: HostRuntime) -> std::result::Result<(), Fail> {
+        let mut bits = Bitstream::new(&WEST);
+        let config: MaConfig<PlainDecoder> = MaConfig::parse(rt.alloc(), &mut bits, SMALLEST)?;
+        let leaf = Leaf {
+            cluster: 1,
+            predictor: Predictor::West,
+            offset: i32::MIN,
+            multiplier: 40,
+        };
+        assert!(rt; *config.leaf() == leaf);
+        assert_eq!(rt; bits.position(), 143);
+        assert_eq!(rt; config.decoder().cluster_map(), [1].as_slice());
+        assert_eq!(rt; config.num_tree_nodes(), 1);
+        assert_eq!(rt; config.tree_depth(), 0);
+        Ok(())
+    }
+
+    // Cut inside the predictor, and inside the offset.
+    #[test]
+    fn cut_trees(rt: HostRuntime) {
+        let end = Some(Error::Decoder(DecoderError::UnexpectedEof));
+        assert_eq!(rt; refusal(&rt, &WEST[..9]), (end, 72));
+        assert_eq!(rt; refusal(&rt, &WEST[..13]), (end, 77));
+        assert_eq!(rt; refusal(&rt, &[]).0, end);
+    }
+
+    // The greatest multipliers, 2^30 and 2^31 - 1; one more of either is refused, and so is 2^31.
+    #[test]
+    fn multipliers(rt: HostRuntime) -> std::result::Result<(), Fail> {
+        let mut bytes = [
+            0x14, 0x84, 0x0c, 0x15, 0x42, 0x80, 0x40, 0x28, 0x08, 0x4a, 0x3c, 0x00, 0x18, 0x00,
+        ];
+        let fields = (0, Predictor::Gradient, 1, 1 << 30);
+        assert_eq!(rt; leaf_at(&rt, &mut Bitstream::new(&bytes))?, (fields, 105));
+        bytes[10] = 0x7c;
+        assert_eq!(rt; refusal(&rt, &bytes), (Some(Error::InvalidMaTree), 88));
+
+        let mut bytes = [
+            0x14, 0x84, 0x0c, 0x15, 0x42, 0x80, 0x40, 0x28, 0x7c, 0x4a, 0x80, 0xff, 0xff, 0xff,
+            0x1f, 0x00, 0x03,
+        ];
+        let fields = (0, Predictor::Gradient, 1, (1 << 31) - 1);
+        assert_eq!(rt; leaf_at(&rt, &mut Bitstream::new(&bytes))?, (fields, 134));
+        bytes[10] = 0xc0;
+        assert_eq!(rt; refusal(&rt, &bytes), (Some(Error::InvalidMaTree), 117));
+
+        let shifted_out = [
+            0x14, 0x84, 0x0c, 0x15, 0x42, 0x80, 0x40, 0x28, 0x7c, 0x6a, 0x3e, 0x00, 0x00, 0x00,
+            0x00, 0x00, 0x03,
+        ];
+        assert_eq!(rt;
+            refusal(&rt, &shifted_out),
+            (Some(Error::InvalidMaTree), 86)
+        );
+        Ok(())
+    }
+
+    // The only token of the nodes is 1: each would be a decision.
+    #[test]
+    fn endless_tree(rt: HostRuntime) {
+        let bytes = [
+            0x14, 0x84, 0x0c, 0x15, 0x60, 0x10, 0x00, 0x00, 0x00, 0x00, 0x30, 0x00,
+        ];
+        assert_eq!(rt; refusal(&rt, &bytes), (Some(Error::InvalidMaTree), 73));
+    }
+
+    #[test]
+    fn what_is_not_offered(rt: HostRuntime) {
+        let decision = [
+            0x14, 0x84, 0x0c, 0x15, 0x02, 0x81, 0x40, 0x28, 0x7c, 0x01, 0x80, 0x01,
+        ];
+        let refused = Error::Bitstream(BitstreamError::ProfileConformance(
+            "property not available",
+        ));
+        assert_eq!(rt; refusal(&rt, &decision), (Some(refused), 76));
+
+        let mut predictor = [
+            0x14, 0x84, 0x0c, 0x15, 0x42, 0x80, 0x40, 0x28, 0x08, 0x04, 0x00, 0x03,
+        ];
+        let refused = Error::Bitstream(BitstreamError::ProfileConformance(
+            "predictor not available",
+        ));
+        assert_eq!(rt; refusal(&rt, &predictor), (Some(refused), 77));
+
+        predictor[9] = 0x1c;
+        let refused = Error::Bitstream(BitstreamError::InvalidEnum {
+            name: "MaProperty",
+            value: 14,
+        });
+        assert_eq!(rt; refusal(&rt, &predictor), (Some(refused), 77));
+    }
+
+    #[test]
+    fn laws() {
+        each_listing_is_of_a_tree::<PlainDecoder>();
+        no_two_trees_share_a_listing();
+    }
+}
