@@ -1,12 +1,10 @@
--- a cell after a write
-use Rattle.std.proofs.Common.{◌≡◌, ℕ, zero, suc, ◌+◌, ◌*◌, ◌/◌, ◌%◌, ◌<◌, inl, inr, List, [], ◌∷◌, length, set, Some, sym, refl, ap, ◌∙◌, subst, arith}
+-- The cells of a grid: after a write, and by coordinates.
+use Rattle.std.proofs.Common.{◌≡◌, ℕ, zero, suc, ◌+◌, ◌*◌, ◌/◌, ◌%◌, ◌<◌, List, [], ◌∷◌, length, set, Some, sym, refl, ap, ◌∙◌, subst, arith}
 use Rattle.std.specs.List.{slice_get}
 use Rattle.std.proofs.lemmas.Nat.{same_from_place, mul-add-lt, mod_below, div_below, div-add-mod'}
 use Rattle.std.proofs.Math.Nat.{mul_comm}
-use Rattle.std.proofs.lemmas.Bool.{cases_lt}
 use Rattle.std.proofs.Math.ListN.{length-set}
 use Rattle.jxlm_base.specs.Grid.{Grid, grid, cell, with_cell, place, IsFull}
-use Rattle.jxlm_base.specs.Rewrites.{Rewrites}
 
 pub slice_get-set_same : {X : Type 0} (xs : List X) (i : ℕ) (v : X) → i < length xs → slice_get (set xs i v) i ≡ Some v
 slice_get-set_same [] i v h = absurd (omega arith)
@@ -33,36 +31,6 @@ module _ {S : Type 0} where
 
   pub IsFull-with_cell : (g : Grid S) (x y : ℕ) (v : S) → IsFull g → IsFull (with_cell g x y v)
   IsFull-with_cell g x y v full = length-set g.cells (place g x y) v ∙ full
-
-  -- no column is written yet
-  pub Rewrites-none : (x y h : ℕ) (f : ℕ → ℕ → S) (g : Grid S) → IsFull g → Rewrites x y 0 h f g g
-  Rewrites-none x y h f g full = record { same_width = refl; same_height = refl; full = full; inside = λ i j p q. absurd (omega arith); outside = λ i j p q o. refl }
-
-  -- one cell more of a row is written
-  pub Rewrites_more : (x y w : ℕ) (f : ℕ → ℕ → S) (old new : Grid S) (v : S) → v ≡ f w 0 → Rewrites x y w 1 f old new → x + w < old.width → y < old.height → Rewrites x y (w + 1) 1 f old (with_cell new (x + w) y v)
-  Rewrites_more x y w f old new v is r p q =
-      let sw = r.same_width in
-      let sh = r.same_height in
-      let full = r.full in
-      let p' : x + w < new.width = omega arith in
-      let q' : y < new.height = omega arith in
-      record {
-        same_width = sw;
-        same_height = sh;
-        full = IsFull-with_cell new (x + w) y v full;
-        inside = λ i j a b.
-            let j0 : j ≡ 0 = omega arith in
-            elim (cases_lt i w) [
-              | inl lt ↦ cell-with_cell_other new (x + w) y (x + i) (y + j) v p' (omega arith) (λ e. let e0 = e.0 in omega arith) ∙ r.inside i j lt b
-              | inr ge ↦
-                  let iw : i ≡ w = omega arith in
-                  let yj : y + j ≡ y = omega arith in
-                  rw (iw, yj, j0) (cell-with_cell_same new (x + w) y v full p' q' ∙ ap Some is)
-            ];
-        outside = λ i j a b o.
-            cell-with_cell_other new (x + w) y i j v p' (omega arith) (λ e. let e0 = e.0 in let e1 = e.1 in elim o [ inl l ↦ omega arith | inr o2 ↦ elim o2 [ inl l ↦ omega arith | inr o3 ↦ elim o3 [ inl l ↦ omega arith | inr l ↦ omega arith ] ] ])
-            ∙ r.outside i j a b (elim o [ inl l ↦ inl l | inr o2 ↦ elim o2 [ inl l ↦ inr (inl (omega arith)) | inr o3 ↦ inr (inr o3) ] ]);
-      }
 
 -- ---- a grid is its cells by coordinates
 

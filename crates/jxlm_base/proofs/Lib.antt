@@ -1,5 +1,11 @@
 pub mod BitsLemmas
 pub mod Cells
+pub mod GridLaws
+pub mod GrammarLaws
 pub mod ItemLoop
 pub mod PlainGives
+pub mod Regions
+pub mod Tokens
+pub mod DecodingLaws
+pub mod PlainTokens
 pub mod Wraps

@@ -7,6 +7,7 @@ pub mod GridLends
 pub mod Numbers
 pub mod Plain
 pub mod PlainLaws
-pub mod Region
-pub mod Rewrites
+pub mod Regions
+pub mod SampleLaws
+pub mod PlainTokens
 pub mod Subgrid

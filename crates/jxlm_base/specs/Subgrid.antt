@@ -18,8 +18,3 @@ module _ {S : Type 0} where
     pub top : s.y ≡ y
     pub columns : s.width ≡ width
     pub rows : s.height ≡ height
-
-  -- the same borrow and the same rectangle
-  pub record IsSamePlace (old new : MutableSubgrid S) : Type 0 where
-    pub loan : new.grid.ghost_name ≡ old.grid.ghost_name
-    pub at : IsAt new old.x old.y old.width old.height

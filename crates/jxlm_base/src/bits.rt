@@ -1,6 +1,6 @@
-//! Bits of the input, least significant first.
+//! Bits of the input, least significant first, and the numbers that they make.
 
-ghost use Rattle.std.specs.Prelude.{◌≡◌, ℕ, ◌+◌, ◌*◌, ◌^◌, ◌-◌, ◌<◌, ◌≤◌, ◌↔◌, min, length, IfOk, IfErr, IsTrue, Bool};
+ghost use Rattle.std.specs.Prelude.{◌≡◌, ℕ, ◌+◌, ◌*◌, ◌/◌, ◌%◌, ◌^◌, ◌-◌, ◌<◌, ◌≤◌, ◌↔◌, min, length, slice_index, IfOk, IfErr, IsTrue, Bool};
 
 use thiserror::Error;
 
@@ -10,10 +10,10 @@ pub enum BitstreamError {
     /// The input ends before the field does.
     #[error("unexpected end of input")]
     UnexpectedEof,
-    /// A number that names nothing.
+    /// A number that was read whole names nothing: what it should name, and the number.
     #[error("invalid enum value {value} for {name}")]
     InvalidEnum { name: &'static str, value: u32 },
-    /// A limit of the profile is passed.
+    /// A limit of the profile is passed; the text says which.
     #[error("{0}")]
     ProfileConformance(&'static str),
 }
@@ -21,7 +21,7 @@ pub enum BitstreamError {
 impl BitstreamError {
     ghost use Rattle.jxlm_base.specs.declared.bits.BitstreamError.TheVariants.{UnexpectedEof};
 
-    /// Whether the input ended too early.
+    /// Whether the input ended too early: true for `UnexpectedEof`, and for nothing else.
     pub fn unexpected_eof(&self) -> bool
         ensures { IsTrue result ↔ self.now ≡ UnexpectedEof }
     {
@@ -29,47 +29,104 @@ impl BitstreamError {
     }
 }
 
-/// A part of a `U32` field: a constant, or a number of bits above an offset.
+/// A part of a `U32` field: a constant, or a number of some bits above an offset.
+///
+/// `Offset(least, n)` stands for `n` bits whose number is added to `least`. `Bitstream::read_u32` asks that `n` is at
+/// most 32 and that the greatest value, `least + 2^n - 1`, is a `u32`.
 #[derive(Clone, Copy, Debug, PartialEq, Eq)]
 pub enum U32Spec {
     /// This number, which takes no bits.
     Const(u32),
-    /// The offset, and so many bits more.
+    /// The first number plus the number of as many bits as the second says.
     Offset(u32, u32),
 }
 
-/// The input, and a place in it.
+// Eight bytes from byte i on.
+fn eight_at(b: &[u8], i: usize) -> [u8; 8]
+    requires { i + 8 ≤ length b.now }
+    ensures { (j : ℕ) → j < 8 → slice_index result j ≡ slice_index b.now (i + j) }
+{
+    [
+        b[i],
+        b[i + 1],
+        b[i + 2],
+        b[i + 3],
+        b[i + 4],
+        b[i + 5],
+        b[i + 6],
+        b[i + 7],
+    ]
+}
+
+// The fewer than eight bytes from byte i on, and behind them zeros.
+fn last_at(b: &[u8], i: usize) -> [u8; 8]
+    requires here { i ≤ length b.now }
+    requires few { length b.now < i + 8 }
+    ensures { (j : ℕ) → j < 8 → slice_index result j ≡ slice_index b.now (i + j) }
+{
+    let rest = &b[i..];
+    let mut eight = [0; 8];
+    eight[..rest.len()].copy_from_slice(rest);
+    eight
+}
+
+/// A reader of the input: its bytes, and a place in it, counted in bits.
+///
+/// Bit i of the input is bit i mod 8, least significant first, of byte i div 8. A copy reads on by itself from the same
+/// place. Each read takes bits from the place on, and leaves the place behind them; one that would pass the end answers
+/// `UnexpectedEof`, and leaves the reader as it was.
 #[derive(Clone, Copy)]
 pub struct Bitstream<'a> {
     bytes: &'a [u8],
-    at: u128,
-    ghost within: { at ≤ 8 * length bytes.now },
+    byte: usize,
+    bit: u32,
+    ghost in_byte: { bit < 8 },
+    ghost within: { 8 * byte + bit ≤ 8 * length bytes.now },
 }
 
 impl<'a> Bitstream<'a> {
     ghost use Rattle.jxlm_base.specs.Bits.{bytes_of, position_of, bits_at};
     ghost use Rattle.jxlm_base.specs.Grammar.{flag, part, selected, u32 as the_u32, FitsU32, Reads};
 
-    /// The start of the input.
+    /// A reader at the start of these bytes, at bit 0.
     pub fn new(bytes: &'a [u8]) -> Self
         ensures bytes { bytes_of result ≡ bytes.now }
         ensures position { position_of result ≡ 0 }
     {
-        Bitstream { bytes, at: 0 }
+        Bitstream {
+            bytes,
+            byte: 0,
+            bit: 0,
+        }
     }
 
-    /// How many bits were read; `u64::MAX` stands for more.
+    /// How many bits lie before the place: those that were read. `u64::MAX` stands for more than that.
     pub fn position(&self) -> u64
         ensures { result ≡ min (position_of self.now) (2 ^ 64 - 1) }
     {
-        if self.at < 1 << 64 {
-            self.at as u64
+        if self.byte as u64 <= u64::MAX / 8 {
+            8 * self.byte as u64 + u64::from(self.bit)
         } else {
             u64::MAX
         }
     }
 
-    /// The next `n` bits as a number, the first bit the least significant.
+    // The 64 bits from the start of the reader's byte on; past the end they are 0.
+    fn word(&self) -> u64
+        ensures { (b n : ℕ) → b + n ≤ 64 → result / 2 ^ b % 2 ^ n ≡ bits_at self.now.bytes.now (8 * self.now.byte + b) n }
+    {
+        let left = self.bytes.len() - self.byte;
+        if left >= 8 {
+            u64::from_le_bytes(eight_at(self.bytes, self.byte))
+        } else {
+            u64::from_le_bytes(last_at(self.bytes, self.byte))
+        }
+    }
+
+    /// The next `n` bits, at most 32, as a number: `u(n)`. The first bit is the least significant; no bits are 0, also at
+    /// the end.
+    ///
+    /// `UnexpectedEof` where fewer than `n` bits are left: the reader is then unchanged.
     pub fn read_bits(&mut self, n: u32) -> Result<u32, BitstreamError>
         requires { n ≤ 32 }
         ensures ok { IfOk result (λ v. (position_of self.old + n ≤ 8 * length (bytes_of self.old)) × (v ≡ bits_at (bytes_of self.old) (position_of self.old) n) × (position_of self.new ≡ position_of self.old + n)) }
@@ -77,23 +134,19 @@ impl<'a> Bitstream<'a> {
         ensures err { IfErr result (λ e. (8 * length (bytes_of self.old) < position_of self.old + n) × (e ≡ BitstreamError.UnexpectedEof) × (self.new ≡ self.old)) }
         ensures bytes { bytes_of self.new ≡ bytes_of self.old }
     {
-        let all = self.bytes.len() as u128 * 8;
-        let end = self.at + u128::from(n);
-        if end > all {
+        let end = self.bit + n;
+        if end.div_ceil(8) as usize > self.bytes.len() - self.byte {
             return Err(BitstreamError::UnexpectedEof);
         }
-        let mut value = 0u32;
-        for j in 0..n {
-            let place = self.at + u128::from(j);
-            let byte = self.bytes[(place / 8) as usize];
-            let bit = (byte >> (place % 8) as u32) % 2;
-            value += u32::from(bit) << j;
-        }
-        self.at = end;
-        Ok(value)
+        let value = (self.word() >> self.bit) % (1 << n);
+        self.byte += (end / 8) as usize;
+        self.bit = end % 8;
+        Ok(value as u32)
     }
 
-    /// The next bit as a truth value.
+    /// The next bit as a truth value: a `Bool`.
+    ///
+    /// `UnexpectedEof` at the end of the input: the reader is then unchanged.
     pub fn read_bool(&mut self) -> Result<bool, BitstreamError>
         ensures gives { Reads (λ v. v) result (position_of self.new) (flag.read (bytes_of self.old) (position_of self.old)) }
         ensures bytes { bytes_of self.new ≡ bytes_of self.old }
@@ -138,7 +191,10 @@ impl<'a> Bitstream<'a> {
         }
     }
 
-    /// A `U32` field: two bits choose one of the four parts.
+    /// A `U32` field: two bits, as a number, choose one of the four parts, and its value is read.
+    ///
+    /// `UnexpectedEof` where the two bits, or those of the chosen part, pass the end: the reader then stands before the
+    /// two bits, as before the call.
     pub fn read_u32(
         &mut self,
         d0: U32Spec,
@@ -154,5 +210,66 @@ impl<'a> Bitstream<'a> {
         let value = ahead.read_selected(d0, d1, d2, d3)?;
         *self = ahead;
         Ok(value)
+    }
+}
+
+#[cfg(test)]
+mod tests {
+    use super::*;
+
+    fn count(bits: &mut Bitstream<'_>) -> Result<u32, BitstreamError> {
+        bits.read_u32(
+            U32Spec::Const(0),
+            U32Spec::Const(1),
+            U32Spec::Offset(2, 4),
+            U32Spec::Offset(18, 8),
+        )
+    }
+
+    #[test]
+    fn least_significant_bits_come_first(rt: HostRuntime) {
+        let bytes = [
+            0xA5, 0x3C, 0xFF, 0x00, 0x81, 0x7E, 0x12, 0x34, 0x56, 0x78, 0x9A,
+        ];
+        let mut bits = Bitstream::new(&bytes);
+        assert_eq!(rt; bits.read_bool(), Ok(true));
+        assert_eq!(rt; bits.read_bits(3), Ok(2));
+        assert_eq!(rt; bits.read_bits(4), Ok(10));
+        assert_eq!(rt; bits.read_bits(0), Ok(0));
+        assert_eq!(rt; bits.read_bits(8), Ok(0x3C));
+        assert_eq!(rt; bits.read_bits(5), Ok(31));
+        assert_eq!(rt; bits.position(), 21);
+        assert_eq!(rt; bits.read_bits(32), Ok(0x93F4_0807));
+        assert_eq!(rt; bits.read_bits(3), Ok(0));
+        assert_eq!(rt; bits.read_bool(), Ok(false));
+        assert_eq!(rt; bits.read_bits(32), Err(BitstreamError::UnexpectedEof));
+        assert_eq!(rt; bits.position(), 57);
+        assert_eq!(rt; bits.read_bits(31), Ok(0x4D3C_2B1A));
+        assert_eq!(rt; bits.position(), 88);
+        assert_eq!(rt; bits.read_bits(0), Ok(0));
+        assert_eq!(rt; bits.read_bool(), Err(BitstreamError::UnexpectedEof));
+        assert_eq!(rt; bits.position(), 88);
+    }
+
+    #[test]
+    fn two_bits_choose_a_part(rt: HostRuntime) {
+        let mut bits = Bitstream::new(&[0x00]);
+        assert_eq!(rt; (count(&mut bits), bits.position()), (Ok(0), 2));
+        let mut bits = Bitstream::new(&[0x01]);
+        assert_eq!(rt; (count(&mut bits), bits.position()), (Ok(1), 2));
+        let mut bits = Bitstream::new(&[0x2A]);
+        assert_eq!(rt; (count(&mut bits), bits.position()), (Ok(12), 6));
+        let mut bits = Bitstream::new(&[0x6B, 0x02]);
+        assert_eq!(rt; (count(&mut bits), bits.position()), (Ok(172), 10));
+    }
+
+    #[test]
+    fn a_cut_field_leaves_the_place(rt: HostRuntime) {
+        let cut = Err(BitstreamError::UnexpectedEof);
+        let mut bits = Bitstream::new(&[]);
+        assert_eq!(rt; (count(&mut bits), bits.position()), (cut, 0));
+        let mut bits = Bitstream::new(&[0xC7]);
+        assert_eq!(rt; bits.read_bits(6), Ok(7));
+        assert_eq!(rt; (count(&mut bits), bits.position()), (cut, 6));
     }
 }

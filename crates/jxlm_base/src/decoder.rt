@@ -3,7 +3,7 @@
 ghost use Rattle.std.specs.Prelude.{◌≡◌, ◌<◌, ℕ, true, length, slice_index, IfOk, IfErr, Contains, IsTrue, ◌↔◌};
 ghost use Rattle.jxlm_base.specs.Bits.{bytes_of, position_of};
 ghost use Rattle.jxlm_base.specs.declared.decoder.DecoderError.TheVariants.{UnexpectedEof, OutOfMemory};
-ghost use Rattle.jxlm_base.specs.Decoding.{Meaning, IsLawful, Gives, BeginGives, ReadGives, RunGives};
+ghost use Rattle.jxlm_base.specs.Decoding.{Meaning, IsLawful, Keeps, Gives, BeginGives, ReadGives, RunGives, RunIsReads};
 
 use crate::bits::Bitstream;
 use std::alloc::{AllocFailed, Global};
@@ -23,7 +23,7 @@ pub enum DecoderError {
 }
 
 impl DecoderError {
-    /// Whether the input ended too early.
+    /// Whether the input ended too early: true for `UnexpectedEof` alone.
     pub fn unexpected_eof(&self) -> bool
         ensures { IsTrue result ↔ self.now ≡ UnexpectedEof }
     {
@@ -39,31 +39,55 @@ impl<T: Drop> From<AllocFailed<T>> for DecoderError {
     }
 }
 
-/// A token, or the token before so many times.
+/// What a read of runs gives.
 #[derive(Clone, Copy, Debug, PartialEq, Eq)]
 pub enum RleToken {
+    /// This token, once.
     Value(u32),
+    /// The token before (0 if there is none), so many times; at least once.
     Repeat(u32),
 }
 
-/// An entropy decoder, by what its calls answer.
+/// An entropy decoder: the tokens of an image, read from its bits.
+///
+/// Tokens belong to contexts, and contexts that share a code form a cluster. A decoder is parsed once; its tokens are read
+/// between `begin` and `finalize`, as often as there are streams of them. All that the answers of its calls depend on is its
+/// state, which contracts see as one value (`impl Model`); `meaning` says what each call answers from it, and `lawful` that
+/// these answers fit together.
 pub trait Decoder: Sized + Drop {
-    /// What its calls answer.
+    /// What the calls answer, as functions of the state, the input's bytes and a place in it.
     ghost meaning: { Meaning Self };
 
+    /// Reads a decoder for so many contexts.
+    ///
+    /// Memory aside, the answer and the place behind it depend on the input, the reader's place and `contexts` alone. The
+    /// decoder has one cluster for each context. Any error may come; after one the reader's place is this decoder's own
+    /// matter. Where memory is refused the answer is `OutOfMemory`.
     fn parse(alloc: Global, bits: &mut Bitstream<'_>, contexts: u32) -> Result<Self, DecoderError>
         ensures gives { Gives (λ d. d) result (position_of bits.new) (meaning.parse (bytes_of bits.old) (position_of bits.old) contexts) }
         ensures bytes { bytes_of bits.new ≡ bytes_of bits.old };
 
+    /// The same decoder once more, in the same state.
+    ///
+    /// Where memory is refused the answer is `OutOfMemory`, and `self` is as it was.
     fn try_clone(&self, alloc: Global) -> Result<Self, DecoderError>
         ensures ok { IfOk result (λ d. d ≡ self.now) }
         ensures err { IfErr result (λ e. e ≡ OutOfMemory) };
 
+    /// Begins a stream of tokens at the reader's place.
+    ///
+    /// It may read bits, and it depends on the decoder, the input and the place alone. Afterwards no run is open and there
+    /// is no token before; clusters, single tokens and `as_rle` are as they were. An error, which is never `OutOfMemory`,
+    /// leaves the reader's place, and of the decoder what `parse` settled.
     fn begin(&mut self, bits: &mut Bitstream<'_>) -> Result<(), DecoderError>
         ensures gives { BeginGives result self.old self.new (position_of bits.old) (position_of bits.new) (meaning.begin self.old (bytes_of bits.old) (position_of bits.old)) }
+        ensures keeps { Keeps meaning self.old self.new }
         ensures bytes { bytes_of bits.new ≡ bytes_of bits.old };
 
-    /// The read of a context's cluster.
+    /// Reads a token of a context: the read of its cluster, with multiplier 0.
+    ///
+    /// The context is below the number that `parse` was asked for. Errors are those of the read, and leave decoder and reader
+    /// as they were.
     fn read_varint(&mut self, bits: &mut Bitstream<'_>, context: u32) -> Result<u32, DecoderError>
         requires { context < length (meaning.cluster_map self.old) }
         ensures gives { ReadGives result self.old self.new (position_of bits.old) (position_of bits.new) (meaning.read self.old (bytes_of bits.old) (position_of bits.old) (slice_index (meaning.cluster_map self.old) context) 0) }
@@ -73,6 +97,12 @@ pub trait Decoder: Sized + Drop {
         self.read_varint_with_multiplier_clustered(bits, cluster, 0)
     }
 
+    /// Reads a token of a cluster.
+    ///
+    /// The cluster is one of `cluster_map`. The multiplier is for decoders that copy earlier tokens by distances: it is the
+    /// width of the picture that the tokens belong to, or 0. Token, new state and new place depend on the state, the input,
+    /// the place, the cluster and the multiplier alone. An error, which is never `OutOfMemory`, leaves decoder and reader
+    /// as they were.
     fn read_varint_with_multiplier_clustered(
         &mut self,
         bits: &mut Bitstream<'_>,
@@ -83,6 +113,12 @@ pub trait Decoder: Sized + Drop {
         ensures gives { ReadGives result self.old self.new (position_of bits.old) (position_of bits.new) (meaning.read self.old (bytes_of bits.old) (position_of bits.old) cluster multiplier) }
         ensures bytes { bytes_of bits.new ≡ bytes_of bits.old };
 
+    /// Reads a token of a cluster, or a whole run, where `as_rle` is true and no run is open.
+    ///
+    /// The cluster is one of `cluster_map`. `Value(v)` is the read of the token v, under any multiplier. `Repeat(n)`, n at
+    /// least 1, stands for n reads, the first of this cluster, the others of any clusters, under any multipliers: each gives
+    /// the token before (0 if there is none), and only the first moves the reader. Either leaves no run open. An error is
+    /// that of the read, and leaves decoder and reader as they were.
     fn read_varint_clustered(
         &mut self,
         bits: &mut Bitstream<'_>,
@@ -94,19 +130,34 @@ pub trait Decoder: Sized + Drop {
         ensures gives { (m : ℕ) → RunGives meaning result self.old self.new (position_of bits.old) (position_of bits.new) (meaning.read self.old (bytes_of bits.old) (position_of bits.old) cluster m) }
         ensures bytes { bytes_of bits.new ≡ bytes_of bits.old };
 
+    /// The only token of a cluster, if it has one: then each read of the cluster gives it, and changes nothing.
+    ///
+    /// The cluster is one of `cluster_map`. Where `as_rle` is true no cluster has one.
     fn single_token(&self, cluster: u8) -> Option<u32>
         requires { Contains (meaning.cluster_map self.now) cluster }
         ensures { result ≡ meaning.single_token self.now cluster };
 
+    /// The cluster of each context that `parse` was asked for.
     fn cluster_map(&self) -> &[u8]
         ensures { result.now ≡ meaning.cluster_map self.now };
 
+    /// Whether tokens may come in runs, so that `read_varint_clustered` may be called.
     fn as_rle(&self) -> bool
         ensures { result ≡ meaning.as_rle self.now };
 
+    /// Ends a stream of tokens: an error, which is never `OutOfMemory`, says that the tokens cannot be those that were meant.
+    ///
+    /// Where `as_rle` is true the answer is `Ok`.
     fn finalize(&self) -> Result<(), DecoderError>
         ensures { result ≡ meaning.finalize self.now };
 
-    /// It keeps the laws of decoders.
+    /// The laws that tie these answers together.
     ghost lawful: { IsLawful meaning };
 }
+
+/// A run stands for as many reads, of every decoder.
+///
+/// The call does nothing; what it ensures is a law that follows from those of the trait.
+pub fn run_is_reads<D: Decoder>()
+    ensures { RunIsReads D.meaning }
+{}

@@ -6,7 +6,7 @@ use crate::bits::BitstreamError;
 use crate::decoder::DecoderError;
 use crate::grid::OutOfMemory;
 
-/// Why a call is refused.
+/// Why a call is refused: the header, the channels, the tree or the tokens, or want of memory.
 #[derive(Clone, Copy, Debug, PartialEq, Eq, thiserror::Error)]
 pub enum Error {
     /// The meta-adaptive tree is invalid.
@@ -24,25 +24,26 @@ pub enum Error {
     /// The channels do not suit a squeeze, or cannot be cut into groups.
     #[error("invalid Squeeze transform parameters")]
     InvalidSqueezeParams,
-    /// A field of the header is refused.
+    /// A field of the header is refused, for this cause.
     #[error("bitstream error: {0}")]
     Bitstream(BitstreamError),
-    /// The entropy decoder refuses.
+    /// The entropy decoder refuses, for this cause.
     #[error("entropy decoder error: {0}")]
     Decoder(DecoderError),
-    /// There is no memory.
+    /// There is no memory for samples or tables.
     #[error("{0}")]
     Buffer(OutOfMemory),
 }
 
-/// The answer of a call that can be refused.
+/// The answer of a call that the library can refuse.
 pub type Result<T> = std::result::Result<T, Error>;
 
 impl Error {
     ghost use Rattle.jxlm_base.specs.Fault.{Fault, Eof, OfDecoder, fault_of};
     ghost use Rattle.jxlm_base.specs.declared.decoder.DecoderError.TheVariants.{UnexpectedEof};
 
-    /// Whether the input ended too early, in a field or in the entropy decoder.
+    /// Whether the input ended too early, in a field or in the entropy decoder: true for `UnexpectedEof` in `Bitstream`
+    /// or in `Decoder`, and for nothing else.
     pub fn unexpected_eof(&self) -> bool
         ensures { IsTrue result ↔ ((fault_of self.now ≡ Eof) ⊎ (fault_of self.now ≡ OfDecoder UnexpectedEof)) }
     {
@@ -81,5 +82,75 @@ impl From<OutOfMemory> for Error {
 
     fn from(cause: OutOfMemory) -> Error {
         Error::Buffer(cause)
+    }
+}
+
+#[cfg(test)]
+mod tests {
+    use super::*;
+    use std::test::Fail;
+
+    #[test]
+    fn each_error_has_its_text(rt: HostRuntime) -> std::result::Result<(), Fail> {
+        let unknown = BitstreamError::InvalidEnum {
+            name: "TransformId",
+            value: 3,
+        };
+        let limit = BitstreamError::ProfileConformance("nb_channels_tr too large");
+        let cases = [
+            (Error::InvalidMaTree, "invalid meta-adaptive tree"),
+            (
+                Error::GlobalMaTreeNotAvailable,
+                "global meta-adaptive tree requested but unavailable",
+            ),
+            (Error::InvalidRctParams, "invalid Rct transform parameters"),
+            (
+                Error::InvalidPaletteParams,
+                "invalid Palette transform parameters",
+            ),
+            (
+                Error::InvalidSqueezeParams,
+                "invalid Squeeze transform parameters",
+            ),
+            (
+                Error::from(BitstreamError::UnexpectedEof),
+                "bitstream error: unexpected end of input",
+            ),
+            (
+                Error::from(unknown),
+                "bitstream error: invalid enum value 3 for TransformId",
+            ),
+            (
+                Error::from(limit),
+                "bitstream error: nb_channels_tr too large",
+            ),
+            (
+                Error::from(DecoderError::UnexpectedEof),
+                "entropy decoder error: unexpected end of input",
+            ),
+            (
+                Error::from(DecoderError::Invalid(5)),
+                "entropy decoder error: invalid code 5",
+            ),
+            (
+                Error::from(DecoderError::OutOfMemory),
+                "entropy decoder error: out of memory",
+            ),
+            (Error::from(OutOfMemory), "out of memory"),
+        ];
+        for (error, text) in cases {
+            let shown = format!(in rt.alloc(); "{error}")?;
+            assert_eq!(rt; shown.as_str(), text);
+        }
+        Ok(())
+    }
+
+    #[test]
+    fn the_end_of_input_is_told_apart(rt: HostRuntime) {
+        assert!(rt; Error::Bitstream(BitstreamError::UnexpectedEof).unexpected_eof());
+        assert!(rt; Error::Decoder(DecoderError::UnexpectedEof).unexpected_eof());
+        assert!(rt; !Error::Decoder(DecoderError::Invalid(5)).unexpected_eof());
+        assert!(rt; !BitstreamError::ProfileConformance("").unexpected_eof());
+        assert!(rt; !Error::Buffer(OutOfMemory).unexpected_eof());
     }
 }

@@ -1,11 +1,12 @@
 //! Grids of samples.
-ghost use Rattle.std.specs.Prelude.{◌≡◌, ◌+◌, ◌+ℤ◌, ◌*◌, ◌<◌, ◌≤◌, pos, length, IfOk, Some, vec_len};
+ghost use Rattle.std.specs.Prelude.{◌≡◌, ◌+◌, ◌+ℤ◌, ◌*◌, ◌^◌, ◌<◌, ◌≤◌, pos, length, IfOk, Some, vec_len};
 ghost use Rattle.std.specs.Int.{int_wrap};
 ghost use Rattle.std.specs.Borrow.{sem};
 ghost use Rattle.jxlm_base.specs.Grid.{Grid, IsFull, cell, row, filled, with_cell, with_row};
 
 use crate::sample::Sealed;
-use std::alloc::{AllocError, Global};
+pub use crate::subgrid::{MutableSubgrid, Region};
+use std::alloc::{AllocError, AllocFailed, Global};
 use std::marker::Model;
 
 /// There was no memory.
@@ -14,12 +15,24 @@ use std::marker::Model;
 pub struct OutOfMemory;
 
 impl From<AllocError> for OutOfMemory {
+    ghost from_gives = { λ _ e. e ≡ record {} };
+
     fn from(_error: AllocError) -> OutOfMemory {
         OutOfMemory
     }
 }
 
-/// A grid of cells.
+impl<T: Drop> From<AllocFailed<T>> for OutOfMemory {
+    ghost from_gives = { λ _ e. e ≡ record {} };
+
+    fn from(_error: AllocFailed<T>) -> OutOfMemory {
+        OutOfMemory
+    }
+}
+
+/// A grid of cells, in columns from left to right and rows from top to bottom, both counted from 0.
+///
+/// Contracts see its size and its cells, row by row.
 #[derive(Drop)]
 pub struct AlignedGrid<S> {
     width: usize,
@@ -41,10 +54,13 @@ impl<S> Model for AlignedGrid<S> {
 }
 
 impl<S: Sealed> AlignedGrid<S> {
-    /// A grid whose cells are 0.
+    /// A grid of `width` columns and `height` rows, whose cells are 0.
+    ///
+    /// Memory is asked for once. `OutOfMemory` where it is refused, or where there are more cells than a `usize` counts.
     pub fn new(alloc: Global, width: usize, height: usize) -> Result<Self, OutOfMemory>
         ensures zero { IfOk result (λ g. g ≡ filled width height (S.from_int (pos 0))) }
         ensures full { IfOk result (λ g. IsFull g) }
+        ensures counted { IfOk result (λ _. width * height < 2 ^ 64) }
     {
         let Some(count) = width.checked_mul(height) else {
             return Err(OutOfMemory);
@@ -57,7 +73,7 @@ impl<S: Sealed> AlignedGrid<S> {
         })
     }
 
-    /// A copy.
+    /// A grid of the same cells, or `OutOfMemory` where memory is refused.
     pub fn try_clone(&self, alloc: Global) -> Result<Self, OutOfMemory>
         ensures { IfOk result (λ g. g ≡ self.now) }
     {
@@ -73,7 +89,7 @@ impl<S: Sealed> AlignedGrid<S> {
 impl<S: Copy> AlignedGrid<S> {
     ghost use Rattle.jxlm_base.specs.GridLends.{LendsCell, LendsRow};
 
-    /// How many columns there are.
+    /// How many columns there are. Each place of the grid has a cell.
     pub fn width(&self) -> usize
         ensures value { result ≡ self.now.width }
         ensures full { IsFull self.now }
@@ -81,7 +97,7 @@ impl<S: Copy> AlignedGrid<S> {
         self.width
     }
 
-    /// How many rows there are.
+    /// How many rows there are. Each place of the grid has a cell.
     pub fn height(&self) -> usize
         ensures value { result ≡ self.now.height }
         ensures full { IsFull self.now }
@@ -89,7 +105,7 @@ impl<S: Copy> AlignedGrid<S> {
         self.height
     }
 
-    /// The cell in column `x` of row `y`.
+    /// The cell in column `x` of row `y`, which lie inside.
     pub fn get(&self, x: usize, y: usize) -> S
         requires column { x < self.now.width }
         requires in_rows { y < self.now.height }
@@ -98,7 +114,7 @@ impl<S: Copy> AlignedGrid<S> {
         self.cells[y * self.width + x]
     }
 
-    /// The cell in column `x` of row `y`, to be written.
+    /// The cell in column `x` of row `y`, which lie inside, to be written. No other cell changes.
     pub fn get_mut(&mut self, x: usize, y: usize) -> &mut S
         requires column { x < self.old.width }
         requires in_rows { y < self.old.height }
@@ -108,16 +124,17 @@ impl<S: Copy> AlignedGrid<S> {
         &mut self.cells[y * self.width + x]
     }
 
-    /// Row `y`.
+    /// The cells of row `y`, which lies inside, from left to right.
     pub fn get_row(&self, y: usize) -> &[S]
         requires { y < self.now.height }
-        ensures { result.now ≡ row self.now y }
+        ensures value { result.now ≡ row self.now y }
+        ensures len { length result.now ≡ self.now.width }
     {
         let start = y * self.width;
         &self.cells[start..start + self.width]
     }
 
-    /// Row `y`, to be written.
+    /// The cells of row `y`, which lies inside, from left to right, to be written. No other row changes.
     pub fn get_row_mut(&mut self, y: usize) -> &mut [S]
         requires { y < self.old.height }
         ensures* writes_back { sem 𝓛 (LendsRow S.row self.entry y result) }
@@ -126,5 +143,77 @@ impl<S: Copy> AlignedGrid<S> {
     {
         let start = y * self.width;
         self.cells.slice_mut(start..start + self.width)
+    }
+}
+
+#[cfg(test)]
+mod tests {
+    use super::*;
+    use crate::sample::Sample;
+    use std::test::Fail;
+
+    /// The samples, row by row.
+    fn samples<S: Sample>(alloc: Global, grid: &AlignedGrid<S>) -> Result<Vec<i32>, OutOfMemory> {
+        let mut samples = Vec::new(alloc);
+        for y in 0..grid.height() {
+            for sample in grid.get_row(y) {
+                samples.push(sample.to_i32())?;
+            }
+        }
+        Ok(samples)
+    }
+
+    /// The samples of a grid after writes, and of a copy that was made between them.
+    fn written<S: Sample>(alloc: Global) -> Result<(Vec<i32>, Vec<i32>), OutOfMemory> {
+        let mut grid = AlignedGrid::<S>::new(alloc, 3, 2)?;
+        for cell in grid.get_row_mut(1) {
+            *cell = S::from_i32(5);
+        }
+        *grid.get_mut(2, 1) = S::from_i32(-7);
+        let copy = grid.try_clone(alloc)?;
+        *grid.get_mut(0, 0) = grid.get(2, 1);
+        Ok((samples(alloc, &grid)?, samples(alloc, &copy)?))
+    }
+
+    #[test]
+    fn writes_and_copies(rt: HostRuntime) -> Result<(), Fail> {
+        for (grid, copy) in [written::<i32>(rt.alloc())?, written::<i16>(rt.alloc())?] {
+            assert_eq!(rt; grid.as_slice(), [-7, 0, 0, 5, 5, -7].as_slice());
+            assert_eq!(rt; copy.as_slice(), [0, 0, 0, 5, 5, -7].as_slice());
+        }
+        Ok(())
+    }
+
+    /// The sides of a grid, or why there is none.
+    fn sides<S: Sample>(
+        alloc: Global,
+        width: usize,
+        height: usize,
+    ) -> Result<(usize, usize), OutOfMemory> {
+        let grid = AlignedGrid::<S>::new(alloc, width, height)?;
+        Ok((grid.width(), grid.height()))
+    }
+
+    #[test]
+    fn sides_of_grids(rt: HostRuntime) {
+        for (width, height) in [(0, 0), (5, 0), (usize::MAX, 0), (0, 9), (1, 7)] {
+            assert_eq!(rt;
+                sides::<i32>(rt.alloc(), width, height),
+                Ok((width, height))
+            );
+            assert_eq!(rt;
+                sides::<i16>(rt.alloc(), width, height),
+                Ok((width, height))
+            );
+        }
+        for (width, height) in [
+            (usize::MAX, 2),
+            (2, usize::MAX),
+            (usize::MAX, 1),
+            (4294967296, 4294967296),
+        ] {
+            assert_eq!(rt; sides::<i32>(rt.alloc(), width, height), Err(OutOfMemory));
+            assert_eq!(rt; sides::<i16>(rt.alloc(), width, height), Err(OutOfMemory));
+        }
     }
 }

@@ -1,10 +1,13 @@
 //! The base of the decoder: bits, faults, samples, grids, entropy decoders.
 #![tactic(auto)]
 
+pub mod bit_laws;
 pub mod bits;
 pub mod decoder;
 pub mod error;
 pub mod grid;
+pub mod laws;
 pub mod plain;
+pub mod region;
 pub mod sample;
-pub mod subgrid;
+mod subgrid;

@@ -1,8 +1,9 @@
 //! The two types of a sample.
-ghost use Rattle.std.specs.Prelude.{◌≡◌, ℤ, pos, ◌+ℤ◌, ◌*ℤ◌, FitsSigned, refl, MatchResult};
+ghost use Rattle.std.specs.Prelude.{◌≡◌, ◌↔◌, ℤ, pos, IsOk, ◌+ℤ◌, ◌*ℤ◌, FitsSigned, refl, MatchResult};
 ghost use Rattle.std.specs.Int.{Width, w16, w32, int_wrap};
 ghost use Rattle.jxlm_base.specs.Grid.{meanings};
 ghost use Rattle.jxlm_base.specs.Numbers.{unpack, clamped_gradient};
+ghost use Rattle.jxlm_base.specs.SampleLaws.{fits_wider, int_wrap-narrow, int_wrap_again};
 
 use crate::grid::AlignedGrid;
 
@@ -33,11 +34,13 @@ pub trait Sealed: Copy + Default {
 
     /// The grid itself, `Ok` where its samples are `i32`.
     fn try_into_grid_i32(grid: AlignedGrid<Self>) -> Result<AlignedGrid<i32>, AlignedGrid<Self>>
-        ensures { MatchResult result (λ g. g ≡ meanings Self.to_int grid) (λ g. g ≡ grid) };
+        ensures same { MatchResult result (λ g. g ≡ meanings Self.to_int grid) (λ g. g ≡ grid) }
+        ensures kind { IsOk result ↔ (Self.width ≡ w32) };
 
     /// The grid itself, `Ok` where its samples are `i16`.
     fn try_into_grid_i16(grid: AlignedGrid<Self>) -> Result<AlignedGrid<i16>, AlignedGrid<Self>>
-        ensures { MatchResult result (λ g. g ≡ meanings Self.to_int grid) (λ g. g ≡ grid) };
+        ensures same { MatchResult result (λ g. g ≡ meanings Self.to_int grid) (λ g. g ≡ grid) }
+        ensures kind { IsOk result ↔ (Self.width ≡ w16) };
 
     ghost to_int_from_int: { (n : ℤ) → to_int (from_int n) ≡ n };
 
@@ -46,6 +49,10 @@ pub trait Sealed: Copy + Default {
     ghost default_is_zero: { (x : Self) → Self.is_default x → x ≡ from_int (pos 0) };
 
     ghost clone_is_same: { (x y : Self) → Self.is_clone x y → y ≡ x };
+
+    ghost fits_i32: { (z : ℤ) → FitsSigned width z → FitsSigned w32 z };
+
+    ghost wraps_after_i32: { (z : ℤ) → int_wrap width (int_wrap w32 z) ≡ int_wrap width z };
 }
 
 /// A sample of a Modular image: `i32` or `i16`.
@@ -60,7 +67,8 @@ pub trait Sample: Copy + Default + Sealed + 'static {
 
     /// The number itself.
     fn to_i64(self) -> i64
-        ensures { result ≡ Self.to_int self };
+        ensures value { result ≡ Self.to_int self }
+        ensures fits { FitsSigned Self.width (Self.to_int self) };
 
     /// The number itself.
     fn to_i32(self) -> i32
@@ -102,13 +110,13 @@ impl Sealed for i32 {
     }
 
     fn try_into_grid_i32(grid: AlignedGrid<i32>) -> Result<AlignedGrid<i32>, AlignedGrid<i32>>
-        ensures { MatchResult result (λ g. g ≡ meanings (λ x. x) grid) (λ g. g ≡ grid) }
+        ensures { result ≡ Ok grid }
     {
         Ok(grid)
     }
 
     fn try_into_grid_i16(grid: AlignedGrid<i32>) -> Result<AlignedGrid<i16>, AlignedGrid<i32>>
-        ensures { MatchResult result (λ g. g ≡ meanings (λ x. x) grid) (λ g. g ≡ grid) }
+        ensures { result ≡ Err grid }
     {
         Err(grid)
     }
@@ -120,6 +128,10 @@ impl Sealed for i32 {
     ghost default_is_zero = { λ x h. h };
 
     ghost clone_is_same = { λ x y h. h };
+
+    ghost fits_i32 = { λ z h. h };
+
+    ghost wraps_after_i32 = { int_wrap_again };
 }
 
 impl Sealed for i16 {
@@ -130,8 +142,7 @@ impl Sealed for i16 {
     ghost width = { w16 };
 
     fn unpack_signed_u32(value: u32) -> i16 {
-        let half = (value / 2) as i32;
-        reduced_to_i16(if value % 2 == 0 { half } else { -1 - half })
+        reduced_to_i16(i32::unpack_signed_u32(value))
     }
 
     #[tactic(auto, using(std::proofs::lemmas::Int::wraps))]
@@ -151,13 +162,13 @@ impl Sealed for i16 {
     }
 
     fn try_into_grid_i32(grid: AlignedGrid<i16>) -> Result<AlignedGrid<i32>, AlignedGrid<i16>>
-        ensures { MatchResult result (λ g. g ≡ meanings (λ x. x) grid) (λ g. g ≡ grid) }
+        ensures { result ≡ Err grid }
     {
         Err(grid)
     }
 
     fn try_into_grid_i16(grid: AlignedGrid<i16>) -> Result<AlignedGrid<i16>, AlignedGrid<i16>>
-        ensures { MatchResult result (λ g. g ≡ meanings (λ x. x) grid) (λ g. g ≡ grid) }
+        ensures { result ≡ Ok grid }
     {
         Ok(grid)
     }
@@ -169,6 +180,10 @@ impl Sealed for i16 {
     ghost default_is_zero = { λ x h. h };
 
     ghost clone_is_same = { λ x y h. h };
+
+    ghost fits_i32 = { fits_wider };
+
+    ghost wraps_after_i32 = { int_wrap-narrow };
 }
 
 impl Sample for i32 {
@@ -181,7 +196,7 @@ impl Sample for i32 {
     }
 
     fn to_i64(self) -> i64 {
-        i64::from(self)
+        self.into()
     }
 
     fn to_i32(self) -> i32 {
@@ -204,5 +219,58 @@ impl Sample for i16 {
 
     fn to_i32(self) -> i32 {
         i32::from(self)
+    }
+}
+
+#[cfg(test)]
+mod tests {
+    use super::*;
+    use crate::grid::OutOfMemory;
+    use std::alloc::Global;
+    use std::test::Fail;
+
+    /// The numbers of tokens, of reduced numbers and of an operation, through any sample.
+    fn numbers<S: Sample>(values: [u32; 4]) -> [i64; 7] {
+        let [first, second, third, fourth] = values;
+        let a = S::unpack_signed_u32(first);
+        let b = S::unpack_signed_u32(second);
+        let c = S::from_u32(third);
+        let d = S::from_i32(-70000);
+        [
+            a.to_i64(),
+            b.to_i64(),
+            c.to_i64(),
+            d.to_i64(),
+            a.add(S::from_u32(fourth)).to_i64(),
+            b.wrapping_muladd_i32(65537, -1).to_i64(),
+            i64::from(S::grad_clamped(c, d, a).to_i32()),
+        ]
+    }
+
+    #[test]
+    fn both_widths(rt: HostRuntime) {
+        let values = [65536, 131071, 4294967295, 2147483648];
+        let narrow = [-32768, 0, -1, -4464, -32768, -1, -1];
+        let wide = [32768, -65536, -1, -70000, -2147450880, -65537, -70000];
+        assert_eq!(rt; numbers::<i16>(values).as_slice(), narrow.as_slice());
+        assert_eq!(rt; numbers::<i32>(values).as_slice(), wide.as_slice());
+        assert_eq!(rt; i32::unpack_signed_u32(4294967295), -2147483648);
+        assert_eq!(rt; i32::unpack_signed_u32(4294967294), 2147483647);
+        assert_eq!(rt; i16::grad_clamped(32767, 32767, -32768), 32767);
+        assert_eq!(rt; i32::grad_clamped(-2147483648, 2147483647, 5), -6);
+    }
+
+    /// Whether the grid is one of `i32`, and whether it is one of `i16`.
+    fn kinds<S: Sample>(alloc: Global) -> Result<(bool, bool), OutOfMemory> {
+        let wide = S::try_into_grid_i32(AlignedGrid::new(alloc, 2, 1)?).is_ok();
+        let narrow = S::try_into_grid_i16(AlignedGrid::new(alloc, 2, 1)?).is_ok();
+        Ok((wide, narrow))
+    }
+
+    #[test]
+    fn grids_of_a_width(rt: HostRuntime) -> Result<(), Fail> {
+        assert_eq!(rt; kinds::<i32>(rt.alloc())?, (true, false));
+        assert_eq!(rt; kinds::<i16>(rt.alloc())?, (false, true));
+        Ok(())
     }
 }

@@ -1,20 +1,25 @@
 //! Rectangles of grids.
-ghost use Rattle.std.specs.Prelude.{◌≡◌, ◌+◌, ◌*◌, ◌^◌, ◌<◌, ◌≤◌, Some, slice_set, slice_get, vec_len};
-ghost use Rattle.jxlm_base.specs.Grid.{Grid, IsFull, cell, with_cell};
+ghost use Rattle.std.specs.Prelude.{◌≡◌, ◌+◌, ◌^◌, ◌<◌, ◌≤◌, Some};
+ghost use Rattle.jxlm_base.specs.Grid.{Grid, IsFull, cell};
 
 use crate::grid::AlignedGrid;
 
-/// A rectangle of one buffer of a store.
-#[derive(Clone, Copy, PartialEq, Eq, Debug)]
+/// A rectangle of one grid of a store.
+#[derive(Clone, Copy, PartialEq, Eq)]
 pub struct Region {
+    /// The place of the grid in the store, from 0 on.
     pub buffer: usize,
+    /// The rectangle's first column.
     pub x: usize,
+    /// The rectangle's first row.
     pub y: usize,
+    /// How many columns it has.
     pub width: usize,
+    /// How many rows it has.
     pub height: usize,
 }
 
-/// One grid borrowed for writing, and a rectangle in it.
+/// One grid borrowed for writing, and a rectangle inside it.
 #[derive(Drop)]
 pub struct MutableSubgrid<'a, S> {
     grid: &'a mut AlignedGrid<S>,
@@ -30,9 +35,11 @@ pub struct MutableSubgrid<'a, S> {
 }
 
 impl<'a, S: Copy> MutableSubgrid<'a, S> {
-    ghost use Rattle.jxlm_base.specs.Subgrid.{whole, loan, IsAt, IsSamePlace};
+    ghost use Rattle.jxlm_base.specs.Subgrid.{whole, loan, IsAt};
 
-    /// The rectangle of these sides at (`x`, `y`).
+    /// The rectangle of `width` columns and `height` rows whose first cell is in column `x` of row `y`; it lies inside.
+    ///
+    /// The grid is as before.
     pub fn new(
         grid: &'a mut AlignedGrid<S>,
         x: usize,
@@ -56,21 +63,21 @@ impl<'a, S: Copy> MutableSubgrid<'a, S> {
         }
     }
 
-    /// How many columns it has.
+    /// How many columns the rectangle has.
     pub fn width(&self) -> usize
         ensures { result ≡ self.now.width }
     {
         self.width
     }
 
-    /// How many rows it has.
+    /// How many rows the rectangle has.
     pub fn height(&self) -> usize
         ensures { result ≡ self.now.height }
     {
         self.height
     }
 
-    /// The cell in column `x` of row `y` of the rectangle.
+    /// The cell in column `x` of row `y` of the rectangle, which lie inside it; both are counted from its first cell.
     pub fn get(&self, x: usize, y: usize) -> S
         requires column { x < self.now.width }
         requires in_rows { y < self.now.height }
@@ -78,14 +85,32 @@ impl<'a, S: Copy> MutableSubgrid<'a, S> {
     {
         self.grid.get(self.x + x, self.y + y)
     }
+}
 
-    /// Writes the cell in column `x` of row `y` of the rectangle.
-    pub(crate) fn set(&mut self, x: usize, y: usize, value: S)
-        requires column { x < self.old.width }
-        requires in_rows { y < self.old.height }
-        ensures place { IsSamePlace self.old self.new }
-        ensures written { whole self.new ≡ with_cell (whole self.old) (self.old.x + x) (self.old.y + y) value }
-    {
-        *self.grid.get_mut(self.x + x, self.y + y) = value;
+#[cfg(test)]
+mod tests {
+    use super::*;
+    use crate::grid::OutOfMemory;
+    use crate::sample::Sample;
+    use std::alloc::Global;
+    use std::test::Fail;
+
+    /// The sides of a rectangle of a grid, and its last cell.
+    fn corner<S: Sample>(alloc: Global) -> Result<(usize, usize, i32), OutOfMemory> {
+        let mut grid = AlignedGrid::<S>::new(alloc, 4, 3)?;
+        *grid.get_mut(3, 2) = S::from_i32(9);
+        let subgrid = MutableSubgrid::new(&mut grid, 1, 2, 3, 1);
+        Ok((
+            subgrid.width(),
+            subgrid.height(),
+            subgrid.get(2, 0).to_i32(),
+        ))
+    }
+
+    #[test]
+    fn rectangles(rt: HostRuntime) -> Result<(), Fail> {
+        assert_eq!(rt; corner::<i32>(rt.alloc())?, (3, 1, 9));
+        assert_eq!(rt; corner::<i16>(rt.alloc())?, (3, 1, 9));
+        Ok(())
     }
 }

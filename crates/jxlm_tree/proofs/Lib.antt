@@ -1,5 +1,7 @@
 mod Examples
 pub mod Causal
 pub mod Listing
+pub mod Multipliers
+pub mod OneNode
 pub mod Ranges
 pub mod Reading

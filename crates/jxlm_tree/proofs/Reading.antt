@@ -5,7 +5,7 @@ use Rattle.std.proofs.lemmas.List.{take-append-drop, length-take-le, length-appe
 use Rattle.jxlm_base.specs.Decoding.{Found, Meaning}
 use Rattle.jxlm_base.specs.Fault.{Fault, Refused, ◌>>=◌}
 use Rattle.jxlm_tree.specs.Tree.{Shape, leaf, decision, Node, Config, leaf_node, decision_node, levels}
-use Rattle.jxlm_tree.specs.TreeReading.{Draft, ReadNodes, Listing, with_clusters, leaf_count, children, through, node_at, nodes_at, listing_at, limit_fault, most_nodes, is_endless, IsTreeAt}
+use Rattle.jxlm_tree.specs.TreeReading.{Draft, Drawn, Listing, with_clusters, leaf_count, children, through, node_at, nodes_at, drafts_at, listing_at, limit_fault, most_nodes, is_endless, IsTreeAt}
 use Rattle.jxlm_tree.specs.declared.flat.Leaf.{Leaf}
 use Rattle.jxlm_tree.proofs.Listing.{Lists, lists-levels, levels-injective}
 
@@ -75,29 +75,35 @@ children_close (leaf_node l) ns m h = let e : m + 0 ≡ m = omega arith in rw e 
 children_close (decision_node k v) ns m h = h
 
 module _ {S : Type 0} (d : Meaning S) (bytes : List ℕ) where
-  nodes_close : (limit : Fault) (room missing : ℕ) (s : S) (p : ℕ) (x : ReadNodes S) → nodes_at d bytes limit room missing s p ≡ Ok x → Closes missing x.nodes
+  nodes_close : (limit : Fault) (room missing : ℕ) (s : S) (p : ℕ) (x : Drawn (List (Node Draft)) S) → nodes_at d bytes limit room missing s p ≡ Ok x → Closes missing x.value
   unfolding nodes_at
   nodes_close limit zero zero s p x h = rw (same _ _ _ refl h) tt
   nodes_close limit zero (suc missing) s p x h = cc
   nodes_close limit (suc room) zero s p x h = rw (same _ _ _ refl h) tt
   nodes_close limit (suc room) (suc missing) s p x h =
       let a = bind_ok (node_at d bytes s p) _ x h in
-      let b = bind_ok (nodes_at d bytes limit room (missing + children a.0.node) a.0.state a.0.position) _ x a.2 in
-      rw (same _ _ _ refl b.2) (children_close a.0.node b.0.nodes missing (nodes_close limit room (missing + children a.0.node) a.0.state a.0.position b.0 b.1))
+      let b = bind_ok (nodes_at d bytes limit room (missing + children a.0.value) a.0.state a.0.position) _ x a.2 in
+      rw (same _ _ _ refl b.2) (children_close a.0.value b.0.value missing (nodes_close limit room (missing + children a.0.value) a.0.state a.0.position b.0 b.1))
+
+  drafts_close : (node_limit : ℕ) (s : S) (p : ℕ) (x : Found (List (Node Draft))) → drafts_at d bytes node_limit s p ≡ Ok x → Closes 1 x.value
+  unfolding drafts_at
+  drafts_close node_limit s p x h =
+      let rest = passed (is_endless (d.single_token s (slice_index (d.cluster_map s) 1))) _ _ x h in
+      let b = bind_ok (through (Some p) (d.begin s bytes p)) _ x rest in
+      let c = bind_ok (nodes_at d bytes (limit_fault node_limit) (most_nodes node_limit) 1 b.0.value b.0.position) _ x b.2 in
+      let e = bind_ok (through (Some c.0.position) (d.finalize c.0.state)) _ x c.2 in
+      rw (same _ _ _ refl e.2) (nodes_close (limit_fault node_limit) (most_nodes node_limit) 1 b.0.value b.0.position c.0 c.1)
 
   -- each listing that is read is that of a tree
   pub listing_of_tree : (node_limit p : ℕ) (x : Found (Listing S)) → listing_at d bytes node_limit p ≡ Ok x → (t : Shape Leaf) × (levels t ≡ x.value.nodes)
   unfolding listing_at
   listing_of_tree node_limit p x h =
       let a = bind_ok (through None (d.parse bytes p 6)) _ x h in
-      let rest = passed (is_endless (d.single_token a.0.value (slice_index (d.cluster_map a.0.value) 1))) _ _ x a.2 in
-      let b = bind_ok (through (Some a.0.position) (d.begin a.0.value bytes a.0.position)) _ x rest in
-      let c = bind_ok (nodes_at d bytes (limit_fault node_limit) (most_nodes node_limit) 1 b.0.value b.0.position) _ x b.2 in
-      let e = bind_ok (through (Some c.0.position) (d.finalize c.0.state)) _ x c.2 in
-      let g = bind_ok (through None (d.parse bytes c.0.position (leaf_count c.0.nodes))) _ x e.2 in
-      let closes = nodes_close (limit_fault node_limit) (most_nodes node_limit) 1 b.0.value b.0.position c.0 c.1 in
-      let nodes = with_clusters (d.cluster_map g.0.value) 0 c.0.nodes in
-      let found : (t : Shape Leaf) × (levels t ≡ nodes) = single nodes (forest nodes 1 (clusters_close (d.cluster_map g.0.value) 0 c.0.nodes 1 closes)) in
+      let c = bind_ok (drafts_at d bytes node_limit a.0.value a.0.position) _ x a.2 in
+      let g = bind_ok (through None (d.parse bytes c.0.position (leaf_count c.0.value))) _ x c.2 in
+      let nodes = with_clusters (d.cluster_map g.0.value) 0 c.0.value in
+      let closes = drafts_close node_limit a.0.value a.0.position c.0 c.1 in
+      let found : (t : Shape Leaf) × (levels t ≡ nodes) = single nodes (forest nodes 1 (clusters_close (d.cluster_map g.0.value) 0 c.0.value 1 closes)) in
       rw (same _ _ _ refl g.2) found
 
   -- and of no other

@@ -1,3 +1,4 @@
+pub mod DraftReading
 pub mod Neighbours
 pub mod Predictions
 pub mod Properties

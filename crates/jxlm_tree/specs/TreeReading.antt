@@ -35,15 +35,9 @@ pub record Draft : Type 0 where
   pub offset : ℤ
   pub multiplier : ℕ
 
--- a node, and the decoder's state and the place behind it
-pub record ReadNode (S : Type 0) : Type 0 where
-  pub node : Node Draft
-  pub state : S
-  pub position : ℕ
-
--- several nodes, and the same behind them
-pub record ReadNodes (S : Type 0) : Type 0 where
-  pub nodes : List (Node Draft)
+-- what was read, and the decoder's state and the place behind it
+pub record Drawn (X S : Type 0) : Type 0 where
+  pub value : X
   pub state : S
   pub position : ℕ
 
@@ -121,66 +115,84 @@ pub record IsLeafOf (clusters : List ℕ) (l : Leaf) : Type 0 where
   pub below : l.multiplier < 2 ^ 31
 
 module _ {S : Type 0} (d : Meaning S) (bytes : List ℕ) where
-  -- the read of a context
-  abbrev pub read_context : ℕ → S → ℕ → Result (Taken S) Refused
-  read_context context s p = through (Some p) (d.read s bytes p (slice_index (d.cluster_map s) context) 0)
+  -- the read of a context; its fault leaves the reader where it stood
+  abbrev pub read_context : ℕ → S → ℕ → Result (Drawn ℕ S) Refused
+  read_context context s p = drawn (d.read s bytes p (slice_index (d.cluster_map s) context) 0) where
+    drawn : Result (Taken S) DecoderError → Result (Drawn ℕ S) Refused
+    drawn (Ok taken) = Ok (record { value = taken.token; state = taken.state; position = taken.position })
+    drawn (Err e) = refused_at p (OfDecoder e)
 
-  -- a leaf: predictor, offset, and the multiplier as (bits + 1) * 2 ^ log
-  unfoldable pub leaf_at : S → ℕ → Result (ReadNode S) Refused
-  leaf_at s p = do
+  -- the predictor of a leaf
+  unfoldable pub predictor_at : S → ℕ → Result (Drawn Predictor S) Refused
+  predictor_at s p = do
     number ← read_context 2 s p
-    named ← predictor_of number.token number.position
+    named ← predictor_of number.value number.position
     predictor ← offered number.position named
-    offset ← read_context 3 number.state number.position
-    log ← read_context 4 offset.state offset.position
-    if nat_lt 30 log.token then refused_at log.position BadTree else (do
+    Ok (record { value = predictor; state = number.state; position = number.position })
+
+  -- the multiplier of a leaf: (factor + 1) * 2 ^ log, below 2 ^ 31
+  unfoldable pub multiplier_at : S → ℕ → Result (Drawn ℕ S) Refused
+  multiplier_at s p = do
+    log ← read_context 4 s p
+    if nat_lt 30 log.value then refused_at log.position BadTree else (do
       factor ← read_context 5 log.state log.position
-      if nat_lt (2 ^ (31 - log.token) - 2) factor.token then refused_at factor.position BadTree else
-          Ok (record {
-            node = leaf_node (record { predictor = predictor; offset = unpack offset.token; multiplier = (factor.token + 1) * 2 ^ log.token });
-            state = factor.state;
-            position = factor.position;
-          }))
+      if nat_lt (2 ^ (31 - log.value) - 2) factor.value then refused_at factor.position BadTree else
+          Ok (record { value = (factor.value + 1) * 2 ^ log.value; state = factor.state; position = factor.position }))
 
-  -- a decision: its value
-  unfoldable pub decision_at : ℕ → S → ℕ → Result (ReadNode S) Refused
-  decision_at k s p = do
-    property ← offered_property p k
-    value ← read_context 0 s p
-    Ok (record { node = decision_node property (unpack value.token); state = value.state; position = value.position })
+  -- a leaf: predictor, offset and multiplier
+  unfoldable pub leaf_at : S → ℕ → Result (Drawn Draft S) Refused
+  leaf_at s p = do
+    predictor ← predictor_at s p
+    offset ← read_context 3 predictor.state predictor.position
+    multiplier ← multiplier_at offset.state offset.position
+    Ok (record {
+      value = record { predictor = predictor.value; offset = unpack offset.value; multiplier = multiplier.value };
+      state = multiplier.state;
+      position = multiplier.position;
+    })
 
-  -- a node: 0 stands before a leaf, and k + 1 before a decision on property k
-  unfoldable pub node_at : S → ℕ → Result (ReadNode S) Refused
+  -- a node: 0 stands before a leaf, and k + 1 before a decision on property k, which its value follows
+  unfoldable pub node_at : S → ℕ → Result (Drawn (Node Draft) S) Refused
   node_at s p = do
     kind ← read_context 1 s p
-    of_kind kind.token kind.state kind.position
+    of_kind kind.value kind.state kind.position
     where
-      of_kind : ℕ → S → ℕ → Result (ReadNode S) Refused
-      of_kind zero s p = leaf_at s p
-      of_kind (suc k) s p = decision_at k s p
+      of_kind : ℕ → S → ℕ → Result (Drawn (Node Draft) S) Refused
+      of_kind zero s p = do
+        read ← leaf_at s p
+        Ok (record { value = leaf_node read.value; state = read.state; position = read.position })
+      of_kind (suc k) s p = do
+        property ← offered_property p k
+        value ← read_context 0 s p
+        Ok (record { value = decision_node property (unpack value.value); state = value.state; position = value.position })
 
   -- `missing` nodes, and those that they call for; `room` more may be read, and where one is missing then, the tree is refused by `limit`
-  unfoldable pub nodes_at : Fault → ℕ → ℕ → S → ℕ → Result (ReadNodes S) Refused
-  nodes_at limit room zero s p = Ok (record { nodes = []; state = s; position = p })
+  unfoldable pub nodes_at : Fault → ℕ → ℕ → S → ℕ → Result (Drawn (List (Node Draft)) S) Refused
+  nodes_at limit room zero s p = Ok (record { value = []; state = s; position = p })
   nodes_at limit zero (suc missing) s p = refused_at p limit
   nodes_at limit (suc room) (suc missing) s p = do
     first ← node_at s p
-    others ← nodes_at limit room (missing + children first.node) first.state first.position
-    Ok (record { nodes = first.node ∷ others.nodes; state = others.state; position = others.position })
+    others ← nodes_at limit room (missing + children first.value) first.state first.position
+    Ok (record { value = first.value ∷ others.value; state = others.state; position = others.position })
+
+  -- the nodes of a tree by a decoder that stands before its tokens
+  unfoldable pub drafts_at : ℕ → S → ℕ → Result (Found (List (Node Draft))) Refused
+  drafts_at node_limit s p = if is_endless (d.single_token s (slice_index (d.cluster_map s) 1)) then refused_at p BadTree else (do
+    start ← through (Some p) (d.begin s bytes p)
+    nodes ← nodes_at (limit_fault node_limit) (most_nodes node_limit) 1 start.value start.position
+    ended ← through (Some nodes.position) (d.finalize nodes.state)
+    Ok (record { value = nodes.value; position = nodes.position }))
 
   -- the nodes of the tree at a place, level by level: a decoder of six contexts, the nodes, and a decoder with a context for each leaf
   unfoldable pub listing_at : ℕ → ℕ → Result (Found (Listing S)) Refused
   listing_at node_limit p = do
     decoder ← through None (d.parse bytes p 6)
-    if is_endless (d.single_token decoder.value (slice_index (d.cluster_map decoder.value) 1)) then refused_at decoder.position BadTree else (do
-      start ← through (Some decoder.position) (d.begin decoder.value bytes decoder.position)
-      read ← nodes_at (limit_fault node_limit) (most_nodes node_limit) 1 start.value start.position
-      ended ← through (Some read.position) (d.finalize read.state)
-      leaves ← through None (d.parse bytes read.position (leaf_count read.nodes))
-      Ok (record {
-        value = record { nodes = with_clusters (d.cluster_map leaves.value) 0 read.nodes; decoder = leaves.value };
-        position = leaves.position;
-      }))
+    nodes ← drafts_at node_limit decoder.value decoder.position
+    leaves ← through None (d.parse bytes nodes.position (leaf_count nodes.value))
+    Ok (record {
+      value = record { nodes = with_clusters (d.cluster_map leaves.value) 0 nodes.value; decoder = leaves.value };
+      position = leaves.position;
+    })
 
   module _ (node_limit depth_limit : ℕ) (p : ℕ) where
     -- at place p stand the nodes of this tree, level by level, and the decoder of its leaves' clusters, up to place q

@@ -1,11 +1,12 @@
 //! Meta-adaptive trees: how a tree is read, and what it is kept with.
 
-ghost use Rattle.std.specs.Prelude.{◌≡◌, ◌≤◌, ◌^◌, ℕ};
+ghost use Rattle.std.specs.Prelude.{◌≡◌, ◌≤◌, ◌<◌, ◌^◌, ℕ, List, [], ◌∷◌, length, slice_index, IfOk};
 ghost use Rattle.jxlm_base.specs.Bits.{bytes_of, position_of};
 ghost use Rattle.jxlm_base.specs.Decoding.{Found};
-ghost use Rattle.std.specs.Prelude.{List};
-ghost use Rattle.jxlm_tree.specs.Tree.{Shape, levels, node_count, depth, leaf};
-ghost use Rattle.jxlm_tree.specs.TreeReading.{IsLeafOf, Listing, TreeGives, listing_at};
+ghost use Rattle.jxlm_base.specs.Grammar.{Answers};
+ghost use Rattle.jxlm_tree.specs.DraftReading.{DrawnGives, FoundGives, IsDraft, draft_of};
+ghost use Rattle.jxlm_tree.specs.Tree.{Shape, levels, node_count, depth, leaf, leaf_node};
+ghost use Rattle.jxlm_tree.specs.TreeReading.{IsLeafOf, IsOffered, Listing, TreeGives, drafts_at, is_endless as has_no_end, leaf_at, listing_at, multiplier_at, node_at, predictor_at, read_context as token_of, through};
 ghost use Rattle.jxlm_tree.specs.declared.flat.Leaf.{Leaf};
 
 use crate::flat::Leaf;
@@ -33,9 +34,12 @@ pub struct MaConfigParams {
 pub struct MaConfig<D: Decoder> {
     leaf: Leaf,
     decoder: D,
+    num_tree_nodes: usize,
+    tree_depth: usize,
 }
 
 impl<D: Decoder> Model for MaConfig<D> {
+    ghost use Rattle.std.specs.Prelude.{◌≡◌};
     ghost use Rattle.jxlm_tree.specs.Tree.{Config, one_leaf};
     ghost use Rattle.jxlm_tree.specs.TreeReading.{IsLeafOf};
     ghost use Rattle.jxlm_tree.specs.TreeCode.{coded_config};
@@ -47,10 +51,42 @@ impl<D: Decoder> Model for MaConfig<D> {
 
     ghost view = { λ c. one_leaf c.leaf c.decoder };
 
-    ghost invariant = { λ c. IsLeafOf (D.meaning.cluster_map c.decoder) c.leaf };
+    ghost invariant = { λ c. IsLeafOf (D.meaning.cluster_map c.decoder) c.leaf × (c.num_tree_nodes ≡ 1) × (c.tree_depth ≡ 0) };
 }
 
 impl<D: Decoder> MaConfig<D> {
+    /// The tree that stands at the reader's place, with the decoder of its leaves.
+    ///
+    /// A tree is refused with the first check that fails: by `Decoder` where a decoder refuses,
+    /// by `InvalidMaTree` where it would have no end or a multiplier of 2^31 and more, by
+    /// `InvalidEnum` at a predictor that is none, and by `ProfileConformance` at a decision or at
+    /// a predictor that is not offered. The reader then stands behind the last token that was
+    /// read; inside a decoder's own `parse` its place is the decoder's matter.
+    #[tactic(auto, unfolding(crate::specs::TreeReading::listing_at))]
+    pub fn parse(alloc: Global, bits: &mut Bitstream<'_>, params: MaConfigParams) -> Result<Self>
+        requires nodes { params.node_limit ≤ 2 ^ 26 }
+        requires depth { params.depth_limit ≤ 2048 }
+        ensures gives { TreeGives D.meaning (bytes_of bits.old) params.node_limit params.depth_limit (position_of bits.old) result (position_of bits.new) }
+        ensures bytes { bytes_of bits.new ≡ bytes_of bits.old }
+    {
+        let mut nodes: D = parse_decoder(alloc, bits, 6)?;
+        let draft = read_tree(&mut nodes, bits)?;
+        let decoder: D = parse_decoder(alloc, bits, 1)?;
+        let cluster = decoder.cluster_map()[0];
+        let leaf = Leaf {
+            cluster,
+            predictor: draft.predictor,
+            offset: draft.offset,
+            multiplier: draft.multiplier,
+        };
+        Ok(MaConfig {
+            leaf,
+            decoder,
+            num_tree_nodes: 1,
+            tree_depth: 0,
+        })
+    }
+
     /// The decoder of the leaves' clusters.
     pub fn decoder(&self) -> &D
         ensures { result.now ≡ self.now.decoder }
@@ -62,16 +98,14 @@ impl<D: Decoder> MaConfig<D> {
     pub fn num_tree_nodes(&self) -> usize
         ensures { result ≡ node_count self.now.tree }
     {
-        let _ = &self.leaf;
-        1
+        self.num_tree_nodes
     }
 
     /// The greatest number of decisions from the root to a leaf.
     pub fn tree_depth(&self) -> usize
         ensures { result ≡ depth self.now.tree }
     {
-        let _ = &self.leaf;
-        0
+        self.tree_depth
     }
 
     /// The leaf that is the whole tree.
@@ -86,6 +120,128 @@ impl<D: Decoder> MaConfig<D> {
     }
 }
 
+// A leaf without its cluster, which comes from the leaves' decoder.
+#[derive(Clone, Copy)]
+struct Draft {
+    predictor: Predictor,
+    offset: i32,
+    multiplier: u32,
+}
+
+fn parse_decoder<D: Decoder>(alloc: Global, bits: &mut Bitstream<'_>, contexts: u32) -> Result<D>
+    ensures gives { Answers (λ d. d) result (position_of bits.new) (through None (D.meaning.parse (bytes_of bits.old) (position_of bits.old) contexts)) }
+    ensures contexts { IfOk result (λ d. length (D.meaning.cluster_map d) ≡ contexts) }
+    ensures bytes { bytes_of bits.new ≡ bytes_of bits.old }
+{
+    let decoder = D::parse(alloc, bits, contexts)?;
+    Ok(decoder)
+}
+
+fn is_endless<D: Decoder>(decoder: &D) -> bool
+    requires { length (D.meaning.cluster_map decoder.now) ≡ 6 }
+    ensures { result ≡ has_no_end (D.meaning.single_token decoder.now (slice_index (D.meaning.cluster_map decoder.now) 1)) }
+{
+    let cluster = decoder.cluster_map()[1];
+    match decoder.single_token(cluster) {
+        None | Some(0) => false,
+        Some(_) => true,
+    }
+}
+
+#[tactic(auto, unfolding(crate::specs::TreeReading::drafts_at))]
+fn read_tree<D: Decoder>(decoder: &mut D, bits: &mut Bitstream<'_>) -> Result<Draft>
+    requires { length (D.meaning.cluster_map decoder.old) ≡ 6 }
+    ensures gives { (node_limit : ℕ) → FoundGives (λ x. leaf_node (draft_of x) ∷ []) result (position_of bits.new) (drafts_at D.meaning (bytes_of bits.old) node_limit decoder.old (position_of bits.old)) }
+    ensures within { IfOk result (λ x. IsDraft (draft_of x)) }
+    ensures bytes { bytes_of bits.new ≡ bytes_of bits.old }
+{
+    if is_endless(decoder) {
+        return Err(Error::InvalidMaTree);
+    }
+    decoder.begin(bits)?;
+    let draft = read_node(decoder, bits)?;
+    decoder.finalize()?;
+    Ok(draft)
+}
+
+#[tactic(auto, unfolding(crate::specs::TreeReading::node_at))]
+fn read_node<D: Decoder>(decoder: &mut D, bits: &mut Bitstream<'_>) -> Result<Draft>
+    requires { length (D.meaning.cluster_map decoder.old) ≡ 6 }
+    ensures gives { DrawnGives (λ x. leaf_node (draft_of x)) result decoder.new (position_of bits.new) (node_at D.meaning (bytes_of bits.old) decoder.old (position_of bits.old)) }
+    ensures within { IfOk result (λ x. IsDraft (draft_of x)) }
+    ensures bytes { bytes_of bits.new ≡ bytes_of bits.old }
+{
+    if read_context(decoder, bits, 1)? != 0 {
+        let refusal = BitstreamError::ProfileConformance("property not available");
+        return Err(Error::Bitstream(refusal));
+    }
+    read_leaf(decoder, bits)
+}
+
+#[tactic(auto, unfolding(crate::specs::TreeReading::leaf_at))]
+fn read_leaf<D: Decoder>(decoder: &mut D, bits: &mut Bitstream<'_>) -> Result<Draft>
+    requires { length (D.meaning.cluster_map decoder.old) ≡ 6 }
+    ensures gives { DrawnGives draft_of result decoder.new (position_of bits.new) (leaf_at D.meaning (bytes_of bits.old) decoder.old (position_of bits.old)) }
+    ensures within { IfOk result (λ x. IsDraft (draft_of x)) }
+    ensures bytes { bytes_of bits.new ≡ bytes_of bits.old }
+{
+    let predictor = read_predictor(decoder, bits)?;
+    let offset = i32::unpack_signed_u32(read_context(decoder, bits, 3)?);
+    let multiplier = read_multiplier(decoder, bits)?;
+    Ok(Draft {
+        predictor,
+        offset,
+        multiplier,
+    })
+}
+
+#[tactic(auto, unfolding(crate::specs::TreeReading::predictor_at))]
+fn read_predictor<D: Decoder>(decoder: &mut D, bits: &mut Bitstream<'_>) -> Result<Predictor>
+    requires { length (D.meaning.cluster_map decoder.old) ≡ 6 }
+    ensures gives { DrawnGives (λ x. x) result decoder.new (position_of bits.new) (predictor_at D.meaning (bytes_of bits.old) decoder.old (position_of bits.old)) }
+    ensures offered { IfOk result (λ x. IsOffered x) }
+    ensures clusters { IfOk result (λ _. D.meaning.cluster_map decoder.new ≡ D.meaning.cluster_map decoder.old) }
+    ensures bytes { bytes_of bits.new ≡ bytes_of bits.old }
+{
+    let number = read_context(decoder, bits, 2)?;
+    let predictor = Predictor::try_from(number)?;
+    match predictor {
+        Predictor::Zero | Predictor::West | Predictor::Gradient => Ok(predictor),
+        _ => {
+            let refusal = BitstreamError::ProfileConformance("predictor not available");
+            Err(Error::Bitstream(refusal))
+        }
+    }
+}
+
+#[tactic(auto, unfolding(crate::specs::TreeReading::multiplier_at))]
+fn read_multiplier<D: Decoder>(decoder: &mut D, bits: &mut Bitstream<'_>) -> Result<u32>
+    requires { length (D.meaning.cluster_map decoder.old) ≡ 6 }
+    ensures gives { DrawnGives (λ x. x) result decoder.new (position_of bits.new) (multiplier_at D.meaning (bytes_of bits.old) decoder.old (position_of bits.old)) }
+    ensures range { IfOk result (λ x. (1 ≤ x) × (x < 2 ^ 31)) }
+    ensures bytes { bytes_of bits.new ≡ bytes_of bits.old }
+{
+    let log = read_context(decoder, bits, 4)?;
+    if log > 30 {
+        return Err(Error::InvalidMaTree);
+    }
+    let factor = read_context(decoder, bits, 5)?;
+    if factor > (1 << (31 - log)) - 2 {
+        return Err(Error::InvalidMaTree);
+    }
+    Ok((factor + 1) << log)
+}
+
+fn read_context<D: Decoder>(decoder: &mut D, bits: &mut Bitstream<'_>, context: u32) -> Result<u32>
+    requires { context < length (D.meaning.cluster_map decoder.old) }
+    ensures gives { DrawnGives (λ x. x) result decoder.new (position_of bits.new) (token_of D.meaning (bytes_of bits.old) context decoder.old (position_of bits.old)) }
+    ensures clusters { IfOk result (λ _. D.meaning.cluster_map decoder.new ≡ D.meaning.cluster_map decoder.old) }
+    ensures bytes { bytes_of bits.new ≡ bytes_of bits.old }
+{
+    let token = decoder.read_varint(bits, context)?;
+    Ok(token)
+}
+
 /// What is read as the nodes of a tree is the listing of a tree.
 pub fn each_listing_is_of_a_tree<D: Decoder>()
     ensures { (bytes : List ℕ) (node_limit p : ℕ) (x : Found (Listing D)) → listing_at D.meaning bytes node_limit p ≡ Ok x → (t : Shape Leaf) × (levels t ≡ x.value.nodes) }
@@ -95,3 +251,156 @@ pub fn each_listing_is_of_a_tree<D: Decoder>()
 pub fn no_two_trees_share_a_listing()
     ensures { (t u : Shape Leaf) → levels t ≡ levels u → t ≡ u }
 {}
+
+#[cfg(test)]
+mod tests {
+    use super::*;
+    use jxlm_base::decoder::DecoderError;
+    use jxlm_base::plain::PlainDecoder;
+    use std::test::Fail;
+
+    const SMALLEST: MaConfigParams = MaConfigParams {
+        node_limit: 0,
+        depth_limit: 0,
+    };
+
+    type Fields = (u8, Predictor, i32, u32);
+
+    // The fields of the leaf that stands at the reader's place, and the place behind the tree.
+    fn leaf_at(rt: &HostRuntime, bits: &mut Bitstream<'_>) -> Result<(Fields, u64)> {
+        let config: MaConfig<PlainDecoder> = MaConfig::parse(rt.alloc(), bits, SMALLEST)?;
+        let leaf = config.leaf();
+        let fields = (leaf.cluster, leaf.predictor, leaf.offset, leaf.multiplier);
+        Ok((fields, bits.position()))
+    }
+
+    // How the tree at the start of the bytes is refused, and where the reader stands then.
+    fn refusal(rt: &HostRuntime, bytes: &[u8]) -> (Option<Error>, u64) {
+        let mut bits = Bitstream::new(bytes);
+        let error = leaf_at(rt, &mut bits).err();
+        (error, bits.position())
+    }
+
+    // The tree of a header whose first four bits are read: six contexts of one cluster.
+    #[test]
+    fn trees_of_whole_streams(rt: HostRuntime) -> std::result::Result<(), Fail> {
+        let gradient = [0x42, 0x00, 0x04, 0x00, 0x04, 0x0e, 0x05, 0xc0, 0x20, 0x06];
+        let mut bits = Bitstream::new(&gradient);
+        bits.read_bits(4)?;
+        let fields = (0, Predictor::Gradient, 0, 1);
+        assert_eq!(rt; leaf_at(&rt, &mut bits)?, (fields, 68));
+
+        let zero = [0x82, 0x00, 0x40, 0x80, 0x04, 0x12, 0x3a, 0x08, 0x40, 0x61];
+        let mut bits = Bitstream::new(&zero);
+        bits.read_bits(4)?;
+        let fields = (0, Predictor::Zero, 5, 2);
+        assert_eq!(rt; leaf_at(&rt, &mut bits)?, (fields, 79));
+        Ok(())
+    }
+
+    // West, offset -2^31, multiplier 5 * 2^3, the second of two clusters; each context of the
+    // tree's decoder has a cluster of its own.
+    const WEST: [u8; 18] = [
+        0x14, 0x84, 0x0c, 0x15, 0x42, 0x80, 0x00, 0x2a, 0x14, 0xe2, 0xff, 0xff, 0xff, 0x7f, 0x10,
+        0x22, 0x08, 0x06,
+    ];
+
+    #[test]
+    fn a_leaf_and_its_decoder(rt: HostRuntime) -> std::result::Result<(), Fail> {
+        let mut bits = Bitstream::new(&WEST);
+        let config: MaConfig<PlainDecoder> = MaConfig::parse(rt.alloc(), &mut bits, SMALLEST)?;
+        let leaf = Leaf {
+            cluster: 1,
+            predictor: Predictor::West,
+            offset: i32::MIN,
+            multiplier: 40,
+        };
+        assert!(rt; *config.leaf() == leaf);
+        assert_eq!(rt; bits.position(), 143);
+        assert_eq!(rt; config.decoder().cluster_map(), [1].as_slice());
+        assert_eq!(rt; config.num_tree_nodes(), 1);
+        assert_eq!(rt; config.tree_depth(), 0);
+        Ok(())
+    }
+
+    // Cut inside the predictor, and inside the offset.
+    #[test]
+    fn cut_trees(rt: HostRuntime) {
+        let end = Some(Error::Decoder(DecoderError::UnexpectedEof));
+        assert_eq!(rt; refusal(&rt, &WEST[..9]), (end, 72));
+        assert_eq!(rt; refusal(&rt, &WEST[..13]), (end, 77));
+        assert_eq!(rt; refusal(&rt, &[]).0, end);
+    }
+
+    // The greatest multipliers, 2^30 and 2^31 - 1; one more of either is refused, and so is 2^31.
+    #[test]
+    fn multipliers(rt: HostRuntime) -> std::result::Result<(), Fail> {
+        let mut bytes = [
+            0x14, 0x84, 0x0c, 0x15, 0x42, 0x80, 0x40, 0x28, 0x08, 0x4a, 0x3c, 0x00, 0x18, 0x00,
+        ];
+        let fields = (0, Predictor::Gradient, 1, 1 << 30);
+        assert_eq!(rt; leaf_at(&rt, &mut Bitstream::new(&bytes))?, (fields, 105));
+        bytes[10] = 0x7c;
+        assert_eq!(rt; refusal(&rt, &bytes), (Some(Error::InvalidMaTree), 88));
+
+        let mut bytes = [
+            0x14, 0x84, 0x0c, 0x15, 0x42, 0x80, 0x40, 0x28, 0x7c, 0x4a, 0x80, 0xff, 0xff, 0xff,
+            0x1f, 0x00, 0x03,
+        ];
+        let fields = (0, Predictor::Gradient, 1, (1 << 31) - 1);
+        assert_eq!(rt; leaf_at(&rt, &mut Bitstream::new(&bytes))?, (fields, 134));
+        bytes[10] = 0xc0;
+        assert_eq!(rt; refusal(&rt, &bytes), (Some(Error::InvalidMaTree), 117));
+
+        let shifted_out = [
+            0x14, 0x84, 0x0c, 0x15, 0x42, 0x80, 0x40, 0x28, 0x7c, 0x6a, 0x3e, 0x00, 0x00, 0x00,
+            0x00, 0x00, 0x03,
+        ];
+        assert_eq!(rt;
+            refusal(&rt, &shifted_out),
+            (Some(Error::InvalidMaTree), 86)
+        );
+        Ok(())
+    }
+
+    // The only token of the nodes is 1: each would be a decision.
+    #[test]
+    fn endless_tree(rt: HostRuntime) {
+        let bytes = [
+            0x14, 0x84, 0x0c, 0x15, 0x60, 0x10, 0x00, 0x00, 0x00, 0x00, 0x30, 0x00,
+        ];
+        assert_eq!(rt; refusal(&rt, &bytes), (Some(Error::InvalidMaTree), 73));
+    }
+
+    #[test]
+    fn what_is_not_offered(rt: HostRuntime) {
+        let decision = [
+            0x14, 0x84, 0x0c, 0x15, 0x02, 0x81, 0x40, 0x28, 0x7c, 0x01, 0x80, 0x01,
+        ];
+        let refused = Error::Bitstream(BitstreamError::ProfileConformance(
+            "property not available",
+        ));
+        assert_eq!(rt; refusal(&rt, &decision), (Some(refused), 76));
+
+        let mut predictor = [
+            0x14, 0x84, 0x0c, 0x15, 0x42, 0x80, 0x40, 0x28, 0x08, 0x04, 0x00, 0x03,
+        ];
+        let refused = Error::Bitstream(BitstreamError::ProfileConformance(
+            "predictor not available",
+        ));
+        assert_eq!(rt; refusal(&rt, &predictor), (Some(refused), 77));
+
+        predictor[9] = 0x1c;
+        let refused = Error::Bitstream(BitstreamError::InvalidEnum {
+            name: "MaProperty",
+            value: 14,
+        });
+        assert_eq!(rt; refusal(&rt, &predictor), (Some(refused), 77));
+    }
+
+    #[test]
+    fn laws() {
+        each_listing_is_of_a_tree::<PlainDecoder>();
+        no_two_trees_share_a_listing();
+    }
+}

@@ -183,3 +183,71 @@ impl WpHeader {
 pub fn self_correcting_stays_in_range()
     ensures { AlwaysInRange }
 {}
+
+#[cfg(test)]
+mod tests {
+    use super::*;
+    use jxlm_base::error::Error;
+    use std::test::Fail;
+
+    #[test]
+    fn numbers_of_predictors(rt: HostRuntime) {
+        assert_eq!(rt; Predictor::try_from(5), Ok(Predictor::Gradient));
+        assert_eq!(rt; Predictor::try_from(13), Ok(Predictor::AvgAll));
+        assert_eq!(rt;
+            Predictor::try_from(14),
+            Err(BitstreamError::InvalidEnum {
+                name: "MaProperty",
+                value: 14,
+            })
+        );
+        assert_eq!(rt; Predictor::default(), Predictor::Zero);
+    }
+
+    #[test]
+    fn usual_weights(rt: HostRuntime) -> std::result::Result<(), Fail> {
+        let mut bits = Bitstream::new(&[0x01]);
+        let header = WpHeader::parse(&mut bits)?;
+        assert_eq!(rt; bits.position(), 1);
+        assert!(rt; header.default_wp);
+        assert_eq!(rt; [header.wp_p1, header.wp_p2], [16, 10]);
+        assert_eq!(rt; [header.wp_p3a, header.wp_p3b, header.wp_p3c], [7, 7, 7]);
+        assert_eq!(rt; [header.wp_p3d, header.wp_p3e], [0, 0]);
+        assert_eq!(rt;
+            [header.wp_w0, header.wp_w1, header.wp_w2, header.wp_w3],
+            [13, 12, 12, 12]
+        );
+        Ok(())
+    }
+
+    #[test]
+    fn listed_weights(rt: HostRuntime) -> std::result::Result<(), Fail> {
+        let bytes = [0x7e, 0x10, 0x83, 0x14, 0xf3, 0x87, 0x09];
+        let mut bits = Bitstream::new(&bytes);
+        let header = WpHeader::parse(&mut bits)?;
+        assert_eq!(rt; bits.position(), 52);
+        assert!(rt; !header.default_wp);
+        assert_eq!(rt; [header.wp_p1, header.wp_p2], [31, 1]);
+        assert_eq!(rt; [header.wp_p3a, header.wp_p3b, header.wp_p3c], [2, 3, 4]);
+        assert_eq!(rt; [header.wp_p3d, header.wp_p3e], [5, 6]);
+        assert_eq!(rt;
+            [header.wp_w0, header.wp_w1, header.wp_w2, header.wp_w3],
+            [15, 7, 8, 9]
+        );
+        Ok(())
+    }
+
+    // Cut inside the sixth number.
+    #[test]
+    fn cut_weights(rt: HostRuntime) {
+        let mut bits = Bitstream::new(&[0x7e, 0x10, 0x83, 0x14]);
+        let refused = Error::Bitstream(BitstreamError::UnexpectedEof);
+        assert_eq!(rt; WpHeader::parse(&mut bits).err(), Some(refused));
+        assert_eq!(rt; bits.position(), 31);
+    }
+
+    #[test]
+    fn ranges() {
+        self_correcting_stays_in_range();
+    }
+}

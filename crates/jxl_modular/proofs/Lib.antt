@@ -1,0 +1,7 @@
+pub mod Loops
+pub mod OneLeaf
+pub mod Progress
+pub mod Samples
+pub mod Prefixes
+pub mod Places
+pub mod TokenLaw

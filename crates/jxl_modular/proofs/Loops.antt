@@ -1,0 +1,233 @@
+-- What the loops of decoding keep: one cell more, one row more, one channel more.
+use Rattle.std.proofs.Common.{◌≡◌, ℕ, zero, suc, ◌+◌, ◌-◌, ◌*◌, ◌<◌, ◌≤◌, List, [], ◌∷◌, ◌++◌, length, take, drop, Some, Result, Ok, Err, refl, sym, ap, ◌∙◌, subst, arith, ℤ, pos}
+use Rattle.std.specs.Prelude.{get_or, map, slice_set}
+use Rattle.std.specs.List.{All}
+use Rattle.std.specs.Int.{Width}
+use Rattle.std.proofs.lemmas.List.{get_or-map, length-map, length-append}
+use Rattle.std.proofs.Math.Seq.{take-length}
+use Rattle.std.proofs.lemmas.List.Sums.{sum_by-cons}
+use Rattle.jxlm_base.specs.Decoding.{Found, Taken, Meaning}
+use Rattle.jxlm_base.specs.Grid.{Grid, grid, cell, with_cell, IsFull}
+use Rattle.jxlm_base.specs.Regions.{region, grid_of, store_meanings, with_region_cell, Lies, AllLie, LieApart, HasCell, buffer_of}
+use Rattle.jxlm_base.specs.declared.decoder.DecoderError.{DecoderError}
+use Rattle.jxlm_base.specs.declared.subgrid.Region.{Region}
+use Rattle.jxlm_base.proofs.Regions.{grids_of_written, with_region_cell-meanings, AllLie-meanings, width_after, height_after, full_after, length-with_region_cell, buffer_cell_other, HasCell_at}
+use Rattle.jxlm_tree.specs.TreeReading.{IsOffered}
+use Rattle.jxlm_tree.specs.Tree.{leaf}
+use Rattle.jxlm_tree.specs.declared.flat.Leaf.{Leaf}
+use Rattle.jxl_modular.specs.Coded.{part_rule, sample_of}
+use Rattle.jxl_modular.specs.Part.{Part, Channel, size, channel, cell_count, cells_before, cells_of, greatest_width, Fits, grid as grid_at}
+use Rattle.jxl_modular.specs.Progress.{Reached, Stopped, SameSizes, Suits, place_of, grids_in, GoesOn, Stops, KeepsOutside, buffer_at}
+use Rattle.jxl_modular.specs.Reading.{ReadsCell, prediction_at, region_at}
+use Rattle.jxl_modular.proofs.OneLeaf.{read_is, value_is}
+use Rattle.jxl_modular.proofs.Places.{before_suc, split}
+use Rattle.jxl_modular.proofs.Progress.{reached_more, with_cell_of, stands_within}
+
+-- sizes of regions and channels
+same_count : (channels : List Channel) (regions : List Region) → SameSizes channels regions → length channels ≡ length regions
+same_count [] [] h = refl
+same_count [] (r ∷ rs) h = absurd h
+same_count (c ∷ cs) [] h = absurd h
+same_count (c ∷ cs) (r ∷ rs) h = let n = same_count cs rs h.2 in omega (arith, n)
+
+same_size : (channels : List Channel) (regions : List Region) (i : ℕ) → SameSizes channels regions → i < length regions →
+    ((region_at regions i).width ≡ (channel channels i).width) × ((region_at regions i).height ≡ (channel channels i).height)
+same_size [] [] i h l = absurd (omega arith)
+same_size [] (r ∷ rs) i h l = absurd h
+same_size (c ∷ cs) [] i h l = absurd h
+same_size (c ∷ cs) (r ∷ rs) zero h l = (h.0, h.1)
+same_size (c ∷ cs) (r ∷ rs) (suc i) h l = same_size cs rs i h.2 (omega arith)
+
+grid_in : (store : List (Grid ℤ)) (regions : List Region) (i : ℕ) → i < length regions → grid_at (grids_in regions store) i ≡ grid_of store (region_at regions i)
+grid_in store [] i l = absurd (omega arith)
+grid_in store (r ∷ rs) zero l = refl
+grid_in store (r ∷ rs) (suc i) l = grid_in store rs i (omega arith)
+
+-- all cells of grids that fit their channels
+pub all_cells : (channels : List Channel) (grids : List (Grid ℤ)) → Fits channels grids → length (cells_of grids) ≡ cell_count channels
+all_cells [] [] fit = refl
+all_cells [] (g ∷ gs) fit = absurd fit
+all_cells (c ∷ cs) [] fit = absurd fit
+all_cells (c ∷ cs) (g ∷ gs) fit =
+    let whole : length g.cells ≡ size c = fit.2 ∙ ap (λ w. w * g.height) fit.0 ∙ ap (λ h. c.width * h) fit.1 in
+    let rest = all_cells cs gs fit.3 in
+    let all = sum_by-cons size c cs in
+    let both = length-append g.cells (cells_of gs) in
+    omega (arith, whole, rest, all, both)
+
+-- ---- places
+
+pub row_ends : (part : Part) (i y : ℕ) → place_of part i (channel part.channels i).width y ≡ place_of part i 0 (y + 1)
+row_ends part i y = omega arith
+
+pub channel_begins : (part : Part) (i : ℕ) → place_of part i 0 0 ≡ cells_before part.channels i
+channel_begins part i = omega arith
+
+ends_list : (channels : List Channel) (i : ℕ) → i < length channels → cells_before channels i + size (channel channels i) ≡ cells_before channels (i + 1)
+ends_list [] i l = absurd (omega arith)
+ends_list (c ∷ cs) zero l =
+    let b = before_suc c cs 0 in
+    let one : suc 0 ≡ 0 + 1 = omega arith in
+    let m : cells_before (c ∷ cs) (0 + 1) ≡ size c + cells_before cs 0 = ap (cells_before (c ∷ cs)) (sym one) ∙ b in
+    omega (arith, m)
+ends_list (c ∷ cs) (suc i) l =
+    let b = before_suc c cs i in let n = before_suc c cs (i + 1) in let e = ends_list cs i (omega arith) in
+    let same : suc (i + 1) ≡ suc i + 1 = omega arith in
+    let m : cells_before (c ∷ cs) (suc i + 1) ≡ size c + cells_before cs (i + 1) = ap (cells_before (c ∷ cs)) (sym same) ∙ n in
+    omega (arith, b, m, e)
+
+pub channel_ends : (part : Part) (i : ℕ) → i < length part.channels → place_of part i 0 (channel part.channels i).height ≡ cells_before part.channels (i + 1)
+channel_ends part i l =
+    let c = channel part.channels i in
+    let e = ends_list part.channels i l in
+    let m : c.height * c.width + 0 ≡ size c = omega arith in
+    ap (λ n. cells_before part.channels i + n) m ∙ e
+
+module _ {S : Type 0} (d : Meaning S) (w : Width) (bytes : List ℕ) (l : Leaf) (m : ℕ) (regions : List Region) where
+  -- a cell was read and written
+  pub cell_goes_on : {X : Type 0} (to_int : X → ℤ) (from_int : ℤ → X) → ((n : ℤ) → to_int (from_int n) ≡ n) → (i x y : ℕ) (store new : List (Grid X)) (s t : S) (p q : ℕ) →
+      IsOffered l.predictor → LieApart regions → AllLie regions store → i < length regions → x < (region_at regions i).width → y < (region_at regions i).height →
+      ReadsCell d w to_int from_int bytes l m (region_at regions i) x y store s p new t q →
+      GoesOn d w bytes l m regions (λ part. place_of part i x y) (λ part. place_of part i (x + 1) y) (store_meanings to_int store) s p (store_meanings to_int new) q t
+  cell_goes_on {X} to_int from_int back i x y store new s t p q o apart lie li px qy reads part decoder p0 old suits r =
+      let ints : List (Grid ℤ) = store_meanings to_int store in
+      let reg : Region = region_at regions i in
+      let sizes = same_size part.channels regions i suits.sizes li in
+      let count = same_count part.channels regions suits.sizes in
+      let lc : i < length part.channels = omega (arith, count) in
+      let pc : x < (channel part.channels i).width = subst (λ n. x < n) sizes.0 px in
+      let qc : y < (channel part.channels i).height = subst (λ n. y < n) sizes.1 qy in
+      let k : ℕ = place_of part i x y in
+      let v : ℤ = sample_of w l (prediction_at (grid_of ints reg).cells reg.width x y l.predictor) reads.token in
+      let taken : Taken S = record { token = reads.token; state = t; position = q } in
+      let rule = part_rule d w part bytes in
+      let read : rule.read (take k (cells_of (grids_in regions ints))) s p ≡ Ok taken =
+      read_is d w part bytes l suits.one_leaf (take k (cells_of (grids_in regions ints))) s p ∙ ap (d.read s bytes p l.cluster) suits.widest ∙ reads.read in
+      let value : rule.value (take k (cells_of (grids_in regions ints))) reads.token ≡ v =
+      value_is d w part bytes l suits.one_leaf (grids_in regions ints) i x y reads.token o r.fits lc pc qc
+      ∙ ap (λ (g : Grid ℤ). sample_of w l (prediction_at g.cells (channel part.channels i).width x y l.predictor) reads.token) (grid_in ints regions i li)
+      ∙ ap (λ n. sample_of w l (prediction_at (grid_of ints reg).cells n x y l.predictor) reads.token) (sym sizes.0) in
+      let store' : store_meanings to_int new ≡ with_region_cell ints reg x y v =
+      ap (store_meanings to_int) reads.written ∙ with_region_cell-meanings to_int store reg x y (from_int v) ∙ ap (with_region_cell ints reg x y) (back v) in
+      let grids' : grids_in regions (store_meanings to_int new) ≡ with_cell_of (grids_in regions ints) i x y (rule.value (take k (cells_of (grids_in regions ints))) reads.token) =
+      ap (grids_in regions) store' ∙ grids_of_written ints regions i x y v (region 0 0 0 0 0) apart (AllLie-meanings to_int store regions lie) li px qy
+      ∙ ap (λ (g : Grid ℤ). slice_set (grids_in regions ints) i (with_cell g x y v)) (sym (grid_in ints regions i li))
+      ∙ ap (with_cell_of (grids_in regions ints) i x y) (sym value) in
+      let next : suc k ≡ place_of part i (x + 1) y = omega arith in
+      let more = reached_more d w part bytes decoder p0 old k i x y (grids_in regions ints) s p taken lc pc qc refl r read in
+      subst (λ n. Reached d w part bytes decoder p0 old n (grids_in regions (store_meanings to_int new)) t q) next
+      (subst (λ (gs : List (Grid ℤ)). Reached d w part bytes decoder p0 old (suc k) gs t q) (sym grids') more)
+
+  -- the read of a cell was refused
+  pub cell_stops : (i x y : ℕ) (to : Part → ℕ) (store : List (Grid ℤ)) (s : S) (p : ℕ) (e : DecoderError) → i < length regions → x < (region_at regions i).width → y < (region_at regions i).height →
+      d.read s bytes p l.cluster m ≡ Err e →
+      Stops d w bytes l m regions (λ part. place_of part i x y) to store s p store p e
+  cell_stops i x y to store s p e li px qy fault part decoder p0 old suits r =
+      let sizes = same_size part.channels regions i suits.sizes li in
+      let count = same_count part.channels regions suits.sizes in
+      let lc : i < length part.channels = omega (arith, count) in
+      let pc : x < (channel part.channels i).width = subst (λ n. x < n) sizes.0 px in
+      let qc : y < (channel part.channels i).height = subst (λ n. y < n) sizes.1 qy in
+      record {
+        count = place_of part i x y;
+        state = s;
+        within = subst (λ n. place_of part i x y < n) (all_cells part.channels (grids_in regions store) r.fits) (stands_within part.channels (grids_in regions store) i x y r.fits lc pc qc);
+        reached = r;
+        fault = read_is d w part bytes l suits.one_leaf (take (place_of part i x y) (cells_of (grids_in regions store))) s p ∙ ap (d.read s bytes p l.cluster) suits.widest ∙ fault;
+      }
+
+  -- ---- one behind another
+
+  module _ (store : List (Grid ℤ)) (s : S) (p : ℕ) where
+    pub stays : (from : Part → ℕ) → GoesOn d w bytes l m regions from from store s p store p s
+    stays from part decoder p0 old suits r = r
+
+    pub stays_at : (from to : Part → ℕ) → ((part : Part) → Suits part regions l m → from part ≡ to part) → GoesOn d w bytes l m regions from to store s p store p s
+    stays_at from to same part decoder p0 old suits r = subst (λ n. Reached d w part bytes decoder p0 old n (grids_in regions store) s p) (same part suits) r
+
+    module _ (from middle : Part → ℕ) (store' : List (Grid ℤ)) (s' : S) (p' : ℕ) (first : GoesOn d w bytes l m regions from middle store s p store' p' s') where
+      -- the same, where the places are told otherwise
+      pub goes_between : (from' to' : Part → ℕ) → ((part : Part) → Suits part regions l m → from' part ≡ from part) → ((part : Part) → Suits part regions l m → middle part ≡ to' part) →
+          GoesOn d w bytes l m regions from' to' store s p store' p' s'
+      goes_between from' to' a b part decoder p0 old suits r =
+          subst (λ n. Reached d w part bytes decoder p0 old n (grids_in regions store') s' p') (b part suits)
+          (first part decoder p0 old suits (subst (λ n. Reached d w part bytes decoder p0 old n (grids_in regions store) s p) (a part suits) r))
+
+      pub goes_further : (to : Part → ℕ) (store'' : List (Grid ℤ)) (s'' : S) (p'' : ℕ) → GoesOn d w bytes l m regions middle to store' s' p' store'' p'' s'' →
+          GoesOn d w bytes l m regions from to store s p store'' p'' s''
+      goes_further to store'' s'' p'' second part decoder p0 old suits r = second part decoder p0 old suits (first part decoder p0 old suits r)
+
+      pub stops_further : (to to' : Part → ℕ) (store'' : List (Grid ℤ)) (p'' : ℕ) (e : DecoderError) → Stops d w bytes l m regions middle to store' s' p' store'' p'' e →
+          Stops d w bytes l m regions from to' store s p store'' p'' e
+      stops_further to to' store'' p'' e second part decoder p0 old suits r = second part decoder p0 old suits (first part decoder p0 old suits r)
+
+  -- ---- the ends of rows and channels
+
+  pub row_done : (i y : ℕ) → i < length regions → (part : Part) → Suits part regions l m → place_of part i (region_at regions i).width y ≡ place_of part i 0 (y + 1)
+  row_done i y li part suits =
+      ap (λ n. place_of part i n y) (same_size part.channels regions i suits.sizes li).0 ∙ row_ends part i y
+
+  pub channel_done : (i : ℕ) → i < length regions → (part : Part) → Suits part regions l m → place_of part i 0 (region_at regions i).height ≡ cells_before part.channels (i + 1)
+  channel_done i li part suits =
+      let count = same_count part.channels regions suits.sizes in
+      ap (λ n. place_of part i 0 n) (same_size part.channels regions i suits.sizes li).1 ∙ channel_ends part i (omega (arith, count))
+
+  pub channel_empty : (i : ℕ) → i < length regions → (region_at regions i).width ≡ 0 → (part : Part) → Suits part regions l m → cells_before part.channels i ≡ cells_before part.channels (i + 1)
+  channel_empty i li none part suits =
+      let count = same_count part.channels regions suits.sizes in
+      let e = ends_list part.channels i (omega (arith, count)) in
+      let z : (channel part.channels i).width ≡ 0 = sym (same_size part.channels regions i suits.sizes li).0 ∙ none in
+      let n : size (channel part.channels i) ≡ 0 = ap (λ n. n * (channel part.channels i).height) z ∙ omega arith in
+      omega (arith, e, n)
+
+  pub all_done : (part : Part) → Suits part regions l m → cells_before part.channels (length regions) ≡ cell_count part.channels
+  all_done part suits =
+      ap (cells_before part.channels) (sym (same_count part.channels regions suits.sizes)) ∙ ap cell_count (take-length part.channels)
+
+-- ---- what is outside of the regions
+
+at_buffer : ℕ → Region
+at_buffer b = region b 0 0 0 0
+
+module _ {X : Type 0} where
+  pub keeps_all : (regions : List Region) (store : List (Grid X)) → KeepsOutside regions store store
+  keeps_all regions store = record { count = refl; width = λ b. refl; height = λ b. refl; full = λ b h. h; cells = λ b x y p q o. refl }
+
+  pub keeps_both : (regions : List Region) (a b c : List (Grid X)) → KeepsOutside regions a b → KeepsOutside regions b c → KeepsOutside regions a c
+  keeps_both regions a b c h k = record {
+    count = k.count ∙ h.count;
+    width = λ n. k.width n ∙ h.width n;
+    height = λ n. k.height n ∙ h.height n;
+    full = λ n f. k.full n (h.full n f);
+    cells = λ n x y p q o.
+        k.cells n x y (subst (λ u. x < u) (sym (h.width n)) p) (subst (λ u. y < u) (sym (h.height n)) q) o ∙ h.cells n x y p q o;
+  }
+
+  pub keeps_written : (regions : List Region) (store : List (Grid X)) (i x y : ℕ) (v : X) → AllLie regions store → i < length regions → x < (region_at regions i).width → y < (region_at regions i).height →
+      KeepsOutside regions store (with_region_cell store (region_at regions i) x y v)
+  unfolding at_buffer
+  keeps_written regions store i x y v lie li px qy =
+      let r : Region = region_at regions i in
+      let lies : Lies r store = lie i (region 0 0 0 0 0) li in
+      record {
+        count = length-with_region_cell store r x y v;
+        width = λ b. width_after store r (at_buffer b) x y v lies.there;
+        height = λ b. height_after store r (at_buffer b) x y v lies.there;
+        full = λ b f. full_after store r (at_buffer b) x y v lies.there f;
+        cells = λ b j k p q o.
+            buffer_cell_other store r (at_buffer b) x y j k v lies px p
+            (λ h. o i (region 0 0 0 0 0) li (subst (λ n. HasCell r n j k) (sym h.0) (subst (λ n. HasCell r r.buffer n k) h.1 (subst (λ n. HasCell r r.buffer (r.x + x) n) h.2 (HasCell_at r x y px qy)))));
+      }
+
+  -- regions lie where they lay
+  pub lie_still : (regions rs : List Region) (old new : List (Grid X)) → KeepsOutside regions old new → AllLie rs old → AllLie rs new
+  lie_still regions rs old new k lie = λ i d h.
+      let was = lie i d h in
+      let there = was.there in
+      let count = k.count in
+      record {
+        there = omega (arith, there, count);
+        full = k.full (get_or rs i d).buffer was.full;
+        columns = subst (λ n. (get_or rs i d).x + (get_or rs i d).width ≤ n) (sym (k.width (get_or rs i d).buffer)) was.columns;
+        rows = subst (λ n. (get_or rs i d).y + (get_or rs i d).height ≤ n) (sym (k.height (get_or rs i d).buffer)) was.rows;
+      }

@@ -1,0 +1,122 @@
+-- A part: channels whose samples are coded one behind another (Modular: channels, order of samples).
+use Rattle.std.specs.Prelude.{◌≡◌, ℕ, zero, suc, ◌+◌, ◌-◌, ◌*◌, ◌<◌, max, ℤ, pos, List, [], ◌∷◌, ◌++◌, length, take, drop, map, filter, sum_by, slice_index_or, nat_lt, ◌==◌, ◌&&◌, Bool, if◌then◌else◌, Some}
+use Rattle.std.specs.Ordering.{int_eq}
+use Rattle.jxlm_base.specs.Grid.{Grid, IsFull}
+use Rattle.jxlm_tree.specs.Properties.{Surroundings, property}
+use Rattle.jxlm_tree.specs.Tree.{Shape, walk}
+use Rattle.jxlm_tree.specs.declared.flat.Leaf.{Leaf}
+use Rattle.jxlm_tree.specs.declared.predictor.WpHeader.{WpHeader}
+
+-- a channel of a part: its size, and its shifts against the image
+pub record Channel : Type 0 where
+  pub width : ℕ
+  pub height : ℕ
+  pub hshift : ℤ
+  pub vshift : ℤ
+
+-- a part: its channels in order, the weights of its header, its tree, and its stream index
+pub record Part : Type 0 where
+  pub channels : List Channel
+  pub weights : WpHeader
+  pub tree : Shape Leaf
+  pub stream : ℕ
+
+-- how many cells a channel has
+abbrev pub size : Channel → ℕ
+size c = c.width * c.height
+
+-- what stands where there is no channel
+abbrev pub no_channel : Channel
+no_channel = record { width = 0; height = 0; hshift = pos 0; vshift = pos 0 }
+
+-- channel i
+abbrev pub channel : List Channel → ℕ → Channel
+channel channels i = slice_index_or channels i no_channel
+
+-- how many cells there are
+abbrev pub cell_count : List Channel → ℕ
+cell_count channels = sum_by size channels
+
+-- how many cells stand before channel i
+abbrev pub cells_before : List Channel → ℕ → ℕ
+cells_before channels i = cell_count (take i channels)
+
+-- the channel in which cell k stands: cells go channel by channel, and in each row by row
+abbrev pub channel_of : List Channel → ℕ → ℕ
+channel_of [] k = 0
+channel_of (c ∷ channels) k = if nat_lt k (size c) then 0 else suc (channel_of channels (k - size c))
+
+-- the greatest width, of channels without cells too
+abbrev pub greatest_width : List Channel → ℕ
+greatest_width [] = 0
+greatest_width (c ∷ channels) = max c.width (greatest_width channels)
+
+-- equal sizes and shifts
+abbrev pub is_alike : Channel → Channel → Bool
+is_alike a b = a.width == b.width && a.height == b.height && int_eq a.hshift b.hshift && int_eq a.vshift b.vshift
+
+-- the numbers below i, from i - 1 down
+abbrev pub downward : ℕ → List ℕ
+downward zero = []
+downward (suc i) = i ∷ downward i
+
+-- the channels before channel i that are like it, the nearest first
+abbrev pub earlier_alike : List Channel → ℕ → List ℕ
+earlier_alike channels i = filter (λ e. is_alike (channel channels e) (channel channels i)) (downward i)
+
+-- Where the next sample of the part stands, behind the samples before it, of all its channels.
+module _ (channels : List Channel) (before : List ℤ) where
+  -- its channel
+  abbrev pub next_channel : ℕ
+  next_channel = channel_of channels (length before)
+
+  -- the samples of channel i
+  abbrev pub samples_of : ℕ → List ℤ
+  samples_of i = take (size (channel channels i)) (drop (cells_before channels i) before)
+
+  -- the grid of channel i, where it is whole
+  abbrev pub grid_of : ℕ → Grid ℤ
+  grid_of i = record { width = (channel channels i).width; height = (channel channels i).height; cells = samples_of i }
+
+-- what the properties of the next sample look at
+abbrev pub surroundings : Part → List ℤ → Surroundings
+surroundings part before =
+    let i = next_channel part.channels before in
+    record {
+      weights = Some part.weights;
+      width = (channel part.channels i).width;
+      samples = samples_of part.channels before i;
+      earlier = map (grid_of part.channels before) (earlier_alike part.channels i);
+    }
+
+-- the leaf of the next sample
+abbrev pub next_leaf : Part → List ℤ → Leaf
+next_leaf part before = walk part.tree (property (next_channel part.channels before) part.stream (surroundings part before))
+
+-- the cells of grids, grid by grid and row by row
+abbrev pub cells_of : List (Grid ℤ) → List ℤ
+cells_of [] = []
+cells_of (g ∷ grids) = g.cells ++ cells_of grids
+
+-- whole grids of the sizes of the channels
+abbrev pub Fits : List Channel → List (Grid ℤ) → Type 0
+Fits [] [] = Unit {0}
+Fits [] (g ∷ grids) = ⊥
+Fits (c ∷ channels) [] = ⊥
+Fits (c ∷ channels) (g ∷ grids) = (g.width ≡ c.width) × (g.height ≡ c.height) × IsFull g × Fits channels grids
+
+-- grid i
+abbrev pub grid : List (Grid ℤ) → ℕ → Grid ℤ
+grid grids i = slice_index_or grids i (record { width = 0; height = 0; cells = [] })
+
+-- Behind the first cells of some grids, up to place j of channel i, the next sample sees the first j samples of its own grid, and the earlier grids whole.
+pub record SeesBefore (channels : List Channel) (grids : List (Grid ℤ)) (i j : ℕ) (before : List ℤ) : Type 0 where
+  pub behind : before ≡ take (cells_before channels i + j) (cells_of grids)
+  pub stands : next_channel channels before ≡ i
+  pub own : samples_of channels before i ≡ take j (grid grids i).cells
+  pub earlier : (e : ℕ) → e < i → grid_of channels before e ≡ grid grids e
+
+-- So it is at each place of each channel.
+abbrev pub EachSeesBefore : Type 0
+EachSeesBefore = (channels : List Channel) (grids : List (Grid ℤ)) (i j : ℕ) → Fits channels grids → i < length channels → j < size (channel channels i) →
+    SeesBefore channels grids i j (take (cells_before channels i + j) (cells_of grids))

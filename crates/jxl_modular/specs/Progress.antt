@@ -1,0 +1,73 @@
+-- How far the decoding of a part has come: what its loops over channels, rows and columns keep.
+use Rattle.std.specs.Prelude.{◌≡◌, ℕ, ◌+◌, ◌*◌, ◌<◌, ℤ, List, [], ◌∷◌, take, drop, length, map, get_or, Err}
+use Rattle.std.specs.List.{All}
+use Rattle.std.specs.Int.{Width}
+use Rattle.jxlm_base.specs.Decoding.{Meaning}
+use Rattle.jxlm_base.specs.Grid.{Grid, grid, cell, IsFull}
+use Rattle.jxlm_base.specs.Regions.{grid_of, HasCell}
+use Rattle.jxlm_base.specs.declared.decoder.DecoderError.{DecoderError}
+use Rattle.jxlm_base.specs.declared.subgrid.Region.{Region}
+use Rattle.jxlm_tree.specs.Tree.{leaf}
+use Rattle.jxlm_tree.specs.declared.flat.Leaf.{Leaf}
+use Rattle.jxl_modular.specs.Coded.{part_rule, IsCoded}
+use Rattle.jxl_modular.specs.Part.{Part, Channel, channel, cell_count, cells_before, cells_of, greatest_width, Fits}
+
+module _ {S : Type 0} (d : Meaning S) (w : Width) (part : Part) (bytes : List ℕ) (decoder : S) (p0 : ℕ) (old : List (Grid ℤ)) where
+  -- the first k cells are coded, and the others are as before
+  pub record Reached (k : ℕ) (now : List (Grid ℤ)) (state : S) (q : ℕ) : Type 0 where
+    pub coded : IsCoded d w part bytes decoder p0 k now state q
+    pub rest : drop k (cells_of now) ≡ drop k (cells_of old)
+    pub fits : Fits part.channels now
+
+  -- the read of the next cell was refused there by e
+  pub record Stopped (e : DecoderError) (now : List (Grid ℤ)) (q : ℕ) : Type 0 where
+    pub count : ℕ
+    pub state : S
+    pub within : count < cell_count part.channels
+    pub reached : Reached count now state q
+    pub fault : (part_rule d w part bytes).read (take count (cells_of now)) state q ≡ Err e
+
+-- the regions have the sizes of the channels
+abbrev pub SameSizes : List Channel → List Region → Type 0
+SameSizes [] [] = Unit {0}
+SameSizes [] (r ∷ regions) = ⊥
+SameSizes (c ∷ channels) [] = ⊥
+SameSizes (c ∷ channels) (r ∷ regions) = (r.width ≡ c.width) × (r.height ≡ c.height) × SameSizes channels regions
+
+-- the part has these regions and this leaf, and m is its greatest width
+pub record Suits (part : Part) (regions : List Region) (l : Leaf) (m : ℕ) : Type 0 where
+  pub sizes : SameSizes part.channels regions
+  pub one_leaf : part.tree ≡ leaf l
+  pub widest : greatest_width part.channels ≡ m
+
+-- how many cells of a part stand before column x of row y of channel i
+abbrev pub place_of : Part → ℕ → ℕ → ℕ → ℕ
+place_of part i x y = cells_before part.channels i + (y * (channel part.channels i).width + x)
+
+-- the grids that stand in the regions of a store
+abbrev pub grids_in : List Region → List (Grid ℤ) → List (Grid ℤ)
+grids_in regions store = map (grid_of store) regions
+
+module _ {S : Type 0} (d : Meaning S) (w : Width) (bytes : List ℕ) (l : Leaf) (m : ℕ) (regions : List Region) (from to : Part → ℕ) (store : List (Grid ℤ)) (s : S) (p : ℕ) (store' : List (Grid ℤ)) (p' : ℕ) where
+  -- Whatever was decoded before: where decoding had come to one place, it has come to the other.
+  abbrev pub GoesOn : S → Type 0
+  GoesOn s' = (part : Part) (decoder : S) (p0 : ℕ) (old : List (Grid ℤ)) → Suits part regions l m →
+      Reached d w part bytes decoder p0 old (from part) (grids_in regions store) s p → Reached d w part bytes decoder p0 old (to part) (grids_in regions store') s' p'
+
+  -- Whatever was decoded before: where decoding had come to that place, the read of a later cell was refused by e.
+  abbrev pub Stops : DecoderError → Type 0
+  Stops e = (part : Part) (decoder : S) (p0 : ℕ) (old : List (Grid ℤ)) → Suits part regions l m →
+      Reached d w part bytes decoder p0 old (from part) (grids_in regions store) s p → Stopped d w part bytes decoder p0 old e (grids_in regions store') p'
+
+module _ {S : Type 0} where
+  -- buffer b of a store; a grid of no cells where there is none
+  abbrev pub buffer_at : List (Grid S) → ℕ → Grid S
+  buffer_at store b = get_or store b (grid 0 0 [])
+
+  -- the store keeps its grids' sizes, and its cells outside the regions
+  pub record KeepsOutside (regions : List Region) (old new : List (Grid S)) : Type 0 where
+    pub count : length new ≡ length old
+    pub width : (b : ℕ) → (buffer_at new b).width ≡ (buffer_at old b).width
+    pub height : (b : ℕ) → (buffer_at new b).height ≡ (buffer_at old b).height
+    pub full : (b : ℕ) → IsFull (buffer_at old b) → IsFull (buffer_at new b)
+    pub cells : (b x y : ℕ) → x < (buffer_at old b).width → y < (buffer_at old b).height → All (λ r. HasCell r b x y → ⊥) regions → cell (buffer_at new b) x y ≡ cell (buffer_at old b) x y
