@@ -1,6 +1,5 @@
 -- The channels of an image by valid parameters.
-use Rattle.std.proofs.Common.{ℕ, ◌<◌, List, length, arith}
-use Rattle.std.proofs.lemmas.List.{length-map}
+use Rattle.std.proofs.Common.{List}
 use Rattle.std.proofs.lemmas.List.Elements.{All-map}
 use Rattle.std.specs.List.{All}
 use Rattle.jxlm_transform.proofs.ShiftBounds.{IsSide-shift_size, IsShift-hshift}

@@ -1,9 +1,9 @@
 -- Sides and shifts of a channel that may be given.
-use Rattle.std.proofs.Common.{◌≡◌, ℕ, ◌+◌, ◌*◌, ◌/◌, ◌%◌, ◌^◌, ◌<◌, ◌≤◌, Bool, true, false, IsTrue, if◌then◌else◌, ℤ, pos, refl, arith, rules, List}
+use Rattle.std.proofs.Common.{◌≡◌, ℕ, ◌/◌, ◌^◌, ◌<◌, ◌≤◌, Bool, true, false, if◌then◌else◌, pos, arith, rules, List}
 use Rattle.std.proofs.Math.Nat.{le-mul_of_pos_right}
 use Rattle.std.proofs.lemmas.Nat.{pow_pos, div-add-mod'}
 use Rattle.std.proofs.lemmas.Int.{ints, to_z_pos}
-use Rattle.std.specs.Int.{w32, div_ceil, cast_signed}
+use Rattle.std.specs.Int.{w32, div_ceil}
 use Rattle.std.specs.Int.RustNames.{unsigned_abs}
 use Rattle.jxlm_transform.specs.Params.{IsSide}
 use Rattle.jxlm_transform.specs.Shifts.{upsampled_side, shift_size, jpeg_shift, hshift, vshift, IsShift, IsValidShift}
@@ -49,6 +49,6 @@ IsShift-hshift (JpegUpsampling has_h h has_v v) valid = (halvings h, halvings v)
 IsShift-hshift (Shifts s) valid = rw (hshift-shifts s valid) (IsShift-pos s valid, IsShift-pos s valid)
 IsShift-hshift (Raw h v) valid = valid
 
--- A channel of a JPEG picture is halved only where some channel is.
+-- A channel of a JPEG picture is halved only along a side along which some channel has two samples.
 pub IsValidShift-jpeg_shift : (values : List ℕ) (i : ℕ) → IsValidShift (jpeg_shift values i)
 IsValidShift-jpeg_shift values i = (search rules, search rules)

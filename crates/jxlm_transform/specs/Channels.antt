@@ -4,7 +4,8 @@ use Rattle.jxlm_transform.specs.declared.param.ChannelShift.{ChannelShift}
 use Rattle.jxlm_transform.specs.declared.param.ModularChannelParams.{ModularChannelParams}
 use Rattle.jxlm_transform.specs.Shifts as shifts
 
--- A channel as it is coded: its sides, its sides before any shift, its shifts (below 0: those of a table), and the shift it came with.
+-- A channel as it is coded: its sides, the sides of its picture, its shifts (those of a table are -1), and the shift that it was
+-- given with.
 pub record Channel : Type 0 where
   pub width : ℕ
   pub height : ℕ
@@ -18,7 +19,15 @@ pub record Channel : Type 0 where
 abbrev pub image_channel : ModularChannelParams → Channel
 image_channel p =
     let size : ℕ × ℕ = shifts.shift_size p.shift (p.width, p.height) in
-    record { width = size.0; height = size.1; original_width = p.width; original_height = p.height; hshift = shifts.hshift p.shift; vshift = shifts.vshift p.shift; shift = p.shift }
+    record {
+      width = size.0;
+      height = size.1;
+      original_width = p.width;
+      original_height = p.height;
+      hshift = shifts.hshift p.shift;
+      vshift = shifts.vshift p.shift;
+      shift = p.shift;
+    }
 
 -- how many samples it has
 abbrev pub area : Channel → ℕ

@@ -6,7 +6,8 @@ use Rattle.std.specs.List.{list_any}
 use Rattle.jxlm_transform.specs.declared.param.ChannelShift.{ChannelShift}
 use Rattle.jxlm_transform.specs.declared.param.ChannelShift.TheVariants.{JpegUpsampling, Shifts, Raw}
 
--- a side where some channel is halved: half of it rounded up, and twice that in a channel that isn't halved
+-- a side along which some channel has two samples for one of another: half of it rounded up, and twice that where a channel
+-- isn't halved
 abbrev pub upsampled_side : Bool → Bool → ℕ → ℕ
 upsampled_side false halved n = n
 upsampled_side true halved n = if halved then div_ceil n 2 else 2 * div_ceil n 2
@@ -29,8 +30,8 @@ vshift (JpegUpsampling has_h h has_v v) = if v then pos 1 else pos 0
 vshift (Shifts s) = cast_signed w32 s
 vshift (Raw h v) = v
 
--- The channel of this index, by the values of three channels: 0 may be halved along both sides, 1 along none, 2 down alone,
--- 3 across alone; it is halved where some channel isn't.
+-- The channel of this index, by the samples that each of three channels has across and down: the value 0 stands for 1 and 1,
+-- 1 for 2 and 2, 2 for 2 and 1, 3 for 1 and 2. A channel is halved along a side where it has 1 and some channel has 2.
 abbrev pub jpeg_shift : List ℕ → ℕ → ChannelShift
 jpeg_shift values i =
     let value : ℕ = slice_index values i in
@@ -42,7 +43,7 @@ jpeg_shift values i =
 abbrev pub IsShift : ℤ → Type 0
 IsShift z = (pos 0 ≤ℤ z) × (z ≤ℤ pos 30)
 
--- Shifts go from 0 to 30, and a channel is halved only along a side along which some channel is.
+-- Shifts go from 0 to 30, and a channel is halved only along a side along which some channel has two samples.
 abbrev pub IsValidShift : ChannelShift → Type 0
 IsValidShift (JpegUpsampling has_h h has_v v) = (IsTrue h → IsTrue has_h) × (IsTrue v → IsTrue has_v)
 IsValidShift (Shifts s) = s ≤ 30

@@ -22,12 +22,16 @@ const MAX_CHANNELS: usize = 1 << 20;
 /// How a channel is smaller than the picture it belongs to.
 #[derive(Clone, Copy, Debug, PartialEq, Eq)]
 pub enum ChannelShift {
-    /// The channel of a JPEG picture: whether some channel is halved across or down, and whether
-    /// this one is.
+    /// The channel of a JPEG picture: along each side, whether some channel has two samples for
+    /// one of another, and whether this one is halved.
     JpegUpsampling {
+        /// Some channel has two samples across.
         has_h_subsample: bool,
+        /// This one is halved across.
         h_subsample: bool,
+        /// Some channel has two samples down.
         has_v_subsample: bool,
+        /// This one is halved down.
         v_subsample: bool,
     },
     /// So many halvings of both sides.
@@ -44,9 +48,10 @@ impl ChannelShift {
         ChannelShift::Shifts(shift)
     }
 
-    /// The shift of channel `idx` of a JPEG picture of three channels, each with its value: 0 may be
-    /// halved both ways, 1 not at all, 2 down alone, 3 across alone; it is halved along a side where
-    /// some channel isn't. Values are at most 3, and `idx` below 3.
+    /// The shift of channel `idx` of a JPEG picture, by the samples that each of its three channels
+    /// has across and down: 0 stands for 1 and 1, 1 for 2 and 2, 2 for 2 and 1, 3 for 1 and 2. A
+    /// channel is halved along a side where it has 1 and some channel has 2. Values are at most 3,
+    /// and `idx` is below 3.
     pub fn from_jpeg_upsampling(jpeg_upsampling: [u32; 3], idx: usize) -> ChannelShift
         requires values { All (λ v. v ≤ 3) jpeg_upsampling }
         requires index { idx < 3 }
@@ -87,9 +92,9 @@ impl ChannelShift {
         }
     }
 
-    /// The sides of a channel with this shift in a picture of these sides. The picture's sides are
-    /// at most 2^30, and so are the channel's; shifts are from 0 to 30, and a side is halved only
-    /// where some channel's is.
+    /// The width and height of a channel with this shift in a picture of these. The picture's are
+    /// at most 2^30, and so are the channel's; shifts are from 0 to 30, and a JPEG channel is halved
+    /// only along a side along which some channel has two samples.
     pub fn shift_size(&self, size: (u32, u32)) -> (u32, u32)
         requires width { IsSide size.0 }
         requires height { IsSide size.1 }
@@ -140,12 +145,12 @@ fn has_value(values: &[u32], a: u32, b: u32) -> bool
     values.iter().any(|v| *v == a || *v == b)
 }
 
-/// Whether a channel with this value is halved along a side along which some channel may be; the
-/// value `alone` halves this side alone.
-fn is_halved(some_halved: bool, value: u32, alone: u32) -> bool
-    ensures { result ≡ (some_halved && (value == 0 || value == alone)) }
+/// Whether a channel with this value is halved along a side; `alone` is the value of a channel that
+/// has one sample along this side alone.
+fn is_halved(some_has_two: bool, value: u32, alone: u32) -> bool
+    ensures { result ≡ (some_has_two && (value == 0 || value == alone)) }
 {
-    some_halved && (value == 0 || value == alone)
+    some_has_two && (value == 0 || value == alone)
 }
 
 /// A side, halved so many times.
@@ -180,20 +185,23 @@ fn is_shift(shift: i32) -> bool
 /// A channel of an image: the sides of the picture, and how the channel is smaller than it.
 #[derive(Clone, Copy)]
 pub struct ModularChannelParams {
+    /// The width of the picture in samples.
     pub width: u32,
+    /// The height of the picture in samples.
     pub height: u32,
+    /// How the channel is smaller.
     pub shift: ChannelShift,
 }
 
 impl ModularChannelParams {
-    /// A channel of these sides.
+    /// A channel as large as the picture.
     pub fn new(width: u32, height: u32) -> ModularChannelParams
         ensures { result ≡ sized width height (ChannelShift.Shifts 0) }
     {
         ModularChannelParams::with_shift(width, height, ChannelShift::from_shift(0))
     }
 
-    /// Channel `idx` of a JPEG picture of three channels, each with its value, as in
+    /// Channel `idx` of a JPEG picture of these sides, with the shift and under the conditions of
     /// [`ChannelShift::from_jpeg_upsampling`].
     pub fn jpeg(
         width: u32,
@@ -228,19 +236,25 @@ impl ModularChannelParams {
     }
 }
 
-/// What an image is read by: the side of its groups, the depth of its samples, its channels, and
-/// the global tree if there is one.
+/// What an image is read by.
 #[derive(Drop)]
 pub struct ModularParams<'a, D: Decoder> {
+    /// The side of a group, in samples of the picture.
     pub group_dim: u32,
+    /// How many bits a sample has.
     pub bit_depth: u32,
+    /// The channels, in order.
     pub channels: Vec<ModularChannelParams>,
+    /// The global tree, where there is one.
     pub ma_config: Option<&'a MaConfig<D>>,
 }
 
 impl<'a, D: Decoder> ModularParams<'a, D> {
-    /// An image of these sides with a channel for each shift. It is refused for want of memory
-    /// alone.
+    /// An image of these sides with a channel for each shift, in order.
+    ///
+    /// # Errors
+    ///
+    /// [`Error::Buffer`](jxlm_base::error::Error) where there is no memory, and no other.
     pub fn new(
         alloc: Global,
         width: u32,
@@ -286,9 +300,10 @@ impl<'a, D: Decoder> ModularParams<'a, D> {
         }
     }
 
-    /// Whether an image may be read by these: sides are at most 2^30 and shifts from 0 to 30, a
-    /// channel is halved only where some channel is, samples have at most 32 bits, a group's side
-    /// is a power of two from 2 to 2^20, and there are at most 2^20 channels.
+    /// Whether an image may be read by these: sides are at most 2^30 and shifts from 0 to 30, a JPEG
+    /// channel is halved only along a side along which some channel has two samples, `bit_depth` is
+    /// at most 32, `group_dim` is a power of two from 2 to 2^20, and there are at most 2^20
+    /// channels. Nothing but these fields is looked at.
     pub fn is_valid(&self) -> bool
         ensures { IsTrue result ↔ IsValidParams self.now }
     {

@@ -1,4 +1,4 @@
-use Rattle.std.proofs.Common.{rules, ◌≡◌, ℕ, ◌≤◌, ◌^◌, ◌∙◌, sym, arith}
+use Rattle.std.proofs.Common.{rules, ◌∙◌, sym}
 use Rattle.jxlm_transform.proofs.Powers.{IsTrue-is_power_of_two}
 use Rattle.jxlm_transform.proofs.param.is_group_dim.Goals as goal
 
