@@ -68,7 +68,15 @@ pub enum Command {
 }
 
 impl Command {
-    ghost use Rattle.jxlmod.specs.Arguments.{IsWithinLimits, Asks, IsWrong};
+    ghost use Rattle.jxlmod.specs.Arguments.{AreFor, AreWrong, IsWithinLimits, channels_of};
+
+    /// How many channels are asked for.
+    pub fn channels(&self) -> u32
+        ensures { result ≡ channels_of self.now }
+    {
+        let Command::Decode { channels, .. } = *self;
+        channels
+    }
 
     /// Whether the library takes these numbers: at most 2^20 channels, sides of at most 2^30 where
     /// there is a channel, and a bit depth of at most 32.
@@ -88,8 +96,8 @@ impl Command {
 
     /// The command that the words ask for, without the program's name. It is within the limits.
     pub fn parse(words: &[String]) -> Option<Command>
-        ensures { MatchOption result (IsWrong (map string_bytes words.now))
-            (λ c. Asks (map string_bytes words.now) c × IsWithinLimits c) }
+        ensures { MatchOption result (AreWrong (map string_bytes words.now))
+            (AreFor (map string_bytes words.now)) }
     {
         let [name, width, height, channels, bit_depth, samples] = words else {
             return None;
