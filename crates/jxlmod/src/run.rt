@@ -1,13 +1,16 @@
 //! The program over a reader and two writers.
-ghost use Rattle.std.specs.Prelude.{◌≡◌, ◌≢◌, ◌<◌, ◌≤◌, ◌↔◌, ◌⊎◌, map, string_bytes, IsOk, IfErr, IsErrOf, IsOkUnless, OnOk};
+ghost use Rattle.std.specs.Prelude.{◌≡◌, ◌≢◌, ℕ, ◌<◌, ◌≤◌, ◌↔◌, ◌⊎◌, List, map, drop, Result, Ok, Err, MatchResult, string_bytes, IfOk, IfErr, IsOk, IsOkAnd, IsErrAnd, IsErrOf, IsOkUnless, OnOk};
 ghost use Rattle.std.specs.Io.KnownBytes.{Appends};
+ghost use Rattle.std.specs.IoError.{error_kind};
+ghost use Rattle.std.specs.Vec.Iter.{into_iter_items};
+ghost use Rattle.jxlm_base.specs.declared.error.Error.{Error};
 ghost use Rattle.jxlmod.specs.declared.arguments.Command.{Command};
 ghost use Rattle.jxlmod.specs.Arguments.{AreFor, AreWrong, channels_of};
 ghost use Rattle.jxlmod.specs.Run.{IsDrawn, status_of};
 
 use crate::arguments::{Command, USAGE};
 use jxlm_base::error::Error;
-use std::alloc::Global;
+use std::alloc::{AllocError, Global};
 use std::env::Args;
 use std::io;
 use std::io::{ErrorKind, Read, Write};
@@ -35,25 +38,31 @@ impl From<Error> for Failure {
     }
 }
 
+/// What makes the text of an image from the bytes of the input.
+pub trait Draw {
+    // what may be answered for the bytes and the command: a text or a fault
+    ghost answers: { List ℕ → Command → Result (List ℕ) Error → Type 0 };
+
+    /// The text of the image that the command asks for.
+    fn draw(&self, alloc: Global, bytes: &[u8], command: Command) -> Result<String, Error>
+        ensures { MatchResult result
+            (λ text. answers bytes.now command (Ok (string_bytes text)))
+            (λ fault. answers bytes.now command (Err fault)) };
+}
+
 /// Carries out what the words ask for, which are the arguments without the program's name, and
 /// answers the status to end with: 0 where it is done, 1 where it fails, and 2 where the words are
-/// wrong, and then nothing is read. `draw` makes the text of the image from the bytes of the input.
-/// The output gets that text alone and `faults` a line on what failed, each as far as it can be
-/// written. An image of no channels is nothing: no stream is touched.
-pub fn run_with<R, W, E, F>(
+/// wrong, and then nothing is read. The drawer makes the text of the image from the bytes of the
+/// input. The output gets that text alone and `faults` a line on what failed, each as far as it can
+/// be written. An image of no channels is nothing: no stream is touched.
+pub fn run_with<R: Read, W: Write, E: Write, D: Draw>(
     alloc: Global,
     words: &[String],
     input: &mut R,
     output: &mut W,
     faults: &mut E,
-    draw: F,
+    drawer: &D,
 ) -> u8
-where
-    R: Read,
-    W: Write,
-    E: Write,
-    F: FnOnce(Global, &[u8], Command) -> Result<String, Error> + Drop,
-    requires { F.IsAlwaysCallable draw }
     ensures status { result ≤ 2 }
 
     // Wrong words: nothing is read, and the output stays.
@@ -66,38 +75,33 @@ where
 
     // Done: the output has the text that was drawn of all the input, and no fault is told.
     ensures done { result ≡ 0 → (c : Command) → AreFor (map string_bytes words.now) c → 0 < channels_of c
-        → IsDrawn string_bytes (λ bytes r. F.post draw alloc bytes c r)
+        → IsDrawn (λ bytes text. D.answers bytes c (Ok text))
         (R.remaining input.old) (R.remaining input.new) (W.contents output.old) (W.contents output.new) }
     ensures quiet { result ≡ 0 → faults.new ≡ faults.old }
 
     // A fault is told, and the output stays; or the output cannot be written, and nothing is told.
     ensures failed { result ≡ 1 → (output.new ≡ output.old) ⊎ (faults.new ≡ faults.old) }
 {
-    match carry_out(alloc, words, input, output, draw) {
+    match carry_out(alloc, words, input, output, drawer) {
         Ok(()) => 0,
         Err(failure) => report(faults, failure),
     }
 }
 
-fn carry_out<R, W, F>(
+fn carry_out<R: Read, W: Write, D: Draw>(
     alloc: Global,
     words: &[String],
     input: &mut R,
     output: &mut W,
-    draw: F,
+    drawer: &D,
 ) -> Result<(), Failure>
-where
-    R: Read,
-    W: Write,
-    F: FnOnce(Global, &[u8], Command) -> Result<String, Error> + Drop,
-    requires { F.IsAlwaysCallable draw }
     ensures wrong { IsErrOf result Failure.WrongArguments ↔ AreWrong (map string_bytes words.now) }
     ensures unread { IsErrOf result Failure.WrongArguments → input.new ≡ input.old }
     ensures kept { IfErr result (λ failure. failure ≢ Failure.Unwritable → output.new ≡ output.old) }
     ensures nothing { (c : Command) → AreFor (map string_bytes words.now) c → channels_of c ≡ 0
         → IsOk result × (input.new ≡ input.old) × (output.new ≡ output.old) }
     ensures done { OnOk result ((c : Command) → AreFor (map string_bytes words.now) c → 0 < channels_of c
-        → IsDrawn string_bytes (λ bytes r. F.post draw alloc bytes c r)
+        → IsDrawn (λ bytes text. D.answers bytes c (Ok text))
         (R.remaining input.old) (R.remaining input.new) (W.contents output.old) (W.contents output.new)) }
 {
     let Some(command) = Command::parse(words) else {
@@ -110,7 +114,7 @@ where
     if input.read_to_end(&mut bytes).is_err() {
         return Err(Failure::Unreadable);
     }
-    let text = draw(alloc, &bytes, command)?;
+    let text = drawer.draw(alloc, &bytes, command)?;
     write_text(output, text.as_str())
 }
 
@@ -144,10 +148,23 @@ pub fn report<E: Write>(faults: &mut E, failure: Failure) -> u8
 
 /// The words of the arguments: all but the first, which is the program's name. Arguments that are
 /// not text are wrong ones.
-pub fn words_of(alloc: Global, arguments: io::Result<Args>) -> Result<Vec<String>, Failure> {
+pub fn words_of(alloc: Global, arguments: io::Result<Args>) -> Result<Vec<String>, Failure>
+    ensures ok { IfOk result (λ words. IsOkAnd arguments (λ all. words.items ≡ drop 1 (into_iter_items all))) }
+    ensures wrong { IsErrOf result Failure.WrongArguments ↔ IsErrAnd arguments (λ e. error_kind e ≢ ErrorKind.OutOfMemory) }
+    ensures err { IfErr result (λ failure. (failure ≡ Failure.WrongArguments) ⊎ (failure ≡ Failure.Unreadable)) }
+{
     match arguments {
-        Ok(all) => all.skip(1).collect(alloc).map_err(|_| Failure::Unreadable),
+        Ok(all) => all_but_first(alloc, all).map_err(|_| Failure::Unreadable),
         Err(e) if e.kind() == ErrorKind::OutOfMemory => Err(Failure::Unreadable),
         Err(_) => Err(Failure::WrongArguments),
     }
 }
+
+fn all_but_first(alloc: Global, all: Args) -> Result<Vec<String>, AllocError>
+    ensures { IfOk result (λ words. words.items ≡ drop 1 (into_iter_items all)) }
+{
+    all.skip(1).collect(alloc)
+}
+
+#[cfg(test)]
+mod tests;
