@@ -25,6 +25,10 @@ pub record AsksDecode (words : List (List ℕ)) (width height channels bit_depth
   pub deep : Writes (slice_index_or words 4 []) bit_depth
   pub typed : slice_index_or words 5 [] ≡ samples_word samples
 
+-- how many channels the command asks for
+abbrev pub channels_of : Command → ℕ
+channels_of (Decode width height channels bit_depth samples) = channels
+
 -- the words ask for the command
 abbrev pub Asks : List (List ℕ) → Command → Type 0
 Asks words (Decode width height channels bit_depth samples) = AsksDecode words width height channels bit_depth samples
@@ -34,6 +38,10 @@ abbrev pub IsWithinLimits : Command → Type 0
 IsWithinLimits (Decode width height channels bit_depth samples) =
     (channels ≤ 2 ^ 20) × (bit_depth ≤ 32) × (0 < channels → (width ≤ 2 ^ 30) × (height ≤ 2 ^ 30))
 
--- the words ask for nothing that is within the limits
-abbrev pub IsWrong : List (List ℕ) → Type 0
-IsWrong words = (c : Command) → Asks words c → ¬ (IsWithinLimits c)
+-- the words ask for the command, and it is within the limits
+abbrev pub AreFor : List (List ℕ) → Command → Type 0
+AreFor words c = Asks words c × IsWithinLimits c
+
+-- the words are for no command
+abbrev pub AreWrong : List (List ℕ) → Type 0
+AreWrong words = (c : Command) → ¬ (AreFor words c)

@@ -1,3 +1,4 @@
 pub mod Arguments
 pub mod Decimals
 pub mod Printing
+pub mod Run

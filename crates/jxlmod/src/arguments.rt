@@ -68,7 +68,15 @@ pub enum Command {
 }
 
 impl Command {
-    ghost use Rattle.jxlmod.specs.Arguments.{IsWithinLimits, Asks, IsWrong};
+    ghost use Rattle.jxlmod.specs.Arguments.{AreFor, AreWrong, IsWithinLimits, channels_of};
+
+    /// How many channels are asked for.
+    pub fn channels(&self) -> u32
+        ensures { result ≡ channels_of self.now }
+    {
+        let Command::Decode { channels, .. } = *self;
+        channels
+    }
 
     /// Whether the library takes these numbers: at most 2^20 channels, sides of at most 2^30 where
     /// there is a channel, and a bit depth of at most 32.
@@ -88,8 +96,8 @@ impl Command {
 
     /// The command that the words ask for, without the program's name. It is within the limits.
     pub fn parse(words: &[String]) -> Option<Command>
-        ensures { MatchOption result (IsWrong (map string_bytes words.now))
-            (λ c. Asks (map string_bytes words.now) c × IsWithinLimits c) }
+        ensures { MatchOption result (AreWrong (map string_bytes words.now))
+            (AreFor (map string_bytes words.now)) }
     {
         let [name, width, height, channels, bit_depth, samples] = words else {
             return None;
@@ -109,5 +117,118 @@ impl Command {
         } else {
             None
         }
+    }
+}
+
+#[cfg(test)]
+mod tests {
+    use super::*;
+    use std::test::Fail;
+
+    // What is asked for by words with a space between each two.
+    fn asked(rt: &HostRuntime, line: &str) -> Result<Option<Command>, Fail> {
+        let mut words = Vec::new(rt.alloc());
+        for word in line.split(' ') {
+            words.push(String::from_str(rt.alloc(), word)?)?;
+        }
+        Ok(Command::parse(&words))
+    }
+
+    fn decode(width: u32, height: u32, channels: u32, bit_depth: u32) -> Option<Command> {
+        Some(Command::Decode {
+            width,
+            height,
+            channels,
+            bit_depth,
+            samples: Samples::I32,
+        })
+    }
+
+    #[test]
+    fn numbers_are_decimal_digits(rt: HostRuntime) {
+        for (text, number) in [
+            ("0", 0),
+            ("7", 7),
+            ("007", 7),
+            ("00000000000000000000001", 1),
+            ("4294967295", 4294967295),
+        ] {
+            assert_eq!(rt; super::number(text), Some(number), "{text}");
+        }
+        for text in [
+            "",
+            "+1",
+            "-1",
+            "1 ",
+            " 1",
+            "1x",
+            "0x1",
+            "4294967296",
+            "18446744073709551616",
+        ] {
+            assert_eq!(rt; super::number(text), None, "{text}");
+        }
+    }
+
+    #[test]
+    fn samples_are_named(rt: HostRuntime) {
+        assert_eq!(rt; Samples::parse("i16"), Some(Samples::I16));
+        assert_eq!(rt; Samples::parse("i32"), Some(Samples::I32));
+        for word in ["", "i8", "I32", "i32 ", "u32"] {
+            assert_eq!(rt; Samples::parse(word), None, "{word}");
+        }
+    }
+
+    #[test]
+    fn commands_within_the_limits_are_taken(rt: HostRuntime) -> Result<(), Fail> {
+        assert_eq!(rt; asked(&rt, "decode 2 3 1 8 i32")?, decode(2, 3, 1, 8));
+        assert_eq!(rt; asked(&rt, "decode 02 003 01 08 i32")?, decode(2, 3, 1, 8));
+        assert_eq!(rt; asked(&rt, "decode 0 0 1 0 i32")?, decode(0, 0, 1, 0));
+        let greatest = "decode 1073741824 1073741824 1048576 32 i32";
+        assert_eq!(rt;
+            asked(&rt, greatest)?,
+            decode(1 << 30, 1 << 30, 1 << 20, 32)
+        );
+        let no_channels = "decode 4294967295 4294967295 0 32 i32";
+        assert_eq!(rt; asked(&rt, no_channels)?, decode(u32::MAX, u32::MAX, 0, 32));
+        let small = Command::Decode {
+            width: 4,
+            height: 1,
+            channels: 1,
+            bit_depth: 8,
+            samples: Samples::I16,
+        };
+        assert_eq!(rt; asked(&rt, "decode 4 1 1 8 i16")?, Some(small));
+        assert_eq!(rt; small.channels(), 1);
+        Ok(())
+    }
+
+    #[test]
+    fn wrong_words_are_refused(rt: HostRuntime) -> Result<(), Fail> {
+        for line in [
+            "",
+            "decode",
+            "decode 2 2 1 8",
+            "decode 2 2 1 8 i32 256",
+            "Decode 2 2 1 8 i32",
+            "encode 2 2 1 8 i32",
+            "sections 2 2 1 8 i32",
+            "sections 3 1 1 8 i32 2",
+            "decode  2 1 8 i32",
+            "decode 2 +2 1 8 i32",
+            "decode 2 2 -1 8 i32",
+            "decode 2 2 1 8 i64",
+            "decode 2 2 1 8 ",
+            "decode 2 2 1048577 8 i32",
+            "decode 1073741825 2 1 8 i32",
+            "decode 2 1073741825 1 8 i32",
+            "decode 2 2 1 33 i32",
+            "decode 2 2 0 33 i32",
+            "decode 4294967296 2 0 8 i32",
+        ] {
+            assert_eq!(rt; asked(&rt, line)?, None, "{line}");
+        }
+        assert_eq!(rt; Command::parse(&Vec::new(rt.alloc())), None);
+        Ok(())
     }
 }

@@ -3,5 +3,12 @@
 
 mod arguments;
 mod printing;
+mod run;
 
-fn main() {}
+use run::Failure;
+use std::process::ExitCode;
+
+// No command can be carried out yet, so that all arguments are wrong ones.
+fn main(rt: HostRuntime) -> ExitCode {
+    ExitCode::from(run::report(&mut rt.stderr(), Failure::WrongArguments))
+}

@@ -1,0 +1,21 @@
+-- How the program ends.
+use Rattle.std.specs.Prelude.{ℕ, List, Option}
+use Rattle.std.specs.Io.KnownBytes.{Appends, Consumes, IsAtEnd}
+use Rattle.jxlmod.specs.declared.run.Failure.{Failure}
+use Rattle.jxlmod.specs.declared.run.Failure.TheVariants.{WrongArguments, Unreadable, Refused, Unwritable}
+
+-- the status with which the program ends after a failure
+abbrev pub status_of : Failure → ℕ
+status_of WrongArguments = 2
+status_of Unreadable = 1
+status_of (Refused e) = 1
+status_of Unwritable = 1
+
+-- the input was read to its end, from left to rest; a text was drawn of its bytes; the output, which held `held`, holds that text behind it
+pub record IsDrawn (draws : List ℕ → List ℕ → Type 0) (left rest held holds : Option (List ℕ)) : Type 0 where
+  pub bytes : List ℕ
+  pub text : List ℕ
+  pub read : Consumes left rest bytes
+  pub ended : IsAtEnd rest
+  pub drawn : draws bytes text
+  pub written : Appends held holds text

@@ -1,0 +1,170 @@
+//! The program over a reader and two writers.
+ghost use Rattle.std.specs.Prelude.{◌≡◌, ◌≢◌, ℕ, ◌<◌, ◌≤◌, ◌↔◌, ◌⊎◌, List, map, drop, Result, Ok, Err, MatchResult, string_bytes, IfOk, IfErr, IsOk, IsOkAnd, IsErrAnd, IsErrOf, IsOkUnless, OnOk};
+ghost use Rattle.std.specs.Io.KnownBytes.{Appends};
+ghost use Rattle.std.specs.IoError.{error_kind};
+ghost use Rattle.std.specs.Vec.Iter.{into_iter_items};
+ghost use Rattle.jxlm_base.specs.declared.error.Error.{Error};
+ghost use Rattle.jxlmod.specs.declared.arguments.Command.{Command};
+ghost use Rattle.jxlmod.specs.Arguments.{AreFor, AreWrong, channels_of};
+ghost use Rattle.jxlmod.specs.Run.{IsDrawn, status_of};
+
+use crate::arguments::{Command, USAGE};
+use jxlm_base::error::Error;
+use std::alloc::{AllocError, Global};
+use std::env::Args;
+use std::io;
+use std::io::{ErrorKind, Read, Write};
+
+/// Why the program did not do what it was asked.
+#[derive(Clone, Copy, Debug, PartialEq, Eq)]
+pub enum Failure {
+    /// The arguments ask for nothing that the program does.
+    WrongArguments,
+    /// The input cannot be read, or there is no memory for it.
+    Unreadable,
+    /// The image is refused.
+    Refused(Error),
+    /// The output cannot be written.
+    Unwritable,
+}
+
+impl From<Error> for Failure {
+    ghost use Rattle.jxlmod.specs.declared.run.Failure.TheVariants.{Refused};
+
+    ghost from_gives = { λ fault failure. failure ≡ Refused fault };
+
+    fn from(fault: Error) -> Failure {
+        Failure::Refused(fault)
+    }
+}
+
+/// What makes the text of an image from the bytes of the input.
+pub trait Draw {
+    // what may be answered for the bytes and the command: a text or a fault
+    ghost answers: { List ℕ → Command → Result (List ℕ) Error → Type 0 };
+
+    /// The text of the image that the command asks for.
+    fn draw(&self, alloc: Global, bytes: &[u8], command: Command) -> Result<String, Error>
+        ensures { MatchResult result
+            (λ text. answers bytes.now command (Ok (string_bytes text)))
+            (λ fault. answers bytes.now command (Err fault)) };
+}
+
+/// Carries out what the words ask for, which are the arguments without the program's name, and
+/// answers the status to end with: 0 where it is done, 1 where it fails, and 2 where the words are
+/// wrong, and then nothing is read. The drawer makes the text of the image from the bytes of the
+/// input. The output gets that text alone and `faults` a line on what failed, each as far as it can
+/// be written. An image of no channels is nothing: no stream is touched.
+pub fn run_with<R: Read, W: Write, E: Write, D: Draw>(
+    alloc: Global,
+    words: &[String],
+    input: &mut R,
+    output: &mut W,
+    faults: &mut E,
+    drawer: &D,
+) -> u8
+    ensures status { result ≤ 2 }
+
+    // Wrong words: nothing is read, and the output stays.
+    ensures wrong { (result ≡ 2) ↔ AreWrong (map string_bytes words.now) }
+    ensures unread { result ≡ 2 → (input.new ≡ input.old) × (output.new ≡ output.old) }
+
+    // No channels: nothing is done.
+    ensures nothing { (c : Command) → AreFor (map string_bytes words.now) c → channels_of c ≡ 0
+        → (result ≡ 0) × (input.new ≡ input.old) × (output.new ≡ output.old) × (faults.new ≡ faults.old) }
+
+    // Done: the output has the text that was drawn of all the input, and no fault is told.
+    ensures done { result ≡ 0 → (c : Command) → AreFor (map string_bytes words.now) c → 0 < channels_of c
+        → IsDrawn (λ bytes text. D.answers bytes c (Ok text))
+        (R.remaining input.old) (R.remaining input.new) (W.contents output.old) (W.contents output.new) }
+    ensures quiet { result ≡ 0 → faults.new ≡ faults.old }
+
+    // A fault is told, and the output stays; or the output cannot be written, and nothing is told.
+    ensures failed { result ≡ 1 → (output.new ≡ output.old) ⊎ (faults.new ≡ faults.old) }
+{
+    match carry_out(alloc, words, input, output, drawer) {
+        Ok(()) => 0,
+        Err(failure) => report(faults, failure),
+    }
+}
+
+fn carry_out<R: Read, W: Write, D: Draw>(
+    alloc: Global,
+    words: &[String],
+    input: &mut R,
+    output: &mut W,
+    drawer: &D,
+) -> Result<(), Failure>
+    ensures wrong { IsErrOf result Failure.WrongArguments ↔ AreWrong (map string_bytes words.now) }
+    ensures unread { IsErrOf result Failure.WrongArguments → input.new ≡ input.old }
+    ensures kept { IfErr result (λ failure. failure ≢ Failure.Unwritable → output.new ≡ output.old) }
+    ensures nothing { (c : Command) → AreFor (map string_bytes words.now) c → channels_of c ≡ 0
+        → IsOk result × (input.new ≡ input.old) × (output.new ≡ output.old) }
+    ensures done { OnOk result ((c : Command) → AreFor (map string_bytes words.now) c → 0 < channels_of c
+        → IsDrawn (λ bytes text. D.answers bytes c (Ok text))
+        (R.remaining input.old) (R.remaining input.new) (W.contents output.old) (W.contents output.new)) }
+{
+    let Some(command) = Command::parse(words) else {
+        return Err(Failure::WrongArguments);
+    };
+    if command.channels() == 0 {
+        return Ok(());
+    }
+    let mut bytes = Vec::new(alloc);
+    if input.read_to_end(&mut bytes).is_err() {
+        return Err(Failure::Unreadable);
+    }
+    let text = drawer.draw(alloc, &bytes, command)?;
+    write_text(output, text.as_str())
+}
+
+fn write_text<W: Write>(output: &mut W, text: &str) -> Result<(), Failure>
+    ensures ok { OnOk result (Appends (W.contents output.old) (W.contents output.new) text.now) }
+    ensures err { IsOkUnless result Failure.Unwritable }
+{
+    if output.write_all(text.as_bytes()).is_err() || output.flush().is_err() {
+        return Err(Failure::Unwritable);
+    }
+    Ok(())
+}
+
+/// Writes the line of a failure, as far as it can be written, and answers the status to end with.
+/// Of output that cannot be written nothing is said.
+pub fn report<E: Write>(faults: &mut E, failure: Failure) -> u8
+    ensures status { result ≡ status_of failure }
+    ensures silent { failure ≡ Failure.Unwritable → faults.new ≡ faults.old }
+{
+    let _ = match failure {
+        Failure::WrongArguments => writeln!(faults, "{USAGE}"),
+        Failure::Unreadable => writeln!(faults, "error: cannot read standard input"),
+        Failure::Refused(fault) => writeln!(faults, "error: {fault}"),
+        Failure::Unwritable => Ok(()),
+    };
+    match failure {
+        Failure::WrongArguments => 2,
+        _ => 1,
+    }
+}
+
+/// The words of the arguments: all but the first, which is the program's name. Arguments that are
+/// not text are wrong ones.
+pub fn words_of(alloc: Global, arguments: io::Result<Args>) -> Result<Vec<String>, Failure>
+    ensures ok { IfOk result (λ words. IsOkAnd arguments (λ all. words.items ≡ drop 1 (into_iter_items all))) }
+    ensures wrong { IsErrOf result Failure.WrongArguments ↔ IsErrAnd arguments (λ e. error_kind e ≢ ErrorKind.OutOfMemory) }
+    ensures err { IfErr result (λ failure. (failure ≡ Failure.WrongArguments) ⊎ (failure ≡ Failure.Unreadable)) }
+{
+    match arguments {
+        Ok(all) => all_but_first(alloc, all).map_err(|_| Failure::Unreadable),
+        Err(e) if e.kind() == ErrorKind::OutOfMemory => Err(Failure::Unreadable),
+        Err(_) => Err(Failure::WrongArguments),
+    }
+}
+
+fn all_but_first(alloc: Global, all: Args) -> Result<Vec<String>, AllocError>
+    ensures { IfOk result (λ words. words.items ≡ drop 1 (into_iter_items all)) }
+{
+    all.skip(1).collect(alloc)
+}
+
+#[cfg(test)]
+mod tests;

@@ -1,0 +1,245 @@
+// What no clause says: the lines on standard error, and faults of the streams.
+ghost use Rattle.std.specs.Prelude.{◌≡◌, IfOk, IsErr};
+
+use super::*;
+use jxlm_base::bits::BitstreamError;
+use jxlm_base::decoder::DecoderError;
+use jxlm_base::grid::OutOfMemory;
+use std::test::Fail;
+
+const USAGE_LINE: &str =
+    "usage: jxlmod decode W H N BITS i16|i32 | jxlmod sections W H N BITS i16|i32 GROUP_DIM\n";
+
+// Gives its bytes, and then fails.
+#[derive(Drop)]
+struct CutReader<'a> {
+    bytes: &'a [u8],
+}
+
+impl Read for CutReader<'_> {
+    fn read(&mut self, buf: &mut [u8]) -> io::Result<usize> {
+        let n = self.bytes.read(buf)?;
+        if n == 0 && !buf.is_empty() {
+            return Err(io::Error::from(ErrorKind::Other));
+        }
+        Ok(n)
+    }
+}
+
+// Takes one byte in each call, as long as there is room.
+#[derive(Drop)]
+struct SmallWriter {
+    taken: Vec<u8>,
+    room: usize,
+}
+
+impl Write for SmallWriter {
+    fn write(&mut self, buf: &[u8]) -> io::Result<usize> {
+        if self.taken.len() >= self.room {
+            return Err(io::Error::from(ErrorKind::Other));
+        }
+        if buf.is_empty() {
+            return Ok(0);
+        }
+        self.taken.push(buf[0])?;
+        Ok(1)
+    }
+
+    fn flush(&mut self) -> io::Result<()> {
+        Ok(())
+    }
+}
+
+fn words(alloc: Global, line: &str) -> Result<Vec<String>, Fail> {
+    let mut words = Vec::new(alloc);
+    for word in line.split(' ') {
+        words.push(String::from_str(alloc, word)?)?;
+    }
+    Ok(words)
+}
+
+// The text is that of the input.
+#[derive(Drop)]
+struct Echo;
+
+impl Draw for Echo {
+    ghost answers = { λ bytes command answer. IfOk answer (λ text. text ≡ bytes) };
+
+    fn draw(&self, alloc: Global, bytes: &[u8], _command: Command) -> Result<String, Error> {
+        match std::str::from_utf8(bytes) {
+            Ok(text) => match String::from_str(alloc, text) {
+                Ok(text) => Ok(text),
+                Err(_) => Err(Error::Buffer(OutOfMemory)),
+            },
+            Err(_) => Err(Error::InvalidMaTree),
+        }
+    }
+}
+
+// Every image is refused.
+#[derive(Drop)]
+struct Refuses {
+    fault: Error,
+}
+
+impl Draw for Refuses {
+    ghost answers = { λ bytes command answer. IsErr answer };
+
+    fn draw(&self, _alloc: Global, _bytes: &[u8], _command: Command) -> Result<String, Error> {
+        Err(self.fault)
+    }
+}
+
+#[test]
+fn writes_what_is_drawn(rt: HostRuntime) -> Result<(), Fail> {
+    let alloc = rt.alloc();
+    let words = words(alloc, "decode 2 2 1 8 i32")?;
+    let mut input = b"channel 0 1x1\n5\n".as_slice();
+    let mut output = Vec::new(alloc);
+    let mut faults = Vec::new(alloc);
+    let status = run_with(alloc, &words, &mut input, &mut output, &mut faults, &Echo);
+    assert_eq!(rt; status, 0);
+    assert_eq!(rt; output.as_slice(), b"channel 0 1x1\n5\n".as_slice());
+    assert_eq!(rt; faults.len(), 0);
+    Ok(())
+}
+
+#[test]
+fn reads_nothing_for_no_channels(rt: HostRuntime) -> Result<(), Fail> {
+    let alloc = rt.alloc();
+    let words = words(alloc, "decode 4294967295 2 0 8 i32")?;
+    let mut input = CutReader { bytes: b"" };
+    let mut output = Vec::new(alloc);
+    let mut faults = Vec::new(alloc);
+    let status = run_with(alloc, &words, &mut input, &mut output, &mut faults, &Echo);
+    assert_eq!(rt; (status, output.len(), faults.len()), (0, 0, 0));
+    Ok(())
+}
+
+#[test]
+fn wrong_words_are_answered_first(rt: HostRuntime) -> Result<(), Fail> {
+    let alloc = rt.alloc();
+    for line in ["", "decode", "decode 2 2 1 8 i64", "sections 3 1 1 8 i32 2"] {
+        let words = words(alloc, line)?;
+        let mut input = CutReader { bytes: b"" };
+        let mut output = Vec::new(alloc);
+        let mut faults = Vec::new(alloc);
+        let status = run_with(alloc, &words, &mut input, &mut output, &mut faults, &Echo);
+        assert_eq!(rt; (status, output.len()), (2, 0), "{line}");
+        assert_eq!(rt; faults.as_slice(), USAGE_LINE.as_bytes(), "{line}");
+    }
+    Ok(())
+}
+
+#[test]
+fn input_that_is_cut_off_is_told(rt: HostRuntime) -> Result<(), Fail> {
+    let alloc = rt.alloc();
+    let words = words(alloc, "decode 2 2 1 8 i32")?;
+    for bytes in [b"".as_slice(), b"channel".as_slice()] {
+        let mut input = CutReader { bytes };
+        let mut output = Vec::new(alloc);
+        let mut faults = Vec::new(alloc);
+        let status = run_with(alloc, &words, &mut input, &mut output, &mut faults, &Echo);
+        assert_eq!(rt; (status, output.len()), (1, 0));
+        assert_eq!(rt;
+            faults.as_slice(),
+            b"error: cannot read standard input\n".as_slice()
+        );
+    }
+    Ok(())
+}
+
+#[test]
+fn output_that_is_full_is_an_error(rt: HostRuntime) -> Result<(), Fail> {
+    let alloc = rt.alloc();
+    let words = words(alloc, "decode 2 2 1 8 i32")?;
+    for (room, status) in [(0, 1), (3, 1), (4, 0)] {
+        let mut input = b"1 2\n".as_slice();
+        let taken = Vec::new(alloc);
+        let mut output = SmallWriter { taken, room };
+        let mut faults = Vec::new(alloc);
+        let ended = run_with(alloc, &words, &mut input, &mut output, &mut faults, &Echo);
+        assert_eq!(rt; (ended, output.taken.len()), (status, room));
+        assert_eq!(rt; faults.len(), 0);
+    }
+    Ok(())
+}
+
+#[test]
+fn each_fault_is_one_line(rt: HostRuntime) -> Result<(), Fail> {
+    let alloc = rt.alloc();
+    let words = words(alloc, "decode 2 2 1 8 i32")?;
+    let bad_enum = BitstreamError::InvalidEnum {
+        name: "TransformId",
+        value: 3,
+    };
+    for (fault, line) in [
+        (
+            Error::InvalidRctParams,
+            "error: invalid Rct transform parameters\n",
+        ),
+        (
+            Error::Bitstream(BitstreamError::UnexpectedEof),
+            "error: bitstream error: unexpected end of input\n",
+        ),
+        (
+            Error::Bitstream(bad_enum),
+            "error: bitstream error: invalid enum value 3 for TransformId\n",
+        ),
+        (
+            Error::Decoder(DecoderError::UnexpectedEof),
+            "error: entropy decoder error: unexpected end of input\n",
+        ),
+        (
+            Error::Decoder(DecoderError::Invalid(4)),
+            "error: entropy decoder error: invalid code 4\n",
+        ),
+        (Error::Buffer(OutOfMemory), "error: out of memory\n"),
+    ] {
+        let mut input = b"".as_slice();
+        let mut output = Vec::new(alloc);
+        let mut faults = Vec::new(alloc);
+        let drawer = Refuses { fault };
+        let status = run_with(alloc, &words, &mut input, &mut output, &mut faults, &drawer);
+        assert_eq!(rt; (status, output.len()), (1, 0), "{line}");
+        assert_eq!(rt; faults.as_slice(), line.as_bytes(), "{line}");
+    }
+    Ok(())
+}
+
+#[test]
+fn faults_that_cannot_be_told_keep_their_status(rt: HostRuntime) -> Result<(), Fail> {
+    let alloc = rt.alloc();
+    let taken = Vec::new(alloc);
+    let mut faults = SmallWriter { taken, room: 5 };
+    assert_eq!(rt; report(&mut faults, Failure::WrongArguments), 2);
+    assert_eq!(rt; faults.taken.as_slice(), b"usage".as_slice());
+    assert_eq!(rt; report(&mut faults, Failure::Unreadable), 1);
+    assert_eq!(rt; faults.taken.len(), 5);
+    Ok(())
+}
+
+#[test]
+fn the_first_argument_is_left_out(rt: HostRuntime) -> Result<(), Fail> {
+    let alloc = rt.alloc();
+    let all = words(alloc, "jxlmod decode 2")?;
+    let left = match words_of(alloc, Ok(all.into_iter())) {
+        Ok(left) => left,
+        Err(_) => return Err(Fail::from("refused")),
+    };
+    assert_eq!(rt; left.len(), 2);
+    assert_eq!(rt; left[0].as_str(), "decode");
+    assert_eq!(rt; left[1].as_str(), "2");
+    let none = words_of(alloc, Ok(Vec::new(alloc).into_iter()));
+    assert!(rt; none.is_ok_and(|words| words.is_empty()));
+    Ok(())
+}
+
+#[test]
+fn arguments_that_fail_are_told_apart(rt: HostRuntime) {
+    let alloc = rt.alloc();
+    let not_text = words_of(alloc, Err(io::Error::from(ErrorKind::InvalidData)));
+    assert!(rt; not_text.is_err_and(|failure| failure == Failure::WrongArguments));
+    let no_memory = words_of(alloc, Err(io::Error::from(ErrorKind::OutOfMemory)));
+    assert!(rt; no_memory.is_err_and(|failure| failure == Failure::Unreadable));
+}
