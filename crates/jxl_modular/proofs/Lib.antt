@@ -1,8 +1,11 @@
+pub mod Counts
+pub mod Layouts
 pub mod Loops
 pub mod OneLeaf
 pub mod Progress
 pub mod Samples
 pub mod Prefixes
+pub mod PartLaws
 pub mod Places
 pub mod TokenLaw
 pub mod Whole

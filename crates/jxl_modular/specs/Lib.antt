@@ -1,8 +1,11 @@
 pub mod Part
+pub mod Chain
 pub mod Rule
 pub mod Coded
 pub mod Decode
 pub mod Image
+pub mod Parts
+pub mod Samples
 pub mod Layout
 pub mod Progress
 pub mod Reading

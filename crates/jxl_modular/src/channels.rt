@@ -1,6 +1,8 @@
 //! The channels of an image.
 
-ghost use Rattle.std.specs.Prelude.{◌≡◌};
+ghost use Rattle.std.specs.Prelude.{◌≡◌, ◌<◌, ◌↔◌, IsTrue};
+ghost use Rattle.jxl_modular.specs.Layout.{channels_of};
+ghost use Rattle.jxl_modular.specs.Part.{cell_count, greatest_width as the_greatest_width};
 
 use jxlm_transform::param::ChannelShift;
 
@@ -30,4 +32,29 @@ impl ModularChannelInfo {
     {
         (self.original_width, self.original_height)
     }
+}
+
+/// The greatest width of the channels, also of those without samples; 0 where there are none.
+pub(crate) fn greatest_width(channels: &[ModularChannelInfo]) -> u32
+    ensures { result ≡ the_greatest_width (channels_of channels.now) }
+{
+    let mut widest = 0;
+    for channel in channels {
+        if channel.width > widest {
+            widest = channel.width;
+        }
+    }
+    widest
+}
+
+/// Whether some of the channels has samples.
+pub(crate) fn have_samples(channels: &[ModularChannelInfo]) -> bool
+    ensures { IsTrue result ↔ (0 < cell_count (channels_of channels.now)) }
+{
+    for channel in channels {
+        if channel.width > 0 && channel.height > 0 {
+            return true;
+        }
+    }
+    false
 }

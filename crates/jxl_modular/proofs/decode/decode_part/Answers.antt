@@ -11,7 +11,7 @@ returns-in_err-begin-clause-err g c =
     let fails = c.in_err-begin.ensures.gives in
     rw (p.1, p.2, fails.1)
     (refused_at_begin g.D.Decoder.meaning g.S.Sealed.width (bytes_of c.args.bits.now) c.args.leaf c.args.multiplier c.args.regions.now c.args.decoder.now (store_meanings g.S.Sealed.to_int c.args.store.now)
-      (position_of c.args.bits.now) _ fails.0)
+    (position_of c.args.bits.now) _ fails.0)
 
 pub returns-in_err-decode_channels-clause-err : goal.returns-in_err-decode_channels-clause-err
 returns-in_err-decode_channels-clause-err g c =
@@ -19,7 +19,7 @@ returns-in_err-decode_channels-clause-err g c =
     let stops = rw c.in_ok-begin.ensures.bytes at c.in_err-decode_channels.ensures.err in
     rw (p.1, p.2)
     (refused_at_read g.D.Decoder.meaning g.S.Sealed.width (bytes_of c.args.bits.now) c.args.leaf c.args.multiplier c.args.regions.now c.args.decoder.now (store_meanings g.S.Sealed.to_int c.args.store.now)
-      (position_of c.args.bits.now) _ _ _ _ c.in_ok-begin.ensures.gives stops)
+    (position_of c.args.bits.now) _ _ _ _ c.in_ok-begin.ensures.gives stops)
 
 pub returns-in_err-finalize-clause-err : goal.returns-in_err-finalize-clause-err
 returns-in_err-finalize-clause-err g c =
@@ -27,7 +27,7 @@ returns-in_err-finalize-clause-err g c =
     let goes = rw c.in_ok-begin.ensures.bytes at c.in_ok-decode_channels.ensures.ok in
     rw (p.1, p.2)
     (refused_at_end g.D.Decoder.meaning g.S.Sealed.width (bytes_of c.args.bits.now) c.args.leaf c.args.multiplier c.args.regions.now c.args.decoder.now (store_meanings g.S.Sealed.to_int c.args.store.now)
-      (position_of c.args.bits.now) _ _ _ _ _ c.in_ok-begin.ensures.gives goes (sym c.in_err-finalize.ensures))
+    (position_of c.args.bits.now) _ _ _ _ _ c.in_ok-begin.ensures.gives goes (sym c.in_err-finalize.ensures))
 
 pub returns-clause-ok : goal.returns-clause-ok
 returns-clause-ok g c =

@@ -1,0 +1,79 @@
+-- The part of all coded channels of an image.
+use Rattle.std.proofs.Common.{◌≡◌, ◌≢◌, ℕ, zero, suc, ◌+◌, ◌<◌, List, [], ◌∷◌, ◌++◌, length, take, drop, Bool, refl, sym, ap, ◌∙◌, subst, arith, ℤ}
+use Rattle.std.specs.Prelude.{get_or}
+use Rattle.std.proofs.Math.Seq.{take-append_seam}
+use Rattle.std.specs.Int.{Width}
+use Rattle.jxlm_base.specs.Decoding.{Meaning}
+use Rattle.jxlm_base.specs.Grid.{Grid, grid, IsFull}
+use Rattle.jxlm_base.specs.Regions.{store_meanings, AllLie, LieApart}
+use Rattle.jxlm_base.specs.declared.decoder.DecoderError.{DecoderError}
+use Rattle.jxlm_base.specs.declared.decoder.DecoderError.TheVariants.{UnexpectedEof, Invalid, OutOfMemory}
+use Rattle.jxlm_base.specs.declared.subgrid.Region.{Region}
+use Rattle.jxlm_tree.specs.Tree.{leaf}
+use Rattle.jxlm_tree.specs.declared.flat.Leaf.{Leaf}
+use Rattle.jxl_modular.specs.Image.{Image, IsLaidOut, coded_grids, whole_part, samples_in}
+use Rattle.jxl_modular.specs.Layout.{channels_of, layout}
+use Rattle.jxl_modular.specs.Part.{Channel, Fits, greatest_width, cell_count}
+use Rattle.jxl_modular.specs.Progress.{SameSizes, Suits, grids_in, DecodesAll, DecodesSome, KeepsOutside, buffer_at}
+use Rattle.jxl_modular.specs.Samples.{DecodesSamples, FailsAtOnePlace, RefusesSamples}
+use Rattle.jxl_modular.proofs.Layouts.{layout_lies, layout_apart, layout_grids, same_sizes, fits_meanings}
+
+module _ {S D : Type 0} (x : Image S D) (laid : IsLaidOut x) where
+  pub coded_lie : AllLie x.coded x.store
+  coded_lie = subst (λ (rs : List Region). AllLie rs x.store) (sym laid.regions) (layout_lies (channels_of x.channels) x.store laid.sizes)
+
+  pub coded_apart : LieApart x.coded
+  coded_apart = subst LieApart (sym laid.regions) (layout_apart (channels_of x.channels) x.store laid.sizes)
+
+  pub suits_whole : (stream m : ℕ) (l : Leaf) → x.config.tree ≡ leaf l → m ≡ greatest_width (channels_of x.channels) → Suits (whole_part x stream) x.coded l m
+  suits_whole stream m l is_leaf widest = record {
+    sizes = subst (SameSizes (channels_of x.channels)) (sym laid.regions) (same_sizes (channels_of x.channels) 0);
+    one_leaf = is_leaf;
+    widest = sym widest;
+  }
+
+  -- the grids of the coded channels are those of the store
+  pub coded_are_store : (f : S → ℤ) → coded_grids f x ≡ store_meanings f x.store
+  coded_are_store f =
+      ap (λ (rs : List Region). grids_in rs (store_meanings f x.store)) laid.regions
+      ∙ layout_grids (channels_of x.channels) (store_meanings f x.store) (fits_meanings f (channels_of x.channels) x.store laid.sizes)
+
+  pub coded_fit : (f : S → ℤ) → Fits (channels_of x.channels) (coded_grids f x)
+  coded_fit f = subst (Fits (channels_of x.channels)) (sym (coded_are_store f)) (fits_meanings f (channels_of x.channels) x.store laid.sizes)
+
+-- buffers keep their sizes
+kept : {X : Type 0} (cs : List Channel) (old new : List (Grid X)) → length new ≡ length old →
+    ((b : ℕ) → (buffer_at new b).width ≡ (buffer_at old b).width) → ((b : ℕ) → (buffer_at new b).height ≡ (buffer_at old b).height) →
+    ((b : ℕ) → IsFull (buffer_at old b) → IsFull (buffer_at new b)) → Fits cs old → Fits cs new
+kept [] [] [] n w h f fit = fit
+kept [] [] (g ∷ gs) n w h f fit = absurd (omega arith)
+kept [] (o ∷ os) new n w h f fit = absurd fit
+kept (c ∷ cs) [] new n w h f fit = absurd fit
+kept (c ∷ cs) (o ∷ os) [] n w h f fit = absurd (omega arith)
+kept (c ∷ cs) (o ∷ os) (g ∷ gs) n w h f fit =
+    (w 0 ∙ fit.0, h 0 ∙ fit.1, f 0 fit.2, kept cs os gs (omega arith) (λ b. w (suc b)) (λ b. h (suc b)) (λ b. f (suc b)) fit.3)
+
+pub fits_kept : {X : Type 0} (rs : List Region) (cs : List Channel) (old new : List (Grid X)) → KeepsOutside rs old new → Fits cs old → Fits cs new
+fits_kept rs cs old new k fit = kept cs old new k.count k.width k.height k.full fit
+
+-- a list written over whole
+pub refilled : {X : Type 0} (n : ℕ) (xs ys : List X) → n ≡ length ys → length xs ≡ length ys → take n (xs ++ drop (length xs) ys) ≡ xs
+refilled n xs ys a b =
+    ap (λ k. take k (xs ++ drop (length xs) ys)) (a ∙ sym b) ∙ take-append_seam xs (drop (length xs) ys)
+
+abbrev pub with_store : {S D : Type 0} → Image S D → List (Grid S) → Image S D
+with_store x s = record x { store = s }
+
+module _ {S D : Type 0} (d : Meaning D) (w : Width) (to_int : S → ℤ) (bytes : List ℕ) (old : Image S D) (s : List (Grid S)) (p q m : ℕ) (l : Leaf)
+    (laid : IsLaidOut old) (is_leaf : old.config.tree ≡ leaf l) (widest : m ≡ greatest_width (channels_of old.channels)) where
+  pub decodes_samples : DecodesAll d w bytes l m old.coded old.config.decoder (store_meanings to_int old.store) p (store_meanings to_int s) q → DecodesSamples d w to_int bytes old p (with_store old s) q
+  decodes_samples all stream = all (whole_part old stream) (suits_whole old laid stream m l is_leaf widest) (coded_fit old laid to_int)
+
+  fails_samples : (e : DecoderError) → DecodesSome d w bytes l m old.coded old.config.decoder (store_meanings to_int old.store) p (store_meanings to_int s) q e → FailsAtOnePlace d w to_int bytes old p (with_store old s) q e
+  fails_samples e some stream partial cells = some (whole_part old stream) partial (suits_whole old laid stream m l is_leaf widest) (coded_fit old laid to_int) cells
+
+  pub refuses_samples : (e : DecoderError) → e ≢ OutOfMemory → DecodesSome d w bytes l m old.coded old.config.decoder (store_meanings to_int old.store) p (store_meanings to_int s) q e →
+      RefusesSamples d w to_int bytes old p (with_store old s) q e
+  refuses_samples UnexpectedEof ne some = fails_samples UnexpectedEof some
+  refuses_samples (Invalid k) ne some = fails_samples (Invalid k) some
+  refuses_samples OutOfMemory ne some = absurd (ne refl)

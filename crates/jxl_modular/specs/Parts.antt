@@ -1,0 +1,36 @@
+-- A part of an image, and what a call on it leaves.
+use Rattle.std.specs.Prelude.{◌≡◌, ℕ, ℤ, List, Bool, Result}
+use Rattle.std.specs.Borrow.{Fml, RattleType, MutBor, RestsIfErr, GName}
+use Rattle.jxlm_base.specs.Grid.{Grid}
+use Rattle.jxlm_base.specs.Regions.{store_meanings}
+use Rattle.jxl_modular.specs.Decode.{Standing}
+use Rattle.jxl_modular.specs.Image.{Image, coded_grids}
+use Rattle.jxl_modular.specs.Progress.{KeepsOutside}
+use Rattle.jxl_modular.specs.declared.image.TransformedModularSubimage.{TransformedModularSubimage}
+
+module _ {S D : Type 0} where
+  -- the image that the part is of, as it is now, and the name of its borrow
+  abbrev pub image_of : TransformedModularSubimage S D → Image S D
+  image_of part = part.image.now
+
+  abbrev pub loan : TransformedModularSubimage S D → GName
+  loan part = part.image.ghost_name
+
+  -- whether samples of the part are still to be decoded
+  abbrev pub is_partial : TransformedModularSubimage S D → Bool
+  is_partial part = part.partial
+
+  -- what decoding changes, with the reader's place
+  abbrev pub standing : (S → ℤ) → TransformedModularSubimage S D → ℕ → Standing
+  standing to_int part p = record { position = p; grids = coded_grids to_int (image_of part); partial = is_partial part }
+
+  -- Only samples of the coded channels may differ: header, tree, channels and regions are as before, and so are all cells outside the regions.
+  pub record SameButSamples (old new : Image S D) : Type 0 where
+    pub header : new.header ≡ old.header
+    pub config : new.config ≡ old.config
+    pub group_dim : new.group_dim ≡ old.group_dim
+    pub bit_depth : new.bit_depth ≡ old.bit_depth
+    pub channels : new.channels ≡ old.channels
+    pub nb_meta : new.nb_meta ≡ old.nb_meta
+    pub coded : new.coded ≡ old.coded
+    pub outside : KeepsOutside old.coded old.store new.store
