@@ -1,12 +1,13 @@
 -- Grids by coordinates.
 use Rattle.std.proofs.Common.{◌≡◌, ℕ, suc, zero, ◌+◌, ◌*◌, ◌<◌, List, ◌++◌, length, ℤ, pos, Some, sym, refl, ap, ◌∙◌, arith}
-use Rattle.std.specs.Prelude.{get_or, map}
+use Rattle.std.specs.Prelude.{get_or, map, slice_get, replicate}
 use Rattle.std.specs.List.{flat_map, range_with_len}
 use Rattle.std.proofs.Math.ListN.{length-append}
 use Rattle.std.proofs.lemmas.List.{get_or_append_left, get_or-append-add}
 use Rattle.std.proofs.lemmas.List.FromFn.{length-map-range_with_len, get_or-map-range_with_len}
 use Rattle.std.proofs.lemmas.Option.{slice_get-get_or, get_or_from_slice_get}
-use Rattle.jxlm_base.specs.Grid.{Grid, grid_by, at, below, cell, place, IsFull}
+use Rattle.std.proofs.lemmas.Nat.{mul-add-lt}
+use Rattle.jxlm_base.specs.Grid.{Grid, grid_by, at, below, cell, place, filled, IsFull}
 use Rattle.jxlm_base.proofs.Cells.{grid_same, place_within}
 
 module _ {S : Type 0} where
@@ -53,6 +54,16 @@ module _ {S : Type 0} where
   grid_by_same w h f g same =
       grid_same (grid_by w h f) (grid_by w h g) (IsFull-grid_by w h f) (IsFull-grid_by w h g) refl refl
       (λ x y p q. cell-grid_by w h f x y p q ∙ ap Some (same x y p q) ∙ sym (cell-grid_by w h g x y p q))
+
+module _ {S : Type 0} where
+  slice_get-replicate : (n k : ℕ) (v : S) → k < n → slice_get (replicate n v) k ≡ Some v
+  slice_get-replicate zero k v h = absurd (omega arith)
+  slice_get-replicate (suc n) zero v h = refl
+  slice_get-replicate (suc n) (suc k) v h = slice_get-replicate n k v (omega arith)
+
+  -- each cell of a new grid
+  pub cell-filled : (w h : ℕ) (v : S) (x y : ℕ) → x < w → y < h → cell (filled w h v) x y ≡ Some v
+  cell-filled w h v x y p q = slice_get-replicate (w * h) (y * w + x) v (mul-add-lt y w x h q p)
 
 -- ---- the numbers of a grid
 

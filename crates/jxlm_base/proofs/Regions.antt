@@ -5,9 +5,9 @@ use Rattle.std.specs.Option.{unwrap_or, option_map}
 use Rattle.std.proofs.lemmas.Option.{unwrap_or-slice_get, slice_get-map}
 use Rattle.std.proofs.Math.ListN.{length-set}
 use Rattle.std.proofs.lemmas.Bool.{cases_eq, cases_lt}
-use Rattle.std.proofs.lemmas.List.{get_or-set_same, get_or-set_other, get_or-map, length-map, same_lists}
+use Rattle.std.proofs.lemmas.List.{get_or-set_same, get_or-set_other, get_or-map, get_or_default, length-map, same_lists}
 use Rattle.jxlm_base.specs.Grid.{Grid, grid, at, cell, place, IsFull, with_cell, meanings}
-use Rattle.jxlm_base.specs.Regions.{Region, buffer_of, region_cell, with_region_cell, Lies, AllLie, IsWhole, store_meanings, grid_of, HasCell, AreApart, LieApart}
+use Rattle.jxlm_base.specs.Regions.{Region, region, buffer_of, region_cell, with_region_cell, Lies, AllLie, IsWhole, store_meanings, grid_of, HasCell, AreApart, LieApart}
 use Rattle.jxlm_base.proofs.Cells.{grid_same, cell-with_cell_same, cell-with_cell_other, IsFull-with_cell}
 use Rattle.jxlm_base.proofs.GridLaws.{IsFull-grid_by, cell-grid_by, grid_by_same, at_from_cell, cell_from_at, at-grid_by}
 
@@ -240,3 +240,36 @@ pub cell-grid_of_read : {S : Type 0} (f : S → ℤ) (store : List (Grid S)) (r 
 cell-grid_of_read f store r x y v p q h =
     cell-grid_of (store_meanings f store) r x y p q
     ∙ ap Some (ap (λ g. at g (r.x + x) (r.y + y)) (buffer_of-meanings f store r) ∙ at_from_cell (meanings f (buffer_of store r)) (r.x + x) (r.y + y) (f v) (cell-meanings f (buffer_of store r) (r.x + x) (r.y + y) v h))
+
+-- ---- a store of samples, seen through what they stand for
+
+module _ {S : Type 0} (f : S → ℤ) (store : List (Grid S)) where
+  -- a write to one cell of a region, as the region's grid sees it, and as regions apart from it do
+  pub grid_of_set : (r : Region) (x y : ℕ) (v : S) → Lies r store → x < r.width → y < r.height →
+      grid_of (store_meanings f (with_region_cell store r x y v)) r ≡ with_cell (grid_of (store_meanings f store) r) x y (f v)
+  grid_of_set r x y v lies p q =
+      ap (λ s. grid_of s r) (with_region_cell-meanings f store r x y v) ∙ grid_of_written (store_meanings f store) r x y (f v) (Lies-meanings f store r lies) p q
+
+  pub grid_of_set_apart : (r s : Region) (x y : ℕ) (v : S) → Lies r store → Lies s store → AreApart r s → x < r.width → y < r.height →
+      grid_of (store_meanings f (with_region_cell store r x y v)) s ≡ grid_of (store_meanings f store) s
+  grid_of_set_apart r s x y v lies stays apart p q =
+      ap (λ t. grid_of t s) (with_region_cell-meanings f store r x y v)
+      ∙ grid_of_apart (store_meanings f store) r s x y (f v) (Lies-meanings f store r lies) (Lies-meanings f store s stays) apart p q
+
+  pub grids_of_set : (rs : List Region) (i x y : ℕ) (v : S) (d : Region) → LieApart rs → AllLie rs store → i < length rs → x < (get_or rs i d).width → y < (get_or rs i d).height →
+      map (grid_of (store_meanings f (with_region_cell store (get_or rs i d) x y v))) rs ≡ slice_set (map (grid_of (store_meanings f store)) rs) i (with_cell (grid_of (store_meanings f store) (get_or rs i d)) x y (f v))
+  grids_of_set rs i x y v d apart all p a b =
+      ap (λ s. map (grid_of s) rs) (with_region_cell-meanings f store (get_or rs i d) x y v)
+      ∙ grids_of_written (store_meanings f store) rs i x y (f v) d apart (AllLie-meanings f store rs all) p a b
+
+-- where each region is a whole buffer, in their order, the grids are the buffers
+pub grids_of_whole : (store : List (Grid ℤ)) (rs : List Region) → length rs ≡ length store →
+    ((k : ℕ) (d : Region) → k < length rs → ((get_or rs k d).buffer ≡ k) × IsWhole (get_or rs k d) store × IsFull (buffer_of store (get_or rs k d))) → map (grid_of store) rs ≡ store
+grids_of_whole store rs long whole =
+    let none : Region = region 0 0 0 0 0 in
+    let n : length (map (grid_of store) rs) ≡ length rs = length-map rs (grid_of store) in
+    same_lists (map (grid_of store) rs) store (n ∙ long) (λ k d h.
+    let k_in : k < length rs = omega (arith, n, h) in
+    let w = whole k none k_in in
+    get_or-map (grid_of store) rs k none d k_in ∙ grid_of_whole store (get_or rs k none) w.1 w.2 ∙ ap (λ b. get_or store b (grid 0 0 [])) w.0
+    ∙ get_or_default store k (grid 0 0 []) d (omega (arith, long, k_in)))

@@ -35,3 +35,18 @@ pub fn grids_are_their_cells<S>()
 pub fn writes_change_one_region()
     ensures { (rs : List Region) → LieApart rs → WritesChangeOneGrid rs }
 {}
+
+#[cfg(test)]
+mod tests {
+    use super::*;
+
+    #[test]
+    fn laws_can_be_called() {
+        narrow_samples_are_wide_ones_reduced();
+        gradients_fit();
+        each_number_has_one_token();
+        grids_are_their_cells::<i16>();
+        grids_are_their_cells::<i32>();
+        writes_change_one_region();
+    }
+}
