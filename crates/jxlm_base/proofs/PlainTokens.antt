@@ -1,13 +1,13 @@
 -- What the tokens of a plain decoder are.
-use Rattle.std.proofs.Common.{◌≡◌, ℕ, zero, suc, ◌+◌, ◌-◌, ◌*◌, ◌%◌, ◌<◌, ◌≤◌, List, [], ◌∷◌, length, replicate, Bool, true, false, cond, nat_lt, ◌==◌, if◌then◌else◌, Result, Ok, Err, MatchResult, refl, sym, ap, arith, ◌∙◌}
+use Rattle.std.proofs.Common.{◌≡◌, ℕ, zero, suc, ◌+◌, ◌-◌, ◌*◌, ◌%◌, ◌<◌, ◌≤◌, List, [], ◌∷◌, length, replicate, Bool, true, false, cond, nat_lt, ◌==◌, Result, Ok, Err, MatchResult, refl, sym, ap, arith, ◌∙◌}
 use Rattle.std.proofs.lemmas.Bool.Decides.{nat_tests}
 use Rattle.jxlm_base.specs.Bits.{bits_at}
 use Rattle.jxlm_base.specs.Decoding.{Found, Taken, TakenAll, Asked, reads, ◌>>=◌}
-use Rattle.jxlm_base.specs.Plain.{PlainState, Read, number_at, code_of, is_runs, owed_in, last_in, begin_mode, token_at, finalize_mode, run_at, plain_begin, plain_read, plain}
+use Rattle.jxlm_base.specs.Plain.{PlainState, Read, number_at, code_of, is_runs, owed_in, last_in, begin_mode, token_at, run_at, plain_begin, plain_read, plain}
 use Rattle.jxlm_base.specs.PlainLaws.{bind_ok, ok_same}
 use Rattle.jxlm_base.specs.PlainTokens.{FixedTokensAreNumbers, SealsAreSums, RunsRepeat, is_sealed, counted, fixed_sum}
 use Rattle.jxlm_base.specs.declared.decoder.DecoderError.{DecoderError}
-use Rattle.jxlm_base.specs.declared.decoder.DecoderError.TheVariants.{UnexpectedEof, Invalid}
+use Rattle.jxlm_base.specs.declared.decoder.DecoderError.TheVariants.{UnexpectedEof}
 use Rattle.jxlm_base.specs.declared.plain.Code.{Code}
 use Rattle.jxlm_base.specs.declared.plain.Code.TheVariants.{Constant, Fixed}
 use Rattle.jxlm_base.specs.declared.plain.Mode.{Mode}
