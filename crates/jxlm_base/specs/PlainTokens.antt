@@ -16,6 +16,7 @@ FixedTokensAreNumbers = (s : PlainState) (bytes : List ℕ) (p c m b : ℕ) → 
     MatchResult (plain.read s bytes p c m) (λ x. (p + b ≤ 8 * length bytes) × (x.token ≡ bits_at bytes p b) × (x.position ≡ p + b))
     (λ e. (8 * length bytes < p + b) × (e ≡ UnexpectedEof))
 
+-- a sum seals the tokens
 abbrev pub is_sealed : Mode → Bool
 is_sealed Unsealed = false
 is_sealed (Sealed sum) = true
