@@ -1,8 +1,8 @@
 -- What follows from the laws of a decoder.
-use Rattle.std.proofs.Common.{◌≡◌, ℕ, zero, suc, ◌+◌, ◌<◌, List, [], ◌∷◌, length, replicate, All, Contains, true, Result, Ok, refl, sym, ap, arith, ◌∙◌}
+use Rattle.std.proofs.Common.{◌≡◌, ℕ, zero, suc, ◌<◌, List, [], ◌∷◌, length, replicate, All, Contains, true, Ok, refl, sym, arith, ◌∙◌}
 use Rattle.jxlm_base.specs.declared.decoder.RleToken.{RleToken}
 use Rattle.jxlm_base.specs.declared.decoder.RleToken.TheVariants.{Value, Repeat}
-use Rattle.jxlm_base.specs.Decoding.{Meaning, IsLawful, Keeps, RunGives, Taken, TakenAll, Asked, Begins, RunIsReads, iterate, reads, ◌>>=◌}
+use Rattle.jxlm_base.specs.Decoding.{Meaning, IsLawful, Keeps, RunGives, Asked, RunIsReads, iterate, reads}
 
 -- the reads of all tokens that a run still owes
 pub owed_reads : {S : Type 0} (d : Meaning S) → IsLawful d → (others : List Asked) (s : S) (bytes : List ℕ) (p n : ℕ) → n ≡ d.owed s → length others ≡ n →

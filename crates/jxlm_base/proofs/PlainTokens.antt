@@ -1,13 +1,13 @@
 -- What the tokens of a plain decoder are.
-use Rattle.std.proofs.Common.{◌≡◌, ℕ, zero, suc, ◌+◌, ◌-◌, ◌*◌, ◌%◌, ◌<◌, ◌≤◌, List, [], ◌∷◌, length, replicate, Bool, true, false, cond, nat_lt, ◌==◌, if◌then◌else◌, Result, Ok, Err, MatchResult, refl, sym, ap, arith, ◌∙◌}
+use Rattle.std.proofs.Common.{◌≡◌, ℕ, zero, suc, ◌+◌, ◌-◌, ◌*◌, ◌%◌, ◌<◌, ◌≤◌, List, [], ◌∷◌, length, replicate, Bool, true, false, cond, nat_lt, ◌==◌, Result, Ok, Err, MatchResult, refl, sym, ap, arith, ◌∙◌}
 use Rattle.std.proofs.lemmas.Bool.Decides.{nat_tests}
 use Rattle.jxlm_base.specs.Bits.{bits_at}
 use Rattle.jxlm_base.specs.Decoding.{Found, Taken, TakenAll, Asked, reads, ◌>>=◌}
-use Rattle.jxlm_base.specs.Plain.{PlainState, Read, number_at, code_of, is_runs, owed_in, last_in, begin_mode, token_at, finalize_mode, fresh_at, again_at, plain_begin, plain_read, plain}
+use Rattle.jxlm_base.specs.Plain.{PlainState, Read, number_at, code_of, is_runs, owed_in, last_in, begin_mode, token_at, run_at, plain_begin, plain_read, plain}
 use Rattle.jxlm_base.specs.PlainLaws.{bind_ok, ok_same}
 use Rattle.jxlm_base.specs.PlainTokens.{FixedTokensAreNumbers, SealsAreSums, RunsRepeat, is_sealed, counted, fixed_sum}
 use Rattle.jxlm_base.specs.declared.decoder.DecoderError.{DecoderError}
-use Rattle.jxlm_base.specs.declared.decoder.DecoderError.TheVariants.{UnexpectedEof, Invalid}
+use Rattle.jxlm_base.specs.declared.decoder.DecoderError.TheVariants.{UnexpectedEof}
 use Rattle.jxlm_base.specs.declared.plain.Code.{Code}
 use Rattle.jxlm_base.specs.declared.plain.Code.TheVariants.{Constant, Fixed}
 use Rattle.jxlm_base.specs.declared.plain.Mode.{Mode}
@@ -125,12 +125,13 @@ owed_repeat (asked ∷ others) last (suc n) codes clusters bytes p h = rw (owed_
 
 run_begins : (last : ℕ) (code : Code) (bytes : List ℕ) (p : ℕ) → p + 9 ≤ 8 * length bytes → bits_at bytes p 1 ≡ 1 →
     token_at (Runs last 0) code bytes p ≡ Ok (record { token = last; mode = Runs last (bits_at bytes (p + 1) 8); position = p + 9 })
-unfolding token_at
+unfolding token_at run_at
 run_begins last code bytes p h one =
     let a = number_there bytes p 1 (omega arith) in
     let b = number_there bytes (p + 1) 8 (omega arith) in
     let q : p + 1 + 8 ≡ p + 9 = omega arith in
-    rw (a, one, b, q) refl
+    let left : 1 + bits_at bytes (p + 1) 8 - 1 ≡ bits_at bytes (p + 1) 8 = omega arith in
+    rw (a, one, b, q, left) refl
 
 mode_repeats : (mode : Mode) (codes : List Code) (clusters : List ℕ) (bytes : List ℕ) (p : ℕ) (asked : List Asked) → is_runs mode ≡ true → owed_in mode ≡ 0 → p + 9 ≤ 8 * length bytes →
     bits_at bytes p 1 ≡ 1 → length asked ≡ 1 + bits_at bytes (p + 1) 8 →

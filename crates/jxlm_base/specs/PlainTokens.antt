@@ -1,9 +1,8 @@
 -- What the tokens of a plain decoder are, told without its steps.
-use Rattle.std.specs.Prelude.{◌≡◌, ℕ, ◌+◌, ◌*◌, ◌%◌, ◌<◌, ◌≤◌, List, [], ◌∷◌, length, replicate, Bool, true, false, if◌then◌else◌, ◌==◌, Result, Ok, Err, MatchResult}
+use Rattle.std.specs.Prelude.{◌≡◌, ℕ, ◌+◌, ◌*◌, ◌%◌, ◌<◌, ◌≤◌, List, [], ◌∷◌, length, replicate, Bool, true, false, if◌then◌else◌, ◌==◌, Ok, Err, MatchResult}
 use Rattle.jxlm_base.specs.Bits.{bits_at}
 use Rattle.jxlm_base.specs.Decoding.{Found, Asked, TakenAll, reads}
 use Rattle.jxlm_base.specs.Plain.{PlainState, code_of, is_runs, owed_in, last_in, plain}
-use Rattle.jxlm_base.specs.declared.decoder.DecoderError.{DecoderError}
 use Rattle.jxlm_base.specs.declared.decoder.DecoderError.TheVariants.{UnexpectedEof, Invalid}
 use Rattle.jxlm_base.specs.declared.plain.Code.{Code}
 use Rattle.jxlm_base.specs.declared.plain.Code.TheVariants.{Constant, Fixed}
@@ -17,6 +16,7 @@ FixedTokensAreNumbers = (s : PlainState) (bytes : List ℕ) (p c m b : ℕ) → 
     MatchResult (plain.read s bytes p c m) (λ x. (p + b ≤ 8 * length bytes) × (x.token ≡ bits_at bytes p b) × (x.position ≡ p + b))
     (λ e. (8 * length bytes < p + b) × (e ≡ UnexpectedEof))
 
+-- a sum seals the tokens
 abbrev pub is_sealed : Mode → Bool
 is_sealed Unsealed = false
 is_sealed (Sealed sum) = true

@@ -161,3 +161,23 @@ pub trait Decoder: Sized + Drop {
 pub fn run_is_reads<D: Decoder>()
     ensures { RunIsReads D.meaning }
 {}
+
+#[cfg(test)]
+mod tests {
+    use super::*;
+    use std::test::Fail;
+
+    #[test]
+    fn faults(rt: HostRuntime) -> Result<(), Fail> {
+        for (fault, is_eof, text) in [
+            (DecoderError::UnexpectedEof, true, "unexpected end of input"),
+            (DecoderError::Invalid(4), false, "invalid code 4"),
+            (DecoderError::OutOfMemory, false, "out of memory"),
+        ] {
+            assert_eq!(rt; fault.unexpected_eof(), is_eof, "{text}");
+            let shown = format!(in rt.alloc(); "{fault}")?;
+            assert_eq!(rt; shown.as_str(), text);
+        }
+        Ok(())
+    }
+}

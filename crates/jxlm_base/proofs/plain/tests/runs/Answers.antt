@@ -10,7 +10,7 @@ loop-context-init g c =
     record {
       rle = c.begin.ensures.keeps.rle ∙ rle;
       between = (g.met.D.Decoder.lawful.begin_owes c.args.decoder.now (bytes_of c.args.bits.now) (position_of c.args.bits.now)
-      (record { value = c.begin.new.self; position = position_of c.begin.new.bits }) rle c.in_ok-begin.ensures.gives).0;
+          (record { value = c.begin.new.self; position = position_of c.begin.new.bits }) rle c.in_ok-begin.ensures.gives).0;
     }
 
 pub loop-context-preserved : goal.loop-context-preserved
