@@ -5,6 +5,7 @@ pub mod Coded
 pub mod Decode
 pub mod Image
 pub mod Parts
+pub mod PartRests
 pub mod Samples
 pub mod Layout
 pub mod Progress

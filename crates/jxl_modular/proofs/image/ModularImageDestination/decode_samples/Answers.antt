@@ -20,7 +20,7 @@ pub invariant_of-self : goal.invariant_of-self
 invariant_of-self g c =
     let keeps = rw (c.deref-2.ensures.value, c.deref_mut.ensures.value) at c.in_err-decode_part.ensures.keeps in
     let whole : take c.self.inside.store.len (c.decode_part.new.store ++ drop (length c.decode_part.new.store) c.self.inside.store.items) ≡ c.decode_part.new.store =
-        refilled c.self.inside.store.len c.decode_part.new.store c.self.inside.store.items c.self.inside.store.ok.0 keeps.count in
+    refilled c.self.inside.store.len c.decode_part.new.store c.self.inside.store.items c.self.inside.store.ok.0 keeps.count in
     record {
       sizes = rw whole (fits_kept c.self.inside.coded.items (channels_of c.self.inside.channels.items) c.self.inside.store.items c.decode_part.new.store keeps c.self.invariant.sizes);
       regions = c.self.invariant.regions;
@@ -30,7 +30,7 @@ pub invariant_of-self-2 : goal.invariant_of-self-2
 invariant_of-self-2 g c =
     let keeps = rw (c.deref-2.ensures.value, c.deref_mut.ensures.value) at c.in_ok-decode_part.ensures.keeps in
     let whole : take c.self.inside.store.len (c.decode_part.new.store ++ drop (length c.decode_part.new.store) c.self.inside.store.items) ≡ c.decode_part.new.store =
-        refilled c.self.inside.store.len c.decode_part.new.store c.self.inside.store.items c.self.inside.store.ok.0 keeps.count in
+    refilled c.self.inside.store.len c.decode_part.new.store c.self.inside.store.items c.self.inside.store.ok.0 keeps.count in
     record {
       sizes = rw whole (fits_kept c.self.inside.coded.items (channels_of c.self.inside.channels.items) c.self.inside.store.items c.decode_part.new.store keeps c.self.invariant.sizes);
       regions = c.self.invariant.regions;
@@ -41,20 +41,20 @@ returns-in_err-decode_part-clause-err g c =
     let p = err_from_is_err_and c.from_residual-in_err-decode_part.result c.from_residual-in_err-decode_part.ensures.1 in
     let keeps = rw (c.deref-2.ensures.value, c.deref_mut.ensures.value) at c.in_err-decode_part.ensures.keeps in
     let whole : take c.self.inside.store.len (c.decode_part.new.store ++ drop (length c.decode_part.new.store) c.self.inside.store.items) ≡ c.decode_part.new.store =
-        refilled c.self.inside.store.len c.decode_part.new.store c.self.inside.store.items c.self.inside.store.ok.0 keeps.count in
+    refilled c.self.inside.store.len c.decode_part.new.store c.self.inside.store.items c.self.inside.store.ok.0 keeps.count in
     let some = rw (c.in_ok-decoder.ensures.ok, c.decoder.ensures, c.deref-2.ensures.value, c.deref_mut.ensures.value) at c.in_err-decode_part.ensures.err in
     rw (p.1, p.2, ← c.self.view_is)
     (refuses_samples g.D.Decoder.meaning g.S.Sealed.width g.S.Sealed.to_int (bytes_of c.args.bits.now) _ _ (position_of c.args.bits.now) (position_of c.decode_part.new.bits) _ _
-      c.self.invariant c.leaf-leaf.ensures.tree (c.greatest_width-widest.ensures ∙ ap (λ cs. greatest_width (channels_of cs)) c.deref.ensures.value)
-      _ c.in_err-decode_part.ensures.memory (rw whole some))
+    c.self.invariant c.leaf-leaf.ensures.tree (c.greatest_width-widest.ensures ∙ ap (λ cs. greatest_width (channels_of cs)) c.deref.ensures.value)
+    _ c.in_err-decode_part.ensures.memory (rw whole some))
 
 pub returns-clause-ok : goal.returns-clause-ok
-returns-clause-ok g c = 
+returns-clause-ok g c =
     let keeps = rw (c.deref-2.ensures.value, c.deref_mut.ensures.value) at c.in_ok-decode_part.ensures.keeps in
     let whole : take c.self.inside.store.len (c.decode_part.new.store ++ drop (length c.decode_part.new.store) c.self.inside.store.items) ≡ c.decode_part.new.store =
-        refilled c.self.inside.store.len c.decode_part.new.store c.self.inside.store.items c.self.inside.store.ok.0 keeps.count in
+    refilled c.self.inside.store.len c.decode_part.new.store c.self.inside.store.items c.self.inside.store.ok.0 keeps.count in
     let all = rw (c.in_ok-decoder.ensures.ok, c.decoder.ensures, c.deref-2.ensures.value, c.deref_mut.ensures.value) at c.in_ok-decode_part.ensures.ok in
     rw (← c.self.view_is)
     (decodes_samples g.D.Decoder.meaning g.S.Sealed.width g.S.Sealed.to_int (bytes_of c.args.bits.now) _ _ (position_of c.args.bits.now) (position_of c.decode_part.new.bits) _ _
-      c.self.invariant c.leaf-leaf.ensures.tree (c.greatest_width-widest.ensures ∙ ap (λ cs. greatest_width (channels_of cs)) c.deref.ensures.value)
-      (rw whole all))
+    c.self.invariant c.leaf-leaf.ensures.tree (c.greatest_width-widest.ensures ∙ ap (λ cs. greatest_width (channels_of cs)) c.deref.ensures.value)
+    (rw whole all))
