@@ -11,6 +11,11 @@ use Rattle.jxlm_base.specs.declared.decoder.DecoderError.TheVariants.{Unexpected
 use Rattle.jxlm_base.specs.declared.subgrid.Region.{Region}
 use Rattle.jxlm_tree.specs.Tree.{leaf}
 use Rattle.jxlm_tree.specs.declared.flat.Leaf.{Leaf}
+use Rattle.std.proofs.Common.{inl, inr, Ok, Err, false}
+use Rattle.jxlm_base.specs.declared.error.Error.TheVariants.{Decoder}
+use Rattle.jxl_modular.specs.Chain.{IsOnlyImage, transforms_of}
+use Rattle.jxl_modular.specs.Coded.{IfSome}
+use Rattle.jxl_modular.specs.Decode.{Standing, DecodeAnswers, IsWhole}
 use Rattle.jxl_modular.specs.Image.{Image, IsLaidOut, coded_grids, whole_part, samples_in}
 use Rattle.jxl_modular.specs.Layout.{channels_of, layout}
 use Rattle.jxl_modular.specs.Part.{Channel, Fits, greatest_width, cell_count}
@@ -77,3 +82,60 @@ module _ {S D : Type 0} (d : Meaning D) (w : Width) (to_int : S → ℤ) (bytes 
   refuses_samples UnexpectedEof ne some = fails_samples UnexpectedEof some
   refuses_samples (Invalid k) ne some = fails_samples (Invalid k) some
   refuses_samples OutOfMemory ne some = absurd (ne refl)
+
+-- ---- what decoding a part answers
+
+some_of : (n : ℕ) (P Q : Type 0) → 0 < n → P → IfSome n P Q
+some_of zero P Q h p = absurd (omega arith)
+some_of (suc n) P Q h p = p
+
+none_of : (n : ℕ) (P Q : Type 0) → (0 < n → ⊥) → Q → IfSome n P Q
+none_of zero P Q h q = q
+none_of (suc n) P Q h q = absurd (h (omega arith))
+
+abbrev stands : {S D : Type 0} → (S → ℤ) → Image S D → ℕ → Bool → Standing
+stands to_int x p partial = record { position = p; grids = coded_grids to_int x; partial = partial }
+
+module _ {S D : Type 0} (d : Meaning D) (w : Width) (to_int : S → ℤ) (bytes : List ℕ) (old : Image S D) (p : ℕ) (partial : Bool) (stream : ℕ) where
+  -- the samples are coded to the end
+  pub answers_whole : (allow : Bool) (new : Image S D) (q : ℕ) → 0 < samples_in old → DecodesSamples d w to_int bytes old p new q →
+      (tried : ℕ) × DecodeAnswers d w (whole_part old stream) bytes old.config.decoder (stands to_int old p partial) (stands to_int new q false) allow (Ok tt) tried
+  answers_whole allow new q cells all =
+      let a = all stream in (
+        samples_in old,
+        inl (record {
+          coded = some_of (samples_in old) _ (q ≡ p) cells a.0;
+          fits = a.1;
+          whole = refl;
+          tries = refl;
+        }),
+      )
+
+  -- there are no samples
+  pub answers_empty : (allow : Bool) → IsLaidOut old → (0 < samples_in old → ⊥) →
+      (tried : ℕ) × DecodeAnswers d w (whole_part old stream) bytes old.config.decoder (stands to_int old p partial) (stands to_int old p false) allow (Ok tt) tried
+  answers_empty allow laid none = (
+    samples_in old,
+    inl (record {
+      coded = none_of (samples_in old) _ (p ≡ p) none refl;
+      fits = coded_fit old laid to_int;
+      whole = refl;
+      tries = refl;
+    }),
+  )
+
+  -- the decoder refuses
+  pub answers_fault : (allow : Bool) (e : DecoderError) (new : Image S D) (q : ℕ) → allow ≡ false → 0 < samples_in old → RefusesSamples d w to_int bytes old p new q e →
+      (tried : ℕ) × DecodeAnswers d w (whole_part old stream) bytes old.config.decoder (stands to_int old p partial) (stands to_int new q partial) allow (Err (Decoder e)) tried
+  answers_fault allow UnexpectedEof new q denied cells fails = let f = fails stream partial cells in (f.0, (denied, f.1))
+  answers_fault allow (Invalid k) new q denied cells fails = let f = fails stream partial cells in (f.0, f.1)
+  answers_fault allow OutOfMemory new q denied cells same = (0, record { unchanged = rw (same.0, same.1) refl; tries = refl })
+
+-- without transforms the image is the coded grids
+pub only_image : {S D : Type 0} (to_int : S → ℤ) (x : Image S D) → IsLaidOut x →
+    IsOnlyImage (transforms_of x.header) (channels_of x.channels) (store_meanings to_int x.store) (coded_grids to_int x)
+only_image to_int x laid = record {
+  fits = fits_meanings to_int (channels_of x.channels) x.store laid.sizes;
+  becomes = coded_are_store x laid to_int;
+  only = λ other fit h. sym h ∙ coded_are_store x laid to_int;
+}

@@ -19,6 +19,11 @@ next_prediction part before =
     let s = surroundings part before in
     prediction s.weights s.samples s.width (next_leaf part before).predictor
 
+-- the first fact where there are some, else the second
+abbrev pub IfSome : ℕ → Type 0 → Type 0 → Type 0
+IfSome zero P Q = Q
+IfSome (suc n) P Q = P
+
 module _ {S : Type 0} (d : Meaning S) (w : Width) (part : Part) (bytes : List ℕ) where
   -- The next sample of a part: its token is read from the cluster of its leaf, and the greatest width goes with each read.
   abbrev pub part_rule : Rule S
@@ -41,7 +46,4 @@ module _ {S : Type 0} (d : Meaning S) (w : Width) (part : Part) (bytes : List �
 
   -- the part is coded whole: where it has no cells, from p to p
   abbrev pub IsCodedWhole : S → ℕ → List (Grid ℤ) → ℕ → Type 0
-  IsCodedWhole decoder p grids q = of_cells (cell_count part.channels) where
-    of_cells : ℕ → Type 0
-    of_cells zero = q ≡ p
-    of_cells (suc n) = IsCodedToTheEnd decoder p grids q
+  IsCodedWhole decoder p grids q = IfSome (cell_count part.channels) (IsCodedToTheEnd decoder p grids q) (q ≡ p)
