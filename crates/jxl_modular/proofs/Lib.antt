@@ -5,3 +5,4 @@ pub mod Samples
 pub mod Prefixes
 pub mod Places
 pub mod TokenLaw
+pub mod HeaderLaws

@@ -6,5 +6,7 @@ mod decode;
 mod header;
 pub mod image;
 mod laws;
+mod root;
 
 pub use channels::ModularChannelInfo;
+pub use root::Modular;
