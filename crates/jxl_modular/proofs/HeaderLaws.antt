@@ -1,8 +1,7 @@
 -- The laws of the fields that stand ahead of an image's tree.
-use Rattle.std.proofs.Common.{◌≡◌, ℕ, zero, suc, ◌<◌, List, [], ◌∷◌, Bool, false, Some, Result, Ok, Err, refl, sym, ap, arith}
-use Rattle.std.specs.Prelude.{◌&&◌, not, codes}
-use Rattle.jxlm_base.specs.Decoding.{Found}
-use Rattle.jxlm_base.specs.Fault.{Fault, Refused, NoGlobalTree, BadProfile}
+use Rattle.std.proofs.Common.{◌≡◌, ℕ, zero, suc, ◌<◌, ◌≤◌, List, [], ◌∷◌, length, Bool, true, false, Some, Result, Ok, Err, refl, arith, rules, tests}
+use Rattle.std.specs.Prelude.{◌&&◌, not, codes, nat_lt}
+use Rattle.jxlm_base.specs.Fault.{Fault, NoGlobalTree, BadProfile}
 use Rattle.jxlm_base.specs.Grammar.{Grammar, IsExact, number, flag, give, refuse, either, repeated, ◌>>=◌}
 use Rattle.jxlm_base.specs.declared.bits.U32Spec.TheVariants.{Const, Offset}
 use Rattle.jxlm_base.proofs.GrammarLaws.{exact-give, exact-refuse, exact-number, exact-bind, exact-either, exact-repeated, exact-flag, exact-u32}
@@ -10,6 +9,7 @@ use Rattle.jxlm_tree.specs.WeightsHeader.{default_weights, listed_weights, wp_he
 use Rattle.jxlm_transform.specs.Channels.{ChannelList}
 use Rattle.jxl_modular.specs.Header.{header, transform, transform_count}
 use Rattle.jxl_modular.specs.Opening.{checked, coded_list, opening}
+use Rattle.jxl_modular.specs.declared.header.ModularHeader.{ModularHeader}
 
 bind : {X Y : Type 0} {field : Grammar X} {next : X → Grammar Y} → IsExact field → ((x : X) → IsExact (next x)) → IsExact (field >>= next)
 bind {field} {next} first rest = exact-bind field next first rest
@@ -51,3 +51,17 @@ none_listed field (suc n) bytes p h = absurd (omega (arith, h))
 pub some_refused : {X : Type 0} (fault : Fault) (n : ℕ) (bytes : List ℕ) (p : ℕ) → 0 < n → (repeated n (refuse {X = X} fault)).read bytes p ≡ Err (record { fault = fault; position = Some p })
 some_refused fault zero bytes p h = absurd (omega (arith, h))
 some_refused fault (suc n) bytes p h = refl
+
+-- too many channels are refused behind the header
+pub too_many : (has_global : Bool) (list : ChannelList) (bytes : List ℕ) (p : ℕ) (h : ModularHeader) (m : ℕ) → header.read bytes p ≡ Ok (record { value = h; position = m }) → 65536 < length list.channels →
+    (opening has_global list).read bytes p ≡ Err (record { fault = BadProfile (codes "nb_channels_tr too large"); position = Some m })
+too_many has_global list bytes p h m e more =
+    let t : nat_lt 65536 (length list.channels) ≡ true = search (rules, tests) in
+    rw (e, t) refl
+
+-- and so is a use of a global tree that was not handed in
+pub no_global : (list : ChannelList) (bytes : List ℕ) (p : ℕ) (h : ModularHeader) (m : ℕ) → header.read bytes p ≡ Ok (record { value = h; position = m }) → length list.channels ≤ 65536 → h.use_global_tree ≡ true →
+    (opening false list).read bytes p ≡ Err (record { fault = NoGlobalTree; position = Some m })
+no_global list bytes p h m e few global =
+    let t : nat_lt 65536 (length list.channels) ≡ false = search (rules, tests) in
+    rw (e, t, global) refl

@@ -6,3 +6,5 @@ pub mod Prefixes
 pub mod Places
 pub mod TokenLaw
 pub mod HeaderLaws
+pub mod FreshLaws
+pub mod ParsingLaws

@@ -20,20 +20,19 @@ info_of c = record {
   original_shift = c.shift;
 }
 
-module _ {S D : Type 0} (zero : S) where
-  -- for each channel a grid of its size, whose cells are 0
-  abbrev pub zeros : List ModularChannelInfo → List (Grid S)
-  zeros channels = map (λ c. filled c.width c.height zero) channels
+-- for each channel a grid of its size, whose cells are 0
+abbrev pub zeros : {S : Type 0} → S → List ModularChannelInfo → List (Grid S)
+zeros zero channels = map (λ c. filled c.width c.height zero) channels
 
-  -- an image without transforms whose cells are all 0
-  abbrev pub fresh : ModularHeader → Config D → ℕ → ℕ → List ModularChannelInfo → Image S D
-  fresh header config group_dim bit_depth channels = record {
-    header = header;
-    config = config;
-    group_dim = group_dim;
-    bit_depth = bit_depth;
-    channels = channels;
-    nb_meta = 0;
-    store = zeros channels;
-    coded = layout (channels_of channels);
-  }
+-- an image without transforms whose cells are all 0
+abbrev pub fresh : {S D : Type 0} → S → ModularHeader → Config D → ℕ → ℕ → List ModularChannelInfo → Image S D
+fresh zero header config group_dim bit_depth channels = record {
+  header = header;
+  config = config;
+  group_dim = group_dim;
+  bit_depth = bit_depth;
+  channels = channels;
+  nb_meta = 0;
+  store = zeros zero channels;
+  coded = layout (channels_of channels);
+}
