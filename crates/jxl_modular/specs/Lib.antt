@@ -11,3 +11,4 @@ pub mod Header
 pub mod Opening
 pub mod Fresh
 pub mod Parsing
+pub mod ImageLends

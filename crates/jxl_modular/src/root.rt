@@ -49,6 +49,9 @@ fn open(bits: &mut Bitstream<'_>, has_global: bool, nb_channels: usize) -> Resul
 }
 
 impl<S: Sample, D: Decoder> Modular<S, D> {
+    ghost use Rattle.std.specs.Borrow.{sem};
+    ghost use Rattle.jxl_modular.specs.ImageLends.{LendsImage};
+
     /// The image of no channels.
     pub fn empty() -> Self
         ensures { image_of result ≡ None }
@@ -99,6 +102,7 @@ impl<S: Sample, D: Decoder> Modular<S, D> {
 
     /// The image, which may be written; with no channels there is none.
     pub fn image_mut(&mut self) -> Option<&mut ModularImageDestination<S, D>>
+        ensures* writes_back { sem 𝓛 (LendsImage S.row D.row S.Default (record { to_int = S.to_int; from_int = S.from_int; width = S.width }) D.Decoder self.entry result) }
         ensures value { option_copied_mut result ≡ image_of self.old }
     {
         self.inner.as_mut()
