@@ -1,13 +1,13 @@
 -- The laws of the fields that stand ahead of an image's tree.
-use Rattle.std.proofs.Common.{◌≡◌, ℕ, zero, suc, ◌<◌, ◌≤◌, List, [], ◌∷◌, length, Bool, true, false, Some, Result, Ok, Err, refl, arith, rules, tests}
-use Rattle.std.specs.Prelude.{◌&&◌, not, codes, nat_lt}
+use Rattle.std.proofs.Common.{◌≡◌, ℕ, zero, suc, ◌<◌, ◌≤◌, List, [], length, Bool, true, false, Some, Result, Ok, Err, refl, arith, rules, tests}
+use Rattle.std.specs.Prelude.{codes, nat_lt}
 use Rattle.jxlm_base.specs.Fault.{Fault, NoGlobalTree, BadProfile}
-use Rattle.jxlm_base.specs.Grammar.{Grammar, IsExact, number, flag, give, refuse, either, repeated, ◌>>=◌}
+use Rattle.jxlm_base.specs.Grammar.{Grammar, IsExact, refuse, repeated, ◌>>=◌}
 use Rattle.jxlm_base.specs.declared.bits.U32Spec.TheVariants.{Const, Offset}
 use Rattle.jxlm_base.proofs.GrammarLaws.{exact-give, exact-refuse, exact-number, exact-bind, exact-either, exact-repeated, exact-flag, exact-u32}
 use Rattle.jxlm_tree.specs.WeightsHeader.{default_weights, listed_weights, wp_header}
 use Rattle.jxlm_transform.specs.Channels.{ChannelList}
-use Rattle.jxl_modular.specs.Header.{header, transform, transform_count}
+use Rattle.jxl_modular.specs.Header.{header, transform}
 use Rattle.jxl_modular.specs.Opening.{checked, coded_list, opening}
 use Rattle.jxl_modular.specs.declared.header.ModularHeader.{ModularHeader}
 

@@ -1,7 +1,7 @@
 -- What reading an image answers, from what its steps answer.
-use Rattle.std.proofs.Common.{◌≡◌, ℕ, ◌+◌, ◌*◌, ◌^◌, ◌<◌, min, List, [], ◌∷◌, length, map, sum_by, false, Some, Result, Ok, Err, refl, sym, ap, ◌∙◌, arith}
+use Rattle.std.proofs.Common.{◌≡◌, ℕ, ◌+◌, ◌*◌, ◌^◌, ◌<◌, min, List, [], ◌∷◌, length, map, sum_by, false, Some, Ok, Err, refl, sym, ap, ◌∙◌, arith}
 use Rattle.std.specs.Prelude.{◌⊎◌}
-use Rattle.std.proofs.Common.{inl, inr}
+use Rattle.std.proofs.Common.{inr}
 use Rattle.std.proofs.lemmas.List.Sums.{sum_by-cons}
 use Rattle.jxlm_base.specs.Decoding.{Meaning}
 use Rattle.jxlm_base.specs.Fault.{Fault, Eof, BadEnum, BadProfile, BadTree, NoGlobalTree, BadRct, BadPalette, BadSqueeze, OfDecoder, NoMemory, UnlessMemory, fault_of}
@@ -19,7 +19,6 @@ use Rattle.jxl_modular.specs.Opening.{OpensAs, node_limit, depth_limit}
 use Rattle.jxl_modular.specs.Parsing.{IsImageAt, IsTreeRefused, ParseGives, opened}
 use Rattle.jxl_modular.specs.declared.channels.ModularChannelInfo.{ModularChannelInfo}
 use Rattle.jxl_modular.specs.declared.header.ModularHeader.{ModularHeader}
-use Rattle.jxl_modular.specs.declared.root.Modular.{Modular}
 
 -- what follows from a fact follows, unless there was no memory
 pub unless_so : (fault : Fault) {P Q : Type 0} → (P → Q) → UnlessMemory fault P → UnlessMemory fault Q

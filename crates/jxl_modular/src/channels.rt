@@ -88,3 +88,16 @@ pub(crate) fn node_limit(channels: &[ModularChannelInfo]) -> usize
     }
     limit as usize
 }
+
+#[cfg(test)]
+mod tests {
+    use super::*;
+
+    #[test]
+    fn a_channel_keeps_what_it_came_with(rt: HostRuntime) {
+        let params = ModularChannelParams::with_shift(9, 4, ChannelShift::Raw(3, 1));
+        let channel = ModularChannelInfo::new(&params);
+        assert_eq!(rt; channel.shift(), ChannelShift::Raw(3, 1));
+        assert_eq!(rt; channel.original_size(), (9, 4));
+    }
+}

@@ -71,7 +71,11 @@ impl<S: Sample, D: Decoder> Modular<S, D> {
     /// nodes and one more for each sample, at most 2^20 + 1, and a depth of 2048. The reader then
     /// stands behind the last field that was read whole; inside a decoder's own `parse` its place is
     /// the decoder's matter. Want of memory may be answered at any time.
-    pub fn parse(alloc: Global, bits: &mut Bitstream<'_>, params: ModularParams<'_, D>) -> Result<Self>
+    pub fn parse(
+        alloc: Global,
+        bits: &mut Bitstream<'_>,
+        params: ModularParams<'_, D>,
+    ) -> Result<Self>
         requires valid { IsValidParams params }
         requires alone { params.ma_config ≡ None }
         ensures gives { ParseGives D.meaning (S.from_int (pos 0)) (bytes_of bits.old) (position_of bits.old) params.entry params.entry.channels.items result (position_of bits.new) }
@@ -88,7 +92,12 @@ impl<S: Sample, D: Decoder> Modular<S, D> {
         };
         let ma_ctx = MaConfig::parse(alloc, bits, limits)?;
         let image = ModularImageDestination::new(
-            alloc, header, ma_ctx, params.group_dim, params.bit_depth, channels,
+            alloc,
+            header,
+            ma_ctx,
+            params.group_dim,
+            params.bit_depth,
+            channels,
         )?;
         Ok(Modular { inner: Some(image) })
     }
@@ -102,7 +111,7 @@ impl<S: Sample, D: Decoder> Modular<S, D> {
 
     /// The image, which may be written; with no channels there is none.
     pub fn image_mut(&mut self) -> Option<&mut ModularImageDestination<S, D>>
-        ensures* writes_back { sem 𝓛 (LendsImage S.row D.row S.Default (record { to_int = S.to_int; from_int = S.from_int; width = S.width }) D.Decoder self.entry result) }
+        ensures* writes_back { sem 𝓛 (LendsImage S.row D.row S.Default S.to_int S.from_int S.width D.Decoder self.entry result) }
         ensures value { option_copied_mut result ≡ image_of self.old }
     {
         self.inner.as_mut()
@@ -113,5 +122,145 @@ impl<S: Sample, D: Decoder> Modular<S, D> {
         ensures { result ≡ image_of self }
     {
         self.inner
+    }
+}
+
+#[cfg(test)]
+mod tests {
+    use super::*;
+    use jxlm_base::decoder::DecoderError;
+    use jxlm_base::plain::PlainDecoder;
+    use jxlm_transform::param::{ChannelShift, ModularChannelParams};
+    use std::result::Result;
+    use std::test::Fail;
+
+    // No transforms, a tree of one leaf up to bit 68, and samples behind it.
+    const ONE_LEAF: [u8; 10] = [0x42, 0x00, 0x04, 0x00, 0x04, 0x0E, 0x05, 0xC0, 0x20, 0x06];
+
+    type Image<S> = ModularImageDestination<S, PlainDecoder>;
+
+    /// Of each channel of an image its sides and its samples; nothing where there is no image.
+    fn contents<S: Sample>(alloc: Global, image: Option<&Image<S>>) -> Result<Vec<i32>, Fail> {
+        let mut seen = Vec::new(alloc);
+        let Some(image) = image else {
+            return Ok(seen);
+        };
+        for grid in image.image_channels() {
+            seen.push(grid.width() as i32)?;
+            seen.push(grid.height() as i32)?;
+            for y in 0..grid.height() {
+                for sample in grid.get_row(y) {
+                    seen.push(sample.to_i32())?;
+                }
+            }
+        }
+        Ok(seen)
+    }
+
+    /// What an image of these channels is read as, and where the reader stands then.
+    fn read<S: Sample>(
+        alloc: Global,
+        bytes: &[u8],
+        channels: Vec<ModularChannelParams>,
+    ) -> (Result<Modular<S, PlainDecoder>, Error>, u64) {
+        let mut bits = Bitstream::new(bytes);
+        let params = ModularParams::with_channels(256, 8, channels, None);
+        let modular = Modular::parse(alloc, &mut bits, params);
+        (modular, bits.position())
+    }
+
+    /// Why an image of so many channels of 1 by 1 sample is refused, and where the reader stands then.
+    fn refusal(rt: &HostRuntime, bytes: &[u8], count: usize) -> Result<(Option<Error>, u64), Fail> {
+        let channels = vec![in rt.alloc(); ModularChannelParams::new(1, 1); count]?;
+        let (modular, position) = read::<i32>(rt.alloc(), bytes, channels);
+        Ok((modular.err(), position))
+    }
+
+    /// The contents of an image of one channel of 2 by 2, as it is lent and as it is given up, and
+    /// where the reader stands behind it.
+    fn square<S: Sample>(alloc: Global) -> Result<(Vec<i32>, Vec<i32>, u64), Fail> {
+        let channels = vec![in alloc; ModularChannelParams::new(2, 2)]?;
+        let (modular, position) = read::<S>(alloc, &ONE_LEAF, channels);
+        let mut modular = modular?;
+        let lent = match modular.image_mut() {
+            Some(image) => contents(alloc, Some(&*image))?,
+            None => Vec::new(alloc),
+        };
+        let given_up = contents(alloc, modular.into_image().as_ref())?;
+        Ok((lent, given_up, position))
+    }
+
+    #[test]
+    fn an_image_begins_with_zeros(rt: HostRuntime) -> Result<(), Fail> {
+        for (lent, given_up, position) in [square::<i32>(rt.alloc())?, square::<i16>(rt.alloc())?] {
+            assert_eq!(rt; lent.as_slice(), [2, 2, 0, 0, 0, 0].as_slice());
+            assert_eq!(rt; given_up.as_slice(), [2, 2, 0, 0, 0, 0].as_slice());
+            assert_eq!(rt; position, 68);
+        }
+        Ok(())
+    }
+
+    // The third of three channels of a JPEG picture of 5 by 7, whose values are 1, 2 and 0, has 3 by 4 samples.
+    #[test]
+    fn each_channel_has_its_size(rt: HostRuntime) -> Result<(), Fail> {
+        let channels = vec![in rt.alloc();
+            ModularChannelParams::jpeg(5, 7, [1, 2, 0], 2),
+            ModularChannelParams::with_shift(9, 4, ChannelShift::Shifts(2)),
+            ModularChannelParams::new(0, 5),
+        ]?;
+        let (modular, _) = read::<i16>(rt.alloc(), &ONE_LEAF, channels);
+        let modular = modular?;
+        let seen = contents(rt.alloc(), modular.image())?;
+        let expected = [
+            3, 4, 0, 0, 0, 0, 0, 0, 0, 0, 0, 0, 0, 0, 3, 1, 0, 0, 0, 0, 5,
+        ];
+        assert_eq!(rt; seen.as_slice(), expected.as_slice());
+        Ok(())
+    }
+
+    #[test]
+    fn no_channels_have_no_image(rt: HostRuntime) -> Result<(), Fail> {
+        for bytes in [[].as_slice(), ONE_LEAF.as_slice()] {
+            let (modular, position) = read::<i32>(rt.alloc(), bytes, Vec::new(rt.alloc()));
+            let mut modular = modular?;
+            assert_eq!(rt; position, 0);
+            assert!(rt; modular.image().is_none());
+            assert!(rt; modular.image_mut().is_none());
+            assert!(rt; modular.into_image().is_none());
+        }
+        assert!(rt; Modular::<i16, PlainDecoder>::empty().image().is_none());
+        Ok(())
+    }
+
+    #[test]
+    fn what_stands_ahead_of_the_tree_is_refused(rt: HostRuntime) -> Result<(), Fail> {
+        let eof = Error::Bitstream(BitstreamError::UnexpectedEof);
+        let transform = Error::Bitstream(BitstreamError::ProfileConformance(
+            "transform not available",
+        ));
+        let channels = Error::Bitstream(BitstreamError::ProfileConformance(
+            "nb_channels_tr too large",
+        ));
+        assert_eq!(rt; refusal(&rt, &[], 1)?, (Some(eof), 0));
+        assert_eq!(rt; refusal(&rt, &[0x00], 1)?, (Some(eof), 7));
+        assert_eq!(rt; refusal(&rt, &[0x0E], 1)?, (Some(eof), 2));
+        assert_eq!(rt; refusal(&rt, &[0x36], 1)?, (Some(transform), 4));
+        assert_eq!(rt; refusal(&rt, &[0x37], 65537)?, (Some(transform), 4));
+        assert_eq!(rt; refusal(&rt, &[0x03], 65537)?, (Some(channels), 4));
+        assert_eq!(rt;
+            refusal(&rt, &[0x03], 65536)?,
+            (Some(Error::GlobalMaTreeNotAvailable), 4)
+        );
+        Ok(())
+    }
+
+    #[test]
+    fn a_cut_tree_is_refused(rt: HostRuntime) -> Result<(), Fail> {
+        let cut = Error::Decoder(DecoderError::UnexpectedEof);
+        for n in 1..9 {
+            assert_eq!(rt; refusal(&rt, &ONE_LEAF[..n], 1)?.0, Some(cut), "{n}");
+        }
+        assert_eq!(rt; refusal(&rt, &ONE_LEAF[..9], 1)?, (None, 68));
+        Ok(())
     }
 }

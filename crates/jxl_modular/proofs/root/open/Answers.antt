@@ -1,4 +1,4 @@
-use Rattle.std.proofs.Common.{Some, refl, rules, arith}
+use Rattle.std.proofs.Common.{rules, arith}
 use Rattle.jxlm_base.specs.Bits.{bytes_of, position_of}
 use Rattle.jxl_modular.proofs.HeaderLaws.{too_many, no_global}
 use Rattle.jxl_modular.proofs.root.open.Goals as goal

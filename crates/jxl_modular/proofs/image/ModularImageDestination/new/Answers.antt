@@ -1,4 +1,4 @@
-use Rattle.std.proofs.Common.{◌≡◌, pos, sym, ap, ◌∙◌, subst, rules}
+use Rattle.std.proofs.Common.{◌≡◌, pos, sym, ap, ◌∙◌, subst}
 use Rattle.jxl_modular.specs.Fresh.{zeros}
 use Rattle.jxl_modular.specs.Layout.{channels_of, layout}
 use Rattle.jxl_modular.specs.Part.{Fits}

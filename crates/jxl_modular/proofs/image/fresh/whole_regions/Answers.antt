@@ -1,4 +1,4 @@
-use Rattle.std.proofs.Common.{rules, arith}
+use Rattle.std.proofs.Common.{arith}
 use Rattle.jxl_modular.proofs.FreshLaws.{regions_further}
 use Rattle.jxl_modular.proofs.image.fresh.whole_regions.Goals as goal
 
