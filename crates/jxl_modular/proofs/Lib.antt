@@ -9,3 +9,6 @@ pub mod PartLaws
 pub mod Places
 pub mod TokenLaw
 pub mod Whole
+pub mod HeaderLaws
+pub mod FreshLaws
+pub mod ParsingLaws

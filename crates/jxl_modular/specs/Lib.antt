@@ -11,3 +11,8 @@ pub mod Layout
 pub mod Progress
 pub mod Reading
 pub mod Token
+pub mod Header
+pub mod Opening
+pub mod Fresh
+pub mod Parsing
+pub mod ImageLends

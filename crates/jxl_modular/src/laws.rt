@@ -6,6 +6,7 @@ ghost use Rattle.jxlm_base.specs.Grid.{Grid};
 ghost use Rattle.jxlm_base.specs.declared.decoder.DecoderError.{DecoderError};
 ghost use Rattle.jxl_modular.specs.Coded.{IsCodedToTheEnd};
 ghost use Rattle.jxl_modular.specs.Decode.{Standing, Fails};
+ghost use Rattle.jxl_modular.specs.Opening.{OpeningIsExact};
 ghost use Rattle.jxl_modular.specs.Part as part;
 ghost use Rattle.jxl_modular.specs.Token.{EachHasToken};
 
@@ -24,4 +25,9 @@ pub fn what_is_coded_is_not_refused<D: Decoder>()
 /// Where the multiplier is odd, each sample of 32 bits has one token.
 pub fn each_sample_has_one_token()
     ensures { EachHasToken }
+{}
+
+/// What is read ahead of an image's tree stands there, and what stands there is read.
+pub fn each_opening_is_read_exactly()
+    ensures { OpeningIsExact }
 {}

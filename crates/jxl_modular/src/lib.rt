@@ -6,5 +6,14 @@ mod decode;
 mod header;
 pub mod image;
 mod laws;
+mod root;
 
 pub use channels::ModularChannelInfo;
+pub use jxlm_base::error::{Error, Result};
+pub use jxlm_base::sample::Sample;
+pub use jxlm_base::{bits, decoder, error, grid, plain, sample};
+pub use jxlm_transform::param;
+pub use jxlm_transform::param::{ChannelShift, ModularChannelParams, ModularParams};
+pub use jxlm_tree::ma::{MaConfig, MaConfigParams};
+pub use jxlm_tree::{flat, ma, predictor};
+pub use root::Modular;

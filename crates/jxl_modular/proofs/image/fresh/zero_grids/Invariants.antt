@@ -1,0 +1,6 @@
+use Rattle.std.proofs.Common.{◌≡◌, take, pos}
+use Rattle.jxl_modular.specs.Fresh.{zeros}
+use Rattle.jxl_modular.proofs.image.fresh.zero_grids.Given as goal
+
+abbrev pub invariant-loop-channel : goal.invariant-loop-channel
+invariant-loop-channel g l = l.grids.items ≡ zeros (g.S.Sealed.from_int (pos 0)) (take l.channel-index l.channels)

@@ -1,0 +1,266 @@
+//! Modular images as they are read.
+
+ghost use Rattle.std.specs.Prelude.{◌≡◌, pos, length, None};
+ghost use Rattle.std.specs.Option.{option_copied, option_copied_mut};
+ghost use Rattle.jxlm_base.specs.Bits.{bytes_of, position_of};
+ghost use Rattle.jxlm_transform.specs.Channels.{ChannelList};
+ghost use Rattle.jxlm_transform.specs.Params.{IsValidParams};
+ghost use Rattle.jxl_modular.specs.Opening.{OpensAs};
+ghost use Rattle.jxl_modular.specs.Parsing.{ParseGives, image_of};
+
+use crate::channels::{image_channels, node_limit};
+use crate::header::ModularHeader;
+use crate::image::ModularImageDestination;
+use jxlm_base::bits::{Bitstream, BitstreamError};
+use jxlm_base::decoder::Decoder;
+use jxlm_base::error::{Error, Result};
+use jxlm_base::sample::Sample;
+use jxlm_transform::param::ModularParams;
+use jxlm_tree::ma::{MaConfig, MaConfigParams};
+use std::alloc::Global;
+
+/// The greatest number of coded channels.
+const MAX_CODED_CHANNELS: usize = 65536;
+
+/// The greatest depth of a tree of an image's own.
+const DEPTH_LIMIT: usize = 2048;
+
+/// A Modular image, or none where there are no channels.
+#[derive(Drop)]
+pub struct Modular<S: Sample, D: Decoder> {
+    inner: Option<ModularImageDestination<S, D>>,
+}
+
+/// Reads what stands ahead of a tree: the header, whose conditions on the channels and on a global
+/// tree come in this order.
+fn open(bits: &mut Bitstream<'_>, has_global: bool, nb_channels: usize) -> Result<ModularHeader>
+    ensures gives { (list : ChannelList) → length list.channels ≡ nb_channels → OpensAs has_global list (bytes_of bits.old) (position_of bits.old) result (position_of bits.new) }
+    ensures bytes { bytes_of bits.new ≡ bytes_of bits.old }
+{
+    let header = ModularHeader::parse(bits)?;
+    if nb_channels > MAX_CODED_CHANNELS {
+        let refusal = BitstreamError::ProfileConformance("nb_channels_tr too large");
+        return Err(Error::Bitstream(refusal));
+    }
+    if header.use_global_tree && !has_global {
+        return Err(Error::GlobalMaTreeNotAvailable);
+    }
+    Ok(header)
+}
+
+impl<S: Sample, D: Decoder> Modular<S, D> {
+    ghost use Rattle.std.specs.Borrow.{sem};
+    ghost use Rattle.jxl_modular.specs.ImageLends.{LendsImage};
+
+    /// The image of no channels.
+    pub fn empty() -> Self
+        ensures { image_of result ≡ None }
+    {
+        Modular { inner: None }
+    }
+
+    /// Reads the image that stands at the reader's place: its header and its tree. Its cells are 0
+    /// until they are decoded.
+    ///
+    /// With no channels no bit is read, and there is no image. The parameters are valid, and no
+    /// global tree is handed in.
+    ///
+    /// What stands there is refused by the first check that fails: a cut header by `UnexpectedEof`;
+    /// a transform, and more than 65536 channels, by `ProfileConformance`; a use of the global tree
+    /// by `GlobalMaTreeNotAvailable`; the tree as by [`MaConfig::parse`], where it may have 1025
+    /// nodes and one more for each sample, at most 2^20 + 1, and a depth of 2048. The reader then
+    /// stands behind the last field that was read whole; inside a decoder's own `parse` its place is
+    /// the decoder's matter. Want of memory may be answered at any time.
+    pub fn parse(
+        alloc: Global,
+        bits: &mut Bitstream<'_>,
+        params: ModularParams<'_, D>,
+    ) -> Result<Self>
+        requires valid { IsValidParams params }
+        requires alone { params.ma_config ≡ None }
+        ensures gives { ParseGives D.meaning (S.from_int (pos 0)) (bytes_of bits.old) (position_of bits.old) params.entry params.entry.channels.items result (position_of bits.new) }
+        ensures bytes { bytes_of bits.new ≡ bytes_of bits.old }
+    {
+        if params.channels.is_empty() {
+            return Ok(Modular::empty());
+        }
+        let channels = image_channels(alloc, &params.channels)?;
+        let header = open(bits, params.ma_config.is_some(), channels.len())?;
+        let limits = MaConfigParams {
+            node_limit: node_limit(&channels),
+            depth_limit: DEPTH_LIMIT,
+        };
+        let ma_ctx = MaConfig::parse(alloc, bits, limits)?;
+        let image = ModularImageDestination::new(
+            alloc,
+            header,
+            ma_ctx,
+            params.group_dim,
+            params.bit_depth,
+            channels,
+        )?;
+        Ok(Modular { inner: Some(image) })
+    }
+
+    /// The image; with no channels there is none.
+    pub fn image(&self) -> Option<&ModularImageDestination<S, D>>
+        ensures value { option_copied result ≡ image_of self.now }
+    {
+        self.inner.as_ref()
+    }
+
+    /// The image, which may be written; with no channels there is none.
+    pub fn image_mut(&mut self) -> Option<&mut ModularImageDestination<S, D>>
+        ensures* writes_back { sem 𝓛 (LendsImage S.row D.row S.Default S.to_int S.from_int S.width D.Decoder self.entry result) }
+        ensures value { option_copied_mut result ≡ image_of self.old }
+    {
+        self.inner.as_mut()
+    }
+
+    /// The image, given up by what held it; with no channels there is none.
+    pub fn into_image(self) -> Option<ModularImageDestination<S, D>>
+        ensures { result ≡ image_of self }
+    {
+        self.inner
+    }
+}
+
+#[cfg(test)]
+mod tests {
+    use super::*;
+    use jxlm_base::decoder::DecoderError;
+    use jxlm_base::plain::PlainDecoder;
+    use jxlm_transform::param::{ChannelShift, ModularChannelParams};
+    use std::result::Result;
+    use std::test::Fail;
+
+    // No transforms, a tree of one leaf up to bit 68, and samples behind it.
+    const ONE_LEAF: [u8; 10] = [0x42, 0x00, 0x04, 0x00, 0x04, 0x0E, 0x05, 0xC0, 0x20, 0x06];
+
+    type Image<S> = ModularImageDestination<S, PlainDecoder>;
+
+    /// Of each channel of an image its sides and its samples; nothing where there is no image.
+    fn contents<S: Sample>(alloc: Global, image: Option<&Image<S>>) -> Result<Vec<i32>, Fail> {
+        let mut seen = Vec::new(alloc);
+        let Some(image) = image else {
+            return Ok(seen);
+        };
+        for grid in image.image_channels() {
+            seen.push(grid.width() as i32)?;
+            seen.push(grid.height() as i32)?;
+            for y in 0..grid.height() {
+                for sample in grid.get_row(y) {
+                    seen.push(sample.to_i32())?;
+                }
+            }
+        }
+        Ok(seen)
+    }
+
+    /// What an image of these channels is read as, and where the reader stands then.
+    fn read<S: Sample>(
+        alloc: Global,
+        bytes: &[u8],
+        channels: Vec<ModularChannelParams>,
+    ) -> (Result<Modular<S, PlainDecoder>, Error>, u64) {
+        let mut bits = Bitstream::new(bytes);
+        let params = ModularParams::with_channels(256, 8, channels, None);
+        let modular = Modular::parse(alloc, &mut bits, params);
+        (modular, bits.position())
+    }
+
+    /// Why an image of so many channels of 1 by 1 sample is refused, and where the reader stands then.
+    fn refusal(rt: &HostRuntime, bytes: &[u8], count: usize) -> Result<(Option<Error>, u64), Fail> {
+        let channels = vec![in rt.alloc(); ModularChannelParams::new(1, 1); count]?;
+        let (modular, position) = read::<i32>(rt.alloc(), bytes, channels);
+        Ok((modular.err(), position))
+    }
+
+    /// The contents of an image of one channel of 2 by 2, as it is lent and as it is given up, and
+    /// where the reader stands behind it.
+    fn square<S: Sample>(alloc: Global) -> Result<(Vec<i32>, Vec<i32>, u64), Fail> {
+        let channels = vec![in alloc; ModularChannelParams::new(2, 2)]?;
+        let (modular, position) = read::<S>(alloc, &ONE_LEAF, channels);
+        let mut modular = modular?;
+        let lent = match modular.image_mut() {
+            Some(image) => contents(alloc, Some(&*image))?,
+            None => Vec::new(alloc),
+        };
+        let given_up = contents(alloc, modular.into_image().as_ref())?;
+        Ok((lent, given_up, position))
+    }
+
+    #[test]
+    fn an_image_begins_with_zeros(rt: HostRuntime) -> Result<(), Fail> {
+        for (lent, given_up, position) in [square::<i32>(rt.alloc())?, square::<i16>(rt.alloc())?] {
+            assert_eq!(rt; lent.as_slice(), [2, 2, 0, 0, 0, 0].as_slice());
+            assert_eq!(rt; given_up.as_slice(), [2, 2, 0, 0, 0, 0].as_slice());
+            assert_eq!(rt; position, 68);
+        }
+        Ok(())
+    }
+
+    // The third of three channels of a JPEG picture of 5 by 7, whose values are 1, 2 and 0, has 3 by 4 samples.
+    #[test]
+    fn each_channel_has_its_size(rt: HostRuntime) -> Result<(), Fail> {
+        let channels = vec![in rt.alloc();
+            ModularChannelParams::jpeg(5, 7, [1, 2, 0], 2),
+            ModularChannelParams::with_shift(9, 4, ChannelShift::Shifts(2)),
+            ModularChannelParams::new(0, 5),
+        ]?;
+        let (modular, _) = read::<i16>(rt.alloc(), &ONE_LEAF, channels);
+        let modular = modular?;
+        let seen = contents(rt.alloc(), modular.image())?;
+        let expected = [
+            3, 4, 0, 0, 0, 0, 0, 0, 0, 0, 0, 0, 0, 0, 3, 1, 0, 0, 0, 0, 5,
+        ];
+        assert_eq!(rt; seen.as_slice(), expected.as_slice());
+        Ok(())
+    }
+
+    #[test]
+    fn no_channels_have_no_image(rt: HostRuntime) -> Result<(), Fail> {
+        for bytes in [[].as_slice(), ONE_LEAF.as_slice()] {
+            let (modular, position) = read::<i32>(rt.alloc(), bytes, Vec::new(rt.alloc()));
+            let mut modular = modular?;
+            assert_eq!(rt; position, 0);
+            assert!(rt; modular.image().is_none());
+            assert!(rt; modular.image_mut().is_none());
+            assert!(rt; modular.into_image().is_none());
+        }
+        assert!(rt; Modular::<i16, PlainDecoder>::empty().image().is_none());
+        Ok(())
+    }
+
+    #[test]
+    fn what_stands_ahead_of_the_tree_is_refused(rt: HostRuntime) -> Result<(), Fail> {
+        let eof = Error::Bitstream(BitstreamError::UnexpectedEof);
+        let transform = Error::Bitstream(BitstreamError::ProfileConformance(
+            "transform not available",
+        ));
+        let channels = Error::Bitstream(BitstreamError::ProfileConformance(
+            "nb_channels_tr too large",
+        ));
+        assert_eq!(rt; refusal(&rt, &[], 1)?, (Some(eof), 0));
+        assert_eq!(rt; refusal(&rt, &[0x00], 1)?, (Some(eof), 7));
+        assert_eq!(rt; refusal(&rt, &[0x0E], 1)?, (Some(eof), 2));
+        assert_eq!(rt; refusal(&rt, &[0x36], 1)?, (Some(transform), 4));
+        assert_eq!(rt; refusal(&rt, &[0x37], 65537)?, (Some(transform), 4));
+        assert_eq!(rt; refusal(&rt, &[0x03], 65537)?, (Some(channels), 4));
+        assert_eq!(rt;
+            refusal(&rt, &[0x03], 65536)?,
+            (Some(Error::GlobalMaTreeNotAvailable), 4)
+        );
+        Ok(())
+    }
+
+    #[test]
+    fn a_cut_tree_is_refused(rt: HostRuntime) -> Result<(), Fail> {
+        let cut = Error::Decoder(DecoderError::UnexpectedEof);
+        for n in 1..9 {
+            assert_eq!(rt; refusal(&rt, &ONE_LEAF[..n], 1)?.0, Some(cut), "{n}");
+        }
+        assert_eq!(rt; refusal(&rt, &ONE_LEAF[..9], 1)?, (None, 68));
+        Ok(())
+    }
+}
