@@ -4,7 +4,7 @@ use Rattle.jxlmod.specs.declared.arguments.Samples.{Samples}
 use Rattle.jxlmod.specs.declared.arguments.Samples.TheVariants.{I16, I32}
 use Rattle.jxlmod.specs.declared.arguments.Command.{Command}
 use Rattle.jxlmod.specs.declared.arguments.Command.TheVariants.{Decode}
-use Rattle.jxlmod.specs.Arguments.{AreFor, AsksDecode, samples_word}
+use Rattle.jxlmod.specs.Arguments.{AreFor, samples_word}
 
 samples_word-one : (s t : Samples) → samples_word s ≡ samples_word t → s ≡ t
 samples_word-one I16 I16 e = refl

@@ -1,5 +1,5 @@
 -- Texts that grow by one piece.
-use Rattle.std.proofs.Common.{◌≡◌, ℕ, zero, suc, ◌+◌, ◌<◌, List, [], ◌∷◌, ◌++◌, length, get_or, take, map, ℤ, refl, ap, sym, ◌∙◌, add-one, ◌≤◌, append_assoc, arith}
+use Rattle.std.proofs.Common.{◌≡◌, ℕ, zero, suc, ◌+◌, ◌<◌, List, [], ◌∷◌, ◌++◌, length, get_or, take, map, ℤ, ap, sym, ◌∙◌, add-one, ◌≤◌, append_assoc, arith}
 use Rattle.std.specs.List.{join_with_byte, flat_map, range_with_len, enumerate_from}
 use Rattle.std.specs.Fmt.{signed_decimal}
 use Rattle.std.proofs.lemmas.List.Concat.{flat_map-append}

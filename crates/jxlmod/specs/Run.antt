@@ -1,6 +1,7 @@
 -- How the program ends.
 use Rattle.std.specs.Prelude.{ℕ, List, Option}
 use Rattle.std.specs.Io.KnownBytes.{Appends, Consumes, IsAtEnd}
+use Rattle.jxlmod.specs.declared.arguments.Command.{Command}
 use Rattle.jxlmod.specs.declared.run.Failure.{Failure}
 use Rattle.jxlmod.specs.declared.run.Failure.TheVariants.{WrongArguments, Unreadable, Refused, Unwritable}
 
@@ -19,3 +20,11 @@ pub record IsDrawn (draws : List ℕ → List ℕ → Type 0) (left rest held ho
   pub ended : IsAtEnd rest
   pub drawn : draws bytes text
   pub written : Appends held holds text
+
+-- the input was read to its end, from left to rest; for a command, its bytes were refused
+pub record IsRefused (refuses : Command → List ℕ → Type 0) (left rest : Option (List ℕ)) : Type 0 where
+  pub command : Command
+  pub bytes : List ℕ
+  pub read : Consumes left rest bytes
+  pub ended : IsAtEnd rest
+  pub refused : refuses command bytes

@@ -6,7 +6,7 @@ ghost use Rattle.std.specs.Vec.Iter.{into_iter_items};
 ghost use Rattle.jxlm_base.specs.declared.error.Error.{Error};
 ghost use Rattle.jxlmod.specs.declared.arguments.Command.{Command};
 ghost use Rattle.jxlmod.specs.Arguments.{AreFor, AreWrong, channels_of};
-ghost use Rattle.jxlmod.specs.Run.{IsDrawn, status_of};
+ghost use Rattle.jxlmod.specs.Run.{IsDrawn, IsRefused, status_of};
 
 use crate::arguments::{Command, USAGE};
 use jxlm_base::error::Error;
@@ -103,6 +103,9 @@ fn carry_out<R: Read, W: Write, D: Draw>(
     ensures done { OnOk result ((c : Command) → AreFor (map string_bytes words.now) c → 0 < channels_of c
         → IsDrawn (λ bytes text. D.answers bytes c (Ok text))
         (R.remaining input.old) (R.remaining input.new) (W.contents output.old) (W.contents output.new)) }
+    ensures refused { IfErr result (λ failure. (e : Error) → failure ≡ Failure.Refused e
+        → IsRefused (λ c bytes. AreFor (map string_bytes words.now) c × D.answers bytes c (Err e))
+        (R.remaining input.old) (R.remaining input.new)) }
 {
     let Some(command) = Command::parse(words) else {
         return Err(Failure::WrongArguments);
@@ -147,7 +150,7 @@ pub fn report<E: Write>(faults: &mut E, failure: Failure) -> u8
 }
 
 /// The words of the arguments: all but the first, which is the program's name. Arguments that are
-/// not text are wrong ones.
+/// not text are wrong ones; where there is no memory for them, there is none to read the input.
 pub fn words_of(alloc: Global, arguments: io::Result<Args>) -> Result<Vec<String>, Failure>
     ensures ok { IfOk result (λ words. IsOkAnd arguments (λ all. words.items ≡ drop 1 (into_iter_items all))) }
     ensures wrong { IsErrOf result Failure.WrongArguments ↔ IsErrAnd arguments (λ e. error_kind e ≢ ErrorKind.OutOfMemory) }

@@ -1,4 +1,4 @@
-use Rattle.std.proofs.Common.{◌≡◌, ℕ, List, Option, Result, Ok, subst, rules, string_bytes, map}
+use Rattle.std.proofs.Common.{ℕ, List, Option, Ok, subst, rules, string_bytes, map}
 use Rattle.std.proofs.lemmas.Result.{on_ok_weaker}
 use Rattle.std.specs.Io.KnownBytes.{Consumes, IsAtEnd}
 use Rattle.jxlmod.specs.declared.arguments.Command.{Command}
