@@ -11,9 +11,6 @@ ghost use Rattle.jxl_modular.specs.Part.{cell_count, greatest_width as the_great
 
 use jxlm_base::error::Result;
 use jxlm_base::grid::OutOfMemory;
-
-use jxlm_base::error::Result;
-use jxlm_base::grid::OutOfMemory;
 use jxlm_transform::param::{ChannelShift, ModularChannelParams};
 use std::alloc::Global;
 
@@ -93,18 +90,6 @@ pub(crate) fn node_limit(channels: &[ModularChannelInfo]) -> usize
     }
     limit as usize
 }
-
-#[cfg(test)]
-mod tests {
-    use super::*;
-
-    #[test]
-    fn a_channel_keeps_what_it_came_with(rt: HostRuntime) {
-        let params = ModularChannelParams::with_shift(9, 4, ChannelShift::Raw(3, 1));
-        let channel = ModularChannelInfo::new(&params);
-        assert_eq!(rt; channel.shift(), ChannelShift::Raw(3, 1));
-        assert_eq!(rt; channel.original_size(), (9, 4));
-    }
 
 /// The greatest width of the channels, also of those without samples; 0 where there are none.
 pub(crate) fn greatest_width(channels: &[ModularChannelInfo]) -> u32

@@ -27,7 +27,7 @@ const DEPTH_LIMIT: usize = 2048;
 
 /// A Modular image, or none where there are no channels.
 #[derive(Drop)]
-pub struct Modular<S: Sample, D: Decoder> {
+pub struct Modular<S, D: Decoder> {
     inner: Option<ModularImageDestination<S, D>>,
 }
 
@@ -111,7 +111,7 @@ impl<S: Sample, D: Decoder> Modular<S, D> {
 
     /// The image, which may be written; with no channels there is none.
     pub fn image_mut(&mut self) -> Option<&mut ModularImageDestination<S, D>>
-        ensures* writes_back { sem 𝓛 (LendsImage S.row D.row S.Default S.to_int S.from_int S.width D.Decoder self.entry result) }
+        ensures* writes_back { sem 𝓛 (LendsImage S.row D.row D.Decoder self.entry result) }
         ensures value { option_copied_mut result ≡ image_of self.old }
     {
         self.inner.as_mut()

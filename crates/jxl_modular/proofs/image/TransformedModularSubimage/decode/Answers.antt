@@ -14,7 +14,7 @@ returns-in_err-decode_samples-clause-answers g c =
     let p = err_from_is_err_and c.from_residual.result c.from_residual.ensures.1 in
     rw (p.1, p.2)
     (answers_fault g.D.Decoder.meaning g.S.Sealed.width g.S.Sealed.to_int (bytes_of c.args.bits.now) c.args.self.now.image.now (position_of c.args.bits.now) c.args.self.now.partial c.args.stream_index
-      c.args.allow_partial _ c.decode_samples.new.self (position_of c.decode_samples.new.bits) c.requires.whole (c.if-not-has_samples.ensures.samples.0 refl) c.in_err-decode_samples.ensures.err)
+    c.args.allow_partial _ c.decode_samples.new.self (position_of c.decode_samples.new.bits) c.requires.whole (c.if-not-has_samples.ensures.samples.0 refl) c.in_err-decode_samples.ensures.err)
 
 pub returns-clause-answers : goal.returns-clause-answers
 returns-clause-answers g c =
