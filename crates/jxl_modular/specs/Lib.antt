@@ -5,6 +5,8 @@ pub mod Coded
 pub mod Decode
 pub mod Image
 pub mod Parts
+pub mod SameButSamples
+pub mod Picture
 pub mod PartRests
 pub mod Samples
 pub mod Layout

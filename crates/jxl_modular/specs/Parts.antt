@@ -5,7 +5,6 @@ use Rattle.jxlm_base.specs.Grid.{Grid}
 use Rattle.jxlm_base.specs.Regions.{store_meanings}
 use Rattle.jxl_modular.specs.Decode.{Standing}
 use Rattle.jxl_modular.specs.Image.{Image, coded_grids}
-use Rattle.jxl_modular.specs.Progress.{KeepsOutside}
 use Rattle.jxl_modular.specs.declared.image.TransformedModularSubimage.{TransformedModularSubimage}
 
 module _ {S D : Type 0} where
@@ -23,14 +22,3 @@ module _ {S D : Type 0} where
   -- what decoding changes, with the reader's place
   abbrev pub standing : (S → ℤ) → TransformedModularSubimage S D → ℕ → Standing
   standing to_int part p = record { position = p; grids = coded_grids to_int (image_of part); partial = is_partial part }
-
-  -- Only samples of the coded channels may differ: header, tree, channels and regions are as before, and so are all cells outside the regions.
-  pub record SameButSamples (old new : Image S D) : Type 0 where
-    pub header : new.header ≡ old.header
-    pub config : new.config ≡ old.config
-    pub group_dim : new.group_dim ≡ old.group_dim
-    pub bit_depth : new.bit_depth ≡ old.bit_depth
-    pub channels : new.channels ≡ old.channels
-    pub nb_meta : new.nb_meta ≡ old.nb_meta
-    pub coded : new.coded ≡ old.coded
-    pub outside : KeepsOutside old.coded old.store new.store

@@ -6,6 +6,7 @@ mod decode;
 mod header;
 pub mod image;
 mod laws;
+mod picture;
 mod root;
 
 pub use channels::ModularChannelInfo;
@@ -16,4 +17,5 @@ pub use jxlm_transform::param;
 pub use jxlm_transform::param::{ChannelShift, ModularChannelParams, ModularParams};
 pub use jxlm_tree::ma::{MaConfig, MaConfigParams};
 pub use jxlm_tree::{flat, ma, predictor};
+pub use picture::decode_picture;
 pub use root::Modular;
