@@ -6,6 +6,7 @@ pub mod Progress
 pub mod Samples
 pub mod Prefixes
 pub mod PartLaws
+pub mod PictureLaws
 pub mod Places
 pub mod TokenLaw
 pub mod Whole

@@ -93,7 +93,7 @@ none_of : (n : ℕ) (P Q : Type 0) → (0 < n → ⊥) → Q → IfSome n P Q
 none_of zero P Q h q = q
 none_of (suc n) P Q h q = absurd (h (omega arith))
 
-abbrev stands : {S D : Type 0} → (S → ℤ) → Image S D → ℕ → Bool → Standing
+abbrev pub stands : {S D : Type 0} → (S → ℤ) → Image S D → ℕ → Bool → Standing
 stands to_int x p partial = record { position = p; grids = coded_grids to_int x; partial = partial }
 
 module _ {S D : Type 0} (d : Meaning D) (w : Width) (to_int : S → ℤ) (bytes : List ℕ) (old : Image S D) (p : ℕ) (partial : Bool) (stream : ℕ) where

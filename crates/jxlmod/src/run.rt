@@ -5,7 +5,7 @@ ghost use Rattle.std.specs.IoError.{error_kind};
 ghost use Rattle.std.specs.Vec.Iter.{into_iter_items};
 ghost use Rattle.jxlm_base.specs.declared.error.Error.{Error};
 ghost use Rattle.jxlmod.specs.declared.arguments.Command.{Command};
-ghost use Rattle.jxlmod.specs.Arguments.{AreFor, AreWrong, channels_of};
+ghost use Rattle.jxlmod.specs.Arguments.{AreFor, AreWrong, IsWithinLimits, channels_of};
 ghost use Rattle.jxlmod.specs.Run.{IsDrawn, IsRefused, status_of};
 
 use crate::arguments::{Command, USAGE};
@@ -43,8 +43,10 @@ pub trait Draw {
     // what may be answered for the bytes and the command: a text or a fault
     ghost answers: { List ℕ → Command → Result (List ℕ) Error → Type 0 };
 
-    /// The text of the image that the command asks for.
+    /// The text of the image that the command asks for, which has a channel.
     fn draw(&self, alloc: Global, bytes: &[u8], command: Command) -> Result<String, Error>
+        requires within { IsWithinLimits command }
+        requires some { 0 < channels_of command }
         ensures { MatchResult result
             (λ text. answers bytes.now command (Ok (string_bytes text)))
             (λ fault. answers bytes.now command (Err fault)) };
