@@ -1,2 +1,3 @@
 pub mod ArgumentLemmas
 pub mod TextLemmas
+pub mod Pictures

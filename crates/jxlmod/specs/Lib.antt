@@ -2,3 +2,4 @@ pub mod Arguments
 pub mod Decimals
 pub mod Printing
 pub mod Run
+pub mod Drawing

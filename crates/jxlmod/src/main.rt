@@ -2,13 +2,24 @@
 #![tactic(auto)]
 
 mod arguments;
+mod drawing;
 mod printing;
 mod run;
 
-use run::Failure;
+use std::env;
 use std::process::ExitCode;
 
-// No command can be carried out yet, so that all arguments are wrong ones.
 fn main(rt: HostRuntime) -> ExitCode {
-    ExitCode::from(run::report(&mut rt.stderr(), Failure::WrongArguments))
+    let alloc = rt.alloc();
+    let status = match run::words_of(alloc, env::args(&rt)) {
+        Ok(words) => run::run(
+            alloc,
+            &words,
+            &mut rt.stdin(),
+            &mut rt.stdout(),
+            &mut rt.stderr(),
+        ),
+        Err(failure) => run::report(&mut rt.stderr(), failure),
+    };
+    ExitCode::from(status)
 }

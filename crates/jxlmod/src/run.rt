@@ -6,9 +6,11 @@ ghost use Rattle.std.specs.Vec.Iter.{into_iter_items};
 ghost use Rattle.jxlm_base.specs.declared.error.Error.{Error};
 ghost use Rattle.jxlmod.specs.declared.arguments.Command.{Command};
 ghost use Rattle.jxlmod.specs.Arguments.{AreFor, AreWrong, IsWithinLimits, channels_of};
+ghost use Rattle.jxlmod.specs.Drawing.{Answers};
 ghost use Rattle.jxlmod.specs.Run.{IsDrawn, IsRefused, status_of};
 
 use crate::arguments::{Command, USAGE};
+use crate::drawing::PartDrawer;
 use jxlm_base::error::Error;
 use std::alloc::{AllocError, Global};
 use std::env::Args;
@@ -88,6 +90,30 @@ pub fn run_with<R: Read, W: Write, E: Write, D: Draw>(
         Ok(()) => 0,
         Err(failure) => report(faults, failure),
     }
+}
+
+/// Carries out what the words ask for, as `run_with` does: `decode W H N BITS i16|i32` reads a picture
+/// of `N` channels of `W` by `H` samples from the input, in one part and in the format of the plain
+/// decoder, and prints its samples.
+pub fn run<R: Read, W: Write, E: Write>(
+    alloc: Global,
+    words: &[String],
+    input: &mut R,
+    output: &mut W,
+    faults: &mut E,
+) -> u8
+    ensures status { result ≤ 2 }
+    ensures wrong { (result ≡ 2) ↔ AreWrong (map string_bytes words.now) }
+    ensures unread { result ≡ 2 → (input.new ≡ input.old) × (output.new ≡ output.old) }
+    ensures nothing { (c : Command) → AreFor (map string_bytes words.now) c → channels_of c ≡ 0
+        → (result ≡ 0) × (input.new ≡ input.old) × (output.new ≡ output.old) × (faults.new ≡ faults.old) }
+    ensures done { result ≡ 0 → (c : Command) → AreFor (map string_bytes words.now) c → 0 < channels_of c
+        → IsDrawn (λ bytes text. Answers bytes c (Ok text))
+        (R.remaining input.old) (R.remaining input.new) (W.contents output.old) (W.contents output.new) }
+    ensures quiet { result ≡ 0 → faults.new ≡ faults.old }
+    ensures failed { result ≡ 1 → (output.new ≡ output.old) ⊎ (faults.new ≡ faults.old) }
+{
+    run_with(alloc, words, input, output, faults, &PartDrawer)
 }
 
 fn carry_out<R: Read, W: Write, D: Draw>(

@@ -1,0 +1,82 @@
+//! The text of a picture, from its bytes.
+ghost use Rattle.std.specs.Prelude.{◌≡◌, ◌≤◌, ◌<◌, ◌^◌, ℤ, pos, MatchResult, IfOk, replicate, string_bytes};
+ghost use Rattle.jxlm_transform.specs.Params.{sized};
+ghost use Rattle.jxlm_transform.specs.declared.param.ChannelShift.TheVariants.{Shifts};
+ghost use Rattle.jxlmod.specs.Drawing.{Answers, IsPictureText, IsPictureFault, width_of};
+
+use crate::arguments::{Command, Samples};
+use crate::printing::print_image;
+use crate::run::Draw;
+use jxl_modular::decode_picture;
+use jxlm_base::bits::Bitstream;
+use jxlm_base::error::Error;
+use jxlm_base::grid::OutOfMemory;
+use jxlm_base::plain::PlainDecoder;
+use jxlm_base::sample::Sample;
+use jxlm_transform::param::{ModularChannelParams, ModularParams};
+use std::alloc::Global;
+
+/// The side of a group of the pictures that are drawn.
+const GROUP_DIM: u32 = 256;
+
+/// Draws the picture that stands at the start of the bytes: a header and the samples of one part, in
+/// the format of the plain decoder.
+#[derive(Clone, Copy)]
+pub struct PartDrawer;
+
+impl Draw for PartDrawer {
+    ghost answers = { Answers };
+
+    fn draw(&self, alloc: Global, bytes: &[u8], command: Command) -> Result<String, Error> {
+        let Command::Decode {
+            width,
+            height,
+            channels,
+            bit_depth,
+            samples,
+        } = command;
+        match samples {
+            Samples::I16 => picture::<i16>(alloc, bytes, width, height, channels, bit_depth),
+            Samples::I32 => picture::<i32>(alloc, bytes, width, height, channels, bit_depth),
+        }
+    }
+}
+
+/// So many channels of these sides and of shift 0.
+fn channel_list(
+    alloc: Global,
+    width: u32,
+    height: u32,
+    count: u32,
+) -> Result<Vec<ModularChannelParams>, OutOfMemory>
+    ensures { IfOk result (λ v. v.items ≡ replicate count (sized width height (Shifts 0))) }
+{
+    let channel = ModularChannelParams::new(width, height);
+    Ok(vec![in alloc; channel; count as usize]?)
+}
+
+/// The text of the picture of so many channels of these sides.
+fn picture<S: Sample>(
+    alloc: Global,
+    bytes: &[u8],
+    width: u32,
+    height: u32,
+    channels: u32,
+    bit_depth: u32,
+) -> Result<String, Error>
+    requires some { 0 < channels }
+    requires many { channels ≤ 2 ^ 20 }
+    requires deep { bit_depth ≤ 32 }
+    requires wide { width ≤ 2 ^ 30 }
+    requires high { height ≤ 2 ^ 30 }
+    ensures { MatchResult result (λ text. IsPictureText S.width S.to_int S.from_int width height channels bit_depth bytes.now (string_bytes text)) (λ fault. IsPictureFault S.width S.to_int S.from_int width height channels bit_depth bytes.now fault) }
+{
+    let channels = channel_list(alloc, width, height, channels)?;
+    let params = ModularParams::with_channels(GROUP_DIM, bit_depth, channels, None);
+    let mut bits = Bitstream::new(bytes);
+    let image = decode_picture::<S, PlainDecoder>(alloc, &mut bits, params, 0)?;
+    match image {
+        Some(image) => Ok(print_image(alloc, image.image_channels())?),
+        None => Ok(String::new(alloc)),
+    }
+}
