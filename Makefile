@@ -4,7 +4,7 @@
 .PHONY: run test
 
 run:
-	cd crates/jxlmod && rt run -- $$(cat args) < stdin
+	@cd crates/jxlmod && rt run -- $$(cat args) < stdin
 
 test:
 	rt ci
