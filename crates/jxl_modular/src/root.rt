@@ -121,7 +121,8 @@ impl<S: Sample, D: Decoder> Modular<S, D> {
     pub fn into_image(self) -> Option<ModularImageDestination<S, D>>
         ensures { result ≡ image_of self }
     {
-        self.inner
+        let Modular { inner } = self;
+        inner
     }
 }
 
