@@ -1,7 +1,6 @@
 -- What reading an image answers, from what its steps answer.
-use Rattle.std.proofs.Common.{◌≡◌, ℕ, ◌+◌, ◌*◌, ◌^◌, ◌<◌, min, List, [], ◌∷◌, length, map, sum_by, false, Some, Ok, Err, refl, sym, ap, ◌∙◌, arith}
+use Rattle.std.proofs.Common.{◌≡◌, ℕ, ◌+◌, ◌*◌, ◌^◌, ◌<◌, min, List, [], ◌∷◌, length, map, sum_by, false, Some, Ok, Err, inr, refl, sym, ap, ◌∙◌, arith}
 use Rattle.std.specs.Prelude.{◌⊎◌}
-use Rattle.std.proofs.Common.{inr}
 use Rattle.std.proofs.lemmas.List.Sums.{sum_by-cons}
 use Rattle.jxlm_base.specs.Decoding.{Meaning}
 use Rattle.jxlm_base.specs.Fault.{Fault, Eof, BadEnum, BadProfile, BadTree, NoGlobalTree, BadRct, BadPalette, BadSqueeze, OfDecoder, NoMemory, UnlessMemory, fault_of}
@@ -21,7 +20,7 @@ use Rattle.jxl_modular.specs.declared.channels.ModularChannelInfo.{ModularChanne
 use Rattle.jxl_modular.specs.declared.header.ModularHeader.{ModularHeader}
 
 -- what follows from a fact follows, unless there was no memory
-pub unless_so : (fault : Fault) {P Q : Type 0} → (P → Q) → UnlessMemory fault P → UnlessMemory fault Q
+unless_so : (fault : Fault) {P Q : Type 0} → (P → Q) → UnlessMemory fault P → UnlessMemory fault Q
 unless_so Eof f h = f h
 unless_so (BadEnum name value) f h = f h
 unless_so (BadProfile text) f h = f h
@@ -34,20 +33,6 @@ unless_so (OfDecoder decoders.UnexpectedEof) f h = f h
 unless_so (OfDecoder (decoders.Invalid code)) f h = f h
 unless_so (OfDecoder decoders.OutOfMemory) f h = h
 unless_so NoMemory f h = h
-
-pub always_so : (fault : Fault) {P : Type 0} → P → UnlessMemory fault P
-always_so Eof h = h
-always_so (BadEnum name value) h = h
-always_so (BadProfile text) h = h
-always_so BadTree h = h
-always_so NoGlobalTree h = h
-always_so BadRct h = h
-always_so BadPalette h = h
-always_so BadSqueeze h = h
-always_so (OfDecoder decoders.UnexpectedEof) h = h
-always_so (OfDecoder (decoders.Invalid code)) h = h
-always_so (OfDecoder decoders.OutOfMemory) h = tt
-always_so NoMemory h = tt
 
 infos_same : (ps : List ModularChannelParams) → map (λ c. info_of (image_channel c)) ps ≡ map info_of (image_list ps).channels
 infos_same [] = refl

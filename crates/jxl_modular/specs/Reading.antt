@@ -1,5 +1,5 @@
 -- How one cell is read and written, at a leaf.
-use Rattle.std.specs.Prelude.{◌≡◌, ℕ, ℤ, pos, List, Ok, get_or}
+use Rattle.std.specs.Prelude.{◌≡◌, ℕ, ◌<◌, ℤ, pos, List, Ok, get_or}
 use Rattle.std.specs.Int.{Width, w32, int_wrap}
 use Rattle.jxlm_base.specs.Decoding.{Meaning}
 use Rattle.jxlm_base.specs.Grid.{Grid}

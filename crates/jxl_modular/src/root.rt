@@ -121,7 +121,8 @@ impl<S: Sample, D: Decoder> Modular<S, D> {
     pub fn into_image(self) -> Option<ModularImageDestination<S, D>>
         ensures { result ≡ image_of self }
     {
-        self.inner
+        let Modular { inner } = self;
+        inner
     }
 }
 
@@ -139,15 +140,12 @@ mod tests {
 
     type Image<S> = ModularImageDestination<S, PlainDecoder>;
 
-    /// Of each channel of an image its sides and its samples; nothing where there is no image.
-    fn contents<S: Sample>(alloc: Global, image: Option<&Image<S>>) -> Result<Vec<i32>, Fail> {
+    /// Of each channel of an image its sides and its samples.
+    fn contents<S: Sample>(alloc: Global, image: &Image<S>) -> Result<Vec<i32>, Fail> {
         let mut seen = Vec::new(alloc);
-        let Some(image) = image else {
-            return Ok(seen);
-        };
         for grid in image.image_channels() {
-            seen.push(grid.width() as i32)?;
-            seen.push(grid.height() as i32)?;
+            seen.push(i32::try_from(grid.width()).unwrap_or(-1))?;
+            seen.push(i32::try_from(grid.height()).unwrap_or(-1))?;
             for y in 0..grid.height() {
                 for sample in grid.get_row(y) {
                     seen.push(sample.to_i32())?;
@@ -162,41 +160,39 @@ mod tests {
         alloc: Global,
         bytes: &[u8],
         channels: Vec<ModularChannelParams>,
-    ) -> (Result<Modular<S, PlainDecoder>, Error>, u64) {
+    ) -> Result<(Result<Modular<S, PlainDecoder>, Error>, u64), Fail> {
         let mut bits = Bitstream::new(bytes);
         let params = ModularParams::with_channels(256, 8, channels, None);
+        if !params.is_valid() {
+            return Err(Fail::from(Error::InvalidSqueezeParams));
+        }
         let modular = Modular::parse(alloc, &mut bits, params);
-        (modular, bits.position())
+        Ok((modular, bits.position()))
     }
 
     /// Why an image of so many channels of 1 by 1 sample is refused, and where the reader stands then.
     fn refusal(rt: &HostRuntime, bytes: &[u8], count: usize) -> Result<(Option<Error>, u64), Fail> {
         let channels = vec![in rt.alloc(); ModularChannelParams::new(1, 1); count]?;
-        let (modular, position) = read::<i32>(rt.alloc(), bytes, channels);
+        let (modular, position) = read::<i32>(rt.alloc(), bytes, channels)?;
         Ok((modular.err(), position))
-    }
-
-    /// The contents of an image of one channel of 2 by 2, as it is lent and as it is given up, and
-    /// where the reader stands behind it.
-    fn square<S: Sample>(alloc: Global) -> Result<(Vec<i32>, Vec<i32>, u64), Fail> {
-        let channels = vec![in alloc; ModularChannelParams::new(2, 2)]?;
-        let (modular, position) = read::<S>(alloc, &ONE_LEAF, channels);
-        let mut modular = modular?;
-        let lent = match modular.image_mut() {
-            Some(image) => contents(alloc, Some(&*image))?,
-            None => Vec::new(alloc),
-        };
-        let given_up = contents(alloc, modular.into_image().as_ref())?;
-        Ok((lent, given_up, position))
     }
 
     #[test]
     fn an_image_begins_with_zeros(rt: HostRuntime) -> Result<(), Fail> {
-        for (lent, given_up, position) in [square::<i32>(rt.alloc())?, square::<i16>(rt.alloc())?] {
-            assert_eq!(rt; lent.as_slice(), [2, 2, 0, 0, 0, 0].as_slice());
-            assert_eq!(rt; given_up.as_slice(), [2, 2, 0, 0, 0, 0].as_slice());
-            assert_eq!(rt; position, 68);
-        }
+        let channels = vec![in rt.alloc(); ModularChannelParams::new(2, 2)]?;
+        let (modular, position) = read::<i32>(rt.alloc(), &ONE_LEAF, channels)?;
+        let mut modular = modular?;
+        assert_eq!(rt; position, 68);
+        let lent = match modular.image_mut() {
+            Some(image) => image.image_channels().len(),
+            None => 0,
+        };
+        assert_eq!(rt; lent, 1);
+        let seen = match modular.into_image() {
+            Some(image) => contents(rt.alloc(), &image)?,
+            None => Vec::new(rt.alloc()),
+        };
+        assert_eq!(rt; seen.as_slice(), [2, 2, 0, 0, 0, 0].as_slice());
         Ok(())
     }
 
@@ -208,9 +204,13 @@ mod tests {
             ModularChannelParams::with_shift(9, 4, ChannelShift::Shifts(2)),
             ModularChannelParams::new(0, 5),
         ]?;
-        let (modular, _) = read::<i16>(rt.alloc(), &ONE_LEAF, channels);
+        let (modular, position) = read::<i16>(rt.alloc(), &ONE_LEAF, channels)?;
         let modular = modular?;
-        let seen = contents(rt.alloc(), modular.image())?;
+        assert_eq!(rt; position, 68);
+        let seen = match modular.image() {
+            Some(image) => contents(rt.alloc(), image)?,
+            None => Vec::new(rt.alloc()),
+        };
         let expected = [
             3, 4, 0, 0, 0, 0, 0, 0, 0, 0, 0, 0, 0, 0, 3, 1, 0, 0, 0, 0, 5,
         ];
@@ -221,7 +221,7 @@ mod tests {
     #[test]
     fn no_channels_have_no_image(rt: HostRuntime) -> Result<(), Fail> {
         for bytes in [[].as_slice(), ONE_LEAF.as_slice()] {
-            let (modular, position) = read::<i32>(rt.alloc(), bytes, Vec::new(rt.alloc()));
+            let (modular, position) = read::<i32>(rt.alloc(), bytes, Vec::new(rt.alloc()))?;
             let mut modular = modular?;
             assert_eq!(rt; position, 0);
             assert!(rt; modular.image().is_none());

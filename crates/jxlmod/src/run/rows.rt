@@ -1,0 +1,105 @@
+// Whole pictures, worked out by hand, and every input that is cut short.
+use super::*;
+use std::test::Fail;
+
+const EOF_OF_HEADER: &str = "error: bitstream error: unexpected end of input\n";
+
+const EOF_OF_TOKENS: &str = "error: entropy decoder error: unexpected end of input\n";
+
+// Four samples of the gradient, from tokens of three bits.
+const GRADIENT: &[u8] = &[0x42, 0x00, 0x04, 0x00, 0x04, 0x0E, 0x05, 0xC0, 0x20, 0x06];
+// One constant token, under a leaf that adds to it.
+const CONSTANT: &[u8] = &[0x82, 0x00, 0x40, 0x80, 0x04, 0x12, 0x3A, 0x08, 0x40, 0x61];
+// A run of three equal tokens.
+const RUN: &[u8] = &[
+    0x42, 0x00, 0x04, 0x00, 0x04, 0x0E, 0x0D, 0xC0, 0x40, 0x8F, 0x01,
+];
+// A run before any token: it repeats zero.
+const RUN_OF_ZERO: &[u8] = &[0x42, 0x00, 0x04, 0x00, 0x04, 0x0E, 0x0D, 0xC0, 0x70, 0x00];
+// The first picture with the sum of its tokens.
+const SEALED: &[u8] = &[
+    0x42, 0x00, 0x04, 0x00, 0x04, 0x0E, 0x15, 0xC0, 0x70, 0x20, 0x06,
+];
+// The same with a wrong sum.
+const MISSUMMED: &[u8] = &[
+    0x42, 0x00, 0x04, 0x00, 0x04, 0x0E, 0x15, 0xC0, 0x80, 0x20, 0x06,
+];
+// The token 65535 stands for -32768, and the leaf adds -1.
+const ONE_CELL: &[u8] = &[
+    0x02, 0x00, 0x00, 0x00, 0x88, 0x00, 0x00, 0x00, 0x00, 0x08, 0x00, 0x00, 0x00, 0x00, 0x00, 0x00,
+    0x00, 0xA2, 0xFF, 0x7F,
+];
+
+#[derive(Drop)]
+struct Ended {
+    status: u8,
+    output: Vec<u8>,
+    faults: Vec<u8>,
+}
+
+fn run_on(alloc: Global, line: &str, bytes: &[u8]) -> Result<Ended, Fail> {
+    let mut words = Vec::new(alloc);
+    for word in line.split(' ') {
+        words.push(String::from_str(alloc, word)?)?;
+    }
+    let mut input = bytes;
+    let mut output = Vec::new(alloc);
+    let mut faults = Vec::new(alloc);
+    let status = run(alloc, &words, &mut input, &mut output, &mut faults);
+    Ok(Ended {
+        status,
+        output,
+        faults,
+    })
+}
+
+#[test]
+fn pictures_are_printed(rt: HostRuntime) -> Result<(), Fail> {
+    let four = "decode 2 2 1 8 i32";
+    for (line, bytes, text) in [
+        (four, GRADIENT, "channel 0 2x2\n1 3\n0 2\n"),
+        ("decode 2 2 1 8 i16", GRADIENT, "channel 0 2x2\n1 3\n0 2\n"),
+        (
+            "decode 02 2 001 8 i32",
+            GRADIENT,
+            "channel 0 2x2\n1 3\n0 2\n",
+        ),
+        (four, CONSTANT, "channel 0 2x2\n1 1\n1 1\n"),
+        (four, RUN, "channel 0 2x2\n1 2\n2 3\n"),
+        (four, RUN_OF_ZERO, "channel 0 2x2\n0 0\n0 0\n"),
+        (four, SEALED, "channel 0 2x2\n1 3\n0 2\n"),
+        ("decode 1 1 1 16 i16", ONE_CELL, "channel 0 1x1\n32767\n"),
+        ("decode 1 1 1 16 i32", ONE_CELL, "channel 0 1x1\n-32769\n"),
+        ("decode 2 2 0 8 i32", b"".as_slice(), ""),
+    ] {
+        let ended = run_on(rt.alloc(), line, bytes)?;
+        assert_eq!(rt; ended.output.as_slice(), text.as_bytes(), "{line}");
+        assert_eq!(rt; (ended.status, ended.faults.len()), (0, 0), "{line}");
+    }
+    Ok(())
+}
+
+#[test]
+fn a_wrong_sum_is_refused(rt: HostRuntime) -> Result<(), Fail> {
+    let ended = run_on(rt.alloc(), "decode 2 2 1 8 i32", MISSUMMED)?;
+    assert_eq!(rt; (ended.status, ended.output.len()), (1, 0));
+    assert_eq!(rt;
+        ended.faults.as_slice(),
+        b"error: entropy decoder error: invalid code 4\n".as_slice()
+    );
+    Ok(())
+}
+
+// The first byte holds the whole header; whatever follows is the decoder's to read.
+#[test]
+fn input_cut_short_is_an_unexpected_end(rt: HostRuntime) -> Result<(), Fail> {
+    for whole in [GRADIENT, CONSTANT, RUN, RUN_OF_ZERO, SEALED, MISSUMMED] {
+        for n in 0..whole.len() {
+            let ended = run_on(rt.alloc(), "decode 2 2 1 8 i32", &whole[..n])?;
+            let line = if n == 0 { EOF_OF_HEADER } else { EOF_OF_TOKENS };
+            assert_eq!(rt; ended.faults.as_slice(), line.as_bytes(), "{n}");
+            assert_eq!(rt; (ended.status, ended.output.len()), (1, 0), "{n}");
+        }
+    }
+    Ok(())
+}
