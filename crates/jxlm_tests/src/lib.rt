@@ -5,4 +5,8 @@ pub mod bytewise;
 #[cfg(test)]
 mod outcome;
 #[cfg(test)]
+mod pictures;
+#[cfg(test)]
 mod rows;
+#[cfg(test)]
+mod table;

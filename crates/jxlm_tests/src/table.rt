@@ -1,0 +1,88 @@
+// Tables of pictures: each line has the sizes of the channels, the bytes, and what is told of the picture, with a bar between.
+ghost use Rattle.std.specs.Prelude.{◌≤◌};
+
+use crate::outcome::{Outcome, at_once, by_calls};
+use jxl_modular::decoder::Decoder;
+use jxl_modular::error::Error;
+use jxl_modular::{ModularChannelParams, Sample};
+use std::alloc::Global;
+use std::process::Abort;
+use std::test::Fail;
+
+// Channels as large as the picture, from sizes as `3x2`, with one space between.
+fn channels(alloc: Global, sizes: &str) -> Result<Vec<ModularChannelParams>, Fail> {
+    let mut channels = Vec::new(alloc);
+    for size in sizes.split(' ') {
+        let (width, height) = size.split_once('x').ok_or("a size without x")?;
+        let channel = ModularChannelParams::new(width.parse::<u32>()?, height.parse::<u32>()?);
+        channels.push(channel)?;
+    }
+    Ok(channels)
+}
+
+fn digit(c: u8) -> u8
+    ensures { result ≤ 15 }
+{
+    match c {
+        b'0'..=b'9' => c - b'0',
+        b'a'..=b'f' => c - b'a' + 10,
+        _ => 0,
+    }
+}
+
+// The bytes of hexadecimal digits.
+fn bytes(alloc: Global, digits: &str) -> Result<Vec<u8>, Fail> {
+    let mut bytes = Vec::new(alloc);
+    let mut digits = digits.bytes();
+    while let Some(high) = digits.next() {
+        let low = digits.next().ok_or("an odd number of digits")?;
+        bytes.push(16 * digit(high) + digit(low))?;
+    }
+    Ok(bytes)
+}
+
+fn numbers(alloc: Global, samples: &[i32]) -> Result<String, Fail> {
+    let mut text = String::new(alloc);
+    for sample in samples {
+        write!(text, "{sample} ")?;
+    }
+    Ok(text)
+}
+
+// The samples and the reader's place, with the fault of the samples, if there is one; or the fault of what stands before them.
+fn told(alloc: Global, outcome: &Outcome) -> Result<String, Fail> {
+    let samples = numbers(alloc, &outcome.samples)?;
+    let position = outcome.position;
+    Ok(match outcome.fault {
+        None => format!(in alloc; "{samples}@{position}")?,
+        Some(fault) if samples.is_empty() => format!(in alloc; "{fault}")?,
+        Some(fault) => format!(in alloc; "{samples}@{position} {fault}")?,
+    })
+}
+
+// Reads each picture of a table call by call, and once more by one call.
+pub fn check<S: Sample, D: Decoder>(
+    rt: &impl Abort,
+    alloc: Global,
+    table: &str,
+) -> Result<(), Fail> {
+    for line in table.lines() {
+        let (sizes, rest) = line.split_once('|').ok_or("no sizes")?;
+        let (digits, expected) = rest.split_once('|').ok_or("no bytes")?;
+        let channels = channels(alloc, sizes)?;
+        let bytes = bytes(alloc, digits)?;
+        let outcome = by_calls::<S, D>(rt, alloc, &bytes, &channels)?;
+        let seen = told(alloc, &outcome)?;
+        assert_eq!(rt; seen.as_str(), expected, "{line}");
+        assert_eq!(rt; outcome.whole, outcome.fault.is_none(), "{line}");
+        let (answer, position) = at_once::<S, D>(rt, alloc, &bytes, &channels)?;
+        assert_eq!(rt; position, outcome.position, "{line}");
+        match answer {
+            Ok(samples) => {
+                assert_eq!(rt; samples.as_slice(), outcome.samples.as_slice(), "{line}");
+            }
+            Err(fault) => assert_eq!(rt; Some(fault), outcome.fault, "{line}"),
+        }
+    }
+    Ok(())
+}
