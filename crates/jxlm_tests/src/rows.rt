@@ -1,6 +1,7 @@
 // Pictures of one channel of 2 by 2, by the plain decoder. The values were computed by hand, and once more by a program of its own.
 
 use crate::outcome::{at_once, by_calls};
+use jxl_modular::bits::BitstreamError;
 use jxl_modular::decoder::DecoderError;
 use jxl_modular::error::Error;
 use jxl_modular::plain::PlainDecoder;
@@ -70,7 +71,10 @@ fn rows<S: Sample>(rt: &impl Abort, alloc: Global) -> Result<(), Fail> {
         let (answer, end) = at_once::<S, PlainDecoder>(rt, alloc, bytes, &square)?;
         assert_eq!(rt; end, position, "{name}");
         match answer {
-            Ok(picture) => assert_eq!(rt; picture.as_slice(), samples.as_slice(), "{name}"),
+            Ok(picture) => {
+                assert_eq!(rt; fault, None, "{name}");
+                assert_eq!(rt; picture.as_slice(), samples.as_slice(), "{name}");
+            }
             Err(refusal) => assert_eq!(rt; Some(refusal), fault, "{name}"),
         }
     }
@@ -85,4 +89,70 @@ fn rows_of_32_bits(rt: HostRuntime) -> Result<(), Fail> {
 #[test]
 fn rows_of_16_bits(rt: HostRuntime) -> Result<(), Fail> {
     rows::<i16>(&rt, rt.alloc())
+}
+
+// Rows that are cut behind their tree: how many bytes are left, the samples that they give, and where the reader stands.
+type Cut = (&'static [u8], usize, [i32; 4], u64);
+
+const CUTS: [Cut; 8] = [
+    (GRADIENT, 9, [1, 0, 0, 0], 71),
+    (RUN, 9, [1, 0, 0, 0], 72),
+    (RUN, 10, [1, 0, 0, 0], 72),
+    (RUN_OF_NONE, 9, [0, 0, 0, 0], 68),
+    (SEALED, 9, [0, 0, 0, 0], 68),
+    (SEALED, 10, [1, 0, 0, 0], 79),
+    (WRONG_SEAL, 9, [0, 0, 0, 0], 68),
+    (WRONG_SEAL, 10, [1, 0, 0, 0], 79),
+];
+
+#[test]
+fn samples_are_cut(rt: HostRuntime) -> Result<(), Fail> {
+    let square = [ModularChannelParams::new(2, 2)];
+    for (bytes, count, samples, position) in CUTS {
+        let cut = bytes.get(..count).ok_or("a short row")?;
+        let outcome = by_calls::<i32, PlainDecoder>(&rt, rt.alloc(), cut, &square)?;
+        assert_eq!(rt; outcome.fault, EOF, "{count} of {bytes:?}");
+        assert_eq!(rt;
+            outcome.samples.as_slice(),
+            samples.as_slice(),
+            "{count} of {bytes:?}"
+        );
+        assert_eq!(rt; outcome.position, position, "{count} of {bytes:?}");
+        assert_eq!(rt; outcome.whole, false, "{count} of {bytes:?}");
+        let (answer, end) = at_once::<i32, PlainDecoder>(&rt, rt.alloc(), cut, &square)?;
+        assert_eq!(rt; answer.err(), EOF, "{count} of {bytes:?}");
+        assert_eq!(rt; end, position, "{count} of {bytes:?}");
+    }
+    Ok(())
+}
+
+// Rows, and how many bytes hold their trees.
+const TREES: [(&[u8], usize); 6] = [
+    (GRADIENT, 9),
+    (CONSTANT, 10),
+    (RUN, 9),
+    (RUN_OF_NONE, 9),
+    (SEALED, 9),
+    (WRONG_SEAL, 9),
+];
+
+#[test]
+fn trees_are_cut(rt: HostRuntime) -> Result<(), Fail> {
+    let square = [ModularChannelParams::new(2, 2)];
+    for (bytes, tree) in TREES {
+        for count in 0..tree {
+            let cut = bytes.get(..count).ok_or("a short row")?;
+            let fault = if count == 0 {
+                Some(Error::Bitstream(BitstreamError::UnexpectedEof))
+            } else {
+                EOF
+            };
+            let outcome = by_calls::<i32, PlainDecoder>(&rt, rt.alloc(), cut, &square)?;
+            assert_eq!(rt; outcome.fault, fault, "{count} of {bytes:?}");
+            assert!(rt; outcome.samples.is_empty(), "{count} of {bytes:?}");
+            let (answer, _) = at_once::<i32, PlainDecoder>(&rt, rt.alloc(), cut, &square)?;
+            assert_eq!(rt; answer.err(), fault, "{count} of {bytes:?}");
+        }
+    }
+    Ok(())
 }

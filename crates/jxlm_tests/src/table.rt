@@ -79,6 +79,7 @@ pub fn check<S: Sample, D: Decoder>(
         assert_eq!(rt; position, outcome.position, "{line}");
         match answer {
             Ok(samples) => {
+                assert_eq!(rt; outcome.fault, None, "{line}");
                 assert_eq!(rt; samples.as_slice(), outcome.samples.as_slice(), "{line}");
             }
             Err(fault) => assert_eq!(rt; Some(fault), outcome.fault, "{line}"),
