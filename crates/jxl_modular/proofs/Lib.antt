@@ -13,3 +13,4 @@ pub mod Whole
 pub mod HeaderLaws
 pub mod FreshLaws
 pub mod ParsingLaws
+mod Examples

@@ -1,0 +1,268 @@
+-- Computed examples: headers, trees and samples, from bits.
+use Rattle.std.specs.Prelude.{◌≡◌, ℕ, zero, suc, ◌≤◌, ◌<◌, ℤ, pos, List, [], ◌∷◌, map, Some, None, Ok, Err, refl, false, true, Bool, codes}
+use Rattle.std.specs.List.{All}
+use Rattle.std.specs.Int.{w32, w16, int_wrap}
+use Rattle.std.specs.Int.Count.{count_leading_zeros}
+use Rattle.std.proofs.Common.{arith, inl, inr}
+use Rattle.std.proofs.lemmas.List.Elements.{All-head}
+use Rattle.jxlm_base.specs.Fault.{BadProfile, NoGlobalTree, Eof}
+use Rattle.jxlm_base.specs.Grid.{Grid, grid, cell, IsFull}
+use Rattle.jxlm_base.specs.Regions.{region, HasCell}
+use Rattle.jxlm_base.specs.Plain.{PlainState, plain, number_at, mode_at, cluster_at, code_at, plain_parse, plain_begin, plain_read, token_at, run_at}
+use Rattle.jxlm_base.specs.declared.plain.Code.TheVariants.{Constant, Fixed}
+use Rattle.jxlm_base.specs.declared.plain.Mode.TheVariants.{Unsealed, Sealed, Runs}
+use Rattle.jxlm_base.specs.declared.plain.Mode.{Mode}
+use Rattle.jxlm_base.specs.declared.decoder.DecoderError.TheVariants.{UnexpectedEof, Invalid}
+use Rattle.jxlm_base.specs.declared.error.Error.TheVariants.{Decoder}
+use Rattle.jxlm_transform.specs.Channels.{image_list, image_channel}
+use Rattle.jxlm_transform.specs.Params.{sized}
+use Rattle.jxlm_transform.specs.declared.param.ChannelShift.TheVariants.{Shifts}
+use Rattle.jxlm_transform.specs.declared.param.ModularChannelParams.{ModularChannelParams}
+use Rattle.jxlm_tree.specs.Tree.{Config, one_leaf, levels}
+use Rattle.jxlm_tree.specs.TreeReading.{listing_at, drafts_at, nodes_at, node_at, leaf_at, predictor_at, multiplier_at, IsTreeAt}
+use Rattle.jxlm_tree.specs.WeightsHeader.{default_weights}
+use Rattle.jxlm_tree.specs.declared.flat.Leaf.{Leaf}
+use Rattle.jxlm_tree.specs.declared.predictor.Predictor.TheVariants.{Zero, Gradient}
+use Rattle.jxlm_transform.specs.declared.param.ModularParams.{ModularParams}
+use Rattle.jxl_modular.specs.Coded.{IsCodedToTheEnd, IsCodedWhole}
+use Rattle.jxl_modular.specs.Decode.{Standing, FailsToRead, FailsToEnd, DecodeAnswers}
+use Rattle.jxl_modular.specs.Fresh.{info_of}
+use Rattle.jxl_modular.specs.Image.{Image}
+use Rattle.jxl_modular.specs.Layout.{layout, channels_of}
+use Rattle.jxl_modular.specs.Opening.{opening, node_limit}
+use Rattle.jxl_modular.specs.Part.{Part, Channel}
+use Rattle.jxl_modular.specs.Parsing.{IsImageAt}
+use Rattle.jxl_modular.specs.Picture.{IsFilled, IsPictureAt}
+use Rattle.jxl_modular.specs.Progress.{KeepsOutside, buffer_at}
+use Rattle.jxl_modular.specs.declared.channels.ModularChannelInfo.{ModularChannelInfo}
+use Rattle.jxl_modular.specs.declared.header.ModularHeader.{ModularHeader}
+
+-- one channel of 2 by 2
+abbrev square : List ModularChannelParams
+square = sized 2 2 (Shifts 0) ∷ []
+
+abbrev plain_header : ModularHeader
+plain_header = record { use_global_tree = false; wp_params = default_weights }
+
+abbrev gradient : Leaf
+gradient = record { cluster = 0; predictor = Gradient; offset = pos 0; multiplier = 1 }
+
+abbrev three_bits : Mode → PlainState
+three_bits mode = record { mode = mode; codes = Fixed 3 ∷ []; clusters = 0 ∷ [] }
+
+-- Four samples by the clamped gradient. The tokens are numbers of three bits, 2, 4, 1 and 0, from place 68 on.
+abbrev row_bytes : List ℕ
+row_bytes = 0x42 ∷ 0x00 ∷ 0x04 ∷ 0x00 ∷ 0x04 ∷ 0x0E ∷ 0x05 ∷ 0xC0 ∷ 0x20 ∷ 0x06 ∷ []
+
+row_opening : (opening false (image_list square)).read row_bytes 0 ≡ Ok (record { value = record { header = plain_header; coded = image_list square }; position = 4 })
+row_opening = refl
+
+row_limit : node_limit (image_list square).channels ≡ 1028
+row_limit = refl
+
+row_listing : listing_at plain row_bytes 1028 4 ≡ Ok (record { value = record { nodes = levels (one_leaf gradient (three_bits Unsealed)).tree; decoder = three_bits Unsealed }; position = 68 })
+unfolding listing_at drafts_at nodes_at node_at leaf_at predictor_at multiplier_at plain_parse plain_begin plain_read number_at mode_at cluster_at code_at token_at
+row_listing = refl
+
+row_tree : IsTreeAt plain row_bytes 1028 2048 4 (one_leaf gradient (three_bits Unsealed)) 68
+row_tree = record { reads = row_listing; within = let few : 0 ≤ 2048 = omega arith in few }
+
+abbrev square_of : List ℤ → List (Grid ℤ)
+square_of cells = grid 2 2 cells ∷ []
+
+abbrev zeros_of_square : List (Grid ℤ)
+zeros_of_square = square_of (pos 0 ∷ pos 0 ∷ pos 0 ∷ pos 0 ∷ [])
+
+abbrev row_grids : List (Grid ℤ)
+row_grids = square_of (pos 1 ∷ pos 3 ∷ pos 0 ∷ pos 2 ∷ [])
+
+abbrev part_of : Leaf → Part
+part_of l = record { channels = record { width = 2; height = 2; hshift = pos 0; vshift = pos 0 } ∷ []; weights = default_weights; tree = (one_leaf l (three_bits Unsealed)).tree; stream = 0 }
+
+row_samples : IsCodedWhole plain w32 (part_of gradient) row_bytes (three_bits Unsealed) 68 row_grids 80
+unfolding int_wrap count_leading_zeros plain_begin plain_read number_at token_at
+row_samples = record {
+  state = three_bits Unsealed;
+  coded = record {
+    start = record { value = three_bits Unsealed; position = 68 };
+    begins = refl;
+    joined = (three_bits Unsealed, 77, 0, (three_bits Unsealed, 74, 1, (three_bits Unsealed, 71, 4, (three_bits Unsealed, 68, 2, (refl, refl), refl, refl), refl, refl), refl, refl), refl, refl);
+  };
+  accepts = refl;
+}
+
+-- Without its last byte the read of the second sample is refused: one is decoded, and the reader stands behind it.
+abbrev cut_bytes : List ℕ
+cut_bytes = 0x42 ∷ 0x00 ∷ 0x04 ∷ 0x00 ∷ 0x04 ∷ 0x0E ∷ 0x05 ∷ 0xC0 ∷ 0x20 ∷ []
+
+abbrev standing : ℕ → List ℤ → Bool → Standing
+standing p cells partial = record { position = p; grids = square_of cells; partial = partial }
+
+cut_samples : FailsToRead plain w32 (part_of gradient) cut_bytes (three_bits Unsealed) (standing 68 (pos 0 ∷ pos 0 ∷ pos 0 ∷ pos 0 ∷ []) true) (standing 71 (pos 1 ∷ pos 0 ∷ pos 0 ∷ pos 0 ∷ []) true) UnexpectedEof 2
+unfolding int_wrap count_leading_zeros plain_begin plain_read number_at token_at
+cut_samples = record {
+  count = 1;
+  state = three_bits Unsealed;
+  within = omega arith;
+  coded = record { start = record { value = three_bits Unsealed; position = 68 }; begins = refl; joined = (three_bits Unsealed, 68, 2, (refl, refl), refl, refl) };
+  fault = refl;
+  rest = refl;
+  fits = (refl, refl, refl, tt);
+  as_partial = refl;
+  tries = refl;
+}
+
+cut_answers : DecodeAnswers plain w32 (part_of gradient) cut_bytes (three_bits Unsealed) (standing 68 (pos 0 ∷ pos 0 ∷ pos 0 ∷ pos 0 ∷ []) true) (standing 71 (pos 1 ∷ pos 0 ∷ pos 0 ∷ pos 0 ∷ []) true) false (Err (Decoder UnexpectedEof)) 2
+cut_answers = (refl, (omega arith, inr (inl cut_samples)))
+
+-- The same samples behind their sum, which is 7, and behind 8: there all four are coded, and the end is refused.
+abbrev sealed_bytes : ℕ → List ℕ
+sealed_bytes seal = 0x42 ∷ 0x00 ∷ 0x04 ∷ 0x00 ∷ 0x04 ∷ 0x0E ∷ 0x15 ∷ 0xC0 ∷ seal ∷ 0x20 ∷ 0x06 ∷ []
+
+abbrev sealed : ℕ → PlainState
+sealed sum = three_bits (Sealed sum)
+
+sealed_samples : IsCodedWhole plain w32 (part_of gradient) (sealed_bytes 0x70) (sealed 0) 68 row_grids 88
+unfolding int_wrap count_leading_zeros plain_begin plain_read number_at token_at
+sealed_samples = record {
+  state = sealed 0;
+  coded = record {
+    start = record { value = sealed 7; position = 76 };
+    begins = refl;
+    joined = (sealed 0, 85, 0, (sealed 1, 82, 1, (sealed 5, 79, 4, (sealed 7, 76, 2, (refl, refl), refl, refl), refl, refl), refl, refl), refl, refl);
+  };
+  accepts = refl;
+}
+
+wrongly_sealed_samples : FailsToEnd plain w32 (part_of gradient) (sealed_bytes 0x80) (sealed 0) (standing 68 (pos 0 ∷ pos 0 ∷ pos 0 ∷ pos 0 ∷ []) true) (standing 88 (pos 1 ∷ pos 3 ∷ pos 0 ∷ pos 2 ∷ []) true) (Invalid 4) 4
+unfolding int_wrap count_leading_zeros plain_begin plain_read number_at token_at
+wrongly_sealed_samples = record {
+  state = sealed 1;
+  coded = record {
+    start = record { value = sealed 8; position = 76 };
+    begins = refl;
+    joined = (sealed 1, 85, 0, (sealed 2, 82, 1, (sealed 6, 79, 4, (sealed 8, 76, 2, (refl, refl), refl, refl), refl, refl), refl, refl), refl, refl);
+  };
+  fault = refl;
+  fits = (refl, refl, refl, tt);
+  as_partial = refl;
+  tries = refl;
+}
+
+wrongly_sealed_answers : DecodeAnswers plain w32 (part_of gradient) (sealed_bytes 0x80) (sealed 0) (standing 68 (pos 0 ∷ pos 0 ∷ pos 0 ∷ pos 0 ∷ []) true) (standing 88 (pos 1 ∷ pos 3 ∷ pos 0 ∷ pos 2 ∷ []) true) false (Err (Decoder (Invalid 4))) 4
+wrongly_sealed_answers = (omega arith, inr (inr wrongly_sealed_samples))
+
+-- The constant token 3, doubled, and 5 more: no bit is read behind the tree, which ends at place 79.
+abbrev constant_bytes : List ℕ
+constant_bytes = 0x82 ∷ 0x00 ∷ 0x40 ∷ 0x80 ∷ 0x04 ∷ 0x12 ∷ 0x3A ∷ 0x08 ∷ 0x40 ∷ 0x61 ∷ []
+
+abbrev doubled : Leaf
+doubled = record { cluster = 0; predictor = Zero; offset = pos 5; multiplier = 2 }
+
+abbrev constant_decoder : PlainState
+constant_decoder = record { mode = Unsealed; codes = Constant 3 ∷ []; clusters = 0 ∷ [] }
+
+constant_listing : listing_at plain constant_bytes 1028 4 ≡ Ok (record { value = record { nodes = levels (one_leaf doubled constant_decoder).tree; decoder = constant_decoder }; position = 79 })
+unfolding listing_at drafts_at nodes_at node_at leaf_at predictor_at multiplier_at plain_parse plain_begin plain_read number_at mode_at cluster_at code_at token_at
+constant_listing = refl
+
+constant_samples : IsCodedWhole plain w32 (part_of doubled) constant_bytes constant_decoder 79 (square_of (pos 1 ∷ pos 1 ∷ pos 1 ∷ pos 1 ∷ [])) 79
+unfolding int_wrap count_leading_zeros plain_begin plain_read number_at token_at
+constant_samples = record {
+  state = constant_decoder;
+  coded = record {
+    start = record { value = constant_decoder; position = 79 };
+    begins = refl;
+    joined = (constant_decoder, 79, 3, (constant_decoder, 79, 3, (constant_decoder, 79, 3, (constant_decoder, 79, 3, (refl, refl), refl, refl), refl, refl), refl, refl), refl, refl);
+  };
+  accepts = refl;
+}
+
+-- A token of 2, and 200 more of it, of which three are read.
+abbrev run_bytes : List ℕ
+run_bytes = 0x42 ∷ 0x00 ∷ 0x04 ∷ 0x00 ∷ 0x04 ∷ 0x0E ∷ 0x0D ∷ 0xC0 ∷ 0x40 ∷ 0x8F ∷ 0x01 ∷ []
+
+abbrev run_of : ℕ → ℕ → PlainState
+run_of last left = three_bits (Runs last left)
+
+run_samples : IsCodedWhole plain w32 (part_of gradient) run_bytes (run_of 0 0) 68 (square_of (pos 1 ∷ pos 2 ∷ pos 2 ∷ pos 3 ∷ [])) 81
+unfolding int_wrap count_leading_zeros plain_begin plain_read number_at token_at run_at
+run_samples = record {
+  state = run_of 2 197;
+  coded = record {
+    start = record { value = run_of 0 0; position = 68 };
+    begins = refl;
+    joined = (run_of 2 198, 81, 2, (run_of 2 199, 81, 2, (run_of 2 0, 72, 2, (run_of 0 0, 68, 2, (refl, refl), refl, refl), refl, refl), refl, refl), refl, refl);
+  };
+  accepts = refl;
+}
+
+-- Whatever else the parameters say, the picture stands at the start of those bytes: header, tree and samples, up to place 80.
+abbrev info : List ModularChannelInfo
+info = map (λ c. info_of (image_channel c)) square
+
+widths_stay : (b : ℕ) → (buffer_at row_grids b).width ≡ (buffer_at zeros_of_square b).width
+widths_stay zero = refl
+widths_stay (suc b) = refl
+
+heights_stay : (b : ℕ) → (buffer_at row_grids b).height ≡ (buffer_at zeros_of_square b).height
+heights_stay zero = refl
+heights_stay (suc b) = refl
+
+full_still : (b : ℕ) → IsFull (buffer_at zeros_of_square b) → IsFull (buffer_at row_grids b)
+full_still zero full = refl
+full_still (suc b) full = full
+
+-- no cell lies outside the one channel
+cells_stay : (b x y : ℕ) → x < (buffer_at zeros_of_square b).width → y < (buffer_at zeros_of_square b).height → All (λ r. HasCell r b x y → ⊥) (layout (channels_of info)) → cell (buffer_at row_grids b) x y ≡ cell (buffer_at zeros_of_square b) x y
+cells_stay zero x y in_row in_column outside =
+    let inside : HasCell (region 0 0 0 2 2) 0 x y = record { buffer = refl; left = omega arith; right = in_row; top = omega arith; bottom = in_column } in
+    absurd (All-head (λ r. HasCell r 0 x y → ⊥) (region 0 0 0 2 2) [] outside inside)
+cells_stay (suc b) x y in_row in_column outside = refl
+
+module _ (params : ModularParams PlainState) where
+  -- the image as it is read, and as it is filled
+  abbrev holding : List (Grid ℤ) → Image ℤ PlainState
+  holding grids = record {
+    header = plain_header;
+    config = one_leaf gradient (three_bits Unsealed);
+    group_dim = params.group_dim;
+    bit_depth = params.bit_depth;
+    channels = info;
+    nb_meta = 0;
+    store = grids;
+    coded = layout (channels_of info);
+  }
+
+  row_image : params.channels.items ≡ square → IsImageAt plain (pos 0) row_bytes 0 params (holding zeros_of_square) 68
+  row_image asked = record {
+    ahead = record { header = plain_header; coded = image_list square };
+    place = 4;
+    opens = rw asked row_opening;
+    tree = row_tree;
+    cells = refl;
+  }
+
+  row_filled : IsFilled plain w32 (λ z. z) row_bytes 0 (holding zeros_of_square) 68 (holding row_grids) 80
+  row_filled = record {
+    cells = row_grids;
+    coded = row_samples;
+    only = record { fits = (refl, refl, refl, tt); becomes = refl; only = λ other fits becomes. cc };
+    same = record { header = refl; config = refl; group_dim = refl; bit_depth = refl; channels = refl; nb_meta = refl; coded = refl; outside = record { count = refl; width = widths_stay; height = heights_stay; full = full_still; cells = cells_stay } };
+  }
+
+  row_picture : params.channels.items ≡ square → IsPictureAt plain w32 (λ z. z) row_bytes 0 (pos 0) 0 params (holding row_grids) 80
+  row_picture asked = record { read = holding zeros_of_square; place = 68; reads = row_image asked; filled = row_filled }
+
+-- What is refused ahead of the tree: no bit, a cut header, a transform, a global tree that is not there.
+nothing_there : (opening false (image_list square)).read [] 0 ≡ Err (record { fault = Eof; position = Some 0 })
+nothing_there = refl
+
+cut_header : (opening false (image_list square)).read (0x0E ∷ []) 0 ≡ Err (record { fault = Eof; position = Some 2 })
+cut_header = refl
+
+a_transform : (opening false (image_list square)).read (0x36 ∷ []) 0 ≡ Err (record { fault = BadProfile (codes "transform not available"); position = Some 4 })
+a_transform = refl
+
+no_global_tree : (opening false (image_list square)).read (0x03 ∷ []) 0 ≡ Err (record { fault = NoGlobalTree; position = Some 4 })
+no_global_tree = refl
