@@ -1,0 +1,24 @@
+-- What a decoder of bytes answers. Its state is the cluster of each context; all are cluster 0.
+use Rattle.std.specs.Prelude.{ℕ, ◌+◌, ◌*◌, List, length, replicate, false, if◌then◌else◌, nat_lt, None, Result, Ok, Err}
+use Rattle.jxlm_base.specs.Bits.{bits_at}
+use Rattle.jxlm_base.specs.Decoding.{Taken, Meaning}
+use Rattle.jxlm_base.specs.declared.decoder.DecoderError.{DecoderError}
+use Rattle.jxlm_base.specs.declared.decoder.DecoderError.TheVariants.{UnexpectedEof}
+
+-- the next eight bits, which must all be there
+abbrev pub byte_at : List ℕ → List ℕ → ℕ → Result (Taken (List ℕ)) DecoderError
+byte_at s bytes p = if nat_lt (8 * length bytes) (p + 8) then Err UnexpectedEof else Ok (record { token = bits_at bytes p 8; state = s; position = p + 8 })
+
+abbrev pub bytewise : Meaning (List ℕ)
+bytewise = record {
+  parse = λ bytes p n. Ok (record { value = replicate n 0; position = p });
+  begin = λ s bytes p. Ok (record { value = s; position = p });
+  read = λ s bytes p c m. byte_at s bytes p;
+  finalize = λ s. Ok tt;
+  cluster_map = λ s. s;
+  single_token = λ s c. None;
+  as_rle = λ s. false;
+  owed = λ s. 0;
+  last = λ s. 0;
+  next = λ s. s;
+}

@@ -1,0 +1,8 @@
+//! Tests that cross crates: whole pictures, by the plain decoder and by one of these tests' own.
+#![tactic(auto)]
+
+pub mod bytewise;
+#[cfg(test)]
+mod outcome;
+#[cfg(test)]
+mod rows;

@@ -1,0 +1,111 @@
+// What becomes of a picture, read call by call and at once.
+ghost use Rattle.std.specs.Prelude.{◌≡◌, None, IfOk};
+
+use jxl_modular::bits::Bitstream;
+use jxl_modular::decoder::Decoder;
+use jxl_modular::error::Error;
+use jxl_modular::image::ModularImageDestination;
+use jxl_modular::{Modular, ModularChannelParams, ModularParams, Sample, decode_picture};
+use std::alloc::Global;
+use std::process::Abort;
+use std::test::Fail;
+
+// Why the bits were refused, if they were; the samples, in their order; where the reader stands; and
+// whether the part was told to be whole.
+#[derive(Drop)]
+pub struct Outcome {
+    pub fault: Option<Error>,
+    pub samples: Vec<i32>,
+    pub position: u64,
+    pub whole: bool,
+}
+
+// All samples of an image, channel by channel and row by row.
+fn samples<S: Sample, D: Decoder>(
+    alloc: Global,
+    image: &ModularImageDestination<S, D>,
+) -> Result<Vec<i32>, Fail> {
+    let mut samples = Vec::new(alloc);
+    for grid in image.image_channels() {
+        for y in 0..grid.height() {
+            for sample in grid.get_row(y) {
+                samples.push(sample.to_i32())?;
+            }
+        }
+    }
+    Ok(samples)
+}
+
+fn params<'a, D: Decoder>(
+    alloc: Global,
+    channels: &[ModularChannelParams],
+) -> Result<ModularParams<'a, D>, Fail>
+    ensures { IfOk result (λ p. p.ma_config ≡ None) }
+{
+    let channels = Vec::from_slice(alloc, channels)?;
+    Ok(ModularParams::with_channels(256, 8, channels, None))
+}
+
+// Reads, decodes and finishes a picture of these channels, each by its own call.
+pub fn by_calls<S: Sample, D: Decoder>(
+    rt: &impl Abort,
+    alloc: Global,
+    bytes: &[u8],
+    channels: &[ModularChannelParams],
+) -> Result<Outcome, Fail> {
+    let params = params::<D>(alloc, channels)?;
+    assert!(rt; params.is_valid());
+    let mut bits = Bitstream::new(bytes);
+    let mut modular = match Modular::<S, D>::parse(alloc, &mut bits, params) {
+        Ok(modular) => modular,
+        Err(fault) => return Ok(Outcome {
+            fault: Some(fault),
+            samples: Vec::new(alloc),
+            position: bits.position(),
+            whole: false,
+        }),
+    };
+    let Some(image) = modular.image_mut() else {
+        return Ok(Outcome {
+            fault: None,
+            samples: Vec::new(alloc),
+            position: bits.position(),
+            whole: true,
+        });
+    };
+    let mut part = image.prepare_subimage(alloc)?;
+    assert!(rt; part.holds_all());
+    assert_eq!(rt;
+        part.is_partial(),
+        !part.is_empty(),
+        "a part with samples is partial at first"
+    );
+    let answer = part.decode(alloc, &mut bits, 0, false);
+    let is_partial = part.is_partial();
+    let whole = part.finish(alloc)?;
+    assert_eq!(rt; whole, !is_partial);
+    Ok(Outcome {
+        fault: answer.err(),
+        samples: samples(alloc, image)?,
+        position: bits.position(),
+        whole,
+    })
+}
+
+// Why a picture of these channels is refused when it is read by one call, or its samples.
+pub fn at_once<S: Sample, D: Decoder>(
+    rt: &impl Abort,
+    alloc: Global,
+    bytes: &[u8],
+    channels: &[ModularChannelParams],
+) -> Result<(Result<Vec<i32>, Error>, u64), Fail> {
+    let params = params::<D>(alloc, channels)?;
+    assert!(rt; params.is_valid());
+    let mut bits = Bitstream::new(bytes);
+    let answer = match decode_picture::<S, D>(alloc, &mut bits, params, 0) {
+        Ok(Some(image)) => Ok(samples(alloc, &image)?),
+        Ok(None) => Ok(Vec::new(alloc)),
+        Err(fault) => Err(fault),
+    };
+    Ok((answer, bits.position()))
+}
