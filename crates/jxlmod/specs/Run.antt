@@ -21,10 +21,10 @@ pub record IsDrawn (draws : List ℕ → List ℕ → Type 0) (left rest held ho
   pub drawn : draws bytes text
   pub written : Appends held holds text
 
--- the input was read to its end, from left to rest; for a command, its bytes were refused
-pub record IsRefused (refuses : Command → List ℕ → Type 0) (left rest : Option (List ℕ)) : Type 0 where
+-- the input was read to its end, from left to rest; for a command, its bytes were answered so
+pub record IsAnswered (answers : Command → List ℕ → Type 0) (left rest : Option (List ℕ)) : Type 0 where
   pub command : Command
   pub bytes : List ℕ
   pub read : Consumes left rest bytes
   pub ended : IsAtEnd rest
-  pub refused : refuses command bytes
+  pub answered : answers command bytes

@@ -7,7 +7,7 @@ ghost use Rattle.jxlm_base.specs.declared.error.Error.{Error};
 ghost use Rattle.jxlmod.specs.declared.arguments.Command.{Command};
 ghost use Rattle.jxlmod.specs.Arguments.{AreFor, AreWrong, IsWithinLimits, channels_of};
 ghost use Rattle.jxlmod.specs.Drawing.{Answers};
-ghost use Rattle.jxlmod.specs.Run.{IsDrawn, IsRefused, status_of};
+ghost use Rattle.jxlmod.specs.Run.{IsDrawn, IsAnswered, status_of};
 
 use crate::arguments::{Command, USAGE};
 use crate::drawing::PartDrawer;
@@ -116,7 +116,12 @@ pub fn run<R: Read, W: Write, E: Write>(
     run_with(alloc, words, input, output, faults, &PartDrawer)
 }
 
-fn carry_out<R: Read, W: Write, D: Draw>(
+/// Carries out what the words ask for, as `run_with` does, and answers why it was not done.
+///
+/// Wrong words are answered before the input is read. An image is refused by what the drawer answers
+/// for all the bytes of the input, and the output stays then; that it cannot be written shows only
+/// when a text was drawn.
+pub fn carry_out<R: Read, W: Write, D: Draw>(
     alloc: Global,
     words: &[String],
     input: &mut R,
@@ -132,7 +137,10 @@ fn carry_out<R: Read, W: Write, D: Draw>(
         → IsDrawn (λ bytes text. D.answers bytes c (Ok text))
         (R.remaining input.old) (R.remaining input.new) (W.contents output.old) (W.contents output.new)) }
     ensures refused { IfErr result (λ failure. (e : Error) → failure ≡ Failure.Refused e
-        → IsRefused (λ c bytes. AreFor (map string_bytes words.now) c × D.answers bytes c (Err e))
+        → IsAnswered (λ c bytes. AreFor (map string_bytes words.now) c × D.answers bytes c (Err e))
+        (R.remaining input.old) (R.remaining input.new)) }
+    ensures unwritten { IfErr result (λ failure. failure ≡ Failure.Unwritable
+        → IsAnswered (λ c bytes. AreFor (map string_bytes words.now) c × ((text : List ℕ) × D.answers bytes c (Ok text)))
         (R.remaining input.old) (R.remaining input.new)) }
 {
     let Some(command) = Command::parse(words) else {
