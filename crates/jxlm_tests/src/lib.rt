@@ -3,6 +3,8 @@
 
 pub mod bytewise;
 #[cfg(test)]
+mod drawn;
+#[cfg(test)]
 mod outcome;
 #[cfg(test)]
 mod pictures;

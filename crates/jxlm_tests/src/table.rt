@@ -41,15 +41,32 @@ fn bytes(alloc: Global, digits: &str) -> Result<Vec<u8>, Fail> {
     Ok(bytes)
 }
 
+// How many samples are told one by one.
+const FEW: usize = 12;
+
+// Each sample, times a power of 31, the last times 1, added up modulo 2^32.
+fn checksum(samples: &[i32]) -> u32 {
+    let mut sum: u32 = 0;
+    for sample in samples {
+        sum = sum.wrapping_mul(31).wrapping_add(sample.cast_unsigned());
+    }
+    sum
+}
+
+// The samples where they are few, and else their checksum.
 fn numbers(alloc: Global, samples: &[i32]) -> Result<String, Fail> {
     let mut text = String::new(alloc);
+    if samples.len() > FEW {
+        write!(text, "#{} ", checksum(samples))?;
+        return Ok(text);
+    }
     for sample in samples {
         write!(text, "{sample} ")?;
     }
     Ok(text)
 }
 
-// The samples and the reader's place, with the fault of the samples, if there is one; or the fault of what stands before them.
+// The samples, or their checksum, and the reader's place, with the fault of the samples, if there is one; or the fault of what stands before them.
 fn told(alloc: Global, outcome: &Outcome) -> Result<String, Fail> {
     let samples = numbers(alloc, &outcome.samples)?;
     let position = outcome.position;
