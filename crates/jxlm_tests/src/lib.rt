@@ -3,6 +3,8 @@
 
 pub mod bytewise;
 #[cfg(test)]
+mod calls;
+#[cfg(test)]
 mod drawn;
 #[cfg(test)]
 mod outcome;
