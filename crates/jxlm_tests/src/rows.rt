@@ -69,7 +69,6 @@ fn rows<S: Sample>(rt: &impl Abort, alloc: Global) -> Result<(), Fail> {
         assert_eq!(rt; outcome.position, position, "{name}");
         assert_eq!(rt; outcome.whole, fault.is_none(), "{name}");
         let (answer, end) = at_once::<S, PlainDecoder>(rt, alloc, bytes, &square)?;
-        assert_eq!(rt; end, position, "{name}");
         match answer {
             Ok(picture) => {
                 assert_eq!(rt; fault, None, "{name}");
@@ -77,6 +76,7 @@ fn rows<S: Sample>(rt: &impl Abort, alloc: Global) -> Result<(), Fail> {
             }
             Err(refusal) => assert_eq!(rt; Some(refusal), fault, "{name}"),
         }
+        assert_eq!(rt; end, position, "{name}");
     }
     Ok(())
 }

@@ -93,7 +93,6 @@ pub fn check<S: Sample, D: Decoder>(
         assert_eq!(rt; seen.as_str(), expected, "{line}");
         assert_eq!(rt; outcome.whole, outcome.fault.is_none(), "{line}");
         let (answer, position) = at_once::<S, D>(rt, alloc, &bytes, &channels)?;
-        assert_eq!(rt; position, outcome.position, "{line}");
         match answer {
             Ok(samples) => {
                 assert_eq!(rt; outcome.fault, None, "{line}");
@@ -101,6 +100,7 @@ pub fn check<S: Sample, D: Decoder>(
             }
             Err(fault) => assert_eq!(rt; Some(fault), outcome.fault, "{line}"),
         }
+        assert_eq!(rt; position, outcome.position, "{line}");
     }
     Ok(())
 }
