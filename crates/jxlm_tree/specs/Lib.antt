@@ -1,3 +1,4 @@
+pub mod Around
 pub mod DraftReading
 pub mod Neighbours
 pub mod Predictions

@@ -1,6 +1,8 @@
 //! Neighbours, predictors, properties and meta-adaptive trees.
 #![tactic(auto)]
 
+mod around;
 pub mod flat;
 pub mod ma;
 pub mod predictor;
+mod reduced;
