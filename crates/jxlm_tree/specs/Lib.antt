@@ -5,6 +5,7 @@ pub mod Predictions
 pub mod Properties
 pub mod SelfCorrecting
 pub mod SelfCorrectingRanges
+pub mod Standing
 pub mod Tree
 pub mod TreeCode
 pub mod TreeReading

@@ -87,4 +87,11 @@ impl Around {
             Predictor::AvgAll => self.average_of_all(),
         }
     }
+
+    /// The number brought between the least and the greatest of left, above and above right, each times 8.
+    pub(crate) fn clamped(&self, value: i64) -> i64 {
+        let low = self.n.min(self.w).min(self.ne) as i64 * 8;
+        let high = self.n.max(self.w).max(self.ne) as i64 * 8;
+        value.min(high).max(low)
+    }
 }

@@ -5,4 +5,7 @@ mod around;
 pub mod flat;
 pub mod ma;
 pub mod predictor;
+mod properties;
 mod reduced;
+mod self_correcting;
+mod state;

@@ -7,6 +7,10 @@ ghost use Rattle.jxlm_tree.specs.SelfCorrecting.{IsHeader};
 ghost use Rattle.jxlm_tree.specs.SelfCorrectingRanges.{AlwaysInRange};
 ghost use Rattle.jxlm_tree.specs.WeightsHeader.{AnswersExactly, default_weights, listed_weights, wp_header};
 
+pub use crate::properties::Properties;
+pub use crate::self_correcting::PredictionResult;
+pub use crate::state::PredictorState;
+use crate::reduced::reduced;
 use jxlm_base::bits::{Bitstream, BitstreamError};
 use jxlm_base::error::Result;
 
@@ -76,6 +80,17 @@ impl TryFrom<u32> for Predictor {
                 });
             }
         })
+    }
+}
+
+impl Predictor {
+    /// What the predictor makes of the place of these properties, reduced to 32 bits.
+    pub fn predict<S>(self, properties: &Properties<'_, S>) -> i32 {
+        let corrected = match &properties.correction {
+            Some(made) => made.prediction,
+            None => 0,
+        };
+        reduced(properties.around.prediction(corrected, self))
     }
 }
 

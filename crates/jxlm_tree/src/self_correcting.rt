@@ -1,0 +1,334 @@
+//! The self-correcting predictor: the errors that it remembers, and what it makes of a place.
+
+ghost use Rattle.std.specs.Prelude.{◌≡◌, ◌+◌, ◌*◌, ◌<◌, ◌≤◌, ◌^◌, ◌+ℤ◌, ◌-ℤ◌, ◌*ℤ◌, pos, vec_len, unsigned_abs};
+
+use crate::around::Around;
+use crate::predictor::WpHeader;
+use crate::reduced::reduced;
+use jxlm_base::grid::OutOfMemory;
+use std::alloc::Global;
+use std::mem;
+
+/// 2^24 divided by each number from 1 to 64, rounded downward.
+static RECIPROCALS: [u32; 65] = [
+    0, 16777216, 8388608, 5592405, 4194304, 3355443, 2796202, 2396745,
+    2097152, 1864135, 1677721, 1525201, 1398101, 1290555, 1198372, 1118481,
+    1048576, 986895, 932067, 883011, 838860, 798915, 762600, 729444,
+    699050, 671088, 645277, 621378, 599186, 578524, 559240, 541200,
+    524288, 508400, 493447, 479349, 466033, 453438, 441505, 430185,
+    419430, 409200, 399457, 390167, 381300, 372827, 364722, 356962,
+    349525, 342392, 335544, 328965, 322638, 316551, 310689, 305040,
+    299593, 294337, 289262, 284359, 279620, 275036, 270600, 266305,
+    262144,
+];
+
+/// A number for each of the four sub-predictions: their errors, the sums of these, or their weights.
+#[derive(Clone, Copy)]
+pub(crate) struct Counts {
+    pub(crate) s0: u32,
+    pub(crate) s1: u32,
+    pub(crate) s2: u32,
+    pub(crate) s3: u32,
+}
+
+/// The four sub-predictions, times 8.
+#[derive(Clone, Copy)]
+pub(crate) struct SubPredictions {
+    pub(crate) s0: i64,
+    pub(crate) s1: i64,
+    pub(crate) s2: i64,
+    pub(crate) s3: i64,
+}
+
+/// What is known of a cell behind it.
+#[derive(Clone, Copy)]
+pub(crate) struct CellErrors {
+    /// The prediction less the sample, both times 8.
+    pub(crate) true_error: i32,
+    /// How far each sub-prediction was from the sample.
+    pub(crate) sub_errors: Counts,
+}
+
+const NO_COUNTS: Counts = Counts {
+    s0: 0,
+    s1: 0,
+    s2: 0,
+    s3: 0,
+};
+
+const NO_ERRORS: CellErrors = CellErrors {
+    true_error: 0,
+    sub_errors: NO_COUNTS,
+};
+
+/// The errors at the neighbours of a place.
+#[derive(Clone, Copy)]
+pub(crate) struct ErrorsAround {
+    /// The true error to the left.
+    pub(crate) w: i32,
+    /// The one above.
+    pub(crate) n: i32,
+    /// The one above left.
+    pub(crate) nw: i32,
+    /// The one above right.
+    pub(crate) ne: i32,
+    /// The sums of the errors of the sub-predictions.
+    pub(crate) sums: Counts,
+}
+
+/// What the self-correcting predictor makes of a place.
+#[derive(Clone, Copy)]
+pub struct PredictionResult {
+    /// The prediction times 8.
+    pub(crate) prediction: i64,
+    /// The greatest error around: property 15.
+    pub(crate) max_error: i32,
+    /// The sub-predictions, times 8.
+    pub(crate) subpred: SubPredictions,
+}
+
+/// The weights, and the errors of the last two rows.
+#[derive(Drop)]
+pub(crate) struct Corrector {
+    pub(crate) header: WpHeader,
+    pub(crate) west: CellErrors,
+    pub(crate) west_west: CellErrors,
+    pub(crate) previous: Vec<CellErrors>,
+    pub(crate) current: Vec<CellErrors>,
+}
+
+/// The greatest k for which 2^k is at most `n`; 0 where `n` is 0.
+fn floor_log2(n: u64) -> u32 {
+    63u32.saturating_sub(n.leading_zeros())
+}
+
+fn reciprocal(i: usize) -> u32 {
+    RECIPROCALS[i]
+}
+
+/// How much a sub-prediction counts whose errors have this sum, where the header gives it `w`.
+fn weight(w: u32, sum: u32) -> u32 {
+    let shift = floor_log2((sum as u64 + 1) / 32);
+    4 + ((w * reciprocal((sum >> shift) as usize + 1)) >> shift)
+}
+
+/// The sum of the errors at five neighbours, reduced to 32 bits. In the last column the error above right is what those
+/// above and to the left give together.
+fn error_sum(nw: u32, ww: u32, n: u32, w: u32, ne: Option<u32>) -> u32 {
+    let north_east = match ne {
+        Some(error) => error as u64,
+        None => n as u64 + w as u64,
+    };
+    let sum = nw as u64 + ww as u64 + n as u64 + w as u64 + north_east;
+    (sum % 4294967296) as u32
+}
+
+fn further(a: i32, b: i32) -> i32 {
+    if a.unsigned_abs() < b.unsigned_abs() {
+        b
+    } else {
+        a
+    }
+}
+
+fn sub_error(sub_prediction: i64, sample: i32) -> u32 {
+    let distance = (sub_prediction - sample as i64 * 8).unsigned_abs();
+    ((distance + 3) / 8 % 4294967296) as u32
+}
+
+fn steered(base: i64, a: i32, b: i32, c: i32, factor: u32) -> i64 {
+    base - (((a as i64 + b as i64 + c as i64) * factor as i64) >> 5)
+}
+
+impl ErrorsAround {
+    fn greatest(&self) -> i32 {
+        further(further(further(self.w, self.n), self.nw), self.ne)
+    }
+
+    fn is_clamped(&self) -> bool {
+        let all_negative = self.w < 0 && self.n < 0 && self.nw < 0;
+        let none_negative = !(self.w < 0 || self.n < 0 || self.nw < 0);
+        !(all_negative || none_negative) || (self.w == self.n && self.n == self.nw)
+    }
+}
+
+impl Counts {
+    fn total(&self) -> u32 {
+        self.s0 + self.s1 + self.s2 + self.s3
+    }
+
+    fn shifted(&self) -> Counts {
+        let shift = floor_log2((self.total() / 16) as u64);
+        Counts {
+            s0: self.s0 >> shift,
+            s1: self.s1 >> shift,
+            s2: self.s2 >> shift,
+            s3: self.s3 >> shift,
+        }
+    }
+
+    /// The weights of the four sub-predictions, whose errors have these sums.
+    fn weights(&self, header: &WpHeader) -> Counts {
+        let weights = Counts {
+            s0: weight(header.wp_w0, self.s0),
+            s1: weight(header.wp_w1, self.s1),
+            s2: weight(header.wp_w2, self.s2),
+            s3: weight(header.wp_w3, self.s3),
+        };
+        weights.shifted()
+    }
+}
+
+impl SubPredictions {
+    fn of_place(header: &WpHeader, around: &Around, errors: &ErrorsAround) -> SubPredictions {
+        let (w, n) = (around.w as i64 * 8, around.n as i64 * 8);
+        SubPredictions {
+            s0: w + around.ne as i64 * 8 - n,
+            s1: steered(n, errors.w, errors.n, errors.ne, header.wp_p1),
+            s2: steered(w, errors.w, errors.n, errors.nw, header.wp_p2),
+            s3: SubPredictions::last(header, around, errors),
+        }
+    }
+
+    fn last(header: &WpHeader, around: &Around, errors: &ErrorsAround) -> i64 {
+        let (w, n) = (around.w as i64 * 8, around.n as i64 * 8);
+        let (nw, nn) = (around.nw as i64 * 8, around.nn as i64 * 8);
+        let steer = errors.nw as i64 * header.wp_p3a as i64
+            + errors.n as i64 * header.wp_p3b as i64
+            + errors.ne as i64 * header.wp_p3c as i64
+            + (nn - n) * header.wp_p3d as i64
+            + (nw - w) * header.wp_p3e as i64;
+        n - (steer >> 5)
+    }
+
+    /// Their sum by these weights, divided by the sum of the weights.
+    fn weighted(&self, weights: &Counts) -> i64 {
+        let total = weights.total();
+        let sum = (total / 2 - 1) as i64
+            + self.s0 * weights.s0 as i64
+            + self.s1 * weights.s1 as i64
+            + self.s2 * weights.s2 as i64
+            + self.s3 * weights.s3 as i64;
+        (sum * reciprocal(total as usize) as i64) >> 24
+    }
+}
+
+impl PredictionResult {
+    fn of_place(header: &WpHeader, around: &Around, errors: &ErrorsAround) -> PredictionResult {
+        let subpred = SubPredictions::of_place(header, around, errors);
+        let unclamped = subpred.weighted(&errors.sums.weights(header));
+        let prediction = if errors.is_clamped() {
+            around.clamped(unclamped)
+        } else {
+            unclamped
+        };
+        PredictionResult {
+            prediction,
+            max_error: errors.greatest(),
+            subpred,
+        }
+    }
+
+    fn errors_behind(&self, sample: i32) -> CellErrors {
+        CellErrors {
+            true_error: reduced(self.prediction - sample as i64 * 8),
+            sub_errors: Counts {
+                s0: sub_error(self.subpred.s0, sample),
+                s1: sub_error(self.subpred.s1, sample),
+                s2: sub_error(self.subpred.s2, sample),
+                s3: sub_error(self.subpred.s3, sample),
+            },
+        }
+    }
+}
+
+impl Corrector {
+    /// The errors before the first sample of a channel of this width.
+    pub(crate) fn new(
+        alloc: Global,
+        header: WpHeader,
+        width: u32,
+    ) -> Result<Corrector, OutOfMemory> {
+        Ok(Corrector {
+            header,
+            west: NO_ERRORS,
+            west_west: NO_ERRORS,
+            previous: vec![in alloc; NO_ERRORS; width as usize]?,
+            current: vec![in alloc; NO_ERRORS; width as usize]?,
+        })
+    }
+
+    /// What is made of the place in column `x` of row `y`, with these neighbours.
+    pub(crate) fn predict<const EDGE: bool>(
+        &self,
+        width: usize,
+        x: usize,
+        y: u32,
+        around: &Around,
+    ) -> PredictionResult {
+        let errors = self.errors_around::<EDGE>(width, x, y);
+        PredictionResult::of_place(&self.header, around, &errors)
+    }
+
+    fn above<const EDGE: bool>(&self, x: usize, y: u32) -> CellErrors {
+        if EDGE && y == 0 {
+            NO_ERRORS
+        } else {
+            self.previous[x]
+        }
+    }
+
+    fn errors_around<const EDGE: bool>(&self, width: usize, x: usize, y: u32) -> ErrorsAround {
+        let n = self.above::<EDGE>(x, y);
+        let nw = if EDGE && x == 0 {
+            n
+        } else {
+            self.above::<EDGE>(x - 1, y)
+        };
+        let ne = if EDGE && x + 1 >= width {
+            None
+        } else {
+            Some(self.above::<EDGE>(x + 1, y))
+        };
+        ErrorsAround {
+            w: self.west.true_error,
+            n: n.true_error,
+            nw: nw.true_error,
+            ne: match ne {
+                Some(errors) => errors.true_error,
+                None => n.true_error,
+            },
+            sums: self.sums(&nw.sub_errors, &n.sub_errors, ne.map(|errors| errors.sub_errors)),
+        }
+    }
+
+    fn sums(&self, nw: &Counts, n: &Counts, ne: Option<Counts>) -> Counts {
+        let (w, ww) = (self.west.sub_errors, self.west_west.sub_errors);
+        Counts {
+            s0: error_sum(nw.s0, ww.s0, n.s0, w.s0, ne.map(|errors| errors.s0)),
+            s1: error_sum(nw.s1, ww.s1, n.s1, w.s1, ne.map(|errors| errors.s1)),
+            s2: error_sum(nw.s2, ww.s2, n.s2, w.s2, ne.map(|errors| errors.s2)),
+            s3: error_sum(nw.s3, ww.s3, n.s3, w.s3, ne.map(|errors| errors.s3)),
+        }
+    }
+
+    /// Moves on behind the sample in column `x`, of which `correction` was made.
+    pub(crate) fn record(
+        &mut self,
+        width: usize,
+        x: usize,
+        correction: &PredictionResult,
+        sample: i32,
+    ) {
+        let errors = correction.errors_behind(sample);
+        self.current[x] = errors;
+        if x + 1 < width {
+            self.west_west = self.west;
+            self.west = errors;
+        } else {
+            self.west_west = NO_ERRORS;
+            self.west = NO_ERRORS;
+            mem::swap(&mut self.previous, &mut self.current);
+        }
+    }
+}
