@@ -5,4 +5,5 @@ pub mod Multipliers
 pub mod OneNode
 pub mod Ranges
 pub mod Reading
+pub mod Rolling
 pub mod WeightsLaws

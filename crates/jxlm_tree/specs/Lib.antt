@@ -3,6 +3,7 @@ pub mod DraftReading
 pub mod Neighbours
 pub mod Predictions
 pub mod Properties
+pub mod Rolling
 pub mod SelfCorrecting
 pub mod SelfCorrectingRanges
 pub mod Standing

@@ -113,8 +113,8 @@ impl<S> Properties<'_, S> {
             store: _,
             around: _,
             correction,
-            own,
+            own: _,
         } = self;
-        state.advance(sample, own[9], correction);
+        state.advance(sample, correction);
     }
 }

@@ -91,10 +91,13 @@ pub struct PredictionResult {
 #[derive(Drop)]
 pub(crate) struct Corrector {
     pub(crate) header: WpHeader,
+    pub(crate) width: u32,
     pub(crate) west: CellErrors,
     pub(crate) west_west: CellErrors,
     pub(crate) previous: Vec<CellErrors>,
     pub(crate) current: Vec<CellErrors>,
+    ghost previous_len: { width ≤ vec_len previous },
+    ghost current_len: { width ≤ vec_len current },
 }
 
 /// The greatest k for which 2^k is at most `n`; 0 where `n` is 0.
@@ -251,6 +254,7 @@ impl Corrector {
     ) -> Result<Corrector, OutOfMemory> {
         Ok(Corrector {
             header,
+            width,
             west: NO_ERRORS,
             west_west: NO_ERRORS,
             previous: vec![in alloc; NO_ERRORS; width as usize]?,

@@ -36,7 +36,9 @@ pub struct PredictorState<S> {
 }
 
 impl<S> PredictorState<S> {
-    ghost use Rattle.jxlm_tree.specs.Standing.{StandsAt, setting};
+    ghost use Rattle.jxlm_tree.specs.Standing.{Setting, StandsAt, IsInner, RollsIn, KeepsSetting, setting};
+    ghost use Rattle.jxlm_tree.specs.Neighbours.{neighbours, north_east, north_east_east, north_north, west_west};
+    ghost use Rattle.jxlm_tree.specs.Around.{seen};
 
     /// A state that stands nowhere: it is to be reset before its first use.
     pub fn new(alloc: Global) -> PredictorState<S> {
@@ -71,7 +73,7 @@ impl<S> PredictorState<S> {
         requires some { 0 < width }
         requires narrow { width ≤ 2 ^ 30 }
         requires weights { ForSome (option_copied wp_header) IsHeader }
-        ensures ok { IfOk result (λ _. StandsAt self.new (setting width (option_copied wp_header) earlier.now) []) }
+        ensures ok { IfOk result (λ _. StandsAt self.new (setting width (option_copied wp_header.entry) earlier.now) []) }
         ensures err { OnErr result (self.new ≡ self.old) }
     {
         *self = PredictorState::standing(self.alloc, width, earlier, wp_header)?;
@@ -87,7 +89,7 @@ impl<S> PredictorState<S> {
         requires some { 0 < width }
         requires narrow { width ≤ 2 ^ 30 }
         requires weights { ForSome (option_copied wp_header) IsHeader }
-        ensures { IfOk result (λ s. StandsAt s (setting width (option_copied wp_header) earlier.now) []) }
+        ensures { IfOk result (λ s. StandsAt s (setting width (option_copied wp_header.entry) earlier.now) []) }
     {
         let corrector = match wp_header {
             Some(weights) => Some(Corrector::new(alloc, *weights, width)?),
@@ -110,7 +112,11 @@ impl<S> PredictorState<S> {
         })
     }
 
-    fn north_east<const EDGE: bool>(&self) -> i32 {
+    fn north_east<const EDGE: bool>(&self) -> i32
+        requires in_row { self.now.x < self.now.width }
+        requires inner { EDGE ≡ false → IsInner self.now }
+        ensures { (s : Setting) (samples : List ℤ) → StandsAt self.now s samples → result ≡ north_east samples s.width self.now.x self.now.y }
+    {
         if EDGE && (self.y == 0 || self.x + 1 >= self.width) {
             self.n
         } else {
@@ -118,7 +124,11 @@ impl<S> PredictorState<S> {
         }
     }
 
-    fn north_east_east<const EDGE: bool>(&self) -> i32 {
+    fn north_east_east<const EDGE: bool>(&self) -> i32
+        requires in_row { self.now.x < self.now.width }
+        requires inner { EDGE ≡ false → IsInner self.now }
+        ensures { (s : Setting) (samples : List ℤ) → StandsAt self.now s samples → result ≡ north_east_east samples s.width self.now.x self.now.y }
+    {
         if EDGE && (self.y == 0 || self.x + 2 >= self.width) {
             self.north_east::<EDGE>()
         } else {
@@ -126,7 +136,11 @@ impl<S> PredictorState<S> {
         }
     }
 
-    fn north_north<const EDGE: bool>(&self) -> i32 {
+    fn north_north<const EDGE: bool>(&self) -> i32
+        requires in_row { self.now.x < self.now.width }
+        requires inner { EDGE ≡ false → IsInner self.now }
+        ensures { (s : Setting) (samples : List ℤ) → StandsAt self.now s samples → result ≡ north_north samples s.width self.now.x self.now.y }
+    {
         if EDGE && self.y < 2 {
             self.n
         } else {
@@ -134,7 +148,11 @@ impl<S> PredictorState<S> {
         }
     }
 
-    fn west_west<const EDGE: bool>(&self) -> i32 {
+    fn west_west<const EDGE: bool>(&self) -> i32
+        requires in_row { self.now.x < self.now.width }
+        requires inner { EDGE ≡ false → IsInner self.now }
+        ensures { (s : Setting) (samples : List ℤ) → StandsAt self.now s samples → result ≡ west_west samples s.width self.now.x self.now.y }
+    {
         if EDGE && self.x < 2 {
             self.w
         } else {
@@ -143,7 +161,11 @@ impl<S> PredictorState<S> {
     }
 
     /// The neighbours of the place.
-    pub(crate) fn around<const EDGE: bool>(&self) -> Around {
+    pub(crate) fn around<const EDGE: bool>(&self) -> Around
+        requires in_row { self.now.x < self.now.width }
+        requires inner { EDGE ≡ false → IsInner self.now }
+        ensures { (s : Setting) (samples : List ℤ) → StandsAt self.now s samples → seen result ≡ neighbours samples s.width }
+    {
         Around {
             w: self.w,
             n: self.n,
@@ -166,45 +188,46 @@ impl<S> PredictorState<S> {
         }
     }
 
-    /// Moves on behind `sample`. `gradient` is property 9 of the place, and `correction` what `correction` gave there.
+    /// Moves on behind `sample`; `correction` is what `correction` gave for the place.
     pub(crate) fn advance(
         &mut self,
         sample: i32,
-        gradient: i32,
         correction: Option<PredictionResult>,
     ) {
         if let (Some(corrector), Some(correction)) = (&mut self.corrector, correction) {
             corrector.record(self.width as usize, self.x as usize, &correction, sample);
         }
+        self.roll(sample);
+    }
+
+    fn roll(&mut self, sample: i32)
+        requires in_row { self.old.x < self.old.width }
+        requires few_rows { self.old.y < 2 ^ 30 }
+        ensures rolls { (samples : List ℤ) → RollsIn self.old samples → RollsIn self.new (samples ++ sample ∷ []) }
+        ensures kept { KeepsSetting self.old self.new }
+    {
+        let gradient = self.w.wrapping_sub(self.nw).wrapping_add(self.n);
         self.current[self.x as usize] = sample;
         self.x += 1;
         if self.x < self.width {
-            self.continue_row(sample, gradient);
+            self.gradient = gradient;
+            self.w = sample;
+            if self.y == 0 {
+                self.nw = sample;
+                self.n = sample;
+            } else {
+                self.nw = self.n;
+                self.n = self.previous[self.x as usize];
+            }
         } else {
-            self.end_row();
+            self.y += 1;
+            self.x = 0;
+            self.gradient = 0;
+            mem::swap(&mut self.previous, &mut self.current);
+            let above = self.previous[0];
+            self.w = above;
+            self.n = above;
+            self.nw = above;
         }
-    }
-
-    fn continue_row(&mut self, sample: i32, gradient: i32) {
-        self.gradient = gradient;
-        self.w = sample;
-        if self.y == 0 {
-            self.nw = sample;
-            self.n = sample;
-        } else {
-            self.nw = self.n;
-            self.n = self.previous[self.x as usize];
-        }
-    }
-
-    fn end_row(&mut self) {
-        self.y += 1;
-        self.x = 0;
-        self.gradient = 0;
-        mem::swap(&mut self.previous, &mut self.current);
-        let above = self.previous[0];
-        self.w = above;
-        self.n = above;
-        self.nw = above;
     }
 }
