@@ -1,5 +1,7 @@
 pub mod Around
+pub mod Correcting
 pub mod DraftReading
+pub mod Holding
 pub mod Neighbours
 pub mod Predictions
 pub mod Properties

@@ -1,11 +1,11 @@
 -- Where a predictor's state stands.
-use Rattle.std.specs.Prelude.{◌≡◌, ℕ, ◌+◌, ◌^◌, ◌<◌, ◌≤◌, ℤ, List, Option, Some, None, All, vec_len}
+use Rattle.std.specs.Prelude.{◌≡◌, ℕ, ◌+◌, ◌^◌, ◌<◌, ◌≤◌, ℤ, List, Option, All}
 use Rattle.jxlm_base.specs.Grid.{Grid}
 use Rattle.jxlm_base.specs.Regions.{Lies}
 use Rattle.jxlm_base.specs.declared.subgrid.Region.{Region}
+use Rattle.jxlm_tree.specs.Correcting.{Corrects}
 use Rattle.jxlm_tree.specs.Neighbours.{row}
 use Rattle.jxlm_tree.specs.Rolling.{Rolls}
-use Rattle.jxlm_tree.specs.declared.self_correcting.Corrector.{Corrector}
 use Rattle.jxlm_tree.specs.declared.state.PredictorState.{PredictorState}
 use Rattle.jxlm_tree.specs.declared.predictor.WpHeader.{WpHeader}
 
@@ -17,13 +17,6 @@ pub record Setting : Type 0 where
 
 abbrev pub setting : ℕ → Option WpHeader → List Region → Setting
 setting w h e = record { width = w; weights = h; earlier = e }
-
--- the errors of the samples are kept where there are weights
-abbrev pub Corrects : Option Corrector → Option WpHeader → ℕ → ℕ → ℕ → List ℤ → Type 0
-Corrects None None width x y samples = Unit {0}
-Corrects None (Some h) width x y samples = ⊥
-Corrects (Some c) None width x y samples = ⊥
-Corrects (Some c) (Some h) width x y samples = c.width ≡ width
 
 -- the state is the one behind these samples of a channel, in row order
 pub record StandsAt {S : Type 0} (state : PredictorState S) (s : Setting) (samples : List ℤ) : Type 0 where
@@ -41,6 +34,12 @@ pub record KeepsSetting {S : Type 0} (old new : PredictorState S) : Type 0 where
   pub same_width : new.width ≡ old.width
   pub same_earlier : new.earlier ≡ old.earlier
   pub same_corrector : new.corrector ≡ old.corrector
+
+-- the state stands somewhere
+pub record Stands {S : Type 0} (state : PredictorState S) : Type 0 where
+  pub where_set : Setting
+  pub before : List ℤ
+  pub stands : StandsAt state where_set before
 
 -- a region lies in the store, is as wide as the channel and holds the row
 pub record HoldsRow {S : Type 0} (r : Region) (store : List (Grid S)) (width y : ℕ) : Type 0 where

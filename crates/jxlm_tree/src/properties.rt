@@ -1,5 +1,15 @@
 //! The properties of a place, which hold the state until the place's sample is recorded.
 
+ghost use Rattle.std.specs.Prelude.{◌≡◌, ◌+◌, ◌-◌, ◌<◌, ◌≤◌, ◌^◌, ℕ, ℤ, pos, List, [], ◌∷◌, ◌++◌, false, slice_index_or};
+ghost use Rattle.std.specs.Int.{w32, int_wrap};
+ghost use Rattle.jxlm_base.specs.Grid.{at};
+ghost use Rattle.jxlm_base.specs.Regions.{Lies, grid_of, store_meanings};
+ghost use Rattle.jxlm_tree.specs.Around.{seen};
+ghost use Rattle.jxlm_tree.specs.Holding.{own_list};
+ghost use Rattle.jxlm_tree.specs.Properties.{place_property, earlier_properties, earlier_property, expected};
+ghost use Rattle.jxlm_tree.specs.Standing.{Setting, StandsAt, IsReady, IsInner};
+ghost use Rattle.jxlm_tree.specs.Holding.{IsCurrent, surroundings, state_of, store_of};
+
 use crate::around::Around;
 use crate::reduced::{reduced, reduced_absolute};
 use crate::self_correcting::PredictionResult;
@@ -19,7 +29,11 @@ pub struct Properties<'p, S> {
 }
 
 /// Properties 0 to 15, of which 0 and 1 are 0.
-fn own_properties(x: u32, y: u32, around: &Around, gradient: i32, max_error: i32) -> [i32; 16] {
+fn own_properties(x: u32, y: u32, around: &Around, gradient: i32, max_error: i32) -> [i32; 16]
+    requires narrow { x < 2 ^ 31 }
+    requires few_rows { y < 2 ^ 31 }
+    ensures { result ≡ own_list x y (seen around.now) gradient max_error }
+{
     let Around { w, n, nw, .. } = *around;
     [
         0,
@@ -46,7 +60,14 @@ impl<S> PredictorState<S> {
     pub fn properties<'p, const EDGE: bool>(
         &'p mut self,
         store: &'p [AlignedGrid<S>],
-    ) -> Properties<'p, S> {
+    ) -> Properties<'p, S>
+        requires ready { IsReady self.old store.now }
+        requires inner { EDGE ≡ false → IsInner self.old }
+        ensures same_reference { result.state.ghost_name ≡ self.entry.ghost_name }
+        ensures unchanged { state_of result ≡ self.old }
+        ensures store { store_of result ≡ store.now }
+        ensures current { IsCurrent result }
+    {
         let around = self.around::<EDGE>();
         let correction = self.correction::<EDGE>(&around);
         let max_error = match &correction {
@@ -66,7 +87,10 @@ impl<S> PredictorState<S> {
 
 impl<S: Sample> Properties<'_, S> {
     /// A property by its number.
-    pub fn get(&self, property: usize) -> i32 {
+    pub fn get(&self, property: usize) -> i32
+        requires { IsCurrent self.now }
+        ensures { (s : Setting) (samples : List ℤ) → StandsAt (state_of self.now) s samples → result ≡ place_property (surroundings s (store_meanings S.to_int (store_of self.now)) samples) property }
+    {
         if property < 16 {
             self.own[property]
         } else {
@@ -74,40 +98,72 @@ impl<S: Sample> Properties<'_, S> {
         }
     }
 
-    fn of_earlier(&self, number: usize) -> i32 {
-        let Some(region) = self.state.earlier.get(number / 4) else {
-            return 0;
-        };
-        let cell = self.cell(*region, self.state.x as usize, self.state.y as usize);
-        match number % 4 {
-            0 => reduced_absolute(cell),
-            1 => cell,
-            2 => reduced((cell as i64 - self.expected(*region) as i64).abs()),
-            _ => cell.wrapping_sub(self.expected(*region)),
+    fn of_earlier(&self, number: usize) -> i32
+        requires { IsCurrent self.now }
+        ensures { (s : Setting) (samples : List ℤ) → StandsAt (state_of self.now) s samples → result ≡ int_wrap w32 (earlier_property (surroundings s (store_meanings S.to_int (store_of self.now)) samples) number) }
+    {
+        match self.state.earlier.get(number / 4) {
+            Some(region) => self.of_region(*region, number % 4),
+            None => 0,
         }
     }
 
-    fn cell(&self, region: Region, x: usize, y: usize) -> i32 {
+    fn of_region(&self, region: Region, which: usize) -> i32
+        requires lies { Lies region self.now.store.now }
+        requires column { self.now.state.now.x < region.width }
+        requires in_rows { self.now.state.now.y < region.height }
+        requires few { which < 4 }
+        ensures { result ≡ int_wrap w32 (slice_index_or (earlier_properties (grid_of (store_meanings S.to_int self.now.store.now) region) self.now.state.now.x self.now.state.now.y) which (pos 0)) }
+    {
+        let cell = self.cell(region, self.state.x as usize, self.state.y as usize);
+        match which {
+            0 => reduced_absolute(cell),
+            1 => cell,
+            2 => reduced((cell as i64 - self.expected(region) as i64).abs()),
+            _ => cell.wrapping_sub(self.expected(region)),
+        }
+    }
+
+    fn cell(&self, region: Region, x: usize, y: usize) -> i32
+        requires lies { Lies region self.now.store.now }
+        requires column { x < region.width }
+        requires in_rows { y < region.height }
+        ensures { result ≡ at (grid_of (store_meanings S.to_int self.now.store.now) region) x y }
+    {
         region_get(self.store, region, x, y).to_i32()
     }
 
-    fn expected(&self, region: Region) -> i32 {
-        match (self.state.x as usize, self.state.y as usize) {
-            (0, 0) => 0,
-            (0, y) => self.cell(region, 0, y - 1),
-            (x, 0) => self.cell(region, x - 1, 0),
-            (x, y) => i32::grad_clamped(
+    fn expected(&self, region: Region) -> i32
+        requires lies { Lies region self.now.store.now }
+        requires column { self.now.state.now.x < region.width }
+        requires in_rows { self.now.state.now.y < region.height }
+        ensures { result ≡ expected (grid_of (store_meanings S.to_int self.now.store.now) region).cells region.width self.now.state.now.x self.now.state.now.y }
+    {
+        let (x, y) = (self.state.x as usize, self.state.y as usize);
+        if x > 0 && y > 0 {
+            i32::grad_clamped(
                 self.cell(region, x, y - 1),
                 self.cell(region, x - 1, y),
                 self.cell(region, x - 1, y - 1),
-            ),
+            )
+        } else if x > 0 {
+            self.cell(region, x - 1, 0)
+        } else if y > 0 {
+            self.cell(region, 0, y - 1)
+        } else {
+            0
         }
     }
 }
 
 impl<S> Properties<'_, S> {
     /// Hands the state on behind the sample of this place.
-    pub fn record(self, sample: i32) {
+    ///
+    /// The state then stands behind the samples before and this one.
+    pub fn record(self, sample: i32)
+        requires { IsCurrent self }
+        ensures { (s : Setting) (samples : List ℤ) → StandsAt self.entry.state.now s samples → StandsAt self.exit.0.now s (samples ++ sample ∷ []) }
+    {
         let Properties {
             state,
             store: _,

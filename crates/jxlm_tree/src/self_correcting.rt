@@ -1,6 +1,7 @@
 //! The self-correcting predictor: the errors that it remembers, and what it makes of a place.
 
-ghost use Rattle.std.specs.Prelude.{◌≡◌, ◌+◌, ◌*◌, ◌<◌, ◌≤◌, ◌^◌, ◌+ℤ◌, ◌-ℤ◌, ◌*ℤ◌, pos, vec_len, unsigned_abs};
+ghost use Rattle.jxlm_tree.specs.SelfCorrecting.{IsHeader};
+ghost use Rattle.std.specs.Prelude.{◌≡◌, ◌+◌, ◌*◌, ◌<◌, ◌≤◌, ◌^◌, ◌+ℤ◌, ◌-ℤ◌, ◌*ℤ◌, pos, ℕ, ℤ, List, [], ◌∷◌, ◌++◌, length, IfOk, false, vec_len, unsigned_abs};
 
 use crate::around::Around;
 use crate::predictor::WpHeader;
@@ -96,6 +97,7 @@ pub(crate) struct Corrector {
     pub(crate) west_west: CellErrors,
     pub(crate) previous: Vec<CellErrors>,
     pub(crate) current: Vec<CellErrors>,
+    ghost is_header: { IsHeader header },
     ghost previous_len: { width ≤ vec_len previous },
     ghost current_len: { width ≤ vec_len current },
 }
@@ -246,12 +248,19 @@ impl PredictionResult {
 }
 
 impl Corrector {
+    ghost use Rattle.jxlm_tree.specs.Around.{seen};
+    ghost use Rattle.jxlm_tree.specs.Correcting.{CorrectsBy, CorrectsNext, IsMadeBy, counted};
+    ghost use Rattle.jxlm_tree.specs.Neighbours.{neighbours};
+
     /// The errors before the first sample of a channel of this width.
     pub(crate) fn new(
         alloc: Global,
         header: WpHeader,
         width: u32,
-    ) -> Result<Corrector, OutOfMemory> {
+    ) -> Result<Corrector, OutOfMemory>
+        requires { IsHeader header }
+        ensures { IfOk result (λ c. CorrectsBy c header width 0 0 []) }
+    {
         Ok(Corrector {
             header,
             width,
@@ -265,16 +274,21 @@ impl Corrector {
     /// What is made of the place in column `x` of row `y`, with these neighbours.
     pub(crate) fn predict<const EDGE: bool>(
         &self,
-        width: usize,
         x: usize,
-        y: u32,
+        y: usize,
         around: &Around,
-    ) -> PredictionResult {
-        let errors = self.errors_around::<EDGE>(width, x, y);
+    ) -> PredictionResult
+        requires in_row { x < self.now.width }
+        requires inner { EDGE ≡ false → (2 ≤ y) × (2 ≤ x) × (x + 2 < self.now.width) }
+        ensures { (header : WpHeader) (width : ℕ) (samples : List ℤ) → CorrectsBy self.now header width x y samples → length samples ≡ y * width + x → seen around.now ≡ neighbours samples width → IsMadeBy result header width samples }
+    {
+        let errors = self.errors_around::<EDGE>(x, y);
         PredictionResult::of_place(&self.header, around, &errors)
     }
 
-    fn above<const EDGE: bool>(&self, x: usize, y: u32) -> CellErrors {
+    fn above<const EDGE: bool>(&self, x: usize, y: usize) -> CellErrors
+        requires in_row { x < self.now.width }
+    {
         if EDGE && y == 0 {
             NO_ERRORS
         } else {
@@ -282,14 +296,14 @@ impl Corrector {
         }
     }
 
-    fn errors_around<const EDGE: bool>(&self, width: usize, x: usize, y: u32) -> ErrorsAround {
+    fn errors_around<const EDGE: bool>(&self, x: usize, y: usize) -> ErrorsAround {
         let n = self.above::<EDGE>(x, y);
         let nw = if EDGE && x == 0 {
             n
         } else {
             self.above::<EDGE>(x - 1, y)
         };
-        let ne = if EDGE && x + 1 >= width {
+        let ne = if EDGE && x + 1 >= self.width as usize {
             None
         } else {
             Some(self.above::<EDGE>(x + 1, y))
@@ -316,17 +330,14 @@ impl Corrector {
         }
     }
 
-    /// Moves on behind the sample in column `x`, of which `correction` was made.
-    pub(crate) fn record(
-        &mut self,
-        width: usize,
-        x: usize,
-        correction: &PredictionResult,
-        sample: i32,
-    ) {
-        let errors = correction.errors_behind(sample);
+    /// Moves on behind the sample in column `x`, of which `made` was made.
+    pub(crate) fn record(&mut self, x: usize, made: &PredictionResult, sample: i32)
+        requires { x < self.old.width }
+        ensures { (header : WpHeader) (width y : ℕ) (samples : List ℤ) → CorrectsBy self.old header width x y samples → length samples ≡ y * width + x → IsMadeBy made.now header width samples → CorrectsNext self.new header width x y (samples ++ sample ∷ []) }
+    {
+        let errors = made.errors_behind(sample);
         self.current[x] = errors;
-        if x + 1 < width {
+        if x + 1 < self.width as usize {
             self.west_west = self.west;
             self.west = errors;
         } else {

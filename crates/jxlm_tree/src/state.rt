@@ -36,9 +36,10 @@ pub struct PredictorState<S> {
 }
 
 impl<S> PredictorState<S> {
-    ghost use Rattle.jxlm_tree.specs.Standing.{Setting, StandsAt, IsInner, RollsIn, KeepsSetting, setting};
+    ghost use Rattle.jxlm_tree.specs.Standing.{Setting, StandsAt, Stands, IsInner, RollsIn, KeepsSetting, setting};
     ghost use Rattle.jxlm_tree.specs.Neighbours.{neighbours, north_east, north_east_east, north_north, west_west};
     ghost use Rattle.jxlm_tree.specs.Around.{seen};
+    ghost use Rattle.jxlm_tree.specs.Correcting.{IsMade};
 
     /// A state that stands nowhere: it is to be reset before its first use.
     pub fn new(alloc: Global) -> PredictorState<S> {
@@ -177,25 +178,30 @@ impl<S> PredictorState<S> {
         }
     }
 
-    /// What the self-correcting predictor makes of the place, where there are weights.
-    pub(crate) fn correction<const EDGE: bool>(&self, around: &Around) -> Option<PredictionResult> {
+    /// What the self-correcting predictor makes of the place with these neighbours, where there are weights.
+    pub(crate) fn correction<const EDGE: bool>(&self, around: &Around) -> Option<PredictionResult>
+        requires stands { Stands self.now }
+        requires inner { EDGE ≡ false → IsInner self.now }
+        ensures { (s : Setting) (samples : List ℤ) → StandsAt self.now s samples → seen around.now ≡ neighbours samples s.width → IsMade result s.weights s.width samples }
+    {
         match &self.corrector {
             Some(corrector) => {
-                let (x, width) = (self.x as usize, self.width as usize);
-                Some(corrector.predict::<EDGE>(width, x, self.y, around))
+                Some(corrector.predict::<EDGE>(self.x as usize, self.y as usize, around))
             }
             None => None,
         }
     }
 
     /// Moves on behind `sample`; `correction` is what `correction` gave for the place.
-    pub(crate) fn advance(
-        &mut self,
-        sample: i32,
-        correction: Option<PredictionResult>,
-    ) {
-        if let (Some(corrector), Some(correction)) = (&mut self.corrector, correction) {
-            corrector.record(self.width as usize, self.x as usize, &correction, sample);
+    pub(crate) fn advance(&mut self, sample: i32, correction: Option<PredictionResult>)
+        requires stands { Stands self.old }
+        requires few_rows { self.old.y < 2 ^ 30 }
+        ensures { (s : Setting) (samples : List ℤ) → StandsAt self.old s samples → IsMade correction s.weights s.width samples → StandsAt self.new s (samples ++ sample ∷ []) }
+    {
+        if let Some(corrector) = &mut self.corrector {
+            if let Some(made) = correction {
+                corrector.record(self.x as usize, &made, sample);
+            }
         }
         self.roll(sample);
     }

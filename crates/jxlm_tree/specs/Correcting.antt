@@ -1,0 +1,60 @@
+-- The errors of the self-correcting predictor as the code keeps them, and what it makes of a place.
+use Rattle.std.specs.Prelude.{◌≡◌, ℕ, suc, ◌+◌, ◌*◌, ◌<◌, ◌≤◌, ℤ, pos, List, map, length, slice_index_or, Option, Some, None}
+use Rattle.jxlm_tree.specs.SelfCorrecting.{Four, Errors, no_errors, errors_at, errors_of, self_corrected, greatest_error, sub_predictions}
+use Rattle.jxlm_tree.specs.declared.predictor.WpHeader.{WpHeader}
+use Rattle.jxlm_tree.specs.declared.self_correcting.CellErrors.{CellErrors}
+use Rattle.jxlm_tree.specs.declared.self_correcting.Corrector.{Corrector}
+use Rattle.jxlm_tree.specs.declared.self_correcting.Counts.{Counts}
+use Rattle.jxlm_tree.specs.declared.self_correcting.PredictionResult.{PredictionResult}
+use Rattle.jxlm_tree.specs.declared.self_correcting.SubPredictions.{SubPredictions}
+
+-- the four numbers that the code keeps
+abbrev pub counted : Counts → Four ℕ
+counted c = record { s0 = c.s0; s1 = c.s1; s2 = c.s2; s3 = c.s3 }
+
+abbrev pub predicted_by : SubPredictions → Four ℤ
+predicted_by s = record { s0 = s.s0; s1 = s.s1; s2 = s.s2; s3 = s.s3 }
+
+-- the errors of a cell
+abbrev pub cell_errors : CellErrors → Errors
+cell_errors e = record { true_error = e.true_error; sub_errors = counted e.sub_errors }
+
+-- At (x, y), with the errors of the cells before: those at the left and two to the left in the row, the current row up to x, and the row
+-- above.
+pub record KeepsErrors (width x y : ℕ) (west west_west : Errors) (previous current errors : List Errors) : Type 0 where
+  pub west_none : x ≡ 0 → west ≡ no_errors
+  pub west_is : (before : ℕ) → x ≡ suc before → west ≡ errors_at errors width before y
+  pub west_west_none : x < 2 → west_west ≡ no_errors
+  pub west_west_is : (before : ℕ) → x ≡ suc (suc before) → west_west ≡ errors_at errors width before y
+  pub current_is : (i : ℕ) → i < x → slice_index_or current i no_errors ≡ errors_at errors width i y
+  pub previous_is : (i above : ℕ) → i < width → y ≡ suc above → slice_index_or previous i no_errors ≡ errors_at errors width i above
+
+-- at (x, y) the corrector keeps the errors of these samples
+pub record CorrectsBy (c : Corrector) (header : WpHeader) (width x y : ℕ) (samples : List ℤ) : Type 0 where
+  pub same_width : c.width ≡ width
+  pub same_header : c.header ≡ header
+  pub keeps : KeepsErrors width x y (cell_errors c.west) (cell_errors c.west_west) (map cell_errors c.previous.items) (map cell_errors c.current.items) (errors_of header samples width (length samples))
+
+-- the same at the place behind (x, y)
+abbrev pub CorrectsNext : Corrector → WpHeader → ℕ → ℕ → ℕ → List ℤ → Type 0
+CorrectsNext c header width x y samples = (x + 1 < width → CorrectsBy c header width (x + 1) y samples) × (width ≤ x + 1 → CorrectsBy c header width 0 (y + 1) samples)
+
+-- errors are kept where there are weights
+abbrev pub Corrects : Option Corrector → Option WpHeader → ℕ → ℕ → ℕ → List ℤ → Type 0
+Corrects None None width x y samples = Unit {0}
+Corrects None (Some h) width x y samples = ⊥
+Corrects (Some c) None width x y samples = ⊥
+Corrects (Some c) (Some h) width x y samples = CorrectsBy c h width x y samples
+
+-- what was made is what the predictor makes of the place behind the samples, of which these are the errors
+pub record IsMadeBy (r : PredictionResult) (header : WpHeader) (width : ℕ) (samples : List ℤ) : Type 0 where
+  pub prediction_is : r.prediction ≡ self_corrected header samples width
+  pub max_error_is : r.max_error ≡ greatest_error header samples width
+  pub subpred_is : predicted_by r.subpred ≡ sub_predictions header samples width (errors_of header samples width (length samples))
+
+-- it is made where there are weights
+abbrev pub IsMade : Option PredictionResult → Option WpHeader → ℕ → List ℤ → Type 0
+IsMade None None width samples = Unit {0}
+IsMade None (Some h) width samples = ⊥
+IsMade (Some r) None width samples = ⊥
+IsMade (Some r) (Some h) width samples = IsMadeBy r h width samples
