@@ -3,6 +3,7 @@ pub mod Causal
 pub mod Listing
 pub mod Multipliers
 pub mod OneNode
+pub mod PropertiesLaws
 pub mod Ranges
 pub mod Reading
 pub mod Rolling
