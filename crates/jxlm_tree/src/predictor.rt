@@ -92,10 +92,7 @@ impl Predictor {
         requires { IsCurrent properties.now }
         ensures { (s : Setting) (samples : List ℤ) → StandsAt (state_of properties.now) s samples → result ≡ prediction s.weights samples s.width self }
     {
-        let corrected = match &properties.correction {
-            Some(made) => made.prediction,
-            None => 0,
-        };
+        let corrected = PredictionResult::eightfold(&properties.correction);
         reduced(properties.around.prediction(corrected, self))
     }
 }

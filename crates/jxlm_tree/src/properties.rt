@@ -70,10 +70,7 @@ impl<S> PredictorState<S> {
     {
         let around = self.around::<EDGE>();
         let correction = self.correction::<EDGE>(&around);
-        let max_error = match &correction {
-            Some(made) => made.max_error,
-            None => 0,
-        };
+        let max_error = PredictionResult::greatest_error(&correction);
         let own = own_properties(self.x, self.y, &around, self.gradient, max_error);
         Properties {
             state: self,

@@ -1,7 +1,7 @@
 //! The self-correcting predictor: the errors that it remembers, and what it makes of a place.
 
 ghost use Rattle.jxlm_tree.specs.SelfCorrecting.{IsHeader};
-ghost use Rattle.std.specs.Prelude.{◌≡◌, ◌+◌, ◌*◌, ◌<◌, ◌≤◌, ◌^◌, ◌+ℤ◌, ◌-ℤ◌, ◌*ℤ◌, pos, ℕ, ℤ, List, [], ◌∷◌, ◌++◌, length, IfOk, false, vec_len, unsigned_abs};
+ghost use Rattle.std.specs.Prelude.{◌≡◌, ◌+◌, ◌*◌, ◌<◌, ◌≤◌, ◌^◌, ◌+ℤ◌, ◌-ℤ◌, ◌*ℤ◌, pos, ℕ, ℤ, List, [], ◌∷◌, ◌++◌, length, Option, IfOk, false, vec_len, unsigned_abs};
 
 use crate::around::Around;
 use crate::predictor::WpHeader;
@@ -86,6 +86,7 @@ pub struct PredictionResult {
     pub(crate) max_error: i32,
     /// The sub-predictions, times 8.
     pub(crate) subpred: SubPredictions,
+    ghost bound: { unsigned_abs prediction < 2 ^ 41 },
 }
 
 /// The weights, and the errors of the last two rows.
@@ -219,6 +220,32 @@ impl SubPredictions {
 }
 
 impl PredictionResult {
+    ghost use Rattle.jxlm_tree.specs.Correcting.{IsMade};
+    ghost use Rattle.jxlm_tree.specs.Predictions.{corrected};
+    ghost use Rattle.jxlm_tree.specs.Properties.{error_property};
+    ghost use Rattle.jxlm_tree.specs.declared.predictor.WpHeader.{WpHeader};
+
+    /// Property 15: the greatest error, or 0 where nothing was made.
+    pub(crate) fn greatest_error(made: &Option<PredictionResult>) -> i32
+        ensures { (weights : Option WpHeader) (width : ℕ) (samples : List ℤ) → IsMade made.now weights width samples → result ≡ error_property weights samples width }
+    {
+        match made {
+            Some(made) => made.max_error,
+            None => 0,
+        }
+    }
+
+    /// The prediction times 8, or 0 where nothing was made.
+    pub(crate) fn eightfold(made: &Option<PredictionResult>) -> i64
+        ensures value { (weights : Option WpHeader) (width : ℕ) (samples : List ℤ) → IsMade made.now weights width samples → result ≡ corrected weights samples width }
+        ensures bound { unsigned_abs result < 2 ^ 62 }
+    {
+        match made {
+            Some(made) => made.prediction,
+            None => 0,
+        }
+    }
+
     fn of_place(header: &WpHeader, around: &Around, errors: &ErrorsAround) -> PredictionResult {
         let subpred = SubPredictions::of_place(header, around, errors);
         let unclamped = subpred.weighted(&errors.sums.weights(header));
