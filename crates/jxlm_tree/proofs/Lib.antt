@@ -7,4 +7,5 @@ pub mod PropertiesLaws
 pub mod Ranges
 pub mod Reading
 pub mod Rolling
+pub mod StandingLaws
 pub mod WeightsLaws

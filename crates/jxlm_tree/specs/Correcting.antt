@@ -46,6 +46,15 @@ Corrects None (Some h) width x y samples = ⊥
 Corrects (Some c) None width x y samples = ⊥
 Corrects (Some c) (Some h) width x y samples = CorrectsBy c h width x y samples
 
+-- the same at the place behind (x, y)
+abbrev pub CorrectsBehind : Option Corrector → Option WpHeader → ℕ → ℕ → ℕ → List ℤ → Type 0
+CorrectsBehind o weights width x y samples = (x + 1 < width → Corrects o weights width (x + 1) y samples) × (width ≤ x + 1 → Corrects o weights width 0 (y + 1) samples)
+
+-- a corrector's rows hold column x
+abbrev pub HoldsColumn : Option Corrector → ℕ → Type 0
+HoldsColumn None x = Unit {0}
+HoldsColumn (Some c) x = x < c.width
+
 -- what was made is what the predictor makes of the place behind the samples, of which these are the errors
 pub record IsMadeBy (r : PredictionResult) (header : WpHeader) (width : ℕ) (samples : List ℤ) : Type 0 where
   pub prediction_is : r.prediction ≡ self_corrected header samples width

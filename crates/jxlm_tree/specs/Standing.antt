@@ -35,6 +35,10 @@ pub record KeepsSetting {S : Type 0} (old new : PredictorState S) : Type 0 where
   pub same_earlier : new.earlier ≡ old.earlier
   pub same_corrector : new.corrector ≡ old.corrector
 
+-- the place is the next one: in the row, or at the start of the next row
+abbrev pub IsNext : {S : Type 0} → PredictorState S → PredictorState S → Type 0
+IsNext old new = (old.x + 1 < old.width → (new.x ≡ old.x + 1) × (new.y ≡ old.y)) × (old.width ≤ old.x + 1 → (new.x ≡ 0) × (new.y ≡ old.y + 1))
+
 -- the state stands somewhere
 pub record Stands {S : Type 0} (state : PredictorState S) : Type 0 where
   pub where_set : Setting

@@ -276,7 +276,8 @@ impl PredictionResult {
 
 impl Corrector {
     ghost use Rattle.jxlm_tree.specs.Around.{seen};
-    ghost use Rattle.jxlm_tree.specs.Correcting.{CorrectsBy, CorrectsNext, IsMadeBy, counted};
+    ghost use Rattle.jxlm_tree.specs.Correcting.{Corrects, CorrectsBehind, CorrectsBy, CorrectsNext, HoldsColumn, IsMade, IsMadeBy, counted};
+    ghost use Rattle.jxlm_tree.specs.declared.predictor.WpHeader.{WpHeader};
     ghost use Rattle.jxlm_tree.specs.Neighbours.{neighbours};
 
     /// The errors before the first sample of a channel of this width.
@@ -354,6 +355,25 @@ impl Corrector {
             s1: error_sum(nw.s1, ww.s1, n.s1, w.s1, ne.map(|errors| errors.s1)),
             s2: error_sum(nw.s2, ww.s2, n.s2, w.s2, ne.map(|errors| errors.s2)),
             s3: error_sum(nw.s3, ww.s3, n.s3, w.s3, ne.map(|errors| errors.s3)),
+        }
+    }
+
+    /// Moves on behind the sample in column `x`, where there are weights and `made` was made.
+    pub(crate) fn record_where_made(
+        corrector: &mut Option<Corrector>,
+        x: usize,
+        made: Option<PredictionResult>,
+        sample: i32,
+    )
+        requires { HoldsColumn corrector.old x }
+        ensures { (weights : Option WpHeader) (width y : ℕ) (samples : List ℤ) → Corrects corrector.old weights width x y samples → length samples ≡ y * width + x → IsMade made weights width samples → CorrectsBehind corrector.new weights width x y (samples ++ sample ∷ []) }
+    {
+        match corrector {
+            Some(corrector) => match made {
+                Some(made) => corrector.record(x, &made, sample),
+                None => (),
+            },
+            None => (),
         }
     }
 

@@ -36,7 +36,7 @@ pub struct PredictorState<S> {
 }
 
 impl<S> PredictorState<S> {
-    ghost use Rattle.jxlm_tree.specs.Standing.{Setting, StandsAt, Stands, IsInner, RollsIn, KeepsSetting, setting};
+    ghost use Rattle.jxlm_tree.specs.Standing.{Setting, StandsAt, Stands, IsInner, RollsIn, KeepsSetting, IsNext, setting};
     ghost use Rattle.jxlm_tree.specs.Neighbours.{neighbours, north_east, north_east_east, north_north, west_west};
     ghost use Rattle.jxlm_tree.specs.Around.{seen};
     ghost use Rattle.jxlm_tree.specs.Correcting.{IsMade};
@@ -198,11 +198,7 @@ impl<S> PredictorState<S> {
         requires few_rows { self.old.y < 2 ^ 30 }
         ensures { (s : Setting) (samples : List ℤ) → StandsAt self.old s samples → IsMade correction s.weights s.width samples → StandsAt self.new s (samples ++ sample ∷ []) }
     {
-        if let Some(corrector) = &mut self.corrector {
-            if let Some(made) = correction {
-                corrector.record(self.x as usize, &made, sample);
-            }
-        }
+        Corrector::record_where_made(&mut self.corrector, self.x as usize, correction, sample);
         self.roll(sample);
     }
 
@@ -211,6 +207,7 @@ impl<S> PredictorState<S> {
         requires few_rows { self.old.y < 2 ^ 30 }
         ensures rolls { (samples : List ℤ) → RollsIn self.old samples → RollsIn self.new (samples ++ sample ∷ []) }
         ensures kept { KeepsSetting self.old self.new }
+        ensures place { IsNext self.old self.new }
     {
         let gradient = self.w.wrapping_sub(self.nw).wrapping_add(self.n);
         self.current[self.x as usize] = sample;
