@@ -1,9 +1,9 @@
 //! The samples around a place.
 
-ghost use Rattle.std.specs.Prelude.{◌≡◌, ◌+ℤ◌, ◌-ℤ◌, ◌*ℤ◌, pos, int_div, unsigned_abs, nat_lt, if◌then◌else◌, ◌<◌, ◌^◌};
+ghost use Rattle.std.specs.Prelude.{◌≡◌, ◌+ℤ◌, ◌-ℤ◌, ◌*ℤ◌, pos, int_div, unsigned_abs, nat_lt, if◌then◌else◌, ◌<◌, ◌≤◌, ◌^◌};
 ghost use Rattle.jxlm_tree.specs.declared.predictor.Predictor.TheVariants.{AvgAll};
 ghost use Rattle.jxlm_tree.specs.Predictions.{prediction_from};
-ghost use Rattle.jxlm_tree.specs.Around.{seen};
+ghost use Rattle.jxlm_tree.specs.Around.{clamped_around, seen};
 
 use crate::predictor::Predictor;
 use jxlm_base::sample::Sealed;
@@ -88,8 +88,19 @@ impl Around {
         }
     }
 
+    /// Left plus above right less above, times 8.
+    pub(crate) fn slope(&self) -> i64
+        ensures value { result ≡ self.now.w *ℤ pos 8 +ℤ self.now.ne *ℤ pos 8 -ℤ self.now.n *ℤ pos 8 }
+        ensures bound { unsigned_abs result < 2 ^ 37 }
+    {
+        self.w as i64 * 8 + self.ne as i64 * 8 - self.n as i64 * 8
+    }
+
     /// The number brought between the least and the greatest of left, above and above right, each times 8.
-    pub(crate) fn clamped(&self, value: i64) -> i64 {
+    pub(crate) fn clamped(&self, value: i64) -> i64
+        ensures value { result ≡ clamped_around (seen self.now) value }
+        ensures bound { unsigned_abs result ≤ 2 ^ 34 }
+    {
         let low = self.n.min(self.w).min(self.ne) as i64 * 8;
         let high = self.n.max(self.w).max(self.ne) as i64 * 8;
         value.min(high).max(low)

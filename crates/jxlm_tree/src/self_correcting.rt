@@ -1,7 +1,9 @@
 //! The self-correcting predictor: the errors that it remembers, and what it makes of a place.
 
-ghost use Rattle.jxlm_tree.specs.SelfCorrecting.{IsHeader};
-ghost use Rattle.std.specs.Prelude.{◌≡◌, ◌+◌, ◌*◌, ◌<◌, ◌≤◌, ◌^◌, ◌+ℤ◌, ◌-ℤ◌, ◌*ℤ◌, pos, ℕ, ℤ, List, [], ◌∷◌, ◌++◌, length, Option, IfOk, false, vec_len, unsigned_abs};
+ghost use Rattle.jxlm_base.specs.Numbers.{floor_log2};
+ghost use Rattle.jxlm_tree.specs.SelfCorrecting.{IsHeader, errors_of, reciprocal, shifted, total, weight_of};
+ghost use Rattle.std.specs.Int.{int_shr};
+ghost use Rattle.std.specs.Prelude.{◌≡◌, ◌+◌, ◌*◌, ◌<◌, ◌≤◌, ◌^◌, ◌+ℤ◌, ◌-ℤ◌, ◌*ℤ◌, pos, ℕ, ℤ, List, [], ◌∷◌, ◌++◌, length, Option, ◌/◌, ◌%◌, nat_lt, if◌then◌else◌, IfOk, false, vec_len, unsigned_abs};
 
 use crate::around::Around;
 use crate::predictor::WpHeader;
@@ -39,6 +41,10 @@ pub(crate) struct SubPredictions {
     pub(crate) s1: i64,
     pub(crate) s2: i64,
     pub(crate) s3: i64,
+    ghost below0: { unsigned_abs s0 < 2 ^ 37 },
+    ghost below1: { unsigned_abs s1 < 2 ^ 37 },
+    ghost below2: { unsigned_abs s2 < 2 ^ 37 },
+    ghost below3: { unsigned_abs s3 < 2 ^ 37 },
 }
 
 /// What is known of a cell behind it.
@@ -104,32 +110,50 @@ pub(crate) struct Corrector {
 }
 
 /// The greatest k for which 2^k is at most `n`; 0 where `n` is 0.
-fn floor_log2(n: u64) -> u32 {
+fn floor_log2(n: u64) -> u32
+    ensures value { result ≡ floor_log2 n }
+    ensures narrow { n < 2 ^ 32 → result < 32 }
+{
     63u32.saturating_sub(n.leading_zeros())
 }
 
-fn reciprocal(i: usize) -> u32 {
+/// 2^24 divided by `i`, rounded downward.
+fn reciprocal(i: usize) -> u32
+    requires some { 1 ≤ i }
+    requires listed { i ≤ 64 }
+    ensures { result ≡ reciprocal i }
+{
     RECIPROCALS[i]
 }
 
 /// How much a sub-prediction counts whose errors have this sum, where the header gives it `w`.
-fn weight(w: u32, sum: u32) -> u32 {
+fn weight(w: u32, sum: u32) -> u32
+    requires { w < 16 }
+    ensures value { result ≡ weight_of w sum }
+    ensures bound { result ≤ 4 + 15 * 2 ^ 24 }
+{
     let shift = floor_log2((sum as u64 + 1) / 32);
     4 + ((w * reciprocal((sum >> shift) as usize + 1)) >> shift)
 }
 
-/// The sum of the errors at five neighbours, reduced to 32 bits. In the last column the error above right is what those
-/// above and to the left give together.
-fn error_sum(nw: u32, ww: u32, n: u32, w: u32, ne: Option<u32>) -> u32 {
-    let north_east = match ne {
-        Some(error) => error as u64,
-        None => n as u64 + w as u64,
+/// The sum of the errors of a sub-prediction at five neighbours, reduced to 32 bits. In the last column the error above
+/// right is what those above and to the left give together.
+fn error_sum(nw: u32, ww: u32, n: u32, w: u32, ne: u32, last: bool) -> u32
+    ensures { result ≡ (nw + ww + n + w + (if last then n + w else ne)) % 2 ^ 32 }
+{
+    let north_east = if last {
+        n as u64 + w as u64
+    } else {
+        ne as u64
     };
     let sum = nw as u64 + ww as u64 + n as u64 + w as u64 + north_east;
     (sum % 4294967296) as u32
 }
 
-fn further(a: i32, b: i32) -> i32 {
+/// The one that is further from 0; `a` where neither is.
+fn further(a: i32, b: i32) -> i32
+    ensures { result ≡ if nat_lt (unsigned_abs a) (unsigned_abs b) then b else a }
+{
     if a.unsigned_abs() < b.unsigned_abs() {
         b
     } else {
@@ -137,33 +161,76 @@ fn further(a: i32, b: i32) -> i32 {
     }
 }
 
-fn sub_error(sub_prediction: i64, sample: i32) -> u32 {
+/// How far a sub-prediction times 8 was from the sample.
+fn sub_error(sub_prediction: i64, sample: i32) -> u32
+    requires { unsigned_abs sub_prediction < 2 ^ 37 }
+    ensures { result ≡ (unsigned_abs (sub_prediction -ℤ sample *ℤ pos 8) + 3) / 8 % 2 ^ 32 }
+{
     let distance = (sub_prediction - sample as i64 * 8).unsigned_abs();
     ((distance + 3) / 8 % 4294967296) as u32
 }
 
-fn steered(base: i64, a: i32, b: i32, c: i32, factor: u32) -> i64 {
-    base - (((a as i64 + b as i64 + c as i64) * factor as i64) >> 5)
+fn scaled(value: i64, factor: u32) -> i64
+    requires small { unsigned_abs value ≤ 2 ^ 37 }
+    requires few { factor < 32 }
+    ensures value { result ≡ value *ℤ pos factor }
+    ensures bound { unsigned_abs result ≤ 2 ^ 42 }
+{
+    value * factor as i64
+}
+
+/// A sample times 8, less 1/32 of so many times three true errors.
+fn steered(sample: i32, a: i32, b: i32, c: i32, factor: u32) -> i64
+    requires { factor < 32 }
+    ensures value { result ≡ sample *ℤ pos 8 -ℤ int_shr ((a +ℤ b +ℤ c) *ℤ pos factor) 5 }
+    ensures bound { unsigned_abs result < 2 ^ 37 }
+{
+    let steer = scaled(a as i64 + b as i64 + c as i64, factor);
+    sample as i64 * 8 - (steer >> 5)
 }
 
 impl ErrorsAround {
-    fn greatest(&self) -> i32 {
+    ghost use Rattle.jxlm_tree.specs.Correcting.{greatest_from, is_clamped_from, weights_from, counted};
+
+    fn greatest(&self) -> i32
+        ensures { result ≡ greatest_from self.now }
+    {
         further(further(further(self.w, self.n), self.nw), self.ne)
     }
 
-    fn is_clamped(&self) -> bool {
+    fn is_clamped(&self) -> bool
+        ensures { result ≡ is_clamped_from self.now }
+    {
         let all_negative = self.w < 0 && self.n < 0 && self.nw < 0;
         let none_negative = !(self.w < 0 || self.n < 0 || self.nw < 0);
         !(all_negative || none_negative) || (self.w == self.n && self.n == self.nw)
     }
+
+    fn weighed(&self, header: &WpHeader) -> i64
+        requires { IsHeader header.now }
+        ensures value { result ≡ self.now.nw *ℤ pos header.now.wp_p3a +ℤ self.now.n *ℤ pos header.now.wp_p3b +ℤ self.now.ne *ℤ pos header.now.wp_p3c }
+        ensures bound { unsigned_abs result ≤ 2 ^ 44 }
+    {
+        scaled(self.nw as i64, header.wp_p3a)
+            + scaled(self.n as i64, header.wp_p3b)
+            + scaled(self.ne as i64, header.wp_p3c)
+    }
 }
 
 impl Counts {
-    fn total(&self) -> u32 {
+    ghost use Rattle.jxlm_tree.specs.Correcting.{counted, weights_from};
+
+    fn total(&self) -> u32
+        requires { total (counted self.now) < 2 ^ 32 }
+        ensures { result ≡ total (counted self.now) }
+    {
         self.s0 + self.s1 + self.s2 + self.s3
     }
 
-    fn shifted(&self) -> Counts {
+    fn shifted(&self) -> Counts
+        requires { total (counted self.now) < 2 ^ 32 }
+        ensures { counted result ≡ shifted (counted self.now) }
+    {
         let shift = floor_log2((self.total() / 16) as u64);
         Counts {
             s0: self.s0 >> shift,
@@ -174,7 +241,12 @@ impl Counts {
     }
 
     /// The weights of the four sub-predictions, whose errors have these sums.
-    fn weights(&self, header: &WpHeader) -> Counts {
+    fn weights(&self, header: &WpHeader) -> Counts
+        requires { IsHeader header.now }
+        ensures value { counted result ≡ weights_from header.now (counted self.now) }
+        ensures least { 13 ≤ total (counted result) }
+        ensures greatest { total (counted result) ≤ 31 }
+    {
         let weights = Counts {
             s0: weight(header.wp_w0, self.s0),
             s1: weight(header.wp_w1, self.s1),
@@ -186,41 +258,59 @@ impl Counts {
 }
 
 impl SubPredictions {
-    fn of_place(header: &WpHeader, around: &Around, errors: &ErrorsAround) -> SubPredictions {
-        let (w, n) = (around.w as i64 * 8, around.n as i64 * 8);
+    ghost use Rattle.jxlm_tree.specs.Around.{seen};
+    ghost use Rattle.jxlm_tree.specs.Correcting.{counted, predicted_by, sub_predictions_from, weighted_from, unclamped_from};
+
+    fn of_place(header: &WpHeader, around: &Around, errors: &ErrorsAround) -> SubPredictions
+        requires { IsHeader header.now }
+        ensures { predicted_by result ≡ sub_predictions_from header.now (seen around.now) errors.now }
+    {
         SubPredictions {
-            s0: w + around.ne as i64 * 8 - n,
-            s1: steered(n, errors.w, errors.n, errors.ne, header.wp_p1),
-            s2: steered(w, errors.w, errors.n, errors.nw, header.wp_p2),
+            s0: around.slope(),
+            s1: steered(around.n, errors.w, errors.n, errors.ne, header.wp_p1),
+            s2: steered(around.w, errors.w, errors.n, errors.nw, header.wp_p2),
             s3: SubPredictions::last(header, around, errors),
         }
     }
 
-    fn last(header: &WpHeader, around: &Around, errors: &ErrorsAround) -> i64 {
-        let (w, n) = (around.w as i64 * 8, around.n as i64 * 8);
-        let (nw, nn) = (around.nw as i64 * 8, around.nn as i64 * 8);
-        let steer = errors.nw as i64 * header.wp_p3a as i64
-            + errors.n as i64 * header.wp_p3b as i64
-            + errors.ne as i64 * header.wp_p3c as i64
-            + (nn - n) * header.wp_p3d as i64
-            + (nw - w) * header.wp_p3e as i64;
-        n - (steer >> 5)
+    fn last(header: &WpHeader, around: &Around, errors: &ErrorsAround) -> i64
+        requires { IsHeader header.now }
+        ensures value { result ≡ (sub_predictions_from header.now (seen around.now) errors.now).s3 }
+        ensures bound { unsigned_abs result < 2 ^ 37 }
+    {
+        let down = (around.nn as i64 * 8) - (around.n as i64 * 8);
+        let right = (around.nw as i64 * 8) - (around.w as i64 * 8);
+        let steer = errors.weighed(header) + scaled(down, header.wp_p3d) + scaled(right, header.wp_p3e);
+        around.n as i64 * 8 - (steer >> 5)
+    }
+
+    fn sum(&self, weights: &Counts) -> i64
+        requires least { 13 ≤ total (counted weights.now) }
+        requires greatest { total (counted weights.now) ≤ 31 }
+        ensures value { result ≡ weighted_from (predicted_by self.now) (counted weights.now) }
+        ensures bound { unsigned_abs result < 2 ^ 42 }
+    {
+        (weights.total() / 2 - 1) as i64
+            + scaled(self.s0, weights.s0)
+            + scaled(self.s1, weights.s1)
+            + scaled(self.s2, weights.s2)
+            + scaled(self.s3, weights.s3)
     }
 
     /// Their sum by these weights, divided by the sum of the weights.
-    fn weighted(&self, weights: &Counts) -> i64 {
-        let total = weights.total();
-        let sum = (total / 2 - 1) as i64
-            + self.s0 * weights.s0 as i64
-            + self.s1 * weights.s1 as i64
-            + self.s2 * weights.s2 as i64
-            + self.s3 * weights.s3 as i64;
-        (sum * reciprocal(total as usize) as i64) >> 24
+    fn weighted(&self, weights: &Counts) -> i64
+        requires least { 13 ≤ total (counted weights.now) }
+        requires greatest { total (counted weights.now) ≤ 31 }
+        ensures value { result ≡ unclamped_from (predicted_by self.now) (counted weights.now) }
+        ensures bound { unsigned_abs result < 2 ^ 40 }
+    {
+        (self.sum(weights) * reciprocal(weights.total() as usize) as i64) >> 24
     }
 }
 
 impl PredictionResult {
-    ghost use Rattle.jxlm_tree.specs.Correcting.{IsMade};
+    ghost use Rattle.jxlm_tree.specs.Around.{seen};
+    ghost use Rattle.jxlm_tree.specs.Correcting.{IsMade, cell_errors, errors_from, greatest_from, predicted_by, predicted_from, sub_predictions_from};
     ghost use Rattle.jxlm_tree.specs.Predictions.{corrected};
     ghost use Rattle.jxlm_tree.specs.Properties.{error_property};
     ghost use Rattle.jxlm_tree.specs.declared.predictor.WpHeader.{WpHeader};
@@ -246,7 +336,16 @@ impl PredictionResult {
         }
     }
 
-    fn of_place(header: &WpHeader, around: &Around, errors: &ErrorsAround) -> PredictionResult {
+    fn of_place(
+        header: &WpHeader,
+        around: &Around,
+        errors: &ErrorsAround,
+    ) -> PredictionResult
+        requires { IsHeader header.now }
+        ensures prediction { result.prediction ≡ predicted_from header.now (seen around.now) errors.now }
+        ensures max_error { result.max_error ≡ greatest_from errors.now }
+        ensures subpred { predicted_by result.subpred ≡ sub_predictions_from header.now (seen around.now) errors.now }
+    {
         let subpred = SubPredictions::of_place(header, around, errors);
         let unclamped = subpred.weighted(&errors.sums.weights(header));
         let prediction = if errors.is_clamped() {
@@ -261,7 +360,9 @@ impl PredictionResult {
         }
     }
 
-    fn errors_behind(&self, sample: i32) -> CellErrors {
+    fn errors_behind(&self, sample: i32) -> CellErrors
+        ensures { cell_errors result ≡ errors_from self.now.prediction (predicted_by self.now.subpred) sample }
+    {
         CellErrors {
             true_error: reduced(self.prediction - sample as i64 * 8),
             sub_errors: Counts {
@@ -276,7 +377,7 @@ impl PredictionResult {
 
 impl Corrector {
     ghost use Rattle.jxlm_tree.specs.Around.{seen};
-    ghost use Rattle.jxlm_tree.specs.Correcting.{Corrects, CorrectsBehind, CorrectsBy, CorrectsNext, HoldsColumn, IsMade, IsMadeBy, counted};
+    ghost use Rattle.jxlm_tree.specs.Correcting.{AreErrorsAt, Corrects, CorrectsBehind, CorrectsBy, CorrectsNext, HoldsColumn, IsMade, IsMadeBy, cell_errors, counted, errors_above, sums_from};
     ghost use Rattle.jxlm_tree.specs.declared.predictor.WpHeader.{WpHeader};
     ghost use Rattle.jxlm_tree.specs.Neighbours.{neighbours};
 
@@ -316,6 +417,8 @@ impl Corrector {
 
     fn above<const EDGE: bool>(&self, x: usize, y: usize) -> CellErrors
         requires in_row { x < self.now.width }
+        requires inner { EDGE ≡ false → 2 ≤ y }
+        ensures { (header : WpHeader) (width place : ℕ) (samples : List ℤ) → CorrectsBy self.now header width place y samples → cell_errors result ≡ errors_above (errors_of header samples width (length samples)) width x y }
     {
         if EDGE && y == 0 {
             NO_ERRORS
@@ -324,37 +427,41 @@ impl Corrector {
         }
     }
 
-    fn errors_around<const EDGE: bool>(&self, x: usize, y: usize) -> ErrorsAround {
+    fn errors_around<const EDGE: bool>(&self, x: usize, y: usize) -> ErrorsAround
+        requires in_row { x < self.now.width }
+        requires inner { EDGE ≡ false → (2 ≤ y) × (2 ≤ x) × (x + 2 < self.now.width) }
+        ensures { (header : WpHeader) (width : ℕ) (samples : List ℤ) → CorrectsBy self.now header width x y samples → AreErrorsAt result (errors_of header samples width (length samples)) width x y }
+    {
+        let last = EDGE && x + 1 >= self.width as usize;
         let n = self.above::<EDGE>(x, y);
         let nw = if EDGE && x == 0 {
             n
         } else {
             self.above::<EDGE>(x - 1, y)
         };
-        let ne = if EDGE && x + 1 >= self.width as usize {
-            None
+        let ne = if last {
+            n
         } else {
-            Some(self.above::<EDGE>(x + 1, y))
+            self.above::<EDGE>(x + 1, y)
         };
         ErrorsAround {
             w: self.west.true_error,
             n: n.true_error,
             nw: nw.true_error,
-            ne: match ne {
-                Some(errors) => errors.true_error,
-                None => n.true_error,
-            },
-            sums: self.sums(&nw.sub_errors, &n.sub_errors, ne.map(|errors| errors.sub_errors)),
+            ne: ne.true_error,
+            sums: self.sums(&nw.sub_errors, &n.sub_errors, &ne.sub_errors, last),
         }
     }
 
-    fn sums(&self, nw: &Counts, n: &Counts, ne: Option<Counts>) -> Counts {
+    fn sums(&self, nw: &Counts, n: &Counts, ne: &Counts, last: bool) -> Counts
+        ensures { counted result ≡ sums_from (counted nw.now) (counted self.now.west_west.sub_errors) (counted n.now) (counted self.now.west.sub_errors) (counted ne.now) last }
+    {
         let (w, ww) = (self.west.sub_errors, self.west_west.sub_errors);
         Counts {
-            s0: error_sum(nw.s0, ww.s0, n.s0, w.s0, ne.map(|errors| errors.s0)),
-            s1: error_sum(nw.s1, ww.s1, n.s1, w.s1, ne.map(|errors| errors.s1)),
-            s2: error_sum(nw.s2, ww.s2, n.s2, w.s2, ne.map(|errors| errors.s2)),
-            s3: error_sum(nw.s3, ww.s3, n.s3, w.s3, ne.map(|errors| errors.s3)),
+            s0: error_sum(nw.s0, ww.s0, n.s0, w.s0, ne.s0, last),
+            s1: error_sum(nw.s1, ww.s1, n.s1, w.s1, ne.s1, last),
+            s2: error_sum(nw.s2, ww.s2, n.s2, w.s2, ne.s2, last),
+            s3: error_sum(nw.s3, ww.s3, n.s3, w.s3, ne.s3, last),
         }
     }
 
