@@ -171,12 +171,29 @@ fn sub_error(sub_prediction: i64, sample: i32) -> u32
 }
 
 fn scaled(value: i64, factor: u32) -> i64
-    requires small { unsigned_abs value ≤ 2 ^ 37 }
+    requires small { unsigned_abs value < 2 ^ 37 }
     requires few { factor < 32 }
     ensures value { result ≡ value *ℤ pos factor }
-    ensures bound { unsigned_abs result ≤ 2 ^ 42 }
+    ensures bound { unsigned_abs result ≤ 31 * unsigned_abs value }
 {
     value * factor as i64
+}
+
+/// The difference of two samples, times 8.
+fn difference(a: i32, b: i32) -> i64
+    ensures value { result ≡ a *ℤ pos 8 -ℤ b *ℤ pos 8 }
+    ensures bound { unsigned_abs result ≤ 2 ^ 35 }
+{
+    a as i64 * 8 - b as i64 * 8
+}
+
+/// A sample times 8, less 1/32 of `steer`.
+fn eased(sample: i32, steer: i64) -> i64
+    requires { unsigned_abs steer ≤ 93 * 2 ^ 31 + 62 * 2 ^ 35 }
+    ensures value { result ≡ sample *ℤ pos 8 -ℤ int_shr steer 5 }
+    ensures bound { unsigned_abs result < 2 ^ 37 }
+{
+    sample as i64 * 8 - (steer >> 5)
 }
 
 /// A sample times 8, less 1/32 of so many times three true errors.
@@ -185,8 +202,8 @@ fn steered(sample: i32, a: i32, b: i32, c: i32, factor: u32) -> i64
     ensures value { result ≡ sample *ℤ pos 8 -ℤ int_shr ((a +ℤ b +ℤ c) *ℤ pos factor) 5 }
     ensures bound { unsigned_abs result < 2 ^ 37 }
 {
-    let steer = scaled(a as i64 + b as i64 + c as i64, factor);
-    sample as i64 * 8 - (steer >> 5)
+    let errors = a as i64 + b as i64 + c as i64;
+    eased(sample, scaled(errors, factor))
 }
 
 impl ErrorsAround {
@@ -209,7 +226,7 @@ impl ErrorsAround {
     fn weighed(&self, header: &WpHeader) -> i64
         requires { IsHeader header.now }
         ensures value { result ≡ self.now.nw *ℤ pos header.now.wp_p3a +ℤ self.now.n *ℤ pos header.now.wp_p3b +ℤ self.now.ne *ℤ pos header.now.wp_p3c }
-        ensures bound { unsigned_abs result ≤ 2 ^ 44 }
+        ensures bound { unsigned_abs result ≤ 93 * 2 ^ 31 }
     {
         scaled(self.nw as i64, header.wp_p3a)
             + scaled(self.n as i64, header.wp_p3b)
@@ -278,10 +295,10 @@ impl SubPredictions {
         ensures value { result ≡ (sub_predictions_from header.now (seen around.now) errors.now).s3 }
         ensures bound { unsigned_abs result < 2 ^ 37 }
     {
-        let down = (around.nn as i64 * 8) - (around.n as i64 * 8);
-        let right = (around.nw as i64 * 8) - (around.w as i64 * 8);
-        let steer = errors.weighed(header) + scaled(down, header.wp_p3d) + scaled(right, header.wp_p3e);
-        around.n as i64 * 8 - (steer >> 5)
+        let down = scaled(difference(around.nn, around.n), header.wp_p3d);
+        let right = scaled(difference(around.nw, around.w), header.wp_p3e);
+        let steer = errors.weighed(header) + down + right;
+        eased(around.n, steer)
     }
 
     fn sum(&self, weights: &Counts) -> i64
@@ -304,7 +321,8 @@ impl SubPredictions {
         ensures value { result ≡ unclamped_from (predicted_by self.now) (counted weights.now) }
         ensures bound { unsigned_abs result < 2 ^ 40 }
     {
-        (self.sum(weights) * reciprocal(weights.total() as usize) as i64) >> 24
+        let reciprocal = reciprocal(weights.total() as usize);
+        (self.sum(weights) * reciprocal as i64) >> 24
     }
 }
 
