@@ -98,11 +98,13 @@ impl Around {
 
     /// The number brought between the least and the greatest of left, above and above right, each times 8.
     pub(crate) fn clamped(&self, value: i64) -> i64
+        requires { unsigned_abs value < 2 ^ 40 }
         ensures value { result ≡ clamped_around (seen self.now) value }
-        ensures bound { unsigned_abs result ≤ 2 ^ 34 }
+        ensures bound { unsigned_abs result < 2 ^ 40 }
     {
-        let low = self.n.min(self.w).min(self.ne) as i64 * 8;
-        let high = self.n.max(self.w).max(self.ne) as i64 * 8;
-        value.min(high).max(low)
+        let (n, w, ne) = (self.n as i64 * 8, self.w as i64 * 8, self.ne as i64 * 8);
+        let low = n.min(w).min(ne);
+        let high = n.max(w).max(ne);
+        low.max(value.min(high))
     }
 }
