@@ -1,5 +1,6 @@
 mod Examples
 pub mod Causal
+pub mod Correcting
 pub mod Listing
 pub mod Multipliers
 pub mod OneNode

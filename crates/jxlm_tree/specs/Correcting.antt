@@ -37,6 +37,15 @@ abbrev pub errors_above : List Errors → ℕ → ℕ → ℕ → Errors
 errors_above errors width x zero = no_errors
 errors_above errors width x (suc y) = errors_at errors width x y
 
+-- those above left; in column 0 those above
+abbrev pub errors_above_left : List Errors → ℕ → ℕ → ℕ → Errors
+errors_above_left errors width zero y = errors_above errors width zero y
+errors_above_left errors width (suc x) y = errors_above errors width x y
+
+-- those above right; in the last column those above
+abbrev pub errors_above_right : List Errors → ℕ → ℕ → ℕ → Errors
+errors_above_right errors width x y = if nat_lt (x + 1) width then errors_above errors width (x + 1) y else errors_above errors width x y
+
 -- the sums of the errors at north west, two to the west, north, west and north east; whether the column is the last
 abbrev pub sums_from : Four ℕ → Four ℕ → Four ℕ → Four ℕ → Four ℕ → Bool → Four ℕ
 sums_from nw ww n w ne last = record { s0 = of_one nw.s0 ww.s0 n.s0 w.s0 ne.s0; s1 = of_one nw.s1 ww.s1 n.s1 w.s1 ne.s1; s2 = of_one nw.s2 ww.s2 n.s2 w.s2 ne.s2; s3 = of_one nw.s3 ww.s3 n.s3 w.s3 ne.s3 } where

@@ -3,7 +3,7 @@
 ghost use Rattle.jxlm_base.specs.Numbers.{floor_log2};
 ghost use Rattle.jxlm_tree.specs.SelfCorrecting.{IsHeader, errors_of, reciprocal, shifted, total, weight_of};
 ghost use Rattle.std.specs.Int.{int_shr};
-ghost use Rattle.std.specs.Prelude.{◌≡◌, ◌+◌, ◌*◌, ◌<◌, ◌≤◌, ◌^◌, ◌+ℤ◌, ◌-ℤ◌, ◌*ℤ◌, pos, ℕ, ℤ, List, [], ◌∷◌, ◌++◌, length, Option, ◌/◌, ◌%◌, nat_lt, if◌then◌else◌, IfOk, false, vec_len, unsigned_abs};
+ghost use Rattle.std.specs.Prelude.{◌≡◌, ◌+◌, ◌*◌, ◌<◌, ◌≤◌, ◌^◌, ◌+ℤ◌, ◌-ℤ◌, ◌*ℤ◌, pos, ℕ, ℤ, List, [], ◌∷◌, ◌++◌, length, Option, ◌/◌, ◌%◌, nat_lt, if◌then◌else◌, not, IfOk, false, vec_len, unsigned_abs};
 
 use crate::around::Around;
 use crate::predictor::WpHeader;
@@ -395,7 +395,7 @@ impl PredictionResult {
 
 impl Corrector {
     ghost use Rattle.jxlm_tree.specs.Around.{seen};
-    ghost use Rattle.jxlm_tree.specs.Correcting.{AreErrorsAt, Corrects, CorrectsBehind, CorrectsBy, CorrectsNext, HoldsColumn, IsMade, IsMadeBy, cell_errors, counted, errors_above, sums_from};
+    ghost use Rattle.jxlm_tree.specs.Correcting.{AreErrorsAt, Corrects, CorrectsBehind, CorrectsBy, CorrectsNext, HoldsColumn, IsMade, IsMadeBy, cell_errors, counted, errors_above, errors_above_left, errors_above_right, sums_from};
     ghost use Rattle.jxlm_tree.specs.declared.predictor.WpHeader.{WpHeader};
     ghost use Rattle.jxlm_tree.specs.Neighbours.{neighbours};
 
@@ -445,23 +445,48 @@ impl Corrector {
         }
     }
 
+    fn above_left<const EDGE: bool>(&self, x: usize, y: usize) -> CellErrors
+        requires in_row { x < self.now.width }
+        requires inner { EDGE ≡ false → (2 ≤ y) × (2 ≤ x) × (x + 2 < self.now.width) }
+        ensures { (header : WpHeader) (width place : ℕ) (samples : List ℤ) → CorrectsBy self.now header width place y samples → cell_errors result ≡ errors_above_left (errors_of header samples width (length samples)) width x y }
+    {
+        if EDGE && x == 0 {
+            self.above::<EDGE>(x, y)
+        } else {
+            self.above::<EDGE>(x - 1, y)
+        }
+    }
+
+    fn is_last<const EDGE: bool>(&self, x: usize) -> bool
+        requires in_row { x < self.now.width }
+        requires inner { EDGE ≡ false → x + 2 < self.now.width }
+        ensures { result ≡ not (nat_lt (x + 1) self.now.width) }
+    {
+        EDGE && x + 1 >= self.width as usize
+    }
+
+    fn above_right<const EDGE: bool>(&self, x: usize, y: usize, last: bool) -> CellErrors
+        requires in_row { x < self.now.width }
+        requires inner { EDGE ≡ false → 2 ≤ y }
+        requires last { last ≡ not (nat_lt (x + 1) self.now.width) }
+        ensures { (header : WpHeader) (width place : ℕ) (samples : List ℤ) → CorrectsBy self.now header width place y samples → cell_errors result ≡ errors_above_right (errors_of header samples width (length samples)) width x y }
+    {
+        if last {
+            self.above::<EDGE>(x, y)
+        } else {
+            self.above::<EDGE>(x + 1, y)
+        }
+    }
+
     fn errors_around<const EDGE: bool>(&self, x: usize, y: usize) -> ErrorsAround
         requires in_row { x < self.now.width }
         requires inner { EDGE ≡ false → (2 ≤ y) × (2 ≤ x) × (x + 2 < self.now.width) }
         ensures { (header : WpHeader) (width : ℕ) (samples : List ℤ) → CorrectsBy self.now header width x y samples → AreErrorsAt result (errors_of header samples width (length samples)) width x y }
     {
-        let last = EDGE && x + 1 >= self.width as usize;
         let n = self.above::<EDGE>(x, y);
-        let nw = if EDGE && x == 0 {
-            n
-        } else {
-            self.above::<EDGE>(x - 1, y)
-        };
-        let ne = if last {
-            n
-        } else {
-            self.above::<EDGE>(x + 1, y)
-        };
+        let nw = self.above_left::<EDGE>(x, y);
+        let last = self.is_last::<EDGE>(x);
+        let ne = self.above_right::<EDGE>(x, y, last);
         ErrorsAround {
             w: self.west.true_error,
             n: n.true_error,

@@ -3,7 +3,7 @@ use Rattle.std.specs.Int.{w32, w64, int_shr}
 use Rattle.std.proofs.lemmas.Int.{to_z-of_z, to_z_pos, ints, fits_signed_from_abs}
 use Rattle.std.proofs.Common.{ℕ, Bool, true, false, cond}
 use Rattle.std.specs.Int.{int_min, int_max}
-use Rattle.std.specs.Ordering.{int_lt}
+use Rattle.std.specs.Int.Signed.{lt_z}
 use Rattle.jxlm_base.specs.Numbers.{clamped}
 use Rattle.jxlm_tree.proofs.around.Around.clamped.Goals as goal
 
@@ -12,10 +12,10 @@ pick true x y m h k = h
 pick false x y m h k = k
 
 max-within : (x y : ℤ) (m : ℕ) → unsigned_abs x < m → unsigned_abs y < m → unsigned_abs (int_max x y) < m
-max-within x y m h k = pick (int_lt y x) x y m h k
+max-within x y m h k = pick (lt_z y x) x y m h k
 
 min-within : (x y : ℤ) (m : ℕ) → unsigned_abs x < m → unsigned_abs y < m → unsigned_abs (int_min x y) < m
-min-within x y m h k = pick (int_lt y x) y x m k h
+min-within x y m h k = pick (lt_z y x) y x m k h
 
 clamped-within : (n w ne z : ℤ) (m : ℕ) → unsigned_abs n < m → unsigned_abs w < m → unsigned_abs ne < m → unsigned_abs z < m → unsigned_abs (clamped (int_min (int_min n w) ne) (int_max (int_max n w) ne) z) < m
 clamped-within n w ne z m a b c d =
