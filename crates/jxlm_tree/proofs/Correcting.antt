@@ -1,10 +1,11 @@
 -- The errors that are kept, and those of a sample more.
 use Rattle.std.proofs.Common.{◌≡◌, ℕ, zero, suc, ◌+◌, ◌*◌, ◌%◌, ◌^◌, ◌<◌, ◌≤◌, inl, inr, ℤ, pos, List, [], ◌∷◌, ◌++◌, length, set, get_or, take, Bool, not, cond, ltb, sym, ap, subst, refl, ◌∙◌, arith, add-one, length-append}
 use Rattle.std.specs.Prelude.{nat_lt}
-use Rattle.std.proofs.lemmas.List.{get_or-set_same, get_or-set_other, get_or_append_left, get_or_push, take-append-le, take-length}
+use Rattle.std.proofs.lemmas.List.{get_or-set_same, get_or-set_other, get_or_append_left, get_or_push, take-append-le}
+use Rattle.std.proofs.Math.Seq.{take-length}
 use Rattle.std.proofs.lemmas.Bool.{cases_lt, lt-ltb, le-ltb}
-use Rattle.jxlm_tree.specs.Correcting.{KeepsErrors, errors_above, errors_above_left, errors_above_right}
-use Rattle.jxlm_tree.specs.SelfCorrecting.{Four, Errors, no_errors, errors_at, west_error, north_error, north_west_error, north_east_error, sub_north, sub_west, sub_west_west, sub_north_west, sub_north_east, error_sum, errors_of, errors_behind}
+use Rattle.jxlm_tree.specs.Correcting.{errors_from, sums_from, KeepsErrors, errors_above, errors_above_left, errors_above_right}
+use Rattle.jxlm_tree.specs.SelfCorrecting.{Four, Errors, no_errors, errors_at, west_error, north_error, north_west_error, north_east_error, sub_north, sub_west, sub_west_west, sub_north_west, sub_north_east, error_sum, error_sums, sub_predictions, predicted, errors_of, errors_behind}
 use Rattle.jxlm_tree.specs.declared.predictor.WpHeader.{WpHeader}
 use Rattle.jxlm_tree.proofs.Causal.{errors_same}
 
@@ -60,6 +61,14 @@ module _ (errors : List Errors) (width : ℕ) where
           ≡ error_sum errors width sub x y
       error_sum_is x y k = rw (sub_north_east_is x y k, sub_north_west_is x y, sub_west_west_is x y k, sub_north_is x y, sub_west_is x y k) refl
 
+module _ (errors : List Errors) (width x y : ℕ) (nw ww n w ne : Errors) (last : Bool) (previous current : List Errors) where
+  -- the sums at the neighbours
+  pub sums_are : KeepsErrors width x y w ww previous current errors → nw ≡ errors_above_left errors width x y → n ≡ errors_above errors width x y → ne ≡ errors_above_right errors width x y → last ≡ not (nat_lt (x + 1) width) →
+      sums_from nw.sub_errors ww.sub_errors n.sub_errors w.sub_errors ne.sub_errors last ≡ error_sums errors width x y
+  sums_are k a b c d =
+      rw (a, b, c, d)
+      (rw (error_sum_is errors width w ww previous current (λ f. f.s0) refl x y k, error_sum_is errors width w ww previous current (λ f. f.s1) refl x y k, error_sum_is errors width w ww previous current (λ f. f.s2) refl x y k, error_sum_is errors width w ww previous current (λ f. f.s3) refl x y k) refl)
+
 -- ---- a sample more
 
 errors_at-push : (errors : List Errors) (e : Errors) (width x y : ℕ) → y * width + x < length errors → errors_at (errors ++ e ∷ []) width x y ≡ errors_at errors width x y
@@ -113,8 +122,11 @@ length-errors_of header samples width (suc i) = let n = length-errors_of header 
 pub errors_of-push : (header : WpHeader) (samples : List ℤ) (width : ℕ) (s : ℤ) →
     errors_of header (samples ++ s ∷ []) width (length (samples ++ s ∷ [])) ≡ errors_of header samples width (length samples) ++ errors_behind header samples width (errors_of header samples width (length samples)) s ∷ []
 errors_of-push header samples width s =
-    let n : length (samples ++ s ∷ []) ≡ suc (length samples) = length-append samples (s ∷ []) ∙ add-one in
+    let n : length (samples ++ s ∷ []) ≡ suc (length samples) = omega (arith, length-append samples (s ∷ [])) in
     let before : take (length samples) (samples ++ s ∷ []) ≡ samples = take-append-le (length samples) samples (s ∷ []) (omega arith) ∙ take-length samples in
     let same = errors_same header width (samples ++ s ∷ []) samples (length samples) (before ∙ sym (take-length samples)) in
     let last : get_or (samples ++ s ∷ []) (length samples) (pos 0) ≡ s = get_or_push samples s (pos 0) (length samples) refl in
     rw n (rw (same, before, last) refl)
+
+pub behind_is : (header : WpHeader) (samples : List ℤ) (width : ℕ) (errors : List Errors) (p : ℤ) (f : Four ℤ) (s : ℤ) → p ≡ predicted header samples width errors → f ≡ sub_predictions header samples width errors → errors_from p f s ≡ errors_behind header samples width errors s
+behind_is header samples width errors p f s a b = rw (a, b) refl
