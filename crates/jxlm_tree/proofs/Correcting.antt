@@ -1,6 +1,6 @@
 -- The errors that are kept, and those of a sample more.
 use Rattle.std.proofs.Common.{◌≡◌, ℕ, zero, suc, ◌+◌, ◌*◌, ◌%◌, ◌^◌, ◌<◌, ◌≤◌, inl, inr, ℤ, pos, List, [], ◌∷◌, ◌++◌, length, set, get_or, take, Bool, not, cond, ltb, sym, ap, subst, refl, ◌∙◌, arith, add-one, length-append}
-use Rattle.std.specs.Prelude.{nat_lt}
+use Rattle.std.specs.Prelude.{map, nat_lt}
 use Rattle.std.proofs.lemmas.List.{get_or-set_same, get_or-set_other, get_or_append_left, get_or_push, take-append-le}
 use Rattle.std.proofs.Math.Seq.{take-length}
 use Rattle.std.proofs.lemmas.Bool.{cases_lt, lt-ltb, le-ltb}
@@ -130,3 +130,8 @@ errors_of-push header samples width s =
 
 pub behind_is : (header : WpHeader) (samples : List ℤ) (width : ℕ) (errors : List Errors) (p : ℤ) (f : Four ℤ) (s : ℤ) → p ≡ predicted header samples width errors → f ≡ sub_predictions header samples width errors → errors_from p f s ≡ errors_behind header samples width errors s
 behind_is header samples width errors p f s a b = rw (a, b) refl
+
+pub map-set : {X Y : Type 0} (f : X → Y) (xs : List X) (i : ℕ) (v : X) → map f (set xs i v) ≡ set (map f xs) i (f v)
+map-set f [] i v = refl
+map-set f (x ∷ xs) zero v = refl
+map-set f (x ∷ xs) (suc i) v = ap (λ ys. f x ∷ ys) (map-set f xs i v)
