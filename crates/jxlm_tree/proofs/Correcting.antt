@@ -4,8 +4,11 @@ use Rattle.std.specs.Prelude.{map, nat_lt}
 use Rattle.std.proofs.lemmas.List.{get_or-set_same, get_or-set_other, get_or_append_left, get_or_push, take-append-le}
 use Rattle.std.proofs.Math.Seq.{take-length}
 use Rattle.std.proofs.lemmas.Bool.{cases_lt, lt-ltb, le-ltb}
-use Rattle.jxlm_tree.specs.Correcting.{errors_from, sums_from, KeepsErrors, errors_above, errors_above_left, errors_above_right}
-use Rattle.jxlm_tree.specs.SelfCorrecting.{Four, Errors, no_errors, errors_at, west_error, north_error, north_west_error, north_east_error, sub_north, sub_west, sub_west_west, sub_north_west, sub_north_east, error_sum, error_sums, sub_predictions, predicted, errors_of, errors_behind}
+use Rattle.jxlm_tree.specs.Around.{clamped_around}
+use Rattle.jxlm_tree.specs.Neighbours.{Neighbours, neighbours, column, row}
+use Rattle.jxlm_tree.specs.declared.self_correcting.ErrorsAround.{ErrorsAround}
+use Rattle.jxlm_tree.specs.Correcting.{AreErrorsAt, counted, greatest_from, is_clamped_from, predicted_from, sub_predictions_from, unclamped_from, weights_from, errors_from, sums_from, KeepsErrors, errors_above, errors_above_left, errors_above_right}
+use Rattle.jxlm_tree.specs.SelfCorrecting.{Four, Errors, no_errors, errors_at, west_error, north_error, north_west_error, north_east_error, sub_north, sub_west, sub_west_west, sub_north_west, sub_north_east, error_sum, error_sums, greatest_at, is_clamped, sub_predictions, unclamped, weights, predicted, errors_of, errors_behind}
 use Rattle.jxlm_tree.specs.declared.predictor.WpHeader.{WpHeader}
 use Rattle.jxlm_tree.proofs.Causal.{errors_same}
 
@@ -135,3 +138,26 @@ pub map-set : {X Y : Type 0} (f : X → Y) (xs : List X) (i : ℕ) (v : X) → m
 map-set f [] i v = refl
 map-set f (x ∷ xs) zero v = refl
 map-set f (x ∷ xs) (suc i) v = ap (λ ys. f x ∷ ys) (map-set f xs i v)
+
+-- ---- what is made of a place is what the definitions make of it
+
+module _ (header : WpHeader) (samples : List ℤ) (width : ℕ) (errors : List Errors) (a : Neighbours) (e : ErrorsAround) (x y : ℕ) where
+  pub sub_predictions_are : column samples width ≡ x → row samples width ≡ y → a ≡ neighbours samples width → AreErrorsAt e errors width x y → sub_predictions_from header a e ≡ sub_predictions header samples width errors
+  sub_predictions_are cx cy is are = rw (is, cx, cy, are.w_is, are.n_is, are.nw_is, are.ne_is) refl
+
+  pub greatest_is : AreErrorsAt e errors width x y → greatest_from e ≡ greatest_at errors width x y
+  greatest_is are = rw (are.w_is, are.n_is, are.nw_is, are.ne_is) refl
+
+  weights_are : column samples width ≡ x → row samples width ≡ y → AreErrorsAt e errors width x y → weights_from header (counted e.sums) ≡ weights header samples width errors
+  weights_are cx cy are = rw (cx, cy) (ap (weights_from header) are.sums_are)
+
+  clamped_is : column samples width ≡ x → row samples width ≡ y → AreErrorsAt e errors width x y → is_clamped_from e ≡ is_clamped header samples width errors
+  clamped_is cx cy are = rw (cx, cy, are.w_is, are.n_is, are.nw_is) refl
+
+  pub predicted_is : column samples width ≡ x → row samples width ≡ y → a ≡ neighbours samples width → AreErrorsAt e errors width x y → predicted_from header a e ≡ predicted header samples width errors
+  predicted_is cx cy is are =
+      let z : unclamped_from (sub_predictions_from header a e) (weights_from header (counted e.sums)) ≡ unclamped header samples width errors =
+      ap (λ (f : Four ℤ). unclamped_from f (weights_from header (counted e.sums))) (sub_predictions_are cx cy is are) ∙ ap (unclamped_from (sub_predictions header samples width errors)) (weights_are cx cy are) in
+      ap (λ (v : ℤ). cond (is_clamped_from e) (clamped_around a v) v) z
+      ∙ ap (λ (b : Bool). cond b (clamped_around a (unclamped header samples width errors)) (unclamped header samples width errors)) (clamped_is cx cy are)
+      ∙ ap (λ (b : Neighbours). cond (is_clamped header samples width errors) (clamped_around b (unclamped header samples width errors)) (unclamped header samples width errors)) is

@@ -127,7 +127,7 @@ Rolls_end width x y w n nw g s previous current samples r len h a is =
       current_is = λ i lt. absurd (omega arith);
       previous_is = λ i above lt d. let d' : y ≡ above = omega arith in rw (← d') (current_more width x y w n nw g s previous current samples r len i (omega arith));
       two_above_is = λ i above le lt d.
-      let d' : y ≡ suc above = omega arith in r.previous_is i above lt d' ∙ sym (at-push samples s width i above (let p = rw d' at place in omega arith));
+          let d' : y ≡ suc above = omega arith in r.previous_is i above lt d' ∙ sym (at-push samples s width i above (let p = rw d' at place in omega arith));
     }
 
 -- before the first sample

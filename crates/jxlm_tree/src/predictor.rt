@@ -11,9 +11,9 @@ ghost use Rattle.jxlm_tree.specs.Standing.{Setting, StandsAt};
 ghost use Rattle.jxlm_tree.specs.WeightsHeader.{AnswersExactly, default_weights, listed_weights, wp_header};
 
 pub use crate::properties::Properties;
+use crate::reduced::reduced;
 pub use crate::self_correcting::PredictionResult;
 pub use crate::state::PredictorState;
-use crate::reduced::reduced;
 use jxlm_base::bits::{Bitstream, BitstreamError};
 use jxlm_base::error::Result;
 

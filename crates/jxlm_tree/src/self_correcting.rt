@@ -14,15 +14,12 @@ use std::mem;
 
 /// 2^24 divided by each number from 1 to 64, rounded downward.
 const RECIPROCALS: [u32; 65] = [
-    0, 16777216, 8388608, 5592405, 4194304, 3355443, 2796202, 2396745,
-    2097152, 1864135, 1677721, 1525201, 1398101, 1290555, 1198372, 1118481,
-    1048576, 986895, 932067, 883011, 838860, 798915, 762600, 729444,
-    699050, 671088, 645277, 621378, 599186, 578524, 559240, 541200,
-    524288, 508400, 493447, 479349, 466033, 453438, 441505, 430185,
-    419430, 409200, 399457, 390167, 381300, 372827, 364722, 356962,
-    349525, 342392, 335544, 328965, 322638, 316551, 310689, 305040,
-    299593, 294337, 289262, 284359, 279620, 275036, 270600, 266305,
-    262144,
+    0, 16777216, 8388608, 5592405, 4194304, 3355443, 2796202, 2396745, 2097152, 1864135, 1677721,
+    1525201, 1398101, 1290555, 1198372, 1118481, 1048576, 986895, 932067, 883011, 838860, 798915,
+    762600, 729444, 699050, 671088, 645277, 621378, 599186, 578524, 559240, 541200, 524288, 508400,
+    493447, 479349, 466033, 453438, 441505, 430185, 419430, 409200, 399457, 390167, 381300, 372827,
+    364722, 356962, 349525, 342392, 335544, 328965, 322638, 316551, 310689, 305040, 299593, 294337,
+    289262, 284359, 279620, 275036, 270600, 266305, 262144,
 ];
 
 /// A number for each of the four sub-predictions: their errors, the sums of these, or their weights.
@@ -141,11 +138,7 @@ fn weight(w: u32, sum: u32) -> u32
 fn error_sum(nw: u32, ww: u32, n: u32, w: u32, ne: u32, last: bool) -> u32
     ensures { result ≡ (nw + ww + n + w + (if last then n + w else ne)) % 2 ^ 32 }
 {
-    let north_east = if last {
-        n as u64 + w as u64
-    } else {
-        ne as u64
-    };
+    let north_east = if last { n as u64 + w as u64 } else { ne as u64 };
     let sum = nw as u64 + ww as u64 + n as u64 + w as u64 + north_east;
     (sum % 4294967296) as u32
 }
@@ -207,7 +200,8 @@ fn steered(sample: i32, a: i32, b: i32, c: i32, factor: u32) -> i64
 }
 
 impl ErrorsAround {
-    ghost use Rattle.jxlm_tree.specs.Correcting.{greatest_from, is_clamped_from, weights_from, counted};
+    ghost use Rattle.jxlm_tree.specs.Around.{clamped_around, seen};
+    ghost use Rattle.jxlm_tree.specs.Correcting.{greatest_from, is_clamped_from};
 
     fn greatest(&self) -> i32
         ensures { result ≡ greatest_from self.now }
@@ -221,6 +215,19 @@ impl ErrorsAround {
         let all_negative = self.w < 0 && self.n < 0 && self.nw < 0;
         let none_negative = !(self.w < 0 || self.n < 0 || self.nw < 0);
         !(all_negative || none_negative) || (self.w == self.n && self.n == self.nw)
+    }
+
+    /// The prediction: clamped where the errors say so.
+    fn settled(&self, around: &Around, unclamped: i64) -> i64
+        requires { unsigned_abs unclamped < 2 ^ 40 }
+        ensures value { result ≡ if is_clamped_from self.now then clamped_around (seen around.now) unclamped else unclamped }
+        ensures bound { unsigned_abs result < 2 ^ 40 }
+    {
+        if self.is_clamped() {
+            around.clamped(unclamped)
+        } else {
+            unclamped
+        }
     }
 
     fn weighed(&self, header: &WpHeader) -> i64
@@ -354,11 +361,7 @@ impl PredictionResult {
         }
     }
 
-    fn of_place(
-        header: &WpHeader,
-        around: &Around,
-        errors: &ErrorsAround,
-    ) -> PredictionResult
+    fn of_place(header: &WpHeader, around: &Around, errors: &ErrorsAround) -> PredictionResult
         requires { IsHeader header.now }
         ensures prediction { result.prediction ≡ predicted_from header.now (seen around.now) errors.now }
         ensures max_error { result.max_error ≡ greatest_from errors.now }
@@ -366,13 +369,8 @@ impl PredictionResult {
     {
         let subpred = SubPredictions::of_place(header, around, errors);
         let unclamped = subpred.weighted(&errors.sums.weights(header));
-        let prediction = if errors.is_clamped() {
-            around.clamped(unclamped)
-        } else {
-            unclamped
-        };
         PredictionResult {
-            prediction,
+            prediction: errors.settled(around, unclamped),
             max_error: errors.greatest(),
             subpred,
         }
@@ -400,11 +398,7 @@ impl Corrector {
     ghost use Rattle.jxlm_tree.specs.Neighbours.{neighbours};
 
     /// The errors before the first sample of a channel of this width.
-    pub(crate) fn new(
-        alloc: Global,
-        header: WpHeader,
-        width: u32,
-    ) -> Result<Corrector, OutOfMemory>
+    pub(crate) fn new(alloc: Global, header: WpHeader, width: u32) -> Result<Corrector, OutOfMemory>
         requires { IsHeader header }
         ensures { IfOk result (λ c. CorrectsBy c header width 0 0 []) }
     {

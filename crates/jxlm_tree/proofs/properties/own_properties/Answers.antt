@@ -20,14 +20,21 @@ returns c =
     let ww : FitsSigned w32 c.args.around.now.ww = search rules in
     let r1 : FitsSigned w32 c.reduced_absolute.result = search rules in
     let r2 : FitsSigned w32 c.reduced_absolute-2.result = search rules in
-    rw (to_z_pos w32 c.args.y c.requires.few_rows, to_z_pos w32 c.args.x c.requires.narrow,
-        to_z-of_z w32 c.reduced_absolute.result r1, to_z-of_z w32 c.reduced_absolute-2.result r2, c.reduced_absolute.ensures, c.reduced_absolute-2.ensures,
-        to_z-of_z w32 c.args.around.now.n n, to_z-of_z w32 c.args.around.now.w w,
-        less c.args.around.now.w c.args.gradient w c.ranges.gradient,
-        less_and_more c.args.around.now.w c.args.around.now.nw c.args.around.now.n w nw n,
-        less c.args.around.now.w c.args.around.now.nw w nw,
-        less c.args.around.now.nw c.args.around.now.n nw n,
-        less c.args.around.now.n c.args.around.now.ne n ne,
-        less c.args.around.now.n c.args.around.now.nn n nn,
-        less c.args.around.now.w c.args.around.now.ww w ww,
-        to_z-of_z w32 c.args.max_error c.ranges.max_error) refl
+    rw (
+      to_z_pos w32 c.args.y c.requires.few_rows,
+      to_z_pos w32 c.args.x c.requires.narrow,
+      to_z-of_z w32 c.reduced_absolute.result r1,
+      to_z-of_z w32 c.reduced_absolute-2.result r2,
+      c.reduced_absolute.ensures,
+      c.reduced_absolute-2.ensures,
+      to_z-of_z w32 c.args.around.now.n n,
+      to_z-of_z w32 c.args.around.now.w w,
+      less c.args.around.now.w c.args.gradient w c.ranges.gradient,
+      less_and_more c.args.around.now.w c.args.around.now.nw c.args.around.now.n w nw n,
+      less c.args.around.now.w c.args.around.now.nw w nw,
+      less c.args.around.now.nw c.args.around.now.n nw n,
+      less c.args.around.now.n c.args.around.now.ne n ne,
+      less c.args.around.now.n c.args.around.now.nn n nn,
+      less c.args.around.now.w c.args.around.now.ww w ww,
+      to_z-of_z w32 c.args.max_error c.ranges.max_error,
+    ) refl
