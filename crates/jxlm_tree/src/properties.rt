@@ -171,3 +171,6 @@ impl<S> Properties<'_, S> {
         state.advance(sample, correction);
     }
 }
+
+#[cfg(test)]
+mod tests;
