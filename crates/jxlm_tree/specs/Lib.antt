@@ -1,10 +1,13 @@
+pub mod Building
 pub mod DraftReading
 pub mod Neighbours
 pub mod Predictions
 pub mod Properties
+pub mod Queue
 pub mod SelfCorrecting
 pub mod SelfCorrectingRanges
 pub mod Tree
 pub mod TreeCode
 pub mod TreeReading
+pub mod TreeShape
 pub mod WeightsHeader

@@ -28,6 +28,11 @@ module _ {L : Type 0} where
   node_count (leaf l) = 1
   node_count (decision k value left right) = 1 + node_count left + node_count right
 
+  -- what holds of each leaf
+  abbrev pub AllLeaves : (L → Type 0) → Shape L → Type 0
+  AllLeaves P (leaf l) = P l
+  AllLeaves P (decision k value left right) = AllLeaves P left × AllLeaves P right
+
   -- rows of one tree to the left of those of another
   abbrev pub beside : List (List (Node L)) → List (List (Node L)) → List (List (Node L))
   beside [] bs = bs
@@ -53,6 +58,6 @@ pub record Config (S : Type 0) : Type 0 where
   pub tree : Shape Leaf
   pub decoder : S
 
--- the tree that is one leaf, and its decoder
-abbrev pub one_leaf : {S : Type 0} → Leaf → S → Config S
-one_leaf l s = record { tree = leaf l; decoder = s }
+-- a tree with its decoder
+abbrev pub config_of : {S : Type 0} → Shape Leaf → S → Config S
+config_of t s = record { tree = t; decoder = s }

@@ -1,6 +1,9 @@
 //! Neighbours, predictors, properties and meta-adaptive trees.
 #![tactic(auto)]
 
+mod build;
 pub mod flat;
 pub mod ma;
+mod nodes;
 pub mod predictor;
+mod tree;

@@ -1,22 +1,25 @@
 //! Meta-adaptive trees: how a tree is read, and what it is kept with.
 
-ghost use Rattle.std.specs.Prelude.{◌≡◌, ◌≤◌, ◌<◌, ◌^◌, ℕ, List, [], ◌∷◌, length, slice_index, IfOk};
+ghost use Rattle.std.specs.Prelude.{◌≡◌, ◌≤◌, ◌^◌, ℕ, List, length, map, IfOk, IfErr};
 ghost use Rattle.jxlm_base.specs.Bits.{bytes_of, position_of};
 ghost use Rattle.jxlm_base.specs.Decoding.{Found};
+ghost use Rattle.jxlm_base.specs.Fault.{fault_of};
 ghost use Rattle.jxlm_base.specs.Grammar.{Answers};
-ghost use Rattle.jxlm_tree.specs.DraftReading.{DrawnGives, FoundGives, IsDraft, draft_of};
-ghost use Rattle.jxlm_tree.specs.Tree.{Shape, levels, node_count, depth, leaf, leaf_node};
-ghost use Rattle.jxlm_tree.specs.TreeReading.{IsLeafOf, IsOffered, Listing, TreeGives, drafts_at, is_endless as has_no_end, leaf_at, listing_at, multiplier_at, node_at, predictor_at, read_context as token_of, through};
+ghost use Rattle.jxlm_tree.specs.DraftReading.{IsWantOfMemory, ListsTrees, node_of};
+ghost use Rattle.jxlm_tree.specs.Tree.{Shape, levels, node_count, depth};
+ghost use Rattle.jxlm_tree.specs.TreeReading.{Listing, TreeGives, leaf_count, listing_at, through};
 ghost use Rattle.jxlm_tree.specs.declared.flat.Leaf.{Leaf};
 
-use crate::flat::Leaf;
-use crate::predictor::Predictor;
-use jxlm_base::bits::{Bitstream, BitstreamError};
+use crate::build::build;
+use crate::nodes::{DraftNode, read_tree};
+use crate::tree::MaTreeNode;
+use jxlm_base::bits::Bitstream;
 use jxlm_base::decoder::Decoder;
-use jxlm_base::error::{Error, Result};
-use jxlm_base::sample::Sealed;
+use jxlm_base::error::Result;
+use jxlm_base::grid::OutOfMemory;
 use std::alloc::Global;
 use std::marker::Model;
+use std::rc::Rc;
 
 /// How large a tree may be.
 #[derive(Clone, Copy)]
@@ -32,36 +35,39 @@ pub struct MaConfigParams {
 /// Contracts see it as the tree and the decoder.
 #[derive(Drop)]
 pub struct MaConfig<D: Decoder> {
-    leaf: Leaf,
+    tree: Rc<MaTreeNode>,
     decoder: D,
     num_tree_nodes: usize,
     tree_depth: usize,
 }
 
 impl<D: Decoder> Model for MaConfig<D> {
-    ghost use Rattle.std.specs.Prelude.{◌≡◌};
-    ghost use Rattle.jxlm_tree.specs.Tree.{Config, one_leaf};
+    ghost use Rattle.std.specs.Prelude.{◌≡◌, ◌≤◌, ◌^◌};
+    ghost use Rattle.jxlm_tree.specs.Tree.{AllLeaves, Config, config_of, depth, node_count};
     ghost use Rattle.jxlm_tree.specs.TreeReading.{IsLeafOf};
     ghost use Rattle.jxlm_tree.specs.TreeCode.{coded_config};
+    ghost use Rattle.jxlm_tree.specs.TreeShape.{shape_of};
     ghost use Rattle.jxlm_tree.specs.contracts.flat.Leaf as leaves;
 
     ghost Value = { Config D };
 
     ghost coded = { coded_config leaves.the_row.coded D.code };
 
-    ghost view = { λ c. one_leaf c.leaf c.decoder };
+    ghost view = { λ c. config_of (shape_of c.tree.value) c.decoder };
 
-    ghost invariant = { λ c. IsLeafOf (D.meaning.cluster_map c.decoder) c.leaf × (c.num_tree_nodes ≡ 1) × (c.tree_depth ≡ 0) };
+    ghost invariant = { λ c. AllLeaves (IsLeafOf (D.meaning.cluster_map c.decoder)) (shape_of c.tree.value) × (c.num_tree_nodes ≡ node_count (shape_of c.tree.value)) × (c.tree_depth ≡ depth (shape_of c.tree.value)) × (c.num_tree_nodes ≤ 2 ^ 26) × (c.tree_depth ≤ 2048) };
 }
 
 impl<D: Decoder> MaConfig<D> {
     /// The tree that stands at the reader's place, with the decoder of its leaves.
     ///
     /// A tree is refused with the first check that fails: by `Decoder` where a decoder refuses,
-    /// by `InvalidMaTree` where it would have no end or a multiplier of 2^31 and more, by
-    /// `InvalidEnum` at a predictor that is none, and by `ProfileConformance` at a decision or at
-    /// a predictor that is not offered. The reader then stands behind the last token that was
-    /// read; inside a decoder's own `parse` its place is the decoder's matter.
+    /// by `InvalidMaTree` where it would have no end, more than 2^26 nodes, or a multiplier of 2^31
+    /// and more, by `InvalidEnum` at a predictor that is none, and by `ProfileConformance` where it
+    /// has more than `node_limit + 1` nodes or, once its leaves' decoder is read, is deeper than
+    /// `depth_limit`. The reader then stands behind the last token that was read; inside a
+    /// decoder's own `parse` its place is the decoder's matter. Want of memory is `Buffer`, or
+    /// `OutOfMemory` of a decoder; no tree deeper than the limit is ever held.
     #[tactic(auto, unfolding(crate::specs::TreeReading::listing_at))]
     pub fn parse(alloc: Global, bits: &mut Bitstream<'_>, params: MaConfigParams) -> Result<Self>
         requires nodes { params.node_limit ≤ 2 ^ 26 }
@@ -69,21 +75,35 @@ impl<D: Decoder> MaConfig<D> {
         ensures gives { TreeGives D.meaning (bytes_of bits.old) params.node_limit params.depth_limit (position_of bits.old) result (position_of bits.new) }
         ensures bytes { bytes_of bits.new ≡ bytes_of bits.old }
     {
-        let mut nodes: D = parse_decoder(alloc, bits, 6)?;
-        let draft = read_tree(&mut nodes, bits)?;
-        let decoder: D = parse_decoder(alloc, bits, 1)?;
-        let cluster = decoder.cluster_map()[0];
-        let leaf = Leaf {
-            cluster,
-            predictor: draft.predictor,
-            offset: draft.offset,
-            multiplier: draft.multiplier,
-        };
+        let mut first: D = parse_decoder(alloc, bits, 6)?;
+        let nodes = read_tree(alloc, &mut first, bits, params.node_limit)?;
+        let num_tree_nodes = nodes.len();
+        let decoder: D = parse_decoder(alloc, bits, count_leaves(&nodes))?;
+        let root = build(alloc, nodes, decoder.cluster_map(), params.depth_limit)?;
+        let tree_depth = root.depth;
+        let tree = Rc::new(alloc, root.tree).map_err(|_| OutOfMemory)?;
         Ok(MaConfig {
-            leaf,
+            tree,
             decoder,
-            num_tree_nodes: 1,
-            tree_depth: 0,
+            num_tree_nodes,
+            tree_depth,
+        })
+    }
+
+    /// The same tree, shared, with a decoder of its own in the same state.
+    ///
+    /// Refused for memory alone.
+    pub fn try_clone(&self, alloc: Global) -> Result<Self>
+        ensures ok { IfOk result (λ c. c ≡ self.now) }
+        ensures err { IfErr result (λ e. IsWantOfMemory (fault_of e)) }
+    {
+        let decoder = self.decoder.try_clone(alloc)?;
+        let tree = self.tree.clone().map_err(|_| OutOfMemory)?;
+        Ok(MaConfig {
+            tree,
+            decoder,
+            num_tree_nodes: self.num_tree_nodes,
+            tree_depth: self.tree_depth,
         })
     }
 
@@ -94,38 +114,21 @@ impl<D: Decoder> MaConfig<D> {
         &self.decoder
     }
 
-    /// How many nodes the tree has, leaves and decisions together.
+    /// How many nodes the tree has, leaves and decisions together: at most 2^26.
     pub fn num_tree_nodes(&self) -> usize
-        ensures { result ≡ node_count self.now.tree }
+        ensures nodes { result ≡ node_count self.now.tree }
+        ensures most { result ≤ 2 ^ 26 }
     {
         self.num_tree_nodes
     }
 
-    /// The greatest number of decisions from the root to a leaf.
+    /// The greatest number of decisions from the root to a leaf: at most 2048.
     pub fn tree_depth(&self) -> usize
-        ensures { result ≡ depth self.now.tree }
+        ensures depth { result ≡ depth self.now.tree }
+        ensures most { result ≤ 2048 }
     {
         self.tree_depth
     }
-
-    /// The leaf that is the whole tree.
-    ///
-    /// Its cluster is one of the decoder's, its predictor is `Zero`, `West` or `Gradient`, and its
-    /// multiplier lies from 1 to 2^31 - 1.
-    pub fn leaf(&self) -> &Leaf
-        ensures tree { self.now.tree ≡ leaf result.now }
-        ensures within { IsLeafOf (D.meaning.cluster_map self.now.decoder) result.now }
-    {
-        &self.leaf
-    }
-}
-
-// A leaf without its cluster, which comes from the leaves' decoder.
-#[derive(Clone, Copy)]
-struct Draft {
-    predictor: Predictor,
-    offset: i32,
-    multiplier: u32,
 }
 
 fn parse_decoder<D: Decoder>(alloc: Global, bits: &mut Bitstream<'_>, contexts: u32) -> Result<D>
@@ -137,109 +140,13 @@ fn parse_decoder<D: Decoder>(alloc: Global, bits: &mut Bitstream<'_>, contexts: 
     Ok(decoder)
 }
 
-fn is_endless<D: Decoder>(decoder: &D) -> bool
-    requires { length (D.meaning.cluster_map decoder.now) ≡ 6 }
-    ensures { result ≡ has_no_end (D.meaning.single_token decoder.now (slice_index (D.meaning.cluster_map decoder.now) 1)) }
+// There is one leaf more than there are decisions.
+fn count_leaves(nodes: &[DraftNode]) -> u32
+    requires listing { ListsTrees 1 (map node_of nodes.now) }
+    requires count { length nodes.now ≤ 2 ^ 26 }
+    ensures { result ≡ leaf_count (map node_of nodes.now) }
 {
-    let cluster = decoder.cluster_map()[1];
-    match decoder.single_token(cluster) {
-        None | Some(0) => false,
-        Some(_) => true,
-    }
-}
-
-#[tactic(auto, unfolding(crate::specs::TreeReading::drafts_at))]
-fn read_tree<D: Decoder>(decoder: &mut D, bits: &mut Bitstream<'_>) -> Result<Draft>
-    requires { length (D.meaning.cluster_map decoder.old) ≡ 6 }
-    ensures gives { (node_limit : ℕ) → FoundGives (λ x. leaf_node (draft_of x) ∷ []) result (position_of bits.new) (drafts_at D.meaning (bytes_of bits.old) node_limit decoder.old (position_of bits.old)) }
-    ensures within { IfOk result (λ x. IsDraft (draft_of x)) }
-    ensures bytes { bytes_of bits.new ≡ bytes_of bits.old }
-{
-    if is_endless(decoder) {
-        return Err(Error::InvalidMaTree);
-    }
-    decoder.begin(bits)?;
-    let draft = read_node(decoder, bits)?;
-    decoder.finalize()?;
-    Ok(draft)
-}
-
-#[tactic(auto, unfolding(crate::specs::TreeReading::node_at))]
-fn read_node<D: Decoder>(decoder: &mut D, bits: &mut Bitstream<'_>) -> Result<Draft>
-    requires { length (D.meaning.cluster_map decoder.old) ≡ 6 }
-    ensures gives { DrawnGives (λ x. leaf_node (draft_of x)) result decoder.new (position_of bits.new) (node_at D.meaning (bytes_of bits.old) decoder.old (position_of bits.old)) }
-    ensures within { IfOk result (λ x. IsDraft (draft_of x)) }
-    ensures bytes { bytes_of bits.new ≡ bytes_of bits.old }
-{
-    if read_context(decoder, bits, 1)? != 0 {
-        let refusal = BitstreamError::ProfileConformance("property not available");
-        return Err(Error::Bitstream(refusal));
-    }
-    read_leaf(decoder, bits)
-}
-
-#[tactic(auto, unfolding(crate::specs::TreeReading::leaf_at))]
-fn read_leaf<D: Decoder>(decoder: &mut D, bits: &mut Bitstream<'_>) -> Result<Draft>
-    requires { length (D.meaning.cluster_map decoder.old) ≡ 6 }
-    ensures gives { DrawnGives draft_of result decoder.new (position_of bits.new) (leaf_at D.meaning (bytes_of bits.old) decoder.old (position_of bits.old)) }
-    ensures within { IfOk result (λ x. IsDraft (draft_of x)) }
-    ensures bytes { bytes_of bits.new ≡ bytes_of bits.old }
-{
-    let predictor = read_predictor(decoder, bits)?;
-    let offset = i32::unpack_signed_u32(read_context(decoder, bits, 3)?);
-    let multiplier = read_multiplier(decoder, bits)?;
-    Ok(Draft {
-        predictor,
-        offset,
-        multiplier,
-    })
-}
-
-#[tactic(auto, unfolding(crate::specs::TreeReading::predictor_at))]
-fn read_predictor<D: Decoder>(decoder: &mut D, bits: &mut Bitstream<'_>) -> Result<Predictor>
-    requires { length (D.meaning.cluster_map decoder.old) ≡ 6 }
-    ensures gives { DrawnGives (λ x. x) result decoder.new (position_of bits.new) (predictor_at D.meaning (bytes_of bits.old) decoder.old (position_of bits.old)) }
-    ensures offered { IfOk result (λ x. IsOffered x) }
-    ensures clusters { IfOk result (λ _. D.meaning.cluster_map decoder.new ≡ D.meaning.cluster_map decoder.old) }
-    ensures bytes { bytes_of bits.new ≡ bytes_of bits.old }
-{
-    let number = read_context(decoder, bits, 2)?;
-    let predictor = Predictor::try_from(number)?;
-    match predictor {
-        Predictor::Zero | Predictor::West | Predictor::Gradient => Ok(predictor),
-        _ => {
-            let refusal = BitstreamError::ProfileConformance("predictor not available");
-            Err(Error::Bitstream(refusal))
-        }
-    }
-}
-
-#[tactic(auto, unfolding(crate::specs::TreeReading::multiplier_at))]
-fn read_multiplier<D: Decoder>(decoder: &mut D, bits: &mut Bitstream<'_>) -> Result<u32>
-    requires { length (D.meaning.cluster_map decoder.old) ≡ 6 }
-    ensures gives { DrawnGives (λ x. x) result decoder.new (position_of bits.new) (multiplier_at D.meaning (bytes_of bits.old) decoder.old (position_of bits.old)) }
-    ensures range { IfOk result (λ x. (1 ≤ x) × (x < 2 ^ 31)) }
-    ensures bytes { bytes_of bits.new ≡ bytes_of bits.old }
-{
-    let log = read_context(decoder, bits, 4)?;
-    if log > 30 {
-        return Err(Error::InvalidMaTree);
-    }
-    let factor = read_context(decoder, bits, 5)?;
-    if factor > (1 << (31 - log)) - 2 {
-        return Err(Error::InvalidMaTree);
-    }
-    Ok((factor + 1) << log)
-}
-
-fn read_context<D: Decoder>(decoder: &mut D, bits: &mut Bitstream<'_>, context: u32) -> Result<u32>
-    requires { context < length (D.meaning.cluster_map decoder.old) }
-    ensures gives { DrawnGives (λ x. x) result decoder.new (position_of bits.new) (token_of D.meaning (bytes_of bits.old) context decoder.old (position_of bits.old)) }
-    ensures clusters { IfOk result (λ _. D.meaning.cluster_map decoder.new ≡ D.meaning.cluster_map decoder.old) }
-    ensures bytes { bytes_of bits.new ≡ bytes_of bits.old }
-{
-    let token = decoder.read_varint(bits, context)?;
-    Ok(token)
+    nodes.len() as u32 / 2 + 1
 }
 
 /// What is read as the nodes of a tree is the listing of a tree.
