@@ -1,6 +1,7 @@
 mod Examples
 pub mod Accumulated
 pub mod Causal
+pub mod FlatTrees
 pub mod Listing
 pub mod Memory
 pub mod Multipliers

@@ -1,5 +1,7 @@
 pub mod Building
+pub mod DecodingSamples
 pub mod DraftReading
+pub mod FlatTree
 pub mod Neighbours
 pub mod Predictions
 pub mod Properties

@@ -1,6 +1,23 @@
-//! What a leaf of a meta-adaptive tree says.
+//! Trees as the samples of one channel walk them, and what a leaf says.
+
+ghost use Rattle.std.specs.Prelude.{◌≡◌, ◌≤◌, ◌<◌, ◌+◌, ◌^◌, ℕ, ℤ, pos, false, Contains, IfErr, IfOk};
+ghost use Rattle.std.specs.Int.{w32, int_wrap};
+ghost use Rattle.jxlm_base.specs.Bits.{bytes_of, position_of};
+ghost use Rattle.jxlm_tree.specs.DecodingSamples.{SampleGives};
+ghost use Rattle.jxlm_tree.specs.FlatTree.{FlatTree, GoesWithoutWeights, HasMultiplier, ReadsEarlierBelow, asked, leaf_reached, needs_weights, residual_of};
+ghost use Rattle.jxlm_tree.specs.Tree.{AllLeaves, depth, node_count};
+ghost use Rattle.jxlm_tree.specs.TreeShape.{shape_of};
 
 use crate::predictor::Predictor;
+use crate::tree::MaTreeNode;
+use jxlm_base::bits::Bitstream;
+use jxlm_base::decoder::Decoder;
+use jxlm_base::error::Result;
+use jxlm_base::sample::Sealed;
+use std::marker::Model;
+use std::rc::Rc;
+
+pub use crate::steps::Steps;
 
 /// What a leaf of a tree says: how each sample that the tree leads there is decoded.
 ///
@@ -16,4 +33,183 @@ pub struct Leaf {
     pub offset: i32,
     /// By what a token's signed number is multiplied: from 1, below 2^31.
     pub multiplier: u32,
+}
+
+impl Leaf {
+    // The sample that a token stands for, before its prediction, in 32 bits.
+    fn residual(&self, token: u32) -> i32
+        requires { self.now.multiplier < 2 ^ 31 }
+        ensures { result ≡ residual_of self.now token }
+    {
+        i32::unpack_signed_u32(token).wrapping_muladd_i32(self.multiplier as i32, self.offset)
+    }
+}
+
+/// What has the properties of a place, from property 2 on.
+pub trait PlaceProperties {
+    ghost value_of: { Self → ℕ → ℤ };
+
+    /// The property of this number, in 32 bits.
+    fn get(&self, property: usize) -> i32
+        ensures { result ≡ value_of self.now property };
+}
+
+/// A tree, with what the samples of one channel of one stream need to walk it.
+///
+/// It shares the tree's nodes. Contracts see it as the tree, the channel's place in its part, the
+/// stream's index, and the number of earlier channels.
+#[derive(Drop)]
+pub struct FlatMaTree {
+    tree: Rc<MaTreeNode>,
+    channel: u32,
+    stream_idx: u32,
+    prev_channels: u32,
+    num_nodes: usize,
+    need_self_correcting: bool,
+}
+
+impl Model for FlatMaTree {
+    ghost use Rattle.std.specs.Prelude.{◌≡◌};
+    ghost use Rattle.jxlm_tree.specs.FlatTree.{FlatTree, HasMultiplier, needs_weights};
+    ghost use Rattle.jxlm_tree.specs.Tree.{AllLeaves, node_count};
+    ghost use Rattle.jxlm_tree.specs.TreeCode.{coded_flat};
+    ghost use Rattle.jxlm_tree.specs.TreeShape.{shape_of};
+    ghost use Rattle.jxlm_tree.specs.contracts.flat.Leaf as leaves;
+
+    ghost Value = { FlatTree };
+
+    ghost coded = { coded_flat leaves.the_row.coded };
+
+    ghost view = { λ t. record { tree = shape_of t.tree.value; channel = t.channel; stream_idx = t.stream_idx; prev_channels = t.prev_channels } };
+
+    ghost invariant = { λ t. AllLeaves HasMultiplier (shape_of t.tree.value) × (t.num_nodes ≡ node_count (shape_of t.tree.value)) × (t.need_self_correcting ≡ needs_weights (shape_of t.tree.value)) };
+}
+
+impl FlatMaTree {
+    // The tree of so many nodes, which needs weights or not.
+    pub(crate) fn new(
+        tree: Rc<MaTreeNode>,
+        num_nodes: usize,
+        need_self_correcting: bool,
+        channel: u32,
+        stream_idx: u32,
+        prev_channels: u32,
+    ) -> FlatMaTree
+        requires leaves { AllLeaves HasMultiplier (shape_of tree.value) }
+        requires nodes { num_nodes ≡ node_count (shape_of tree.value) }
+        requires need { need_self_correcting ≡ needs_weights (shape_of tree.value) }
+        ensures { result ≡ record { tree = shape_of tree.value; channel = channel; stream_idx = stream_idx; prev_channels = prev_channels } }
+    {
+        FlatMaTree {
+            tree,
+            channel,
+            stream_idx,
+            prev_channels,
+            num_nodes,
+            need_self_correcting,
+        }
+    }
+
+    /// How many nodes a walk can come to, leaves and decisions together.
+    pub fn num_nodes(&self) -> usize
+        ensures { result ≡ node_count self.now.tree }
+    {
+        self.num_nodes
+    }
+
+    /// Whether the tree asks for the self-correcting predictor: true where property 15 or
+    /// `SelfCorrecting` stands in it.
+    ///
+    /// Where it is false, property 15 does not matter, and no leaf predicts so.
+    pub fn need_self_correcting(&self) -> bool
+        ensures need { result ≡ needs_weights self.now.tree }
+        ensures without { result ≡ false → GoesWithoutWeights self.now }
+    {
+        self.need_self_correcting
+    }
+
+    /// How many of the earlier channels a walk may ask for, the nearest first.
+    pub fn max_prev_channel_depth(&self) -> usize
+        ensures depth { result ≡ self.now.prev_channels }
+        ensures below { ReadsEarlierBelow self.now result }
+    {
+        self.prev_channels as usize
+    }
+
+    /// The leaf to which these properties lead, from the root on: to the left where a decision's
+    /// property is greater than its value.
+    ///
+    /// Property 0 is the channel and 1 the stream, both read as signed numbers of 32 bits; those of
+    /// earlier channels that are not there are 0. Each node that is looked at is a step, and there
+    /// are at most as many as the tree's depth and one more.
+    pub fn leaf<P: PlaceProperties>(&self, properties: &P, steps: &mut Steps) -> &Leaf
+        ensures leaf { result.now ≡ leaf_reached self.now (P.value_of properties.now) }
+        ensures multiplier { HasMultiplier result.now }
+        ensures cost { steps.new ≤ steps.old + depth self.now.tree + 1 }
+        ensures more { steps.old + 1 ≤ steps.new }
+    {
+        let mut node: &MaTreeNode = &self.tree;
+        loop {
+            steps.tick();
+            match node {
+                MaTreeNode::Leaf(leaf) => return leaf,
+                MaTreeNode::Decision {
+                    property,
+                    value,
+                    left,
+                    right,
+                } => {
+                    let goes_left = self.asked(properties, *property) > *value;
+                    node = if goes_left { left } else { right };
+                }
+            }
+        }
+    }
+
+    // The property of this number, as a decision asks for it.
+    fn asked<P: PlaceProperties>(&self, properties: &P, property: u32) -> i32
+        ensures { result ≡ asked self.now (P.value_of properties.now) property }
+    {
+        match property {
+            0 => read_as_signed(self.channel),
+            1 => read_as_signed(self.stream_idx),
+            _ if u64::from(property) < 16 + 4 * u64::from(self.prev_channels) => {
+                properties.get(property as usize)
+            }
+            _ => 0,
+        }
+    }
+
+    /// Reads the token of the leaf to which these properties lead, from the leaf's cluster and with
+    /// this multiplier of distances: the sample before its prediction, in 32 bits, and how it is
+    /// predicted.
+    ///
+    /// The clusters of the tree's leaves are those of the decoder. An error, which is `Decoder`,
+    /// leaves decoder and reader as they were.
+    pub fn decode_sample<D: Decoder, P: PlaceProperties>(
+        &self,
+        bits: &mut Bitstream<'_>,
+        decoder: &mut D,
+        properties: &P,
+        dist_multiplier: u32,
+    ) -> Result<(i32, Predictor)>
+        requires { AllLeaves (λ l. Contains (D.meaning.cluster_map decoder.old) l.cluster) self.now.tree }
+        ensures gives { SampleGives (leaf_reached self.now (P.value_of properties.now)) result decoder.old decoder.new (position_of bits.old) (position_of bits.new) (D.meaning.read decoder.old (bytes_of bits.old) (position_of bits.old) (leaf_reached self.now (P.value_of properties.now)).cluster dist_multiplier) }
+        ensures bytes { bytes_of bits.new ≡ bytes_of bits.old }
+    {
+        let leaf = self.leaf(properties, &mut Steps::new());
+        let token = decoder.read_varint_with_multiplier_clustered(
+            bits,
+            leaf.cluster,
+            dist_multiplier,
+        )?;
+        Ok((leaf.residual(token), leaf.predictor))
+    }
+}
+
+#[tactic(auto, using(std::proofs::lemmas::Int::wraps))]
+fn read_as_signed(number: u32) -> i32
+    ensures { result ≡ int_wrap w32 (pos number) }
+{
+    number.cast_signed()
 }

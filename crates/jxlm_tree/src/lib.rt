@@ -6,4 +6,5 @@ pub mod flat;
 pub mod ma;
 mod nodes;
 pub mod predictor;
+mod steps;
 mod tree;

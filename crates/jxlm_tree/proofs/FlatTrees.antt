@@ -1,0 +1,53 @@
+-- What a walk depends on.
+use Rattle.std.proofs.Common.{◌≡◌, ◌≢◌, ℕ, ◌+◌, ◌*◌, ◌<◌, ◌≤◌, ℤ, pos, Bool, true, false, ◌||◌, ◌==◌, nat_lt, int_lt, if◌then◌else◌, refl, sym, ap, ◌∙◌, arith, rules}
+use Rattle.std.specs.Int.{w32, int_wrap}
+use Rattle.jxlm_tree.specs.FlatTree.{FlatTree, GoesWithoutWeights, ReadsEarlierBelow, asked, is_self_correcting, leaf_reached, needs_weights}
+use Rattle.jxlm_tree.specs.Tree.{AllLeaves, Shape, leaf, decision, walk}
+use Rattle.jxlm_tree.specs.declared.flat.Leaf.{Leaf}
+use Rattle.jxlm_tree.specs.declared.predictor.Predictor.{Predictor}
+use Rattle.jxlm_tree.specs.declared.predictor.Predictor.TheVariants.{SelfCorrecting}
+
+-- what holds of each leaf holds of the one that is reached
+pub reached_leaf : {L : Type 0} (P : L → Type 0) (t : Shape L) (f : ℕ → ℤ) → AllLeaves P t → P (walk t f)
+reached_leaf P (leaf l) f h = h
+reached_leaf {L = L} P (decision k value left right) f h = either (int_lt value (f k)) (walk left f) (walk right f) (reached_leaf P left f h.0) (reached_leaf P right f h.1) where
+  either : (b : Bool) (x y : L) → P x → P y → P (if b then x else y)
+  either true x y h k = h
+  either false x y h k = k
+
+-- what follows at each leaf
+pub each_leaf : {L : Type 0} {P Q : L → Type 0} → ((l : L) → P l → Q l) → (t : Shape L) → AllLeaves P t → AllLeaves Q t
+each_leaf f (leaf l) h = f l h
+each_leaf f (decision k value left right) h = (each_leaf f left h.0, each_leaf f right h.1)
+
+no_either : (a b : Bool) → (a || b) ≡ false → (a ≡ false) × (b ≡ false)
+no_either true b h = cc
+no_either false b h = (refl, h)
+
+module _ (f g : ℕ → ℤ) (same : (k : ℕ) → k ≢ 15 → f k ≡ g k) where
+  walk_same : (t : Shape Leaf) → needs_weights t ≡ false → walk t f ≡ walk t g
+  walk_same (leaf l) h = refl
+  walk_same (decision k value left right) h =
+      let parts = no_either ((k == 15) || needs_weights left) (needs_weights right) h in
+      let first = no_either (k == 15) (needs_weights left) parts.0 in
+      let other : k ≢ 15 = search (rules, first.0) in
+      rw (same k other, walk_same left first.1, walk_same right parts.1) refl
+
+pub no_self_correcting : (t : Shape Leaf) → needs_weights t ≡ false → AllLeaves (λ l. l.predictor ≢ SelfCorrecting) t
+no_self_correcting (leaf l) h = λ e. let is = ap is_self_correcting e in cc
+no_self_correcting (decision k value left right) h =
+    let parts = no_either ((k == 15) || needs_weights left) (needs_weights right) h in
+    let first = no_either (k == 15) (needs_weights left) parts.0 in
+    (no_self_correcting left first.1, no_self_correcting right parts.1)
+
+asked_same : (t : FlatTree) (f g : ℕ → ℤ) (k : ℕ) → f k ≡ g k → asked t f k ≡ asked t g k
+asked_same t f g k h =
+    ap
+    (λ (v : ℤ). if k == 0 then int_wrap w32 (pos t.channel) else if k == 1 then int_wrap w32 (pos t.stream_idx) else if nat_lt k (16 + 4 * t.prev_channels) then v else pos 0)
+    h
+
+pub goes_without_weights : (t : FlatTree) → needs_weights t.tree ≡ false → GoesWithoutWeights t
+goes_without_weights t h = λ f g same. (
+    walk_same (asked t f) (asked t g) (λ k other. asked_same t f g k (same k other)) t.tree h,
+    reached_leaf (λ l. l.predictor ≢ SelfCorrecting) t.tree (asked t f) (no_self_correcting t.tree h),
+  )
