@@ -6,11 +6,12 @@ ghost use Rattle.jxlm_base.specs.Decoding.{Found};
 ghost use Rattle.jxlm_base.specs.Fault.{fault_of};
 ghost use Rattle.jxlm_base.specs.Grammar.{Answers};
 ghost use Rattle.jxlm_tree.specs.DraftReading.{IsWantOfMemory, ListsTrees, node_of};
-ghost use Rattle.jxlm_tree.specs.Tree.{Shape, levels, node_count, depth};
-ghost use Rattle.jxlm_tree.specs.TreeReading.{Listing, TreeGives, leaf_count, listing_at, through};
+ghost use Rattle.jxlm_tree.specs.Tree.{AllLeaves, Shape, levels, node_count, depth};
+ghost use Rattle.jxlm_tree.specs.TreeReading.{IsLeafOf, Listing, TreeGives, leaf_count, listing_at, through};
 ghost use Rattle.jxlm_tree.specs.declared.flat.Leaf.{Leaf};
 
 use crate::build::build;
+use crate::flat::FlatMaTree;
 use crate::nodes::{DraftNode, read_tree};
 use crate::tree::MaTreeNode;
 use jxlm_base::bits::Bitstream;
@@ -39,10 +40,12 @@ pub struct MaConfig<D: Decoder> {
     decoder: D,
     num_tree_nodes: usize,
     tree_depth: usize,
+    need_self_correcting: bool,
 }
 
 impl<D: Decoder> Model for MaConfig<D> {
     ghost use Rattle.std.specs.Prelude.{◌≡◌, ◌≤◌, ◌^◌};
+    ghost use Rattle.jxlm_tree.specs.FlatTree.{needs_weights};
     ghost use Rattle.jxlm_tree.specs.Tree.{AllLeaves, Config, config_of, depth, node_count};
     ghost use Rattle.jxlm_tree.specs.TreeReading.{IsLeafOf};
     ghost use Rattle.jxlm_tree.specs.TreeCode.{coded_config};
@@ -55,7 +58,7 @@ impl<D: Decoder> Model for MaConfig<D> {
 
     ghost view = { λ c. config_of (shape_of c.tree.value) c.decoder };
 
-    ghost invariant = { λ c. AllLeaves (IsLeafOf (D.meaning.cluster_map c.decoder)) (shape_of c.tree.value) × (c.num_tree_nodes ≡ node_count (shape_of c.tree.value)) × (c.tree_depth ≡ depth (shape_of c.tree.value)) × (c.num_tree_nodes ≤ 2 ^ 26) × (c.tree_depth ≤ 2048) };
+    ghost invariant = { λ c. AllLeaves (IsLeafOf (D.meaning.cluster_map c.decoder)) (shape_of c.tree.value) × (c.num_tree_nodes ≡ node_count (shape_of c.tree.value)) × (c.tree_depth ≡ depth (shape_of c.tree.value)) × (c.num_tree_nodes ≤ 2 ^ 26) × (c.tree_depth ≤ 2048) × (c.need_self_correcting ≡ needs_weights (shape_of c.tree.value)) };
 }
 
 impl<D: Decoder> MaConfig<D> {
@@ -81,12 +84,14 @@ impl<D: Decoder> MaConfig<D> {
         let decoder: D = parse_decoder(alloc, bits, count_leaves(&nodes))?;
         let root = build(alloc, nodes, decoder.cluster_map(), params.depth_limit)?;
         let tree_depth = root.depth;
+        let need_self_correcting = root.tree.needs_self_correcting();
         let tree = Rc::new(alloc, root.tree).map_err(|_| OutOfMemory)?;
         Ok(MaConfig {
             tree,
             decoder,
             num_tree_nodes,
             tree_depth,
+            need_self_correcting,
         })
     }
 
@@ -104,7 +109,34 @@ impl<D: Decoder> MaConfig<D> {
             decoder,
             num_tree_nodes: self.num_tree_nodes,
             tree_depth: self.tree_depth,
+            need_self_correcting: self.need_self_correcting,
         })
+    }
+
+    /// The tree as the samples of one channel walk it: `channel` is its place in its part,
+    /// `stream_idx` the index of the stream, and `prev_channels` how many earlier channels are there
+    /// to be asked for.
+    ///
+    /// The nodes are shared. Refused for memory alone.
+    pub fn make_flat_tree(
+        &self,
+        channel: u32,
+        stream_idx: u32,
+        prev_channels: u32,
+    ) -> Result<FlatMaTree>
+        ensures tree { IfOk result (λ t. t ≡ record { tree = self.now.tree; channel = channel; stream_idx = stream_idx; prev_channels = prev_channels }) }
+        ensures leaves { AllLeaves (IsLeafOf (D.meaning.cluster_map self.now.decoder)) self.now.tree }
+        ensures err { IfErr result (λ e. IsWantOfMemory (fault_of e)) }
+    {
+        let tree = self.tree.clone().map_err(|_| OutOfMemory)?;
+        Ok(FlatMaTree::new(
+            tree,
+            self.num_tree_nodes,
+            self.need_self_correcting,
+            channel,
+            stream_idx,
+            prev_channels,
+        ))
     }
 
     /// The decoder of the leaves' clusters.

@@ -2,11 +2,13 @@
 
 ghost use Rattle.std.specs.Prelude.{◌≡◌, ◌≤◌, IfOk, IfErr};
 ghost use Rattle.jxlm_base.specs.Fault.{fault_of};
+ghost use Rattle.jxlm_tree.specs.FlatTree.{needs_weights};
 ghost use Rattle.jxlm_tree.specs.Queue.{IsRefusedAsTooDeep};
 ghost use Rattle.jxlm_tree.specs.Tree.{decision, depth as depth_of, leaf as leaf_shape};
 ghost use Rattle.jxlm_tree.specs.TreeShape.{shape_of};
 
 use crate::flat::Leaf;
+use crate::predictor::Predictor;
 use jxlm_base::bits::BitstreamError;
 use jxlm_base::error::{Error, Result};
 use jxlm_base::grid::OutOfMemory;
@@ -24,6 +26,25 @@ pub enum MaTreeNode {
         left: Box<MaTreeNode>,
         right: Box<MaTreeNode>,
     },
+}
+
+impl MaTreeNode {
+    /// Whether property 15 or `SelfCorrecting` stands here or below.
+    pub fn needs_self_correcting(&self) -> bool
+        ensures { result ≡ needs_weights (shape_of self.now) }
+    {
+        match self {
+            MaTreeNode::Leaf(leaf) => leaf.predictor == Predictor::SelfCorrecting,
+            MaTreeNode::Decision {
+                property,
+                value: _,
+                left,
+                right,
+            } => {
+                *property == 15 || left.needs_self_correcting() || right.needs_self_correcting()
+            }
+        }
+    }
 }
 
 // A part of a tree that is being built, and its depth.
