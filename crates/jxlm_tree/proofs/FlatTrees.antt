@@ -1,8 +1,8 @@
 -- What a walk depends on.
-use Rattle.std.proofs.Common.{◌≡◌, ◌≢◌, ℕ, ◌+◌, ◌*◌, ◌<◌, ◌≤◌, ℤ, pos, Bool, true, false, ◌||◌, ◌==◌, nat_lt, int_lt, if◌then◌else◌, refl, sym, ap, ◌∙◌, arith, rules}
+use Rattle.std.proofs.Common.{◌≡◌, ◌≢◌, ℕ, ◌+◌, ◌*◌, ◌<◌, ◌≤◌, ℤ, pos, Bool, true, false, ◌||◌, ◌==◌, nat_lt, int_lt, if◌then◌else◌, refl, sym, ap, subst, inl, inr, ◌∙◌, arith, rules}
 use Rattle.std.specs.Int.{w32, int_wrap}
 use Rattle.jxlm_tree.specs.FlatTree.{FlatTree, GoesWithoutWeights, ReadsEarlierBelow, asked, is_self_correcting, leaf_reached, needs_weights}
-use Rattle.jxlm_tree.specs.Tree.{AllLeaves, Shape, leaf, decision, walk}
+use Rattle.jxlm_tree.specs.Tree.{AllLeaves, Shape, StandsAtLeaf, leaf, decision, walk}
 use Rattle.jxlm_tree.specs.declared.flat.Leaf.{Leaf}
 use Rattle.jxlm_tree.specs.declared.predictor.Predictor.{Predictor}
 use Rattle.jxlm_tree.specs.declared.predictor.Predictor.TheVariants.{SelfCorrecting}
@@ -14,6 +14,11 @@ reached_leaf {L = L} P (decision k value left right) f h = either (int_lt value 
   either : (b : Bool) (x y : L) → P x → P y → P (if b then x else y)
   either true x y h k = h
   either false x y h k = k
+
+pub standing_leaf : {L : Type 0} (P : L → Type 0) (t : Shape L) (x : L) → AllLeaves P t → StandsAtLeaf t x → P x
+standing_leaf P (leaf l) x h is = subst P (sym is) h
+standing_leaf P (decision k value left right) x h (inl is) = standing_leaf P left x h.0 is
+standing_leaf P (decision k value left right) x h (inr is) = standing_leaf P right x h.1 is
 
 -- what follows at each leaf
 pub each_leaf : {L : Type 0} {P Q : L → Type 0} → ((l : L) → P l → Q l) → (t : Shape L) → AllLeaves P t → AllLeaves Q t

@@ -27,6 +27,10 @@ asked t of_place k =
 abbrev pub leaf_reached : FlatTree → (ℕ → ℤ) → Leaf
 leaf_reached t of_place = walk t.tree (asked t of_place)
 
+-- f is what a place answers for its properties
+abbrev pub AnswersAs : {P : Type 0} → (P → ℕ → ℤ → Type 0) → P → (ℕ → ℤ) → Type 0
+AnswersAs gives place f = (k : ℕ) (v : ℤ) → gives place k v → v ≡ f k
+
 -- what the sample of a token is before its prediction, in 32 bits
 abbrev pub residual_of : Leaf → ℕ → ℤ
 residual_of l token = int_wrap w32 (unpack token *ℤ pos l.multiplier +ℤ l.offset)

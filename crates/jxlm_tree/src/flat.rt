@@ -4,8 +4,8 @@ ghost use Rattle.std.specs.Prelude.{◌≡◌, ◌≤◌, ◌<◌, ◌+◌, ◌^
 ghost use Rattle.std.specs.Int.{w32, int_wrap};
 ghost use Rattle.jxlm_base.specs.Bits.{bytes_of, position_of};
 ghost use Rattle.jxlm_tree.specs.DecodingSamples.{SampleGives};
-ghost use Rattle.jxlm_tree.specs.FlatTree.{FlatTree, GoesWithoutWeights, HasMultiplier, ReadsEarlierBelow, asked, leaf_reached, needs_weights, residual_of};
-ghost use Rattle.jxlm_tree.specs.Tree.{AllLeaves, depth, node_count};
+ghost use Rattle.jxlm_tree.specs.FlatTree.{AnswersAs, FlatTree, GoesWithoutWeights, HasMultiplier, ReadsEarlierBelow, asked, leaf_reached, needs_weights, residual_of};
+ghost use Rattle.jxlm_tree.specs.Tree.{AllLeaves, StandsAtLeaf, depth, node_count, nodes_on_way};
 ghost use Rattle.jxlm_tree.specs.TreeShape.{shape_of};
 
 use crate::predictor::Predictor;
@@ -45,13 +45,16 @@ impl Leaf {
     }
 }
 
-/// What has the properties of a place, from property 2 on.
+/// What answers for the properties of a place, from property 2 on.
 pub trait PlaceProperties {
-    ghost value_of: { Self → ℕ → ℤ };
+    ghost IsCurrent: { Self → Type 0 };
+
+    ghost gives: { Self → ℕ → ℤ → Type 0 };
 
     /// The property of this number, in 32 bits.
-    fn get(&self, property: usize) -> i32
-        ensures { result ≡ value_of self.now property };
+    fn property(&self, number: usize) -> i32
+        requires { IsCurrent self.now }
+        ensures { gives self.now number result };
 }
 
 /// A tree, with what the samples of one channel of one stream need to walk it.
@@ -70,7 +73,7 @@ pub struct FlatMaTree {
 
 impl Model for FlatMaTree {
     ghost use Rattle.std.specs.Prelude.{◌≡◌};
-    ghost use Rattle.jxlm_tree.specs.FlatTree.{FlatTree, HasMultiplier, needs_weights};
+    ghost use Rattle.jxlm_tree.specs.FlatTree.{AnswersAs, FlatTree, HasMultiplier, needs_weights};
     ghost use Rattle.jxlm_tree.specs.Tree.{AllLeaves, node_count};
     ghost use Rattle.jxlm_tree.specs.TreeCode.{coded_flat};
     ghost use Rattle.jxlm_tree.specs.TreeShape.{shape_of};
@@ -140,13 +143,16 @@ impl FlatMaTree {
     /// property is greater than its value.
     ///
     /// Property 0 is the channel and 1 the stream, both read as signed numbers of 32 bits; those of
-    /// earlier channels that are not there are 0. Each node that is looked at is a step, and there
-    /// are at most as many as the tree's depth and one more.
+    /// earlier channels that are not there are 0. Each node that is looked at, the leaf among them, is a
+    /// step: at most as many as the tree's depth and one more.
     pub fn leaf<P: PlaceProperties>(&self, properties: &P, steps: &mut Steps) -> &Leaf
-        ensures leaf { result.now ≡ leaf_reached self.now (P.value_of properties.now) }
+        requires { P.IsCurrent properties.now }
+        ensures leaf { (f : ℕ → ℤ) → AnswersAs P.gives properties.now f → result.now ≡ leaf_reached self.now f }
+        ensures stands { StandsAtLeaf self.now.tree result.now }
         ensures multiplier { HasMultiplier result.now }
+        ensures steps { (f : ℕ → ℤ) → AnswersAs P.gives properties.now f → steps.new ≡ steps.old + nodes_on_way self.now.tree (asked self.now f) }
         ensures cost { steps.new ≤ steps.old + depth self.now.tree + 1 }
-        ensures more { steps.old + 1 ≤ steps.new }
+        ensures more { steps.old ≤ steps.new }
     {
         let mut node: &MaTreeNode = &self.tree;
         loop {
@@ -168,13 +174,14 @@ impl FlatMaTree {
 
     // The property of this number, as a decision asks for it.
     fn asked<P: PlaceProperties>(&self, properties: &P, property: u32) -> i32
-        ensures { result ≡ asked self.now (P.value_of properties.now) property }
+        requires { P.IsCurrent properties.now }
+        ensures { (f : ℕ → ℤ) → AnswersAs P.gives properties.now f → result ≡ asked self.now f property }
     {
         match property {
             0 => read_as_signed(self.channel),
             1 => read_as_signed(self.stream_idx),
             _ if u64::from(property) < 16 + 4 * u64::from(self.prev_channels) => {
-                properties.get(property as usize)
+                properties.property(property as usize)
             }
             _ => 0,
         }
@@ -193,8 +200,10 @@ impl FlatMaTree {
         properties: &P,
         dist_multiplier: u32,
     ) -> Result<(i32, Predictor)>
-        requires { AllLeaves (λ l. Contains (D.meaning.cluster_map decoder.old) l.cluster) self.now.tree }
-        ensures gives { SampleGives (leaf_reached self.now (P.value_of properties.now)) result decoder.old decoder.new (position_of bits.old) (position_of bits.new) (D.meaning.read decoder.old (bytes_of bits.old) (position_of bits.old) (leaf_reached self.now (P.value_of properties.now)).cluster dist_multiplier) }
+        requires clusters { AllLeaves (λ l. Contains (D.meaning.cluster_map decoder.old) l.cluster) self.now.tree }
+        requires current { P.IsCurrent properties.now }
+        ensures gives { (f : ℕ → ℤ) → AnswersAs P.gives properties.now f → SampleGives (leaf_reached self.now f) result decoder.old decoder.new (position_of bits.old) (position_of bits.new) (D.meaning.read decoder.old (bytes_of bits.old) (position_of bits.old) (leaf_reached self.now f).cluster dist_multiplier) }
+        ensures clusters { IfOk result (λ _. D.meaning.cluster_map decoder.new ≡ D.meaning.cluster_map decoder.old) }
         ensures bytes { bytes_of bits.new ≡ bytes_of bits.old }
     {
         let leaf = self.leaf(properties, &mut Steps::new());
