@@ -1,11 +1,12 @@
 //! Trees as the samples of one channel walk them, and what a leaf says.
 
-ghost use Rattle.std.specs.Prelude.{◌≡◌, ◌≤◌, ◌<◌, ◌+◌, ◌^◌, ℕ, ℤ, pos, false, Contains, IfErr, IfOk};
+ghost use Rattle.std.specs.Prelude.{◌≡◌, ◌≤◌, ◌<◌, ◌+◌, ◌^◌, ℕ, ℤ, pos, false, length, Contains, IfErr, IfOk};
 ghost use Rattle.std.specs.Int.{w32, int_wrap};
 ghost use Rattle.jxlm_base.specs.Bits.{bytes_of, position_of};
 ghost use Rattle.jxlm_tree.specs.DecodingSamples.{SampleGives};
 ghost use Rattle.jxlm_tree.specs.FlatTree.{AnswersAs, FlatTree, GoesWithoutWeights, HasMultiplier, ReadsEarlierBelow, asked, leaf_reached, needs_weights, residual_of};
-ghost use Rattle.jxlm_tree.specs.Tree.{AllLeaves, StandsAtLeaf, depth, node_count, nodes_on_way};
+ghost use Rattle.jxlm_tree.specs.Properties.{Surroundings, place_property, property};
+ghost use Rattle.jxlm_tree.specs.Tree.{AllLeaves, StandsAtLeaf, depth, node_count, nodes_on_way, walk};
 ghost use Rattle.jxlm_tree.specs.TreeShape.{shape_of};
 
 use crate::predictor::Predictor;
@@ -222,3 +223,9 @@ fn read_as_signed(number: u32) -> i32
 {
     number.cast_signed()
 }
+
+/// The walk of a flat tree is that of the whole tree by the properties of the place, where the
+/// earlier channels are not more than those that it may ask for.
+pub fn a_flat_tree_walks_by_properties()
+    ensures { (t : FlatTree) (s : Surroundings) → length s.earlier ≤ t.prev_channels → leaf_reached t (place_property s) ≡ walk t.tree (property t.channel t.stream_idx s) }
+{}
