@@ -58,9 +58,9 @@ asked_same t f g k h =
 
 pub goes_without_weights : (t : FlatTree) → needs_weights t.tree ≡ false → GoesWithoutWeights t
 goes_without_weights t h = λ f g same. (
-    walk_same (asked t f) (asked t g) (λ k other. asked_same t f g k (same k other)) t.tree h,
-    reached_leaf (λ l. l.predictor ≢ SelfCorrecting) t.tree (asked t f) (no_self_correcting t.tree h),
-  )
+  walk_same (asked t f) (asked t g) (λ k other. asked_same t f g k (same k other)) t.tree h,
+  reached_leaf (λ l. l.predictor ≢ SelfCorrecting) t.tree (asked t f) (no_self_correcting t.tree h),
+)
 
 -- ---- the properties of the definitions
 

@@ -77,10 +77,9 @@ module _ (clusters : List ℕ) where
   clustered : (k : ℕ) (ns : List (Node Draft)) → k + leaf_count ns ≤ length clusters → AllDrafts ns → AllListed (IsLeafOf clusters) (with_clusters clusters k ns)
   clustered k [] h all = tt
   clustered k (leaf_node l ∷ ns) h all =
-      let d : IsDraft l = all.0 in
-      (
-      record { cluster = Contains-get_or clusters k 0 (omega (arith, h)); offset = d.offset; least = d.least; below = d.below },
-      clustered (suc k) ns (omega (arith, h)) all.1
+      let d : IsDraft l = all.0 in (
+        record { cluster = Contains-get_or clusters k 0 (omega (arith, h)); offset = d.offset; least = d.least; below = d.below },
+        clustered (suc k) ns (omega (arith, h)) all.1,
       )
   clustered k (decision_node p v ∷ ns) h all = clustered k ns h all.1
 
@@ -112,7 +111,7 @@ module _ (clusters : List ℕ) where
   is_taken_up t ns front rest n listed_node k trees e split numbered stands =
       let from_zero : leaf_count front ≡ 0 + leaf_count front = omega arith in
       let whole : queue_of (with_clusters clusters 0 front ++ with_clusters clusters (leaf_count front) (n ∷ rest)) ≡ Some (t ∷ []) =
-        ap queue_of (ap (λ i. with_clusters clusters 0 front ++ with_clusters clusters i (n ∷ rest)) from_zero ∙ sym (with_clusters-append 0 front (n ∷ rest)) ∙ ap (with_clusters clusters 0) (sym split) ∙ sym e) ∙ queue_of-levels t in
+      ap queue_of (ap (λ i. with_clusters clusters 0 front ++ with_clusters clusters i (n ∷ rest)) from_zero ∙ sym (with_clusters-append 0 front (n ∷ rest)) ∙ ap (with_clusters clusters 0) (sym split) ∙ sym e) ∙ queue_of-levels t in
       let behind = queue_behind (with_clusters clusters 0 front) (with_clusters clusters (leaf_count front) (n ∷ rest)) (t ∷ []) whole in
       let one : queue_of (with_clusters clusters (leaf_count front) (n ∷ rest)) ≡ taken_up listed_node trees = ap queue_of numbered ∙ ap (option_and_then (taken_up listed_node)) stands in
       record { queue = behind.0; taken = sym one ∙ behind.1; stands = behind.1; shallow = omega (arith, behind.2) }

@@ -1,8 +1,8 @@
 -- A tree as the samples of one channel walk it (ISO/IEC 18181-1, Modular: meta-adaptive trees, properties).
-use Rattle.std.specs.Prelude.{◌≡◌, ◌≢◌, ℕ, ◌+◌, ◌*◌, ◌<◌, ◌^◌, ◌≤◌, ◌==◌, ◌||◌, nat_lt, if◌then◌else◌, ℤ, pos, ◌+ℤ◌, ◌*ℤ◌, Bool, true, false}
+use Rattle.std.specs.Prelude.{◌≡◌, ◌≢◌, ℕ, ◌+◌, ◌*◌, ◌<◌, ◌^◌, ◌≤◌, ◌==◌, ◌||◌, nat_lt, if◌then◌else◌, ℤ, pos, ◌+ℤ◌, ◌*ℤ◌, Bool, true, false, List, Contains}
 use Rattle.std.specs.Int.{w32, int_wrap}
 use Rattle.jxlm_base.specs.Numbers.{unpack}
-use Rattle.jxlm_tree.specs.Tree.{Shape, leaf, decision, walk}
+use Rattle.jxlm_tree.specs.Tree.{AllLeaves, Shape, leaf, decision, walk}
 use Rattle.jxlm_tree.specs.declared.flat.Leaf.{Leaf}
 use Rattle.jxlm_tree.specs.declared.predictor.Predictor.{Predictor}
 use Rattle.jxlm_tree.specs.declared.predictor.Predictor.TheVariants.{Zero, West, North, AvgWestAndNorth, Select, Gradient, SelfCorrecting, NorthEast, NorthWest, WestWest, AvgWestAndNorthWest, AvgNorthAndNorthWest, AvgNorthAndNorthEast, AvgAll}
@@ -60,6 +60,10 @@ needs_weights (decision k value left right) = (k == 15) || needs_weights left ||
 -- a leaf's multiplier lies in its range
 abbrev pub HasMultiplier : Leaf → Type 0
 HasMultiplier l = (1 ≤ l.multiplier) × (l.multiplier < 2 ^ 31)
+
+-- each leaf's cluster is one of these
+abbrev pub ClustersStandIn : List ℕ → Shape Leaf → Type 0
+ClustersStandIn clusters t = AllLeaves (λ l. Contains clusters l.cluster) t
 
 -- properties that are the same but for property 15 lead to one leaf, which does not predict by the self-correcting predictor
 abbrev pub GoesWithoutWeights : FlatTree → Type 0

@@ -1,15 +1,16 @@
 //! Trees as the samples of one channel walk them, and what a leaf says.
 
-ghost use Rattle.std.specs.Prelude.{◌≡◌, ◌≤◌, ◌<◌, ◌+◌, ◌^◌, ℕ, ℤ, pos, false, length, Contains, IfErr, IfOk};
+ghost use Rattle.std.specs.Prelude.{◌≡◌, ◌≤◌, ◌<◌, ◌+◌, ◌^◌, ℕ, ℤ, pos, false, length, IfOk};
 ghost use Rattle.std.specs.Int.{w32, int_wrap};
 ghost use Rattle.jxlm_base.specs.Bits.{bytes_of, position_of};
 ghost use Rattle.jxlm_tree.specs.DecodingSamples.{SampleGives};
-ghost use Rattle.jxlm_tree.specs.FlatTree.{AnswersAs, FlatTree, GoesWithoutWeights, HasMultiplier, ReadsEarlierBelow, asked, leaf_reached, needs_weights, residual_of};
+ghost use Rattle.jxlm_tree.specs.FlatTree.{AnswersAs, ClustersStandIn, FlatTree, GoesWithoutWeights, HasMultiplier, ReadsEarlierBelow, asked, leaf_reached, needs_weights, residual_of};
 ghost use Rattle.jxlm_tree.specs.Properties.{Surroundings, place_property, property};
 ghost use Rattle.jxlm_tree.specs.Tree.{AllLeaves, StandsAtLeaf, depth, node_count, nodes_on_way, walk};
 ghost use Rattle.jxlm_tree.specs.TreeShape.{shape_of};
 
 use crate::predictor::Predictor;
+pub use crate::steps::Steps;
 use crate::tree::MaTreeNode;
 use jxlm_base::bits::Bitstream;
 use jxlm_base::decoder::Decoder;
@@ -17,8 +18,6 @@ use jxlm_base::error::Result;
 use jxlm_base::sample::Sealed;
 use std::marker::Model;
 use std::rc::Rc;
-
-pub use crate::steps::Steps;
 
 /// What a leaf of a tree says: how each sample that the tree leads there is decoded.
 ///
@@ -74,7 +73,7 @@ pub struct FlatMaTree {
 
 impl Model for FlatMaTree {
     ghost use Rattle.std.specs.Prelude.{◌≡◌};
-    ghost use Rattle.jxlm_tree.specs.FlatTree.{AnswersAs, FlatTree, HasMultiplier, needs_weights};
+    ghost use Rattle.jxlm_tree.specs.FlatTree.{AnswersAs, ClustersStandIn, FlatTree, HasMultiplier, needs_weights};
     ghost use Rattle.jxlm_tree.specs.Tree.{AllLeaves, node_count};
     ghost use Rattle.jxlm_tree.specs.TreeCode.{coded_flat};
     ghost use Rattle.jxlm_tree.specs.TreeShape.{shape_of};
@@ -201,7 +200,7 @@ impl FlatMaTree {
         properties: &P,
         dist_multiplier: u32,
     ) -> Result<(i32, Predictor)>
-        requires clusters { AllLeaves (λ l. Contains (D.meaning.cluster_map decoder.old) l.cluster) self.now.tree }
+        requires clusters { ClustersStandIn (D.meaning.cluster_map decoder.old) self.now.tree }
         requires current { P.IsCurrent properties.now }
         ensures gives { (f : ℕ → ℤ) → AnswersAs P.gives properties.now f → SampleGives (leaf_reached self.now f) result decoder.old decoder.new (position_of bits.old) (position_of bits.new) (D.meaning.read decoder.old (bytes_of bits.old) (position_of bits.old) (leaf_reached self.now f).cluster dist_multiplier) }
         ensures clusters { IfOk result (λ _. D.meaning.cluster_map decoder.new ≡ D.meaning.cluster_map decoder.old) }
@@ -229,3 +228,111 @@ fn read_as_signed(number: u32) -> i32
 pub fn a_flat_tree_walks_by_properties()
     ensures { (t : FlatTree) (s : Surroundings) → length s.earlier ≤ t.prev_channels → leaf_reached t (place_property s) ≡ walk t.tree (property t.channel t.stream_idx s) }
 {}
+
+#[cfg(test)]
+mod tests {
+    use super::*;
+    use crate::ma::{MaConfig, MaConfigParams};
+    use jxlm_base::plain::PlainDecoder;
+    use std::test::Fail;
+
+    // Property 3 above 5: left, property 17 above -2 (Zero, else SelfCorrecting); right, property 1
+    // above 0 (AvgNorthAndNorthEast, else AvgAll). Behind the tree stand the tokens 5, 201 and 3.
+    const SEVEN_NODES: [u8; 32] = [
+        0x14, 0x84, 0x0c, 0x15, 0x43, 0x81, 0x60, 0x10, 0x0c, 0x44, 0x91, 0x83, 0x00, 0x00, 0x38,
+        0x09, 0x58, 0x01, 0x00, 0x03, 0x03, 0xf4, 0x09, 0x11, 0x81, 0x08, 0xc8, 0xc1, 0x86, 0x26,
+        0x0f, 0x00,
+    ];
+
+    const LIMITS: MaConfigParams = MaConfigParams {
+        node_limit: 6,
+        depth_limit: 2,
+    };
+
+    // Properties 3 and 17; all others are 99.
+    #[derive(Clone, Copy)]
+    struct Two(i32, i32);
+
+    impl PlaceProperties for Two {
+        ghost use Rattle.std.specs.Prelude.{ℕ, ◌≡◌, ◌==◌, pos, if◌then◌else◌};
+
+        ghost IsCurrent = { λ _. Unit {0} };
+
+        ghost gives = { λ p k v. v ≡ (if k == 3 then p.0 else if k == 17 then p.1 else pos 99) };
+
+        fn property(&self, number: usize) -> i32 {
+            match number {
+                3 => self.0,
+                17 => self.1,
+                _ => 99,
+            }
+        }
+    }
+
+    type Fields = (u8, Predictor, i32, u32);
+
+    fn fields(leaf: &Leaf) -> Fields {
+        (leaf.cluster, leaf.predictor, leaf.offset, leaf.multiplier)
+    }
+
+    #[test]
+    fn walks(rt: HostRuntime) -> std::result::Result<(), Fail> {
+        let mut bits = Bitstream::new(&SEVEN_NODES);
+        let config: MaConfig<PlainDecoder> = MaConfig::parse(rt.alloc(), &mut bits, LIMITS)?;
+        let zero = (2, Predictor::Zero, 7, 6);
+        let corrected = (0, Predictor::SelfCorrecting, -3, 1);
+        let north = (1, Predictor::AvgNorthAndNorthEast, 0, 8);
+        let all = (1, Predictor::AvgAll, -20, 5);
+        let cases = [
+            (0, 0, 1, Two(6, -1), zero),
+            (0, 0, 1, Two(6, -2), corrected),
+            (0, 0, 1, Two(6, -3), corrected),
+            (0, 0, 0, Two(6, -3), zero),
+            (0, 0, 1, Two(5, 0), all),
+            (0, 1, 1, Two(5, 0), north),
+            (9, 1 << 31, 1, Two(-7, 0), all),
+        ];
+        let mut steps = Steps::new();
+        for (channel, stream_idx, prev_channels, place, leaf) in cases {
+            let flat = config.make_flat_tree(channel, stream_idx, prev_channels)?;
+            assert_eq!(rt; fields(flat.leaf(&place, &mut steps)), leaf);
+            assert_eq!(rt; flat.num_nodes(), 7);
+            assert!(rt; flat.need_self_correcting());
+            assert_eq!(rt; flat.max_prev_channel_depth(), prev_channels as usize);
+        }
+        Ok(())
+    }
+
+    #[test]
+    fn samples(rt: HostRuntime) -> std::result::Result<(), Fail> {
+        let mut bits = Bitstream::new(&SEVEN_NODES);
+        let config: MaConfig<PlainDecoder> = MaConfig::parse(rt.alloc(), &mut bits, LIMITS)?;
+        let mut decoder = config.decoder().try_clone(rt.alloc())?;
+        decoder.begin(&mut bits)?;
+        let flat = config.make_flat_tree(0, 0, 1)?;
+        let first = flat.decode_sample(&mut bits, &mut decoder, &Two(6, -1), 0)?;
+        assert_eq!(rt; (first, bits.position()), ((-11, Predictor::Zero), 234));
+        let second = flat.decode_sample(&mut bits, &mut decoder, &Two(6, -2), 0)?;
+        assert_eq!(rt;
+            (second, bits.position()),
+            ((-104, Predictor::SelfCorrecting), 242)
+        );
+        let next = config.make_flat_tree(0, 1, 1)?;
+        let third = next.decode_sample(&mut bits, &mut decoder, &Two(5, 0), 0)?;
+        assert_eq!(rt;
+            (third, bits.position()),
+            ((24, Predictor::AvgNorthAndNorthEast), 242)
+        );
+        let last = flat.decode_sample(&mut bits, &mut decoder, &Two(6, -2), 0)?;
+        assert_eq!(rt;
+            (last, bits.position()),
+            ((-5, Predictor::SelfCorrecting), 250)
+        );
+        Ok(())
+    }
+
+    #[test]
+    fn laws() {
+        a_flat_tree_walks_by_properties();
+    }
+}

@@ -6,6 +6,7 @@ ghost use Rattle.jxlm_base.specs.Decoding.{Found};
 ghost use Rattle.jxlm_base.specs.Fault.{fault_of};
 ghost use Rattle.jxlm_base.specs.Grammar.{Answers};
 ghost use Rattle.jxlm_tree.specs.DraftReading.{IsWantOfMemory, ListsTrees, node_of};
+ghost use Rattle.jxlm_tree.specs.FlatTree.{ClustersStandIn};
 ghost use Rattle.jxlm_tree.specs.Tree.{AllLeaves, Shape, levels, node_count, depth};
 ghost use Rattle.jxlm_tree.specs.TreeReading.{IsLeafOf, Listing, TreeGives, leaf_count, listing_at, through};
 ghost use Rattle.jxlm_tree.specs.declared.flat.Leaf.{Leaf};
@@ -125,7 +126,8 @@ impl<D: Decoder> MaConfig<D> {
         prev_channels: u32,
     ) -> Result<FlatMaTree>
         ensures tree { IfOk result (λ t. t ≡ record { tree = self.now.tree; channel = channel; stream_idx = stream_idx; prev_channels = prev_channels }) }
-        ensures leaves { AllLeaves (IsLeafOf (D.meaning.cluster_map self.now.decoder)) self.now.tree }
+        ensures leaves { IfOk result (λ t. AllLeaves (IsLeafOf (D.meaning.cluster_map self.now.decoder)) t.tree) }
+        ensures clusters { IfOk result (λ t. ClustersStandIn (D.meaning.cluster_map self.now.decoder) t.tree) }
         ensures err { IfErr result (λ e. IsWantOfMemory (fault_of e)) }
     {
         let tree = self.tree.clone().map_err(|_| OutOfMemory)?;
@@ -194,7 +196,11 @@ pub fn no_two_trees_share_a_listing()
 #[cfg(test)]
 mod tests {
     use super::*;
+    use crate::flat::{PlaceProperties, Steps};
+    use crate::predictor::Predictor;
+    use jxlm_base::bits::BitstreamError;
     use jxlm_base::decoder::DecoderError;
+    use jxlm_base::error::Error;
     use jxlm_base::plain::PlainDecoder;
     use std::test::Fail;
 
@@ -208,9 +214,13 @@ mod tests {
     // The fields of the leaf that stands at the reader's place, and the place behind the tree.
     fn leaf_at(rt: &HostRuntime, bits: &mut Bitstream<'_>) -> Result<(Fields, u64)> {
         let config: MaConfig<PlainDecoder> = MaConfig::parse(rt.alloc(), bits, SMALLEST)?;
-        let leaf = config.leaf();
-        let fields = (leaf.cluster, leaf.predictor, leaf.offset, leaf.multiplier);
-        Ok((fields, bits.position()))
+        match &*config.tree {
+            MaTreeNode::Leaf(leaf) => {
+                let fields = (leaf.cluster, leaf.predictor, leaf.offset, leaf.multiplier);
+                Ok((fields, bits.position()))
+            }
+            MaTreeNode::Decision { .. } => Err(Error::InvalidMaTree),
+        }
     }
 
     // How the tree at the start of the bytes is refused, and where the reader stands then.
@@ -248,13 +258,8 @@ mod tests {
     fn a_leaf_and_its_decoder(rt: HostRuntime) -> std::result::Result<(), Fail> {
         let mut bits = Bitstream::new(&WEST);
         let config: MaConfig<PlainDecoder> = MaConfig::parse(rt.alloc(), &mut bits, SMALLEST)?;
-        let leaf = Leaf {
-            cluster: 1,
-            predictor: Predictor::West,
-            offset: i32::MIN,
-            multiplier: 40,
-        };
-        assert!(rt; *config.leaf() == leaf);
+        let fields = (1, Predictor::West, i32::MIN, 40);
+        assert_eq!(rt; leaf_at(&rt, &mut Bitstream::new(&WEST))?.0, fields);
         assert_eq!(rt; bits.position(), 143);
         assert_eq!(rt; config.decoder().cluster_map(), [1].as_slice());
         assert_eq!(rt; config.num_tree_nodes(), 1);
@@ -312,29 +317,160 @@ mod tests {
     }
 
     #[test]
-    fn what_is_not_offered(rt: HostRuntime) {
-        let decision = [
-            0x14, 0x84, 0x0c, 0x15, 0x02, 0x81, 0x40, 0x28, 0x7c, 0x01, 0x80, 0x01,
+    fn no_such_predictor(rt: HostRuntime) {
+        let bytes = [
+            0x14, 0x84, 0x0c, 0x15, 0x42, 0x80, 0x40, 0x28, 0x08, 0x1c, 0x00, 0x03,
         ];
-        let refused = Error::Bitstream(BitstreamError::ProfileConformance(
-            "property not available",
-        ));
-        assert_eq!(rt; refusal(&rt, &decision), (Some(refused), 76));
-
-        let mut predictor = [
-            0x14, 0x84, 0x0c, 0x15, 0x42, 0x80, 0x40, 0x28, 0x08, 0x04, 0x00, 0x03,
-        ];
-        let refused = Error::Bitstream(BitstreamError::ProfileConformance(
-            "predictor not available",
-        ));
-        assert_eq!(rt; refusal(&rt, &predictor), (Some(refused), 77));
-
-        predictor[9] = 0x1c;
         let refused = Error::Bitstream(BitstreamError::InvalidEnum {
             name: "MaProperty",
             value: 14,
         });
-        assert_eq!(rt; refusal(&rt, &predictor), (Some(refused), 77));
+        assert_eq!(rt; refusal(&rt, &bytes), (Some(refused), 77));
+    }
+
+    // Nodes, depth and the place behind the tree that stands behind so many bits, or how it is
+    // refused and where.
+    fn measures(
+        rt: &HostRuntime,
+        bytes: &[u8],
+        start: u32,
+        params: MaConfigParams,
+    ) -> (Option<Error>, usize, usize, u64)
+        requires start { start ≤ 32 }
+        requires nodes { params.node_limit ≤ 2 ^ 26 }
+        requires depth { params.depth_limit ≤ 2048 }
+    {
+        let mut bits = Bitstream::new(bytes);
+        let _ = bits.read_bits(start);
+        let parsed: Result<MaConfig<PlainDecoder>> = MaConfig::parse(rt.alloc(), &mut bits, params);
+        match parsed {
+            Ok(config) => (
+                None,
+                config.num_tree_nodes(),
+                config.tree_depth(),
+                bits.position(),
+            ),
+            Err(e) => (Some(e), 0, 0, bits.position()),
+        }
+    }
+
+    fn limits(node_limit: usize, depth_limit: usize) -> MaConfigParams
+        ensures nodes { result.node_limit ≡ node_limit }
+        ensures depth { result.depth_limit ≡ depth_limit }
+    {
+        MaConfigParams {
+            node_limit,
+            depth_limit,
+        }
+    }
+
+    const TOO_MANY: Error = Error::Bitstream(BitstreamError::ProfileConformance(
+        "MA tree limit exceeded",
+    ));
+
+    const TOO_DEEP: Error = Error::Bitstream(BitstreamError::ProfileConformance(
+        "decoded MA tree is too deep",
+    ));
+
+    // Behind the four bits of a header: property 3 above 0 is West in cluster 0, else Zero in 1.
+    const TWO_LEAVES: [u8; 13] = [
+        0x82, 0x40, 0x08, 0x00, 0x04, 0x0c, 0x02, 0x22, 0x10, 0x10, 0x86, 0x83, 0x15,
+    ];
+
+    // Three nodes are one more than a limit of two, and two more than a limit of one. The limit of
+    // nodes comes before the third node, the limit of depth behind the leaves' decoder.
+    #[test]
+    fn limits_of_nodes_and_depth(rt: HostRuntime) {
+        let read = |nodes, depth| measures(&rt, &TWO_LEAVES, 4, limits(nodes, depth));
+        assert_eq!(rt; read(2, 1), (None, 3, 1, 97));
+        assert_eq!(rt; read(1 << 26, 2048), (None, 3, 1, 97));
+        assert_eq!(rt; read(1, 1), (Some(TOO_MANY), 0, 0, 62));
+        assert_eq!(rt; read(0, 1), (Some(TOO_MANY), 0, 0, 58));
+        assert_eq!(rt; read(2, 0), (Some(TOO_DEEP), 0, 0, 97));
+        let cut = measures(&rt, &TWO_LEAVES[..8], 4, limits(2, 0));
+        let end = Error::Decoder(DecoderError::UnexpectedEof);
+        assert_eq!(rt; (cut.0, cut.3), (Some(end), 62));
+    }
+
+    fn set(bytes: &mut [u8; 1546], place: usize) {
+        if let Some(byte) = bytes.get_mut(place / 8) {
+            *byte |= 1 << (place % 8) as u32;
+        }
+    }
+
+    // So many decisions on property 0, each the right child of the one before. A node is one bit,
+    // and all else is constant; the last leaf has a cluster of its own.
+    fn chain(depth: u16) -> [u8; 1546] {
+        let depth = usize::from(depth);
+        let mut bytes = [0; 1546];
+        for place in [2, 10, 30, 38] {
+            set(&mut bytes, place);
+        }
+        for i in 0..depth {
+            set(&mut bytes, 44 + 2 * i);
+        }
+        for place in [
+            47 + 2 * depth,
+            51 + 6 * depth,
+            55 + 6 * depth,
+            62 + 6 * depth,
+        ] {
+            set(&mut bytes, place);
+        }
+        bytes
+    }
+
+    #[test]
+    fn the_deepest_tree(rt: HostRuntime) {
+        let most = limits(1 << 26, 2048);
+        let deepest = chain(2048);
+        assert_eq!(rt; measures(&rt, &deepest, 0, most), (None, 4097, 2048, 12357));
+        let deeper = chain(2049);
+        assert_eq!(rt;
+            measures(&rt, &deeper, 0, most),
+            (Some(TOO_DEEP), 0, 0, 12363)
+        );
+        assert_eq!(rt;
+            measures(&rt, &deeper, 0, limits(4097, 2048)).0,
+            Some(TOO_MANY)
+        );
+        assert_eq!(rt;
+            measures(&rt, &deeper, 0, limits(4098, 2048)).0,
+            Some(TOO_DEEP)
+        );
+    }
+
+    #[derive(Clone, Copy)]
+    struct Nothing;
+
+    impl PlaceProperties for Nothing {
+        ghost use Rattle.std.specs.Prelude.{◌≡◌, pos};
+
+        ghost IsCurrent = { λ _. Unit {0} };
+
+        ghost gives = { λ _ k v. v ≡ pos 0 };
+
+        fn property(&self, _number: usize) -> i32 {
+            0
+        }
+    }
+
+    // The whole chain is walked, and dropped with what shares it.
+    #[test]
+    fn a_walk_through_the_deepest_tree(rt: HostRuntime) -> std::result::Result<(), Fail> {
+        let bytes = chain(2048);
+        let mut bits = Bitstream::new(&bytes);
+        let most = limits(1 << 26, 2048);
+        let config: MaConfig<PlainDecoder> = MaConfig::parse(rt.alloc(), &mut bits, most)?;
+        let copy = config.try_clone(rt.alloc())?;
+        let last = config.make_flat_tree(0, 7, 0)?;
+        let first = copy.make_flat_tree(1, 7, 0)?;
+        drop(config);
+        let mut steps = Steps::new();
+        assert_eq!(rt; last.leaf(&Nothing, &mut steps).cluster, 1);
+        assert_eq!(rt; first.leaf(&Nothing, &mut steps).cluster, 0);
+        assert_eq!(rt; last.num_nodes(), 4097);
+        Ok(())
     }
 
     #[test]

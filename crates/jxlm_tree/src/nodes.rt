@@ -211,4 +211,3 @@ fn read_context<D: Decoder>(decoder: &mut D, bits: &mut Bitstream<'_>, context: 
     let token = decoder.read_varint(bits, context)?;
     Ok(token)
 }
-

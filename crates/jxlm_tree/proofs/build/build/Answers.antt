@@ -31,7 +31,7 @@ take_up-requires-clause-enough c =
     let t = tree_of_listing c.args.clusters.now (map node_of c.args.nodes.items) c.requires.listing in
     let place = place_is (map node_of c.loop-node.nodes.items) front n c.loop-node.unnumbered c.numbered-node.new.unnumbered last i.numbered c.numbered-node.ensures.left in
     let step = is_taken_up c.args.clusters.now t.0 (map node_of c.args.nodes.items) front i.rest n (listed_of c.numbered-node.result) c.loop-node.unnumbered (trees_in c.loop-node.queue.items) t.1
-        (split_at (map node_of c.args.nodes.items) (map node_of c.loop-node.nodes.items) front i.rest n i.whole last) (rw (← place) (c.numbered-node.ensures.node i.rest)) i.taken in
+    (split_at (map node_of c.args.nodes.items) (map node_of c.loop-node.nodes.items) front i.rest n i.whole last) (rw (← place) (c.numbered-node.ensures.node i.rest)) i.taken in
     rw step.taken (search rules)
 
 pub loop-node-preserved : goal.loop-node-preserved
@@ -44,7 +44,7 @@ loop-node-preserved c =
     let place = place_is (map node_of c.loop-node.nodes.items) front n c.loop-node.unnumbered c.numbered-node.new.unnumbered last i.numbered c.numbered-node.ensures.left in
     let split = split_at (map node_of c.args.nodes.items) (map node_of c.loop-node.nodes.items) front i.rest n i.whole last in
     let step = is_taken_up c.args.clusters.now t.0 (map node_of c.args.nodes.items) front i.rest n (listed_of c.numbered-node.result) c.loop-node.unnumbered (trees_in c.loop-node.queue.items) t.1
-        split (rw (← place) (c.numbered-node.ensures.node i.rest)) i.taken in
+    split (rw (← place) (c.numbered-node.ensures.node i.rest)) i.taken in
     record {
       rest = n ∷ i.rest;
       whole = split;
@@ -63,9 +63,9 @@ returns-in_err-take_up-clause-err c =
     let place = place_is (map node_of c.loop-node.nodes.items) front n c.loop-node.unnumbered c.numbered-node.new.unnumbered last i.numbered c.numbered-node.ensures.left in
     let split = split_at (map node_of c.args.nodes.items) (map node_of c.loop-node.nodes.items) front i.rest n i.whole last in
     let step = is_taken_up c.args.clusters.now t.0 (map node_of c.args.nodes.items) front i.rest n (listed_of c.numbered-node.result) c.loop-node.unnumbered (trees_in c.loop-node.queue.items) t.1
-        split (rw (← place) (c.numbered-node.ensures.node i.rest)) i.taken in
+    split (rw (← place) (c.numbered-node.ensures.node i.rest)) i.taken in
     let fact = too_deep_in_tree c.args.clusters.now c.args.depth_limit t.0 (with_clusters c.args.clusters.now 0 (map node_of c.args.nodes.items)) _ step.queue (fault_of c.in_err-take_up.field-0.0) t.1 step.taken step.shallow
-        c.in_err-take_up.ensures.err in
+    c.in_err-take_up.ensures.err in
     search rules
 
 pub unreachable-requires : goal.unreachable-requires
@@ -73,7 +73,7 @@ unreachable-requires c =
     let i = c.loop-node.invariant in
     let t = tree_of_listing c.args.clusters.now (map node_of c.args.nodes.items) c.requires.listing in
     let trees = whole_taken node_of c.args.clusters.now t.0 (map node_of c.args.nodes.items) c.loop-node.nodes.items i.rest c.loop-node.unnumbered (trees_in c.loop-node.queue.items) t.1
-        (λ h. c.in_default.ensures.variant.1 (rw c.loop-node.nodes.ok.0 h)) i.whole i.numbered i.taken in
+    (λ h. c.in_default.ensures.variant.1 (rw c.loop-node.nodes.ok.0 h)) i.whole i.numbered i.taken in
     let none = nothing_left c.loop-node.queue.items (λ h. c.in-None.ensures.variant.1 (rw c.loop-node.queue.ok.0 h)) in
     cc (trees, ap trees_in none)
 
@@ -82,7 +82,7 @@ returns-clause-levels c =
     let i = c.loop-node.invariant in
     let t = tree_of_listing c.args.clusters.now (map node_of c.args.nodes.items) c.requires.listing in
     let trees = whole_taken node_of c.args.clusters.now t.0 (map node_of c.args.nodes.items) c.loop-node.nodes.items i.rest c.loop-node.unnumbered (trees_in c.loop-node.queue.items) t.1
-        (λ h. c.in_default.ensures.variant.1 (rw c.loop-node.nodes.ok.0 h)) i.whole i.numbered i.taken in
+    (λ h. c.in_default.ensures.variant.1 (rw c.loop-node.nodes.ok.0 h)) i.whole i.numbered i.taken in
     let is : shape_of c.in-Some-pop_front.root.tree ≡ t.0 = cc (trees, ap trees_in c.in-Some-pop_front.ensures.items) in
     ap levels is ∙ t.1
 
@@ -91,7 +91,7 @@ returns-clause-count c =
     let i = c.loop-node.invariant in
     let t = tree_of_listing c.args.clusters.now (map node_of c.args.nodes.items) c.requires.listing in
     let trees = whole_taken node_of c.args.clusters.now t.0 (map node_of c.args.nodes.items) c.loop-node.nodes.items i.rest c.loop-node.unnumbered (trees_in c.loop-node.queue.items) t.1
-        (λ h. c.in_default.ensures.variant.1 (rw c.loop-node.nodes.ok.0 h)) i.whole i.numbered i.taken in
+    (λ h. c.in_default.ensures.variant.1 (rw c.loop-node.nodes.ok.0 h)) i.whole i.numbered i.taken in
     let is : shape_of c.in-Some-pop_front.root.tree ≡ t.0 = cc (trees, ap trees_in c.in-Some-pop_front.ensures.items) in
     ap node_count is ∙ count_is c.args.clusters.now t.0 (map node_of c.args.nodes.items) t.1 ∙ length-map c.args.nodes.items node_of
 
@@ -100,6 +100,6 @@ returns-clause-leaves c =
     let i = c.loop-node.invariant in
     let t = tree_of_listing c.args.clusters.now (map node_of c.args.nodes.items) c.requires.listing in
     let trees = whole_taken node_of c.args.clusters.now t.0 (map node_of c.args.nodes.items) c.loop-node.nodes.items i.rest c.loop-node.unnumbered (trees_in c.loop-node.queue.items) t.1
-        (λ h. c.in_default.ensures.variant.1 (rw c.loop-node.nodes.ok.0 h)) i.whole i.numbered i.taken in
+    (λ h. c.in_default.ensures.variant.1 (rw c.loop-node.nodes.ok.0 h)) i.whole i.numbered i.taken in
     let is : shape_of c.in-Some-pop_front.root.tree ≡ t.0 = cc (trees, ap trees_in c.in-Some-pop_front.ensures.items) in
     rw is (leaves_are c.args.clusters.now t.0 (map node_of c.args.nodes.items) t.1 (omega (arith, c.requires.clusters)) c.requires.drafts)

@@ -38,7 +38,7 @@ loop-missing-preserved g c =
     let room : most_nodes c.args.node_limit - length l.nodes.items ≡ suc (most_nodes c.args.node_limit - length c.push.new.self.items) = omega (arith, less, longer) in
     let more : l.missing - 1 + c.children.result ≡ l.missing - 1 + children (node_of c.in_ok-node.node) = ap (λ k. l.missing - 1 + k) c.children.ensures in
     let read = node_more g.D.Decoder.meaning (bytes_of c.args.bits.now) (limit_fault c.args.node_limit) (map node_of l.nodes.items) _ _ l.missing _ l.decoder c.read_node.new.decoder (position_of l.bits) (position_of c.read_node.new.bits)
-        (node_of c.in_ok-node.node) room c.loop-missing-test.true more node in
+    (node_of c.in_ok-node.node) room c.loop-missing-test.true more node in
     record {
       reads = rw seen (l.invariant.reads ∙ read);
       contexts = ap length c.in_ok-node.ensures.clusters ∙ l.invariant.contexts;
