@@ -1,15 +1,14 @@
 -- What a walk depends on.
-use Rattle.std.proofs.Common.{◌⊎◌, ◌≡◌, ◌≢◌, ℕ, ◌+◌, ◌*◌, ◌<◌, ◌≤◌, ℤ, pos, Bool, true, false, ◌||◌, ◌==◌, nat_lt, int_lt, if◌then◌else◌, refl, sym, ap, subst, inl, inr, ◌∙◌, arith, rules}
+use Rattle.std.proofs.Common.{◌⊎◌, ◌≡◌, ◌≢◌, ℕ, ◌+◌, ◌*◌, ◌<◌, ◌≤◌, ℤ, pos, Bool, true, false, ◌||◌, ◌==◌, nat_lt, int_lt, if◌then◌else◌, refl, sym, ap, subst, inl, inr, arith, rules}
 use Rattle.std.specs.Int.{w32, int_wrap}
 use Rattle.std.specs.Prelude.{◌-◌, ◌/◌, length, None, slice_get}
 use Rattle.std.proofs.lemmas.Bool.{cases_lt}
 use Rattle.std.proofs.lemmas.Bool.Decides.{nat_tests}
 use Rattle.std.proofs.lemmas.Option.{slice_get_past}
 use Rattle.jxlm_tree.specs.Properties.{Surroundings, place_property, property}
-use Rattle.jxlm_tree.specs.FlatTree.{FlatTree, GoesWithoutWeights, ReadsEarlierBelow, asked, is_self_correcting, leaf_reached, needs_weights}
+use Rattle.jxlm_tree.specs.FlatTree.{FlatTree, GoesWithoutWeights, asked, is_self_correcting, leaf_reached, needs_weights}
 use Rattle.jxlm_tree.specs.Tree.{AllLeaves, Shape, StandsAtLeaf, leaf, decision, walk}
 use Rattle.jxlm_tree.specs.declared.flat.Leaf.{Leaf}
-use Rattle.jxlm_tree.specs.declared.predictor.Predictor.{Predictor}
 use Rattle.jxlm_tree.specs.declared.predictor.Predictor.TheVariants.{SelfCorrecting}
 
 -- what holds of each leaf holds of the one that is reached

@@ -1,5 +1,5 @@
 -- A queue of trees: what stands in it, and how deep that is.
-use Rattle.std.proofs.Common.{◌≡◌, ℕ, zero, suc, ◌+◌, ◌<◌, ◌≤◌, max, ℤ, List, [], ◌∷◌, ◌++◌, Option, None, Some, IsSome, refl, sym, ap, ◌∙◌, subst, arith, map}
+use Rattle.std.proofs.Common.{◌≡◌, ℕ, ◌<◌, ◌≤◌, max, ℤ, List, [], ◌∷◌, ◌++◌, Option, None, Some, refl, subst, arith, map}
 use Rattle.std.specs.Option.{option_and_then}
 use Rattle.jxlm_base.specs.Fault.{Fault}
 use Rattle.jxlm_tree.specs.Queue.{HasTooDeep, IsRefusedAsTooDeep, IsRefusedInQueue, deepest, taken_up, too_deep}

@@ -1,19 +1,18 @@
 -- The tree of a listing: its nodes, its leaves, and the queue from which it comes.
-use Rattle.std.proofs.Common.{false, true, append_assoc, ◌≡◌, ℕ, zero, suc, ◌+◌, ◌<◌, ◌≤◌, List, [], ◌∷◌, ◌++◌, length, map, Option, None, Some, IsSome, refl, sym, ap, ◌∙◌, subst, arith}
+use Rattle.std.proofs.Common.{false, true, append_assoc, ◌≡◌, ℕ, suc, ◌+◌, ◌<◌, ◌≤◌, List, [], ◌∷◌, ◌++◌, length, map, Option, Some, refl, sym, ap, ◌∙◌, subst, arith}
 use Rattle.std.specs.Prelude.{slice_index}
 use Rattle.std.specs.Option.{option_and_then}
 use Rattle.std.proofs.lemmas.List.Elements.{Contains-get_or}
 use Rattle.jxlm_base.specs.Fault.{Fault}
 use Rattle.jxlm_tree.specs.Building.{leaves_in}
-use Rattle.jxlm_tree.specs.DraftReading.{AllDrafts, IsDraft, ListsTrees}
+use Rattle.jxlm_tree.specs.DraftReading.{AllDrafts, IsDraft}
 use Rattle.jxlm_tree.specs.Queue.{HasTooDeep, IsRefusedInQueue, IsTooDeepListing, ListsTooDeep, deepest, taken_up}
 use Rattle.jxlm_tree.specs.Tree.{AllLeaves, Shape, leaf, decision, Node, leaf_node, decision_node, depth, levels, node_count}
 use Rattle.jxlm_tree.specs.TreeReading.{Draft, IsLeafOf, leaf_count, with_clusters}
 use Rattle.jxlm_tree.specs.declared.flat.Leaf.{Leaf}
-use Rattle.jxlm_tree.proofs.Listing.{Lists, levels-from_queue, queue_of, queue_of-levels, queue_of-lists}
+use Rattle.jxlm_tree.proofs.Listing.{Lists, queue_of, queue_of-levels, queue_of-lists}
 use Rattle.jxlm_tree.proofs.Memory.{unless_so}
 use Rattle.jxlm_tree.proofs.Queues.{queue_behind}
-use Rattle.jxlm_tree.proofs.Reading.{tree_of_listing}
 
 -- ---- counts and leaves
 

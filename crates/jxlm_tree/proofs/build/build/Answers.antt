@@ -1,10 +1,8 @@
-use Rattle.std.proofs.Common.{◌≡◌, ◌≤◌, ◌∷◌, ◌++◌, [], None, Some, length, map, refl, sym, ap, ◌∙◌, subst, arith, rules}
+use Rattle.std.proofs.Common.{◌≡◌, ◌∷◌, [], map, sym, ap, ◌∙◌, arith, rules}
 use Rattle.std.proofs.lemmas.List.{length-map, map-append}
-use Rattle.std.specs.Option.{IsSome}
 use Rattle.jxlm_base.specs.Fault.{fault_of}
 use Rattle.jxlm_tree.specs.Building.{listed_of, trees_in}
 use Rattle.jxlm_tree.specs.DraftReading.{node_of}
-use Rattle.jxlm_tree.specs.Queue.{IsTooDeepListing, taken_up}
 use Rattle.jxlm_tree.specs.Tree.{levels, node_count}
 use Rattle.jxlm_tree.specs.TreeReading.{with_clusters}
 use Rattle.jxlm_tree.specs.TreeShape.{shape_of}

@@ -1,4 +1,4 @@
-use Rattle.std.proofs.Common.{◌≡◌, false, sym, ◌∙◌, ap}
+use Rattle.std.proofs.Common.{sym, ◌∙◌, ap}
 use Rattle.jxlm_tree.specs.FlatTree.{FlatTree, needs_weights}
 use Rattle.jxlm_tree.proofs.FlatTrees.{goes_without_weights}
 use Rattle.jxlm_tree.proofs.flat.FlatMaTree.need_self_correcting.Goals as goal

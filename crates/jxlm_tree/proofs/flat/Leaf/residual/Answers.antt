@@ -1,4 +1,4 @@
-use Rattle.std.proofs.Common.{◌≡◌, pos, ◌+ℤ◌, ◌*ℤ◌, ap, sym, ◌∙◌, rules, w32, to_z, of_z, FitsSigned}
+use Rattle.std.proofs.Common.{◌≡◌, pos, ◌*ℤ◌, ◌∙◌, rules, w32, to_z, FitsSigned}
 use Rattle.std.specs.Int.{int_wrap}
 use Rattle.std.proofs.lemmas.Int.{int_wrap-add_same, int_wrap-mul_left, to_z-of_z}
 use Rattle.jxlm_base.specs.Numbers.{unpack}
