@@ -1,7 +1,7 @@
 -- What the steps of reading a tree answer.
 use Rattle.std.specs.Prelude.{◌≡◌, ℕ, zero, suc, ◌+◌, ◌<◌, ◌≤◌, ◌^◌, FitsSigned, List, [], ◌∷◌, Some, Result, Ok, Err}
 use Rattle.std.specs.Int.{w32}
-use Rattle.jxlm_base.specs.Fault.{Fault, Refused, UnlessMemory, fault_of}
+use Rattle.jxlm_base.specs.Fault.{Refused, UnlessMemory, fault_of}
 use Rattle.jxlm_base.specs.declared.error.Error.{Error}
 use Rattle.jxlm_tree.specs.Tree.{Node, leaf_node, decision_node}
 use Rattle.jxlm_tree.specs.TreeReading as reading
@@ -52,7 +52,3 @@ DrawnGives view (Err e) t q reading = reading ≡ Err (record { fault = fault_of
 abbrev pub DrawnAnswers : {X Y S : Type 0} → (X → Y) → Result X Error → S → ℕ → Result (Drawn Y S) Refused → Type 0
 DrawnAnswers view (Ok x) t q reading = reading ≡ Ok (record { value = view x; state = t; position = q })
 DrawnAnswers view (Err e) t q reading = UnlessMemory (fault_of e) (reading ≡ Err (record { fault = fault_of e; position = Some q }))
-
--- there was no memory
-abbrev pub IsWantOfMemory : Fault → Type 0
-IsWantOfMemory fault = UnlessMemory fault ⊥

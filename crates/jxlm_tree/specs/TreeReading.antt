@@ -84,6 +84,10 @@ pub record IsLeafOf (clusters : List ℕ) (l : Leaf) : Type 0 where
   pub least : 1 ≤ l.multiplier
   pub below : l.multiplier < 2 ^ 31
 
+-- there was no memory
+abbrev pub IsWantOfMemory : Fault → Type 0
+IsWantOfMemory fault = UnlessMemory fault ⊥
+
 module _ {S : Type 0} (d : Meaning S) (bytes : List ℕ) where
   -- the read of a context; its fault leaves the reader where it stood
   abbrev pub read_context : ℕ → S → ℕ → Result (Drawn ℕ S) Refused

@@ -47,11 +47,13 @@ impl Leaf {
 
 /// What answers for the properties of a place, from property 2 on.
 pub trait PlaceProperties {
+    // What it owes before it can answer.
     ghost IsCurrent: { Self → Type 0 };
 
+    // Which numbers it may answer for a property.
     ghost gives: { Self → ℕ → ℤ → Type 0 };
 
-    /// The property of this number, in 32 bits.
+    /// The property of this number, from 2 on, in 32 bits.
     fn property(&self, number: usize) -> i32
         requires { IsCurrent self.now }
         ensures { gives self.now number result };

@@ -5,10 +5,10 @@ ghost use Rattle.jxlm_base.specs.Bits.{bytes_of, position_of};
 ghost use Rattle.jxlm_base.specs.Decoding.{Found};
 ghost use Rattle.jxlm_base.specs.Fault.{fault_of};
 ghost use Rattle.jxlm_base.specs.Grammar.{Answers};
-ghost use Rattle.jxlm_tree.specs.DraftReading.{IsWantOfMemory, ListsTrees, node_of};
+ghost use Rattle.jxlm_tree.specs.DraftReading.{ListsTrees, node_of};
 ghost use Rattle.jxlm_tree.specs.FlatTree.{ClustersStandIn};
 ghost use Rattle.jxlm_tree.specs.Tree.{AllLeaves, Shape, levels, node_count, depth};
-ghost use Rattle.jxlm_tree.specs.TreeReading.{IsLeafOf, Listing, TreeGives, leaf_count, listing_at, through};
+ghost use Rattle.jxlm_tree.specs.TreeReading.{IsLeafOf, IsWantOfMemory, Listing, TreeGives, leaf_count, listing_at, through};
 ghost use Rattle.jxlm_tree.specs.declared.flat.Leaf.{Leaf};
 
 use crate::build::build;
