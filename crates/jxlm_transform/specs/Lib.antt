@@ -1,3 +1,4 @@
 pub mod Channels
 pub mod Params
 pub mod Shifts
+pub mod Transforms

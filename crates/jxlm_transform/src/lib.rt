@@ -2,3 +2,4 @@
 #![tactic(auto)]
 
 pub mod param;
+pub mod transform;
