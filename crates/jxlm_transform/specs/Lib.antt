@@ -1,3 +1,4 @@
+pub mod ChannelSteps
 pub mod Channels
 pub mod Params
 pub mod Shifts
