@@ -110,16 +110,15 @@ module _ {S D : Type 0} (d : Meaning D) (w : Width) (to_int : S → ℤ) (bytes 
   -- the samples are coded to the end
   pub answers_whole : (allow : Bool) (new : Image S D) (q : ℕ) → 0 < samples_in old → DecodesSamples d w to_int bytes stream old p new q →
       (tried : ℕ) × DecodeAnswers d w (whole_part old stream) bytes old.config.decoder (stands to_int old p partial) (stands to_int new q false) allow (Ok tt) tried
-  answers_whole allow new q cells all =
-      (
-        samples_in old,
-        inl (record {
-          coded = some_of (samples_in old) _ (q ≡ p) cells all.0;
-          fits = all.1;
-          whole = refl;
-          tries = refl;
-        }),
-      )
+  answers_whole allow new q cells all = (
+    samples_in old,
+    inl (record {
+      coded = some_of (samples_in old) _ (q ≡ p) cells all.0;
+      fits = all.1;
+      whole = refl;
+      tries = refl;
+    }),
+  )
 
   -- there are no samples
   pub answers_empty : (allow : Bool) → IsLaidOut old → (0 < samples_in old → ⊥) →
