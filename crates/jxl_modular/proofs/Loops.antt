@@ -1,22 +1,21 @@
 -- What the loops of decoding keep: one cell more, one row more, one channel more.
-use Rattle.std.proofs.Common.{◌≡◌, ℕ, zero, suc, ◌+◌, ◌-◌, ◌*◌, ◌<◌, ◌≤◌, List, [], ◌∷◌, ◌++◌, length, take, drop, Some, Result, Ok, Err, refl, sym, ap, ◌∙◌, subst, arith, ℤ, pos}
-use Rattle.std.specs.Prelude.{get_or, map, slice_set}
-use Rattle.std.specs.List.{All}
+use Rattle.std.proofs.Common.{◌≡◌, ℕ, zero, suc, ◌+◌, ◌*◌, ◌<◌, ◌≤◌, List, [], ◌∷◌, length, refl, sym, ap, ◌∙◌, subst, arith, ℤ}
+use Rattle.std.specs.Prelude.{get_or, slice_set}
 use Rattle.std.specs.Int.{Width}
-use Rattle.std.proofs.lemmas.List.{get_or-map, length-map, length-append}
+use Rattle.std.proofs.lemmas.List.{length-append}
 use Rattle.std.proofs.Math.Seq.{take-length}
 use Rattle.std.proofs.lemmas.List.Sums.{sum_by-cons}
-use Rattle.jxlm_base.specs.Decoding.{Found, Taken, Meaning}
-use Rattle.jxlm_base.specs.Grid.{Grid, grid, cell, with_cell, IsFull}
-use Rattle.jxlm_base.specs.Regions.{region, grid_of, store_meanings, with_region_cell, Lies, AllLie, LieApart, HasCell, buffer_of}
+use Rattle.jxlm_base.specs.Decoding.{Taken, Meaning}
+use Rattle.jxlm_base.specs.Grid.{Grid, with_cell}
+use Rattle.jxlm_base.specs.Regions.{region, grid_of, store_meanings, with_region_cell, Lies, AllLie, LieApart, HasCell}
 use Rattle.jxlm_base.specs.declared.decoder.DecoderError.{DecoderError}
 use Rattle.jxlm_base.specs.declared.subgrid.Region.{Region}
 use Rattle.jxlm_base.proofs.Regions.{grids_of_written, with_region_cell-meanings, AllLie-meanings, width_after, height_after, full_after, length-with_region_cell, buffer_cell_other, HasCell_at, IsFull-grid_of}
 use Rattle.jxl_modular.specs.Coded.{part_rule}
 use Rattle.jxl_modular.specs.Part.{Part, Channel, size, channel, cell_count, cells_before, cells_of, Fits, grid as grid_at}
-use Rattle.jxl_modular.specs.Progress.{Reached, Stopped, SameSizes, place_of, cells_ahead, grids_in, GoesOn, Stops, KeepsOutside, buffer_at}
+use Rattle.jxl_modular.specs.Progress.{Reached, Stopped, SameSizes, place_of, cells_ahead, grids_in, GoesOn, Stops, KeepsOutside}
 use Rattle.jxl_modular.specs.Reading.{ReadsCell, RefusesCell, region_at}
-use Rattle.jxl_modular.proofs.Places.{before_suc, split}
+use Rattle.jxl_modular.proofs.Places.{before_suc}
 use Rattle.jxl_modular.proofs.Progress.{reached_more, with_cell_of, stands_within}
 
 -- sizes of regions and channels

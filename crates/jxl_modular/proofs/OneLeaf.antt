@@ -1,9 +1,9 @@
 -- The rule of a part whose tree is one leaf.
-use Rattle.std.proofs.Common.{◌≡◌, ℕ, zero, suc, ◌+◌, ◌-◌, ◌*◌, ◌/◌, ◌%◌, ◌<◌, ◌≤◌, List, [], ◌∷◌, length, take, Some, Ok, Err, refl, sym, ap, ◌∙◌, arith, ℤ, pos, get_or}
+use Rattle.std.proofs.Common.{◌≡◌, ℕ, zero, suc, ◌+◌, ◌*◌, ◌/◌, ◌%◌, ◌<◌, ◌≤◌, List, length, take, Some, Ok, Err, refl, sym, ap, ◌∙◌, arith, ℤ, pos, get_or}
 use Rattle.std.specs.Int.{Width, w32, int_wrap}
 use Rattle.std.proofs.lemmas.List.{get_or-take, length-take-le}
 use Rattle.std.proofs.lemmas.Nat.{mod-mul-add, div-mul-add, mul-add-lt}
-use Rattle.jxlm_base.specs.Decoding.{Taken, Meaning}
+use Rattle.jxlm_base.specs.Decoding.{Meaning}
 use Rattle.jxlm_base.specs.Grid.{Grid}
 use Rattle.jxlm_base.specs.Regions.{grid_of, store_meanings, with_region_cell}
 use Rattle.jxlm_base.specs.declared.decoder.DecoderError.{DecoderError}
@@ -23,7 +23,7 @@ use Rattle.jxl_modular.specs.Reading.{prediction_at, region_at, part_of, IsCodin
 use Rattle.jxl_modular.specs.declared.decode.PartCoding.{PartCoding}
 use Rattle.jxl_modular.specs.Part.{Part, Channel, size, channel, cells_before, cells_of, Fits, grid, next_channel, samples_of, next_leaf, surroundings, greatest_width}
 use Rattle.jxl_modular.proofs.Loops.{fits_in, grid_in, is_place, same_size}
-use Rattle.jxl_modular.proofs.Places.{Split, split, each_sees_before}
+use Rattle.jxl_modular.proofs.Places.{split, each_sees_before}
 
 -- what stands before a place is so in the cells before it too
 before_place : (cells : List ℤ) (width x y i : ℕ) → i < y * width + x → get_or (take (y * width + x) cells) i (pos 0) ≡ get_or cells i (pos 0)

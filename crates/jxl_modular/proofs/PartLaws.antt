@@ -1,24 +1,23 @@
 -- The part of all coded channels of an image.
-use Rattle.std.proofs.Common.{◌≡◌, ◌≢◌, ℕ, zero, suc, ◌+◌, ◌<◌, List, [], ◌∷◌, ◌++◌, length, take, drop, Bool, refl, sym, ap, ◌∙◌, subst, arith, ℤ}
-use Rattle.std.specs.Prelude.{get_or}
+use Rattle.std.proofs.Common.{◌≡◌, ◌≢◌, ℕ, zero, suc, ◌<◌, List, [], ◌∷◌, ◌++◌, length, take, drop, Bool, refl, sym, ap, ◌∙◌, subst, arith, ℤ}
 use Rattle.std.proofs.Math.Seq.{take-append_seam}
 use Rattle.std.specs.Int.{Width}
 use Rattle.jxlm_base.specs.Decoding.{Meaning}
-use Rattle.jxlm_base.specs.Grid.{Grid, grid, IsFull}
+use Rattle.jxlm_base.specs.Grid.{Grid, IsFull}
 use Rattle.jxlm_base.specs.Regions.{store_meanings, AllLie, LieApart}
 use Rattle.jxlm_base.specs.declared.decoder.DecoderError.{DecoderError}
 use Rattle.jxlm_base.specs.declared.decoder.DecoderError.TheVariants.{UnexpectedEof, Invalid, OutOfMemory}
 use Rattle.jxlm_base.specs.declared.subgrid.Region.{Region}
 use Rattle.jxlm_tree.specs.Tree.{leaf}
 use Rattle.jxlm_tree.specs.TreeReading.{IsLeafOf}
-use Rattle.std.proofs.Common.{inl, inr, Ok, Err, false}
+use Rattle.std.proofs.Common.{inl, Ok, Err, false}
 use Rattle.jxlm_base.specs.declared.error.Error.TheVariants.{Decoder}
 use Rattle.jxl_modular.specs.Chain.{IsOnlyImage, transforms_of}
 use Rattle.jxl_modular.specs.Coded.{IfSome}
-use Rattle.jxl_modular.specs.Decode.{Standing, DecodeAnswers, IsWhole}
+use Rattle.jxl_modular.specs.Decode.{Standing, DecodeAnswers}
 use Rattle.jxl_modular.specs.Image.{Image, IsLaidOut, coded_grids, whole_part, samples_in}
-use Rattle.jxl_modular.specs.Layout.{channels_of, layout}
-use Rattle.jxl_modular.specs.Part.{Channel, Part, Fits, greatest_width, cell_count}
+use Rattle.jxl_modular.specs.Layout.{channels_of}
+use Rattle.jxl_modular.specs.Part.{Channel, Part, Fits, greatest_width}
 use Rattle.jxl_modular.specs.Progress.{SameSizes, grids_in, DecodesAll, DecodesSome, KeepsOutside, buffer_at}
 use Rattle.jxl_modular.specs.Reading.{part_of, IsCodingOf}
 use Rattle.jxl_modular.specs.Samples.{DecodesSamples, FailsAtOnePlace, RefusesSamples}

@@ -1,12 +1,12 @@
 -- A part from its beginning to its end.
-use Rattle.std.proofs.Common.{◌≡◌, ℕ, zero, suc, ◌+◌, ◌<◌, List, length, take, drop, Bool, Result, Ok, Err, refl, sym, ap, ◌∙◌, subst, arith, ℤ, inl, inr}
+use Rattle.std.proofs.Common.{◌≡◌, ℕ, suc, List, Ok, Err, refl, ℤ, inl, inr}
 use Rattle.std.specs.Int.{Width}
 use Rattle.jxlm_base.specs.Decoding.{Found, Meaning}
 use Rattle.jxlm_base.specs.Grid.{Grid}
 use Rattle.jxlm_base.specs.declared.decoder.DecoderError.{DecoderError}
 use Rattle.jxlm_base.specs.declared.subgrid.Region.{Region}
-use Rattle.jxl_modular.specs.Part.{Part, cell_count, cells_of, Fits}
-use Rattle.jxl_modular.specs.Progress.{Reached, Stopped, SameSizes, grids_in, GoesOn, Stops, DecodesAll, DecodesSome}
+use Rattle.jxl_modular.specs.Part.{Part, cell_count}
+use Rattle.jxl_modular.specs.Progress.{Reached, SameSizes, grids_in, GoesOn, Stops, DecodesAll, DecodesSome}
 use Rattle.jxl_modular.proofs.Loops.{fits_in}
 
 module _ {S : Type 0} (d : Meaning S) (w : Width) (part : Part) (bytes : List ℕ) (regions : List Region) (decoder : S) (old : List (Grid ℤ)) (p : ℕ) where

@@ -1,4 +1,4 @@
-use Rattle.std.proofs.Common.{rules, ◌+◌, refl, sym, ap, ◌∙◌, ◌≡◌, ◌≤◌, arith, subst, length}
+use Rattle.std.proofs.Common.{rules, ◌+◌, refl, ap, ◌∙◌, ◌≡◌, arith, length}
 use Rattle.jxlm_base.specs.Bits.{bytes_of, position_of}
 use Rattle.jxlm_base.specs.Regions.{store_meanings}
 use Rattle.jxl_modular.specs.Part.{cells_before, cell_count}

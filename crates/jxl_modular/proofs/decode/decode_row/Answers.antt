@@ -1,9 +1,9 @@
-use Rattle.std.proofs.Common.{rules, ◌+◌, refl, sym, ap, ◌∙◌, ◌≡◌, ◌≤◌, arith, subst}
+use Rattle.std.proofs.Common.{rules, ◌+◌, refl, sym, ap, ◌∙◌, ◌≡◌, arith, subst}
 use Rattle.std.proofs.lemmas.Result.{err_from_is_err_and}
 use Rattle.jxlm_base.specs.Bits.{bytes_of, position_of}
 use Rattle.jxlm_base.specs.Regions.{store_meanings, AllLie}
 use Rattle.jxl_modular.specs.Progress.{place_of, KeepsOutside}
-use Rattle.jxl_modular.specs.Reading.{part_of, region_at, ReadsCell}
+use Rattle.jxl_modular.specs.Reading.{part_of, region_at}
 use Rattle.jxl_modular.proofs.Loops.{cell_goes_on, cell_stops, goes_further, stops_further, goes_between, row_done, keeps_both, keeps_written, lie_still}
 use Rattle.jxl_modular.proofs.decode.decode_row.Goals as goal
 

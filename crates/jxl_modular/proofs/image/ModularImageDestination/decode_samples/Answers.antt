@@ -1,14 +1,11 @@
-use Rattle.std.proofs.Common.{◌≡◌, ◌++◌, List, length, take, drop, sym, ap, ◌∙◌, subst, refl}
+use Rattle.std.proofs.Common.{◌≡◌, ◌++◌, length, take, drop, sym, ap, ◌∙◌, refl}
 use Rattle.std.proofs.lemmas.Result.{err_from_is_err_and}
 use Rattle.jxlm_base.specs.Bits.{bytes_of, position_of}
-use Rattle.jxlm_base.specs.Grid.{Grid}
-use Rattle.jxlm_base.specs.Regions.{store_meanings, AllLie, LieApart}
 use Rattle.jxl_modular.specs.Image.{Image}
 use Rattle.jxl_modular.specs.Layout.{channels_of}
-use Rattle.jxl_modular.specs.Part.{Fits, greatest_width}
-use Rattle.jxl_modular.specs.Progress.{KeepsOutside}
+use Rattle.jxl_modular.specs.Part.{greatest_width}
 use Rattle.jxl_modular.specs.declared.decode.PartCoding.{PartCoding}
-use Rattle.jxl_modular.proofs.PartLaws.{coded_lie, coded_apart, fits_kept, refilled, with_store, part_is, is_coding, decodes_samples, refuses_samples}
+use Rattle.jxl_modular.proofs.PartLaws.{coded_lie, coded_apart, fits_kept, refilled, part_is, is_coding, decodes_samples, refuses_samples}
 use Rattle.jxl_modular.proofs.image.ModularImageDestination.decode_samples.Goals as goal
 
 pub decode_part-requires-clause-lie : goal.decode_part-requires-clause-lie
