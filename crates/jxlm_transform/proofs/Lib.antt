@@ -1,3 +1,13 @@
+mod ChannelExamples
+pub mod CodedLists
+pub mod DefaultSteps
+pub mod FieldRanges
+pub mod Halvings
 pub mod ImageChannels
 pub mod Powers
+pub mod Refusals
+pub mod RepeatedLoop
 pub mod ShiftBounds
+mod TransformExamples
+pub mod TransformLaws
+pub mod Views
