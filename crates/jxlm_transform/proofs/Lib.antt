@@ -5,3 +5,4 @@ pub mod Refusals
 pub mod RepeatedLoop
 pub mod ShiftBounds
 pub mod TransformLaws
+pub mod Views

@@ -7,6 +7,8 @@ ghost use Rattle.jxlm_base.specs.Grammar.{Answers, FitsU32, IsExact, Reads, numb
 ghost use Rattle.jxlm_tree.specs.WeightsHeader.{AnswersExactly};
 ghost use Rattle.jxlm_transform.specs.Transforms.{transform_of, begin_channel as the_begin_channel, rct, predictor, weights_for, palette, squeeze_params, squeeze, transform, least_of, greatest_of, IsRct, IsPalette, IsSqueezeParams, IsSqueeze, IsTransform, IsPaletteTransform, IsSqueezeTransform};
 
+mod steps;
+
 use jxlm_base::bits::{Bitstream, BitstreamError, U32Spec};
 use jxlm_base::error::{Error, Result};
 use jxlm_base::grid::OutOfMemory;

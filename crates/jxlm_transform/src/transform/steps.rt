@@ -1,0 +1,251 @@
+//! What transforms do to the list of an image's channels.
+
+ghost use Rattle.std.specs.Prelude.{◌≡◌, ◌≤◌, ◌<◌, ◌+◌, ◌++◌, ◌&&◌, ◌||◌, nat_le, nat_lt, not, length, map, take, drop, slice_range, IsTrue, IfOk, IfErr, Bool, true, Ok, Err};
+ghost use Rattle.std.specs.List.{All, list_all};
+ghost use Rattle.jxlm_base.specs.Fault.{NoMemory, UnlessMemory, fault_of};
+ghost use Rattle.jxlm_transform.specs.Channels.{HasItsMeta, channel_of, list_of};
+ghost use Rattle.jxlm_transform.specs.ChannelSteps.{ListIs, ListGives, range, has_range as the_has_range, has_size_of, one_size as the_one_size, keeps_meta as the_keeps_meta, rct_step, palette_step, can_be_squeezed, squeeze_range, squeeze_step, average_channel, residual_channel, with_halves as the_halves};
+
+use super::{Palette, Rct, SqueezeParams};
+use crate::channels::{ModularChannelInfo, ModularChannels};
+use jxlm_base::error::{Error, Result};
+use jxlm_base::grid::OutOfMemory;
+use std::alloc::Global;
+
+/// Whether a list of `len` channels has `count` of them from `begin` on.
+fn has_range(begin: usize, count: usize, len: usize) -> bool
+    ensures { result ≡ nat_le (begin + count) len }
+{
+    count <= len && begin <= len - count
+}
+
+/// Whether the others have the size of the first.
+fn are_of_size(first: &ModularChannelInfo, others: &[ModularChannelInfo]) -> bool
+    ensures { result ≡ list_all (λ c. has_size_of (channel_of first.now) (channel_of c)) others.now }
+{
+    others.iter().all(|channel| first.is_of_size(channel))
+}
+
+/// Whether the channels have one size.
+fn one_size(channels: &[ModularChannelInfo]) -> bool
+    ensures { result ≡ the_one_size (map channel_of channels.now) }
+{
+    match channels.split_first() {
+        Some((first, others)) => are_of_size(first, others),
+        None => true,
+    }
+}
+
+/// Whether the list has `count` channels from `begin` on, and they have one size.
+fn has_one_size(channels: &[ModularChannelInfo], begin: usize, count: usize) -> bool
+    ensures { result ≡ (the_has_range begin count (map channel_of channels.now) && the_one_size (range begin count (map channel_of channels.now))) }
+{
+    has_range(begin, count, channels.len()) && one_size(&channels[begin..begin + count])
+}
+
+/// Whether a range that begins among the meta channels ends there.
+fn keeps_meta(begin: usize, count: usize, nb_meta: usize) -> bool
+    ensures { result ≡ the_keeps_meta begin count nb_meta }
+{
+    begin >= nb_meta || has_range(begin, count, nb_meta)
+}
+
+/// Four lists, one behind the other.
+fn joined(
+    alloc: Global,
+    first: &[ModularChannelInfo],
+    second: &[ModularChannelInfo],
+    third: &[ModularChannelInfo],
+    fourth: &[ModularChannelInfo],
+) -> std::result::Result<Vec<ModularChannelInfo>, OutOfMemory>
+    ensures { IfOk result (λ v. v.items ≡ first.now ++ second.now ++ third.now ++ fourth.now) }
+{
+    let mut all = Vec::from_slice(alloc, first).map_err(|_| OutOfMemory)?;
+    all.extend_from_slice(second).map_err(|_| OutOfMemory)?;
+    all.extend_from_slice(third).map_err(|_| OutOfMemory)?;
+    all.extend_from_slice(fourth).map_err(|_| OutOfMemory)?;
+    Ok(all)
+}
+
+impl Rct {
+    /// Whether the transform suits the channels: three of them stand from its first on, of one size.
+    /// The list stays as it is.
+    ///
+    /// # Errors
+    ///
+    /// `InvalidRctParams` where they are not there, or differ in size.
+    pub fn transform_channel_info(&self, channels: &ModularChannels) -> Result<()>
+        ensures { ListIs (rct_step self.now (list_of channels.now)) result (list_of channels.now) }
+    {
+        if has_one_size(&channels.info, self.begin_c as usize, 3) {
+            Ok(())
+        } else {
+            Err(Error::InvalidRctParams)
+        }
+    }
+}
+
+impl Palette {
+    /// Puts the table first, and one channel of indices in the place of the range, which has a
+    /// channel at least. The table is a meta channel, and so are the indices of meta channels.
+    ///
+    /// # Errors
+    ///
+    /// `InvalidPaletteParams` where the range is not there, its channels differ in size, or it
+    /// begins among the meta channels and does not end there. Want of memory may be answered at any
+    /// time. After a refusal nothing is promised of the list.
+    pub fn transform_channel_info(
+        &self,
+        alloc: Global,
+        channels: &mut ModularChannels,
+    ) -> Result<()>
+        requires some_channels { 1 ≤ self.now.num_c }
+        requires meta { HasItsMeta (list_of channels.old) }
+        ensures gives { ListGives (palette_step self.now (list_of channels.old)) result (list_of channels.new) }
+        ensures meta { IfOk result (λ _. HasItsMeta (list_of channels.new)) }
+    {
+        let begin = self.begin_c as usize;
+        let count = self.num_c as usize;
+        let nb_meta = channels.nb_meta_channels;
+        if !has_one_size(&channels.info, begin, count) || !keeps_meta(begin, count, nb_meta) {
+            return Err(Error::InvalidPaletteParams);
+        }
+        let table = [ModularChannelInfo::table(self.nb_colours, self.num_c)];
+        let ahead = &channels.info[..begin + 1];
+        let behind = &channels.info[begin + count..];
+        let info = joined(alloc, &table, ahead, behind, &[])?;
+        channels.nb_meta_channels = if begin < nb_meta {
+            nb_meta + 2 - count
+        } else {
+            nb_meta + 1
+        };
+        channels.info = info;
+        Ok(())
+    }
+}
+
+/// The averages of channels that can be squeezed.
+fn averages(
+    alloc: Global,
+    channels: &[ModularChannelInfo],
+    horizontal: bool,
+) -> std::result::Result<Vec<ModularChannelInfo>, OutOfMemory>
+    requires { All (λ c. IsTrue (can_be_squeezed (channel_of c))) channels.now }
+    ensures { IfOk result (λ v. map channel_of v.items ≡ map (average_channel horizontal) (map channel_of channels.now)) }
+{
+    let mut halves = Vec::new(alloc);
+    for channel in channels {
+        halves.push(channel.average(horizontal)).map_err(|_| OutOfMemory)?;
+    }
+    Ok(halves)
+}
+
+/// Their residuals.
+fn residuals(
+    alloc: Global,
+    channels: &[ModularChannelInfo],
+    horizontal: bool,
+) -> std::result::Result<Vec<ModularChannelInfo>, OutOfMemory>
+    requires { All (λ c. IsTrue (can_be_squeezed (channel_of c))) channels.now }
+    ensures { IfOk result (λ v. map channel_of v.items ≡ map (residual_channel horizontal) (map channel_of channels.now)) }
+{
+    let mut halves = Vec::new(alloc);
+    for channel in channels {
+        halves.push(channel.residual(horizontal)).map_err(|_| OutOfMemory)?;
+    }
+    Ok(halves)
+}
+
+/// Whether each channel can be squeezed.
+fn can_all_be_squeezed(channels: &[ModularChannelInfo]) -> bool
+    ensures { result ≡ list_all (λ c. can_be_squeezed (channel_of c)) channels.now }
+{
+    channels.iter().all(|channel| channel.can_be_squeezed())
+}
+
+impl SqueezeParams {
+    /// Whether its range is there, and is squeezed in place and ends among the meta channels where
+    /// it begins there.
+    fn has_its_range(&self, channels: &ModularChannels) -> bool
+        ensures { result ≡ squeeze_range self.now (list_of channels.now) }
+    {
+        let nb_meta = channels.nb_meta_channels;
+        let of_image = self.begin_c >= nb_meta;
+        let of_meta = self.in_place && has_range(self.begin_c, self.num_c, nb_meta);
+        has_range(self.begin_c, self.num_c, channels.info.len()) && (of_image || of_meta)
+    }
+
+    /// Whether the step suits the channels.
+    fn suits(&self, channels: &ModularChannels) -> bool
+        ensures { result ≡ (squeeze_range self.now (list_of channels.now) && list_all can_be_squeezed (range self.now.begin_c self.now.num_c (list_of channels.now).channels)) }
+    {
+        self.has_its_range(channels)
+            && can_all_be_squeezed(&channels.info[self.begin_c..self.begin_c + self.num_c])
+    }
+
+    /// The list with averages in the place of the range, and residuals behind it or at the end.
+    fn arranged(
+        &self,
+        alloc: Global,
+        channels: &[ModularChannelInfo],
+        averages: &[ModularChannelInfo],
+        residuals: &[ModularChannelInfo],
+    ) -> std::result::Result<Vec<ModularChannelInfo>, OutOfMemory>
+        requires { self.now.begin_c + self.now.num_c ≤ length channels.now }
+        ensures { IfOk result (λ v. map channel_of v.items ≡ the_halves self.now (map channel_of averages.now) (map channel_of residuals.now) (map channel_of channels.now)) }
+    {
+        let ahead = &channels[..self.begin_c];
+        let behind = &channels[self.begin_c + self.num_c..];
+        if self.in_place {
+            joined(alloc, ahead, averages, residuals, behind)
+        } else {
+            joined(alloc, ahead, averages, behind, residuals)
+        }
+    }
+
+    /// The list after the step.
+    fn with_halves(
+        &self,
+        alloc: Global,
+        channels: &[ModularChannelInfo],
+    ) -> std::result::Result<Vec<ModularChannelInfo>, OutOfMemory>
+        requires range { self.now.begin_c + self.now.num_c ≤ length channels.now }
+        requires each { All (λ c. IsTrue (can_be_squeezed (channel_of c))) (range self.now.begin_c self.now.num_c channels.now) }
+        ensures { IfOk result (λ v. map channel_of v.items ≡ the_halves self.now (map (average_channel self.now.horizontal) (range self.now.begin_c self.now.num_c (map channel_of channels.now))) (map (residual_channel self.now.horizontal) (range self.now.begin_c self.now.num_c (map channel_of channels.now))) (map channel_of channels.now)) }
+    {
+        let range = &channels[self.begin_c..self.begin_c + self.num_c];
+        let averages = averages(alloc, range, self.horizontal)?;
+        let residuals = residuals(alloc, range, self.horizontal)?;
+        self.arranged(alloc, channels, &averages, &residuals)
+    }
+
+    /// Halves the channels of the range along one side. Averages stand in their place, residuals
+    /// right behind the range (`in_place`) or at the end of the list. The shift of that side grows
+    /// by one in both where it is 0 or more. What becomes of meta channels is a meta channel.
+    ///
+    /// # Errors
+    ///
+    /// `InvalidSqueezeParams` where the range is not there; where it begins among the meta channels
+    /// and does not end there, or is not squeezed in place; and where a channel of it has a side of
+    /// 0 or a shift above 30. Want of memory may be answered at any time. After a refusal nothing is
+    /// promised of the list.
+    pub fn transform_channel_info(
+        &self,
+        alloc: Global,
+        channels: &mut ModularChannels,
+    ) -> Result<()>
+        requires { HasItsMeta (list_of channels.old) }
+        ensures gives { ListGives (squeeze_step self.now (list_of channels.old)) result (list_of channels.new) }
+        ensures meta { IfOk result (λ _. HasItsMeta (list_of channels.new)) }
+    {
+        if !self.suits(channels) {
+            return Err(Error::InvalidSqueezeParams);
+        }
+        let info = self.with_halves(alloc, &channels.info)?;
+        if self.begin_c < channels.nb_meta_channels {
+            channels.nb_meta_channels += self.num_c;
+        }
+        channels.info = info;
+        Ok(())
+    }
+}
