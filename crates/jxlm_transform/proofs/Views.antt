@@ -1,8 +1,9 @@
 -- Lists of channels as a program keeps them, and as the definitions see them.
-use Rattle.std.proofs.Common.{◌≡◌, ℕ, ◌+◌, ◌-◌, List, [], ◌∷◌, ◌++◌, map, take, drop, Bool, true, false, IsTrue, Result, Ok, Err, IfOk, Vec, Global, refl, sym, ap, ◌∙◌, append_assoc}
+use Rattle.std.proofs.Common.{◌≡◌, ℕ, ◌+◌, ◌-◌, List, [], ◌∷◌, ◌++◌, map, take, drop, Bool, true, false, IsTrue, Result, Ok, Err, IfOk, Vec, Global, refl, sym, ap, ◌∙◌, append_assoc, length, arith}
 use Rattle.std.specs.Prelude.{nat_lt, ◌&&◌, if◌then◌else◌}
 use Rattle.std.specs.List.{list_all, All}
 use Rattle.std.proofs.lemmas.List.{take-map, drop-map, map-append, append-nil}
+use Rattle.std.proofs.lemmas.Grind.{common_steps}
 use Rattle.std.proofs.lemmas.List.Sums.{AllPass-from_list_all}
 use Rattle.std.proofs.lemmas.List.Folds.{list_all-map}
 use Rattle.jxlm_transform.specs.Channels.{Channel, ChannelList, channel_of}
@@ -15,6 +16,10 @@ module _ {X Y : Type 0} where
   -- a range of what is seen is what is seen of the range
   pub range-map : (f : X → Y) (begin n : ℕ) (xs : List X) → range begin n (map f xs) ≡ map f (range begin n xs)
   range-map f begin n xs = ap (take (begin + n - begin)) (drop-map f begin xs) ∙ take-map f (begin + n - begin) (drop begin xs)
+
+-- all that stands behind a place
+rest : (e : ℕ) (xs : List ModularChannelInfo) → take (length xs - e) (drop e xs) ≡ drop e xs
+rest e xs = grind (arith, common_steps)
 
 -- what is seen of four lists, one behind the other
 seen-joined : (a b c d : List ModularChannelInfo) → map channel_of (a ++ b ++ c ++ d) ≡ map channel_of a ++ map channel_of b ++ map channel_of c ++ map channel_of d
@@ -29,9 +34,9 @@ halves_inside t xs averages residuals A R inside a r =
 
 -- and the same of a call that made it
 pub call_inside : {E : Type 0} (t : SqueezeParams) (xs averages residuals : List ModularChannelInfo) (r : Result (Vec ModularChannelInfo Global) E) → t.in_place ≡ true →
-    IfOk r (λ v. v.items ≡ take t.begin_c xs ++ averages ++ residuals ++ drop (t.begin_c + t.num_c) xs) →
+    IfOk r (λ v. v.items ≡ take t.begin_c xs ++ averages ++ residuals ++ take (length xs - (t.begin_c + t.num_c)) (drop (t.begin_c + t.num_c) xs)) →
     IfOk r (λ v. map channel_of v.items ≡ with_halves t (map channel_of averages) (map channel_of residuals) (map channel_of xs))
-call_inside t xs averages residuals (Ok v) inside e = ap (map channel_of) e ∙ halves_inside t xs averages residuals (map channel_of averages) (map channel_of residuals) inside refl refl
+call_inside t xs averages residuals (Ok v) inside e = ap (map channel_of) (rw (rest (t.begin_c + t.num_c) xs) at e) ∙ halves_inside t xs averages residuals (map channel_of averages) (map channel_of residuals) inside refl refl
 call_inside t xs averages residuals (Err e) inside said = tt
 
 -- a list whose residuals stand at the end
@@ -43,18 +48,19 @@ halves_at_end t xs averages residuals A R outside a r =
 
 -- and the same of a call that made it
 pub call_at_end : {E : Type 0} (t : SqueezeParams) (xs averages residuals : List ModularChannelInfo) (r : Result (Vec ModularChannelInfo Global) E) → t.in_place ≡ false →
-    IfOk r (λ v. v.items ≡ take t.begin_c xs ++ averages ++ drop (t.begin_c + t.num_c) xs ++ residuals) →
+    IfOk r (λ v. v.items ≡ take t.begin_c xs ++ averages ++ take (length xs - (t.begin_c + t.num_c)) (drop (t.begin_c + t.num_c) xs) ++ residuals) →
     IfOk r (λ v. map channel_of v.items ≡ with_halves t (map channel_of averages) (map channel_of residuals) (map channel_of xs))
-call_at_end t xs averages residuals (Ok v) outside e = ap (map channel_of) e ∙ halves_at_end t xs averages residuals (map channel_of averages) (map channel_of residuals) outside refl refl
+call_at_end t xs averages residuals (Ok v) outside e = ap (map channel_of) (rw (rest (t.begin_c + t.num_c) xs) at e) ∙ halves_at_end t xs averages residuals (map channel_of averages) (map channel_of residuals) outside refl refl
 call_at_end t xs averages residuals (Err e) outside said = tt
 
 -- a list with a table ahead and the rest of a range left out
-pub with_table : (table : ModularChannelInfo) (colours rows begin n : ℕ) (xs : List ModularChannelInfo) → channel_of table ≡ table_channel colours rows →
-    map channel_of ((table ∷ []) ++ take (begin + 1) xs ++ drop (begin + n) xs ++ []) ≡ table_channel colours rows ∷ (take (begin + 1) (map channel_of xs) ++ drop (begin + n) (map channel_of xs))
-with_table table colours rows begin n xs t =
-    seen-joined (table ∷ []) (take (begin + 1) xs) (drop (begin + n) xs) [] ∙
+pub with_table : (table : ModularChannelInfo) (colours rows begin n : ℕ) (xs us vs ys : List ModularChannelInfo) → channel_of table ≡ table_channel colours rows → us ≡ xs → vs ≡ xs →
+    ys ≡ (table ∷ []) ++ take (begin + 1) us ++ take (length vs - (begin + n)) (drop (begin + n) vs) ++ [] →
+    map channel_of ys ≡ table_channel colours rows ∷ (take (begin + 1) (map channel_of xs) ++ drop (begin + n) (map channel_of xs))
+with_table table colours rows begin n xs us vs ys t same_us same_vs e =
+    rw (e, same_us, same_vs, rest (begin + n) xs) (seen-joined (table ∷ []) (take (begin + 1) xs) (drop (begin + n) xs) [] ∙
     rw (take-map channel_of (begin + 1) xs, drop-map channel_of (begin + n) xs, t)
-    (ap (λ (zs : List Channel). table_channel colours rows ∷ zs) (append-nil (map channel_of (take (begin + 1) xs) ++ map channel_of (drop (begin + n) xs))))
+    (ap (λ (zs : List Channel). table_channel colours rows ∷ zs) (append-nil (map channel_of (take (begin + 1) xs) ++ map channel_of (drop (begin + n) xs)))))
 
 -- all pass a test that passes on what is seen of them
 pub all_pass : (p : Channel → Bool) (xs : List ModularChannelInfo) → list_all p (map channel_of xs) ≡ true → All (λ c. IsTrue (p (channel_of c))) xs
