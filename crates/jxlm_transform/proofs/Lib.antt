@@ -1,4 +1,6 @@
+pub mod DefaultSteps
 pub mod FieldRanges
+pub mod Halvings
 pub mod ImageChannels
 pub mod Powers
 pub mod Refusals

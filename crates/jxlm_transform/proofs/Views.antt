@@ -18,7 +18,7 @@ module _ {X Y : Type 0} where
   range-map f begin n xs = ap (take (begin + n - begin)) (drop-map f begin xs) ∙ take-map f (begin + n - begin) (drop begin xs)
 
 -- all that stands behind a place
-rest : (e : ℕ) (xs : List ModularChannelInfo) → take (length xs - e) (drop e xs) ≡ drop e xs
+pub rest : (e : ℕ) (xs : List ModularChannelInfo) → take (length xs - e) (drop e xs) ≡ drop e xs
 rest e xs = grind (arith, common_steps)
 
 -- what is seen of four lists, one behind the other
@@ -78,6 +78,6 @@ pub call_halves : {E : Type 0} (t : SqueezeParams) (xs averages residuals us rs 
     map channel_of residuals ≡ map (residual_channel t.horizontal) (map channel_of (range t.begin_c t.num_c xs)) →
     IfOk r (λ v. map channel_of v.items ≡ with_halves t (map channel_of us) (map channel_of rs) (map channel_of xs)) →
     IfOk r (λ v. map channel_of v.items ≡ with_halves t (map (average_channel t.horizontal) (range t.begin_c t.num_c (map channel_of xs)))
-        (map (residual_channel t.horizontal) (range t.begin_c t.num_c (map channel_of xs))) (map channel_of xs))
+    (map (residual_channel t.horizontal) (range t.begin_c t.num_c (map channel_of xs))) (map channel_of xs))
 call_halves t xs averages residuals us rs (Ok v) same_us same_rs a r e = e ∙ rw (same_us, same_rs, a, r, range-map channel_of t.begin_c t.num_c xs) refl
 call_halves t xs averages residuals us rs (Err e) same_us same_rs a r said = tt

@@ -132,18 +132,23 @@ in_turn zero (suc b) step = step false ∷ in_turn zero b step
 in_turn (suc a) zero step = step true ∷ in_turn a zero step
 in_turn (suc a) (suc b) step = step true ∷ step false ∷ in_turn a b step
 
+-- a step of the default squeeze of the n channels from f on
+abbrev pub step_of_all : ℕ → ℕ → Bool → SqueezeParams
+step_of_all f n horizontal = record { horizontal = horizontal; in_place = true; begin_c = f; num_c = n }
+
 -- The default squeeze of the n channels from f on, the first of sides w and h: both ways in turn, the greater side first, until
 -- no side is above 8.
 abbrev pub default_of_all : ℕ → ℕ → ℕ → ℕ → List SqueezeParams
 default_of_all f n w h =
-    let step : Bool → SqueezeParams = λ horizontal. record { horizontal = horizontal; in_place = true; begin_c = f; num_c = n } in
-    if nat_le w h && nat_lt 8 h then step false ∷ in_turn (halvings w) (halvings (div_ceil h 2)) step else in_turn (halvings w) (halvings h) step
+    if nat_le w h && nat_lt 8 h then step_of_all f n false ∷ in_turn (halvings w) (halvings (div_ceil h 2)) (step_of_all f n) else in_turn (halvings w) (halvings h) (step_of_all f n)
+
+-- a step of the two channels behind channel f
+abbrev pub step_of_chroma : ℕ → Bool → SqueezeParams
+step_of_chroma f horizontal = record { horizontal = horizontal; in_place = false; begin_c = f + 1; num_c = 2 }
 
 -- ahead of it, the two channels behind the first are squeezed once both ways, where there are three or more and the first two have one size
 abbrev pub default_of_chroma : ℕ → List Channel → List SqueezeParams
-default_of_chroma f cs =
-    let step : Bool → SqueezeParams = λ horizontal. record { horizontal = horizontal; in_place = false; begin_c = f + 1; num_c = 2 } in
-    if nat_le 3 (length cs) && one_size (take 2 cs) then step true ∷ step false ∷ [] else []
+default_of_chroma f cs = if nat_le 3 (length cs) && one_size (take 2 cs) then step_of_chroma f true ∷ step_of_chroma f false ∷ [] else []
 
 -- the default squeeze of the channels that aren't meta
 abbrev pub default_squeeze : ℕ → List Channel → Result (List SqueezeParams) Fault
@@ -154,11 +159,6 @@ default_squeeze f (c ∷ cs) = Ok (default_of_chroma f (c ∷ cs) ++ default_of_
 abbrev pub steps_of_squeeze : List SqueezeParams → ChannelList → Result (List SqueezeParams) Fault
 steps_of_squeeze [] l = default_squeeze l.nb_meta (drop l.nb_meta l.channels)
 steps_of_squeeze (s ∷ ss) l = Ok (s ∷ ss)
-
--- the list after squeeze steps in order
-abbrev pub squeezed : List SqueezeParams → ChannelList → Result ChannelList Fault
-squeezed [] l = Ok l
-squeezed (s ∷ ss) l = squeeze_step s l >>= squeezed ss
 
 -- A transform is one or more steps, each with its effect on the list.
 pub data Step : Type 0 where
@@ -197,12 +197,6 @@ coded_list (t ∷ ts) l =
     coded_list ts m >>= λ rest.
     Ok (record { steps = steps ++ rest.steps; list = rest.list })
 
--- A transform that lists its steps: the default squeeze is replaced by its steps.
-abbrev pub resolved : Transform → ChannelList → Result Transform Fault
-resolved (OfRct t) l = Ok (OfRct t)
-resolved (OfPalette t) l = Ok (OfPalette t)
-resolved (OfSqueeze steps) l = steps_of_squeeze steps l >>= λ steps. Ok (OfSqueeze steps)
-
 -- the steps that a transform lists
 abbrev pub listed_steps : Transform → List Step
 listed_steps (OfRct t) = RctStep t ∷ []
@@ -219,6 +213,11 @@ ListIs step (Err e) l = step ≡ Err (fault_of e)
 abbrev pub ListGives : Result ChannelList Fault → Result (Unit {0}) Error → ChannelList → Type 0
 ListGives step (Ok u) l = step ≡ Ok l
 ListGives step (Err e) l = UnlessMemory (fault_of e) (step ≡ Err (fault_of e))
+
+-- What a call that lists the steps of a squeeze answered, and the steps behind it.
+abbrev pub StepsGive : Result (List SqueezeParams) Fault → Result (Unit {0}) Error → List SqueezeParams → Type 0
+StepsGive steps (Ok u) listed = steps ≡ Ok listed
+StepsGive steps (Err e) listed = UnlessMemory (fault_of e) (steps ≡ Err (fault_of e))
 
 -- What a call that applies a transform answered, the transform behind it, which then lists its steps, and the list behind it.
 abbrev pub TransformGives : Transform → ChannelList → Result (Unit {0}) Error → Transform → ChannelList → Type 0

@@ -159,7 +159,8 @@ impl ModularChannels {
     {
         let mut info = Vec::new(alloc);
         for channel in params {
-            info.push(ModularChannelInfo::new(channel)).map_err(|_| OutOfMemory)?;
+            info.push(ModularChannelInfo::new(channel))
+                .map_err(|_| OutOfMemory)?;
         }
         Ok(ModularChannels {
             info,

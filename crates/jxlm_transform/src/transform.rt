@@ -5,8 +5,9 @@ ghost use Rattle.std.specs.List.{All};
 ghost use Rattle.jxlm_base.specs.Bits.{bytes_of, position_of};
 ghost use Rattle.jxlm_base.specs.Grammar.{Answers, FitsU32, IsExact, Reads, number, repeated, u32 as the_u32};
 ghost use Rattle.jxlm_tree.specs.WeightsHeader.{AnswersExactly};
-ghost use Rattle.jxlm_transform.specs.Transforms.{transform_of, begin_channel as the_begin_channel, rct, predictor, weights_for, palette, squeeze_params, squeeze, transform, least_of, greatest_of, IsRct, IsPalette, IsSqueezeParams, IsSqueeze, IsTransform, IsPaletteTransform, IsSqueezeTransform};
+ghost use Rattle.jxlm_transform.specs.Transforms.{transform_of, begin_channel as the_begin_channel, rct, predictor, weights_for, palette, squeeze_params, squeeze, transform, least_of, greatest_of, IsRct, IsPalette, IsSqueezeParams, IsSqueeze, IsTransform, HasChannels, IsPaletteTransform, IsSqueezeTransform};
 
+mod default_squeeze;
 mod steps;
 
 use jxlm_base::bits::{Bitstream, BitstreamError, U32Spec};
@@ -274,6 +275,7 @@ impl TransformInfo {
     ) -> Result<TransformInfo>
         ensures gives { Answers transform_of result (position_of bits.new) ((transform wp_header.now).read (bytes_of bits.old) (position_of bits.old)) }
         ensures ranges { IfOk result (λ t. IsTransform (transform_of t)) }
+        ensures some_channels { IfOk result (λ t. HasChannels (transform_of t)) }
         ensures bytes { bytes_of bits.new ≡ bytes_of bits.old }
     {
         let kind = read_kind(bits)?;

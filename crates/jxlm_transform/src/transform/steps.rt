@@ -4,9 +4,10 @@ ghost use Rattle.std.specs.Prelude.{◌≡◌, ◌≤◌, ◌<◌, ◌+◌, ◌+
 ghost use Rattle.std.specs.List.{All, list_all};
 ghost use Rattle.jxlm_base.specs.Fault.{NoMemory, UnlessMemory, fault_of};
 ghost use Rattle.jxlm_transform.specs.Channels.{HasItsMeta, channel_of, list_of};
-ghost use Rattle.jxlm_transform.specs.ChannelSteps.{ListIs, ListGives, range, has_range as the_has_range, has_size_of, one_size as the_one_size, keeps_meta as the_keeps_meta, rct_step, palette_step, can_be_squeezed, squeeze_range, squeeze_step, average_channel, residual_channel, with_halves as the_halves};
+ghost use Rattle.jxlm_transform.specs.Transforms.{HasChannels, transform_of};
+ghost use Rattle.jxlm_transform.specs.ChannelSteps.{ListIs, ListGives, TransformGives, SqueezeStep, list_after_all, range, has_range as the_has_range, has_size_of, one_size as the_one_size, keeps_meta as the_keeps_meta, rct_step, palette_step, can_be_squeezed, squeeze_range, squeeze_step, average_channel, residual_channel, with_halves as the_halves};
 
-use super::{Palette, Rct, SqueezeParams};
+use super::{Palette, Rct, Squeeze, SqueezeParams, TransformInfo};
 use crate::channels::{ModularChannelInfo, ModularChannels};
 use jxlm_base::error::{Error, Result};
 use jxlm_base::grid::OutOfMemory;
@@ -20,7 +21,7 @@ fn has_range(begin: usize, count: usize, len: usize) -> bool
 }
 
 /// Whether the others have the size of the first.
-fn are_of_size(first: &ModularChannelInfo, others: &[ModularChannelInfo]) -> bool
+pub(super) fn are_of_size(first: &ModularChannelInfo, others: &[ModularChannelInfo]) -> bool
     ensures { result ≡ list_all (λ c. has_size_of (channel_of first.now) (channel_of c)) others.now }
 {
     others.iter().all(|channel| first.is_of_size(channel))
@@ -135,7 +136,9 @@ fn averages(
 {
     let mut halves = Vec::new(alloc);
     for channel in channels {
-        halves.push(channel.average(horizontal)).map_err(|_| OutOfMemory)?;
+        halves
+            .push(channel.average(horizontal))
+            .map_err(|_| OutOfMemory)?;
     }
     Ok(halves)
 }
@@ -151,7 +154,9 @@ fn residuals(
 {
     let mut halves = Vec::new(alloc);
     for channel in channels {
-        halves.push(channel.residual(horizontal)).map_err(|_| OutOfMemory)?;
+        halves
+            .push(channel.residual(horizontal))
+            .map_err(|_| OutOfMemory)?;
     }
     Ok(halves)
 }
@@ -247,5 +252,56 @@ impl SqueezeParams {
         }
         channels.info = info;
         Ok(())
+    }
+}
+
+impl Squeeze {
+    /// Applies the squeezes that are listed, in order: each as in
+    /// [`SqueezeParams::transform_channel_info`], up to the first that is refused.
+    pub fn transform_channel_info(
+        &self,
+        alloc: Global,
+        channels: &mut ModularChannels,
+    ) -> Result<()>
+        requires { HasItsMeta (list_of channels.old) }
+        ensures gives { ListGives (list_after_all (map SqueezeStep self.now.sp.items) (list_of channels.old)) result (list_of channels.new) }
+        ensures meta { IfOk result (λ _. HasItsMeta (list_of channels.new)) }
+    {
+        for step in &self.sp {
+            step.transform_channel_info(alloc, channels)?;
+        }
+        Ok(())
+    }
+}
+
+impl TransformInfo {
+    /// Applies the transform to the channels of an image. A palette has a channel at least. A
+    /// squeeze that lists no steps lists the default ones from then on, which are those of this
+    /// list.
+    ///
+    /// # Errors
+    ///
+    /// `InvalidRctParams`, `InvalidPaletteParams` or `InvalidSqueezeParams`, by its kind, where it
+    /// does not suit the channels; the default squeeze where no channel is left for it. Want of
+    /// memory may be answered at any time. After a refusal nothing is promised of the transform and
+    /// the list, but that they may be dropped.
+    pub fn prepare_transform_info(
+        &mut self,
+        alloc: Global,
+        channels: &mut ModularChannels,
+    ) -> Result<()>
+        requires some_channels { HasChannels (transform_of self.old) }
+        requires meta { HasItsMeta (list_of channels.old) }
+        ensures gives { TransformGives (transform_of self.old) (list_of channels.old) result (transform_of self.new) (list_of channels.new) }
+        ensures meta { IfOk result (λ _. HasItsMeta (list_of channels.new)) }
+    {
+        match self {
+            TransformInfo::Rct(rct) => rct.transform_channel_info(channels),
+            TransformInfo::Palette(palette) => palette.transform_channel_info(alloc, channels),
+            TransformInfo::Squeeze(squeeze) => {
+                squeeze.set_default_params(channels)?;
+                squeeze.transform_channel_info(alloc, channels)
+            }
+        }
     }
 }
