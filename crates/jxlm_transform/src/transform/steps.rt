@@ -305,3 +305,246 @@ impl TransformInfo {
         }
     }
 }
+
+#[cfg(test)]
+mod tests {
+    use super::*;
+    use crate::param::ModularChannelParams;
+    use jxlm_tree::predictor::Predictor;
+    use std::process::Abort;
+    use std::result::Result;
+    use std::test::Fail;
+
+    // The channels of an image of these sizes.
+    fn channels(alloc: Global, sizes: &[(u32, u32)]) -> Result<ModularChannels, Fail> {
+        let mut params = Vec::new(alloc);
+        for (width, height) in sizes {
+            params.push(ModularChannelParams::new(*width, *height))?;
+        }
+        Ok(ModularChannels::new(alloc, &params)?)
+    }
+
+    // Width, height and shifts of each channel.
+    fn assert_channels(rt: &impl Abort, list: &ModularChannels, expected: &[(u32, u32, i32, i32)]) {
+        assert_eq!(rt; list.info.len(), expected.len());
+        for (info, expected) in list.info.iter().zip(expected) {
+            assert_eq!(rt;
+                (info.width, info.height, info.hshift, info.vshift),
+                *expected
+            );
+        }
+    }
+
+    fn palette(begin_c: u32, num_c: u32, nb_colours: u32) -> Palette {
+        Palette {
+            begin_c,
+            num_c,
+            nb_colours,
+            nb_deltas: 0,
+            d_pred: Predictor::Zero,
+            wp_header: None,
+        }
+    }
+
+    fn step(horizontal: bool, in_place: bool, begin_c: usize, num_c: usize) -> SqueezeParams {
+        SqueezeParams {
+            horizontal,
+            in_place,
+            begin_c,
+            num_c,
+        }
+    }
+
+    #[test]
+    fn colour_needs_three_channels_of_one_size(rt: HostRuntime) -> Result<(), Fail> {
+        let refused = Some(Error::InvalidRctParams);
+        let colour = |begin_c| Rct {
+            begin_c,
+            rct_type: 6,
+        };
+        let two = channels(rt.alloc(), &[(2, 2), (2, 2)])?;
+        assert_eq!(rt; colour(0).transform_channel_info(&two).err(), refused);
+        let unlike = channels(rt.alloc(), &[(2, 2), (2, 2), (2, 1)])?;
+        assert_eq!(rt; colour(0).transform_channel_info(&unlike).err(), refused);
+        let mut four = channels(rt.alloc(), &[(9, 9), (2, 2), (2, 2), (2, 2)])?;
+        TransformInfo::Rct(colour(1)).prepare_transform_info(rt.alloc(), &mut four)?;
+        assert_channels(
+            &rt,
+            &four,
+            &[(9, 9, 0, 0), (2, 2, 0, 0), (2, 2, 0, 0), (2, 2, 0, 0)],
+        );
+        assert_eq!(rt; colour(2).transform_channel_info(&four).err(), refused);
+        Ok(())
+    }
+
+    // A table of three channels, a table over that table, and a squeeze of a table, whose shifts stay.
+    #[test]
+    fn tables_are_meta_channels(rt: HostRuntime) -> Result<(), Fail> {
+        let mut list = channels(rt.alloc(), &[(16, 16), (16, 16), (16, 16)])?;
+        TransformInfo::Palette(palette(0, 3, 5)).prepare_transform_info(rt.alloc(), &mut list)?;
+        assert_channels(&rt, &list, &[(5, 3, -1, -1), (16, 16, 0, 0)]);
+        assert_eq!(rt; list.nb_meta_channels, 1);
+        assert_eq!(rt; list.info[0].original_size(), (5, 3));
+        let refused = palette(0, 2, 7).transform_channel_info(rt.alloc(), &mut list);
+        assert_eq!(rt; refused.err(), Some(Error::InvalidPaletteParams));
+
+        step(true, true, 0, 1).transform_channel_info(rt.alloc(), &mut list)?;
+        assert_channels(
+            &rt,
+            &list,
+            &[(3, 3, -1, -1), (2, 3, -1, -1), (16, 16, 0, 0)],
+        );
+        assert_eq!(rt; list.nb_meta_channels, 2);
+        palette(0, 1, 7).transform_channel_info(rt.alloc(), &mut list)?;
+        assert_channels(
+            &rt,
+            &list,
+            &[
+                (7, 1, -1, -1),
+                (3, 3, -1, -1),
+                (2, 3, -1, -1),
+                (16, 16, 0, 0),
+            ],
+        );
+        assert_eq!(rt; list.nb_meta_channels, 3);
+        Ok(())
+    }
+
+    #[test]
+    fn residuals_in_place_and_at_the_end(rt: HostRuntime) -> Result<(), Fail> {
+        let mut list = channels(rt.alloc(), &[(5, 4), (7, 2), (3, 3)])?;
+        step(true, true, 0, 2).transform_channel_info(rt.alloc(), &mut list)?;
+        let expected = [
+            (3, 4, 1, 0),
+            (4, 2, 1, 0),
+            (2, 4, 1, 0),
+            (3, 2, 1, 0),
+            (3, 3, 0, 0),
+        ];
+        assert_channels(&rt, &list, &expected);
+        let mut list = channels(rt.alloc(), &[(5, 4), (7, 3), (3, 3)])?;
+        step(false, false, 0, 2).transform_channel_info(rt.alloc(), &mut list)?;
+        let expected = [
+            (5, 2, 0, 1),
+            (7, 2, 0, 1),
+            (3, 3, 0, 0),
+            (5, 2, 0, 1),
+            (7, 1, 0, 1),
+        ];
+        assert_channels(&rt, &list, &expected);
+        assert_eq!(rt; list.nb_meta_channels, 0);
+        Ok(())
+    }
+
+    // Whether a step suits one channel of 16 by 16 behind a table of 5 by 3.
+    fn refusal(rt: &HostRuntime, step: SqueezeParams) -> Result<Option<Error>, Fail> {
+        let mut list = channels(rt.alloc(), &[(16, 16), (16, 16), (16, 16)])?;
+        palette(0, 3, 5).transform_channel_info(rt.alloc(), &mut list)?;
+        Ok(step.transform_channel_info(rt.alloc(), &mut list).err())
+    }
+
+    #[test]
+    fn squeezes_that_do_not_suit(rt: HostRuntime) -> Result<(), Fail> {
+        let refused = Some(Error::InvalidSqueezeParams);
+        assert_eq!(rt; refusal(&rt, step(true, true, 1, 1))?, None);
+        assert_eq!(rt; refusal(&rt, step(true, true, 1, 2))?, refused);
+        assert_eq!(rt; refusal(&rt, step(true, true, usize::MAX, 2))?, refused);
+        assert_eq!(rt; refusal(&rt, step(true, true, 0, 2))?, refused);
+        assert_eq!(rt; refusal(&rt, step(true, false, 0, 1))?, refused);
+        let mut flat = channels(rt.alloc(), &[(0, 4)])?;
+        let answer = step(false, true, 0, 1).transform_channel_info(rt.alloc(), &mut flat);
+        assert_eq!(rt; answer.err(), refused);
+        Ok(())
+    }
+
+    // A side of one sample can be squeezed on, up to a shift of 31.
+    #[test]
+    fn shifts_grow_up_to_31(rt: HostRuntime) -> Result<(), Fail> {
+        let mut list = channels(rt.alloc(), &[(1 << 30, 1)])?;
+        for _ in 0..31 {
+            step(true, true, 0, 1).transform_channel_info(rt.alloc(), &mut list)?;
+        }
+        assert_eq!(rt; (list.info[0].width, list.info[0].hshift), (1, 31));
+        let answer = step(false, true, 0, 1).transform_channel_info(rt.alloc(), &mut list);
+        assert_eq!(rt; answer.err(), Some(Error::InvalidSqueezeParams));
+        Ok(())
+    }
+
+    // How many steps the default squeeze of an image of these sizes has; and it is applied.
+    fn squeeze(rt: &HostRuntime, list: &mut ModularChannels) -> Result<usize, Fail> {
+        let steps = Vec::new(rt.alloc());
+        let mut transform = TransformInfo::Squeeze(Squeeze { sp: steps });
+        transform.prepare_transform_info(rt.alloc(), list)?;
+        match transform {
+            TransformInfo::Squeeze(t) => Ok(t.sp.len()),
+            _ => Ok(0),
+        }
+    }
+
+    #[test]
+    fn default_squeezes(rt: HostRuntime) -> Result<(), Fail> {
+        let mut one = channels(rt.alloc(), &[(16, 16)])?;
+        assert_eq!(rt; squeeze(&rt, &mut one)?, 2);
+        assert_channels(&rt, &one, &[(8, 8, 1, 1), (8, 8, 1, 1), (16, 8, 0, 1)]);
+        let mut wide = channels(rt.alloc(), &[(33, 5)])?;
+        assert_eq!(rt; squeeze(&rt, &mut wide)?, 3);
+        assert_channels(
+            &rt,
+            &wide,
+            &[(5, 5, 3, 0), (4, 5, 3, 0), (8, 5, 2, 0), (16, 5, 1, 0)],
+        );
+        let mut small = channels(rt.alloc(), &[(8, 8)])?;
+        assert_eq!(rt; squeeze(&rt, &mut small)?, 0);
+        assert_channels(&rt, &small, &[(8, 8, 0, 0)]);
+        let mut three = channels(rt.alloc(), &[(16, 16), (16, 16), (16, 16)])?;
+        assert_eq!(rt; squeeze(&rt, &mut three)?, 4);
+        let expected = [
+            (8, 8, 1, 1),
+            (4, 4, 2, 2),
+            (4, 4, 2, 2),
+            (8, 8, 1, 1),
+            (4, 4, 2, 2),
+            (4, 4, 2, 2),
+            (16, 8, 0, 1),
+            (8, 4, 1, 2),
+            (8, 4, 1, 2),
+            (8, 16, 1, 0),
+            (8, 16, 1, 0),
+            (8, 8, 1, 1),
+            (8, 8, 1, 1),
+        ];
+        assert_channels(&rt, &three, &expected);
+        Ok(())
+    }
+
+    #[test]
+    fn the_default_squeeze_needs_a_channel(rt: HostRuntime) -> Result<(), Fail> {
+        let mut none = Squeeze {
+            sp: Vec::new(rt.alloc()),
+        };
+        let empty = channels(rt.alloc(), &[])?;
+        assert_eq!(rt;
+            none.set_default_params(&empty).err(),
+            Some(Error::InvalidSqueezeParams)
+        );
+        let mut listed = Squeeze {
+            sp: vec![in rt.alloc(); step(true, true, 0, 1)]?,
+        };
+        listed.set_default_params(&empty)?;
+        assert_eq!(rt; listed.sp.len(), 1);
+        let mut list = channels(rt.alloc(), &[(4, 1)])?;
+        listed.transform_channel_info(rt.alloc(), &mut list)?;
+        assert_channels(&rt, &list, &[(2, 1, 1, 0), (2, 1, 1, 0)]);
+        Ok(())
+    }
+
+    #[test]
+    fn what_a_channel_came_with(rt: HostRuntime) -> Result<(), Fail> {
+        let params = ModularChannelParams::with_shift(9, 4, crate::param::ChannelShift::Shifts(2));
+        let info = ModularChannelInfo::new(&params);
+        assert_eq!(rt; (info.width, info.height), (3, 1));
+        assert_eq!(rt; info.original_size(), (9, 4));
+        assert_eq!(rt; info.shift(), crate::param::ChannelShift::Shifts(2));
+        Ok(())
+    }
+}
