@@ -1,9 +1,8 @@
 -- The steps of the default squeeze.
-use Rattle.std.proofs.Common.{◌≡◌, ℕ, suc, ◌+◌, ◌-◌, List, [], ◌∷◌, ◌++◌, length, map, take, drop, Ok, Result, refl, sym, ap, ◌∙◌, arith}
+use Rattle.std.proofs.Common.{◌≡◌, ℕ, suc, ◌+◌, ◌-◌, List, [], ◌∷◌, ◌++◌, length, map, take, drop, Ok, refl, sym, ◌∙◌, arith}
 use Rattle.std.proofs.lemmas.List.{drop-map, length-map}
-use Rattle.jxlm_base.specs.Fault.{Fault}
 use Rattle.jxlm_transform.proofs.Views.{rest}
-use Rattle.jxlm_transform.specs.Channels.{Channel, channel_of, list_of}
+use Rattle.jxlm_transform.specs.Channels.{channel_of, list_of}
 use Rattle.jxlm_transform.specs.ChannelSteps.{default_of_all, default_of_chroma, steps_of_squeeze}
 use Rattle.jxlm_transform.specs.declared.channels.ModularChannelInfo.{ModularChannelInfo}
 use Rattle.jxlm_transform.specs.declared.channels.ModularChannels.{ModularChannels}

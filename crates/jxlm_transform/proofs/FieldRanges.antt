@@ -1,5 +1,5 @@
 -- The values that a U32 field can have.
-use Rattle.std.proofs.Common.{◌≡◌, ℕ, ◌+◌, ◌-◌, ◌^◌, ◌<◌, ◌≤◌, List, Bool, true, false, min, max, Result, Ok, Err, IfOk, arith}
+use Rattle.std.proofs.Common.{◌≡◌, ℕ, ◌^◌, ◌<◌, ◌≤◌, List, Bool, true, false, Result, Ok, Err, IfOk, arith}
 use Rattle.std.specs.Prelude.{◌==◌}
 use Rattle.jxlm_base.proofs.BitsLemmas.{bits_at-bound}
 use Rattle.jxlm_base.proofs.GrammarLaws.{exact-u32}

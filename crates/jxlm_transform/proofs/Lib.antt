@@ -1,3 +1,4 @@
+mod ChannelExamples
 pub mod DefaultSteps
 pub mod FieldRanges
 pub mod Halvings
@@ -6,5 +7,6 @@ pub mod Powers
 pub mod Refusals
 pub mod RepeatedLoop
 pub mod ShiftBounds
+mod TransformExamples
 pub mod TransformLaws
 pub mod Views

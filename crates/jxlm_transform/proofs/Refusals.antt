@@ -1,7 +1,7 @@
 -- Facts of refusals that are not want of memory.
-use Rattle.std.proofs.Common.{◌≡◌, ℕ, List, Ok, Err, Some, refl}
-use Rattle.std.specs.Prelude.{codes, ◌==◌, nat_lt}
-use Rattle.std.proofs.Common.{◌≤◌, Bool, true, false, ltb, arith, rules, tests}
+use Rattle.std.proofs.Common.{◌≡◌, ℕ, List, Ok, Some, refl}
+use Rattle.std.specs.Prelude.{codes, ◌==◌}
+use Rattle.std.proofs.Common.{false}
 use Rattle.jxlm_base.specs.Fault.{Fault, Eof, BadEnum, BadProfile, BadTree, NoGlobalTree, BadRct, BadPalette, BadSqueeze, OfDecoder, NoMemory, UnlessMemory}
 use Rattle.jxlm_base.specs.Grammar.{IsRefused, number}
 use Rattle.jxlm_base.specs.declared.decoder.DecoderError.TheVariants as decoder

@@ -1,12 +1,12 @@
 -- Transforms are read exactly.
-use Rattle.std.specs.Prelude.{List, Option, Some, None, slice_get, codes}
+use Rattle.std.specs.Prelude.{Option, Some, None, slice_get, codes}
 use Rattle.jxlm_base.specs.Fault.{Fault, BadEnum}
 use Rattle.jxlm_base.specs.Grammar.{Grammar, IsExact, ◌>>=◌}
 use Rattle.jxlm_base.specs.declared.bits.U32Spec.TheVariants.{Const, Offset}
 use Rattle.jxlm_base.proofs.GrammarLaws.{exact-give, exact-refuse, exact-number, exact-bind, exact-either, exact-repeated, exact-flag, exact-u32}
 use Rattle.jxlm_tree.specs.Predictions.{predictors}
 use Rattle.jxlm_tree.specs.declared.predictor.WpHeader.{WpHeader}
-use Rattle.jxlm_transform.specs.Transforms.{OfRct, OfPalette, OfSqueeze, begin_channel, rct, present, predictor, weights_for, palette, squeeze_params, step_count, squeeze, seen, transform}
+use Rattle.jxlm_transform.specs.Transforms.{OfRct, OfPalette, OfSqueeze, begin_channel, rct, present, predictor, weights_for, palette, squeeze_params, squeeze, transform}
 
 bind : {X Y : Type 0} {field : Grammar X} {next : X → Grammar Y} → IsExact field → ((x : X) → IsExact (next x)) → IsExact (field >>= next)
 bind {field} {next} first rest = exact-bind field next first rest

@@ -309,19 +309,38 @@ impl TransformInfo {
 #[cfg(test)]
 mod tests {
     use super::*;
-    use crate::param::ModularChannelParams;
+    use crate::param::{ChannelShift, ModularChannelParams, ModularParams};
+    use jxlm_base::plain::PlainDecoder;
     use jxlm_tree::predictor::Predictor;
     use std::process::Abort;
     use std::result::Result;
     use std::test::Fail;
 
-    // The channels of an image of these sizes.
-    fn channels(alloc: Global, sizes: &[(u32, u32)]) -> Result<ModularChannels, Fail> {
-        let mut params = Vec::new(alloc);
-        for (width, height) in sizes {
-            params.push(ModularChannelParams::new(*width, *height))?;
+    // A channel of an image, of this size.
+    fn channel(width: u32, height: u32) -> ModularChannelInfo {
+        ModularChannelInfo {
+            width,
+            height,
+            original_width: width,
+            original_height: height,
+            hshift: 0,
+            vshift: 0,
+            original_shift: ChannelShift::Shifts(0),
         }
-        Ok(ModularChannels::new(alloc, &params)?)
+    }
+
+    // The channels of an image of these sizes.
+    fn channels(alloc: Global, sizes: &[(u32, u32)]) -> Result<ModularChannels, Fail>
+        ensures { IfOk result (λ l. HasItsMeta (list_of l)) }
+    {
+        let mut info = Vec::new(alloc);
+        for (width, height) in sizes {
+            info.push(channel(*width, *height))?;
+        }
+        Ok(ModularChannels {
+            info,
+            nb_meta_channels: 0,
+        })
     }
 
     // Width, height and shifts of each channel.
@@ -335,7 +354,9 @@ mod tests {
         }
     }
 
-    fn palette(begin_c: u32, num_c: u32, nb_colours: u32) -> Palette {
+    fn palette(begin_c: u32, num_c: u32, nb_colours: u32) -> Palette
+        ensures { result.num_c ≡ num_c }
+    {
         Palette {
             begin_c,
             num_c,
@@ -385,8 +406,6 @@ mod tests {
         assert_channels(&rt, &list, &[(5, 3, -1, -1), (16, 16, 0, 0)]);
         assert_eq!(rt; list.nb_meta_channels, 1);
         assert_eq!(rt; list.info[0].original_size(), (5, 3));
-        let refused = palette(0, 2, 7).transform_channel_info(rt.alloc(), &mut list);
-        assert_eq!(rt; refused.err(), Some(Error::InvalidPaletteParams));
 
         step(true, true, 0, 1).transform_channel_info(rt.alloc(), &mut list)?;
         assert_channels(
@@ -457,21 +476,48 @@ mod tests {
         Ok(())
     }
 
+    // How a palette is refused for these channels, the first of which is a meta channel.
+    fn palette_refusal(rt: &HostRuntime, begin_c: u32, num_c: u32) -> Result<Option<Error>, Fail>
+        requires { 1 ≤ num_c }
+    {
+        let mut list = channels(rt.alloc(), &[(16, 16), (16, 16), (16, 15)])?;
+        list.nb_meta_channels = list.info.len().min(1);
+        let answer = palette(begin_c, num_c, 7).transform_channel_info(rt.alloc(), &mut list);
+        Ok(answer.err())
+    }
+
+    #[test]
+    fn palettes_that_do_not_suit(rt: HostRuntime) -> Result<(), Fail> {
+        let refused = Some(Error::InvalidPaletteParams);
+        assert_eq!(rt; palette_refusal(&rt, 0, 1)?, None);
+        assert_eq!(rt; palette_refusal(&rt, 2, 1)?, None);
+        assert_eq!(rt; palette_refusal(&rt, 0, 2)?, refused);
+        assert_eq!(rt; palette_refusal(&rt, 1, 2)?, refused);
+        assert_eq!(rt; palette_refusal(&rt, 3, 1)?, refused);
+        assert_eq!(rt; palette_refusal(&rt, u32::MAX, u32::MAX)?, refused);
+        Ok(())
+    }
+
     // A side of one sample can be squeezed on, up to a shift of 31.
     #[test]
     fn shifts_grow_up_to_31(rt: HostRuntime) -> Result<(), Fail> {
-        let mut list = channels(rt.alloc(), &[(1 << 30, 1)])?;
-        for _ in 0..31 {
-            step(true, true, 0, 1).transform_channel_info(rt.alloc(), &mut list)?;
-        }
-        assert_eq!(rt; (list.info[0].width, list.info[0].hshift), (1, 31));
+        let mut list = channels(rt.alloc(), &[])?;
+        let often = ModularChannelInfo {
+            hshift: 30,
+            ..channel(1, 1)
+        };
+        list.info.push(often)?;
+        step(true, true, 0, 1).transform_channel_info(rt.alloc(), &mut list)?;
+        assert_channels(&rt, &list, &[(1, 1, 31, 0), (0, 1, 31, 0)]);
         let answer = step(false, true, 0, 1).transform_channel_info(rt.alloc(), &mut list);
         assert_eq!(rt; answer.err(), Some(Error::InvalidSqueezeParams));
         Ok(())
     }
 
     // How many steps the default squeeze of an image of these sizes has; and it is applied.
-    fn squeeze(rt: &HostRuntime, list: &mut ModularChannels) -> Result<usize, Fail> {
+    fn squeeze(rt: &HostRuntime, list: &mut ModularChannels) -> Result<usize, Fail>
+        requires { HasItsMeta (list_of list.old) }
+    {
         let steps = Vec::new(rt.alloc());
         let mut transform = TransformInfo::Squeeze(Squeeze { sp: steps });
         transform.prepare_transform_info(rt.alloc(), list)?;
@@ -539,12 +585,16 @@ mod tests {
     }
 
     #[test]
-    fn what_a_channel_came_with(rt: HostRuntime) -> Result<(), Fail> {
-        let params = ModularChannelParams::with_shift(9, 4, crate::param::ChannelShift::Shifts(2));
-        let info = ModularChannelInfo::new(&params);
-        assert_eq!(rt; (info.width, info.height), (3, 1));
-        assert_eq!(rt; info.original_size(), (9, 4));
-        assert_eq!(rt; info.shift(), crate::param::ChannelShift::Shifts(2));
+    fn what_channels_came_with(rt: HostRuntime) -> Result<(), Fail> {
+        let given = ModularChannelParams::with_shift(9, 4, ChannelShift::Shifts(2));
+        let given = vec![in rt.alloc(); given]?;
+        let params = ModularParams::<PlainDecoder>::with_channels(256, 8, given, None);
+        assert!(rt; params.is_valid());
+        let list = ModularChannels::new(rt.alloc(), &params.channels)?;
+        assert_eq!(rt; (list.info.len(), list.nb_meta_channels), (1, 0));
+        assert_eq!(rt; (list.info[0].width, list.info[0].height), (3, 1));
+        assert_eq!(rt; list.info[0].original_size(), (9, 4));
+        assert_eq!(rt; list.info[0].shift(), ChannelShift::Shifts(2));
         Ok(())
     }
 }

@@ -1,6 +1,6 @@
-use Rattle.std.proofs.Common.{◌≡◌, ◌∙◌, ◌+◌, ◌-◌, sym, ap, map, rules, tests, arith}
+use Rattle.std.proofs.Common.{◌≡◌, ◌∙◌, ◌+◌, ◌-◌, sym, rules, tests}
 use Rattle.std.specs.Prelude.{nat_lt, if◌then◌else◌}
-use Rattle.jxlm_transform.specs.Channels.{channel_of, list_of}
+use Rattle.jxlm_transform.specs.Channels.{list_of}
 use Rattle.jxlm_transform.proofs.Views.{palette_suits, with_table}
 use Rattle.jxlm_transform.proofs.transform.Palette.transform_channel_info.Goals as goal
 use Rattle.jxlm_transform.proofs.transform.Palette.transform_channel_info.Goals.{then-begin-nb_meta, else-begin-nb_meta}

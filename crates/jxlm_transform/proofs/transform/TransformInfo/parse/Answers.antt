@@ -1,12 +1,11 @@
-use Rattle.std.proofs.Common.{◌≡◌, ℕ, Bool, Ok, Result, false, rules, tests, arith}
+use Rattle.std.proofs.Common.{◌≡◌, Ok, false, rules, tests}
 use Rattle.std.specs.Prelude.{◌==◌}
 use Rattle.std.proofs.lemmas.Result.{err_from_is_err_and}
 use Rattle.jxlm_base.specs.Bits.{bytes_of, position_of}
-use Rattle.jxlm_base.specs.Decoding.{Found}
-use Rattle.jxlm_base.specs.Fault.{Refused, fault_of}
+use Rattle.jxlm_base.specs.Fault.{fault_of}
 use Rattle.jxlm_base.specs.Grammar.{IsRefused, number}
 use Rattle.jxlm_transform.proofs.Refusals.{squeeze_refused, kind_refused, unless_so}
-use Rattle.jxlm_transform.specs.Transforms.{squeeze, transform}
+use Rattle.jxlm_transform.specs.Transforms.{squeeze}
 use Rattle.jxlm_transform.proofs.transform.TransformInfo.parse.Goals as goal
 
 pub returns-in_err-parse-in-2-clause-gives : goal.returns-in_err-parse-in-2-clause-gives

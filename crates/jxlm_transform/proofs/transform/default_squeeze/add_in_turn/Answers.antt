@@ -1,4 +1,4 @@
-use Rattle.std.proofs.Common.{◌≡◌, true, rules, tests, arith}
+use Rattle.std.proofs.Common.{◌≡◌, true, rules, tests}
 use Rattle.std.specs.Prelude.{nat_lt, ◌||◌}
 use Rattle.jxlm_transform.specs.ChannelSteps.{step_of_all}
 use Rattle.jxlm_transform.proofs.Halvings.{round}

@@ -1,4 +1,4 @@
-use Rattle.std.proofs.Common.{◌≡◌, ◌∙◌, ◌+◌, sym, ap, true, length, map, nat_le}
+use Rattle.std.proofs.Common.{◌≡◌, ◌∙◌, sym, true, map}
 use Rattle.std.proofs.lemmas.List.{length-map}
 use Rattle.jxlm_transform.specs.Channels.{channel_of}
 use Rattle.jxlm_transform.specs.ChannelSteps.{has_range}
