@@ -1,4 +1,5 @@
 mod ChannelExamples
+pub mod CodedLists
 pub mod DefaultSteps
 pub mod FieldRanges
 pub mod Halvings
