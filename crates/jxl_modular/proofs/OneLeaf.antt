@@ -1,10 +1,13 @@
 -- The rule of a part whose tree is one leaf.
-use Rattle.std.proofs.Common.{◌≡◌, ℕ, zero, suc, ◌+◌, ◌-◌, ◌*◌, ◌/◌, ◌%◌, ◌<◌, ◌≤◌, List, [], ◌∷◌, length, take, Some, refl, sym, ap, ◌∙◌, arith, ℤ, pos, get_or}
+use Rattle.std.proofs.Common.{◌≡◌, ℕ, zero, suc, ◌+◌, ◌*◌, ◌/◌, ◌%◌, ◌<◌, ◌≤◌, List, length, take, Some, Ok, Err, refl, sym, ap, ◌∙◌, arith, ℤ, pos, get_or}
 use Rattle.std.specs.Int.{Width, w32, int_wrap}
 use Rattle.std.proofs.lemmas.List.{get_or-take, length-take-le}
 use Rattle.std.proofs.lemmas.Nat.{mod-mul-add, div-mul-add, mul-add-lt}
-use Rattle.jxlm_base.specs.Decoding.{Taken, Meaning}
+use Rattle.jxlm_base.specs.Decoding.{Meaning}
 use Rattle.jxlm_base.specs.Grid.{Grid}
+use Rattle.jxlm_base.specs.Regions.{grid_of, store_meanings, with_region_cell}
+use Rattle.jxlm_base.specs.declared.decoder.DecoderError.{DecoderError}
+use Rattle.jxlm_base.specs.declared.subgrid.Region.{Region}
 use Rattle.jxlm_tree.specs.Neighbours.{Neighbours, neighbours, neighbours_at, column, row, west, north, north_west}
 use Rattle.jxlm_tree.specs.TreeReading.{IsOffered}
 use Rattle.jxlm_tree.specs.Predictions.{prediction, prediction_from, corrected}
@@ -15,9 +18,12 @@ use Rattle.jxlm_tree.specs.declared.predictor.Predictor.{Predictor}
 use Rattle.jxlm_tree.specs.declared.predictor.Predictor.TheVariants.{Zero, West, North, AvgWestAndNorth, Select, Gradient, SelfCorrecting, NorthEast, NorthWest, WestWest, AvgWestAndNorthWest, AvgNorthAndNorthWest, AvgNorthAndNorthEast, AvgAll}
 use Rattle.jxlm_tree.specs.declared.predictor.WpHeader.{WpHeader}
 use Rattle.jxl_modular.specs.Coded.{part_rule, sample_of, next_prediction}
-use Rattle.jxl_modular.specs.Reading.{prediction_at}
+use Rattle.jxl_modular.specs.Progress.{grids_in}
+use Rattle.jxl_modular.specs.Reading.{prediction_at, region_at, part_of, IsCodingOf, ahead, ReadsCell, RefusesCell}
+use Rattle.jxl_modular.specs.declared.decode.PartCoding.{PartCoding}
 use Rattle.jxl_modular.specs.Part.{Part, Channel, size, channel, cells_before, cells_of, Fits, grid, next_channel, samples_of, next_leaf, surroundings, greatest_width}
-use Rattle.jxl_modular.proofs.Places.{Split, split, each_sees_before}
+use Rattle.jxl_modular.proofs.Loops.{fits_in, grid_in, is_place, same_size}
+use Rattle.jxl_modular.proofs.Places.{split, each_sees_before}
 
 -- what stands before a place is so in the cells before it too
 before_place : (cells : List ℤ) (width x y i : ℕ) → i < y * width + x → get_or (take (y * width + x) cells) i (pos 0) ≡ get_or cells i (pos 0)
@@ -97,3 +103,30 @@ module _ {S : Type 0} (d : Meaning S) (w : Width) (part : Part) (bytes : List �
       ∙ ap (λ (n : ℕ). prediction (Some part.weights) (take j (grid grids i).cells) n l.predictor) wide
       ∙ predicted_before part.weights (grid grids i).cells c.width x y l.predictor o px long in
       ap (λ (k : Leaf). sample_of w k (next_prediction part before) token) (next_leaf_is before) ∙ ap (λ z. sample_of w l z token) predicted
+
+-- ---- one cell of a part whose tree is one leaf
+
+module _ {S X : Type 0} (d : Meaning S) (w : Width) (bytes : List ℕ) (c : PartCoding) (regions : List Region) (to_int : X → ℤ) (i x y : ℕ) (store : List (Grid X)) (s : S) (p : ℕ)
+    (coding : IsCodingOf c regions) where
+  -- what the rule reads is what is read from the leaf's cluster
+  read_of : (part_rule d w (part_of c) bytes).read (ahead d w (part_of c) bytes regions to_int i x y store s p) s p ≡ d.read s bytes p c.leaf.cluster c.widest
+  read_of = read_is d w (part_of c) bytes c.leaf refl (ahead d w (part_of c) bytes regions to_int i x y store s p) s p ∙ ap (d.read s bytes p c.leaf.cluster) (sym coding.widest)
+
+  pub refuses_cell : (new : List (Grid X)) (t : S) (q : ℕ) (e : DecoderError) → d.read s bytes p c.leaf.cluster c.widest ≡ Err e → new ≡ store → t ≡ s → q ≡ p →
+      RefusesCell d w (part_of c) bytes regions to_int i x y store s p new t q e
+  refuses_cell new t q e fault same_store same_state same_place = record { fault = read_of ∙ fault; store_is = same_store; state_is = same_state; place_is = same_place }
+
+  pub reads_cell : (from_int : ℤ → X) (new : List (Grid X)) (t : S) (q token : ℕ) → i < length regions → x < (region_at regions i).width → y < (region_at regions i).height →
+      d.read s bytes p c.leaf.cluster c.widest ≡ Ok (record { token = token; state = t; position = q }) →
+      new ≡ with_region_cell store (region_at regions i) x y (from_int (sample_of w c.leaf (prediction_at (grid_of (store_meanings to_int store) (region_at regions i)).cells (region_at regions i).width x y c.leaf.predictor) token)) →
+      ReadsCell d w (part_of c) bytes regions to_int i x y store s p from_int new t q
+  reads_cell from_int new t q token li px qy read written =
+      let ints : List (Grid ℤ) = store_meanings to_int store in
+      let reg : Region = region_at regions i in
+      let at = is_place (part_of c) regions coding.sizes i x y li px qy in
+      let wide = (same_size (part_of c).channels regions i coding.sizes li).0 in
+      let value : (part_rule d w (part_of c) bytes).value (ahead d w (part_of c) bytes regions to_int i x y store s p) token ≡ sample_of w c.leaf (prediction_at (grid_of ints reg).cells reg.width x y c.leaf.predictor) token =
+      value_is d w (part_of c) bytes c.leaf refl (grids_in regions ints) i x y token coding.offered (fits_in (part_of c).channels regions ints coding.sizes) at.there at.column at.row
+      ∙ ap (λ (g : Grid ℤ). sample_of w c.leaf (prediction_at g.cells (channel (part_of c).channels i).width x y c.leaf.predictor) token) (grid_in ints regions i li)
+      ∙ ap (λ n. sample_of w c.leaf (prediction_at (grid_of ints reg).cells n x y c.leaf.predictor) token) (sym wide) in
+      record { token = token; read = read_of ∙ read; written = written ∙ ap (λ z. with_region_cell store reg x y (from_int z)) (sym value) }

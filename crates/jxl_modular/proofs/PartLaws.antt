@@ -1,26 +1,27 @@
 -- The part of all coded channels of an image.
-use Rattle.std.proofs.Common.{◌≡◌, ◌≢◌, ℕ, zero, suc, ◌+◌, ◌<◌, List, [], ◌∷◌, ◌++◌, length, take, drop, Bool, refl, sym, ap, ◌∙◌, subst, arith, ℤ}
-use Rattle.std.specs.Prelude.{get_or}
+use Rattle.std.proofs.Common.{◌≡◌, ◌≢◌, ℕ, zero, suc, ◌<◌, List, [], ◌∷◌, ◌++◌, length, take, drop, Bool, refl, sym, ap, ◌∙◌, subst, arith, ℤ}
 use Rattle.std.proofs.Math.Seq.{take-append_seam}
 use Rattle.std.specs.Int.{Width}
 use Rattle.jxlm_base.specs.Decoding.{Meaning}
-use Rattle.jxlm_base.specs.Grid.{Grid, grid, IsFull}
+use Rattle.jxlm_base.specs.Grid.{Grid, IsFull}
 use Rattle.jxlm_base.specs.Regions.{store_meanings, AllLie, LieApart}
 use Rattle.jxlm_base.specs.declared.decoder.DecoderError.{DecoderError}
 use Rattle.jxlm_base.specs.declared.decoder.DecoderError.TheVariants.{UnexpectedEof, Invalid, OutOfMemory}
 use Rattle.jxlm_base.specs.declared.subgrid.Region.{Region}
 use Rattle.jxlm_tree.specs.Tree.{leaf}
-use Rattle.jxlm_tree.specs.declared.flat.Leaf.{Leaf}
-use Rattle.std.proofs.Common.{inl, inr, Ok, Err, false}
+use Rattle.jxlm_tree.specs.TreeReading.{IsLeafOf}
+use Rattle.std.proofs.Common.{inl, Ok, Err, false}
 use Rattle.jxlm_base.specs.declared.error.Error.TheVariants.{Decoder}
 use Rattle.jxl_modular.specs.Chain.{IsOnlyImage, transforms_of}
 use Rattle.jxl_modular.specs.Coded.{IfSome}
-use Rattle.jxl_modular.specs.Decode.{Standing, DecodeAnswers, IsWhole}
+use Rattle.jxl_modular.specs.Decode.{Standing, DecodeAnswers}
 use Rattle.jxl_modular.specs.Image.{Image, IsLaidOut, coded_grids, whole_part, samples_in}
-use Rattle.jxl_modular.specs.Layout.{channels_of, layout}
-use Rattle.jxl_modular.specs.Part.{Channel, Fits, greatest_width, cell_count}
-use Rattle.jxl_modular.specs.Progress.{SameSizes, Suits, grids_in, DecodesAll, DecodesSome, KeepsOutside, buffer_at}
+use Rattle.jxl_modular.specs.Layout.{channels_of}
+use Rattle.jxl_modular.specs.Part.{Channel, Part, Fits, greatest_width}
+use Rattle.jxl_modular.specs.Progress.{SameSizes, grids_in, DecodesAll, DecodesSome, KeepsOutside, buffer_at}
+use Rattle.jxl_modular.specs.Reading.{part_of, IsCodingOf}
 use Rattle.jxl_modular.specs.Samples.{DecodesSamples, FailsAtOnePlace, RefusesSamples}
+use Rattle.jxl_modular.specs.declared.decode.PartCoding.{PartCoding}
 use Rattle.jxl_modular.proofs.Layouts.{layout_lies, layout_apart, layout_grids, same_sizes, fits_meanings}
 
 module _ {S D : Type 0} (x : Image S D) (laid : IsLaidOut x) where
@@ -30,12 +31,8 @@ module _ {S D : Type 0} (x : Image S D) (laid : IsLaidOut x) where
   pub coded_apart : LieApart x.coded
   coded_apart = subst LieApart (sym laid.regions) (layout_apart (channels_of x.channels) x.store laid.sizes)
 
-  pub suits_whole : (stream m : ℕ) (l : Leaf) → x.config.tree ≡ leaf l → m ≡ greatest_width (channels_of x.channels) → Suits (whole_part x stream) x.coded l m
-  suits_whole stream m l is_leaf widest = record {
-    sizes = subst (SameSizes (channels_of x.channels)) (sym laid.regions) (same_sizes (channels_of x.channels) 0);
-    one_leaf = is_leaf;
-    widest = sym widest;
-  }
+  pub coded_sizes : SameSizes (channels_of x.channels) x.coded
+  coded_sizes = subst (SameSizes (channels_of x.channels)) (sym laid.regions) (same_sizes (channels_of x.channels) 0)
 
   -- the grids of the coded channels are those of the store
   pub coded_are_store : (f : S → ℤ) → coded_grids f x ≡ store_meanings f x.store
@@ -69,16 +66,28 @@ refilled n xs ys a b =
 abbrev pub with_store : {S D : Type 0} → Image S D → List (Grid S) → Image S D
 with_store x s = record x { store = s }
 
-module _ {S D : Type 0} (d : Meaning D) (w : Width) (to_int : S → ℤ) (bytes : List ℕ) (old : Image S D) (s : List (Grid S)) (p q m : ℕ) (l : Leaf)
-    (laid : IsLaidOut old) (is_leaf : old.config.tree ≡ leaf l) (widest : m ≡ greatest_width (channels_of old.channels)) where
-  pub decodes_samples : DecodesAll d w bytes l m old.coded old.config.decoder (store_meanings to_int old.store) p (store_meanings to_int s) q → DecodesSamples d w to_int bytes old p (with_store old s) q
-  decodes_samples all stream = all (whole_part old stream) (suits_whole old laid stream m l is_leaf widest) (coded_fit old laid to_int)
+module _ {S D : Type 0} (x : Image S D) (laid : IsLaidOut x) (c : PartCoding) (channels : c.channels.now ≡ x.channels) where
+  pub is_coding : (clusters : List ℕ) → c.widest ≡ greatest_width (channels_of c.channels.now) → IsLeafOf clusters c.leaf → IsCodingOf c x.coded
+  is_coding clusters widest of_leaf = record {
+    sizes = subst (λ cs. SameSizes (channels_of cs) x.coded) (sym channels) (coded_sizes x laid);
+    widest = widest;
+    offered = of_leaf.predictor;
+    multiplier = of_leaf.below;
+  }
 
-  fails_samples : (e : DecoderError) → DecodesSome d w bytes l m old.coded old.config.decoder (store_meanings to_int old.store) p (store_meanings to_int s) q e → FailsAtOnePlace d w to_int bytes old p (with_store old s) q e
-  fails_samples e some stream partial cells = some (whole_part old stream) partial (suits_whole old laid stream m l is_leaf widest) (coded_fit old laid to_int) cells
+  -- the part of all channels is the one that is coded so
+  pub part_is : c.weights ≡ x.header.wp_params → x.config.tree ≡ leaf c.leaf → part_of c ≡ whole_part x c.stream_index
+  part_is weights tree = rw (channels, weights, tree) refl
 
-  pub refuses_samples : (e : DecoderError) → e ≢ OutOfMemory → DecodesSome d w bytes l m old.coded old.config.decoder (store_meanings to_int old.store) p (store_meanings to_int s) q e →
-      RefusesSamples d w to_int bytes old p (with_store old s) q e
+module _ {S D : Type 0} (d : Meaning D) (w : Width) (to_int : S → ℤ) (bytes : List ℕ) (old : Image S D) (s : List (Grid S)) (p q : ℕ) (c : PartCoding) (is : part_of c ≡ whole_part old c.stream_index) where
+  pub decodes_samples : DecodesAll d w (part_of c) bytes old.coded old.config.decoder (store_meanings to_int old.store) p (store_meanings to_int s) q → DecodesSamples d w to_int bytes c.stream_index old p (with_store old s) q
+  decodes_samples all = subst (λ (part : Part). DecodesAll d w part bytes old.coded old.config.decoder (store_meanings to_int old.store) p (store_meanings to_int s) q) is all
+
+  fails_samples : (e : DecoderError) → DecodesSome d w (part_of c) bytes old.coded old.config.decoder (store_meanings to_int old.store) p (store_meanings to_int s) q e → FailsAtOnePlace d w to_int bytes c.stream_index old p (with_store old s) q e
+  fails_samples e some = subst (λ (part : Part). DecodesSome d w part bytes old.coded old.config.decoder (store_meanings to_int old.store) p (store_meanings to_int s) q e) is some
+
+  pub refuses_samples : (e : DecoderError) → e ≢ OutOfMemory → DecodesSome d w (part_of c) bytes old.coded old.config.decoder (store_meanings to_int old.store) p (store_meanings to_int s) q e →
+      RefusesSamples d w to_int bytes c.stream_index old p (with_store old s) q e
   refuses_samples UnexpectedEof ne some = fails_samples UnexpectedEof some
   refuses_samples (Invalid k) ne some = fails_samples (Invalid k) some
   refuses_samples OutOfMemory ne some = absurd (ne refl)
@@ -98,18 +107,17 @@ stands to_int x p partial = record { position = p; grids = coded_grids to_int x;
 
 module _ {S D : Type 0} (d : Meaning D) (w : Width) (to_int : S → ℤ) (bytes : List ℕ) (old : Image S D) (p : ℕ) (partial : Bool) (stream : ℕ) where
   -- the samples are coded to the end
-  pub answers_whole : (allow : Bool) (new : Image S D) (q : ℕ) → 0 < samples_in old → DecodesSamples d w to_int bytes old p new q →
+  pub answers_whole : (allow : Bool) (new : Image S D) (q : ℕ) → 0 < samples_in old → DecodesSamples d w to_int bytes stream old p new q →
       (tried : ℕ) × DecodeAnswers d w (whole_part old stream) bytes old.config.decoder (stands to_int old p partial) (stands to_int new q false) allow (Ok tt) tried
-  answers_whole allow new q cells all =
-      let a = all stream in (
-        samples_in old,
-        inl (record {
-          coded = some_of (samples_in old) _ (q ≡ p) cells a.0;
-          fits = a.1;
-          whole = refl;
-          tries = refl;
-        }),
-      )
+  answers_whole allow new q cells all = (
+    samples_in old,
+    inl (record {
+      coded = some_of (samples_in old) _ (q ≡ p) cells all.0;
+      fits = all.1;
+      whole = refl;
+      tries = refl;
+    }),
+  )
 
   -- there are no samples
   pub answers_empty : (allow : Bool) → IsLaidOut old → (0 < samples_in old → ⊥) →
@@ -125,10 +133,10 @@ module _ {S D : Type 0} (d : Meaning D) (w : Width) (to_int : S → ℤ) (bytes 
   )
 
   -- the decoder refuses
-  pub answers_fault : (allow : Bool) (e : DecoderError) (new : Image S D) (q : ℕ) → allow ≡ false → 0 < samples_in old → RefusesSamples d w to_int bytes old p new q e →
+  pub answers_fault : (allow : Bool) (e : DecoderError) (new : Image S D) (q : ℕ) → allow ≡ false → 0 < samples_in old → RefusesSamples d w to_int bytes stream old p new q e →
       (tried : ℕ) × DecodeAnswers d w (whole_part old stream) bytes old.config.decoder (stands to_int old p partial) (stands to_int new q partial) allow (Err (Decoder e)) tried
-  answers_fault allow UnexpectedEof new q denied cells fails = let f = fails stream partial cells in (f.0, (denied, f.1))
-  answers_fault allow (Invalid k) new q denied cells fails = let f = fails stream partial cells in (f.0, f.1)
+  answers_fault allow UnexpectedEof new q denied cells fails = let f = fails partial cells in (f.0, (denied, f.1))
+  answers_fault allow (Invalid k) new q denied cells fails = let f = fails partial cells in (f.0, f.1)
   answers_fault allow OutOfMemory new q denied cells same = (0, record { unchanged = rw (same.0, same.1) refl; tries = refl })
 
 -- without transforms the image is the coded grids

@@ -1,6 +1,6 @@
 -- A picture from its bits: reading, decoding and finishing put together.
-use Rattle.std.proofs.Common.{◌≡◌, ℕ, List, [], ◌∷◌, Some, None, Ok, Err, Bool, false, ◌⊎◌, inl, inr, refl, sym, ap, ◌∙◌, subst, ℤ}
-use Rattle.std.specs.Prelude.{Option, Result}
+use Rattle.std.proofs.Common.{◌≡◌, ℕ, List, [], ◌∷◌, Some, None, Ok, Err, Bool, false, inl, inr, refl, sym, subst, ℤ}
+use Rattle.std.specs.Prelude.{Option}
 use Rattle.std.specs.Int.{Width}
 use Rattle.jxlm_base.specs.Decoding.{Meaning}
 use Rattle.jxlm_base.specs.Fault.{Fault, Eof, BadEnum, BadProfile, BadTree, NoGlobalTree, BadRct, BadPalette, BadSqueeze, OfDecoder, NoMemory, UnlessMemory, fault_of}
@@ -10,7 +10,7 @@ use Rattle.jxlm_base.specs.declared.error.Error.TheVariants as error
 use Rattle.jxlm_transform.specs.declared.param.ModularChannelParams.{ModularChannelParams}
 use Rattle.jxlm_transform.specs.declared.param.ModularParams.{ModularParams}
 use Rattle.jxl_modular.specs.Decode.{Standing, DecodeAnswers}
-use Rattle.jxl_modular.specs.Image.{Image, coded_grids, whole_part}
+use Rattle.jxl_modular.specs.Image.{Image, whole_part}
 use Rattle.jxl_modular.specs.Parsing.{ParseGives, IsImageAt, image_of}
 use Rattle.jxl_modular.specs.Picture.{IsFilled, AreRefused, PictureGives}
 use Rattle.jxl_modular.specs.declared.root.Modular.{Modular}

@@ -1,5 +1,5 @@
 -- Where the coded channels of an image stand in its store. Without transforms each channel has a buffer of its own.
-use Rattle.std.specs.Prelude.{ℕ, suc, List, [], ◌∷◌, map, ℤ}
+use Rattle.std.specs.Prelude.{ℕ, suc, List, [], ◌∷◌, map}
 use Rattle.jxlm_base.specs.Regions.{region}
 use Rattle.jxlm_base.specs.declared.subgrid.Region.{Region}
 use Rattle.jxl_modular.specs.Part.{Channel}

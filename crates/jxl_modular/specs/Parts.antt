@@ -1,8 +1,6 @@
 -- A part of an image, and what a call on it leaves.
-use Rattle.std.specs.Prelude.{◌≡◌, ℕ, ℤ, List, Bool, Result}
-use Rattle.std.specs.Borrow.{Fml, RattleType, MutBor, RestsIfErr, GName}
-use Rattle.jxlm_base.specs.Grid.{Grid}
-use Rattle.jxlm_base.specs.Regions.{store_meanings}
+use Rattle.std.specs.Prelude.{ℕ, ℤ, Bool}
+use Rattle.std.specs.Borrow.{GName}
 use Rattle.jxl_modular.specs.Decode.{Standing}
 use Rattle.jxl_modular.specs.Image.{Image, coded_grids}
 use Rattle.jxl_modular.specs.declared.image.TransformedModularSubimage.{TransformedModularSubimage}

@@ -10,15 +10,14 @@ use Rattle.jxl_modular.specs.Image.{Image, coded_grids, whole_part, samples_in}
 use Rattle.jxl_modular.specs.Layout.{channels_of}
 use Rattle.jxl_modular.specs.Part.{Fits}
 
-module _ {S D : Type 0} (d : Meaning D) (w : Width) (to_int : S → ℤ) (bytes : List ℕ) (old : Image S D) (p : ℕ) (new : Image S D) (q : ℕ) where
-  -- the samples are coded to the end, whatever the stream index
+module _ {S D : Type 0} (d : Meaning D) (w : Width) (to_int : S → ℤ) (bytes : List ℕ) (stream : ℕ) (old : Image S D) (p : ℕ) (new : Image S D) (q : ℕ) where
+  -- the samples are coded to the end
   abbrev pub DecodesSamples : Type 0
-  DecodesSamples = (stream : ℕ) →
-      IsCodedToTheEnd d w (whole_part old stream) bytes old.config.decoder p (coded_grids to_int new) q × Fits (channels_of old.channels) (coded_grids to_int new)
+  DecodesSamples = IsCodedToTheEnd d w (whole_part old stream) bytes old.config.decoder p (coded_grids to_int new) q × Fits (channels_of old.channels) (coded_grids to_int new)
 
-  -- the decoder refuses at one of begin, a read, or the end, whatever the stream index
+  -- the decoder refuses at one of begin, a read, or the end
   abbrev pub FailsAtOnePlace : DecoderError → Type 0
-  FailsAtOnePlace e = (stream : ℕ) (partial : Bool) → 0 < samples_in old →
+  FailsAtOnePlace e = (partial : Bool) → 0 < samples_in old →
       (tried : ℕ) × Fails d w (whole_part old stream) bytes old.config.decoder (record { position = p; grids = coded_grids to_int old; partial = partial }) (record { position = q; grids = coded_grids to_int new; partial = partial }) e tried
 
   -- The decoder refuses; where there was no memory nothing changed.

@@ -1,24 +1,25 @@
 //! The loops that decode the samples of a part, in the order of its cells.
 
-ghost use Rattle.std.specs.Prelude.{◌≡◌, ℕ, ℤ, pos, ◌+ℤ◌, ◌*ℤ◌, ◌+◌, ◌*◌, ◌^◌, ◌<◌, ◌≤◌, List, Some, Ok, Err, OnOk, OnErr, IfErr, Contains, ◌≢◌, FitsSigned, get_or, length, slice_index_or};
+ghost use Rattle.std.specs.Prelude.{◌≡◌, ℕ, ℤ, pos, ◌+ℤ◌, ◌*ℤ◌, ◌+◌, ◌*◌, ◌^◌, ◌<◌, ◌≤◌, List, Some, Ok, Err, OnOk, OnErr, IfErr, ◌≢◌, FitsSigned, get_or, length, slice_index_or};
 ghost use Rattle.std.specs.Int.{w32, int_wrap};
 ghost use Rattle.jxlm_base.specs.Bits.{bytes_of, position_of};
 ghost use Rattle.jxlm_base.specs.Grid.{cell};
-ghost use Rattle.jxlm_base.specs.Regions.{Lies, AllLie, LieApart, grid_of, store_meanings, with_region_cell};
+ghost use Rattle.jxlm_base.specs.Regions.{Lies, AllLie, LieApart, grid_of, store_meanings};
 ghost use Rattle.jxlm_tree.specs.Neighbours as neighbours;
 ghost use Rattle.jxlm_tree.specs.TreeReading.{IsOffered};
 ghost use Rattle.jxlm_base.specs.Numbers.{unpack};
 ghost use Rattle.jxl_modular.specs.Part.{cells_before, cell_count};
 ghost use Rattle.jxl_modular.specs.Progress.{GoesOn, Stops, DecodesAll, DecodesSome, KeepsOutside, place_of};
-ghost use Rattle.jxl_modular.specs.Reading.{prediction_at, ReadsCell, region_at};
+ghost use Rattle.jxl_modular.specs.Reading.{FindsClusters, IsCodingOf, ReadsCell, RefusesCell, part_of, prediction_at, region_at};
 
+use crate::channels::ModularChannelInfo;
 use jxlm_base::bits::Bitstream;
 use jxlm_base::decoder::{Decoder, DecoderError};
 use jxlm_base::grid::{AlignedGrid, Region};
 use jxlm_base::region::{region_get, region_set};
 use jxlm_base::sample::{Sample, Sealed};
 use jxlm_tree::flat::Leaf;
-use jxlm_tree::predictor::Predictor;
+use jxlm_tree::predictor::{Predictor, WpHeader};
 
 /// The sample in column `x` of row `y` of a region.
 fn sample_at<S: Sample>(store: &[AlignedGrid<S>], region: Region, x: usize, y: usize) -> i32
@@ -110,29 +111,46 @@ fn sample_from<S: Sample>(token: u32, multiplier: u32, offset: i32, predicted: i
         .add(S::from_i32(predicted))
 }
 
-/// Reads the cell in column `x` of row `y` of a region.
+/// With what the samples of a part are coded.
+#[derive(Clone, Copy)]
+pub(crate) struct PartCoding<'a> {
+    /// Its channels, in order.
+    pub(crate) channels: &'a [ModularChannelInfo],
+    /// The weights of the self-correcting predictor.
+    pub(crate) weights: WpHeader,
+    /// The leaf that is the whole tree.
+    pub(crate) leaf: Leaf,
+    /// The index of its stream.
+    pub(crate) stream_index: u32,
+    /// The greatest width of its channels.
+    pub(crate) widest: u32,
+}
+
+/// Reads the cell in column `x` of row `y` of channel `i`.
 fn decode_cell<S: Sample, D: Decoder>(
     bits: &mut Bitstream<'_>,
     decoder: &mut D,
     store: &mut [AlignedGrid<S>],
-    region: Region,
-    leaf: Leaf,
-    multiplier: u32,
+    regions: &[Region],
+    coding: &PartCoding<'_>,
+    i: usize,
     x: usize,
     y: usize,
 ) -> Result<(), DecoderError>
-    requires lies { Lies region store.old }
-    requires column { x < region.width }
-    requires in_rows { y < region.height }
-    requires cluster { Contains (D.meaning.cluster_map decoder.old) leaf.cluster }
-    requires offered { IsOffered leaf.predictor }
-    requires multiplier { leaf.multiplier < 2 ^ 31 }
-    ensures ok { OnOk result (ReadsCell D.meaning S.width S.to_int S.from_int (bytes_of bits.old) leaf multiplier region x y store.old decoder.old (position_of bits.old) store.new decoder.new (position_of bits.new)) }
-    ensures err { IfErr result (λ e. (D.meaning.read decoder.old (bytes_of bits.old) (position_of bits.old) leaf.cluster multiplier ≡ Err e) × (store.new ≡ store.old) × (decoder.new ≡ decoder.old) × (position_of bits.new ≡ position_of bits.old)) }
+    requires lie { AllLie regions.now store.old }
+    requires channel { i < length regions.now }
+    requires column { x < (region_at regions.now i).width }
+    requires in_rows { y < (region_at regions.now i).height }
+    requires coding { IsCodingOf coding.now regions.now }
+    requires clusters { FindsClusters coding.now (D.meaning.cluster_map decoder.old) }
+    ensures ok { OnOk result (ReadsCell D.meaning S.width (part_of coding.now) (bytes_of bits.old) regions.now S.to_int i x y store.old decoder.old (position_of bits.old) S.from_int store.new decoder.new (position_of bits.new)) }
+    ensures err { IfErr result (λ e. RefusesCell D.meaning S.width (part_of coding.now) (bytes_of bits.old) regions.now S.to_int i x y store.old decoder.old (position_of bits.old) store.new decoder.new (position_of bits.new) e) }
+    ensures clusters { OnOk result (D.meaning.cluster_map decoder.new ≡ D.meaning.cluster_map decoder.old) }
     ensures memory { IfErr result (λ e. e ≢ DecoderError.OutOfMemory) }
     ensures bytes { bytes_of bits.new ≡ bytes_of bits.old }
 {
-    let token = decoder.read_varint_with_multiplier_clustered(bits, leaf.cluster, multiplier)?;
+    let (region, leaf) = (regions[i], coding.leaf);
+    let token = decoder.read_varint_with_multiplier_clustered(bits, leaf.cluster, coding.widest)?;
     let predicted = prediction(store, region, x, y, leaf.predictor);
     let sample = sample_from(token, leaf.multiplier, leaf.offset, predicted);
     region_set(store, region, x, y, sample);
@@ -145,8 +163,7 @@ fn decode_row<S: Sample, D: Decoder>(
     decoder: &mut D,
     store: &mut [AlignedGrid<S>],
     regions: &[Region],
-    leaf: Leaf,
-    multiplier: u32,
+    coding: &PartCoding<'_>,
     i: usize,
     y: usize,
 ) -> Result<(), DecoderError>
@@ -154,11 +171,10 @@ fn decode_row<S: Sample, D: Decoder>(
     requires apart { LieApart regions.now }
     requires channel { i < length regions.now }
     requires in_rows { y < (region_at regions.now i).height }
-    requires cluster { Contains (D.meaning.cluster_map decoder.old) leaf.cluster }
-    requires offered { IsOffered leaf.predictor }
-    requires multiplier { leaf.multiplier < 2 ^ 31 }
-    ensures ok { OnOk result (GoesOn D.meaning S.width (bytes_of bits.old) leaf multiplier regions.now (λ part. place_of part i 0 y) (λ part. place_of part i 0 (y + 1)) (store_meanings S.to_int store.old) decoder.old (position_of bits.old) (store_meanings S.to_int store.new) (position_of bits.new) decoder.new) }
-    ensures err { IfErr result (λ e. Stops D.meaning S.width (bytes_of bits.old) leaf multiplier regions.now (λ part. place_of part i 0 y) (λ part. place_of part i 0 (y + 1)) (store_meanings S.to_int store.old) decoder.old (position_of bits.old) (store_meanings S.to_int store.new) (position_of bits.new) e) }
+    requires coding { IsCodingOf coding.now regions.now }
+    requires clusters { FindsClusters coding.now (D.meaning.cluster_map decoder.old) }
+    ensures ok { OnOk result (GoesOn D.meaning S.width (part_of coding.now) (bytes_of bits.old) regions.now (place_of (part_of coding.now) i 0 y) (place_of (part_of coding.now) i 0 (y + 1)) (store_meanings S.to_int store.old) decoder.old (position_of bits.old) (store_meanings S.to_int store.new) decoder.new (position_of bits.new)) }
+    ensures err { IfErr result (λ e. Stops D.meaning S.width (part_of coding.now) (bytes_of bits.old) regions.now (place_of (part_of coding.now) i 0 y) (store_meanings S.to_int store.old) decoder.old (position_of bits.old) (store_meanings S.to_int store.new) (position_of bits.new) e) }
     ensures keeps { KeepsOutside regions.now store.old store.new }
     ensures clusters { OnOk result (D.meaning.cluster_map decoder.new ≡ D.meaning.cluster_map decoder.old) }
     ensures memory { IfErr result (λ e. e ≢ DecoderError.OutOfMemory) }
@@ -166,7 +182,7 @@ fn decode_row<S: Sample, D: Decoder>(
 {
     let region = regions[i];
     for x in 0..region.width {
-        decode_cell(bits, decoder, store, region, leaf, multiplier, x, y)?;
+        decode_cell(bits, decoder, store, regions, coding, i, x, y)?;
     }
     Ok(())
 }
@@ -177,18 +193,16 @@ fn decode_channel<S: Sample, D: Decoder>(
     decoder: &mut D,
     store: &mut [AlignedGrid<S>],
     regions: &[Region],
-    leaf: Leaf,
-    multiplier: u32,
+    coding: &PartCoding<'_>,
     i: usize,
 ) -> Result<(), DecoderError>
     requires lie { AllLie regions.now store.old }
     requires apart { LieApart regions.now }
     requires channel { i < length regions.now }
-    requires cluster { Contains (D.meaning.cluster_map decoder.old) leaf.cluster }
-    requires offered { IsOffered leaf.predictor }
-    requires multiplier { leaf.multiplier < 2 ^ 31 }
-    ensures ok { OnOk result (GoesOn D.meaning S.width (bytes_of bits.old) leaf multiplier regions.now (λ part. cells_before part.channels i) (λ part. cells_before part.channels (i + 1)) (store_meanings S.to_int store.old) decoder.old (position_of bits.old) (store_meanings S.to_int store.new) (position_of bits.new) decoder.new) }
-    ensures err { IfErr result (λ e. Stops D.meaning S.width (bytes_of bits.old) leaf multiplier regions.now (λ part. cells_before part.channels i) (λ part. cells_before part.channels (i + 1)) (store_meanings S.to_int store.old) decoder.old (position_of bits.old) (store_meanings S.to_int store.new) (position_of bits.new) e) }
+    requires coding { IsCodingOf coding.now regions.now }
+    requires clusters { FindsClusters coding.now (D.meaning.cluster_map decoder.old) }
+    ensures ok { OnOk result (GoesOn D.meaning S.width (part_of coding.now) (bytes_of bits.old) regions.now (cells_before (part_of coding.now).channels i) (cells_before (part_of coding.now).channels (i + 1)) (store_meanings S.to_int store.old) decoder.old (position_of bits.old) (store_meanings S.to_int store.new) decoder.new (position_of bits.new)) }
+    ensures err { IfErr result (λ e. Stops D.meaning S.width (part_of coding.now) (bytes_of bits.old) regions.now (cells_before (part_of coding.now).channels i) (store_meanings S.to_int store.old) decoder.old (position_of bits.old) (store_meanings S.to_int store.new) (position_of bits.new) e) }
     ensures keeps { KeepsOutside regions.now store.old store.new }
     ensures clusters { OnOk result (D.meaning.cluster_map decoder.new ≡ D.meaning.cluster_map decoder.old) }
     ensures memory { IfErr result (λ e. e ≢ DecoderError.OutOfMemory) }
@@ -199,7 +213,7 @@ fn decode_channel<S: Sample, D: Decoder>(
         return Ok(());
     }
     for y in 0..region.height {
-        decode_row(bits, decoder, store, regions, leaf, multiplier, i, y)?;
+        decode_row(bits, decoder, store, regions, coding, i, y)?;
     }
     Ok(())
 }
@@ -210,22 +224,20 @@ fn decode_channels<S: Sample, D: Decoder>(
     decoder: &mut D,
     store: &mut [AlignedGrid<S>],
     regions: &[Region],
-    leaf: Leaf,
-    multiplier: u32,
+    coding: &PartCoding<'_>,
 ) -> Result<(), DecoderError>
     requires lie { AllLie regions.now store.old }
     requires apart { LieApart regions.now }
-    requires cluster { Contains (D.meaning.cluster_map decoder.old) leaf.cluster }
-    requires offered { IsOffered leaf.predictor }
-    requires multiplier { leaf.multiplier < 2 ^ 31 }
-    ensures ok { OnOk result (GoesOn D.meaning S.width (bytes_of bits.old) leaf multiplier regions.now (λ part. 0) (λ part. cell_count part.channels) (store_meanings S.to_int store.old) decoder.old (position_of bits.old) (store_meanings S.to_int store.new) (position_of bits.new) decoder.new) }
-    ensures err { IfErr result (λ e. Stops D.meaning S.width (bytes_of bits.old) leaf multiplier regions.now (λ part. 0) (λ part. cell_count part.channels) (store_meanings S.to_int store.old) decoder.old (position_of bits.old) (store_meanings S.to_int store.new) (position_of bits.new) e) }
+    requires coding { IsCodingOf coding.now regions.now }
+    requires clusters { FindsClusters coding.now (D.meaning.cluster_map decoder.old) }
+    ensures ok { OnOk result (GoesOn D.meaning S.width (part_of coding.now) (bytes_of bits.old) regions.now 0 (cell_count (part_of coding.now).channels) (store_meanings S.to_int store.old) decoder.old (position_of bits.old) (store_meanings S.to_int store.new) decoder.new (position_of bits.new)) }
+    ensures err { IfErr result (λ e. Stops D.meaning S.width (part_of coding.now) (bytes_of bits.old) regions.now 0 (store_meanings S.to_int store.old) decoder.old (position_of bits.old) (store_meanings S.to_int store.new) (position_of bits.new) e) }
     ensures keeps { KeepsOutside regions.now store.old store.new }
     ensures memory { IfErr result (λ e. e ≢ DecoderError.OutOfMemory) }
     ensures bytes { bytes_of bits.new ≡ bytes_of bits.old }
 {
     for i in 0..regions.len() {
-        decode_channel(bits, decoder, store, regions, leaf, multiplier, i)?;
+        decode_channel(bits, decoder, store, regions, coding, i)?;
     }
     Ok(())
 }
@@ -239,22 +251,20 @@ pub(crate) fn decode_part<S: Sample, D: Decoder>(
     decoder: &mut D,
     store: &mut [AlignedGrid<S>],
     regions: &[Region],
-    leaf: Leaf,
-    multiplier: u32,
+    coding: &PartCoding<'_>,
 ) -> Result<(), DecoderError>
     requires lie { AllLie regions.now store.old }
     requires apart { LieApart regions.now }
-    requires cluster { Contains (D.meaning.cluster_map decoder.old) leaf.cluster }
-    requires offered { IsOffered leaf.predictor }
-    requires multiplier { leaf.multiplier < 2 ^ 31 }
-    ensures ok { OnOk result (DecodesAll D.meaning S.width (bytes_of bits.old) leaf multiplier regions.now decoder.old (store_meanings S.to_int store.old) (position_of bits.old) (store_meanings S.to_int store.new) (position_of bits.new)) }
-    ensures err { IfErr result (λ e. DecodesSome D.meaning S.width (bytes_of bits.old) leaf multiplier regions.now decoder.old (store_meanings S.to_int store.old) (position_of bits.old) (store_meanings S.to_int store.new) (position_of bits.new) e) }
+    requires coding { IsCodingOf coding.now regions.now }
+    requires clusters { FindsClusters coding.now (D.meaning.cluster_map decoder.old) }
+    ensures ok { OnOk result (DecodesAll D.meaning S.width (part_of coding.now) (bytes_of bits.old) regions.now decoder.old (store_meanings S.to_int store.old) (position_of bits.old) (store_meanings S.to_int store.new) (position_of bits.new)) }
+    ensures err { IfErr result (λ e. DecodesSome D.meaning S.width (part_of coding.now) (bytes_of bits.old) regions.now decoder.old (store_meanings S.to_int store.old) (position_of bits.old) (store_meanings S.to_int store.new) (position_of bits.new) e) }
     ensures keeps { KeepsOutside regions.now store.old store.new }
     ensures memory { IfErr result (λ e. e ≢ DecoderError.OutOfMemory) }
     ensures bytes { bytes_of bits.new ≡ bytes_of bits.old }
 {
     decoder.begin(bits)?;
-    decode_channels(bits, decoder, store, regions, leaf, multiplier)?;
+    decode_channels(bits, decoder, store, regions, coding)?;
     decoder.finalize()?;
     Ok(())
 }

@@ -1,4 +1,4 @@
-use Rattle.std.proofs.Common.{rules, pos, ◌≡◌, ◌+ℤ◌, ◌*ℤ◌, ap, sym, ◌∙◌, w32, to_z, of_z, FitsSigned}
+use Rattle.std.proofs.Common.{rules, pos, ◌≡◌, ◌+ℤ◌, ◌*ℤ◌, ap, ◌∙◌, w32, to_z, of_z, FitsSigned}
 use Rattle.std.specs.Int.{int_wrap}
 use Rattle.std.proofs.lemmas.Int.{to_z-of_z}
 use Rattle.jxlm_base.specs.Numbers.{unpack}
