@@ -1,7 +1,7 @@
 -- Computed examples: headers, trees and samples, from bits.
-use Rattle.std.specs.Prelude.{◌≡◌, ℕ, zero, suc, ◌≤◌, ◌<◌, ℤ, pos, List, [], ◌∷◌, map, Some, None, Ok, Err, refl, false, true, Bool, codes}
+use Rattle.std.specs.Prelude.{◌≡◌, ℕ, zero, suc, ◌≤◌, ◌<◌, ℤ, pos, List, [], ◌∷◌, map, Some, Ok, Err, refl, false, true, Bool, codes}
 use Rattle.std.specs.List.{All}
-use Rattle.std.specs.Int.{w32, w16, int_wrap}
+use Rattle.std.specs.Int.{w32, int_wrap}
 use Rattle.std.specs.Int.Count.{count_leading_zeros}
 use Rattle.std.proofs.Common.{arith, inl, inr}
 use Rattle.std.proofs.lemmas.List.Elements.{All-head}
@@ -18,22 +18,22 @@ use Rattle.jxlm_transform.specs.Channels.{image_list, image_channel}
 use Rattle.jxlm_transform.specs.Params.{sized}
 use Rattle.jxlm_transform.specs.declared.param.ChannelShift.TheVariants.{Shifts}
 use Rattle.jxlm_transform.specs.declared.param.ModularChannelParams.{ModularChannelParams}
-use Rattle.jxlm_tree.specs.Tree.{Config, one_leaf, levels}
+use Rattle.jxlm_tree.specs.Tree.{one_leaf, levels}
 use Rattle.jxlm_tree.specs.TreeReading.{listing_at, drafts_at, nodes_at, node_at, leaf_at, predictor_at, multiplier_at, IsTreeAt}
 use Rattle.jxlm_tree.specs.WeightsHeader.{default_weights}
 use Rattle.jxlm_tree.specs.declared.flat.Leaf.{Leaf}
 use Rattle.jxlm_tree.specs.declared.predictor.Predictor.TheVariants.{Zero, Gradient}
 use Rattle.jxlm_transform.specs.declared.param.ModularParams.{ModularParams}
-use Rattle.jxl_modular.specs.Coded.{IsCodedToTheEnd, IsCodedWhole}
+use Rattle.jxl_modular.specs.Coded.{IsCodedWhole}
 use Rattle.jxl_modular.specs.Decode.{Standing, FailsToRead, FailsToEnd, DecodeAnswers}
 use Rattle.jxl_modular.specs.Fresh.{info_of}
 use Rattle.jxl_modular.specs.Image.{Image}
 use Rattle.jxl_modular.specs.Layout.{layout, channels_of}
 use Rattle.jxl_modular.specs.Opening.{opening, node_limit}
-use Rattle.jxl_modular.specs.Part.{Part, Channel}
+use Rattle.jxl_modular.specs.Part.{Part}
 use Rattle.jxl_modular.specs.Parsing.{IsImageAt}
 use Rattle.jxl_modular.specs.Picture.{IsFilled, IsPictureAt}
-use Rattle.jxl_modular.specs.Progress.{KeepsOutside, buffer_at}
+use Rattle.jxl_modular.specs.Progress.{buffer_at}
 use Rattle.jxl_modular.specs.declared.channels.ModularChannelInfo.{ModularChannelInfo}
 use Rattle.jxl_modular.specs.declared.header.ModularHeader.{ModularHeader}
 

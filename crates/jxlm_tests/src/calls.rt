@@ -1,7 +1,6 @@
 // Calls that reading a picture does not make, or not with these values.
 
 use crate::bytewise::Bytewise;
-use crate::rows::CONSTANT;
 use jxl_modular::bits::Bitstream;
 use jxl_modular::decoder::{Decoder, DecoderError, RleToken};
 use jxl_modular::plain::PlainDecoder;
@@ -61,6 +60,9 @@ fn a_tree_of_bytes(rt: HostRuntime) -> Result<(), Fail> {
     assert_eq!(rt; leaf.multiplier, 16);
     Ok(())
 }
+
+// A leaf with the constant token 3, doubled, and 5 more.
+const CONSTANT: &[u8] = &[0x82, 0x00, 0x40, 0x80, 0x04, 0x12, 0x3A, 0x08, 0x40, 0x61];
 
 // A picture of 5 by 3, once as it is, once halved both ways, once with a quarter of its rows: all samples are 1.
 #[test]
