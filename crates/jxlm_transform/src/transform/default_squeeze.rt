@@ -1,6 +1,6 @@
 //! The squeeze that stands where a header lists no steps.
 
-ghost use Rattle.std.specs.Prelude.{◌≡◌, ◌+◌, ◌^◌, ◌<◌, ◌≤◌, ◌&&◌, ◌++◌, ◌∷◌, [], nat_le, nat_lt, length, map, take, if◌then◌else◌, IfOk};
+ghost use Rattle.std.specs.Prelude.{◌≡◌, ◌+◌, ◌^◌, ◌<◌, ◌&&◌, ◌++◌, ◌∷◌, [], nat_le, nat_lt, length, map, take, if◌then◌else◌, IfOk};
 ghost use Rattle.std.specs.Int.{div_ceil};
 ghost use Rattle.jxlm_transform.specs.Channels.{HasItsMeta, channel_of, list_of};
 ghost use Rattle.jxlm_transform.specs.ChannelSteps.{StepsGive, default_of_all, default_of_chroma, halvings, in_turn, one_size, step_of_all as the_step_of_all, step_of_chroma as the_step_of_chroma, steps_of_squeeze};

@@ -1,8 +1,7 @@
 //! What transforms do to the list of an image's channels.
 
-ghost use Rattle.std.specs.Prelude.{◌≡◌, ◌≤◌, ◌<◌, ◌+◌, ◌++◌, ◌&&◌, ◌||◌, nat_le, nat_lt, not, length, map, take, drop, slice_range, IsTrue, IfOk, IfErr, Bool, true, Ok, Err};
+ghost use Rattle.std.specs.Prelude.{◌≡◌, ◌≤◌, ◌+◌, ◌++◌, ◌&&◌, nat_le, length, map, IsTrue, IfOk};
 ghost use Rattle.std.specs.List.{All, list_all};
-ghost use Rattle.jxlm_base.specs.Fault.{NoMemory, UnlessMemory, fault_of};
 ghost use Rattle.jxlm_transform.specs.Channels.{HasItsMeta, channel_of, list_of};
 ghost use Rattle.jxlm_transform.specs.Transforms.{HasChannels, transform_of};
 ghost use Rattle.jxlm_transform.specs.ChannelSteps.{ListIs, ListGives, TransformGives, SqueezeStep, list_after_all, range, has_range as the_has_range, has_size_of, one_size as the_one_size, keeps_meta as the_keeps_meta, rct_step, palette_step, can_be_squeezed, squeeze_range, squeeze_step, average_channel, residual_channel, with_halves as the_halves};
