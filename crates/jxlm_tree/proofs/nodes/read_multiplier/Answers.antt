@@ -2,7 +2,7 @@ use Rattle.std.proofs.Common.{arith}
 use Rattle.std.proofs.lemmas.Grind.{common_steps}
 use Rattle.jxlm_tree.specs.TreeReading.{multiplier_at}
 use Rattle.jxlm_tree.proofs.Multipliers.{least_power, power_is, multiplier_below, multiplier_is, multiplier_from}
-use Rattle.jxlm_tree.proofs.ma.read_multiplier.Goals as goal
+use Rattle.jxlm_tree.proofs.nodes.read_multiplier.Goals as goal
 
 pub overflow_sub-log-2 : goal.overflow_sub-log-2
 overflow_sub-log-2 g c = rw (power_is c.in_ok-log.log c.if-log-gt30.false) (least_power c.in_ok-log.log c.if-log-gt30.false)

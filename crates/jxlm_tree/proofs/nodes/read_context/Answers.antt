@@ -1,5 +1,5 @@
 use Rattle.std.proofs.lemmas.List.Elements.{Contains-get_or}
-use Rattle.jxlm_tree.proofs.ma.read_context.Goals as goal
+use Rattle.jxlm_tree.proofs.nodes.read_context.Goals as goal
 
 pub returns-clause-clusters : goal.returns-clause-clusters
 returns-clause-clusters g c =
