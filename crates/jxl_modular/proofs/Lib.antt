@@ -1,7 +1,8 @@
 pub mod Counts
+pub mod Earlier
 pub mod Layouts
 pub mod Loops
-pub mod OneLeaf
+pub mod NextSample
 pub mod Progress
 pub mod Samples
 pub mod Prefixes
