@@ -7,10 +7,11 @@ ghost use Rattle.jxlm_base.specs.Regions.{Lies, grid_of, store_meanings};
 ghost use Rattle.jxlm_tree.specs.Around.{seen};
 ghost use Rattle.jxlm_tree.specs.Holding.{own_list};
 ghost use Rattle.jxlm_tree.specs.Properties.{place_property, earlier_properties, earlier_property, expected};
-ghost use Rattle.jxlm_tree.specs.Standing.{Setting, StandsAt, IsReady, IsInner};
+ghost use Rattle.jxlm_tree.specs.Standing.{Setting, StandsAt, IsReady, IsInner, HasSameRoom};
 ghost use Rattle.jxlm_tree.specs.Holding.{IsCurrent, surroundings, state_of, store_of};
 
 use crate::around::Around;
+use crate::flat::PlaceProperties;
 use crate::reduced::{reduced, reduced_absolute};
 use crate::self_correcting::PredictionResult;
 use crate::state::PredictorState;
@@ -153,13 +154,30 @@ impl<S: Sample> Properties<'_, S> {
     }
 }
 
+impl<S: Sample> PlaceProperties for Properties<'_, S> {
+    ghost use Rattle.std.specs.Prelude.{◌≡◌, ℕ, ℤ, List};
+    ghost use Rattle.jxlm_base.specs.Regions.{store_meanings};
+    ghost use Rattle.jxlm_tree.specs.Holding.{IsCurrent, state_of, store_of, surroundings};
+    ghost use Rattle.jxlm_tree.specs.Properties.{place_property};
+    ghost use Rattle.jxlm_tree.specs.Standing.{Setting, StandsAt};
+
+    ghost IsCurrent = { λ p. IsCurrent p };
+
+    ghost gives = { λ p k v. (s : Setting) (samples : List ℤ) → StandsAt (state_of p) s samples → v ≡ place_property (surroundings s (store_meanings S.to_int (store_of p)) samples) k };
+
+    fn property(&self, number: usize) -> i32 {
+        self.get(number)
+    }
+}
+
 impl<S> Properties<'_, S> {
     /// Hands the state on behind the sample of this place.
     ///
-    /// The state then stands behind the samples before and this one.
+    /// The state then stands behind the samples before and this one, and has the room that it had.
     pub fn record(self, sample: i32)
         requires { IsCurrent self }
-        ensures { (s : Setting) (samples : List ℤ) → StandsAt self.entry.state.now s samples → StandsAt self.exit.0.now s (samples ++ sample ∷ []) }
+        ensures stands { (s : Setting) (samples : List ℤ) → StandsAt self.entry.state.now s samples → StandsAt self.exit.0.now s (samples ++ sample ∷ []) }
+        ensures room { HasSameRoom self.entry.state.now self.exit.0.now }
     {
         let Properties {
             state,
