@@ -20,6 +20,7 @@ use jxlm_tree::predictor::{PredictorState, WpHeader};
 use std::alloc::Global;
 
 /// With what the samples of a part are coded.
+#[derive(Drop)]
 pub(crate) struct PartCoding<'a, D: Decoder> {
     /// Its channels, in order.
     pub(crate) channels: &'a [ModularChannelInfo],
