@@ -1,3 +1,4 @@
+pub mod CellLaws
 pub mod Counts
 pub mod Earlier
 pub mod Layouts

@@ -19,6 +19,7 @@ use Rattle.jxlm_tree.specs.declared.predictor.Predictor.{Predictor}
 use Rattle.jxlm_tree.specs.declared.predictor.Predictor.TheVariants.{Zero, West, North, AvgWestAndNorth, Select, Gradient, SelfCorrecting, NorthEast, NorthWest, WestWest, AvgWestAndNorthWest, AvgNorthAndNorthWest, AvgNorthAndNorthEast, AvgAll}
 use Rattle.jxlm_tree.specs.declared.predictor.WpHeader.{WpHeader}
 use Rattle.jxlm_tree.proofs.FlatTrees.{goes_without_weights, walks_by_properties}
+use Rattle.jxlm_tree.proofs.PropertiesLaws.{later_property}
 use Rattle.jxl_modular.specs.Coded.{next_prediction}
 use Rattle.jxl_modular.specs.Progress.{SameSizes, cells_ahead, grids_in, place_of}
 use Rattle.jxl_modular.specs.Reading.{flat, leaf_at, predicted_at, region_at}
@@ -33,23 +34,25 @@ with_weights s weights = record s { weights = weights }
 
 -- a property other than 15 is the same without weights
 weightless : (s : Surroundings) (a b : Option WpHeader) (k : ℕ) → k ≢ 15 → place_property (with_weights s a) k ≡ place_property (with_weights s b) k
-weightless s a b 0 h = refl
-weightless s a b 1 h = refl
-weightless s a b 2 h = refl
-weightless s a b 3 h = refl
-weightless s a b 4 h = refl
-weightless s a b 5 h = refl
-weightless s a b 6 h = refl
-weightless s a b 7 h = refl
-weightless s a b 8 h = refl
-weightless s a b 9 h = refl
-weightless s a b 10 h = refl
-weightless s a b 11 h = refl
-weightless s a b 12 h = refl
-weightless s a b 13 h = refl
-weightless s a b 14 h = refl
-weightless s a b 15 h = absurd (h refl)
-weightless s a b (suc (suc (suc (suc (suc (suc (suc (suc (suc (suc (suc (suc (suc (suc (suc (suc k)))))))))))))))) h = refl
+weightless s a b zero h = refl
+weightless s a b (suc zero) h = refl
+weightless s a b (suc (suc zero)) h = refl
+weightless s a b (suc (suc (suc zero))) h = refl
+weightless s a b (suc (suc (suc (suc zero)))) h = refl
+weightless s a b (suc (suc (suc (suc (suc zero))))) h = refl
+weightless s a b (suc (suc (suc (suc (suc (suc zero)))))) h = refl
+weightless s a b (suc (suc (suc (suc (suc (suc (suc zero))))))) h = refl
+weightless s a b (suc (suc (suc (suc (suc (suc (suc (suc zero)))))))) h = refl
+weightless s a b (suc (suc (suc (suc (suc (suc (suc (suc (suc zero))))))))) h = refl
+weightless s a b (suc (suc (suc (suc (suc (suc (suc (suc (suc (suc zero)))))))))) h = refl
+weightless s a b (suc (suc (suc (suc (suc (suc (suc (suc (suc (suc (suc zero))))))))))) h = refl
+weightless s a b (suc (suc (suc (suc (suc (suc (suc (suc (suc (suc (suc (suc zero)))))))))))) h = refl
+weightless s a b (suc (suc (suc (suc (suc (suc (suc (suc (suc (suc (suc (suc (suc zero))))))))))))) h = refl
+weightless s a b (suc (suc (suc (suc (suc (suc (suc (suc (suc (suc (suc (suc (suc (suc zero)))))))))))))) h = refl
+weightless s a b (suc (suc (suc (suc (suc (suc (suc (suc (suc (suc (suc (suc (suc (suc (suc zero))))))))))))))) h = absurd (h refl)
+weightless s a b (suc (suc (suc (suc (suc (suc (suc (suc (suc (suc (suc (suc (suc (suc (suc (suc k)))))))))))))))) h =
+    let past : 16 ≤ (suc (suc (suc (suc (suc (suc (suc (suc (suc (suc (suc (suc (suc (suc (suc (suc k)))))))))))))))) = omega arith in
+    later_property (with_weights s a) (suc (suc (suc (suc (suc (suc (suc (suc (suc (suc (suc (suc (suc (suc (suc (suc k)))))))))))))))) past ∙ sym (later_property (with_weights s b) (suc (suc (suc (suc (suc (suc (suc (suc (suc (suc (suc (suc (suc (suc (suc (suc k)))))))))))))))) past)
 
 -- so is a prediction by each predictor but the self-correcting one
 predicts_without : (a b : Option WpHeader) (samples : List ℤ) (width : ℕ) (p : Predictor) → p ≢ SelfCorrecting → prediction a samples width p ≡ prediction b samples width p
@@ -103,7 +106,7 @@ module _ (part : Part) (regions : List Region) (ints : List (Grid ℤ)) (i x y :
   earlier_are : map (grid_before part.channels before) (earlier_alike part.channels i) ≡ map (grid_of ints) earlier
   earlier_are =
       earlier_mapped part.channels i (grid_before part.channels before) (λ e. grid_of ints (region_at regions e)) (λ e less. sees.earlier e less ∙ grid_in ints regions e (omega arith))
-      ∙ map-map (grid_of ints) (region_at regions) (earlier_alike part.channels i)
+      ∙ sym (map-map (grid_of ints) (region_at regions) (earlier_alike part.channels i))
 
   -- what the next sample sees is what the state was set for, and the cells before it
   same_seen : surroundings part before ≡ seen_with (Some part.weights)
@@ -115,8 +118,8 @@ module _ (part : Part) (regions : List Region) (ints : List (Grid ℤ)) (i x y :
 
   few : length (map (grid_of ints) earlier) ≤ i
   few =
-      let a = length-map (grid_of ints) earlier in
-      let b = length-map (region_at regions) (earlier_alike part.channels i) in
+      let a = length-map earlier (grid_of ints) in
+      let b = length-map (earlier_alike part.channels i) (region_at regions) in
       let c = few_earlier part.channels i in
       omega (arith, a, b, c)
 

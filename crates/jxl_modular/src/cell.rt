@@ -1,6 +1,6 @@
 //! One cell of a part, and how it is read.
 
-ghost use Rattle.std.specs.Prelude.{◌≡◌, ℕ, ℤ, pos, ◌+ℤ◌, ◌*ℤ◌, ◌+◌, ◌*◌, ◌^◌, ◌<◌, ◌≤◌, List, OnOk, IfErr, ◌≢◌, length};
+ghost use Rattle.std.specs.Prelude.{◌≡◌, ℕ, ℤ, pos, ◌+ℤ◌, ◌*ℤ◌, ◌+◌, ◌*◌, ◌^◌, ◌<◌, ◌≤◌, List, IfOk, OnOk, IfErr, ◌≢◌, length};
 ghost use Rattle.std.specs.Int.{int_wrap};
 ghost use Rattle.jxlm_base.specs.Bits.{bytes_of, position_of};
 ghost use Rattle.jxlm_base.specs.Regions.{AllLie, store_meanings};
@@ -41,7 +41,7 @@ fn next_sample<S: Sample, D: Decoder>(
 ) -> Result<S, DecoderError>
     requires current { IsCurrent properties.now }
     requires clusters { ClustersStandIn (D.meaning.cluster_map decoder.old) flat.now.tree }
-    ensures ok { OnOk result (λ v. (s : Setting) (samples : List ℤ) → StandsAt (state_of properties.now) s samples → let ints = store_meanings S.to_int (store_of properties.now) in ReadsNext S.width S.from_int (leaf_at flat.now s ints samples) (predicted_at flat.now s ints samples) v decoder.new (position_of bits.new) (D.meaning.read decoder.old (bytes_of bits.old) (position_of bits.old) (leaf_at flat.now s ints samples).cluster widest)) }
+    ensures ok { IfOk result (λ v. (s : Setting) (samples : List ℤ) → StandsAt (state_of properties.now) s samples → ReadsNext S.width S.from_int (leaf_at flat.now s (store_meanings S.to_int (store_of properties.now)) samples) (predicted_at flat.now s (store_meanings S.to_int (store_of properties.now)) samples) v decoder.new (position_of bits.new) (D.meaning.read decoder.old (bytes_of bits.old) (position_of bits.old) (leaf_at flat.now s (store_meanings S.to_int (store_of properties.now)) samples).cluster widest)) }
     ensures err { IfErr result (λ e. (s : Setting) (samples : List ℤ) → StandsAt (state_of properties.now) s samples → RefusesNext decoder.old decoder.new (position_of bits.old) (position_of bits.new) e (D.meaning.read decoder.old (bytes_of bits.old) (position_of bits.old) (leaf_at flat.now s (store_meanings S.to_int (store_of properties.now)) samples).cluster widest)) }
     ensures clusters { OnOk result (D.meaning.cluster_map decoder.new ≡ D.meaning.cluster_map decoder.old) }
     ensures memory { IfErr result (λ e. e ≢ DecoderError.OutOfMemory) }

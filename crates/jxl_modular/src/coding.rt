@@ -1,8 +1,8 @@
 //! With what a part is coded, and what is made ready before its first bit is read.
 
-ghost use Rattle.std.specs.Prelude.{◌≡◌, ℕ, ◌<◌, ◌≤◌, List, Some, IfOk, IfErr, length, slice_get};
+ghost use Rattle.std.specs.Prelude.{◌≡◌, ℕ, ◌^◌, ◌<◌, ◌≤◌, List, IfOk, IfErr, length};
 ghost use Rattle.jxlm_base.specs.Fault.{fault_of};
-ghost use Rattle.jxlm_tree.specs.FlatTree.{needs_weights};
+ghost use Rattle.jxlm_base.specs.Grid.{Grid};
 ghost use Rattle.jxlm_tree.specs.SelfCorrecting.{IsHeader};
 ghost use Rattle.jxlm_tree.specs.TreeReading.{IsWantOfMemory};
 ghost use Rattle.jxl_modular.specs.Layout.{channel_of};
