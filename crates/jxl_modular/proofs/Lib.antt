@@ -5,6 +5,7 @@ pub mod Layouts
 pub mod Loops
 pub mod NextSample
 pub mod Progress
+pub mod Starting
 pub mod Samples
 pub mod Prefixes
 pub mod PartLaws

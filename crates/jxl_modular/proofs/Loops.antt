@@ -67,6 +67,12 @@ takes_further cost a b c s t u h k = sums_within (a * cost) (b * cost) (c * cost
 pub takes_between : (cost a b c d s t : ℕ) → a ≡ c → b ≡ d → TakesSteps cost a b s t → TakesSteps cost c d s t
 takes_between cost a b c d s t p q h = rw (← p, ← q) h
 
+pub takes_next : (cost : ℕ) (part : Part) (i x y before after : ℕ) → after ≤ before + cost → TakesSteps cost (place_of part i x y) (place_of part i (x + 1) y) before after
+takes_next cost part i x y before after h =
+    let k : ℕ = place_of part i x y in
+    let next : suc k ≡ place_of part i (x + 1) y = omega arith in
+    subst (λ n. TakesSteps cost k n before after) next (takes_one cost k before after h)
+
 -- ---- places
 
 pub row_ends : (part : Part) (i y : ℕ) → place_of part i (channel part.channels i).width y ≡ place_of part i 0 (y + 1)

@@ -143,7 +143,8 @@ impl<D: Decoder> MaConfig<D> {
 
     /// The decoder of the leaves' clusters.
     pub fn decoder(&self) -> &D
-        ensures { result.now ≡ self.now.decoder }
+        ensures decoder { result.now ≡ self.now.decoder }
+        ensures clusters { ClustersStandIn (D.meaning.cluster_map result.now) self.now.tree }
     {
         &self.decoder
     }
