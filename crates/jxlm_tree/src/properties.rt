@@ -189,3 +189,26 @@ impl<S> Properties<'_, S> {
         state.advance(sample, correction);
     }
 }
+
+#[cfg(test)]
+mod tests {
+    use super::*;
+    use crate::predictor::{Predictor, WpHeader};
+    use jxlm_base::bits::Bitstream;
+    use std::test::Fail;
+
+    // Width 3 and the usual weights, in a state with more room: what is made of the place behind a sample of 1.
+    #[test]
+    fn self_correcting_row(rt: HostRuntime) -> Result<(), Fail> {
+        let header = WpHeader::parse(&mut Bitstream::new(&[0x01]))?;
+        let mut state: PredictorState<i32> =
+            PredictorState::with_room(rt.alloc(), 5, 0, Some(&header))?;
+        state.restart(3);
+        state.properties::<true>(&[]).record(1);
+        let second = state.properties::<true>(&[]);
+        assert_eq!(rt; [second.get(2), second.get(3), second.get(15)], [0, 1, -8]);
+        assert_eq!(rt; PredictionResult::eightfold(&second.correction), 8);
+        assert_eq!(rt; Predictor::SelfCorrecting.predict(&second), 1);
+        Ok(())
+    }
+}
