@@ -243,7 +243,7 @@ mod tests {
     use jxlm_base::plain::PlainDecoder;
     use std::test::Fail;
 
-    // Property 3 above 5: left, property 17 above -2 (Zero, else SelfCorrecting); right, property 1
+    // Property 3 above 5: left, property 17, of the nearest earlier channel, above -2 (Zero, else SelfCorrecting); right, property 1
     // above 0 (AvgNorthAndNorthEast, else AvgAll). Behind the tree stand the tokens 5, 201 and 3.
     const SEVEN_NODES: [u8; 32] = [
         0x14, 0x84, 0x0c, 0x15, 0x43, 0x81, 0x60, 0x10, 0x0c, 0x44, 0x91, 0x83, 0x00, 0x00, 0x38,
@@ -306,6 +306,8 @@ mod tests {
             assert_eq!(rt; flat.num_nodes(), 7);
             assert!(rt; flat.need_self_correcting());
             assert_eq!(rt; flat.max_prev_channel_depth(), prev_channels as usize);
+            let later = config.make_flat_tree(channel, stream_idx, prev_channels + 1)?;
+            assert_eq!(rt; later.max_prev_channel_depth(), 1);
         }
         Ok(())
     }

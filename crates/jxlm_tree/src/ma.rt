@@ -468,13 +468,14 @@ mod tests {
         let most = limits(1 << 26, 2048);
         let config: MaConfig<PlainDecoder> = MaConfig::parse(rt.alloc(), &mut bits, most)?;
         let copy = config.try_clone(rt.alloc())?;
-        let last = config.make_flat_tree(0, 7, 0)?;
+        let last = config.make_flat_tree(0, 7, 3)?;
         let first = copy.make_flat_tree(1, 7, 0)?;
         drop(config);
         let mut steps = Steps::new();
         assert_eq!(rt; last.leaf(&Nothing, &mut steps).cluster, 1);
         assert_eq!(rt; first.leaf(&Nothing, &mut steps).cluster, 0);
         assert_eq!(rt; last.num_nodes(), 4097);
+        assert_eq!(rt; last.max_prev_channel_depth(), 0);
         Ok(())
     }
 
