@@ -14,6 +14,8 @@ pub mod Places
 pub mod TokenLaw
 pub mod Whole
 pub mod HeaderLaws
+pub mod OpeningLaws
+pub mod Preparing
 pub mod FreshLaws
 pub mod ParsingLaws
 mod Examples

@@ -1,21 +1,26 @@
 //! Modular images as they are read.
 
-ghost use Rattle.std.specs.Prelude.{◌≡◌, pos, length, None};
+ghost use Rattle.std.specs.Prelude.{◌≡◌, ◌≤◌, pos, length, None, IfOk};
+ghost use Rattle.std.specs.List.{All};
 ghost use Rattle.std.specs.Option.{option_copied, option_copied_mut};
 ghost use Rattle.jxlm_base.specs.Bits.{bytes_of, position_of};
-ghost use Rattle.jxlm_transform.specs.Channels.{ChannelList};
-ghost use Rattle.jxlm_transform.specs.Params.{IsValidParams};
-ghost use Rattle.jxl_modular.specs.Opening.{OpensAs};
+ghost use Rattle.jxlm_base.specs.Grammar.{Answers};
+ghost use Rattle.jxlm_transform.specs.Channels.{IsNarrow, image_list, list_of};
+ghost use Rattle.jxlm_transform.specs.Params.{IsValidChannel, IsValidParams};
+ghost use Rattle.jxlm_tree.specs.SelfCorrecting.{IsHeader};
+ghost use Rattle.jxl_modular.specs.Header.{header_of};
+ghost use Rattle.jxl_modular.specs.Opening.{CheckGives, conditions, opening, opening_of};
 ghost use Rattle.jxl_modular.specs.Parsing.{ParseGives, image_of};
 
-use crate::channels::{image_channels, node_limit};
-use crate::header::ModularHeader;
+use crate::channels::node_limit;
+use crate::header::{ModularHeader, prepare_transforms};
 use crate::image::ModularImageDestination;
 use jxlm_base::bits::{Bitstream, BitstreamError};
 use jxlm_base::decoder::Decoder;
 use jxlm_base::error::{Error, Result};
 use jxlm_base::sample::Sample;
-use jxlm_transform::param::ModularParams;
+use jxlm_transform::channels::ModularChannels;
+use jxlm_transform::param::{ModularChannelParams, ModularParams};
 use jxlm_tree::ma::{MaConfig, MaConfigParams};
 use std::alloc::Global;
 
@@ -31,21 +36,45 @@ pub struct Modular<S, D: Decoder> {
     inner: Option<ModularImageDestination<S, D>>,
 }
 
-/// Reads what stands ahead of a tree: the header, whose conditions on the channels and on a global
-/// tree come in this order.
-fn open(bits: &mut Bitstream<'_>, has_global: bool, nb_channels: usize) -> Result<ModularHeader>
-    ensures gives { (list : ChannelList) → length list.channels ≡ nb_channels → OpensAs has_global list (bytes_of bits.old) (position_of bits.old) result (position_of bits.new) }
-    ensures bytes { bytes_of bits.new ≡ bytes_of bits.old }
+/// The conditions on a header and its coded channels, in order: at most 65536 channels are coded, no
+/// transform is listed, and a global tree that is asked for is there.
+fn check(header: &ModularHeader, channels: &ModularChannels, has_global: bool) -> Result<()>
+    ensures { CheckGives (conditions has_global (header_of header.now) (list_of channels.now)) result }
 {
-    let header = ModularHeader::parse(bits)?;
-    if nb_channels > MAX_CODED_CHANNELS {
+    if channels.info.len() > MAX_CODED_CHANNELS {
         let refusal = BitstreamError::ProfileConformance("nb_channels_tr too large");
+        return Err(Error::Bitstream(refusal));
+    }
+    if !header.transform.is_empty() {
+        let refusal = BitstreamError::ProfileConformance("transform not available");
         return Err(Error::Bitstream(refusal));
     }
     if header.use_global_tree && !has_global {
         return Err(Error::GlobalMaTreeNotAvailable);
     }
-    Ok(header)
+    Ok(())
+}
+
+/// Reads what stands ahead of a tree: the header, whose transforms are applied to the channels of the
+/// image, and whose conditions come behind them.
+fn open(
+    alloc: Global,
+    bits: &mut Bitstream<'_>,
+    params: &[ModularChannelParams],
+    has_global: bool,
+) -> Result<(ModularHeader, ModularChannels)>
+    requires { All IsValidChannel params.now }
+    ensures gives { Answers opening_of result (position_of bits.new) ((opening has_global (image_list params.now)).read (bytes_of bits.old) (position_of bits.old)) }
+    ensures narrow { IfOk result (λ o. All IsNarrow (list_of o.1).channels) }
+    ensures few { IfOk result (λ o. length o.1.info.items ≤ 65536) }
+    ensures weights { IfOk result (λ o. IsHeader o.0.wp_params) }
+    ensures bytes { bytes_of bits.new ≡ bytes_of bits.old }
+{
+    let mut header = ModularHeader::parse(alloc, bits)?;
+    let mut channels = ModularChannels::new(alloc, params)?;
+    prepare_transforms(alloc, &mut header.transform, &mut channels)?;
+    check(&header, &channels, has_global)?;
+    Ok((header, channels))
 }
 
 impl<S: Sample, D: Decoder> Modular<S, D> {
@@ -65,12 +94,16 @@ impl<S: Sample, D: Decoder> Modular<S, D> {
     /// With no channels no bit is read, and there is no image. The parameters are valid, and no
     /// global tree is handed in.
     ///
-    /// What stands there is refused by the first check that fails: a cut header by `UnexpectedEof`;
-    /// a transform, and more than 65536 channels, by `ProfileConformance`; a use of the global tree
-    /// by `GlobalMaTreeNotAvailable`; the tree as by [`MaConfig::parse`], where it may have 1025
-    /// nodes and one more for each sample, at most 2^20 + 1, and a depth of 2048. The reader then
-    /// stands behind the last field that was read whole; inside a decoder's own `parse` its place is
-    /// the decoder's matter. Want of memory may be answered at any time.
+    /// What stands there is refused by the first check that fails. A cut header is refused by
+    /// `UnexpectedEof`, and a kind of transform or a predictor that there is not by `InvalidEnum`. Then
+    /// each transform, in order, that does not suit the channels that the ones before it leave is
+    /// refused by `InvalidRctParams`, `InvalidPaletteParams` or `InvalidSqueezeParams`; then more than
+    /// 65536 coded channels, and then any transform, by `ProfileConformance`; then a use of the global
+    /// tree by `GlobalMaTreeNotAvailable`; and then the tree as by [`MaConfig::parse`], where it may
+    /// have 1025 nodes and one more for each coded sample, at most 2^20 + 1, and a depth of 2048. The
+    /// reader then stands behind the last field that was read whole; inside a decoder's own `parse`
+    /// its place is the decoder's matter. Want of memory is answered where it is met, before the
+    /// checks that come later.
     pub fn parse(
         alloc: Global,
         bits: &mut Bitstream<'_>,
@@ -84,10 +117,10 @@ impl<S: Sample, D: Decoder> Modular<S, D> {
         if params.channels.is_empty() {
             return Ok(Modular::empty());
         }
-        let channels = image_channels(alloc, &params.channels)?;
-        let header = open(bits, params.ma_config.is_some(), channels.len())?;
+        let has_global = params.ma_config.is_some();
+        let (header, channels) = open(alloc, bits, &params.channels, has_global)?;
         let limits = MaConfigParams {
-            node_limit: node_limit(&channels),
+            node_limit: node_limit(&channels.info),
             depth_limit: DEPTH_LIMIT,
         };
         let ma_ctx = MaConfig::parse(alloc, bits, limits)?;
