@@ -45,3 +45,37 @@ pub(crate) fn have_samples(channels: &[ModularChannelInfo]) -> bool
     }
     false
 }
+
+#[cfg(test)]
+mod tests {
+    use super::*;
+    use jxlm_transform::channels::ModularChannels;
+    use jxlm_transform::param::ModularChannelParams;
+    use jxlm_transform::transform::Palette;
+    use jxlm_tree::predictor::Predictor;
+    use std::test::Fail;
+
+    // A channel of 3 by 2 whose table has 5 colours; tables have samples too.
+    #[test]
+    fn limits_on_trees(rt: HostRuntime) -> Result<(), Fail> {
+        let given = [ModularChannelParams::new(3, 2)];
+        let mut list = ModularChannels::new(rt.alloc(), &given)?;
+        assert_eq!(rt; node_limit(&list.info), 1030);
+        let palette = Palette {
+            begin_c: 0,
+            num_c: 1,
+            nb_colours: 5,
+            nb_deltas: 0,
+            d_pred: Predictor::Zero,
+            wp_header: None,
+        };
+        palette.transform_channel_info(rt.alloc(), &mut list)?;
+        assert_eq!(rt; node_limit(&list.info), 1035);
+
+        assert_eq!(rt; node_limit(&[]), 1024);
+        let large = [ModularChannelParams::new(1 << 30, 1 << 30); 4];
+        let list = ModularChannels::new(rt.alloc(), &large)?;
+        assert_eq!(rt; node_limit(&list.info), 1 << 20);
+        Ok(())
+    }
+}

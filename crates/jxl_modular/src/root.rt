@@ -265,25 +265,123 @@ mod tests {
         Ok(())
     }
 
+    /// A limit of a profile that is passed.
+    fn beyond(text: &'static str) -> Option<Error> {
+        Some(Error::Bitstream(BitstreamError::ProfileConformance(text)))
+    }
+
+    /// A number that has no meaning.
+    fn unknown(name: &'static str, value: u32) -> Option<Error> {
+        Some(Error::Bitstream(BitstreamError::InvalidEnum {
+            name,
+            value,
+        }))
+    }
+
+    const EOF: Error = Error::Bitstream(BitstreamError::UnexpectedEof);
+    const NO_TRANSFORM: &str = "transform not available";
+    const TOO_MANY: &str = "nb_channels_tr too large";
+
     #[test]
-    fn what_stands_ahead_of_the_tree_is_refused(rt: HostRuntime) -> Result<(), Fail> {
-        let eof = Error::Bitstream(BitstreamError::UnexpectedEof);
-        let transform = Error::Bitstream(BitstreamError::ProfileConformance(
-            "transform not available",
-        ));
-        let channels = Error::Bitstream(BitstreamError::ProfileConformance(
-            "nb_channels_tr too large",
-        ));
-        assert_eq!(rt; refusal(&rt, &[], 1)?, (Some(eof), 0));
-        assert_eq!(rt; refusal(&rt, &[0x00], 1)?, (Some(eof), 7));
-        assert_eq!(rt; refusal(&rt, &[0x0E], 1)?, (Some(eof), 2));
-        assert_eq!(rt; refusal(&rt, &[0x36], 1)?, (Some(transform), 4));
-        assert_eq!(rt; refusal(&rt, &[0x37], 65537)?, (Some(transform), 4));
-        assert_eq!(rt; refusal(&rt, &[0x03], 65537)?, (Some(channels), 4));
-        assert_eq!(rt;
-            refusal(&rt, &[0x03], 65536)?,
-            (Some(Error::GlobalMaTreeNotAvailable), 4)
-        );
+    fn cut_headers_are_refused(rt: HostRuntime) -> Result<(), Fail> {
+        assert_eq!(rt; refusal(&rt, &[], 1)?, (Some(EOF), 0));
+        assert_eq!(rt; refusal(&rt, &[0x00], 1)?, (Some(EOF), 7));
+        assert_eq!(rt; refusal(&rt, &[0x0E], 1)?, (Some(EOF), 2));
+        assert_eq!(rt; refusal(&rt, &[0x16, 0x00, 0x00], 1)?, (Some(EOF), 23));
+        Ok(())
+    }
+
+    // All bits of the header come before any transform, and that before the count of channels.
+    #[test]
+    fn what_stands_ahead_of_the_tree_is_refused_in_order(rt: HostRuntime) -> Result<(), Fail> {
+        let kind = unknown("TransformId", 3);
+        assert_eq!(rt; refusal(&rt, &[0x36], 1)?, (kind, 6));
+        assert_eq!(rt; refusal(&rt, &[0x37], 65537)?, (kind, 6));
+        let predictor = (unknown("MaProperty", 14), 29);
+        assert_eq!(rt; refusal(&rt, &[0x16, 0x00, 0x00, 0x1C], 1)?, predictor);
+
+        let colour = Some(Error::InvalidRctParams);
+        assert_eq!(rt; refusal(&rt, &[0x06, 0x00], 2)?, (colour, 13));
+        assert_eq!(rt; refusal(&rt, &[0x07, 0x00], 2)?, (colour, 13));
+        let palette = Some(Error::InvalidPaletteParams);
+        assert_eq!(rt; refusal(&rt, &[0x16, 0x81, 0x01, 0x00], 1)?, (palette, 29));
+        let squeeze_then_colour = refusal(&rt, &[0x0A, 0x06, 0x40, 0x00, 0x00], 1)?;
+        assert_eq!(rt; squeeze_then_colour, (Some(Error::InvalidSqueezeParams), 34));
+        let colour_then_squeeze = refusal(&rt, &[0x0A, 0x00, 0x0C, 0x80, 0x00], 1)?;
+        assert_eq!(rt; colour_then_squeeze, (colour, 34));
+
+        let no_transform = beyond(NO_TRANSFORM);
+        assert_eq!(rt; refusal(&rt, &[0x06, 0x00], 3)?, (no_transform, 13));
+        assert_eq!(rt; refusal(&rt, &[0x07, 0x00], 3)?, (no_transform, 13));
+        assert_eq!(rt; refusal(&rt, &[0x26], 1)?, (no_transform, 8));
+        assert_eq!(rt; refusal(&rt, &[0x03], 1)?, (Some(Error::GlobalMaTreeNotAvailable), 4));
+        Ok(())
+    }
+
+    // Palettes of one and of three channels; the second leaves one channel less.
+    #[test]
+    fn coded_channels_are_counted_behind_the_transforms(rt: HostRuntime) -> Result<(), Fail> {
+        let too_many = beyond(TOO_MANY);
+        let no_global = Some(Error::GlobalMaTreeNotAvailable);
+        assert_eq!(rt; refusal(&rt, &[0x03], 65537)?, (too_many, 4));
+        assert_eq!(rt; refusal(&rt, &[0x03], 65536)?, (no_global, 4));
+        let no_transform = beyond(NO_TRANSFORM);
+        let one = [0x16, 0x00, 0x00, 0x00];
+        assert_eq!(rt; refusal(&rt, &one, 65536)?, (too_many, 29));
+        assert_eq!(rt; refusal(&rt, &one, 65535)?, (no_transform, 29));
+        let three = [0x16, 0x08, 0x00, 0x00];
+        assert_eq!(rt; refusal(&rt, &three, 65538)?, (too_many, 29));
+        assert_eq!(rt; refusal(&rt, &three, 65537)?, (no_transform, 29));
+        Ok(())
+    }
+
+    // 273 colour transforms of nine bits each.
+    #[test]
+    fn as_many_transforms_as_can_be_listed(rt: HostRuntime) -> Result<(), Fail> {
+        let mut bytes = vec![in rt.alloc(); 0xFE, 0x0F]?;
+        for _ in 0..307 {
+            bytes.push(0)?;
+        }
+        assert_eq!(rt; refusal(&rt, &bytes, 3)?, (beyond(NO_TRANSFORM), 2469));
+        assert_eq!(rt; refusal(&rt, &bytes, 2)?, (Some(Error::InvalidRctParams), 2469));
+        bytes.pop();
+        assert_eq!(rt; refusal(&rt, &bytes, 3)?, (Some(EOF), 2462));
+        Ok(())
+    }
+
+    // A table whose height is squeezed 296 times: eight steps are nine bytes. The shifts of a table stay.
+    #[test]
+    fn as_many_squeeze_steps_as_can_be_listed(rt: HostRuntime) -> Result<(), Fail> {
+        let ahead = [0, 0, 0, 0, 0, 0, 0x40, 0x08, 0x40, 0x01, 0xE0, 0xFF];
+        let mut bytes = Vec::from_slice(rt.alloc(), &ahead)?;
+        for _ in 0..37 {
+            bytes.extend_from_slice(&[2, 4, 8, 16, 32, 64, 128, 0, 1])?;
+        }
+        assert_eq!(rt; refusal(&rt, &bytes, 1)?, (beyond(NO_TRANSFORM), 2760));
+        bytes.pop();
+        assert_eq!(rt; refusal(&rt, &bytes, 1)?, (Some(EOF), 2752));
+        bytes.push(0)?;
+        assert_eq!(rt; refusal(&rt, &bytes, 1)?, (Some(Error::InvalidSqueezeParams), 2760));
+        Ok(())
+    }
+
+    // One channel that is squeezed across 31 times; the next time its shift is 31.
+    #[test]
+    fn shifts_of_30_and_31(rt: HostRuntime) -> Result<(), Fail> {
+        let steps = [0x01, 2, 4, 8, 16, 32, 64, 128, 0];
+        let mut bytes = vec![in rt.alloc(); 0xA6, 0x56, 0x80, 0]?;
+        for _ in 0..3 {
+            bytes.extend_from_slice(&steps)?;
+        }
+        bytes.extend_from_slice(&[1, 2, 4, 8, 16, 0])?;
+        assert_eq!(rt; refusal(&rt, &bytes, 1)?, (beyond(NO_TRANSFORM), 293));
+
+        let mut bytes = vec![in rt.alloc(); 0xA6, 0x57, 0x80, 0]?;
+        for _ in 0..3 {
+            bytes.extend_from_slice(&steps)?;
+        }
+        bytes.extend_from_slice(&[1, 2, 4, 8, 16, 32, 0])?;
+        assert_eq!(rt; refusal(&rt, &bytes, 1)?, (Some(Error::InvalidSqueezeParams), 302));
         Ok(())
     }
 
