@@ -28,7 +28,7 @@ use Rattle.jxl_modular.specs.Part.{Channel, Part, Fits, cell_count, greatest_wid
 use Rattle.jxl_modular.specs.Progress.{SameSizes, grids_in, DecodesAll, DecodesSome, KeepsOutside, buffer_at}
 use Rattle.jxl_modular.specs.Reading.{HasFlats, IsCodingOf, IsRoomy, IsRoomyFor, regions_of}
 use Rattle.jxl_modular.specs.Samples.{DecodesSamples, FailsAtOnePlace, RefusesSamples}
-use Rattle.jxl_modular.specs.declared.channels.ModularChannelInfo.{ModularChannelInfo}
+use Rattle.jxlm_transform.specs.declared.channels.ModularChannelInfo.{ModularChannelInfo}
 use Rattle.jxl_modular.specs.declared.coding.PartCoding.{PartCoding}
 use Rattle.jxlm_tree.specs.declared.state.PredictorState.{PredictorState}
 use Rattle.jxl_modular.proofs.Starting.{roomy_for}

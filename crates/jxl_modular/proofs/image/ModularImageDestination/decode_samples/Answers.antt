@@ -2,6 +2,7 @@ use Rattle.std.proofs.Common.{◌≡◌, ◌++◌, length, take, drop, refl, sym
 use Rattle.std.proofs.lemmas.Result.{err_from_is_err_and}
 use Rattle.jxlm_base.specs.Bits.{bytes_of, position_of}
 use Rattle.jxlm_base.specs.declared.error.Error.TheVariants.{Decoder}
+use Rattle.jxl_modular.specs.Header.{header_of}
 use Rattle.jxl_modular.specs.Image.{Image}
 use Rattle.jxl_modular.specs.Layout.{channels_of}
 use Rattle.jxl_modular.specs.Part.{greatest_width}
@@ -52,7 +53,7 @@ returns-in_err-decode_part-clause-err g c =
     let ready = rw (← c.self.view_is) at c.in_ok-decoder.ensures.ok in
     let some = rw (ready.decoder_is, c.deref_mut.ensures.value) at c.in_err-decode_part.ensures.err in
     let image : Image g.row.S.Denot g.row.D.Denot = record {
-      header = c.self.inside.header;
+      header = header_of c.self.inside.header;
       config = c.self.inside.ma_ctx;
       group_dim = c.self.inside.group_dim;
       bit_depth = c.self.inside.bit_depth;
