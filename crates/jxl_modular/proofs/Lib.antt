@@ -1,8 +1,11 @@
+pub mod CellLaws
 pub mod Counts
+pub mod Earlier
 pub mod Layouts
 pub mod Loops
-pub mod OneLeaf
+pub mod NextSample
 pub mod Progress
+pub mod Starting
 pub mod Samples
 pub mod Prefixes
 pub mod PartLaws

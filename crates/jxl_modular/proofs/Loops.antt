@@ -13,13 +13,13 @@ use Rattle.jxlm_base.specs.declared.subgrid.Region.{Region}
 use Rattle.jxlm_base.proofs.Regions.{grids_of_written, with_region_cell-meanings, AllLie-meanings, width_after, height_after, full_after, length-with_region_cell, buffer_cell_other, HasCell_at, IsFull-grid_of}
 use Rattle.jxl_modular.specs.Coded.{part_rule}
 use Rattle.jxl_modular.specs.Part.{Part, Channel, size, channel, cell_count, cells_before, cells_of, Fits, grid as grid_at}
-use Rattle.jxl_modular.specs.Progress.{Reached, Stopped, SameSizes, place_of, cells_ahead, grids_in, GoesOn, Stops, KeepsOutside}
+use Rattle.jxl_modular.specs.Progress.{Reached, Stopped, SameSizes, place_of, cells_ahead, grids_in, GoesOn, Stops, TakesSteps, KeepsOutside}
 use Rattle.jxl_modular.specs.Reading.{ReadsCell, RefusesCell, region_at}
 use Rattle.jxl_modular.proofs.Places.{before_suc}
 use Rattle.jxl_modular.proofs.Progress.{reached_more, with_cell_of, stands_within}
 
 -- sizes of regions and channels
-same_count : (channels : List Channel) (regions : List Region) → SameSizes channels regions → length channels ≡ length regions
+pub same_count : (channels : List Channel) (regions : List Region) → SameSizes channels regions → length channels ≡ length regions
 same_count [] [] h = refl
 same_count [] (r ∷ rs) h = absurd h
 same_count (c ∷ cs) [] h = absurd h
@@ -49,6 +49,29 @@ all_cells (c ∷ cs) (g ∷ gs) fit =
     let all = sum_by-cons size c cs in
     let both = length-append g.cells (cells_of gs) in
     omega (arith, whole, rest, all, both)
+
+-- ---- steps
+
+sums_within : (a b c s t u : ℕ) → t + a ≤ s + b → u + b ≤ t + c → u + a ≤ s + c
+sums_within a b c s t u h k = omega (arith, h, k)
+
+pub takes_none : (cost k before : ℕ) → TakesSteps cost k k before before
+takes_none cost k before = omega arith
+
+pub takes_one : (cost k before after : ℕ) → after ≤ before + cost → TakesSteps cost k (suc k) before after
+takes_one cost k before after h = omega (arith, h)
+
+pub takes_further : (cost a b c s t u : ℕ) → TakesSteps cost a b s t → TakesSteps cost b c t u → TakesSteps cost a c s u
+takes_further cost a b c s t u h k = sums_within (a * cost) (b * cost) (c * cost) s t u h k
+
+pub takes_between : (cost a b c d s t : ℕ) → a ≡ c → b ≡ d → TakesSteps cost a b s t → TakesSteps cost c d s t
+takes_between cost a b c d s t p q h = rw (← p, ← q) h
+
+pub takes_next : (cost : ℕ) (part : Part) (i x y before after : ℕ) → after ≤ before + cost → TakesSteps cost (place_of part i x y) (place_of part i (x + 1) y) before after
+takes_next cost part i x y before after h =
+    let k : ℕ = place_of part i x y in
+    let next : suc k ≡ place_of part i (x + 1) y = omega arith in
+    subst (λ n. TakesSteps cost k n before after) next (takes_one cost k before after h)
 
 -- ---- places
 
@@ -146,12 +169,16 @@ module _ {S : Type 0} (d : Meaning S) (w : Width) (part : Part) (bytes : List �
       subst (λ n. Reached d w part bytes decoder p0 old n (grids_in regions (store_meanings to_int new)) t q) next
       (subst (λ (gs : List (Grid ℤ)). Reached d w part bytes decoder p0 old (suc k) gs t q) (sym grids') more)
 
+  -- a read was refused, and each read up to it took at most so many steps
+  abbrev IsStopped : S → ℕ → List (Grid ℤ) → DecoderError → List (Grid ℤ) → ℕ → ℕ → ℕ → ℕ → ℕ → Type 0
+  IsStopped decoder p0 old e now q cost from before after = (stopped : Stopped d w part bytes decoder p0 old e now q) × TakesSteps cost from (suc stopped.count) before after
+
   -- the read of a cell was refused
-  pub cell_stops : {X : Type 0} (to_int : X → ℤ) (i x y : ℕ) (store new : List (Grid X)) (s t : S) (p q : ℕ) (e : DecoderError) →
-      SameSizes part.channels regions → i < length regions → x < (region_at regions i).width → y < (region_at regions i).height →
+  pub cell_stops : {X : Type 0} (to_int : X → ℤ) (cost before after : ℕ) (i x y : ℕ) (store new : List (Grid X)) (s t : S) (p q : ℕ) (e : DecoderError) →
+      after ≤ before + cost → SameSizes part.channels regions → i < length regions → x < (region_at regions i).width → y < (region_at regions i).height →
       RefusesCell d w part bytes regions to_int i x y store s p new t q e →
-      Stops d w part bytes regions (place_of part i x y) (store_meanings to_int store) s p (store_meanings to_int new) q e
-  cell_stops {X} to_int i x y store new s t p q e sizes li px qy refuses decoder p0 old r =
+      Stops d w part bytes regions cost before after (place_of part i x y) (store_meanings to_int store) s p (store_meanings to_int new) q e
+  cell_stops {X} to_int cost before after i x y store new s t p q e work sizes li px qy refuses decoder p0 old r =
       let ints : List (Grid ℤ) = store_meanings to_int store in
       let at = is_place part regions sizes i x y li px qy in
       let stopped : Stopped d w part bytes decoder p0 old e (grids_in regions ints) p = record {
@@ -161,8 +188,10 @@ module _ {S : Type 0} (d : Meaning S) (w : Width) (part : Part) (bytes : List �
         reached = r;
         fault = refuses.fault;
       } in
-      subst (λ n. Stopped d w part bytes decoder p0 old e (grids_in regions (store_meanings to_int new)) n) (sym refuses.place_is)
-      (subst (λ (gs : List (Grid X)). Stopped d w part bytes decoder p0 old e (grids_in regions (store_meanings to_int gs)) p) (sym refuses.store_is) stopped)
+      let place : ℕ = place_of part i x y in
+      subst (λ n. IsStopped decoder p0 old e (grids_in regions (store_meanings to_int new)) n cost place before after) (sym refuses.place_is)
+      (subst (λ (gs : List (Grid X)). IsStopped decoder p0 old e (grids_in regions (store_meanings to_int gs)) p cost place before after) (sym refuses.store_is)
+      (stopped, takes_one cost place before after work))
 
   -- ---- one behind another
 
@@ -181,9 +210,11 @@ module _ {S : Type 0} (d : Meaning S) (w : Width) (part : Part) (bytes : List �
           GoesOn d w part bytes regions from to store s p store'' s'' p''
       goes_further to store'' s'' p'' second decoder p0 old r = second decoder p0 old (first decoder p0 old r)
 
-      pub stops_further : (store'' : List (Grid ℤ)) (p'' : ℕ) (e : DecoderError) → Stops d w part bytes regions middle store' s' p' store'' p'' e →
-          Stops d w part bytes regions from store s p store'' p'' e
-      stops_further store'' p'' e second decoder p0 old r = second decoder p0 old (first decoder p0 old r)
+      pub stops_further : (cost before then after : ℕ) (store'' : List (Grid ℤ)) (p'' : ℕ) (e : DecoderError) → TakesSteps cost from middle before then →
+          Stops d w part bytes regions cost then after middle store' s' p' store'' p'' e → Stops d w part bytes regions cost before after from store s p store'' p'' e
+      stops_further cost before then after store'' p'' e work second decoder p0 old r =
+          let last = second decoder p0 old (first decoder p0 old r) in
+          (last.0, takes_further cost from middle (suc last.0.count) before then after work last.1)
 
 -- ---- what is outside of the regions
 

@@ -1,12 +1,14 @@
 -- An image: what it was read with, and its buffers.
-use Rattle.std.specs.Prelude.{◌≡◌, ℕ, List, ℤ, refl}
+use Rattle.std.specs.Prelude.{◌≡◌, ◌≤◌, ◌+◌, ℕ, List, length, ℤ, refl}
+use Rattle.std.specs.List.{All}
 use Rattle.std.specs.Coded.{Coded, code_by, coded×, coded_list, coded_ℕ}
 use Rattle.jxlm_base.specs.Grid.{Grid, grid_code}
 use Rattle.jxlm_base.specs.Regions.{store_meanings}
 use Rattle.jxlm_base.specs.declared.subgrid.Region.{Region}
-use Rattle.jxlm_tree.specs.Tree.{Config}
+use Rattle.jxlm_tree.specs.Tree.{Config, depth}
+use Rattle.jxlm_tree.specs.SelfCorrecting.{IsHeader}
 use Rattle.jxl_modular.specs.Layout.{channels_of, layout}
-use Rattle.jxl_modular.specs.Part.{Part, Fits, cell_count}
+use Rattle.jxl_modular.specs.Part.{Part, Fits, IsNarrow, cell_count}
 use Rattle.jxl_modular.specs.Progress.{grids_in}
 use Rattle.jxl_modular.specs.declared.channels.ModularChannelInfo.{ModularChannelInfo}
 use Rattle.jxl_modular.specs.declared.header.ModularHeader.{ModularHeader}
@@ -32,10 +34,13 @@ image_code {S} {D} h c i r s =
     (λ _. refl)
 
 module _ {S D : Type 0} where
-  -- the channels have their buffers, of their sizes
+  -- the channels, which are narrow and at most 65536, have their buffers, of their sizes; the weights are those of a header
   pub record IsLaidOut (x : Image S D) : Type 0 where
     pub sizes : Fits (channels_of x.channels) x.store
     pub regions : x.coded ≡ layout (channels_of x.channels)
+    pub narrow : All IsNarrow (channels_of x.channels)
+    pub few : length x.channels ≤ 65536
+    pub weights : IsHeader x.header.wp_params
 
   -- the part of all channels, read with this stream index
   abbrev pub whole_part : Image S D → ℕ → Part
@@ -44,6 +49,10 @@ module _ {S D : Type 0} where
   -- the grids of the coded channels, of the numbers that the samples stand for
   abbrev pub coded_grids : (S → ℤ) → Image S D → List (Grid ℤ)
   coded_grids to_int x = grids_in x.coded (store_meanings to_int x.store)
+
+  -- how many nodes of the tree a walk may look at
+  abbrev pub cost_of : Image S D → ℕ
+  cost_of x = depth x.config.tree + 1
 
   -- how many samples the coded channels have
   abbrev pub samples_in : Image S D → ℕ

@@ -17,6 +17,10 @@ module _ {S D : Type 0} where
   abbrev pub is_partial : TransformedModularSubimage S D → Bool
   is_partial part = part.partial
 
+  -- how many nodes of trees were looked at
+  abbrev pub steps_of : TransformedModularSubimage S D → ℕ
+  steps_of part = part.steps
+
   -- what decoding changes, with the reader's place
   abbrev pub standing : (S → ℤ) → TransformedModularSubimage S D → ℕ → Standing
   standing to_int part p = record { position = p; grids = coded_grids to_int (image_of part); partial = is_partial part }

@@ -1,7 +1,9 @@
 //! Modular images of JPEG XL.
 #![tactic(auto)]
 
+mod cell;
 mod channels;
+mod coding;
 mod decode;
 mod header;
 pub mod image;

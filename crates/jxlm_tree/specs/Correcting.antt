@@ -1,6 +1,7 @@
 -- The errors of the self-correcting predictor as the code keeps them, and what it makes of a place.
-use Rattle.std.specs.Prelude.{◌≡◌, ℕ, zero, suc, ◌+◌, ◌-◌, ◌*◌, ◌/◌, ◌%◌, ◌^◌, ◌<◌, ◌≤◌, ℤ, pos, ◌+ℤ◌, ◌-ℤ◌, ◌*ℤ◌, unsigned_abs, nat_lt, Bool, not, ◌&&◌, ◌||◌, if◌then◌else◌, List, map, length, slice_index_or, Option, Some, None}
+use Rattle.std.specs.Prelude.{◌≡◌, ℕ, zero, suc, ◌+◌, ◌-◌, ◌*◌, ◌/◌, ◌%◌, ◌^◌, ◌<◌, ◌≤◌, ℤ, pos, ◌+ℤ◌, ◌-ℤ◌, ◌*ℤ◌, unsigned_abs, nat_lt, Bool, not, ◌&&◌, ◌||◌, if◌then◌else◌, List, map, length, slice_index_or, vec_len, Option, Some, None}
 use Rattle.std.specs.Int.{w32, int_wrap, int_shr, is_negative}
+use Rattle.std.specs.Option.{ForSome}
 use Rattle.std.specs.Ordering.{int_eq}
 use Rattle.jxlm_tree.specs.Around.{clamped_around}
 use Rattle.jxlm_tree.specs.Neighbours.{Neighbours}
@@ -140,6 +141,15 @@ CorrectsBehind o weights width x y samples = (x + 1 < width → Corrects o weigh
 abbrev pub HoldsColumn : Option Corrector → ℕ → Type 0
 HoldsColumn None x = Unit {0}
 HoldsColumn (Some c) x = x < c.width
+
+-- a corrector's rows hold so many columns
+abbrev pub HasRows : Option Corrector → ℕ → Type 0
+HasRows o n = ForSome o (λ c. (n ≤ vec_len c.previous) × (n ≤ vec_len c.current))
+
+-- the weights, if there are any
+abbrev pub header_of : Option Corrector → Option WpHeader
+header_of None = None
+header_of (Some c) = Some c.header
 
 -- what was made is what the predictor makes of the place behind the samples, of which these are the errors
 pub record IsMadeBy (r : PredictionResult) (header : WpHeader) (width : ℕ) (samples : List ℤ) : Type 0 where

@@ -1,9 +1,9 @@
 -- Where a predictor's state stands.
-use Rattle.std.specs.Prelude.{◌≡◌, ℕ, ◌+◌, ◌^◌, ◌<◌, ◌≤◌, ℤ, List, Option, All}
+use Rattle.std.specs.Prelude.{◌≡◌, ℕ, ◌+◌, ◌^◌, ◌<◌, ◌≤◌, ℤ, List, Option, All, vec_len, vec_capacity}
 use Rattle.jxlm_base.specs.Grid.{Grid}
 use Rattle.jxlm_base.specs.Regions.{Lies}
 use Rattle.jxlm_base.specs.declared.subgrid.Region.{Region}
-use Rattle.jxlm_tree.specs.Correcting.{Corrects}
+use Rattle.jxlm_tree.specs.Correcting.{Corrects, header_of}
 use Rattle.jxlm_tree.specs.Neighbours.{row}
 use Rattle.jxlm_tree.specs.Rolling.{Rolls}
 use Rattle.jxlm_tree.specs.declared.state.PredictorState.{PredictorState}
@@ -29,9 +29,10 @@ pub record StandsAt {S : Type 0} (state : PredictorState S) (s : Setting) (sampl
 abbrev pub RollsIn : {S : Type 0} → PredictorState S → List ℤ → Type 0
 RollsIn state samples = Rolls state.width state.x state.y state.w state.n state.nw state.gradient state.previous.items state.current.items samples
 
--- what a state is reset for, and the errors that it keeps, are the same in both
+-- what a state is reset for, its room and the errors that it keeps are the same in both
 pub record KeepsSetting {S : Type 0} (old new : PredictorState S) : Type 0 where
   pub same_width : new.width ≡ old.width
+  pub same_room : new.room ≡ old.room
   pub same_earlier : new.earlier ≡ old.earlier
   pub same_corrector : new.corrector ≡ old.corrector
 
@@ -69,6 +70,27 @@ module _ {S : Type 0} where
 
   abbrev pub width_of : PredictorState S → ℕ
   width_of state = state.width
+
+  -- up to which width there is memory for channels
+  abbrev pub room_of : PredictorState S → ℕ
+  room_of state = state.room
+
+  -- how many earlier channels there are, and for how many there is memory
+  abbrev pub earlier_count : PredictorState S → ℕ
+  earlier_count state = vec_len state.earlier
+
+  abbrev pub earlier_room_of : PredictorState S → ℕ
+  earlier_room_of state = vec_capacity state.earlier
+
+  -- the weights, if there are any
+  abbrev pub weights_of : PredictorState S → Option WpHeader
+  weights_of state = header_of state.corrector
+
+  -- there is as much memory in both, and the weights are the same
+  pub record HasSameRoom (old new : PredictorState S) : Type 0 where
+    pub same_room : room_of new ≡ room_of old
+    pub same_earlier_room : earlier_room_of new ≡ earlier_room_of old
+    pub same_weights : weights_of new ≡ weights_of old
 
   -- the place is two or more columns and rows away from every edge but the last row
   pub record IsInner (state : PredictorState S) : Type 0 where

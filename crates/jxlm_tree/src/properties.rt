@@ -7,10 +7,11 @@ ghost use Rattle.jxlm_base.specs.Regions.{Lies, grid_of, store_meanings};
 ghost use Rattle.jxlm_tree.specs.Around.{seen};
 ghost use Rattle.jxlm_tree.specs.Holding.{own_list};
 ghost use Rattle.jxlm_tree.specs.Properties.{place_property, earlier_properties, earlier_property, expected};
-ghost use Rattle.jxlm_tree.specs.Standing.{Setting, StandsAt, IsReady, IsInner};
+ghost use Rattle.jxlm_tree.specs.Standing.{Setting, StandsAt, IsReady, IsInner, HasSameRoom};
 ghost use Rattle.jxlm_tree.specs.Holding.{IsCurrent, surroundings, state_of, store_of};
 
 use crate::around::Around;
+use crate::flat::PlaceProperties;
 use crate::reduced::{reduced, reduced_absolute};
 use crate::self_correcting::PredictionResult;
 use crate::state::PredictorState;
@@ -153,13 +154,30 @@ impl<S: Sample> Properties<'_, S> {
     }
 }
 
+impl<S: Sample> PlaceProperties for Properties<'_, S> {
+    ghost use Rattle.std.specs.Prelude.{◌≡◌, ℕ, ℤ, List};
+    ghost use Rattle.jxlm_base.specs.Regions.{store_meanings};
+    ghost use Rattle.jxlm_tree.specs.Holding.{IsCurrent, state_of, store_of, surroundings};
+    ghost use Rattle.jxlm_tree.specs.Properties.{place_property};
+    ghost use Rattle.jxlm_tree.specs.Standing.{Setting, StandsAt};
+
+    ghost IsCurrent = { λ p. IsCurrent p };
+
+    ghost gives = { λ p k v. (s : Setting) (samples : List ℤ) → StandsAt (state_of p) s samples → v ≡ place_property (surroundings s (store_meanings S.to_int (store_of p)) samples) k };
+
+    fn property(&self, number: usize) -> i32 {
+        self.get(number)
+    }
+}
+
 impl<S> Properties<'_, S> {
     /// Hands the state on behind the sample of this place.
     ///
-    /// The state then stands behind the samples before and this one.
+    /// The state then stands behind the samples before and this one, and has the room that it had.
     pub fn record(self, sample: i32)
         requires { IsCurrent self }
-        ensures { (s : Setting) (samples : List ℤ) → StandsAt self.entry.state.now s samples → StandsAt self.exit.0.now s (samples ++ sample ∷ []) }
+        ensures stands { (s : Setting) (samples : List ℤ) → StandsAt self.entry.state.now s samples → StandsAt self.exit.0.now s (samples ++ sample ∷ []) }
+        ensures room { HasSameRoom self.entry.state.now self.exit.0.now }
     {
         let Properties {
             state,
@@ -169,5 +187,67 @@ impl<S> Properties<'_, S> {
             own: _,
         } = self;
         state.advance(sample, correction);
+    }
+}
+
+#[cfg(test)]
+mod tests {
+    use super::*;
+    use crate::predictor::{Predictor, WpHeader};
+    use jxlm_base::bits::Bitstream;
+    use jxlm_base::region::region_set;
+    use std::test::Fail;
+
+    // Width 3 and the usual weights, in a state with more room: what is made of the place behind a sample of 1.
+    #[test]
+    fn self_correcting_row(rt: HostRuntime) -> Result<(), Fail> {
+        let header = WpHeader::parse(&mut Bitstream::new(&[0x01]))?;
+        let mut state: PredictorState<i32> = PredictorState::with_room(
+            rt.alloc(),
+            5,
+            0,
+            Some(&header),
+        )?;
+        state.restart(3);
+        state.properties::<true>(&[]).record(1);
+        let second = state.properties::<true>(&[]);
+        assert_eq!(rt; [second.get(2), second.get(3), second.get(15)], [0, 1, -8]);
+        assert_eq!(rt; PredictionResult::eightfold(&second.correction), 8);
+        assert_eq!(rt; Predictor::SelfCorrecting.predict(&second), 1);
+        Ok(())
+    }
+
+    // Behind a channel of width 3 one of width 4, beside an earlier one whose first cell is 5: nothing of the first is left.
+    #[test]
+    fn another_channel(rt: HostRuntime) -> Result<(), Fail> {
+        let header = WpHeader::parse(&mut Bitstream::new(&[0x01]))?;
+        let mut store = vec![in rt.alloc(); AlignedGrid::<i32>::new(rt.alloc(), 4, 1)?]?;
+        let region = Region {
+            buffer: 0,
+            x: 0,
+            y: 0,
+            width: 4,
+            height: 1,
+        };
+        region_set(&mut store, region, 0, 0, -5);
+        let mut state: PredictorState<i32> = PredictorState::with_room(
+            rt.alloc(),
+            4,
+            1,
+            Some(&header),
+        )?;
+        state.restart(3);
+        state.properties::<true>(&[]).record(-1000);
+        state.restart(4);
+        state.add_earlier(region);
+        let first = state.properties::<true>(&store);
+        for property in 2..16 {
+            assert_eq!(rt; first.get(property), 0, "at {property}");
+        }
+        assert_eq!(rt; [first.get(16), first.get(17)], [5, -5]);
+        assert_eq!(rt; [first.get(18), first.property(19)], [5, -5]);
+        assert_eq!(rt; first.get(20), 0);
+        assert_eq!(rt; Predictor::SelfCorrecting.predict(&first), 0);
+        Ok(())
     }
 }

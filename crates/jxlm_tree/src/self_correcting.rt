@@ -3,7 +3,7 @@
 ghost use Rattle.jxlm_base.specs.Numbers.{floor_log2};
 ghost use Rattle.jxlm_tree.specs.SelfCorrecting.{IsHeader, errors_of, reciprocal, shifted, total, weight_of};
 ghost use Rattle.std.specs.Int.{int_shr};
-ghost use Rattle.std.specs.Prelude.{◌≡◌, ◌+◌, ◌*◌, ◌<◌, ◌≤◌, ◌^◌, ◌+ℤ◌, ◌-ℤ◌, ◌*ℤ◌, pos, ℕ, ℤ, List, [], ◌∷◌, ◌++◌, length, Option, ◌/◌, ◌%◌, nat_lt, if◌then◌else◌, not, IfOk, false, vec_len, unsigned_abs};
+ghost use Rattle.std.specs.Prelude.{◌≡◌, ◌+◌, ◌*◌, ◌<◌, ◌≤◌, ◌^◌, ◌+ℤ◌, ◌-ℤ◌, ◌*ℤ◌, pos, ℕ, ℤ, List, [], ◌∷◌, ◌++◌, length, Option, Some, ◌/◌, ◌%◌, nat_lt, if◌then◌else◌, not, IfOk, false, vec_len, unsigned_abs};
 
 use crate::around::Around;
 use crate::predictor::WpHeader;
@@ -393,23 +393,45 @@ impl PredictionResult {
 
 impl Corrector {
     ghost use Rattle.jxlm_tree.specs.Around.{seen};
-    ghost use Rattle.jxlm_tree.specs.Correcting.{AreErrorsAt, Corrects, CorrectsBehind, CorrectsBy, CorrectsNext, HoldsColumn, IsMade, IsMadeBy, cell_errors, counted, errors_above, errors_above_left, errors_above_right, sums_from};
+    ghost use Rattle.jxlm_tree.specs.Correcting.{AreErrorsAt, Corrects, CorrectsBehind, CorrectsBy, CorrectsNext, HasRows, HoldsColumn, IsMade, IsMadeBy, cell_errors, header_of, counted, errors_above, errors_above_left, errors_above_right, sums_from};
     ghost use Rattle.jxlm_tree.specs.declared.predictor.WpHeader.{WpHeader};
     ghost use Rattle.jxlm_tree.specs.Neighbours.{neighbours};
 
-    /// The errors before the first sample of a channel of this width.
-    pub(crate) fn new(alloc: Global, header: WpHeader, width: u32) -> Result<Corrector, OutOfMemory>
+    /// Rows for channels up to this width.
+    pub(crate) fn with_room(
+        alloc: Global,
+        header: WpHeader,
+        widest: u32,
+    ) -> Result<Corrector, OutOfMemory>
         requires { IsHeader header }
-        ensures { IfOk result (λ c. CorrectsBy c header width 0 0 []) }
+        ensures header { IfOk result (λ c. c.header ≡ header) }
+        ensures rows { IfOk result (λ c. HasRows (Some c) widest) }
     {
         Ok(Corrector {
             header,
-            width,
+            width: 0,
             west: NO_ERRORS,
             west_west: NO_ERRORS,
-            previous: vec![in alloc; NO_ERRORS; width as usize]?,
-            current: vec![in alloc; NO_ERRORS; width as usize]?,
+            previous: vec![in alloc; NO_ERRORS; widest as usize]?,
+            current: vec![in alloc; NO_ERRORS; widest as usize]?,
         })
+    }
+
+    /// Comes before the first sample of a channel of this width, where there are weights.
+    pub(crate) fn restart_where_kept(corrector: &mut Option<Corrector>, width: u32)
+        requires { HasRows corrector.old width }
+        ensures corrects { Corrects corrector.new (header_of corrector.old) width 0 0 [] }
+        ensures header { header_of corrector.new ≡ header_of corrector.old }
+        ensures rows { (room : ℕ) → HasRows corrector.old room → HasRows corrector.new room }
+    {
+        match corrector {
+            Some(corrector) => {
+                corrector.width = width;
+                corrector.west = NO_ERRORS;
+                corrector.west_west = NO_ERRORS;
+            }
+            None => (),
+        }
     }
 
     /// What is made of the place in column `x` of row `y`, with these neighbours.
@@ -510,7 +532,9 @@ impl Corrector {
         sample: i32,
     )
         requires { HoldsColumn corrector.old x }
-        ensures { (weights : Option WpHeader) (width y : ℕ) (samples : List ℤ) → Corrects corrector.old weights width x y samples → length samples ≡ y * width + x → IsMade made weights width samples → CorrectsBehind corrector.new weights width x y (samples ++ sample ∷ []) }
+        ensures behind { (weights : Option WpHeader) (width y : ℕ) (samples : List ℤ) → Corrects corrector.old weights width x y samples → length samples ≡ y * width + x → IsMade made weights width samples → CorrectsBehind corrector.new weights width x y (samples ++ sample ∷ []) }
+        ensures header { header_of corrector.new ≡ header_of corrector.old }
+        ensures rows { (room : ℕ) → HasRows corrector.old room → HasRows corrector.new room }
     {
         match corrector {
             Some(corrector) => match made {
@@ -524,7 +548,9 @@ impl Corrector {
     /// Moves on behind the sample in column `x`, of which `made` was made.
     pub(crate) fn record(&mut self, x: usize, made: &PredictionResult, sample: i32)
         requires { x < self.old.width }
-        ensures { (header : WpHeader) (width y : ℕ) (samples : List ℤ) → CorrectsBy self.old header width x y samples → length samples ≡ y * width + x → IsMadeBy made.now header width samples → CorrectsNext self.new header width x y (samples ++ sample ∷ []) }
+        ensures next { (header : WpHeader) (width y : ℕ) (samples : List ℤ) → CorrectsBy self.old header width x y samples → length samples ≡ y * width + x → IsMadeBy made.now header width samples → CorrectsNext self.new header width x y (samples ++ sample ∷ []) }
+        ensures header { self.new.header ≡ self.old.header }
+        ensures rows { (room : ℕ) → HasRows (Some self.old) room → HasRows (Some self.new) room }
     {
         let errors = made.errors_behind(sample);
         self.current[x] = errors;

@@ -1,7 +1,9 @@
 //! The state between two samples of a channel.
 
-ghost use Rattle.std.specs.Prelude.{◌≡◌, ◌+◌, ◌*◌, ◌<◌, ◌≤◌, ◌^◌, ℕ, ℤ, List, [], ◌∷◌, ◌++◌, false, IfOk, OnErr, vec_len};
+ghost use Rattle.std.specs.Prelude.{◌≡◌, ◌+◌, ◌*◌, ◌<◌, ◌≤◌, ◌^◌, ℕ, ℤ, List, [], ◌∷◌, ◌++◌, false, IfOk, IfErr, OnErr, vec_len};
 ghost use Rattle.std.specs.Option.{option_copied, ForSome};
+ghost use Rattle.jxlm_base.specs.Fault.{NoMemory, fault_of};
+ghost use Rattle.jxlm_tree.specs.Correcting.{HasRows};
 ghost use Rattle.jxlm_tree.specs.SelfCorrecting.{IsHeader};
 
 use crate::around::Around;
@@ -19,6 +21,8 @@ use std::mem;
 pub struct PredictorState<S> {
     alloc: Global,
     pub(crate) width: u32,
+    // For channels up to this width there is memory.
+    pub(crate) room: u32,
     pub(crate) x: u32,
     pub(crate) y: u32,
     pub(crate) w: i32,
@@ -30,13 +34,15 @@ pub struct PredictorState<S> {
     pub(crate) earlier: Vec<Region>,
     pub(crate) corrector: Option<Corrector>,
     marker: PhantomData<S>,
-    ghost narrow: { width ≤ 2 ^ 30 },
-    ghost previous_len: { width ≤ vec_len previous },
-    ghost current_len: { width ≤ vec_len current },
+    ghost within_room: { width ≤ room },
+    ghost narrow: { room ≤ 2 ^ 30 },
+    ghost previous_len: { room ≤ vec_len previous },
+    ghost current_len: { room ≤ vec_len current },
+    ghost corrector_rows: { HasRows corrector room },
 }
 
 impl<S> PredictorState<S> {
-    ghost use Rattle.jxlm_tree.specs.Standing.{Setting, StandsAt, Stands, IsInner, RollsIn, KeepsSetting, IsNext, setting};
+    ghost use Rattle.jxlm_tree.specs.Standing.{Setting, StandsAt, Stands, IsInner, RollsIn, KeepsSetting, HasSameRoom, IsNext, setting, room_of, earlier_room_of, earlier_count, weights_of};
     ghost use Rattle.jxlm_tree.specs.Neighbours.{neighbours, north_east, north_east_east, north_north, west_west};
     ghost use Rattle.jxlm_tree.specs.Around.{seen};
     ghost use Rattle.jxlm_tree.specs.Correcting.{IsMade};
@@ -46,6 +52,7 @@ impl<S> PredictorState<S> {
         PredictorState {
             alloc,
             width: 0,
+            room: 0,
             x: 0,
             y: 0,
             w: 0,
@@ -92,25 +99,97 @@ impl<S> PredictorState<S> {
         requires weights { ForSome (option_copied wp_header) IsHeader }
         ensures { IfOk result (λ s. StandsAt s (setting width (option_copied wp_header.entry) earlier.now) []) }
     {
+        let mut state = PredictorState::roomy(alloc, width, 0, wp_header)?;
+        state.restart(width);
+        state.earlier = Vec::from_slice(alloc, earlier)?;
+        Ok(state)
+    }
+
+    /// A state that stands nowhere, with memory for each channel up to the width `widest`, at most 2^30, beside up to so many
+    /// earlier ones, and with these weights: `restart` and `add_earlier` then take no memory.
+    ///
+    /// The weights are those of a header that was read. Where memory is refused, the answer is `Error::Buffer`.
+    pub fn with_room(
+        alloc: Global,
+        widest: u32,
+        earlier: usize,
+        wp_header: Option<&WpHeader>,
+    ) -> Result<PredictorState<S>>
+        requires narrow { widest ≤ 2 ^ 30 }
+        requires weights { ForSome (option_copied wp_header) IsHeader }
+        ensures room { IfOk result (λ s. room_of s ≡ widest) }
+        ensures earlier_room { IfOk result (λ s. earlier_room_of s ≡ earlier) }
+        ensures weights { IfOk result (λ s. weights_of s ≡ option_copied wp_header.entry) }
+        ensures err { IfErr result (λ e. fault_of e ≡ NoMemory) }
+    {
+        let state = PredictorState::roomy(alloc, widest, earlier, wp_header)?;
+        Ok(state)
+    }
+
+    fn roomy(
+        alloc: Global,
+        widest: u32,
+        earlier: usize,
+        wp_header: Option<&WpHeader>,
+    ) -> std::result::Result<PredictorState<S>, OutOfMemory>
+        requires narrow { widest ≤ 2 ^ 30 }
+        requires weights { ForSome (option_copied wp_header) IsHeader }
+        ensures room { IfOk result (λ s. room_of s ≡ widest) }
+        ensures earlier_room { IfOk result (λ s. earlier_room_of s ≡ earlier) }
+        ensures weights { IfOk result (λ s. weights_of s ≡ option_copied wp_header.entry) }
+    {
         let corrector = match wp_header {
-            Some(weights) => Some(Corrector::new(alloc, *weights, width)?),
+            Some(weights) => Some(Corrector::with_room(alloc, *weights, widest)?),
             None => None,
         };
         Ok(PredictorState {
             alloc,
-            width,
+            width: 0,
+            room: widest,
             x: 0,
             y: 0,
             w: 0,
             n: 0,
             nw: 0,
             gradient: 0,
-            previous: vec![in alloc; 0i32; width as usize]?,
-            current: vec![in alloc; 0i32; width as usize]?,
-            earlier: Vec::from_slice(alloc, earlier)?,
+            previous: vec![in alloc; 0i32; widest as usize]?,
+            current: vec![in alloc; 0i32; widest as usize]?,
+            earlier: Vec::with_capacity(alloc, earlier)?,
             corrector,
             marker: PhantomData,
         })
+    }
+
+    /// Stands before the first sample of a channel of this width, from 1 to that for which there is room, with the weights as
+    /// they are and no earlier channel.
+    pub fn restart(&mut self, width: u32)
+        requires some { 0 < width }
+        requires roomy { width ≤ room_of self.old }
+        ensures stands { StandsAt self.new (setting width (weights_of self.old) []) [] }
+        ensures none { earlier_count self.new ≡ 0 }
+        ensures room { HasSameRoom self.old self.new }
+    {
+        self.width = width;
+        self.x = 0;
+        self.y = 0;
+        self.w = 0;
+        self.n = 0;
+        self.nw = 0;
+        self.gradient = 0;
+        self.earlier.clear();
+        Corrector::restart_where_kept(&mut self.corrector, width);
+    }
+
+    /// One earlier channel more, behind those that are nearer: the region of one that is as large as the channel.
+    ///
+    /// There is room for it.
+    pub fn add_earlier(&mut self, region: Region)
+        requires { earlier_count self.old < earlier_room_of self.old }
+        ensures stands { (s : Setting) (samples : List ℤ) → StandsAt self.old s samples → StandsAt self.new (setting s.width s.weights (s.earlier ++ region ∷ [])) samples }
+        ensures more { earlier_count self.new ≡ earlier_count self.old + 1 }
+        ensures room { HasSameRoom self.old self.new }
+    {
+        self.earlier.push_reserved(region);
     }
 
     fn north_east<const EDGE: bool>(&self) -> i32
@@ -196,7 +275,8 @@ impl<S> PredictorState<S> {
     pub(crate) fn advance(&mut self, sample: i32, correction: Option<PredictionResult>)
         requires stands { Stands self.old }
         requires few_rows { self.old.y < 2 ^ 30 }
-        ensures { (s : Setting) (samples : List ℤ) → StandsAt self.old s samples → IsMade correction s.weights s.width samples → StandsAt self.new s (samples ++ sample ∷ []) }
+        ensures stands { (s : Setting) (samples : List ℤ) → StandsAt self.old s samples → IsMade correction s.weights s.width samples → StandsAt self.new s (samples ++ sample ∷ []) }
+        ensures room { HasSameRoom self.old self.new }
     {
         Corrector::record_where_made(&mut self.corrector, self.x as usize, correction, sample);
         self.roll(sample);

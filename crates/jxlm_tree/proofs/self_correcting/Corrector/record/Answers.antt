@@ -7,8 +7,8 @@ use Rattle.jxlm_tree.specs.SelfCorrecting.{Errors, no_errors, errors_of, errors_
 use Rattle.jxlm_tree.proofs.Correcting.{KeepsErrors_row, KeepsErrors_end, behind_is, errors_of-push, length-errors_of, map-set}
 use Rattle.jxlm_tree.proofs.self_correcting.Corrector.record.Goals as goal
 
-pub returns-then-x-self : goal.returns-then-x-self
-returns-then-x-self c = λ header width y samples by place made.
+pub returns-then-x-self-clause-next : goal.returns-then-x-self-clause-next
+returns-then-x-self-clause-next c = λ header width y samples by place made.
     let old = c.args.self.now in
     let errors = errors_of header samples width (length samples) in
     let previous = map cell_errors old.previous.items in
@@ -31,8 +31,8 @@ returns-then-x-self c = λ header width y samples by place made.
       λ ge. absurd (omega arith),
     )
 
-pub returns-else-x-self : goal.returns-else-x-self
-returns-else-x-self c = λ header width y samples by place made.
+pub returns-else-x-self-clause-next : goal.returns-else-x-self-clause-next
+returns-else-x-self-clause-next c = λ header width y samples by place made.
     let old = c.args.self.now in
     let errors = errors_of header samples width (length samples) in
     let previous = map cell_errors old.previous.items in

@@ -22,6 +22,7 @@ returns-clause-current g c = record {
       let fg : FitsSigned w32 c.args.self.now.gradient = search rules in
       let same = stands.same_width in
       let narrow = state.narrow in
+      let within = state.within_room in
       let few = c.requires.ready.few_rows in
       let at = c.requires.ready.stands.rolls in
       let here = row_is _ _ _ _ _ _ _ _ _ _ at in
