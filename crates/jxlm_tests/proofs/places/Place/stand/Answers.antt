@@ -17,7 +17,7 @@ loop-sample-preserved g c =
     let s = setting here.width here.weights c.args.regions.now in
     let behind = c.loop-sample.invariant in
     let unchanged = c.properties.ensures.unchanged in
-    let moved = c.record.ensures s behind.before (rw unchanged behind.stands) in
+    let moved = c.record.ensures.stands s behind.before (rw unchanged behind.stands) in
     let sample = to_z w32 (of_z w32 (get_or c.deref-sample-items.result.now c.loop-sample.sample-index (pos 0))) in
     let samples = behind.before ++ sample ∷ [] in
     record {
