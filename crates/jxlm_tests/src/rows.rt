@@ -1,4 +1,4 @@
-// Pictures of one channel of 2 by 2, each with all that it is cut to. Samples, places and faults were computed by hand, and once more
+// Small pictures, each with all that it is cut to. Samples, places and faults of the first six were computed by hand; all were computed
 // by a program of its own.
 
 use crate::table::check;
@@ -87,7 +87,108 @@ const WRONG_SEAL: &str =
 2x2|42|entropy decoder error: unexpected end of input
 2x2||bitstream error: unexpected end of input";
 
-const ROWS: [&str; 6] = [GRADIENT, CONSTANT, RUN, RUN_OF_NONE, SEALED, WRONG_SEAL];
+// Three samples: where the column is above 0, west by tokens of three bits, else the constant token 6.
+const TWO_LEAVES: &str = "3x1|82400800040c02221010868315|3 4 3 @103
+3x1|82400800040c022210108683|entropy decoder error: unexpected end of input
+3x1|82400800040c0222101086|entropy decoder error: unexpected end of input
+3x1|82400800040c02221010|entropy decoder error: unexpected end of input
+3x1|82400800040c022210|entropy decoder error: unexpected end of input
+3x1|82400800040c0222|entropy decoder error: unexpected end of input
+3x1|82400800040c02|entropy decoder error: unexpected end of input
+3x1|82400800040c|entropy decoder error: unexpected end of input
+3x1|8240080004|entropy decoder error: unexpected end of input
+3x1|82400800|entropy decoder error: unexpected end of input
+3x1|824008|entropy decoder error: unexpected end of input
+3x1|8240|entropy decoder error: unexpected end of input
+3x1|82|entropy decoder error: unexpected end of input
+3x1||bitstream error: unexpected end of input";
+
+// Two channels under the sample of the earlier one: above 2 a hundred more.
+const EARLIER: &str = "2x1 2x1|0200000048241000000019000000000000000000900830000000|1 3 0 100 @206
+2x1 2x1|02000000482410000000190000000000000000009008300000|1 3 0 0 @197 entropy decoder error: unexpected end of input
+2x1 2x1|020000004824100000001900000000000000000090083000|1 3 0 0 @188 entropy decoder error: unexpected end of input
+2x1 2x1|0200000048241000000019000000000000000000900830|1 0 0 0 @179 entropy decoder error: unexpected end of input
+2x1 2x1|02000000482410000000190000000000000000009008|0 0 0 0 @170 entropy decoder error: unexpected end of input
+2x1 2x1|020000004824100000001900000000000000000090|entropy decoder error: unexpected end of input
+2x1 2x1|0200000048241000000019000000000000000000|entropy decoder error: unexpected end of input
+2x1 2x1|02000000482410000000190000000000000000|entropy decoder error: unexpected end of input
+2x1 2x1|020000004824100000001900000000000000|entropy decoder error: unexpected end of input
+2x1 2x1|0200000048241000000019000000000000|entropy decoder error: unexpected end of input
+2x1 2x1|02000000482410000000190000000000|entropy decoder error: unexpected end of input
+2x1 2x1|020000004824100000001900000000|entropy decoder error: unexpected end of input
+2x1 2x1|0200000048241000000019000000|entropy decoder error: unexpected end of input
+2x1 2x1|02000000482410000000190000|entropy decoder error: unexpected end of input
+2x1 2x1|020000004824100000001900|entropy decoder error: unexpected end of input
+2x1 2x1|0200000048241000000019|entropy decoder error: unexpected end of input
+2x1 2x1|02000000482410000000|entropy decoder error: unexpected end of input
+2x1 2x1|020000004824100000|entropy decoder error: unexpected end of input
+2x1 2x1|0200000048241000|entropy decoder error: unexpected end of input
+2x1 2x1|02000000482410|entropy decoder error: unexpected end of input
+2x1 2x1|020000004824|entropy decoder error: unexpected end of input
+2x1 2x1|0200000048|entropy decoder error: unexpected end of input
+2x1 2x1|02000000|entropy decoder error: unexpected end of input
+2x1 2x1|020000|entropy decoder error: unexpected end of input
+2x1 2x1|0200|entropy decoder error: unexpected end of input
+2x1 2x1|02|entropy decoder error: unexpected end of input
+2x1 2x1||bitstream error: unexpected end of input";
+
+// Behind a first sample of 1 the greatest error is -8: a sample is its token above -8, the self-correcting prediction and its token
+// above -9, and else 15 less than its token.
+const GREATEST_ERROR: &str = "3x1|0200000028e00300000023300000003a000000280428|1 1 -3 @176
+3x1|0200000028e00300000023300000003a0000002804|1 0 0 @166 entropy decoder error: unexpected end of input
+3x1|0200000028e00300000023300000003a00000028|entropy decoder error: unexpected end of input
+3x1|0200000028e00300000023300000003a000000|entropy decoder error: unexpected end of input
+3x1|0200000028e00300000023300000003a0000|entropy decoder error: unexpected end of input
+3x1|0200000028e00300000023300000003a00|entropy decoder error: unexpected end of input
+3x1|0200000028e00300000023300000003a|entropy decoder error: unexpected end of input
+3x1|0200000028e0030000002330000000|entropy decoder error: unexpected end of input
+3x1|0200000028e00300000023300000|entropy decoder error: unexpected end of input
+3x1|0200000028e003000000233000|entropy decoder error: unexpected end of input
+3x1|0200000028e0030000002330|entropy decoder error: unexpected end of input
+3x1|0200000028e00300000023|entropy decoder error: unexpected end of input
+3x1|0200000028e003000000|entropy decoder error: unexpected end of input
+3x1|0200000028e0030000|entropy decoder error: unexpected end of input
+3x1|0200000028e00300|entropy decoder error: unexpected end of input
+3x1|0200000028e003|entropy decoder error: unexpected end of input
+3x1|0200000028e0|entropy decoder error: unexpected end of input
+3x1|0200000028|entropy decoder error: unexpected end of input
+3x1|02000000|entropy decoder error: unexpected end of input
+3x1|020000|entropy decoder error: unexpected end of input
+3x1|0200|entropy decoder error: unexpected end of input
+3x1|02|entropy decoder error: unexpected end of input
+3x1||bitstream error: unexpected end of input";
+
+// The self-correcting predictor alone.
+const SELF_CORRECTING: &str = "3x3|020000002880010000a0486210c04ef0|-5 -5 -7 -5 -6 -1 -9 -7 13 @128
+3x3|020000002880010000a0486210c04e|-5 -5 -7 -5 -6 -1 -9 0 0 @118 entropy decoder error: unexpected end of input
+3x3|020000002880010000a0486210c0|-5 -5 -7 -5 -6 0 0 0 0 @108 entropy decoder error: unexpected end of input
+3x3|020000002880010000a0486210|-5 -5 -7 -5 0 0 0 0 0 @103 entropy decoder error: unexpected end of input
+3x3|020000002880010000a04862|-5 -5 0 0 0 0 0 0 0 @93 entropy decoder error: unexpected end of input
+3x3|020000002880010000a048|-5 0 0 0 0 0 0 0 0 @88 entropy decoder error: unexpected end of input
+3x3|020000002880010000a0|entropy decoder error: unexpected end of input
+3x3|020000002880010000|entropy decoder error: unexpected end of input
+3x3|0200000028800100|entropy decoder error: unexpected end of input
+3x3|02000000288001|entropy decoder error: unexpected end of input
+3x3|020000002880|entropy decoder error: unexpected end of input
+3x3|0200000028|entropy decoder error: unexpected end of input
+3x3|02000000|entropy decoder error: unexpected end of input
+3x3|020000|entropy decoder error: unexpected end of input
+3x3|0200|entropy decoder error: unexpected end of input
+3x3|02|entropy decoder error: unexpected end of input
+3x3||bitstream error: unexpected end of input";
+
+const ROWS: [&str; 10] = [
+    GRADIENT,
+    CONSTANT,
+    RUN,
+    RUN_OF_NONE,
+    SEALED,
+    WRONG_SEAL,
+    TWO_LEAVES,
+    EARLIER,
+    GREATEST_ERROR,
+    SELF_CORRECTING,
+];
 
 #[test]
 fn rows_of_32_bits(rt: HostRuntime) -> Result<(), Fail> {
