@@ -148,7 +148,7 @@ module _ (part : Part) (regions : List Region) (ints : List (Grid ℤ)) (i x y :
     }
     either false is =
         let goes = goes_without_weights (flat part.tree part.stream i) is (place_property (seen_with None)) (place_property (seen_with (Some part.weights)))
-            (λ k other. weightless (seen_with None) None (Some part.weights) k other) in
+        (λ k other. weightless (seen_with None) None (Some part.weights) k other) in
         let same = goes.0 ∙ leaf_with in
         record {
           leaf_is = same;

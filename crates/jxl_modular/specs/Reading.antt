@@ -51,7 +51,6 @@ module _ {D : Type 0} where
   abbrev pub regions_of : PartCoding D → List Region
   regions_of c = c.regions.now
 
-
   -- The regions have the sizes of the channels, which are narrow; the greatest width is theirs; each channel has its flat tree; the weights are those of a header.
   pub record IsCodingOf (c : PartCoding D) : Type 0 where
     pub sizes : SameSizes (part_of c).channels (regions_of c)
