@@ -1,11 +1,10 @@
 -- Computed examples: headers, trees and samples, from bits.
-use Rattle.std.specs.Prelude.{◌≡◌, ℕ, zero, suc, ◌≤◌, ◌<◌, ℤ, pos, List, [], ◌∷◌, map, replicate, Some, Ok, Err, refl, false, true, Bool, codes}
+use Rattle.std.specs.Prelude.{◌≡◌, ℕ, zero, suc, ◌≤◌, ◌<◌, ℤ, pos, List, [], ◌∷◌, map, Some, Ok, Err, refl, false, true, Bool}
 use Rattle.std.specs.List.{All}
 use Rattle.std.specs.Int.{w32, int_wrap}
 use Rattle.std.specs.Int.Count.{count_leading_zeros}
 use Rattle.std.proofs.Common.{arith, inl, inr}
 use Rattle.std.proofs.lemmas.List.Elements.{All-head}
-use Rattle.jxlm_base.specs.Fault.{BadEnum, BadProfile, BadRct, NoGlobalTree, Eof}
 use Rattle.jxlm_base.specs.Grid.{Grid, grid, cell, IsFull}
 use Rattle.jxlm_base.specs.Regions.{region, HasCell}
 use Rattle.jxlm_base.specs.Plain.{PlainState, plain, number_at, mode_at, cluster_at, code_at, plain_parse, plain_begin, plain_read, token_at, run_at}
@@ -20,7 +19,7 @@ use Rattle.jxlm_transform.specs.declared.channels.ModularChannelInfo.{ModularCha
 use Rattle.jxlm_transform.specs.Params.{sized}
 use Rattle.jxlm_transform.specs.declared.param.ChannelShift.TheVariants.{Shifts}
 use Rattle.jxlm_transform.specs.declared.param.ModularChannelParams.{ModularChannelParams}
-use Rattle.jxlm_tree.specs.Tree.{one_leaf, levels}
+use Rattle.jxlm_tree.specs.Tree.{Config, config_of, leaf, levels}
 use Rattle.jxlm_tree.specs.TreeReading.{listing_at, drafts_at, nodes_at, node_at, leaf_at, predictor_at, multiplier_at, IsTreeAt}
 use Rattle.jxlm_tree.specs.WeightsHeader.{default_weights}
 use Rattle.jxlm_tree.specs.declared.flat.Leaf.{Leaf}
@@ -49,6 +48,10 @@ as_given = record { steps = []; list = image_list square }
 
 abbrev gradient : Leaf
 gradient = record { cluster = 0; predictor = Gradient; offset = pos 0; multiplier = 1 }
+
+-- a tree of one leaf
+abbrev one_leaf : Leaf → PlainState → Config PlainState
+one_leaf l decoder = config_of (leaf l) decoder
 
 abbrev three_bits : Mode → PlainState
 three_bits mode = record { mode = mode; codes = Fixed 3 ∷ []; clusters = 0 ∷ [] }
@@ -256,40 +259,3 @@ module _ (params : ModularParams PlainState) where
 
   row_picture : params.channels.items ≡ square → IsPictureAt plain w32 (λ z. z) row_bytes 0 (pos 0) 0 params (holding row_grids) 80
   row_picture asked = record { read = holding zeros_of_square; place = 68; reads = row_image asked; filled = row_filled }
-
--- What is refused ahead of the tree: no bit, a cut header, a global tree that is not there.
-nothing_there : (opening false (image_list square)).read [] 0 ≡ Err (record { fault = Eof; position = Some 0 })
-nothing_there = refl
-
-cut_header : (opening false (image_list square)).read (0x0E ∷ []) 0 ≡ Err (record { fault = Eof; position = Some 2 })
-cut_header = refl
-
-no_global_tree : (opening false (image_list square)).read (0x03 ∷ []) 0 ≡ Err (record { fault = NoGlobalTree; position = Some 4 })
-no_global_tree = refl
-
--- A kind of transform, and a predictor, that there is not; and a palette that is cut at its predictor.
-a_kind : (opening false (image_list square)).read (0x36 ∷ []) 0 ≡ Err (record { fault = BadEnum (codes "TransformId") 3; position = Some 6 })
-a_kind = refl
-
-a_predictor : (opening false (image_list square)).read (0x16 ∷ 0x00 ∷ 0x00 ∷ 0x1C ∷ []) 0 ≡ Err (record { fault = BadEnum (codes "MaProperty") 14; position = Some 29 })
-a_predictor = refl
-
-cut_palette : (opening false (image_list square)).read (0x16 ∷ 0x00 ∷ 0x00 ∷ []) 0 ≡ Err (record { fault = Eof; position = Some 23 })
-cut_palette = refl
-
--- A colour transform of two channels, and one of three, which cannot be undone yet; that comes before the global tree.
-abbrev squares : ℕ → List ModularChannelParams
-squares n = replicate n (sized 2 2 (Shifts 0))
-
-two_channels : (opening false (image_list (squares 2))).read (0x06 ∷ 0x00 ∷ []) 0 ≡ Err (record { fault = BadRct; position = Some 13 })
-two_channels = refl
-
-three_channels : (opening false (image_list (squares 3))).read (0x06 ∷ 0x00 ∷ []) 0 ≡ Err (record { fault = BadProfile (codes "transform not available"); position = Some 13 })
-three_channels = refl
-
-and_a_global_tree : (opening false (image_list (squares 3))).read (0x07 ∷ 0x00 ∷ []) 0 ≡ Err (record { fault = BadProfile (codes "transform not available"); position = Some 13 })
-and_a_global_tree = refl
-
--- A default squeeze of a channel that is small enough has no step, and is a squeeze.
-small_squeeze : (opening false (image_list square)).read (0x26 ∷ []) 0 ≡ Err (record { fault = BadProfile (codes "transform not available"); position = Some 8 })
-small_squeeze = refl

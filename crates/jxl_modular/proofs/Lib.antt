@@ -19,3 +19,4 @@ pub mod Preparing
 pub mod FreshLaws
 pub mod ParsingLaws
 mod Examples
+mod OpeningExamples
