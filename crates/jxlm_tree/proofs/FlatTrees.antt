@@ -1,12 +1,12 @@
 -- What a walk depends on.
 use Rattle.std.proofs.Common.{◌⊎◌, ◌≡◌, ◌≢◌, ℕ, ◌+◌, ◌*◌, ◌<◌, ◌≤◌, ℤ, pos, Bool, true, false, ◌||◌, ◌==◌, nat_lt, int_lt, if◌then◌else◌, refl, sym, ap, subst, inl, inr, arith, rules}
 use Rattle.std.specs.Int.{w32, int_wrap}
-use Rattle.std.specs.Prelude.{◌-◌, ◌/◌, length, None, slice_get}
+use Rattle.std.specs.Prelude.{◌-◌, ◌/◌, min, max, length, None, slice_get}
 use Rattle.std.proofs.lemmas.Bool.{cases_lt}
 use Rattle.std.proofs.lemmas.Bool.Decides.{nat_tests}
 use Rattle.std.proofs.lemmas.Option.{slice_get_past}
 use Rattle.jxlm_tree.specs.Properties.{Surroundings, place_property, property}
-use Rattle.jxlm_tree.specs.FlatTree.{FlatTree, GoesWithoutWeights, asked, is_self_correcting, leaf_reached, needs_weights}
+use Rattle.jxlm_tree.specs.FlatTree.{FlatTree, GoesWithoutWeights, ReadsEarlierBelow, asked, earlier_named, earlier_of, is_self_correcting, leaf_reached, needs_weights}
 use Rattle.jxlm_tree.specs.Tree.{AllLeaves, Shape, StandsAtLeaf, leaf, decision, walk}
 use Rattle.jxlm_tree.specs.declared.flat.Leaf.{Leaf}
 use Rattle.jxlm_tree.specs.declared.predictor.Predictor.TheVariants.{SelfCorrecting}
@@ -60,6 +60,33 @@ goes_without_weights t h = λ f g same. (
   walk_same (asked t f) (asked t g) (λ k other. asked_same t f g k (same k other)) t.tree h,
   reached_leaf (λ l. l.predictor ≢ SelfCorrecting) t.tree (asked t f) (no_self_correcting t.tree h),
 )
+
+-- ---- earlier channels
+
+-- a property that is not of a channel farther than n is below those of the channel behind
+below_named : (k n : ℕ) → earlier_of k ≤ n → k < 16 + 4 * n
+below_named k n h = either (cases_lt k 16) where
+  either : (k < 16) ⊎ (16 ≤ k) → k < 16 + 4 * n
+  either (inl own) = omega arith
+  either (inr of_earlier) = let is : nat_lt k 16 ≡ false = grind (arith, nat_tests) in let within : (k - 16) / 4 + 1 ≤ n = rw is at h in omega (arith, within)
+
+-- properties that are the same below those of the channels that are there are asked for alike
+asked_below : (t : FlatTree) (f g : ℕ → ℤ) (named : ℕ) → ((k : ℕ) → k < 16 + 4 * min t.prev_channels named → f k ≡ g k) → (k : ℕ) → earlier_of k ≤ named → asked t f k ≡ asked t g k
+asked_below t f g named same k h = ap (λ (v : ℤ). if k == 0 then int_wrap w32 (pos t.channel) else if k == 1 then int_wrap w32 (pos t.stream_idx) else v) (either (cases_lt k (16 + 4 * t.prev_channels))) where
+  either : (k < 16 + 4 * t.prev_channels) ⊎ (16 + 4 * t.prev_channels ≤ k) → (if nat_lt k (16 + 4 * t.prev_channels) then f k else pos 0) ≡ (if nat_lt k (16 + 4 * t.prev_channels) then g k else pos 0)
+  either (inl there) = ap (λ (v : ℤ). if nat_lt k (16 + 4 * t.prev_channels) then v else pos 0) (same k (omega (arith, there, below_named k named h)))
+  either (inr past) = let is : nat_lt k (16 + 4 * t.prev_channels) ≡ false = grind (arith, nat_tests) in rw is refl
+
+walk_named : (f g : ℕ → ℤ) (n : ℕ) → ((k : ℕ) → earlier_of k ≤ n → f k ≡ g k) → (t : Shape Leaf) → earlier_named t ≤ n → walk t f ≡ walk t g
+walk_named f g n same (leaf l) h = refl
+walk_named f g n same (decision k value left right) h =
+    let a = earlier_of k in
+    let b = earlier_named left in
+    let c = earlier_named right in
+    rw (same k (omega arith), walk_named f g n same left (omega arith), walk_named f g n same right (omega arith)) refl
+
+pub reads_earlier_below : (t : FlatTree) (named : ℕ) → named ≡ earlier_named t.tree → ReadsEarlierBelow t (min t.prev_channels named)
+reads_earlier_below t named is = λ f g same. walk_named (asked t f) (asked t g) named (asked_below t f g named same) t.tree (omega (arith, is))
 
 -- ---- the properties of the definitions
 

@@ -1,5 +1,5 @@
 -- A tree as the samples of one channel walk it (ISO/IEC 18181-1, Modular: meta-adaptive trees, properties).
-use Rattle.std.specs.Prelude.{◌≡◌, ◌≢◌, ℕ, ◌+◌, ◌*◌, ◌<◌, ◌^◌, ◌≤◌, ◌==◌, ◌||◌, nat_lt, if◌then◌else◌, ℤ, pos, ◌+ℤ◌, ◌*ℤ◌, Bool, true, false, List, Contains}
+use Rattle.std.specs.Prelude.{◌≡◌, ◌≢◌, ℕ, ◌+◌, ◌-◌, ◌*◌, ◌/◌, max, ◌<◌, ◌^◌, ◌≤◌, ◌==◌, ◌||◌, nat_lt, if◌then◌else◌, ℤ, pos, ◌+ℤ◌, ◌*ℤ◌, Bool, true, false, List, Contains}
 use Rattle.std.specs.Int.{w32, int_wrap}
 use Rattle.jxlm_base.specs.Numbers.{unpack}
 use Rattle.jxlm_tree.specs.Tree.{AllLeaves, Shape, leaf, decision, walk}
@@ -56,6 +56,15 @@ is_self_correcting AvgAll = false
 abbrev pub needs_weights : Shape Leaf → Bool
 needs_weights (leaf l) = is_self_correcting l.predictor
 needs_weights (decision k value left right) = (k == 15) || needs_weights left || needs_weights right
+
+-- which earlier channel a property is of, counted from 1; 0 where it is of none
+abbrev pub earlier_of : ℕ → ℕ
+earlier_of k = if nat_lt k 16 then 0 else (k - 16) / 4 + 1
+
+-- how many earlier channels a walk can ask for: the farthest of which a property stands somewhere in the tree
+abbrev pub earlier_named : Shape Leaf → ℕ
+earlier_named (leaf l) = 0
+earlier_named (decision k value left right) = max (earlier_of k) (max (earlier_named left) (earlier_named right))
 
 -- a leaf's multiplier lies in its range
 abbrev pub HasMultiplier : Leaf → Type 0

@@ -1,10 +1,10 @@
 //! Trees as the samples of one channel walk them, and what a leaf says.
 
-ghost use Rattle.std.specs.Prelude.{◌≡◌, ◌≤◌, ◌<◌, ◌+◌, ◌^◌, ℕ, ℤ, pos, false, length, IfOk};
+ghost use Rattle.std.specs.Prelude.{◌≡◌, ◌≤◌, ◌<◌, ◌+◌, ◌^◌, ℕ, ℤ, pos, false, length, min, IfOk};
 ghost use Rattle.std.specs.Int.{w32, int_wrap};
 ghost use Rattle.jxlm_base.specs.Bits.{bytes_of, position_of};
 ghost use Rattle.jxlm_tree.specs.DecodingSamples.{SampleGives};
-ghost use Rattle.jxlm_tree.specs.FlatTree.{AnswersAs, ClustersStandIn, FlatTree, GoesWithoutWeights, HasMultiplier, ReadsEarlierBelow, asked, leaf_reached, needs_weights, residual_of};
+ghost use Rattle.jxlm_tree.specs.FlatTree.{AnswersAs, ClustersStandIn, FlatTree, GoesWithoutWeights, HasMultiplier, ReadsEarlierBelow, asked, earlier_named, leaf_reached, needs_weights, residual_of};
 ghost use Rattle.jxlm_tree.specs.Properties.{Surroundings, place_property, property};
 ghost use Rattle.jxlm_tree.specs.Tree.{AllLeaves, StandsAtLeaf, depth, node_count, nodes_on_way, walk};
 ghost use Rattle.jxlm_tree.specs.TreeShape.{shape_of};
@@ -71,11 +71,12 @@ pub struct FlatMaTree {
     prev_channels: u32,
     num_nodes: usize,
     need_self_correcting: bool,
+    prev_channels_named: u32,
 }
 
 impl Model for FlatMaTree {
     ghost use Rattle.std.specs.Prelude.{◌≡◌};
-    ghost use Rattle.jxlm_tree.specs.FlatTree.{AnswersAs, ClustersStandIn, FlatTree, HasMultiplier, needs_weights};
+    ghost use Rattle.jxlm_tree.specs.FlatTree.{AnswersAs, ClustersStandIn, FlatTree, HasMultiplier, earlier_named, needs_weights};
     ghost use Rattle.jxlm_tree.specs.Tree.{AllLeaves, node_count};
     ghost use Rattle.jxlm_tree.specs.TreeCode.{coded_flat};
     ghost use Rattle.jxlm_tree.specs.TreeShape.{shape_of};
@@ -87,15 +88,16 @@ impl Model for FlatMaTree {
 
     ghost view = { λ t. record { tree = shape_of t.tree.value; channel = t.channel; stream_idx = t.stream_idx; prev_channels = t.prev_channels } };
 
-    ghost invariant = { λ t. AllLeaves HasMultiplier (shape_of t.tree.value) × (t.num_nodes ≡ node_count (shape_of t.tree.value)) × (t.need_self_correcting ≡ needs_weights (shape_of t.tree.value)) };
+    ghost invariant = { λ t. AllLeaves HasMultiplier (shape_of t.tree.value) × (t.num_nodes ≡ node_count (shape_of t.tree.value)) × (t.need_self_correcting ≡ needs_weights (shape_of t.tree.value)) × (t.prev_channels_named ≡ earlier_named (shape_of t.tree.value)) };
 }
 
 impl FlatMaTree {
-    // The tree of so many nodes, which needs weights or not.
+    // The tree of so many nodes, which needs weights or not and names so many earlier channels.
     pub(crate) fn new(
         tree: Rc<MaTreeNode>,
         num_nodes: usize,
         need_self_correcting: bool,
+        prev_channels_named: u32,
         channel: u32,
         stream_idx: u32,
         prev_channels: u32,
@@ -103,6 +105,7 @@ impl FlatMaTree {
         requires leaves { AllLeaves HasMultiplier (shape_of tree.value) }
         requires nodes { num_nodes ≡ node_count (shape_of tree.value) }
         requires need { need_self_correcting ≡ needs_weights (shape_of tree.value) }
+        requires named { prev_channels_named ≡ earlier_named (shape_of tree.value) }
         ensures { result ≡ record { tree = shape_of tree.value; channel = channel; stream_idx = stream_idx; prev_channels = prev_channels } }
     {
         FlatMaTree {
@@ -112,6 +115,7 @@ impl FlatMaTree {
             prev_channels,
             num_nodes,
             need_self_correcting,
+            prev_channels_named,
         }
     }
 
@@ -133,12 +137,13 @@ impl FlatMaTree {
         self.need_self_correcting
     }
 
-    /// How many of the earlier channels a walk may ask for, the nearest first.
+    /// How many of the earlier channels a walk may ask for, the nearest first: those that are there, up
+    /// to the farthest of which a property stands in the tree.
     pub fn max_prev_channel_depth(&self) -> usize
-        ensures depth { result ≡ self.now.prev_channels }
+        ensures depth { result ≡ min self.now.prev_channels (earlier_named self.now.tree) }
         ensures below { ReadsEarlierBelow self.now result }
     {
-        self.prev_channels as usize
+        self.prev_channels.min(self.prev_channels_named) as usize
     }
 
     /// The leaf to which these properties lead, from the root on: to the left where a decision's
@@ -238,7 +243,7 @@ mod tests {
     use jxlm_base::plain::PlainDecoder;
     use std::test::Fail;
 
-    // Property 3 above 5: left, property 17 above -2 (Zero, else SelfCorrecting); right, property 1
+    // Property 3 above 5: left, property 17, of the nearest earlier channel, above -2 (Zero, else SelfCorrecting); right, property 1
     // above 0 (AvgNorthAndNorthEast, else AvgAll). Behind the tree stand the tokens 5, 201 and 3.
     const SEVEN_NODES: [u8; 32] = [
         0x14, 0x84, 0x0c, 0x15, 0x43, 0x81, 0x60, 0x10, 0x0c, 0x44, 0x91, 0x83, 0x00, 0x00, 0x38,
@@ -301,6 +306,8 @@ mod tests {
             assert_eq!(rt; flat.num_nodes(), 7);
             assert!(rt; flat.need_self_correcting());
             assert_eq!(rt; flat.max_prev_channel_depth(), prev_channels as usize);
+            let later = config.make_flat_tree(channel, stream_idx, prev_channels + 1)?;
+            assert_eq!(rt; later.max_prev_channel_depth(), 1);
         }
         Ok(())
     }

@@ -42,11 +42,12 @@ pub struct MaConfig<D: Decoder> {
     num_tree_nodes: usize,
     tree_depth: usize,
     need_self_correcting: bool,
+    prev_channels_named: u32,
 }
 
 impl<D: Decoder> Model for MaConfig<D> {
     ghost use Rattle.std.specs.Prelude.{◌≡◌, ◌≤◌, ◌^◌};
-    ghost use Rattle.jxlm_tree.specs.FlatTree.{needs_weights};
+    ghost use Rattle.jxlm_tree.specs.FlatTree.{earlier_named, needs_weights};
     ghost use Rattle.jxlm_tree.specs.Tree.{AllLeaves, Config, config_of, depth, node_count};
     ghost use Rattle.jxlm_tree.specs.TreeReading.{IsLeafOf};
     ghost use Rattle.jxlm_tree.specs.TreeCode.{coded_config};
@@ -59,7 +60,7 @@ impl<D: Decoder> Model for MaConfig<D> {
 
     ghost view = { λ c. config_of (shape_of c.tree.value) c.decoder };
 
-    ghost invariant = { λ c. AllLeaves (IsLeafOf (D.meaning.cluster_map c.decoder)) (shape_of c.tree.value) × (c.num_tree_nodes ≡ node_count (shape_of c.tree.value)) × (c.tree_depth ≡ depth (shape_of c.tree.value)) × (c.num_tree_nodes ≤ 2 ^ 26) × (c.tree_depth ≤ 2048) × (c.need_self_correcting ≡ needs_weights (shape_of c.tree.value)) };
+    ghost invariant = { λ c. AllLeaves (IsLeafOf (D.meaning.cluster_map c.decoder)) (shape_of c.tree.value) × (c.num_tree_nodes ≡ node_count (shape_of c.tree.value)) × (c.tree_depth ≡ depth (shape_of c.tree.value)) × (c.num_tree_nodes ≤ 2 ^ 26) × (c.tree_depth ≤ 2048) × (c.need_self_correcting ≡ needs_weights (shape_of c.tree.value)) × (c.prev_channels_named ≡ earlier_named (shape_of c.tree.value)) };
 }
 
 impl<D: Decoder> MaConfig<D> {
@@ -86,6 +87,7 @@ impl<D: Decoder> MaConfig<D> {
         let root = build(alloc, nodes, decoder.cluster_map(), params.depth_limit)?;
         let tree_depth = root.depth;
         let need_self_correcting = root.tree.needs_self_correcting();
+        let prev_channels_named = root.tree.earlier_named();
         let tree = Rc::new(alloc, root.tree).map_err(|_| OutOfMemory)?;
         Ok(MaConfig {
             tree,
@@ -93,6 +95,7 @@ impl<D: Decoder> MaConfig<D> {
             num_tree_nodes,
             tree_depth,
             need_self_correcting,
+            prev_channels_named,
         })
     }
 
@@ -111,6 +114,7 @@ impl<D: Decoder> MaConfig<D> {
             num_tree_nodes: self.num_tree_nodes,
             tree_depth: self.tree_depth,
             need_self_correcting: self.need_self_correcting,
+            prev_channels_named: self.prev_channels_named,
         })
     }
 
@@ -135,6 +139,7 @@ impl<D: Decoder> MaConfig<D> {
             tree,
             self.num_tree_nodes,
             self.need_self_correcting,
+            self.prev_channels_named,
             channel,
             stream_idx,
             prev_channels,
@@ -464,13 +469,14 @@ mod tests {
         let most = limits(1 << 26, 2048);
         let config: MaConfig<PlainDecoder> = MaConfig::parse(rt.alloc(), &mut bits, most)?;
         let copy = config.try_clone(rt.alloc())?;
-        let last = config.make_flat_tree(0, 7, 0)?;
+        let last = config.make_flat_tree(0, 7, 3)?;
         let first = copy.make_flat_tree(1, 7, 0)?;
         drop(config);
         let mut steps = Steps::new();
         assert_eq!(rt; last.leaf(&Nothing, &mut steps).cluster, 1);
         assert_eq!(rt; first.leaf(&Nothing, &mut steps).cluster, 0);
         assert_eq!(rt; last.num_nodes(), 4097);
+        assert_eq!(rt; last.max_prev_channel_depth(), 0);
         Ok(())
     }
 

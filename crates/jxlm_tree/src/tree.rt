@@ -2,7 +2,7 @@
 
 ghost use Rattle.std.specs.Prelude.{◌≡◌, ◌≤◌, IfOk, IfErr};
 ghost use Rattle.jxlm_base.specs.Fault.{fault_of};
-ghost use Rattle.jxlm_tree.specs.FlatTree.{needs_weights};
+ghost use Rattle.jxlm_tree.specs.FlatTree.{earlier_named, earlier_of, needs_weights};
 ghost use Rattle.jxlm_tree.specs.Queue.{IsRefusedAsTooDeep};
 ghost use Rattle.jxlm_tree.specs.Tree.{decision, depth as depth_of, leaf as leaf_shape};
 ghost use Rattle.jxlm_tree.specs.TreeShape.{shape_of};
@@ -44,6 +44,35 @@ impl MaTreeNode {
                 *property == 15 || left.needs_self_correcting() || right.needs_self_correcting()
             }
         }
+    }
+
+    /// How many earlier channels can be asked for here or below: the farthest that is named.
+    pub fn earlier_named(&self) -> u32
+        ensures { result ≡ earlier_named (shape_of self.now) }
+    {
+        match self {
+            MaTreeNode::Leaf(_) => 0,
+            MaTreeNode::Decision {
+                property,
+                value: _,
+                left,
+                right,
+            } => {
+                let below = left.earlier_named().max(right.earlier_named());
+                earlier_of(*property).max(below)
+            }
+        }
+    }
+}
+
+// Of which earlier channel a property is, from 1 on; 0 where it is of none.
+fn earlier_of(property: u32) -> u32
+    ensures { result ≡ earlier_of property }
+{
+    if property < 16 {
+        0
+    } else {
+        (property - 16) / 4 + 1
     }
 }
 
