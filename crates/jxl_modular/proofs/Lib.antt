@@ -14,6 +14,9 @@ pub mod Places
 pub mod TokenLaw
 pub mod Whole
 pub mod HeaderLaws
+pub mod OpeningLaws
+pub mod Preparing
 pub mod FreshLaws
 pub mod ParsingLaws
 mod Examples
+mod OpeningExamples

@@ -10,7 +10,10 @@ use Rattle.jxlm_base.specs.declared.decoder.DecoderError.{DecoderError}
 use Rattle.jxlm_base.specs.declared.decoder.DecoderError.TheVariants.{UnexpectedEof, Invalid, OutOfMemory}
 use Rattle.jxlm_base.specs.declared.subgrid.Region.{Region}
 use Rattle.jxlm_base.specs.Fault.{UnlessMemory, bitstream_fault, fault_of}
+use Rattle.jxlm_tree.specs.Tree.{Shape}
 use Rattle.jxlm_tree.specs.TreeReading.{IsWantOfMemory}
+use Rattle.jxlm_tree.specs.declared.flat.Leaf.{Leaf}
+use Rattle.jxlm_tree.specs.declared.predictor.WpHeader.{WpHeader}
 use Rattle.std.proofs.Common.{inl, Result, Ok, Err, false}
 use Rattle.jxlm_base.specs.declared.bits.BitstreamError.{BitstreamError}
 use Rattle.jxlm_base.specs.declared.bits.BitstreamError.TheVariants as bit_errors
@@ -21,11 +24,14 @@ use Rattle.jxl_modular.specs.Coded.{IfSome}
 use Rattle.jxl_modular.specs.Decode.{Standing, DecodeAnswers, MovesWithin}
 use Rattle.jxl_modular.specs.Image.{Image, IsLaidOut, coded_grids, cost_of as image_cost, whole_part, samples_in}
 use Rattle.jxl_modular.specs.Layout.{channels_of}
-use Rattle.jxl_modular.specs.Part.{Channel, Part, Fits, greatest_width}
+use Rattle.jxl_modular.specs.Part.{Channel, Part, Fits, cell_count, greatest_width}
 use Rattle.jxl_modular.specs.Progress.{SameSizes, grids_in, DecodesAll, DecodesSome, KeepsOutside, buffer_at}
-use Rattle.jxl_modular.specs.Reading.{HasFlats, IsCodingOf, cost_of, part_of, regions_of}
+use Rattle.jxl_modular.specs.Reading.{HasFlats, IsCodingOf, IsRoomy, IsRoomyFor, regions_of}
 use Rattle.jxl_modular.specs.Samples.{DecodesSamples, FailsAtOnePlace, RefusesSamples}
+use Rattle.jxlm_transform.specs.declared.channels.ModularChannelInfo.{ModularChannelInfo}
 use Rattle.jxl_modular.specs.declared.coding.PartCoding.{PartCoding}
+use Rattle.jxlm_tree.specs.declared.state.PredictorState.{PredictorState}
+use Rattle.jxl_modular.proofs.Starting.{roomy_for}
 use Rattle.jxl_modular.proofs.Loops.{same_count}
 use Rattle.jxl_modular.proofs.Layouts.{layout_lies, layout_apart, layout_grids, same_sizes, fits_meanings}
 
@@ -68,8 +74,15 @@ pub refilled : {X : Type 0} (n : ℕ) (xs ys : List X) → n ≡ length ys → l
 refilled n xs ys a b =
     ap (λ k. take k (xs ++ drop (length xs) ys)) (a ∙ sym b) ∙ take-append_seam xs (drop (length xs) ys)
 
+abbrev pub part_with : List Channel → WpHeader → Shape Leaf → ℕ → Part
+part_with channels weights tree stream = record { channels = channels; weights = weights; tree = tree; stream = stream }
+
 abbrev pub with_store : {S D : Type 0} → Image S D → List (Grid S) → Image S D
 with_store x s = record x { store = s }
+
+some_channel : (channels : List ModularChannelInfo) → 0 < cell_count (channels_of channels) → 0 < length channels
+some_channel [] h = absurd (omega arith)
+some_channel (c ∷ cs) h = omega arith
 
 module _ {S D : Type 0} (x : Image S D) (laid : IsLaidOut x) (c : PartCoding D)
     (channels : c.channels.now ≡ x.channels) (regions : c.regions.now ≡ x.coded) (config : c.config.now ≡ x.config) (weights : c.weights ≡ x.header.wp_params) where
@@ -86,37 +99,38 @@ module _ {S D : Type 0} (x : Image S D) (laid : IsLaidOut x) (c : PartCoding D)
     weights = rw weights laid.weights;
   }
 
-  -- the part of all channels is the one that is coded so
-  pub part_is : part_of c ≡ whole_part x c.stream_index
-  part_is = rw (channels, weights, config) refl
+  -- where there are samples, the state has room for them
+  pub roomy_part : (state : PredictorState S) → 0 < samples_in x → IsCodingOf c → IsRoomyFor c.widest c.weights c.flats.now state → IsRoomy c state
+  roomy_part state some coding roomy = roomy_for c state coding roomy (let n = count_is in let m = some_channel x.channels some in omega (arith, n, m))
 
-  pub cost_is : cost_of c ≡ image_cost x
-  cost_is = rw config refl
+-- the part of the channels of an image
+pub same_part : {S D : Type 0} (x : Image S D) (stream : ℕ) (channels : List ModularChannelInfo) → channels ≡ x.channels →
+    part_with (channels_of channels) x.header.wp_params x.config.tree stream ≡ whole_part x stream
+same_part x stream channels same = ap (λ cs. part_with (channels_of cs) x.header.wp_params x.config.tree stream) same
 
-  pub lie_in : AllLie (regions_of c) x.store
-  lie_in = rw regions (coded_lie x laid)
-
-  pub lie_apart : LieApart (regions_of c)
-  lie_apart = rw regions (coded_apart x laid)
-
-module _ {S D : Type 0} (d : Meaning D) (w : Width) (to_int : S → ℤ) (bytes : List ℕ) (old : Image S D) (s : List (Grid S)) (p q : ℕ) (c : PartCoding D) (regions : regions_of c ≡ old.coded) (is : part_of c ≡ whole_part old c.stream_index) (cost : cost_of c ≡ image_cost old) where
-  pub decodes_samples : DecodesAll d w (part_of c) bytes (regions_of c) old.config.decoder (store_meanings to_int old.store) p (store_meanings to_int s) q → DecodesSamples d w to_int bytes c.stream_index old p (with_store old s) q
+module _ {S D : Type 0} (d : Meaning D) (w : Width) (to_int : S → ℤ) (bytes : List ℕ) (stream : ℕ) (old : Image S D) (s : List (Grid S)) (p q : ℕ)
+    (regions : List Region) (part : Part) (coded : regions ≡ old.coded) (is : part ≡ whole_part old stream) where
+  pub decodes_samples : DecodesAll d w part bytes regions old.config.decoder (store_meanings to_int old.store) p (store_meanings to_int s) q → DecodesSamples d w to_int bytes stream old p (with_store old s) q
   decodes_samples all = subst (λ (part : Part). DecodesAll d w part bytes old.coded old.config.decoder (store_meanings to_int old.store) p (store_meanings to_int s) q) is
-      (subst (λ rs. DecodesAll d w (part_of c) bytes rs old.config.decoder (store_meanings to_int old.store) p (store_meanings to_int s) q) regions all)
+      (subst (λ rs. DecodesAll d w part bytes rs old.config.decoder (store_meanings to_int old.store) p (store_meanings to_int s) q) coded all)
 
   module _ (before after : ℕ) where
-    fails_samples : (e : DecoderError) → DecodesSome d w (part_of c) bytes (regions_of c) old.config.decoder (store_meanings to_int old.store) p (store_meanings to_int s) q (cost_of c) before after e →
-        FailsAtOnePlace d w to_int bytes c.stream_index old p (with_store old s) q before after e
+    fails_samples : (e : DecoderError) → DecodesSome d w part bytes regions old.config.decoder (store_meanings to_int old.store) p (store_meanings to_int s) q (image_cost old) before after e →
+        FailsAtOnePlace d w to_int bytes stream old p (with_store old s) q before after e
     fails_samples e some =
-        subst (λ n. DecodesSome d w (whole_part old c.stream_index) bytes old.coded old.config.decoder (store_meanings to_int old.store) p (store_meanings to_int s) q n before after e) cost
-        (subst (λ (part : Part). DecodesSome d w part bytes old.coded old.config.decoder (store_meanings to_int old.store) p (store_meanings to_int s) q (cost_of c) before after e) is
-        (subst (λ rs. DecodesSome d w (part_of c) bytes rs old.config.decoder (store_meanings to_int old.store) p (store_meanings to_int s) q (cost_of c) before after e) regions some))
+        subst (λ (part : Part). DecodesSome d w part bytes old.coded old.config.decoder (store_meanings to_int old.store) p (store_meanings to_int s) q (image_cost old) before after e) is
+        (subst (λ rs. DecodesSome d w part bytes rs old.config.decoder (store_meanings to_int old.store) p (store_meanings to_int s) q (image_cost old) before after e) coded some)
 
-    pub refuses_samples : (e : DecoderError) → e ≢ OutOfMemory → DecodesSome d w (part_of c) bytes (regions_of c) old.config.decoder (store_meanings to_int old.store) p (store_meanings to_int s) q (cost_of c) before after e →
-        RefusesSamples d w to_int bytes c.stream_index old p (with_store old s) q before after (Decoder e)
+    pub refuses_samples : (e : DecoderError) → e ≢ OutOfMemory → DecodesSome d w part bytes regions old.config.decoder (store_meanings to_int old.store) p (store_meanings to_int s) q (image_cost old) before after e →
+        RefusesSamples d w to_int bytes stream old p (with_store old s) q before after (Decoder e)
     refuses_samples UnexpectedEof ne some = fails_samples UnexpectedEof some
     refuses_samples (Invalid k) ne some = fails_samples (Invalid k) some
     refuses_samples OutOfMemory ne some = absurd (ne refl)
+
+-- what refuses the samples of an image refuses those of the same
+pub refuses_so : {S D : Type 0} (d : Meaning D) (w : Width) (to_int : S → ℤ) (bytes : List ℕ) (stream : ℕ) (x old new : Image S D) (p q before after : ℕ) (e : Error) → x ≡ old →
+    RefusesSamples d w to_int bytes stream x p new q before after e → RefusesSamples d w to_int bytes stream old p new q before after e
+refuses_so d w to_int bytes stream x old new p q before after e same h = subst (λ im. RefusesSamples d w to_int bytes stream im p new q before after e) same h
 
 memory_of_bits : (b : BitstreamError) → UnlessMemory (bitstream_fault b) ⊥ → ⊥
 memory_of_bits bit_errors.UnexpectedEof h = h

@@ -52,11 +52,11 @@ module _ {S D : Type 0} (d : Meaning D) (w : Width) (to_int : S → ℤ) (bytes 
   refused_samples old p partial new (error.Buffer m) q at h = tt
 
   -- the same of an image that is another's equal
-  pub refused_samples_of : (before old : Image S D) (p : ℕ) (partial : Bool) (new : Standing) (e : Error) (q : ℕ) → before ≡ old → new.position ≡ q →
-      (tried : ℕ) × DecodeAnswers d w (whole_part before stream) bytes before.config.decoder (stands to_int before p partial) new false (Err e) tried →
+  pub refused_samples_of : (Work : ℕ → Type 0) (before old : Image S D) (p : ℕ) (partial : Bool) (new : Standing) (e : Error) (q : ℕ) → before ≡ old → new.position ≡ q →
+      (tried : ℕ) × DecodeAnswers d w (whole_part before stream) bytes before.config.decoder (stands to_int before p partial) new false (Err e) tried × Work tried →
       UnlessMemory (fault_of e) (AreRefused d w to_int bytes stream old p (fault_of e) q)
-  refused_samples_of before old p partial new e q same at h =
-      subst (λ (x : Image S D). UnlessMemory (fault_of e) (AreRefused d w to_int bytes stream x p (fault_of e) q)) same (refused_samples before p partial new e q at h)
+  refused_samples_of Work before old p partial new e q same at h =
+      subst (λ (x : Image S D). UnlessMemory (fault_of e) (AreRefused d w to_int bytes stream x p (fault_of e) q)) same (refused_samples before p partial new e q at (h.0, h.1))
 
   module _ (zero : S) (p : ℕ) (params : ModularParams D) where
     same_image : (x y : Image S D) (o : Option (Image S D)) → o ≡ Some x → o ≡ Some y → x ≡ y

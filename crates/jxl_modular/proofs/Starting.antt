@@ -1,7 +1,9 @@
 -- How a state is set for a channel, and what is made ready for it.
-use Rattle.std.proofs.Common.{◌≡◌, ℕ, zero, suc, ◌+◌, ◌<◌, ◌≤◌, ◌⊎◌, inl, inr, List, [], ◌∷◌, ◌++◌, length, map, Bool, true, false, if◌then◌else◌, Some, refl, sym, ap, ◌∙◌, subst, arith, get_or, ℤ}
+use Rattle.std.proofs.Common.{◌≡◌, ℕ, zero, suc, ◌+◌, ◌^◌, ◌<◌, ◌≤◌, ◌⊎◌, inl, inr, List, [], ◌∷◌, ◌++◌, length, map, Bool, true, false, if◌then◌else◌, Some, refl, sym, ap, ◌∙◌, subst, arith, get_or, ℤ}
 use Rattle.std.specs.Prelude.{filter, slice_get}
+use Rattle.std.specs.List.{All}
 use Rattle.std.proofs.lemmas.Bool.{cases_lt}
+use Rattle.std.proofs.lemmas.List.Elements.{All-head, All-tail}
 use Rattle.std.proofs.lemmas.List.{append_assoc, append-nil, length-append, length-map, get_or-map, get_or_append_left}
 use Rattle.std.proofs.lemmas.Option.{slice_get-get_or, get_or_from_slice_get}
 use Rattle.std.proofs.Math.Seq.{get_or-append_seam}
@@ -14,8 +16,8 @@ use Rattle.jxlm_tree.specs.declared.predictor.WpHeader.{WpHeader}
 use Rattle.jxlm_tree.specs.declared.state.PredictorState.{PredictorState}
 use Rattle.jxlm_tree.proofs.StandingLaws.{stands_earlier}
 use Rattle.jxl_modular.specs.Layout.{channel_of}
-use Rattle.jxl_modular.specs.declared.channels.ModularChannelInfo.{ModularChannelInfo}
-use Rattle.jxl_modular.specs.Part.{Channel, channel, no_channel, downward, earlier_alike, greatest_width, is_alike}
+use Rattle.jxlm_transform.specs.declared.channels.ModularChannelInfo.{ModularChannelInfo}
+use Rattle.jxl_modular.specs.Part.{Channel, IsNarrow, channel, no_channel, downward, earlier_alike, greatest_width, is_alike}
 use Rattle.jxl_modular.specs.Reading.{HasFlats, IsCodingOf, IsRoomy, IsRoomyFor, earlier_regions, flat, part_of, region_at, regions_of, setting_of, weights_used}
 use Rattle.jxl_modular.specs.declared.coding.PartCoding.{PartCoding}
 use Rattle.jxl_modular.proofs.CellLaws.{roomy_still}
@@ -27,6 +29,14 @@ pub within_widest : (channels : List Channel) (i : ℕ) → i < length channels 
 within_widest [] i l = absurd (omega arith)
 within_widest (c ∷ cs) zero l = omega arith
 within_widest (c ∷ cs) (suc i) l = let h = within_widest cs i (omega arith) in omega (arith, h)
+
+-- where all channels are narrow, so is the widest
+pub narrow_widest : (channels : List Channel) → All IsNarrow channels → greatest_width channels ≤ 2 ^ 30
+narrow_widest [] h = omega arith
+narrow_widest (c ∷ cs) h =
+    let first = (All-head IsNarrow c cs h).0 in
+    let rest = narrow_widest cs (All-tail IsNarrow c cs h) in
+    omega (arith, first, rest)
 
 module _ {D : Type 0} (c : PartCoding D) (i : ℕ) where
   abbrev passes : ℕ → Bool

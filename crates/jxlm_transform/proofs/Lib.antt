@@ -8,6 +8,7 @@ pub mod Powers
 pub mod Refusals
 pub mod RepeatedLoop
 pub mod ShiftBounds
+pub mod SideBounds
 mod TransformExamples
 pub mod TransformLaws
 pub mod Views

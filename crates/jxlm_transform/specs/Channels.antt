@@ -4,6 +4,7 @@ use Rattle.jxlm_transform.specs.declared.channels.ModularChannelInfo.{ModularCha
 use Rattle.jxlm_transform.specs.declared.channels.ModularChannels.{ModularChannels}
 use Rattle.jxlm_transform.specs.declared.param.ChannelShift.{ChannelShift}
 use Rattle.jxlm_transform.specs.declared.param.ModularChannelParams.{ModularChannelParams}
+use Rattle.jxlm_transform.specs.Params.{IsSide}
 use Rattle.jxlm_transform.specs.Shifts as shifts
 
 -- A channel as it is coded: its sides, the sides of its picture, its shifts (those of a table are -1), and the shift that it was
@@ -30,6 +31,10 @@ image_channel p =
       vshift = shifts.vshift p.shift;
       shift = p.shift;
     }
+
+-- no side of it is above 2 ^ 30
+abbrev pub IsNarrow : Channel → Type 0
+IsNarrow c = IsSide c.width × IsSide c.height
 
 -- how many samples it has
 abbrev pub area : Channel → ℕ
