@@ -272,14 +272,13 @@ mod tests {
 
     /// A number that has no meaning.
     fn unknown(name: &'static str, value: u32) -> Option<Error> {
-        Some(Error::Bitstream(BitstreamError::InvalidEnum {
-            name,
-            value,
-        }))
+        Some(Error::Bitstream(BitstreamError::InvalidEnum { name, value }))
     }
 
     const EOF: Error = Error::Bitstream(BitstreamError::UnexpectedEof);
+
     const NO_TRANSFORM: &str = "transform not available";
+
     const TOO_MANY: &str = "nb_channels_tr too large";
 
     #[test]
@@ -306,7 +305,10 @@ mod tests {
         let palette = Some(Error::InvalidPaletteParams);
         assert_eq!(rt; refusal(&rt, &[0x16, 0x81, 0x01, 0x00], 1)?, (palette, 29));
         let squeeze_then_colour = refusal(&rt, &[0x0A, 0x06, 0x40, 0x00, 0x00], 1)?;
-        assert_eq!(rt; squeeze_then_colour, (Some(Error::InvalidSqueezeParams), 34));
+        assert_eq!(rt;
+            squeeze_then_colour,
+            (Some(Error::InvalidSqueezeParams), 34)
+        );
         let colour_then_squeeze = refusal(&rt, &[0x0A, 0x00, 0x0C, 0x80, 0x00], 1)?;
         assert_eq!(rt; colour_then_squeeze, (colour, 34));
 
@@ -314,7 +316,10 @@ mod tests {
         assert_eq!(rt; refusal(&rt, &[0x06, 0x00], 3)?, (no_transform, 13));
         assert_eq!(rt; refusal(&rt, &[0x07, 0x00], 3)?, (no_transform, 13));
         assert_eq!(rt; refusal(&rt, &[0x26], 1)?, (no_transform, 8));
-        assert_eq!(rt; refusal(&rt, &[0x03], 1)?, (Some(Error::GlobalMaTreeNotAvailable), 4));
+        assert_eq!(rt;
+            refusal(&rt, &[0x03], 1)?,
+            (Some(Error::GlobalMaTreeNotAvailable), 4)
+        );
         Ok(())
     }
 
@@ -343,7 +348,10 @@ mod tests {
             bytes.push(0)?;
         }
         assert_eq!(rt; refusal(&rt, &bytes, 3)?, (beyond(NO_TRANSFORM), 2469));
-        assert_eq!(rt; refusal(&rt, &bytes, 2)?, (Some(Error::InvalidRctParams), 2469));
+        assert_eq!(rt;
+            refusal(&rt, &bytes, 2)?,
+            (Some(Error::InvalidRctParams), 2469)
+        );
         bytes.pop();
         assert_eq!(rt; refusal(&rt, &bytes, 3)?, (Some(EOF), 2462));
         Ok(())
@@ -361,7 +369,10 @@ mod tests {
         bytes.pop();
         assert_eq!(rt; refusal(&rt, &bytes, 1)?, (Some(EOF), 2752));
         bytes.push(0)?;
-        assert_eq!(rt; refusal(&rt, &bytes, 1)?, (Some(Error::InvalidSqueezeParams), 2760));
+        assert_eq!(rt;
+            refusal(&rt, &bytes, 1)?,
+            (Some(Error::InvalidSqueezeParams), 2760)
+        );
         Ok(())
     }
 
@@ -381,7 +392,10 @@ mod tests {
             bytes.extend_from_slice(&steps)?;
         }
         bytes.extend_from_slice(&[1, 2, 4, 8, 16, 32, 0])?;
-        assert_eq!(rt; refusal(&rt, &bytes, 1)?, (Some(Error::InvalidSqueezeParams), 302));
+        assert_eq!(rt;
+            refusal(&rt, &bytes, 1)?,
+            (Some(Error::InvalidSqueezeParams), 302)
+        );
         Ok(())
     }
 
