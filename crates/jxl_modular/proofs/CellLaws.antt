@@ -5,6 +5,7 @@ use Rattle.std.specs.Int.{Width}
 use Rattle.std.proofs.lemmas.List.{length-take-le, take_more_set}
 use Rattle.std.proofs.lemmas.Nat.{mod-mul-add, div-mul-add, mul-add-lt}
 use Rattle.std.proofs.lemmas.Option.{get_or_from_slice_get}
+use Rattle.std.proofs.lemmas.List.Elements.{All-take}
 use Rattle.jxlm_base.specs.Decoding.{Meaning}
 use Rattle.jxlm_base.specs.Grid.{Grid, with_cell}
 use Rattle.jxlm_base.specs.Regions.{AllLie, Lies, grid_of, region, store_meanings, with_region_cell}
@@ -19,7 +20,7 @@ use Rattle.jxlm_tree.specs.declared.flat.Leaf.{Leaf}
 use Rattle.jxlm_tree.specs.declared.state.PredictorState.{PredictorState}
 use Rattle.jxl_modular.specs.Coded.{next_prediction, part_rule, sample_of}
 use Rattle.jxl_modular.specs.Part.{channel, greatest_width, no_channel}
-use Rattle.jxl_modular.specs.Reading.{FindsClusters, IsCodingOf, IsRoomy, ReadsCell, ReadsNext, RefusesCell, RefusesNext, StandsBehind, ahead, cost_of, flat, leaf_at, part_of, predicted_at, region_at, regions_of, setting_of}
+use Rattle.jxl_modular.specs.Reading.{FindsClusters, IsCodingOf, IsRoomy, ReadsCell, ReadsNext, RefusesCell, RefusesNext, StandsBehind, ahead, cost_of, flat, leaf_at, part_of, predicted_at, reach_of, region_at, regions_of, setting_of}
 use Rattle.jxl_modular.specs.declared.coding.PartCoding.{PartCoding}
 use Rattle.jxl_modular.proofs.Earlier.{earlier_all, same_sides}
 use Rattle.jxl_modular.proofs.Loops.{IsPlace, is_place, same_count, same_size}
@@ -81,7 +82,7 @@ module _ {D : Type 0} (c : PartCoding D) (coding : IsCodingOf c) (i : ℕ) (li :
       stands = stands;
       few_rows = let n = narrow_at.1 in subst (λ k. k < 2 ^ 30) (sym row_is) (omega (arith, n, qy));
       earlier_hold = subst (λ k. All (λ r. HoldsRow r store reg.width k) (setting_of c i).earlier) (sym row_is)
-          (earlier_all (part_of c).channels i (λ r. HoldsRow r store reg.width y) (region_at (regions_of c)) (λ e less alike.
+          (All-take (λ r. HoldsRow r store reg.width y) (reach_of c i) _ (earlier_all (part_of c).channels i (λ r. HoldsRow r store reg.width y) (region_at (regions_of c)) (λ e less alike.
           let le : e < length (regions_of c) = omega (arith, less, li) in
           let here = same_size (part_of c).channels (regions_of c) i coding.sizes li in
           let there = same_size (part_of c).channels (regions_of c) e coding.sizes le in
@@ -90,7 +91,7 @@ module _ {D : Type 0} (c : PartCoding D) (coding : IsCodingOf c) (i : ℕ) (li :
             lies = lie e (region 0 0 0 0 0) le;
             as_wide = there.0 ∙ sides.0 ∙ sym here.0;
             below = subst (λ n. y < n) (here.1 ∙ sym sides.1 ∙ sym there.1) qy;
-          }));
+          })));
     }
 
     -- behind the cell, once it is written, stands what stood before it and its sample

@@ -1,5 +1,5 @@
 -- Computed examples: headers, trees and samples, from bits.
-use Rattle.std.specs.Prelude.{◌≡◌, ℕ, zero, suc, ◌≤◌, ◌<◌, ℤ, pos, List, [], ◌∷◌, map, Some, Ok, Err, refl, false, true, Bool}
+use Rattle.std.specs.Prelude.{◌≡◌, ℕ, zero, suc, ◌≤◌, ◌<◌, ℤ, pos, List, [], ◌∷◌, map, Ok, Err, refl, false, true, Bool}
 use Rattle.std.specs.List.{All}
 use Rattle.std.specs.Int.{w32, int_wrap}
 use Rattle.std.specs.Int.Count.{count_leading_zeros}

@@ -12,7 +12,7 @@ use Rattle.jxlm_transform.proofs.Refusals.{unless_so}
 use Rattle.jxlm_tree.specs.WeightsHeader.{wp_header}
 use Rattle.jxlm_tree.specs.declared.predictor.WpHeader.{WpHeader}
 use Rattle.jxl_modular.specs.Header.{header, transform_count}
-use Rattle.jxl_modular.specs.Opening.{checked, opened, opening}
+use Rattle.jxl_modular.specs.Opening.{checked, resolved, opening}
 
 bind : {X Y : Type 0} {field : Grammar X} {next : X → Grammar Y} → IsExact field → ((x : X) → IsExact (next x)) → IsExact (field >>= next)
 bind {field} {next} first rest = exact-bind field next first rest
@@ -31,7 +31,7 @@ exact-checked (Err e) = exact-refuse e
 
 -- and so is all that stands ahead of the tree
 pub exact-opening : (has_global : Bool) (list : ChannelList) → IsExact (opening has_global list)
-exact-opening has_global list = bind exact-header λ h. exact-checked (opened has_global list h)
+exact-opening has_global list = bind exact-header λ h. exact-checked (resolved has_global list h)
 
 -- where one of the transforms is refused, so is the header
 pub listed_refused : (bytes : List ℕ) (p : ℕ) (global : Bool) (a : ℕ) (weights : WpHeader) (b n m : ℕ) (fault : Fault) (q : ℕ) → flag.read bytes p ≡ Ok (record { value = global; position = a }) →

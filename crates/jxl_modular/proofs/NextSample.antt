@@ -1,5 +1,6 @@
 -- The next sample of a part, by its flat trees and by what the predictor's state was set for.
-use Rattle.std.proofs.Common.{◌≡◌, ◌≢◌, ℕ, zero, suc, ◌+◌, ◌-◌, ◌*◌, ◌/◌, ◌%◌, ◌<◌, ◌≤◌, List, length, take, map, Bool, true, false, if◌then◌else◌, Option, Some, None, refl, sym, ap, ◌∙◌, subst, arith, ℤ, pos}
+use Rattle.std.proofs.Common.{◌≡◌, ◌≢◌, ℕ, zero, suc, ◌+◌, ◌-◌, ◌*◌, ◌/◌, ◌%◌, ◌<◌, ◌≤◌, min, List, [], ◌∷◌, length, take, map, Bool, true, false, if◌then◌else◌, Option, Some, None, refl, sym, ap, ◌∙◌, subst, arith, ℤ, pos}
+use Rattle.std.specs.Prelude.{slice_get}
 use Rattle.std.specs.Int.{Width, w32, int_wrap}
 use Rattle.std.proofs.lemmas.List.{length-map}
 use Rattle.std.proofs.lemmas.Simd.{map-map}
@@ -7,7 +8,7 @@ use Rattle.std.proofs.lemmas.Nat.{mod-mul-add, div-mul-add, mul-add-lt}
 use Rattle.jxlm_base.specs.Grid.{Grid}
 use Rattle.jxlm_base.specs.Regions.{grid_of, store_meanings, region}
 use Rattle.jxlm_base.specs.declared.subgrid.Region.{Region}
-use Rattle.jxlm_tree.specs.FlatTree.{leaf_reached, needs_weights}
+use Rattle.jxlm_tree.specs.FlatTree.{earlier_named, leaf_reached, needs_weights}
 use Rattle.jxlm_tree.specs.Holding.{surroundings as surroundings_of}
 use Rattle.jxlm_tree.specs.Neighbours.{neighbours}
 use Rattle.jxlm_tree.specs.Predictions.{prediction, prediction_from}
@@ -18,7 +19,7 @@ use Rattle.jxlm_tree.specs.declared.flat.Leaf.{Leaf}
 use Rattle.jxlm_tree.specs.declared.predictor.Predictor.{Predictor}
 use Rattle.jxlm_tree.specs.declared.predictor.Predictor.TheVariants.{Zero, West, North, AvgWestAndNorth, Select, Gradient, SelfCorrecting, NorthEast, NorthWest, WestWest, AvgWestAndNorthWest, AvgNorthAndNorthWest, AvgNorthAndNorthEast, AvgAll}
 use Rattle.jxlm_tree.specs.declared.predictor.WpHeader.{WpHeader}
-use Rattle.jxlm_tree.proofs.FlatTrees.{goes_without_weights, walks_by_properties}
+use Rattle.jxlm_tree.proofs.FlatTrees.{goes_without_weights, reads_earlier_below, walks_by_properties}
 use Rattle.jxlm_tree.proofs.PropertiesLaws.{later_property}
 use Rattle.jxl_modular.specs.Coded.{next_prediction}
 use Rattle.jxl_modular.specs.Progress.{SameSizes, cells_ahead, grids_in, place_of}
@@ -54,7 +55,40 @@ weightless s a b (suc (suc (suc (suc (suc (suc (suc (suc (suc (suc (suc (suc (su
     let past : 16 ≤ (suc (suc (suc (suc (suc (suc (suc (suc (suc (suc (suc (suc (suc (suc (suc (suc k)))))))))))))))) = omega arith in
     later_property (with_weights s a) (suc (suc (suc (suc (suc (suc (suc (suc (suc (suc (suc (suc (suc (suc (suc (suc k)))))))))))))))) past ∙ sym (later_property (with_weights s b) (suc (suc (suc (suc (suc (suc (suc (suc (suc (suc (suc (suc (suc (suc (suc (suc k)))))))))))))))) past)
 
--- so is a prediction by each predictor but the self-correcting one
+-- the first of a list are found in it
+got : {X Y : Type 0} (f : X → Y) (n : ℕ) (xs : List X) (j : ℕ) → j < n → slice_get (map f (take n xs)) j ≡ slice_get (map f xs) j
+got f zero xs j l = absurd (omega arith)
+got f (suc n) [] j l = refl
+got f (suc n) (x ∷ xs) zero l = refl
+got f (suc n) (x ∷ xs) (suc j) l = got f n xs j (omega arith)
+
+abbrev with_earlier : Surroundings → List (Grid ℤ) → Surroundings
+with_earlier s grids = record s { earlier = grids }
+
+-- a property of the first earlier channels is the same where there are no others
+cut_same : {X : Type 0} (s : Surroundings) (f : X → Grid ℤ) (xs : List X) (n k : ℕ) → k < 16 + 4 * n → place_property (with_earlier s (map f (take n xs))) k ≡ place_property (with_earlier s (map f xs)) k
+cut_same s f xs n zero h = refl
+cut_same s f xs n (suc zero) h = refl
+cut_same s f xs n (suc (suc zero)) h = refl
+cut_same s f xs n (suc (suc (suc zero))) h = refl
+cut_same s f xs n (suc (suc (suc (suc zero)))) h = refl
+cut_same s f xs n (suc (suc (suc (suc (suc zero))))) h = refl
+cut_same s f xs n (suc (suc (suc (suc (suc (suc zero)))))) h = refl
+cut_same s f xs n (suc (suc (suc (suc (suc (suc (suc zero))))))) h = refl
+cut_same s f xs n (suc (suc (suc (suc (suc (suc (suc (suc zero)))))))) h = refl
+cut_same s f xs n (suc (suc (suc (suc (suc (suc (suc (suc (suc zero))))))))) h = refl
+cut_same s f xs n (suc (suc (suc (suc (suc (suc (suc (suc (suc (suc zero)))))))))) h = refl
+cut_same s f xs n (suc (suc (suc (suc (suc (suc (suc (suc (suc (suc (suc zero))))))))))) h = refl
+cut_same s f xs n (suc (suc (suc (suc (suc (suc (suc (suc (suc (suc (suc (suc zero)))))))))))) h = refl
+cut_same s f xs n (suc (suc (suc (suc (suc (suc (suc (suc (suc (suc (suc (suc (suc zero))))))))))))) h = refl
+cut_same s f xs n (suc (suc (suc (suc (suc (suc (suc (suc (suc (suc (suc (suc (suc (suc zero)))))))))))))) h = refl
+cut_same s f xs n (suc (suc (suc (suc (suc (suc (suc (suc (suc (suc (suc (suc (suc (suc (suc zero))))))))))))))) h = refl
+cut_same s f xs n (suc (suc (suc (suc (suc (suc (suc (suc (suc (suc (suc (suc (suc (suc (suc (suc k)))))))))))))))) h =
+    let past : 16 ≤ (suc (suc (suc (suc (suc (suc (suc (suc (suc (suc (suc (suc (suc (suc (suc (suc k)))))))))))))))) = omega arith in
+    let there : ((suc (suc (suc (suc (suc (suc (suc (suc (suc (suc (suc (suc (suc (suc (suc (suc k)))))))))))))))) - 16) / 4 < n = omega (arith, h) in
+    later_property (with_earlier s (map f (take n xs))) (suc (suc (suc (suc (suc (suc (suc (suc (suc (suc (suc (suc (suc (suc (suc (suc k)))))))))))))))) past ∙ ap (int_wrap w32) (rw (got f n xs (((suc (suc (suc (suc (suc (suc (suc (suc (suc (suc (suc (suc (suc (suc (suc (suc k)))))))))))))))) - 16) / 4) there) refl) ∙ sym (later_property (with_earlier s (map f xs)) (suc (suc (suc (suc (suc (suc (suc (suc (suc (suc (suc (suc (suc (suc (suc (suc k)))))))))))))))) past)
+
+-- a prediction is the same without weights by each predictor but the self-correcting one
 predicts_without : (a b : Option WpHeader) (samples : List ℤ) (width : ℕ) (p : Predictor) → p ≢ SelfCorrecting → prediction a samples width p ≡ prediction b samples width p
 predicts_without a b samples width Zero h = refl
 predicts_without a b samples width West h = refl
@@ -130,6 +164,18 @@ module _ (part : Part) (regions : List Region) (ints : List (Grid ℤ)) (i x y :
       ∙ sym (ap (λ (s : Surroundings). walk part.tree (property i part.stream s)) same_seen)
       ∙ sym (ap (λ n. walk part.tree (property n part.stream (surroundings part before))) sees.stands)
 
+  -- as many earlier channels as the tree can ask for are enough
+  abbrev reach : ℕ
+  reach = min i (earlier_named part.tree)
+
+  abbrev cut_with : Option WpHeader → Surroundings
+  cut_with weights = surroundings_of (setting reg.width weights (take reach earlier)) ints own
+
+  cut_leaf : (weights : Option WpHeader) → leaf_reached (flat part.tree part.stream i) (place_property (cut_with weights)) ≡ leaf_reached (flat part.tree part.stream i) (place_property (seen_with weights))
+  cut_leaf weights =
+      reads_earlier_below (flat part.tree part.stream i) (earlier_named part.tree) refl (place_property (cut_with weights)) (place_property (seen_with weights))
+      (λ k less. cut_same (seen_with weights) (grid_of ints) earlier reach k less)
+
   -- the prediction of the part, at its leaf
   predicted_with : next_prediction part before ≡ prediction (Some part.weights) own reg.width (next_leaf part before).predictor
   predicted_with = ap (λ (s : Surroundings). prediction s.weights s.samples s.width (next_leaf part before).predictor) same_seen
@@ -139,19 +185,21 @@ module _ (part : Part) (regions : List Region) (ints : List (Grid ℤ)) (i x y :
     pub leaf_is : leaf_at (flat part.tree part.stream i) s ints own ≡ next_leaf part before
     pub predicted_is : predicted_at (flat part.tree part.stream i) s ints own ≡ next_prediction part before
 
-  pub is_next : IsNext (setting reg.width (if needs_weights part.tree then Some part.weights else None) earlier)
+  pub is_next : IsNext (setting reg.width (if needs_weights part.tree then Some part.weights else None) (take reach earlier))
   is_next = either (needs_weights part.tree) refl where
-    either : (b : Bool) → needs_weights part.tree ≡ b → IsNext (setting reg.width (if b then Some part.weights else None) earlier)
-    either true is = record {
-      leaf_is = leaf_with;
-      predicted_is = ap (λ (k : Leaf). prediction (Some part.weights) own reg.width k.predictor) leaf_with ∙ sym predicted_with;
-    }
-    either false is =
-        let goes = goes_without_weights (flat part.tree part.stream i) is (place_property (seen_with None)) (place_property (seen_with (Some part.weights)))
-        (λ k other. weightless (seen_with None) None (Some part.weights) k other) in
-        let same = goes.0 ∙ leaf_with in
+    either : (b : Bool) → needs_weights part.tree ≡ b → IsNext (setting reg.width (if b then Some part.weights else None) (take reach earlier))
+    either true is =
+        let same = cut_leaf (Some part.weights) ∙ leaf_with in
         record {
           leaf_is = same;
-          predicted_is = predicts_without None (Some part.weights) own reg.width (leaf_at (flat part.tree part.stream i) (setting reg.width None earlier) ints own).predictor goes.1
+          predicted_is = ap (λ (k : Leaf). prediction (Some part.weights) own reg.width k.predictor) same ∙ sym predicted_with;
+        }
+    either false is =
+        let goes = goes_without_weights (flat part.tree part.stream i) is (place_property (cut_with None)) (place_property (cut_with (Some part.weights)))
+        (λ k other. weightless (cut_with None) None (Some part.weights) k other) in
+        let same = goes.0 ∙ cut_leaf (Some part.weights) ∙ leaf_with in
+        record {
+          leaf_is = same;
+          predicted_is = predicts_without None (Some part.weights) own reg.width (leaf_at (flat part.tree part.stream i) (setting reg.width None (take reach earlier)) ints own).predictor goes.1
               ∙ ap (λ (k : Leaf). prediction (Some part.weights) own reg.width k.predictor) same ∙ sym predicted_with;
         }

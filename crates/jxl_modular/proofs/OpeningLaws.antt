@@ -1,5 +1,5 @@
 -- What is answered ahead of a tree, from what its steps answer.
-use Rattle.std.proofs.Common.{◌≡◌, ℕ, ◌≤◌, ◌<◌, Bool, true, false, List, [], ◌∷◌, ◌++◌, length, Some, Result, Ok, Err, refl, sym, ap, ◌∙◌, append_assoc, arith}
+use Rattle.std.proofs.Common.{◌≡◌, ℕ, ◌≤◌, Bool, true, false, List, [], ◌∷◌, ◌++◌, length, Some, Result, Ok, Err, refl, sym, ap, ◌∙◌, append_assoc, arith}
 use Rattle.std.specs.Prelude.{codes, nat_lt, not, ◌&&◌, if◌then◌else◌}
 use Rattle.std.proofs.lemmas.Bool.{ltb-false}
 use Rattle.std.proofs.lemmas.List.{append-nil}
@@ -10,7 +10,7 @@ use Rattle.jxlm_transform.specs.ChannelSteps.{CodedList, Step, coded_list, liste
 use Rattle.jxlm_transform.specs.Transforms.{Transform}
 use Rattle.jxlm_transform.proofs.Refusals.{unless_so}
 use Rattle.jxl_modular.specs.Header.{Header, header}
-use Rattle.jxl_modular.specs.Opening.{Opening, can_undo, checked, conditions, opened, opening, steps_in}
+use Rattle.jxl_modular.specs.Opening.{Opening, can_undo, checked, conditions, resolved, opening, steps_in}
 
 -- the steps of one transform more
 pub steps_further : (ts : List Transform) (t : Transform) → steps_in (ts ++ t ∷ []) ≡ steps_in ts ++ listed_steps t
@@ -70,10 +70,10 @@ module _ (has_global : Bool) (list : ChannelList) (bytes : List ℕ) (p : ℕ) w
       (λ r. record { place = r.place; refuses = rw r.refuses refl; stands = r.stands }) refused
 
   module _ (h : Header) (m : ℕ) (reads : header.read bytes p ≡ Ok (record { value = h; position = m })) where
-    reads_on : (opening has_global list).read bytes p ≡ (checked (opened has_global list h)).read bytes m
+    reads_on : (opening has_global list).read bytes p ≡ (checked (resolved has_global list h)).read bytes m
     reads_on = rw reads refl
 
-    refused_behind : (fault : Fault) → opened has_global list h ≡ Err fault → IsRefused ((opening has_global list).read bytes p) fault m
+    refused_behind : (fault : Fault) → resolved has_global list h ≡ Err fault → IsRefused ((opening has_global list).read bytes p) fault m
     refused_behind fault e = record { place = Some m; refuses = reads_on ∙ ap (λ (r : Result Opening Fault). (checked r).read bytes m) e; stands = refl }
 
     -- so it is where a transform is
@@ -98,5 +98,5 @@ module _ (has_global : Bool) (list : ChannelList) (bytes : List ℕ) (p : ℕ) w
           let none : k.transform ≡ [] = nothing_listed has_global coded.list k holds in
           let none_there : h.transform ≡ [] = nothing_listed has_global coded.list h here in
           let same : h ≡ k = same_header h k (sym flags) (sym weights) (none_there ∙ sym none) in
-          let all : opened has_global list h ≡ Ok (record { header = k; coded = coded }) = rw (found, here, same) refl in
+          let all : resolved has_global list h ≡ Ok (record { header = k; coded = coded }) = rw (found, here, same) refl in
           reads_on ∙ ap (λ (r : Result Opening Fault). (checked r).read bytes m) all

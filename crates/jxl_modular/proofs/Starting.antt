@@ -1,10 +1,10 @@
 -- How a state is set for a channel, and what is made ready for it.
-use Rattle.std.proofs.Common.{◌≡◌, ℕ, zero, suc, ◌+◌, ◌^◌, ◌<◌, ◌≤◌, ◌⊎◌, inl, inr, List, [], ◌∷◌, ◌++◌, length, map, Bool, true, false, if◌then◌else◌, Some, refl, sym, ap, ◌∙◌, subst, arith, get_or, ℤ}
+use Rattle.std.proofs.Common.{◌≡◌, ℕ, zero, suc, ◌+◌, ◌^◌, ◌<◌, ◌≤◌, ◌⊎◌, inl, inr, List, [], ◌∷◌, ◌++◌, length, map, take, Bool, true, false, if◌then◌else◌, Some, refl, sym, ap, ◌∙◌, subst, arith, get_or, ℤ}
 use Rattle.std.specs.Prelude.{filter, slice_get}
 use Rattle.std.specs.List.{All}
 use Rattle.std.proofs.lemmas.Bool.{cases_lt}
 use Rattle.std.proofs.lemmas.List.Elements.{All-head, All-tail}
-use Rattle.std.proofs.lemmas.List.{append_assoc, append-nil, length-append, length-map, get_or-map, get_or_append_left}
+use Rattle.std.proofs.lemmas.List.{append_assoc, append-nil, length-append, length-map, get_or-map, get_or_append_left, take_all, take_at}
 use Rattle.std.proofs.lemmas.Option.{slice_get-get_or, get_or_from_slice_get}
 use Rattle.std.proofs.Math.Seq.{get_or-append_seam}
 use Rattle.jxlm_base.specs.declared.subgrid.Region.{Region}
@@ -18,7 +18,7 @@ use Rattle.jxlm_tree.proofs.StandingLaws.{stands_earlier}
 use Rattle.jxl_modular.specs.Layout.{channel_of}
 use Rattle.jxlm_transform.specs.declared.channels.ModularChannelInfo.{ModularChannelInfo}
 use Rattle.jxl_modular.specs.Part.{Channel, IsNarrow, channel, no_channel, downward, earlier_alike, greatest_width, is_alike}
-use Rattle.jxl_modular.specs.Reading.{HasFlats, IsCodingOf, IsRoomy, IsRoomyFor, earlier_regions, flat, part_of, region_at, regions_of, setting_of, weights_used}
+use Rattle.jxl_modular.specs.Reading.{HasFlats, IsCodingOf, IsRoomy, IsRoomyFor, earlier_regions, flat, part_of, reach_of, region_at, regions_of, setting_of, weights_used}
 use Rattle.jxl_modular.specs.declared.coding.PartCoding.{PartCoding}
 use Rattle.jxl_modular.proofs.CellLaws.{roomy_still}
 use Rattle.jxl_modular.proofs.Earlier.{few_earlier}
@@ -50,52 +50,71 @@ module _ {D : Type 0} (c : PartCoding D) (i : ℕ) where
   one_more e true is = rw is refl
   one_more e false is = rw is refl
 
+  -- the regions of all channels before it that are like it
+  abbrev all_alike : List Region
+  all_alike = map (region_at (regions_of c)) (earlier_alike (part_of c).channels i)
+
 module _ {D X : Type 0} (c : PartCoding D) (i : ℕ) where
-  -- Channels from i down to e were looked at: the state has the regions of those that are like channel i, and stands at the start.
-  pub record IsUnderWay (e : ℕ) (state : PredictorState X) : Type 0 where
+  -- Channels from i down to e were looked at: the state has the regions of those that are like channel i, so many and no more than the tree can ask for, and stands at the start.
+  pub record IsUnderWay (e count : ℕ) (state : PredictorState X) : Type 0 where
     pub within : e ≤ i
     pub added : List Region
     pub stands : StandsAt state (setting (region_at (regions_of c) i).width (weights_used c) added) []
-    pub all : added ++ below c i e ≡ earlier_regions c i
+    pub all : added ++ below c i e ≡ all_alike c i
+    pub counted : length added ≡ count
+    pub few : count ≤ reach_of c i
     pub roomy : IsRoomy c state
 
-  pub begun : (state : PredictorState X) → StandsAt state (setting (region_at (regions_of c) i).width (weights_used c) []) [] → IsRoomy c state → IsUnderWay i state
-  begun state stands roomy = record { within = omega arith; added = []; stands = stands; all = refl; roomy = roomy }
+  pub begun : (state : PredictorState X) → StandsAt state (setting (region_at (regions_of c) i).width (weights_used c) []) [] → IsRoomy c state → IsUnderWay i 0 state
+  begun state stands roomy = record { within = omega arith; added = []; stands = stands; all = refl; counted = refl; few = omega arith; roomy = roomy }
 
   -- there is room for one more
-  pub has_room : (e : ℕ) (state : PredictorState X) → i < length (regions_of c) → passes c i e ≡ true → IsUnderWay (suc e) state → earlier_count state < earlier_room_of state
-  has_room e state li is h =
+  pub has_room : (e count : ℕ) (state : PredictorState X) → i < length (regions_of c) → passes c i e ≡ true → IsUnderWay (suc e) count state → earlier_count state < earlier_room_of state
+  has_room e count state li is h =
       let all = ap length h.all in
       let sum = length-append h.added (below c i (suc e)) in
       let more = ap length (one_more c i e true is) in
-      let count = length-map (earlier_alike (part_of c).channels i) (region_at (regions_of c)) in
+      let alike = length-map (earlier_alike (part_of c).channels i) (region_at (regions_of c)) in
       let few = few_earlier (part_of c).channels i in
       let has = stands_earlier state _ [] h.stands in
       let room = h.roomy.earlier in
-      omega (arith, all, sum, more, count, few, has, room, li)
+      omega (arith, all, sum, more, alike, few, has, room, li)
 
-  pub takes_alike : (coding : IsCodingOf c) (li : i < length (regions_of c)) (e : ℕ) (old new : PredictorState X) → passes c i e ≡ true → IsUnderWay (suc e) old →
-      ((s : Setting) (samples : List ℤ) → StandsAt old s samples → StandsAt new (setting s.width s.weights (s.earlier ++ region_at (regions_of c) e ∷ [])) samples) → HasSameRoom old new → IsUnderWay e new
-  takes_alike coding li e old new is h adds same = record {
+  pub takes_alike : (coding : IsCodingOf c) (li : i < length (regions_of c)) (e count : ℕ) (old new : PredictorState X) → passes c i e ≡ true → count < reach_of c i → IsUnderWay (suc e) count old →
+      ((s : Setting) (samples : List ℤ) → StandsAt old s samples → StandsAt new (setting s.width s.weights (s.earlier ++ region_at (regions_of c) e ∷ [])) samples) → HasSameRoom old new → IsUnderWay e (count + 1) new
+  takes_alike coding li e count old new is room h adds same = record {
     within = let w = h.within in omega (arith, w);
     added = h.added ++ region_at (regions_of c) e ∷ [];
     stands = adds _ [] h.stands;
     all = append_assoc h.added (region_at (regions_of c) e ∷ []) (below c i e) ∙ ap (λ rs. h.added ++ rs) (sym (one_more c i e true is)) ∙ h.all;
+    counted = let n = length-append h.added (region_at (regions_of c) e ∷ []) in let m = h.counted in omega (arith, n, m);
+    few = omega (arith, room);
     roomy = roomy_still c coding i li old new same h.roomy;
   }
 
-  pub passes_over : (e : ℕ) (state : PredictorState X) → passes c i e ≡ false → IsUnderWay (suc e) state → IsUnderWay e state
-  passes_over e state is h = record {
+  pub passes_over : (e count : ℕ) (state : PredictorState X) → passes c i e ≡ false → IsUnderWay (suc e) count state → IsUnderWay e count state
+  passes_over e count state is h = record {
     within = let w = h.within in omega (arith, w);
     added = h.added;
     stands = h.stands;
     all = ap (λ rs. h.added ++ rs) (sym (one_more c i e false is)) ∙ h.all;
+    counted = h.counted;
+    few = h.few;
     roomy = h.roomy;
   }
 
-  -- all were looked at
-  pub set_for : (state : PredictorState X) → IsUnderWay 0 state → StandsAt state (setting_of c i) []
-  set_for state h = subst (λ rs. StandsAt state (setting (region_at (regions_of c) i).width (weights_used c) rs) []) (sym (append-nil h.added) ∙ h.all) h.stands
+  -- all were looked at, or there are as many as the tree can ask for
+  pub set_for : (e count : ℕ) (state : PredictorState X) → (e ≡ 0) ⊎ (reach_of c i ≤ count) → IsUnderWay e count state → StandsAt state (setting_of c i) []
+  set_for e count state done h = subst (λ rs. StandsAt state (setting (region_at (regions_of c) i).width (weights_used c) rs) []) (taken done) h.stands where
+    taken : (e ≡ 0) ⊎ (reach_of c i ≤ count) → h.added ≡ earlier_regions c i
+    taken (inl none) =
+        let all : h.added ≡ all_alike c i = sym (append-nil h.added) ∙ ap (λ n. h.added ++ below c i n) (sym none) ∙ h.all in
+        let n = ap length all in let m = h.counted in let f = h.few in
+        all ∙ sym (take_all (reach_of c i) (all_alike c i) (omega (arith, n, m, f)))
+    taken (inr enough) =
+        let m = h.counted in let f = h.few in
+        let long : length h.added ≡ reach_of c i = omega (arith, m, f, enough) in
+        sym (take_at h.added (below c i e) (reach_of c i) long) ∙ ap (take (reach_of c i)) h.all
 
 -- a channel, as it is kept
 pub channel_at : {D : Type 0} (c : PartCoding D) (k : ℕ) (d : ModularChannelInfo) → k < length c.channels.now → channel (part_of c).channels k ≡ channel_of (get_or c.channels.now k d)

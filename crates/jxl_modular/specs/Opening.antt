@@ -35,15 +35,15 @@ conditions has_global header list =
     if header.use_global_tree && not has_global then Err NoGlobalTree else Ok tt
 
 -- each transform in turn against the channels that the ones before it leave, and then the conditions
-abbrev pub opened : Bool → ChannelList → Header → Result Opening Fault
-opened has_global list header =
+abbrev pub resolved : Bool → ChannelList → Header → Result Opening Fault
+resolved has_global list header =
     coded_list header.transform list >>= λ coded.
     conditions has_global header coded.list >>= λ _.
     Ok (record { header = header; coded = coded })
 
 -- the whole header, and then what it comes to
 abbrev pub opening : Bool → ChannelList → Grammar Opening
-opening has_global list = fields.◌>>=◌ header λ header. checked (opened has_global list header)
+opening has_global list = fields.◌>>=◌ header λ header. checked (resolved has_global list header)
 
 -- the steps that transforms list
 abbrev pub steps_in : List Transform → List Step

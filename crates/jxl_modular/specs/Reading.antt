@@ -1,5 +1,5 @@
 -- How one cell of a part is read and written.
-use Rattle.std.specs.Prelude.{◌≡◌, ℕ, ◌+◌, ◌*◌, ◌^◌, ◌<◌, ◌≤◌, ℤ, List, length, map, take, slice_get, if◌then◌else◌, Option, None, Some, Result, Ok, Err, get_or}
+use Rattle.std.specs.Prelude.{◌≡◌, ℕ, ◌+◌, ◌*◌, ◌^◌, ◌<◌, ◌≤◌, ℤ, List, length, map, min, take, slice_get, if◌then◌else◌, Option, None, Some, Result, Ok, Err, get_or}
 use Rattle.std.specs.List.{All}
 use Rattle.std.specs.Int.{Width}
 use Rattle.jxlm_base.specs.Decoding.{Meaning, Taken}
@@ -7,7 +7,7 @@ use Rattle.jxlm_base.specs.Grid.{Grid}
 use Rattle.jxlm_base.specs.Regions.{region, grid_of, store_meanings, with_region_cell}
 use Rattle.jxlm_base.specs.declared.decoder.DecoderError.{DecoderError}
 use Rattle.jxlm_base.specs.declared.subgrid.Region.{Region}
-use Rattle.jxlm_tree.specs.FlatTree.{FlatTree, ClustersStandIn, leaf_reached, needs_weights}
+use Rattle.jxlm_tree.specs.FlatTree.{FlatTree, ClustersStandIn, earlier_named, leaf_reached, needs_weights}
 use Rattle.jxlm_tree.specs.Holding.{surroundings}
 use Rattle.jxlm_tree.specs.Predictions.{prediction}
 use Rattle.jxlm_tree.specs.Properties.{place_property}
@@ -67,9 +67,13 @@ module _ {D : Type 0} where
   abbrev pub weights_used : PartCoding D → Option WpHeader
   weights_used c = if needs_weights c.config.now.tree then Some c.weights else None
 
-  -- the regions of the channels before channel i that are like it, the nearest first
+  -- how many of the channels before channel i the tree can ask for
+  abbrev pub reach_of : PartCoding D → ℕ → ℕ
+  reach_of c i = min i (earlier_named c.config.now.tree)
+
+  -- the regions of the channels before channel i that are like it, the nearest first, and of no more than the tree can ask for
   abbrev pub earlier_regions : PartCoding D → ℕ → List Region
-  earlier_regions c i = map (region_at (regions_of c)) (earlier_alike (part_of c).channels i)
+  earlier_regions c i = take (reach_of c i) (map (region_at (regions_of c)) (earlier_alike (part_of c).channels i))
 
   -- what the state is set for in channel i
   abbrev pub setting_of : PartCoding D → ℕ → Setting

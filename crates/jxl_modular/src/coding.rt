@@ -57,7 +57,7 @@ fn is_alike(a: &ModularChannelInfo, b: &ModularChannelInfo) -> bool
 }
 
 /// Puts the state before the first sample of channel `i`: it is handed the regions of the channels before that are like
-/// it, the nearest first.
+/// it, the nearest first, and of no more than its tree can ask for.
 pub(crate) fn start_channel<S: Sample, D: Decoder>(
     state: &mut PredictorState<S>,
     coding: &PartCoding<'_, D>,
@@ -70,12 +70,14 @@ pub(crate) fn start_channel<S: Sample, D: Decoder>(
     ensures stands { (store : List (Grid S)) → StandsBehind coding.now S.to_int store i 0 state.new }
     ensures roomy { IsRoomy coding.now state.new }
 {
+    let reach = coding.flats[i].max_prev_channel_depth();
     state.restart(coding.regions[i].width as u32);
-    let mut e = i;
-    while e > 0 {
+    let (mut e, mut count) = (i, 0);
+    while e > 0 && count < reach {
         e -= 1;
         if is_alike(&coding.channels[e], &coding.channels[i]) {
             state.add_earlier(coding.regions[e]);
+            count += 1;
         }
     }
 }

@@ -1,7 +1,7 @@
 -- What a walk depends on.
 use Rattle.std.proofs.Common.{◌⊎◌, ◌≡◌, ◌≢◌, ℕ, ◌+◌, ◌*◌, ◌<◌, ◌≤◌, ℤ, pos, Bool, true, false, ◌||◌, ◌==◌, nat_lt, int_lt, if◌then◌else◌, refl, sym, ap, subst, inl, inr, arith, rules}
 use Rattle.std.specs.Int.{w32, int_wrap}
-use Rattle.std.specs.Prelude.{◌-◌, ◌/◌, min, max, length, None, slice_get}
+use Rattle.std.specs.Prelude.{◌-◌, ◌/◌, min, length, None, slice_get}
 use Rattle.std.proofs.lemmas.Bool.{cases_lt}
 use Rattle.std.proofs.lemmas.Bool.Decides.{nat_tests}
 use Rattle.std.proofs.lemmas.Option.{slice_get_past}

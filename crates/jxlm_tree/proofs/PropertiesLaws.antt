@@ -1,16 +1,14 @@
 -- Properties by what the state keeps.
-use Rattle.std.proofs.Common.{◌≡◌, ℕ, zero, suc, ◌+◌, ◌-◌, ◌/◌, ◌%◌, ◌^◌, ◌<◌, ◌≤◌, inl, inr, ℤ, pos, ◌-ℤ◌, ◌+ℤ◌, List, [], ◌∷◌, length, get_or, Some, None, Option, FitsSigned, sym, ap, subst, refl, ◌∙◌, arith, rules}
+use Rattle.std.proofs.Common.{◌≡◌, ℕ, zero, suc, ◌-◌, ◌/◌, ◌%◌, ◌^◌, ◌<◌, ◌≤◌, ℤ, pos, ◌-ℤ◌, List, [], length, get_or, Some, None, Option, FitsSigned, subst, refl, arith}
 use Rattle.std.specs.Prelude.{map}
 use Rattle.std.specs.List.{slice_get}
 use Rattle.std.specs.Int.{w32, int_wrap}
 use Rattle.std.proofs.lemmas.Int.{int_wrap_fits, SFits-int_wrap, ints}
-use Rattle.std.proofs.lemmas.List.{get_or-map, length-map}
-use Rattle.std.proofs.lemmas.Option.{slice_get_past, slice_get-map}
-use Rattle.std.proofs.lemmas.Bool.{cases_lt, lt-ltb, le-ltb}
+use Rattle.std.proofs.lemmas.List.{get_or-map}
+use Rattle.std.proofs.lemmas.Option.{slice_get_past}
+use Rattle.std.proofs.lemmas.Bool.{lt-ltb, le-ltb}
 use Rattle.jxlm_base.specs.Grid.{Grid}
-use Rattle.jxlm_base.specs.Regions.{grid_of}
-use Rattle.jxlm_base.specs.declared.subgrid.Region.{Region}
-use Rattle.jxlm_tree.specs.Neighbours.{Neighbours, neighbours, column, row, west, north}
+use Rattle.jxlm_tree.specs.Neighbours.{Neighbours, neighbours, column, row, west}
 use Rattle.jxlm_tree.specs.Properties.{Surroundings, own_properties, earlier_property, earlier_properties, place_property, west_change, gradient_at, error_property}
 use Rattle.jxlm_tree.specs.Holding.{surroundings, own_of, own_list}
 use Rattle.jxlm_tree.specs.Correcting.{IsMade}

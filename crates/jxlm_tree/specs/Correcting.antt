@@ -1,5 +1,5 @@
 -- The errors of the self-correcting predictor as the code keeps them, and what it makes of a place.
-use Rattle.std.specs.Prelude.{◌≡◌, ℕ, zero, suc, ◌+◌, ◌-◌, ◌*◌, ◌/◌, ◌%◌, ◌^◌, ◌<◌, ◌≤◌, ℤ, pos, ◌+ℤ◌, ◌-ℤ◌, ◌*ℤ◌, unsigned_abs, nat_lt, Bool, not, ◌&&◌, ◌||◌, if◌then◌else◌, List, map, length, slice_index_or, vec_len, Option, Some, None}
+use Rattle.std.specs.Prelude.{◌≡◌, ℕ, zero, suc, ◌+◌, ◌-◌, ◌/◌, ◌%◌, ◌^◌, ◌<◌, ◌≤◌, ℤ, pos, ◌+ℤ◌, ◌-ℤ◌, ◌*ℤ◌, unsigned_abs, nat_lt, Bool, not, ◌&&◌, ◌||◌, if◌then◌else◌, List, map, length, slice_index_or, vec_len, Option, Some, None}
 use Rattle.std.specs.Int.{w32, int_wrap, int_shr, is_negative}
 use Rattle.std.specs.Option.{ForSome}
 use Rattle.std.specs.Ordering.{int_eq}

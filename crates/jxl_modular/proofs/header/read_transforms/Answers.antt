@@ -1,8 +1,7 @@
-use Rattle.std.proofs.Common.{◌≡◌, ◌++◌, ◌∷◌, [], ◌∙◌, ap, map, rules}
+use Rattle.std.proofs.Common.{List, ◌≡◌, ◌++◌, ◌∷◌, [], ◌∙◌, ap, map, rules}
 use Rattle.std.proofs.lemmas.List.{map_push}
 use Rattle.std.proofs.lemmas.List.Elements.{All-push}
 use Rattle.std.proofs.lemmas.Result.{err_from_is_err_and}
-use Rattle.std.specs.List.{All}
 use Rattle.jxlm_base.specs.Bits.{bytes_of, position_of}
 use Rattle.jxlm_base.specs.Fault.{fault_of, UnlessMemory}
 use Rattle.jxlm_base.specs.Grammar.{IsRefused, repeated}
@@ -10,7 +9,6 @@ use Rattle.jxlm_transform.proofs.Refusals.{unless_so}
 use Rattle.jxlm_transform.proofs.RepeatedLoop.{goes_on, stops}
 use Rattle.jxlm_transform.specs.Transforms.{IsTransform, transform, transform_of}
 use Rattle.jxlm_transform.specs.declared.transform.TransformInfo.{TransformInfo}
-use Rattle.std.proofs.Common.{List}
 use Rattle.jxl_modular.proofs.header.read_transforms.Goals as goal
 
 pub returns-in_err-transform-clause-gives : goal.returns-in_err-transform-clause-gives

@@ -1,4 +1,4 @@
-use Rattle.std.proofs.Common.{◌≡◌, ◌+◌, ◌-◌, ◌%◌, ℤ, pos, ◌+ℤ◌, ◌-ℤ◌, FitsSigned, refl, arith, rules, to_z, of_z}
+use Rattle.std.proofs.Common.{◌≡◌, ◌+◌, ◌-◌, ◌%◌, ℤ, ◌+ℤ◌, ◌-ℤ◌, FitsSigned, refl, rules, to_z, of_z}
 use Rattle.std.specs.Int.{w32, int_wrap}
 use Rattle.std.proofs.lemmas.Int.{to_z-of_z, to_z_pos, wraps}
 use Rattle.jxlm_tree.proofs.properties.own_properties.Goals as goal

@@ -1,5 +1,4 @@
-use Rattle.std.proofs.Common.{◌<◌, ◌^◌, ◌∙◌, ap, arith, unsigned_abs}
-use Rattle.std.specs.Int.{w32, cast_signed}
+use Rattle.std.proofs.Common.{◌<◌, ◌^◌, arith, unsigned_abs}
 use Rattle.std.proofs.lemmas.Int.{to_z-of_z, ints}
 use Rattle.jxlm_base.proofs.Wraps.{cast_signed-wraps_i32}
 use Rattle.jxlm_tree.proofs.reduced.reduced_absolute.Goals as goal

@@ -1,7 +1,7 @@
-use Rattle.std.proofs.Common.{◌≡◌, ◌*◌, ◌<◌, ◌≤◌, ◌^◌, ◌-◌, ◌/◌, ◌+◌, ℤ, pos, ◌+ℤ◌, ◌-ℤ◌, ◌*ℤ◌, unsigned_abs, FitsSigned, ap, sym, ◌∙◌, refl, arith, rules}
+use Rattle.std.proofs.Common.{◌*◌, ◌<◌, ◌^◌, ◌+◌, ℤ, pos, ◌-ℤ◌, ◌*ℤ◌, unsigned_abs, FitsSigned, arith}
 use Rattle.std.specs.Int.{w32, w64, int_shr}
-use Rattle.std.proofs.lemmas.Int.{to_z-of_z, to_z_pos, ints, fits_signed_from_abs}
-use Rattle.jxlm_tree.proofs.Ranges.{abs_mul, abs_shr, abs_fits, abs_sub, abs_add}
+use Rattle.std.proofs.lemmas.Int.{to_z-of_z, ints, fits_signed_from_abs}
+use Rattle.jxlm_tree.proofs.Ranges.{abs_shr}
 use Rattle.jxlm_tree.proofs.self_correcting.eased.Goals as goal
 
 within : (s t : ℤ) → FitsSigned w32 s → unsigned_abs t < 2 ^ 36 + 2 ^ 35 → unsigned_abs (s *ℤ pos 8 -ℤ t) < 2 ^ 37

@@ -1,4 +1,4 @@
-use Rattle.std.proofs.Common.{◌∙◌, ◌≡◌, arith}
+use Rattle.std.proofs.Common.{◌≡◌, arith}
 use Rattle.jxlm_base.specs.Numbers.{floor_log2}
 use Rattle.jxlm_tree.proofs.Ranges.{log_narrow}
 use Rattle.jxlm_tree.proofs.self_correcting.floor_log2.Goals as goal

@@ -1,7 +1,7 @@
-use Rattle.std.proofs.Common.{◌≡◌, ◌*◌, ◌<◌, ◌≤◌, ◌^◌, ◌-◌, ◌/◌, ◌+◌, ℤ, pos, ◌+ℤ◌, ◌-ℤ◌, ◌*ℤ◌, unsigned_abs, FitsSigned, ap, sym, ◌∙◌, refl, arith, rules}
-use Rattle.std.specs.Int.{w32, w64, int_shr}
-use Rattle.std.proofs.lemmas.Int.{to_z-of_z, to_z_pos, ints, fits_signed_from_abs}
-use Rattle.jxlm_tree.proofs.Ranges.{abs_mul, abs_shr, abs_fits, abs_sub, abs_add}
+use Rattle.std.proofs.Common.{◌≡◌, ◌<◌, ◌^◌, ℤ, pos, ◌*ℤ◌, unsigned_abs, FitsSigned, refl, arith}
+use Rattle.std.specs.Int.{w64}
+use Rattle.std.proofs.lemmas.Int.{to_z-of_z, to_z_pos, fits_signed_from_abs}
+use Rattle.jxlm_tree.proofs.Ranges.{abs_mul}
 use Rattle.std.proofs.Common.{ℕ, to_z}
 use Rattle.jxlm_tree.proofs.self_correcting.scaled.Goals as goal
 

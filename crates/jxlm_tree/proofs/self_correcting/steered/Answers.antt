@@ -1,7 +1,6 @@
-use Rattle.std.proofs.Common.{◌≡◌, ◌*◌, ◌<◌, ◌≤◌, ◌^◌, ◌-◌, ◌/◌, ◌+◌, ℤ, pos, ◌+ℤ◌, ◌-ℤ◌, ◌*ℤ◌, unsigned_abs, FitsSigned, ap, sym, ◌∙◌, refl, arith, rules}
-use Rattle.std.specs.Int.{w32, w64, int_shr}
-use Rattle.std.proofs.lemmas.Int.{to_z-of_z, to_z_pos, ints, fits_signed_from_abs}
-use Rattle.jxlm_tree.proofs.Ranges.{abs_mul, abs_shr, abs_fits, abs_sub, abs_add}
+use Rattle.std.proofs.Common.{◌*◌, ◌≤◌, ◌^◌, ℤ, ◌+ℤ◌, unsigned_abs, FitsSigned, ◌∙◌, refl, arith, rules}
+use Rattle.std.specs.Int.{w32, w64}
+use Rattle.std.proofs.lemmas.Int.{to_z-of_z, ints}
 use Rattle.jxlm_tree.proofs.self_correcting.steered.Goals as goal
 
 three : (a b c : ℤ) → FitsSigned w32 a → FitsSigned w32 b → FitsSigned w32 c → unsigned_abs (a +ℤ b +ℤ c) ≤ 3 * 2 ^ 31

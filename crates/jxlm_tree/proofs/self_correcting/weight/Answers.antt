@@ -1,4 +1,4 @@
-use Rattle.std.proofs.Common.{◌+◌, ◌/◌, ◌^◌, ◌<◌, arith}
+use Rattle.std.proofs.Common.{◌^◌, ◌<◌, arith}
 use Rattle.jxlm_tree.proofs.Ranges.{in_table}
 use Rattle.jxlm_tree.proofs.self_correcting.weight.Goals as goal
 

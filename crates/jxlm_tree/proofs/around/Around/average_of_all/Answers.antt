@@ -1,7 +1,7 @@
-use Rattle.std.proofs.Common.{◌≡◌, FitsSigned, pos, ◌-ℤ◌, ◌+ℤ◌, ◌*ℤ◌, ap, arith, rules}
+use Rattle.std.proofs.Common.{◌≡◌, FitsSigned, pos, ◌-ℤ◌, ◌+ℤ◌, ◌*ℤ◌, ap, arith}
 use Rattle.std.specs.Prelude.{int_div}
-use Rattle.std.specs.Int.{w32, w64}
-use Rattle.std.proofs.lemmas.Int.{to_z-of_z, ints, quot_is, quot_fits}
+use Rattle.std.specs.Int.{w64}
+use Rattle.std.proofs.lemmas.Int.{to_z-of_z, ints, quot_fits}
 use Rattle.jxlm_tree.proofs.around.Around.average_of_all.Goals as goal
 
 pub returns : goal.returns

@@ -1,6 +1,5 @@
-use Rattle.std.proofs.Common.{◌≡◌, ◌∙◌, ap, refl, sym, subst, ℕ, rules}
-use Rattle.std.specs.Prelude.{min}
-use Rattle.jxlm_tree.specs.FlatTree.{FlatTree, ReadsEarlierBelow, earlier_named}
+use Rattle.std.proofs.Common.{◌≡◌, ◌∙◌, ap}
+use Rattle.jxlm_tree.specs.FlatTree.{FlatTree, earlier_named}
 use Rattle.jxlm_tree.proofs.FlatTrees.{reads_earlier_below}
 use Rattle.jxlm_tree.proofs.flat.FlatMaTree.max_prev_channel_depth.Goals as goal
 

@@ -1,6 +1,6 @@
-use Rattle.std.proofs.Common.{◌<◌, ◌^◌, FitsSigned, ◌∙◌, ap, sym, refl, arith, rules, unsigned_abs}
+use Rattle.std.proofs.Common.{FitsSigned, ◌∙◌, ap, refl, rules}
 use Rattle.std.specs.Int.{w32, w64, int_wrap}
-use Rattle.std.proofs.lemmas.Int.{to_z-of_z, ints}
+use Rattle.std.proofs.lemmas.Int.{to_z-of_z}
 use Rattle.jxlm_tree.proofs.predictor.Predictor.predict.Goals as goal
 
 pub prediction-requires : goal.prediction-requires

@@ -1,8 +1,8 @@
-use Rattle.std.proofs.Common.{◌≡◌, ◌<◌, ◌-◌, length, get_or, pos, [], FitsSigned, sym, ap, ◌∙◌, refl, arith, rules}
-use Rattle.std.specs.Int.{w32, int_wrap}
-use Rattle.std.proofs.lemmas.Int.{to_z-of_z, int_wrap_fits, SFits-int_wrap}
+use Rattle.std.proofs.Common.{get_or, pos, FitsSigned, sym, ap, ◌∙◌, rules}
+use Rattle.std.specs.Int.{w32}
+use Rattle.std.proofs.lemmas.Int.{to_z-of_z}
 use Rattle.jxlm_base.specs.Regions.{store_meanings}
-use Rattle.jxlm_tree.specs.Holding.{surroundings, own_of}
+use Rattle.jxlm_tree.specs.Holding.{surroundings}
 use Rattle.jxlm_tree.proofs.PropertiesLaws.{own_property, later_property}
 use Rattle.jxlm_tree.proofs.properties.Properties.get.Goals as goal
 

@@ -1,4 +1,4 @@
-use Rattle.std.proofs.Common.{◌≡◌, ℤ, ℕ, pos, ◌-ℤ◌, FitsSigned, sym, ap, ◌∙◌, refl, arith, rules, to_z, of_z, ◌+◌, ◌-◌, ◌%◌}
+use Rattle.std.proofs.Common.{◌≡◌, ℤ, ◌-ℤ◌, FitsSigned, refl, arith, rules, to_z, of_z, ◌+◌, ◌-◌, ◌%◌}
 use Rattle.std.specs.Int.{w32, w64, int_wrap}
 use Rattle.std.proofs.lemmas.Int.{to_z-of_z, ints, wraps}
 use Rattle.jxlm_base.specs.Numbers.{absolute}

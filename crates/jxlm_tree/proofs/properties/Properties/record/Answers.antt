@@ -1,4 +1,4 @@
-use Rattle.std.proofs.Common.{w32, rules, FitsSigned}
+use Rattle.std.proofs.Common.{w32}
 use Rattle.std.proofs.lemmas.Int.{to_z-of_z}
 use Rattle.jxlm_tree.proofs.properties.Properties.record.Goals as goal
 

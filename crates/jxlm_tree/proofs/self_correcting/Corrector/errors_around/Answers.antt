@@ -1,4 +1,4 @@
-use Rattle.std.proofs.Common.{◌≡◌, ℕ, ◌+◌, not, FitsSigned, ◌∙◌, refl, rules, ap, length}
+use Rattle.std.proofs.Common.{◌≡◌, ℕ, ◌+◌, not, FitsSigned, ◌∙◌, rules, ap, length}
 use Rattle.std.specs.Prelude.{map, nat_lt}
 use Rattle.std.specs.Int.{w32}
 use Rattle.std.proofs.lemmas.Int.{to_z-of_z}

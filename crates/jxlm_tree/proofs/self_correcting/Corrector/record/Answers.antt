@@ -1,8 +1,8 @@
-use Rattle.std.proofs.Common.{◌≡◌, ℕ, ◌+◌, ◌*◌, ◌<◌, ◌≤◌, [], ◌∷◌, ◌++◌, List, set, FitsSigned, ◌∙◌, sym, subst, refl, rules, arith, ap, length, w32}
+use Rattle.std.proofs.Common.{◌≡◌, ◌+◌, ◌<◌, ◌≤◌, [], ◌∷◌, ◌++◌, set, ◌∙◌, sym, arith, ap, length, w32}
 use Rattle.std.specs.Prelude.{map}
 use Rattle.std.proofs.lemmas.Int.{to_z-of_z}
 use Rattle.std.proofs.lemmas.List.{length-map}
-use Rattle.jxlm_tree.specs.Correcting.{KeepsErrors, cell_errors, errors_from, predicted_by}
+use Rattle.jxlm_tree.specs.Correcting.{KeepsErrors, cell_errors, predicted_by}
 use Rattle.jxlm_tree.specs.SelfCorrecting.{Errors, no_errors, errors_of, errors_behind}
 use Rattle.jxlm_tree.proofs.Correcting.{KeepsErrors_row, KeepsErrors_end, behind_is, errors_of-push, length-errors_of, map-set}
 use Rattle.jxlm_tree.proofs.self_correcting.Corrector.record.Goals as goal

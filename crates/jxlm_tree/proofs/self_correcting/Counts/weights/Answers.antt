@@ -1,6 +1,5 @@
-use Rattle.std.proofs.Common.{◌≡◌, ℕ, ◌+◌, ◌*◌, ◌^◌, ◌<◌, ◌≤◌, subst, sym, arith}
+use Rattle.std.proofs.Common.{ℕ, ◌+◌, ◌*◌, ◌^◌, ◌≤◌, subst, sym, arith}
 use Rattle.jxlm_tree.specs.SelfCorrecting.{Four, total, shifted}
-use Rattle.jxlm_tree.specs.Correcting.{counted}
 use Rattle.jxlm_tree.proofs.Ranges.{shifted_total, weight_bounds}
 use Rattle.jxlm_tree.proofs.self_correcting.Counts.weights.Goals as goal
 

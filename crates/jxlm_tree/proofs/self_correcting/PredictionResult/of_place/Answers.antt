@@ -1,7 +1,7 @@
-use Rattle.std.proofs.Common.{◌≡◌, ℤ, cond, FitsSigned, ◌∙◌, refl, rules, ap, w64}
+use Rattle.std.proofs.Common.{ℤ, cond, FitsSigned, ◌∙◌, rules, ap, w64}
 use Rattle.std.proofs.lemmas.Int.{to_z-of_z}
 use Rattle.jxlm_tree.specs.Around.{clamped_around, seen}
-use Rattle.jxlm_tree.specs.Correcting.{counted, is_clamped_from, predicted_by, sub_predictions_from, unclamped_from, weights_from}
+use Rattle.jxlm_tree.specs.Correcting.{counted, is_clamped_from, sub_predictions_from, unclamped_from}
 use Rattle.jxlm_tree.specs.SelfCorrecting.{Four}
 use Rattle.jxlm_tree.proofs.self_correcting.PredictionResult.of_place.Goals as goal
 

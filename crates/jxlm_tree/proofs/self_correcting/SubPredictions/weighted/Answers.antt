@@ -1,8 +1,8 @@
-use Rattle.std.proofs.Common.{◌≡◌, ◌*◌, ◌<◌, ◌≤◌, ◌^◌, ◌-◌, ◌/◌, ◌+◌, ℤ, pos, ◌+ℤ◌, ◌-ℤ◌, ◌*ℤ◌, unsigned_abs, FitsSigned, ap, sym, ◌∙◌, refl, arith, rules}
-use Rattle.std.specs.Int.{w32, w64, int_shr}
-use Rattle.std.proofs.lemmas.Int.{to_z-of_z, to_z_pos, ints, fits_signed_from_abs}
+use Rattle.std.proofs.Common.{◌≡◌, ◌<◌, ◌^◌, ℤ, pos, ◌*ℤ◌, unsigned_abs, FitsSigned, ap, ◌∙◌, refl, arith, rules}
+use Rattle.std.specs.Int.{w64, int_shr}
+use Rattle.std.proofs.lemmas.Int.{to_z-of_z, to_z_pos, fits_signed_from_abs}
 use Rattle.std.proofs.Common.{to_z, negsuc}
-use Rattle.jxlm_tree.specs.Correcting.{predicted_by, counted}
+use Rattle.jxlm_tree.specs.Correcting.{counted}
 use Rattle.jxlm_tree.specs.SelfCorrecting.{total, reciprocal}
 use Rattle.jxlm_tree.proofs.Ranges.{product}
 use Rattle.jxlm_tree.proofs.self_correcting.SubPredictions.weighted.Goals as goal

@@ -1,4 +1,4 @@
-use Rattle.std.proofs.Common.{◌≡◌, ◌+◌, ℕ, [], ◌∷◌, ◌++◌, w32, ◌∙◌, sym, ap, subst, rules, arith}
+use Rattle.std.proofs.Common.{ℕ, [], ◌∷◌, ◌++◌, w32, ◌∙◌, sym, ap, subst, arith}
 use Rattle.std.proofs.lemmas.Int.{to_z-of_z}
 use Rattle.jxlm_tree.specs.Rolling.{Rolls}
 use Rattle.jxlm_tree.proofs.StandingLaws.{corrects_next}

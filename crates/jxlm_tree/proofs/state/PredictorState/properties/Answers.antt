@@ -1,4 +1,4 @@
-use Rattle.std.proofs.Common.{◌≡◌, ◌<◌, ◌^◌, pos, FitsSigned, ◌∙◌, ap, sym, refl, arith, rules}
+use Rattle.std.proofs.Common.{◌≡◌, FitsSigned, ◌∙◌, arith, rules}
 use Rattle.std.specs.Int.{w32}
 use Rattle.std.proofs.lemmas.Int.{to_z-of_z}
 use Rattle.jxlm_tree.proofs.Rolling.{row_is}
