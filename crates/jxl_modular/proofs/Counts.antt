@@ -1,10 +1,10 @@
 -- How many samples channels have.
-use Rattle.std.proofs.Common.{◌≡◌, ℕ, zero, suc, ◌+◌, ◌*◌, ◌<◌, ◌≤◌, List, [], ◌∷◌, length, arith}
+use Rattle.std.proofs.Common.{ℕ, zero, suc, ◌*◌, ◌<◌, List, [], ◌∷◌, length, arith}
 use Rattle.std.specs.Prelude.{slice_index_or}
 use Rattle.std.proofs.lemmas.List.Sums.{sum_by-cons}
+use Rattle.jxlm_transform.specs.declared.channels.ModularChannelInfo.{ModularChannelInfo}
 use Rattle.jxl_modular.specs.Layout.{channel_of, channels_of}
 use Rattle.jxl_modular.specs.Part.{size, cell_count}
-use Rattle.jxl_modular.specs.declared.channels.ModularChannelInfo.{ModularChannelInfo}
 
 product_some : (a b : ℕ) → 0 < a → 0 < b → 0 < a * b
 product_some zero b h k = absurd (omega arith)

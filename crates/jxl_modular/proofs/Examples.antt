@@ -1,11 +1,10 @@
 -- Computed examples: headers, trees and samples, from bits.
-use Rattle.std.specs.Prelude.{◌≡◌, ℕ, zero, suc, ◌≤◌, ◌<◌, ℤ, pos, List, [], ◌∷◌, map, Some, None, Ok, Err, refl, false, true, Bool, codes}
+use Rattle.std.specs.Prelude.{◌≡◌, ℕ, zero, suc, ◌≤◌, ◌<◌, ℤ, pos, List, [], ◌∷◌, map, Ok, Err, refl, false, true, Bool}
 use Rattle.std.specs.List.{All}
-use Rattle.std.specs.Int.{w32, w16, int_wrap}
+use Rattle.std.specs.Int.{w32, int_wrap}
 use Rattle.std.specs.Int.Count.{count_leading_zeros}
 use Rattle.std.proofs.Common.{arith, inl, inr}
 use Rattle.std.proofs.lemmas.List.Elements.{All-head}
-use Rattle.jxlm_base.specs.Fault.{BadProfile, NoGlobalTree, Eof}
 use Rattle.jxlm_base.specs.Grid.{Grid, grid, cell, IsFull}
 use Rattle.jxlm_base.specs.Regions.{region, HasCell}
 use Rattle.jxlm_base.specs.Plain.{PlainState, plain, number_at, mode_at, cluster_at, code_at, plain_parse, plain_begin, plain_read, token_at, run_at}
@@ -14,38 +13,45 @@ use Rattle.jxlm_base.specs.declared.plain.Mode.TheVariants.{Unsealed, Sealed, Ru
 use Rattle.jxlm_base.specs.declared.plain.Mode.{Mode}
 use Rattle.jxlm_base.specs.declared.decoder.DecoderError.TheVariants.{UnexpectedEof, Invalid}
 use Rattle.jxlm_base.specs.declared.error.Error.TheVariants.{Decoder}
-use Rattle.jxlm_transform.specs.Channels.{image_list, image_channel}
+use Rattle.jxlm_transform.specs.Channels.{image_list, image_channel, info_of}
+use Rattle.jxlm_transform.specs.ChannelSteps.{CodedList}
+use Rattle.jxlm_transform.specs.declared.channels.ModularChannelInfo.{ModularChannelInfo}
 use Rattle.jxlm_transform.specs.Params.{sized}
 use Rattle.jxlm_transform.specs.declared.param.ChannelShift.TheVariants.{Shifts}
 use Rattle.jxlm_transform.specs.declared.param.ModularChannelParams.{ModularChannelParams}
-use Rattle.jxlm_tree.specs.Tree.{Config, one_leaf, levels}
+use Rattle.jxlm_tree.specs.Tree.{Config, config_of, leaf, levels}
 use Rattle.jxlm_tree.specs.TreeReading.{listing_at, drafts_at, nodes_at, node_at, leaf_at, predictor_at, multiplier_at, IsTreeAt}
 use Rattle.jxlm_tree.specs.WeightsHeader.{default_weights}
 use Rattle.jxlm_tree.specs.declared.flat.Leaf.{Leaf}
 use Rattle.jxlm_tree.specs.declared.predictor.Predictor.TheVariants.{Zero, Gradient}
 use Rattle.jxlm_transform.specs.declared.param.ModularParams.{ModularParams}
-use Rattle.jxl_modular.specs.Coded.{IsCodedToTheEnd, IsCodedWhole}
+use Rattle.jxl_modular.specs.Coded.{IsCodedWhole}
 use Rattle.jxl_modular.specs.Decode.{Standing, FailsToRead, FailsToEnd, DecodeAnswers}
-use Rattle.jxl_modular.specs.Fresh.{info_of}
+use Rattle.jxl_modular.specs.Header.{Header}
 use Rattle.jxl_modular.specs.Image.{Image}
 use Rattle.jxl_modular.specs.Layout.{layout, channels_of}
 use Rattle.jxl_modular.specs.Opening.{opening, node_limit}
-use Rattle.jxl_modular.specs.Part.{Part, Channel}
+use Rattle.jxl_modular.specs.Part.{Part}
 use Rattle.jxl_modular.specs.Parsing.{IsImageAt}
 use Rattle.jxl_modular.specs.Picture.{IsFilled, IsPictureAt}
-use Rattle.jxl_modular.specs.Progress.{KeepsOutside, buffer_at}
-use Rattle.jxl_modular.specs.declared.channels.ModularChannelInfo.{ModularChannelInfo}
-use Rattle.jxl_modular.specs.declared.header.ModularHeader.{ModularHeader}
+use Rattle.jxl_modular.specs.Progress.{buffer_at}
 
 -- one channel of 2 by 2
 abbrev square : List ModularChannelParams
 square = sized 2 2 (Shifts 0) ∷ []
 
-abbrev plain_header : ModularHeader
-plain_header = record { use_global_tree = false; wp_params = default_weights }
+abbrev plain_header : Header
+plain_header = record { use_global_tree = false; wp_params = default_weights; transform = [] }
+
+abbrev as_given : CodedList
+as_given = record { steps = []; list = image_list square }
 
 abbrev gradient : Leaf
 gradient = record { cluster = 0; predictor = Gradient; offset = pos 0; multiplier = 1 }
+
+-- a tree of one leaf
+abbrev one_leaf : Leaf → PlainState → Config PlainState
+one_leaf l decoder = config_of (leaf l) decoder
 
 abbrev three_bits : Mode → PlainState
 three_bits mode = record { mode = mode; codes = Fixed 3 ∷ []; clusters = 0 ∷ [] }
@@ -54,7 +60,7 @@ three_bits mode = record { mode = mode; codes = Fixed 3 ∷ []; clusters = 0 ∷
 abbrev row_bytes : List ℕ
 row_bytes = 0x42 ∷ 0x00 ∷ 0x04 ∷ 0x00 ∷ 0x04 ∷ 0x0E ∷ 0x05 ∷ 0xC0 ∷ 0x20 ∷ 0x06 ∷ []
 
-row_opening : (opening false (image_list square)).read row_bytes 0 ≡ Ok (record { value = record { header = plain_header; coded = image_list square }; position = 4 })
+row_opening : (opening false (image_list square)).read row_bytes 0 ≡ Ok (record { value = record { header = plain_header; coded = as_given }; position = 4 })
 row_opening = refl
 
 row_limit : node_limit (image_list square).channels ≡ 1028
@@ -236,7 +242,7 @@ module _ (params : ModularParams PlainState) where
 
   row_image : params.channels.items ≡ square → IsImageAt plain (pos 0) row_bytes 0 params (holding zeros_of_square) 68
   row_image asked = record {
-    ahead = record { header = plain_header; coded = image_list square };
+    ahead = record { header = plain_header; coded = as_given };
     place = 4;
     opens = rw asked row_opening;
     tree = row_tree;
@@ -253,16 +259,3 @@ module _ (params : ModularParams PlainState) where
 
   row_picture : params.channels.items ≡ square → IsPictureAt plain w32 (λ z. z) row_bytes 0 (pos 0) 0 params (holding row_grids) 80
   row_picture asked = record { read = holding zeros_of_square; place = 68; reads = row_image asked; filled = row_filled }
-
--- What is refused ahead of the tree: no bit, a cut header, a transform, a global tree that is not there.
-nothing_there : (opening false (image_list square)).read [] 0 ≡ Err (record { fault = Eof; position = Some 0 })
-nothing_there = refl
-
-cut_header : (opening false (image_list square)).read (0x0E ∷ []) 0 ≡ Err (record { fault = Eof; position = Some 2 })
-cut_header = refl
-
-a_transform : (opening false (image_list square)).read (0x36 ∷ []) 0 ≡ Err (record { fault = BadProfile (codes "transform not available"); position = Some 4 })
-a_transform = refl
-
-no_global_tree : (opening false (image_list square)).read (0x03 ∷ []) 0 ≡ Err (record { fault = NoGlobalTree; position = Some 4 })
-no_global_tree = refl

@@ -1,11 +1,15 @@
 -- Images before any of their samples is decoded.
 use Rattle.std.proofs.Common.{◌≡◌, ℕ, suc, ◌+◌, ◌*◌, ◌<◌, List, [], ◌∷◌, ◌++◌, length, get_or, take, map, refl, ap, ◌∙◌, arith}
 use Rattle.std.proofs.lemmas.List.{take_more, map-append, length-replicate, length-map, length-take-le}
+use Rattle.std.proofs.lemmas.List.Elements.{All-nil, All-cons, All-head, All-tail}
+use Rattle.std.specs.List.{All}
 use Rattle.jxlm_base.specs.Regions.{region}
+use Rattle.jxlm_transform.specs.Channels.{IsNarrow, info_of, channel_of as seen}
+use Rattle.jxlm_transform.specs.declared.channels.ModularChannelInfo.{ModularChannelInfo}
 use Rattle.jxl_modular.specs.Fresh.{zeros}
 use Rattle.jxl_modular.specs.Layout.{channel_of, channels_of, layout, layout_from}
+use Rattle.jxl_modular.specs.Part as part
 use Rattle.jxl_modular.specs.Part.{Channel, Fits}
-use Rattle.jxl_modular.specs.declared.channels.ModularChannelInfo.{ModularChannelInfo}
 
 -- grids of zeros fit their channels
 pub zeros_fit : {S : Type 0} (zero : S) (cs : List ModularChannelInfo) → Fits (channels_of cs) (zeros zero cs)
@@ -32,3 +36,14 @@ regions_further cs i d h =
     ap (λ all. layout_from 0 all) (mapped_further channel_of cs i d h)
     ∙ layout_push 0 before c
     ∙ ap (λ b. layout_from 0 before ++ region b 0 0 c.width c.height ∷ []) n
+
+-- channels that are seen and kept again
+pub kept_again : (cs : List ModularChannelInfo) → map info_of (map seen cs) ≡ cs
+kept_again [] = refl
+kept_again (c ∷ cs) = ap (λ (ds : List ModularChannelInfo). c ∷ ds) (kept_again cs)
+
+-- their sides
+pub narrow_channels : (cs : List ModularChannelInfo) → All IsNarrow (map seen cs) → All part.IsNarrow (channels_of cs)
+narrow_channels [] narrow = All-nil part.IsNarrow
+narrow_channels (c ∷ cs) narrow =
+    All-cons part.IsNarrow (channel_of c) (channels_of cs) (All-head IsNarrow (seen c) (map seen cs) narrow) (narrow_channels cs (All-tail IsNarrow (seen c) (map seen cs) narrow))

@@ -1,11 +1,10 @@
 -- Channels that have a buffer each lie in the store, apart, and are its grids.
-use Rattle.std.proofs.Common.{◌≡◌, ℕ, zero, suc, ◌+◌, ◌*◌, ◌<◌, ◌≤◌, List, [], ◌∷◌, ◌++◌, length, append_assoc, refl, sym, ap, ◌∙◌, subst, arith, ℤ}
-use Rattle.std.specs.Prelude.{get_or, map}
-use Rattle.std.specs.List.{All, AllPairs}
+use Rattle.std.proofs.Common.{◌≡◌, ℕ, zero, suc, ◌+◌, ◌<◌, ◌≤◌, List, [], ◌∷◌, ◌++◌, length, append_assoc, refl, sym, ap, ◌∙◌, subst, arith, ℤ}
+use Rattle.std.specs.Prelude.{get_or}
 use Rattle.std.proofs.lemmas.List.{length-append}
 use Rattle.std.proofs.Math.Seq.{get_or-append_seam}
-use Rattle.jxlm_base.specs.Grid.{Grid, grid, IsFull, meanings}
-use Rattle.jxlm_base.specs.Regions.{region, grid_of, store_meanings, Lies, AllLie, AreApart, LieApart, IsWhole, buffer_of}
+use Rattle.jxlm_base.specs.Grid.{Grid, grid, IsFull}
+use Rattle.jxlm_base.specs.Regions.{region, grid_of, store_meanings, AllLie, LieApart, buffer_of}
 use Rattle.jxlm_base.specs.declared.subgrid.Region.{Region}
 use Rattle.jxlm_base.proofs.Regions.{grid_of_whole, apart_by_buffer, IsFull-meanings}
 use Rattle.jxl_modular.specs.Layout.{layout_from, layout}

@@ -1,8 +1,11 @@
+pub mod CellLaws
 pub mod Counts
+pub mod Earlier
 pub mod Layouts
 pub mod Loops
-pub mod OneLeaf
+pub mod NextSample
 pub mod Progress
+pub mod Starting
 pub mod Samples
 pub mod Prefixes
 pub mod PartLaws
@@ -11,6 +14,9 @@ pub mod Places
 pub mod TokenLaw
 pub mod Whole
 pub mod HeaderLaws
+pub mod OpeningLaws
+pub mod Preparing
 pub mod FreshLaws
 pub mod ParsingLaws
 mod Examples
+mod OpeningExamples

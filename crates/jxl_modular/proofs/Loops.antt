@@ -1,36 +1,31 @@
 -- What the loops of decoding keep: one cell more, one row more, one channel more.
-use Rattle.std.proofs.Common.{◌≡◌, ℕ, zero, suc, ◌+◌, ◌-◌, ◌*◌, ◌<◌, ◌≤◌, List, [], ◌∷◌, ◌++◌, length, take, drop, Some, Result, Ok, Err, refl, sym, ap, ◌∙◌, subst, arith, ℤ, pos}
-use Rattle.std.specs.Prelude.{get_or, map, slice_set}
-use Rattle.std.specs.List.{All}
+use Rattle.std.proofs.Common.{◌≡◌, ℕ, zero, suc, ◌+◌, ◌*◌, ◌<◌, ◌≤◌, List, [], ◌∷◌, length, refl, sym, ap, ◌∙◌, subst, arith, ℤ}
+use Rattle.std.specs.Prelude.{get_or, slice_set}
 use Rattle.std.specs.Int.{Width}
-use Rattle.std.proofs.lemmas.List.{get_or-map, length-map, length-append}
+use Rattle.std.proofs.lemmas.List.{length-append}
 use Rattle.std.proofs.Math.Seq.{take-length}
 use Rattle.std.proofs.lemmas.List.Sums.{sum_by-cons}
-use Rattle.jxlm_base.specs.Decoding.{Found, Taken, Meaning}
-use Rattle.jxlm_base.specs.Grid.{Grid, grid, cell, with_cell, IsFull}
-use Rattle.jxlm_base.specs.Regions.{region, grid_of, store_meanings, with_region_cell, Lies, AllLie, LieApart, HasCell, buffer_of}
+use Rattle.jxlm_base.specs.Decoding.{Taken, Meaning}
+use Rattle.jxlm_base.specs.Grid.{Grid, with_cell}
+use Rattle.jxlm_base.specs.Regions.{region, grid_of, store_meanings, with_region_cell, Lies, AllLie, LieApart, HasCell}
 use Rattle.jxlm_base.specs.declared.decoder.DecoderError.{DecoderError}
 use Rattle.jxlm_base.specs.declared.subgrid.Region.{Region}
-use Rattle.jxlm_base.proofs.Regions.{grids_of_written, with_region_cell-meanings, AllLie-meanings, width_after, height_after, full_after, length-with_region_cell, buffer_cell_other, HasCell_at}
-use Rattle.jxlm_tree.specs.TreeReading.{IsOffered}
-use Rattle.jxlm_tree.specs.Tree.{leaf}
-use Rattle.jxlm_tree.specs.declared.flat.Leaf.{Leaf}
-use Rattle.jxl_modular.specs.Coded.{part_rule, sample_of}
-use Rattle.jxl_modular.specs.Part.{Part, Channel, size, channel, cell_count, cells_before, cells_of, greatest_width, Fits, grid as grid_at}
-use Rattle.jxl_modular.specs.Progress.{Reached, Stopped, SameSizes, Suits, place_of, grids_in, GoesOn, Stops, KeepsOutside, buffer_at}
-use Rattle.jxl_modular.specs.Reading.{ReadsCell, prediction_at, region_at}
-use Rattle.jxl_modular.proofs.OneLeaf.{read_is, value_is}
-use Rattle.jxl_modular.proofs.Places.{before_suc, split}
+use Rattle.jxlm_base.proofs.Regions.{grids_of_written, with_region_cell-meanings, AllLie-meanings, width_after, height_after, full_after, length-with_region_cell, buffer_cell_other, HasCell_at, IsFull-grid_of}
+use Rattle.jxl_modular.specs.Coded.{part_rule}
+use Rattle.jxl_modular.specs.Part.{Part, Channel, size, channel, cell_count, cells_before, cells_of, Fits, grid as grid_at}
+use Rattle.jxl_modular.specs.Progress.{Reached, Stopped, SameSizes, place_of, cells_ahead, grids_in, GoesOn, Stops, TakesSteps, KeepsOutside}
+use Rattle.jxl_modular.specs.Reading.{ReadsCell, RefusesCell, region_at}
+use Rattle.jxl_modular.proofs.Places.{before_suc}
 use Rattle.jxl_modular.proofs.Progress.{reached_more, with_cell_of, stands_within}
 
 -- sizes of regions and channels
-same_count : (channels : List Channel) (regions : List Region) → SameSizes channels regions → length channels ≡ length regions
+pub same_count : (channels : List Channel) (regions : List Region) → SameSizes channels regions → length channels ≡ length regions
 same_count [] [] h = refl
 same_count [] (r ∷ rs) h = absurd h
 same_count (c ∷ cs) [] h = absurd h
 same_count (c ∷ cs) (r ∷ rs) h = let n = same_count cs rs h.2 in omega (arith, n)
 
-same_size : (channels : List Channel) (regions : List Region) (i : ℕ) → SameSizes channels regions → i < length regions →
+pub same_size : (channels : List Channel) (regions : List Region) (i : ℕ) → SameSizes channels regions → i < length regions →
     ((region_at regions i).width ≡ (channel channels i).width) × ((region_at regions i).height ≡ (channel channels i).height)
 same_size [] [] i h l = absurd (omega arith)
 same_size [] (r ∷ rs) i h l = absurd h
@@ -38,7 +33,7 @@ same_size (c ∷ cs) [] i h l = absurd h
 same_size (c ∷ cs) (r ∷ rs) zero h l = (h.0, h.1)
 same_size (c ∷ cs) (r ∷ rs) (suc i) h l = same_size cs rs i h.2 (omega arith)
 
-grid_in : (store : List (Grid ℤ)) (regions : List Region) (i : ℕ) → i < length regions → grid_at (grids_in regions store) i ≡ grid_of store (region_at regions i)
+pub grid_in : (store : List (Grid ℤ)) (regions : List Region) (i : ℕ) → i < length regions → grid_at (grids_in regions store) i ≡ grid_of store (region_at regions i)
 grid_in store [] i l = absurd (omega arith)
 grid_in store (r ∷ rs) zero l = refl
 grid_in store (r ∷ rs) (suc i) l = grid_in store rs i (omega arith)
@@ -54,6 +49,29 @@ all_cells (c ∷ cs) (g ∷ gs) fit =
     let all = sum_by-cons size c cs in
     let both = length-append g.cells (cells_of gs) in
     omega (arith, whole, rest, all, both)
+
+-- ---- steps
+
+sums_within : (a b c s t u : ℕ) → t + a ≤ s + b → u + b ≤ t + c → u + a ≤ s + c
+sums_within a b c s t u h k = omega (arith, h, k)
+
+pub takes_none : (cost k before : ℕ) → TakesSteps cost k k before before
+takes_none cost k before = omega arith
+
+pub takes_one : (cost k before after : ℕ) → after ≤ before + cost → TakesSteps cost k (suc k) before after
+takes_one cost k before after h = omega (arith, h)
+
+pub takes_further : (cost a b c s t u : ℕ) → TakesSteps cost a b s t → TakesSteps cost b c t u → TakesSteps cost a c s u
+takes_further cost a b c s t u h k = sums_within (a * cost) (b * cost) (c * cost) s t u h k
+
+pub takes_between : (cost a b c d s t : ℕ) → a ≡ c → b ≡ d → TakesSteps cost a b s t → TakesSteps cost c d s t
+takes_between cost a b c d s t p q h = rw (← p, ← q) h
+
+pub takes_next : (cost : ℕ) (part : Part) (i x y before after : ℕ) → after ≤ before + cost → TakesSteps cost (place_of part i x y) (place_of part i (x + 1) y) before after
+takes_next cost part i x y before after h =
+    let k : ℕ = place_of part i x y in
+    let next : suc k ≡ place_of part i (x + 1) y = omega arith in
+    subst (λ n. TakesSteps cost k n before after) next (takes_one cost k before after h)
 
 -- ---- places
 
@@ -83,106 +101,120 @@ channel_ends part i l =
     let m : c.height * c.width + 0 ≡ size c = omega arith in
     ap (λ n. cells_before part.channels i + n) m ∙ e
 
-module _ {S : Type 0} (d : Meaning S) (w : Width) (bytes : List ℕ) (l : Leaf) (m : ℕ) (regions : List Region) where
+-- regions that have the sizes of channels hold grids that fit them
+pub fits_in : (channels : List Channel) (regions : List Region) (store : List (Grid ℤ)) → SameSizes channels regions → Fits channels (grids_in regions store)
+fits_in [] [] store h = tt
+fits_in [] (r ∷ rs) store h = absurd h
+fits_in (c ∷ cs) [] store h = absurd h
+fits_in (c ∷ cs) (r ∷ rs) store h = (h.0, h.1, IsFull-grid_of store r, fits_in cs rs store h.2)
+
+-- a place of a region is one of its channel
+pub record IsPlace (part : Part) (i x y : ℕ) : Type 0 where
+  pub there : i < length part.channels
+  pub column : x < (channel part.channels i).width
+  pub row : y < (channel part.channels i).height
+
+module _ (part : Part) (regions : List Region) (sizes : SameSizes part.channels regions) where
+  pub is_place : (i x y : ℕ) → i < length regions → x < (region_at regions i).width → y < (region_at regions i).height → IsPlace part i x y
+  is_place i x y li px qy =
+      let same = same_size part.channels regions i sizes li in
+      let count = same_count part.channels regions sizes in
+      record {
+        there = omega (arith, count);
+        column = subst (λ n. x < n) same.0 px;
+        row = subst (λ n. y < n) same.1 qy;
+      }
+
+  -- ---- the ends of rows and channels
+
+  pub row_done : (i y : ℕ) → i < length regions → place_of part i (region_at regions i).width y ≡ place_of part i 0 (y + 1)
+  row_done i y li = ap (λ n. place_of part i n y) (same_size part.channels regions i sizes li).0 ∙ row_ends part i y
+
+  pub channel_done : (i : ℕ) → i < length regions → place_of part i 0 (region_at regions i).height ≡ cells_before part.channels (i + 1)
+  channel_done i li =
+      let count = same_count part.channels regions sizes in
+      ap (λ n. place_of part i 0 n) (same_size part.channels regions i sizes li).1 ∙ channel_ends part i (omega (arith, count))
+
+  pub channel_empty : (i : ℕ) → i < length regions → (region_at regions i).width ≡ 0 → cells_before part.channels i ≡ cells_before part.channels (i + 1)
+  channel_empty i li none =
+      let count = same_count part.channels regions sizes in
+      let e = ends_list part.channels i (omega (arith, count)) in
+      let z : (channel part.channels i).width ≡ 0 = sym (same_size part.channels regions i sizes li).0 ∙ none in
+      let n : size (channel part.channels i) ≡ 0 = ap (λ n. n * (channel part.channels i).height) z ∙ omega arith in
+      omega (arith, e, n)
+
+  pub all_done : cells_before part.channels (length regions) ≡ cell_count part.channels
+  all_done = ap (cells_before part.channels) (sym (same_count part.channels regions sizes)) ∙ ap cell_count (take-length part.channels)
+
+module _ {S : Type 0} (d : Meaning S) (w : Width) (part : Part) (bytes : List ℕ) (regions : List Region) where
   -- a cell was read and written
   pub cell_goes_on : {X : Type 0} (to_int : X → ℤ) (from_int : ℤ → X) → ((n : ℤ) → to_int (from_int n) ≡ n) → (i x y : ℕ) (store new : List (Grid X)) (s t : S) (p q : ℕ) →
-      IsOffered l.predictor → LieApart regions → AllLie regions store → i < length regions → x < (region_at regions i).width → y < (region_at regions i).height →
-      ReadsCell d w to_int from_int bytes l m (region_at regions i) x y store s p new t q →
-      GoesOn d w bytes l m regions (λ part. place_of part i x y) (λ part. place_of part i (x + 1) y) (store_meanings to_int store) s p (store_meanings to_int new) q t
-  cell_goes_on {X} to_int from_int back i x y store new s t p q o apart lie li px qy reads part decoder p0 old suits r =
+      SameSizes part.channels regions → LieApart regions → AllLie regions store → i < length regions → x < (region_at regions i).width → y < (region_at regions i).height →
+      ReadsCell d w part bytes regions to_int i x y store s p from_int new t q →
+      GoesOn d w part bytes regions (place_of part i x y) (place_of part i (x + 1) y) (store_meanings to_int store) s p (store_meanings to_int new) t q
+  cell_goes_on {X} to_int from_int back i x y store new s t p q sizes apart lie li px qy reads decoder p0 old r =
       let ints : List (Grid ℤ) = store_meanings to_int store in
       let reg : Region = region_at regions i in
-      let sizes = same_size part.channels regions i suits.sizes li in
-      let count = same_count part.channels regions suits.sizes in
-      let lc : i < length part.channels = omega (arith, count) in
-      let pc : x < (channel part.channels i).width = subst (λ n. x < n) sizes.0 px in
-      let qc : y < (channel part.channels i).height = subst (λ n. y < n) sizes.1 qy in
+      let at = is_place part regions sizes i x y li px qy in
       let k : ℕ = place_of part i x y in
-      let v : ℤ = sample_of w l (prediction_at (grid_of ints reg).cells reg.width x y l.predictor) reads.token in
+      let v : ℤ = (part_rule d w part bytes).value (cells_ahead part (grids_in regions ints) i x y) reads.token in
       let taken : Taken S = record { token = reads.token; state = t; position = q } in
-      let rule = part_rule d w part bytes in
-      let read : rule.read (take k (cells_of (grids_in regions ints))) s p ≡ Ok taken =
-      read_is d w part bytes l suits.one_leaf (take k (cells_of (grids_in regions ints))) s p ∙ ap (d.read s bytes p l.cluster) suits.widest ∙ reads.read in
-      let value : rule.value (take k (cells_of (grids_in regions ints))) reads.token ≡ v =
-      value_is d w part bytes l suits.one_leaf (grids_in regions ints) i x y reads.token o r.fits lc pc qc
-      ∙ ap (λ (g : Grid ℤ). sample_of w l (prediction_at g.cells (channel part.channels i).width x y l.predictor) reads.token) (grid_in ints regions i li)
-      ∙ ap (λ n. sample_of w l (prediction_at (grid_of ints reg).cells n x y l.predictor) reads.token) (sym sizes.0) in
       let store' : store_meanings to_int new ≡ with_region_cell ints reg x y v =
       ap (store_meanings to_int) reads.written ∙ with_region_cell-meanings to_int store reg x y (from_int v) ∙ ap (with_region_cell ints reg x y) (back v) in
-      let grids' : grids_in regions (store_meanings to_int new) ≡ with_cell_of (grids_in regions ints) i x y (rule.value (take k (cells_of (grids_in regions ints))) reads.token) =
+      let grids' : grids_in regions (store_meanings to_int new) ≡ with_cell_of (grids_in regions ints) i x y v =
       ap (grids_in regions) store' ∙ grids_of_written ints regions i x y v (region 0 0 0 0 0) apart (AllLie-meanings to_int store regions lie) li px qy
-      ∙ ap (λ (g : Grid ℤ). slice_set (grids_in regions ints) i (with_cell g x y v)) (sym (grid_in ints regions i li))
-      ∙ ap (with_cell_of (grids_in regions ints) i x y) (sym value) in
+      ∙ ap (λ (g : Grid ℤ). slice_set (grids_in regions ints) i (with_cell g x y v)) (sym (grid_in ints regions i li)) in
       let next : suc k ≡ place_of part i (x + 1) y = omega arith in
-      let more = reached_more d w part bytes decoder p0 old k i x y (grids_in regions ints) s p taken lc pc qc refl r read in
+      let more = reached_more d w part bytes decoder p0 old k i x y (grids_in regions ints) s p taken at.there at.column at.row refl r reads.read in
       subst (λ n. Reached d w part bytes decoder p0 old n (grids_in regions (store_meanings to_int new)) t q) next
       (subst (λ (gs : List (Grid ℤ)). Reached d w part bytes decoder p0 old (suc k) gs t q) (sym grids') more)
 
+  -- a read was refused, and each read up to it took at most so many steps
+  abbrev IsStopped : S → ℕ → List (Grid ℤ) → DecoderError → List (Grid ℤ) → ℕ → ℕ → ℕ → ℕ → ℕ → Type 0
+  IsStopped decoder p0 old e now q cost from before after = (stopped : Stopped d w part bytes decoder p0 old e now q) × TakesSteps cost from (suc stopped.count) before after
+
   -- the read of a cell was refused
-  pub cell_stops : (i x y : ℕ) (to : Part → ℕ) (store : List (Grid ℤ)) (s : S) (p : ℕ) (e : DecoderError) → i < length regions → x < (region_at regions i).width → y < (region_at regions i).height →
-      d.read s bytes p l.cluster m ≡ Err e →
-      Stops d w bytes l m regions (λ part. place_of part i x y) to store s p store p e
-  cell_stops i x y to store s p e li px qy fault part decoder p0 old suits r =
-      let sizes = same_size part.channels regions i suits.sizes li in
-      let count = same_count part.channels regions suits.sizes in
-      let lc : i < length part.channels = omega (arith, count) in
-      let pc : x < (channel part.channels i).width = subst (λ n. x < n) sizes.0 px in
-      let qc : y < (channel part.channels i).height = subst (λ n. y < n) sizes.1 qy in
-      record {
+  pub cell_stops : {X : Type 0} (to_int : X → ℤ) (cost before after : ℕ) (i x y : ℕ) (store new : List (Grid X)) (s t : S) (p q : ℕ) (e : DecoderError) →
+      after ≤ before + cost → SameSizes part.channels regions → i < length regions → x < (region_at regions i).width → y < (region_at regions i).height →
+      RefusesCell d w part bytes regions to_int i x y store s p new t q e →
+      Stops d w part bytes regions cost before after (place_of part i x y) (store_meanings to_int store) s p (store_meanings to_int new) q e
+  cell_stops {X} to_int cost before after i x y store new s t p q e work sizes li px qy refuses decoder p0 old r =
+      let ints : List (Grid ℤ) = store_meanings to_int store in
+      let at = is_place part regions sizes i x y li px qy in
+      let stopped : Stopped d w part bytes decoder p0 old e (grids_in regions ints) p = record {
         count = place_of part i x y;
         state = s;
-        within = subst (λ n. place_of part i x y < n) (all_cells part.channels (grids_in regions store) r.fits) (stands_within part.channels (grids_in regions store) i x y r.fits lc pc qc);
+        within = subst (λ n. place_of part i x y < n) (all_cells part.channels (grids_in regions ints) r.fits) (stands_within part.channels (grids_in regions ints) i x y r.fits at.there at.column at.row);
         reached = r;
-        fault = read_is d w part bytes l suits.one_leaf (take (place_of part i x y) (cells_of (grids_in regions store))) s p ∙ ap (d.read s bytes p l.cluster) suits.widest ∙ fault;
-      }
+        fault = refuses.fault;
+      } in
+      let place : ℕ = place_of part i x y in
+      subst (λ n. IsStopped decoder p0 old e (grids_in regions (store_meanings to_int new)) n cost place before after) (sym refuses.place_is)
+      (subst (λ (gs : List (Grid X)). IsStopped decoder p0 old e (grids_in regions (store_meanings to_int gs)) p cost place before after) (sym refuses.store_is)
+      (stopped, takes_one cost place before after work))
 
   -- ---- one behind another
 
   module _ (store : List (Grid ℤ)) (s : S) (p : ℕ) where
-    pub stays : (from : Part → ℕ) → GoesOn d w bytes l m regions from from store s p store p s
-    stays from part decoder p0 old suits r = r
+    pub stays : (from to : ℕ) → from ≡ to → GoesOn d w part bytes regions from to store s p store s p
+    stays from to same decoder p0 old r = subst (λ n. Reached d w part bytes decoder p0 old n (grids_in regions store) s p) same r
 
-    pub stays_at : (from to : Part → ℕ) → ((part : Part) → Suits part regions l m → from part ≡ to part) → GoesOn d w bytes l m regions from to store s p store p s
-    stays_at from to same part decoder p0 old suits r = subst (λ n. Reached d w part bytes decoder p0 old n (grids_in regions store) s p) (same part suits) r
-
-    module _ (from middle : Part → ℕ) (store' : List (Grid ℤ)) (s' : S) (p' : ℕ) (first : GoesOn d w bytes l m regions from middle store s p store' p' s') where
+    module _ (from middle : ℕ) (store' : List (Grid ℤ)) (s' : S) (p' : ℕ) (first : GoesOn d w part bytes regions from middle store s p store' s' p') where
       -- the same, where the places are told otherwise
-      pub goes_between : (from' to' : Part → ℕ) → ((part : Part) → Suits part regions l m → from' part ≡ from part) → ((part : Part) → Suits part regions l m → middle part ≡ to' part) →
-          GoesOn d w bytes l m regions from' to' store s p store' p' s'
-      goes_between from' to' a b part decoder p0 old suits r =
-          subst (λ n. Reached d w part bytes decoder p0 old n (grids_in regions store') s' p') (b part suits)
-          (first part decoder p0 old suits (subst (λ n. Reached d w part bytes decoder p0 old n (grids_in regions store) s p) (a part suits) r))
+      pub goes_between : (from' to' : ℕ) → from' ≡ from → middle ≡ to' → GoesOn d w part bytes regions from' to' store s p store' s' p'
+      goes_between from' to' a b decoder p0 old r =
+          subst (λ n. Reached d w part bytes decoder p0 old n (grids_in regions store') s' p') b
+          (first decoder p0 old (subst (λ n. Reached d w part bytes decoder p0 old n (grids_in regions store) s p) a r))
 
-      pub goes_further : (to : Part → ℕ) (store'' : List (Grid ℤ)) (s'' : S) (p'' : ℕ) → GoesOn d w bytes l m regions middle to store' s' p' store'' p'' s'' →
-          GoesOn d w bytes l m regions from to store s p store'' p'' s''
-      goes_further to store'' s'' p'' second part decoder p0 old suits r = second part decoder p0 old suits (first part decoder p0 old suits r)
+      pub goes_further : (to : ℕ) (store'' : List (Grid ℤ)) (s'' : S) (p'' : ℕ) → GoesOn d w part bytes regions middle to store' s' p' store'' s'' p'' →
+          GoesOn d w part bytes regions from to store s p store'' s'' p''
+      goes_further to store'' s'' p'' second decoder p0 old r = second decoder p0 old (first decoder p0 old r)
 
-      pub stops_further : (to to' : Part → ℕ) (store'' : List (Grid ℤ)) (p'' : ℕ) (e : DecoderError) → Stops d w bytes l m regions middle to store' s' p' store'' p'' e →
-          Stops d w bytes l m regions from to' store s p store'' p'' e
-      stops_further to to' store'' p'' e second part decoder p0 old suits r = second part decoder p0 old suits (first part decoder p0 old suits r)
-
-  -- ---- the ends of rows and channels
-
-  pub row_done : (i y : ℕ) → i < length regions → (part : Part) → Suits part regions l m → place_of part i (region_at regions i).width y ≡ place_of part i 0 (y + 1)
-  row_done i y li part suits =
-      ap (λ n. place_of part i n y) (same_size part.channels regions i suits.sizes li).0 ∙ row_ends part i y
-
-  pub channel_done : (i : ℕ) → i < length regions → (part : Part) → Suits part regions l m → place_of part i 0 (region_at regions i).height ≡ cells_before part.channels (i + 1)
-  channel_done i li part suits =
-      let count = same_count part.channels regions suits.sizes in
-      ap (λ n. place_of part i 0 n) (same_size part.channels regions i suits.sizes li).1 ∙ channel_ends part i (omega (arith, count))
-
-  pub channel_empty : (i : ℕ) → i < length regions → (region_at regions i).width ≡ 0 → (part : Part) → Suits part regions l m → cells_before part.channels i ≡ cells_before part.channels (i + 1)
-  channel_empty i li none part suits =
-      let count = same_count part.channels regions suits.sizes in
-      let e = ends_list part.channels i (omega (arith, count)) in
-      let z : (channel part.channels i).width ≡ 0 = sym (same_size part.channels regions i suits.sizes li).0 ∙ none in
-      let n : size (channel part.channels i) ≡ 0 = ap (λ n. n * (channel part.channels i).height) z ∙ omega arith in
-      omega (arith, e, n)
-
-  pub all_done : (part : Part) → Suits part regions l m → cells_before part.channels (length regions) ≡ cell_count part.channels
-  all_done part suits =
-      ap (cells_before part.channels) (sym (same_count part.channels regions suits.sizes)) ∙ ap cell_count (take-length part.channels)
+      pub stops_further : (cost before then after : ℕ) (store'' : List (Grid ℤ)) (p'' : ℕ) (e : DecoderError) → TakesSteps cost from middle before then →
+          Stops d w part bytes regions cost then after middle store' s' p' store'' p'' e → Stops d w part bytes regions cost before after from store s p store'' p'' e
+      stops_further cost before then after store'' p'' e work second decoder p0 old r =
+          let last = second decoder p0 old (first decoder p0 old r) in
+          (last.0, takes_further cost from middle (suc last.0.count) before then after work last.1)
 
 -- ---- what is outside of the regions
 

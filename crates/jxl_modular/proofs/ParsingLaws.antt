@@ -1,64 +1,49 @@
 -- What reading an image answers, from what its steps answer.
-use Rattle.std.proofs.Common.{◌≡◌, ℕ, ◌+◌, ◌*◌, ◌^◌, ◌<◌, min, List, [], ◌∷◌, length, map, sum_by, false, Some, Ok, Err, inr, refl, sym, ap, ◌∙◌, arith}
-use Rattle.std.specs.Prelude.{◌⊎◌}
+use Rattle.std.proofs.Common.{◌≡◌, ℕ, zero, suc, false, ◌+◌, ◌*◌, ◌^◌, ◌<◌, min, List, [], ◌∷◌, length, map, sum_by, Ok, Err, inr, refl, sym, ap, ◌∙◌, arith}
+use Rattle.std.specs.Prelude.{◌⊎◌, ◌==◌, Some}
 use Rattle.std.proofs.lemmas.List.Sums.{sum_by-cons}
 use Rattle.jxlm_base.specs.Decoding.{Meaning}
-use Rattle.jxlm_base.specs.Fault.{Fault, Eof, BadEnum, BadProfile, BadTree, NoGlobalTree, BadRct, BadPalette, BadSqueeze, OfDecoder, NoMemory, UnlessMemory, fault_of}
+use Rattle.jxlm_base.specs.Fault.{UnlessMemory, fault_of}
 use Rattle.jxlm_base.specs.Grammar.{IsRefused}
-use Rattle.jxlm_base.specs.declared.decoder.DecoderError.TheVariants as decoders
 use Rattle.jxlm_base.specs.declared.error.Error.{Error}
-use Rattle.jxlm_transform.specs.Channels.{area, image_channel, image_list}
+use Rattle.jxlm_transform.proofs.Refusals.{unless_so}
+use Rattle.jxlm_transform.specs.Channels.{area, channel_of, list_of}
+use Rattle.jxlm_transform.specs.declared.channels.ModularChannelInfo.{ModularChannelInfo}
+use Rattle.jxlm_transform.specs.declared.channels.ModularChannels.{ModularChannels}
 use Rattle.jxlm_transform.specs.declared.param.ModularChannelParams.{ModularChannelParams}
 use Rattle.jxlm_transform.specs.declared.param.ModularParams.{ModularParams}
 use Rattle.jxlm_tree.specs.Tree.{Config}
-use Rattle.jxlm_tree.specs.TreeReading.{IsTreeAt, TreeGives}
-use Rattle.jxl_modular.specs.Fresh.{fresh, info_of}
+use Rattle.jxlm_tree.specs.TreeReading.{IsTreeAt, IsTooDeep, TreeGives, listing_at}
+use Rattle.jxl_modular.specs.Fresh.{fresh}
+use Rattle.jxl_modular.specs.Header.{header_of}
 use Rattle.jxl_modular.specs.Image.{Image}
-use Rattle.jxl_modular.specs.Opening.{OpensAs, node_limit, depth_limit}
+use Rattle.jxl_modular.specs.Opening.{node_limit, depth_limit, opening_of}
 use Rattle.jxl_modular.specs.Parsing.{IsImageAt, IsTreeRefused, ParseGives, opened}
-use Rattle.jxl_modular.specs.declared.channels.ModularChannelInfo.{ModularChannelInfo}
 use Rattle.jxl_modular.specs.declared.header.ModularHeader.{ModularHeader}
 
--- what follows from a fact follows, unless there was no memory
-unless_so : (fault : Fault) {P Q : Type 0} → (P → Q) → UnlessMemory fault P → UnlessMemory fault Q
-unless_so Eof f h = f h
-unless_so (BadEnum name value) f h = f h
-unless_so (BadProfile text) f h = f h
-unless_so BadTree f h = f h
-unless_so NoGlobalTree f h = f h
-unless_so BadRct f h = f h
-unless_so BadPalette f h = f h
-unless_so BadSqueeze f h = f h
-unless_so (OfDecoder decoders.UnexpectedEof) f h = f h
-unless_so (OfDecoder (decoders.Invalid code)) f h = f h
-unless_so (OfDecoder decoders.OutOfMemory) f h = h
-unless_so NoMemory f h = h
+-- a number that is not 0
+pub not_zero : (n : ℕ) → (n == 0) ≡ false → 0 < n
+not_zero zero h = cc
+not_zero (suc n) h = omega arith
 
-infos_same : (ps : List ModularChannelParams) → map (λ c. info_of (image_channel c)) ps ≡ map info_of (image_list ps).channels
-infos_same [] = refl
-infos_same (p ∷ ps) = ap (λ cs. info_of (image_channel p) ∷ cs) (infos_same ps)
-
-areas_same : (ps : List ModularChannelParams) → sum_by (λ c. c.width * c.height) (map info_of (image_list ps).channels) ≡ sum_by area (image_list ps).channels
+areas_same : (cs : List ModularChannelInfo) → sum_by (λ c. c.width * c.height) cs ≡ sum_by area (map channel_of cs)
 areas_same [] = refl
-areas_same (p ∷ ps) =
-    let c = image_channel p in
-    sum_by-cons (λ (i : ModularChannelInfo). i.width * i.height) (info_of c) (map info_of (image_list ps).channels)
-    ∙ ap (λ n. area c + n) (areas_same ps)
-    ∙ sym (sum_by-cons area c (image_list ps).channels)
+areas_same (c ∷ cs) =
+    sum_by-cons (λ (i : ModularChannelInfo). i.width * i.height) c cs
+    ∙ ap (λ n. area (channel_of c) + n) (areas_same cs)
+    ∙ sym (sum_by-cons area (channel_of c) (map channel_of cs))
 
-module _ {S D : Type 0} (d : Meaning D) (zero : S) (bytes : List ℕ) (p : ℕ) (params : ModularParams D) (infos : List ModularChannelInfo)
-    (made : infos ≡ map (λ c. info_of (image_channel c)) params.channels.items) (limit : ℕ) (counted : limit ≡ min (1024 + sum_by (λ c. c.width * c.height) infos) (2 ^ 20)) where
-  limit_same : limit ≡ node_limit (image_list params.channels.items).channels
-  limit_same =
-      let ps = params.channels.items in
-      counted ∙ ap (λ n. min (1024 + n) (2 ^ 20)) (ap (λ is. sum_by (λ (c : ModularChannelInfo). c.width * c.height) is) (made ∙ infos_same ps) ∙ areas_same ps)
+module _ {S D : Type 0} (d : Meaning D) (zero : S) (bytes : List ℕ) (p : ℕ) (params : ModularParams D) where
+  module _ (o : ModularHeader × ModularChannels) (m : ℕ) (opens : opened d zero bytes p params ≡ Ok (record { value = opening_of o; position = m }))
+      (limit : ℕ) (counted : limit ≡ min (1024 + sum_by (λ c. c.width * c.height) o.1.info.items) (2 ^ 20)) where
+    limit_same : limit ≡ node_limit (list_of o.1).channels
+    limit_same = counted ∙ ap (λ n. min (1024 + n) (2 ^ 20)) (areas_same o.1.info.items)
 
-  module _ (h : ModularHeader) (m : ℕ) (opens : OpensAs false (image_list params.channels.items) bytes p (Ok h) m) where
     -- an image of the tree that stands there
-    pub image_stands : (config : Config D) (q : ℕ) (image : Image S D) → IsTreeAt d bytes limit depth_limit m config q → image ≡ fresh zero h config params.group_dim params.bit_depth infos →
+    pub image_stands : (config : Config D) (q : ℕ) (image : Image S D) → IsTreeAt d bytes limit depth_limit m config q → image ≡ fresh zero (header_of o.0) config params.group_dim params.bit_depth (list_of o.1) →
         IsImageAt d zero bytes p params image q
-    image_stands config q image tree same = rw (same, made ∙ infos_same params.channels.items) (record {
-      ahead = record { header = h; coded = image_list params.channels.items };
+    image_stands config q image tree same = rw same (record {
+      ahead = opening_of o;
       place = m;
       opens = opens;
       tree = rw limit_same at tree;
@@ -68,12 +53,15 @@ module _ {S D : Type 0} (d : Meaning D) (zero : S) (bytes : List ℕ) (p : ℕ) 
     -- where a tree is refused, so is the image
     pub tree_refused : (e : Error) (q : ℕ) → TreeGives d bytes limit depth_limit m (Err e) q →
         UnlessMemory (fault_of e) (IsRefused (opened d zero bytes p params) (fault_of e) q ⊎ IsTreeRefused d zero bytes p params (fault_of e) q)
-    tree_refused e q gives = unless_so (fault_of e) (λ tree. inr (record {
-      ahead = record { header = h; coded = image_list params.channels.items };
-      place = m;
-      opens = opens;
-      tree = rw limit_same at tree;
-    })) gives
+    tree_refused e q gives =
+        unless_so (fault_of e) (IsRefused (listing_at d bytes limit m) (fault_of e) q ⊎ IsTooDeep d bytes limit depth_limit m (fault_of e) q)
+        (IsRefused (opened d zero bytes p params) (fault_of e) q ⊎ IsTreeRefused d zero bytes p params (fault_of e) q)
+        (λ tree. inr (record {
+          ahead = opening_of o;
+          place = m;
+          opens = opens;
+          tree = rw limit_same at tree;
+        })) gives
 
   pub gives_image : (cs : List ModularChannelParams) (image : Image S D) (q : ℕ) → 0 < length cs → IsImageAt d zero bytes p params image q → ParseGives d zero bytes p params cs (Ok (record { inner = Some image })) q
   gives_image [] image q some stands = absurd (omega (arith, some))

@@ -1,26 +1,38 @@
 -- The part of all coded channels of an image.
-use Rattle.std.proofs.Common.{◌≡◌, ◌≢◌, ℕ, zero, suc, ◌+◌, ◌<◌, List, [], ◌∷◌, ◌++◌, length, take, drop, Bool, refl, sym, ap, ◌∙◌, subst, arith, ℤ}
-use Rattle.std.specs.Prelude.{get_or}
+use Rattle.std.proofs.Common.{◌≡◌, ◌≢◌, ℕ, zero, suc, ◌+◌, ◌*◌, ◌<◌, ◌≤◌, List, [], ◌∷◌, ◌++◌, length, take, drop, Bool, refl, sym, ap, ◌∙◌, subst, arith, ℤ}
 use Rattle.std.proofs.Math.Seq.{take-append_seam}
+use Rattle.std.proofs.lemmas.List.{length-map}
 use Rattle.std.specs.Int.{Width}
 use Rattle.jxlm_base.specs.Decoding.{Meaning}
-use Rattle.jxlm_base.specs.Grid.{Grid, grid, IsFull}
+use Rattle.jxlm_base.specs.Grid.{Grid, IsFull}
 use Rattle.jxlm_base.specs.Regions.{store_meanings, AllLie, LieApart}
 use Rattle.jxlm_base.specs.declared.decoder.DecoderError.{DecoderError}
 use Rattle.jxlm_base.specs.declared.decoder.DecoderError.TheVariants.{UnexpectedEof, Invalid, OutOfMemory}
 use Rattle.jxlm_base.specs.declared.subgrid.Region.{Region}
-use Rattle.jxlm_tree.specs.Tree.{leaf}
+use Rattle.jxlm_base.specs.Fault.{UnlessMemory, bitstream_fault, fault_of}
+use Rattle.jxlm_tree.specs.Tree.{Shape}
+use Rattle.jxlm_tree.specs.TreeReading.{IsWantOfMemory}
 use Rattle.jxlm_tree.specs.declared.flat.Leaf.{Leaf}
-use Rattle.std.proofs.Common.{inl, inr, Ok, Err, false}
-use Rattle.jxlm_base.specs.declared.error.Error.TheVariants.{Decoder}
+use Rattle.jxlm_tree.specs.declared.predictor.WpHeader.{WpHeader}
+use Rattle.std.proofs.Common.{inl, Result, Ok, Err, false}
+use Rattle.jxlm_base.specs.declared.bits.BitstreamError.{BitstreamError}
+use Rattle.jxlm_base.specs.declared.bits.BitstreamError.TheVariants as bit_errors
+use Rattle.jxlm_base.specs.declared.error.Error.{Error}
+use Rattle.jxlm_base.specs.declared.error.Error.TheVariants.{InvalidMaTree, GlobalMaTreeNotAvailable, InvalidRctParams, InvalidPaletteParams, InvalidSqueezeParams, Bitstream, Decoder, Buffer}
 use Rattle.jxl_modular.specs.Chain.{IsOnlyImage, transforms_of}
 use Rattle.jxl_modular.specs.Coded.{IfSome}
-use Rattle.jxl_modular.specs.Decode.{Standing, DecodeAnswers, IsWhole}
-use Rattle.jxl_modular.specs.Image.{Image, IsLaidOut, coded_grids, whole_part, samples_in}
-use Rattle.jxl_modular.specs.Layout.{channels_of, layout}
-use Rattle.jxl_modular.specs.Part.{Channel, Fits, greatest_width, cell_count}
-use Rattle.jxl_modular.specs.Progress.{SameSizes, Suits, grids_in, DecodesAll, DecodesSome, KeepsOutside, buffer_at}
+use Rattle.jxl_modular.specs.Decode.{Standing, DecodeAnswers, MovesWithin}
+use Rattle.jxl_modular.specs.Image.{Image, IsLaidOut, coded_grids, cost_of as image_cost, whole_part, samples_in}
+use Rattle.jxl_modular.specs.Layout.{channels_of}
+use Rattle.jxl_modular.specs.Part.{Channel, Part, Fits, cell_count, greatest_width}
+use Rattle.jxl_modular.specs.Progress.{SameSizes, grids_in, DecodesAll, DecodesSome, KeepsOutside, buffer_at}
+use Rattle.jxl_modular.specs.Reading.{HasFlats, IsCodingOf, IsRoomy, IsRoomyFor, regions_of}
 use Rattle.jxl_modular.specs.Samples.{DecodesSamples, FailsAtOnePlace, RefusesSamples}
+use Rattle.jxlm_transform.specs.declared.channels.ModularChannelInfo.{ModularChannelInfo}
+use Rattle.jxl_modular.specs.declared.coding.PartCoding.{PartCoding}
+use Rattle.jxlm_tree.specs.declared.state.PredictorState.{PredictorState}
+use Rattle.jxl_modular.proofs.Starting.{roomy_for}
+use Rattle.jxl_modular.proofs.Loops.{same_count}
 use Rattle.jxl_modular.proofs.Layouts.{layout_lies, layout_apart, layout_grids, same_sizes, fits_meanings}
 
 module _ {S D : Type 0} (x : Image S D) (laid : IsLaidOut x) where
@@ -30,12 +42,8 @@ module _ {S D : Type 0} (x : Image S D) (laid : IsLaidOut x) where
   pub coded_apart : LieApart x.coded
   coded_apart = subst LieApart (sym laid.regions) (layout_apart (channels_of x.channels) x.store laid.sizes)
 
-  pub suits_whole : (stream m : ℕ) (l : Leaf) → x.config.tree ≡ leaf l → m ≡ greatest_width (channels_of x.channels) → Suits (whole_part x stream) x.coded l m
-  suits_whole stream m l is_leaf widest = record {
-    sizes = subst (SameSizes (channels_of x.channels)) (sym laid.regions) (same_sizes (channels_of x.channels) 0);
-    one_leaf = is_leaf;
-    widest = sym widest;
-  }
+  pub coded_sizes : SameSizes (channels_of x.channels) x.coded
+  coded_sizes = subst (SameSizes (channels_of x.channels)) (sym laid.regions) (same_sizes (channels_of x.channels) 0)
 
   -- the grids of the coded channels are those of the store
   pub coded_are_store : (f : S → ℤ) → coded_grids f x ≡ store_meanings f x.store
@@ -66,22 +74,82 @@ pub refilled : {X : Type 0} (n : ℕ) (xs ys : List X) → n ≡ length ys → l
 refilled n xs ys a b =
     ap (λ k. take k (xs ++ drop (length xs) ys)) (a ∙ sym b) ∙ take-append_seam xs (drop (length xs) ys)
 
+abbrev pub part_with : List Channel → WpHeader → Shape Leaf → ℕ → Part
+part_with channels weights tree stream = record { channels = channels; weights = weights; tree = tree; stream = stream }
+
 abbrev pub with_store : {S D : Type 0} → Image S D → List (Grid S) → Image S D
 with_store x s = record x { store = s }
 
-module _ {S D : Type 0} (d : Meaning D) (w : Width) (to_int : S → ℤ) (bytes : List ℕ) (old : Image S D) (s : List (Grid S)) (p q m : ℕ) (l : Leaf)
-    (laid : IsLaidOut old) (is_leaf : old.config.tree ≡ leaf l) (widest : m ≡ greatest_width (channels_of old.channels)) where
-  pub decodes_samples : DecodesAll d w bytes l m old.coded old.config.decoder (store_meanings to_int old.store) p (store_meanings to_int s) q → DecodesSamples d w to_int bytes old p (with_store old s) q
-  decodes_samples all stream = all (whole_part old stream) (suits_whole old laid stream m l is_leaf widest) (coded_fit old laid to_int)
+some_channel : (channels : List ModularChannelInfo) → 0 < cell_count (channels_of channels) → 0 < length channels
+some_channel [] h = absurd (omega arith)
+some_channel (c ∷ cs) h = omega arith
 
-  fails_samples : (e : DecoderError) → DecodesSome d w bytes l m old.coded old.config.decoder (store_meanings to_int old.store) p (store_meanings to_int s) q e → FailsAtOnePlace d w to_int bytes old p (with_store old s) q e
-  fails_samples e some stream partial cells = some (whole_part old stream) partial (suits_whole old laid stream m l is_leaf widest) (coded_fit old laid to_int) cells
+module _ {S D : Type 0} (x : Image S D) (laid : IsLaidOut x) (c : PartCoding D)
+    (channels : c.channels.now ≡ x.channels) (regions : c.regions.now ≡ x.coded) (config : c.config.now ≡ x.config) (weights : c.weights ≡ x.header.wp_params) where
+  count_is : length x.channels ≡ length (regions_of c)
+  count_is =
+      sym (length-map x.channels _) ∙ same_count (channels_of x.channels) x.coded (coded_sizes x laid) ∙ ap length (sym regions)
 
-  pub refuses_samples : (e : DecoderError) → e ≢ OutOfMemory → DecodesSome d w bytes l m old.coded old.config.decoder (store_meanings to_int old.store) p (store_meanings to_int s) q e →
-      RefusesSamples d w to_int bytes old p (with_store old s) q e
-  refuses_samples UnexpectedEof ne some = fails_samples UnexpectedEof some
-  refuses_samples (Invalid k) ne some = fails_samples (Invalid k) some
-  refuses_samples OutOfMemory ne some = absurd (ne refl)
+  pub is_coding : HasFlats x.config.tree c.stream_index (length x.channels) c.flats.now → c.widest ≡ greatest_width (channels_of x.channels) → IsCodingOf c
+  is_coding flats widest = record {
+    sizes = rw (channels, regions) (coded_sizes x laid);
+    narrow = rw channels laid.narrow;
+    widest = rw channels widest;
+    flats = rw (config, ← count_is) flats;
+    weights = rw weights laid.weights;
+  }
+
+  -- where there are samples, the state has room for them
+  pub roomy_part : (state : PredictorState S) → 0 < samples_in x → IsCodingOf c → IsRoomyFor c.widest c.weights c.flats.now state → IsRoomy c state
+  roomy_part state some coding roomy = roomy_for c state coding roomy (let n = count_is in let m = some_channel x.channels some in omega (arith, n, m))
+
+-- the part of the channels of an image
+pub same_part : {S D : Type 0} (x : Image S D) (stream : ℕ) (channels : List ModularChannelInfo) → channels ≡ x.channels →
+    part_with (channels_of channels) x.header.wp_params x.config.tree stream ≡ whole_part x stream
+same_part x stream channels same = ap (λ cs. part_with (channels_of cs) x.header.wp_params x.config.tree stream) same
+
+module _ {S D : Type 0} (d : Meaning D) (w : Width) (to_int : S → ℤ) (bytes : List ℕ) (stream : ℕ) (old : Image S D) (s : List (Grid S)) (p q : ℕ)
+    (regions : List Region) (part : Part) (coded : regions ≡ old.coded) (is : part ≡ whole_part old stream) where
+  pub decodes_samples : DecodesAll d w part bytes regions old.config.decoder (store_meanings to_int old.store) p (store_meanings to_int s) q → DecodesSamples d w to_int bytes stream old p (with_store old s) q
+  decodes_samples all = subst (λ (part : Part). DecodesAll d w part bytes old.coded old.config.decoder (store_meanings to_int old.store) p (store_meanings to_int s) q) is
+      (subst (λ rs. DecodesAll d w part bytes rs old.config.decoder (store_meanings to_int old.store) p (store_meanings to_int s) q) coded all)
+
+  module _ (before after : ℕ) where
+    fails_samples : (e : DecoderError) → DecodesSome d w part bytes regions old.config.decoder (store_meanings to_int old.store) p (store_meanings to_int s) q (image_cost old) before after e →
+        FailsAtOnePlace d w to_int bytes stream old p (with_store old s) q before after e
+    fails_samples e some =
+        subst (λ (part : Part). DecodesSome d w part bytes old.coded old.config.decoder (store_meanings to_int old.store) p (store_meanings to_int s) q (image_cost old) before after e) is
+        (subst (λ rs. DecodesSome d w part bytes rs old.config.decoder (store_meanings to_int old.store) p (store_meanings to_int s) q (image_cost old) before after e) coded some)
+
+    pub refuses_samples : (e : DecoderError) → e ≢ OutOfMemory → DecodesSome d w part bytes regions old.config.decoder (store_meanings to_int old.store) p (store_meanings to_int s) q (image_cost old) before after e →
+        RefusesSamples d w to_int bytes stream old p (with_store old s) q before after (Decoder e)
+    refuses_samples UnexpectedEof ne some = fails_samples UnexpectedEof some
+    refuses_samples (Invalid k) ne some = fails_samples (Invalid k) some
+    refuses_samples OutOfMemory ne some = absurd (ne refl)
+
+-- what refuses the samples of an image refuses those of the same
+pub refuses_so : {S D : Type 0} (d : Meaning D) (w : Width) (to_int : S → ℤ) (bytes : List ℕ) (stream : ℕ) (x old new : Image S D) (p q before after : ℕ) (e : Error) → x ≡ old →
+    RefusesSamples d w to_int bytes stream x p new q before after e → RefusesSamples d w to_int bytes stream old p new q before after e
+refuses_so d w to_int bytes stream x old new p q before after e same h = subst (λ im. RefusesSamples d w to_int bytes stream im p new q before after e) same h
+
+memory_of_bits : (b : BitstreamError) → UnlessMemory (bitstream_fault b) ⊥ → ⊥
+memory_of_bits bit_errors.UnexpectedEof h = h
+memory_of_bits (bit_errors.InvalidEnum name value) h = h
+memory_of_bits (bit_errors.ProfileConformance text) h = h
+
+-- where there was no memory, all is as before
+pub refuses_memory : {S D : Type 0} (d : Meaning D) (w : Width) (to_int : S → ℤ) (bytes : List ℕ) (stream : ℕ) (old : Image S D) (p before : ℕ) (e : Error) → IsWantOfMemory (fault_of e) →
+    RefusesSamples d w to_int bytes stream old p old p before before e
+refuses_memory d w to_int bytes stream old p before (Decoder UnexpectedEof) h = absurd h
+refuses_memory d w to_int bytes stream old p before (Decoder (Invalid k)) h = absurd h
+refuses_memory d w to_int bytes stream old p before (Decoder OutOfMemory) h = (refl, refl, refl)
+refuses_memory d w to_int bytes stream old p before (Buffer m) h = (refl, refl, refl)
+refuses_memory d w to_int bytes stream old p before InvalidMaTree h = absurd h
+refuses_memory d w to_int bytes stream old p before GlobalMaTreeNotAvailable h = absurd h
+refuses_memory d w to_int bytes stream old p before InvalidRctParams h = absurd h
+refuses_memory d w to_int bytes stream old p before InvalidPaletteParams h = absurd h
+refuses_memory d w to_int bytes stream old p before InvalidSqueezeParams h = absurd h
+refuses_memory d w to_int bytes stream old p before (Bitstream b) h = absurd (memory_of_bits b h)
 
 -- ---- what decoding a part answers
 
@@ -97,24 +165,28 @@ abbrev pub stands : {S D : Type 0} → (S → ℤ) → Image S D → ℕ → Boo
 stands to_int x p partial = record { position = p; grids = coded_grids to_int x; partial = partial }
 
 module _ {S D : Type 0} (d : Meaning D) (w : Width) (to_int : S → ℤ) (bytes : List ℕ) (old : Image S D) (p : ℕ) (partial : Bool) (stream : ℕ) where
+  -- what is answered, and how many steps were taken
+  abbrev Answers : Bool → Image S D → ℕ → Bool → Result (Unit {0}) Error → ℕ → ℕ → Type 0
+  Answers allow new q still result before after =
+      (tried : ℕ) × DecodeAnswers d w (whole_part old stream) bytes old.config.decoder (stands to_int old p partial) (stands to_int new q still) allow result tried × MovesWithin before after (tried * image_cost old)
+
   -- the samples are coded to the end
-  pub answers_whole : (allow : Bool) (new : Image S D) (q : ℕ) → 0 < samples_in old → DecodesSamples d w to_int bytes old p new q →
-      (tried : ℕ) × DecodeAnswers d w (whole_part old stream) bytes old.config.decoder (stands to_int old p partial) (stands to_int new q false) allow (Ok tt) tried
-  answers_whole allow new q cells all =
-      let a = all stream in (
-        samples_in old,
-        inl (record {
-          coded = some_of (samples_in old) _ (q ≡ p) cells a.0;
-          fits = a.1;
-          whole = refl;
-          tries = refl;
-        }),
-      )
+  pub answers_whole : (allow : Bool) (new : Image S D) (q before after : ℕ) → 0 < samples_in old → DecodesSamples d w to_int bytes stream old p new q → before ≤ after → after ≤ before + samples_in old * image_cost old →
+      Answers allow new q false (Ok tt) before after
+  answers_whole allow new q before after cells all more work = (
+    samples_in old,
+    inl (record {
+      coded = some_of (samples_in old) _ (q ≡ p) cells all.0;
+      fits = all.1;
+      whole = refl;
+      tries = refl;
+    }),
+    (more, work),
+  )
 
   -- there are no samples
-  pub answers_empty : (allow : Bool) → IsLaidOut old → (0 < samples_in old → ⊥) →
-      (tried : ℕ) × DecodeAnswers d w (whole_part old stream) bytes old.config.decoder (stands to_int old p partial) (stands to_int old p false) allow (Ok tt) tried
-  answers_empty allow laid none = (
+  pub answers_empty : (allow : Bool) (before : ℕ) → IsLaidOut old → (0 < samples_in old → ⊥) → Answers allow old p false (Ok tt) before before
+  answers_empty allow before laid none = (
     samples_in old,
     inl (record {
       coded = none_of (samples_in old) _ (p ≡ p) none refl;
@@ -122,14 +194,22 @@ module _ {S D : Type 0} (d : Meaning D) (w : Width) (to_int : S → ℤ) (bytes 
       whole = refl;
       tries = refl;
     }),
+    (omega arith, omega arith),
   )
 
-  -- the decoder refuses
-  pub answers_fault : (allow : Bool) (e : DecoderError) (new : Image S D) (q : ℕ) → allow ≡ false → 0 < samples_in old → RefusesSamples d w to_int bytes old p new q e →
-      (tried : ℕ) × DecodeAnswers d w (whole_part old stream) bytes old.config.decoder (stands to_int old p partial) (stands to_int new q partial) allow (Err (Decoder e)) tried
-  answers_fault allow UnexpectedEof new q denied cells fails = let f = fails stream partial cells in (f.0, (denied, f.1))
-  answers_fault allow (Invalid k) new q denied cells fails = let f = fails stream partial cells in (f.0, f.1)
-  answers_fault allow OutOfMemory new q denied cells same = (0, record { unchanged = rw (same.0, same.1) refl; tries = refl })
+  -- the decoder refuses, or there is no memory
+  pub answers_fault : (allow : Bool) (e : Error) (new : Image S D) (q before after : ℕ) → allow ≡ false → 0 < samples_in old → before ≤ after → RefusesSamples d w to_int bytes stream old p new q before after e →
+      Answers allow new q partial (Err e) before after
+  answers_fault allow (Decoder UnexpectedEof) new q before after denied cells more fails = let f = fails partial cells in (f.0, (denied, f.1), (more, f.2))
+  answers_fault allow (Decoder (Invalid k)) new q before after denied cells more fails = let f = fails partial cells in (f.0, f.1, (more, f.2))
+  answers_fault allow (Decoder OutOfMemory) new q before after denied cells more same = (0, record { unchanged = rw (same.0, same.1) refl; tries = refl }, (more, let s = same.2 in omega (arith, s)))
+  answers_fault allow (Buffer m) new q before after denied cells more same = (0, record { unchanged = rw (same.0, same.1) refl; tries = refl }, (more, let s = same.2 in omega (arith, s)))
+  answers_fault allow InvalidMaTree new q before after denied cells more same = absurd same
+  answers_fault allow GlobalMaTreeNotAvailable new q before after denied cells more same = absurd same
+  answers_fault allow InvalidRctParams new q before after denied cells more same = absurd same
+  answers_fault allow InvalidPaletteParams new q before after denied cells more same = absurd same
+  answers_fault allow InvalidSqueezeParams new q before after denied cells more same = absurd same
+  answers_fault allow (Bitstream b) new q before after denied cells more same = absurd same
 
 -- without transforms the image is the coded grids
 pub only_image : {S D : Type 0} (to_int : S → ℤ) (x : Image S D) → IsLaidOut x →

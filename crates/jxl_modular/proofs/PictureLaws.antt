@@ -1,6 +1,6 @@
 -- A picture from its bits: reading, decoding and finishing put together.
-use Rattle.std.proofs.Common.{◌≡◌, ℕ, List, [], ◌∷◌, Some, None, Ok, Err, Bool, false, ◌⊎◌, inl, inr, refl, sym, ap, ◌∙◌, subst, ℤ}
-use Rattle.std.specs.Prelude.{Option, Result}
+use Rattle.std.proofs.Common.{◌≡◌, ℕ, List, [], ◌∷◌, Some, None, Ok, Err, Bool, false, inl, inr, refl, sym, subst, ℤ}
+use Rattle.std.specs.Prelude.{Option}
 use Rattle.std.specs.Int.{Width}
 use Rattle.jxlm_base.specs.Decoding.{Meaning}
 use Rattle.jxlm_base.specs.Fault.{Fault, Eof, BadEnum, BadProfile, BadTree, NoGlobalTree, BadRct, BadPalette, BadSqueeze, OfDecoder, NoMemory, UnlessMemory, fault_of}
@@ -10,7 +10,7 @@ use Rattle.jxlm_base.specs.declared.error.Error.TheVariants as error
 use Rattle.jxlm_transform.specs.declared.param.ModularChannelParams.{ModularChannelParams}
 use Rattle.jxlm_transform.specs.declared.param.ModularParams.{ModularParams}
 use Rattle.jxl_modular.specs.Decode.{Standing, DecodeAnswers}
-use Rattle.jxl_modular.specs.Image.{Image, coded_grids, whole_part}
+use Rattle.jxl_modular.specs.Image.{Image, whole_part}
 use Rattle.jxl_modular.specs.Parsing.{ParseGives, IsImageAt, image_of}
 use Rattle.jxl_modular.specs.Picture.{IsFilled, AreRefused, PictureGives}
 use Rattle.jxl_modular.specs.declared.root.Modular.{Modular}
@@ -52,11 +52,11 @@ module _ {S D : Type 0} (d : Meaning D) (w : Width) (to_int : S → ℤ) (bytes 
   refused_samples old p partial new (error.Buffer m) q at h = tt
 
   -- the same of an image that is another's equal
-  pub refused_samples_of : (before old : Image S D) (p : ℕ) (partial : Bool) (new : Standing) (e : Error) (q : ℕ) → before ≡ old → new.position ≡ q →
-      (tried : ℕ) × DecodeAnswers d w (whole_part before stream) bytes before.config.decoder (stands to_int before p partial) new false (Err e) tried →
+  pub refused_samples_of : (Work : ℕ → Type 0) (before old : Image S D) (p : ℕ) (partial : Bool) (new : Standing) (e : Error) (q : ℕ) → before ≡ old → new.position ≡ q →
+      (tried : ℕ) × DecodeAnswers d w (whole_part before stream) bytes before.config.decoder (stands to_int before p partial) new false (Err e) tried × Work tried →
       UnlessMemory (fault_of e) (AreRefused d w to_int bytes stream old p (fault_of e) q)
-  refused_samples_of before old p partial new e q same at h =
-      subst (λ (x : Image S D). UnlessMemory (fault_of e) (AreRefused d w to_int bytes stream x p (fault_of e) q)) same (refused_samples before p partial new e q at h)
+  refused_samples_of Work before old p partial new e q same at h =
+      subst (λ (x : Image S D). UnlessMemory (fault_of e) (AreRefused d w to_int bytes stream x p (fault_of e) q)) same (refused_samples before p partial new e q at (h.0, h.1))
 
   module _ (zero : S) (p : ℕ) (params : ModularParams D) where
     same_image : (x y : Image S D) (o : Option (Image S D)) → o ≡ Some x → o ≡ Some y → x ≡ y

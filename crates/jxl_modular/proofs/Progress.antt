@@ -1,21 +1,18 @@
 -- One more cell of a part is decoded.
-use Rattle.std.proofs.Common.{◌≡◌, ℕ, zero, suc, ◌+◌, ◌-◌, ◌*◌, ◌<◌, ◌≤◌, List, [], ◌∷◌, ◌++◌, length, take, drop, Some, Result, Ok, refl, sym, ap, ◌∙◌, subst, arith, add-one, ℤ, pos}
+use Rattle.std.proofs.Common.{◌≡◌, ℕ, zero, suc, ◌+◌, ◌-◌, ◌*◌, ◌<◌, ◌≤◌, List, [], ◌∷◌, ◌++◌, length, take, drop, Some, Ok, refl, sym, ap, ◌∙◌, subst, arith, ℤ}
 use Rattle.std.specs.Prelude.{slice_get}
 use Rattle.std.specs.Int.{Width}
-use Rattle.std.proofs.Math.ListN.{set, length-set}
-use Rattle.std.proofs.Math.Nat.{add_assoc}
-use Rattle.std.proofs.lemmas.List.{set-append_left, set-append_right, drop-set-lt, take-set, drop-drop, length-append}
+use Rattle.std.proofs.Math.ListN.{set}
+use Rattle.std.proofs.lemmas.List.{set-append_left, set-append_right, drop-set-lt, take-set, drop-drop}
 use Rattle.std.proofs.lemmas.Nat.{mul-add-lt}
-use Rattle.std.proofs.lemmas.List.Sums.{sum_by-cons}
-use Rattle.jxlm_base.specs.Decoding.{Found, Taken, Meaning}
-use Rattle.jxlm_base.specs.Grid.{Grid, with_cell, place, IsFull}
+use Rattle.jxlm_base.specs.Decoding.{Taken, Meaning}
+use Rattle.jxlm_base.specs.Grid.{Grid, with_cell}
 use Rattle.jxlm_base.proofs.Cells.{slice_get-set_same, IsFull-with_cell, place_within}
-use Rattle.jxl_modular.specs.Coded.{part_rule, IsCoded}
-use Rattle.jxl_modular.specs.Part.{Part, Channel, size, channel, cell_count, cells_before, cells_of, Fits, grid}
+use Rattle.jxl_modular.specs.Coded.{part_rule}
+use Rattle.jxl_modular.specs.Part.{Part, Channel, size, channel, cells_before, cells_of, Fits, grid}
 use Rattle.jxl_modular.specs.Progress.{Reached}
-use Rattle.jxl_modular.proofs.Places.{Split, split, before_suc}
+use Rattle.jxl_modular.proofs.Places.{split, before_suc}
 use Rattle.jxl_modular.proofs.Prefixes.{prefix_more}
-use Rattle.jxl_modular.specs.Rule.{CodedPrefix}
 
 -- grid i with a cell written
 abbrev pub with_cell_of : List (Grid ℤ) → ℕ → ℕ → ℕ → ℤ → List (Grid ℤ)

@@ -1,5 +1,5 @@
 -- The sample of a token, computed step by step, is the one that is defined.
-use Rattle.std.proofs.Common.{◌≡◌, ℤ, ◌+ℤ◌, ◌*ℤ◌, refl, sym, ap, ◌∙◌}
+use Rattle.std.proofs.Common.{◌≡◌, ℤ, ◌+ℤ◌, ◌*ℤ◌, refl, ap, ◌∙◌}
 use Rattle.jxlm_base.specs.Numbers.{clamped_gradient}
 use Rattle.std.specs.Int.{Width, int_wrap}
 use Rattle.std.proofs.lemmas.Int.{int_wrap-add_left, int_wrap-add_right, int_wrap-add_same, int_wrap-mul_left}

@@ -3,8 +3,8 @@
 -- joins as a case of Transform, with its relation.
 use Rattle.std.specs.Prelude.{◌≡◌, List, [], ◌∷◌, ℤ}
 use Rattle.jxlm_base.specs.Grid.{Grid}
+use Rattle.jxl_modular.specs.Header.{Header}
 use Rattle.jxl_modular.specs.Part.{Channel, Fits}
-use Rattle.jxl_modular.specs.declared.header.ModularHeader.{ModularHeader}
 
 -- a transform; a header that was accepted has none
 abbrev pub Transform : Type 0
@@ -20,7 +20,7 @@ Chain [] image coded = coded ≡ image
 Chain (t ∷ ts) image coded = (middle : List (Grid ℤ)) × Transforms t image middle × Chain ts middle coded
 
 -- the transforms of a header
-abbrev pub transforms_of : ModularHeader → List Transform
+abbrev pub transforms_of : Header → List Transform
 transforms_of header = []
 
 -- The image is the only one of these sizes that becomes the coded grids.

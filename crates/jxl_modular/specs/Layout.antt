@@ -1,9 +1,9 @@
 -- Where the coded channels of an image stand in its store. Without transforms each channel has a buffer of its own.
-use Rattle.std.specs.Prelude.{ℕ, suc, List, [], ◌∷◌, map, ℤ}
+use Rattle.std.specs.Prelude.{ℕ, suc, List, [], ◌∷◌, map}
 use Rattle.jxlm_base.specs.Regions.{region}
 use Rattle.jxlm_base.specs.declared.subgrid.Region.{Region}
+use Rattle.jxlm_transform.specs.declared.channels.ModularChannelInfo.{ModularChannelInfo}
 use Rattle.jxl_modular.specs.Part.{Channel}
-use Rattle.jxl_modular.specs.declared.channels.ModularChannelInfo.{ModularChannelInfo}
 
 -- a channel as a part sees it: its size and its shifts
 abbrev pub channel_of : ModularChannelInfo → Channel

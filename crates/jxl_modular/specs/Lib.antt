@@ -14,6 +14,7 @@ pub mod Progress
 pub mod Reading
 pub mod Token
 pub mod Header
+pub mod HeaderCode
 pub mod Opening
 pub mod Fresh
 pub mod Parsing

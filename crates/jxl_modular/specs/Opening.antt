@@ -1,37 +1,68 @@
 -- What stands ahead of an image's tree, and in which order it is refused (ISO/IEC 18181-1, Modular: Modular header and its conditions).
-use Rattle.std.specs.Prelude.{◌≡◌, ℕ, ◌+◌, ◌^◌, nat_lt, min, sum_by, List, length, codes, Bool, not, ◌&&◌, if◌then◌else◌, Result, Ok, Err}
-use Rattle.jxlm_base.specs.Fault.{Fault, BadProfile, NoGlobalTree, fault_of}
-use Rattle.jxlm_base.specs.Grammar.{Grammar, IsExact, IsRefused, give, refuse, either, ◌>>=◌}
+use Rattle.std.specs.Prelude.{◌≡◌, ◌+◌, ◌^◌, nat_lt, min, sum_by, List, [], ◌∷◌, ◌++◌, length, codes, Bool, true, false, ℕ, not, ◌&&◌, if◌then◌else◌, Result, Ok, Err}
+use Rattle.jxlm_base.specs.Fault.{Fault, BadProfile, NoGlobalTree, UnlessMemory, fault_of}
+use Rattle.jxlm_base.specs.Grammar.{Grammar, IsExact, give, refuse}
+use Rattle.jxlm_base.specs.Grammar as fields
 use Rattle.jxlm_base.specs.declared.error.Error.{Error}
-use Rattle.jxlm_transform.specs.Channels.{Channel, ChannelList, area}
-use Rattle.jxl_modular.specs.Header.{header}
+use Rattle.jxlm_transform.specs.Channels.{Channel, ChannelList, area, list_of}
+use Rattle.jxlm_transform.specs.ChannelSteps.{CodedList, Step, coded_list, listed_steps, ◌>>=◌}
+use Rattle.jxlm_transform.specs.Transforms.{Transform}
+use Rattle.jxlm_transform.specs.declared.channels.ModularChannels.{ModularChannels}
+use Rattle.jxl_modular.specs.Header.{Header, header, header_of}
 use Rattle.jxl_modular.specs.declared.header.ModularHeader.{ModularHeader}
 
--- the header, and the channels that are coded
+-- the header, and what its transforms come to: their steps, and the channels that are coded
 pub record Opening : Type 0 where
-  pub header : ModularHeader
-  pub coded : ChannelList
+  pub header : Header
+  pub coded : CodedList
 
 -- a value that is found without bits, or its refusal
 abbrev pub checked : {X : Type 0} → Result X Fault → Grammar X
 checked (Ok x) = give x
 checked (Err e) = refuse e
 
--- at most 65536 channels may be coded
-abbrev pub coded_list : ChannelList → Result ChannelList Fault
-coded_list list = if nat_lt 65536 (length list.channels) then Err (BadProfile (codes "nb_channels_tr too large")) else Ok list
+-- no transform can be undone yet
+abbrev pub can_undo : List Transform → Bool
+can_undo [] = true
+can_undo (t ∷ ts) = false
 
--- all bits of the header; then the count of channels; then whether a global tree that it asks for was handed in
+-- The conditions on a header and its coded channels, in order: at most 65536 channels are coded, its transforms can be undone, and a global
+-- tree that it asks for was handed in.
+abbrev pub conditions : Bool → Header → ChannelList → Result (Unit {0}) Fault
+conditions has_global header list =
+    if nat_lt 65536 (length list.channels) then Err (BadProfile (codes "nb_channels_tr too large")) else
+    if not (can_undo header.transform) then Err (BadProfile (codes "transform not available")) else
+    if header.use_global_tree && not has_global then Err NoGlobalTree else Ok tt
+
+-- each transform in turn against the channels that the ones before it leave, and then the conditions
+abbrev pub resolved : Bool → ChannelList → Header → Result Opening Fault
+resolved has_global list header =
+    coded_list header.transform list >>= λ coded.
+    conditions has_global header coded.list >>= λ _.
+    Ok (record { header = header; coded = coded })
+
+-- the whole header, and then what it comes to
 abbrev pub opening : Bool → ChannelList → Grammar Opening
-opening has_global list = do
-  header ← header
-  coded ← checked (coded_list list)
-  either (header.use_global_tree && not has_global) (refuse NoGlobalTree) (give (record { header = header; coded = coded }))
+opening has_global list = fields.◌>>=◌ header λ header. checked (resolved has_global list header)
 
--- what a call that reads the header answered, and where it left the reader, is what reading all this gives
-abbrev pub OpensAs : Bool → ChannelList → List ℕ → ℕ → Result ModularHeader Error → ℕ → Type 0
-OpensAs has_global list bytes p (Ok h) q = (opening has_global list).read bytes p ≡ Ok (record { value = record { header = h; coded = list }; position = q })
-OpensAs has_global list bytes p (Err e) q = IsRefused ((opening has_global list).read bytes p) (fault_of e) q
+-- the steps that transforms list
+abbrev pub steps_in : List Transform → List Step
+steps_in [] = []
+steps_in (t ∷ ts) = listed_steps t ++ steps_in ts
+
+-- What a call that applies transforms in order answered, the transforms behind it, which then list their steps, and the list behind it.
+abbrev pub PrepareGives : List Transform → ChannelList → Result (Unit {0}) Error → List Transform → ChannelList → Type 0
+PrepareGives ts l (Ok u) listed m = coded_list ts l ≡ Ok (record { steps = steps_in listed; list = m })
+PrepareGives ts l (Err e) listed m = UnlessMemory (fault_of e) (coded_list ts l ≡ Err (fault_of e))
+
+-- what a call that checks the conditions answered
+abbrev pub CheckGives : Result (Unit {0}) Fault → Result (Unit {0}) Error → Type 0
+CheckGives check (Ok u) = check ≡ Ok tt
+CheckGives check (Err e) = check ≡ Err (fault_of e)
+
+-- a header and its coded channels, as a program keeps them
+abbrev pub opening_of : ModularHeader × ModularChannels → Opening
+opening_of o = record { header = header_of o.0; coded = record { steps = steps_in (header_of o.0).transform; list = list_of o.1 } }
 
 -- what is read ahead of a tree stands there, and what stands there is read
 abbrev pub OpeningIsExact : Type 0

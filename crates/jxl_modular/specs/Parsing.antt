@@ -1,5 +1,5 @@
 -- What reading an image answers.
-use Rattle.std.specs.Prelude.{◌≡◌, ℕ, List, [], ◌∷◌, map, false, ◌⊎◌, Option, None, Some, Result, Ok, Err}
+use Rattle.std.specs.Prelude.{◌≡◌, ℕ, List, [], ◌∷◌, false, ◌⊎◌, Option, None, Some, Result, Ok, Err}
 use Rattle.jxlm_base.specs.Decoding.{Found, Meaning}
 use Rattle.jxlm_base.specs.Fault.{Fault, Refused, UnlessMemory, fault_of}
 use Rattle.jxlm_base.specs.Grammar.{IsRefused}
@@ -8,7 +8,7 @@ use Rattle.jxlm_transform.specs.Channels.{image_list}
 use Rattle.jxlm_transform.specs.declared.param.ModularChannelParams.{ModularChannelParams}
 use Rattle.jxlm_transform.specs.declared.param.ModularParams.{ModularParams}
 use Rattle.jxlm_tree.specs.TreeReading.{IsTreeAt, IsTooDeep, listing_at}
-use Rattle.jxl_modular.specs.Fresh.{fresh, info_of}
+use Rattle.jxl_modular.specs.Fresh.{fresh}
 use Rattle.jxl_modular.specs.Image.{Image}
 use Rattle.jxl_modular.specs.Opening.{Opening, opening, node_limit, depth_limit}
 use Rattle.jxl_modular.specs.declared.root.Modular.{Modular}
@@ -27,15 +27,15 @@ module _ {S D : Type 0} (d : Meaning D) (zero : S) (bytes : List ℕ) (p : ℕ) 
     pub ahead : Opening
     pub place : ℕ
     pub opens : opened ≡ Ok (record { value = ahead; position = place })
-    pub tree : IsTreeAt d bytes (node_limit ahead.coded.channels) depth_limit place image.config q
-    pub cells : image ≡ fresh zero ahead.header image.config params.group_dim params.bit_depth (map info_of ahead.coded.channels)
+    pub tree : IsTreeAt d bytes (node_limit ahead.coded.list.channels) depth_limit place image.config q
+    pub cells : image ≡ fresh zero ahead.header image.config params.group_dim params.bit_depth ahead.coded.list
 
   -- what stands ahead of the tree is read, and the tree is refused
   pub record IsTreeRefused (fault : Fault) (q : ℕ) : Type 0 where
     pub ahead : Opening
     pub place : ℕ
     pub opens : opened ≡ Ok (record { value = ahead; position = place })
-    pub tree : IsRefused (listing_at d bytes (node_limit ahead.coded.channels) place) fault q ⊎ IsTooDeep d bytes (node_limit ahead.coded.channels) depth_limit place fault q
+    pub tree : IsRefused (listing_at d bytes (node_limit ahead.coded.list.channels) place) fault q ⊎ IsTooDeep d bytes (node_limit ahead.coded.list.channels) depth_limit place fault q
 
   -- What reading an image of these channels answers, and where it leaves the reader. With no channels no bit is read, and there is no image.
   -- Else there is the image that stands there, or the fault of the first check that fails; memory may be refused at any time.

@@ -1,5 +1,5 @@
 -- A part: channels whose samples are coded one behind another (Modular: channels, order of samples).
-use Rattle.std.specs.Prelude.{◌≡◌, ℕ, zero, suc, ◌+◌, ◌-◌, ◌*◌, ◌<◌, max, ℤ, pos, List, [], ◌∷◌, ◌++◌, length, take, drop, map, filter, sum_by, slice_index_or, nat_lt, ◌==◌, ◌&&◌, Bool, if◌then◌else◌, Some}
+use Rattle.std.specs.Prelude.{◌≡◌, ℕ, zero, suc, ◌+◌, ◌-◌, ◌*◌, ◌^◌, ◌<◌, ◌≤◌, max, ℤ, pos, List, [], ◌∷◌, ◌++◌, length, take, drop, map, filter, sum_by, slice_index_or, nat_lt, ◌==◌, ◌&&◌, Bool, if◌then◌else◌, Some}
 use Rattle.std.specs.Ordering.{int_eq}
 use Rattle.jxlm_base.specs.Grid.{Grid, IsFull}
 use Rattle.jxlm_tree.specs.Properties.{Surroundings, property}
@@ -20,6 +20,10 @@ pub record Part : Type 0 where
   pub weights : WpHeader
   pub tree : Shape Leaf
   pub stream : ℕ
+
+-- both sides are at most 2 ^ 30
+abbrev pub IsNarrow : Channel → Type 0
+IsNarrow c = (c.width ≤ 2 ^ 30) × (c.height ≤ 2 ^ 30)
 
 -- how many cells a channel has
 abbrev pub size : Channel → ℕ

@@ -1,8 +1,6 @@
 -- A part of an image, and what a call on it leaves.
-use Rattle.std.specs.Prelude.{◌≡◌, ℕ, ℤ, List, Bool, Result}
-use Rattle.std.specs.Borrow.{Fml, RattleType, MutBor, RestsIfErr, GName}
-use Rattle.jxlm_base.specs.Grid.{Grid}
-use Rattle.jxlm_base.specs.Regions.{store_meanings}
+use Rattle.std.specs.Prelude.{ℕ, ℤ, Bool}
+use Rattle.std.specs.Borrow.{GName}
 use Rattle.jxl_modular.specs.Decode.{Standing}
 use Rattle.jxl_modular.specs.Image.{Image, coded_grids}
 use Rattle.jxl_modular.specs.declared.image.TransformedModularSubimage.{TransformedModularSubimage}
@@ -18,6 +16,10 @@ module _ {S D : Type 0} where
   -- whether samples of the part are still to be decoded
   abbrev pub is_partial : TransformedModularSubimage S D → Bool
   is_partial part = part.partial
+
+  -- how many nodes of trees were looked at
+  abbrev pub steps_of : TransformedModularSubimage S D → ℕ
+  steps_of part = part.steps
 
   -- what decoding changes, with the reader's place
   abbrev pub standing : (S → ℤ) → TransformedModularSubimage S D → ℕ → Standing

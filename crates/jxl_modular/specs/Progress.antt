@@ -1,5 +1,5 @@
 -- How far the decoding of a part has come: what its loops over channels, rows and columns keep.
-use Rattle.std.specs.Prelude.{◌≡◌, ℕ, ◌+◌, ◌*◌, ◌<◌, ℤ, List, [], ◌∷◌, take, drop, length, map, get_or, Bool, Err}
+use Rattle.std.specs.Prelude.{◌≡◌, ℕ, suc, ◌+◌, ◌*◌, ◌<◌, ◌≤◌, ℤ, List, [], ◌∷◌, take, drop, length, map, get_or, Bool, Err}
 use Rattle.std.specs.List.{All}
 use Rattle.std.specs.Int.{Width}
 use Rattle.jxlm_base.specs.Decoding.{Meaning}
@@ -7,11 +7,9 @@ use Rattle.jxlm_base.specs.Grid.{Grid, grid, cell, IsFull}
 use Rattle.jxlm_base.specs.Regions.{grid_of, HasCell}
 use Rattle.jxlm_base.specs.declared.decoder.DecoderError.{DecoderError}
 use Rattle.jxlm_base.specs.declared.subgrid.Region.{Region}
-use Rattle.jxlm_tree.specs.Tree.{leaf}
-use Rattle.jxlm_tree.specs.declared.flat.Leaf.{Leaf}
 use Rattle.jxl_modular.specs.Coded.{part_rule, IsCoded, IsCodedToTheEnd}
 use Rattle.jxl_modular.specs.Decode.{Fails}
-use Rattle.jxl_modular.specs.Part.{Part, Channel, channel, cell_count, cells_before, cells_of, greatest_width, Fits}
+use Rattle.jxl_modular.specs.Part.{Part, Channel, channel, cell_count, cells_before, cells_of, Fits}
 
 module _ {S : Type 0} (d : Meaning S) (w : Width) (part : Part) (bytes : List ℕ) (decoder : S) (p0 : ℕ) (old : List (Grid ℤ)) where
   -- the first k cells are coded, and the others are as before
@@ -35,12 +33,6 @@ SameSizes [] (r ∷ regions) = ⊥
 SameSizes (c ∷ channels) [] = ⊥
 SameSizes (c ∷ channels) (r ∷ regions) = (r.width ≡ c.width) × (r.height ≡ c.height) × SameSizes channels regions
 
--- the part has these regions and this leaf, and m is its greatest width
-pub record Suits (part : Part) (regions : List Region) (l : Leaf) (m : ℕ) : Type 0 where
-  pub sizes : SameSizes part.channels regions
-  pub one_leaf : part.tree ≡ leaf l
-  pub widest : greatest_width part.channels ≡ m
-
 -- how many cells of a part stand before column x of row y of channel i
 abbrev pub place_of : Part → ℕ → ℕ → ℕ → ℕ
 place_of part i x y = cells_before part.channels i + (y * (channel part.channels i).width + x)
@@ -49,27 +41,36 @@ place_of part i x y = cells_before part.channels i + (y * (channel part.channels
 abbrev pub grids_in : List Region → List (Grid ℤ) → List (Grid ℤ)
 grids_in regions store = map (grid_of store) regions
 
-module _ {S : Type 0} (d : Meaning S) (w : Width) (bytes : List ℕ) (l : Leaf) (m : ℕ) (regions : List Region) (from to : Part → ℕ) (store : List (Grid ℤ)) (s : S) (p : ℕ) (store' : List (Grid ℤ)) (p' : ℕ) where
+-- the cells that stand before column x of row y of grid i
+abbrev pub cells_ahead : Part → List (Grid ℤ) → ℕ → ℕ → ℕ → List ℤ
+cells_ahead part grids i x y = take (place_of part i x y) (cells_of grids)
+
+-- from one cell up to another, each took at most so many steps
+abbrev pub TakesSteps : ℕ → ℕ → ℕ → ℕ → ℕ → Type 0
+TakesSteps cost from to before after = after + from * cost ≤ before + to * cost
+
+module _ {S : Type 0} (d : Meaning S) (w : Width) (part : Part) (bytes : List ℕ) (regions : List Region) where
   -- Whatever was decoded before: where decoding had come to one place, it has come to the other.
-  abbrev pub GoesOn : S → Type 0
-  GoesOn s' = (part : Part) (decoder : S) (p0 : ℕ) (old : List (Grid ℤ)) → Suits part regions l m →
-      Reached d w part bytes decoder p0 old (from part) (grids_in regions store) s p → Reached d w part bytes decoder p0 old (to part) (grids_in regions store') s' p'
+  abbrev pub GoesOn : ℕ → ℕ → List (Grid ℤ) → S → ℕ → List (Grid ℤ) → S → ℕ → Type 0
+  GoesOn from to store s p store' s' p' = (decoder : S) (p0 : ℕ) (old : List (Grid ℤ)) →
+      Reached d w part bytes decoder p0 old from (grids_in regions store) s p → Reached d w part bytes decoder p0 old to (grids_in regions store') s' p'
 
-  -- Whatever was decoded before: where decoding had come to that place, the read of a later cell was refused by e.
-  abbrev pub Stops : DecoderError → Type 0
-  Stops e = (part : Part) (decoder : S) (p0 : ℕ) (old : List (Grid ℤ)) → Suits part regions l m →
-      Reached d w part bytes decoder p0 old (from part) (grids_in regions store) s p → Stopped d w part bytes decoder p0 old e (grids_in regions store') p'
+  -- Whatever was decoded before: where decoding had come to that place, the read of that cell or of a later one was refused by e,
+  -- and each read up to it took at most so many steps.
+  abbrev pub Stops : ℕ → ℕ → ℕ → ℕ → List (Grid ℤ) → S → ℕ → List (Grid ℤ) → ℕ → DecoderError → Type 0
+  Stops cost before after from store s p store' p' e = (decoder : S) (p0 : ℕ) (old : List (Grid ℤ)) →
+      Reached d w part bytes decoder p0 old from (grids_in regions store) s p →
+      (stopped : Stopped d w part bytes decoder p0 old e (grids_in regions store') p') × TakesSteps cost from (suc stopped.count) before after
 
-module _ {S : Type 0} (d : Meaning S) (w : Width) (bytes : List ℕ) (l : Leaf) (m : ℕ) (regions : List Region) (decoder : S) (old : List (Grid ℤ)) (p : ℕ) (new : List (Grid ℤ)) (q : ℕ) where
-  -- each part of these regions is coded to the end
-  abbrev pub DecodesAll : Type 0
-  DecodesAll = (part : Part) → Suits part regions l m → Fits part.channels (grids_in regions old) →
-      IsCodedToTheEnd d w part bytes decoder p (grids_in regions new) q × Fits part.channels (grids_in regions new)
+  module _ (decoder : S) (old : List (Grid ℤ)) (p : ℕ) (new : List (Grid ℤ)) (q : ℕ) where
+    -- the part is coded to the end
+    abbrev pub DecodesAll : Type 0
+    DecodesAll = IsCodedToTheEnd d w part bytes decoder p (grids_in regions new) q × Fits part.channels (grids_in regions new)
 
-  -- each part of these regions that has cells is refused by e, and stays as partial as it was
-  abbrev pub DecodesSome : DecoderError → Type 0
-  DecodesSome e = (part : Part) (partial : Bool) → Suits part regions l m → Fits part.channels (grids_in regions old) → 0 < cell_count part.channels →
-      (tried : ℕ) × Fails d w part bytes decoder (record { position = p; grids = grids_in regions old; partial = partial }) (record { position = q; grids = grids_in regions new; partial = partial }) e tried
+    -- the part, where it has cells, is refused by e, and stays as partial as it was; each read that was tried took at most so many steps
+    abbrev pub DecodesSome : ℕ → ℕ → ℕ → DecoderError → Type 0
+    DecodesSome cost before after e = (partial : Bool) → 0 < cell_count part.channels →
+        (tried : ℕ) × Fails d w part bytes decoder (record { position = p; grids = grids_in regions old; partial = partial }) (record { position = q; grids = grids_in regions new; partial = partial }) e tried × (after ≤ before + tried * cost)
 
 module _ {S : Type 0} where
   -- buffer b of a store; a grid of no cells where there is none

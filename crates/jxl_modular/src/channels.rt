@@ -1,83 +1,13 @@
 //! The channels of an image.
 
-ghost use Rattle.std.specs.Prelude.{◌≡◌, ◌+◌, ◌*◌, ◌^◌, ◌<◌, ◌↔◌, IsTrue, min, sum_by, map, IfOk, IfErr};
-ghost use Rattle.std.specs.List.{All};
-ghost use Rattle.jxlm_base.specs.Fault.{NoMemory, fault_of};
-ghost use Rattle.jxlm_transform.specs.Channels.{image_channel};
-ghost use Rattle.jxlm_transform.specs.Params.{IsValidChannel};
-ghost use Rattle.jxl_modular.specs.Fresh.{info_of};
+ghost use Rattle.std.specs.Prelude.{◌≡◌, ◌+◌, ◌*◌, ◌^◌, ◌<◌, ◌↔◌, IsTrue, min, sum_by};
 ghost use Rattle.jxl_modular.specs.Layout.{channels_of};
 ghost use Rattle.jxl_modular.specs.Part.{cell_count, greatest_width as the_greatest_width};
 
-use jxlm_base::error::Result;
-use jxlm_base::grid::OutOfMemory;
-use jxlm_transform::param::{ChannelShift, ModularChannelParams};
-use std::alloc::Global;
+pub(crate) use jxlm_transform::channels::ModularChannelInfo;
 
 /// The greatest number of nodes, less one, that a tree of an image's own may have.
 const MAX_NODE_LIMIT: u64 = 1 << 20;
-
-/// What is known of a channel as it is coded: its size, its shifts, and the size and the shift that it came with.
-#[derive(Clone, Copy)]
-pub struct ModularChannelInfo {
-    pub(crate) width: u32,
-    pub(crate) height: u32,
-    pub(crate) original_width: u32,
-    pub(crate) original_height: u32,
-    pub(crate) hshift: i32,
-    pub(crate) vshift: i32,
-    pub(crate) original_shift: ChannelShift,
-}
-
-impl ModularChannelInfo {
-    /// A channel as it is given, before any transform.
-    pub(crate) fn new(params: &ModularChannelParams) -> ModularChannelInfo
-        requires { IsValidChannel params.now }
-        ensures { result ≡ info_of (image_channel params.now) }
-    {
-        let (width, height) = params.shift.shift_size((params.width, params.height));
-        ModularChannelInfo {
-            width,
-            height,
-            original_width: params.width,
-            original_height: params.height,
-            hshift: params.shift.hshift(),
-            vshift: params.shift.vshift(),
-            original_shift: params.shift,
-        }
-    }
-
-    /// The shift with which the channel was given.
-    pub fn shift(&self) -> ChannelShift
-        ensures { result ≡ self.now.original_shift }
-    {
-        self.original_shift
-    }
-
-    /// The width and the height, in samples, with which the channel was given.
-    pub fn original_size(&self) -> (u32, u32)
-        ensures { result ≡ (self.now.original_width, self.now.original_height) }
-    {
-        (self.original_width, self.original_height)
-    }
-}
-
-/// The channels of an image, before any transform. It is refused for want of memory alone.
-pub(crate) fn image_channels(
-    alloc: Global,
-    params: &[ModularChannelParams],
-) -> Result<Vec<ModularChannelInfo>>
-    requires { All IsValidChannel params.now }
-    ensures ok { IfOk result (λ v. v.items ≡ map (λ c. info_of (image_channel c)) params.now) }
-    ensures err { IfErr result (λ e. fault_of e ≡ NoMemory) }
-{
-    let mut channels = Vec::new(alloc);
-    for channel in params {
-        let info = ModularChannelInfo::new(channel);
-        channels.push(info).map_err(|_| OutOfMemory)?;
-    }
-    Ok(channels)
-}
 
 /// The limit on the nodes of a tree of an image's own: by the number of samples of its channels.
 pub(crate) fn node_limit(channels: &[ModularChannelInfo]) -> usize
@@ -114,4 +44,38 @@ pub(crate) fn have_samples(channels: &[ModularChannelInfo]) -> bool
         }
     }
     false
+}
+
+#[cfg(test)]
+mod tests {
+    use super::*;
+    use jxlm_transform::channels::ModularChannels;
+    use jxlm_transform::param::ModularChannelParams;
+    use jxlm_transform::transform::Palette;
+    use jxlm_tree::predictor::Predictor;
+    use std::test::Fail;
+
+    // A channel of 3 by 2 whose table has 5 colours; tables have samples too.
+    #[test]
+    fn limits_on_trees(rt: HostRuntime) -> Result<(), Fail> {
+        let given = [ModularChannelParams::new(3, 2)];
+        let mut list = ModularChannels::new(rt.alloc(), &given)?;
+        assert_eq!(rt; node_limit(&list.info), 1030);
+        let palette = Palette {
+            begin_c: 0,
+            num_c: 1,
+            nb_colours: 5,
+            nb_deltas: 0,
+            d_pred: Predictor::Zero,
+            wp_header: None,
+        };
+        palette.transform_channel_info(rt.alloc(), &mut list)?;
+        assert_eq!(rt; node_limit(&list.info), 1035);
+
+        assert_eq!(rt; node_limit(&[]), 1024);
+        let large = [ModularChannelParams::new(1 << 30, 1 << 30); 4];
+        let list = ModularChannels::new(rt.alloc(), &large)?;
+        assert_eq!(rt; node_limit(&list.info), 1 << 20);
+        Ok(())
+    }
 }

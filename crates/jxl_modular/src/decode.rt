@@ -1,172 +1,55 @@
 //! The loops that decode the samples of a part, in the order of its cells.
 
-ghost use Rattle.std.specs.Prelude.{◌≡◌, ℕ, ℤ, pos, ◌+ℤ◌, ◌*ℤ◌, ◌+◌, ◌*◌, ◌^◌, ◌<◌, ◌≤◌, List, Some, Ok, Err, OnOk, OnErr, IfErr, Contains, ◌≢◌, FitsSigned, get_or, length, slice_index_or};
-ghost use Rattle.std.specs.Int.{w32, int_wrap};
+ghost use Rattle.std.specs.Prelude.{◌≡◌, ℕ, ◌+◌, ◌*◌, ◌<◌, ◌≤◌, OnOk, IfErr, ◌≢◌, length};
 ghost use Rattle.jxlm_base.specs.Bits.{bytes_of, position_of};
-ghost use Rattle.jxlm_base.specs.Grid.{cell};
-ghost use Rattle.jxlm_base.specs.Regions.{Lies, AllLie, LieApart, grid_of, store_meanings, with_region_cell};
-ghost use Rattle.jxlm_tree.specs.Neighbours as neighbours;
-ghost use Rattle.jxlm_tree.specs.TreeReading.{IsOffered};
-ghost use Rattle.jxlm_base.specs.Numbers.{unpack};
+ghost use Rattle.jxlm_base.specs.Regions.{AllLie, LieApart, store_meanings};
 ghost use Rattle.jxl_modular.specs.Part.{cells_before, cell_count};
-ghost use Rattle.jxl_modular.specs.Progress.{GoesOn, Stops, DecodesAll, DecodesSome, KeepsOutside, place_of};
-ghost use Rattle.jxl_modular.specs.Reading.{prediction_at, ReadsCell, region_at};
+ghost use Rattle.jxl_modular.specs.Progress.{GoesOn, Stops, TakesSteps, DecodesAll, DecodesSome, KeepsOutside, place_of};
+ghost use Rattle.jxl_modular.specs.Reading.{FindsClusters, IsCodingOf, IsRoomy, StandsBehind, cost_of, part_of, region_at, regions_of};
 
+use crate::cell::decode_cell;
+use crate::coding::{PartCoding, start_channel};
 use jxlm_base::bits::Bitstream;
 use jxlm_base::decoder::{Decoder, DecoderError};
-use jxlm_base::grid::{AlignedGrid, Region};
-use jxlm_base::region::{region_get, region_set};
-use jxlm_base::sample::{Sample, Sealed};
-use jxlm_tree::flat::Leaf;
-use jxlm_tree::predictor::Predictor;
-
-/// The sample in column `x` of row `y` of a region.
-fn sample_at<S: Sample>(store: &[AlignedGrid<S>], region: Region, x: usize, y: usize) -> i32
-    requires lies { Lies region store.now }
-    requires column { x < region.width }
-    requires in_rows { y < region.height }
-    ensures { cell (grid_of (store_meanings S.to_int store.now) region) x y ≡ Some result }
-{
-    region_get(store, region, x, y).to_i32()
-}
-
-/// The neighbour to the left; in column 0 the one above; at the start 0.
-fn west<S: Sample>(store: &[AlignedGrid<S>], region: Region, x: usize, y: usize) -> i32
-    requires lies { Lies region store.now }
-    requires column { x < region.width }
-    requires in_rows { y < region.height }
-    ensures { result ≡ neighbours.west (grid_of (store_meanings S.to_int store.now) region).cells region.width x y }
-{
-    if x > 0 {
-        sample_at(store, region, x - 1, y)
-    } else if y > 0 {
-        sample_at(store, region, 0, y - 1)
-    } else {
-        0
-    }
-}
-
-/// The neighbour above; in row 0 the one to the left.
-fn north<S: Sample>(store: &[AlignedGrid<S>], region: Region, x: usize, y: usize) -> i32
-    requires lies { Lies region store.now }
-    requires column { x < region.width }
-    requires in_rows { y < region.height }
-    ensures { result ≡ neighbours.north (grid_of (store_meanings S.to_int store.now) region).cells region.width x y }
-{
-    if y > 0 {
-        sample_at(store, region, x, y - 1)
-    } else {
-        west(store, region, x, y)
-    }
-}
-
-/// The neighbour above left; in row 0 and in column 0 the one to the left.
-fn north_west<S: Sample>(store: &[AlignedGrid<S>], region: Region, x: usize, y: usize) -> i32
-    requires lies { Lies region store.now }
-    requires column { x < region.width }
-    requires in_rows { y < region.height }
-    ensures { result ≡ neighbours.north_west (grid_of (store_meanings S.to_int store.now) region).cells region.width x y }
-{
-    if x > 0 && y > 0 {
-        sample_at(store, region, x - 1, y - 1)
-    } else {
-        west(store, region, x, y)
-    }
-}
-
-/// The prediction of a sample from those before it.
-fn prediction<S: Sample>(
-    store: &[AlignedGrid<S>],
-    region: Region,
-    x: usize,
-    y: usize,
-    predictor: Predictor,
-) -> i32
-    requires lies { Lies region store.now }
-    requires column { x < region.width }
-    requires in_rows { y < region.height }
-    requires offered { IsOffered predictor }
-    ensures { result ≡ prediction_at (grid_of (store_meanings S.to_int store.now) region).cells region.width x y predictor }
-{
-    match predictor {
-        Predictor::Zero => 0,
-        Predictor::West => west(store, region, x, y),
-        Predictor::Gradient => i32::grad_clamped(
-            north(store, region, x, y),
-            west(store, region, x, y),
-            north_west(store, region, x, y),
-        ),
-        _ => unreachable!(),
-    }
-}
-
-/// The sample of a token: times the multiplier, and the offset and the prediction more.
-fn sample_from<S: Sample>(token: u32, multiplier: u32, offset: i32, predicted: i32) -> S
-    requires { multiplier < 2 ^ 31 }
-    ensures { result ≡ S.from_int (int_wrap S.width (unpack token *ℤ pos multiplier +ℤ offset +ℤ predicted)) }
-{
-    S::unpack_signed_u32(token)
-        .wrapping_muladd_i32(multiplier as i32, offset)
-        .add(S::from_i32(predicted))
-}
-
-/// Reads the cell in column `x` of row `y` of a region.
-fn decode_cell<S: Sample, D: Decoder>(
-    bits: &mut Bitstream<'_>,
-    decoder: &mut D,
-    store: &mut [AlignedGrid<S>],
-    region: Region,
-    leaf: Leaf,
-    multiplier: u32,
-    x: usize,
-    y: usize,
-) -> Result<(), DecoderError>
-    requires lies { Lies region store.old }
-    requires column { x < region.width }
-    requires in_rows { y < region.height }
-    requires cluster { Contains (D.meaning.cluster_map decoder.old) leaf.cluster }
-    requires offered { IsOffered leaf.predictor }
-    requires multiplier { leaf.multiplier < 2 ^ 31 }
-    ensures ok { OnOk result (ReadsCell D.meaning S.width S.to_int S.from_int (bytes_of bits.old) leaf multiplier region x y store.old decoder.old (position_of bits.old) store.new decoder.new (position_of bits.new)) }
-    ensures err { IfErr result (λ e. (D.meaning.read decoder.old (bytes_of bits.old) (position_of bits.old) leaf.cluster multiplier ≡ Err e) × (store.new ≡ store.old) × (decoder.new ≡ decoder.old) × (position_of bits.new ≡ position_of bits.old)) }
-    ensures memory { IfErr result (λ e. e ≢ DecoderError.OutOfMemory) }
-    ensures bytes { bytes_of bits.new ≡ bytes_of bits.old }
-{
-    let token = decoder.read_varint_with_multiplier_clustered(bits, leaf.cluster, multiplier)?;
-    let predicted = prediction(store, region, x, y, leaf.predictor);
-    let sample = sample_from(token, leaf.multiplier, leaf.offset, predicted);
-    region_set(store, region, x, y, sample);
-    Ok(())
-}
+use jxlm_base::grid::AlignedGrid;
+use jxlm_base::sample::Sample;
+use jxlm_tree::flat::Steps;
+use jxlm_tree::predictor::PredictorState;
 
 /// Reads row `y` of channel `i`.
 fn decode_row<S: Sample, D: Decoder>(
     bits: &mut Bitstream<'_>,
     decoder: &mut D,
+    state: &mut PredictorState<S>,
+    steps: &mut Steps,
     store: &mut [AlignedGrid<S>],
-    regions: &[Region],
-    leaf: Leaf,
-    multiplier: u32,
+    coding: &PartCoding<'_, D>,
     i: usize,
     y: usize,
 ) -> Result<(), DecoderError>
-    requires lie { AllLie regions.now store.old }
-    requires apart { LieApart regions.now }
-    requires channel { i < length regions.now }
-    requires in_rows { y < (region_at regions.now i).height }
-    requires cluster { Contains (D.meaning.cluster_map decoder.old) leaf.cluster }
-    requires offered { IsOffered leaf.predictor }
-    requires multiplier { leaf.multiplier < 2 ^ 31 }
-    ensures ok { OnOk result (GoesOn D.meaning S.width (bytes_of bits.old) leaf multiplier regions.now (λ part. place_of part i 0 y) (λ part. place_of part i 0 (y + 1)) (store_meanings S.to_int store.old) decoder.old (position_of bits.old) (store_meanings S.to_int store.new) (position_of bits.new) decoder.new) }
-    ensures err { IfErr result (λ e. Stops D.meaning S.width (bytes_of bits.old) leaf multiplier regions.now (λ part. place_of part i 0 y) (λ part. place_of part i 0 (y + 1)) (store_meanings S.to_int store.old) decoder.old (position_of bits.old) (store_meanings S.to_int store.new) (position_of bits.new) e) }
-    ensures keeps { KeepsOutside regions.now store.old store.new }
+    requires lie { AllLie (regions_of coding.now) store.old }
+    requires apart { LieApart (regions_of coding.now) }
+    requires channel { i < length (regions_of coding.now) }
+    requires in_rows { y < (region_at (regions_of coding.now) i).height }
+    requires coding { IsCodingOf coding.now }
+    requires clusters { FindsClusters coding.now (D.meaning.cluster_map decoder.old) }
+    requires stands { StandsBehind coding.now S.to_int store.old i (y * (region_at (regions_of coding.now) i).width) state.old }
+    requires columns { 0 < (region_at (regions_of coding.now) i).width }
+    requires roomy { IsRoomy coding.now state.old }
+    ensures ok { OnOk result (GoesOn D.meaning S.width (part_of coding.now) (bytes_of bits.old) (regions_of coding.now) (place_of (part_of coding.now) i 0 y) (place_of (part_of coding.now) i 0 (y + 1)) (store_meanings S.to_int store.old) decoder.old (position_of bits.old) (store_meanings S.to_int store.new) decoder.new (position_of bits.new)) }
+    ensures err { IfErr result (λ e. Stops D.meaning S.width (part_of coding.now) (bytes_of bits.old) (regions_of coding.now) (cost_of coding.now) steps.old steps.new (place_of (part_of coding.now) i 0 y) (store_meanings S.to_int store.old) decoder.old (position_of bits.old) (store_meanings S.to_int store.new) (position_of bits.new) e) }
+    ensures stands { OnOk result (StandsBehind coding.now S.to_int store.new i ((y + 1) * (region_at (regions_of coding.now) i).width) state.new) }
+    ensures roomy { OnOk result (IsRoomy coding.now state.new) }
+    ensures work { OnOk result (TakesSteps (cost_of coding.now) (place_of (part_of coding.now) i 0 y) (place_of (part_of coding.now) i 0 (y + 1)) steps.old steps.new) }
+    ensures more { steps.old ≤ steps.new }
+    ensures keeps { KeepsOutside (regions_of coding.now) store.old store.new }
     ensures clusters { OnOk result (D.meaning.cluster_map decoder.new ≡ D.meaning.cluster_map decoder.old) }
     ensures memory { IfErr result (λ e. e ≢ DecoderError.OutOfMemory) }
     ensures bytes { bytes_of bits.new ≡ bytes_of bits.old }
 {
-    let region = regions[i];
+    let region = coding.regions[i];
     for x in 0..region.width {
-        decode_cell(bits, decoder, store, region, leaf, multiplier, x, y)?;
+        decode_cell(bits, decoder, state, steps, store, coding, i, x, y)?;
     }
     Ok(())
 }
@@ -175,31 +58,35 @@ fn decode_row<S: Sample, D: Decoder>(
 fn decode_channel<S: Sample, D: Decoder>(
     bits: &mut Bitstream<'_>,
     decoder: &mut D,
+    state: &mut PredictorState<S>,
+    steps: &mut Steps,
     store: &mut [AlignedGrid<S>],
-    regions: &[Region],
-    leaf: Leaf,
-    multiplier: u32,
+    coding: &PartCoding<'_, D>,
     i: usize,
 ) -> Result<(), DecoderError>
-    requires lie { AllLie regions.now store.old }
-    requires apart { LieApart regions.now }
-    requires channel { i < length regions.now }
-    requires cluster { Contains (D.meaning.cluster_map decoder.old) leaf.cluster }
-    requires offered { IsOffered leaf.predictor }
-    requires multiplier { leaf.multiplier < 2 ^ 31 }
-    ensures ok { OnOk result (GoesOn D.meaning S.width (bytes_of bits.old) leaf multiplier regions.now (λ part. cells_before part.channels i) (λ part. cells_before part.channels (i + 1)) (store_meanings S.to_int store.old) decoder.old (position_of bits.old) (store_meanings S.to_int store.new) (position_of bits.new) decoder.new) }
-    ensures err { IfErr result (λ e. Stops D.meaning S.width (bytes_of bits.old) leaf multiplier regions.now (λ part. cells_before part.channels i) (λ part. cells_before part.channels (i + 1)) (store_meanings S.to_int store.old) decoder.old (position_of bits.old) (store_meanings S.to_int store.new) (position_of bits.new) e) }
-    ensures keeps { KeepsOutside regions.now store.old store.new }
+    requires lie { AllLie (regions_of coding.now) store.old }
+    requires apart { LieApart (regions_of coding.now) }
+    requires channel { i < length (regions_of coding.now) }
+    requires coding { IsCodingOf coding.now }
+    requires clusters { FindsClusters coding.now (D.meaning.cluster_map decoder.old) }
+    requires roomy { IsRoomy coding.now state.old }
+    ensures ok { OnOk result (GoesOn D.meaning S.width (part_of coding.now) (bytes_of bits.old) (regions_of coding.now) (cells_before (part_of coding.now).channels i) (cells_before (part_of coding.now).channels (i + 1)) (store_meanings S.to_int store.old) decoder.old (position_of bits.old) (store_meanings S.to_int store.new) decoder.new (position_of bits.new)) }
+    ensures err { IfErr result (λ e. Stops D.meaning S.width (part_of coding.now) (bytes_of bits.old) (regions_of coding.now) (cost_of coding.now) steps.old steps.new (cells_before (part_of coding.now).channels i) (store_meanings S.to_int store.old) decoder.old (position_of bits.old) (store_meanings S.to_int store.new) (position_of bits.new) e) }
+    ensures roomy { OnOk result (IsRoomy coding.now state.new) }
+    ensures work { OnOk result (TakesSteps (cost_of coding.now) (cells_before (part_of coding.now).channels i) (cells_before (part_of coding.now).channels (i + 1)) steps.old steps.new) }
+    ensures more { steps.old ≤ steps.new }
+    ensures keeps { KeepsOutside (regions_of coding.now) store.old store.new }
     ensures clusters { OnOk result (D.meaning.cluster_map decoder.new ≡ D.meaning.cluster_map decoder.old) }
     ensures memory { IfErr result (λ e. e ≢ DecoderError.OutOfMemory) }
     ensures bytes { bytes_of bits.new ≡ bytes_of bits.old }
 {
-    let region = regions[i];
+    let region = coding.regions[i];
     if region.width == 0 {
         return Ok(());
     }
+    start_channel(state, coding, i);
     for y in 0..region.height {
-        decode_row(bits, decoder, store, regions, leaf, multiplier, i, y)?;
+        decode_row(bits, decoder, state, steps, store, coding, i, y)?;
     }
     Ok(())
 }
@@ -208,24 +95,26 @@ fn decode_channel<S: Sample, D: Decoder>(
 fn decode_channels<S: Sample, D: Decoder>(
     bits: &mut Bitstream<'_>,
     decoder: &mut D,
+    state: &mut PredictorState<S>,
+    steps: &mut Steps,
     store: &mut [AlignedGrid<S>],
-    regions: &[Region],
-    leaf: Leaf,
-    multiplier: u32,
+    coding: &PartCoding<'_, D>,
 ) -> Result<(), DecoderError>
-    requires lie { AllLie regions.now store.old }
-    requires apart { LieApart regions.now }
-    requires cluster { Contains (D.meaning.cluster_map decoder.old) leaf.cluster }
-    requires offered { IsOffered leaf.predictor }
-    requires multiplier { leaf.multiplier < 2 ^ 31 }
-    ensures ok { OnOk result (GoesOn D.meaning S.width (bytes_of bits.old) leaf multiplier regions.now (λ part. 0) (λ part. cell_count part.channels) (store_meanings S.to_int store.old) decoder.old (position_of bits.old) (store_meanings S.to_int store.new) (position_of bits.new) decoder.new) }
-    ensures err { IfErr result (λ e. Stops D.meaning S.width (bytes_of bits.old) leaf multiplier regions.now (λ part. 0) (λ part. cell_count part.channels) (store_meanings S.to_int store.old) decoder.old (position_of bits.old) (store_meanings S.to_int store.new) (position_of bits.new) e) }
-    ensures keeps { KeepsOutside regions.now store.old store.new }
+    requires lie { AllLie (regions_of coding.now) store.old }
+    requires apart { LieApart (regions_of coding.now) }
+    requires coding { IsCodingOf coding.now }
+    requires clusters { FindsClusters coding.now (D.meaning.cluster_map decoder.old) }
+    requires roomy { IsRoomy coding.now state.old }
+    ensures ok { OnOk result (GoesOn D.meaning S.width (part_of coding.now) (bytes_of bits.old) (regions_of coding.now) 0 (cell_count (part_of coding.now).channels) (store_meanings S.to_int store.old) decoder.old (position_of bits.old) (store_meanings S.to_int store.new) decoder.new (position_of bits.new)) }
+    ensures err { IfErr result (λ e. Stops D.meaning S.width (part_of coding.now) (bytes_of bits.old) (regions_of coding.now) (cost_of coding.now) steps.old steps.new 0 (store_meanings S.to_int store.old) decoder.old (position_of bits.old) (store_meanings S.to_int store.new) (position_of bits.new) e) }
+    ensures work { OnOk result (TakesSteps (cost_of coding.now) 0 (cell_count (part_of coding.now).channels) steps.old steps.new) }
+    ensures more { steps.old ≤ steps.new }
+    ensures keeps { KeepsOutside (regions_of coding.now) store.old store.new }
     ensures memory { IfErr result (λ e. e ≢ DecoderError.OutOfMemory) }
     ensures bytes { bytes_of bits.new ≡ bytes_of bits.old }
 {
-    for i in 0..regions.len() {
-        decode_channel(bits, decoder, store, regions, leaf, multiplier, i)?;
+    for i in 0..coding.regions.len() {
+        decode_channel(bits, decoder, state, steps, store, coding, i)?;
     }
     Ok(())
 }
@@ -237,24 +126,26 @@ fn decode_channels<S: Sample, D: Decoder>(
 pub(crate) fn decode_part<S: Sample, D: Decoder>(
     bits: &mut Bitstream<'_>,
     decoder: &mut D,
+    state: &mut PredictorState<S>,
+    steps: &mut Steps,
     store: &mut [AlignedGrid<S>],
-    regions: &[Region],
-    leaf: Leaf,
-    multiplier: u32,
+    coding: &PartCoding<'_, D>,
 ) -> Result<(), DecoderError>
-    requires lie { AllLie regions.now store.old }
-    requires apart { LieApart regions.now }
-    requires cluster { Contains (D.meaning.cluster_map decoder.old) leaf.cluster }
-    requires offered { IsOffered leaf.predictor }
-    requires multiplier { leaf.multiplier < 2 ^ 31 }
-    ensures ok { OnOk result (DecodesAll D.meaning S.width (bytes_of bits.old) leaf multiplier regions.now decoder.old (store_meanings S.to_int store.old) (position_of bits.old) (store_meanings S.to_int store.new) (position_of bits.new)) }
-    ensures err { IfErr result (λ e. DecodesSome D.meaning S.width (bytes_of bits.old) leaf multiplier regions.now decoder.old (store_meanings S.to_int store.old) (position_of bits.old) (store_meanings S.to_int store.new) (position_of bits.new) e) }
-    ensures keeps { KeepsOutside regions.now store.old store.new }
+    requires lie { AllLie (regions_of coding.now) store.old }
+    requires apart { LieApart (regions_of coding.now) }
+    requires coding { IsCodingOf coding.now }
+    requires clusters { FindsClusters coding.now (D.meaning.cluster_map decoder.old) }
+    requires roomy { IsRoomy coding.now state.old }
+    ensures ok { OnOk result (DecodesAll D.meaning S.width (part_of coding.now) (bytes_of bits.old) (regions_of coding.now) decoder.old (store_meanings S.to_int store.old) (position_of bits.old) (store_meanings S.to_int store.new) (position_of bits.new)) }
+    ensures err { IfErr result (λ e. DecodesSome D.meaning S.width (part_of coding.now) (bytes_of bits.old) (regions_of coding.now) decoder.old (store_meanings S.to_int store.old) (position_of bits.old) (store_meanings S.to_int store.new) (position_of bits.new) (cost_of coding.now) steps.old steps.new e) }
+    ensures work { OnOk result (steps.new ≤ steps.old + cell_count (part_of coding.now).channels * cost_of coding.now) }
+    ensures more { steps.old ≤ steps.new }
+    ensures keeps { KeepsOutside (regions_of coding.now) store.old store.new }
     ensures memory { IfErr result (λ e. e ≢ DecoderError.OutOfMemory) }
     ensures bytes { bytes_of bits.new ≡ bytes_of bits.old }
 {
     decoder.begin(bits)?;
-    decode_channels(bits, decoder, store, regions, leaf, multiplier)?;
+    decode_channels(bits, decoder, state, steps, store, coding)?;
     decoder.finalize()?;
     Ok(())
 }

@@ -1,33 +1,60 @@
 //! The header of a Modular image.
 
-ghost use Rattle.std.specs.Prelude.{◌≡◌, IfOk};
+ghost use Rattle.std.specs.Prelude.{◌≡◌, IfOk, length, map};
+ghost use Rattle.std.specs.List.{All};
 ghost use Rattle.jxlm_base.specs.Bits.{bytes_of, position_of};
-ghost use Rattle.jxlm_tree.specs.SelfCorrecting.{IsHeader};
-ghost use Rattle.jxlm_tree.specs.WeightsHeader.{AnswersExactly};
+ghost use Rattle.jxlm_base.specs.Grammar.{Answers, repeated};
+ghost use Rattle.jxlm_transform.specs.Channels.{HasItsMeta, list_of};
+ghost use Rattle.jxlm_transform.specs.Transforms.{IsTransform, transform, transform_of};
+ghost use Rattle.jxl_modular.specs.Opening.{PrepareGives};
 
-use jxlm_base::bits::{Bitstream, BitstreamError, U32Spec};
-use jxlm_base::error::{Error, Result};
+use jxlm_base::bits::{Bitstream, U32Spec};
+use jxlm_base::error::Result;
+use jxlm_base::grid::OutOfMemory;
+use jxlm_transform::channels::ModularChannels;
+use jxlm_transform::transform::TransformInfo;
 use jxlm_tree::predictor::WpHeader;
+use std::alloc::Global;
 
 /// What stands ahead of an image's tree.
-#[derive(Clone, Copy)]
+#[derive(Drop)]
 pub struct ModularHeader {
     pub(crate) use_global_tree: bool,
     pub(crate) wp_params: WpHeader,
+    pub(crate) transform: Vec<TransformInfo>,
+}
+
+/// So many transforms.
+fn read_transforms(
+    alloc: Global,
+    bits: &mut Bitstream<'_>,
+    count: u32,
+    wp_params: &WpHeader,
+) -> Result<Vec<TransformInfo>>
+    ensures gives { Answers (λ v. map transform_of v.items) result (position_of bits.new) ((repeated count (transform wp_params.now)).read (bytes_of bits.old) (position_of bits.old)) }
+    ensures each { IfOk result (λ v. All IsTransform (map transform_of v.items)) }
+    ensures bytes { bytes_of bits.new ≡ bytes_of bits.old }
+{
+    let mut transforms = Vec::new(alloc);
+    for _ in 0..count {
+        let transform = TransformInfo::parse(alloc, bits, wp_params)?;
+        transforms.push(transform).map_err(|_| OutOfMemory)?;
+    }
+    Ok(transforms)
 }
 
 impl ModularHeader {
-    ghost use Rattle.jxl_modular.specs.Header.{header};
+    ghost use Rattle.jxl_modular.specs.Header.{IsReadHeader, header, header_of};
 
     /// The header that stands at the reader's place: whether the global tree is used, the weights
-    /// of the self-correcting predictor, and how many transforms there are.
+    /// of the self-correcting predictor, and the transforms, at most 273.
     ///
-    /// A cut input is refused by `UnexpectedEof`; a header that lists a transform is refused right
-    /// behind their count, by `ProfileConformance`. The reader then stands behind the last field
-    /// that was read whole.
-    pub fn parse(bits: &mut Bitstream<'_>) -> Result<ModularHeader>
-        ensures gives { AnswersExactly result (position_of bits.new) (header.read (bytes_of bits.old) (position_of bits.old)) }
-        ensures weights { IfOk result (λ h. IsHeader h.wp_params) }
+    /// A cut input is refused by `UnexpectedEof`; a transform of kind 3, and the number of a
+    /// predictor that is none, by `InvalidEnum`. The reader then stands behind the last field that
+    /// was read whole. Want of memory may be answered at any transform.
+    pub fn parse(alloc: Global, bits: &mut Bitstream<'_>) -> Result<ModularHeader>
+        ensures gives { Answers header_of result (position_of bits.new) (header.read (bytes_of bits.old) (position_of bits.old)) }
+        ensures ranges { IfOk result (λ h. IsReadHeader (header_of h)) }
         ensures bytes { bytes_of bits.new ≡ bytes_of bits.old }
     {
         let use_global_tree = bits.read_bool()?;
@@ -38,13 +65,32 @@ impl ModularHeader {
             U32Spec::Offset(2, 4),
             U32Spec::Offset(18, 8),
         )?;
-        if nb_transforms > 0 {
-            let refusal = BitstreamError::ProfileConformance("transform not available");
-            return Err(Error::Bitstream(refusal));
-        }
+        let transform = read_transforms(alloc, bits, nb_transforms, &wp_params)?;
         Ok(ModularHeader {
             use_global_tree,
             wp_params,
+            transform,
         })
     }
+}
+
+/// Applies transforms that were read to the channels of an image, in order, up to the first that is
+/// refused. Each then lists its steps.
+///
+/// Want of memory may be answered at any time. After a refusal nothing is promised of the transforms
+/// and the list.
+pub(crate) fn prepare_transforms(
+    alloc: Global,
+    transforms: &mut Vec<TransformInfo>,
+    channels: &mut ModularChannels,
+) -> Result<()>
+    requires ranges { All IsTransform (map transform_of transforms.old.items) }
+    requires meta { HasItsMeta (list_of channels.old) }
+    ensures gives { PrepareGives (map transform_of transforms.old.items) (list_of channels.old) result (map transform_of transforms.new.items) (list_of channels.new) }
+    ensures count { IfOk result (λ _. length transforms.new.items ≡ length transforms.old.items) }
+{
+    for transform in transforms.iter_mut() {
+        transform.prepare_transform_info(alloc, channels)?;
+    }
+    Ok(())
 }

@@ -1,21 +1,26 @@
 //! Modular images as they are read.
 
-ghost use Rattle.std.specs.Prelude.{◌≡◌, pos, length, None};
+ghost use Rattle.std.specs.Prelude.{◌≡◌, ◌≤◌, pos, length, None, IfOk};
+ghost use Rattle.std.specs.List.{All};
 ghost use Rattle.std.specs.Option.{option_copied, option_copied_mut};
 ghost use Rattle.jxlm_base.specs.Bits.{bytes_of, position_of};
-ghost use Rattle.jxlm_transform.specs.Channels.{ChannelList};
-ghost use Rattle.jxlm_transform.specs.Params.{IsValidParams};
-ghost use Rattle.jxl_modular.specs.Opening.{OpensAs};
+ghost use Rattle.jxlm_base.specs.Grammar.{Answers};
+ghost use Rattle.jxlm_transform.specs.Channels.{IsNarrow, image_list, list_of};
+ghost use Rattle.jxlm_transform.specs.Params.{IsValidChannel, IsValidParams};
+ghost use Rattle.jxlm_tree.specs.SelfCorrecting.{IsHeader};
+ghost use Rattle.jxl_modular.specs.Header.{header_of};
+ghost use Rattle.jxl_modular.specs.Opening.{CheckGives, conditions, opening, opening_of};
 ghost use Rattle.jxl_modular.specs.Parsing.{ParseGives, image_of};
 
-use crate::channels::{image_channels, node_limit};
-use crate::header::ModularHeader;
+use crate::channels::node_limit;
+use crate::header::{ModularHeader, prepare_transforms};
 use crate::image::ModularImageDestination;
 use jxlm_base::bits::{Bitstream, BitstreamError};
 use jxlm_base::decoder::Decoder;
 use jxlm_base::error::{Error, Result};
 use jxlm_base::sample::Sample;
-use jxlm_transform::param::ModularParams;
+use jxlm_transform::channels::ModularChannels;
+use jxlm_transform::param::{ModularChannelParams, ModularParams};
 use jxlm_tree::ma::{MaConfig, MaConfigParams};
 use std::alloc::Global;
 
@@ -31,21 +36,45 @@ pub struct Modular<S, D: Decoder> {
     inner: Option<ModularImageDestination<S, D>>,
 }
 
-/// Reads what stands ahead of a tree: the header, whose conditions on the channels and on a global
-/// tree come in this order.
-fn open(bits: &mut Bitstream<'_>, has_global: bool, nb_channels: usize) -> Result<ModularHeader>
-    ensures gives { (list : ChannelList) → length list.channels ≡ nb_channels → OpensAs has_global list (bytes_of bits.old) (position_of bits.old) result (position_of bits.new) }
-    ensures bytes { bytes_of bits.new ≡ bytes_of bits.old }
+/// The conditions on a header and its coded channels, in order: at most 65536 channels are coded, no
+/// transform is listed, and a global tree that is asked for is there.
+fn check(header: &ModularHeader, channels: &ModularChannels, has_global: bool) -> Result<()>
+    ensures { CheckGives (conditions has_global (header_of header.now) (list_of channels.now)) result }
 {
-    let header = ModularHeader::parse(bits)?;
-    if nb_channels > MAX_CODED_CHANNELS {
+    if channels.info.len() > MAX_CODED_CHANNELS {
         let refusal = BitstreamError::ProfileConformance("nb_channels_tr too large");
+        return Err(Error::Bitstream(refusal));
+    }
+    if !header.transform.is_empty() {
+        let refusal = BitstreamError::ProfileConformance("transform not available");
         return Err(Error::Bitstream(refusal));
     }
     if header.use_global_tree && !has_global {
         return Err(Error::GlobalMaTreeNotAvailable);
     }
-    Ok(header)
+    Ok(())
+}
+
+/// Reads what stands ahead of a tree: the header, whose transforms are applied to the channels of the
+/// image, and whose conditions come behind them.
+fn open(
+    alloc: Global,
+    bits: &mut Bitstream<'_>,
+    params: &[ModularChannelParams],
+    has_global: bool,
+) -> Result<(ModularHeader, ModularChannels)>
+    requires { All IsValidChannel params.now }
+    ensures gives { Answers opening_of result (position_of bits.new) ((opening has_global (image_list params.now)).read (bytes_of bits.old) (position_of bits.old)) }
+    ensures narrow { IfOk result (λ o. All IsNarrow (list_of o.1).channels) }
+    ensures few { IfOk result (λ o. length o.1.info.items ≤ 65536) }
+    ensures weights { IfOk result (λ o. IsHeader o.0.wp_params) }
+    ensures bytes { bytes_of bits.new ≡ bytes_of bits.old }
+{
+    let mut header = ModularHeader::parse(alloc, bits)?;
+    let mut channels = ModularChannels::new(alloc, params)?;
+    prepare_transforms(alloc, &mut header.transform, &mut channels)?;
+    check(&header, &channels, has_global)?;
+    Ok((header, channels))
 }
 
 impl<S: Sample, D: Decoder> Modular<S, D> {
@@ -65,12 +94,16 @@ impl<S: Sample, D: Decoder> Modular<S, D> {
     /// With no channels no bit is read, and there is no image. The parameters are valid, and no
     /// global tree is handed in.
     ///
-    /// What stands there is refused by the first check that fails: a cut header by `UnexpectedEof`;
-    /// a transform, and more than 65536 channels, by `ProfileConformance`; a use of the global tree
-    /// by `GlobalMaTreeNotAvailable`; the tree as by [`MaConfig::parse`], where it may have 1025
-    /// nodes and one more for each sample, at most 2^20 + 1, and a depth of 2048. The reader then
-    /// stands behind the last field that was read whole; inside a decoder's own `parse` its place is
-    /// the decoder's matter. Want of memory may be answered at any time.
+    /// What stands there is refused by the first check that fails. A cut header is refused by
+    /// `UnexpectedEof`, and a kind of transform or a predictor that there is not by `InvalidEnum`. Then
+    /// each transform, in order, that does not suit the channels that the ones before it leave is
+    /// refused by `InvalidRctParams`, `InvalidPaletteParams` or `InvalidSqueezeParams`; then more than
+    /// 65536 coded channels, and then any transform, by `ProfileConformance`; then a use of the global
+    /// tree by `GlobalMaTreeNotAvailable`; and then the tree as by [`MaConfig::parse`], where it may
+    /// have 1025 nodes and one more for each coded sample, at most 2^20 + 1, and a depth of 2048. The
+    /// reader then stands behind the last field that was read whole; inside a decoder's own `parse`
+    /// its place is the decoder's matter. Want of memory is answered where it is met, before the
+    /// checks that come later.
     pub fn parse(
         alloc: Global,
         bits: &mut Bitstream<'_>,
@@ -84,10 +117,10 @@ impl<S: Sample, D: Decoder> Modular<S, D> {
         if params.channels.is_empty() {
             return Ok(Modular::empty());
         }
-        let channels = image_channels(alloc, &params.channels)?;
-        let header = open(bits, params.ma_config.is_some(), channels.len())?;
+        let has_global = params.ma_config.is_some();
+        let (header, channels) = open(alloc, bits, &params.channels, has_global)?;
         let limits = MaConfigParams {
-            node_limit: node_limit(&channels),
+            node_limit: node_limit(&channels.info),
             depth_limit: DEPTH_LIMIT,
         };
         let ma_ctx = MaConfig::parse(alloc, bits, limits)?;
@@ -232,24 +265,136 @@ mod tests {
         Ok(())
     }
 
+    /// A limit of a profile that is passed.
+    fn beyond(text: &'static str) -> Option<Error> {
+        Some(Error::Bitstream(BitstreamError::ProfileConformance(text)))
+    }
+
+    /// A number that has no meaning.
+    fn unknown(name: &'static str, value: u32) -> Option<Error> {
+        Some(Error::Bitstream(BitstreamError::InvalidEnum { name, value }))
+    }
+
+    const EOF: Error = Error::Bitstream(BitstreamError::UnexpectedEof);
+
+    const NO_TRANSFORM: &str = "transform not available";
+
+    const TOO_MANY: &str = "nb_channels_tr too large";
+
     #[test]
-    fn what_stands_ahead_of_the_tree_is_refused(rt: HostRuntime) -> Result<(), Fail> {
-        let eof = Error::Bitstream(BitstreamError::UnexpectedEof);
-        let transform = Error::Bitstream(BitstreamError::ProfileConformance(
-            "transform not available",
-        ));
-        let channels = Error::Bitstream(BitstreamError::ProfileConformance(
-            "nb_channels_tr too large",
-        ));
-        assert_eq!(rt; refusal(&rt, &[], 1)?, (Some(eof), 0));
-        assert_eq!(rt; refusal(&rt, &[0x00], 1)?, (Some(eof), 7));
-        assert_eq!(rt; refusal(&rt, &[0x0E], 1)?, (Some(eof), 2));
-        assert_eq!(rt; refusal(&rt, &[0x36], 1)?, (Some(transform), 4));
-        assert_eq!(rt; refusal(&rt, &[0x37], 65537)?, (Some(transform), 4));
-        assert_eq!(rt; refusal(&rt, &[0x03], 65537)?, (Some(channels), 4));
+    fn cut_headers_are_refused(rt: HostRuntime) -> Result<(), Fail> {
+        assert_eq!(rt; refusal(&rt, &[], 1)?, (Some(EOF), 0));
+        assert_eq!(rt; refusal(&rt, &[0x00], 1)?, (Some(EOF), 7));
+        assert_eq!(rt; refusal(&rt, &[0x0E], 1)?, (Some(EOF), 2));
+        assert_eq!(rt; refusal(&rt, &[0x16, 0x00, 0x00], 1)?, (Some(EOF), 23));
+        Ok(())
+    }
+
+    // All bits of the header come before any transform, and that before the count of channels.
+    #[test]
+    fn what_stands_ahead_of_the_tree_is_refused_in_order(rt: HostRuntime) -> Result<(), Fail> {
+        let kind = unknown("TransformId", 3);
+        assert_eq!(rt; refusal(&rt, &[0x36], 1)?, (kind, 6));
+        assert_eq!(rt; refusal(&rt, &[0x37], 65537)?, (kind, 6));
+        let predictor = (unknown("MaProperty", 14), 29);
+        assert_eq!(rt; refusal(&rt, &[0x16, 0x00, 0x00, 0x1C], 1)?, predictor);
+
+        let colour = Some(Error::InvalidRctParams);
+        assert_eq!(rt; refusal(&rt, &[0x06, 0x00], 2)?, (colour, 13));
+        assert_eq!(rt; refusal(&rt, &[0x07, 0x00], 2)?, (colour, 13));
+        let palette = Some(Error::InvalidPaletteParams);
+        assert_eq!(rt; refusal(&rt, &[0x16, 0x81, 0x01, 0x00], 1)?, (palette, 29));
+        let squeeze_then_colour = refusal(&rt, &[0x0A, 0x06, 0x40, 0x00, 0x00], 1)?;
         assert_eq!(rt;
-            refusal(&rt, &[0x03], 65536)?,
+            squeeze_then_colour,
+            (Some(Error::InvalidSqueezeParams), 34)
+        );
+        let colour_then_squeeze = refusal(&rt, &[0x0A, 0x00, 0x0C, 0x80, 0x00], 1)?;
+        assert_eq!(rt; colour_then_squeeze, (colour, 34));
+
+        let no_transform = beyond(NO_TRANSFORM);
+        assert_eq!(rt; refusal(&rt, &[0x06, 0x00], 3)?, (no_transform, 13));
+        assert_eq!(rt; refusal(&rt, &[0x07, 0x00], 3)?, (no_transform, 13));
+        assert_eq!(rt; refusal(&rt, &[0x26], 1)?, (no_transform, 8));
+        assert_eq!(rt;
+            refusal(&rt, &[0x03], 1)?,
             (Some(Error::GlobalMaTreeNotAvailable), 4)
+        );
+        Ok(())
+    }
+
+    // Palettes of one and of three channels; the second leaves one channel less.
+    #[test]
+    fn coded_channels_are_counted_behind_the_transforms(rt: HostRuntime) -> Result<(), Fail> {
+        let too_many = beyond(TOO_MANY);
+        let no_global = Some(Error::GlobalMaTreeNotAvailable);
+        assert_eq!(rt; refusal(&rt, &[0x03], 65537)?, (too_many, 4));
+        assert_eq!(rt; refusal(&rt, &[0x03], 65536)?, (no_global, 4));
+        let no_transform = beyond(NO_TRANSFORM);
+        let one = [0x16, 0x00, 0x00, 0x00];
+        assert_eq!(rt; refusal(&rt, &one, 65536)?, (too_many, 29));
+        assert_eq!(rt; refusal(&rt, &one, 65535)?, (no_transform, 29));
+        let three = [0x16, 0x08, 0x00, 0x00];
+        assert_eq!(rt; refusal(&rt, &three, 65538)?, (too_many, 29));
+        assert_eq!(rt; refusal(&rt, &three, 65537)?, (no_transform, 29));
+        Ok(())
+    }
+
+    // 273 colour transforms of nine bits each.
+    #[test]
+    fn as_many_transforms_as_can_be_listed(rt: HostRuntime) -> Result<(), Fail> {
+        let mut bytes = vec![in rt.alloc(); 0xFE, 0x0F]?;
+        for _ in 0..307 {
+            bytes.push(0)?;
+        }
+        assert_eq!(rt; refusal(&rt, &bytes, 3)?, (beyond(NO_TRANSFORM), 2469));
+        assert_eq!(rt;
+            refusal(&rt, &bytes, 2)?,
+            (Some(Error::InvalidRctParams), 2469)
+        );
+        bytes.pop();
+        assert_eq!(rt; refusal(&rt, &bytes, 3)?, (Some(EOF), 2462));
+        Ok(())
+    }
+
+    // A table whose height is squeezed 296 times: eight steps are nine bytes. The shifts of a table stay.
+    #[test]
+    fn as_many_squeeze_steps_as_can_be_listed(rt: HostRuntime) -> Result<(), Fail> {
+        let ahead = [0, 0, 0, 0, 0, 0, 0x40, 0x08, 0x40, 0x01, 0xE0, 0xFF];
+        let mut bytes = Vec::from_slice(rt.alloc(), &ahead)?;
+        for _ in 0..37 {
+            bytes.extend_from_slice(&[2, 4, 8, 16, 32, 64, 128, 0, 1])?;
+        }
+        assert_eq!(rt; refusal(&rt, &bytes, 1)?, (beyond(NO_TRANSFORM), 2760));
+        bytes.pop();
+        assert_eq!(rt; refusal(&rt, &bytes, 1)?, (Some(EOF), 2752));
+        bytes.push(0)?;
+        assert_eq!(rt;
+            refusal(&rt, &bytes, 1)?,
+            (Some(Error::InvalidSqueezeParams), 2760)
+        );
+        Ok(())
+    }
+
+    // One channel that is squeezed across 31 times; the next time its shift is 31.
+    #[test]
+    fn shifts_of_30_and_31(rt: HostRuntime) -> Result<(), Fail> {
+        let steps = [0x01, 2, 4, 8, 16, 32, 64, 128, 0];
+        let mut bytes = vec![in rt.alloc(); 0xA6, 0x56, 0x80, 0]?;
+        for _ in 0..3 {
+            bytes.extend_from_slice(&steps)?;
+        }
+        bytes.extend_from_slice(&[1, 2, 4, 8, 16, 0])?;
+        assert_eq!(rt; refusal(&rt, &bytes, 1)?, (beyond(NO_TRANSFORM), 293));
+
+        let mut bytes = vec![in rt.alloc(); 0xA6, 0x57, 0x80, 0]?;
+        for _ in 0..3 {
+            bytes.extend_from_slice(&steps)?;
+        }
+        bytes.extend_from_slice(&[1, 2, 4, 8, 16, 32, 0])?;
+        assert_eq!(rt;
+            refusal(&rt, &bytes, 1)?,
+            (Some(Error::InvalidSqueezeParams), 302)
         );
         Ok(())
     }

@@ -1,2 +1,3 @@
 pub mod Bytewise
 pub mod BytewiseLaws
+pub mod Places

@@ -1,9 +1,10 @@
 // Calls that reading a picture does not make, or not with these values.
 
 use crate::bytewise::Bytewise;
-use crate::rows::CONSTANT;
+use crate::trees::Told;
 use jxl_modular::bits::Bitstream;
 use jxl_modular::decoder::{Decoder, DecoderError, RleToken};
+use jxl_modular::flat::Steps;
 use jxl_modular::plain::PlainDecoder;
 use jxl_modular::predictor::Predictor;
 use jxl_modular::{ChannelShift, MaConfig, MaConfigParams, ModularParams, decode_picture};
@@ -54,13 +55,17 @@ fn a_tree_of_bytes(rt: HostRuntime) -> Result<(), Fail> {
     assert_eq!(rt; config.num_tree_nodes(), 1);
     assert_eq!(rt; config.tree_depth(), 0);
     assert_eq!(rt; config.decoder().cluster_map(), [0].as_slice());
-    let leaf = config.leaf();
+    let flat = config.make_flat_tree(0, 0, 0)?;
+    let leaf = flat.leaf(&Told { values: &[] }, &mut Steps::new());
     assert_eq!(rt; leaf.cluster, 0);
     assert_eq!(rt; leaf.predictor, Predictor::West);
     assert_eq!(rt; leaf.offset, -1);
     assert_eq!(rt; leaf.multiplier, 16);
     Ok(())
 }
+
+// A leaf with the constant token 3, doubled, and 5 more.
+const CONSTANT: &[u8] = &[0x82, 0x00, 0x40, 0x80, 0x04, 0x12, 0x3A, 0x08, 0x40, 0x61];
 
 // A picture of 5 by 3, once as it is, once halved both ways, once with a quarter of its rows: all samples are 1.
 #[test]

@@ -11,6 +11,16 @@ mod outcome;
 #[cfg(test)]
 mod pictures;
 #[cfg(test)]
+mod place_rows;
+#[cfg(test)]
+mod places;
+#[cfg(test)]
 mod rows;
 #[cfg(test)]
 mod table;
+#[cfg(test)]
+mod text;
+#[cfg(test)]
+mod tree_rows;
+#[cfg(test)]
+mod trees;

@@ -92,20 +92,28 @@ pub fn by_calls<S: Sample, D: Decoder>(
     })
 }
 
-// Why a picture of these channels is refused when it is read by one call, or its samples.
+// Reads a picture of these channels by one call.
 pub fn at_once<S: Sample, D: Decoder>(
     rt: &impl Abort,
     alloc: Global,
     bytes: &[u8],
     channels: &[ModularChannelParams],
-) -> Result<(Result<Vec<i32>, Error>, u64), Fail> {
+) -> Result<Outcome, Fail> {
     let params = params::<D>(alloc, channels)?;
     assert!(rt; params.is_valid());
     let mut bits = Bitstream::new(bytes);
-    let answer = match decode_picture::<S, D>(alloc, &mut bits, params, 0) {
-        Ok(Some(image)) => Ok(samples(alloc, &image)?),
-        Ok(None) => Ok(Vec::new(alloc)),
-        Err(fault) => Err(fault),
+    let answer = decode_picture::<S, D>(alloc, &mut bits, params, 0);
+    let position = bits.position();
+    let whole = answer.is_ok();
+    let (fault, samples) = match answer {
+        Ok(Some(image)) => (None, samples(alloc, &image)?),
+        Ok(None) => (None, Vec::new(alloc)),
+        Err(fault) => (Some(fault), Vec::new(alloc)),
     };
-    Ok((answer, bits.position()))
+    Ok(Outcome {
+        fault,
+        samples,
+        position,
+        whole,
+    })
 }

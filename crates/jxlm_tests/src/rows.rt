@@ -1,158 +1,207 @@
-// Pictures of one channel of 2 by 2, by the plain decoder. The values were computed by hand, and once more by a program of its own.
+// Small pictures, each with all that it is cut to. Samples, places and faults of the first six were computed by hand; all were computed
+// by a program of its own.
 
-use crate::outcome::{at_once, by_calls};
-use jxl_modular::bits::BitstreamError;
-use jxl_modular::decoder::DecoderError;
-use jxl_modular::error::Error;
+use crate::table::check;
 use jxl_modular::plain::PlainDecoder;
-use jxl_modular::{ModularChannelParams, Sample};
-use std::alloc::Global;
-use std::process::Abort;
 use std::test::Fail;
 
-// tokens of three bits 2, 4, 1 and 0, from bit 68 on; the clamped gradient
-pub const GRADIENT: &[u8] = &[0x42, 0x00, 0x04, 0x00, 0x04, 0x0E, 0x05, 0xC0, 0x20, 0x06];
+// The clamped gradient; tokens of three bits 2, 4, 1 and 0, from bit 68 on.
+const GRADIENT: &str = "2x2|42000400040e05c02006|1 3 0 2 @80
+2x2|42000400040e05c020|1 0 0 0 @71 entropy decoder error: unexpected end of input
+2x2|42000400040e05c0|entropy decoder error: unexpected end of input
+2x2|42000400040e05|entropy decoder error: unexpected end of input
+2x2|42000400040e|entropy decoder error: unexpected end of input
+2x2|4200040004|entropy decoder error: unexpected end of input
+2x2|42000400|entropy decoder error: unexpected end of input
+2x2|420004|entropy decoder error: unexpected end of input
+2x2|4200|entropy decoder error: unexpected end of input
+2x2|42|entropy decoder error: unexpected end of input
+2x2||bitstream error: unexpected end of input";
 
-// the constant token 3, times 2, and 5 more
-pub const CONSTANT: &[u8] = &[0x82, 0x00, 0x40, 0x80, 0x04, 0x12, 0x3A, 0x08, 0x40, 0x61];
+// The constant token 3, doubled, and 5 more: behind the tree no bit is read.
+const CONSTANT: &str = "2x2|8200408004123a084061|1 1 1 1 @79
+2x2|8200408004123a0840|entropy decoder error: unexpected end of input
+2x2|8200408004123a08|entropy decoder error: unexpected end of input
+2x2|8200408004123a|entropy decoder error: unexpected end of input
+2x2|820040800412|entropy decoder error: unexpected end of input
+2x2|8200408004|entropy decoder error: unexpected end of input
+2x2|82004080|entropy decoder error: unexpected end of input
+2x2|820040|entropy decoder error: unexpected end of input
+2x2|8200|entropy decoder error: unexpected end of input
+2x2|82|entropy decoder error: unexpected end of input
+2x2||bitstream error: unexpected end of input";
 
-// the token 2, and 200 more of it
-pub const RUN: &[u8] = &[
-    0x42, 0x00, 0x04, 0x00, 0x04, 0x0E, 0x0D, 0xC0, 0x40, 0x8F, 0x01,
+// The token 2, and 200 more of it.
+const RUN: &str = "2x2|42000400040e0dc0408f01|1 2 2 3 @81
+2x2|42000400040e0dc0408f|1 0 0 0 @72 entropy decoder error: unexpected end of input
+2x2|42000400040e0dc040|1 0 0 0 @72 entropy decoder error: unexpected end of input
+2x2|42000400040e0dc0|entropy decoder error: unexpected end of input
+2x2|42000400040e0d|entropy decoder error: unexpected end of input
+2x2|42000400040e|entropy decoder error: unexpected end of input
+2x2|4200040004|entropy decoder error: unexpected end of input
+2x2|42000400|entropy decoder error: unexpected end of input
+2x2|420004|entropy decoder error: unexpected end of input
+2x2|4200|entropy decoder error: unexpected end of input
+2x2|42|entropy decoder error: unexpected end of input
+2x2||bitstream error: unexpected end of input";
+
+// A run of four, with no token before it.
+const RUN_OF_NONE: &str = "2x2|42000400040e0dc07000|0 0 0 0 @77
+2x2|42000400040e0dc070|0 0 0 0 @68 entropy decoder error: unexpected end of input
+2x2|42000400040e0dc0|entropy decoder error: unexpected end of input
+2x2|42000400040e0d|entropy decoder error: unexpected end of input
+2x2|42000400040e|entropy decoder error: unexpected end of input
+2x2|4200040004|entropy decoder error: unexpected end of input
+2x2|42000400|entropy decoder error: unexpected end of input
+2x2|420004|entropy decoder error: unexpected end of input
+2x2|4200|entropy decoder error: unexpected end of input
+2x2|42|entropy decoder error: unexpected end of input
+2x2||bitstream error: unexpected end of input";
+
+// The tokens of the first behind their sum.
+const SEALED: &str = "2x2|42000400040e15c0702006|1 3 0 2 @88
+2x2|42000400040e15c07020|1 0 0 0 @79 entropy decoder error: unexpected end of input
+2x2|42000400040e15c070|0 0 0 0 @68 entropy decoder error: unexpected end of input
+2x2|42000400040e15c0|entropy decoder error: unexpected end of input
+2x2|42000400040e15|entropy decoder error: unexpected end of input
+2x2|42000400040e|entropy decoder error: unexpected end of input
+2x2|4200040004|entropy decoder error: unexpected end of input
+2x2|42000400|entropy decoder error: unexpected end of input
+2x2|420004|entropy decoder error: unexpected end of input
+2x2|4200|entropy decoder error: unexpected end of input
+2x2|42|entropy decoder error: unexpected end of input
+2x2||bitstream error: unexpected end of input";
+
+// The same behind a sum that is one too great: the end is refused, and all samples are there.
+const WRONG_SEAL: &str =
+    "2x2|42000400040e15c0802006|1 3 0 2 @88 entropy decoder error: invalid code 4
+2x2|42000400040e15c08020|1 0 0 0 @79 entropy decoder error: unexpected end of input
+2x2|42000400040e15c080|0 0 0 0 @68 entropy decoder error: unexpected end of input
+2x2|42000400040e15c0|entropy decoder error: unexpected end of input
+2x2|42000400040e15|entropy decoder error: unexpected end of input
+2x2|42000400040e|entropy decoder error: unexpected end of input
+2x2|4200040004|entropy decoder error: unexpected end of input
+2x2|42000400|entropy decoder error: unexpected end of input
+2x2|420004|entropy decoder error: unexpected end of input
+2x2|4200|entropy decoder error: unexpected end of input
+2x2|42|entropy decoder error: unexpected end of input
+2x2||bitstream error: unexpected end of input";
+
+// Three samples: where the column is above 0, west by tokens of three bits, else the constant token 6.
+const TWO_LEAVES: &str = "3x1|82400800040c02221010868315|3 4 3 @103
+3x1|82400800040c022210108683|entropy decoder error: unexpected end of input
+3x1|82400800040c0222101086|entropy decoder error: unexpected end of input
+3x1|82400800040c02221010|entropy decoder error: unexpected end of input
+3x1|82400800040c022210|entropy decoder error: unexpected end of input
+3x1|82400800040c0222|entropy decoder error: unexpected end of input
+3x1|82400800040c02|entropy decoder error: unexpected end of input
+3x1|82400800040c|entropy decoder error: unexpected end of input
+3x1|8240080004|entropy decoder error: unexpected end of input
+3x1|82400800|entropy decoder error: unexpected end of input
+3x1|824008|entropy decoder error: unexpected end of input
+3x1|8240|entropy decoder error: unexpected end of input
+3x1|82|entropy decoder error: unexpected end of input
+3x1||bitstream error: unexpected end of input";
+
+// Two channels under the sample of the earlier one: above 2 a hundred more.
+const EARLIER: &str = "2x1 2x1|0200000048241000000019000000000000000000900830000000|1 3 0 100 @206
+2x1 2x1|02000000482410000000190000000000000000009008300000|1 3 0 0 @197 entropy decoder error: unexpected end of input
+2x1 2x1|020000004824100000001900000000000000000090083000|1 3 0 0 @188 entropy decoder error: unexpected end of input
+2x1 2x1|0200000048241000000019000000000000000000900830|1 0 0 0 @179 entropy decoder error: unexpected end of input
+2x1 2x1|02000000482410000000190000000000000000009008|0 0 0 0 @170 entropy decoder error: unexpected end of input
+2x1 2x1|020000004824100000001900000000000000000090|entropy decoder error: unexpected end of input
+2x1 2x1|0200000048241000000019000000000000000000|entropy decoder error: unexpected end of input
+2x1 2x1|02000000482410000000190000000000000000|entropy decoder error: unexpected end of input
+2x1 2x1|020000004824100000001900000000000000|entropy decoder error: unexpected end of input
+2x1 2x1|0200000048241000000019000000000000|entropy decoder error: unexpected end of input
+2x1 2x1|02000000482410000000190000000000|entropy decoder error: unexpected end of input
+2x1 2x1|020000004824100000001900000000|entropy decoder error: unexpected end of input
+2x1 2x1|0200000048241000000019000000|entropy decoder error: unexpected end of input
+2x1 2x1|02000000482410000000190000|entropy decoder error: unexpected end of input
+2x1 2x1|020000004824100000001900|entropy decoder error: unexpected end of input
+2x1 2x1|0200000048241000000019|entropy decoder error: unexpected end of input
+2x1 2x1|02000000482410000000|entropy decoder error: unexpected end of input
+2x1 2x1|020000004824100000|entropy decoder error: unexpected end of input
+2x1 2x1|0200000048241000|entropy decoder error: unexpected end of input
+2x1 2x1|02000000482410|entropy decoder error: unexpected end of input
+2x1 2x1|020000004824|entropy decoder error: unexpected end of input
+2x1 2x1|0200000048|entropy decoder error: unexpected end of input
+2x1 2x1|02000000|entropy decoder error: unexpected end of input
+2x1 2x1|020000|entropy decoder error: unexpected end of input
+2x1 2x1|0200|entropy decoder error: unexpected end of input
+2x1 2x1|02|entropy decoder error: unexpected end of input
+2x1 2x1||bitstream error: unexpected end of input";
+
+// Behind a first sample of 1 the greatest error is -8: a sample is its token above -8, the self-correcting prediction and its token
+// above -9, and else 15 less than its token.
+const GREATEST_ERROR: &str = "3x1|0200000028e00300000023300000003a000000280428|1 1 -3 @176
+3x1|0200000028e00300000023300000003a0000002804|1 0 0 @166 entropy decoder error: unexpected end of input
+3x1|0200000028e00300000023300000003a00000028|entropy decoder error: unexpected end of input
+3x1|0200000028e00300000023300000003a000000|entropy decoder error: unexpected end of input
+3x1|0200000028e00300000023300000003a0000|entropy decoder error: unexpected end of input
+3x1|0200000028e00300000023300000003a00|entropy decoder error: unexpected end of input
+3x1|0200000028e00300000023300000003a|entropy decoder error: unexpected end of input
+3x1|0200000028e0030000002330000000|entropy decoder error: unexpected end of input
+3x1|0200000028e00300000023300000|entropy decoder error: unexpected end of input
+3x1|0200000028e003000000233000|entropy decoder error: unexpected end of input
+3x1|0200000028e0030000002330|entropy decoder error: unexpected end of input
+3x1|0200000028e00300000023|entropy decoder error: unexpected end of input
+3x1|0200000028e003000000|entropy decoder error: unexpected end of input
+3x1|0200000028e0030000|entropy decoder error: unexpected end of input
+3x1|0200000028e00300|entropy decoder error: unexpected end of input
+3x1|0200000028e003|entropy decoder error: unexpected end of input
+3x1|0200000028e0|entropy decoder error: unexpected end of input
+3x1|0200000028|entropy decoder error: unexpected end of input
+3x1|02000000|entropy decoder error: unexpected end of input
+3x1|020000|entropy decoder error: unexpected end of input
+3x1|0200|entropy decoder error: unexpected end of input
+3x1|02|entropy decoder error: unexpected end of input
+3x1||bitstream error: unexpected end of input";
+
+// The self-correcting predictor alone.
+const SELF_CORRECTING: &str = "3x3|020000002880010000a0486210c04ef0|-5 -5 -7 -5 -6 -1 -9 -7 13 @128
+3x3|020000002880010000a0486210c04e|-5 -5 -7 -5 -6 -1 -9 0 0 @118 entropy decoder error: unexpected end of input
+3x3|020000002880010000a0486210c0|-5 -5 -7 -5 -6 0 0 0 0 @108 entropy decoder error: unexpected end of input
+3x3|020000002880010000a0486210|-5 -5 -7 -5 0 0 0 0 0 @103 entropy decoder error: unexpected end of input
+3x3|020000002880010000a04862|-5 -5 0 0 0 0 0 0 0 @93 entropy decoder error: unexpected end of input
+3x3|020000002880010000a048|-5 0 0 0 0 0 0 0 0 @88 entropy decoder error: unexpected end of input
+3x3|020000002880010000a0|entropy decoder error: unexpected end of input
+3x3|020000002880010000|entropy decoder error: unexpected end of input
+3x3|0200000028800100|entropy decoder error: unexpected end of input
+3x3|02000000288001|entropy decoder error: unexpected end of input
+3x3|020000002880|entropy decoder error: unexpected end of input
+3x3|0200000028|entropy decoder error: unexpected end of input
+3x3|02000000|entropy decoder error: unexpected end of input
+3x3|020000|entropy decoder error: unexpected end of input
+3x3|0200|entropy decoder error: unexpected end of input
+3x3|02|entropy decoder error: unexpected end of input
+3x3||bitstream error: unexpected end of input";
+
+const ROWS: [&str; 10] = [
+    GRADIENT,
+    CONSTANT,
+    RUN,
+    RUN_OF_NONE,
+    SEALED,
+    WRONG_SEAL,
+    TWO_LEAVES,
+    EARLIER,
+    GREATEST_ERROR,
+    SELF_CORRECTING,
 ];
-
-// a run of four, with no token before it
-pub const RUN_OF_NONE: &[u8] = &[0x42, 0x00, 0x04, 0x00, 0x04, 0x0E, 0x0D, 0xC0, 0x70, 0x00];
-
-// the tokens of GRADIENT behind their sum, and behind a sum that is one too great
-pub const SEALED: &[u8] = &[
-    0x42, 0x00, 0x04, 0x00, 0x04, 0x0E, 0x15, 0xC0, 0x70, 0x20, 0x06,
-];
-
-pub const WRONG_SEAL: &[u8] = &[
-    0x42, 0x00, 0x04, 0x00, 0x04, 0x0E, 0x15, 0xC0, 0x80, 0x20, 0x06,
-];
-
-// Rows, with their names: why they are refused, their samples, and where the reader stands at the end.
-type Row = (&'static str, &'static [u8], Option<Error>, [i32; 4], u64);
-
-const EOF: Option<Error> = Some(Error::Decoder(DecoderError::UnexpectedEof));
-
-const ROWS: [Row; 7] = [
-    ("gradient", GRADIENT, None, [1, 3, 0, 2], 80),
-    (
-        "cut gradient",
-        &[0x42, 0x00, 0x04, 0x00, 0x04, 0x0E, 0x05, 0xC0, 0x20],
-        EOF,
-        [1, 0, 0, 0],
-        71,
-    ),
-    ("constant", CONSTANT, None, [1, 1, 1, 1], 79),
-    ("run", RUN, None, [1, 2, 2, 3], 81),
-    ("run of none", RUN_OF_NONE, None, [0, 0, 0, 0], 77),
-    ("sealed", SEALED, None, [1, 3, 0, 2], 88),
-    (
-        "wrong seal",
-        WRONG_SEAL,
-        Some(Error::Decoder(DecoderError::Invalid(4))),
-        [1, 3, 0, 2],
-        88,
-    ),
-];
-
-fn rows<S: Sample>(rt: &impl Abort, alloc: Global) -> Result<(), Fail> {
-    let square = [ModularChannelParams::new(2, 2)];
-    for (name, bytes, fault, samples, position) in ROWS {
-        let outcome = by_calls::<S, PlainDecoder>(rt, alloc, bytes, &square)?;
-        assert_eq!(rt; outcome.fault, fault, "{name}");
-        assert_eq!(rt; outcome.samples.as_slice(), samples.as_slice(), "{name}");
-        assert_eq!(rt; outcome.position, position, "{name}");
-        assert_eq!(rt; outcome.whole, fault.is_none(), "{name}");
-        let (answer, end) = at_once::<S, PlainDecoder>(rt, alloc, bytes, &square)?;
-        match answer {
-            Ok(picture) => {
-                assert_eq!(rt; fault, None, "{name}");
-                assert_eq!(rt; picture.as_slice(), samples.as_slice(), "{name}");
-            }
-            Err(refusal) => assert_eq!(rt; Some(refusal), fault, "{name}"),
-        }
-        assert_eq!(rt; end, position, "{name}");
-    }
-    Ok(())
-}
 
 #[test]
 fn rows_of_32_bits(rt: HostRuntime) -> Result<(), Fail> {
-    rows::<i32>(&rt, rt.alloc())
+    for row in ROWS {
+        check::<i32, PlainDecoder>(&rt, rt.alloc(), row)?;
+    }
+    Ok(())
 }
 
 #[test]
 fn rows_of_16_bits(rt: HostRuntime) -> Result<(), Fail> {
-    rows::<i16>(&rt, rt.alloc())
-}
-
-// Rows that are cut behind their tree: how many bytes are left, the samples that they give, and where the reader stands.
-type Cut = (&'static [u8], usize, [i32; 4], u64);
-
-const CUTS: [Cut; 8] = [
-    (GRADIENT, 9, [1, 0, 0, 0], 71),
-    (RUN, 9, [1, 0, 0, 0], 72),
-    (RUN, 10, [1, 0, 0, 0], 72),
-    (RUN_OF_NONE, 9, [0, 0, 0, 0], 68),
-    (SEALED, 9, [0, 0, 0, 0], 68),
-    (SEALED, 10, [1, 0, 0, 0], 79),
-    (WRONG_SEAL, 9, [0, 0, 0, 0], 68),
-    (WRONG_SEAL, 10, [1, 0, 0, 0], 79),
-];
-
-#[test]
-fn samples_are_cut(rt: HostRuntime) -> Result<(), Fail> {
-    let square = [ModularChannelParams::new(2, 2)];
-    for (bytes, count, samples, position) in CUTS {
-        let cut = bytes.get(..count).ok_or("a short row")?;
-        let outcome = by_calls::<i32, PlainDecoder>(&rt, rt.alloc(), cut, &square)?;
-        assert_eq!(rt; outcome.fault, EOF, "{count} of {bytes:?}");
-        assert_eq!(rt;
-            outcome.samples.as_slice(),
-            samples.as_slice(),
-            "{count} of {bytes:?}"
-        );
-        assert_eq!(rt; outcome.position, position, "{count} of {bytes:?}");
-        assert_eq!(rt; outcome.whole, false, "{count} of {bytes:?}");
-        let (answer, end) = at_once::<i32, PlainDecoder>(&rt, rt.alloc(), cut, &square)?;
-        assert_eq!(rt; answer.err(), EOF, "{count} of {bytes:?}");
-        assert_eq!(rt; end, position, "{count} of {bytes:?}");
-    }
-    Ok(())
-}
-
-// Rows, and how many bytes hold their trees.
-const TREES: [(&[u8], usize); 6] = [
-    (GRADIENT, 9),
-    (CONSTANT, 10),
-    (RUN, 9),
-    (RUN_OF_NONE, 9),
-    (SEALED, 9),
-    (WRONG_SEAL, 9),
-];
-
-#[test]
-fn trees_are_cut(rt: HostRuntime) -> Result<(), Fail> {
-    let square = [ModularChannelParams::new(2, 2)];
-    for (bytes, tree) in TREES {
-        for count in 0..tree {
-            let cut = bytes.get(..count).ok_or("a short row")?;
-            let fault = if count == 0 {
-                Some(Error::Bitstream(BitstreamError::UnexpectedEof))
-            } else {
-                EOF
-            };
-            let outcome = by_calls::<i32, PlainDecoder>(&rt, rt.alloc(), cut, &square)?;
-            assert_eq!(rt; outcome.fault, fault, "{count} of {bytes:?}");
-            assert!(rt; outcome.samples.is_empty(), "{count} of {bytes:?}");
-            let (answer, _) = at_once::<i32, PlainDecoder>(&rt, rt.alloc(), cut, &square)?;
-            assert_eq!(rt; answer.err(), fault, "{count} of {bytes:?}");
-        }
+    for row in ROWS {
+        check::<i16, PlainDecoder>(&rt, rt.alloc(), row)?;
     }
     Ok(())
 }

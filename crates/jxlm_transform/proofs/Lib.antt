@@ -1,3 +1,14 @@
+mod ChannelExamples
+pub mod CodedLists
+pub mod DefaultSteps
+pub mod FieldRanges
+pub mod Halvings
 pub mod ImageChannels
 pub mod Powers
+pub mod Refusals
+pub mod RepeatedLoop
 pub mod ShiftBounds
+pub mod SideBounds
+mod TransformExamples
+pub mod TransformLaws
+pub mod Views

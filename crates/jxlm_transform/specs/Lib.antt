@@ -1,3 +1,5 @@
+pub mod ChannelSteps
 pub mod Channels
 pub mod Params
 pub mod Shifts
+pub mod Transforms

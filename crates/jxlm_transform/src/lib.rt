@@ -1,4 +1,6 @@
 //! What an image's channels are, and what transforms do to them.
 #![tactic(auto)]
 
+pub mod channels;
 pub mod param;
+pub mod transform;

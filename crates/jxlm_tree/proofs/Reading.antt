@@ -1,12 +1,16 @@
 -- What is read as a listing is the listing of exactly one tree.
-use Rattle.std.proofs.Common.{◌≡◌, ℕ, zero, suc, ◌+◌, List, [], ◌∷◌, ◌++◌, None, Some, Result, Ok, Err, Bool, true, false, cond, refl, sym, ap, ◌∙◌, subst, arith, length, take, drop}
+use Rattle.std.proofs.Common.{◌≡◌, ℕ, zero, suc, ◌+◌, List, [], ◌∷◌, ◌++◌, None, Some, Result, Ok, Err, Bool, true, false, cond, refl, sym, ap, ◌∙◌, subst, arith, length, take, drop, ◌⊎◌, inr}
 use Rattle.std.specs.Prelude.{slice_index}
 use Rattle.std.proofs.lemmas.List.{take-append-drop, length-take-le, length-append}
 use Rattle.jxlm_base.specs.Decoding.{Found, Meaning}
-use Rattle.jxlm_base.specs.Fault.{Fault, Refused, ◌>>=◌}
-use Rattle.jxlm_tree.specs.Tree.{Shape, leaf, decision, Node, Config, leaf_node, decision_node, levels}
-use Rattle.jxlm_tree.specs.TreeReading.{Draft, Drawn, Listing, with_clusters, leaf_count, children, through, node_at, nodes_at, drafts_at, listing_at, limit_fault, most_nodes, is_endless, IsTreeAt}
+use Rattle.jxlm_base.specs.Fault.{Fault, Refused, UnlessMemory, ◌>>=◌}
+use Rattle.jxlm_base.specs.Grammar.{IsRefused}
+use Rattle.jxlm_tree.specs.DraftReading.{ListsTrees}
+use Rattle.jxlm_tree.specs.Tree.{Shape, leaf, decision, Node, Config, leaf_node, decision_node, config_of, levels}
+use Rattle.jxlm_tree.specs.Queue.{IsTooDeepListing, ListsTooDeep}
+use Rattle.jxlm_tree.specs.TreeReading.{Draft, Drawn, Listing, with_clusters, leaf_count, children, through, node_at, nodes_at, drafts_at, listing_at, limit_fault, most_nodes, is_endless, IsTooDeep, IsTreeAt}
 use Rattle.jxlm_tree.specs.declared.flat.Leaf.{Leaf}
+use Rattle.jxlm_tree.proofs.Memory.{unless_so}
 use Rattle.jxlm_tree.proofs.Listing.{Lists, lists-levels, levels-injective}
 
 bind_ok : {A B : Type 0} (r : Result A Refused) (f : A → Result B Refused) (y : B) → (r >>= f) ≡ Ok y → (x : A) × (r ≡ Ok x) × (f x ≡ Ok y)
@@ -20,14 +24,6 @@ passed : {A : Type 0} (b : Bool) (e : Refused) (r : Result A Refused) (x : A) �
 passed true e r x h = cc
 passed false e r x h = h
 
--- these nodes are those of n trees
-abbrev Closes : {L : Type 0} → ℕ → List (Node L) → Type 0
-Closes zero [] = Unit {0}
-Closes zero (n ∷ ns) = ⊥
-Closes (suc m) [] = ⊥
-Closes (suc m) (leaf_node l ∷ ns) = Closes m ns
-Closes (suc m) (decision_node k v ∷ ns) = Closes (m + 2) ns
-
 record Forest {L : Type 0} (n : ℕ) (ns : List (Node L)) : Type 0 where
   trees : List (Shape L)
   count : length trees ≡ n
@@ -39,7 +35,7 @@ two (a ∷ []) h = absurd (omega (arith, h))
 two (a ∷ (b ∷ [])) h = (a, b, refl)
 two (a ∷ (b ∷ (c ∷ xs))) h = absurd (omega (arith, h))
 
-forest : {L : Type 0} (ns : List (Node L)) (n : ℕ) → Closes n ns → Forest n ns
+forest : {L : Type 0} (ns : List (Node L)) (n : ℕ) → ListsTrees n ns → Forest n ns
 forest [] zero h = record { trees = []; count = refl; lists = tt }
 forest (n ∷ ns) zero h = absurd h
 forest [] (suc m) h = absurd h
@@ -56,7 +52,15 @@ forest (decision_node k v ∷ ns) (suc m) h =
     let whole : f.trees ≡ ts ++ last.0 ∷ last.1 ∷ [] = sym parts ∙ ap (λ xs. ts ++ xs) last.2 in
     record { trees = decision k v last.0 last.1 ∷ ts; count = ap suc front; lists = ((refl, refl), subst (λ xs. Lists xs ns) whole f.lists) }
 
-clusters_close : (clusters : List ℕ) (k : ℕ) (ns : List (Node Draft)) (n : ℕ) → Closes n ns → Closes n (with_clusters clusters k ns)
+-- a tree has one leaf more than decisions, and so each of n
+pub leaves_and_decisions : (ns : List (Node Draft)) (n : ℕ) → ListsTrees n ns → leaf_count ns + leaf_count ns ≡ length ns + n
+leaves_and_decisions [] zero h = refl
+leaves_and_decisions (n ∷ ns) zero h = absurd h
+leaves_and_decisions [] (suc m) h = absurd h
+leaves_and_decisions (leaf_node l ∷ ns) (suc m) h = omega (arith, leaves_and_decisions ns m h)
+leaves_and_decisions (decision_node k v ∷ ns) (suc m) h = omega (arith, leaves_and_decisions ns (m + 2) h)
+
+clusters_close : (clusters : List ℕ) (k : ℕ) (ns : List (Node Draft)) (n : ℕ) → ListsTrees n ns → ListsTrees n (with_clusters clusters k ns)
 clusters_close clusters k [] zero h = h
 clusters_close clusters k (n ∷ ns) zero h = absurd h
 clusters_close clusters k [] (suc m) h = absurd h
@@ -70,12 +74,16 @@ single {L} ns f = of_list f.trees f.count f.lists where
   of_list (t ∷ []) h l = (t, sym (lists-levels t ns l))
   of_list (t ∷ (u ∷ ts)) h l = absurd (omega (arith, h))
 
-children_close : (node : Node Draft) (ns : List (Node Draft)) (m : ℕ) → Closes (m + children node) ns → Closes (suc m) (node ∷ ns)
+-- the tree that nodes make, whatever clusters its leaves get
+pub tree_of_listing : (clusters : List ℕ) (ns : List (Node Draft)) → ListsTrees 1 ns → (t : Shape Leaf) × (levels t ≡ with_clusters clusters 0 ns)
+tree_of_listing clusters ns h = single (with_clusters clusters 0 ns) (forest (with_clusters clusters 0 ns) 1 (clusters_close clusters 0 ns 1 h))
+
+children_close : (node : Node Draft) (ns : List (Node Draft)) (m : ℕ) → ListsTrees (m + children node) ns → ListsTrees (suc m) (node ∷ ns)
 children_close (leaf_node l) ns m h = let e : m + 0 ≡ m = omega arith in rw e at h
 children_close (decision_node k v) ns m h = h
 
 module _ {S : Type 0} (d : Meaning S) (bytes : List ℕ) where
-  nodes_close : (limit : Fault) (room missing : ℕ) (s : S) (p : ℕ) (x : Drawn (List (Node Draft)) S) → nodes_at d bytes limit room missing s p ≡ Ok x → Closes missing x.value
+  nodes_close : (limit : Fault) (room missing : ℕ) (s : S) (p : ℕ) (x : Drawn (List (Node Draft)) S) → nodes_at d bytes limit room missing s p ≡ Ok x → ListsTrees missing x.value
   unfolding nodes_at
   nodes_close limit zero zero s p x h = rw (same _ _ _ refl h) tt
   nodes_close limit zero (suc missing) s p x h = cc
@@ -85,7 +93,7 @@ module _ {S : Type 0} (d : Meaning S) (bytes : List ℕ) where
       let b = bind_ok (nodes_at d bytes limit room (missing + children a.0.value) a.0.state a.0.position) _ x a.2 in
       rw (same _ _ _ refl b.2) (children_close a.0.value b.0.value missing (nodes_close limit room (missing + children a.0.value) a.0.state a.0.position b.0 b.1))
 
-  drafts_close : (node_limit : ℕ) (s : S) (p : ℕ) (x : Found (List (Node Draft))) → drafts_at d bytes node_limit s p ≡ Ok x → Closes 1 x.value
+  pub drafts_close : (node_limit : ℕ) (s : S) (p : ℕ) (x : Found (List (Node Draft))) → drafts_at d bytes node_limit s p ≡ Ok x → ListsTrees 1 x.value
   unfolding drafts_at
   drafts_close node_limit s p x h =
       let rest = passed (is_endless (d.single_token s (slice_index (d.cluster_map s) 1))) _ _ x h in
@@ -109,3 +117,9 @@ module _ {S : Type 0} (d : Meaning S) (bytes : List ℕ) where
   -- and of no other
   pub one_tree : (node_limit depth_limit p : ℕ) (x y : Config S) (q z : ℕ) → IsTreeAt d bytes node_limit depth_limit p x q → IsTreeAt d bytes node_limit depth_limit p y z → x.tree ≡ y.tree
   one_tree node_limit depth_limit p x y q z h i = levels-injective x.tree y.tree (ap (λ (found : Found (Listing S)). found.value.nodes) (same _ _ (listing_at d bytes node_limit p) i.reads h.reads))
+
+  -- a tree that is read whole and is too deep
+  pub too_deep_is_refused : (node_limit depth_limit p : ℕ) (ns : List (Node Leaf)) (decoder : S) (q : ℕ) (fault : Fault) → listing_at d bytes node_limit p ≡ Ok (record { value = record { nodes = ns; decoder = decoder }; position = q }) →
+      IsTooDeepListing depth_limit ns fault → UnlessMemory fault (IsRefused (listing_at d bytes node_limit p) fault q ⊎ IsTooDeep d bytes node_limit depth_limit p fault q)
+  too_deep_is_refused node_limit depth_limit p ns decoder q fault reads refused =
+      unless_so fault (λ (deep : ListsTooDeep depth_limit ns fault). inr (record { config = config_of deep.tree decoder; reads = rw deep.lists reads; beyond = deep.beyond; refusal = deep.refusal })) refused

@@ -1,30 +1,54 @@
 -- What the steps of reading a tree answer.
-use Rattle.std.specs.Prelude.{◌≡◌, ℕ, ◌<◌, ◌≤◌, ◌^◌, FitsSigned, Some, Result, Ok, Err}
+use Rattle.std.specs.Prelude.{◌≡◌, ℕ, zero, suc, ◌+◌, ◌<◌, ◌≤◌, ◌^◌, FitsSigned, List, [], ◌∷◌, Some, Result, Ok, Err}
 use Rattle.std.specs.Int.{w32}
-use Rattle.jxlm_base.specs.Decoding.{Found}
-use Rattle.jxlm_base.specs.Fault.{Refused, fault_of}
+use Rattle.jxlm_base.specs.Fault.{Refused, UnlessMemory, fault_of}
 use Rattle.jxlm_base.specs.declared.error.Error.{Error}
+use Rattle.jxlm_tree.specs.Tree.{Node, leaf_node, decision_node}
 use Rattle.jxlm_tree.specs.TreeReading as reading
-use Rattle.jxlm_tree.specs.TreeReading.{Drawn, IsOffered}
-use Rattle.jxlm_tree.specs.declared.ma.Draft.{Draft}
+use Rattle.jxlm_tree.specs.TreeReading.{Drawn}
+use Rattle.jxlm_tree.specs.declared.nodes.Draft.{Draft}
+use Rattle.jxlm_tree.specs.declared.nodes.DraftNode.{DraftNode}
+use Rattle.jxlm_tree.specs.declared.nodes.DraftNode.TheVariants as node
 
 -- a leaf without its cluster, as the definitions have it
 abbrev pub draft_of : Draft → reading.Draft
 draft_of x = record { predictor = x.predictor; offset = x.offset; multiplier = x.multiplier }
 
--- what is known of it
+-- the same of a node
+abbrev pub node_of : DraftNode → Node reading.Draft
+node_of (node.Leaf x) = leaf_node (draft_of x)
+node_of (node.Decision property value) = decision_node property value
+
+-- what is known of a leaf that was read
 pub record IsDraft (l : reading.Draft) : Type 0 where
-  pub predictor : IsOffered l.predictor
   pub offset : FitsSigned w32 l.offset
   pub least : 1 ≤ l.multiplier
   pub below : l.multiplier < 2 ^ 31
+
+-- it holds of the node, if that is a leaf
+abbrev pub IsDraftNode : Node reading.Draft → Type 0
+IsDraftNode (leaf_node l) = IsDraft l
+IsDraftNode (decision_node property value) = Unit {0}
+
+-- it holds of each leaf
+abbrev pub AllDrafts : List (Node reading.Draft) → Type 0
+AllDrafts [] = Unit {0}
+AllDrafts (n ∷ ns) = IsDraftNode n × AllDrafts ns
+
+-- these nodes are those of n trees, the rows of all side by side
+abbrev pub ListsTrees : {L : Type 0} → ℕ → List (Node L) → Type 0
+ListsTrees zero [] = Unit {0}
+ListsTrees zero (n ∷ ns) = ⊥
+ListsTrees (suc m) [] = ⊥
+ListsTrees (suc m) (leaf_node l ∷ ns) = ListsTrees m ns
+ListsTrees (suc m) (decision_node property value ∷ ns) = ListsTrees (m + 2) ns
 
 -- what was answered, seen by view, with the decoder's state t and the reader at q, is what reading gives
 abbrev pub DrawnGives : {X Y S : Type 0} → (X → Y) → Result X Error → S → ℕ → Result (Drawn Y S) Refused → Type 0
 DrawnGives view (Ok x) t q reading = reading ≡ Ok (record { value = view x; state = t; position = q })
 DrawnGives view (Err e) t q reading = reading ≡ Err (record { fault = fault_of e; position = Some q })
 
--- the same where the decoder is done
-abbrev pub FoundGives : {X Y : Type 0} → (X → Y) → Result X Error → ℕ → Result (Found Y) Refused → Type 0
-FoundGives view (Ok x) q reading = reading ≡ Ok (record { value = view x; position = q })
-FoundGives view (Err e) q reading = reading ≡ Err (record { fault = fault_of e; position = Some q })
+-- the same where memory may be refused at any time
+abbrev pub DrawnAnswers : {X Y S : Type 0} → (X → Y) → Result X Error → S → ℕ → Result (Drawn Y S) Refused → Type 0
+DrawnAnswers view (Ok x) t q reading = reading ≡ Ok (record { value = view x; state = t; position = q })
+DrawnAnswers view (Err e) t q reading = UnlessMemory (fault_of e) (reading ≡ Err (record { fault = fault_of e; position = Some q }))

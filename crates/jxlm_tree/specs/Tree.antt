@@ -1,5 +1,5 @@
 -- Decision trees (ISO/IEC 18181-1, Modular: meta-adaptive trees). They are told by what stands at their leaves.
-use Rattle.std.specs.Prelude.{ℕ, ◌+◌, max, ℤ, int_lt, if◌then◌else◌, List, [], ◌∷◌, ◌++◌}
+use Rattle.std.specs.Prelude.{◌≡◌, ◌⊎◌, ℕ, ◌+◌, max, ℤ, int_lt, if◌then◌else◌, List, [], ◌∷◌, ◌++◌}
 use Rattle.jxlm_tree.specs.declared.flat.Leaf.{Leaf}
 
 -- a tree: a leaf, or a decision on a property and a value, with the trees to the left and to the right
@@ -18,6 +18,11 @@ module _ {L : Type 0} where
   walk (leaf l) f = l
   walk (decision k value left right) f = if int_lt value (f k) then walk left f else walk right f
 
+  -- how many nodes stand on the way to it, itself among them
+  abbrev pub nodes_on_way : Shape L → (ℕ → ℤ) → ℕ
+  nodes_on_way (leaf l) f = 1
+  nodes_on_way (decision k value left right) f = 1 + (if int_lt value (f k) then nodes_on_way left f else nodes_on_way right f)
+
   -- the greatest number of decisions from the root to a leaf
   abbrev pub depth : Shape L → ℕ
   depth (leaf l) = 0
@@ -27,6 +32,16 @@ module _ {L : Type 0} where
   abbrev pub node_count : Shape L → ℕ
   node_count (leaf l) = 1
   node_count (decision k value left right) = 1 + node_count left + node_count right
+
+  -- what holds of each leaf
+  abbrev pub AllLeaves : (L → Type 0) → Shape L → Type 0
+  AllLeaves P (leaf l) = P l
+  AllLeaves P (decision k value left right) = AllLeaves P left × AllLeaves P right
+
+  -- x stands at a leaf
+  abbrev pub StandsAtLeaf : Shape L → L → Type 0
+  StandsAtLeaf (leaf l) x = x ≡ l
+  StandsAtLeaf (decision k value left right) x = StandsAtLeaf left x ⊎ StandsAtLeaf right x
 
   -- rows of one tree to the left of those of another
   abbrev pub beside : List (List (Node L)) → List (List (Node L)) → List (List (Node L))
@@ -53,6 +68,6 @@ pub record Config (S : Type 0) : Type 0 where
   pub tree : Shape Leaf
   pub decoder : S
 
--- the tree that is one leaf, and its decoder
-abbrev pub one_leaf : {S : Type 0} → Leaf → S → Config S
-one_leaf l s = record { tree = leaf l; decoder = s }
+-- a tree with its decoder
+abbrev pub config_of : {S : Type 0} → Shape Leaf → S → Config S
+config_of t s = record { tree = t; decoder = s }

@@ -1,6 +1,7 @@
 -- A code for trees, by which a proof tells them apart: the nodes from the leaves up, from which the tree is put together again.
 use Rattle.std.proofs.Common.{◌≡◌, ℕ, ℤ, List, [], ◌∷◌, ◌++◌, refl, sym, ap, ◌∙◌, append_assoc, append-nil, get_or, ◌⊎◌, inl, inr}
 use Rattle.std.specs.Coded.{Coded, code_by, coded×, coded⊎, coded_list, coded_ℕ, coded_ℤ}
+use Rattle.jxlm_tree.specs.FlatTree.{FlatTree}
 use Rattle.jxlm_tree.specs.Tree.{Shape, leaf, decision, Node, leaf_node, decision_node, Config}
 use Rattle.jxlm_tree.specs.declared.flat.Leaf.{Leaf}
 use base.Stored.{coded_via}
@@ -52,3 +53,8 @@ module _ {L : Type 0} where
 
 abbrev pub coded_config : {S : Type 0} → Coded Leaf → Coded S → Coded (Config S)
 coded_config {S} c s = code_by (Shape Leaf × S) (coded× (coded_shape c) s) (λ x. (x.tree, x.decoder)) (λ p. record { tree = p.0; decoder = p.1 }) (λ _. refl)
+
+abbrev pub coded_flat : Coded Leaf → Coded FlatTree
+coded_flat c =
+    code_by (Shape Leaf × (ℕ × (ℕ × ℕ))) (coded× (coded_shape c) (coded× coded_ℕ (coded× coded_ℕ coded_ℕ))) (λ t. (t.tree, (t.channel, (t.stream_idx, t.prev_channels))))
+    (λ p. record { tree = p.0; channel = p.1.0; stream_idx = p.1.1.0; prev_channels = p.1.1.1 }) (λ _. refl)

@@ -1,5 +1,5 @@
 -- How a tree is read (ISO/IEC 18181-1, Modular: decoding of meta-adaptive trees), by what a decoder means.
-use Rattle.std.specs.Prelude.{◌≡◌, ℕ, zero, suc, ◌+◌, ◌-◌, ◌*◌, ◌^◌, ◌<◌, ◌≤◌, ◌⊎◌, min, nat_lt, if◌then◌else◌, ℤ, FitsSigned, List, [], ◌∷◌, slice_get, slice_index, Contains, Bool, true, false, IsTrue, Option, None, Some, Result, Ok, Err, codes}
+use Rattle.std.specs.Prelude.{◌≡◌, ℕ, zero, suc, ◌+◌, ◌-◌, ◌*◌, ◌^◌, ◌<◌, ◌≤◌, ◌⊎◌, min, nat_lt, if◌then◌else◌, ℤ, FitsSigned, List, [], ◌∷◌, slice_get, slice_index, Contains, Bool, true, false, Option, None, Some, Result, Ok, Err, codes}
 use Rattle.std.specs.Int.{w32}
 use Rattle.jxlm_base.specs.Decoding.{Found, Taken, Meaning}
 use Rattle.jxlm_base.specs.Fault.{Fault, BadEnum, BadProfile, BadTree, OfDecoder, Refused, fault_of, UnlessMemory, ◌>>=◌}
@@ -11,7 +11,6 @@ use Rattle.jxlm_tree.specs.Predictions.{predictors}
 use Rattle.jxlm_tree.specs.Tree.{Node, Config, leaf_node, decision_node, levels, depth}
 use Rattle.jxlm_tree.specs.declared.flat.Leaf.{Leaf}
 use Rattle.jxlm_tree.specs.declared.predictor.Predictor.{Predictor}
-use Rattle.jxlm_tree.specs.declared.predictor.Predictor.TheVariants.{Zero, West, North, AvgWestAndNorth, Select, Gradient, SelfCorrecting, NorthEast, NorthWest, WestWest, AvgWestAndNorthWest, AvgNorthAndNorthWest, AvgNorthAndNorthEast, AvgAll}
 
 -- refused, with the reader at p
 abbrev pub refused_at : {X : Type 0} → ℕ → Fault → Result X Refused
@@ -78,41 +77,16 @@ is_endless None = false
 is_endless (Some zero) = false
 is_endless (Some (suc k)) = true
 
--- the predictors that are offered: zero, west and the gradient
-abbrev pub is_offered : Predictor → Bool
-is_offered Zero = true
-is_offered West = true
-is_offered North = false
-is_offered AvgWestAndNorth = false
-is_offered Select = false
-is_offered Gradient = true
-is_offered SelfCorrecting = false
-is_offered NorthEast = false
-is_offered NorthWest = false
-is_offered WestWest = false
-is_offered AvgWestAndNorthWest = false
-is_offered AvgNorthAndNorthWest = false
-is_offered AvgNorthAndNorthEast = false
-is_offered AvgAll = false
-
-abbrev pub IsOffered : Predictor → Type 0
-IsOffered predictor = IsTrue (is_offered predictor)
-
--- a predictor that is not offered is refused
-abbrev pub offered : ℕ → Predictor → Result Predictor Refused
-offered p predictor = if is_offered predictor then Ok predictor else refused_at p (BadProfile (codes "predictor not available"))
-
--- no property is offered: a decision is refused behind the number of its property
-abbrev pub offered_property : ℕ → ℕ → Result ℕ Refused
-offered_property p k = refused_at p (BadProfile (codes "property not available"))
-
--- What is known of a leaf that was read: its cluster is one of the decoder's, its predictor is offered, and its numbers lie in these ranges.
+-- What is known of a leaf that was read: its cluster is one of the decoder's, and its numbers lie in these ranges.
 pub record IsLeafOf (clusters : List ℕ) (l : Leaf) : Type 0 where
   pub cluster : Contains clusters l.cluster
-  pub predictor : IsOffered l.predictor
   pub offset : FitsSigned w32 l.offset
   pub least : 1 ≤ l.multiplier
   pub below : l.multiplier < 2 ^ 31
+
+-- there was no memory
+abbrev pub IsWantOfMemory : Fault → Type 0
+IsWantOfMemory fault = UnlessMemory fault ⊥
 
 module _ {S : Type 0} (d : Meaning S) (bytes : List ℕ) where
   -- the read of a context; its fault leaves the reader where it stood
@@ -126,8 +100,7 @@ module _ {S : Type 0} (d : Meaning S) (bytes : List ℕ) where
   unfoldable pub predictor_at : S → ℕ → Result (Drawn Predictor S) Refused
   predictor_at s p = do
     number ← read_context 2 s p
-    named ← predictor_of number.value number.position
-    predictor ← offered number.position named
+    predictor ← predictor_of number.value number.position
     Ok (record { value = predictor; state = number.state; position = number.position })
 
   -- the multiplier of a leaf: (factor + 1) * 2 ^ log, below 2 ^ 31
@@ -162,9 +135,8 @@ module _ {S : Type 0} (d : Meaning S) (bytes : List ℕ) where
         read ← leaf_at s p
         Ok (record { value = leaf_node read.value; state = read.state; position = read.position })
       of_kind (suc k) s p = do
-        property ← offered_property p k
         value ← read_context 0 s p
-        Ok (record { value = decision_node property (unpack value.value); state = value.state; position = value.position })
+        Ok (record { value = decision_node k (unpack value.value); state = value.state; position = value.position })
 
   -- `missing` nodes, and those that they call for; `room` more may be read, and where one is missing then, the tree is refused by `limit`
   unfoldable pub nodes_at : Fault → ℕ → ℕ → S → ℕ → Result (Drawn (List (Node Draft)) S) Refused

@@ -1,6 +1,23 @@
-//! What a leaf of a meta-adaptive tree says.
+//! Trees as the samples of one channel walk them, and what a leaf says.
+
+ghost use Rattle.std.specs.Prelude.{◌≡◌, ◌≤◌, ◌<◌, ◌+◌, ◌^◌, ℕ, ℤ, pos, false, length, min, IfOk};
+ghost use Rattle.std.specs.Int.{w32, int_wrap};
+ghost use Rattle.jxlm_base.specs.Bits.{bytes_of, position_of};
+ghost use Rattle.jxlm_tree.specs.DecodingSamples.{SampleGives};
+ghost use Rattle.jxlm_tree.specs.FlatTree.{AnswersAs, ClustersStandIn, FlatTree, GoesWithoutWeights, HasMultiplier, ReadsEarlierBelow, asked, earlier_named, leaf_reached, needs_weights, residual_of};
+ghost use Rattle.jxlm_tree.specs.Properties.{Surroundings, place_property, property};
+ghost use Rattle.jxlm_tree.specs.Tree.{AllLeaves, StandsAtLeaf, depth, node_count, nodes_on_way, walk};
+ghost use Rattle.jxlm_tree.specs.TreeShape.{shape_of};
 
 use crate::predictor::Predictor;
+pub use crate::steps::Steps;
+use crate::tree::MaTreeNode;
+use jxlm_base::bits::Bitstream;
+use jxlm_base::decoder::Decoder;
+use jxlm_base::error::Result;
+use jxlm_base::sample::Sealed;
+use std::marker::Model;
+use std::rc::Rc;
 
 /// What a leaf of a tree says: how each sample that the tree leads there is decoded.
 ///
@@ -16,4 +33,315 @@ pub struct Leaf {
     pub offset: i32,
     /// By what a token's signed number is multiplied: from 1, below 2^31.
     pub multiplier: u32,
+}
+
+impl Leaf {
+    // The sample that a token stands for, before its prediction, in 32 bits.
+    fn residual(&self, token: u32) -> i32
+        requires { self.now.multiplier < 2 ^ 31 }
+        ensures { result ≡ residual_of self.now token }
+    {
+        i32::unpack_signed_u32(token).wrapping_muladd_i32(self.multiplier as i32, self.offset)
+    }
+}
+
+/// What answers for the properties of a place, from property 2 on.
+pub trait PlaceProperties {
+    // What it owes before it can answer.
+    ghost IsCurrent: { Self → Type 0 };
+
+    // Which numbers it may answer for a property.
+    ghost gives: { Self → ℕ → ℤ → Type 0 };
+
+    /// The property of this number, from 2 on, in 32 bits.
+    fn property(&self, number: usize) -> i32
+        requires { IsCurrent self.now }
+        ensures { gives self.now number result };
+}
+
+/// A tree, with what the samples of one channel of one stream need to walk it.
+///
+/// It shares the tree's nodes. Contracts see it as the tree, the channel's place in its part, the
+/// stream's index, and the number of earlier channels.
+#[derive(Drop)]
+pub struct FlatMaTree {
+    tree: Rc<MaTreeNode>,
+    channel: u32,
+    stream_idx: u32,
+    prev_channels: u32,
+    num_nodes: usize,
+    need_self_correcting: bool,
+    prev_channels_named: u32,
+}
+
+impl Model for FlatMaTree {
+    ghost use Rattle.std.specs.Prelude.{◌≡◌};
+    ghost use Rattle.jxlm_tree.specs.FlatTree.{AnswersAs, ClustersStandIn, FlatTree, HasMultiplier, earlier_named, needs_weights};
+    ghost use Rattle.jxlm_tree.specs.Tree.{AllLeaves, node_count};
+    ghost use Rattle.jxlm_tree.specs.TreeCode.{coded_flat};
+    ghost use Rattle.jxlm_tree.specs.TreeShape.{shape_of};
+    ghost use Rattle.jxlm_tree.specs.contracts.flat.Leaf as leaves;
+
+    ghost Value = { FlatTree };
+
+    ghost coded = { coded_flat leaves.the_row.coded };
+
+    ghost view = { λ t. record { tree = shape_of t.tree.value; channel = t.channel; stream_idx = t.stream_idx; prev_channels = t.prev_channels } };
+
+    ghost invariant = { λ t. AllLeaves HasMultiplier (shape_of t.tree.value) × (t.num_nodes ≡ node_count (shape_of t.tree.value)) × (t.need_self_correcting ≡ needs_weights (shape_of t.tree.value)) × (t.prev_channels_named ≡ earlier_named (shape_of t.tree.value)) };
+}
+
+impl FlatMaTree {
+    // The tree of so many nodes, which needs weights or not and names so many earlier channels.
+    pub(crate) fn new(
+        tree: Rc<MaTreeNode>,
+        num_nodes: usize,
+        need_self_correcting: bool,
+        prev_channels_named: u32,
+        channel: u32,
+        stream_idx: u32,
+        prev_channels: u32,
+    ) -> FlatMaTree
+        requires leaves { AllLeaves HasMultiplier (shape_of tree.value) }
+        requires nodes { num_nodes ≡ node_count (shape_of tree.value) }
+        requires need { need_self_correcting ≡ needs_weights (shape_of tree.value) }
+        requires named { prev_channels_named ≡ earlier_named (shape_of tree.value) }
+        ensures { result ≡ record { tree = shape_of tree.value; channel = channel; stream_idx = stream_idx; prev_channels = prev_channels } }
+    {
+        FlatMaTree {
+            tree,
+            channel,
+            stream_idx,
+            prev_channels,
+            num_nodes,
+            need_self_correcting,
+            prev_channels_named,
+        }
+    }
+
+    /// How many nodes a walk can come to, leaves and decisions together.
+    pub fn num_nodes(&self) -> usize
+        ensures { result ≡ node_count self.now.tree }
+    {
+        self.num_nodes
+    }
+
+    /// Whether the tree asks for the self-correcting predictor: true where property 15 or
+    /// `SelfCorrecting` stands in it.
+    ///
+    /// Where it is false, property 15 does not matter, and no leaf predicts so.
+    pub fn need_self_correcting(&self) -> bool
+        ensures need { result ≡ needs_weights self.now.tree }
+        ensures without { result ≡ false → GoesWithoutWeights self.now }
+    {
+        self.need_self_correcting
+    }
+
+    /// How many of the earlier channels a walk may ask for, the nearest first: those that are there, up
+    /// to the farthest of which a property stands in the tree.
+    pub fn max_prev_channel_depth(&self) -> usize
+        ensures depth { result ≡ min self.now.prev_channels (earlier_named self.now.tree) }
+        ensures below { ReadsEarlierBelow self.now result }
+    {
+        self.prev_channels.min(self.prev_channels_named) as usize
+    }
+
+    /// The leaf to which these properties lead, from the root on: to the left where a decision's
+    /// property is greater than its value.
+    ///
+    /// Property 0 is the channel and 1 the stream, both read as signed numbers of 32 bits; those of
+    /// earlier channels that are not there are 0. Each node that is looked at, the leaf among them, is a
+    /// step: at most as many as the tree's depth and one more.
+    pub fn leaf<P: PlaceProperties>(&self, properties: &P, steps: &mut Steps) -> &Leaf
+        requires { P.IsCurrent properties.now }
+        ensures leaf { (f : ℕ → ℤ) → AnswersAs P.gives properties.now f → result.now ≡ leaf_reached self.now f }
+        ensures stands { StandsAtLeaf self.now.tree result.now }
+        ensures multiplier { HasMultiplier result.now }
+        ensures steps { (f : ℕ → ℤ) → AnswersAs P.gives properties.now f → steps.new ≡ steps.old + nodes_on_way self.now.tree (asked self.now f) }
+        ensures cost { steps.new ≤ steps.old + depth self.now.tree + 1 }
+        ensures more { steps.old ≤ steps.new }
+    {
+        let mut node: &MaTreeNode = &self.tree;
+        loop {
+            steps.tick();
+            match node {
+                MaTreeNode::Leaf(leaf) => return leaf,
+                MaTreeNode::Decision {
+                    property,
+                    value,
+                    left,
+                    right,
+                } => {
+                    let goes_left = self.asked(properties, *property) > *value;
+                    node = if goes_left { left } else { right };
+                }
+            }
+        }
+    }
+
+    // The property of this number, as a decision asks for it.
+    fn asked<P: PlaceProperties>(&self, properties: &P, property: u32) -> i32
+        requires { P.IsCurrent properties.now }
+        ensures { (f : ℕ → ℤ) → AnswersAs P.gives properties.now f → result ≡ asked self.now f property }
+    {
+        match property {
+            0 => read_as_signed(self.channel),
+            1 => read_as_signed(self.stream_idx),
+            _ if u64::from(property) < 16 + 4 * u64::from(self.prev_channels) => {
+                properties.property(property as usize)
+            }
+            _ => 0,
+        }
+    }
+
+    /// Reads the token of the leaf to which these properties lead, from the leaf's cluster and with
+    /// this multiplier of distances: the sample before its prediction, in 32 bits, and how it is
+    /// predicted.
+    ///
+    /// The clusters of the tree's leaves are those of the decoder. An error, which is `Decoder`,
+    /// leaves decoder and reader as they were.
+    pub fn decode_sample<D: Decoder, P: PlaceProperties>(
+        &self,
+        bits: &mut Bitstream<'_>,
+        decoder: &mut D,
+        properties: &P,
+        dist_multiplier: u32,
+    ) -> Result<(i32, Predictor)>
+        requires clusters { ClustersStandIn (D.meaning.cluster_map decoder.old) self.now.tree }
+        requires current { P.IsCurrent properties.now }
+        ensures gives { (f : ℕ → ℤ) → AnswersAs P.gives properties.now f → SampleGives (leaf_reached self.now f) result decoder.old decoder.new (position_of bits.old) (position_of bits.new) (D.meaning.read decoder.old (bytes_of bits.old) (position_of bits.old) (leaf_reached self.now f).cluster dist_multiplier) }
+        ensures clusters { IfOk result (λ _. D.meaning.cluster_map decoder.new ≡ D.meaning.cluster_map decoder.old) }
+        ensures bytes { bytes_of bits.new ≡ bytes_of bits.old }
+    {
+        let leaf = self.leaf(properties, &mut Steps::new());
+        let token = decoder.read_varint_with_multiplier_clustered(
+            bits,
+            leaf.cluster,
+            dist_multiplier,
+        )?;
+        Ok((leaf.residual(token), leaf.predictor))
+    }
+}
+
+#[tactic(auto, using(std::proofs::lemmas::Int::wraps))]
+fn read_as_signed(number: u32) -> i32
+    ensures { result ≡ int_wrap w32 (pos number) }
+{
+    number.cast_signed()
+}
+
+/// The walk of a flat tree is that of the whole tree by the properties of the place, where the
+/// earlier channels are not more than those that it may ask for.
+pub fn a_flat_tree_walks_by_properties()
+    ensures { (t : FlatTree) (s : Surroundings) → length s.earlier ≤ t.prev_channels → leaf_reached t (place_property s) ≡ walk t.tree (property t.channel t.stream_idx s) }
+{}
+
+#[cfg(test)]
+mod tests {
+    use super::*;
+    use crate::ma::{MaConfig, MaConfigParams};
+    use jxlm_base::plain::PlainDecoder;
+    use std::test::Fail;
+
+    // Property 3 above 5: left, property 17, of the nearest earlier channel, above -2 (Zero, else SelfCorrecting); right, property 1
+    // above 0 (AvgNorthAndNorthEast, else AvgAll). Behind the tree stand the tokens 5, 201 and 3.
+    const SEVEN_NODES: [u8; 32] = [
+        0x14, 0x84, 0x0c, 0x15, 0x43, 0x81, 0x60, 0x10, 0x0c, 0x44, 0x91, 0x83, 0x00, 0x00, 0x38,
+        0x09, 0x58, 0x01, 0x00, 0x03, 0x03, 0xf4, 0x09, 0x11, 0x81, 0x08, 0xc8, 0xc1, 0x86, 0x26,
+        0x0f, 0x00,
+    ];
+
+    const LIMITS: MaConfigParams = MaConfigParams {
+        node_limit: 6,
+        depth_limit: 2,
+    };
+
+    // Properties 3 and 17; all others are 99.
+    #[derive(Clone, Copy)]
+    struct Two(i32, i32);
+
+    impl PlaceProperties for Two {
+        ghost use Rattle.std.specs.Prelude.{ℕ, ◌≡◌, ◌==◌, pos, if◌then◌else◌};
+
+        ghost IsCurrent = { λ _. Unit {0} };
+
+        ghost gives = { λ p k v. v ≡ (if k == 3 then p.0 else if k == 17 then p.1 else pos 99) };
+
+        fn property(&self, number: usize) -> i32 {
+            match number {
+                3 => self.0,
+                17 => self.1,
+                _ => 99,
+            }
+        }
+    }
+
+    type Fields = (u8, Predictor, i32, u32);
+
+    fn fields(leaf: &Leaf) -> Fields {
+        (leaf.cluster, leaf.predictor, leaf.offset, leaf.multiplier)
+    }
+
+    #[test]
+    fn walks(rt: HostRuntime) -> std::result::Result<(), Fail> {
+        let mut bits = Bitstream::new(&SEVEN_NODES);
+        let config: MaConfig<PlainDecoder> = MaConfig::parse(rt.alloc(), &mut bits, LIMITS)?;
+        let zero = (2, Predictor::Zero, 7, 6);
+        let corrected = (0, Predictor::SelfCorrecting, -3, 1);
+        let north = (1, Predictor::AvgNorthAndNorthEast, 0, 8);
+        let all = (1, Predictor::AvgAll, -20, 5);
+        let cases = [
+            (0, 0, 1, Two(6, -1), zero),
+            (0, 0, 1, Two(6, -2), corrected),
+            (0, 0, 1, Two(6, -3), corrected),
+            (0, 0, 0, Two(6, -3), zero),
+            (0, 0, 1, Two(5, 0), all),
+            (0, 1, 1, Two(5, 0), north),
+            (9, 1 << 31, 1, Two(-7, 0), all),
+        ];
+        let mut steps = Steps::new();
+        for (channel, stream_idx, prev_channels, place, leaf) in cases {
+            let flat = config.make_flat_tree(channel, stream_idx, prev_channels)?;
+            assert_eq!(rt; fields(flat.leaf(&place, &mut steps)), leaf);
+            assert_eq!(rt; flat.num_nodes(), 7);
+            assert!(rt; flat.need_self_correcting());
+            assert_eq!(rt; flat.max_prev_channel_depth(), prev_channels as usize);
+            let later = config.make_flat_tree(channel, stream_idx, prev_channels + 1)?;
+            assert_eq!(rt; later.max_prev_channel_depth(), 1);
+        }
+        Ok(())
+    }
+
+    #[test]
+    fn samples(rt: HostRuntime) -> std::result::Result<(), Fail> {
+        let mut bits = Bitstream::new(&SEVEN_NODES);
+        let config: MaConfig<PlainDecoder> = MaConfig::parse(rt.alloc(), &mut bits, LIMITS)?;
+        let mut decoder = config.decoder().try_clone(rt.alloc())?;
+        decoder.begin(&mut bits)?;
+        let flat = config.make_flat_tree(0, 0, 1)?;
+        let first = flat.decode_sample(&mut bits, &mut decoder, &Two(6, -1), 0)?;
+        assert_eq!(rt; (first, bits.position()), ((-11, Predictor::Zero), 234));
+        let second = flat.decode_sample(&mut bits, &mut decoder, &Two(6, -2), 0)?;
+        assert_eq!(rt;
+            (second, bits.position()),
+            ((-104, Predictor::SelfCorrecting), 242)
+        );
+        let next = config.make_flat_tree(0, 1, 1)?;
+        let third = next.decode_sample(&mut bits, &mut decoder, &Two(5, 0), 0)?;
+        assert_eq!(rt;
+            (third, bits.position()),
+            ((24, Predictor::AvgNorthAndNorthEast), 242)
+        );
+        let last = flat.decode_sample(&mut bits, &mut decoder, &Two(6, -2), 0)?;
+        assert_eq!(rt;
+            (last, bits.position()),
+            ((-5, Predictor::SelfCorrecting), 250)
+        );
+        Ok(())
+    }
+
+    #[test]
+    fn laws() {
+        a_flat_tree_walks_by_properties();
+    }
 }

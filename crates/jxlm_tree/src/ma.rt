@@ -1,22 +1,27 @@
 //! Meta-adaptive trees: how a tree is read, and what it is kept with.
 
-ghost use Rattle.std.specs.Prelude.{◌≡◌, ◌≤◌, ◌<◌, ◌^◌, ℕ, List, [], ◌∷◌, length, slice_index, IfOk};
+ghost use Rattle.std.specs.Prelude.{◌≡◌, ◌≤◌, ◌^◌, ℕ, List, length, map, IfOk, IfErr};
 ghost use Rattle.jxlm_base.specs.Bits.{bytes_of, position_of};
 ghost use Rattle.jxlm_base.specs.Decoding.{Found};
+ghost use Rattle.jxlm_base.specs.Fault.{fault_of};
 ghost use Rattle.jxlm_base.specs.Grammar.{Answers};
-ghost use Rattle.jxlm_tree.specs.DraftReading.{DrawnGives, FoundGives, IsDraft, draft_of};
-ghost use Rattle.jxlm_tree.specs.Tree.{Shape, levels, node_count, depth, leaf, leaf_node};
-ghost use Rattle.jxlm_tree.specs.TreeReading.{IsLeafOf, IsOffered, Listing, TreeGives, drafts_at, is_endless as has_no_end, leaf_at, listing_at, multiplier_at, node_at, predictor_at, read_context as token_of, through};
+ghost use Rattle.jxlm_tree.specs.DraftReading.{ListsTrees, node_of};
+ghost use Rattle.jxlm_tree.specs.FlatTree.{ClustersStandIn};
+ghost use Rattle.jxlm_tree.specs.Tree.{AllLeaves, Shape, levels, node_count, depth};
+ghost use Rattle.jxlm_tree.specs.TreeReading.{IsLeafOf, IsWantOfMemory, Listing, TreeGives, leaf_count, listing_at, through};
 ghost use Rattle.jxlm_tree.specs.declared.flat.Leaf.{Leaf};
 
-use crate::flat::Leaf;
-use crate::predictor::Predictor;
-use jxlm_base::bits::{Bitstream, BitstreamError};
+use crate::build::build;
+use crate::flat::FlatMaTree;
+use crate::nodes::{DraftNode, read_tree};
+use crate::tree::MaTreeNode;
+use jxlm_base::bits::Bitstream;
 use jxlm_base::decoder::Decoder;
-use jxlm_base::error::{Error, Result};
-use jxlm_base::sample::Sealed;
+use jxlm_base::error::Result;
+use jxlm_base::grid::OutOfMemory;
 use std::alloc::Global;
 use std::marker::Model;
+use std::rc::Rc;
 
 /// How large a tree may be.
 #[derive(Clone, Copy)]
@@ -32,36 +37,42 @@ pub struct MaConfigParams {
 /// Contracts see it as the tree and the decoder.
 #[derive(Drop)]
 pub struct MaConfig<D: Decoder> {
-    leaf: Leaf,
+    tree: Rc<MaTreeNode>,
     decoder: D,
     num_tree_nodes: usize,
     tree_depth: usize,
+    need_self_correcting: bool,
+    prev_channels_named: u32,
 }
 
 impl<D: Decoder> Model for MaConfig<D> {
-    ghost use Rattle.std.specs.Prelude.{◌≡◌};
-    ghost use Rattle.jxlm_tree.specs.Tree.{Config, one_leaf};
+    ghost use Rattle.std.specs.Prelude.{◌≡◌, ◌≤◌, ◌^◌};
+    ghost use Rattle.jxlm_tree.specs.FlatTree.{earlier_named, needs_weights};
+    ghost use Rattle.jxlm_tree.specs.Tree.{AllLeaves, Config, config_of, depth, node_count};
     ghost use Rattle.jxlm_tree.specs.TreeReading.{IsLeafOf};
     ghost use Rattle.jxlm_tree.specs.TreeCode.{coded_config};
+    ghost use Rattle.jxlm_tree.specs.TreeShape.{shape_of};
     ghost use Rattle.jxlm_tree.specs.contracts.flat.Leaf as leaves;
 
     ghost Value = { Config D };
 
     ghost coded = { coded_config leaves.the_row.coded D.code };
 
-    ghost view = { λ c. one_leaf c.leaf c.decoder };
+    ghost view = { λ c. config_of (shape_of c.tree.value) c.decoder };
 
-    ghost invariant = { λ c. IsLeafOf (D.meaning.cluster_map c.decoder) c.leaf × (c.num_tree_nodes ≡ 1) × (c.tree_depth ≡ 0) };
+    ghost invariant = { λ c. AllLeaves (IsLeafOf (D.meaning.cluster_map c.decoder)) (shape_of c.tree.value) × (c.num_tree_nodes ≡ node_count (shape_of c.tree.value)) × (c.tree_depth ≡ depth (shape_of c.tree.value)) × (c.num_tree_nodes ≤ 2 ^ 26) × (c.tree_depth ≤ 2048) × (c.need_self_correcting ≡ needs_weights (shape_of c.tree.value)) × (c.prev_channels_named ≡ earlier_named (shape_of c.tree.value)) };
 }
 
 impl<D: Decoder> MaConfig<D> {
     /// The tree that stands at the reader's place, with the decoder of its leaves.
     ///
     /// A tree is refused with the first check that fails: by `Decoder` where a decoder refuses,
-    /// by `InvalidMaTree` where it would have no end or a multiplier of 2^31 and more, by
-    /// `InvalidEnum` at a predictor that is none, and by `ProfileConformance` at a decision or at
-    /// a predictor that is not offered. The reader then stands behind the last token that was
-    /// read; inside a decoder's own `parse` its place is the decoder's matter.
+    /// by `InvalidMaTree` where it would have no end, more than 2^26 nodes, or a multiplier of 2^31
+    /// and more, by `InvalidEnum` at a predictor that is none, and by `ProfileConformance` where it
+    /// has more than `node_limit + 1` nodes or, once its leaves' decoder is read, is deeper than
+    /// `depth_limit`. The reader then stands behind the last token that was read; inside a
+    /// decoder's own `parse` its place is the decoder's matter. Want of memory is `Buffer`, or
+    /// `OutOfMemory` of a decoder; no tree deeper than the limit is ever held.
     #[tactic(auto, unfolding(crate::specs::TreeReading::listing_at))]
     pub fn parse(alloc: Global, bits: &mut Bitstream<'_>, params: MaConfigParams) -> Result<Self>
         requires nodes { params.node_limit ≤ 2 ^ 26 }
@@ -69,63 +80,95 @@ impl<D: Decoder> MaConfig<D> {
         ensures gives { TreeGives D.meaning (bytes_of bits.old) params.node_limit params.depth_limit (position_of bits.old) result (position_of bits.new) }
         ensures bytes { bytes_of bits.new ≡ bytes_of bits.old }
     {
-        let mut nodes: D = parse_decoder(alloc, bits, 6)?;
-        let draft = read_tree(&mut nodes, bits)?;
-        let decoder: D = parse_decoder(alloc, bits, 1)?;
-        let cluster = decoder.cluster_map()[0];
-        let leaf = Leaf {
-            cluster,
-            predictor: draft.predictor,
-            offset: draft.offset,
-            multiplier: draft.multiplier,
-        };
+        let mut first: D = parse_decoder(alloc, bits, 6)?;
+        let nodes = read_tree(alloc, &mut first, bits, params.node_limit)?;
+        let num_tree_nodes = nodes.len();
+        let decoder: D = parse_decoder(alloc, bits, count_leaves(&nodes))?;
+        let root = build(alloc, nodes, decoder.cluster_map(), params.depth_limit)?;
+        let tree_depth = root.depth;
+        let need_self_correcting = root.tree.needs_self_correcting();
+        let prev_channels_named = root.tree.earlier_named();
+        let tree = Rc::new(alloc, root.tree).map_err(|_| OutOfMemory)?;
         Ok(MaConfig {
-            leaf,
+            tree,
             decoder,
-            num_tree_nodes: 1,
-            tree_depth: 0,
+            num_tree_nodes,
+            tree_depth,
+            need_self_correcting,
+            prev_channels_named,
         })
+    }
+
+    /// The same tree, shared, with a decoder of its own in the same state.
+    ///
+    /// Refused for memory alone.
+    pub fn try_clone(&self, alloc: Global) -> Result<Self>
+        ensures ok { IfOk result (λ c. c ≡ self.now) }
+        ensures err { IfErr result (λ e. IsWantOfMemory (fault_of e)) }
+    {
+        let decoder = self.decoder.try_clone(alloc)?;
+        let tree = self.tree.clone().map_err(|_| OutOfMemory)?;
+        Ok(MaConfig {
+            tree,
+            decoder,
+            num_tree_nodes: self.num_tree_nodes,
+            tree_depth: self.tree_depth,
+            need_self_correcting: self.need_self_correcting,
+            prev_channels_named: self.prev_channels_named,
+        })
+    }
+
+    /// The tree as the samples of one channel walk it: `channel` is its place in its part,
+    /// `stream_idx` the index of the stream, and `prev_channels` how many earlier channels are there
+    /// to be asked for.
+    ///
+    /// The nodes are shared. Refused for memory alone.
+    pub fn make_flat_tree(
+        &self,
+        channel: u32,
+        stream_idx: u32,
+        prev_channels: u32,
+    ) -> Result<FlatMaTree>
+        ensures tree { IfOk result (λ t. t ≡ record { tree = self.now.tree; channel = channel; stream_idx = stream_idx; prev_channels = prev_channels }) }
+        ensures leaves { IfOk result (λ t. AllLeaves (IsLeafOf (D.meaning.cluster_map self.now.decoder)) t.tree) }
+        ensures clusters { IfOk result (λ t. ClustersStandIn (D.meaning.cluster_map self.now.decoder) t.tree) }
+        ensures err { IfErr result (λ e. IsWantOfMemory (fault_of e)) }
+    {
+        let tree = self.tree.clone().map_err(|_| OutOfMemory)?;
+        Ok(FlatMaTree::new(
+            tree,
+            self.num_tree_nodes,
+            self.need_self_correcting,
+            self.prev_channels_named,
+            channel,
+            stream_idx,
+            prev_channels,
+        ))
     }
 
     /// The decoder of the leaves' clusters.
     pub fn decoder(&self) -> &D
-        ensures { result.now ≡ self.now.decoder }
+        ensures decoder { result.now ≡ self.now.decoder }
+        ensures clusters { ClustersStandIn (D.meaning.cluster_map result.now) self.now.tree }
     {
         &self.decoder
     }
 
-    /// How many nodes the tree has, leaves and decisions together.
+    /// How many nodes the tree has, leaves and decisions together: at most 2^26.
     pub fn num_tree_nodes(&self) -> usize
-        ensures { result ≡ node_count self.now.tree }
+        ensures nodes { result ≡ node_count self.now.tree }
+        ensures most { result ≤ 2 ^ 26 }
     {
         self.num_tree_nodes
     }
 
-    /// The greatest number of decisions from the root to a leaf.
+    /// The greatest number of decisions from the root to a leaf: at most 2048.
     pub fn tree_depth(&self) -> usize
-        ensures { result ≡ depth self.now.tree }
+        ensures depth { result ≡ depth self.now.tree }
+        ensures most { result ≤ 2048 }
     {
         self.tree_depth
     }
-
-    /// The leaf that is the whole tree.
-    ///
-    /// Its cluster is one of the decoder's, its predictor is `Zero`, `West` or `Gradient`, and its
-    /// multiplier lies from 1 to 2^31 - 1.
-    pub fn leaf(&self) -> &Leaf
-        ensures tree { self.now.tree ≡ leaf result.now }
-        ensures within { IsLeafOf (D.meaning.cluster_map self.now.decoder) result.now }
-    {
-        &self.leaf
-    }
-}
-
-// A leaf without its cluster, which comes from the leaves' decoder.
-#[derive(Clone, Copy)]
-struct Draft {
-    predictor: Predictor,
-    offset: i32,
-    multiplier: u32,
 }
 
 fn parse_decoder<D: Decoder>(alloc: Global, bits: &mut Bitstream<'_>, contexts: u32) -> Result<D>
@@ -137,109 +180,13 @@ fn parse_decoder<D: Decoder>(alloc: Global, bits: &mut Bitstream<'_>, contexts: 
     Ok(decoder)
 }
 
-fn is_endless<D: Decoder>(decoder: &D) -> bool
-    requires { length (D.meaning.cluster_map decoder.now) ≡ 6 }
-    ensures { result ≡ has_no_end (D.meaning.single_token decoder.now (slice_index (D.meaning.cluster_map decoder.now) 1)) }
+// There is one leaf more than there are decisions.
+fn count_leaves(nodes: &[DraftNode]) -> u32
+    requires listing { ListsTrees 1 (map node_of nodes.now) }
+    requires count { length nodes.now ≤ 2 ^ 26 }
+    ensures { result ≡ leaf_count (map node_of nodes.now) }
 {
-    let cluster = decoder.cluster_map()[1];
-    match decoder.single_token(cluster) {
-        None | Some(0) => false,
-        Some(_) => true,
-    }
-}
-
-#[tactic(auto, unfolding(crate::specs::TreeReading::drafts_at))]
-fn read_tree<D: Decoder>(decoder: &mut D, bits: &mut Bitstream<'_>) -> Result<Draft>
-    requires { length (D.meaning.cluster_map decoder.old) ≡ 6 }
-    ensures gives { (node_limit : ℕ) → FoundGives (λ x. leaf_node (draft_of x) ∷ []) result (position_of bits.new) (drafts_at D.meaning (bytes_of bits.old) node_limit decoder.old (position_of bits.old)) }
-    ensures within { IfOk result (λ x. IsDraft (draft_of x)) }
-    ensures bytes { bytes_of bits.new ≡ bytes_of bits.old }
-{
-    if is_endless(decoder) {
-        return Err(Error::InvalidMaTree);
-    }
-    decoder.begin(bits)?;
-    let draft = read_node(decoder, bits)?;
-    decoder.finalize()?;
-    Ok(draft)
-}
-
-#[tactic(auto, unfolding(crate::specs::TreeReading::node_at))]
-fn read_node<D: Decoder>(decoder: &mut D, bits: &mut Bitstream<'_>) -> Result<Draft>
-    requires { length (D.meaning.cluster_map decoder.old) ≡ 6 }
-    ensures gives { DrawnGives (λ x. leaf_node (draft_of x)) result decoder.new (position_of bits.new) (node_at D.meaning (bytes_of bits.old) decoder.old (position_of bits.old)) }
-    ensures within { IfOk result (λ x. IsDraft (draft_of x)) }
-    ensures bytes { bytes_of bits.new ≡ bytes_of bits.old }
-{
-    if read_context(decoder, bits, 1)? != 0 {
-        let refusal = BitstreamError::ProfileConformance("property not available");
-        return Err(Error::Bitstream(refusal));
-    }
-    read_leaf(decoder, bits)
-}
-
-#[tactic(auto, unfolding(crate::specs::TreeReading::leaf_at))]
-fn read_leaf<D: Decoder>(decoder: &mut D, bits: &mut Bitstream<'_>) -> Result<Draft>
-    requires { length (D.meaning.cluster_map decoder.old) ≡ 6 }
-    ensures gives { DrawnGives draft_of result decoder.new (position_of bits.new) (leaf_at D.meaning (bytes_of bits.old) decoder.old (position_of bits.old)) }
-    ensures within { IfOk result (λ x. IsDraft (draft_of x)) }
-    ensures bytes { bytes_of bits.new ≡ bytes_of bits.old }
-{
-    let predictor = read_predictor(decoder, bits)?;
-    let offset = i32::unpack_signed_u32(read_context(decoder, bits, 3)?);
-    let multiplier = read_multiplier(decoder, bits)?;
-    Ok(Draft {
-        predictor,
-        offset,
-        multiplier,
-    })
-}
-
-#[tactic(auto, unfolding(crate::specs::TreeReading::predictor_at))]
-fn read_predictor<D: Decoder>(decoder: &mut D, bits: &mut Bitstream<'_>) -> Result<Predictor>
-    requires { length (D.meaning.cluster_map decoder.old) ≡ 6 }
-    ensures gives { DrawnGives (λ x. x) result decoder.new (position_of bits.new) (predictor_at D.meaning (bytes_of bits.old) decoder.old (position_of bits.old)) }
-    ensures offered { IfOk result (λ x. IsOffered x) }
-    ensures clusters { IfOk result (λ _. D.meaning.cluster_map decoder.new ≡ D.meaning.cluster_map decoder.old) }
-    ensures bytes { bytes_of bits.new ≡ bytes_of bits.old }
-{
-    let number = read_context(decoder, bits, 2)?;
-    let predictor = Predictor::try_from(number)?;
-    match predictor {
-        Predictor::Zero | Predictor::West | Predictor::Gradient => Ok(predictor),
-        _ => {
-            let refusal = BitstreamError::ProfileConformance("predictor not available");
-            Err(Error::Bitstream(refusal))
-        }
-    }
-}
-
-#[tactic(auto, unfolding(crate::specs::TreeReading::multiplier_at))]
-fn read_multiplier<D: Decoder>(decoder: &mut D, bits: &mut Bitstream<'_>) -> Result<u32>
-    requires { length (D.meaning.cluster_map decoder.old) ≡ 6 }
-    ensures gives { DrawnGives (λ x. x) result decoder.new (position_of bits.new) (multiplier_at D.meaning (bytes_of bits.old) decoder.old (position_of bits.old)) }
-    ensures range { IfOk result (λ x. (1 ≤ x) × (x < 2 ^ 31)) }
-    ensures bytes { bytes_of bits.new ≡ bytes_of bits.old }
-{
-    let log = read_context(decoder, bits, 4)?;
-    if log > 30 {
-        return Err(Error::InvalidMaTree);
-    }
-    let factor = read_context(decoder, bits, 5)?;
-    if factor > (1 << (31 - log)) - 2 {
-        return Err(Error::InvalidMaTree);
-    }
-    Ok((factor + 1) << log)
-}
-
-fn read_context<D: Decoder>(decoder: &mut D, bits: &mut Bitstream<'_>, context: u32) -> Result<u32>
-    requires { context < length (D.meaning.cluster_map decoder.old) }
-    ensures gives { DrawnGives (λ x. x) result decoder.new (position_of bits.new) (token_of D.meaning (bytes_of bits.old) context decoder.old (position_of bits.old)) }
-    ensures clusters { IfOk result (λ _. D.meaning.cluster_map decoder.new ≡ D.meaning.cluster_map decoder.old) }
-    ensures bytes { bytes_of bits.new ≡ bytes_of bits.old }
-{
-    let token = decoder.read_varint(bits, context)?;
-    Ok(token)
+    nodes.len() as u32 / 2 + 1
 }
 
 /// What is read as the nodes of a tree is the listing of a tree.
@@ -255,7 +202,11 @@ pub fn no_two_trees_share_a_listing()
 #[cfg(test)]
 mod tests {
     use super::*;
+    use crate::flat::{PlaceProperties, Steps};
+    use crate::predictor::Predictor;
+    use jxlm_base::bits::BitstreamError;
     use jxlm_base::decoder::DecoderError;
+    use jxlm_base::error::Error;
     use jxlm_base::plain::PlainDecoder;
     use std::test::Fail;
 
@@ -269,9 +220,13 @@ mod tests {
     // The fields of the leaf that stands at the reader's place, and the place behind the tree.
     fn leaf_at(rt: &HostRuntime, bits: &mut Bitstream<'_>) -> Result<(Fields, u64)> {
         let config: MaConfig<PlainDecoder> = MaConfig::parse(rt.alloc(), bits, SMALLEST)?;
-        let leaf = config.leaf();
-        let fields = (leaf.cluster, leaf.predictor, leaf.offset, leaf.multiplier);
-        Ok((fields, bits.position()))
+        match &*config.tree {
+            MaTreeNode::Leaf(leaf) => {
+                let fields = (leaf.cluster, leaf.predictor, leaf.offset, leaf.multiplier);
+                Ok((fields, bits.position()))
+            }
+            MaTreeNode::Decision { .. } => Err(Error::InvalidMaTree),
+        }
     }
 
     // How the tree at the start of the bytes is refused, and where the reader stands then.
@@ -309,13 +264,8 @@ mod tests {
     fn a_leaf_and_its_decoder(rt: HostRuntime) -> std::result::Result<(), Fail> {
         let mut bits = Bitstream::new(&WEST);
         let config: MaConfig<PlainDecoder> = MaConfig::parse(rt.alloc(), &mut bits, SMALLEST)?;
-        let leaf = Leaf {
-            cluster: 1,
-            predictor: Predictor::West,
-            offset: i32::MIN,
-            multiplier: 40,
-        };
-        assert!(rt; *config.leaf() == leaf);
+        let fields = (1, Predictor::West, i32::MIN, 40);
+        assert_eq!(rt; leaf_at(&rt, &mut Bitstream::new(&WEST))?.0, fields);
         assert_eq!(rt; bits.position(), 143);
         assert_eq!(rt; config.decoder().cluster_map(), [1].as_slice());
         assert_eq!(rt; config.num_tree_nodes(), 1);
@@ -373,29 +323,161 @@ mod tests {
     }
 
     #[test]
-    fn what_is_not_offered(rt: HostRuntime) {
-        let decision = [
-            0x14, 0x84, 0x0c, 0x15, 0x02, 0x81, 0x40, 0x28, 0x7c, 0x01, 0x80, 0x01,
+    fn no_such_predictor(rt: HostRuntime) {
+        let bytes = [
+            0x14, 0x84, 0x0c, 0x15, 0x42, 0x80, 0x40, 0x28, 0x08, 0x1c, 0x00, 0x03,
         ];
-        let refused = Error::Bitstream(BitstreamError::ProfileConformance(
-            "property not available",
-        ));
-        assert_eq!(rt; refusal(&rt, &decision), (Some(refused), 76));
-
-        let mut predictor = [
-            0x14, 0x84, 0x0c, 0x15, 0x42, 0x80, 0x40, 0x28, 0x08, 0x04, 0x00, 0x03,
-        ];
-        let refused = Error::Bitstream(BitstreamError::ProfileConformance(
-            "predictor not available",
-        ));
-        assert_eq!(rt; refusal(&rt, &predictor), (Some(refused), 77));
-
-        predictor[9] = 0x1c;
         let refused = Error::Bitstream(BitstreamError::InvalidEnum {
             name: "MaProperty",
             value: 14,
         });
-        assert_eq!(rt; refusal(&rt, &predictor), (Some(refused), 77));
+        assert_eq!(rt; refusal(&rt, &bytes), (Some(refused), 77));
+    }
+
+    // Nodes, depth and the place behind the tree that stands behind so many bits, or how it is
+    // refused and where.
+    fn measures(
+        rt: &HostRuntime,
+        bytes: &[u8],
+        start: u32,
+        params: MaConfigParams,
+    ) -> (Option<Error>, usize, usize, u64)
+        requires start { start ≤ 32 }
+        requires nodes { params.node_limit ≤ 2 ^ 26 }
+        requires depth { params.depth_limit ≤ 2048 }
+    {
+        let mut bits = Bitstream::new(bytes);
+        let _ = bits.read_bits(start);
+        let parsed: Result<MaConfig<PlainDecoder>> = MaConfig::parse(rt.alloc(), &mut bits, params);
+        match parsed {
+            Ok(config) => (
+                None,
+                config.num_tree_nodes(),
+                config.tree_depth(),
+                bits.position(),
+            ),
+            Err(e) => (Some(e), 0, 0, bits.position()),
+        }
+    }
+
+    fn limits(node_limit: usize, depth_limit: usize) -> MaConfigParams
+        ensures nodes { result.node_limit ≡ node_limit }
+        ensures depth { result.depth_limit ≡ depth_limit }
+    {
+        MaConfigParams {
+            node_limit,
+            depth_limit,
+        }
+    }
+
+    const TOO_MANY: Error = Error::Bitstream(BitstreamError::ProfileConformance(
+        "MA tree limit exceeded",
+    ));
+
+    const TOO_DEEP: Error = Error::Bitstream(BitstreamError::ProfileConformance(
+        "decoded MA tree is too deep",
+    ));
+
+    // Behind the four bits of a header: property 3 above 0 is West in cluster 0, else Zero in 1.
+    const TWO_LEAVES: [u8; 13] = [
+        0x82, 0x40, 0x08, 0x00, 0x04, 0x0c, 0x02, 0x22, 0x10, 0x10, 0x86, 0x83, 0x15,
+    ];
+
+    // Three nodes are one more than a limit of two, and two more than a limit of one. The limit of
+    // nodes comes before the third node, the limit of depth behind the leaves' decoder.
+    #[test]
+    fn limits_of_nodes_and_depth(rt: HostRuntime) {
+        let read = |nodes, depth| measures(&rt, &TWO_LEAVES, 4, limits(nodes, depth));
+        assert_eq!(rt; read(2, 1), (None, 3, 1, 97));
+        assert_eq!(rt; read(1 << 26, 2048), (None, 3, 1, 97));
+        assert_eq!(rt; read(1, 1), (Some(TOO_MANY), 0, 0, 62));
+        assert_eq!(rt; read(0, 1), (Some(TOO_MANY), 0, 0, 58));
+        assert_eq!(rt; read(2, 0), (Some(TOO_DEEP), 0, 0, 97));
+        let cut = measures(&rt, &TWO_LEAVES[..8], 4, limits(2, 0));
+        let end = Error::Decoder(DecoderError::UnexpectedEof);
+        assert_eq!(rt; (cut.0, cut.3), (Some(end), 62));
+    }
+
+    fn set(bytes: &mut [u8; 1546], place: usize) {
+        if let Some(byte) = bytes.get_mut(place / 8) {
+            *byte |= 1 << (place % 8) as u32;
+        }
+    }
+
+    // So many decisions on property 0, each the right child of the one before. A node is one bit,
+    // and all else is constant; the last leaf has a cluster of its own.
+    fn chain(depth: u16) -> [u8; 1546] {
+        let depth = usize::from(depth);
+        let mut bytes = [0; 1546];
+        for place in [2, 10, 30, 38] {
+            set(&mut bytes, place);
+        }
+        for i in 0..depth {
+            set(&mut bytes, 44 + 2 * i);
+        }
+        for place in [
+            47 + 2 * depth,
+            51 + 6 * depth,
+            55 + 6 * depth,
+            62 + 6 * depth,
+        ] {
+            set(&mut bytes, place);
+        }
+        bytes
+    }
+
+    #[test]
+    fn the_deepest_tree(rt: HostRuntime) {
+        let most = limits(1 << 26, 2048);
+        let deepest = chain(2048);
+        assert_eq!(rt; measures(&rt, &deepest, 0, most), (None, 4097, 2048, 12357));
+        let deeper = chain(2049);
+        assert_eq!(rt;
+            measures(&rt, &deeper, 0, most),
+            (Some(TOO_DEEP), 0, 0, 12363)
+        );
+        assert_eq!(rt;
+            measures(&rt, &deeper, 0, limits(4097, 2048)).0,
+            Some(TOO_MANY)
+        );
+        assert_eq!(rt;
+            measures(&rt, &deeper, 0, limits(4098, 2048)).0,
+            Some(TOO_DEEP)
+        );
+    }
+
+    #[derive(Clone, Copy)]
+    struct Nothing;
+
+    impl PlaceProperties for Nothing {
+        ghost use Rattle.std.specs.Prelude.{◌≡◌, pos};
+
+        ghost IsCurrent = { λ _. Unit {0} };
+
+        ghost gives = { λ _ k v. v ≡ pos 0 };
+
+        fn property(&self, _number: usize) -> i32 {
+            0
+        }
+    }
+
+    // The whole chain is walked, and dropped with what shares it.
+    #[test]
+    fn a_walk_through_the_deepest_tree(rt: HostRuntime) -> std::result::Result<(), Fail> {
+        let bytes = chain(2048);
+        let mut bits = Bitstream::new(&bytes);
+        let most = limits(1 << 26, 2048);
+        let config: MaConfig<PlainDecoder> = MaConfig::parse(rt.alloc(), &mut bits, most)?;
+        let copy = config.try_clone(rt.alloc())?;
+        let last = config.make_flat_tree(0, 7, 3)?;
+        let first = copy.make_flat_tree(1, 7, 0)?;
+        drop(config);
+        let mut steps = Steps::new();
+        assert_eq!(rt; last.leaf(&Nothing, &mut steps).cluster, 1);
+        assert_eq!(rt; first.leaf(&Nothing, &mut steps).cluster, 0);
+        assert_eq!(rt; last.num_nodes(), 4097);
+        assert_eq!(rt; last.max_prev_channel_depth(), 0);
+        Ok(())
     }
 
     #[test]

@@ -1,12 +1,19 @@
 //! Predictors, and the weights of the self-correcting one.
 
-ghost use Rattle.std.specs.Prelude.{◌≡◌, ◌≤◌, ◌<◌, ◌^◌, IfOk};
+ghost use Rattle.std.specs.Prelude.{◌≡◌, ◌≤◌, ◌<◌, ◌^◌, ℤ, List, IfOk};
 ghost use Rattle.jxlm_base.specs.Bits.{bytes_of, position_of};
 ghost use Rattle.jxlm_base.specs.Grammar.{IsExact, Reads, number};
+ghost use Rattle.jxlm_tree.specs.Holding.{IsCurrent, state_of};
+ghost use Rattle.jxlm_tree.specs.Predictions.{prediction};
 ghost use Rattle.jxlm_tree.specs.SelfCorrecting.{IsHeader};
 ghost use Rattle.jxlm_tree.specs.SelfCorrectingRanges.{AlwaysInRange};
+ghost use Rattle.jxlm_tree.specs.Standing.{Setting, StandsAt};
 ghost use Rattle.jxlm_tree.specs.WeightsHeader.{AnswersExactly, default_weights, listed_weights, wp_header};
 
+pub use crate::properties::Properties;
+use crate::reduced::reduced;
+pub use crate::self_correcting::PredictionResult;
+pub use crate::state::PredictorState;
 use jxlm_base::bits::{Bitstream, BitstreamError};
 use jxlm_base::error::Result;
 
@@ -76,6 +83,17 @@ impl TryFrom<u32> for Predictor {
                 });
             }
         })
+    }
+}
+
+impl Predictor {
+    /// What the predictor makes of the place of these properties, reduced to 32 bits.
+    pub fn predict<S>(self, properties: &Properties<'_, S>) -> i32
+        requires { IsCurrent properties.now }
+        ensures { (s : Setting) (samples : List ℤ) → StandsAt (state_of properties.now) s samples → result ≡ prediction s.weights samples s.width self }
+    {
+        let corrected = PredictionResult::eightfold(&properties.correction);
+        reduced(properties.around.prediction(corrected, self))
     }
 }
 

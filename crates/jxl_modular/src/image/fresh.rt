@@ -12,6 +12,7 @@ use jxlm_base::decoder::Decoder;
 use jxlm_base::error::Result;
 use jxlm_base::grid::{AlignedGrid, OutOfMemory, Region};
 use jxlm_base::sample::Sample;
+use jxlm_transform::channels::ModularChannels;
 use jxlm_tree::ma::MaConfig;
 use std::alloc::Global;
 
@@ -51,27 +52,42 @@ fn whole_regions(alloc: Global, channels: &[ModularChannelInfo]) -> Result<Vec<R
 }
 
 impl<S: Sample, D: Decoder> ModularImageDestination<S, D> {
-    /// An image without transforms, whose cells are 0. It is refused for want of memory alone.
+    ghost use Rattle.std.specs.Prelude.{◌≤◌, length};
+    ghost use Rattle.std.specs.List.{All};
+    ghost use Rattle.jxlm_transform.specs.Channels.{IsNarrow, list_of};
+    ghost use Rattle.jxlm_tree.specs.SelfCorrecting.{IsHeader};
+    ghost use Rattle.jxl_modular.specs.Header.{header_of};
+
+    /// An image of these coded channels, each with a buffer of its own, whose cells are 0. No side is
+    /// above 2^30, there are at most 65536 channels, and the weights are those of a header that was
+    /// read. It is refused for want of memory alone.
     pub(crate) fn new(
         alloc: Global,
         header: ModularHeader,
         ma_ctx: MaConfig<D>,
         group_dim: u32,
         bit_depth: u32,
-        channels: Vec<ModularChannelInfo>,
+        channels: ModularChannels,
     ) -> Result<Self>
-        ensures ok { IfOk result (λ image. image ≡ fresh (S.from_int (pos 0)) header ma_ctx group_dim bit_depth channels.items) }
+        requires narrow { All IsNarrow (list_of channels).channels }
+        requires few { length channels.info.items ≤ 65536 }
+        requires weights { IsHeader header.wp_params }
+        ensures ok { IfOk result (λ image. image ≡ fresh (S.from_int (pos 0)) (header_of header) ma_ctx group_dim bit_depth (list_of channels)) }
         ensures err { IfErr result (λ e. fault_of e ≡ NoMemory) }
     {
-        let store = zero_grids(alloc, &channels)?;
-        let coded = whole_regions(alloc, &channels)?;
+        let store = zero_grids(alloc, &channels.info)?;
+        let coded = whole_regions(alloc, &channels.info)?;
+        let ModularChannels {
+            info,
+            nb_meta_channels,
+        } = channels;
         Ok(ModularImageDestination {
             header,
             ma_ctx,
             group_dim,
             bit_depth,
-            channels,
-            nb_meta_channels: 0,
+            channels: info,
+            nb_meta_channels,
             store,
             coded,
         })

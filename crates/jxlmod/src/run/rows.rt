@@ -90,6 +90,38 @@ fn a_wrong_sum_is_refused(rt: HostRuntime) -> Result<(), Fail> {
     Ok(())
 }
 
+// Headers whose transforms have no meaning, are cut short, or do not suit the channels.
+#[test]
+fn headers_are_refused(rt: HostRuntime) -> Result<(), Fail> {
+    for (line, bytes, text) in [
+        (
+            "decode 2 2 2 8 i32",
+            [0x06, 0x00].as_slice(),
+            "error: invalid Rct transform parameters\n",
+        ),
+        (
+            "decode 2 2 1 8 i32",
+            [0x16, 0x00, 0x00, 0x1C].as_slice(),
+            "error: bitstream error: invalid enum value 14 for MaProperty\n",
+        ),
+        (
+            "decode 2 2 1 8 i32",
+            [0x16, 0x00, 0x00].as_slice(),
+            EOF_OF_HEADER,
+        ),
+        (
+            "decode 1 1 1 8 i32",
+            [0x36].as_slice(),
+            "error: bitstream error: invalid enum value 3 for TransformId\n",
+        ),
+    ] {
+        let ended = run_on(rt.alloc(), line, bytes)?;
+        assert_eq!(rt; ended.faults.as_slice(), text.as_bytes(), "{line}");
+        assert_eq!(rt; (ended.status, ended.output.len()), (1, 0), "{line}");
+    }
+    Ok(())
+}
+
 // The first byte holds the whole header; whatever follows is the decoder's to read.
 #[test]
 fn input_cut_short_is_an_unexpected_end(rt: HostRuntime) -> Result<(), Fail> {

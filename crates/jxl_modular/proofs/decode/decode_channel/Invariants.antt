@@ -1,16 +1,22 @@
-use Rattle.std.proofs.Common.{◌≡◌}
+use Rattle.std.proofs.Common.{◌≡◌, ◌*◌, ◌≤◌}
 use Rattle.jxlm_base.specs.Bits.{bytes_of, position_of}
 use Rattle.jxlm_base.specs.Regions.{store_meanings}
-use Rattle.jxl_modular.specs.Progress.{GoesOn, KeepsOutside, place_of}
+use Rattle.jxl_modular.specs.Progress.{GoesOn, KeepsOutside, TakesSteps, place_of}
+use Rattle.jxl_modular.specs.Reading.{IsRoomy, StandsBehind, cost_of, part_of, region_at, regions_of}
 use Rattle.jxl_modular.proofs.decode.decode_channel.Given as goal
 
 abbrev pub invariant-loop-y : goal.invariant-loop-y
 invariant-loop-y g l =
     let d = g.D.Decoder.meaning in
+    let part = part_of l.coding in
     record {
       bytes : bytes_of l.bits ≡ bytes_of l.fn.bits;
       clusters : d.cluster_map l.decoder ≡ d.cluster_map l.fn.decoder;
-      keeps : KeepsOutside l.regions l.fn.store l.store;
-      goes : GoesOn d g.S.Sealed.width (bytes_of l.fn.bits) l.leaf l.multiplier l.regions (λ part. place_of part l.i 0 0) (λ part. place_of part l.i 0 l.y)
-          (store_meanings g.S.Sealed.to_int l.fn.store) l.fn.decoder (position_of l.fn.bits) (store_meanings g.S.Sealed.to_int l.store) (position_of l.bits) l.decoder;
+      keeps : KeepsOutside (regions_of l.coding) l.fn.store l.store;
+      goes : GoesOn d g.S.Sealed.width part (bytes_of l.fn.bits) (regions_of l.coding) (place_of part l.i 0 0) (place_of part l.i 0 l.y)
+          (store_meanings g.S.Sealed.to_int l.fn.store) l.fn.decoder (position_of l.fn.bits) (store_meanings g.S.Sealed.to_int l.store) l.decoder (position_of l.bits);
+      stands : StandsBehind l.coding g.S.Sealed.to_int l.store l.i (l.y * (region_at (regions_of l.coding) l.i).width) l.state;
+      roomy : IsRoomy l.coding l.state;
+      work : TakesSteps (cost_of l.coding) (place_of part l.i 0 0) (place_of part l.i 0 l.y) l.fn.steps l.steps;
+      more : l.fn.steps ≤ l.steps;
     }

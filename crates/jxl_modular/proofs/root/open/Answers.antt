@@ -1,14 +1,52 @@
-use Rattle.std.proofs.Common.{rules, arith}
+use Rattle.std.proofs.Common.{◌≡◌, ◌∙◌, length, map, refl, sym, Ok}
+use Rattle.std.proofs.lemmas.List.{length-map}
+use Rattle.std.proofs.lemmas.Result.{err_from_is_err_and}
 use Rattle.jxlm_base.specs.Bits.{bytes_of, position_of}
-use Rattle.jxl_modular.proofs.HeaderLaws.{too_many, no_global}
+use Rattle.jxlm_base.specs.Fault.{fault_of}
+use Rattle.jxlm_transform.proofs.Refusals.{unless_memory}
+use Rattle.jxlm_transform.proofs.SideBounds.{narrow_coded, narrow_image}
+use Rattle.jxlm_transform.specs.Channels.{image_list, list_of}
+use Rattle.jxlm_transform.specs.ChannelSteps.{CodedList, coded_list}
+use Rattle.jxlm_transform.specs.Transforms.{transform_of}
+use Rattle.jxl_modular.specs.Header.{header_of}
+use Rattle.jxl_modular.specs.Opening.{steps_in}
+use Rattle.jxl_modular.proofs.OpeningLaws.{condition_fails, header_refused, is_opened}
 use Rattle.jxl_modular.proofs.root.open.Goals as goal
 
-pub returns-then-nb_channels-gt-MAX_CODED_CHANNELS-clause-gives : goal.returns-then-nb_channels-gt-MAX_CODED_CHANNELS-clause-gives
-returns-then-nb_channels-gt-MAX_CODED_CHANNELS-clause-gives c = λ list counted.
-    let refused = too_many c.args.has_global list (bytes_of c.args.bits.now) (position_of c.args.bits.now) c.in_ok-header.header _ c.in_ok-header.ensures.gives (omega arith) in
-    search rules
+pub returns-in_err-header-clause-gives : goal.returns-in_err-header-clause-gives
+returns-in_err-header-clause-gives c =
+    let p = err_from_is_err_and c.from_residual.result c.from_residual.ensures.1 in
+    rw (p.1, p.2)
+    (header_refused c.args.has_global (image_list c.args.params.now) (bytes_of c.args.bits.now) (position_of c.args.bits.now) (fault_of c.in_err-header.field-0.0) (position_of c.parse.new.bits) c.in_err-header.ensures.gives)
 
-pub returns-then-not-has_global-clause-gives : goal.returns-then-not-has_global-clause-gives
-returns-then-not-has_global-clause-gives c = λ list counted.
-    let refused = no_global list (bytes_of c.args.bits.now) (position_of c.args.bits.now) c.in_ok-header.header _ c.in_ok-header.ensures.gives (omega arith) c.if-header.true in
-    search rules
+pub returns-in_err-check-clause-gives : goal.returns-in_err-check-clause-gives
+returns-in_err-check-clause-gives c =
+    let p = err_from_is_err_and c.from_residual-in_err-check.result c.from_residual-in_err-check.ensures.1 in
+    let h = header_of c.in_ok-header.header in
+    let ts = c.prepare_transforms.new.transforms.items in
+    let k = record h { transform = map transform_of ts } in
+    let coded : CodedList = record { steps = steps_in (map transform_of ts); list = list_of c.prepare_transforms.new.channels } in
+    let found : coded_list h.transform (image_list c.args.params.now) ≡ Ok coded = rw c.in_ok-channels.ensures.ok at c.in_ok-prepare_transforms.ensures.gives in
+    let lengths : length k.transform ≡ length h.transform = length-map ts transform_of ∙ c.in_ok-prepare_transforms.ensures.count ∙ sym (length-map c.in_ok-header.header.transform.items transform_of) in
+    let fault = fault_of c.in_err-check.field-0.0 in
+    let refused = condition_fails c.args.has_global (image_list c.args.params.now) (bytes_of c.args.bits.now) (position_of c.args.bits.now) h (position_of c.parse.new.bits) c.in_ok-header.ensures.gives coded found k fault refl lengths
+    c.in_err-check.ensures in
+    rw (p.1, p.2) (unless_memory fault _ refused)
+
+pub returns-clause-gives : goal.returns-clause-gives
+returns-clause-gives c =
+    let h = header_of c.in_ok-header.header in
+    let ts = c.prepare_transforms.new.transforms.items in
+    let k = record h { transform = map transform_of ts } in
+    let coded : CodedList = record { steps = steps_in (map transform_of ts); list = list_of c.prepare_transforms.new.channels } in
+    let found : coded_list h.transform (image_list c.args.params.now) ≡ Ok coded = rw c.in_ok-channels.ensures.ok at c.in_ok-prepare_transforms.ensures.gives in
+    let lengths : length k.transform ≡ length h.transform = length-map ts transform_of ∙ c.in_ok-prepare_transforms.ensures.count ∙ sym (length-map c.in_ok-header.header.transform.items transform_of) in
+    is_opened c.args.has_global (image_list c.args.params.now) (bytes_of c.args.bits.now) (position_of c.args.bits.now) h (position_of c.parse.new.bits) c.in_ok-header.ensures.gives coded found k refl refl lengths c.in_ok-check.ensures
+
+pub returns-clause-narrow : goal.returns-clause-narrow
+returns-clause-narrow c =
+    let h = header_of c.in_ok-header.header in
+    let ts = c.prepare_transforms.new.transforms.items in
+    let coded : CodedList = record { steps = steps_in (map transform_of ts); list = list_of c.prepare_transforms.new.channels } in
+    let found : coded_list h.transform (image_list c.args.params.now) ≡ Ok coded = rw c.in_ok-channels.ensures.ok at c.in_ok-prepare_transforms.ensures.gives in
+    narrow_coded h.transform (image_list c.args.params.now) coded c.in_ok-header.ensures.ranges.transforms (narrow_image c.args.params.now c.requires) found

@@ -1,13 +1,12 @@
-use Rattle.std.proofs.Common.{◌≡◌, ◌++◌, List, length, take, drop, sym, ap, ◌∙◌, subst}
+use Rattle.std.proofs.Common.{◌≡◌, ◌++◌, length, take, drop, refl, sym, ap, ◌∙◌, rules}
 use Rattle.std.proofs.lemmas.Result.{err_from_is_err_and}
 use Rattle.jxlm_base.specs.Bits.{bytes_of, position_of}
-use Rattle.jxlm_base.specs.Grid.{Grid}
-use Rattle.jxlm_base.specs.Regions.{store_meanings, AllLie, LieApart}
+use Rattle.jxlm_base.specs.declared.error.Error.TheVariants.{Decoder}
+use Rattle.jxl_modular.specs.Header.{header_of}
 use Rattle.jxl_modular.specs.Image.{Image}
 use Rattle.jxl_modular.specs.Layout.{channels_of}
-use Rattle.jxl_modular.specs.Part.{Fits, greatest_width}
-use Rattle.jxl_modular.specs.Progress.{KeepsOutside}
-use Rattle.jxl_modular.proofs.PartLaws.{coded_lie, coded_apart, fits_kept, refilled, with_store, decodes_samples, refuses_samples}
+use Rattle.jxl_modular.specs.Part.{greatest_width}
+use Rattle.jxl_modular.proofs.PartLaws.{coded_lie, coded_apart, fits_kept, refilled, is_coding, roomy_part, same_part, refuses_samples, refuses_so, with_store}
 use Rattle.jxl_modular.proofs.image.ModularImageDestination.decode_samples.Goals as goal
 
 pub decode_part-requires-clause-lie : goal.decode_part-requires-clause-lie
@@ -15,6 +14,22 @@ decode_part-requires-clause-lie g c κs within = rw (c.deref-2.ensures.value, c.
 
 pub decode_part-requires-clause-apart : goal.decode_part-requires-clause-apart
 decode_part-requires-clause-apart g c κs within = rw c.deref-2.ensures.value (coded_apart _ c.self.invariant)
+
+pub decode_part-requires-clause-coding : goal.decode_part-requires-clause-coding
+decode_part-requires-clause-coding g c κs within =
+    let ready = rw (← c.self.view_is) at c.in_ok-decoder.ensures.ok in
+    let widest = c.greatest_width.ensures ∙ ap (λ cs. greatest_width (channels_of cs)) c.deref-4.ensures.value in
+    is_coding _ c.self.invariant _ c.deref.ensures.value c.deref-2.ensures.value refl refl (rw c.deref-3.ensures.value ready.flats_are) widest
+
+pub decode_part-requires-clause-clusters : goal.decode_part-requires-clause-clusters
+decode_part-requires-clause-clusters g c κs within = rw (← c.self.view_is) at c.in_ok-decoder.ensures.clusters
+
+pub decode_part-requires-clause-roomy : goal.decode_part-requires-clause-roomy
+decode_part-requires-clause-roomy g c κs within =
+    let ready = rw (← c.self.view_is) at c.in_ok-decoder.ensures.ok in
+    let widest = c.greatest_width.ensures ∙ ap (λ cs. greatest_width (channels_of cs)) c.deref-4.ensures.value in
+    roomy_part _ c.self.invariant _ c.deref.ensures.value c.deref-2.ensures.value refl refl _ (rw (← c.self.view_is) at c.requires.some)
+    (is_coding _ c.self.invariant _ c.deref.ensures.value c.deref-2.ensures.value refl refl (rw c.deref-3.ensures.value ready.flats_are) widest) (rw (widest, c.deref-3.ensures.value) ready.roomy)
 
 pub invariant_of-self : goal.invariant_of-self
 invariant_of-self g c =
@@ -24,7 +39,44 @@ invariant_of-self g c =
     record {
       sizes = rw whole (fits_kept c.self.inside.coded.items (channels_of c.self.inside.channels.items) c.self.inside.store.items c.decode_part.new.store keeps c.self.invariant.sizes);
       regions = c.self.invariant.regions;
+      narrow = c.self.invariant.narrow;
+      few = c.self.invariant.few;
+      weights = c.self.invariant.weights;
     }
+
+pub returns-in_err-decode_part-clause-err : goal.returns-in_err-decode_part-clause-err
+returns-in_err-decode_part-clause-err g c =
+    let p = err_from_is_err_and c.from_residual-in_err-decode_part.result c.from_residual-in_err-decode_part.ensures.1 in
+    let keeps = rw (c.deref-2.ensures.value, c.deref_mut.ensures.value) at c.in_err-decode_part.ensures.keeps in
+    let whole : take c.self.inside.store.len (c.decode_part.new.store ++ drop (length c.decode_part.new.store) c.self.inside.store.items) ≡ c.decode_part.new.store =
+    refilled c.self.inside.store.len c.decode_part.new.store c.self.inside.store.items c.self.inside.store.ok.0 keeps.count in
+    let ready = rw (← c.self.view_is) at c.in_ok-decoder.ensures.ok in
+    let some = rw (ready.decoder_is, c.deref_mut.ensures.value) at c.in_err-decode_part.ensures.err in
+    let image : Image g.row.S.Denot g.row.D.Denot = record {
+      header = header_of c.self.inside.header;
+      config = c.self.inside.ma_ctx;
+      group_dim = c.self.inside.group_dim;
+      bit_depth = c.self.inside.bit_depth;
+      channels = c.self.inside.channels.items;
+      nb_meta = c.self.inside.nb_meta_channels;
+      store = c.self.inside.store.items;
+      coded = c.self.inside.coded.items;
+    } in
+    let store = take c.self.inside.store.len (c.decode_part.new.store ++ drop (length c.decode_part.new.store) c.self.inside.store.items) in
+    rw (p.1, p.2)
+    (refuses_so g.D.Decoder.meaning g.S.Sealed.width g.S.Sealed.to_int (bytes_of c.args.bits.now) c.args.stream_index image c.args.self.now (with_store image store)
+    (position_of c.args.bits.now) (position_of c.decode_part.new.bits) c.args.steps.now c.decode_part.new.steps (Decoder c.in_err-decode_part.field-0.0) c.self.view_is
+    (refuses_samples g.D.Decoder.meaning g.S.Sealed.width g.S.Sealed.to_int (bytes_of c.args.bits.now) c.args.stream_index image store (position_of c.args.bits.now) (position_of c.decode_part.new.bits)
+    _ _ c.deref-2.ensures.value (same_part image c.args.stream_index _ c.deref.ensures.value) c.args.steps.now c.decode_part.new.steps c.in_err-decode_part.field-0.0 c.in_err-decode_part.ensures.memory
+    (rw (← whole) at some)))
+
+pub returns-in_err-decode_part-clause-same : goal.returns-in_err-decode_part-clause-same
+returns-in_err-decode_part-clause-same g c =
+    let keeps = rw (c.deref-2.ensures.value, c.deref_mut.ensures.value) at c.in_err-decode_part.ensures.keeps in
+    let whole : take c.self.inside.store.len (c.decode_part.new.store ++ drop (length c.decode_part.new.store) c.self.inside.store.items) ≡ c.decode_part.new.store =
+    refilled c.self.inside.store.len c.decode_part.new.store c.self.inside.store.items c.self.inside.store.ok.0 keeps.count in
+    rw (← c.self.view_is)
+    (record { header = refl; config = refl; group_dim = refl; bit_depth = refl; channels = refl; nb_meta = refl; coded = refl; outside = rw whole keeps })
 
 pub invariant_of-self-2 : goal.invariant_of-self-2
 invariant_of-self-2 g c =
@@ -34,27 +86,15 @@ invariant_of-self-2 g c =
     record {
       sizes = rw whole (fits_kept c.self.inside.coded.items (channels_of c.self.inside.channels.items) c.self.inside.store.items c.decode_part.new.store keeps c.self.invariant.sizes);
       regions = c.self.invariant.regions;
+      narrow = c.self.invariant.narrow;
+      few = c.self.invariant.few;
+      weights = c.self.invariant.weights;
     }
 
-pub returns-in_err-decode_part-clause-err : goal.returns-in_err-decode_part-clause-err
-returns-in_err-decode_part-clause-err g c =
-    let p = err_from_is_err_and c.from_residual-in_err-decode_part.result c.from_residual-in_err-decode_part.ensures.1 in
-    let keeps = rw (c.deref-2.ensures.value, c.deref_mut.ensures.value) at c.in_err-decode_part.ensures.keeps in
-    let whole : take c.self.inside.store.len (c.decode_part.new.store ++ drop (length c.decode_part.new.store) c.self.inside.store.items) ≡ c.decode_part.new.store =
-    refilled c.self.inside.store.len c.decode_part.new.store c.self.inside.store.items c.self.inside.store.ok.0 keeps.count in
-    let some = rw (c.in_ok-decoder.ensures.ok, c.decoder.ensures, c.deref-2.ensures.value, c.deref_mut.ensures.value) at c.in_err-decode_part.ensures.err in
-    rw (p.1, p.2, ← c.self.view_is)
-    (refuses_samples g.D.Decoder.meaning g.S.Sealed.width g.S.Sealed.to_int (bytes_of c.args.bits.now) _ _ (position_of c.args.bits.now) (position_of c.decode_part.new.bits) _ _
-    c.self.invariant c.leaf-leaf.ensures.tree (c.greatest_width-widest.ensures ∙ ap (λ cs. greatest_width (channels_of cs)) c.deref.ensures.value)
-    _ c.in_err-decode_part.ensures.memory (rw whole some))
-
-pub returns-clause-ok : goal.returns-clause-ok
-returns-clause-ok g c =
+pub returns-clause-same : goal.returns-clause-same
+returns-clause-same g c =
     let keeps = rw (c.deref-2.ensures.value, c.deref_mut.ensures.value) at c.in_ok-decode_part.ensures.keeps in
     let whole : take c.self.inside.store.len (c.decode_part.new.store ++ drop (length c.decode_part.new.store) c.self.inside.store.items) ≡ c.decode_part.new.store =
     refilled c.self.inside.store.len c.decode_part.new.store c.self.inside.store.items c.self.inside.store.ok.0 keeps.count in
-    let all = rw (c.in_ok-decoder.ensures.ok, c.decoder.ensures, c.deref-2.ensures.value, c.deref_mut.ensures.value) at c.in_ok-decode_part.ensures.ok in
     rw (← c.self.view_is)
-    (decodes_samples g.D.Decoder.meaning g.S.Sealed.width g.S.Sealed.to_int (bytes_of c.args.bits.now) _ _ (position_of c.args.bits.now) (position_of c.decode_part.new.bits) _ _
-    c.self.invariant c.leaf-leaf.ensures.tree (c.greatest_width-widest.ensures ∙ ap (λ cs. greatest_width (channels_of cs)) c.deref.ensures.value)
-    (rw whole all))
+    (record { header = refl; config = refl; group_dim = refl; bit_depth = refl; channels = refl; nb_meta = refl; coded = refl; outside = rw whole keeps })

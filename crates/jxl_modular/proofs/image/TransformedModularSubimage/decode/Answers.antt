@@ -7,16 +7,18 @@ use Rattle.jxl_modular.proofs.image.TransformedModularSubimage.decode.Goals as g
 pub returns-then-not-has_samples-clause-answers : goal.returns-then-not-has_samples-clause-answers
 returns-then-not-has_samples-clause-answers g c =
     answers_empty g.D.Decoder.meaning g.S.Sealed.width g.S.Sealed.to_int (bytes_of c.args.bits.now) c.args.self.now.image.now (position_of c.args.bits.now) c.args.self.now.partial c.args.stream_index c.args.allow_partial
-    c.has_samples.ensures.laid (λ h. let t = c.if-not-has_samples.ensures.samples.1 h in cc)
+    c.args.self.now.steps c.has_samples.ensures.laid (λ h. let t = c.if-not-has_samples.ensures.samples.1 h in cc)
 
 pub returns-in_err-decode_samples-clause-answers : goal.returns-in_err-decode_samples-clause-answers
 returns-in_err-decode_samples-clause-answers g c =
     let p = err_from_is_err_and c.from_residual.result c.from_residual.ensures.1 in
     rw (p.1, p.2)
     (answers_fault g.D.Decoder.meaning g.S.Sealed.width g.S.Sealed.to_int (bytes_of c.args.bits.now) c.args.self.now.image.now (position_of c.args.bits.now) c.args.self.now.partial c.args.stream_index
-    c.args.allow_partial _ c.decode_samples.new.self (position_of c.decode_samples.new.bits) c.requires.whole (c.if-not-has_samples.ensures.samples.0 refl) c.in_err-decode_samples.ensures.err)
+    c.args.allow_partial _ c.decode_samples.new.self (position_of c.decode_samples.new.bits) c.args.self.now.steps c.decode_samples.new.steps c.requires.whole (c.if-not-has_samples.ensures.samples.0 refl)
+    c.in_err-decode_samples.ensures.more c.in_err-decode_samples.ensures.err)
 
 pub returns-clause-answers : goal.returns-clause-answers
 returns-clause-answers g c =
     answers_whole g.D.Decoder.meaning g.S.Sealed.width g.S.Sealed.to_int (bytes_of c.args.bits.now) c.args.self.now.image.now (position_of c.args.bits.now) c.args.self.now.partial c.args.stream_index
-    c.args.allow_partial c.decode_samples.new.self (position_of c.decode_samples.new.bits) (c.if-not-has_samples.ensures.samples.0 refl) c.in_ok-decode_samples.ensures.ok
+    c.args.allow_partial c.decode_samples.new.self (position_of c.decode_samples.new.bits) c.args.self.now.steps c.decode_samples.new.steps (c.if-not-has_samples.ensures.samples.0 refl) c.in_ok-decode_samples.ensures.ok
+    c.in_ok-decode_samples.ensures.more c.in_ok-decode_samples.ensures.work

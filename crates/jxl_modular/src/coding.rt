@@ -1,0 +1,121 @@
+//! With what a part is coded, and what is made ready before its first bit is read.
+
+ghost use Rattle.std.specs.Prelude.{◌≡◌, ℕ, ◌^◌, ◌<◌, ◌≤◌, List, IfOk, IfErr, length};
+ghost use Rattle.jxlm_base.specs.Fault.{fault_of};
+ghost use Rattle.jxlm_base.specs.Grid.{Grid};
+ghost use Rattle.jxlm_tree.specs.SelfCorrecting.{IsHeader};
+ghost use Rattle.jxlm_tree.specs.TreeReading.{IsWantOfMemory};
+ghost use Rattle.jxl_modular.specs.Layout.{channel_of};
+ghost use Rattle.jxl_modular.specs.Part.{is_alike as alike};
+ghost use Rattle.jxl_modular.specs.Reading.{HasFlats, IsCodingOf, IsRoomy, IsRoomyFor, StandsBehind, region_at, regions_of};
+
+use crate::channels::ModularChannelInfo;
+use jxlm_base::decoder::Decoder;
+use jxlm_base::error::Result;
+use jxlm_base::grid::{AlignedGrid, OutOfMemory, Region};
+use jxlm_base::sample::{Sample, Sealed};
+use jxlm_tree::flat::FlatMaTree;
+use jxlm_tree::ma::MaConfig;
+use jxlm_tree::predictor::{PredictorState, WpHeader};
+use std::alloc::Global;
+
+/// With what the samples of a part are coded.
+#[derive(Drop)]
+pub(crate) struct PartCoding<'a, D: Decoder> {
+    /// Its channels, in order.
+    pub(crate) channels: &'a [ModularChannelInfo],
+    /// Their regions in the store.
+    pub(crate) regions: &'a [Region],
+    /// Its tree.
+    pub(crate) config: &'a MaConfig<D>,
+    /// The tree as each channel walks it.
+    pub(crate) flats: &'a [FlatMaTree],
+    /// The weights of the self-correcting predictor.
+    pub(crate) weights: WpHeader,
+    /// The index of its stream.
+    pub(crate) stream_index: u32,
+    /// The greatest width of its channels.
+    pub(crate) widest: u32,
+}
+
+/// What is made ready before the first bit of a part is read.
+#[derive(Drop)]
+pub(crate) struct Ready<S, D: Decoder> {
+    /// The entropy decoder, as the tree was read with it.
+    pub(crate) decoder: D,
+    /// The tree as each channel walks it.
+    pub(crate) flats: Vec<FlatMaTree>,
+    /// The state, with room for each channel.
+    pub(crate) state: PredictorState<S>,
+}
+
+/// Whether two channels have equal sizes and shifts.
+fn is_alike(a: &ModularChannelInfo, b: &ModularChannelInfo) -> bool
+    ensures { result ≡ alike (channel_of a.now) (channel_of b.now) }
+{
+    a.width == b.width && a.height == b.height && a.hshift == b.hshift && a.vshift == b.vshift
+}
+
+/// Puts the state before the first sample of channel `i`: it is handed the regions of the channels before that are like
+/// it, the nearest first, and of no more than its tree can ask for.
+pub(crate) fn start_channel<S: Sample, D: Decoder>(
+    state: &mut PredictorState<S>,
+    coding: &PartCoding<'_, D>,
+    i: usize,
+)
+    requires channel { i < length (regions_of coding.now) }
+    requires columns { 0 < (region_at (regions_of coding.now) i).width }
+    requires coding { IsCodingOf coding.now }
+    requires roomy { IsRoomy coding.now state.old }
+    ensures stands { (store : List (Grid S)) → StandsBehind coding.now S.to_int store i 0 state.new }
+    ensures roomy { IsRoomy coding.now state.new }
+{
+    let reach = coding.flats[i].max_prev_channel_depth();
+    state.restart(coding.regions[i].width as u32);
+    let (mut e, mut count) = (i, 0);
+    while e > 0 && count < reach {
+        e -= 1;
+        if is_alike(&coding.channels[e], &coding.channels[i]) {
+            state.add_earlier(coding.regions[e]);
+            count += 1;
+        }
+    }
+}
+
+/// The tree as each of so many channels walks it. It is refused for want of memory alone.
+pub(crate) fn flat_trees<D: Decoder>(
+    alloc: Global,
+    config: &MaConfig<D>,
+    stream_index: u32,
+    channels: u32,
+) -> Result<Vec<FlatMaTree>>
+    ensures ok { IfOk result (λ v. HasFlats config.now.tree stream_index channels v.items) }
+    ensures err { IfErr result (λ e. IsWantOfMemory (fault_of e)) }
+{
+    let mut flats = Vec::new(alloc);
+    for channel in 0..channels {
+        let flat = config.make_flat_tree(channel, stream_index, channel)?;
+        flats.push(flat).map_err(|_| OutOfMemory)?;
+    }
+    Ok(flats)
+}
+
+/// A state with room for channels of these flat trees and up to this width; it heeds the weights where the tree asks for
+/// them. It is refused for want of memory alone.
+pub(crate) fn roomy_state<S: Sample>(
+    alloc: Global,
+    flats: &[FlatMaTree],
+    widest: u32,
+    weights: &WpHeader,
+) -> Result<PredictorState<S>>
+    requires weights { IsHeader weights.now }
+    requires narrow { widest ≤ 2 ^ 30 }
+    ensures ok { IfOk result (λ s. IsRoomyFor widest weights.now flats.now s) }
+    ensures err { IfErr result (λ e. IsWantOfMemory (fault_of e)) }
+{
+    let used = match flats.first() {
+        Some(flat) if flat.need_self_correcting() => Some(weights),
+        _ => None,
+    };
+    PredictorState::with_room(alloc, widest, flats.len(), used)
+}

@@ -1,0 +1,10 @@
+-- Where a predictor's state stands, by how many samples are behind it.
+use Rattle.std.specs.Prelude.{◌≡◌, ℕ, ℤ, List, length}
+use Rattle.jxlm_tree.specs.Standing.{Setting, StandsAt}
+use Rattle.jxlm_tree.specs.declared.state.PredictorState.{PredictorState}
+
+-- the state stands behind so many samples of a channel, whichever they are
+pub record StandsBehind {S : Type 0} (state : PredictorState S) (s : Setting) (count : ℕ) : Type 0 where
+  pub before : List ℤ
+  pub stands : StandsAt state s before
+  pub count_is : length before ≡ count

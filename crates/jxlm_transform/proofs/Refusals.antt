@@ -1,0 +1,49 @@
+-- Facts of refusals that are not want of memory.
+use Rattle.std.proofs.Common.{◌≡◌, ℕ, List, Ok, Some, refl}
+use Rattle.std.specs.Prelude.{codes, ◌==◌}
+use Rattle.std.proofs.Common.{false}
+use Rattle.jxlm_base.specs.Fault.{Fault, Eof, BadEnum, BadProfile, BadTree, NoGlobalTree, BadRct, BadPalette, BadSqueeze, OfDecoder, NoMemory, UnlessMemory}
+use Rattle.jxlm_base.specs.Grammar.{IsRefused, number}
+use Rattle.jxlm_base.specs.declared.decoder.DecoderError.TheVariants as decoder
+use Rattle.jxlm_transform.specs.Transforms.{squeeze, transform}
+use Rattle.jxlm_tree.specs.declared.predictor.WpHeader.{WpHeader}
+
+-- a fact holds also where it is asked for unless there was no memory
+pub unless_memory : (fault : Fault) (P : Type 0) → P → UnlessMemory fault P
+unless_memory Eof P holds = holds
+unless_memory (BadEnum name value) P holds = holds
+unless_memory (BadProfile text) P holds = holds
+unless_memory BadTree P holds = holds
+unless_memory NoGlobalTree P holds = holds
+unless_memory BadRct P holds = holds
+unless_memory BadPalette P holds = holds
+unless_memory BadSqueeze P holds = holds
+unless_memory (OfDecoder decoder.UnexpectedEof) P holds = holds
+unless_memory (OfDecoder (decoder.Invalid code)) P holds = holds
+unless_memory (OfDecoder decoder.OutOfMemory) P holds = tt
+unless_memory NoMemory P holds = tt
+
+-- and so does a fact that follows from one
+pub unless_so : (fault : Fault) (P Q : Type 0) → (P → Q) → UnlessMemory fault P → UnlessMemory fault Q
+unless_so Eof P Q step holds = step holds
+unless_so (BadEnum name value) P Q step holds = step holds
+unless_so (BadProfile text) P Q step holds = step holds
+unless_so BadTree P Q step holds = step holds
+unless_so NoGlobalTree P Q step holds = step holds
+unless_so BadRct P Q step holds = step holds
+unless_so BadPalette P Q step holds = step holds
+unless_so BadSqueeze P Q step holds = step holds
+unless_so (OfDecoder decoder.UnexpectedEof) P Q step holds = step holds
+unless_so (OfDecoder (decoder.Invalid code)) P Q step holds = step holds
+unless_so (OfDecoder decoder.OutOfMemory) P Q step holds = tt
+unless_so NoMemory P Q step holds = tt
+
+-- where a squeeze is refused behind its kind, so is the transform
+pub squeeze_refused : (weights : WpHeader) (bytes : List ℕ) (p m q : ℕ) (fault : Fault) → (number 2).read bytes p ≡ Ok (record { value = 2; position = m }) →
+    IsRefused (squeeze.read bytes m) fault q → IsRefused ((transform weights).read bytes p) fault q
+squeeze_refused weights bytes p m q fault kind refused = record { place = refused.place; refuses = rw (kind, refused.refuses) refl; stands = refused.stands }
+
+-- a kind above 2 has no meaning
+pub kind_refused : (weights : WpHeader) (bytes : List ℕ) (p m k : ℕ) → (number 2).read bytes p ≡ Ok (record { value = k; position = m }) → (k == 0) ≡ false → (k == 1) ≡ false → (k == 2) ≡ false →
+    IsRefused ((transform weights).read bytes p) (BadEnum (codes "TransformId") k) m
+kind_refused weights bytes p m k kind not0 not1 not2 = record { place = Some m; refuses = rw (kind, not0, not1, not2) refl; stands = refl }

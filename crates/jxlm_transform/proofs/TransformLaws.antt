@@ -1,0 +1,50 @@
+-- Transforms are read exactly.
+use Rattle.std.specs.Prelude.{Option, Some, None, slice_get, codes}
+use Rattle.jxlm_base.specs.Fault.{Fault, BadEnum}
+use Rattle.jxlm_base.specs.Grammar.{Grammar, IsExact, ◌>>=◌}
+use Rattle.jxlm_base.specs.declared.bits.U32Spec.TheVariants.{Const, Offset}
+use Rattle.jxlm_base.proofs.GrammarLaws.{exact-give, exact-refuse, exact-number, exact-bind, exact-either, exact-repeated, exact-flag, exact-u32}
+use Rattle.jxlm_tree.specs.Predictions.{predictors}
+use Rattle.jxlm_tree.specs.declared.predictor.WpHeader.{WpHeader}
+use Rattle.jxlm_transform.specs.Transforms.{OfRct, OfPalette, OfSqueeze, begin_channel, rct, present, predictor, weights_for, palette, squeeze_params, squeeze, transform}
+
+bind : {X Y : Type 0} {field : Grammar X} {next : X → Grammar Y} → IsExact field → ((x : X) → IsExact (next x)) → IsExact (field >>= next)
+bind {field} {next} first rest = exact-bind field next first rest
+
+exact-begin : IsExact begin_channel
+exact-begin = exact-u32 (Offset 0 3) (Offset 8 6) (Offset 72 10) (Offset 1096 13)
+
+pub exact-rct : IsExact rct
+exact-rct = bind exact-begin λ begin. bind (exact-u32 (Const 6) (Offset 0 2) (Offset 2 4) (Offset 10 6)) λ kind. exact-give (record { begin_c = begin; rct_type = kind })
+
+exact-present : {X : Type 0} (fault : Fault) (found : Option X) → IsExact (present fault found)
+exact-present fault (Some x) = exact-give x
+exact-present fault None = exact-refuse fault
+
+exact-predictor : IsExact predictor
+exact-predictor = bind (exact-number 4) λ n. exact-present (BadEnum (codes "MaProperty") n) (slice_get predictors n)
+
+pub exact-palette : (weights : WpHeader) → IsExact (palette weights)
+exact-palette weights =
+    bind exact-begin λ begin.
+    bind (exact-u32 (Const 1) (Const 3) (Const 4) (Offset 1 13)) λ channels.
+    bind (exact-u32 (Offset 0 8) (Offset 256 10) (Offset 1280 12) (Offset 5376 16)) λ colours.
+    bind (exact-u32 (Const 0) (Offset 1 8) (Offset 257 10) (Offset 1281 16)) λ deltas.
+    bind exact-predictor λ predictor.
+    exact-give (record { begin_c = begin; num_c = channels; nb_colours = colours; nb_deltas = deltas; d_pred = predictor; wp_header = weights_for predictor weights })
+
+exact-squeeze_params : IsExact squeeze_params
+exact-squeeze_params =
+    bind exact-flag λ horizontal. bind exact-flag λ in_place. bind exact-begin λ begin.
+    bind (exact-u32 (Const 1) (Const 2) (Const 3) (Offset 4 4)) λ channels.
+    exact-give (record { horizontal = horizontal; in_place = in_place; begin_c = begin; num_c = channels })
+
+pub exact-squeeze : IsExact squeeze
+exact-squeeze = bind (exact-u32 (Const 0) (Offset 1 4) (Offset 9 6) (Offset 41 8)) λ count. exact-repeated count squeeze_params exact-squeeze_params
+
+pub exact-transform : (weights : WpHeader) → IsExact (transform weights)
+exact-transform weights =
+    bind (exact-number 2) λ kind.
+    exact-either _ _ _ (bind exact-rct λ t. exact-give (OfRct t))
+    (exact-either _ _ _ (bind (exact-palette weights) λ t. exact-give (OfPalette t))
+    (exact-either _ _ _ (bind exact-squeeze λ t. exact-give (OfSqueeze t)) (exact-refuse (BadEnum (codes "TransformId") kind))))

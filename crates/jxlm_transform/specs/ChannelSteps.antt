@@ -1,0 +1,225 @@
+-- What transforms do to a list of channels (ISO/IEC 18181-1, Modular: the channels after each transform, the default squeeze).
+use Rattle.std.specs.Prelude.{◌≡◌, ℕ, zero, suc, ◌+◌, ◌-◌, ◌/◌, List, [], ◌∷◌, ◌++◌, length, map, take, drop, slice_range, Bool, true, false, not, ◌&&◌, ◌||◌, nat_lt, nat_le, ◌==◌, if◌then◌else◌, ℤ, pos, negsuc, int_le, Result, Ok, Err}
+use Rattle.std.specs.List.{list_all}
+use Rattle.std.specs.Int.{div_ceil}
+use Rattle.jxlm_base.specs.Fault.{Fault, BadRct, BadPalette, BadSqueeze, UnlessMemory, fault_of}
+use Rattle.jxlm_base.specs.declared.error.Error.{Error}
+use Rattle.jxlm_transform.specs.Channels.{Channel, ChannelList}
+use Rattle.jxlm_transform.specs.Transforms.{Transform, OfRct, OfPalette, OfSqueeze}
+use Rattle.jxlm_transform.specs.declared.param.ChannelShift.TheVariants.{Raw}
+use Rattle.jxlm_transform.specs.declared.transform.Rct.{Rct}
+use Rattle.jxlm_transform.specs.declared.transform.Palette.{Palette}
+use Rattle.jxlm_transform.specs.declared.transform.SqueezeParams.{SqueezeParams}
+
+-- what follows a step that is not refused
+infixl 10 ◌>>=◌
+abbrev pub ◌>>=◌ : {X Y : Type 0} → Result X Fault → (X → Result Y Fault) → Result Y Fault
+(Ok x) >>= next = next x
+(Err e) >>= next = Err e
+
+-- the n elements from begin on
+abbrev pub range : {X : Type 0} → ℕ → ℕ → List X → List X
+range begin n xs = slice_range xs begin (begin + n)
+
+-- xs with others in the place of the n elements from begin on
+abbrev pub with_range : {X : Type 0} → ℕ → ℕ → List X → List X → List X
+with_range begin n others xs = take begin xs ++ others ++ drop (begin + n) xs
+
+-- xs after a squeeze step: averages in the place of the range, residuals right behind them or at the end
+abbrev pub with_halves : {X : Type 0} → SqueezeParams → List X → List X → List X → List X
+with_halves t averages residuals xs =
+    if t.in_place then with_range t.begin_c t.num_c (averages ++ residuals) xs else with_range t.begin_c t.num_c averages xs ++ residuals
+
+-- the n elements from begin on are there
+abbrev pub has_range : {X : Type 0} → ℕ → ℕ → List X → Bool
+has_range begin n xs = nat_le (begin + n) (length xs)
+
+-- a channel has the sides of another
+abbrev pub has_size_of : Channel → Channel → Bool
+has_size_of c d = d.width == c.width && d.height == c.height
+
+-- all channels have the sides of the first
+abbrev pub one_size : List Channel → Bool
+one_size [] = true
+one_size (c ∷ cs) = list_all (has_size_of c) cs
+
+-- a range that begins among the meta channels ends there
+abbrev pub keeps_meta : ℕ → ℕ → ℕ → Bool
+keeps_meta begin n nb_meta = not (nat_lt begin nb_meta) || nat_le (begin + n) nb_meta
+
+-- a colour transform needs three channels of one size, and changes no channel's size
+abbrev pub rct_step : Rct → ChannelList → Result ChannelList Fault
+rct_step t l = if has_range t.begin_c 3 l.channels && one_size (range t.begin_c 3 l.channels) then Ok l else Err BadRct
+
+-- a table: a column for each colour, a row for each channel; its shifts are -1
+abbrev pub table_channel : ℕ → ℕ → Channel
+table_channel colours channels = record {
+  width = colours;
+  height = channels;
+  original_width = colours;
+  original_height = channels;
+  hshift = negsuc 0;
+  vshift = negsuc 0;
+  shift = Raw (negsuc 0) (negsuc 0);
+}
+
+-- A palette needs channels of one size, all meta or none. Its table stands first, and the first channel of the range is that of the
+-- indices; the table is a meta channel, and so are the indices of meta channels.
+abbrev pub palette_step : Palette → ChannelList → Result ChannelList Fault
+palette_step t l =
+    let cs : List Channel = l.channels in
+    if has_range t.begin_c t.num_c cs && one_size (range t.begin_c t.num_c cs) && keeps_meta t.begin_c t.num_c l.nb_meta then
+    Ok (record {
+      channels = table_channel t.nb_colours t.num_c ∷ (take (t.begin_c + 1) cs ++ drop (t.begin_c + t.num_c) cs);
+      nb_meta = if nat_lt t.begin_c l.nb_meta then l.nb_meta + 2 - t.num_c else l.nb_meta + 1;
+    })
+    else Err BadPalette
+
+-- a shift grows by one where a side is halved; a table's stays
+abbrev pub grown : ℤ → ℤ
+grown (pos s) = pos (s + 1)
+grown (negsuc s) = negsuc s
+
+-- the channel whose squeezed side is n
+abbrev pub half : Bool → ℕ → Channel → Channel
+half true n c = record c { width = n; hshift = grown c.hshift }
+half false n c = record c { height = n; vshift = grown c.vshift }
+
+-- the side that is squeezed
+abbrev pub squeezed_side : Bool → Channel → ℕ
+squeezed_side true c = c.width
+squeezed_side false c = c.height
+
+-- the averages of a channel that is squeezed, across or down
+abbrev pub average_channel : Bool → Channel → Channel
+average_channel horizontal c = half horizontal (div_ceil (squeezed_side horizontal c) 2) c
+
+-- its residuals
+abbrev pub residual_channel : Bool → Channel → Channel
+residual_channel horizontal c = half horizontal (squeezed_side horizontal c / 2) c
+
+-- it has samples, and is not squeezed too often already
+abbrev pub can_be_squeezed : Channel → Bool
+can_be_squeezed c = nat_lt 0 c.width && nat_lt 0 c.height && int_le c.hshift (pos 30) && int_le c.vshift (pos 30)
+
+-- the range of a squeeze step is there, and where it begins among the meta channels it is squeezed in place and ends there
+abbrev pub squeeze_range : SqueezeParams → ChannelList → Bool
+squeeze_range t l = has_range t.begin_c t.num_c l.channels && (not (nat_lt t.begin_c l.nb_meta) || t.in_place && nat_le (t.begin_c + t.num_c) l.nb_meta)
+
+-- A squeeze step needs such a range, of channels that can be squeezed; what becomes of meta channels is a meta channel.
+abbrev pub squeeze_step : SqueezeParams → ChannelList → Result ChannelList Fault
+squeeze_step t l =
+    let cs : List Channel = range t.begin_c t.num_c l.channels in
+    if squeeze_range t l && list_all can_be_squeezed cs then
+    Ok (record {
+      channels = with_halves t (map (average_channel t.horizontal) cs) (map (residual_channel t.horizontal) cs) l.channels;
+      nb_meta = if nat_lt t.begin_c l.nb_meta then l.nb_meta + t.num_c else l.nb_meta;
+    })
+    else Err BadSqueeze
+
+-- how often a side is halved, rounding up, until it is at most 8; n is at least that often
+abbrev pub halvings_up_to : ℕ → ℕ → ℕ
+halvings_up_to zero side = 0
+halvings_up_to (suc n) side = if nat_lt 8 side then 1 + halvings_up_to n (div_ceil side 2) else 0
+
+abbrev pub halvings : ℕ → ℕ
+halvings side = halvings_up_to side side
+
+-- a steps across and b steps down in turn, across first
+abbrev pub in_turn : ℕ → ℕ → (Bool → SqueezeParams) → List SqueezeParams
+in_turn zero zero step = []
+in_turn zero (suc b) step = step false ∷ in_turn zero b step
+in_turn (suc a) zero step = step true ∷ in_turn a zero step
+in_turn (suc a) (suc b) step = step true ∷ step false ∷ in_turn a b step
+
+-- a step of the default squeeze of the n channels from f on
+abbrev pub step_of_all : ℕ → ℕ → Bool → SqueezeParams
+step_of_all f n horizontal = record { horizontal = horizontal; in_place = true; begin_c = f; num_c = n }
+
+-- The default squeeze of the n channels from f on, the first of sides w and h: both ways in turn, the greater side first, until
+-- no side is above 8.
+abbrev pub default_of_all : ℕ → ℕ → ℕ → ℕ → List SqueezeParams
+default_of_all f n w h =
+    if nat_le w h && nat_lt 8 h then step_of_all f n false ∷ in_turn (halvings w) (halvings (div_ceil h 2)) (step_of_all f n) else in_turn (halvings w) (halvings h) (step_of_all f n)
+
+-- a step of the two channels behind channel f
+abbrev pub step_of_chroma : ℕ → Bool → SqueezeParams
+step_of_chroma f horizontal = record { horizontal = horizontal; in_place = false; begin_c = f + 1; num_c = 2 }
+
+-- ahead of it, the two channels behind the first are squeezed once both ways, where there are three or more and the first two have one size
+abbrev pub default_of_chroma : ℕ → List Channel → List SqueezeParams
+default_of_chroma f cs = if nat_le 3 (length cs) && one_size (take 2 cs) then step_of_chroma f true ∷ step_of_chroma f false ∷ [] else []
+
+-- the default squeeze of the channels that aren't meta
+abbrev pub default_squeeze : ℕ → List Channel → Result (List SqueezeParams) Fault
+default_squeeze f [] = Err BadSqueeze
+default_squeeze f (c ∷ cs) = Ok (default_of_chroma f (c ∷ cs) ++ default_of_all f (length (c ∷ cs)) c.width c.height)
+
+-- the steps of a squeeze: those that it lists, or else the default ones
+abbrev pub steps_of_squeeze : List SqueezeParams → ChannelList → Result (List SqueezeParams) Fault
+steps_of_squeeze [] l = default_squeeze l.nb_meta (drop l.nb_meta l.channels)
+steps_of_squeeze (s ∷ ss) l = Ok (s ∷ ss)
+
+-- A transform is one or more steps, each with its effect on the list.
+pub data Step : Type 0 where
+  RctStep : Rct → Step
+  PaletteStep : Palette → Step
+  SqueezeStep : SqueezeParams → Step
+
+-- the steps of a transform at a list of channels
+abbrev pub steps_of : Transform → ChannelList → Result (List Step) Fault
+steps_of (OfRct t) l = Ok (RctStep t ∷ [])
+steps_of (OfPalette t) l = Ok (PaletteStep t ∷ [])
+steps_of (OfSqueeze steps) l = steps_of_squeeze steps l >>= λ steps. Ok (map SqueezeStep steps)
+
+-- the list after a step, or its one refusal
+abbrev pub list_after : Step → ChannelList → Result ChannelList Fault
+list_after (RctStep t) l = rct_step t l
+list_after (PaletteStep t) l = palette_step t l
+list_after (SqueezeStep t) l = squeeze_step t l
+
+-- the list after steps in order
+abbrev pub list_after_all : List Step → ChannelList → Result ChannelList Fault
+list_after_all [] l = Ok l
+list_after_all (s ∷ ss) l = list_after s l >>= list_after_all ss
+
+-- what all transforms come to: their steps, and the list that is coded
+pub record CodedList : Type 0 where
+  pub steps : List Step
+  pub list : ChannelList
+
+-- all transforms in order, each on the list that the ones before it leave
+abbrev pub coded_list : List Transform → ChannelList → Result CodedList Fault
+coded_list [] l = Ok (record { steps = []; list = l })
+coded_list (t ∷ ts) l =
+    steps_of t l >>= λ steps.
+    list_after_all steps l >>= λ m.
+    coded_list ts m >>= λ rest.
+    Ok (record { steps = steps ++ rest.steps; list = rest.list })
+
+-- the steps that a transform lists
+abbrev pub listed_steps : Transform → List Step
+listed_steps (OfRct t) = RctStep t ∷ []
+listed_steps (OfPalette t) = PaletteStep t ∷ []
+listed_steps (OfSqueeze steps) = map SqueezeStep steps
+
+-- What a call that changes a list answered, and the list behind it, is what the definition gives. After a refusal nothing is
+-- promised of the list.
+abbrev pub ListIs : Result ChannelList Fault → Result (Unit {0}) Error → ChannelList → Type 0
+ListIs step (Ok u) l = step ≡ Ok l
+ListIs step (Err e) l = step ≡ Err (fault_of e)
+
+-- the same of a call that takes memory: that may be refused at any time
+abbrev pub ListGives : Result ChannelList Fault → Result (Unit {0}) Error → ChannelList → Type 0
+ListGives step (Ok u) l = step ≡ Ok l
+ListGives step (Err e) l = UnlessMemory (fault_of e) (step ≡ Err (fault_of e))
+
+-- What a call that lists the steps of a squeeze answered, and the steps behind it.
+abbrev pub StepsGive : Result (List SqueezeParams) Fault → Result (Unit {0}) Error → List SqueezeParams → Type 0
+StepsGive steps (Ok u) listed = steps ≡ Ok listed
+StepsGive steps (Err e) listed = UnlessMemory (fault_of e) (steps ≡ Err (fault_of e))
+
+-- What a call that applies a transform answered, the transform behind it, which then lists its steps, and the list behind it.
+abbrev pub TransformGives : Transform → ChannelList → Result (Unit {0}) Error → Transform → ChannelList → Type 0
+TransformGives t l (Ok u) listed m = (steps_of t l ≡ Ok (listed_steps listed)) × (list_after_all (listed_steps listed) l ≡ Ok m)
+TransformGives t l (Err e) listed m = UnlessMemory (fault_of e) ((steps_of t l >>= λ steps. list_after_all steps l) ≡ Err (fault_of e))

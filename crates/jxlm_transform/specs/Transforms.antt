@@ -1,0 +1,157 @@
+-- The transforms of a header, as they stand in the input
+-- (ISO/IEC 18181-1, Modular: the bundles TransformInfo and SqueezeParams).
+use Rattle.std.specs.Prelude.{ℕ, ◌+◌, ◌-◌, ◌^◌, ◌≤◌, min, max, List, length, slice_get, ◌==◌, codes, Option, Some, None}
+use Rattle.std.specs.List.{All}
+use Rattle.jxlm_base.specs.Fault.{Fault, BadEnum}
+use Rattle.jxlm_base.specs.Grammar.{Grammar, number, flag, u32, give, refuse, either, repeated, ◌>>=◌}
+use Rattle.jxlm_base.specs.declared.bits.U32Spec.{U32Spec}
+use Rattle.jxlm_base.specs.declared.bits.U32Spec.TheVariants.{Const, Offset}
+use Rattle.jxlm_tree.specs.Predictions.{predictors}
+use Rattle.jxlm_tree.specs.declared.predictor.Predictor.{Predictor}
+use Rattle.jxlm_tree.specs.declared.predictor.Predictor.TheVariants.{SelfCorrecting}
+use Rattle.jxlm_tree.specs.declared.predictor.WpHeader.{WpHeader}
+use Rattle.jxlm_transform.specs.declared.transform.Rct.{Rct}
+use Rattle.jxlm_transform.specs.declared.transform.Palette.{Palette}
+use Rattle.jxlm_transform.specs.declared.transform.SqueezeParams.{SqueezeParams}
+use Rattle.jxlm_transform.specs.declared.transform.TransformInfo.{TransformInfo}
+use Rattle.jxlm_transform.specs.declared.transform.TransformInfo.TheVariants as info
+
+-- A transform as it is listed; a squeeze without steps is the default squeeze.
+pub data Transform : Type 0 where
+  OfRct : Rct → Transform
+  OfPalette : Palette → Transform
+  OfSqueeze : List SqueezeParams → Transform
+
+-- a transform, seen without its memory
+abbrev pub transform_of : TransformInfo → Transform
+transform_of (info.Rct t) = OfRct t
+transform_of (info.Palette t) = OfPalette t
+transform_of (info.Squeeze t) = OfSqueeze t.sp.items
+
+-- the first channel of a transform
+abbrev pub begin_channel : Grammar ℕ
+begin_channel = u32 (Offset 0 3) (Offset 8 6) (Offset 72 10) (Offset 1096 13)
+
+-- a colour transform: its first channel, and its kind from 0 to 73
+abbrev pub rct : Grammar Rct
+rct = do
+  begin ← begin_channel
+  kind ← u32 (Const 6) (Offset 0 2) (Offset 2 4) (Offset 10 6)
+  give (record { begin_c = begin; rct_type = kind })
+
+-- what is there, or this fault where nothing is
+abbrev pub present : {X : Type 0} → Fault → Option X → Grammar X
+present fault (Some x) = give x
+present fault None = refuse fault
+
+-- a predictor's number; 14 and 15 name none
+abbrev pub predictor : Grammar Predictor
+predictor = do
+  n ← number 4
+  present (BadEnum (codes "MaProperty") n) (slice_get predictors n)
+
+-- the weights that a palette of this predictor keeps
+abbrev pub weights_for : Predictor → WpHeader → Option WpHeader
+weights_for SelfCorrecting weights = Some weights
+weights_for other weights = None
+
+-- a palette: its range, the width of its table, how many indices are deltas, and their predictor
+abbrev pub palette : WpHeader → Grammar Palette
+palette weights = do
+  begin ← begin_channel
+  channels ← u32 (Const 1) (Const 3) (Const 4) (Offset 1 13)
+  colours ← u32 (Offset 0 8) (Offset 256 10) (Offset 1280 12) (Offset 5376 16)
+  deltas ← u32 (Const 0) (Offset 1 8) (Offset 257 10) (Offset 1281 16)
+  predictor ← predictor
+  give (record { begin_c = begin; num_c = channels; nb_colours = colours; nb_deltas = deltas; d_pred = predictor; wp_header = weights_for predictor weights })
+
+-- one squeeze step: its direction, where residuals go, and its range
+abbrev pub squeeze_params : Grammar SqueezeParams
+squeeze_params = do
+  horizontal ← flag
+  in_place ← flag
+  begin ← begin_channel
+  channels ← u32 (Const 1) (Const 2) (Const 3) (Offset 4 4)
+  give (record { horizontal = horizontal; in_place = in_place; begin_c = begin; num_c = channels })
+
+-- how many steps a squeeze lists
+abbrev pub step_count : Grammar ℕ
+step_count = u32 (Const 0) (Offset 1 4) (Offset 9 6) (Offset 41 8)
+
+-- at most 296 steps; none stands for the default squeeze
+abbrev pub squeeze : Grammar (List SqueezeParams)
+squeeze = do
+  count ← step_count
+  repeated count squeeze_params
+
+-- a field, seen by view
+abbrev pub seen : {X Y : Type 0} → (X → Y) → Grammar X → Grammar Y
+seen view field = do
+  x ← field
+  give (view x)
+
+-- a transform behind its two bits of kind; kind 3 has no meaning
+abbrev pub transform : WpHeader → Grammar Transform
+transform weights = do
+  kind ← number 2
+  either (kind == 0) (seen OfRct rct) (either (kind == 1) (seen OfPalette (palette weights)) (either (kind == 2) (seen OfSqueeze squeeze) (refuse (BadEnum (codes "TransformId") kind))))
+
+-- the least and the greatest value of a part
+abbrev pub least_value : U32Spec → ℕ
+least_value (Const n) = n
+least_value (Offset least n) = least
+
+abbrev pub greatest_value : U32Spec → ℕ
+greatest_value (Const n) = n
+greatest_value (Offset least n) = least + 2 ^ n - 1
+
+-- the least value of a U32, and its greatest
+abbrev pub least_of : U32Spec → U32Spec → U32Spec → U32Spec → ℕ
+least_of d0 d1 d2 d3 = min (min (least_value d0) (least_value d1)) (min (least_value d2) (least_value d3))
+
+abbrev pub greatest_of : U32Spec → U32Spec → U32Spec → U32Spec → ℕ
+greatest_of d0 d1 d2 d3 = max (max (greatest_value d0) (greatest_value d1)) (max (greatest_value d2) (greatest_value d3))
+
+-- the ranges of a colour transform that was read
+pub record IsRct (t : Rct) : Type 0 where
+  pub begin : t.begin_c ≤ 9287
+  pub kind : t.rct_type ≤ 73
+
+-- those of a palette
+pub record IsPalette (t : Palette) : Type 0 where
+  pub begin : t.begin_c ≤ 9287
+  pub some_channels : 1 ≤ t.num_c
+  pub channels : t.num_c ≤ 8192
+  pub colours : t.nb_colours ≤ 70911
+  pub deltas : t.nb_deltas ≤ 66816
+
+-- those of a squeeze step
+pub record IsSqueezeParams (t : SqueezeParams) : Type 0 where
+  pub begin : t.begin_c ≤ 9287
+  pub some_channels : 1 ≤ t.num_c
+  pub channels : t.num_c ≤ 19
+
+-- those of a squeeze
+pub record IsSqueeze (steps : List SqueezeParams) : Type 0 where
+  pub count : length steps ≤ 296
+  pub each : All IsSqueezeParams steps
+
+-- a transform whose fields are in the ranges that a header can have
+abbrev pub IsTransform : Transform → Type 0
+IsTransform (OfRct t) = IsRct t
+IsTransform (OfPalette t) = IsPalette t
+IsTransform (OfSqueeze steps) = IsSqueeze steps
+
+-- the two kinds that change the list of channels
+abbrev pub IsPaletteTransform : Transform → Type 0
+IsPaletteTransform (OfPalette t) = Unit {0}
+IsPaletteTransform other = ⊥
+
+abbrev pub IsSqueezeTransform : Transform → Type 0
+IsSqueezeTransform (OfSqueeze steps) = Unit {0}
+IsSqueezeTransform other = ⊥
+
+-- a palette has a channel at least
+abbrev pub HasChannels : Transform → Type 0
+HasChannels (OfPalette t) = 1 ≤ t.num_c
+HasChannels other = Unit {0}

@@ -1,0 +1,170 @@
+//! The channels of an image, as they are coded.
+
+ghost use Rattle.std.specs.Prelude.{◌≡◌, ◌≤ℤ◌, pos, IsTrue, IfOk, IfErr};
+ghost use Rattle.std.specs.List.{All};
+ghost use Rattle.jxlm_base.specs.Fault.{NoMemory, fault_of};
+ghost use Rattle.jxlm_transform.specs.ChannelSteps.{has_size_of, table_channel, average_channel, residual_channel, can_be_squeezed, grown as the_grown};
+ghost use Rattle.jxlm_transform.specs.Channels.{image_channel, image_list, channel_of, info_of, list_of};
+ghost use Rattle.jxlm_transform.specs.Params.{IsValidChannel};
+
+use crate::param::{ChannelShift, ModularChannelParams};
+use jxlm_base::error::Result;
+use jxlm_base::grid::OutOfMemory;
+use std::alloc::Global;
+
+/// What is known of a channel as it is coded: its size, its shifts, and the size and the shift that it came with.
+#[derive(Clone, Copy)]
+pub struct ModularChannelInfo {
+    /// The width, in samples.
+    pub width: u32,
+    /// The height, in samples.
+    pub height: u32,
+    /// The width with which the channel was given.
+    pub original_width: u32,
+    /// The height with which it was given.
+    pub original_height: u32,
+    /// How often the width is halved; -1 for a table.
+    pub hshift: i32,
+    /// How often the height is halved; -1 for a table.
+    pub vshift: i32,
+    /// The shift with which the channel was given.
+    pub original_shift: ChannelShift,
+}
+
+impl ModularChannelInfo {
+    /// A channel as it is given, before any transform.
+    pub fn new(params: &ModularChannelParams) -> ModularChannelInfo
+        requires { IsValidChannel params.now }
+        ensures { result ≡ info_of (image_channel params.now) }
+    {
+        let (width, height) = params.shift.shift_size((params.width, params.height));
+        ModularChannelInfo {
+            width,
+            height,
+            original_width: params.width,
+            original_height: params.height,
+            hshift: params.shift.hshift(),
+            vshift: params.shift.vshift(),
+            original_shift: params.shift,
+        }
+    }
+
+    /// The table of a palette: a column for each colour, and a row for each channel.
+    pub(crate) fn table(nb_colours: u32, num_c: u32) -> ModularChannelInfo
+        ensures { channel_of result ≡ table_channel nb_colours num_c }
+    {
+        ModularChannelInfo {
+            width: nb_colours,
+            height: num_c,
+            original_width: nb_colours,
+            original_height: num_c,
+            hshift: -1,
+            vshift: -1,
+            original_shift: ChannelShift::Raw(-1, -1),
+        }
+    }
+
+    /// The shift with which the channel was given.
+    pub fn shift(&self) -> ChannelShift
+        ensures { result ≡ self.now.original_shift }
+    {
+        self.original_shift
+    }
+
+    /// The width and the height, in samples, with which the channel was given.
+    pub fn original_size(&self) -> (u32, u32)
+        ensures { result ≡ (self.now.original_width, self.now.original_height) }
+    {
+        (self.original_width, self.original_height)
+    }
+
+    /// Whether another channel has the size of this one.
+    pub(crate) fn is_of_size(&self, other: &ModularChannelInfo) -> bool
+        ensures { result ≡ has_size_of (channel_of self.now) (channel_of other.now) }
+    {
+        other.width == self.width && other.height == self.height
+    }
+
+    /// Whether it may be squeezed: it has samples, and its shifts are at most 30.
+    pub(crate) fn can_be_squeezed(&self) -> bool
+        ensures { result ≡ can_be_squeezed (channel_of self.now) }
+    {
+        self.width > 0 && self.height > 0 && self.hshift <= 30 && self.vshift <= 30
+    }
+
+    /// The averages of the channel, where it is squeezed across or down.
+    pub(crate) fn average(&self, horizontal: bool) -> ModularChannelInfo
+        requires { IsTrue (can_be_squeezed (channel_of self.now)) }
+        ensures { channel_of result ≡ average_channel horizontal (channel_of self.now) }
+    {
+        if horizontal {
+            ModularChannelInfo {
+                width: self.width.div_ceil(2),
+                hshift: grown(self.hshift),
+                ..*self
+            }
+        } else {
+            ModularChannelInfo {
+                height: self.height.div_ceil(2),
+                vshift: grown(self.vshift),
+                ..*self
+            }
+        }
+    }
+
+    /// The residuals of the channel, where it is squeezed across or down.
+    pub(crate) fn residual(&self, horizontal: bool) -> ModularChannelInfo
+        requires { IsTrue (can_be_squeezed (channel_of self.now)) }
+        ensures { channel_of result ≡ residual_channel horizontal (channel_of self.now) }
+    {
+        if horizontal {
+            ModularChannelInfo {
+                width: self.width / 2,
+                hshift: grown(self.hshift),
+                ..*self
+            }
+        } else {
+            ModularChannelInfo {
+                height: self.height / 2,
+                vshift: grown(self.vshift),
+                ..*self
+            }
+        }
+    }
+}
+
+/// A shift of a side that is halved once more; that of a table stays.
+fn grown(shift: i32) -> i32
+    requires { shift ≤ℤ pos 30 }
+    ensures { result ≡ the_grown shift }
+{
+    if shift >= 0 { shift + 1 } else { shift }
+}
+
+/// The channels of an image. Those of tables, and what became of them, come first: the meta channels.
+#[derive(Drop)]
+pub struct ModularChannels {
+    /// The channels, in order.
+    pub info: Vec<ModularChannelInfo>,
+    /// How many of them are meta channels.
+    pub nb_meta_channels: usize,
+}
+
+impl ModularChannels {
+    /// The channels of an image, before any transform. It is refused for want of memory alone.
+    pub fn new(alloc: Global, params: &[ModularChannelParams]) -> Result<ModularChannels>
+        requires { All IsValidChannel params.now }
+        ensures ok { IfOk result (λ l. list_of l ≡ image_list params.now) }
+        ensures err { IfErr result (λ e. fault_of e ≡ NoMemory) }
+    {
+        let mut info = Vec::new(alloc);
+        for channel in params {
+            info.push(ModularChannelInfo::new(channel))
+                .map_err(|_| OutOfMemory)?;
+        }
+        Ok(ModularChannels {
+            info,
+            nb_meta_channels: 0,
+        })
+    }
+}

@@ -1,0 +1,474 @@
+//! Transforms of an image's channels, as a header lists them.
+
+ghost use Rattle.std.specs.Prelude.{◌≡◌, ◌≤◌, ◌↔◌, length, IsTrue, IfOk};
+ghost use Rattle.std.specs.List.{All};
+ghost use Rattle.jxlm_base.specs.Bits.{bytes_of, position_of};
+ghost use Rattle.jxlm_base.specs.Grammar.{Answers, FitsU32, IsExact, Reads, number, repeated, u32 as the_u32};
+ghost use Rattle.jxlm_tree.specs.WeightsHeader.{AnswersExactly};
+ghost use Rattle.jxlm_transform.specs.Transforms.{transform_of, begin_channel as the_begin_channel, rct, predictor, weights_for, palette, squeeze_params, squeeze, transform, least_of, greatest_of, IsRct, IsPalette, IsSqueezeParams, IsSqueeze, IsTransform, HasChannels, IsPaletteTransform, IsSqueezeTransform};
+
+mod default_squeeze;
+mod steps;
+
+use jxlm_base::bits::{Bitstream, BitstreamError, U32Spec};
+use jxlm_base::error::{Error, Result};
+use jxlm_base::grid::OutOfMemory;
+use jxlm_tree::predictor::{Predictor, WpHeader};
+use std::alloc::Global;
+
+/// A colour transform of three channels.
+#[derive(Clone, Copy)]
+pub struct Rct {
+    /// The first of the three channels.
+    pub begin_c: u32,
+    /// How the colours are formed, from 0 to 73.
+    pub rct_type: u32,
+}
+
+/// A table of colours in the place of a range of channels.
+#[derive(Clone, Copy)]
+pub struct Palette {
+    /// The first channel of the range.
+    pub begin_c: u32,
+    /// How many channels the range has, from 1 to 8192.
+    pub num_c: u32,
+    /// How many colours the table has, at most 70911.
+    pub nb_colours: u32,
+    /// How many of them are added to a prediction, at most 66816.
+    pub nb_deltas: u32,
+    /// The predictor of these.
+    pub d_pred: Predictor,
+    /// The header's weights, where the predictor is the self-correcting one.
+    pub wp_header: Option<WpHeader>,
+}
+
+/// One squeeze of a range of channels: each is halved along one side.
+#[derive(Clone, Copy)]
+pub struct SqueezeParams {
+    /// Whether the width is halved, and not the height.
+    pub horizontal: bool,
+    /// Whether residuals stand right behind the range, and not at the end of the list.
+    pub in_place: bool,
+    /// The first channel of the range.
+    pub begin_c: usize,
+    /// How many channels the range has.
+    pub num_c: usize,
+}
+
+/// Squeezes in order. A header that lists none stands for the default squeeze.
+#[derive(Drop)]
+pub struct Squeeze {
+    /// The squeezes.
+    pub sp: Vec<SqueezeParams>,
+}
+
+/// A transform of an image's channels.
+#[derive(Drop)]
+pub enum TransformInfo {
+    /// A colour transform.
+    Rct(Rct),
+    /// A palette.
+    Palette(Palette),
+    /// A squeeze.
+    Squeeze(Squeeze),
+}
+
+/// A `U32` field.
+fn field(
+    bits: &mut Bitstream<'_>,
+    d0: U32Spec,
+    d1: U32Spec,
+    d2: U32Spec,
+    d3: U32Spec,
+) -> std::result::Result<u32, BitstreamError>
+    requires fits { FitsU32 d0 × FitsU32 d1 × FitsU32 d2 × FitsU32 d3 }
+    ensures gives { Reads (λ v. v) result (position_of bits.new) ((the_u32 d0 d1 d2 d3).read (bytes_of bits.old) (position_of bits.old)) }
+    ensures least { IfOk result (λ v. least_of d0 d1 d2 d3 ≤ v) }
+    ensures greatest { IfOk result (λ v. v ≤ greatest_of d0 d1 d2 d3) }
+    ensures bytes { bytes_of bits.new ≡ bytes_of bits.old }
+{
+    bits.read_u32(d0, d1, d2, d3)
+}
+
+/// The first channel of a transform.
+fn begin_channel(bits: &mut Bitstream<'_>) -> std::result::Result<u32, BitstreamError>
+    ensures gives { Reads (λ v. v) result (position_of bits.new) (the_begin_channel.read (bytes_of bits.old) (position_of bits.old)) }
+    ensures range { IfOk result (λ v. v ≤ 9287) }
+    ensures bytes { bytes_of bits.new ≡ bytes_of bits.old }
+{
+    field(
+        bits,
+        U32Spec::Offset(0, 3),
+        U32Spec::Offset(8, 6),
+        U32Spec::Offset(72, 10),
+        U32Spec::Offset(1096, 13),
+    )
+}
+
+impl Rct {
+    /// The colour transform that stands at the reader's place.
+    ///
+    /// A cut input is refused by `UnexpectedEof`, and the reader stands behind the last field that
+    /// was read whole.
+    pub fn parse(bits: &mut Bitstream<'_>) -> Result<Rct>
+        ensures gives { AnswersExactly result (position_of bits.new) (rct.read (bytes_of bits.old) (position_of bits.old)) }
+        ensures ranges { IfOk result (λ t. IsRct t) }
+        ensures bytes { bytes_of bits.new ≡ bytes_of bits.old }
+    {
+        let begin_c = begin_channel(bits)?;
+        let rct_type = field(
+            bits,
+            U32Spec::Const(6),
+            U32Spec::Offset(0, 2),
+            U32Spec::Offset(2, 4),
+            U32Spec::Offset(10, 6),
+        )?;
+        Ok(Rct { begin_c, rct_type })
+    }
+}
+
+/// A predictor by its number of 4 bits.
+fn read_predictor(bits: &mut Bitstream<'_>) -> std::result::Result<Predictor, BitstreamError>
+    ensures gives { Reads (λ v. v) result (position_of bits.new) (predictor.read (bytes_of bits.old) (position_of bits.old)) }
+    ensures bytes { bytes_of bits.new ≡ bytes_of bits.old }
+{
+    let number = bits.read_bits(4)?;
+    Predictor::try_from(number)
+}
+
+impl Palette {
+    /// The palette that stands at the reader's place. It keeps the weights where its predictor is
+    /// the self-correcting one.
+    ///
+    /// A cut input is refused by `UnexpectedEof`, and the number of a predictor that is none by
+    /// `InvalidEnum`. The reader then stands behind the last field that was read whole.
+    pub fn parse(bits: &mut Bitstream<'_>, wp_header: &WpHeader) -> Result<Palette>
+        ensures gives { AnswersExactly result (position_of bits.new) ((palette wp_header.now).read (bytes_of bits.old) (position_of bits.old)) }
+        ensures ranges { IfOk result (λ t. IsPalette t) }
+        ensures weights { IfOk result (λ t. t.wp_header ≡ weights_for t.d_pred wp_header.now) }
+        ensures bytes { bytes_of bits.new ≡ bytes_of bits.old }
+    {
+        let begin_c = begin_channel(bits)?;
+        let num_c = field(
+            bits,
+            U32Spec::Const(1),
+            U32Spec::Const(3),
+            U32Spec::Const(4),
+            U32Spec::Offset(1, 13),
+        )?;
+        let nb_colours = field(
+            bits,
+            U32Spec::Offset(0, 8),
+            U32Spec::Offset(256, 10),
+            U32Spec::Offset(1280, 12),
+            U32Spec::Offset(5376, 16),
+        )?;
+        let nb_deltas = field(
+            bits,
+            U32Spec::Const(0),
+            U32Spec::Offset(1, 8),
+            U32Spec::Offset(257, 10),
+            U32Spec::Offset(1281, 16),
+        )?;
+        let d_pred = read_predictor(bits)?;
+        Ok(Palette {
+            begin_c,
+            num_c,
+            nb_colours,
+            nb_deltas,
+            d_pred,
+            wp_header: kept_weights(d_pred, wp_header),
+        })
+    }
+}
+
+/// The weights that a palette keeps.
+fn kept_weights(d_pred: Predictor, wp_header: &WpHeader) -> Option<WpHeader>
+    ensures { result ≡ weights_for d_pred wp_header.now }
+{
+    match d_pred {
+        Predictor::SelfCorrecting => Some(*wp_header),
+        _ => None,
+    }
+}
+
+impl SqueezeParams {
+    fn parse(bits: &mut Bitstream<'_>) -> std::result::Result<SqueezeParams, BitstreamError>
+        ensures gives { Reads (λ v. v) result (position_of bits.new) (squeeze_params.read (bytes_of bits.old) (position_of bits.old)) }
+        ensures ranges { IfOk result (λ t. IsSqueezeParams t) }
+        ensures bytes { bytes_of bits.new ≡ bytes_of bits.old }
+    {
+        let horizontal = bits.read_bool()?;
+        let in_place = bits.read_bool()?;
+        let begin_c = begin_channel(bits)?;
+        let num_c = field(
+            bits,
+            U32Spec::Const(1),
+            U32Spec::Const(2),
+            U32Spec::Const(3),
+            U32Spec::Offset(4, 4),
+        )?;
+        Ok(SqueezeParams {
+            horizontal,
+            in_place,
+            begin_c: begin_c as usize,
+            num_c: num_c as usize,
+        })
+    }
+}
+
+impl Squeeze {
+    /// The squeeze that stands at the reader's place: how many steps, at most 296, and the steps.
+    ///
+    /// A cut input is refused by `UnexpectedEof`, and the reader stands behind the last field that
+    /// was read whole. Want of memory may be answered at any time.
+    pub fn parse(alloc: Global, bits: &mut Bitstream<'_>) -> Result<Squeeze>
+        ensures gives { Answers (λ s. s.sp.items) result (position_of bits.new) (squeeze.read (bytes_of bits.old) (position_of bits.old)) }
+        ensures ranges { IfOk result (λ s. IsSqueeze s.sp.items) }
+        ensures bytes { bytes_of bits.new ≡ bytes_of bits.old }
+    {
+        let count = field(
+            bits,
+            U32Spec::Const(0),
+            U32Spec::Offset(1, 4),
+            U32Spec::Offset(9, 6),
+            U32Spec::Offset(41, 8),
+        )?;
+        let sp = read_steps(alloc, bits, count)?;
+        Ok(Squeeze { sp })
+    }
+}
+
+/// So many steps of a squeeze.
+fn read_steps(alloc: Global, bits: &mut Bitstream<'_>, count: u32) -> Result<Vec<SqueezeParams>>
+    ensures gives { Answers (λ v. v.items) result (position_of bits.new) ((repeated count squeeze_params).read (bytes_of bits.old) (position_of bits.old)) }
+    ensures count { IfOk result (λ v. length v.items ≡ count) }
+    ensures each { IfOk result (λ v. All IsSqueezeParams v.items) }
+    ensures bytes { bytes_of bits.new ≡ bytes_of bits.old }
+{
+    let mut steps = Vec::new(alloc);
+    for _ in 0..count {
+        let step = SqueezeParams::parse(bits)?;
+        steps.push(step).map_err(|_| OutOfMemory)?;
+    }
+    Ok(steps)
+}
+
+/// The kind of a transform.
+fn read_kind(bits: &mut Bitstream<'_>) -> std::result::Result<u32, BitstreamError>
+    ensures gives { Reads (λ v. v) result (position_of bits.new) ((number 2).read (bytes_of bits.old) (position_of bits.old)) }
+    ensures bytes { bytes_of bits.new ≡ bytes_of bits.old }
+{
+    bits.read_bits(2)
+}
+
+impl TransformInfo {
+    /// The transform that stands at the reader's place, behind two bits of its kind.
+    ///
+    /// A cut input is refused by `UnexpectedEof`; kind 3, and the number of a predictor that is
+    /// none, by `InvalidEnum`. The reader then stands behind the last field that was read whole.
+    /// Want of memory may be answered in the middle of a squeeze.
+    pub fn parse(
+        alloc: Global,
+        bits: &mut Bitstream<'_>,
+        wp_header: &WpHeader,
+    ) -> Result<TransformInfo>
+        ensures gives { Answers transform_of result (position_of bits.new) ((transform wp_header.now).read (bytes_of bits.old) (position_of bits.old)) }
+        ensures ranges { IfOk result (λ t. IsTransform (transform_of t)) }
+        ensures some_channels { IfOk result (λ t. HasChannels (transform_of t)) }
+        ensures bytes { bytes_of bits.new ≡ bytes_of bits.old }
+    {
+        let kind = read_kind(bits)?;
+        match kind {
+            0 => Ok(TransformInfo::Rct(Rct::parse(bits)?)),
+            1 => Ok(TransformInfo::Palette(Palette::parse(bits, wp_header)?)),
+            2 => Ok(TransformInfo::Squeeze(Squeeze::parse(alloc, bits)?)),
+            value => {
+                let unknown = BitstreamError::InvalidEnum {
+                    name: "TransformId",
+                    value,
+                };
+                Err(Error::Bitstream(unknown))
+            }
+        }
+    }
+
+    /// Whether it is a palette.
+    pub fn is_palette(&self) -> bool
+        ensures { IsTrue result ↔ IsPaletteTransform (transform_of self.now) }
+    {
+        matches!(self, TransformInfo::Palette(_))
+    }
+
+    /// Whether it is a squeeze.
+    pub fn is_squeeze(&self) -> bool
+        ensures { IsTrue result ↔ IsSqueezeTransform (transform_of self.now) }
+    {
+        matches!(self, TransformInfo::Squeeze(_))
+    }
+}
+
+/// Transforms are read exactly: what is read as one stands there, and one that stands there is read.
+pub fn transforms_are_read_exactly()
+    ensures colour { IsExact rct }
+    ensures palette { (weights : WpHeader) → IsExact (palette weights) }
+    ensures squeeze { IsExact squeeze }
+    ensures all { (weights : WpHeader) → IsExact (transform weights) }
+{}
+
+#[cfg(test)]
+mod tests {
+    use super::*;
+    use std::result::Result;
+    use std::test::Fail;
+
+    // The weights of the byte 01.
+    fn usual_weights() -> Result<WpHeader, Error> {
+        WpHeader::parse(&mut Bitstream::new(&[0x01]))
+    }
+
+    // The transform behind four bits of a header, and the reader behind it.
+    fn behind_header(alloc: Global, bytes: &[u8]) -> (Result<TransformInfo, Error>, u64) {
+        let mut bits = Bitstream::new(bytes);
+        let parsed = match (bits.read_bits(4), usual_weights()) {
+            (Ok(_), Ok(weights)) => TransformInfo::parse(alloc, &mut bits, &weights),
+            (Err(e), _) => Err(Error::Bitstream(e)),
+            (_, Err(e)) => Err(e),
+        };
+        (parsed, bits.position())
+    }
+
+    #[test]
+    fn transforms_of_whole_streams(rt: HostRuntime) -> Result<(), Fail> {
+        let (colour, position) = behind_header(rt.alloc(), &[0x06, 0x00]);
+        let colour = colour?;
+        assert!(rt; !colour.is_palette() && !colour.is_squeeze());
+        match colour {
+            TransformInfo::Rct(t) => assert_eq!(rt; (t.begin_c, t.rct_type), (0, 6)),
+            _ => assert!(rt; false),
+        }
+        assert_eq!(rt; position, 13);
+
+        let (squeeze, position) = behind_header(rt.alloc(), &[0x66, 0x30, 0x00]);
+        let squeeze = squeeze?;
+        assert!(rt; !squeeze.is_palette() && squeeze.is_squeeze());
+        match squeeze {
+            TransformInfo::Squeeze(t) => {
+                assert_eq!(rt; t.sp.len(), 1);
+                assert!(rt; t.sp[0].horizontal && t.sp[0].in_place);
+                assert_eq!(rt; (t.sp[0].begin_c, t.sp[0].num_c), (0, 1));
+            }
+            _ => assert!(rt; false),
+        }
+        assert_eq!(rt; position, 21);
+
+        let (default, position) = behind_header(rt.alloc(), &[0x26]);
+        match default? {
+            TransformInfo::Squeeze(t) => assert!(rt; t.sp.is_empty()),
+            _ => assert!(rt; false),
+        }
+        assert_eq!(rt; position, 8);
+        Ok(())
+    }
+
+    #[test]
+    fn what_is_no_transform_is_refused(rt: HostRuntime) {
+        let cases = [
+            ([0x36].as_slice(), "TransformId", 3, 6),
+            ([0x16, 0x00, 0x00, 0x1C].as_slice(), "MaProperty", 14, 29),
+        ];
+        for (bytes, name, value, place) in cases {
+            let (parsed, position) = behind_header(rt.alloc(), bytes);
+            let unknown = BitstreamError::InvalidEnum { name, value };
+            assert_eq!(rt;
+                (parsed.err(), position),
+                (Some(Error::Bitstream(unknown)), place)
+            );
+        }
+        let cut = Error::Bitstream(BitstreamError::UnexpectedEof);
+        let cases = [
+            ([0x06].as_slice(), 6),
+            ([0x16, 0x00, 0x00].as_slice(), 23),
+            ([0x66, 0x30].as_slice(), 14),
+            ([0x46].as_slice(), 6),
+        ];
+        for (bytes, place) in cases {
+            let (parsed, position) = behind_header(rt.alloc(), bytes);
+            assert_eq!(rt; (parsed.err(), position), (Some(cut), place));
+        }
+    }
+
+    #[test]
+    fn colour_transforms_at_their_limits(rt: HostRuntime) -> Result<(), Fail> {
+        let cases = [
+            ([0xfc, 0xff, 0xff, 0x01].as_slice(), (9287, 73), 25),
+            ([0x80, 0x00].as_slice(), (0, 0), 11),
+            ([0xf4, 0x7b].as_slice(), (71, 9), 16),
+            ([0xf8, 0x3f].as_slice(), (1095, 6), 16),
+        ];
+        for (bytes, fields, place) in cases {
+            let mut bits = Bitstream::new(bytes);
+            bits.read_bits(2)?;
+            let t = Rct::parse(&mut bits)?;
+            assert_eq!(rt; ((t.begin_c, t.rct_type), bits.position()), (fields, place));
+        }
+        Ok(())
+    }
+
+    #[test]
+    fn palettes_at_their_limits(rt: HostRuntime) -> Result<(), Fail> {
+        let weights = usual_weights()?;
+        let greatest = [0xf1, 0xff, 0xff, 0xff, 0xff, 0xff, 0xff, 0x37];
+        let cases = [
+            (
+                greatest.as_slice(),
+                (7, 8192, 70911, 66816),
+                Predictor::AvgAll,
+                62,
+            ),
+            (
+                [0x05, 0xc4, 0x7f, 0xff, 0x06].as_slice(),
+                (8, 3, 255, 256),
+                Predictor::SelfCorrecting,
+                36,
+            ),
+            (
+                [0x05, 0x18, 0x00, 0x14].as_slice(),
+                (8, 4, 256, 0),
+                Predictor::Gradient,
+                30,
+            ),
+        ];
+        for (bytes, fields, predictor, place) in cases {
+            let mut bits = Bitstream::new(bytes);
+            bits.read_bits(2)?;
+            let t = Palette::parse(&mut bits, &weights)?;
+            assert_eq!(rt; (t.begin_c, t.num_c, t.nb_colours, t.nb_deltas), fields);
+            assert_eq!(rt; (t.d_pred, bits.position()), (predictor, place));
+            assert_eq!(rt;
+                t.wp_header.is_some(),
+                predictor == Predictor::SelfCorrecting
+            );
+        }
+        Ok(())
+    }
+
+    #[test]
+    fn squeezes_of_two_steps(rt: HostRuntime) -> Result<(), Fail> {
+        let mut bits = Bitstream::new(&[0x16, 0xfd, 0xff, 0x7f, 0x05, 0x40]);
+        bits.read_bits(2)?;
+        let squeeze = Squeeze::parse(rt.alloc(), &mut bits)?;
+        assert_eq!(rt; (squeeze.sp.len(), bits.position()), (2, 47));
+        let [first, second] = [squeeze.sp[0], squeeze.sp[1]];
+        assert_eq!(rt; (first.horizontal, first.in_place), (true, false));
+        assert_eq!(rt; (first.begin_c, first.num_c), (9287, 19));
+        assert_eq!(rt; (second.horizontal, second.in_place), (false, true));
+        assert_eq!(rt; (second.begin_c, second.num_c), (72, 3));
+        Ok(())
+    }
+
+    #[test]
+    fn laws() {
+        transforms_are_read_exactly();
+    }
+}

@@ -1,0 +1,32 @@
+-- What holds also holds unless there was no memory.
+use Rattle.jxlm_base.specs.Fault.{Fault, Eof, BadEnum, BadProfile, BadTree, NoGlobalTree, BadRct, BadPalette, BadSqueeze, OfDecoder, NoMemory, UnlessMemory}
+use Rattle.jxlm_base.specs.declared.decoder.DecoderError.TheVariants.{UnexpectedEof, Invalid, OutOfMemory}
+
+-- a fact leads to another one
+pub unless_so : (fault : Fault) {P Q : Type 0} → (P → Q) → UnlessMemory fault P → UnlessMemory fault Q
+unless_so Eof f h = f h
+unless_so (BadEnum name value) f h = f h
+unless_so (BadProfile text) f h = f h
+unless_so BadTree f h = f h
+unless_so NoGlobalTree f h = f h
+unless_so BadRct f h = f h
+unless_so BadPalette f h = f h
+unless_so BadSqueeze f h = f h
+unless_so (OfDecoder UnexpectedEof) f h = f h
+unless_so (OfDecoder (Invalid k)) f h = f h
+unless_so (OfDecoder OutOfMemory) f h = tt
+unless_so NoMemory f h = tt
+
+pub always_so : (fault : Fault) {P : Type 0} → P → UnlessMemory fault P
+always_so Eof h = h
+always_so (BadEnum name value) h = h
+always_so (BadProfile text) h = h
+always_so BadTree h = h
+always_so NoGlobalTree h = h
+always_so BadRct h = h
+always_so BadPalette h = h
+always_so BadSqueeze h = h
+always_so (OfDecoder UnexpectedEof) h = h
+always_so (OfDecoder (Invalid k)) h = h
+always_so (OfDecoder OutOfMemory) h = tt
+always_so NoMemory h = tt

@@ -1,0 +1,89 @@
+-- Properties by what the state keeps.
+use Rattle.std.proofs.Common.{◌≡◌, ℕ, zero, suc, ◌-◌, ◌/◌, ◌%◌, ◌^◌, ◌<◌, ◌≤◌, ℤ, pos, ◌-ℤ◌, List, [], length, get_or, Some, None, Option, FitsSigned, subst, refl, arith}
+use Rattle.std.specs.Prelude.{map}
+use Rattle.std.specs.List.{slice_get}
+use Rattle.std.specs.Int.{w32, int_wrap}
+use Rattle.std.proofs.lemmas.Int.{int_wrap_fits, SFits-int_wrap, ints}
+use Rattle.std.proofs.lemmas.List.{get_or-map}
+use Rattle.std.proofs.lemmas.Option.{slice_get_past}
+use Rattle.std.proofs.lemmas.Bool.{lt-ltb, le-ltb}
+use Rattle.jxlm_base.specs.Grid.{Grid}
+use Rattle.jxlm_tree.specs.Neighbours.{Neighbours, neighbours, column, row, west}
+use Rattle.jxlm_tree.specs.Properties.{Surroundings, own_properties, earlier_property, earlier_properties, place_property, west_change, gradient_at, error_property}
+use Rattle.jxlm_tree.specs.Holding.{surroundings, own_of, own_list}
+use Rattle.jxlm_tree.specs.Correcting.{IsMade}
+use Rattle.jxlm_tree.specs.Predictions.{corrected}
+use Rattle.jxlm_tree.specs.Rolling.{Rolls}
+use Rattle.jxlm_tree.specs.Standing.{Setting}
+use Rattle.jxlm_tree.specs.declared.predictor.WpHeader.{WpHeader}
+use Rattle.jxlm_tree.specs.declared.self_correcting.PredictionResult.{PredictionResult}
+use Rattle.jxlm_tree.proofs.Rolling.{column_is, row_is}
+
+-- no such earlier channel
+pub earlier-none : (s : Surroundings) (n : ℕ) → length s.earlier ≤ n / 4 → earlier_property s n ≡ pos 0
+earlier-none s n h = rw (slice_get_past s.earlier (n / 4) h) refl
+
+pub earlier-some : (s : Surroundings) (n : ℕ) (g : Grid ℤ) → slice_get s.earlier (n / 4) ≡ Some g → earlier_property s n ≡ get_or (earlier_properties g (column s.samples s.width) (row s.samples s.width)) (n % 4) (pos 0)
+earlier-some s n g h = rw h refl
+
+pub zero_wraps : int_wrap w32 (pos 0) ≡ pos 0
+zero_wraps = int_wrap_fits w32 (pos 0) (record { sfits = omega arith })
+
+own-wraps : (xs : List ℤ) (k : ℕ) → k < length xs → get_or (map (int_wrap w32) xs) k (pos 0) ≡ int_wrap w32 (get_or xs k (pos 0))
+own-wraps xs k h = get_or-map (int_wrap w32) xs k (pos 0) (pos 0) h
+
+-- properties 0 to 15
+pub own_property : (s : Surroundings) (k : ℕ) → k < 16 → get_or (own_of s) k (pos 0) ≡ place_property s k
+own_property s zero h = refl
+own_property s (suc zero) h = refl
+own_property s (suc (suc k)) h =
+    let below : k < 14 = omega arith in
+    let t = le-ltb (suc (suc k)) 2 (omega arith) in
+    let u = lt-ltb (suc (suc k)) 16 h in
+    let e : suc (suc k) - 2 ≡ k = omega arith in
+    rw (t, u, e) (own-wraps (own_properties s) k below)
+
+-- and up
+pub later_property : (s : Surroundings) (k : ℕ) → 16 ≤ k → place_property s k ≡ int_wrap w32 (earlier_property s (k - 16))
+later_property s k h =
+    let t = le-ltb k 2 (omega arith) in
+    let u = le-ltb k 16 h in
+    rw (t, u) refl
+
+-- property 8, by what is kept
+change_is : (width x y : ℕ) (w n nw g : ℤ) (previous current samples : List ℤ) → Rolls width x y w n nw g previous current samples → west samples width x y -ℤ g ≡ west_change samples width x y
+change_is width zero y w n nw g previous current samples r = rw (r.start_is refl) (omega (arith, ints))
+change_is width (suc x) y w n nw g previous current samples r = rw (r.gradient_is x refl) refl
+
+small_wraps : (n : ℕ) → n < 2 ^ 31 → int_wrap w32 (pos n) ≡ pos n
+small_wraps n h = int_wrap_fits w32 (pos n) (record { sfits = h })
+
+-- properties 0 to 15, by what is kept
+pub own_kept : (s : Setting) (x y : ℕ) (w n nw g e : ℤ) (previous current samples : List ℤ) (a : Neighbours) → Rolls s.width x y w n nw g previous current samples → x < 2 ^ 31 → y < 2 ^ 31 → a ≡ neighbours samples s.width → FitsSigned w32 a.w → FitsSigned w32 a.n → FitsSigned w32 e →
+    e ≡ error_property s.weights samples s.width → own_list x y a g e ≡ own_of (surroundings s [] samples)
+own_kept s x y w n nw g e previous current samples a r hx hy is fw fn fe error =
+    let cx = column_is s.width x y w n nw g previous current samples r in
+    let cy = row_is s.width x y w n nw g previous current samples r in
+    let wn : int_wrap w32 (neighbours samples s.width).n ≡ (neighbours samples s.width).n = let P : Neighbours → Type 0 = λ b. int_wrap w32 b.n ≡ b.n in subst P is (int_wrap_fits w32 a.n fn) in
+    let ww : int_wrap w32 (neighbours samples s.width).w ≡ (neighbours samples s.width).w = let P : Neighbours → Type 0 = λ b. int_wrap w32 b.w ≡ b.w in subst P is (int_wrap_fits w32 a.w fw) in
+    let we : int_wrap w32 e ≡ e = int_wrap_fits w32 e fe in
+    let wg : int_wrap w32 (gradient_at samples s.width x y) ≡ gradient_at samples s.width x y = int_wrap_fits w32 _ (SFits-int_wrap w32 _) in
+    rw is (rw (← error, we, wn, ww, cx, cy, small_wraps x hx, small_wraps y hy, wg, change_is s.width x y w n nw g previous current samples r) refl)
+
+-- without weights there is no greatest error
+pub error-some : (o : Option WpHeader) (r : PredictionResult) (width : ℕ) (samples : List ℤ) → IsMade (Some r) o width samples → r.max_error ≡ error_property o samples width
+error-some None r width samples h = absurd h
+error-some (Some w) r width samples h = h.max_error_is
+
+pub error-none : (o : Option WpHeader) (width : ℕ) (samples : List ℤ) → IsMade None o width samples → pos 0 ≡ error_property o samples width
+error-none None width samples h = refl
+error-none (Some w) width samples h = absurd h
+
+-- nor a prediction
+pub corrected-some : (o : Option WpHeader) (r : PredictionResult) (width : ℕ) (samples : List ℤ) → IsMade (Some r) o width samples → r.prediction ≡ corrected o samples width
+corrected-some None r width samples h = absurd h
+corrected-some (Some w) r width samples h = h.prediction_is
+
+pub corrected-none : (o : Option WpHeader) (width : ℕ) (samples : List ℤ) → IsMade None o width samples → pos 0 ≡ corrected o samples width
+corrected-none None width samples h = refl
+corrected-none (Some w) width samples h = absurd h

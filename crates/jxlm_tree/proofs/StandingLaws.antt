@@ -1,0 +1,50 @@
+-- Where a state stands, and where after a sample more.
+use Rattle.std.proofs.Common.{◌≡◌, ℕ, ◌+◌, ◌*◌, ◌<◌, ◌≤◌, inl, inr, ℤ, List, length, Some, None, Option, ap, ◌∙◌}
+use Rattle.std.proofs.lemmas.Bool.{cases_lt}
+use Rattle.jxlm_tree.specs.Correcting.{Corrects, CorrectsBy, CorrectsBehind, CorrectsNext, HoldsColumn, IsMade, IsMadeBy}
+use Rattle.jxlm_tree.specs.Neighbours.{column, row}
+use Rattle.jxlm_tree.specs.Standing.{Setting, StandsAt, column_of, row_of, width_of, earlier_count}
+use Rattle.jxlm_tree.specs.declared.predictor.WpHeader.{WpHeader}
+use Rattle.jxlm_tree.specs.declared.self_correcting.Corrector.{Corrector}
+use Rattle.jxlm_tree.specs.declared.self_correcting.PredictionResult.{PredictionResult}
+use Rattle.jxlm_tree.specs.declared.state.PredictorState.{PredictorState}
+use Rattle.jxlm_tree.proofs.Rolling.{column_is, row_is}
+
+-- the next place is in the row, or at the start of the next row
+pub corrects_next : (o p : Option Corrector) (weights : Option WpHeader) (width x y i j : ℕ) (samples : List ℤ) → p ≡ o → CorrectsBehind o weights width x y samples →
+    (x + 1 < width → (i ≡ x + 1) × (j ≡ y)) → (width ≤ x + 1 → (i ≡ 0) × (j ≡ y + 1)) → Corrects p weights width i j samples
+corrects_next o p weights width x y i j samples same behind inside ends =
+    elim (cases_lt (x + 1) width) [ inl lt ↦ rw (same, (inside lt).0, (inside lt).1) (behind.0 lt) | inr ge ↦ rw (same, (ends ge).0, (ends ge).1) (behind.1 ge) ]
+
+-- a corrector that keeps errors at (x, y) has column x
+pub holds_column : (o : Option Corrector) (weights : Option WpHeader) (width x y : ℕ) (samples : List ℤ) → Corrects o weights width x y samples → x < width → HoldsColumn o x
+holds_column None weights width x y samples h lt = tt
+holds_column (Some c) None width x y samples h lt = absurd h
+holds_column (Some c) (Some w) width x y samples h lt = rw h.same_width lt
+
+-- what a record of the errors gives, where there are weights
+pub recorded : (c d : Corrector) (r : PredictionResult) (weights : Option WpHeader) (width x y : ℕ) (samples more : List ℤ) → Corrects (Some c) weights width x y samples → IsMade (Some r) weights width samples →
+    ((header : WpHeader) → CorrectsBy c header width x y samples → IsMadeBy r header width samples → CorrectsNext d header width x y more) → CorrectsBehind (Some d) weights width x y more
+recorded c d r None width x y samples more h made step = absurd h
+recorded c d r (Some w) width x y samples more h made step = step w h made
+
+-- what a place of a state says of the samples before it
+module _ {S : Type 0} (state : PredictorState S) (s : Setting) (samples : List ℤ) (stands : StandsAt state s samples) where
+  pub stands_column : column samples s.width ≡ column_of state
+  stands_column = column_is _ _ _ _ _ _ _ _ _ _ stands.rolls
+
+  pub stands_row : row samples s.width ≡ row_of state
+  stands_row = row_is _ _ _ _ _ _ _ _ _ _ stands.rolls
+
+  pub stands_place : length samples ≡ row_of state * s.width + column_of state
+  stands_place = stands.rolls.place
+
+  pub stands_in_row : column_of state < s.width
+  stands_in_row = stands.rolls.in_row
+
+  pub stands_width : width_of state ≡ s.width
+  stands_width = stands.same_width
+
+  -- as many earlier channels as it has
+  pub stands_earlier : earlier_count state ≡ length s.earlier
+  stands_earlier = state.earlier.ok.0 ∙ ap length stands.same_earlier

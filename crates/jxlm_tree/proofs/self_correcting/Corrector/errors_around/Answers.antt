@@ -1,0 +1,32 @@
+use Rattle.std.proofs.Common.{◌≡◌, ℕ, ◌+◌, not, FitsSigned, ◌∙◌, rules, ap, length}
+use Rattle.std.specs.Prelude.{map, nat_lt}
+use Rattle.std.specs.Int.{w32}
+use Rattle.std.proofs.lemmas.Int.{to_z-of_z}
+use Rattle.jxlm_tree.specs.Correcting.{cell_errors}
+use Rattle.jxlm_tree.specs.SelfCorrecting.{Errors, errors_of}
+use Rattle.jxlm_tree.proofs.Correcting.{west_is, north_is, north_west_is, north_east_is, sums_are}
+use Rattle.jxlm_tree.proofs.self_correcting.Corrector.errors_around.Goals as goal
+
+pub returns : goal.returns
+returns g c = λ header width samples by.
+    let old = c.args.self.now in
+    let errors = errors_of header samples width (length samples) in
+    let previous = map cell_errors old.previous.items in
+    let current = map cell_errors old.current.items in
+    let x = c.args.x in
+    let y = c.args.y in
+    let n = c.above-n.ensures header width x samples by in
+    let nw = c.above_left-nw.ensures header width x samples by in
+    let ne = c.above_right-ne.ensures header width x samples by in
+    let f0 : FitsSigned w32 c.args.self.now.west.true_error = search rules in
+    let f1 : FitsSigned w32 c.above-n.result.true_error = search rules in
+    let f2 : FitsSigned w32 c.above_left-nw.result.true_error = search rules in
+    let f3 : FitsSigned w32 c.above_right-ne.result.true_error = search rules in
+    let last : c.is_last-last.result ≡ not (nat_lt (x + 1) width) = c.is_last-last.ensures ∙ ap (λ (w : ℕ). not (nat_lt (x + 1) w)) by.same_width in
+    record {
+      w_is = to_z-of_z w32 _ f0 ∙ west_is errors width (cell_errors old.west) (cell_errors old.west_west) previous current x y by.keeps;
+      n_is = to_z-of_z w32 _ f1 ∙ ap (λ (e : Errors). e.true_error) n ∙ north_is errors width x y;
+      nw_is = to_z-of_z w32 _ f2 ∙ ap (λ (e : Errors). e.true_error) nw ∙ north_west_is errors width x y;
+      ne_is = to_z-of_z w32 _ f3 ∙ ap (λ (e : Errors). e.true_error) ne ∙ north_east_is errors width x y;
+      sums_are = c.sums.ensures ∙ sums_are errors width x y (cell_errors c.above_left-nw.result) (cell_errors old.west_west) (cell_errors c.above-n.result) (cell_errors old.west) (cell_errors c.above_right-ne.result) c.is_last-last.result previous current by.keeps nw n ne last;
+    }

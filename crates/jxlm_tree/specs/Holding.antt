@@ -1,0 +1,57 @@
+-- What the properties of a place hold.
+use Rattle.std.specs.Prelude.{◌≡◌, ℕ, ℤ, pos, ◌+ℤ◌, ◌-ℤ◌, List, [], ◌∷◌, map}
+use Rattle.std.specs.Int.{w32, int_wrap}
+use Rattle.jxlm_base.specs.Grid.{Grid}
+use Rattle.jxlm_base.specs.Numbers.{absolute}
+use Rattle.jxlm_base.specs.Regions.{grid_of}
+use Rattle.jxlm_tree.specs.Around.{seen}
+use Rattle.jxlm_tree.specs.Correcting.{IsMade}
+use Rattle.jxlm_tree.specs.Neighbours.{Neighbours, neighbours}
+use Rattle.jxlm_tree.specs.Properties.{Surroundings, own_properties}
+use Rattle.jxlm_tree.specs.Standing.{Setting, StandsAt, IsReady}
+use Rattle.jxlm_tree.specs.declared.properties.Properties.{Properties}
+use Rattle.jxlm_tree.specs.declared.state.PredictorState.{PredictorState}
+
+-- what the properties look at where a state was set so, behind these samples; the store is one of whole numbers
+abbrev pub surroundings : Setting → List (Grid ℤ) → List ℤ → Surroundings
+surroundings s store samples = record { weights = s.weights; width = s.width; samples = samples; earlier = map (grid_of store) s.earlier }
+
+-- properties 0 to 15 at (x, y) with these neighbours, where `change` is property 9 of the sample before and `error` property 15
+abbrev pub own_list : ℕ → ℕ → Neighbours → ℤ → ℤ → List ℤ
+own_list x y a change error =
+    pos 0
+    ∷ pos 0
+    ∷ pos y
+    ∷ pos x
+    ∷ int_wrap w32 (absolute a.n)
+    ∷ int_wrap w32 (absolute a.w)
+    ∷ a.n
+    ∷ a.w
+    ∷ int_wrap w32 (a.w -ℤ change)
+    ∷ int_wrap w32 (a.w -ℤ a.nw +ℤ a.n)
+    ∷ int_wrap w32 (a.w -ℤ a.nw)
+    ∷ int_wrap w32 (a.nw -ℤ a.n)
+    ∷ int_wrap w32 (a.n -ℤ a.ne)
+    ∷ int_wrap w32 (a.n -ℤ a.nn)
+    ∷ int_wrap w32 (a.w -ℤ a.ww)
+    ∷ error
+    ∷ []
+
+-- properties 0 to 15 of a place
+abbrev pub own_of : Surroundings → List ℤ
+own_of s = pos 0 ∷ pos 0 ∷ map (int_wrap w32) (own_properties s)
+
+module _ {S : Type 0} where
+  -- the state that properties hold, and the store that they look at
+  abbrev pub state_of : Properties S → PredictorState S
+  state_of p = p.state.now
+
+  abbrev pub store_of : Properties S → List (Grid S)
+  store_of p = p.store.now
+
+  -- They are the properties of the place at which the state stands, wherever that is.
+  pub record IsCurrent (p : Properties S) : Type 0 where
+    pub ready : IsReady (state_of p) (store_of p)
+    pub around_is : (s : Setting) (samples : List ℤ) → StandsAt (state_of p) s samples → seen p.around ≡ neighbours samples s.width
+    pub correction_is : (s : Setting) (samples : List ℤ) → StandsAt (state_of p) s samples → IsMade p.correction s.weights s.width samples
+    pub own_is : (s : Setting) (samples : List ℤ) → StandsAt (state_of p) s samples → p.own ≡ own_of (surroundings s [] samples)

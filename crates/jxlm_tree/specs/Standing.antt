@@ -1,0 +1,99 @@
+-- Where a predictor's state stands.
+use Rattle.std.specs.Prelude.{◌≡◌, ℕ, ◌+◌, ◌^◌, ◌<◌, ◌≤◌, ℤ, List, Option, All, vec_len, vec_capacity}
+use Rattle.jxlm_base.specs.Grid.{Grid}
+use Rattle.jxlm_base.specs.Regions.{Lies}
+use Rattle.jxlm_base.specs.declared.subgrid.Region.{Region}
+use Rattle.jxlm_tree.specs.Correcting.{Corrects, header_of}
+use Rattle.jxlm_tree.specs.Neighbours.{row}
+use Rattle.jxlm_tree.specs.Rolling.{Rolls}
+use Rattle.jxlm_tree.specs.declared.state.PredictorState.{PredictorState}
+use Rattle.jxlm_tree.specs.declared.predictor.WpHeader.{WpHeader}
+
+-- What a state is reset for: a channel's width, the weights if there are any, the regions of the earlier channels, the nearest first.
+pub record Setting : Type 0 where
+  pub width : ℕ
+  pub weights : Option WpHeader
+  pub earlier : List Region
+
+abbrev pub setting : ℕ → Option WpHeader → List Region → Setting
+setting w h e = record { width = w; weights = h; earlier = e }
+
+-- the state is the one behind these samples of a channel, in row order
+pub record StandsAt {S : Type 0} (state : PredictorState S) (s : Setting) (samples : List ℤ) : Type 0 where
+  pub same_width : state.width ≡ s.width
+  pub same_earlier : state.earlier.items ≡ s.earlier
+  pub rolls : Rolls s.width state.x state.y state.w state.n state.nw state.gradient state.previous.items state.current.items samples
+  pub corrects : Corrects state.corrector s.weights s.width state.x state.y samples
+
+-- the rolling rows and values are those behind these samples
+abbrev pub RollsIn : {S : Type 0} → PredictorState S → List ℤ → Type 0
+RollsIn state samples = Rolls state.width state.x state.y state.w state.n state.nw state.gradient state.previous.items state.current.items samples
+
+-- what a state is reset for, its room and the errors that it keeps are the same in both
+pub record KeepsSetting {S : Type 0} (old new : PredictorState S) : Type 0 where
+  pub same_width : new.width ≡ old.width
+  pub same_room : new.room ≡ old.room
+  pub same_earlier : new.earlier ≡ old.earlier
+  pub same_corrector : new.corrector ≡ old.corrector
+
+-- the place is the next one: in the row, or at the start of the next row
+abbrev pub IsNext : {S : Type 0} → PredictorState S → PredictorState S → Type 0
+IsNext old new = (old.x + 1 < old.width → (new.x ≡ old.x + 1) × (new.y ≡ old.y)) × (old.width ≤ old.x + 1 → (new.x ≡ 0) × (new.y ≡ old.y + 1))
+
+-- the state stands somewhere
+pub record Stands {S : Type 0} (state : PredictorState S) : Type 0 where
+  pub where_set : Setting
+  pub before : List ℤ
+  pub stands : StandsAt state where_set before
+
+-- a region lies in the store, is as wide as the channel and holds the row
+pub record HoldsRow {S : Type 0} (r : Region) (store : List (Grid S)) (width y : ℕ) : Type 0 where
+  pub lies : Lies r store
+  pub as_wide : r.width ≡ width
+  pub below : y < r.height
+
+-- the state stands somewhere, in one of the first 2 ^ 30 rows, each of which the regions of the earlier channels hold
+pub record IsReady {S : Type 0} (state : PredictorState S) (store : List (Grid S)) : Type 0 where
+  pub where_set : Setting
+  pub before : List ℤ
+  pub stands : StandsAt state where_set before
+  pub few_rows : row before where_set.width < 2 ^ 30
+  pub earlier_hold : All (λ r. HoldsRow r store where_set.width (row before where_set.width)) where_set.earlier
+
+-- the column and the row of the state's place, and the channel's width
+module _ {S : Type 0} where
+  abbrev pub column_of : PredictorState S → ℕ
+  column_of state = state.x
+
+  abbrev pub row_of : PredictorState S → ℕ
+  row_of state = state.y
+
+  abbrev pub width_of : PredictorState S → ℕ
+  width_of state = state.width
+
+  -- up to which width there is memory for channels
+  abbrev pub room_of : PredictorState S → ℕ
+  room_of state = state.room
+
+  -- how many earlier channels there are, and for how many there is memory
+  abbrev pub earlier_count : PredictorState S → ℕ
+  earlier_count state = vec_len state.earlier
+
+  abbrev pub earlier_room_of : PredictorState S → ℕ
+  earlier_room_of state = vec_capacity state.earlier
+
+  -- the weights, if there are any
+  abbrev pub weights_of : PredictorState S → Option WpHeader
+  weights_of state = header_of state.corrector
+
+  -- there is as much memory in both, and the weights are the same
+  pub record HasSameRoom (old new : PredictorState S) : Type 0 where
+    pub same_room : room_of new ≡ room_of old
+    pub same_earlier_room : earlier_room_of new ≡ earlier_room_of old
+    pub same_weights : weights_of new ≡ weights_of old
+
+  -- the place is two or more columns and rows away from every edge but the last row
+  pub record IsInner (state : PredictorState S) : Type 0 where
+    pub rows_above : 2 ≤ row_of state
+    pub columns_left : 2 ≤ column_of state
+    pub columns_right : column_of state + 2 < width_of state

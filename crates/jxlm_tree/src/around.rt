@@ -1,0 +1,132 @@
+//! The samples around a place.
+
+ghost use Rattle.std.specs.Prelude.{◌≡◌, ◌+ℤ◌, ◌-ℤ◌, ◌*ℤ◌, pos, int_div, unsigned_abs, nat_lt, if◌then◌else◌, ◌<◌, ◌≤◌, ◌^◌};
+ghost use Rattle.jxlm_tree.specs.declared.predictor.Predictor.TheVariants.{AvgAll};
+ghost use Rattle.jxlm_tree.specs.Predictions.{prediction_from};
+ghost use Rattle.jxlm_tree.specs.Around.{clamped_around, seen};
+
+use crate::predictor::Predictor;
+use jxlm_base::sample::Sealed;
+
+/// The neighbours of a place, each by the edge rules.
+#[derive(Clone, Copy)]
+pub(crate) struct Around {
+    /// Left.
+    pub(crate) w: i32,
+    /// Above.
+    pub(crate) n: i32,
+    /// Above left.
+    pub(crate) nw: i32,
+    /// Above right.
+    pub(crate) ne: i32,
+    /// Above and two to the right.
+    pub(crate) nee: i32,
+    /// Two above.
+    pub(crate) nn: i32,
+    /// Two to the left.
+    pub(crate) ww: i32,
+}
+
+/// The average of two samples, toward zero.
+fn average(a: i32, b: i32) -> i64
+    ensures { result ≡ int_div (a +ℤ b) (pos 2) }
+{
+    (a as i64 + b as i64) / 2
+}
+
+impl Around {
+    fn select(&self) -> i32
+        ensures { result ≡ if nat_lt (unsigned_abs (self.now.n -ℤ self.now.nw)) (unsigned_abs (self.now.w -ℤ self.now.nw)) then self.now.w else self.now.n }
+    {
+        if self.n.abs_diff(self.nw) < self.w.abs_diff(self.nw) {
+            self.w
+        } else {
+            self.n
+        }
+    }
+
+    fn nearest(&self) -> i64
+        ensures value { result ≡ pos 6 *ℤ self.now.n -ℤ pos 2 *ℤ self.now.nn +ℤ pos 7 *ℤ self.now.w }
+        ensures bound { unsigned_abs result < 2 ^ 36 }
+    {
+        6 * self.n as i64 - 2 * self.nn as i64 + 7 * self.w as i64
+    }
+
+    fn farther(&self) -> i64
+        ensures value { result ≡ self.now.ww +ℤ self.now.nee +ℤ pos 3 *ℤ self.now.ne }
+        ensures bound { unsigned_abs result < 2 ^ 34 }
+    {
+        self.ww as i64 + self.nee as i64 + 3 * self.ne as i64
+    }
+
+    fn average_of_all(&self) -> i64
+        ensures { result ≡ prediction_from (seen self.now) (pos 0) AvgAll }
+    {
+        (self.nearest() + self.farther() + 8) / 16
+    }
+
+    /// What a predictor makes of the neighbours. `corrected` is the self-correcting prediction times 8.
+    pub(crate) fn prediction(&self, corrected: i64, predictor: Predictor) -> i64
+        requires { unsigned_abs corrected < 2 ^ 62 }
+        ensures { result ≡ prediction_from (seen self.now) corrected predictor }
+    {
+        match predictor {
+            Predictor::Zero => 0,
+            Predictor::West => self.w.into(),
+            Predictor::North => self.n.into(),
+            Predictor::AvgWestAndNorth => average(self.w, self.n),
+            Predictor::Select => self.select().into(),
+            Predictor::Gradient => i32::grad_clamped(self.n, self.w, self.nw).into(),
+            Predictor::SelfCorrecting => (corrected + 3) >> 3,
+            Predictor::NorthEast => self.ne.into(),
+            Predictor::NorthWest => self.nw.into(),
+            Predictor::WestWest => self.ww.into(),
+            Predictor::AvgWestAndNorthWest => average(self.w, self.nw),
+            Predictor::AvgNorthAndNorthWest => average(self.n, self.nw),
+            Predictor::AvgNorthAndNorthEast => average(self.n, self.ne),
+            Predictor::AvgAll => self.average_of_all(),
+        }
+    }
+
+    /// Left plus above right less above, times 8.
+    pub(crate) fn slope(&self) -> i64
+        ensures value { result ≡ self.now.w *ℤ pos 8 +ℤ self.now.ne *ℤ pos 8 -ℤ self.now.n *ℤ pos 8 }
+        ensures bound { unsigned_abs result < 2 ^ 37 }
+    {
+        self.w as i64 * 8 + self.ne as i64 * 8 - self.n as i64 * 8
+    }
+
+    /// The number brought between the least and the greatest of left, above and above right, each times 8.
+    pub(crate) fn clamped(&self, value: i64) -> i64
+        requires { unsigned_abs value < 2 ^ 40 }
+        ensures value { result ≡ clamped_around (seen self.now) value }
+        ensures bound { unsigned_abs result < 2 ^ 40 }
+    {
+        let (n, w, ne) = (self.n as i64 * 8, self.w as i64 * 8, self.ne as i64 * 8);
+        let low = n.min(w).min(ne);
+        let high = n.max(w).max(ne);
+        low.max(value.min(high))
+    }
+}
+
+#[cfg(test)]
+mod tests {
+    use super::*;
+
+    // Toward zero, also below it.
+    #[test]
+    fn averages(rt: HostRuntime) {
+        let all = Around {
+            w: -1,
+            n: -1,
+            nw: -1,
+            ne: -1,
+            nee: -1,
+            nn: -1,
+            ww: -1,
+        };
+        assert_eq!(rt; all.prediction(0, Predictor::AvgAll), 0);
+        let two = Around { w: -3, n: 0, ..all };
+        assert_eq!(rt; two.prediction(0, Predictor::AvgWestAndNorth), -1);
+    }
+}

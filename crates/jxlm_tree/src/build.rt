@@ -1,0 +1,99 @@
+//! How a tree is put together from the end of its listing.
+
+ghost use Rattle.std.specs.Prelude.{◌≡◌, ◌+◌, ◌≤◌, ℕ, ◌∷◌, List, length, map, IfOk, IfErr, IsSome, Some};
+ghost use Rattle.jxlm_base.specs.Fault.{fault_of};
+ghost use Rattle.jxlm_tree.specs.Building.{leaves_in, listed_of, trees_in};
+ghost use Rattle.jxlm_tree.specs.DraftReading.{AllDrafts, ListsTrees, draft_of, node_of};
+ghost use Rattle.jxlm_tree.specs.Queue.{IsRefusedInQueue, IsTooDeepListing, deepest, taken_up};
+ghost use Rattle.jxlm_tree.specs.Tree.{AllLeaves, Node, levels, node_count};
+ghost use Rattle.jxlm_tree.specs.TreeReading.{Draft as DraftLeaf, IsLeafOf, leaf_count, with_clusters};
+ghost use Rattle.jxlm_tree.specs.TreeShape.{shape_of};
+
+use crate::flat::Leaf;
+use crate::nodes::DraftNode;
+use crate::tree::Subtree;
+use jxlm_base::error::Result;
+use jxlm_base::grid::OutOfMemory;
+use std::alloc::Global;
+use std::collections::VecDeque;
+
+// A node of a listing whose leaves have their clusters.
+#[derive(Clone, Copy)]
+pub enum ListedNode {
+    Leaf(Leaf),
+    Decision { property: u32, value: i32 },
+}
+
+// The last of the leaves that have no cluster yet gets the last of their clusters.
+fn numbered(node: DraftNode, clusters: &[u8], unnumbered: &mut usize) -> ListedNode
+    requires some { leaves_in (node_of node) ≤ unnumbered.old }
+    requires within { unnumbered.old ≤ length clusters.now }
+    ensures node { (ns : List (Node DraftLeaf)) → with_clusters clusters.now unnumbered.new (node_of node ∷ ns) ≡ listed_of result ∷ with_clusters clusters.now unnumbered.old ns }
+    ensures left { unnumbered.old ≡ unnumbered.new + leaves_in (node_of node) }
+{
+    match node {
+        DraftNode::Leaf(draft) => {
+            *unnumbered -= 1;
+            ListedNode::Leaf(draft.in_cluster(clusters[*unnumbered]))
+        }
+        DraftNode::Decision { property, value } => ListedNode::Decision { property, value },
+    }
+}
+
+// A leaf goes to the back of the queue; a decision takes its right and then its left tree from the
+// front, and goes to the back.
+fn take_up(
+    alloc: Global,
+    queue: &mut VecDeque<Subtree>,
+    node: ListedNode,
+    depth_limit: usize,
+) -> Result<()>
+    requires enough { IsSome (taken_up (listed_of node) (trees_in queue.old.items)) }
+    requires shallow { deepest (trees_in queue.old.items) ≤ depth_limit }
+    ensures queue { IfOk result (λ _. taken_up (listed_of node) (trees_in queue.old.items) ≡ Some (trees_in queue.new.items)) }
+    ensures shallow { IfOk result (λ _. deepest (trees_in queue.new.items) ≤ depth_limit) }
+    ensures err { IfErr result (λ e. IsRefusedInQueue depth_limit (taken_up (listed_of node) (trees_in queue.old.items)) (fault_of e)) }
+{
+    let subtree = match node {
+        ListedNode::Leaf(leaf) => Subtree::leaf(leaf),
+        ListedNode::Decision { property, value } => {
+            let Some(right) = queue.pop_front() else {
+                unreachable!()
+            };
+            let Some(left) = queue.pop_front() else {
+                unreachable!()
+            };
+            Subtree::decision(alloc, property, value, left, right, depth_limit)?
+        }
+    };
+    queue.push_back(subtree).map_err(|_| OutOfMemory)?;
+    Ok(())
+}
+
+// The tree of these nodes, whose leaves have these clusters in their order.
+pub fn build(
+    alloc: Global,
+    mut nodes: Vec<DraftNode>,
+    clusters: &[u8],
+    depth_limit: usize,
+) -> Result<Subtree>
+    requires listing { ListsTrees 1 (map node_of nodes.items) }
+    requires clusters { length clusters.now ≡ leaf_count (map node_of nodes.items) }
+    requires drafts { AllDrafts (map node_of nodes.items) }
+    ensures levels { IfOk result (λ t. levels (shape_of t.tree) ≡ with_clusters clusters.now 0 (map node_of nodes.items)) }
+    ensures depth { IfOk result (λ t. t.depth ≤ depth_limit) }
+    ensures count { IfOk result (λ t. node_count (shape_of t.tree) ≡ length nodes.items) }
+    ensures leaves { IfOk result (λ t. AllLeaves (IsLeafOf clusters.now) (shape_of t.tree)) }
+    ensures err { IfErr result (λ e. IsTooDeepListing depth_limit (with_clusters clusters.now 0 (map node_of nodes.items)) (fault_of e)) }
+{
+    let mut queue: VecDeque<Subtree> = VecDeque::new(alloc);
+    let mut unnumbered = clusters.len();
+    while let Some(node) = nodes.pop() {
+        let node = numbered(node, clusters, &mut unnumbered);
+        take_up(alloc, &mut queue, node, depth_limit)?;
+    }
+    match queue.pop_front() {
+        Some(root) => Ok(root),
+        None => unreachable!(),
+    }
+}

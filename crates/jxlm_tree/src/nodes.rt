@@ -1,0 +1,213 @@
+//! How the nodes of a tree are read, level by level.
+
+ghost use Rattle.std.specs.Prelude.{◌≡◌, ◌≤◌, ◌<◌, ◌^◌, ℕ, length, map, slice_index, IfOk, IfErr};
+ghost use Rattle.jxlm_base.specs.Bits.{bytes_of, position_of};
+ghost use Rattle.jxlm_base.specs.Fault.{fault_of};
+ghost use Rattle.jxlm_base.specs.Grammar.{Answers};
+ghost use Rattle.jxlm_tree.specs.DraftReading.{AllDrafts, DrawnAnswers, DrawnGives, IsDraft, IsDraftNode, ListsTrees, draft_of, node_of};
+ghost use Rattle.jxlm_tree.specs.TreeReading.{children as children_of, drafts_at, is_endless as has_no_end, leaf_at, limit_fault, most_nodes, multiplier_at, node_at, nodes_at, predictor_at, read_context as token_of};
+
+use crate::flat::Leaf;
+use crate::predictor::Predictor;
+use jxlm_base::bits::{Bitstream, BitstreamError};
+use jxlm_base::decoder::Decoder;
+use jxlm_base::error::{Error, Result};
+use jxlm_base::grid::OutOfMemory;
+use jxlm_base::sample::Sealed;
+use std::alloc::Global;
+
+// No tree has more nodes.
+const MOST_NODES: usize = 1 << 26;
+
+// A leaf without its cluster, which comes from the leaves' decoder.
+#[derive(Clone, Copy)]
+pub struct Draft {
+    pub predictor: Predictor,
+    pub offset: i32,
+    pub multiplier: u32,
+}
+
+impl Draft {
+    pub fn in_cluster(self, cluster: u8) -> Leaf
+        ensures { result ≡ record { cluster = cluster; predictor = self.predictor; offset = self.offset; multiplier = self.multiplier } }
+    {
+        Leaf {
+            cluster,
+            predictor: self.predictor,
+            offset: self.offset,
+            multiplier: self.multiplier,
+        }
+    }
+}
+
+// A node as it is read.
+#[derive(Clone, Copy)]
+pub enum DraftNode {
+    Leaf(Draft),
+    Decision { property: u32, value: i32 },
+}
+
+impl DraftNode {
+    // How many nodes stand below it, side by side.
+    fn children(&self) -> usize
+        ensures { result ≡ children_of (node_of self.now) }
+    {
+        match self {
+            DraftNode::Leaf(_) => 0,
+            DraftNode::Decision { .. } => 2,
+        }
+    }
+}
+
+fn is_endless<D: Decoder>(decoder: &D) -> bool
+    requires { length (D.meaning.cluster_map decoder.now) ≡ 6 }
+    ensures { result ≡ has_no_end (D.meaning.single_token decoder.now (slice_index (D.meaning.cluster_map decoder.now) 1)) }
+{
+    let cluster = decoder.cluster_map()[1];
+    match decoder.single_token(cluster) {
+        None | Some(0) => false,
+        Some(_) => true,
+    }
+}
+
+#[tactic(auto, unfolding(crate::specs::TreeReading::drafts_at))]
+pub fn read_tree<D: Decoder>(
+    alloc: Global,
+    decoder: &mut D,
+    bits: &mut Bitstream<'_>,
+    node_limit: usize,
+) -> Result<Vec<DraftNode>>
+    requires contexts { length (D.meaning.cluster_map decoder.old) ≡ 6 }
+    requires nodes { node_limit ≤ 2 ^ 26 }
+    ensures gives { Answers (λ x. map node_of x.items) result (position_of bits.new) (drafts_at D.meaning (bytes_of bits.old) node_limit decoder.old (position_of bits.old)) }
+    ensures within { IfOk result (λ x. AllDrafts (map node_of x.items)) }
+    ensures listing { IfOk result (λ x. ListsTrees 1 (map node_of x.items)) }
+    ensures count { IfOk result (λ x. length x.items ≤ 2 ^ 26) }
+    ensures bytes { bytes_of bits.new ≡ bytes_of bits.old }
+{
+    if is_endless(decoder) {
+        return Err(Error::InvalidMaTree);
+    }
+    decoder.begin(bits)?;
+    let nodes = read_nodes(alloc, decoder, bits, node_limit)?;
+    decoder.finalize()?;
+    Ok(nodes)
+}
+
+fn read_nodes<D: Decoder>(
+    alloc: Global,
+    decoder: &mut D,
+    bits: &mut Bitstream<'_>,
+    node_limit: usize,
+) -> Result<Vec<DraftNode>>
+    requires contexts { length (D.meaning.cluster_map decoder.old) ≡ 6 }
+    requires nodes { node_limit ≤ 2 ^ 26 }
+    ensures gives { DrawnAnswers (λ x. map node_of x.items) result decoder.new (position_of bits.new) (nodes_at D.meaning (bytes_of bits.old) (limit_fault node_limit) (most_nodes node_limit) 1 decoder.old (position_of bits.old)) }
+    ensures within { IfOk result (λ x. AllDrafts (map node_of x.items)) }
+    ensures count { IfOk result (λ x. length x.items ≤ 2 ^ 26) }
+    ensures bytes { bytes_of bits.new ≡ bytes_of bits.old }
+{
+    let mut nodes = Vec::new(alloc);
+    let mut missing = 1usize;
+    while missing > 0 {
+        check_room(nodes.len(), node_limit)?;
+        let node = read_node(decoder, bits)?;
+        missing = missing - 1 + node.children();
+        nodes.push(node).map_err(|_| OutOfMemory)?;
+    }
+    Ok(nodes)
+}
+
+fn check_room(read: usize, node_limit: usize) -> Result<()>
+    requires { read ≤ most_nodes node_limit }
+    ensures ok { IfOk result (λ _. read < most_nodes node_limit) }
+    ensures err { IfErr result (λ e. (read ≡ most_nodes node_limit) × (fault_of e ≡ limit_fault node_limit)) }
+{
+    if read >= MOST_NODES {
+        return Err(Error::InvalidMaTree);
+    }
+    if read > node_limit {
+        let refusal = BitstreamError::ProfileConformance("MA tree limit exceeded");
+        return Err(Error::Bitstream(refusal));
+    }
+    Ok(())
+}
+
+#[tactic(auto, unfolding(crate::specs::TreeReading::node_at))]
+fn read_node<D: Decoder>(decoder: &mut D, bits: &mut Bitstream<'_>) -> Result<DraftNode>
+    requires { length (D.meaning.cluster_map decoder.old) ≡ 6 }
+    ensures gives { DrawnGives node_of result decoder.new (position_of bits.new) (node_at D.meaning (bytes_of bits.old) decoder.old (position_of bits.old)) }
+    ensures within { IfOk result (λ x. IsDraftNode (node_of x)) }
+    ensures clusters { IfOk result (λ _. D.meaning.cluster_map decoder.new ≡ D.meaning.cluster_map decoder.old) }
+    ensures bytes { bytes_of bits.new ≡ bytes_of bits.old }
+{
+    let kind = read_context(decoder, bits, 1)?;
+    if kind == 0 {
+        let leaf = read_leaf(decoder, bits)?;
+        return Ok(DraftNode::Leaf(leaf));
+    }
+    let value = i32::unpack_signed_u32(read_context(decoder, bits, 0)?);
+    Ok(DraftNode::Decision {
+        property: kind - 1,
+        value,
+    })
+}
+
+#[tactic(auto, unfolding(crate::specs::TreeReading::leaf_at))]
+fn read_leaf<D: Decoder>(decoder: &mut D, bits: &mut Bitstream<'_>) -> Result<Draft>
+    requires { length (D.meaning.cluster_map decoder.old) ≡ 6 }
+    ensures gives { DrawnGives draft_of result decoder.new (position_of bits.new) (leaf_at D.meaning (bytes_of bits.old) decoder.old (position_of bits.old)) }
+    ensures within { IfOk result (λ x. IsDraft (draft_of x)) }
+    ensures clusters { IfOk result (λ _. D.meaning.cluster_map decoder.new ≡ D.meaning.cluster_map decoder.old) }
+    ensures bytes { bytes_of bits.new ≡ bytes_of bits.old }
+{
+    let predictor = read_predictor(decoder, bits)?;
+    let offset = i32::unpack_signed_u32(read_context(decoder, bits, 3)?);
+    let multiplier = read_multiplier(decoder, bits)?;
+    Ok(Draft {
+        predictor,
+        offset,
+        multiplier,
+    })
+}
+
+#[tactic(auto, unfolding(crate::specs::TreeReading::predictor_at))]
+fn read_predictor<D: Decoder>(decoder: &mut D, bits: &mut Bitstream<'_>) -> Result<Predictor>
+    requires { length (D.meaning.cluster_map decoder.old) ≡ 6 }
+    ensures gives { DrawnGives (λ x. x) result decoder.new (position_of bits.new) (predictor_at D.meaning (bytes_of bits.old) decoder.old (position_of bits.old)) }
+    ensures clusters { IfOk result (λ _. D.meaning.cluster_map decoder.new ≡ D.meaning.cluster_map decoder.old) }
+    ensures bytes { bytes_of bits.new ≡ bytes_of bits.old }
+{
+    let number = read_context(decoder, bits, 2)?;
+    let predictor = Predictor::try_from(number)?;
+    Ok(predictor)
+}
+
+#[tactic(auto, unfolding(crate::specs::TreeReading::multiplier_at))]
+fn read_multiplier<D: Decoder>(decoder: &mut D, bits: &mut Bitstream<'_>) -> Result<u32>
+    requires { length (D.meaning.cluster_map decoder.old) ≡ 6 }
+    ensures gives { DrawnGives (λ x. x) result decoder.new (position_of bits.new) (multiplier_at D.meaning (bytes_of bits.old) decoder.old (position_of bits.old)) }
+    ensures range { IfOk result (λ x. (1 ≤ x) × (x < 2 ^ 31)) }
+    ensures clusters { IfOk result (λ _. D.meaning.cluster_map decoder.new ≡ D.meaning.cluster_map decoder.old) }
+    ensures bytes { bytes_of bits.new ≡ bytes_of bits.old }
+{
+    let log = read_context(decoder, bits, 4)?;
+    if log > 30 {
+        return Err(Error::InvalidMaTree);
+    }
+    let factor = read_context(decoder, bits, 5)?;
+    if factor > (1 << (31 - log)) - 2 {
+        return Err(Error::InvalidMaTree);
+    }
+    Ok((factor + 1) << log)
+}
+
+fn read_context<D: Decoder>(decoder: &mut D, bits: &mut Bitstream<'_>, context: u32) -> Result<u32>
+    requires { context < length (D.meaning.cluster_map decoder.old) }
+    ensures gives { DrawnGives (λ x. x) result decoder.new (position_of bits.new) (token_of D.meaning (bytes_of bits.old) context decoder.old (position_of bits.old)) }
+    ensures clusters { IfOk result (λ _. D.meaning.cluster_map decoder.new ≡ D.meaning.cluster_map decoder.old) }
+    ensures bytes { bytes_of bits.new ≡ bytes_of bits.old }
+{
+    let token = decoder.read_varint(bits, context)?;
+    Ok(token)
+}

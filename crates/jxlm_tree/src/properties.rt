@@ -1,0 +1,253 @@
+//! The properties of a place, which hold the state until the place's sample is recorded.
+
+ghost use Rattle.std.specs.Prelude.{◌≡◌, ◌+◌, ◌-◌, ◌<◌, ◌≤◌, ◌^◌, ℕ, ℤ, pos, List, [], ◌∷◌, ◌++◌, false, slice_index_or};
+ghost use Rattle.std.specs.Int.{w32, int_wrap};
+ghost use Rattle.jxlm_base.specs.Grid.{at};
+ghost use Rattle.jxlm_base.specs.Regions.{Lies, grid_of, store_meanings};
+ghost use Rattle.jxlm_tree.specs.Around.{seen};
+ghost use Rattle.jxlm_tree.specs.Holding.{own_list};
+ghost use Rattle.jxlm_tree.specs.Properties.{place_property, earlier_properties, earlier_property, expected};
+ghost use Rattle.jxlm_tree.specs.Standing.{Setting, StandsAt, IsReady, IsInner, HasSameRoom};
+ghost use Rattle.jxlm_tree.specs.Holding.{IsCurrent, surroundings, state_of, store_of};
+
+use crate::around::Around;
+use crate::flat::PlaceProperties;
+use crate::reduced::{reduced, reduced_absolute};
+use crate::self_correcting::PredictionResult;
+use crate::state::PredictorState;
+use jxlm_base::grid::{AlignedGrid, Region};
+use jxlm_base::region::region_get;
+use jxlm_base::sample::{Sample, Sealed};
+
+/// The properties of the place at which a state stands.
+#[derive(Drop)]
+pub struct Properties<'p, S> {
+    pub(crate) state: &'p mut PredictorState<S>,
+    pub(crate) store: &'p [AlignedGrid<S>],
+    pub(crate) around: Around,
+    pub(crate) correction: Option<PredictionResult>,
+    pub(crate) own: [i32; 16],
+}
+
+/// Properties 0 to 15, of which 0 and 1 are 0.
+fn own_properties(x: u32, y: u32, around: &Around, gradient: i32, max_error: i32) -> [i32; 16]
+    requires narrow { x < 2 ^ 31 }
+    requires few_rows { y < 2 ^ 31 }
+    ensures { result ≡ own_list x y (seen around.now) gradient max_error }
+{
+    let Around { w, n, nw, .. } = *around;
+    [
+        0,
+        0,
+        y as i32,
+        x as i32,
+        reduced_absolute(n),
+        reduced_absolute(w),
+        n,
+        w,
+        w.wrapping_sub(gradient),
+        w.wrapping_sub(nw).wrapping_add(n),
+        w.wrapping_sub(nw),
+        nw.wrapping_sub(n),
+        n.wrapping_sub(around.ne),
+        n.wrapping_sub(around.nn),
+        w.wrapping_sub(around.ww),
+        max_error,
+    ]
+}
+
+impl<S> PredictorState<S> {
+    /// The properties of the place at which the state stands.
+    pub fn properties<'p, const EDGE: bool>(
+        &'p mut self,
+        store: &'p [AlignedGrid<S>],
+    ) -> Properties<'p, S>
+        requires ready { IsReady self.old store.now }
+        requires inner { EDGE ≡ false → IsInner self.old }
+        ensures same_reference { result.state.ghost_name ≡ self.entry.ghost_name }
+        ensures unchanged { state_of result ≡ self.old }
+        ensures store { store_of result ≡ store.now }
+        ensures current { IsCurrent result }
+    {
+        let around = self.around::<EDGE>();
+        let correction = self.correction::<EDGE>(&around);
+        let max_error = PredictionResult::greatest_error(&correction);
+        let own = own_properties(self.x, self.y, &around, self.gradient, max_error);
+        Properties {
+            state: self,
+            store,
+            around,
+            correction,
+            own,
+        }
+    }
+}
+
+impl<S: Sample> Properties<'_, S> {
+    /// A property by its number.
+    pub fn get(&self, property: usize) -> i32
+        requires { IsCurrent self.now }
+        ensures { (s : Setting) (samples : List ℤ) → StandsAt (state_of self.now) s samples → result ≡ place_property (surroundings s (store_meanings S.to_int (store_of self.now)) samples) property }
+    {
+        if property < 16 {
+            self.own[property]
+        } else {
+            self.of_earlier(property - 16)
+        }
+    }
+
+    fn of_earlier(&self, number: usize) -> i32
+        requires { IsCurrent self.now }
+        ensures { (s : Setting) (samples : List ℤ) → StandsAt (state_of self.now) s samples → result ≡ int_wrap w32 (earlier_property (surroundings s (store_meanings S.to_int (store_of self.now)) samples) number) }
+    {
+        match self.state.earlier.get(number / 4) {
+            Some(region) => self.of_region(*region, number % 4),
+            None => 0,
+        }
+    }
+
+    fn of_region(&self, region: Region, which: usize) -> i32
+        requires lies { Lies region self.now.store.now }
+        requires column { self.now.state.now.x < region.width }
+        requires in_rows { self.now.state.now.y < region.height }
+        requires few { which < 4 }
+        ensures { result ≡ int_wrap w32 (slice_index_or (earlier_properties (grid_of (store_meanings S.to_int self.now.store.now) region) self.now.state.now.x self.now.state.now.y) which (pos 0)) }
+    {
+        let cell = self.cell(region, self.state.x as usize, self.state.y as usize);
+        match which {
+            0 => reduced_absolute(cell),
+            1 => cell,
+            2 => reduced((cell as i64 - self.expected(region) as i64).abs()),
+            _ => cell.wrapping_sub(self.expected(region)),
+        }
+    }
+
+    fn cell(&self, region: Region, x: usize, y: usize) -> i32
+        requires lies { Lies region self.now.store.now }
+        requires column { x < region.width }
+        requires in_rows { y < region.height }
+        ensures { result ≡ at (grid_of (store_meanings S.to_int self.now.store.now) region) x y }
+    {
+        region_get(self.store, region, x, y).to_i32()
+    }
+
+    fn expected(&self, region: Region) -> i32
+        requires lies { Lies region self.now.store.now }
+        requires column { self.now.state.now.x < region.width }
+        requires in_rows { self.now.state.now.y < region.height }
+        ensures { result ≡ expected (grid_of (store_meanings S.to_int self.now.store.now) region).cells region.width self.now.state.now.x self.now.state.now.y }
+    {
+        let (x, y) = (self.state.x as usize, self.state.y as usize);
+        if x > 0 && y > 0 {
+            i32::grad_clamped(
+                self.cell(region, x, y - 1),
+                self.cell(region, x - 1, y),
+                self.cell(region, x - 1, y - 1),
+            )
+        } else if x > 0 {
+            self.cell(region, x - 1, 0)
+        } else if y > 0 {
+            self.cell(region, 0, y - 1)
+        } else {
+            0
+        }
+    }
+}
+
+impl<S: Sample> PlaceProperties for Properties<'_, S> {
+    ghost use Rattle.std.specs.Prelude.{◌≡◌, ℕ, ℤ, List};
+    ghost use Rattle.jxlm_base.specs.Regions.{store_meanings};
+    ghost use Rattle.jxlm_tree.specs.Holding.{IsCurrent, state_of, store_of, surroundings};
+    ghost use Rattle.jxlm_tree.specs.Properties.{place_property};
+    ghost use Rattle.jxlm_tree.specs.Standing.{Setting, StandsAt};
+
+    ghost IsCurrent = { λ p. IsCurrent p };
+
+    ghost gives = { λ p k v. (s : Setting) (samples : List ℤ) → StandsAt (state_of p) s samples → v ≡ place_property (surroundings s (store_meanings S.to_int (store_of p)) samples) k };
+
+    fn property(&self, number: usize) -> i32 {
+        self.get(number)
+    }
+}
+
+impl<S> Properties<'_, S> {
+    /// Hands the state on behind the sample of this place.
+    ///
+    /// The state then stands behind the samples before and this one, and has the room that it had.
+    pub fn record(self, sample: i32)
+        requires { IsCurrent self }
+        ensures stands { (s : Setting) (samples : List ℤ) → StandsAt self.entry.state.now s samples → StandsAt self.exit.0.now s (samples ++ sample ∷ []) }
+        ensures room { HasSameRoom self.entry.state.now self.exit.0.now }
+    {
+        let Properties {
+            state,
+            store: _,
+            around: _,
+            correction,
+            own: _,
+        } = self;
+        state.advance(sample, correction);
+    }
+}
+
+#[cfg(test)]
+mod tests {
+    use super::*;
+    use crate::predictor::{Predictor, WpHeader};
+    use jxlm_base::bits::Bitstream;
+    use jxlm_base::region::region_set;
+    use std::test::Fail;
+
+    // Width 3 and the usual weights, in a state with more room: what is made of the place behind a sample of 1.
+    #[test]
+    fn self_correcting_row(rt: HostRuntime) -> Result<(), Fail> {
+        let header = WpHeader::parse(&mut Bitstream::new(&[0x01]))?;
+        let mut state: PredictorState<i32> = PredictorState::with_room(
+            rt.alloc(),
+            5,
+            0,
+            Some(&header),
+        )?;
+        state.restart(3);
+        state.properties::<true>(&[]).record(1);
+        let second = state.properties::<true>(&[]);
+        assert_eq!(rt; [second.get(2), second.get(3), second.get(15)], [0, 1, -8]);
+        assert_eq!(rt; PredictionResult::eightfold(&second.correction), 8);
+        assert_eq!(rt; Predictor::SelfCorrecting.predict(&second), 1);
+        Ok(())
+    }
+
+    // Behind a channel of width 3 one of width 4, beside an earlier one whose first cell is 5: nothing of the first is left.
+    #[test]
+    fn another_channel(rt: HostRuntime) -> Result<(), Fail> {
+        let header = WpHeader::parse(&mut Bitstream::new(&[0x01]))?;
+        let mut store = vec![in rt.alloc(); AlignedGrid::<i32>::new(rt.alloc(), 4, 1)?]?;
+        let region = Region {
+            buffer: 0,
+            x: 0,
+            y: 0,
+            width: 4,
+            height: 1,
+        };
+        region_set(&mut store, region, 0, 0, -5);
+        let mut state: PredictorState<i32> = PredictorState::with_room(
+            rt.alloc(),
+            4,
+            1,
+            Some(&header),
+        )?;
+        state.restart(3);
+        state.properties::<true>(&[]).record(-1000);
+        state.restart(4);
+        state.add_earlier(region);
+        let first = state.properties::<true>(&store);
+        for property in 2..16 {
+            assert_eq!(rt; first.get(property), 0, "at {property}");
+        }
+        assert_eq!(rt; [first.get(16), first.get(17)], [5, -5]);
+        assert_eq!(rt; [first.get(18), first.property(19)], [5, -5]);
+        assert_eq!(rt; first.get(20), 0);
+        assert_eq!(rt; Predictor::SelfCorrecting.predict(&first), 0);
+        Ok(())
+    }
+}

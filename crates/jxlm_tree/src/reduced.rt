@@ -1,0 +1,19 @@
+//! Whole numbers reduced to 32 bits.
+
+ghost use Rattle.std.specs.Prelude.{◌≡◌};
+ghost use Rattle.std.specs.Int.{w32, int_wrap};
+ghost use Rattle.jxlm_base.specs.Numbers.{absolute};
+
+/// The number reduced to 32 bits.
+pub(crate) fn reduced(value: i64) -> i32
+    ensures { result ≡ int_wrap w32 value }
+{
+    (value.rem_euclid(4294967296) as u32).cast_signed()
+}
+
+/// The number without its sign, reduced to 32 bits: the least number stays as it is.
+pub(crate) fn reduced_absolute(value: i32) -> i32
+    ensures { result ≡ int_wrap w32 (absolute value) }
+{
+    value.unsigned_abs().cast_signed()
+}

@@ -1,0 +1,316 @@
+//! The state between two samples of a channel.
+
+ghost use Rattle.std.specs.Prelude.{◌≡◌, ◌+◌, ◌*◌, ◌<◌, ◌≤◌, ◌^◌, ℕ, ℤ, List, [], ◌∷◌, ◌++◌, false, IfOk, IfErr, OnErr, vec_len};
+ghost use Rattle.std.specs.Option.{option_copied, ForSome};
+ghost use Rattle.jxlm_base.specs.Fault.{NoMemory, fault_of};
+ghost use Rattle.jxlm_tree.specs.Correcting.{HasRows};
+ghost use Rattle.jxlm_tree.specs.SelfCorrecting.{IsHeader};
+
+use crate::around::Around;
+use crate::predictor::WpHeader;
+use crate::self_correcting::{Corrector, PredictionResult};
+use jxlm_base::error::Result;
+use jxlm_base::grid::{OutOfMemory, Region};
+use std::alloc::Global;
+use std::marker::PhantomData;
+use std::mem;
+
+/// What the prediction of a channel's samples remembers of those before: the last two rows, and where there are
+/// weights, the errors of the self-correcting predictor in them.
+#[derive(Drop)]
+pub struct PredictorState<S> {
+    alloc: Global,
+    pub(crate) width: u32,
+    // For channels up to this width there is memory.
+    pub(crate) room: u32,
+    pub(crate) x: u32,
+    pub(crate) y: u32,
+    pub(crate) w: i32,
+    pub(crate) n: i32,
+    pub(crate) nw: i32,
+    pub(crate) gradient: i32,
+    pub(crate) previous: Vec<i32>,
+    pub(crate) current: Vec<i32>,
+    pub(crate) earlier: Vec<Region>,
+    pub(crate) corrector: Option<Corrector>,
+    marker: PhantomData<S>,
+    ghost within_room: { width ≤ room },
+    ghost narrow: { room ≤ 2 ^ 30 },
+    ghost previous_len: { room ≤ vec_len previous },
+    ghost current_len: { room ≤ vec_len current },
+    ghost corrector_rows: { HasRows corrector room },
+}
+
+impl<S> PredictorState<S> {
+    ghost use Rattle.jxlm_tree.specs.Standing.{Setting, StandsAt, Stands, IsInner, RollsIn, KeepsSetting, HasSameRoom, IsNext, setting, room_of, earlier_room_of, earlier_count, weights_of};
+    ghost use Rattle.jxlm_tree.specs.Neighbours.{neighbours, north_east, north_east_east, north_north, west_west};
+    ghost use Rattle.jxlm_tree.specs.Around.{seen};
+    ghost use Rattle.jxlm_tree.specs.Correcting.{IsMade};
+
+    /// A state that stands nowhere: it is to be reset before its first use.
+    pub fn new(alloc: Global) -> PredictorState<S> {
+        PredictorState {
+            alloc,
+            width: 0,
+            room: 0,
+            x: 0,
+            y: 0,
+            w: 0,
+            n: 0,
+            nw: 0,
+            gradient: 0,
+            previous: Vec::new(alloc),
+            current: Vec::new(alloc),
+            earlier: Vec::new(alloc),
+            corrector: None,
+            marker: PhantomData,
+        }
+    }
+
+    /// Stands before the first sample of a channel of this width, from 1 to 2^30.
+    ///
+    /// `earlier` are the regions of the earlier channels of equal size, the nearest first. The self-correcting predictor and
+    /// property 15 want weights, those of a header that was read. All memory for the channel is taken here; where it is
+    /// refused, the answer is `Error::Buffer` and the state is as before.
+    pub fn reset(
+        &mut self,
+        width: u32,
+        earlier: &[Region],
+        wp_header: Option<&WpHeader>,
+    ) -> Result<()>
+        requires some { 0 < width }
+        requires narrow { width ≤ 2 ^ 30 }
+        requires weights { ForSome (option_copied wp_header) IsHeader }
+        ensures ok { IfOk result (λ _. StandsAt self.new (setting width (option_copied wp_header.entry) earlier.now) []) }
+        ensures err { OnErr result (self.new ≡ self.old) }
+    {
+        *self = PredictorState::standing(self.alloc, width, earlier, wp_header)?;
+        Ok(())
+    }
+
+    fn standing(
+        alloc: Global,
+        width: u32,
+        earlier: &[Region],
+        wp_header: Option<&WpHeader>,
+    ) -> std::result::Result<PredictorState<S>, OutOfMemory>
+        requires some { 0 < width }
+        requires narrow { width ≤ 2 ^ 30 }
+        requires weights { ForSome (option_copied wp_header) IsHeader }
+        ensures { IfOk result (λ s. StandsAt s (setting width (option_copied wp_header.entry) earlier.now) []) }
+    {
+        let mut state = PredictorState::roomy(alloc, width, 0, wp_header)?;
+        state.restart(width);
+        state.earlier = Vec::from_slice(alloc, earlier)?;
+        Ok(state)
+    }
+
+    /// A state that stands nowhere, with memory for each channel up to the width `widest`, at most 2^30, beside up to so many
+    /// earlier ones, and with these weights: `restart` and `add_earlier` then take no memory.
+    ///
+    /// The weights are those of a header that was read. Where memory is refused, the answer is `Error::Buffer`.
+    pub fn with_room(
+        alloc: Global,
+        widest: u32,
+        earlier: usize,
+        wp_header: Option<&WpHeader>,
+    ) -> Result<PredictorState<S>>
+        requires narrow { widest ≤ 2 ^ 30 }
+        requires weights { ForSome (option_copied wp_header) IsHeader }
+        ensures room { IfOk result (λ s. room_of s ≡ widest) }
+        ensures earlier_room { IfOk result (λ s. earlier_room_of s ≡ earlier) }
+        ensures weights { IfOk result (λ s. weights_of s ≡ option_copied wp_header.entry) }
+        ensures err { IfErr result (λ e. fault_of e ≡ NoMemory) }
+    {
+        let state = PredictorState::roomy(alloc, widest, earlier, wp_header)?;
+        Ok(state)
+    }
+
+    fn roomy(
+        alloc: Global,
+        widest: u32,
+        earlier: usize,
+        wp_header: Option<&WpHeader>,
+    ) -> std::result::Result<PredictorState<S>, OutOfMemory>
+        requires narrow { widest ≤ 2 ^ 30 }
+        requires weights { ForSome (option_copied wp_header) IsHeader }
+        ensures room { IfOk result (λ s. room_of s ≡ widest) }
+        ensures earlier_room { IfOk result (λ s. earlier_room_of s ≡ earlier) }
+        ensures weights { IfOk result (λ s. weights_of s ≡ option_copied wp_header.entry) }
+    {
+        let corrector = match wp_header {
+            Some(weights) => Some(Corrector::with_room(alloc, *weights, widest)?),
+            None => None,
+        };
+        Ok(PredictorState {
+            alloc,
+            width: 0,
+            room: widest,
+            x: 0,
+            y: 0,
+            w: 0,
+            n: 0,
+            nw: 0,
+            gradient: 0,
+            previous: vec![in alloc; 0i32; widest as usize]?,
+            current: vec![in alloc; 0i32; widest as usize]?,
+            earlier: Vec::with_capacity(alloc, earlier)?,
+            corrector,
+            marker: PhantomData,
+        })
+    }
+
+    /// Stands before the first sample of a channel of this width, from 1 to that for which there is room, with the weights as
+    /// they are and no earlier channel.
+    pub fn restart(&mut self, width: u32)
+        requires some { 0 < width }
+        requires roomy { width ≤ room_of self.old }
+        ensures stands { StandsAt self.new (setting width (weights_of self.old) []) [] }
+        ensures none { earlier_count self.new ≡ 0 }
+        ensures room { HasSameRoom self.old self.new }
+    {
+        self.width = width;
+        self.x = 0;
+        self.y = 0;
+        self.w = 0;
+        self.n = 0;
+        self.nw = 0;
+        self.gradient = 0;
+        self.earlier.clear();
+        Corrector::restart_where_kept(&mut self.corrector, width);
+    }
+
+    /// One earlier channel more, behind those that are nearer: the region of one that is as large as the channel.
+    ///
+    /// There is room for it.
+    pub fn add_earlier(&mut self, region: Region)
+        requires { earlier_count self.old < earlier_room_of self.old }
+        ensures stands { (s : Setting) (samples : List ℤ) → StandsAt self.old s samples → StandsAt self.new (setting s.width s.weights (s.earlier ++ region ∷ [])) samples }
+        ensures more { earlier_count self.new ≡ earlier_count self.old + 1 }
+        ensures room { HasSameRoom self.old self.new }
+    {
+        self.earlier.push_reserved(region);
+    }
+
+    fn north_east<const EDGE: bool>(&self) -> i32
+        requires in_row { self.now.x < self.now.width }
+        requires inner { EDGE ≡ false → IsInner self.now }
+        ensures { (s : Setting) (samples : List ℤ) → StandsAt self.now s samples → result ≡ north_east samples s.width self.now.x self.now.y }
+    {
+        if EDGE && (self.y == 0 || self.x + 1 >= self.width) {
+            self.n
+        } else {
+            self.previous[self.x as usize + 1]
+        }
+    }
+
+    fn north_east_east<const EDGE: bool>(&self) -> i32
+        requires in_row { self.now.x < self.now.width }
+        requires inner { EDGE ≡ false → IsInner self.now }
+        ensures { (s : Setting) (samples : List ℤ) → StandsAt self.now s samples → result ≡ north_east_east samples s.width self.now.x self.now.y }
+    {
+        if EDGE && (self.y == 0 || self.x + 2 >= self.width) {
+            self.north_east::<EDGE>()
+        } else {
+            self.previous[self.x as usize + 2]
+        }
+    }
+
+    fn north_north<const EDGE: bool>(&self) -> i32
+        requires in_row { self.now.x < self.now.width }
+        requires inner { EDGE ≡ false → IsInner self.now }
+        ensures { (s : Setting) (samples : List ℤ) → StandsAt self.now s samples → result ≡ north_north samples s.width self.now.x self.now.y }
+    {
+        if EDGE && self.y < 2 {
+            self.n
+        } else {
+            self.current[self.x as usize]
+        }
+    }
+
+    fn west_west<const EDGE: bool>(&self) -> i32
+        requires in_row { self.now.x < self.now.width }
+        requires inner { EDGE ≡ false → IsInner self.now }
+        ensures { (s : Setting) (samples : List ℤ) → StandsAt self.now s samples → result ≡ west_west samples s.width self.now.x self.now.y }
+    {
+        if EDGE && self.x < 2 {
+            self.w
+        } else {
+            self.current[self.x as usize - 2]
+        }
+    }
+
+    /// The neighbours of the place.
+    pub(crate) fn around<const EDGE: bool>(&self) -> Around
+        requires in_row { self.now.x < self.now.width }
+        requires inner { EDGE ≡ false → IsInner self.now }
+        ensures { (s : Setting) (samples : List ℤ) → StandsAt self.now s samples → seen result ≡ neighbours samples s.width }
+    {
+        Around {
+            w: self.w,
+            n: self.n,
+            nw: self.nw,
+            ne: self.north_east::<EDGE>(),
+            nee: self.north_east_east::<EDGE>(),
+            nn: self.north_north::<EDGE>(),
+            ww: self.west_west::<EDGE>(),
+        }
+    }
+
+    /// What the self-correcting predictor makes of the place with these neighbours, where there are weights.
+    pub(crate) fn correction<const EDGE: bool>(&self, around: &Around) -> Option<PredictionResult>
+        requires stands { Stands self.now }
+        requires inner { EDGE ≡ false → IsInner self.now }
+        ensures { (s : Setting) (samples : List ℤ) → StandsAt self.now s samples → seen around.now ≡ neighbours samples s.width → IsMade result s.weights s.width samples }
+    {
+        match &self.corrector {
+            Some(corrector) => {
+                Some(corrector.predict::<EDGE>(self.x as usize, self.y as usize, around))
+            }
+            None => None,
+        }
+    }
+
+    /// Moves on behind `sample`; `correction` is what `correction` gave for the place.
+    pub(crate) fn advance(&mut self, sample: i32, correction: Option<PredictionResult>)
+        requires stands { Stands self.old }
+        requires few_rows { self.old.y < 2 ^ 30 }
+        ensures stands { (s : Setting) (samples : List ℤ) → StandsAt self.old s samples → IsMade correction s.weights s.width samples → StandsAt self.new s (samples ++ sample ∷ []) }
+        ensures room { HasSameRoom self.old self.new }
+    {
+        Corrector::record_where_made(&mut self.corrector, self.x as usize, correction, sample);
+        self.roll(sample);
+    }
+
+    fn roll(&mut self, sample: i32)
+        requires in_row { self.old.x < self.old.width }
+        requires few_rows { self.old.y < 2 ^ 30 }
+        ensures rolls { (samples : List ℤ) → RollsIn self.old samples → RollsIn self.new (samples ++ sample ∷ []) }
+        ensures kept { KeepsSetting self.old self.new }
+        ensures place { IsNext self.old self.new }
+    {
+        let gradient = self.w.wrapping_sub(self.nw).wrapping_add(self.n);
+        self.current[self.x as usize] = sample;
+        self.x += 1;
+        if self.x < self.width {
+            self.gradient = gradient;
+            self.w = sample;
+            if self.y == 0 {
+                self.nw = sample;
+                self.n = sample;
+            } else {
+                self.nw = self.n;
+                self.n = self.previous[self.x as usize];
+            }
+        } else {
+            self.y += 1;
+            self.x = 0;
+            self.gradient = 0;
+            mem::swap(&mut self.previous, &mut self.current);
+            let above = self.previous[0];
+            self.w = above;
+            self.n = above;
+            self.nw = above;
+        }
+    }
+}
