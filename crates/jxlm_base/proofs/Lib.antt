@@ -9,3 +9,4 @@ pub mod Tokens
 pub mod DecodingLaws
 pub mod PlainTokens
 pub mod Wraps
+mod SqueezeLaws

@@ -10,4 +10,6 @@ pub mod PlainLaws
 pub mod Regions
 pub mod SampleLaws
 pub mod PlainTokens
+pub mod Squeeze
 pub mod Subgrid
+pub mod Unsqueeze

@@ -1,0 +1,34 @@
+-- A squeezed row undone, pair by pair.
+use Rattle.std.specs.Prelude.{◌≡◌, ℕ, zero, suc, ◌+◌, ◌*◌, ◌/◌, ◌<◌, nat_lt, if◌then◌else◌, ℤ, pos, ◌+ℤ◌, ◌-ℤ◌, int_div}
+use Rattle.std.specs.Int.{Width, int_wrap}
+use Rattle.jxlm_base.specs.Squeeze.{tendency, averages}
+
+module _ (w : Width) where
+  -- of a pair: its difference, from the sample before it, its average, the next average and its residual; and its samples
+  abbrev pub pair_difference : ℤ → ℤ → ℤ → ℤ → ℤ
+  pair_difference before m next r = int_wrap w (r +ℤ tendency before m next)
+
+  abbrev pub first_of : ℤ → ℤ → ℤ → ℤ → ℤ
+  first_of before m next r = int_wrap w (m +ℤ int_div (pair_difference before m next r) (pos 2))
+
+  abbrev pub second_of : ℤ → ℤ → ℤ → ℤ → ℤ
+  second_of before m next r = int_wrap w (first_of before m next r -ℤ pair_difference before m next r)
+
+-- of a coded row of n samples: the average after that of pair k, and the pair's own where there is none
+abbrev pub next_in : ℕ → (ℕ → ℤ) → ℕ → ℤ
+next_in n code k = if nat_lt (k + 1) (averages n) then code (k + 1) else code k
+
+module _ (w : Width) where
+  -- the sample before pair k, and the first average where there is none
+  abbrev pub before_in : ℕ → (ℕ → ℤ) → ℕ → ℤ
+  before_in n code zero = code 0
+  before_in n code (suc k) = second_of w (before_in n code k) (code k) (next_in n code k) (code (averages n + k))
+
+  abbrev pub first_in : ℕ → (ℕ → ℤ) → ℕ → ℤ
+  first_in n code k = first_of w (before_in n code k) (code k) (next_in n code k) (code (averages n + k))
+
+  -- row is the coded row undone: its pairs, and a last single sample
+  pub record IsUnsqueezed (n : ℕ) (code row : ℕ → ℤ) : Type 0 where
+    pub first : (k : ℕ) → k < n / 2 → row (2 * k) ≡ first_in n code k
+    pub second : (k : ℕ) → k < n / 2 → row (2 * k + 1) ≡ before_in n code (suc k)
+    pub single : n / 2 < averages n → row (2 * (n / 2)) ≡ code (n / 2)
