@@ -9,4 +9,11 @@ pub mod Tokens
 pub mod DecodingLaws
 pub mod PlainTokens
 pub mod Wraps
+mod Lines
+mod NumberAt
+mod RowLoop
+mod RowWrites
+mod Strips
+mod Undo
 mod SqueezeLaws
+mod Tendency

@@ -13,9 +13,8 @@ slope p q =
 -- what the neighbours foretell of a pair's difference: the slope where left, average and right fall or rise, else 0
 abbrev pub tendency : ℤ → ℤ → ℤ → ℤ
 tendency a b c =
-    if int_le b a && int_le c b then pos (slope (unsigned_abs (a -ℤ b)) (unsigned_abs (b -ℤ c)))
-    else if int_le a b && int_le b c then neg_ℤ (pos (slope (unsigned_abs (b -ℤ a)) (unsigned_abs (c -ℤ b))))
-    else pos 0
+    let s : ℕ = slope (unsigned_abs (a -ℤ b)) (unsigned_abs (b -ℤ c)) in
+    if int_le b a && int_le c b then pos s else if int_le a b && int_le b c then neg_ℤ (pos s) else pos 0
 
 -- how many averages a row of n samples has: one for each pair, and one for a last single sample
 abbrev pub averages : ℕ → ℕ
@@ -28,6 +27,10 @@ AreSamples w n row = (i : ℕ) → i < n → FitsSigned w (row i)
 -- rows a and b have the same first n samples
 abbrev pub AreSame : ℕ → (ℕ → ℤ) → (ℕ → ℤ) → Type 0
 AreSame n a b = (i : ℕ) → i < n → a i ≡ b i
+
+-- each number of the grid fits the width
+abbrev pub AreGridSamples : Width → Grid ℤ → Type 0
+AreGridSamples w g = (x y : ℕ) → x < g.width → y < g.height → FitsSigned w (at g x y)
 
 module _ (w : Width) where
   -- the difference of a pair, reduced

@@ -1,6 +1,8 @@
 -- A squeezed row undone, pair by pair.
-use Rattle.std.specs.Prelude.{◌≡◌, ℕ, zero, suc, ◌+◌, ◌*◌, ◌/◌, ◌<◌, nat_lt, if◌then◌else◌, ℤ, pos, ◌+ℤ◌, ◌-ℤ◌, int_div}
+use Rattle.std.specs.Prelude.{◌≡◌, ℕ, zero, suc, ◌+◌, ◌*◌, ◌/◌, ◌<◌, nat_lt, if◌then◌else◌, ℤ, pos, ◌+ℤ◌, ◌-ℤ◌, int_div, List, map, get_or}
 use Rattle.std.specs.Int.{Width, int_wrap}
+use Rattle.jxlm_base.specs.declared.subgrid.MutableSubgrid.{MutableSubgrid}
+use Rattle.jxlm_base.specs.Grid.{Grid, at, meanings}
 use Rattle.jxlm_base.specs.Squeeze.{tendency, averages}
 
 module _ (w : Width) where
@@ -32,3 +34,15 @@ module _ (w : Width) where
     pub first : (k : ℕ) → k < n / 2 → row (2 * k) ≡ first_in n code k
     pub second : (k : ℕ) → k < n / 2 → row (2 * k + 1) ≡ before_in n code (suc k)
     pub single : n / 2 < averages n → row (2 * (n / 2)) ≡ code (n / 2)
+
+-- the number that element i of a list stands for, and 0 where there is none
+abbrev pub number_at : {S : Type 0} → (S → ℤ) → List S → ℕ → ℤ
+number_at f xs i = get_or (map f xs) i (pos 0)
+
+module _ {S : Type 0} (f : S → ℤ) where
+  -- the numbers of row y and of column x of the rectangle s, in the grid g
+  abbrev pub row_in : MutableSubgrid S → Grid S → ℕ → ℕ → ℤ
+  row_in s g y i = at (meanings f g) (s.x + i) (s.y + y)
+
+  abbrev pub column_in : MutableSubgrid S → Grid S → ℕ → ℕ → ℤ
+  column_in s g x i = at (meanings f g) (s.x + x) (s.y + i)

@@ -10,4 +10,5 @@ pub mod laws;
 pub mod plain;
 pub mod region;
 pub mod sample;
+mod squeeze;
 mod subgrid;

@@ -1,11 +1,16 @@
 //! The two types of a sample.
-ghost use Rattle.std.specs.Prelude.{◌≡◌, ◌↔◌, ℤ, pos, IsOk, ◌+ℤ◌, ◌*ℤ◌, FitsSigned, refl, MatchResult};
+ghost use Rattle.std.specs.Prelude.{◌≡◌, ◌↔◌, ℤ, pos, IsOk, ◌+◌, ◌≤◌, ◌+ℤ◌, ◌*ℤ◌, FitsSigned, length, refl, IfOk, IfErr, MatchResult};
 ghost use Rattle.std.specs.Int.{Width, w16, w32, int_wrap};
 ghost use Rattle.jxlm_base.specs.Grid.{meanings};
 ghost use Rattle.jxlm_base.specs.Numbers.{unpack, clamped_gradient};
+ghost use Rattle.jxlm_base.specs.Squeeze.{AreGridSamples, squeezed_rows, squeezed_columns};
+ghost use Rattle.jxlm_base.specs.Subgrid.{whole, KeepsOutside, numbers_in};
 ghost use Rattle.jxlm_base.specs.SampleLaws.{fits_wider, int_wrap-narrow, int_wrap_again};
 
-use crate::grid::AlignedGrid;
+use crate::grid::{AlignedGrid, OutOfMemory};
+use crate::squeeze;
+use crate::subgrid::MutableSubgrid;
+use std::alloc::Global;
 
 /// What a sample's type computes. Contracts see a sample as the whole number that it stands for.
 pub trait Sealed: Copy + Default {
@@ -41,6 +46,49 @@ pub trait Sealed: Copy + Default {
     fn try_into_grid_i16(grid: AlignedGrid<Self>) -> Result<AlignedGrid<i16>, AlignedGrid<Self>>
         ensures same { MatchResult result (λ g. g ≡ meanings Self.to_int grid) (λ g. g ≡ grid) }
         ensures kind { IsOk result ↔ (Self.width ≡ w16) };
+
+    /// Undoes a horizontal squeeze in place: in each row of the rectangle averages stand before residuals, and afterwards the
+    /// row that becomes them when it is squeezed. Nothing outside changes.
+    ///
+    /// Memory is asked for once, for a row. `OutOfMemory` where it is refused: then no cell has changed.
+    fn squeeze_rows(
+        alloc: Global,
+        subgrid: &mut MutableSubgrid<'_, Self>,
+    ) -> Result<(), OutOfMemory>
+        ensures kept { KeepsOutside subgrid.old subgrid.new }
+        ensures undone { IfOk result (λ _. squeezed_rows Self.width (numbers_in Self.to_int subgrid.new) ≡ numbers_in Self.to_int subgrid.old) }
+        ensures samples { IfOk result (λ _. AreGridSamples Self.width (numbers_in Self.to_int subgrid.new)) }
+        ensures unchanged { IfErr result (λ _. whole subgrid.new ≡ whole subgrid.old) };
+
+    /// Undoes a vertical squeeze in place: in each column of the rectangle averages stand above residuals, and afterwards the
+    /// column that becomes them when it is squeezed. Nothing outside changes.
+    ///
+    /// Memory is asked for once, for some columns. `OutOfMemory` where it is refused: then no cell has changed.
+    fn squeeze_columns(
+        alloc: Global,
+        subgrid: &mut MutableSubgrid<'_, Self>,
+    ) -> Result<(), OutOfMemory>
+        ensures kept { KeepsOutside subgrid.old subgrid.new }
+        ensures undone { IfOk result (λ _. squeezed_columns Self.width (numbers_in Self.to_int subgrid.new) ≡ numbers_in Self.to_int subgrid.old) }
+        ensures samples { IfOk result (λ _. AreGridSamples Self.width (numbers_in Self.to_int subgrid.new)) }
+        ensures unchanged { IfErr result (λ _. whole subgrid.new ≡ whole subgrid.old) };
+
+    /// As `squeeze_rows`, by way of `scratch`, which has room for a row.
+    fn squeeze_rows_in(subgrid: &mut MutableSubgrid<'_, Self>, scratch: &mut [Self])
+        requires room { subgrid.old.width ≤ length scratch.old }
+        ensures len { length scratch.new ≡ length scratch.old }
+        ensures kept { KeepsOutside subgrid.old subgrid.new }
+        ensures undone { squeezed_rows Self.width (numbers_in Self.to_int subgrid.new) ≡ numbers_in Self.to_int subgrid.old }
+        ensures samples { AreGridSamples Self.width (numbers_in Self.to_int subgrid.new) };
+
+    /// As `squeeze_columns`, by way of `scratch`, which has room for a column and a cell more. The more columns it has room
+    /// for, up to 32, the more are undone at a time.
+    fn squeeze_columns_in(subgrid: &mut MutableSubgrid<'_, Self>, scratch: &mut [Self])
+        requires room { subgrid.old.height + 1 ≤ length scratch.old }
+        ensures len { length scratch.new ≡ length scratch.old }
+        ensures kept { KeepsOutside subgrid.old subgrid.new }
+        ensures undone { squeezed_columns Self.width (numbers_in Self.to_int subgrid.new) ≡ numbers_in Self.to_int subgrid.old }
+        ensures samples { AreGridSamples Self.width (numbers_in Self.to_int subgrid.new) };
 
     ghost to_int_from_int: { (n : ℤ) → to_int (from_int n) ≡ n };
 
@@ -121,6 +169,28 @@ impl Sealed for i32 {
         Err(grid)
     }
 
+    fn squeeze_rows(
+        alloc: Global,
+        subgrid: &mut MutableSubgrid<'_, i32>,
+    ) -> Result<(), OutOfMemory> {
+        squeeze::rows(alloc, 0, subgrid)
+    }
+
+    fn squeeze_columns(
+        alloc: Global,
+        subgrid: &mut MutableSubgrid<'_, i32>,
+    ) -> Result<(), OutOfMemory> {
+        squeeze::columns(alloc, 0, subgrid)
+    }
+
+    fn squeeze_rows_in(subgrid: &mut MutableSubgrid<'_, i32>, scratch: &mut [i32]) {
+        squeeze::undo_rows(subgrid, scratch);
+    }
+
+    fn squeeze_columns_in(subgrid: &mut MutableSubgrid<'_, i32>, scratch: &mut [i32]) {
+        squeeze::undo_columns(subgrid, scratch);
+    }
+
     ghost to_int_from_int = { λ n. refl };
 
     ghost from_int_to_int = { λ x. refl };
@@ -171,6 +241,28 @@ impl Sealed for i16 {
         ensures { result ≡ Ok grid }
     {
         Ok(grid)
+    }
+
+    fn squeeze_rows(
+        alloc: Global,
+        subgrid: &mut MutableSubgrid<'_, i16>,
+    ) -> Result<(), OutOfMemory> {
+        squeeze::rows(alloc, 0, subgrid)
+    }
+
+    fn squeeze_columns(
+        alloc: Global,
+        subgrid: &mut MutableSubgrid<'_, i16>,
+    ) -> Result<(), OutOfMemory> {
+        squeeze::columns(alloc, 0, subgrid)
+    }
+
+    fn squeeze_rows_in(subgrid: &mut MutableSubgrid<'_, i16>, scratch: &mut [i16]) {
+        squeeze::undo_rows(subgrid, scratch);
+    }
+
+    fn squeeze_columns_in(subgrid: &mut MutableSubgrid<'_, i16>, scratch: &mut [i16]) {
+        squeeze::undo_columns(subgrid, scratch);
     }
 
     ghost to_int_from_int = { λ n. refl };
@@ -225,8 +317,6 @@ impl Sample for i16 {
 #[cfg(test)]
 mod tests {
     use super::*;
-    use crate::grid::OutOfMemory;
-    use std::alloc::Global;
     use std::test::Fail;
 
     /// The numbers of tokens, of reduced numbers and of an operation, through any sample.
