@@ -1,5 +1,6 @@
 pub mod BitsLemmas
 pub mod Cells
+pub mod ColourLaws
 pub mod GridLaws
 pub mod GrammarLaws
 pub mod ItemLoop

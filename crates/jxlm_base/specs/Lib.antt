@@ -1,4 +1,5 @@
 pub mod Bits
+pub mod Colour
 pub mod Decoding
 pub mod Fault
 pub mod Grammar
