@@ -28,16 +28,17 @@ unpermuted order t =
     if order == 1 then triple t.second t.third t.first else if order == 2 then triple t.third t.first t.second else if order == 3 then triple t.first t.third t.second
     else if order == 4 then triple t.second t.first t.third else if order == 5 then triple t.third t.second t.first else t
 
+-- half of a sample, rounded down
+abbrev pub halved : ℤ → ℤ
+halved x = int_shr x 1
+
 module _ (w : Width) where
-  -- sums and differences of w-bit samples, and half of one rounded down
+  -- sums and differences of w-bit samples
   abbrev pub plus : ℤ → ℤ → ℤ
   plus x y = int_wrap w (x +ℤ y)
 
   abbrev pub minus : ℤ → ℤ → ℤ
   minus x y = int_wrap w (x -ℤ y)
-
-  abbrev pub halved : ℤ → ℤ
-  halved x = int_shr x 1
 
   -- luma and two differences, of kind 6
   abbrev pub to_luma : Triple → Triple

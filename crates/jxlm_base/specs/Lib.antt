@@ -6,6 +6,7 @@ pub mod Grammar
 pub mod Grid
 pub mod GridLends
 pub mod Numbers
+pub mod Outside
 pub mod Plain
 pub mod PlainLaws
 pub mod Regions
