@@ -6,6 +6,7 @@ pub mod GridLaws
 pub mod GrammarLaws
 pub mod ItemLoop
 pub mod PlainGives
+pub mod Outside
 pub mod RegionRows
 pub mod Regions
 pub mod Tokens
