@@ -1,9 +1,13 @@
 pub mod BitsLemmas
 pub mod Cells
+pub mod ColourLaws
+pub mod ColourRows
 pub mod GridLaws
 pub mod GrammarLaws
 pub mod ItemLoop
 pub mod PlainGives
+pub mod Outside
+pub mod RegionRows
 pub mod Regions
 pub mod Tokens
 pub mod DecodingLaws

@@ -1,6 +1,7 @@
 //! Laws of the definitions that contracts cite. Each is what a function ensures that does nothing.
 ghost use Rattle.std.specs.Prelude.{◌≡◌, ◌↔◌, ℕ, ℤ, ◌+◌, ◌+ℤ◌, ◌*ℤ◌, ◌^◌, ◌<◌, FitsSigned, List, Some};
 ghost use Rattle.std.specs.Int.{Width, w16, w32, int_wrap};
+ghost use Rattle.jxlm_base.specs.Colour.{ColourIsLossless, ColourIsOneToOne};
 ghost use Rattle.jxlm_base.specs.Grid.{Grid, IsFull, cell, grid_by};
 ghost use Rattle.jxlm_base.specs.Numbers.{unpack, clamped_gradient};
 ghost use Rattle.jxlm_base.specs.Regions.{Region, LieApart, WritesChangeOneGrid};
@@ -36,6 +37,12 @@ pub fn writes_change_one_region()
     ensures { (rs : List Region) → LieApart rs → WritesChangeOneGrid rs }
 {}
 
+/// Colour loses nothing: each of its kinds can be undone and done again, on all triples of either type.
+pub fn colour_loses_nothing()
+    ensures lossless { (w : Width) → ColourIsLossless w }
+    ensures one { (w : Width) → ColourIsOneToOne w }
+{}
+
 #[cfg(test)]
 mod tests {
     use super::*;
@@ -48,5 +55,6 @@ mod tests {
         grids_are_their_cells::<i16>();
         grids_are_their_cells::<i32>();
         writes_change_one_region();
+        colour_loses_nothing();
     }
 }

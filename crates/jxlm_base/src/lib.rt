@@ -3,6 +3,7 @@
 
 pub mod bit_laws;
 pub mod bits;
+mod colour;
 pub mod decoder;
 pub mod error;
 pub mod grid;

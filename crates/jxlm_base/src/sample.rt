@@ -1,10 +1,12 @@
 //! The two types of a sample.
-ghost use Rattle.std.specs.Prelude.{◌≡◌, ◌↔◌, ℤ, pos, IsOk, ◌+ℤ◌, ◌*ℤ◌, FitsSigned, refl, MatchResult};
+ghost use Rattle.std.specs.Prelude.{◌≡◌, ◌↔◌, ◌≤◌, ℤ, pos, IsOk, ◌+ℤ◌, ◌*ℤ◌, FitsSigned, refl, length, map, MatchResult};
 ghost use Rattle.std.specs.Int.{Width, w16, w32, int_wrap};
+ghost use Rattle.jxlm_base.specs.Colour.{FinishesRows};
 ghost use Rattle.jxlm_base.specs.Grid.{meanings};
 ghost use Rattle.jxlm_base.specs.Numbers.{unpack, clamped_gradient};
 ghost use Rattle.jxlm_base.specs.SampleLaws.{fits_wider, int_wrap-narrow, int_wrap_again};
 
+use crate::colour::finish_rows;
 use crate::grid::AlignedGrid;
 
 /// What a sample's type computes. Contracts see a sample as the whole number that it stands for.
@@ -41,6 +43,15 @@ pub trait Sealed: Copy + Default {
     fn try_into_grid_i16(grid: AlignedGrid<Self>) -> Result<AlignedGrid<i16>, AlignedGrid<Self>>
         ensures same { MatchResult result (λ g. g ≡ meanings Self.to_int grid) (λ g. g ≡ grid) }
         ensures kind { IsOk result ↔ (Self.width ≡ w16) };
+
+    /// Undoes one of the seven kinds of colour on three rows of one length, place by place, in the order in which they stand.
+    ///
+    /// `ty` is at most 6.
+    fn rct_rows(ty: u32, a: &mut [Self], b: &mut [Self], c: &mut [Self])
+        requires kind { ty ≤ 6 }
+        requires second { length b.old ≡ length a.old }
+        requires third { length c.old ≡ length a.old }
+        ensures { FinishesRows Self.width ty (map Self.to_int a.old) (map Self.to_int b.old) (map Self.to_int c.old) (map Self.to_int a.new) (map Self.to_int b.new) (map Self.to_int c.new) };
 
     ghost to_int_from_int: { (n : ℤ) → to_int (from_int n) ≡ n };
 
@@ -121,6 +132,10 @@ impl Sealed for i32 {
         Err(grid)
     }
 
+    fn rct_rows(ty: u32, a: &mut [i32], b: &mut [i32], c: &mut [i32]) {
+        finish_rows(ty, a, b, c);
+    }
+
     ghost to_int_from_int = { λ n. refl };
 
     ghost from_int_to_int = { λ x. refl };
@@ -171,6 +186,10 @@ impl Sealed for i16 {
         ensures { result ≡ Ok grid }
     {
         Ok(grid)
+    }
+
+    fn rct_rows(ty: u32, a: &mut [i16], b: &mut [i16], c: &mut [i16]) {
+        finish_rows(ty, a, b, c);
     }
 
     ghost to_int_from_int = { λ n. refl };
@@ -258,6 +277,50 @@ mod tests {
         assert_eq!(rt; i32::unpack_signed_u32(4294967294), 2147483647);
         assert_eq!(rt; i16::grad_clamped(32767, 32767, -32768), 32767);
         assert_eq!(rt; i32::grad_clamped(-2147483648, 2147483647, 5), -6);
+    }
+
+    /// What three samples become by the inverse of one kind of colour, with others beside them.
+    fn finished<S: Sample>(ty: u32, coded: [i32; 3]) -> (i32, i32, i32) {
+        let [a, b, c] = coded;
+        let mut first = [S::default(), S::from_i32(a)];
+        let mut second = [S::from_i32(-1), S::from_i32(b)];
+        let mut third = [S::default(), S::from_i32(c)];
+        S::rct_rows(ty, &mut first, &mut second, &mut third);
+        (first[1].to_i32(), second[1].to_i32(), third[1].to_i32())
+    }
+
+    #[test]
+    fn rows_of_colour(rt: HostRuntime) {
+        assert_eq!(rt; finished::<i32>(6, [100, 10, 6]), (102, 103, 92));
+        assert_eq!(rt; finished::<i16>(6, [100, 10, 6]), (102, 103, 92));
+        assert_eq!(rt; finished::<i32>(4, [10, 1, 5]), (10, 8, 5));
+        assert_eq!(rt; finished::<i16>(4, [10, 1, 5]), (10, 8, 5));
+        assert_eq!(rt;
+            finished::<i16>(1, [6573, -32768, 21034]),
+            (6573, -32768, 27607)
+        );
+        assert_eq!(rt; finished::<i16>(2, [-1, 1, 18]), (-1, 0, 18));
+        assert_eq!(rt; finished::<i16>(3, [32767, -32768, 0]), (32767, -1, 32767));
+        assert_eq!(rt;
+            finished::<i16>(5, [-17344, 3, -32768]),
+            (-17344, -957, 15424)
+        );
+        assert_eq!(rt;
+            finished::<i16>(6, [12, -11406, 32767]),
+            (-22074, 16396, -10668)
+        );
+        assert_eq!(rt;
+            finished::<i32>(4, [13, 2147483647, 0]),
+            (13, -2147483643, 0)
+        );
+        assert_eq!(rt;
+            finished::<i32>(5, [1125157091, 2147483647, 1254496793]),
+            (1125157091, 1752405486, -1915313412)
+        );
+        assert_eq!(rt;
+            finished::<i32>(6, [1420542933, 0, 2147483647]),
+            (346801110, -1800682539, 346801110)
+        );
     }
 
     /// Whether the grid is one of `i32`, and whether it is one of `i16`.

@@ -1,5 +1,6 @@
 mod ChannelExamples
 pub mod CodedLists
+pub mod ColourRegions
 pub mod DefaultSteps
 pub mod FieldRanges
 pub mod Halvings

@@ -3,4 +3,5 @@
 
 pub mod channels;
 pub mod param;
+pub mod rct;
 pub mod transform;
