@@ -2,5 +2,6 @@
 #![tactic(auto)]
 
 pub mod channels;
+pub mod palette;
 pub mod param;
 pub mod transform;
