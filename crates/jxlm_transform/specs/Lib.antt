@@ -1,6 +1,9 @@
 pub mod ChannelSteps
 pub mod ColourRows
 pub mod Channels
+pub mod Outside
+pub mod Palette
+pub mod PaletteSteps
 pub mod Params
 pub mod Recoloured
 pub mod Shifts

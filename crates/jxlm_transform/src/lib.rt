@@ -2,6 +2,7 @@
 #![tactic(auto)]
 
 pub mod channels;
+pub mod palette;
 pub mod param;
 pub mod rct;
 pub mod transform;

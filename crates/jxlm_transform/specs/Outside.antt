@@ -1,0 +1,19 @@
+-- What a write through regions of a store leaves as it was.
+use Rattle.std.specs.Prelude.{◌≡◌, ℕ, ◌<◌, List, [], length, get_or}
+use Rattle.std.specs.List.{All}
+use Rattle.jxlm_base.specs.Grid.{Grid, grid, cell, IsFull}
+use Rattle.jxlm_base.specs.Regions.{HasCell}
+use Rattle.jxlm_base.specs.declared.subgrid.Region.{Region}
+
+module _ {S : Type 0} where
+  -- buffer b of a store; a grid of no cells where there is none
+  abbrev pub buffer_at : List (Grid S) → ℕ → Grid S
+  buffer_at store b = get_or store b (grid 0 0 [])
+
+  -- the store keeps its grids' sizes, and its cells outside the regions
+  pub record KeepsOutside (regions : List Region) (old new : List (Grid S)) : Type 0 where
+    pub count : length new ≡ length old
+    pub width : (b : ℕ) → (buffer_at new b).width ≡ (buffer_at old b).width
+    pub height : (b : ℕ) → (buffer_at new b).height ≡ (buffer_at old b).height
+    pub full : (b : ℕ) → IsFull (buffer_at old b) → IsFull (buffer_at new b)
+    pub cells : (b x y : ℕ) → x < (buffer_at old b).width → y < (buffer_at old b).height → All (λ r. HasCell r b x y → ⊥) regions → cell (buffer_at new b) x y ≡ cell (buffer_at old b) x y
