@@ -6,8 +6,27 @@ use Rattle.std.specs.Option.{unwrap_or, option_map}
 use Rattle.std.proofs.lemmas.Option.{unwrap_or-slice_get, slice_get-map}
 use Rattle.jxlm_base.specs.Grid.{Grid, at, cell, place, meanings}
 use Rattle.jxlm_base.specs.Outside.{KeepsOutside}
-use Rattle.jxlm_base.specs.Regions.{Region, buffer_of, region_cell, Lies, HasCell, store_meanings}
-use Rattle.jxlm_base.proofs.Regions.{buffer_of-meanings}
+use Rattle.jxlm_base.specs.Regions.{Region, region, buffer_of, grid_of, region_cell, with_region_cell, Lies, AllLie, HasCell, AreApart, store_meanings}
+use Rattle.jxlm_base.proofs.GridLaws.{grid_by_same}
+use Rattle.jxlm_base.proofs.Regions.{buffer_of-meanings, width_after, height_after, full_after, length-with_region_cell, buffer_cell_other, HasCell_at}
+
+at_buffer : ℕ → Region
+at_buffer b = region b 0 0 0 0
+
+-- ---- what holds of one region, or of three
+
+module _ {X : Type 0} (P : X → Type 0) where
+  pub all_one : (a : X) → P a → All P (a ∷ [])
+  all_one a p zero d h = p
+  all_one a p (suc k) d h = absurd (omega arith)
+
+  pub all_three : (a b c : X) → P a → P b → P c → All P (a ∷ b ∷ c ∷ [])
+  all_three a b c p q r zero d h = p
+  all_three a b c p q r (suc zero) d h = q
+  all_three a b c p q r (suc (suc zero)) d h = r
+  all_three a b c p q r (suc (suc (suc k))) d h = absurd (omega arith)
+
+-- ---- one write behind another
 
 module _ {S : Type 0} where
   pub keeps_all : (regions : List Region) (store : List (Grid S)) → KeepsOutside regions store store
@@ -34,9 +53,32 @@ module _ {S : Type 0} where
     cells = λ n x y p q o. k.cells n x y p q (covers n x y o);
   }
 
-  -- regions lie where they lay
-  pub lies_still : (regions : List Region) (r : Region) (old new : List (Grid S)) → KeepsOutside regions old new → Lies r old → Lies r new
-  lies_still regions r old new k was =
+  -- what is kept outside one of some regions is kept outside them all
+  pub keeps_one_of : (regions : List Region) (i : ℕ) (d : Region) (old new : List (Grid S)) → i < length regions → KeepsOutside (get_or regions i d ∷ []) old new → KeepsOutside regions old new
+  keeps_one_of regions i d old new l k = keeps_wider (get_or regions i d ∷ []) regions old new k (λ n x y o. all_one (λ r. HasCell r n x y → ⊥) (get_or regions i d) (o i d l))
+
+  -- a write to one cell of a region
+  pub keeps_written : (store : List (Grid S)) (r : Region) (x y : ℕ) (v : S) → Lies r store → x < r.width → y < r.height → KeepsOutside (r ∷ []) store (with_region_cell store r x y v)
+  unfolding at_buffer
+  keeps_written store r x y v lies px qy = record {
+    count = length-with_region_cell store r x y v;
+    width = λ b. width_after store r (at_buffer b) x y v lies.there;
+    height = λ b. height_after store r (at_buffer b) x y v lies.there;
+    full = λ b f. full_after store r (at_buffer b) x y v lies.there f;
+    cells = λ b j k p q o.
+        buffer_cell_other store r (at_buffer b) x y j k v lies px p
+        (λ h. o 0 r (omega arith) (subst (λ n. HasCell r n j k) (sym h.0) (subst (λ n. HasCell r r.buffer n k) h.1 (subst (λ n. HasCell r r.buffer (r.x + x) n) h.2 (HasCell_at r x y px qy)))));
+  }
+
+  -- a write to one cell of one of some regions
+  pub keeps_written_in : (regions : List Region) (store : List (Grid S)) (i : ℕ) (d : Region) (x y : ℕ) (v : S) → AllLie regions store → i < length regions → x < (get_or regions i d).width → y < (get_or regions i d).height →
+      KeepsOutside regions store (with_region_cell store (get_or regions i d) x y v)
+  keeps_written_in regions store i d x y v lie li px qy =
+      keeps_one_of regions i d store (with_region_cell store (get_or regions i d) x y v) li (keeps_written store (get_or regions i d) x y v (lie i d li) px qy)
+
+  -- a region lies where it lay
+  pub lies_still : (regions : List Region) (old new : List (Grid S)) (r : Region) → KeepsOutside regions old new → Lies r old → Lies r new
+  lies_still regions old new r k was =
       let there = was.there in
       let count = k.count in
       record {
@@ -46,6 +88,9 @@ module _ {S : Type 0} where
         rows = subst (λ n. r.y + r.height ≤ n) (sym (k.height r.buffer)) was.rows;
       }
 
+  pub all_lie_still : (regions rs : List Region) (old new : List (Grid S)) → KeepsOutside regions old new → AllLie rs old → AllLie rs new
+  all_lie_still regions rs old new k lie = λ i d h. lies_still regions old new (get_or rs i d) k (lie i d h)
+
   -- a cell of a region that no other region has
   pub region_cell_kept : (regions : List Region) (r : Region) (old new : List (Grid S)) (x y : ℕ) → KeepsOutside regions old new → Lies r old → x < r.width → y < r.height →
       All (λ s. HasCell s r.buffer (r.x + x) (r.y + y) → ⊥) regions → region_cell new r x y ≡ region_cell old r x y
@@ -53,19 +98,6 @@ module _ {S : Type 0} where
       let columns = lies.columns in
       let rows = lies.rows in
       k.cells r.buffer (r.x + x) (r.y + y) (omega arith) (omega arith) out
-
--- ---- what holds of one region, or of three
-
-module _ {X : Type 0} (P : X → Type 0) where
-  pub all_one : (a : X) → P a → All P (a ∷ [])
-  all_one a p zero d h = p
-  all_one a p (suc k) d h = absurd (omega arith)
-
-  pub all_three : (a b c : X) → P a → P b → P c → All P (a ∷ b ∷ c ∷ [])
-  all_three a b c p q r zero d h = p
-  all_three a b c p q r (suc zero) d h = q
-  all_three a b c p q r (suc (suc zero)) d h = r
-  all_three a b c p q r (suc (suc (suc k))) d h = absurd (omega arith)
 
 -- ---- the numbers of cells
 
@@ -88,3 +120,12 @@ module _ {S : Type 0} (f : S → ℤ) where
       ap (λ g. at g (r.x + x) (r.y + y)) (buffer_of-meanings f new r) ∙ number_is (buffer_of new r) (r.x + x) (r.y + y)
       ∙ ap (λ o. unwrap_or (option_map f o) (pos 0)) is ∙ sym (number_is (buffer_of old r) (r.x + x) (r.y + y))
       ∙ sym (ap (λ g. at g (r.x + x) (r.y + y)) (buffer_of-meanings f old r))
+
+  -- the grid of a region that shares no cell with the written one is as before
+  pub grid_kept : (old new : List (Grid S)) (r s : Region) → KeepsOutside (r ∷ []) old new → Lies s old → AreApart r s →
+      grid_of (store_meanings f new) s ≡ grid_of (store_meanings f old) s
+  grid_kept old new r s k lies apart =
+      grid_by_same s.width s.height (λ i j. at (buffer_of (store_meanings f new) s) (s.x + i) (s.y + j)) (λ i j. at (buffer_of (store_meanings f old) s) (s.x + i) (s.y + j))
+      (λ i j a b.
+      number_same old new s i j
+      (region_cell_kept (r ∷ []) s old new i j k lies a b (all_one (λ q. HasCell q s.buffer (s.x + i) (s.y + j) → ⊥) r (λ h. apart s.buffer (s.x + i) (s.y + j) h (HasCell_at s i j a b)))))

@@ -55,9 +55,9 @@ module _ {S : Type 0} (r s t : Region) where
   -- three regions stay three
   pub three_still : (regions : List Region) (old new : List (Grid S)) → KeepsOutside regions old new → AreThree r s t old → AreThree r s t new
   three_still regions old new k h = record {
-    first = lies_still regions r old new k h.first;
-    second = lies_still regions s old new k h.second;
-    third = lies_still regions t old new k h.third;
+    first = lies_still regions old new r k h.first;
+    second = lies_still regions old new s k h.second;
+    third = lies_still regions old new t k h.third;
     first_second = h.first_second;
     first_third = h.first_third;
     second_third = h.second_third;

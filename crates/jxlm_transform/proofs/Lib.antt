@@ -5,7 +5,6 @@ pub mod DefaultSteps
 pub mod FieldRanges
 pub mod Halvings
 pub mod ImageChannels
-pub mod Outside
 pub mod PaletteChannels
 pub mod PaletteColours
 mod PaletteExamples

@@ -7,13 +7,13 @@ use Rattle.std.proofs.lemmas.List.{get_or_default, get_or-map, length-map}
 use Rattle.jxlm_base.specs.Grid.{Grid, grid}
 use Rattle.jxlm_base.specs.Regions.{grid_of, store_meanings, Lies, AreApart}
 use Rattle.jxlm_base.specs.declared.subgrid.Region.{Region}
+use Rattle.jxlm_base.specs.Outside.{KeepsOutside}
 use Rattle.jxlm_base.proofs.Regions.{apart_at}
+use Rattle.jxlm_base.proofs.Outside.{grid_kept, keeps_all, keeps_both, keeps_one_of, lies_still}
 use Rattle.jxlm_transform.specs.declared.transform.Palette.{Palette}
 use Rattle.jxlm_transform.specs.declared.palette.FinishedChannel.{FinishedChannel}
-use Rattle.jxlm_transform.specs.Outside.{KeepsOutside}
 use Rattle.jxlm_transform.specs.Palette.{IsPaletteOf, PaletteLies, finished_channel}
 use Rattle.jxlm_transform.specs.PaletteSteps.{ChannelLies, ChannelsDone, IsSimple, channel_at}
-use Rattle.jxlm_transform.proofs.Outside.{grid_kept, keeps_all, keeps_both, keeps_one_of, lies_still}
 use Rattle.jxlm_transform.proofs.PaletteLaws.{has_image}
 
 module _ {S : Type 0} (to_int : S → ℤ) (w : Width) (t : Palette) (table index : Region) (finished : List Region) (old : List (Grid S)) (lies : PaletteLies t table index finished old) where

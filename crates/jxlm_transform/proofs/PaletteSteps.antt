@@ -9,16 +9,16 @@ use Rattle.std.proofs.Math.Nat.{mul_comm}
 use Rattle.jxlm_base.specs.Grid.{Grid, grid, at, with_cell}
 use Rattle.jxlm_base.specs.Regions.{grid_of, store_meanings, with_region_cell, Lies, AreApart}
 use Rattle.jxlm_base.specs.declared.subgrid.Region.{Region}
+use Rattle.jxlm_base.specs.Outside.{KeepsOutside}
 use Rattle.jxlm_base.proofs.Regions.{grid_of_set, grid_of_set_apart, IsFull-grid_of}
+use Rattle.jxlm_base.proofs.Outside.{keeps_written, lies_still}
 use Rattle.jxlm_tree.specs.Standing.{StandsAt, setting, IsReady, HasSameRoom}
 use Rattle.jxlm_tree.specs.declared.state.PredictorState.{PredictorState}
 use Rattle.jxlm_transform.specs.declared.transform.Palette.{Palette}
 use Rattle.jxlm_transform.specs.declared.palette.FinishedChannel.{FinishedChannel}
-use Rattle.jxlm_transform.specs.Outside.{KeepsOutside}
 use Rattle.jxlm_transform.proofs.PaletteLaws.{is_finished}
 use Rattle.jxlm_transform.specs.Palette.{finished_channel, finished_sample, finished_samples, is_delta, colour_of, predicted}
 use Rattle.jxlm_transform.specs.PaletteSteps.{ChannelLies, SetsSample, Ahead, Filled, FillsOn, FillsOnBy, IsSimple, IsSimpleIndex, IsSimpleRow, StandsBefore, kept, looked_up, table_in, index_in}
-use Rattle.jxlm_transform.proofs.Outside.{keeps_written, lies_still}
 
 -- ---- indices of the table that are no deltas
 

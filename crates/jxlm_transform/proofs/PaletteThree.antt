@@ -1,21 +1,15 @@
 -- A store of a palette's table and three channels, each a buffer of its own.
 use Rattle.std.proofs.Common.{◌≡◌, inl, ℕ, zero, suc, ◌+◌, ◌<◌, ◌≤◌, List, [], ◌∷◌, length, sym, refl, ap, ◌∙◌, subst, arith}
 use Rattle.std.specs.Prelude.{get_or}
-use Rattle.std.specs.List.{All, AllPairs}
+use Rattle.std.specs.List.{AllPairs}
 use Rattle.jxlm_base.specs.Grid.{Grid, grid, filled, IsFull}
 use Rattle.jxlm_base.specs.Regions.{region, Lies, AreApart}
 use Rattle.jxlm_base.specs.declared.subgrid.Region.{Region}
+use Rattle.jxlm_base.specs.Outside.{KeepsOutside}
 use Rattle.jxlm_base.proofs.Regions.{apart_by_buffer}
+use Rattle.jxlm_base.proofs.Outside.{all_lie_still, all_three, lies_still}
 use Rattle.jxlm_transform.specs.declared.transform.Palette.{Palette}
-use Rattle.jxlm_transform.specs.Outside.{KeepsOutside}
 use Rattle.jxlm_transform.specs.Palette.{PaletteLies}
-use Rattle.jxlm_transform.proofs.Outside.{all_lie_still, lies_still}
-
-all_three : {Y : Type 0} (P : Y → Type 0) (a b c : Y) → P a → P b → P c → All P (a ∷ b ∷ c ∷ [])
-all_three P a b c h k l zero d p = h
-all_three P a b c h k l (suc zero) d p = k
-all_three P a b c h k l (suc (suc zero)) d p = l
-all_three P a b c h k l (suc (suc (suc i))) d p = absurd (omega arith)
 
 pairs_of_three : {Y : Type 0} (R : Y → Y → Type 0) (a b c : Y) → R a b → R a c → R b c → AllPairs R (a ∷ b ∷ c ∷ [])
 pairs_of_three R a b c h k l zero zero d p q = absurd (omega arith)

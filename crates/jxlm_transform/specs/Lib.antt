@@ -1,7 +1,6 @@
 pub mod ChannelSteps
 pub mod ColourRows
 pub mod Channels
-pub mod Outside
 pub mod Palette
 pub mod PaletteSteps
 pub mod Params

@@ -8,10 +8,10 @@ ghost use Rattle.jxlm_tree.specs.SelfCorrecting.{IsHeader};
 ghost use Rattle.std.specs.Int.{int_wrap, w32};
 ghost use Rattle.jxlm_base.specs.Grid.{at};
 ghost use Rattle.jxlm_base.specs.Regions.{Lies, grid_of, store_meanings};
+ghost use Rattle.jxlm_base.specs.Outside.{KeepsOutside};
 ghost use Rattle.jxlm_tree.specs.Predictions.{prediction};
 ghost use Rattle.jxlm_tree.specs.Standing.{Setting, StandsAt, IsReady, HasSameRoom, room_of, setting, weights_of};
 ghost use Rattle.jxlm_transform.specs.Palette.{colour_of, deltas, difference, implicit_colour, is_delta, listed_difference, finished_channel, finished_sample, IsPaletteOf, PaletteHasOneImage, PaletteLies};
-ghost use Rattle.jxlm_transform.specs.Outside.{KeepsOutside};
 ghost use Rattle.jxlm_transform.specs.PaletteSteps.{ChannelLies, ChannelsDone, channel_at, FillsOn, FillsOnBy, IsSimple, IsSimpleIndex, IsSimpleRow, SetsSample, StandsBefore, index_in, looked_up, table_in};
 
 use crate::transform::Palette;

@@ -9,7 +9,7 @@ region_set_row-requires-2 g c =
     let three = c.requires.three in
     let height = three.second_height in
     record {
-      lies = lies_still (row_of c.args.first c.args.y ∷ []) c.args.second c.args.store.now c.region_set_row.new.store c.region_set_row.ensures.keeps three.second;
+      lies = lies_still (row_of c.args.first c.args.y ∷ []) c.args.store.now c.region_set_row.new.store c.args.second c.region_set_row.ensures.keeps three.second;
       in_rows = omega (arith, height, c.requires.in_rows);
       fits = c.requires.second_length ∙ sym three.second_width;
     }
@@ -19,7 +19,7 @@ region_set_row-requires-3 g c =
     let three = three_still c.args.first c.args.second c.args.third (row_of c.args.first c.args.y ∷ []) c.args.store.now c.region_set_row.new.store c.region_set_row.ensures.keeps c.requires.three in
     let height = three.third_height in
     record {
-      lies = lies_still (row_of c.args.second c.args.y ∷ []) c.args.third c.region_set_row.new.store c.region_set_row-2.new.store c.region_set_row-2.ensures.keeps three.third;
+      lies = lies_still (row_of c.args.second c.args.y ∷ []) c.region_set_row.new.store c.region_set_row-2.new.store c.args.third c.region_set_row-2.ensures.keeps three.third;
       in_rows = omega (arith, height, c.requires.in_rows);
       fits = c.requires.third_length ∙ sym three.third_width;
     }
