@@ -1,6 +1,7 @@
 mod ChannelExamples
 pub mod CodedLists
 pub mod ColourRegions
+pub mod ColourThree
 pub mod DefaultSteps
 pub mod FieldRanges
 pub mod Halvings

@@ -11,7 +11,7 @@ use Rattle.jxlm_base.proofs.Outside.{all_lie_still, all_three, lies_still}
 use Rattle.jxlm_transform.specs.declared.transform.Palette.{Palette}
 use Rattle.jxlm_transform.specs.Palette.{PaletteLies}
 
-pairs_of_three : {Y : Type 0} (R : Y → Y → Type 0) (a b c : Y) → R a b → R a c → R b c → AllPairs R (a ∷ b ∷ c ∷ [])
+pub pairs_of_three : {Y : Type 0} (R : Y → Y → Type 0) (a b c : Y) → R a b → R a c → R b c → AllPairs R (a ∷ b ∷ c ∷ [])
 pairs_of_three R a b c h k l zero zero d p q = absurd (omega arith)
 pairs_of_three R a b c h k l zero (suc zero) d p q = h
 pairs_of_three R a b c h k l zero (suc (suc zero)) d p q = k
