@@ -17,6 +17,10 @@ mod places;
 #[cfg(test)]
 mod rows;
 #[cfg(test)]
+mod size_rows;
+#[cfg(test)]
+mod sizes;
+#[cfg(test)]
 mod table;
 #[cfg(test)]
 mod text;
