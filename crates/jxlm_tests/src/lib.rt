@@ -7,6 +7,10 @@ mod calls;
 #[cfg(test)]
 mod drawn;
 #[cfg(test)]
+mod header_rows;
+#[cfg(test)]
+mod headers;
+#[cfg(test)]
 mod outcome;
 #[cfg(test)]
 mod pictures;
