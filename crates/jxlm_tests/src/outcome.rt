@@ -46,7 +46,7 @@ fn params<'a, D: Decoder>(
     Ok(ModularParams::with_channels(256, 8, channels, None))
 }
 
-// Reads, decodes and finishes a picture of these channels, each by its own call.
+/// Reads, decodes and finishes a picture of these channels, each by its own call.
 pub fn by_calls<S: Sample, D: Decoder>(
     rt: &impl Abort,
     alloc: Global,
@@ -92,7 +92,7 @@ pub fn by_calls<S: Sample, D: Decoder>(
     })
 }
 
-// Reads a picture of these channels by one call.
+/// Reads a picture of these channels by one call.
 pub fn at_once<S: Sample, D: Decoder>(
     rt: &impl Abort,
     alloc: Global,

@@ -178,7 +178,7 @@ fn told<S: Sample>(
     Ok(text)
 }
 
-// Stands at each place of a table in turn, and compares what is told there.
+/// Stands at each place of a table in turn, and compares what is told there.
 pub fn check<S: Sample>(rt: &impl Abort, alloc: Global, table: &str) -> Result<(), Fail> {
     let mut state = PredictorState::<S>::new(alloc);
     for line in table.lines() {

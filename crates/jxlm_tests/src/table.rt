@@ -55,7 +55,7 @@ fn told(alloc: Global, outcome: &Outcome) -> Result<String, Fail> {
     })
 }
 
-// Reads each picture of a table call by call, and once more by one call.
+/// Reads each picture of a table call by call, and once more by one call.
 pub fn check<S: Sample, D: Decoder>(
     rt: &impl Abort,
     alloc: Global,

@@ -4,7 +4,7 @@ ghost use Rattle.std.specs.Prelude.{◌≤◌};
 use std::alloc::Global;
 use std::test::Fail;
 
-// Signed numbers with one space between; none in an empty text.
+/// Signed numbers with one space between; none in an empty text.
 pub fn signed(alloc: Global, text: &str) -> Result<Vec<i32>, Fail> {
     let mut numbers = Vec::new(alloc);
     for word in text.split_whitespace() {
@@ -23,7 +23,7 @@ fn digit(c: u8) -> u8
     }
 }
 
-// The bytes of hexadecimal digits.
+/// The bytes of hexadecimal digits.
 pub fn bytes(alloc: Global, digits: &str) -> Result<Vec<u8>, Fail> {
     let mut bytes = Vec::new(alloc);
     let mut digits = digits.bytes();
