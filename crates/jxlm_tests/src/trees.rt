@@ -47,7 +47,7 @@ fn limits(node_limit: &str, depth_limit: &str) -> Result<MaConfigParams, Fail>
     Ok(limits)
 }
 
-// Reads each tree of a table, and walks it.
+/// Reads each tree of a table, and walks it.
 pub fn check<D: Decoder>(rt: &impl Abort, alloc: Global, table: &str) -> Result<(), Fail> {
     for line in table.lines() {
         let mut fields = line.split('|');

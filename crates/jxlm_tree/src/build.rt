@@ -70,7 +70,7 @@ fn take_up(
     Ok(())
 }
 
-// The tree of these nodes, whose leaves have these clusters in their order.
+/// The tree of these nodes, whose leaves have these clusters in their order.
 pub fn build(
     alloc: Global,
     mut nodes: Vec<DraftNode>,

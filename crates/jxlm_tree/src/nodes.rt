@@ -28,6 +28,7 @@ pub struct Draft {
 }
 
 impl Draft {
+    /// The leaf, with this cluster.
     pub fn in_cluster(self, cluster: u8) -> Leaf
         ensures { result ≡ record { cluster = cluster; predictor = self.predictor; offset = self.offset; multiplier = self.multiplier } }
     {

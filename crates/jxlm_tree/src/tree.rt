@@ -85,6 +85,7 @@ pub struct Subtree {
 }
 
 impl Subtree {
+    /// A tree of one leaf.
     pub fn leaf(leaf: Leaf) -> Subtree
         ensures tree { shape_of result.tree ≡ leaf_shape leaf }
         ensures depth { result.depth ≡ 0 }
@@ -95,7 +96,7 @@ impl Subtree {
         }
     }
 
-    // Nothing deeper than the limit is ever put together.
+    /// A decision over two trees. Nothing deeper than the limit is ever put together.
     pub fn decision(
         alloc: Global,
         property: u32,
