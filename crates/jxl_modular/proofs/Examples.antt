@@ -3,7 +3,7 @@ use Rattle.std.specs.Prelude.{◌≡◌, ℕ, zero, suc, ◌≤◌, ◌<◌, ℤ
 use Rattle.std.specs.List.{All}
 use Rattle.std.specs.Int.{w32, int_wrap}
 use Rattle.std.specs.Int.Count.{count_leading_zeros}
-use Rattle.std.proofs.Common.{arith, inl, inr}
+use Rattle.std.proofs.Common.{arith, inl, inr, sym}
 use Rattle.std.proofs.lemmas.List.Elements.{All-head}
 use Rattle.jxlm_base.specs.Grid.{Grid, grid, cell, IsFull}
 use Rattle.jxlm_base.specs.Regions.{region, HasCell}
@@ -29,7 +29,7 @@ use Rattle.jxl_modular.specs.Coded.{IsCodedWhole}
 use Rattle.jxl_modular.specs.Decode.{Standing, FailsToRead, FailsToEnd, DecodeAnswers}
 use Rattle.jxl_modular.specs.Header.{Header}
 use Rattle.jxl_modular.specs.Image.{Image}
-use Rattle.jxl_modular.specs.Layout.{layout, channels_of}
+use Rattle.jxlm_chain.specs.Layout.{first_layout}
 use Rattle.jxl_modular.specs.Opening.{opening, node_limit}
 use Rattle.jxl_modular.specs.Part.{Part}
 use Rattle.jxl_modular.specs.Parsing.{IsImageAt}
@@ -60,7 +60,7 @@ three_bits mode = record { mode = mode; codes = Fixed 3 ∷ []; clusters = 0 ∷
 abbrev row_bytes : List ℕ
 row_bytes = 0x42 ∷ 0x00 ∷ 0x04 ∷ 0x00 ∷ 0x04 ∷ 0x0E ∷ 0x05 ∷ 0xC0 ∷ 0x20 ∷ 0x06 ∷ []
 
-row_opening : (opening false (image_list square)).read row_bytes 0 ≡ Ok (record { value = record { header = plain_header; coded = as_given }; position = 4 })
+row_opening : (opening false (image_list square)).read row_bytes 0 ≡ Ok (record { value = record { weights = default_weights; coded = as_given }; position = 4 })
 row_opening = refl
 
 row_limit : node_limit (image_list square).channels ≡ 1028
@@ -220,7 +220,7 @@ full_still zero full = refl
 full_still (suc b) full = full
 
 -- no cell lies outside the one channel
-cells_stay : (b x y : ℕ) → x < (buffer_at zeros_of_square b).width → y < (buffer_at zeros_of_square b).height → All (λ r. HasCell r b x y → ⊥) (layout (channels_of info)) → cell (buffer_at row_grids b) x y ≡ cell (buffer_at zeros_of_square b) x y
+cells_stay : (b x y : ℕ) → x < (buffer_at zeros_of_square b).width → y < (buffer_at zeros_of_square b).height → All (λ r. HasCell r b x y → ⊥) (first_layout (image_list square).channels).regions → cell (buffer_at row_grids b) x y ≡ cell (buffer_at zeros_of_square b) x y
 cells_stay zero x y in_row in_column outside =
     let inside : HasCell (region 0 0 0 2 2) 0 x y = record { buffer = refl; left = omega arith; right = in_row; top = omega arith; bottom = in_column } in
     absurd (All-head (λ r. HasCell r 0 x y → ⊥) (region 0 0 0 2 2) [] outside inside)
@@ -230,31 +230,47 @@ module _ (params : ModularParams PlainState) where
   -- the image as it is read, and as it is filled
   abbrev holding : List (Grid ℤ) → Image ℤ PlainState
   holding grids = record {
-    header = plain_header;
+    weights = default_weights;
+    steps = [];
     config = one_leaf gradient (three_bits Unsealed);
     group_dim = params.group_dim;
     bit_depth = params.bit_depth;
+    given = info;
     channels = info;
     nb_meta = 0;
     store = grids;
-    coded = layout (channels_of info);
+    coded = (first_layout (image_list square).channels).regions;
   }
 
   row_image : params.channels.items ≡ square → IsImageAt plain (pos 0) row_bytes 0 params (holding zeros_of_square) 68
   row_image asked = record {
-    ahead = record { header = plain_header; coded = as_given };
+    ahead = record { weights = default_weights; coded = as_given };
     place = 4;
     opens = rw asked row_opening;
     tree = row_tree;
-    cells = refl;
+    cells = rw asked refl;
   }
 
   row_filled : IsFilled plain w32 (λ z. z) row_bytes 0 (holding zeros_of_square) 68 (holding row_grids) 80
   row_filled = record {
     cells = row_grids;
     coded = row_samples;
-    only = record { fits = (refl, refl, refl, tt); becomes = refl; only = λ other fits becomes. cc };
-    same = record { header = refl; config = refl; group_dim = refl; bit_depth = refl; channels = refl; nb_meta = refl; coded = refl; outside = record { count = refl; width = widths_stay; height = heights_stay; full = full_still; cells = cells_stay } };
+    only = record {
+      chain = ((record { same_width = refl; same_height = refl; full = refl }, tt), refl);
+      only = λ other becomes. sym becomes.1;
+    };
+    same = record {
+      weights = refl;
+      steps = refl;
+      config = refl;
+      group_dim = refl;
+      bit_depth = refl;
+      given = refl;
+      channels = refl;
+      nb_meta = refl;
+      coded = refl;
+      shape = record { count = refl; width = widths_stay; height = heights_stay; full = full_still };
+    };
   }
 
   row_picture : params.channels.items ≡ square → IsPictureAt plain w32 (λ z. z) row_bytes 0 (pos 0) 0 params (holding row_grids) 80

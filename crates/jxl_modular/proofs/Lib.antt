@@ -1,11 +1,13 @@
 pub mod CellLaws
 pub mod Counts
 pub mod Earlier
+pub mod Laid
 pub mod Layouts
 pub mod Loops
 pub mod NextSample
 pub mod Progress
 pub mod Starting
+pub mod Suits
 pub mod Samples
 pub mod Prefixes
 pub mod PartLaws

@@ -1,19 +1,19 @@
 -- What the loops of decoding keep: one cell more, one row more, one channel more.
 use Rattle.std.proofs.Common.{◌≡◌, ℕ, zero, suc, ◌+◌, ◌*◌, ◌<◌, ◌≤◌, List, [], ◌∷◌, length, refl, sym, ap, ◌∙◌, subst, arith, ℤ}
-use Rattle.std.specs.Prelude.{get_or, slice_set}
+use Rattle.std.specs.Prelude.{slice_set}
 use Rattle.std.specs.Int.{Width}
 use Rattle.std.proofs.lemmas.List.{length-append}
 use Rattle.std.proofs.Math.Seq.{take-length}
 use Rattle.std.proofs.lemmas.List.Sums.{sum_by-cons}
 use Rattle.jxlm_base.specs.Decoding.{Taken, Meaning}
 use Rattle.jxlm_base.specs.Grid.{Grid, with_cell}
-use Rattle.jxlm_base.specs.Regions.{region, grid_of, store_meanings, with_region_cell, Lies, AllLie, LieApart, HasCell}
+use Rattle.jxlm_base.specs.Regions.{region, grid_of, store_meanings, with_region_cell, AllLie, LieApart}
 use Rattle.jxlm_base.specs.declared.decoder.DecoderError.{DecoderError}
 use Rattle.jxlm_base.specs.declared.subgrid.Region.{Region}
-use Rattle.jxlm_base.proofs.Regions.{grids_of_written, with_region_cell-meanings, AllLie-meanings, width_after, height_after, full_after, length-with_region_cell, buffer_cell_other, HasCell_at, IsFull-grid_of}
+use Rattle.jxlm_base.proofs.Regions.{grids_of_written, with_region_cell-meanings, AllLie-meanings, IsFull-grid_of}
 use Rattle.jxl_modular.specs.Coded.{part_rule}
 use Rattle.jxl_modular.specs.Part.{Part, Channel, size, channel, cell_count, cells_before, cells_of, Fits, grid as grid_at}
-use Rattle.jxl_modular.specs.Progress.{Reached, Stopped, SameSizes, place_of, cells_ahead, grids_in, GoesOn, Stops, TakesSteps, KeepsOutside}
+use Rattle.jxl_modular.specs.Progress.{Reached, Stopped, SameSizes, place_of, cells_ahead, grids_in, GoesOn, Stops, TakesSteps}
 use Rattle.jxl_modular.specs.Reading.{ReadsCell, RefusesCell, region_at}
 use Rattle.jxl_modular.proofs.Places.{before_suc}
 use Rattle.jxl_modular.proofs.Progress.{reached_more, with_cell_of, stands_within}
@@ -215,51 +215,3 @@ module _ {S : Type 0} (d : Meaning S) (w : Width) (part : Part) (bytes : List �
       stops_further cost before then after store'' p'' e work second decoder p0 old r =
           let last = second decoder p0 old (first decoder p0 old r) in
           (last.0, takes_further cost from middle (suc last.0.count) before then after work last.1)
-
--- ---- what is outside of the regions
-
-at_buffer : ℕ → Region
-at_buffer b = region b 0 0 0 0
-
-module _ {X : Type 0} where
-  pub keeps_all : (regions : List Region) (store : List (Grid X)) → KeepsOutside regions store store
-  keeps_all regions store = record { count = refl; width = λ b. refl; height = λ b. refl; full = λ b h. h; cells = λ b x y p q o. refl }
-
-  pub keeps_both : (regions : List Region) (a b c : List (Grid X)) → KeepsOutside regions a b → KeepsOutside regions b c → KeepsOutside regions a c
-  keeps_both regions a b c h k = record {
-    count = k.count ∙ h.count;
-    width = λ n. k.width n ∙ h.width n;
-    height = λ n. k.height n ∙ h.height n;
-    full = λ n f. k.full n (h.full n f);
-    cells = λ n x y p q o.
-        k.cells n x y (subst (λ u. x < u) (sym (h.width n)) p) (subst (λ u. y < u) (sym (h.height n)) q) o ∙ h.cells n x y p q o;
-  }
-
-  pub keeps_written : (regions : List Region) (store : List (Grid X)) (i x y : ℕ) (v : X) → AllLie regions store → i < length regions → x < (region_at regions i).width → y < (region_at regions i).height →
-      KeepsOutside regions store (with_region_cell store (region_at regions i) x y v)
-  unfolding at_buffer
-  keeps_written regions store i x y v lie li px qy =
-      let r : Region = region_at regions i in
-      let lies : Lies r store = lie i (region 0 0 0 0 0) li in
-      record {
-        count = length-with_region_cell store r x y v;
-        width = λ b. width_after store r (at_buffer b) x y v lies.there;
-        height = λ b. height_after store r (at_buffer b) x y v lies.there;
-        full = λ b f. full_after store r (at_buffer b) x y v lies.there f;
-        cells = λ b j k p q o.
-            buffer_cell_other store r (at_buffer b) x y j k v lies px p
-            (λ h. o i (region 0 0 0 0 0) li (subst (λ n. HasCell r n j k) (sym h.0) (subst (λ n. HasCell r r.buffer n k) h.1 (subst (λ n. HasCell r r.buffer (r.x + x) n) h.2 (HasCell_at r x y px qy)))));
-      }
-
-  -- regions lie where they lay
-  pub lie_still : (regions rs : List Region) (old new : List (Grid X)) → KeepsOutside regions old new → AllLie rs old → AllLie rs new
-  lie_still regions rs old new k lie = λ i d h.
-      let was = lie i d h in
-      let there = was.there in
-      let count = k.count in
-      record {
-        there = omega (arith, there, count);
-        full = k.full (get_or rs i d).buffer was.full;
-        columns = subst (λ n. (get_or rs i d).x + (get_or rs i d).width ≤ n) (sym (k.width (get_or rs i d).buffer)) was.columns;
-        rows = subst (λ n. (get_or rs i d).y + (get_or rs i d).height ≤ n) (sym (k.height (get_or rs i d).buffer)) was.rows;
-      }

@@ -1,10 +1,11 @@
 -- Computed examples: what is refused ahead of a tree, from bits.
-use Rattle.std.specs.Prelude.{◌≡◌, ℕ, List, [], ◌∷◌, replicate, Some, Err, refl, false, codes}
+use Rattle.std.specs.Prelude.{◌≡◌, ℕ, List, [], ◌∷◌, replicate, Some, Err, Ok, refl, false, codes}
 use Rattle.jxlm_base.specs.Fault.{BadEnum, BadProfile, BadRct, BadSqueeze, NoGlobalTree, Eof}
 use Rattle.jxlm_transform.specs.Channels.{image_list}
 use Rattle.jxlm_transform.specs.Params.{sized}
 use Rattle.jxlm_transform.specs.declared.param.ChannelShift.TheVariants.{Shifts}
 use Rattle.jxlm_transform.specs.declared.param.ModularChannelParams.{ModularChannelParams}
+use Rattle.jxlm_tree.specs.WeightsHeader.{default_weights}
 use Rattle.jxl_modular.specs.Opening.{opening}
 
 -- channels of 2 by 2
@@ -34,18 +35,15 @@ a_predictor = refl
 cut_palette : (opening false (image_list square)).read (0x16 ∷ 0x00 ∷ 0x00 ∷ []) 0 ≡ Err (record { fault = Eof; position = Some 23 })
 cut_palette = refl
 
--- A colour transform of two channels, and one of three, which cannot be undone yet; that comes before the global tree.
+-- A colour transform of two channels, and one of three, behind which the global tree is missing.
 two_channels : (opening false (image_list (squares 2))).read (0x06 ∷ 0x00 ∷ []) 0 ≡ Err (record { fault = BadRct; position = Some 13 })
 two_channels = refl
 
-three_channels : (opening false (image_list (squares 3))).read (0x06 ∷ 0x00 ∷ []) 0 ≡ Err (record { fault = BadProfile (codes "transform not available"); position = Some 13 })
-three_channels = refl
-
-and_a_global_tree : (opening false (image_list (squares 3))).read (0x07 ∷ 0x00 ∷ []) 0 ≡ Err (record { fault = BadProfile (codes "transform not available"); position = Some 13 })
+and_a_global_tree : (opening false (image_list (squares 3))).read (0x07 ∷ 0x00 ∷ []) 0 ≡ Err (record { fault = NoGlobalTree; position = Some 13 })
 and_a_global_tree = refl
 
--- A default squeeze of a channel that is small enough has no step, and is a squeeze.
-small_squeeze : (opening false (image_list square)).read (0x26 ∷ []) 0 ≡ Err (record { fault = BadProfile (codes "transform not available"); position = Some 8 })
+-- A default squeeze of a channel that is small enough has no step.
+small_squeeze : (opening false (image_list square)).read (0x26 ∷ []) 0 ≡ Ok (record { value = record { weights = default_weights; coded = record { steps = []; list = image_list square } }; position = 8 })
 small_squeeze = refl
 
 -- the default squeeze of no channels

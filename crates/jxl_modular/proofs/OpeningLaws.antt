@@ -1,6 +1,7 @@
 -- What is answered ahead of a tree, from what its steps answer.
 use Rattle.std.proofs.Common.{◌≡◌, ℕ, ◌≤◌, Bool, true, false, List, [], ◌∷◌, ◌++◌, length, Some, Result, Ok, Err, refl, sym, ap, ◌∙◌, append_assoc, arith}
 use Rattle.std.specs.Prelude.{codes, nat_lt, not, ◌&&◌, if◌then◌else◌}
+use Rattle.jxlm_chain.specs.Steps.{steps_in}
 use Rattle.std.proofs.lemmas.Bool.{ltb-false}
 use Rattle.std.proofs.lemmas.List.{append-nil}
 use Rattle.jxlm_base.specs.Fault.{Fault, BadProfile, NoGlobalTree, UnlessMemory}
@@ -10,57 +11,29 @@ use Rattle.jxlm_transform.specs.ChannelSteps.{CodedList, Step, coded_list, liste
 use Rattle.jxlm_transform.specs.Transforms.{Transform}
 use Rattle.jxlm_transform.proofs.Refusals.{unless_so}
 use Rattle.jxl_modular.specs.Header.{Header, header}
-use Rattle.jxl_modular.specs.Opening.{Opening, can_undo, checked, conditions, resolved, opening, steps_in}
+use Rattle.jxl_modular.specs.Opening.{Opening, checked, conditions, resolved, opening}
 
 -- the steps of one transform more
 pub steps_further : (ts : List Transform) (t : Transform) → steps_in (ts ++ t ∷ []) ≡ steps_in ts ++ listed_steps t
 steps_further [] t = append-nil (listed_steps t)
 steps_further (u ∷ ts) t = ap (λ (ss : List Step). listed_steps u ++ ss) (steps_further ts t) ∙ sym (append_assoc (listed_steps u) (steps_in ts) (listed_steps t))
 
-abbrev first_of_three : Bool → Bool → Bool → Fault → Fault → Fault → Result (Unit {0}) Fault
-first_of_three a b c e f g = if a then Err e else if b then Err f else if c then Err g else Ok tt
+abbrev first_of_two : Bool → Bool → Fault → Fault → Result (Unit {0}) Fault
+first_of_two a b e f = if a then Err e else if b then Err f else Ok tt
 
-none_of_three : (a b c : Bool) (e f g : Fault) → first_of_three a b c e f g ≡ Ok tt → (a ≡ false) × ((b ≡ false) × (c ≡ false))
-none_of_three true b c e f g h = cc
-none_of_three false true c e f g h = cc
-none_of_three false false true e f g h = cc
-none_of_three false false false e f g h = (refl, (refl, refl))
-
-none_listed : (ts : List Transform) → not (can_undo ts) ≡ false → ts ≡ []
-none_listed [] h = refl
-none_listed (t ∷ ts) h = cc
-
-undo_alike : (ts us : List Transform) → length ts ≡ length us → can_undo ts ≡ can_undo us
-undo_alike [] [] h = refl
-undo_alike [] (u ∷ us) h = absurd (omega (arith, h))
-undo_alike (t ∷ ts) [] h = absurd (omega (arith, h))
-undo_alike (t ∷ ts) (u ∷ us) h = refl
-
-no_elements : (ts : List Transform) → length ts ≡ 0 → ts ≡ []
-no_elements [] h = refl
-no_elements (t ∷ ts) h = absurd (omega (arith, h))
+first_not : (a b : Bool) (e f : Fault) → first_of_two a b e f ≡ Ok tt → a ≡ false
+first_not true b e f h = cc
+first_not false b e f h = refl
 
 module _ (has_global : Bool) (list : ChannelList) where
-  -- the conditions look at the count of transforms, and not at what they list
-  pub conditions_alike : (h k : Header) → h.use_global_tree ≡ k.use_global_tree → length h.transform ≡ length k.transform → conditions has_global h list ≡ conditions has_global k list
-  conditions_alike h k flags lengths = rw (flags, undo_alike h.transform k.transform lengths) refl
+  -- the conditions look at the flag of the global tree alone
+  pub conditions_alike : (h k : Header) → h.use_global_tree ≡ k.use_global_tree → conditions has_global h list ≡ conditions has_global k list
+  conditions_alike h k flags = rw flags refl
 
-  -- where they hold, no transform is listed
-  pub nothing_listed : (h : Header) → conditions has_global h list ≡ Ok tt → h.transform ≡ []
-  nothing_listed h holds =
-      none_listed h.transform (none_of_three (nat_lt 65536 (length list.channels)) (not (can_undo h.transform)) (h.use_global_tree && not has_global) (BadProfile (codes "nb_channels_tr too large"))
-      (BadProfile (codes "transform not available")) NoGlobalTree holds).1.0
-
-  -- and the channels are not too many
+  -- where they hold, the channels are not too many
   pub few_channels : (h : Header) → conditions has_global h list ≡ Ok tt → length list.channels ≤ 65536
   few_channels h holds =
-      ltb-false 65536 (length list.channels) (none_of_three (nat_lt 65536 (length list.channels)) (not (can_undo h.transform)) (h.use_global_tree && not has_global) (BadProfile (codes "nb_channels_tr too large"))
-      (BadProfile (codes "transform not available")) NoGlobalTree holds).0
-
-same_header : (h k : Header) → h.use_global_tree ≡ k.use_global_tree → h.wp_params ≡ k.wp_params → h.transform ≡ k.transform → h ≡ k
-same_header h k flags weights transforms =
-    let one : record { use_global_tree = h.use_global_tree; wp_params = h.wp_params; transform = h.transform } ≡ k = rw (flags, weights, transforms) refl in
-    one
+      ltb-false 65536 (length list.channels) (first_not (nat_lt 65536 (length list.channels)) (h.use_global_tree && not has_global) (BadProfile (codes "nb_channels_tr too large")) NoGlobalTree holds)
 
 module _ (has_global : Bool) (list : ChannelList) (bytes : List ℕ) (p : ℕ) where
   -- where the header is refused, so is all
@@ -84,19 +57,16 @@ module _ (has_global : Bool) (list : ChannelList) (bytes : List ℕ) (p : ℕ) w
 
     module _ (coded : CodedList) (found : coded_list h.transform list ≡ Ok coded) where
       -- and where a condition fails, by the header as its transforms list their steps
-      pub condition_fails : (k : Header) (fault : Fault) → k.use_global_tree ≡ h.use_global_tree → length k.transform ≡ length h.transform → conditions has_global k coded.list ≡ Err fault →
+      pub condition_fails : (k : Header) (fault : Fault) → k.use_global_tree ≡ h.use_global_tree → conditions has_global k coded.list ≡ Err fault →
           IsRefused ((opening has_global list).read bytes p) fault m
-      condition_fails k fault flags lengths fails =
-          let here : conditions has_global h coded.list ≡ Err fault = sym (conditions_alike has_global coded.list k h flags lengths) ∙ fails in
+      condition_fails k fault flags fails =
+          let here : conditions has_global h coded.list ≡ Err fault = sym (conditions_alike has_global coded.list k h flags) ∙ fails in
           refused_behind fault (rw (found, here) refl)
 
-      -- where all hold, the header has no transforms, and is as it was read
-      pub is_opened : (k : Header) → k.use_global_tree ≡ h.use_global_tree → k.wp_params ≡ h.wp_params → length k.transform ≡ length h.transform → conditions has_global k coded.list ≡ Ok tt →
-          (opening has_global list).read bytes p ≡ Ok (record { value = record { header = k; coded = coded }; position = m })
-      is_opened k flags weights lengths holds =
-          let here : conditions has_global h coded.list ≡ Ok tt = sym (conditions_alike has_global coded.list k h flags lengths) ∙ holds in
-          let none : k.transform ≡ [] = nothing_listed has_global coded.list k holds in
-          let none_there : h.transform ≡ [] = nothing_listed has_global coded.list h here in
-          let same : h ≡ k = same_header h k (sym flags) (sym weights) (none_there ∙ sym none) in
-          let all : resolved has_global list h ≡ Ok (record { header = k; coded = coded }) = rw (found, here, same) refl in
+      -- where all hold, it is opened
+      pub is_opened : (k : Header) → k.use_global_tree ≡ h.use_global_tree → conditions has_global k coded.list ≡ Ok tt →
+          (opening has_global list).read bytes p ≡ Ok (record { value = record { weights = h.wp_params; coded = coded }; position = m })
+      is_opened k flags holds =
+          let here : conditions has_global h coded.list ≡ Ok tt = sym (conditions_alike has_global coded.list k h flags) ∙ holds in
+          let all : resolved has_global list h ≡ Ok (record { weights = h.wp_params; coded = coded }) = rw (found, here) refl in
           reads_on ∙ ap (λ (r : Result Opening Fault). (checked r).read bytes m) all

@@ -7,7 +7,7 @@ use Rattle.jxlm_base.specs.Fault.{UnlessMemory, fault_of}
 use Rattle.jxlm_base.specs.Grammar.{IsRefused}
 use Rattle.jxlm_base.specs.declared.error.Error.{Error}
 use Rattle.jxlm_transform.proofs.Refusals.{unless_so}
-use Rattle.jxlm_transform.specs.Channels.{area, channel_of, list_of}
+use Rattle.jxlm_transform.specs.Channels.{area, channel_of, image_list, list_of}
 use Rattle.jxlm_transform.specs.declared.channels.ModularChannelInfo.{ModularChannelInfo}
 use Rattle.jxlm_transform.specs.declared.channels.ModularChannels.{ModularChannels}
 use Rattle.jxlm_transform.specs.declared.param.ModularChannelParams.{ModularChannelParams}
@@ -15,7 +15,6 @@ use Rattle.jxlm_transform.specs.declared.param.ModularParams.{ModularParams}
 use Rattle.jxlm_tree.specs.Tree.{Config}
 use Rattle.jxlm_tree.specs.TreeReading.{IsTreeAt, IsTooDeep, TreeGives, listing_at}
 use Rattle.jxl_modular.specs.Fresh.{fresh}
-use Rattle.jxl_modular.specs.Header.{header_of}
 use Rattle.jxl_modular.specs.Image.{Image}
 use Rattle.jxl_modular.specs.Opening.{node_limit, depth_limit, opening_of}
 use Rattle.jxl_modular.specs.Parsing.{IsImageAt, IsTreeRefused, ParseGives, opened}
@@ -40,8 +39,8 @@ module _ {S D : Type 0} (d : Meaning D) (zero : S) (bytes : List ℕ) (p : ℕ) 
     limit_same = counted ∙ ap (λ n. min (1024 + n) (2 ^ 20)) (areas_same o.1.info.items)
 
     -- an image of the tree that stands there
-    pub image_stands : (config : Config D) (q : ℕ) (image : Image S D) → IsTreeAt d bytes limit depth_limit m config q → image ≡ fresh zero (header_of o.0) config params.group_dim params.bit_depth (list_of o.1) →
-        IsImageAt d zero bytes p params image q
+    pub image_stands : (config : Config D) (q : ℕ) (image : Image S D) → IsTreeAt d bytes limit depth_limit m config q →
+        image ≡ fresh zero (image_list params.channels.items) (opening_of o) config params.group_dim params.bit_depth → IsImageAt d zero bytes p params image q
     image_stands config q image tree same = rw same (record {
       ahead = opening_of o;
       place = m;

@@ -19,7 +19,6 @@ use Rattle.jxlm_base.specs.declared.bits.BitstreamError.{BitstreamError}
 use Rattle.jxlm_base.specs.declared.bits.BitstreamError.TheVariants as bit_errors
 use Rattle.jxlm_base.specs.declared.error.Error.{Error}
 use Rattle.jxlm_base.specs.declared.error.Error.TheVariants.{InvalidMaTree, GlobalMaTreeNotAvailable, InvalidRctParams, InvalidPaletteParams, InvalidSqueezeParams, Bitstream, Decoder, Buffer}
-use Rattle.jxl_modular.specs.Chain.{IsOnlyImage, transforms_of}
 use Rattle.jxl_modular.specs.Coded.{IfSome}
 use Rattle.jxl_modular.specs.Decode.{Standing, DecodeAnswers, MovesWithin}
 use Rattle.jxl_modular.specs.Image.{Image, IsLaidOut, coded_grids, cost_of as image_cost, whole_part, samples_in}
@@ -33,41 +32,7 @@ use Rattle.jxl_modular.specs.declared.coding.PartCoding.{PartCoding}
 use Rattle.jxlm_tree.specs.declared.state.PredictorState.{PredictorState}
 use Rattle.jxl_modular.proofs.Starting.{roomy_for}
 use Rattle.jxl_modular.proofs.Loops.{same_count}
-use Rattle.jxl_modular.proofs.Layouts.{layout_lies, layout_apart, layout_grids, same_sizes, fits_meanings}
-
-module _ {S D : Type 0} (x : Image S D) (laid : IsLaidOut x) where
-  pub coded_lie : AllLie x.coded x.store
-  coded_lie = subst (λ (rs : List Region). AllLie rs x.store) (sym laid.regions) (layout_lies (channels_of x.channels) x.store laid.sizes)
-
-  pub coded_apart : LieApart x.coded
-  coded_apart = subst LieApart (sym laid.regions) (layout_apart (channels_of x.channels) x.store laid.sizes)
-
-  pub coded_sizes : SameSizes (channels_of x.channels) x.coded
-  coded_sizes = subst (SameSizes (channels_of x.channels)) (sym laid.regions) (same_sizes (channels_of x.channels) 0)
-
-  -- the grids of the coded channels are those of the store
-  pub coded_are_store : (f : S → ℤ) → coded_grids f x ≡ store_meanings f x.store
-  coded_are_store f =
-      ap (λ (rs : List Region). grids_in rs (store_meanings f x.store)) laid.regions
-      ∙ layout_grids (channels_of x.channels) (store_meanings f x.store) (fits_meanings f (channels_of x.channels) x.store laid.sizes)
-
-  pub coded_fit : (f : S → ℤ) → Fits (channels_of x.channels) (coded_grids f x)
-  coded_fit f = subst (Fits (channels_of x.channels)) (sym (coded_are_store f)) (fits_meanings f (channels_of x.channels) x.store laid.sizes)
-
--- buffers keep their sizes
-kept : {X : Type 0} (cs : List Channel) (old new : List (Grid X)) → length new ≡ length old →
-    ((b : ℕ) → (buffer_at new b).width ≡ (buffer_at old b).width) → ((b : ℕ) → (buffer_at new b).height ≡ (buffer_at old b).height) →
-    ((b : ℕ) → IsFull (buffer_at old b) → IsFull (buffer_at new b)) → Fits cs old → Fits cs new
-kept [] [] [] n w h f fit = fit
-kept [] [] (g ∷ gs) n w h f fit = absurd (omega arith)
-kept [] (o ∷ os) new n w h f fit = absurd fit
-kept (c ∷ cs) [] new n w h f fit = absurd fit
-kept (c ∷ cs) (o ∷ os) [] n w h f fit = absurd (omega arith)
-kept (c ∷ cs) (o ∷ os) (g ∷ gs) n w h f fit =
-    (w 0 ∙ fit.0, h 0 ∙ fit.1, f 0 fit.2, kept cs os gs (omega arith) (λ b. w (suc b)) (λ b. h (suc b)) (λ b. f (suc b)) fit.3)
-
-pub fits_kept : {X : Type 0} (rs : List Region) (cs : List Channel) (old new : List (Grid X)) → KeepsOutside rs old new → Fits cs old → Fits cs new
-fits_kept rs cs old new k fit = kept cs old new k.count k.width k.height k.full fit
+use Rattle.jxl_modular.proofs.Laid.{coded_lie, coded_apart, coded_sizes, coded_fit}
 
 -- a list written over whole
 pub refilled : {X : Type 0} (n : ℕ) (xs ys : List X) → n ≡ length ys → length xs ≡ length ys → take n (xs ++ drop (length xs) ys) ≡ xs
@@ -85,7 +50,7 @@ some_channel [] h = absurd (omega arith)
 some_channel (c ∷ cs) h = omega arith
 
 module _ {S D : Type 0} (x : Image S D) (laid : IsLaidOut x) (c : PartCoding D)
-    (channels : c.channels.now ≡ x.channels) (regions : c.regions.now ≡ x.coded) (config : c.config.now ≡ x.config) (weights : c.weights ≡ x.header.wp_params) where
+    (channels : c.channels.now ≡ x.channels) (regions : c.regions.now ≡ x.coded) (config : c.config.now ≡ x.config) (weights : c.weights ≡ x.weights) where
   count_is : length x.channels ≡ length (regions_of c)
   count_is =
       sym (length-map x.channels _) ∙ same_count (channels_of x.channels) x.coded (coded_sizes x laid) ∙ ap length (sym regions)
@@ -105,8 +70,8 @@ module _ {S D : Type 0} (x : Image S D) (laid : IsLaidOut x) (c : PartCoding D)
 
 -- the part of the channels of an image
 pub same_part : {S D : Type 0} (x : Image S D) (stream : ℕ) (channels : List ModularChannelInfo) → channels ≡ x.channels →
-    part_with (channels_of channels) x.header.wp_params x.config.tree stream ≡ whole_part x stream
-same_part x stream channels same = ap (λ cs. part_with (channels_of cs) x.header.wp_params x.config.tree stream) same
+    part_with (channels_of channels) x.weights x.config.tree stream ≡ whole_part x stream
+same_part x stream channels same = ap (λ cs. part_with (channels_of cs) x.weights x.config.tree stream) same
 
 module _ {S D : Type 0} (d : Meaning D) (w : Width) (to_int : S → ℤ) (bytes : List ℕ) (stream : ℕ) (old : Image S D) (s : List (Grid S)) (p q : ℕ)
     (regions : List Region) (part : Part) (coded : regions ≡ old.coded) (is : part ≡ whole_part old stream) where
@@ -210,12 +175,3 @@ module _ {S D : Type 0} (d : Meaning D) (w : Width) (to_int : S → ℤ) (bytes 
   answers_fault allow InvalidPaletteParams new q before after denied cells more same = absurd same
   answers_fault allow InvalidSqueezeParams new q before after denied cells more same = absurd same
   answers_fault allow (Bitstream b) new q before after denied cells more same = absurd same
-
--- without transforms the image is the coded grids
-pub only_image : {S D : Type 0} (to_int : S → ℤ) (x : Image S D) → IsLaidOut x →
-    IsOnlyImage (transforms_of x.header) (channels_of x.channels) (store_meanings to_int x.store) (coded_grids to_int x)
-only_image to_int x laid = record {
-  fits = fits_meanings to_int (channels_of x.channels) x.store laid.sizes;
-  becomes = coded_are_store x laid to_int;
-  only = λ other fit h. sym h ∙ coded_are_store x laid to_int;
-}

@@ -11,7 +11,7 @@ use Rattle.jxlm_transform.specs.Transforms.{Transform, OfRct, OfPalette, OfSquee
 use Rattle.jxlm_transform.specs.declared.transform.TransformInfo.{TransformInfo}
 use Rattle.jxlm_transform.proofs.CodedLists.{with_steps, all_applied, transform_applied, transform_refused}
 use Rattle.jxlm_transform.proofs.Refusals.{unless_so}
-use Rattle.jxl_modular.specs.Opening.{steps_in}
+use Rattle.jxlm_chain.specs.Steps.{steps_in}
 use Rattle.jxl_modular.proofs.OpeningLaws.{steps_further}
 
 -- a palette that was read has a channel

@@ -1,26 +1,34 @@
 -- An image before any of its samples is decoded.
-use Rattle.std.specs.Prelude.{ℕ, List, map}
+use Rattle.std.specs.Prelude.{ℕ, List, [], ◌∷◌, map}
 use Rattle.jxlm_base.specs.Grid.{Grid, filled}
+use Rattle.jxlm_chain.specs.Layout.{Sides, buffers_of, first_layout, layout_after_all}
 use Rattle.jxlm_tree.specs.Tree.{Config}
 use Rattle.jxlm_transform.specs.Channels.{ChannelList, info_of}
-use Rattle.jxlm_transform.specs.declared.channels.ModularChannelInfo.{ModularChannelInfo}
-use Rattle.jxl_modular.specs.Header.{Header}
+use Rattle.jxlm_transform.specs.Transforms.{Transform, OfRct, OfPalette, OfSqueeze}
 use Rattle.jxl_modular.specs.Image.{Image}
-use Rattle.jxl_modular.specs.Layout.{channels_of, layout}
+use Rattle.jxl_modular.specs.Opening.{Opening}
 
--- for each channel a grid of its size, whose cells are 0
-abbrev pub zeros : {S : Type 0} → S → List ModularChannelInfo → List (Grid S)
-zeros zero channels = map (λ c. filled c.width c.height zero) channels
+-- for each buffer a grid of its sides, whose cells are 0
+abbrev pub zeros : {S : Type 0} → S → List Sides → List (Grid S)
+zeros zero sides = map (λ s. filled s.width s.height zero) sides
 
--- an image of these coded channels whose cells are all 0
-abbrev pub fresh : {S D : Type 0} → S → Header → Config D → ℕ → ℕ → ChannelList → Image S D
-fresh zero header config group_dim bit_depth list = record {
-  header = header;
+-- the tables that one transform wants
+abbrev pub tables_for : Transform → List Sides
+tables_for (OfRct t) = []
+tables_for (OfPalette t) = record { width = t.nb_colours; height = t.num_c } ∷ []
+tables_for (OfSqueeze steps) = []
+
+-- the image of these channels, as its opening says, whose cells are all 0
+abbrev pub fresh : {S D : Type 0} → S → ChannelList → Opening → Config D → ℕ → ℕ → Image S D
+fresh zero given ahead config group_dim bit_depth = record {
+  weights = ahead.weights;
+  steps = ahead.coded.steps;
   config = config;
   group_dim = group_dim;
   bit_depth = bit_depth;
-  channels = map info_of list.channels;
-  nb_meta = list.nb_meta;
-  store = zeros zero (map info_of list.channels);
-  coded = layout (channels_of (map info_of list.channels));
+  given = map info_of given.channels;
+  channels = map info_of ahead.coded.list.channels;
+  nb_meta = ahead.coded.list.nb_meta;
+  store = zeros zero (buffers_of given.channels ahead.coded.steps);
+  coded = (layout_after_all ahead.coded.steps (first_layout given.channels)).regions;
 }

@@ -3,7 +3,7 @@ use Rattle.std.specs.Prelude.{ℕ, List, map, Bool}
 use Rattle.std.specs.List.{All}
 use Rattle.jxlm_base.specs.Grammar.{Grammar, flag, u32, give, repeated, ◌>>=◌}
 use Rattle.jxlm_base.specs.declared.bits.U32Spec.TheVariants.{Const, Offset}
-use Rattle.jxlm_transform.specs.Transforms.{Transform, IsTransform, transform, transform_of}
+use Rattle.jxlm_transform.specs.Transforms.{Transform, IsTransform, KeepsWeights, transform, transform_of}
 use Rattle.jxlm_tree.specs.SelfCorrecting.{IsHeader}
 use Rattle.jxlm_tree.specs.WeightsHeader.{wp_header}
 use Rattle.jxlm_tree.specs.declared.predictor.WpHeader.{WpHeader}
@@ -36,3 +36,4 @@ header_of h = record { use_global_tree = h.use_global_tree; wp_params = h.wp_par
 pub record IsReadHeader (h : Header) : Type 0 where
   pub weights : IsHeader h.wp_params
   pub transforms : All IsTransform h.transform
+  pub palettes : All (KeepsWeights h.wp_params) h.transform

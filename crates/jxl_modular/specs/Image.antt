@@ -1,54 +1,99 @@
 -- An image: what it was read with, and its buffers.
-use Rattle.std.specs.Prelude.{◌≡◌, ◌≤◌, ◌+◌, ℕ, List, length, ℤ, refl}
+use Rattle.std.specs.Prelude.{◌≡◌, ◌≤◌, ◌+◌, ℕ, List, length, map, take, ℤ, Ok, refl}
 use Rattle.std.specs.List.{All}
 use Rattle.std.specs.Coded.{Coded, code_by, coded×, coded_list, coded_ℕ}
+use Rattle.std.specs.Int.{Width}
 use Rattle.jxlm_base.specs.Grid.{Grid, grid_code}
 use Rattle.jxlm_base.specs.Regions.{store_meanings}
 use Rattle.jxlm_base.specs.declared.subgrid.Region.{Region}
+use Rattle.jxlm_chain.specs.Layout.{HasBuffers, buffers_of, first_layout, layout_after_all}
+use Rattle.jxlm_chain.specs.Steps.{HasChannels, HasWeights, IsNarrowStore}
+use Rattle.jxlm_chain.specs.Chain as chain
+use Rattle.jxlm_transform.specs.Channels.{ChannelList, channel_of}
+use Rattle.jxlm_transform.specs.ChannelSteps.{Step, list_after_all}
 use Rattle.jxlm_transform.specs.declared.channels.ModularChannelInfo.{ModularChannelInfo}
 use Rattle.jxlm_tree.specs.Tree.{Config, depth}
 use Rattle.jxlm_tree.specs.SelfCorrecting.{IsHeader}
-use Rattle.jxl_modular.specs.Header.{Header}
-use Rattle.jxl_modular.specs.Layout.{channels_of, layout}
-use Rattle.jxl_modular.specs.Part.{Part, Fits, IsNarrow, cell_count}
+use Rattle.jxlm_tree.specs.declared.predictor.WpHeader.{WpHeader}
+use Rattle.jxl_modular.specs.Layout.{channels_of}
+use Rattle.jxl_modular.specs.Part.{Part, IsNarrow, cell_count}
 use Rattle.jxl_modular.specs.Progress.{grids_in}
 
--- its header, its tree with the decoder of the leaves, the side of its groups, the bit depth of its samples, its coded channels, the first
--- nb_meta of which hold tables, its buffers, and the regions of the coded channels in them
+-- the weights of its header, the steps of its transforms, its tree with the decoder of the leaves, the side of its groups, the bit depth
+-- of its samples, its own channels, its coded channels, the first nb_meta of which hold tables and what became of them, its buffers, and
+-- the regions of the coded channels in them
 pub record Image (S D : Type 0) : Type 0 where
-  pub header : Header
+  pub weights : WpHeader
+  pub steps : List Step
   pub config : Config D
   pub group_dim : ℕ
   pub bit_depth : ℕ
+  pub given : List ModularChannelInfo
   pub channels : List ModularChannelInfo
   pub nb_meta : ℕ
   pub store : List (Grid S)
   pub coded : List Region
 
-abbrev pub image_code : {S D : Type 0} → Coded Header → Coded (Config D) → Coded ModularChannelInfo → Coded Region → Coded S → Coded (Image S D)
-image_code {S} {D} h c i r s =
-    code_by (Header × (Config D × (ℕ × (ℕ × (List ModularChannelInfo × (ℕ × (List (Grid S) × List Region)))))))
-    (coded× h (coded× c (coded× coded_ℕ (coded× coded_ℕ (coded× (coded_list i) (coded× coded_ℕ (coded× (coded_list (grid_code s)) (coded_list r))))))))
-    (λ x. (x.header, (x.config, (x.group_dim, (x.bit_depth, (x.channels, (x.nb_meta, (x.store, x.coded))))))))
-    (λ p. record { header = p.0; config = p.1.0; group_dim = p.1.1.0; bit_depth = p.1.1.1.0; channels = p.1.1.1.1.0; nb_meta = p.1.1.1.1.1.0; store = p.1.1.1.1.1.1.0; coded = p.1.1.1.1.1.1.1 })
+abbrev pub image_code : {S D : Type 0} → Coded WpHeader → Coded Step → Coded (Config D) → Coded ModularChannelInfo → Coded Region → Coded S → Coded (Image S D)
+image_code {S} {D} w t c i r s =
+    code_by (WpHeader × (List Step × (Config D × (ℕ × (ℕ × (List ModularChannelInfo × (List ModularChannelInfo × (ℕ × (List (Grid S) × List Region)))))))))
+    (coded× w (coded× (coded_list t) (coded× c (coded× coded_ℕ (coded× coded_ℕ (coded× (coded_list i) (coded× (coded_list i) (coded× coded_ℕ (coded× (coded_list (grid_code s)) (coded_list r))))))))))
+    (λ x. (x.weights, (x.steps, (x.config, (x.group_dim, (x.bit_depth, (x.given, (x.channels, (x.nb_meta, (x.store, x.coded))))))))))
+    (λ p. record {
+      weights = p.0;
+      steps = p.1.0;
+      config = p.1.1.0;
+      group_dim = p.1.1.1.0;
+      bit_depth = p.1.1.1.1.0;
+      given = p.1.1.1.1.1.0;
+      channels = p.1.1.1.1.1.1.0;
+      nb_meta = p.1.1.1.1.1.1.1.0;
+      store = p.1.1.1.1.1.1.1.1.0;
+      coded = p.1.1.1.1.1.1.1.1.1;
+    })
     (λ _. refl)
 
 module _ {S D : Type 0} where
-  -- the channels, which are narrow and at most 65536, have their buffers, of their sizes; the weights are those of a header
+  -- the image's own channels, and its coded ones
+  abbrev pub given_list : Image S D → ChannelList
+  given_list x = record { channels = map channel_of x.given; nb_meta = 0 }
+
+  abbrev pub list_coded : Image S D → ChannelList
+  list_coded x = record { channels = map channel_of x.channels; nb_meta = x.nb_meta }
+
+  -- The coded channels, which are narrow and at most 65536, are those that the steps leave, and lie where these put them; the buffers are
+  -- those of the image's own channels, and then those of the tables.
   pub record IsLaidOut (x : Image S D) : Type 0 where
-    pub sizes : Fits (channels_of x.channels) x.store
-    pub regions : x.coded ≡ layout (channels_of x.channels)
+    pub list : list_after_all x.steps (given_list x) ≡ Ok (list_coded x)
+    pub regions : x.coded ≡ (layout_after_all x.steps (first_layout (given_list x).channels)).regions
+    pub buffers : HasBuffers (buffers_of (given_list x).channels x.steps) x.store
+    pub narrow_store : IsNarrowStore x.store
     pub narrow : All IsNarrow (channels_of x.channels)
     pub few : length x.channels ≤ 65536
-    pub weights : IsHeader x.header.wp_params
+    pub weights : IsHeader x.weights
+    pub steps : All HasChannels x.steps
+    pub palettes : All (HasWeights x.weights) x.steps
+    pub deep : x.bit_depth ≤ 32
 
   -- the part of all channels, read with this stream index
   abbrev pub whole_part : Image S D → ℕ → Part
-  whole_part x stream = record { channels = channels_of x.channels; weights = x.header.wp_params; tree = x.config.tree; stream = stream }
+  whole_part x stream = record { channels = channels_of x.channels; weights = x.weights; tree = x.config.tree; stream = stream }
+
+  -- the image's own channels: the first of its buffers
+  abbrev pub grids_given : Image S D → List (Grid S)
+  grids_given x = take (length x.given) x.store
+
+  -- the same, of the numbers that the samples stand for
+  abbrev pub image_grids : (S → ℤ) → Image S D → List (Grid ℤ)
+  image_grids to_int x = store_meanings to_int (grids_given x)
 
   -- the grids of the coded channels, of the numbers that the samples stand for
   abbrev pub coded_grids : (S → ℤ) → Image S D → List (Grid ℤ)
   coded_grids to_int x = grids_in x.coded (store_meanings to_int x.store)
+
+  -- these grids are the only ones that the steps turn into those coded ones
+  abbrev pub IsOnlyImage : Width → Image S D → List (Grid ℤ) → List (Grid ℤ) → Type 0
+  IsOnlyImage w x image coded = chain.IsOnlyImage w x.bit_depth x.steps (given_list x) image coded
 
   -- how many nodes of the tree a walk may look at
   abbrev pub cost_of : Image S D → ℕ

@@ -1,5 +1,4 @@
 pub mod Part
-pub mod Chain
 pub mod Rule
 pub mod Coded
 pub mod Decode
@@ -14,7 +13,7 @@ pub mod Progress
 pub mod Reading
 pub mod Token
 pub mod Header
-pub mod HeaderCode
+pub mod StepCode
 pub mod Opening
 pub mod Fresh
 pub mod Parsing

@@ -4,16 +4,18 @@ use Rattle.jxlm_base.specs.Fault.{Fault, BadProfile, NoGlobalTree, UnlessMemory,
 use Rattle.jxlm_base.specs.Grammar.{Grammar, IsExact, give, refuse}
 use Rattle.jxlm_base.specs.Grammar as fields
 use Rattle.jxlm_base.specs.declared.error.Error.{Error}
+use Rattle.jxlm_chain.specs.Steps.{steps_in}
+use Rattle.jxlm_tree.specs.declared.predictor.WpHeader.{WpHeader}
 use Rattle.jxlm_transform.specs.Channels.{Channel, ChannelList, area, list_of}
-use Rattle.jxlm_transform.specs.ChannelSteps.{CodedList, Step, coded_list, listed_steps, ◌>>=◌}
+use Rattle.jxlm_transform.specs.ChannelSteps.{CodedList, coded_list, ◌>>=◌}
 use Rattle.jxlm_transform.specs.Transforms.{Transform}
 use Rattle.jxlm_transform.specs.declared.channels.ModularChannels.{ModularChannels}
 use Rattle.jxl_modular.specs.Header.{Header, header, header_of}
 use Rattle.jxl_modular.specs.declared.header.ModularHeader.{ModularHeader}
 
--- the header, and what its transforms come to: their steps, and the channels that are coded
+-- the weights of the header, and what its transforms come to: their steps, and the channels that are coded
 pub record Opening : Type 0 where
-  pub header : Header
+  pub weights : WpHeader
   pub coded : CodedList
 
 -- a value that is found without bits, or its refusal
@@ -21,17 +23,11 @@ abbrev pub checked : {X : Type 0} → Result X Fault → Grammar X
 checked (Ok x) = give x
 checked (Err e) = refuse e
 
--- no transform can be undone yet
-abbrev pub can_undo : List Transform → Bool
-can_undo [] = true
-can_undo (t ∷ ts) = false
-
--- The conditions on a header and its coded channels, in order: at most 65536 channels are coded, its transforms can be undone, and a global
--- tree that it asks for was handed in.
+-- The conditions on a header and its coded channels, in order: at most 65536 channels are coded, and a global tree that it asks for was
+-- handed in.
 abbrev pub conditions : Bool → Header → ChannelList → Result (Unit {0}) Fault
 conditions has_global header list =
     if nat_lt 65536 (length list.channels) then Err (BadProfile (codes "nb_channels_tr too large")) else
-    if not (can_undo header.transform) then Err (BadProfile (codes "transform not available")) else
     if header.use_global_tree && not has_global then Err NoGlobalTree else Ok tt
 
 -- each transform in turn against the channels that the ones before it leave, and then the conditions
@@ -39,16 +35,11 @@ abbrev pub resolved : Bool → ChannelList → Header → Result Opening Fault
 resolved has_global list header =
     coded_list header.transform list >>= λ coded.
     conditions has_global header coded.list >>= λ _.
-    Ok (record { header = header; coded = coded })
+    Ok (record { weights = header.wp_params; coded = coded })
 
 -- the whole header, and then what it comes to
 abbrev pub opening : Bool → ChannelList → Grammar Opening
 opening has_global list = fields.◌>>=◌ header λ header. checked (resolved has_global list header)
-
--- the steps that transforms list
-abbrev pub steps_in : List Transform → List Step
-steps_in [] = []
-steps_in (t ∷ ts) = listed_steps t ++ steps_in ts
 
 -- What a call that applies transforms in order answered, the transforms behind it, which then list their steps, and the list behind it.
 abbrev pub PrepareGives : List Transform → ChannelList → Result (Unit {0}) Error → List Transform → ChannelList → Type 0
@@ -62,7 +53,7 @@ CheckGives check (Err e) = check ≡ Err (fault_of e)
 
 -- a header and its coded channels, as a program keeps them
 abbrev pub opening_of : ModularHeader × ModularChannels → Opening
-opening_of o = record { header = header_of o.0; coded = record { steps = steps_in (header_of o.0).transform; list = list_of o.1 } }
+opening_of o = record { weights = (header_of o.0).wp_params; coded = record { steps = steps_in (header_of o.0).transform; list = list_of o.1 } }
 
 -- what is read ahead of a tree stands there, and what stands there is read
 abbrev pub OpeningIsExact : Type 0

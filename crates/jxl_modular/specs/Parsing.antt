@@ -28,7 +28,7 @@ module _ {S D : Type 0} (d : Meaning D) (zero : S) (bytes : List ℕ) (p : ℕ) 
     pub place : ℕ
     pub opens : opened ≡ Ok (record { value = ahead; position = place })
     pub tree : IsTreeAt d bytes (node_limit ahead.coded.list.channels) depth_limit place image.config q
-    pub cells : image ≡ fresh zero ahead.header image.config params.group_dim params.bit_depth ahead.coded.list
+    pub cells : image ≡ fresh zero (image_list params.channels.items) ahead image.config params.group_dim params.bit_depth
 
   -- what stands ahead of the tree is read, and the tree is refused
   pub record IsTreeRefused (fault : Fault) (q : ℕ) : Type 0 where

@@ -5,26 +5,23 @@ use Rattle.jxlm_base.specs.Decoding.{Meaning}
 use Rattle.jxlm_base.specs.Fault.{Fault, OfDecoder, UnlessMemory, fault_of}
 use Rattle.jxlm_base.specs.Grammar.{IsRefused}
 use Rattle.jxlm_base.specs.Grid.{Grid}
-use Rattle.jxlm_base.specs.Regions.{store_meanings}
 use Rattle.jxlm_base.specs.declared.decoder.DecoderError.{DecoderError}
 use Rattle.jxlm_base.specs.declared.error.Error.{Error}
 use Rattle.jxlm_transform.specs.declared.param.ModularChannelParams.{ModularChannelParams}
 use Rattle.jxlm_transform.specs.declared.param.ModularParams.{ModularParams}
-use Rattle.jxl_modular.specs.Chain.{IsOnlyImage, transforms_of}
 use Rattle.jxl_modular.specs.Coded.{IsCodedWhole}
 use Rattle.jxl_modular.specs.Decode.{Standing, Fails}
-use Rattle.jxl_modular.specs.Image.{Image, coded_grids, whole_part}
-use Rattle.jxl_modular.specs.Layout.{channels_of}
+use Rattle.jxl_modular.specs.Image.{Image, IsOnlyImage, coded_grids, image_grids, whole_part}
 use Rattle.jxl_modular.specs.Parsing.{IsImageAt, IsTreeRefused, opened}
-use Rattle.jxl_modular.specs.SameButSamples.{SameButSamples}
+use Rattle.jxl_modular.specs.SameButSamples.{SameButCells}
 
 module _ {S D : Type 0} (d : Meaning D) (w : Width) (to_int : S → ℤ) (bytes : List ℕ) (stream : ℕ) where
-  -- Some cells are coded whole from place p up to place q, and the new image is the only one that the transforms turn into them.
+  -- Some cells are coded whole from place p up to place q, and the new image's channels are the only ones that the transforms turn into them.
   pub record IsFilled (old : Image S D) (p : ℕ) (new : Image S D) (q : ℕ) : Type 0 where
     pub cells : List (Grid ℤ)
     pub coded : IsCodedWhole d w (whole_part old stream) bytes old.config.decoder p cells q
-    pub only : IsOnlyImage (transforms_of new.header) (channels_of new.channels) (store_meanings to_int new.store) cells
-    pub same : SameButSamples old new
+    pub only : IsOnlyImage w new (image_grids to_int new) cells
+    pub same : SameButCells old new
 
   -- The decoder refuses the samples that should stand at place p: at its begin, at the read of one cell, or at the end; the reader stands at q.
   pub record AreRefused (old : Image S D) (p : ℕ) (fault : Fault) (q : ℕ) : Type 0 where

@@ -1,10 +1,10 @@
 -- How far the decoding of a part has come: what its loops over channels, rows and columns keep.
-use Rattle.std.specs.Prelude.{◌≡◌, ℕ, suc, ◌+◌, ◌*◌, ◌<◌, ◌≤◌, ℤ, List, [], ◌∷◌, take, drop, length, map, get_or, Bool, Err}
-use Rattle.std.specs.List.{All}
+use Rattle.std.specs.Prelude.{◌≡◌, ℕ, suc, ◌+◌, ◌*◌, ◌<◌, ◌≤◌, ℤ, List, [], ◌∷◌, take, drop, map, Bool, Err}
 use Rattle.std.specs.Int.{Width}
 use Rattle.jxlm_base.specs.Decoding.{Meaning}
-use Rattle.jxlm_base.specs.Grid.{Grid, grid, cell, IsFull}
-use Rattle.jxlm_base.specs.Regions.{grid_of, HasCell}
+use Rattle.jxlm_base.specs.Grid.{Grid}
+pub use Rattle.jxlm_base.specs.Outside.{KeepsOutside, buffer_at}
+pub use Rattle.jxlm_chain.specs.Layout.{grids_in}
 use Rattle.jxlm_base.specs.declared.decoder.DecoderError.{DecoderError}
 use Rattle.jxlm_base.specs.declared.subgrid.Region.{Region}
 use Rattle.jxl_modular.specs.Coded.{part_rule, IsCoded, IsCodedToTheEnd}
@@ -37,10 +37,6 @@ SameSizes (c ∷ channels) (r ∷ regions) = (r.width ≡ c.width) × (r.height 
 abbrev pub place_of : Part → ℕ → ℕ → ℕ → ℕ
 place_of part i x y = cells_before part.channels i + (y * (channel part.channels i).width + x)
 
--- the grids that stand in the regions of a store
-abbrev pub grids_in : List Region → List (Grid ℤ) → List (Grid ℤ)
-grids_in regions store = map (grid_of store) regions
-
 -- the cells that stand before column x of row y of grid i
 abbrev pub cells_ahead : Part → List (Grid ℤ) → ℕ → ℕ → ℕ → List ℤ
 cells_ahead part grids i x y = take (place_of part i x y) (cells_of grids)
@@ -71,16 +67,3 @@ module _ {S : Type 0} (d : Meaning S) (w : Width) (part : Part) (bytes : List �
     abbrev pub DecodesSome : ℕ → ℕ → ℕ → DecoderError → Type 0
     DecodesSome cost before after e = (partial : Bool) → 0 < cell_count part.channels →
         (tried : ℕ) × Fails d w part bytes decoder (record { position = p; grids = grids_in regions old; partial = partial }) (record { position = q; grids = grids_in regions new; partial = partial }) e tried × (after ≤ before + tried * cost)
-
-module _ {S : Type 0} where
-  -- buffer b of a store; a grid of no cells where there is none
-  abbrev pub buffer_at : List (Grid S) → ℕ → Grid S
-  buffer_at store b = get_or store b (grid 0 0 [])
-
-  -- the store keeps its grids' sizes, and its cells outside the regions
-  pub record KeepsOutside (regions : List Region) (old new : List (Grid S)) : Type 0 where
-    pub count : length new ≡ length old
-    pub width : (b : ℕ) → (buffer_at new b).width ≡ (buffer_at old b).width
-    pub height : (b : ℕ) → (buffer_at new b).height ≡ (buffer_at old b).height
-    pub full : (b : ℕ) → IsFull (buffer_at old b) → IsFull (buffer_at new b)
-    pub cells : (b x y : ℕ) → x < (buffer_at old b).width → y < (buffer_at old b).height → All (λ r. HasCell r b x y → ⊥) regions → cell (buffer_at new b) x y ≡ cell (buffer_at old b) x y

@@ -1,16 +1,24 @@
--- What decoding changes of an image.
+-- What decoding and finishing change of an image.
 use Rattle.std.specs.Prelude.{◌≡◌}
+use Rattle.jxlm_chain.specs.Shape.{SameShape}
 use Rattle.jxl_modular.specs.Image.{Image}
 use Rattle.jxl_modular.specs.Progress.{KeepsOutside}
 
 module _ {S D : Type 0} where
-  -- Only samples of the coded channels may differ: header, tree, channels and regions are as before, and so are all cells outside the regions.
-  pub record SameButSamples (old new : Image S D) : Type 0 where
-    pub header : new.header ≡ old.header
+  -- Only cells of the buffers may differ: weights, steps, tree, channels and regions are as before, and so are the buffers' sizes.
+  pub record SameButCells (old new : Image S D) : Type 0 where
+    pub weights : new.weights ≡ old.weights
+    pub steps : new.steps ≡ old.steps
     pub config : new.config ≡ old.config
     pub group_dim : new.group_dim ≡ old.group_dim
     pub bit_depth : new.bit_depth ≡ old.bit_depth
+    pub given : new.given ≡ old.given
     pub channels : new.channels ≡ old.channels
     pub nb_meta : new.nb_meta ≡ old.nb_meta
     pub coded : new.coded ≡ old.coded
+    pub shape : SameShape old.store new.store
+
+  -- Only samples of the coded channels may differ: all else is as before, and so are all cells outside their regions.
+  pub record SameButSamples (old new : Image S D) : Type 0 where
+    pub cells : SameButCells old new
     pub outside : KeepsOutside old.coded old.store new.store

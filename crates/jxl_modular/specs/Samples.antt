@@ -40,4 +40,4 @@ module _ {S D : Type 0} (d : Meaning D) (w : Width) (to_int : S → ℤ) (bytes 
 pub record IsReadyFor {S D : Type 0} (image : Image S D) (stream : ℕ) (r : Ready S D) : Type 0 where
   pub decoder_is : r.decoder ≡ image.config.decoder
   pub flats_are : HasFlats image.config.tree stream (length image.channels) r.flats.items
-  pub roomy : IsRoomyFor (greatest_width (channels_of image.channels)) image.header.wp_params r.flats.items r.state
+  pub roomy : IsRoomyFor (greatest_width (channels_of image.channels)) image.weights r.flats.items r.state

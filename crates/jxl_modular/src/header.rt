@@ -5,7 +5,7 @@ ghost use Rattle.std.specs.List.{All};
 ghost use Rattle.jxlm_base.specs.Bits.{bytes_of, position_of};
 ghost use Rattle.jxlm_base.specs.Grammar.{Answers, repeated};
 ghost use Rattle.jxlm_transform.specs.Channels.{HasItsMeta, list_of};
-ghost use Rattle.jxlm_transform.specs.Transforms.{IsTransform, transform, transform_of};
+ghost use Rattle.jxlm_transform.specs.Transforms.{IsTransform, KeepsWeights, transform, transform_of};
 ghost use Rattle.jxl_modular.specs.Opening.{PrepareGives};
 
 use jxlm_base::bits::{Bitstream, U32Spec};
@@ -24,7 +24,7 @@ pub struct ModularHeader {
     pub(crate) transform: Vec<TransformInfo>,
 }
 
-/// So many transforms.
+/// So many transforms, of which each palette keeps no weights, or these.
 fn read_transforms(
     alloc: Global,
     bits: &mut Bitstream<'_>,
@@ -33,6 +33,7 @@ fn read_transforms(
 ) -> Result<Vec<TransformInfo>>
     ensures gives { Answers (λ v. map transform_of v.items) result (position_of bits.new) ((repeated count (transform wp_params.now)).read (bytes_of bits.old) (position_of bits.old)) }
     ensures each { IfOk result (λ v. All IsTransform (map transform_of v.items)) }
+    ensures weights { IfOk result (λ v. All (KeepsWeights wp_params.now) (map transform_of v.items)) }
     ensures bytes { bytes_of bits.new ≡ bytes_of bits.old }
 {
     let mut transforms = Vec::new(alloc);
@@ -47,7 +48,8 @@ impl ModularHeader {
     ghost use Rattle.jxl_modular.specs.Header.{IsReadHeader, header, header_of};
 
     /// The header that stands at the reader's place: whether the global tree is used, the weights
-    /// of the self-correcting predictor, and the transforms, at most 273.
+    /// of the self-correcting predictor, and the transforms, at most 273. A palette keeps no weights,
+    /// or the header's.
     ///
     /// A cut input is refused by `UnexpectedEof`; a transform of kind 3, and the number of a
     /// predictor that is none, by `InvalidEnum`. The reader then stands behind the last field that

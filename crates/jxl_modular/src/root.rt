@@ -1,11 +1,14 @@
 //! Modular images as they are read.
 
-ghost use Rattle.std.specs.Prelude.{◌≡◌, ◌≤◌, pos, length, None, IfOk};
+ghost use Rattle.std.specs.Prelude.{◌≡◌, ◌≤◌, pos, length, None, Ok, IfOk};
 ghost use Rattle.std.specs.List.{All};
 ghost use Rattle.std.specs.Option.{option_copied, option_copied_mut};
 ghost use Rattle.jxlm_base.specs.Bits.{bytes_of, position_of};
 ghost use Rattle.jxlm_base.specs.Grammar.{Answers};
+ghost use Rattle.jxlm_chain.specs.Layout.{HasNarrowTables};
+ghost use Rattle.jxlm_chain.specs.Steps.{HasChannels, HasWeights, steps_in};
 ghost use Rattle.jxlm_transform.specs.Channels.{IsNarrow, image_list, list_of};
+ghost use Rattle.jxlm_transform.specs.ChannelSteps.{list_after_all};
 ghost use Rattle.jxlm_transform.specs.Params.{IsValidChannel, IsValidParams};
 ghost use Rattle.jxlm_tree.specs.SelfCorrecting.{IsHeader};
 ghost use Rattle.jxl_modular.specs.Header.{header_of};
@@ -36,17 +39,13 @@ pub struct Modular<S, D: Decoder> {
     inner: Option<ModularImageDestination<S, D>>,
 }
 
-/// The conditions on a header and its coded channels, in order: at most 65536 channels are coded, no
-/// transform is listed, and a global tree that is asked for is there.
+/// The conditions on a header and its coded channels, in order: at most 65536 channels are coded, and
+/// a global tree that is asked for is there.
 fn check(header: &ModularHeader, channels: &ModularChannels, has_global: bool) -> Result<()>
     ensures { CheckGives (conditions has_global (header_of header.now) (list_of channels.now)) result }
 {
     if channels.info.len() > MAX_CODED_CHANNELS {
         let refusal = BitstreamError::ProfileConformance("nb_channels_tr too large");
-        return Err(Error::Bitstream(refusal));
-    }
-    if !header.transform.is_empty() {
-        let refusal = BitstreamError::ProfileConformance("transform not available");
         return Err(Error::Bitstream(refusal));
     }
     if header.use_global_tree && !has_global {
@@ -68,6 +67,10 @@ fn open(
     ensures narrow { IfOk result (λ o. All IsNarrow (list_of o.1).channels) }
     ensures few { IfOk result (λ o. length o.1.info.items ≤ 65536) }
     ensures weights { IfOk result (λ o. IsHeader o.0.wp_params) }
+    ensures list { IfOk result (λ o. list_after_all (steps_in (header_of o.0).transform) (image_list params.now) ≡ Ok (list_of o.1)) }
+    ensures steps { IfOk result (λ o. All HasChannels (steps_in (header_of o.0).transform)) }
+    ensures palettes { IfOk result (λ o. All (HasWeights o.0.wp_params) (steps_in (header_of o.0).transform)) }
+    ensures tables { IfOk result (λ o. HasNarrowTables (steps_in (header_of o.0).transform)) }
     ensures bytes { bytes_of bits.new ≡ bytes_of bits.old }
 {
     let mut header = ModularHeader::parse(alloc, bits)?;
@@ -98,8 +101,8 @@ impl<S: Sample, D: Decoder> Modular<S, D> {
     /// `UnexpectedEof`, and a kind of transform or a predictor that there is not by `InvalidEnum`. Then
     /// each transform, in order, that does not suit the channels that the ones before it leave is
     /// refused by `InvalidRctParams`, `InvalidPaletteParams` or `InvalidSqueezeParams`; then more than
-    /// 65536 coded channels, and then any transform, by `ProfileConformance`; then a use of the global
-    /// tree by `GlobalMaTreeNotAvailable`; and then the tree as by [`MaConfig::parse`], where it may
+    /// 65536 coded channels by `ProfileConformance`; then a use of the global tree by
+    /// `GlobalMaTreeNotAvailable`; and then the tree as by [`MaConfig::parse`], where it may
     /// have 1025 nodes and one more for each coded sample, at most 2^20 + 1, and a depth of 2048. The
     /// reader then stands behind the last field that was read whole; inside a decoder's own `parse`
     /// its place is the decoder's matter. Want of memory is answered where it is met, before the
@@ -124,12 +127,14 @@ impl<S: Sample, D: Decoder> Modular<S, D> {
             depth_limit: DEPTH_LIMIT,
         };
         let ma_ctx = MaConfig::parse(alloc, bits, limits)?;
+        let given = ModularChannels::new(alloc, &params.channels)?;
         let image = ModularImageDestination::new(
             alloc,
             header,
             ma_ctx,
             params.group_dim,
             params.bit_depth,
+            given,
             channels,
         )?;
         Ok(Modular { inner: Some(image) })
@@ -277,7 +282,8 @@ mod tests {
 
     const EOF: Error = Error::Bitstream(BitstreamError::UnexpectedEof);
 
-    const NO_TRANSFORM: &str = "transform not available";
+    // A header that is accepted, behind which the tree is cut.
+    const CUT_TREE: Error = Error::Decoder(DecoderError::UnexpectedEof);
 
     const TOO_MANY: &str = "nb_channels_tr too large";
 
@@ -312,10 +318,10 @@ mod tests {
         let colour_then_squeeze = refusal(&rt, &[0x0A, 0x00, 0x0C, 0x80, 0x00], 1)?;
         assert_eq!(rt; colour_then_squeeze, (colour, 34));
 
-        let no_transform = beyond(NO_TRANSFORM);
-        assert_eq!(rt; refusal(&rt, &[0x06, 0x00], 3)?, (no_transform, 13));
-        assert_eq!(rt; refusal(&rt, &[0x07, 0x00], 3)?, (no_transform, 13));
-        assert_eq!(rt; refusal(&rt, &[0x26], 1)?, (no_transform, 8));
+        let no_global = Some(Error::GlobalMaTreeNotAvailable);
+        assert_eq!(rt; refusal(&rt, &[0x06, 0x00], 3)?.0, Some(CUT_TREE));
+        assert_eq!(rt; refusal(&rt, &[0x07, 0x00], 3)?, (no_global, 13));
+        assert_eq!(rt; refusal(&rt, &[0x26], 1)?.0, Some(CUT_TREE));
         assert_eq!(rt;
             refusal(&rt, &[0x03], 1)?,
             (Some(Error::GlobalMaTreeNotAvailable), 4)
@@ -330,13 +336,12 @@ mod tests {
         let no_global = Some(Error::GlobalMaTreeNotAvailable);
         assert_eq!(rt; refusal(&rt, &[0x03], 65537)?, (too_many, 4));
         assert_eq!(rt; refusal(&rt, &[0x03], 65536)?, (no_global, 4));
-        let no_transform = beyond(NO_TRANSFORM);
         let one = [0x16, 0x00, 0x00, 0x00];
         assert_eq!(rt; refusal(&rt, &one, 65536)?, (too_many, 29));
-        assert_eq!(rt; refusal(&rt, &one, 65535)?, (no_transform, 29));
+        assert_eq!(rt; refusal(&rt, &one, 65535)?.0, Some(CUT_TREE));
         let three = [0x16, 0x08, 0x00, 0x00];
         assert_eq!(rt; refusal(&rt, &three, 65538)?, (too_many, 29));
-        assert_eq!(rt; refusal(&rt, &three, 65537)?, (no_transform, 29));
+        assert_eq!(rt; refusal(&rt, &three, 65537)?.0, Some(CUT_TREE));
         Ok(())
     }
 
@@ -347,7 +352,7 @@ mod tests {
         for _ in 0..307 {
             bytes.push(0)?;
         }
-        assert_eq!(rt; refusal(&rt, &bytes, 3)?, (beyond(NO_TRANSFORM), 2469));
+        assert_eq!(rt; refusal(&rt, &bytes, 3)?.0, Some(CUT_TREE));
         assert_eq!(rt;
             refusal(&rt, &bytes, 2)?,
             (Some(Error::InvalidRctParams), 2469)
@@ -365,7 +370,7 @@ mod tests {
         for _ in 0..37 {
             bytes.extend_from_slice(&[2, 4, 8, 16, 32, 64, 128, 0, 1])?;
         }
-        assert_eq!(rt; refusal(&rt, &bytes, 1)?, (beyond(NO_TRANSFORM), 2760));
+        assert_eq!(rt; refusal(&rt, &bytes, 1)?.0, Some(CUT_TREE));
         bytes.pop();
         assert_eq!(rt; refusal(&rt, &bytes, 1)?, (Some(EOF), 2752));
         bytes.push(0)?;
@@ -385,7 +390,7 @@ mod tests {
             bytes.extend_from_slice(&steps)?;
         }
         bytes.extend_from_slice(&[1, 2, 4, 8, 16, 0])?;
-        assert_eq!(rt; refusal(&rt, &bytes, 1)?, (beyond(NO_TRANSFORM), 293));
+        assert_eq!(rt; refusal(&rt, &bytes, 1)?.0, Some(CUT_TREE));
 
         let mut bytes = vec![in rt.alloc(); 0xA6, 0x57, 0x80, 0]?;
         for _ in 0..3 {
@@ -401,9 +406,8 @@ mod tests {
 
     #[test]
     fn a_cut_tree_is_refused(rt: HostRuntime) -> Result<(), Fail> {
-        let cut = Error::Decoder(DecoderError::UnexpectedEof);
         for n in 1..9 {
-            assert_eq!(rt; refusal(&rt, &ONE_LEAF[..n], 1)?.0, Some(cut), "{n}");
+            assert_eq!(rt; refusal(&rt, &ONE_LEAF[..n], 1)?.0, Some(CUT_TREE), "{n}");
         }
         assert_eq!(rt; refusal(&rt, &ONE_LEAF[..9], 1)?, (None, 68));
         Ok(())

@@ -1,11 +1,23 @@
 pub mod BitsLemmas
 pub mod Cells
+pub mod ColourLaws
+pub mod ColourRows
 pub mod GridLaws
 pub mod GrammarLaws
 pub mod ItemLoop
 pub mod PlainGives
+pub mod Outside
+pub mod RegionRows
 pub mod Regions
+pub mod SqueezeLaws
 pub mod Tokens
 pub mod DecodingLaws
 pub mod PlainTokens
 pub mod Wraps
+mod Lines
+mod NumberAt
+mod RowLoop
+mod RowWrites
+mod Strips
+mod Undo
+mod Tendency

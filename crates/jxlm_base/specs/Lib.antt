@@ -1,13 +1,17 @@
 pub mod Bits
+pub mod Colour
 pub mod Decoding
 pub mod Fault
 pub mod Grammar
 pub mod Grid
 pub mod GridLends
 pub mod Numbers
+pub mod Outside
 pub mod Plain
 pub mod PlainLaws
 pub mod Regions
 pub mod SampleLaws
 pub mod PlainTokens
+pub mod Squeeze
 pub mod Subgrid
+pub mod Unsqueeze

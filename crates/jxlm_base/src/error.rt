@@ -88,16 +88,24 @@ impl From<OutOfMemory> for Error {
 #[cfg(test)]
 mod tests {
     use super::*;
+    use std::alloc::Global;
+    use std::process::Abort;
     use std::test::Fail;
+
+    fn has_text(
+        rt: &impl Abort,
+        alloc: Global,
+        error: Error,
+        text: &str,
+    ) -> std::result::Result<(), Fail> {
+        let shown = format!(in alloc; "{error}")?;
+        assert_eq!(rt; shown.as_str(), text);
+        Ok(())
+    }
 
     #[test]
     fn each_error_has_its_text(rt: HostRuntime) -> std::result::Result<(), Fail> {
-        let unknown = BitstreamError::InvalidEnum {
-            name: "TransformId",
-            value: 3,
-        };
-        let limit = BitstreamError::ProfileConformance("nb_channels_tr too large");
-        let cases = [
+        for (error, text) in [
             (Error::InvalidMaTree, "invalid meta-adaptive tree"),
             (
                 Error::GlobalMaTreeNotAvailable,
@@ -112,6 +120,21 @@ mod tests {
                 Error::InvalidSqueezeParams,
                 "invalid Squeeze transform parameters",
             ),
+            (Error::from(OutOfMemory), "out of memory"),
+        ] {
+            has_text(&rt, rt.alloc(), error, text)?;
+        }
+        Ok(())
+    }
+
+    #[test]
+    fn each_cause_has_its_text(rt: HostRuntime) -> std::result::Result<(), Fail> {
+        let unknown = BitstreamError::InvalidEnum {
+            name: "TransformId",
+            value: 3,
+        };
+        let limit = BitstreamError::ProfileConformance("nb_channels_tr too large");
+        for (error, text) in [
             (
                 Error::from(BitstreamError::UnexpectedEof),
                 "bitstream error: unexpected end of input",
@@ -136,11 +159,8 @@ mod tests {
                 Error::from(DecoderError::OutOfMemory),
                 "entropy decoder error: out of memory",
             ),
-            (Error::from(OutOfMemory), "out of memory"),
-        ];
-        for (error, text) in cases {
-            let shown = format!(in rt.alloc(); "{error}")?;
-            assert_eq!(rt; shown.as_str(), text);
+        ] {
+            has_text(&rt, rt.alloc(), error, text)?;
         }
         Ok(())
     }

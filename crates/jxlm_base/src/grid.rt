@@ -2,7 +2,7 @@
 ghost use Rattle.std.specs.Prelude.{◌≡◌, ◌+◌, ◌+ℤ◌, ◌*◌, ◌^◌, ◌<◌, ◌≤◌, pos, length, IfOk, Some, vec_len};
 ghost use Rattle.std.specs.Int.{int_wrap};
 ghost use Rattle.std.specs.Borrow.{sem};
-ghost use Rattle.jxlm_base.specs.Grid.{Grid, IsFull, cell, row, filled, with_cell, with_row};
+ghost use Rattle.jxlm_base.specs.Grid.{Grid, IsFull, cell, row, written, filled, with_cell, with_row};
 
 use crate::sample::Sealed;
 pub use crate::subgrid::{MutableSubgrid, Region};
@@ -132,6 +132,17 @@ impl<S: Copy> AlignedGrid<S> {
     {
         let start = y * self.width;
         &self.cells[start..start + self.width]
+    }
+
+    /// Writes `cells` into row `y`, from column `x` on; all of them lie inside.
+    pub(crate) fn write_cells(&mut self, x: usize, y: usize, cells: &[S])
+        requires columns { x + length cells.now ≤ self.old.width }
+        requires in_rows { y < self.old.height }
+        ensures { self.new ≡ with_row self.old y (written (row self.old y) x cells.now) }
+    {
+        let row = self.get_row_mut(y);
+        let part = &mut row[x..x + cells.len()];
+        part.copy_from_slice(cells);
     }
 
     /// The cells of row `y`, which lies inside, from left to right, to be written. No other row changes.

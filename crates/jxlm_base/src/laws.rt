@@ -1,9 +1,11 @@
 //! Laws of the definitions that contracts cite. Each is what a function ensures that does nothing.
 ghost use Rattle.std.specs.Prelude.{◌≡◌, ◌↔◌, ℕ, ℤ, ◌+◌, ◌+ℤ◌, ◌*ℤ◌, ◌^◌, ◌<◌, FitsSigned, List, Some};
 ghost use Rattle.std.specs.Int.{Width, w16, w32, int_wrap};
+ghost use Rattle.jxlm_base.specs.Colour.{ColourIsLossless, ColourIsOneToOne};
 ghost use Rattle.jxlm_base.specs.Grid.{Grid, IsFull, cell, grid_by};
 ghost use Rattle.jxlm_base.specs.Numbers.{unpack, clamped_gradient};
 ghost use Rattle.jxlm_base.specs.Regions.{Region, LieApart, WritesChangeOneGrid};
+ghost use Rattle.jxlm_base.specs.Squeeze.{SqueezeLosesNothing};
 
 /// What is computed in 16 bits is what is computed in 32, reduced.
 pub fn narrow_samples_are_wide_ones_reduced()
@@ -36,6 +38,17 @@ pub fn writes_change_one_region()
     ensures { (rs : List Region) → LieApart rs → WritesChangeOneGrid rs }
 {}
 
+/// Colour loses nothing: each of its kinds can be undone and done again, on all triples of either type.
+pub fn colour_loses_nothing()
+    ensures lossless { (w : Width) → ColourIsLossless w }
+    ensures one { (w : Width) → ColourIsOneToOne w }
+{}
+
+/// Squeezing loses nothing on rows of any length, at any width of samples.
+pub fn squeeze_loses_nothing()
+    ensures { (w : Width) → SqueezeLosesNothing w }
+{}
+
 #[cfg(test)]
 mod tests {
     use super::*;
@@ -48,5 +61,7 @@ mod tests {
         grids_are_their_cells::<i16>();
         grids_are_their_cells::<i32>();
         writes_change_one_region();
+        colour_loses_nothing();
+        squeeze_loses_nothing();
     }
 }

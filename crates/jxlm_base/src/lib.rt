@@ -3,6 +3,7 @@
 
 pub mod bit_laws;
 pub mod bits;
+mod colour;
 pub mod decoder;
 pub mod error;
 pub mod grid;
@@ -10,4 +11,5 @@ pub mod laws;
 pub mod plain;
 pub mod region;
 pub mod sample;
+mod squeeze;
 mod subgrid;

@@ -1,11 +1,18 @@
 //! The two types of a sample.
-ghost use Rattle.std.specs.Prelude.{◌≡◌, ◌↔◌, ℤ, pos, IsOk, ◌+ℤ◌, ◌*ℤ◌, FitsSigned, refl, MatchResult};
+ghost use Rattle.std.specs.Prelude.{◌≡◌, ◌↔◌, ◌+◌, ◌≤◌, ℤ, pos, IsOk, ◌+ℤ◌, ◌*ℤ◌, FitsSigned, refl, length, map, IfOk, IfErr, MatchResult};
 ghost use Rattle.std.specs.Int.{Width, w16, w32, int_wrap};
+ghost use Rattle.jxlm_base.specs.Colour.{FinishesRows};
 ghost use Rattle.jxlm_base.specs.Grid.{meanings};
 ghost use Rattle.jxlm_base.specs.Numbers.{unpack, clamped_gradient};
+ghost use Rattle.jxlm_base.specs.Squeeze.{AreGridSamples, squeezed_rows, squeezed_columns};
+ghost use Rattle.jxlm_base.specs.Subgrid.{whole, KeepsOutside, numbers_in};
 ghost use Rattle.jxlm_base.specs.SampleLaws.{fits_wider, int_wrap-narrow, int_wrap_again};
 
-use crate::grid::AlignedGrid;
+use crate::colour::finish_rows;
+use crate::grid::{AlignedGrid, OutOfMemory};
+use crate::squeeze;
+use crate::subgrid::MutableSubgrid;
+use std::alloc::Global;
 
 /// What a sample's type computes. Contracts see a sample as the whole number that it stands for.
 pub trait Sealed: Copy + Default {
@@ -41,6 +48,58 @@ pub trait Sealed: Copy + Default {
     fn try_into_grid_i16(grid: AlignedGrid<Self>) -> Result<AlignedGrid<i16>, AlignedGrid<Self>>
         ensures same { MatchResult result (λ g. g ≡ meanings Self.to_int grid) (λ g. g ≡ grid) }
         ensures kind { IsOk result ↔ (Self.width ≡ w16) };
+
+    /// Undoes one of the seven kinds of colour on three rows of one length, place by place, in the order in which they stand.
+    ///
+    /// `ty` is at most 6.
+    fn rct_rows(ty: u32, a: &mut [Self], b: &mut [Self], c: &mut [Self])
+        requires kind { ty ≤ 6 }
+        requires second { length b.old ≡ length a.old }
+        requires third { length c.old ≡ length a.old }
+        ensures { FinishesRows Self.width ty (map Self.to_int a.old) (map Self.to_int b.old) (map Self.to_int c.old) (map Self.to_int a.new) (map Self.to_int b.new) (map Self.to_int c.new) };
+
+    /// Undoes a horizontal squeeze in place: in each row of the rectangle averages stand before residuals, and afterwards the
+    /// row that becomes them when it is squeezed. Nothing outside changes.
+    ///
+    /// Memory is asked for once, for a row. `OutOfMemory` where it is refused: then no cell has changed.
+    fn squeeze_rows(
+        alloc: Global,
+        subgrid: &mut MutableSubgrid<'_, Self>,
+    ) -> Result<(), OutOfMemory>
+        ensures kept { KeepsOutside subgrid.old subgrid.new }
+        ensures undone { IfOk result (λ _. squeezed_rows Self.width (numbers_in Self.to_int subgrid.new) ≡ numbers_in Self.to_int subgrid.old) }
+        ensures samples { IfOk result (λ _. AreGridSamples Self.width (numbers_in Self.to_int subgrid.new)) }
+        ensures unchanged { IfErr result (λ _. whole subgrid.new ≡ whole subgrid.old) };
+
+    /// Undoes a vertical squeeze in place: in each column of the rectangle averages stand above residuals, and afterwards the
+    /// column that becomes them when it is squeezed. Nothing outside changes.
+    ///
+    /// Memory is asked for once, for some columns. `OutOfMemory` where it is refused: then no cell has changed.
+    fn squeeze_columns(
+        alloc: Global,
+        subgrid: &mut MutableSubgrid<'_, Self>,
+    ) -> Result<(), OutOfMemory>
+        ensures kept { KeepsOutside subgrid.old subgrid.new }
+        ensures undone { IfOk result (λ _. squeezed_columns Self.width (numbers_in Self.to_int subgrid.new) ≡ numbers_in Self.to_int subgrid.old) }
+        ensures samples { IfOk result (λ _. AreGridSamples Self.width (numbers_in Self.to_int subgrid.new)) }
+        ensures unchanged { IfErr result (λ _. whole subgrid.new ≡ whole subgrid.old) };
+
+    /// As `squeeze_rows`, by way of `scratch`, which has room for a row.
+    fn squeeze_rows_in(subgrid: &mut MutableSubgrid<'_, Self>, scratch: &mut [Self])
+        requires room { subgrid.old.width ≤ length scratch.old }
+        ensures len { length scratch.new ≡ length scratch.old }
+        ensures kept { KeepsOutside subgrid.old subgrid.new }
+        ensures undone { squeezed_rows Self.width (numbers_in Self.to_int subgrid.new) ≡ numbers_in Self.to_int subgrid.old }
+        ensures samples { AreGridSamples Self.width (numbers_in Self.to_int subgrid.new) };
+
+    /// As `squeeze_columns`, by way of `scratch`, which has room for a column and a cell more. The more columns it has room
+    /// for, up to 32, the more are undone at a time.
+    fn squeeze_columns_in(subgrid: &mut MutableSubgrid<'_, Self>, scratch: &mut [Self])
+        requires room { subgrid.old.height + 1 ≤ length scratch.old }
+        ensures len { length scratch.new ≡ length scratch.old }
+        ensures kept { KeepsOutside subgrid.old subgrid.new }
+        ensures undone { squeezed_columns Self.width (numbers_in Self.to_int subgrid.new) ≡ numbers_in Self.to_int subgrid.old }
+        ensures samples { AreGridSamples Self.width (numbers_in Self.to_int subgrid.new) };
 
     ghost to_int_from_int: { (n : ℤ) → to_int (from_int n) ≡ n };
 
@@ -121,6 +180,32 @@ impl Sealed for i32 {
         Err(grid)
     }
 
+    fn rct_rows(ty: u32, a: &mut [i32], b: &mut [i32], c: &mut [i32]) {
+        finish_rows(ty, a, b, c);
+    }
+
+    fn squeeze_rows(
+        alloc: Global,
+        subgrid: &mut MutableSubgrid<'_, i32>,
+    ) -> Result<(), OutOfMemory> {
+        squeeze::rows(alloc, 0, subgrid)
+    }
+
+    fn squeeze_columns(
+        alloc: Global,
+        subgrid: &mut MutableSubgrid<'_, i32>,
+    ) -> Result<(), OutOfMemory> {
+        squeeze::columns(alloc, 0, subgrid)
+    }
+
+    fn squeeze_rows_in(subgrid: &mut MutableSubgrid<'_, i32>, scratch: &mut [i32]) {
+        squeeze::undo_rows(subgrid, scratch);
+    }
+
+    fn squeeze_columns_in(subgrid: &mut MutableSubgrid<'_, i32>, scratch: &mut [i32]) {
+        squeeze::undo_columns(subgrid, scratch);
+    }
+
     ghost to_int_from_int = { λ n. refl };
 
     ghost from_int_to_int = { λ x. refl };
@@ -171,6 +256,32 @@ impl Sealed for i16 {
         ensures { result ≡ Ok grid }
     {
         Ok(grid)
+    }
+
+    fn rct_rows(ty: u32, a: &mut [i16], b: &mut [i16], c: &mut [i16]) {
+        finish_rows(ty, a, b, c);
+    }
+
+    fn squeeze_rows(
+        alloc: Global,
+        subgrid: &mut MutableSubgrid<'_, i16>,
+    ) -> Result<(), OutOfMemory> {
+        squeeze::rows(alloc, 0, subgrid)
+    }
+
+    fn squeeze_columns(
+        alloc: Global,
+        subgrid: &mut MutableSubgrid<'_, i16>,
+    ) -> Result<(), OutOfMemory> {
+        squeeze::columns(alloc, 0, subgrid)
+    }
+
+    fn squeeze_rows_in(subgrid: &mut MutableSubgrid<'_, i16>, scratch: &mut [i16]) {
+        squeeze::undo_rows(subgrid, scratch);
+    }
+
+    fn squeeze_columns_in(subgrid: &mut MutableSubgrid<'_, i16>, scratch: &mut [i16]) {
+        squeeze::undo_columns(subgrid, scratch);
     }
 
     ghost to_int_from_int = { λ n. refl };
@@ -225,8 +336,6 @@ impl Sample for i16 {
 #[cfg(test)]
 mod tests {
     use super::*;
-    use crate::grid::OutOfMemory;
-    use std::alloc::Global;
     use std::test::Fail;
 
     /// The numbers of tokens, of reduced numbers and of an operation, through any sample.
@@ -258,6 +367,88 @@ mod tests {
         assert_eq!(rt; i32::unpack_signed_u32(4294967294), 2147483647);
         assert_eq!(rt; i16::grad_clamped(32767, 32767, -32768), 32767);
         assert_eq!(rt; i32::grad_clamped(-2147483648, 2147483647, 5), -6);
+    }
+
+    /// The number of a sample; 0 where there is none.
+    fn number<S: Sample>(sample: Option<&S>) -> i32 {
+        match sample {
+            Some(sample) => sample.to_i32(),
+            None => 0,
+        }
+    }
+
+    /// A row of two samples.
+    fn row<S: Sample>(alloc: Global, first: i32, second: i32) -> Result<Vec<S>, OutOfMemory>
+        ensures { IfOk result (λ v. length v.items ≡ 2) }
+    {
+        let mut samples = Vec::new(alloc);
+        samples.push(S::from_i32(first))?;
+        samples.push(S::from_i32(second))?;
+        Ok(samples)
+    }
+
+    /// What three samples become by the inverse of one kind of colour, with others beside them.
+    fn finished<S: Sample>(
+        alloc: Global,
+        ty: u32,
+        coded: [i32; 3],
+    ) -> Result<(i32, i32, i32), OutOfMemory>
+        requires { ty ≤ 6 }
+    {
+        let [a, b, c] = coded;
+        let mut first = row::<S>(alloc, 0, a)?;
+        let mut second = row::<S>(alloc, -1, b)?;
+        let mut third = row::<S>(alloc, 0, c)?;
+        S::rct_rows(ty, &mut first, &mut second, &mut third);
+        Ok((
+            number(first.get(1)),
+            number(second.get(1)),
+            number(third.get(1)),
+        ))
+    }
+
+    #[test]
+    fn rows_of_colour(rt: HostRuntime) -> Result<(), Fail> {
+        assert_eq!(rt;
+            finished::<i32>(rt.alloc(), 6, [100, 10, 6])?,
+            (102, 103, 92)
+        );
+        assert_eq!(rt;
+            finished::<i16>(rt.alloc(), 6, [100, 10, 6])?,
+            (102, 103, 92)
+        );
+        assert_eq!(rt; finished::<i32>(rt.alloc(), 4, [10, 1, 5])?, (10, 8, 5));
+        assert_eq!(rt; finished::<i16>(rt.alloc(), 4, [10, 1, 5])?, (10, 8, 5));
+        assert_eq!(rt;
+            finished::<i16>(rt.alloc(), 1, [6573, -32768, 21034])?,
+            (6573, -32768, 27607)
+        );
+        assert_eq!(rt; finished::<i16>(rt.alloc(), 2, [-1, 1, 18])?, (-1, 0, 18));
+        assert_eq!(rt;
+            finished::<i16>(rt.alloc(), 3, [32767, -32768, 0])?,
+            (32767, -1, 32767)
+        );
+        assert_eq!(rt;
+            finished::<i16>(rt.alloc(), 5, [-17344, 3, -32768])?,
+            (-17344, -957, 15424)
+        );
+        assert_eq!(rt;
+            finished::<i16>(rt.alloc(), 6, [12, -11406, 32767])?,
+            (-22074, 16396, -10668)
+        );
+        assert_eq!(rt;
+            finished::<i32>(rt.alloc(), 4, [13, 2147483647, 0])?,
+            (13, -2147483643, 0)
+        );
+        assert_eq!(rt;
+            finished::<i32>(rt.alloc(), 5, [1125157091, 2147483647, 1254496793])?,
+            (1125157091, 1752405486, -1915313412)
+        );
+        assert_eq!(rt;
+            finished::<i32>(rt.alloc(), 6, [1420542933, 0, 2147483647])?,
+            (346801110, -1800682539, 346801110)
+        );
+        Ok(())
     }
 
     /// Whether the grid is one of `i32`, and whether it is one of `i16`.

@@ -1,6 +1,6 @@
 //! Rectangles of grids.
-ghost use Rattle.std.specs.Prelude.{◌≡◌, ◌+◌, ◌^◌, ◌<◌, ◌≤◌, Some};
-ghost use Rattle.jxlm_base.specs.Grid.{Grid, IsFull, cell};
+ghost use Rattle.std.specs.Prelude.{◌≡◌, ◌+◌, ◌^◌, ◌<◌, ◌≤◌, Some, length, slice_range};
+ghost use Rattle.jxlm_base.specs.Grid.{Grid, IsFull, cell, row, written, with_row};
 
 use crate::grid::AlignedGrid;
 
@@ -35,7 +35,7 @@ pub struct MutableSubgrid<'a, S> {
 }
 
 impl<'a, S: Copy> MutableSubgrid<'a, S> {
-    ghost use Rattle.jxlm_base.specs.Subgrid.{whole, loan, IsAt};
+    ghost use Rattle.jxlm_base.specs.Subgrid.{whole, loan, IsAt, IsSamePlace};
 
     /// The rectangle of `width` columns and `height` rows whose first cell is in column `x` of row `y`; it lies inside.
     ///
@@ -75,6 +75,27 @@ impl<'a, S: Copy> MutableSubgrid<'a, S> {
         ensures { result ≡ self.now.height }
     {
         self.height
+    }
+
+    /// The `count` cells of row `y` of the rectangle from column `x` on, which lie inside.
+    pub(crate) fn cells(&self, x: usize, y: usize, count: usize) -> &[S]
+        requires columns { x + count ≤ self.now.width }
+        requires in_rows { y < self.now.height }
+        ensures value { result.now ≡ slice_range (row (whole self.now) (self.now.y + y)) (self.now.x + x) (self.now.x + x + count) }
+        ensures len { length result.now ≡ count }
+    {
+        let start = self.x + x;
+        &self.grid.get_row(self.y + y)[start..start + count]
+    }
+
+    /// Writes `cells` into row `y` of the rectangle, from column `x` on; all of them lie inside.
+    pub(crate) fn write_cells(&mut self, x: usize, y: usize, cells: &[S])
+        requires columns { x + length cells.now ≤ self.old.width }
+        requires in_rows { y < self.old.height }
+        ensures place { IsSamePlace self.old self.new }
+        ensures written { whole self.new ≡ with_row (whole self.old) (self.old.y + y) (written (row (whole self.old) (self.old.y + y)) (self.old.x + x) cells.now) }
+    {
+        self.grid.write_cells(self.x + x, self.y + y, cells);
     }
 
     /// The cell in column `x` of row `y` of the rectangle, which lie inside it; both are counted from its first cell.

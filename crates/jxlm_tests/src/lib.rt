@@ -21,6 +21,8 @@ mod table;
 #[cfg(test)]
 mod text;
 #[cfg(test)]
+mod transformed;
+#[cfg(test)]
 mod tree_rows;
 #[cfg(test)]
 mod trees;

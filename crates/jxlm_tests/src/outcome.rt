@@ -38,22 +38,24 @@ fn samples<S: Sample, D: Decoder>(
 
 fn params<'a, D: Decoder>(
     alloc: Global,
+    depth: u32,
     channels: &[ModularChannelParams],
 ) -> Result<ModularParams<'a, D>, Fail>
     ensures { IfOk result (λ p. p.ma_config ≡ None) }
 {
     let channels = Vec::from_slice(alloc, channels)?;
-    Ok(ModularParams::with_channels(256, 8, channels, None))
+    Ok(ModularParams::with_channels(256, depth, channels, None))
 }
 
-/// Reads, decodes and finishes a picture of these channels, each by its own call.
+/// Reads, decodes and finishes a picture of this bit depth and these channels, each by its own call.
 pub fn by_calls<S: Sample, D: Decoder>(
     rt: &impl Abort,
     alloc: Global,
     bytes: &[u8],
+    depth: u32,
     channels: &[ModularChannelParams],
 ) -> Result<Outcome, Fail> {
-    let params = params::<D>(alloc, channels)?;
+    let params = params::<D>(alloc, depth, channels)?;
     assert!(rt; params.is_valid());
     let mut bits = Bitstream::new(bytes);
     let mut modular = match Modular::<S, D>::parse(alloc, &mut bits, params) {
@@ -92,14 +94,15 @@ pub fn by_calls<S: Sample, D: Decoder>(
     })
 }
 
-/// Reads a picture of these channels by one call.
+/// Reads a picture of this bit depth and these channels by one call.
 pub fn at_once<S: Sample, D: Decoder>(
     rt: &impl Abort,
     alloc: Global,
     bytes: &[u8],
+    depth: u32,
     channels: &[ModularChannelParams],
 ) -> Result<Outcome, Fail> {
-    let params = params::<D>(alloc, channels)?;
+    let params = params::<D>(alloc, depth, channels)?;
     assert!(rt; params.is_valid());
     let mut bits = Bitstream::new(bytes);
     let answer = decode_picture::<S, D>(alloc, &mut bits, params, 0);

@@ -1,4 +1,5 @@
-// Tables of pictures: each line has the sizes of the channels, the bytes, and what is told of the picture, with a bar between.
+// Tables of pictures: each picture has the sizes of its channels, its bytes, and what is told of it, with a bar between; behind the
+// sizes may stand a slash and the bit depth, which is else 8. A line has several pictures, with a semicolon between.
 use crate::outcome::{Outcome, at_once, by_calls};
 use crate::text::bytes;
 use jxl_modular::decoder::Decoder;
@@ -55,31 +56,54 @@ fn told(alloc: Global, outcome: &Outcome) -> Result<String, Fail> {
     })
 }
 
-/// Reads each picture of a table call by call, and once more by one call.
+// Reads a picture call by call, and once more by one call, and compares what is told of it.
+fn check_picture<S: Sample, D: Decoder>(
+    rt: &impl Abort,
+    alloc: Global,
+    picture: &str,
+) -> Result<(), Fail> {
+    let (sizes, rest) = picture.split_once('|').ok_or("no sizes")?;
+    let (digits, expected) = rest.split_once('|').ok_or("no bytes")?;
+    let (sizes, depth) = sizes.split_once('/').unwrap_or((sizes, "8"));
+    let depth = depth.parse::<u32>()?;
+    let channels = channels(alloc, sizes)?;
+    let bytes = bytes(alloc, digits)?;
+    let outcome = by_calls::<S, D>(rt, alloc, &bytes, depth, &channels)?;
+    let seen = told(alloc, &outcome)?;
+    assert_eq!(rt; seen.as_str(), expected, "{picture}");
+    assert_eq!(rt; outcome.whole, outcome.fault.is_none(), "{picture}");
+    let again = at_once::<S, D>(rt, alloc, &bytes, depth, &channels)?;
+    assert_eq!(rt; again.fault, outcome.fault, "{picture}");
+    assert_eq!(rt; again.position, outcome.position, "{picture}");
+    if again.whole {
+        assert_eq!(rt;
+            again.samples.as_slice(),
+            outcome.samples.as_slice(),
+            "{picture}"
+        );
+    }
+    Ok(())
+}
+
+fn check_line<S: Sample, D: Decoder>(
+    rt: &impl Abort,
+    alloc: Global,
+    line: &str,
+) -> Result<(), Fail> {
+    for picture in line.split(';') {
+        check_picture::<S, D>(rt, alloc, picture)?;
+    }
+    Ok(())
+}
+
+/// Reads each picture of a table call by call, and once more by one call, and compares what is told of it.
 pub fn check<S: Sample, D: Decoder>(
     rt: &impl Abort,
     alloc: Global,
     table: &str,
 ) -> Result<(), Fail> {
     for line in table.lines() {
-        let (sizes, rest) = line.split_once('|').ok_or("no sizes")?;
-        let (digits, expected) = rest.split_once('|').ok_or("no bytes")?;
-        let channels = channels(alloc, sizes)?;
-        let bytes = bytes(alloc, digits)?;
-        let outcome = by_calls::<S, D>(rt, alloc, &bytes, &channels)?;
-        let seen = told(alloc, &outcome)?;
-        assert_eq!(rt; seen.as_str(), expected, "{line}");
-        assert_eq!(rt; outcome.whole, outcome.fault.is_none(), "{line}");
-        let again = at_once::<S, D>(rt, alloc, &bytes, &channels)?;
-        assert_eq!(rt; again.fault, outcome.fault, "{line}");
-        assert_eq!(rt; again.position, outcome.position, "{line}");
-        if again.whole {
-            assert_eq!(rt;
-                again.samples.as_slice(),
-                outcome.samples.as_slice(),
-                "{line}"
-            );
-        }
+        check_line::<S, D>(rt, alloc, line)?;
     }
     Ok(())
 }

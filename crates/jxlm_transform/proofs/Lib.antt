@@ -1,14 +1,23 @@
 mod ChannelExamples
 pub mod CodedLists
+pub mod ColourRegions
+pub mod ColourThree
 pub mod DefaultSteps
 pub mod FieldRanges
 pub mod Halvings
 pub mod ImageChannels
+pub mod PaletteChannels
+pub mod PaletteColours
+mod PaletteExamples
+pub mod PaletteLaws
+pub mod PaletteSteps
+pub mod PaletteThree
 pub mod Powers
 pub mod Refusals
 pub mod RepeatedLoop
 pub mod ShiftBounds
 pub mod SideBounds
+pub mod SqueezedRegions
 mod TransformExamples
 pub mod TransformLaws
 pub mod Views

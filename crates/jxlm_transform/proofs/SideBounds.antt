@@ -64,7 +64,7 @@ narrow_step (SqueezeStep t) l m fits k e =
     (All-map IsNarrow (residual_channel t.horizontal) cs (All-weaker IsNarrow (λ c. IsNarrow (residual_channel t.horizontal c)) (narrow_residual t.horizontal) cs narrow)) k)
 
 -- what a result that is Ok came from
-came : {X Y : Type 0} (r : Result X Fault) (next : X → Result Y Fault) (y : Y) → r >>= next ≡ Ok y → (x : X) × (r ≡ Ok x) × (next x ≡ Ok y)
+pub came : {X Y : Type 0} (r : Result X Fault) (next : X → Result Y Fault) (y : Y) → r >>= next ≡ Ok y → (x : X) × (r ≡ Ok x) × (next x ≡ Ok y)
 came (Ok x) next y e = (x, refl, e)
 came (Err f) next y e = absurd (search_none f y e) where
   search_none : {Z : Type 0} (g : Fault) (z : Z) → ◌≡◌ {A = Result Z Fault} (Err g) (Ok z) → ⊥

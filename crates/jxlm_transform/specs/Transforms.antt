@@ -1,6 +1,6 @@
 -- The transforms of a header, as they stand in the input
 -- (ISO/IEC 18181-1, Modular: the bundles TransformInfo and SqueezeParams).
-use Rattle.std.specs.Prelude.{ℕ, ◌+◌, ◌-◌, ◌^◌, ◌≤◌, min, max, List, length, slice_get, ◌==◌, codes, Option, Some, None}
+use Rattle.std.specs.Prelude.{◌≡◌, ◌⊎◌, ℕ, ◌+◌, ◌-◌, ◌^◌, ◌≤◌, min, max, List, length, slice_get, ◌==◌, codes, Option, Some, None}
 use Rattle.std.specs.List.{All}
 use Rattle.jxlm_base.specs.Fault.{Fault, BadEnum}
 use Rattle.jxlm_base.specs.Grammar.{Grammar, number, flag, u32, give, refuse, either, repeated, ◌>>=◌}
@@ -155,3 +155,8 @@ IsSqueezeTransform other = ⊥
 abbrev pub HasChannels : Transform → Type 0
 HasChannels (OfPalette t) = 1 ≤ t.num_c
 HasChannels other = Unit {0}
+
+-- a palette keeps no weights, or these
+abbrev pub KeepsWeights : WpHeader → Transform → Type 0
+KeepsWeights weights (OfPalette t) = (t.wp_header ≡ None) ⊎ (t.wp_header ≡ Some weights)
+KeepsWeights weights other = Unit {0}

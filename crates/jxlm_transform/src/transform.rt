@@ -1,11 +1,11 @@
 //! Transforms of an image's channels, as a header lists them.
 
-ghost use Rattle.std.specs.Prelude.{◌≡◌, ◌≤◌, ◌↔◌, length, IsTrue, IfOk};
+ghost use Rattle.std.specs.Prelude.{◌≡◌, ◌≤◌, ◌↔◌, ◌⊎◌, length, IsTrue, IfOk, None, Some};
 ghost use Rattle.std.specs.List.{All};
 ghost use Rattle.jxlm_base.specs.Bits.{bytes_of, position_of};
 ghost use Rattle.jxlm_base.specs.Grammar.{Answers, FitsU32, IsExact, Reads, number, repeated, u32 as the_u32};
 ghost use Rattle.jxlm_tree.specs.WeightsHeader.{AnswersExactly};
-ghost use Rattle.jxlm_transform.specs.Transforms.{transform_of, begin_channel as the_begin_channel, rct, predictor, weights_for, palette, squeeze_params, squeeze, transform, least_of, greatest_of, IsRct, IsPalette, IsSqueezeParams, IsSqueeze, IsTransform, HasChannels, IsPaletteTransform, IsSqueezeTransform};
+ghost use Rattle.jxlm_transform.specs.Transforms.{OfPalette, transform_of, begin_channel as the_begin_channel, rct, predictor, weights_for, palette, squeeze_params, squeeze, transform, least_of, greatest_of, IsRct, IsPalette, IsSqueezeParams, IsSqueeze, IsTransform, HasChannels, KeepsWeights, IsPaletteTransform, IsSqueezeTransform};
 
 mod default_squeeze;
 mod steps;
@@ -146,6 +146,7 @@ impl Palette {
         ensures gives { AnswersExactly result (position_of bits.new) ((palette wp_header.now).read (bytes_of bits.old) (position_of bits.old)) }
         ensures ranges { IfOk result (λ t. IsPalette t) }
         ensures weights { IfOk result (λ t. t.wp_header ≡ weights_for t.d_pred wp_header.now) }
+        ensures keeps { IfOk result (λ t. KeepsWeights wp_header.now (OfPalette t)) }
         ensures bytes { bytes_of bits.new ≡ bytes_of bits.old }
     {
         let begin_c = begin_channel(bits)?;
@@ -184,7 +185,8 @@ impl Palette {
 
 /// The weights that a palette keeps.
 fn kept_weights(d_pred: Predictor, wp_header: &WpHeader) -> Option<WpHeader>
-    ensures { result ≡ weights_for d_pred wp_header.now }
+    ensures value { result ≡ weights_for d_pred wp_header.now }
+    ensures keeps { (result ≡ None) ⊎ (result ≡ Some wp_header.now) }
 {
     match d_pred {
         Predictor::SelfCorrecting => Some(*wp_header),
@@ -263,7 +265,8 @@ fn read_kind(bits: &mut Bitstream<'_>) -> std::result::Result<u32, BitstreamErro
 }
 
 impl TransformInfo {
-    /// The transform that stands at the reader's place, behind two bits of its kind.
+    /// The transform that stands at the reader's place, behind two bits of its kind. A palette keeps
+    /// no weights, or these.
     ///
     /// A cut input is refused by `UnexpectedEof`; kind 3, and the number of a predictor that is
     /// none, by `InvalidEnum`. The reader then stands behind the last field that was read whole.
@@ -276,6 +279,7 @@ impl TransformInfo {
         ensures gives { Answers transform_of result (position_of bits.new) ((transform wp_header.now).read (bytes_of bits.old) (position_of bits.old)) }
         ensures ranges { IfOk result (λ t. IsTransform (transform_of t)) }
         ensures some_channels { IfOk result (λ t. HasChannels (transform_of t)) }
+        ensures weights { IfOk result (λ t. KeepsWeights wp_header.now (transform_of t)) }
         ensures bytes { bytes_of bits.new ≡ bytes_of bits.old }
     {
         let kind = read_kind(bits)?;

@@ -8,7 +8,7 @@ use Rattle.jxlm_base.specs.declared.error.Error.{Error}
 use Rattle.jxlm_transform.specs.Params.{sized}
 use Rattle.jxlm_transform.specs.declared.param.ChannelShift.TheVariants.{Shifts}
 use Rattle.jxlm_transform.specs.declared.param.ModularParams.{ModularParams}
-use Rattle.jxl_modular.specs.Image.{Image}
+use Rattle.jxl_modular.specs.Image.{Image, image_grids}
 use Rattle.jxl_modular.specs.Picture.{PictureGives}
 use Rattle.jxlmod.specs.Printing.{image_text}
 use Rattle.jxlmod.specs.declared.arguments.Command.{Command}
@@ -36,7 +36,7 @@ module _ {S : Type 0} (w : Width) (to_int : S → ℤ) (from_int : ℤ → S) (w
     pub picture : Image S PlainState
     pub place : ℕ
     pub stands : PictureGives plain w to_int bytes 0 (from_int (pos 0)) 0 params params.channels.items (Ok (Some picture)) place
-    pub printed : text ≡ image_text (map (meanings to_int) picture.store)
+    pub printed : text ≡ image_text (image_grids to_int picture)
 
   -- the header, the tree or the samples that should stand at the start of the bytes are refused by this fault
   pub record IsPictureRefused (fault : Error) : Type 0 where

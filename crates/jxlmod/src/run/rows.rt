@@ -29,6 +29,14 @@ const ONE_CELL: &[u8] = &[
     0x02, 0x00, 0x00, 0x00, 0x88, 0x00, 0x00, 0x00, 0x00, 0x08, 0x00, 0x00, 0x00, 0x00, 0x00, 0x00,
     0x00, 0xA2, 0xFF, 0x7F,
 ];
+// Colour of three samples, 100, 10 and 6.
+const COLOUR: &[u8] = &[
+    0x06, 0x00, 0x00, 0x00, 0x00, 0x08, 0x00, 0x00, 0x41, 0xA6, 0x60, 0x00,
+];
+// Averages 10 and 20 of one squeeze across, and residuals of 0.
+const SQUEEZED: &[u8] = &[
+    0x66, 0x30, 0x00, 0x00, 0x00, 0x00, 0x08, 0x00, 0xC0, 0xA0, 0x50, 0x00, 0x00,
+];
 
 #[derive(Drop)]
 struct Ended {
@@ -70,6 +78,16 @@ fn pictures_are_printed(rt: HostRuntime) -> Result<(), Fail> {
         (four, SEALED, "channel 0 2x2\n1 3\n0 2\n"),
         ("decode 1 1 1 16 i16", ONE_CELL, "channel 0 1x1\n32767\n"),
         ("decode 1 1 1 16 i32", ONE_CELL, "channel 0 1x1\n-32769\n"),
+        (
+            "decode 1 1 3 8 i32",
+            COLOUR,
+            "channel 0 1x1\n102\nchannel 1 1x1\n103\nchannel 2 1x1\n92\n",
+        ),
+        (
+            "decode 4 1 1 8 i16",
+            SQUEEZED,
+            "channel 0 4x1\n10 11 20 20\n",
+        ),
         ("decode 2 2 0 8 i32", b"".as_slice(), ""),
     ] {
         let ended = run_on(rt.alloc(), line, bytes)?;

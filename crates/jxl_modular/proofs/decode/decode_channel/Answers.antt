@@ -2,10 +2,11 @@ use Rattle.std.proofs.Common.{rules, ◌+◌, ◌*◌, refl, sym, ap, ◌∙◌,
 use Rattle.std.proofs.lemmas.Result.{err_from_is_err_and}
 use Rattle.jxlm_base.specs.Bits.{bytes_of, position_of}
 use Rattle.jxlm_base.specs.Regions.{store_meanings}
+use Rattle.jxlm_base.proofs.Outside.{keeps_all, keeps_both}
 use Rattle.jxl_modular.specs.Part.{cells_before}
 use Rattle.jxl_modular.specs.Progress.{TakesSteps, place_of}
 use Rattle.jxl_modular.specs.Reading.{StandsBehind, cost_of, part_of, region_at, regions_of}
-use Rattle.jxl_modular.proofs.Loops.{goes_further, stops_further, goes_between, stays, channel_begins, channel_done, channel_empty, keeps_all, keeps_both, takes_between, takes_further, takes_none}
+use Rattle.jxl_modular.proofs.Loops.{goes_further, stops_further, goes_between, stays, channel_begins, channel_done, channel_empty, takes_between, takes_further, takes_none}
 use Rattle.jxl_modular.proofs.decode.decode_channel.Goals as goal
 
 pub returns-then-region-eq0-clause-ok : goal.returns-then-region-eq0-clause-ok

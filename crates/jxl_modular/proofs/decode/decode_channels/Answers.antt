@@ -2,9 +2,10 @@ use Rattle.std.proofs.Common.{rules, ◌+◌, refl, ap, ◌∙◌, ◌≡◌, ar
 use Rattle.std.proofs.lemmas.Result.{err_from_is_err_and}
 use Rattle.jxlm_base.specs.Bits.{bytes_of, position_of}
 use Rattle.jxlm_base.specs.Regions.{store_meanings}
+use Rattle.jxlm_base.proofs.Outside.{keeps_both}
 use Rattle.jxl_modular.specs.Part.{cells_before, cell_count}
 use Rattle.jxl_modular.specs.Reading.{cost_of, part_of, regions_of}
-use Rattle.jxl_modular.proofs.Loops.{goes_further, goes_between, stops_further, all_done, keeps_both, takes_between, takes_further}
+use Rattle.jxl_modular.proofs.Loops.{goes_further, goes_between, stops_further, all_done, takes_between, takes_further}
 use Rattle.jxl_modular.proofs.decode.decode_channels.Goals as goal
 
 pub loop-i-preserved : goal.loop-i-preserved

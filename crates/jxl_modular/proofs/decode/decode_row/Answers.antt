@@ -1,10 +1,12 @@
 use Rattle.std.proofs.Common.{rules, ◌+◌, ◌*◌, refl, sym, ap, ◌∙◌, ◌≡◌, arith, subst}
 use Rattle.std.proofs.lemmas.Result.{err_from_is_err_and}
 use Rattle.jxlm_base.specs.Bits.{bytes_of, position_of}
-use Rattle.jxlm_base.specs.Regions.{store_meanings, AllLie}
-use Rattle.jxl_modular.specs.Progress.{place_of, KeepsOutside}
+use Rattle.jxlm_base.specs.Outside.{KeepsOutside}
+use Rattle.jxlm_base.specs.Regions.{region, store_meanings, AllLie}
+use Rattle.jxlm_base.proofs.Outside.{all_lie_still, keeps_both, keeps_written_in}
+use Rattle.jxl_modular.specs.Progress.{place_of}
 use Rattle.jxl_modular.specs.Reading.{StandsBehind, cost_of, part_of, region_at, regions_of}
-use Rattle.jxl_modular.proofs.Loops.{cell_goes_on, cell_stops, goes_further, stops_further, goes_between, row_done, keeps_both, keeps_written, lie_still, takes_between, takes_further, takes_next}
+use Rattle.jxl_modular.proofs.Loops.{cell_goes_on, cell_stops, goes_further, stops_further, goes_between, row_done, takes_between, takes_further, takes_next}
 use Rattle.jxl_modular.proofs.decode.decode_row.Goals as goal
 
 pub returns-in_err-decode_cell-clause-err : goal.returns-in_err-decode_cell-clause-err
@@ -31,12 +33,12 @@ loop-x-preserved g c =
     let bytes = bytes_of c.args.bits.now in
     let part = part_of c.args.coding.now in
     let reads = rw c.loop-x.invariant.bytes at c.in_ok-decode_cell.ensures.ok in
-    let lie : AllLie (regions_of c.args.coding.now) c.loop-x.store = lie_still (regions_of c.args.coding.now) (regions_of c.args.coding.now) c.args.store.now c.loop-x.store c.loop-x.invariant.keeps c.requires.lie in
+    let lie : AllLie (regions_of c.args.coding.now) c.loop-x.store = all_lie_still (regions_of c.args.coding.now) (regions_of c.args.coding.now) c.args.store.now c.loop-x.store c.loop-x.invariant.keeps c.requires.lie in
     record {
       bytes = search rules;
       clusters = c.in_ok-decode_cell.ensures.clusters ∙ c.loop-x.invariant.clusters;
       keeps = keeps_both (regions_of c.args.coding.now) c.args.store.now c.loop-x.store c.decode_cell.new.store c.loop-x.invariant.keeps
-          (subst (λ s. KeepsOutside (regions_of c.args.coding.now) c.loop-x.store s) (sym reads.written) (keeps_written (regions_of c.args.coding.now) c.loop-x.store c.args.i c.loop-x.x c.args.y _ lie c.requires.channel c.loop-x-test.true c.requires.in_rows));
+          (subst (λ s. KeepsOutside (regions_of c.args.coding.now) c.loop-x.store s) (sym reads.written) (keeps_written_in (regions_of c.args.coding.now) c.loop-x.store c.args.i (region 0 0 0 0 0) c.loop-x.x c.args.y _ lie c.requires.channel c.loop-x-test.true c.requires.in_rows));
       goes = goes_further d w part bytes (regions_of c.args.coding.now) (store_meanings to_int c.args.store.now) c.args.decoder.now (position_of c.args.bits.now)
           (place_of part c.args.i 0 c.args.y) (place_of part c.args.i c.loop-x.x c.args.y) (store_meanings to_int c.loop-x.store) c.loop-x.decoder (position_of c.loop-x.bits) c.loop-x.invariant.goes
           (place_of part c.args.i (c.loop-x.x + 1) c.args.y) (store_meanings to_int c.decode_cell.new.store) c.decode_cell.new.decoder (position_of c.decode_cell.new.bits)

@@ -6,7 +6,7 @@ use Rattle.jxlm_transform.specs.Channels.{list_of}
 use Rattle.jxlm_transform.specs.ChannelSteps.{coded_list}
 use Rattle.jxlm_transform.specs.Transforms.{IsTransform, transform_of}
 use Rattle.jxlm_transform.specs.declared.transform.TransformInfo.{TransformInfo}
-use Rattle.jxl_modular.specs.Opening.{steps_in}
+use Rattle.jxlm_chain.specs.Steps.{steps_in}
 use Rattle.jxl_modular.proofs.Preparing.{all_prepared, first_is, has_channels, nothing_done, others_are, prepared_more, prepared_refused, written_back}
 use Rattle.jxl_modular.proofs.header.prepare_transforms.Goals as goal
 

@@ -7,7 +7,7 @@ use Rattle.jxlm_base.specs.Fault.{fault_of, UnlessMemory}
 use Rattle.jxlm_base.specs.Grammar.{IsRefused, repeated}
 use Rattle.jxlm_transform.proofs.Refusals.{unless_so}
 use Rattle.jxlm_transform.proofs.RepeatedLoop.{goes_on, stops}
-use Rattle.jxlm_transform.specs.Transforms.{IsTransform, transform, transform_of}
+use Rattle.jxlm_transform.specs.Transforms.{IsTransform, KeepsWeights, transform, transform_of}
 use Rattle.jxlm_transform.specs.declared.transform.TransformInfo.{TransformInfo}
 use Rattle.jxl_modular.proofs.header.read_transforms.Goals as goal
 
@@ -37,6 +37,7 @@ loop-preserved c =
     record {
       bytes = search rules;
       each = rw seen (All-push IsTransform (map transform_of c.loop.transforms.items) (transform_of t) c.loop.invariant.each c.in_ok-transform.ensures.ranges);
+      weights = rw seen (All-push (KeepsWeights c.args.wp_params.now) (map transform_of c.loop.transforms.items) (transform_of t) c.loop.invariant.weights c.in_ok-transform.ensures.weights);
       read = rw seen (goes_on (transform c.args.wp_params.now) (bytes_of c.args.bits.now) (map transform_of c.loop.transforms.items) c.args.count c.loop.counter (position_of c.loop.bits) (transform_of t) (position_of c.parse.new.bits) _
           c.loop-test.true (rw c.loop.invariant.bytes at c.in_ok-transform.ensures.gives) c.loop.invariant.read);
     }

@@ -6,7 +6,10 @@ use Rattle.jxl_modular.specs.Header.{header_of}
 use Rattle.jxl_modular.specs.Image.{Image}
 use Rattle.jxl_modular.specs.Layout.{channels_of}
 use Rattle.jxl_modular.specs.Part.{greatest_width}
-use Rattle.jxl_modular.proofs.PartLaws.{coded_lie, coded_apart, fits_kept, refilled, is_coding, roomy_part, same_part, refuses_samples, refuses_so, with_store}
+use Rattle.jxl_modular.proofs.PartLaws.{refilled, is_coding, roomy_part, same_part, refuses_samples, refuses_so, with_store}
+use Rattle.jxl_modular.proofs.Laid.{coded_apart, coded_lie, same_but_store, still_laid}
+use Rattle.jxlm_chain.proofs.ShapeLaws.{shape_kept}
+use Rattle.jxlm_chain.specs.Steps.{steps_in}
 use Rattle.jxl_modular.proofs.image.ModularImageDestination.decode_samples.Goals as goal
 
 pub decode_part-requires-clause-lie : goal.decode_part-requires-clause-lie
@@ -36,13 +39,19 @@ invariant_of-self g c =
     let keeps = rw (c.deref-2.ensures.value, c.deref_mut.ensures.value) at c.in_err-decode_part.ensures.keeps in
     let whole : take c.self.inside.store.len (c.decode_part.new.store ++ drop (length c.decode_part.new.store) c.self.inside.store.items) ≡ c.decode_part.new.store =
     refilled c.self.inside.store.len c.decode_part.new.store c.self.inside.store.items c.self.inside.store.ok.0 keeps.count in
-    record {
-      sizes = rw whole (fits_kept c.self.inside.coded.items (channels_of c.self.inside.channels.items) c.self.inside.store.items c.decode_part.new.store keeps c.self.invariant.sizes);
-      regions = c.self.invariant.regions;
-      narrow = c.self.invariant.narrow;
-      few = c.self.invariant.few;
-      weights = c.self.invariant.weights;
-    }
+    let image : Image g.row.S.Denot g.row.D.Denot = record {
+      weights = c.self.inside.header.wp_params;
+      steps = steps_in (header_of c.self.inside.header).transform;
+      config = c.self.inside.ma_ctx;
+      group_dim = c.self.inside.group_dim;
+      bit_depth = c.self.inside.bit_depth;
+      given = c.self.inside.given.items;
+      channels = c.self.inside.channels.items;
+      nb_meta = c.self.inside.nb_meta_channels;
+      store = c.self.inside.store.items;
+      coded = c.self.inside.coded.items;
+    } in
+    still_laid image _ c.self.invariant (same_but_store image _ (rw whole (shape_kept c.self.inside.coded.items c.self.inside.store.items c.decode_part.new.store keeps)))
 
 pub returns-in_err-decode_part-clause-err : goal.returns-in_err-decode_part-clause-err
 returns-in_err-decode_part-clause-err g c =
@@ -53,10 +62,12 @@ returns-in_err-decode_part-clause-err g c =
     let ready = rw (← c.self.view_is) at c.in_ok-decoder.ensures.ok in
     let some = rw (ready.decoder_is, c.deref_mut.ensures.value) at c.in_err-decode_part.ensures.err in
     let image : Image g.row.S.Denot g.row.D.Denot = record {
-      header = header_of c.self.inside.header;
+      weights = c.self.inside.header.wp_params;
+      steps = steps_in (header_of c.self.inside.header).transform;
       config = c.self.inside.ma_ctx;
       group_dim = c.self.inside.group_dim;
       bit_depth = c.self.inside.bit_depth;
+      given = c.self.inside.given.items;
       channels = c.self.inside.channels.items;
       nb_meta = c.self.inside.nb_meta_channels;
       store = c.self.inside.store.items;
@@ -76,20 +87,40 @@ returns-in_err-decode_part-clause-same g c =
     let whole : take c.self.inside.store.len (c.decode_part.new.store ++ drop (length c.decode_part.new.store) c.self.inside.store.items) ≡ c.decode_part.new.store =
     refilled c.self.inside.store.len c.decode_part.new.store c.self.inside.store.items c.self.inside.store.ok.0 keeps.count in
     rw (← c.self.view_is)
-    (record { header = refl; config = refl; group_dim = refl; bit_depth = refl; channels = refl; nb_meta = refl; coded = refl; outside = rw whole keeps })
+    (record {
+      cells = record {
+        weights = refl;
+        steps = refl;
+        config = refl;
+        group_dim = refl;
+        bit_depth = refl;
+        given = refl;
+        channels = refl;
+        nb_meta = refl;
+        coded = refl;
+        shape = rw whole (shape_kept c.self.inside.coded.items c.self.inside.store.items c.decode_part.new.store keeps);
+      };
+      outside = rw whole keeps;
+    })
 
 pub invariant_of-self-2 : goal.invariant_of-self-2
 invariant_of-self-2 g c =
     let keeps = rw (c.deref-2.ensures.value, c.deref_mut.ensures.value) at c.in_ok-decode_part.ensures.keeps in
     let whole : take c.self.inside.store.len (c.decode_part.new.store ++ drop (length c.decode_part.new.store) c.self.inside.store.items) ≡ c.decode_part.new.store =
     refilled c.self.inside.store.len c.decode_part.new.store c.self.inside.store.items c.self.inside.store.ok.0 keeps.count in
-    record {
-      sizes = rw whole (fits_kept c.self.inside.coded.items (channels_of c.self.inside.channels.items) c.self.inside.store.items c.decode_part.new.store keeps c.self.invariant.sizes);
-      regions = c.self.invariant.regions;
-      narrow = c.self.invariant.narrow;
-      few = c.self.invariant.few;
-      weights = c.self.invariant.weights;
-    }
+    let image : Image g.row.S.Denot g.row.D.Denot = record {
+      weights = c.self.inside.header.wp_params;
+      steps = steps_in (header_of c.self.inside.header).transform;
+      config = c.self.inside.ma_ctx;
+      group_dim = c.self.inside.group_dim;
+      bit_depth = c.self.inside.bit_depth;
+      given = c.self.inside.given.items;
+      channels = c.self.inside.channels.items;
+      nb_meta = c.self.inside.nb_meta_channels;
+      store = c.self.inside.store.items;
+      coded = c.self.inside.coded.items;
+    } in
+    still_laid image _ c.self.invariant (same_but_store image _ (rw whole (shape_kept c.self.inside.coded.items c.self.inside.store.items c.decode_part.new.store keeps)))
 
 pub returns-clause-same : goal.returns-clause-same
 returns-clause-same g c =
@@ -97,4 +128,18 @@ returns-clause-same g c =
     let whole : take c.self.inside.store.len (c.decode_part.new.store ++ drop (length c.decode_part.new.store) c.self.inside.store.items) ≡ c.decode_part.new.store =
     refilled c.self.inside.store.len c.decode_part.new.store c.self.inside.store.items c.self.inside.store.ok.0 keeps.count in
     rw (← c.self.view_is)
-    (record { header = refl; config = refl; group_dim = refl; bit_depth = refl; channels = refl; nb_meta = refl; coded = refl; outside = rw whole keeps })
+    (record {
+      cells = record {
+        weights = refl;
+        steps = refl;
+        config = refl;
+        group_dim = refl;
+        bit_depth = refl;
+        given = refl;
+        channels = refl;
+        nb_meta = refl;
+        coded = refl;
+        shape = rw whole (shape_kept c.self.inside.coded.items c.self.inside.store.items c.decode_part.new.store keeps);
+      };
+      outside = rw whole keeps;
+    })

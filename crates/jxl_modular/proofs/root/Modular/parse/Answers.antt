@@ -8,6 +8,34 @@ use Rattle.jxl_modular.specs.Parsing.{ParseGives, opened}
 use Rattle.jxl_modular.specs.declared.header.ModularHeader.{ModularHeader}
 use Rattle.jxl_modular.proofs.ParsingLaws.{image_stands, tree_refused, not_zero, gives_image, gives_fault}
 use Rattle.jxl_modular.proofs.root.Modular.parse.Goals as goal
+use Rattle.jxlm_base.specs.Fault.{fault_of}
+use Rattle.jxlm_transform.specs.Channels.{IsNarrow, image_list, list_of}
+use Rattle.jxlm_transform.specs.declared.param.ModularChannelParams.{ModularChannelParams}
+use Rattle.jxlm_transform.proofs.SideBounds.{narrow_image}
+use Rattle.jxl_modular.specs.Fresh.{fresh}
+use Rattle.jxl_modular.proofs.PictureLaws.{no_memory}
+use Rattle.std.proofs.Common.{subst}
+use Rattle.std.specs.List.{All}
+
+pub new-requires-2-clause-narrow_given : goal.new-requires-2-clause-narrow_given
+new-requires-2-clause-narrow_given g c κs within =
+    let given : list_of c.in_ok-given.given ≡ image_list c.args.params.channels.items = c.in_ok-given.ensures.ok ∙ ap (λ (cs : List ModularChannelParams). image_list cs) c.deref-3.ensures.value in
+    subst (λ l. All IsNarrow l.channels) (sym given) (narrow_image c.args.params.channels.items c.requires.valid.channels)
+
+pub returns-in_err-image-clause-gives : goal.returns-in_err-image-clause-gives
+returns-in_err-image-clause-gives g c =
+    let d = g.D.Decoder.meaning in
+    let zero = g.S.Sealed.from_int (pos 0) in
+    let bytes = bytes_of c.args.bits.now in
+    let p = position_of c.args.bits.now in
+    let params = c.args.params in
+    let ps = params.channels.items in
+    let counted_some : 0 < params.channels.len = not_zero params.channels.len (sym c.is_empty.ensures ∙ c.if-is_empty.false) in
+    let some : 0 < length ps = omega (arith, counted_some, params.channels.ok.0) in
+    let e = c.in_err-image.field-0.0 in
+    let q = position_of c.parse.new.bits in
+    let answer : ParseGives d zero bytes p params ps (Err e) q = gives_fault d zero bytes p params ps e q some (no_memory (fault_of e) _ c.in_err-image.ensures.err) in
+    search rules
 
 pub returns-in_err-ma_ctx-clause-gives : goal.returns-in_err-ma_ctx-clause-gives
 returns-in_err-ma_ctx-clause-gives g c =
@@ -49,5 +77,7 @@ returns-clause-gives g c =
     let counted : limit ≡ min (1024 + sum_by (λ c. c.width * c.height) o.1.info.items) (2 ^ 20) = c.node_limit.ensures ∙ ap (λ (xs : List ModularChannelInfo). min (1024 + sum_by (λ c. c.width * c.height) xs) (2 ^ 20)) c.deref-2.ensures.value in
     let q = position_of c.parse.new.bits in
     let tree : IsTreeAt d bytes limit depth_limit m c.in_ok-ma_ctx.ma_ctx q = rw c.in_ok-header.ensures.bytes at c.in_ok-ma_ctx.ensures.gives in
-    let stands = image_stands d zero bytes p params o m opens limit counted c.in_ok-ma_ctx.ma_ctx q c.in_ok-image.image tree c.in_ok-image.ensures.ok in
+    let given : list_of c.in_ok-given.given ≡ image_list ps = c.in_ok-given.ensures.ok ∙ ap (λ (cs : List ModularChannelParams). image_list cs) c.deref-3.ensures.value in
+    let is = subst (λ l. c.in_ok-image.image ≡ fresh zero l (opening_of o) c.in_ok-ma_ctx.ma_ctx params.group_dim params.bit_depth) given c.in_ok-image.ensures.ok in
+    let stands = image_stands d zero bytes p params o m opens limit counted c.in_ok-ma_ctx.ma_ctx q c.in_ok-image.image tree is in
     gives_image d zero bytes p params ps c.in_ok-image.image q some stands

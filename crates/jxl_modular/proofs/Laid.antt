@@ -1,0 +1,113 @@
+-- What an image that is laid out keeps: its coded channels lie in the store, apart, and of their sizes; so they do where only cells change.
+use Rattle.std.proofs.Common.{◌≡◌, ℕ, List, length, map, Ok, refl, sym, ap, ◌∙◌, subst, ℤ, arith}
+use Rattle.std.specs.Prelude.{FitsSigned, take}
+use Rattle.std.specs.Int.{Width}
+use Rattle.std.proofs.lemmas.List.{length-map, take-map}
+use Rattle.jxlm_base.specs.Grid.{Grid, meanings}
+use Rattle.jxlm_base.specs.Regions.{store_meanings, AllLie, LieApart}
+use Rattle.jxlm_base.specs.declared.subgrid.Region.{Region}
+use Rattle.jxlm_chain.specs.Layout.{LieIn, Layout, first_layout, layout_after_all, tables_of}
+use Rattle.jxlm_chain.specs.Shape.{SameShape}
+use Rattle.jxlm_chain.specs.Steps.{CanUndoAll}
+use Rattle.jxlm_chain.specs.Undo.{UndoesAll, undo_of_all}
+use Rattle.jxlm_chain.specs.Chain.{Chain}
+use Rattle.jxlm_transform.specs.Channels.{channel_of}
+use Rattle.jxlm_transform.specs.declared.channels.ModularChannelInfo.{ModularChannelInfo}
+use Rattle.jxl_modular.specs.Image.{Image, IsLaidOut, IsOnlyImage, coded_grids, given_list, grids_given, image_grids, list_coded}
+use Rattle.jxl_modular.specs.Layout.{channels_of}
+use Rattle.jxl_modular.specs.Part.{Fits}
+use Rattle.jxl_modular.specs.Progress.{SameSizes, grids_in}
+use Rattle.jxl_modular.specs.SameButSamples.{SameButCells}
+use Rattle.jxl_modular.proofs.Layouts.{buffers_meanings, given_grids, grids_fit, same_sizes}
+use Rattle.jxlm_chain.proofs.CanUndo.{can_undo_all}
+use Rattle.jxlm_chain.proofs.LayoutLaws.{lie_first, lie_after_all}
+use Rattle.jxlm_chain.proofs.OneImage.{no_two_images}
+use Rattle.jxlm_chain.proofs.ShapeLaws.{buffers_kept, narrow_kept, shape_kept}
+use Rattle.jxlm_chain.proofs.Undone.{chain_of}
+
+module _ {S D : Type 0} (x : Image S D) (laid : IsLaidOut x) where
+  -- where the image's own channels lie
+  abbrev first : Layout
+  first = first_layout (given_list x).channels
+
+  coded_lies : LieIn (list_coded x).channels (layout_after_all x.steps first) x.store
+  coded_lies =
+      let here = lie_first (given_list x).channels x.steps x.store laid.buffers in
+      (lie_after_all x.steps (given_list x) (list_coded x) first x.store laid.list laid.steps here.0 here.1).0
+
+  pub coded_lie : AllLie x.coded x.store
+  coded_lie = subst (λ (rs : List Region). AllLie rs x.store) (sym laid.regions) coded_lies.lie
+
+  pub coded_apart : LieApart x.coded
+  coded_apart = subst LieApart (sym laid.regions) coded_lies.apart
+
+  pub coded_sizes : SameSizes (channels_of x.channels) x.coded
+  coded_sizes = subst (SameSizes (channels_of x.channels)) (sym laid.regions) (same_sizes x.channels (layout_after_all x.steps first).regions coded_lies.sizes)
+
+  pub coded_fit : (f : S → ℤ) → Fits (channels_of x.channels) (coded_grids f x)
+  coded_fit f = grids_fit (channels_of x.channels) x.coded (store_meanings f x.store) coded_sizes
+
+  -- what undoes its steps can be done
+  pub can_undo : CanUndoAll x.store (undo_of_all x.steps first)
+  can_undo =
+      let here = lie_first (given_list x).channels x.steps x.store laid.buffers in
+      can_undo_all x.steps (given_list x) (list_coded x) first x.store laid.list laid.steps here.0 here.1
+
+  -- the grids of its own channels are those that lie first
+  pub given_first : (f : S → ℤ) → grids_in first.regions (store_meanings f x.store) ≡ image_grids f x
+  given_first f =
+      given_grids (given_list x).channels (tables_of x.steps) (store_meanings f x.store) (buffers_meanings f _ x.store laid.buffers)
+      ∙ ap (λ n. take n (store_meanings f x.store)) (length-map x.given _)
+      ∙ take-map (meanings f) (length x.given) x.store
+
+-- An image stays laid out where only cells change.
+pub still_laid : {S D : Type 0} (x y : Image S D) → IsLaidOut x → SameButCells x y → IsLaidOut y
+still_laid x y laid same = record {
+  list = rw (same.steps, same.given, same.channels, same.nb_meta) laid.list;
+  regions = rw (same.coded, same.steps, same.given) laid.regions;
+  buffers = rw (same.steps, same.given) (buffers_kept _ x.store y.store same.shape laid.buffers);
+  narrow_store = narrow_kept x.store y.store same.shape laid.narrow_store;
+  narrow = rw same.channels laid.narrow;
+  few = rw same.channels laid.few;
+  weights = rw same.weights laid.weights;
+  steps = rw same.steps laid.steps;
+  palettes = rw (same.weights, same.steps) laid.palettes;
+  deep = rw same.bit_depth laid.deep;
+}
+
+-- the image with cells that were written in these regions
+pub same_but_store : {S D : Type 0} (x : Image S D) (s : List (Grid S)) → SameShape x.store s → SameButCells x (record x { store = s })
+same_but_store x s shape = record {
+  weights = refl;
+  steps = refl;
+  config = refl;
+  group_dim = refl;
+  bit_depth = refl;
+  given = refl;
+  channels = refl;
+  nb_meta = refl;
+  coded = refl;
+  shape = shape;
+}
+
+-- Where all steps of an image were undone, its channels are the only ones that become the coded grids as they stood.
+pub only_image : {S D : Type 0} (to_int : S → ℤ) (w : Width) (x y : Image S D) → IsLaidOut x → IsLaidOut y → SameButCells x y →
+    UndoesAll to_int w x.bit_depth (undo_of_all x.steps (first_layout (given_list x).channels)) x.store y.store → IsOnlyImage w y (image_grids to_int y) (coded_grids to_int x)
+only_image to_int w x y laid laid_y same undone =
+    let here = lie_first (given_list x).channels x.steps x.store laid.buffers in
+    let first = first_layout (given_list x).channels in
+    let chain : Chain w x.bit_depth x.steps (given_list x) (grids_in first.regions (store_meanings to_int y.store)) (grids_in (layout_after_all x.steps first).regions (store_meanings to_int x.store)) =
+    chain_of to_int w x.bit_depth x.steps (given_list x) (list_coded x) first x.store y.store laid.list laid.steps here.0 here.1 undone in
+    let coded : grids_in (layout_after_all x.steps first).regions (store_meanings to_int x.store) ≡ coded_grids to_int x = ap (λ (rs : List Region). grids_in rs (store_meanings to_int x.store)) (sym laid.regions) in
+    let own : grids_in first.regions (store_meanings to_int y.store) ≡ image_grids to_int y = ap (λ (is : List ModularChannelInfo). grids_in (first_layout (map channel_of is)).regions (store_meanings to_int y.store)) (sym same.given) ∙ given_first y laid_y to_int in
+    let own_chain : Chain w x.bit_depth x.steps (given_list x) (image_grids to_int y) (coded_grids to_int x) =
+    subst (λ gs. Chain w x.bit_depth x.steps (given_list x) gs (coded_grids to_int x)) own
+    (subst (λ gs. Chain w x.bit_depth x.steps (given_list x) (grids_in first.regions (store_meanings to_int y.store)) gs) coded chain) in
+    let this : Chain w y.bit_depth y.steps (given_list y) (image_grids to_int y) (coded_grids to_int x) =
+    subst (λ n. Chain w n y.steps (given_list y) (image_grids to_int y) (coded_grids to_int x)) (sym same.bit_depth)
+    (subst (λ ss. Chain w x.bit_depth ss (given_list y) (image_grids to_int y) (coded_grids to_int x)) (sym same.steps)
+    (subst (λ (is : List ModularChannelInfo). Chain w x.bit_depth x.steps (record { channels = map channel_of is; nb_meta = 0 }) (image_grids to_int y) (coded_grids to_int x)) (sym same.given) own_chain)) in
+    record {
+      chain = this;
+      only = λ other h. no_two_images w y.bit_depth y.steps (given_list y) other (image_grids to_int y) (coded_grids to_int x) h this;
+    }

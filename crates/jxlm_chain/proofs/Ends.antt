@@ -1,0 +1,40 @@
+-- The ends of regions behind a step.
+use Rattle.std.proofs.Common.{◌≡◌, ℕ, ◌+◌, ◌-◌, ◌/◌, ◌^◌, ◌<◌, ◌≤◌, Bool, true, false, List, [], ◌∷◌, ◌++◌, length, map, take, drop, get_or, subst, sym, arith}
+use Rattle.std.specs.List.{All}
+use Rattle.std.proofs.lemmas.List.Elements.{All-cons, All-nil, All-append}
+use Rattle.jxlm_base.specs.Regions.{region}
+use Rattle.jxlm_base.specs.declared.subgrid.Region.{Region}
+use Rattle.jxlm_transform.specs.ChannelSteps.{range, with_halves}
+use Rattle.jxlm_transform.specs.declared.transform.SqueezeParams.{SqueezeParams}
+use Rattle.jxlm_chain.specs.Ends.{HasEnds}
+use Rattle.jxlm_chain.specs.Layout.{average_region, residual_region}
+use Rattle.jxlm_chain.proofs.StepParts.{all_first, all_halves, all_range}
+
+average_ends : (horizontal : Bool) (r : Region) → HasEnds r → HasEnds (average_region horizontal r)
+average_ends true r h = let c = h.column in record { column = omega arith; row = h.row }
+average_ends false r h = let c = h.row in record { column = h.column; row = omega arith }
+
+residual_ends : (horizontal : Bool) (r : Region) → HasEnds r → HasEnds (residual_region horizontal r)
+residual_ends true r h = let c = h.column in record { column = omega arith; row = h.row }
+residual_ends false r h = let c = h.row in record { column = h.column; row = omega arith }
+
+-- behind a squeeze step
+pub halves_end : (t : SqueezeParams) (rs new : List Region) → All HasEnds rs →
+    new ≡ with_halves t (map (average_region t.horizontal) (range t.begin_c t.num_c rs)) (map (residual_region t.horizontal) (range t.begin_c t.num_c rs)) rs → All HasEnds new
+halves_end t rs new ends is =
+    subst (All HasEnds) (sym is) (all_halves HasEnds t (average_region t.horizontal) (residual_region t.horizontal) rs (average_ends t.horizontal) (residual_ends t.horizontal) ends)
+
+-- of a range
+pub range_ends : (begin n : ℕ) (rs : List Region) → All HasEnds rs → All HasEnds (range begin n rs)
+range_ends begin n rs ends = all_range HasEnds begin n rs ends
+
+-- behind a palette
+pub first_ends : (begin n colours rows buffer : ℕ) (rs new : List Region) → All HasEnds rs → colours < 2 ^ 32 → rows < 2 ^ 32 →
+    new ≡ region buffer 0 0 colours rows ∷ (take (begin + 1) rs ++ drop (begin + n) rs) → All HasEnds new
+first_ends begin n colours rows buffer rs new ends c r is =
+    subst (All HasEnds) (sym is)
+    (All-cons HasEnds (region buffer 0 0 colours rows) (take (begin + 1) rs ++ drop (begin + n) rs) (record { column = omega arith; row = omega arith }) (all_first HasEnds begin n rs ends))
+
+-- of one more
+pub ends_push : (rs : List Region) (r : Region) → All HasEnds rs → HasEnds r → All HasEnds (rs ++ r ∷ [])
+ends_push rs r ends end = All-append HasEnds rs (r ∷ []) ends (All-cons HasEnds r [] end (All-nil HasEnds))

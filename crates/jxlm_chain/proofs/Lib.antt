@@ -1,0 +1,26 @@
+mod ChainExamples
+pub mod CanUndo
+pub mod ColouredGrids
+pub mod Ends
+pub mod Greatest
+pub mod KeptGrids
+pub mod LayoutLaws
+pub mod ListLaws
+pub mod ListsApart
+pub mod OneImage
+pub mod PlanSteps
+pub mod Ranges
+pub mod Ready
+pub mod Rooms
+pub mod SampleGrids
+pub mod ShapeLaws
+pub mod SqueezedGrids
+pub mod StepFacts
+pub mod StepLaws
+pub mod StepParts
+pub mod UndoLoop
+pub mod Undone
+pub mod UndoneColour
+pub mod UndonePalette
+pub mod UndoneSqueeze
+pub mod WholeRegions

@@ -1,0 +1,100 @@
+-- What a step makes of a list whose elements it keeps or takes parts of.
+use Rattle.std.proofs.Common.{◌≡◌, ℕ, ◌+◌, ◌-◌, ◌<◌, ◌≤◌, Bool, true, false, if◌then◌else◌, List, [], ◌∷◌, ◌++◌, length, map, take, drop, get_or, sym, ap, subst, arith}
+use Rattle.std.specs.List.{All, AllPairs, AllZip}
+use Rattle.std.proofs.lemmas.List.{drop-drop, take_more}
+use Rattle.std.proofs.lemmas.List.Elements.{All-take, All-drop, All-append, All-map, All-weaker}
+use Rattle.jxlm_transform.specs.ChannelSteps.{range, with_range, with_halves}
+use Rattle.jxlm_transform.specs.declared.transform.SqueezeParams.{SqueezeParams}
+use Rattle.jxlm_chain.proofs.ListsApart.{AllCross, pairs_take, pairs_drop, pairs_append, pairs_map, cross_take_drop, cross_take_right, cross_turned, cross_append_left, cross_append_right, cross_map_left, cross_map_right, cross_maps, zip_append, zip_take, zip_drop, zip_map}
+
+-- one element in the place of a range is the range's first, where that is kept
+pub with_first : {X : Type 0} (begin n : ℕ) (xs : List X) (d : X) → begin < length xs → with_range begin n (get_or xs begin d ∷ []) xs ≡ take (begin + 1) xs ++ drop (begin + n) xs
+with_first begin n xs d lt = ap (λ ys. ys ++ drop (begin + n) xs) (sym (take_more xs begin d lt))
+
+-- two lists, both in the place between others, or the second of them at the end
+abbrev pub placed : {X : Type 0} → Bool → List X → List X → List X → List X → List X
+placed inside ahead fs gs behind = if inside then ahead ++ (fs ++ gs) ++ behind else ahead ++ fs ++ behind ++ gs
+
+module _ {X : Type 0} (P : X → Type 0) where
+  all_placed : (inside : Bool) (ahead fs gs behind : List X) → All P ahead → All P fs → All P gs → All P behind → All P (placed inside ahead fs gs behind)
+  all_placed true ahead fs gs behind a f g b = All-append P (ahead ++ (fs ++ gs)) behind (All-append P ahead (fs ++ gs) a (All-append P fs gs f g)) b
+  all_placed false ahead fs gs behind a f g b = All-append P (ahead ++ fs ++ behind) gs (All-append P (ahead ++ fs) behind (All-append P ahead fs a f) b) g
+
+  pub all_range : (begin n : ℕ) (xs : List X) → All P xs → All P (range begin n xs)
+  all_range begin n xs all = All-take P (begin + n - begin) (drop begin xs) (All-drop P begin xs all)
+
+  pub all_first : (begin n : ℕ) (xs : List X) → All P xs → All P (take (begin + 1) xs ++ drop (begin + n) xs)
+  all_first begin n xs all = All-append P (take (begin + 1) xs) (drop (begin + n) xs) (All-take P (begin + 1) xs all) (All-drop P (begin + n) xs all)
+
+  pub all_halves : (t : SqueezeParams) (f g : X → X) (xs : List X) → ((x : X) → P x → P (f x)) → ((x : X) → P x → P (g x)) → All P xs →
+      All P (with_halves t (map f (range t.begin_c t.num_c xs)) (map g (range t.begin_c t.num_c xs)) xs)
+  all_halves t f g xs pf pg all =
+      let ys : List X = range t.begin_c t.num_c xs in
+      let here : All P ys = all_range t.begin_c t.num_c xs all in
+      all_placed t.in_place (take t.begin_c xs) (map f ys) (map g ys) (drop (t.begin_c + t.num_c) xs) (All-take P t.begin_c xs all) (All-map P f ys (All-weaker P (λ x. P (f x)) pf ys here))
+      (All-map P g ys (All-weaker P (λ x. P (g x)) pg ys here)) (All-drop P (t.begin_c + t.num_c) xs all)
+
+module _ {X : Type 0} (R : X → X → Type 0) where
+  pub pairs_range : (begin n : ℕ) (xs : List X) → AllPairs R xs → AllPairs R (range begin n xs)
+  pairs_range begin n xs pairs = pairs_take R (begin + n - begin) (drop begin xs) (pairs_drop R begin xs pairs)
+
+  pub pairs_first : (begin n : ℕ) (xs : List X) → 1 ≤ n → AllPairs R xs → AllPairs R (take (begin + 1) xs ++ drop (begin + n) xs)
+  pairs_first begin n xs le pairs =
+      pairs_append R (take (begin + 1) xs) (drop (begin + n) xs) (pairs_take R (begin + 1) xs pairs) (pairs_drop R (begin + n) xs pairs) (cross_take_drop R (begin + 1) (begin + n) xs (omega arith) pairs)
+
+  -- a range, and what stands ahead of it and behind it
+  cross_ahead : (begin n : ℕ) (xs : List X) → AllPairs R xs → AllCross R (take begin xs) (range begin n xs)
+  cross_ahead begin n xs pairs = cross_take_right R (begin + n - begin) (take begin xs) (drop begin xs) (cross_take_drop R begin begin xs (omega arith) pairs)
+
+  cross_behind : (begin n : ℕ) (xs : List X) → AllPairs R xs → AllCross R (range begin n xs) (drop (begin + n) xs)
+  cross_behind begin n xs pairs = subst (AllCross R (range begin n xs)) (drop-drop n begin xs) (cross_take_drop R (begin + n - begin) n (drop begin xs) (omega arith) (pairs_drop R begin xs pairs))
+
+  module _ (turn : (x y : X) → R x y → R y x) where
+    pairs_placed : (inside : Bool) (ahead fs gs behind : List X) → AllPairs R ahead → AllPairs R fs → AllPairs R gs → AllPairs R behind → AllCross R ahead fs → AllCross R ahead gs → AllCross R ahead behind →
+        AllCross R fs gs → AllCross R fs behind → AllCross R gs behind → AllPairs R (placed inside ahead fs gs behind)
+    pairs_placed true ahead fs gs behind a f g b af ag ab fg fb gb =
+        pairs_append R (ahead ++ (fs ++ gs)) behind (pairs_append R ahead (fs ++ gs) a (pairs_append R fs gs f g fg) (cross_append_right R ahead fs gs af ag)) b
+        (cross_append_left R ahead (fs ++ gs) behind ab (cross_append_left R fs gs behind fb gb))
+    pairs_placed false ahead fs gs behind a f g b af ag ab fg fb gb =
+        pairs_append R (ahead ++ fs ++ behind) gs (pairs_append R (ahead ++ fs) behind (pairs_append R ahead fs a f af) b (cross_append_left R ahead fs behind ab fb)) g
+        (cross_append_left R (ahead ++ fs) behind gs (cross_append_left R ahead fs gs ag fg) (cross_turned R gs behind turn gb))
+
+    -- the elements of a range give way to two parts each
+    pub pairs_halves : (t : SqueezeParams) (f g : X → X) (xs : List X) → ((x y : X) → R x y → R (f x) y) → ((x y : X) → R x y → R (g x) y) → ((x : X) → R (f x) (g x)) → AllPairs R xs →
+        AllPairs R (with_halves t (map f (range t.begin_c t.num_c xs)) (map g (range t.begin_c t.num_c xs)) xs)
+    pairs_halves t f g xs pf pg own pairs =
+        let ys : List X = range t.begin_c t.num_c xs in
+        let ahead : List X = take t.begin_c xs in
+        let behind : List X = drop (t.begin_c + t.num_c) xs in
+        let here : AllPairs R ys = pairs_range t.begin_c t.num_c xs pairs in
+        let a : AllCross R ahead ys = cross_ahead t.begin_c t.num_c xs pairs in
+        let b : AllCross R ys behind = cross_behind t.begin_c t.num_c xs pairs in
+        let qf : (x y : X) → R x y → R x (f y) = λ x y r. turn (f y) x (pf y x (turn x y r)) in
+        let qg : (x y : X) → R x y → R x (g y) = λ x y r. turn (g y) x (pg y x (turn x y r)) in
+        pairs_placed t.in_place ahead (map f ys) (map g ys) behind (pairs_take R t.begin_c xs pairs)
+        (pairs_map R f ys (λ x y r. pf x (f y) (qf x y r)) here) (pairs_map R g ys (λ x y r. pg x (g y) (qg x y r)) here) (pairs_drop R (t.begin_c + t.num_c) xs pairs)
+        (cross_map_right R f ahead ys qf a) (cross_map_right R g ahead ys qg a) (cross_take_drop R t.begin_c (t.begin_c + t.num_c) xs (omega arith) pairs)
+        (cross_maps R f g ys turn (λ x y r. pf x (g y) (qg x y r)) own here) (cross_map_left R f ys behind pf b) (cross_map_left R g ys behind pg b)
+
+module _ {X Y : Type 0} (R : X → Y → Type 0) where
+  zip_placed : (inside : Bool) (ahead fs gs behind : List X) (before us vs after : List Y) → AllZip R ahead before → AllZip R fs us → AllZip R gs vs → AllZip R behind after →
+      AllZip R (placed inside ahead fs gs behind) (placed inside before us vs after)
+  zip_placed true ahead fs gs behind before us vs after a f g b =
+      zip_append R (ahead ++ (fs ++ gs)) behind (before ++ (us ++ vs)) after (zip_append R ahead (fs ++ gs) before (us ++ vs) a (zip_append R fs gs us vs f g)) b
+  zip_placed false ahead fs gs behind before us vs after a f g b =
+      zip_append R (ahead ++ fs ++ behind) gs (before ++ us ++ after) vs (zip_append R (ahead ++ fs) behind (before ++ us) after (zip_append R ahead fs before us a f) b) g
+
+  pub zip_range : (begin n : ℕ) (xs : List X) (ys : List Y) → AllZip R xs ys → AllZip R (range begin n xs) (range begin n ys)
+  zip_range begin n xs ys z = zip_take R (begin + n - begin) (drop begin xs) (drop begin ys) (zip_drop R begin xs ys z)
+
+  pub zip_first : (begin n : ℕ) (xs : List X) (ys : List Y) → AllZip R xs ys → AllZip R (take (begin + 1) xs ++ drop (begin + n) xs) (take (begin + 1) ys ++ drop (begin + n) ys)
+  zip_first begin n xs ys z = zip_append R (take (begin + 1) xs) (drop (begin + n) xs) (take (begin + 1) ys) (drop (begin + n) ys) (zip_take R (begin + 1) xs ys z) (zip_drop R (begin + n) xs ys z)
+
+  pub zip_halves : (t : SqueezeParams) (f g : X → X) (u v : Y → Y) (xs : List X) (ys : List Y) → ((x : X) (y : Y) → R x y → R (f x) (u y)) → ((x : X) (y : Y) → R x y → R (g x) (v y)) → AllZip R xs ys →
+      AllZip R (with_halves t (map f (range t.begin_c t.num_c xs)) (map g (range t.begin_c t.num_c xs)) xs) (with_halves t (map u (range t.begin_c t.num_c ys)) (map v (range t.begin_c t.num_c ys)) ys)
+  zip_halves t f g u v xs ys part other z =
+      let here : AllZip R (range t.begin_c t.num_c xs) (range t.begin_c t.num_c ys) = zip_range t.begin_c t.num_c xs ys z in
+      let us : List X = range t.begin_c t.num_c xs in
+      let vs : List Y = range t.begin_c t.num_c ys in
+      zip_placed t.in_place (take t.begin_c xs) (map f us) (map g us) (drop (t.begin_c + t.num_c) xs) (take t.begin_c ys) (map u vs) (map v vs) (drop (t.begin_c + t.num_c) ys) (zip_take R t.begin_c xs ys z)
+      (zip_map R R f u us vs part here) (zip_map R R g v us vs other here) (zip_drop R (t.begin_c + t.num_c) xs ys z)

@@ -1,0 +1,6 @@
+use Rattle.std.proofs.Common.{◌≡◌, map, take}
+use Rattle.jxlm_chain.specs.Layout.{residual_region}
+use Rattle.jxlm_chain.proofs.places.residual_parts.Given as goal
+
+abbrev pub invariant-loop-region : goal.invariant-loop-region
+invariant-loop-region l = l.parts.items ≡ map (residual_region l.horizontal) (take l.region-index l.regions)

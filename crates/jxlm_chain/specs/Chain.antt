@@ -1,0 +1,65 @@
+-- What transforms make of an image's samples (ISO/IEC 18181-1, Modular: inverse transforms, from the image to the coded channels).
+use Rattle.std.specs.Prelude.{◌≡◌, ℕ, ◌/◌, List, [], ◌∷◌, map, Bool, true, false, ℤ, Ok}
+use Rattle.std.specs.List.{All, AllZip}
+use Rattle.std.specs.Int.{Width}
+use Rattle.jxlm_base.specs.Grid.{Grid, grid_by, at, IsFull}
+use Rattle.jxlm_base.specs.Squeeze.{averages, average_at, residual_at, AreGridSamples}
+use Rattle.jxlm_transform.specs.Channels.{Channel, ChannelList}
+use Rattle.jxlm_transform.specs.ChannelSteps.{Step, RctStep, PaletteStep, SqueezeStep, range, with_range, with_halves, list_after}
+use Rattle.jxlm_transform.specs.Palette.{IsPaletteOf}
+use Rattle.jxlm_transform.specs.Recoloured.{recoloured}
+
+-- the grid has the channel's sides, and a number at each place
+pub record HasSidesOf (c : Channel) (g : Grid ℤ) : Type 0 where
+  pub same_width : g.width ≡ c.width
+  pub same_height : g.height ≡ c.height
+  pub full : IsFull g
+
+-- a grid for each channel
+abbrev pub AreGridsOf : List Channel → List (Grid ℤ) → Type 0
+AreGridsOf cs gs = AllZip HasSidesOf cs gs
+
+-- w bits a sample in memory
+module _ (w : Width) where
+  -- each number is a w-bit sample
+  abbrev pub AreSampleGrids : List (Grid ℤ) → Type 0
+  AreSampleGrids gs = All (AreGridSamples w) gs
+
+  -- the averages of each row, or of each column
+  abbrev pub average_grid : Bool → Grid ℤ → Grid ℤ
+  average_grid true g = grid_by (averages g.width) g.height (λ x y. average_at w g.width (λ i. at g i y) x)
+  average_grid false g = grid_by g.width (averages g.height) (λ x y. average_at w g.height (λ i. at g x i) y)
+
+  -- the residuals of each row, or of each column
+  abbrev pub residual_grid : Bool → Grid ℤ → Grid ℤ
+  residual_grid true g = grid_by (g.width / 2) g.height (λ x y. residual_at w g.width (λ i. at g i y) x)
+  residual_grid false g = grid_by g.width (g.height / 2) (λ x y. residual_at w g.height (λ i. at g x i) y)
+
+-- and depth bits in the picture
+module _ (w : Width) (depth : ℕ) where
+  -- One step codes the grids ahead as those behind it. What it codes by colour or squeeze are w-bit samples; what a palette stands for
+  -- is made of them. Grids out of its range stay.
+  abbrev pub Codes : Step → List (Grid ℤ) → List (Grid ℤ) → Type 0
+  Codes (RctStep t) ahead behind =
+      AreSampleGrids w (range t.begin_c 3 ahead) × (behind ≡ with_range t.begin_c 3 (recoloured w t.rct_type (range t.begin_c 3 ahead)) ahead)
+  Codes (PaletteStep t) ahead behind =
+      (table : Grid ℤ) × (index : Grid ℤ) × IsPaletteOf w depth t table index (range t.begin_c t.num_c ahead) × (behind ≡ table ∷ with_range t.begin_c t.num_c (index ∷ []) ahead)
+  Codes (SqueezeStep t) ahead behind =
+      AreSampleGrids w (range t.begin_c t.num_c ahead) ×
+      (behind ≡ with_halves t (map (average_grid w t.horizontal) (range t.begin_c t.num_c ahead)) (map (residual_grid w t.horizontal) (range t.begin_c t.num_c ahead)) ahead)
+
+  -- The image, of the channels of a list, becomes the coded grids: between each two steps there are grids, for the channels that
+  -- the steps give.
+  abbrev pub Chain : List Step → ChannelList → List (Grid ℤ) → List (Grid ℤ) → Type 0
+  Chain [] l image coded = AreGridsOf l.channels image × (coded ≡ image)
+  Chain (s ∷ ss) l image coded =
+      AreGridsOf l.channels image × (m : ChannelList) × (next : List (Grid ℤ)) × (list_after s l ≡ Ok m) × Codes s image next × Chain ss m next coded
+
+  -- The image is the only one that becomes these coded grids.
+  pub record IsOnlyImage (steps : List Step) (l : ChannelList) (image coded : List (Grid ℤ)) : Type 0 where
+    pub chain : Chain steps l image coded
+    pub only : (other : List (Grid ℤ)) → Chain steps l other coded → other ≡ image
+
+  -- No two images become the same coded grids.
+  abbrev pub NoTwoImages : Type 0
+  NoTwoImages = (steps : List Step) (l : ChannelList) (image other coded : List (Grid ℤ)) → Chain steps l image coded → Chain steps l other coded → image ≡ other

@@ -1,0 +1,108 @@
+-- Where samples lie in a store: the regions of an image's channels, ahead of each step and behind it.
+use Rattle.std.specs.Prelude.{◌≡◌, ℕ, suc, ◌+◌, ◌-◌, ◌/◌, ◌^◌, ◌<◌, ◌≤◌, List, [], ◌∷◌, ◌++◌, length, map, get_or, Bool, true, false, ℤ}
+use Rattle.std.specs.List.{All, AllZip}
+use Rattle.jxlm_base.specs.Grid.{Grid, IsFull}
+use Rattle.jxlm_base.specs.Outside.{buffer_at}
+use Rattle.jxlm_base.specs.Regions.{region, AllLie, LieApart, grid_of}
+use Rattle.jxlm_base.specs.Squeeze.{averages}
+use Rattle.jxlm_base.specs.declared.subgrid.Region.{Region}
+use Rattle.jxlm_transform.specs.Channels.{Channel}
+use Rattle.jxlm_transform.specs.ChannelSteps.{Step, RctStep, PaletteStep, SqueezeStep, range, with_range, with_halves}
+
+-- a region for each channel, and how many buffers are taken so far
+pub record Layout : Type 0 where
+  pub regions : List Region
+  pub buffers : ℕ
+
+-- each channel in a buffer of its own, the first in buffer b
+abbrev pub whole_regions : ℕ → List Channel → List Region
+whole_regions b [] = []
+whole_regions b (c ∷ cs) = region b 0 0 c.width c.height ∷ whole_regions (suc b) cs
+
+-- ahead of all steps
+abbrev pub first_layout : List Channel → Layout
+first_layout cs = record { regions = whole_regions 0 cs; buffers = length cs }
+
+-- what stands where there is no region
+abbrev pub no_region : Region
+no_region = region 0 0 0 0 0
+
+-- the part of a squeezed region that has the averages: the left one, or the upper one
+abbrev pub average_region : Bool → Region → Region
+average_region true r = record r { width = averages r.width }
+average_region false r = record r { height = averages r.height }
+
+-- the part that has the residuals
+abbrev pub residual_region : Bool → Region → Region
+residual_region true r = record r { x = r.x + averages r.width; width = r.width / 2 }
+residual_region false r = record r { y = r.y + averages r.height; height = r.height / 2 }
+
+-- Behind a step: a table has the next buffer, and its indices lie where the first of its channels lay; a squeezed region is cut in two.
+abbrev pub layout_after : Step → Layout → Layout
+layout_after (RctStep t) l = l
+layout_after (PaletteStep t) l = record {
+  regions = region l.buffers 0 0 t.nb_colours t.num_c ∷ with_range t.begin_c t.num_c (get_or l.regions t.begin_c no_region ∷ []) l.regions;
+  buffers = suc l.buffers;
+}
+layout_after (SqueezeStep t) l = record {
+  regions = with_halves t (map (average_region t.horizontal) (range t.begin_c t.num_c l.regions)) (map (residual_region t.horizontal) (range t.begin_c t.num_c l.regions)) l.regions;
+  buffers = l.buffers;
+}
+
+-- behind all steps
+abbrev pub layout_after_all : List Step → Layout → Layout
+layout_after_all [] l = l
+layout_after_all (s ∷ ss) l = layout_after_all ss (layout_after s l)
+
+-- the sides of a buffer
+pub record Sides : Type 0 where
+  pub width : ℕ
+  pub height : ℕ
+
+-- the buffers of channels that have one each
+abbrev pub sides_of : List Channel → List Sides
+sides_of cs = map (λ c. record { width = c.width; height = c.height }) cs
+
+-- the buffers of the tables of steps, in order
+abbrev pub tables_of : List Step → List Sides
+tables_of [] = []
+tables_of (RctStep t ∷ ss) = tables_of ss
+tables_of (PaletteStep t ∷ ss) = record { width = t.nb_colours; height = t.num_c } ∷ tables_of ss
+tables_of (SqueezeStep t ∷ ss) = tables_of ss
+
+-- no side of a table is above 2 ^ 30
+abbrev pub HasNarrowTables : List Step → Type 0
+HasNarrowTables ss = All (λ s. (s.width ≤ 2 ^ 30) × (s.height ≤ 2 ^ 30)) (tables_of ss)
+
+-- the buffers of an image of these channels and steps: those of the channels, and then those of the tables
+abbrev pub buffers_of : List Channel → List Step → List Sides
+buffers_of cs ss = sides_of cs ++ tables_of ss
+
+module _ {S : Type 0} where
+  -- a whole grid of these sides
+  pub record HasSides (s : Sides) (g : Grid S) : Type 0 where
+    pub same_width : g.width ≡ s.width
+    pub same_height : g.height ≡ s.height
+    pub full : IsFull g
+
+  -- the store's buffers are of these sides
+  abbrev pub HasBuffers : List Sides → List (Grid S) → Type 0
+  HasBuffers sides store = AllZip HasSides sides store
+
+  -- from buffer b on the store has the tables of these steps, and nothing else
+  abbrev pub HasTables : List Step → ℕ → List (Grid S) → Type 0
+  HasTables [] b store = length store ≡ b
+  HasTables (RctStep t ∷ ss) b store = HasTables ss b store
+  HasTables (PaletteStep t ∷ ss) b store = HasSides (record { width = t.nb_colours; height = t.num_c }) (buffer_at store b) × HasTables ss (suc b) store
+  HasTables (SqueezeStep t ∷ ss) b store = HasTables ss b store
+
+  -- the channels lie in buffers of the store that are taken, in regions of their sides, no two of which share a cell
+  pub record LieIn (cs : List Channel) (l : Layout) (store : List (Grid S)) : Type 0 where
+    pub sizes : AllZip (λ c r. (r.width ≡ c.width) × (r.height ≡ c.height)) cs l.regions
+    pub lie : AllLie l.regions store
+    pub taken : All (λ r. r.buffer < l.buffers) l.regions
+    pub apart : LieApart l.regions
+
+-- the grids that stand in regions
+abbrev pub grids_in : List Region → List (Grid ℤ) → List (Grid ℤ)
+grids_in regions store = map (grid_of store) regions

@@ -1,0 +1,10 @@
+pub mod Chain
+pub mod Ends
+pub mod Grids
+pub mod Layout
+pub mod Places
+pub mod Scratch
+pub mod Shape
+pub mod Steps
+pub mod Undo
+pub mod Undoings

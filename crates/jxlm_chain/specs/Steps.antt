@@ -1,0 +1,43 @@
+-- The steps of an image's transforms, and what they ask of a store in which they are undone.
+use Rattle.std.specs.Prelude.{◌≡◌, ℕ, ◌≤◌, ◌^◌, ◌⊎◌, List, [], ◌∷◌, ◌++◌, length, map, Option, Some, None}
+use Rattle.std.specs.List.{All}
+use Rattle.jxlm_base.specs.Grid.{Grid}
+use Rattle.jxlm_base.specs.Regions.{Lies, AllLie, LieApart}
+use Rattle.jxlm_tree.specs.declared.predictor.WpHeader.{WpHeader}
+use Rattle.jxlm_transform.specs.ChannelSteps.{Step, RctStep, PaletteStep, SqueezeStep, listed_steps}
+use Rattle.jxlm_transform.specs.Palette.{PaletteLies}
+use Rattle.jxlm_transform.specs.Recoloured.{HaveOneSize}
+use Rattle.jxlm_transform.specs.Transforms.{Transform}
+use Rattle.jxlm_chain.specs.Undo.{Undo, UndoRct, UndoPalette, UndoSqueeze}
+
+-- the steps that transforms list
+abbrev pub steps_in : List Transform → List Step
+steps_in [] = []
+steps_in (t ∷ ts) = listed_steps t ++ steps_in ts
+
+-- a palette stands for a channel or more
+abbrev pub HasChannels : Step → Type 0
+HasChannels (RctStep t) = Unit {0}
+HasChannels (PaletteStep t) = 1 ≤ t.num_c
+HasChannels (SqueezeStep t) = Unit {0}
+
+-- a palette has no weights, or these
+abbrev pub HasWeights : WpHeader → Step → Type 0
+HasWeights weights (RctStep t) = Unit {0}
+HasWeights weights (PaletteStep t) = (t.wp_header ≡ None) ⊎ (t.wp_header ≡ Some weights)
+HasWeights weights (SqueezeStep t) = Unit {0}
+
+module _ {S : Type 0} where
+  -- an undoing's regions lie in the store as they must
+  abbrev pub CanUndo : List (Grid S) → Undo → Type 0
+  CanUndo store (UndoRct kind regions) = (length regions ≡ 3) × AllLie regions store × LieApart regions × HaveOneSize regions
+  CanUndo store (UndoPalette t table index regions) = PaletteLies t table index regions store
+  CanUndo store (UndoSqueeze horizontal r) = Lies r store
+
+  -- so do those of each
+  abbrev pub CanUndoAll : List (Grid S) → List Undo → Type 0
+  CanUndoAll store undos = All (CanUndo store) undos
+
+  -- no side of a buffer is above 2 ^ 30
+  abbrev pub IsNarrowStore : List (Grid S) → Type 0
+  IsNarrowStore store = All (λ g. (g.width ≤ 2 ^ 30) × (g.height ≤ 2 ^ 30)) store

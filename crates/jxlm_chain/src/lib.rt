@@ -1,0 +1,8 @@
+//! Transforms undone: where the channels of an image lie, and what brings the image back from its coded channels.
+#![tactic(auto)]
+
+pub mod grid;
+pub mod laws;
+pub mod places;
+pub mod scratch;
+pub mod undo;

@@ -1,0 +1,226 @@
+//! Where the channels of an image lie in a store, ahead of its transforms and behind each of them.
+
+ghost use Rattle.std.specs.Prelude.{◌≡◌, ℕ, ◌+◌, ◌^◌, ◌<◌, ◌≤◌, ◌++◌, length, map, IfOk};
+ghost use Rattle.std.specs.List.{All};
+ghost use Rattle.jxlm_base.specs.Squeeze.{averages as the_averages};
+ghost use Rattle.jxlm_chain.specs.Ends.{HasEnds};
+ghost use Rattle.jxlm_chain.specs.Layout.{average_region, first_layout, layout_after, residual_region, whole_regions};
+ghost use Rattle.jxlm_transform.specs.Channels.{channel_of};
+ghost use Rattle.jxlm_transform.specs.ChannelSteps.{PaletteStep, SqueezeStep, range, with_halves as the_halves};
+
+use jxlm_base::grid::{OutOfMemory, Region};
+use jxlm_transform::channels::ModularChannelInfo;
+use jxlm_transform::transform::{Palette, SqueezeParams};
+use std::alloc::Global;
+
+/// Where channels lie.
+#[derive(Drop)]
+pub struct Places {
+    /// A region of the store for each channel.
+    pub regions: Vec<Region>,
+    /// How many buffers of the store are taken.
+    pub buffers: usize,
+    ghost ends: { All HasEnds regions.items },
+}
+
+/// How many averages a side of `n` samples has.
+fn averages(n: usize) -> usize
+    ensures { result ≡ the_averages n }
+{
+    n - n / 2
+}
+
+/// The part of a squeezed region that has the averages.
+fn average_part(region: &Region, horizontal: bool) -> Region
+    ensures { result ≡ average_region horizontal region.now }
+{
+    if horizontal {
+        Region {
+            width: averages(region.width),
+            ..*region
+        }
+    } else {
+        Region {
+            height: averages(region.height),
+            ..*region
+        }
+    }
+}
+
+/// The part that has the residuals.
+fn residual_part(region: &Region, horizontal: bool) -> Region
+    requires { HasEnds region.now }
+    ensures { result ≡ residual_region horizontal region.now }
+{
+    if horizontal {
+        Region {
+            x: region.x + averages(region.width),
+            width: region.width / 2,
+            ..*region
+        }
+    } else {
+        Region {
+            y: region.y + averages(region.height),
+            height: region.height / 2,
+            ..*region
+        }
+    }
+}
+
+/// The averages' parts of some regions.
+fn average_parts(
+    alloc: Global,
+    regions: &[Region],
+    horizontal: bool,
+) -> Result<Vec<Region>, OutOfMemory>
+    ensures { IfOk result (λ v. v.items ≡ map (average_region horizontal) regions.now) }
+{
+    let mut parts = Vec::new(alloc);
+    for region in regions {
+        parts.push(average_part(region, horizontal))?;
+    }
+    Ok(parts)
+}
+
+/// The residuals' parts.
+fn residual_parts(
+    alloc: Global,
+    regions: &[Region],
+    horizontal: bool,
+) -> Result<Vec<Region>, OutOfMemory>
+    requires { All HasEnds regions.now }
+    ensures { IfOk result (λ v. v.items ≡ map (residual_region horizontal) regions.now) }
+{
+    let mut parts = Vec::new(alloc);
+    for region in regions {
+        parts.push(residual_part(region, horizontal))?;
+    }
+    Ok(parts)
+}
+
+/// Four lists, one behind the other.
+fn joined(
+    alloc: Global,
+    first: &[Region],
+    second: &[Region],
+    third: &[Region],
+    fourth: &[Region],
+) -> Result<Vec<Region>, OutOfMemory>
+    ensures { IfOk result (λ v. v.items ≡ first.now ++ second.now ++ third.now ++ fourth.now) }
+{
+    let mut all = Vec::from_slice(alloc, first)?;
+    all.extend_from_slice(second)?;
+    all.extend_from_slice(third)?;
+    all.extend_from_slice(fourth)?;
+    Ok(all)
+}
+
+/// The regions with averages in the place of the range, and residuals behind it or at the end.
+fn arranged(
+    alloc: Global,
+    step: &SqueezeParams,
+    regions: &[Region],
+    averages: &[Region],
+    residuals: &[Region],
+) -> Result<Vec<Region>, OutOfMemory>
+    requires { step.now.begin_c + step.now.num_c ≤ length regions.now }
+    ensures { IfOk result (λ v. v.items ≡ the_halves step.now averages.now residuals.now regions.now) }
+{
+    let ahead = &regions[..step.begin_c];
+    let behind = &regions[step.begin_c + step.num_c..];
+    if step.in_place {
+        joined(alloc, ahead, averages, residuals, behind)
+    } else {
+        joined(alloc, ahead, averages, behind, residuals)
+    }
+}
+
+/// The regions after a squeeze step.
+fn halved(
+    alloc: Global,
+    step: &SqueezeParams,
+    regions: &[Region],
+) -> Result<Vec<Region>, OutOfMemory>
+    requires range { step.now.begin_c + step.now.num_c ≤ length regions.now }
+    requires ends { All HasEnds regions.now }
+    ensures { IfOk result (λ v. v.items ≡ the_halves step.now (map (average_region step.now.horizontal) (range step.now.begin_c step.now.num_c regions.now)) (map (residual_region step.now.horizontal) (range step.now.begin_c step.now.num_c regions.now)) regions.now) }
+{
+    let range = &regions[step.begin_c..step.begin_c + step.num_c];
+    let averages = average_parts(alloc, range, step.horizontal)?;
+    let residuals = residual_parts(alloc, range, step.horizontal)?;
+    arranged(alloc, step, regions, &averages, &residuals)
+}
+
+impl Places {
+    ghost use Rattle.jxlm_chain.specs.Places.{layout_of};
+
+    /// The places ahead of all transforms: each channel is the whole of a buffer of its own.
+    ///
+    /// # Errors
+    ///
+    /// `OutOfMemory` where memory is refused.
+    pub fn new(alloc: Global, channels: &[ModularChannelInfo]) -> Result<Places, OutOfMemory>
+        ensures { IfOk result (λ p. layout_of p ≡ first_layout (map channel_of channels.now)) }
+    {
+        let mut regions = Vec::new(alloc);
+        for channel in channels {
+            let region = Region {
+                buffer: regions.len(),
+                x: 0,
+                y: 0,
+                width: channel.width as usize,
+                height: channel.height as usize,
+            };
+            regions.push(region)?;
+        }
+        let buffers = regions.len();
+        Ok(Places { regions, buffers })
+    }
+
+    /// What becomes of the places by a palette: its table has the next buffer and stands first, and its indices lie where the
+    /// first channel of the range lay.
+    ///
+    /// The range is of one channel or more, all of which have places.
+    ///
+    /// # Errors
+    ///
+    /// `OutOfMemory` where memory is refused; nothing is said of the places then.
+    pub fn index(&mut self, alloc: Global, palette: &Palette) -> Result<(), OutOfMemory>
+        requires some_channels { 1 ≤ palette.now.num_c }
+        requires range { palette.now.begin_c + palette.now.num_c ≤ length self.old.regions.items }
+        requires room { self.old.buffers + 1 < 2 ^ 64 }
+        ensures { IfOk result (λ _. layout_of self.new ≡ layout_after (PaletteStep palette.now) (layout_of self.old)) }
+    {
+        let begin = palette.begin_c as usize;
+        let count = palette.num_c as usize;
+        let table = [Region {
+            buffer: self.buffers,
+            x: 0,
+            y: 0,
+            width: palette.nb_colours as usize,
+            height: count,
+        }];
+        let ahead = &self.regions[..begin + 1];
+        let behind = &self.regions[begin + count..];
+        let regions = joined(alloc, &table, ahead, behind, &[])?;
+        self.regions = regions;
+        self.buffers += 1;
+        Ok(())
+    }
+
+    /// What becomes of the places by a squeeze step: each region of the range is cut in two.
+    ///
+    /// All channels of the range have places.
+    ///
+    /// # Errors
+    ///
+    /// `OutOfMemory` where memory is refused; nothing is said of the places then.
+    pub fn halve(&mut self, alloc: Global, step: &SqueezeParams) -> Result<(), OutOfMemory>
+        requires { step.now.begin_c + step.now.num_c ≤ length self.old.regions.items }
+        ensures { IfOk result (λ _. layout_of self.new ≡ layout_after (SqueezeStep step.now) (layout_of self.old)) }
+    {
+        let regions = halved(alloc, step, &self.regions)?;
+        self.regions = regions;
+        Ok(())
+    }
+}

@@ -1,0 +1,390 @@
+//! What undoes the transforms of an image in a store, planned and run.
+
+ghost use Rattle.std.specs.Prelude.{◌≡◌, ℕ, ◌+◌, ◌^◌, ◌<◌, ◌≤◌, [], ◌∷◌, ◌++◌, ◌⊎◌, length, get_or, map, IfOk, IfErr};
+ghost use Rattle.std.specs.List.{All};
+ghost use Rattle.jxlm_base.specs.Fault.{NoMemory, fault_of};
+ghost use Rattle.jxlm_chain.specs.Grids.{leader_of, members_of};
+ghost use Rattle.jxlm_chain.specs.Layout.{Layout, first_layout, layout_after, layout_after_all, no_region};
+ghost use Rattle.jxlm_chain.specs.Places.{CanTake, CanTakeAll, Suit, layout_of};
+ghost use Rattle.jxlm_chain.specs.Scratch.{HasRoomFor, KeepsScratch, weights_in};
+ghost use Rattle.jxlm_chain.specs.Steps.{CanUndo, CanUndoAll, IsNarrowStore, steps_in};
+ghost use Rattle.jxlm_chain.specs.Undo.{UndoPalette, UndoRct, UndoSqueeze, Undoes, UndoesAll, undo_of, undo_of_all};
+ghost use Rattle.jxlm_chain.specs.Undoings.{GoesOn, SuitsWeights, undo_of_code, undos_of};
+ghost use Rattle.jxlm_transform.specs.Channels.{channel_of};
+ghost use Rattle.jxlm_transform.specs.ChannelSteps.{RctStep, PaletteStep, SqueezeStep, listed_steps, range};
+ghost use Rattle.jxlm_transform.specs.Transforms.{transform_of};
+
+use crate::grid::TransformedGrid;
+use crate::places::Places;
+use crate::scratch::Scratch;
+use jxlm_base::error;
+use jxlm_base::grid::{AlignedGrid, OutOfMemory, Region};
+use jxlm_base::sample::Sample;
+use jxlm_transform::channels::ModularChannelInfo;
+use jxlm_transform::rct::inverse_rct_within;
+use jxlm_transform::squeeze::unsqueeze;
+use jxlm_transform::transform::{Palette, Rct, SqueezeParams, TransformInfo};
+use std::alloc::Global;
+
+/// What undoes a transform, or a part of one, in a store.
+#[derive(Drop)]
+pub enum Undoing {
+    /// A colour transform of this kind, from 0 to 73, of three regions.
+    Colour {
+        /// The kind.
+        kind: u32,
+        /// The regions.
+        regions: [Region; 3],
+    },
+    /// A palette.
+    Palette {
+        /// The palette.
+        palette: Palette,
+        /// Where its table lies.
+        table: Region,
+        /// The channel of its indices, with those that it stands for.
+        index: TransformedGrid,
+    },
+    /// A squeeze of one region.
+    Squeeze {
+        /// Whether its width was halved, and not its height.
+        horizontal: bool,
+        /// The region.
+        region: Region,
+    },
+}
+
+/// The channel of the indices that stand for the channels of these regions.
+fn merged(alloc: Global, regions: &[Region]) -> Result<TransformedGrid, OutOfMemory>
+    requires { 1 ≤ length regions.now }
+    ensures leader { IfOk result (λ g. leader_of g ≡ get_or regions.now 0 no_region) }
+    ensures members { IfOk result (λ g. members_of g ≡ regions.now) }
+{
+    let leader = regions[0];
+    if regions.len() == 1 {
+        return Ok(TransformedGrid::from(leader));
+    }
+    let members = Vec::from_slice(alloc, regions)?;
+    Ok(TransformedGrid::Merged { leader, members })
+}
+
+impl Places {
+    /// What undoes a colour transform behind these places.
+    fn undo_colour(&self, step: &Rct) -> Undoing
+        requires { step.now.begin_c + 3 ≤ length self.now.regions.items }
+        ensures { undo_of_code result ∷ [] ≡ undo_of (RctStep step.now) (layout_of self.now) }
+    {
+        let begin = step.begin_c as usize;
+        Undoing::Colour {
+            kind: step.rct_type,
+            regions: [
+                self.regions[begin],
+                self.regions[begin + 1],
+                self.regions[begin + 2],
+            ],
+        }
+    }
+
+    /// What undoes a palette.
+    fn undo_palette(&self, alloc: Global, palette: &Palette) -> Result<Undoing, OutOfMemory>
+        requires some_channels { 1 ≤ palette.now.num_c }
+        requires range { palette.now.begin_c + palette.now.num_c ≤ length self.now.regions.items }
+        ensures { IfOk result (λ u. undo_of_code u ∷ [] ≡ undo_of (PaletteStep palette.now) (layout_of self.now)) }
+    {
+        let begin = palette.begin_c as usize;
+        let count = palette.num_c as usize;
+        let index = merged(alloc, &self.regions[begin..begin + count])?;
+        Ok(Undoing::Palette {
+            palette: *palette,
+            table: Region {
+                buffer: self.buffers,
+                x: 0,
+                y: 0,
+                width: palette.nb_colours as usize,
+                height: count,
+            },
+            index,
+        })
+    }
+}
+
+/// Adds what undoes a squeeze of these regions.
+fn undo_halves(
+    undoings: &mut Vec<Undoing>,
+    horizontal: bool,
+    regions: &[Region],
+) -> Result<(), OutOfMemory>
+    ensures { IfOk result (λ _. undos_of undoings.new.items ≡ undos_of undoings.old.items ++ map (UndoSqueeze horizontal) regions.now) }
+{
+    for region in regions {
+        undoings.push(Undoing::Squeeze {
+            horizontal,
+            region: *region,
+        })?;
+    }
+    Ok(())
+}
+
+impl Places {
+    /// Adds what undoes a squeeze step.
+    fn undo_squeeze(
+        &self,
+        undoings: &mut Vec<Undoing>,
+        step: &SqueezeParams,
+    ) -> Result<(), OutOfMemory>
+        requires { step.now.begin_c + step.now.num_c ≤ length self.now.regions.items }
+        ensures { IfOk result (λ _. undos_of undoings.new.items ≡ undos_of undoings.old.items ++ undo_of (SqueezeStep step.now) (layout_of self.now)) }
+    {
+        let range = &self.regions[step.begin_c..step.begin_c + step.num_c];
+        undo_halves(undoings, step.horizontal, range)
+    }
+}
+
+/// What undoes the transforms of an image, and where its coded channels lie.
+#[derive(Drop)]
+pub struct Plan {
+    /// What undoes the transforms, in their order: the last is run first.
+    pub undoings: Vec<Undoing>,
+    /// Where the channels lie behind all transforms.
+    pub places: Places,
+}
+
+impl Plan {
+    /// Goes on by a colour transform.
+    fn add_colour(&mut self, step: &Rct) -> Result<(), OutOfMemory>
+        requires { CanTake (RctStep step.now) (layout_of self.old.places) }
+        ensures { IfOk result (λ _. GoesOn (RctStep step.now ∷ []) self.old self.new) }
+    {
+        let undoing = self.places.undo_colour(step);
+        self.undoings.push(undoing)?;
+        Ok(())
+    }
+
+    /// Goes on by a palette.
+    fn add_palette(&mut self, alloc: Global, palette: &Palette) -> Result<(), OutOfMemory>
+        requires { CanTake (PaletteStep palette.now) (layout_of self.old.places) }
+        ensures { IfOk result (λ _. GoesOn (PaletteStep palette.now ∷ []) self.old self.new) }
+    {
+        let undoing = self.places.undo_palette(alloc, palette)?;
+        self.undoings.push(undoing)?;
+        self.places.index(alloc, palette)
+    }
+
+    /// Goes on by a squeeze step.
+    fn add_halves(&mut self, alloc: Global, step: &SqueezeParams) -> Result<(), OutOfMemory>
+        requires { CanTake (SqueezeStep step.now) (layout_of self.old.places) }
+        ensures { IfOk result (λ _. GoesOn (SqueezeStep step.now ∷ []) self.old self.new) }
+    {
+        self.places.undo_squeeze(&mut self.undoings, step)?;
+        self.places.halve(alloc, step)
+    }
+
+    /// Goes on by the steps of a squeeze.
+    fn add_steps(&mut self, alloc: Global, steps: &[SqueezeParams]) -> Result<(), OutOfMemory>
+        requires { CanTakeAll (map SqueezeStep steps.now) (layout_of self.old.places) }
+        ensures { IfOk result (λ _. GoesOn (map SqueezeStep steps.now) self.old self.new) }
+    {
+        for step in steps {
+            self.add_halves(alloc, step)?;
+        }
+        Ok(())
+    }
+
+    /// Goes on by a transform.
+    fn add(&mut self, alloc: Global, transform: &TransformInfo) -> Result<(), OutOfMemory>
+        requires { CanTakeAll (listed_steps (transform_of transform.now)) (layout_of self.old.places) }
+        ensures { IfOk result (λ _. GoesOn (listed_steps (transform_of transform.now)) self.old self.new) }
+    {
+        match transform {
+            TransformInfo::Rct(rct) => self.add_colour(rct),
+            TransformInfo::Palette(palette) => self.add_palette(alloc, palette),
+            TransformInfo::Squeeze(squeeze) => self.add_steps(alloc, &squeeze.sp),
+        }
+    }
+
+    /// Goes on by transforms in order.
+    fn add_all(&mut self, alloc: Global, transforms: &[TransformInfo]) -> Result<(), OutOfMemory>
+        requires { CanTakeAll (steps_in (map transform_of transforms.now)) (layout_of self.old.places) }
+        ensures { IfOk result (λ _. GoesOn (steps_in (map transform_of transforms.now)) self.old self.new) }
+    {
+        for transform in transforms {
+            self.add(alloc, transform)?;
+        }
+        Ok(())
+    }
+
+    /// What undoes these transforms of an image of these channels, each of which is the whole of a buffer of its own; behind
+    /// those stand the tables of palettes, in their order.
+    ///
+    /// The transforms suit the channels, and list their steps.
+    ///
+    /// # Errors
+    ///
+    /// `Buffer` where memory is refused.
+    pub fn new(
+        alloc: Global,
+        transforms: &[TransformInfo],
+        channels: &[ModularChannelInfo],
+    ) -> error::Result<Plan>
+        requires { Suit (steps_in (map transform_of transforms.now)) (map channel_of channels.now) }
+        ensures undoings { IfOk result (λ p. undos_of p.undoings.items ≡ undo_of_all (steps_in (map transform_of transforms.now)) (first_layout (map channel_of channels.now))) }
+        ensures places { IfOk result (λ p. layout_of p.places ≡ layout_after_all (steps_in (map transform_of transforms.now)) (first_layout (map channel_of channels.now))) }
+        ensures err { IfErr result (λ e. fault_of e ≡ NoMemory) }
+    {
+        prove!(transforms.len() < usize::MAX - channels.len());
+        let places = Places::new(alloc, channels)?;
+        let undoings = Vec::new(alloc);
+        let mut plan = Plan { undoings, places };
+        plan.add_all(alloc, transforms)?;
+        Ok(plan)
+    }
+}
+
+/// Undoes a colour transform.
+fn run_colour<S: Sample>(
+    kind: u32,
+    regions: [Region; 3],
+    store: &mut [AlignedGrid<S>],
+    scratch: &mut Scratch<S>,
+)
+    requires can { CanUndo store.old (UndoRct kind regions) }
+    requires room { HasRoomFor store.old scratch.old }
+    ensures undoes { (depth : ℕ) → Undoes S.to_int S.width depth (UndoRct kind regions) store.old store.new }
+    ensures room { KeepsScratch scratch.old scratch.new }
+{
+    inverse_rct_within(kind % 7, kind / 7, store, regions, &mut scratch.rows);
+}
+
+/// Undoes a palette, in the state of its weights.
+fn run_palette<S: Sample>(
+    palette: &Palette,
+    table: Region,
+    index: Region,
+    members: &[Region],
+    store: &mut [AlignedGrid<S>],
+    bit_depth: u32,
+    scratch: &mut Scratch<S>,
+)
+    requires can { CanUndo store.old (UndoPalette palette.now table index members.now) }
+    requires narrow { IsNarrowStore store.old }
+    requires deep { bit_depth ≤ 32 }
+    requires room { HasRoomFor store.old scratch.old }
+    requires suits { SuitsWeights (weights_in scratch.old) (UndoPalette palette.now table index members.now) }
+    ensures undoes { Undoes S.to_int S.width bit_depth (UndoPalette palette.now table index members.now) store.old store.new }
+    ensures room { KeepsScratch scratch.old scratch.new }
+{
+    if palette.wp_header.is_none() {
+        palette.inverse(store, table, index, members, bit_depth, &mut scratch.plain);
+    } else {
+        palette.inverse(
+            store,
+            table,
+            index,
+            members,
+            bit_depth,
+            &mut scratch.weighted,
+        );
+    }
+}
+
+/// Undoes a palette of these indices, in the state of its weights.
+fn run_indices<S: Sample>(
+    palette: &Palette,
+    table: Region,
+    index: &TransformedGrid,
+    store: &mut [AlignedGrid<S>],
+    bit_depth: u32,
+    scratch: &mut Scratch<S>,
+)
+    requires can { CanUndo store.old (UndoPalette palette.now table (leader_of index.now) (members_of index.now)) }
+    requires narrow { IsNarrowStore store.old }
+    requires deep { bit_depth ≤ 32 }
+    requires room { HasRoomFor store.old scratch.old }
+    requires suits { SuitsWeights (weights_in scratch.old) (UndoPalette palette.now table (leader_of index.now) (members_of index.now)) }
+    ensures undoes { Undoes S.to_int S.width bit_depth (UndoPalette palette.now table (leader_of index.now) (members_of index.now)) store.old store.new }
+    ensures room { KeepsScratch scratch.old scratch.new }
+{
+    match index {
+        TransformedGrid::Single(region) => {
+            let own = [*region];
+            run_palette(palette, table, *region, &own, store, bit_depth, scratch);
+        }
+        TransformedGrid::Merged { leader, members } => {
+            run_palette(palette, table, *leader, members, store, bit_depth, scratch);
+        }
+    }
+}
+
+/// Undoes a squeeze of one region.
+fn run_squeeze<S: Sample>(
+    horizontal: bool,
+    region: Region,
+    store: &mut [AlignedGrid<S>],
+    scratch: &mut Scratch<S>,
+)
+    requires can { CanUndo store.old (UndoSqueeze horizontal region) }
+    requires room { HasRoomFor store.old scratch.old }
+    ensures undoes { (depth : ℕ) → Undoes S.to_int S.width depth (UndoSqueeze horizontal region) store.old store.new }
+    ensures room { KeepsScratch scratch.old scratch.new }
+{
+    unsqueeze(horizontal, store, region, &mut scratch.line);
+}
+
+impl Undoing {
+    /// Undoes what it names in a store.
+    ///
+    /// Its regions lie in the store as they must, no side of whose buffers is above 2^30. `bit_depth` is that of the picture, at
+    /// most 32. The scratch has room for the store, and the weights of the image. Cells outside the regions stay.
+    pub fn run<S: Sample>(
+        &self,
+        store: &mut [AlignedGrid<S>],
+        bit_depth: u32,
+        scratch: &mut Scratch<S>,
+    )
+        requires can { CanUndo store.old (undo_of_code self.now) }
+        requires narrow { IsNarrowStore store.old }
+        requires deep { bit_depth ≤ 32 }
+        requires room { HasRoomFor store.old scratch.old }
+        requires suits { SuitsWeights (weights_in scratch.old) (undo_of_code self.now) }
+        ensures undoes { Undoes S.to_int S.width bit_depth (undo_of_code self.now) store.old store.new }
+        ensures room { KeepsScratch scratch.old scratch.new }
+    {
+        match self {
+            Undoing::Colour { kind, regions } => run_colour(*kind, *regions, store, scratch),
+            Undoing::Palette {
+                palette,
+                table,
+                index,
+            } => run_indices(palette, *table, index, store, bit_depth, scratch),
+            Undoing::Squeeze { horizontal, region } => {
+                run_squeeze(*horizontal, *region, store, scratch);
+            }
+        }
+    }
+}
+
+/// Undoes all of these in a store, from the last to the first.
+///
+/// What one of them asks holds of each. Afterwards the store holds the image that the transforms make the coded channels of.
+pub fn undo_all<S: Sample>(
+    undoings: &[Undoing],
+    store: &mut [AlignedGrid<S>],
+    bit_depth: u32,
+    scratch: &mut Scratch<S>,
+)
+    requires can { CanUndoAll store.old (undos_of undoings.now) }
+    requires narrow { IsNarrowStore store.old }
+    requires deep { bit_depth ≤ 32 }
+    requires room { HasRoomFor store.old scratch.old }
+    requires suits { All (SuitsWeights (weights_in scratch.old)) (undos_of undoings.now) }
+    ensures undoes { UndoesAll S.to_int S.width bit_depth (undos_of undoings.now) store.old store.new }
+    ensures room { KeepsScratch scratch.old scratch.new }
+{
+    for i in 0..undoings.len() {
+        let last = undoings.len() - 1 - i;
+        undoings[last].run(store, bit_depth, scratch);
+    }
+}
+
+#[cfg(test)]
+mod tests;

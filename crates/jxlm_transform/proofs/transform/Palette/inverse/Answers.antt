@@ -1,0 +1,19 @@
+use Rattle.std.proofs.Common.{◌≡◌, ◌<◌, inl, inr, true, refl, arith}
+use Rattle.std.proofs.lemmas.Bool.{cases_lt}
+use Rattle.jxlm_base.specs.Regions.{grid_of, store_meanings}
+use Rattle.jxlm_transform.proofs.PaletteChannels.{all_done, simple_where_empty}
+use Rattle.jxlm_transform.proofs.transform.Palette.inverse.Goals as goal
+
+pub returns-then-is_simple-clause-finished : goal.returns-then-is_simple-clause-finished
+returns-then-is_simple-clause-finished g c =
+    all_done g.S.Sealed.to_int g.S.Sealed.width c.args.self.now c.args.table c.args.index c.args.finished.now c.args.store.now c.requires.lies c.args.bit_depth c.look_up_all.new.store (c.look_up_all.ensures c.args.bit_depth)
+
+pub returns-then-is_simple-clause-keeps : goal.returns-then-is_simple-clause-keeps
+returns-then-is_simple-clause-keeps g c = (c.look_up_all.ensures c.args.bit_depth).keeps
+
+pub returns-clause-finished : goal.returns-clause-finished
+returns-clause-finished g c =
+    all_done g.S.Sealed.to_int g.S.Sealed.width c.args.self.now c.args.table c.args.index c.args.finished.now c.args.store.now c.requires.lies c.args.bit_depth c.predict_all.new.store c.predict_all.ensures.done
+
+pub returns-clause-keeps : goal.returns-clause-keeps
+returns-clause-keeps g c = c.predict_all.ensures.done.keeps

@@ -1,0 +1,16 @@
+use Rattle.std.proofs.Common.{ℕ, ◌+◌, ◌*◌, [], ◌∷◌}
+use Rattle.jxlm_base.specs.Regions.{store_meanings}
+use Rattle.jxlm_base.specs.Outside.{KeepsOutside}
+use Rattle.jxlm_transform.specs.PaletteSteps.{FillsOn, kept}
+use Rattle.jxlm_transform.proofs.transform.Palette.look_up_row.Given as goal
+
+abbrev pub invariant-loop-x : goal.invariant-loop-x
+invariant-loop-x g l =
+    let width = l.channel.index.width in
+    let old = store_meanings g.S.Sealed.to_int l.fn.store in
+    let now = store_meanings g.S.Sealed.to_int l.store in
+    record {
+      keeps : KeepsOutside (l.channel.target ∷ []) l.fn.store l.store;
+      kept : kept l.channel (l.y * width + l.x) old now;
+      fills : (depth : ℕ) → FillsOn g.S.Sealed.width depth l.self l.channel (l.y * width) (l.y * width + l.x) old now;
+    }

@@ -1,0 +1,10 @@
+use Rattle.std.proofs.Common.{ℕ, ◌-◌, length}
+use Rattle.jxlm_tree.specs.Standing.{HasSameRoom}
+use Rattle.jxlm_transform.specs.PaletteSteps.{ChannelsDone}
+use Rattle.jxlm_transform.proofs.transform.Palette.predict_all.Given as goal
+
+abbrev pub invariant-loop-i : goal.invariant-loop-i
+invariant-loop-i g l = record {
+  room : HasSameRoom l.fn.state l.state;
+  done : ChannelsDone g.S.Sealed.to_int g.S.Sealed.width l.bit_depth l.self l.table l.index l.finished (length l.finished - l.i) l.fn.store l.store;
+}

@@ -1,0 +1,126 @@
+-- Palettes (ISO/IEC 18181-1, Modular: inverse palette, its implicit colours and its table of deltas).
+use Rattle.std.specs.Prelude.{◌≡◌, ◌⊎◌, ℕ, zero, suc, ◌+◌, ◌-◌, ◌*◌, ◌/◌, ◌%◌, ◌^◌, ◌<◌, List, [], ◌∷◌, ◌++◌, length, take, map, get_or, Bool, nat_lt, min, ◌==◌, if◌then◌else◌, ℤ, pos, negsuc, ◌+ℤ◌, ◌*ℤ◌, neg_ℤ, int_lt}
+use Rattle.std.specs.List.{All}
+use Rattle.std.specs.Int.{Width, int_wrap}
+use Rattle.jxlm_base.specs.Grid.{Grid, grid, at, place, below, IsFull}
+use Rattle.jxlm_base.specs.Regions.{Lies, AllLie, AreApart, LieApart}
+use Rattle.jxlm_base.specs.declared.subgrid.Region.{Region}
+use Rattle.jxlm_tree.specs.Predictions.{prediction}
+use Rattle.jxlm_transform.specs.declared.transform.Palette.{Palette}
+
+-- minus n
+abbrev pub down : ℕ → ℤ
+down n = neg_ℤ (pos n)
+
+abbrev pub of_three : ℤ → ℤ → ℤ → List ℤ
+of_three a b c = a ∷ b ∷ c ∷ []
+
+-- the differences that negative indices name, in pairs of opposite sign; each has three channels
+unfoldable pub deltas : List (List ℤ)
+deltas =
+    of_three (pos 0) (pos 0) (pos 0) ∷ of_three (pos 4) (pos 4) (pos 4) ∷ of_three (pos 11) (pos 0) (pos 0) ∷ of_three (pos 0) (pos 0) (down 13) ∷
+    of_three (pos 0) (down 12) (pos 0) ∷ of_three (down 10) (down 10) (down 10) ∷ of_three (down 18) (down 18) (down 18) ∷ of_three (down 27) (down 27) (down 27) ∷
+    of_three (down 18) (down 18) (pos 0) ∷ of_three (pos 0) (pos 0) (down 32) ∷ of_three (down 32) (pos 0) (pos 0) ∷ of_three (down 37) (down 37) (down 37) ∷
+    of_three (pos 0) (down 32) (down 32) ∷ of_three (pos 24) (pos 24) (pos 45) ∷ of_three (pos 50) (pos 50) (pos 50) ∷ of_three (down 45) (down 24) (down 24) ∷
+    of_three (down 24) (down 45) (down 45) ∷ of_three (pos 0) (down 24) (down 24) ∷ of_three (down 34) (down 34) (pos 0) ∷ of_three (down 24) (pos 0) (down 24) ∷
+    of_three (down 45) (down 45) (down 24) ∷ of_three (pos 64) (pos 64) (pos 64) ∷ of_three (down 32) (pos 0) (down 32) ∷ of_three (pos 0) (down 32) (pos 0) ∷
+    of_three (down 32) (pos 0) (pos 32) ∷ of_three (down 24) (down 45) (down 24) ∷ of_three (pos 45) (pos 24) (pos 45) ∷ of_three (pos 24) (down 24) (down 45) ∷
+    of_three (down 45) (down 24) (pos 24) ∷ of_three (pos 80) (pos 80) (pos 80) ∷ of_three (pos 64) (pos 0) (pos 0) ∷ of_three (pos 0) (pos 0) (down 64) ∷
+    of_three (pos 0) (down 64) (down 64) ∷ of_three (down 24) (down 24) (pos 45) ∷ of_three (pos 96) (pos 96) (pos 96) ∷ of_three (pos 64) (pos 64) (pos 0) ∷
+    of_three (pos 45) (down 24) (down 24) ∷ of_three (pos 34) (down 34) (pos 0) ∷ of_three (pos 112) (pos 112) (pos 112) ∷ of_three (pos 24) (down 45) (down 45) ∷
+    of_three (pos 45) (pos 45) (down 24) ∷ of_three (pos 0) (down 32) (pos 32) ∷ of_three (pos 24) (down 24) (pos 45) ∷ of_three (pos 0) (pos 96) (pos 96) ∷
+    of_three (pos 45) (down 24) (pos 24) ∷ of_three (pos 24) (down 45) (down 24) ∷ of_three (down 24) (down 45) (pos 24) ∷ of_three (pos 0) (down 64) (pos 0) ∷
+    of_three (pos 96) (pos 0) (pos 0) ∷ of_three (pos 128) (pos 128) (pos 128) ∷ of_three (pos 64) (pos 0) (pos 64) ∷ of_three (pos 144) (pos 144) (pos 144) ∷
+    of_three (pos 96) (pos 96) (pos 0) ∷ of_three (down 36) (down 36) (pos 36) ∷ of_three (pos 45) (down 24) (down 45) ∷ of_three (pos 45) (down 45) (down 24) ∷
+    of_three (pos 0) (pos 0) (down 96) ∷ of_three (pos 0) (pos 128) (pos 128) ∷ of_three (pos 0) (pos 96) (pos 0) ∷ of_three (pos 45) (pos 24) (down 45) ∷
+    of_three (down 128) (pos 0) (pos 0) ∷ of_three (pos 24) (down 45) (pos 24) ∷ of_three (down 45) (pos 24) (down 45) ∷ of_three (pos 64) (pos 0) (down 64) ∷
+    of_three (pos 64) (down 64) (down 64) ∷ of_three (pos 96) (pos 0) (pos 96) ∷ of_three (pos 45) (down 45) (pos 24) ∷ of_three (pos 24) (pos 45) (down 45) ∷
+    of_three (pos 64) (pos 64) (down 64) ∷ of_three (pos 128) (pos 128) (pos 0) ∷ of_three (pos 0) (pos 0) (down 128) ∷ of_three (down 24) (pos 45) (down 45) ∷ []
+
+-- The difference that index -k - 1 names in channel c at 8 bits a sample: the table repeats after 143, every other index has the
+-- opposite sign, and from the fourth channel on it is 0.
+unfoldable pub listed_difference : ℕ → ℕ → ℤ
+listed_difference k c =
+    let i : ℕ = k % 143 in
+    let d : ℤ = get_or (get_or deltas ((i + 1) / 2) []) c (pos 0) in
+    if i % 2 == 0 then neg_ℤ d else d
+
+-- the same at any depth: deeper samples, up to 24 bits, take greater steps
+abbrev pub difference : ℕ → ℕ → ℕ → ℤ
+difference depth k c = listed_difference k c *ℤ pos (2 ^ (min depth 24 - 8))
+
+-- The j-th colour behind the table in channel c: 64 of a cube of 4 levels a side, raised by an eighth, then those of a cube
+-- of 5 levels a side; a channel has the digit of its place in the number.
+unfoldable pub implicit_colour : ℕ → ℕ → ℕ → ℕ
+implicit_colour depth j c =
+    let most : ℕ = 2 ^ depth - 1 in
+    if nat_lt j 64 then (j / 4 ^ c % 4) * most / 4 + 2 ^ (depth - 3) else ((j - 64) / 5 ^ c % 5) * most / 4
+
+-- the colour of an index in channel c: one of the table, an implicit one, or a difference
+unfoldable pub colour_of : ℕ → Palette → Grid ℤ → ℤ → ℕ → ℤ
+colour_of depth t table (pos i) c = if nat_lt i t.nb_colours then at table i c else pos (implicit_colour depth (i - t.nb_colours) c)
+colour_of depth t table (negsuc k) c = difference depth k c
+
+-- an index that names a delta, to which the prediction is added
+abbrev pub is_delta : Palette → ℤ → Bool
+is_delta t i = int_lt i (pos t.nb_deltas)
+
+-- What the palette's predictor makes of the samples before a place of its channel, whose width this is, with the weights that
+-- the palette keeps.
+abbrev pub predicted : Palette → List ℤ → ℕ → ℤ
+predicted t before width = prediction t.wp_header before width t.d_pred
+
+-- a grid of the index channel's sides, each place of which has a cell
+pub record HasSidesOf (index g : Grid ℤ) : Type 0 where
+  pub same_width : g.width ≡ index.width
+  pub same_height : g.height ≡ index.height
+  pub full : IsFull g
+
+-- w bits a sample in memory, depth bits in the picture
+module _ (w : Width) (depth : ℕ) (t : Palette) (table : Grid ℤ) where
+  -- the finished sample of index i in channel c, behind these samples of the channel
+  unfoldable pub finished_sample : ℤ → ℕ → List ℤ → ℕ → ℤ
+  finished_sample i c before width = int_wrap w (if is_delta t i then colour_of depth t table i c +ℤ predicted t before width else colour_of depth t table i c)
+
+  -- The finished channels are of the index channel's sides, and at each place of each of them stands the finished sample of the
+  -- place's index, behind the samples before it, row by row.
+  pub record IsPaletteOf (index : Grid ℤ) (finished : List (Grid ℤ)) : Type 0 where
+    pub count : length finished ≡ t.num_c
+    pub sides : All (HasSidesOf index) finished
+    pub samples : (c x y : ℕ) → c < t.num_c → x < index.width → y < index.height →
+        let g : Grid ℤ = get_or finished c (grid 0 0 []) in
+        at g x y ≡ finished_sample (at index x y) c (take (place g x y) g.cells) index.width
+
+  -- the first n samples of finished channel c, one behind the other
+  abbrev pub finished_samples : Grid ℤ → ℕ → ℕ → List ℤ
+  finished_samples index c zero = []
+  finished_samples index c (suc n) =
+      let before : List ℤ = finished_samples index c n in
+      before ++ finished_sample (get_or index.cells n (pos 0)) c before index.width ∷ []
+
+  -- the channels that are finished so
+  abbrev pub finished_channel : Grid ℤ → ℕ → Grid ℤ
+  finished_channel index c = grid index.width index.height (finished_samples index c (index.width * index.height))
+
+  abbrev pub finished_channels : Grid ℤ → List (Grid ℤ)
+  finished_channels index = map (finished_channel index) (below t.num_c)
+
+-- Where a palette stands in a store: its table, the channel of its indices, and the channels that it becomes, which have the sides
+-- of the index channel. No two of these share a cell, and none shares one with the table; the first may be the index channel itself,
+-- and otherwise none shares a cell with that.
+pub record PaletteLies {S : Type 0} (t : Palette) (table index : Region) (finished : List Region) (store : List (Grid S)) : Type 0 where
+  pub table_lies : Lies table store
+  pub index_lies : Lies index store
+  pub finished_lie : AllLie finished store
+  pub count : length finished ≡ t.num_c
+  pub table_width : table.width ≡ t.nb_colours
+  pub table_height : table.height ≡ t.num_c
+  pub sizes : All (λ r. (r.width ≡ index.width) × (r.height ≡ index.height)) finished
+  pub apart : LieApart finished
+  pub table_apart : All (λ r. AreApart r table) finished
+  pub index_apart : (get_or finished 0 index ≡ index) ⊎ All (λ r. AreApart r index) finished
+
+-- A table and an index channel have one list of finished channels, and no other.
+pub record PaletteHasOneImage : Type 0 where
+  pub is : (w : Width) (depth : ℕ) (t : Palette) (table index : Grid ℤ) → IsPaletteOf w depth t table index (finished_channels w depth t table index)
+  pub only : (w : Width) (depth : ℕ) (t : Palette) (table index : Grid ℤ) (finished : List (Grid ℤ)) → IsPaletteOf w depth t table index finished → finished ≡ finished_channels w depth t table index

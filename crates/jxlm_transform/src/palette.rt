@@ -1,0 +1,594 @@
+//! The inverse of palettes: indices become colours again.
+
+ghost use Rattle.std.specs.Prelude.{◌≡◌, ◌+◌, ◌-◌, ◌*◌, ◌/◌, ◌%◌, ◌^◌, ◌<◌, ◌≤◌, ◌↔◌, IsTrue, ℕ, ℤ, pos, ◌+ℤ◌, if◌then◌else◌, unsigned_abs, List, [], ◌∷◌, ◌++◌, get_or, length, map, min, IfOk, IfErr};
+ghost use Rattle.std.specs.Option.{ForSome};
+ghost use Rattle.jxlm_base.specs.Fault.{NoMemory, fault_of};
+ghost use Rattle.jxlm_tree.specs.Holding.{IsCurrent};
+ghost use Rattle.jxlm_tree.specs.SelfCorrecting.{IsHeader};
+ghost use Rattle.std.specs.Int.{int_wrap, w32};
+ghost use Rattle.jxlm_base.specs.Grid.{at};
+ghost use Rattle.jxlm_base.specs.Regions.{Lies, grid_of, store_meanings};
+ghost use Rattle.jxlm_base.specs.Outside.{KeepsOutside};
+ghost use Rattle.jxlm_tree.specs.Predictions.{prediction};
+ghost use Rattle.jxlm_tree.specs.Standing.{Setting, StandsAt, IsReady, HasSameRoom, room_of, setting, weights_of};
+ghost use Rattle.jxlm_transform.specs.Palette.{colour_of, deltas, difference, implicit_colour, is_delta, listed_difference, finished_channel, finished_sample, IsPaletteOf, PaletteHasOneImage, PaletteLies};
+ghost use Rattle.jxlm_transform.specs.PaletteSteps.{ChannelLies, ChannelsDone, channel_at, FillsOn, FillsOnBy, IsSimple, IsSimpleIndex, IsSimpleRow, SetsSample, StandsBefore, index_in, looked_up, table_in};
+
+use crate::transform::Palette;
+use jxlm_base::error::Result;
+use jxlm_base::grid::{AlignedGrid, Region};
+use jxlm_base::region::{region_get, region_set};
+use jxlm_base::sample::Sample;
+use jxlm_tree::predictor::{PredictorState, Properties};
+use std::alloc::Global;
+
+/// The differences that negative indices name, by channels.
+const DELTAS: [[i16; 3]; 72] = [
+    [0, 0, 0],
+    [4, 4, 4],
+    [11, 0, 0],
+    [0, 0, -13],
+    [0, -12, 0],
+    [-10, -10, -10],
+    [-18, -18, -18],
+    [-27, -27, -27],
+    [-18, -18, 0],
+    [0, 0, -32],
+    [-32, 0, 0],
+    [-37, -37, -37],
+    [0, -32, -32],
+    [24, 24, 45],
+    [50, 50, 50],
+    [-45, -24, -24],
+    [-24, -45, -45],
+    [0, -24, -24],
+    [-34, -34, 0],
+    [-24, 0, -24],
+    [-45, -45, -24],
+    [64, 64, 64],
+    [-32, 0, -32],
+    [0, -32, 0],
+    [-32, 0, 32],
+    [-24, -45, -24],
+    [45, 24, 45],
+    [24, -24, -45],
+    [-45, -24, 24],
+    [80, 80, 80],
+    [64, 0, 0],
+    [0, 0, -64],
+    [0, -64, -64],
+    [-24, -24, 45],
+    [96, 96, 96],
+    [64, 64, 0],
+    [45, -24, -24],
+    [34, -34, 0],
+    [112, 112, 112],
+    [24, -45, -45],
+    [45, 45, -24],
+    [0, -32, 32],
+    [24, -24, 45],
+    [0, 96, 96],
+    [45, -24, 24],
+    [24, -45, -24],
+    [-24, -45, 24],
+    [0, -64, 0],
+    [96, 0, 0],
+    [128, 128, 128],
+    [64, 0, 64],
+    [144, 144, 144],
+    [96, 96, 0],
+    [-36, -36, 36],
+    [45, -24, -45],
+    [45, -45, -24],
+    [0, 0, -96],
+    [0, 128, 128],
+    [0, 96, 0],
+    [45, 24, -45],
+    [-128, 0, 0],
+    [24, -45, 24],
+    [-45, 24, -45],
+    [64, 0, -64],
+    [64, -64, -64],
+    [96, 0, 96],
+    [45, -45, 24],
+    [24, 45, -45],
+    [64, 64, -64],
+    [128, 128, 0],
+    [0, 0, -128],
+    [-24, 45, -45],
+];
+
+/// The powers of 4 below 64, and those of 5 below 2^32.
+const POWERS_OF_FOUR: [u32; 3] = [1, 4, 16];
+
+const POWERS_OF_FIVE: [u32; 14] = [
+    1, 5, 25, 125, 625, 3125, 15625, 78125, 390625, 1953125, 9765625, 48828125, 244140625,
+    1220703125,
+];
+
+/// Digit `c` of a number of three digits to the base 4.
+fn digit_of_four(j: u32, c: usize) -> u32
+    requires { j < 64 }
+    ensures value { result ≡ j / 4 ^ c % 4 }
+    ensures bound { result < 4 }
+{
+    if c < 3 { j / POWERS_OF_FOUR[c] % 4 } else { 0 }
+}
+
+/// Digit `c` of a number to the base 5.
+fn digit_of_five(j: u32, c: usize) -> u32
+    ensures value { result ≡ j / 5 ^ c % 5 }
+    ensures bound { result < 5 }
+{
+    if c < 14 { j / POWERS_OF_FIVE[c] % 5 } else { 0 }
+}
+
+/// The greatest sample of a depth.
+#[tactic(auto, using(crate::proofs::PaletteColours::depth_power, std::proofs::lemmas::Nat::pow_pos))]
+fn greatest_sample(depth: u32) -> u64
+    requires { depth ≤ 32 }
+    ensures value { result ≡ 2 ^ depth - 1 }
+    ensures bound { result < 2 ^ 32 }
+{
+    (1u64 << depth) - 1
+}
+
+/// A quarter of so many times the greatest sample of a depth.
+fn quarters(depth: u32, digit: u32) -> u64
+    requires deep { depth ≤ 32 }
+    requires digit { digit < 5 }
+    ensures value { result ≡ digit * (2 ^ depth - 1) / 4 }
+    ensures bound { result < 2 ^ 33 }
+{
+    let product = digit as u64 * greatest_sample(depth);
+    product / 4
+}
+
+/// An eighth of the samples of a depth, and 1 at least.
+fn eighth(depth: u32) -> u64
+    requires { depth ≤ 32 }
+    ensures value { result ≡ 2 ^ (depth - 3) }
+    ensures bound { result ≤ 2 ^ 29 }
+{
+    1u64 << depth.saturating_sub(3)
+}
+
+/// The `j`-th colour behind the table in channel `c`.
+fn implicit_colour(depth: u32, j: u32, c: usize) -> u64
+    requires { depth ≤ 32 }
+    ensures value { result ≡ implicit_colour depth j c }
+    ensures bound { result < 2 ^ 34 }
+{
+    if j < 64 {
+        quarters(depth, digit_of_four(j, c)) + eighth(depth)
+    } else {
+        quarters(depth, digit_of_five(j - 64, c))
+    }
+}
+
+/// An entry of the table of differences.
+fn entry(row: u32, c: usize) -> i64
+    requires row { row < 72 }
+    requires channel { c < 3 }
+    ensures value { result ≡ get_or (get_or deltas row []) c (pos 0) }
+    ensures bound { unsigned_abs result ≤ 144 }
+{
+    DELTAS[row as usize][c] as i64
+}
+
+/// The difference of index -k - 1 at 8 bits a sample.
+fn listed_difference(k: u32, c: usize) -> i64
+    requires { c < 3 }
+    ensures value { result ≡ listed_difference k c }
+    ensures bound { unsigned_abs result ≤ 144 }
+{
+    let i = k % 143;
+    let entry = entry((i + 1) / 2, c);
+    if i % 2 == 0 { -entry } else { entry }
+}
+
+/// How much greater the differences of a depth are than those of 8 bits.
+fn delta_step(depth: u32) -> i64
+    ensures value { result ≡ pos (2 ^ (min depth 24 - 8)) }
+    ensures bound { unsigned_abs result ≤ 2 ^ 16 }
+{
+    1i64 << depth.min(24).saturating_sub(8)
+}
+
+/// The difference that index -k - 1 names in channel `c`.
+fn difference(depth: u32, k: u32, c: usize) -> i64
+    ensures value { result ≡ difference depth k c }
+    ensures bound { unsigned_abs result < 2 ^ 24 }
+{
+    if c >= 3 {
+        return 0;
+    }
+    listed_difference(k, c) * delta_step(depth)
+}
+
+/// The number reduced to 32 bits.
+fn reduced(value: i64) -> i32
+    ensures { result ≡ int_wrap w32 value }
+{
+    (value.rem_euclid(4294967296) as u32).cast_signed()
+}
+
+/// The sample that a whole number is reduced to.
+fn sample_of<S: Sample>(value: i64) -> S
+    ensures { result ≡ S.from_int (int_wrap S.width value) }
+{
+    S::from_i32(reduced(value))
+}
+
+/// The sample in column `x` of row `y` of a region.
+fn number_at<S: Sample>(store: &[AlignedGrid<S>], region: Region, x: usize, y: usize) -> i32
+    requires lies { Lies region store.now }
+    requires column { x < region.width }
+    requires in_rows { y < region.height }
+    ensures { result ≡ at (grid_of (store_meanings S.to_int store.now) region) x y }
+{
+    region_get(store, region, x, y).to_i32()
+}
+
+/// One of the channels that a palette becomes: where the table, the indices and the channel's samples stand, and its number.
+#[derive(Clone, Copy)]
+struct FinishedChannel {
+    table: Region,
+    index: Region,
+    target: Region,
+    number: usize,
+}
+
+impl Palette {
+    /// The colour of an index in channel `c`, before any prediction: it stands in the table, is implicit, or is a difference.
+    fn colour<S: Sample>(
+        &self,
+        store: &[AlignedGrid<S>],
+        table: Region,
+        index: i32,
+        c: usize,
+        bit_depth: u32,
+    ) -> i64
+        requires lies { Lies table store.now }
+        requires columns { table.width ≡ self.now.nb_colours }
+        requires row { c < table.height }
+        requires deep { bit_depth ≤ 32 }
+        ensures value { result ≡ colour_of bit_depth self.now (grid_of (store_meanings S.to_int store.now) table) index c }
+        ensures bound { unsigned_abs result < 2 ^ 34 }
+    {
+        let place = index.unsigned_abs();
+        if index < 0 {
+            difference(bit_depth, place - 1, c)
+        } else if place < self.nb_colours {
+            number_at(store, table, place as usize, c) as i64
+        } else {
+            implicit_colour(bit_depth, place - self.nb_colours, c) as i64
+        }
+    }
+
+    /// A colour, and the prediction more where its index is a delta.
+    fn raised(&self, index: i32, colour: i64, predicted: i32) -> i64
+        requires { unsigned_abs colour < 2 ^ 34 }
+        ensures { result ≡ if is_delta self.now index then colour +ℤ predicted else colour }
+    {
+        if (index as i64) < self.nb_deltas as i64 {
+            colour + predicted as i64
+        } else {
+            colour
+        }
+    }
+
+    /// The finished sample of an index of this colour, at the place of these properties, behind which the state then stands.
+    fn sampled<S: Sample>(&self, properties: Properties<'_, S>, index: i32, colour: i64) -> S
+        requires current { IsCurrent properties }
+        requires small { unsigned_abs colour < 2 ^ 34 }
+        ensures value { (s : Setting) (samples : List ℤ) → StandsAt properties.entry.state.now s samples → S.to_int result ≡ int_wrap S.width (if is_delta self.now index then colour +ℤ prediction s.weights samples s.width self.now.d_pred else colour) }
+        ensures stands { (s : Setting) (samples : List ℤ) → StandsAt properties.entry.state.now s samples → StandsAt properties.exit.0.now s (samples ++ S.to_int result ∷ []) }
+        ensures room { HasSameRoom properties.entry.state.now properties.exit.0.now }
+    {
+        let predicted = self.d_pred.predict(&properties);
+        let sample: S = sample_of(self.raised(index, colour, predicted));
+        properties.record(sample.to_i32());
+        sample
+    }
+
+    /// The same at the state's place.
+    fn next_sample<S: Sample>(
+        &self,
+        store: &[AlignedGrid<S>],
+        state: &mut PredictorState<S>,
+        index: i32,
+        colour: i64,
+    ) -> S
+        requires ready { IsReady state.old store.now }
+        requires small { unsigned_abs colour < 2 ^ 34 }
+        ensures value { (s : Setting) (samples : List ℤ) → StandsAt state.old s samples → S.to_int result ≡ int_wrap S.width (if is_delta self.now index then colour +ℤ prediction s.weights samples s.width self.now.d_pred else colour) }
+        ensures stands { (s : Setting) (samples : List ℤ) → StandsAt state.old s samples → StandsAt state.new s (samples ++ S.to_int result ∷ []) }
+        ensures room { HasSameRoom state.old state.new }
+    {
+        let properties = state.properties::<true>(store);
+        self.sampled(properties, index, colour)
+    }
+}
+
+impl Palette {
+    /// Whether an index names a colour of the table and is no delta.
+    fn is_simple_index(&self, index: i32) -> bool
+        ensures { IsTrue result ↔ IsSimpleIndex self.now index }
+    {
+        let place = index.unsigned_abs();
+        if index < 0 || place < self.nb_deltas {
+            return false;
+        }
+        place < self.nb_colours
+    }
+
+    /// Whether all indices of row `y` do.
+    fn is_simple_row<S: Sample>(&self, store: &[AlignedGrid<S>], index: Region, y: usize) -> bool
+        requires lies { Lies index store.now }
+        requires in_rows { y < index.height }
+        ensures { IsTrue result ↔ IsSimpleRow self.now (grid_of (store_meanings S.to_int store.now) index) y }
+    {
+        for x in 0..index.width {
+            if !self.is_simple_index(number_at(store, index, x, y)) {
+                return false;
+            }
+        }
+        true
+    }
+
+    /// Whether all indices do.
+    fn is_simple<S: Sample>(&self, store: &[AlignedGrid<S>], index: Region) -> bool
+        requires { Lies index store.now }
+        ensures { IsTrue result ↔ IsSimple self.now (grid_of (store_meanings S.to_int store.now) index) }
+    {
+        for y in 0..index.height {
+            if !self.is_simple_row(store, index, y) {
+                return false;
+            }
+        }
+        true
+    }
+
+    /// Looks up one finished sample.
+    fn look_up_cell<S: Sample>(
+        &self,
+        store: &mut [AlignedGrid<S>],
+        channel: FinishedChannel,
+        x: usize,
+        y: usize,
+    )
+        requires lies { ChannelLies self.now channel store.old }
+        requires column { x < channel.index.width }
+        requires in_rows { y < channel.index.height }
+        requires simple { IsSimpleIndex self.now (at (index_in channel (store_meanings S.to_int store.old)) x y) }
+        ensures { SetsSample S.to_int channel x y (int_wrap S.width (looked_up (table_in channel (store_meanings S.to_int store.old)) (at (index_in channel (store_meanings S.to_int store.old)) x y) channel.number)) store.old store.new }
+    {
+        let place = number_at(store, channel.index, x, y).unsigned_abs();
+        let listed = number_at(store, channel.table, place as usize, channel.number);
+        region_set(store, channel.target, x, y, S::from_i32(listed));
+    }
+
+    /// Looks up the finished samples of row `y`.
+    fn look_up_row<S: Sample>(
+        &self,
+        store: &mut [AlignedGrid<S>],
+        channel: FinishedChannel,
+        y: usize,
+    )
+        requires lies { ChannelLies self.now channel store.old }
+        requires in_rows { y < channel.index.height }
+        requires simple { IsSimpleRow self.now (index_in channel (store_meanings S.to_int store.old)) y }
+        ensures fills { (depth : ℕ) → FillsOn S.width depth self.now channel (y * channel.index.width) ((y + 1) * channel.index.width) (store_meanings S.to_int store.old) (store_meanings S.to_int store.new) }
+        ensures keeps { KeepsOutside (channel.target ∷ []) store.old store.new }
+    {
+        for x in 0..channel.index.width {
+            self.look_up_cell(store, channel, x, y);
+        }
+    }
+
+    /// Looks up all samples of a finished channel.
+    fn look_up_channel<S: Sample>(&self, store: &mut [AlignedGrid<S>], channel: FinishedChannel)
+        requires lies { ChannelLies self.now channel store.old }
+        requires simple { IsSimple self.now (index_in channel (store_meanings S.to_int store.old)) }
+        ensures finished { (depth : ℕ) → grid_of (store_meanings S.to_int store.new) channel.target ≡ finished_channel S.width depth self.now (table_in channel (store_meanings S.to_int store.old)) (index_in channel (store_meanings S.to_int store.old)) channel.number }
+        ensures keeps { KeepsOutside (channel.target ∷ []) store.old store.new }
+    {
+        for y in 0..channel.index.height {
+            self.look_up_row(store, channel, y);
+        }
+    }
+}
+
+impl Palette {
+    /// Finishes one sample, at the place of the state, which moves on.
+    fn predict_cell<S: Sample>(
+        &self,
+        store: &mut [AlignedGrid<S>],
+        channel: FinishedChannel,
+        x: usize,
+        y: usize,
+        bit_depth: u32,
+        state: &mut PredictorState<S>,
+    )
+        requires lies { ChannelLies self.now channel store.old }
+        requires column { x < channel.index.width }
+        requires in_rows { y < channel.index.height }
+        requires few_rows { channel.index.height ≤ 2 ^ 30 }
+        requires deep { bit_depth ≤ 32 }
+        requires stands { StandsBefore self.now channel.index.width (y * channel.index.width + x) state.old }
+        ensures sets { (before : List ℤ) → StandsAt state.old (setting channel.index.width self.now.wp_header []) before → SetsSample S.to_int channel x y (finished_sample S.width bit_depth self.now (table_in channel (store_meanings S.to_int store.old)) (at (index_in channel (store_meanings S.to_int store.old)) x y) channel.number before channel.index.width) store.old store.new }
+        ensures stands { (before : List ℤ) → StandsAt state.old (setting channel.index.width self.now.wp_header []) before → StandsAt state.new (setting channel.index.width self.now.wp_header []) (before ++ finished_sample S.width bit_depth self.now (table_in channel (store_meanings S.to_int store.old)) (at (index_in channel (store_meanings S.to_int store.old)) x y) channel.number before channel.index.width ∷ []) }
+        ensures room { HasSameRoom state.old state.new }
+    {
+        let index = number_at(store, channel.index, x, y);
+        let colour = self.colour(store, channel.table, index, channel.number, bit_depth);
+        let sample = self.next_sample(store, state, index, colour);
+        region_set(store, channel.target, x, y, sample);
+    }
+
+    /// Finishes row `y`, at whose start the state stands.
+    fn predict_row<S: Sample>(
+        &self,
+        store: &mut [AlignedGrid<S>],
+        channel: FinishedChannel,
+        y: usize,
+        bit_depth: u32,
+        state: &mut PredictorState<S>,
+    )
+        requires lies { ChannelLies self.now channel store.old }
+        requires in_rows { y < channel.index.height }
+        requires few_rows { channel.index.height ≤ 2 ^ 30 }
+        requires deep { bit_depth ≤ 32 }
+        requires stands { StandsBefore self.now channel.index.width (y * channel.index.width) state.old }
+        ensures fills { FillsOnBy S.width bit_depth self.now channel (y * channel.index.width) ((y + 1) * channel.index.width) (store_meanings S.to_int store.old) state.old (store_meanings S.to_int store.new) state.new }
+        ensures stands { StandsBefore self.now channel.index.width ((y + 1) * channel.index.width) state.new }
+        ensures keeps { KeepsOutside (channel.target ∷ []) store.old store.new }
+        ensures room { HasSameRoom state.old state.new }
+    {
+        for x in 0..channel.index.width {
+            self.predict_cell(store, channel, x, y, bit_depth, state);
+        }
+    }
+
+    /// Finishes a channel, before whose first sample the state stands.
+    fn predict_channel<S: Sample>(
+        &self,
+        store: &mut [AlignedGrid<S>],
+        channel: FinishedChannel,
+        bit_depth: u32,
+        state: &mut PredictorState<S>,
+    )
+        requires lies { ChannelLies self.now channel store.old }
+        requires few_rows { channel.index.height ≤ 2 ^ 30 }
+        requires deep { bit_depth ≤ 32 }
+        requires stands { StandsAt state.old (setting channel.index.width self.now.wp_header []) [] }
+        ensures finished { grid_of (store_meanings S.to_int store.new) channel.target ≡ finished_channel S.width bit_depth self.now (table_in channel (store_meanings S.to_int store.old)) (index_in channel (store_meanings S.to_int store.old)) channel.number }
+        ensures keeps { KeepsOutside (channel.target ∷ []) store.old store.new }
+        ensures room { HasSameRoom state.old state.new }
+    {
+        for y in 0..channel.index.height {
+            self.predict_row(store, channel, y, bit_depth, state);
+        }
+    }
+}
+
+impl FinishedChannel {
+    /// The channel of number `i`, counted from the last.
+    fn from_last(table: Region, index: Region, finished: &[Region], i: usize) -> FinishedChannel
+        requires { i < length finished.now }
+        ensures { result ≡ channel_at table index finished.now (length finished.now - 1 - i) }
+    {
+        let number = finished.len() - 1 - i;
+        FinishedChannel {
+            table,
+            index,
+            target: finished[number],
+            number,
+        }
+    }
+}
+
+impl Palette {
+    /// Looks up the samples of all finished channels, the first last, since it may stand where the indices do.
+    fn look_up_all<S: Sample>(
+        &self,
+        store: &mut [AlignedGrid<S>],
+        table: Region,
+        index: Region,
+        finished: &[Region],
+    )
+        requires lies { PaletteLies self.now table index finished.now store.old }
+        requires simple { IsSimple self.now (grid_of (store_meanings S.to_int store.old) index) }
+        ensures { (depth : ℕ) → ChannelsDone S.to_int S.width depth self.now table index finished.now 0 store.old store.new }
+    {
+        for i in 0..finished.len() {
+            let channel = FinishedChannel::from_last(table, index, finished, i);
+            self.look_up_channel(store, channel);
+        }
+    }
+
+    /// Finishes all channels, the first last, since it may stand where the indices do.
+    fn predict_all<S: Sample>(
+        &self,
+        store: &mut [AlignedGrid<S>],
+        table: Region,
+        index: Region,
+        finished: &[Region],
+        bit_depth: u32,
+        state: &mut PredictorState<S>,
+    )
+        requires lies { PaletteLies self.now table index finished.now store.old }
+        requires some { 0 < index.width }
+        requires narrow { index.width ≤ 2 ^ 30 }
+        requires few_rows { index.height ≤ 2 ^ 30 }
+        requires deep { bit_depth ≤ 32 }
+        requires roomy { index.width ≤ room_of state.old }
+        requires weights { weights_of state.old ≡ self.now.wp_header }
+        ensures done { ChannelsDone S.to_int S.width bit_depth self.now table index finished.now 0 store.old store.new }
+        ensures room { HasSameRoom state.old state.new }
+    {
+        for i in 0..finished.len() {
+            let channel = FinishedChannel::from_last(table, index, finished, i);
+            state.restart(index.width as u32);
+            self.predict_channel(store, channel, bit_depth, state);
+        }
+    }
+
+    /// Turns the indices of a palette into the samples of the channels that it stands for.
+    ///
+    /// `table`, `index` and `finished` are regions of the store: the table of colours, the channel of indices, and the channels,
+    /// of which the first may be the index channel's own region. `bit_depth` is that of the picture, at most 32. The state's
+    /// memory is used for predictions: it has the palette's weights, and room for the width of the channels.
+    ///
+    /// No memory is taken, and no cell outside `finished` changes.
+    pub fn inverse<S: Sample>(
+        &self,
+        store: &mut [AlignedGrid<S>],
+        table: Region,
+        index: Region,
+        finished: &[Region],
+        bit_depth: u32,
+        state: &mut PredictorState<S>,
+    )
+        requires lies { PaletteLies self.now table index finished.now store.old }
+        requires narrow { index.width ≤ 2 ^ 30 }
+        requires few_rows { index.height ≤ 2 ^ 30 }
+        requires deep { bit_depth ≤ 32 }
+        requires roomy { index.width ≤ room_of state.old }
+        requires weights { weights_of state.old ≡ self.now.wp_header }
+        ensures finished { IsPaletteOf S.width bit_depth self.now (grid_of (store_meanings S.to_int store.old) table) (grid_of (store_meanings S.to_int store.old) index) (map (grid_of (store_meanings S.to_int store.new)) finished.now) }
+        ensures keeps { KeepsOutside finished.now store.old store.new }
+        ensures room { HasSameRoom state.old state.new }
+    {
+        if self.is_simple(store, index) {
+            self.look_up_all(store, table, index, finished);
+            return;
+        }
+        self.predict_all(store, table, index, finished, bit_depth, state);
+    }
+
+    /// The memory that `inverse` asks for where channels are so wide, at most 2^30.
+    ///
+    /// The weights that the palette keeps are those of a header that was read. Where memory is refused, the answer is
+    /// `Error::Buffer`.
+    pub fn scratch<S>(&self, alloc: Global, width: u32) -> Result<PredictorState<S>>
+        requires narrow { width ≤ 2 ^ 30 }
+        requires weights { ForSome self.now.wp_header IsHeader }
+        ensures room { IfOk result (λ s. room_of s ≡ width) }
+        ensures weights { IfOk result (λ s. weights_of s ≡ self.now.wp_header) }
+        ensures err { IfErr result (λ e. fault_of e ≡ NoMemory) }
+    {
+        PredictorState::with_room(alloc, width, 0, self.wp_header.as_ref())
+    }
+}
+
+/// A table and an index channel have one list of finished channels, and no other.
+pub fn palettes_have_one_image()
+    ensures { PaletteHasOneImage }
+{}
+
+#[cfg(test)]
+mod tests;
+#[cfg(test)]
+mod vectors;
