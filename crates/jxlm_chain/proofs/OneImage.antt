@@ -15,7 +15,8 @@ use Rattle.jxlm_transform.specs.declared.transform.Rct.{Rct}
 use Rattle.jxlm_transform.specs.declared.transform.Palette.{Palette}
 use Rattle.jxlm_transform.specs.declared.transform.SqueezeParams.{SqueezeParams}
 use Rattle.jxlm_transform.proofs.PaletteLaws.{palette_has_one_image}
-use Rattle.jxlm_chain.specs.Chain.{HasSidesOf, average_grid, residual_grid, Codes, Chain, NoTwoImages}
+use Rattle.jxlm_transform.specs.SqueezedRegions.{average_grid, residual_grid}
+use Rattle.jxlm_chain.specs.Chain.{HasSidesOf, Codes, Chain, NoTwoImages}
 use Rattle.jxlm_chain.proofs.ListLaws.{heads, tails, split_same, length-range, with_range_same, range_decides, zip_length, zip_range}
 use Rattle.jxlm_chain.proofs.SampleGrids.{sampled}
 use Rattle.jxlm_chain.proofs.SqueezedGrids.{halves_same}

@@ -16,65 +16,14 @@ use Rattle.jxlm_base.proofs.Regions.{at-grid_of, AreApart_sym}
 use Rattle.jxlm_transform.specs.Channels.{Channel}
 use Rattle.jxlm_transform.specs.ChannelSteps.{SqueezeStep, range, with_halves}
 use Rattle.jxlm_transform.specs.declared.transform.SqueezeParams.{SqueezeParams}
-use Rattle.jxlm_chain.specs.Chain.{AreSampleGrids, average_grid, residual_grid, Codes}
-use Rattle.jxlm_chain.specs.Layout.{Layout, LieIn, average_region, residual_region, layout_after, grids_in}
-use Rattle.jxlm_chain.specs.Undo.{squeezed_grid, UndoSqueeze, UndoesAll, undo_of}
+use Rattle.jxlm_transform.specs.SqueezedRegions.{average_region, residual_region, average_grid, residual_grid, squeezed_grid, UndoesSqueeze}
+use Rattle.jxlm_transform.proofs.SqueezedRegions.{averages_stood, residuals_stood}
+use Rattle.jxlm_chain.specs.Chain.{AreSampleGrids, Codes}
+use Rattle.jxlm_chain.specs.Layout.{Layout, LieIn, layout_after, grids_in}
+use Rattle.jxlm_chain.specs.Undo.{UndoSqueeze, UndoesAll, undo_of}
 use Rattle.jxlm_chain.proofs.KeptGrids.{grid_apart, grid_out_of_range}
 use Rattle.jxlm_chain.proofs.Ranges.{range_map, with_halves_map, with_halves_same, map_map_same}
 use Rattle.jxlm_chain.proofs.StepParts.{all_range, pairs_range}
-
--- ---- the two parts of a squeezed row
-
-module _ (w : Width) (n : ℕ) (row : ℕ → ℤ) where
-  average_there : (i : ℕ) → i < averages n → squeezed w n row i ≡ average_at w n row i
-  average_there i h = ap (λ (t : Bool). cond t (average_at w n row i) (residual_at w n row (i - averages n))) (lt-ltb i (averages n) h)
-
-  residual_there : (i : ℕ) → squeezed w n row (averages n + i) ≡ residual_at w n row i
-  residual_there i =
-      let e : averages n + i - averages n ≡ i = omega arith in
-      ap (λ (t : Bool). cond t (average_at w n row (averages n + i)) (residual_at w n row (averages n + i - averages n))) (le-ltb (averages n + i) (averages n) (omega arith)) ∙ ap (residual_at w n row) e
-
--- ---- the two parts of a squeezed region
-
-module _ (w : Width) (old : List (Grid ℤ)) (g : Grid ℤ) (r : Region) (wide : g.width ≡ r.width) (high : g.height ≡ r.height) where
-  -- what stood in a place of the region
-  stood : (horizontal : Bool) → squeezed_grid w horizontal g ≡ grid_of old r → (x y : ℕ) → x < r.width → y < r.height →
-      at (buffer_of old r) (r.x + x) (r.y + y) ≡ at (squeezed_grid w horizontal g) x y
-  stood horizontal is x y p q = sym (ap (λ h. at h x y) is ∙ at-grid_of old r x y p q)
-
-  in_row : squeezed_grid w true g ≡ grid_of old r → (x y : ℕ) → x < g.width → y < g.height → at (buffer_of old r) (r.x + x) (r.y + y) ≡ squeezed w g.width (λ i. at g i y) x
-  in_row is x y p q = stood true is x y (omega arith) (omega arith) ∙ at-grid_by g.width g.height (λ x y. squeezed w g.width (λ i. at g i y) x) x y p q
-
-  in_column : squeezed_grid w false g ≡ grid_of old r → (x y : ℕ) → x < g.width → y < g.height → at (buffer_of old r) (r.x + x) (r.y + y) ≡ squeezed w g.height (λ i. at g x i) y
-  in_column is x y p q = stood false is x y (omega arith) (omega arith) ∙ at-grid_by g.width g.height (λ x y. squeezed w g.height (λ i. at g x i) y) x y p q
-
--- A grid that, squeezed, is what stood in a region of its sides: its averages stood in one part, and its residuals in the other.
-module _ (w : Width) (old new : List (Grid ℤ)) (r : Region) where
-  pub averages_stood : (horizontal : Bool) → squeezed_grid w horizontal (grid_of new r) ≡ grid_of old r →
-      grid_of old (average_region horizontal r) ≡ average_grid w horizontal (grid_of new r)
-  averages_stood true is =
-      let g : Grid ℤ = grid_of new r in
-      grid_by_same (averages r.width) r.height (λ x y. at (buffer_of old r) (r.x + x) (r.y + y)) (λ x y. average_at w r.width (λ i. at g i y) x)
-      (λ x y p q. in_row w old g r refl refl is x y (omega arith) q ∙ average_there w r.width (λ i. at g i y) x p)
-  averages_stood false is =
-      let g : Grid ℤ = grid_of new r in
-      grid_by_same r.width (averages r.height) (λ x y. at (buffer_of old r) (r.x + x) (r.y + y)) (λ x y. average_at w r.height (λ i. at g x i) y)
-      (λ x y p q. in_column w old g r refl refl is x y p (omega arith) ∙ average_there w r.height (λ i. at g x i) y q)
-
-  pub residuals_stood : (horizontal : Bool) → squeezed_grid w horizontal (grid_of new r) ≡ grid_of old r →
-      grid_of old (residual_region horizontal r) ≡ residual_grid w horizontal (grid_of new r)
-  residuals_stood true is =
-      let g : Grid ℤ = grid_of new r in
-      grid_by_same (r.width / 2) r.height (λ x y. at (buffer_of old r) (r.x + averages r.width + x) (r.y + y)) (λ x y. residual_at w r.width (λ i. at g i y) x)
-      (λ x y p q.
-      let e : r.x + averages r.width + x ≡ r.x + (averages r.width + x) = omega arith in
-      ap (λ k. at (buffer_of old r) k (r.y + y)) e ∙ in_row w old g r refl refl is (averages r.width + x) y (omega arith) q ∙ residual_there w r.width (λ i. at g i y) x)
-  residuals_stood false is =
-      let g : Grid ℤ = grid_of new r in
-      grid_by_same r.width (r.height / 2) (λ x y. at (buffer_of old r) (r.x + x) (r.y + averages r.height + y)) (λ x y. residual_at w r.height (λ i. at g x i) y)
-      (λ x y p q.
-      let e : r.y + averages r.height + y ≡ r.y + (averages r.height + y) = omega arith in
-      ap (at (buffer_of old r) (r.x + x)) e ∙ in_column w old g r refl refl is x (averages r.height + y) p (omega arith) ∙ residual_there w r.height (λ i. at g x i) y)
 
 -- ---- several regions, one behind another
 
@@ -82,12 +31,9 @@ first_and_rest : {X : Type 0} (P : X → Type 0) (x : X) (xs : List X) → P x �
 first_and_rest P x xs p ps zero d h = p
 first_and_rest P x xs p ps (suc k) d h = ps k d (omega arith)
 
--- each grid of the regions now is of w-bit samples and, squeezed, the grid that stood there
-abbrev pub IsSqueezed : Width → Bool → List (Grid ℤ) → List (Grid ℤ) → Region → Type 0
-IsSqueezed w horizontal old new r = (squeezed_grid w horizontal (grid_of new r) ≡ grid_of old r) × AreGridSamples w (grid_of new r)
-
+-- what stands in each region now, squeezed, is what stood there
 abbrev pub AreSqueezed : Width → Bool → List Region → List (Grid ℤ) → List (Grid ℤ) → Type 0
-AreSqueezed w horizontal rs old new = All (IsSqueezed w horizontal old new) rs
+AreSqueezed w horizontal rs old new = All (λ r. UndoesSqueeze w horizontal r old new) rs
 
 module _ {S : Type 0} (to_int : S → ℤ) (w : Width) (depth : ℕ) (horizontal : Bool) where
   pub undone_regions : (rs : List Region) (old new : List (Grid S)) → LieApart rs → AllLie rs old → UndoesAll to_int w depth (map (UndoSqueeze horizontal) rs) old new →
@@ -108,17 +54,20 @@ module _ {S : Type 0} (to_int : S → ℤ) (w : Width) (depth : ℕ) (horizontal
       let stays : (k : ℕ) (d : Region) → k < length rs → grid_of (store_meanings to_int new) (get_or rs k d) ≡ grid_of (store_meanings to_int between) (get_or rs k d) =
       λ k d l. grid_apart to_int (r ∷ []) between new (get_or rs k d) h.2.1 (all_lie_still rs rs old between rest.1 others k d l) (all_one (λ q. AreApart q (get_or rs k d)) r (from_first k d l)) in
       let squeezed_now : AreSqueezed w horizontal (r ∷ rs) (store_meanings to_int old) (store_meanings to_int new) =
-      first_and_rest (IsSqueezed w horizontal (store_meanings to_int old) (store_meanings to_int new)) r rs (h.2.0.squeezed ∙ first, h.2.0.samples)
-      (λ k d l. (ap (squeezed_grid w horizontal) (stays k d l) ∙ (rest.0 k d l).0, subst (AreGridSamples w) (sym (stays k d l)) (rest.0 k d l).1)) in
+      first_and_rest (λ q. UndoesSqueeze w horizontal q (store_meanings to_int old) (store_meanings to_int new)) r rs (record { squeezed = h.2.0.squeezed ∙ first; samples = h.2.0.samples })
+      (λ k d l. record {
+        squeezed = ap (squeezed_grid w horizontal) (stays k d l) ∙ (rest.0 k d l).squeezed;
+        samples = subst (AreGridSamples w) (sym (stays k d l)) (rest.0 k d l).samples;
+      }) in
       (squeezed_now, keeps)
 
 -- the averages and the residuals of the regions' grids stood in their two parts
 module _ (w : Width) (horizontal : Bool) (rs : List Region) (old new : List (Grid ℤ)) (squeezed : AreSqueezed w horizontal rs old new) where
   averages_of : map (grid_of old) (map (average_region horizontal) rs) ≡ map (average_grid w horizontal) (map (grid_of new) rs)
-  averages_of = map_map_same (grid_of old) (average_region horizontal) (average_grid w horizontal) (grid_of new) rs (λ k d h. averages_stood w old new (get_or rs k d) horizontal (squeezed k d h).0)
+  averages_of = map_map_same (grid_of old) (average_region horizontal) (average_grid w horizontal) (grid_of new) rs (λ k d h. sym (averages_stood w (get_or rs k d) old new horizontal (squeezed k d h)))
 
   residuals_of : map (grid_of old) (map (residual_region horizontal) rs) ≡ map (residual_grid w horizontal) (map (grid_of new) rs)
-  residuals_of = map_map_same (grid_of old) (residual_region horizontal) (residual_grid w horizontal) (grid_of new) rs (λ k d h. residuals_stood w old new (get_or rs k d) horizontal (squeezed k d h).0)
+  residuals_of = map_map_same (grid_of old) (residual_region horizontal) (residual_grid w horizontal) (grid_of new) rs (λ k d h. sym (residuals_stood w (get_or rs k d) old new horizontal (squeezed k d h)))
 
 -- ---- the step
 
@@ -132,7 +81,7 @@ module _ {S : Type 0} (to_int : S → ℤ) (w : Width) (depth : ℕ) (t : Squeez
       let undone : AreSqueezed w t.horizontal rs was now × KeepsOutside rs old new =
       undone_regions to_int w depth t.horizontal rs old new (pairs_range AreApart t.begin_c t.num_c places.regions lies.apart) (all_range (λ r. Lies r old) t.begin_c t.num_c places.regions lies.lie) h in
       let ranged : range t.begin_c t.num_c (map (grid_of now) places.regions) ≡ map (grid_of now) rs = range_map (grid_of now) t.begin_c t.num_c places.regions in
-      let samples : AreSampleGrids w (map (grid_of now) rs) = All-map (AreGridSamples w) (grid_of now) rs (λ k d l. (undone.0 k d l).1) in (
+      let samples : AreSampleGrids w (map (grid_of now) rs) = All-map (AreGridSamples w) (grid_of now) rs (λ k d l. (undone.0 k d l).samples) in (
         subst (AreSampleGrids w) (sym ranged) samples,
         with_halves_map (grid_of was) t (map (average_region t.horizontal) rs) (map (residual_region t.horizontal) rs) places.regions
             ∙ ap (λ gs. with_halves t gs (map (grid_of was) (map (residual_region t.horizontal) rs)) (map (grid_of was) places.regions))

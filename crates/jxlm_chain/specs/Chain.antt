@@ -1,13 +1,14 @@
 -- What transforms make of an image's samples (ISO/IEC 18181-1, Modular: inverse transforms, from the image to the coded channels).
-use Rattle.std.specs.Prelude.{◌≡◌, ℕ, ◌/◌, List, [], ◌∷◌, map, Bool, true, false, ℤ, Ok}
+use Rattle.std.specs.Prelude.{◌≡◌, ℕ, List, [], ◌∷◌, map, ℤ, Ok}
 use Rattle.std.specs.List.{All, AllZip}
 use Rattle.std.specs.Int.{Width}
-use Rattle.jxlm_base.specs.Grid.{Grid, grid_by, at, IsFull}
-use Rattle.jxlm_base.specs.Squeeze.{averages, average_at, residual_at, AreGridSamples}
+use Rattle.jxlm_base.specs.Grid.{Grid, IsFull}
+use Rattle.jxlm_base.specs.Squeeze.{AreGridSamples}
 use Rattle.jxlm_transform.specs.Channels.{Channel, ChannelList}
 use Rattle.jxlm_transform.specs.ChannelSteps.{Step, RctStep, PaletteStep, SqueezeStep, range, with_range, with_halves, list_after}
 use Rattle.jxlm_transform.specs.Palette.{IsPaletteOf}
 use Rattle.jxlm_transform.specs.Recoloured.{recoloured}
+use Rattle.jxlm_transform.specs.SqueezedRegions.{average_grid, residual_grid}
 
 -- the grid has the channel's sides, and a number at each place
 pub record HasSidesOf (c : Channel) (g : Grid ℤ) : Type 0 where
@@ -24,16 +25,6 @@ module _ (w : Width) where
   -- each number is a w-bit sample
   abbrev pub AreSampleGrids : List (Grid ℤ) → Type 0
   AreSampleGrids gs = All (AreGridSamples w) gs
-
-  -- the averages of each row, or of each column
-  abbrev pub average_grid : Bool → Grid ℤ → Grid ℤ
-  average_grid true g = grid_by (averages g.width) g.height (λ x y. average_at w g.width (λ i. at g i y) x)
-  average_grid false g = grid_by g.width (averages g.height) (λ x y. average_at w g.height (λ i. at g x i) y)
-
-  -- the residuals of each row, or of each column
-  abbrev pub residual_grid : Bool → Grid ℤ → Grid ℤ
-  residual_grid true g = grid_by (g.width / 2) g.height (λ x y. residual_at w g.width (λ i. at g i y) x)
-  residual_grid false g = grid_by g.width (g.height / 2) (λ x y. residual_at w g.height (λ i. at g x i) y)
 
 -- and depth bits in the picture
 module _ (w : Width) (depth : ℕ) where

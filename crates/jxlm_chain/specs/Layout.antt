@@ -1,13 +1,13 @@
 -- Where samples lie in a store: the regions of an image's channels, ahead of each step and behind it.
-use Rattle.std.specs.Prelude.{◌≡◌, ℕ, suc, ◌+◌, ◌-◌, ◌/◌, ◌^◌, ◌<◌, ◌≤◌, List, [], ◌∷◌, ◌++◌, length, map, get_or, Bool, true, false, ℤ}
+use Rattle.std.specs.Prelude.{◌≡◌, ℕ, suc, ◌^◌, ◌<◌, ◌≤◌, List, [], ◌∷◌, ◌++◌, length, map, get_or, ℤ}
 use Rattle.std.specs.List.{All, AllZip}
 use Rattle.jxlm_base.specs.Grid.{Grid, IsFull}
 use Rattle.jxlm_base.specs.Outside.{buffer_at}
 use Rattle.jxlm_base.specs.Regions.{region, AllLie, LieApart, grid_of}
-use Rattle.jxlm_base.specs.Squeeze.{averages}
 use Rattle.jxlm_base.specs.declared.subgrid.Region.{Region}
 use Rattle.jxlm_transform.specs.Channels.{Channel}
 use Rattle.jxlm_transform.specs.ChannelSteps.{Step, RctStep, PaletteStep, SqueezeStep, range, with_range, with_halves}
+use Rattle.jxlm_transform.specs.SqueezedRegions.{average_region, residual_region}
 
 -- a region for each channel, and how many buffers are taken so far
 pub record Layout : Type 0 where
@@ -26,16 +26,6 @@ first_layout cs = record { regions = whole_regions 0 cs; buffers = length cs }
 -- what stands where there is no region
 abbrev pub no_region : Region
 no_region = region 0 0 0 0 0
-
--- the part of a squeezed region that has the averages: the left one, or the upper one
-abbrev pub average_region : Bool → Region → Region
-average_region true r = record r { width = averages r.width }
-average_region false r = record r { height = averages r.height }
-
--- the part that has the residuals
-abbrev pub residual_region : Bool → Region → Region
-residual_region true r = record r { x = r.x + averages r.width; width = r.width / 2 }
-residual_region false r = record r { y = r.y + averages r.height; height = r.height / 2 }
 
 -- Behind a step: a table has the next buffer, and its indices lie where the first of its channels lay; a squeezed region is cut in two.
 abbrev pub layout_after : Step → Layout → Layout

@@ -1,14 +1,14 @@
 -- What undoes the steps of a chain in a store: each step becomes one undoing or more, which name the regions that they change.
-use Rattle.std.specs.Prelude.{◌≡◌, ℕ, List, [], ◌∷◌, ◌++◌, length, map, get_or, Bool, true, false, ℤ}
+use Rattle.std.specs.Prelude.{◌≡◌, ℕ, List, [], ◌∷◌, ◌++◌, map, get_or, Bool, ℤ}
 use Rattle.std.specs.Int.{Width}
 use Rattle.jxlm_base.specs.Grid.{Grid}
 use Rattle.jxlm_base.specs.Outside.{KeepsOutside}
 use Rattle.jxlm_base.specs.Regions.{region, grid_of, store_meanings}
-use Rattle.jxlm_base.specs.Squeeze.{AreGridSamples, squeezed_rows, squeezed_columns}
 use Rattle.jxlm_base.specs.declared.subgrid.Region.{Region}
 use Rattle.jxlm_transform.specs.ChannelSteps.{Step, RctStep, PaletteStep, SqueezeStep, range}
 use Rattle.jxlm_transform.specs.Palette.{IsPaletteOf}
 use Rattle.jxlm_transform.specs.Recoloured.{UndoesColour}
+use Rattle.jxlm_transform.specs.SqueezedRegions.{UndoesSqueeze}
 use Rattle.jxlm_transform.specs.declared.transform.Palette.{Palette}
 use Rattle.jxlm_chain.specs.Layout.{Layout, layout_after, no_region}
 
@@ -29,16 +29,6 @@ undo_of (SqueezeStep t) l = map (UndoSqueeze t.horizontal) (range t.begin_c t.nu
 abbrev pub undo_of_all : List Step → Layout → List Undo
 undo_of_all [] l = []
 undo_of_all (s ∷ ss) l = undo_of s l ++ undo_of_all ss (layout_after s l)
-
--- a grid whose rows, or columns, were squeezed
-abbrev pub squeezed_grid : Width → Bool → Grid ℤ → Grid ℤ
-squeezed_grid w true g = squeezed_rows w g
-squeezed_grid w false g = squeezed_columns w g
-
--- the region's grid is w-bit samples now that, squeezed, are what stood there
-pub record UndoesSqueeze (w : Width) (horizontal : Bool) (r : Region) (old new : List (Grid ℤ)) : Type 0 where
-  pub squeezed : squeezed_grid w horizontal (grid_of new r) ≡ grid_of old r
-  pub samples : AreGridSamples w (grid_of new r)
 
 module _ {S : Type 0} (to_int : S → ℤ) (w : Width) (depth : ℕ) where
   -- what one undoing leaves; cells outside its regions stay

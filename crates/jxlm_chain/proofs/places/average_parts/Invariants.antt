@@ -1,5 +1,5 @@
 use Rattle.std.proofs.Common.{◌≡◌, map, take}
-use Rattle.jxlm_chain.specs.Layout.{average_region}
+use Rattle.jxlm_transform.specs.SqueezedRegions.{average_region}
 use Rattle.jxlm_chain.proofs.places.average_parts.Given as goal
 
 abbrev pub invariant-loop-region : goal.invariant-loop-region

@@ -1,7 +1,7 @@
 use Rattle.std.proofs.Common.{◌≡◌, List, map, subst}
 use Rattle.jxlm_base.specs.declared.subgrid.Region.{Region}
 use Rattle.jxlm_transform.specs.ChannelSteps.{range, with_halves}
-use Rattle.jxlm_chain.specs.Layout.{average_region, residual_region}
+use Rattle.jxlm_transform.specs.SqueezedRegions.{average_region, residual_region}
 use Rattle.jxlm_chain.proofs.Ends.{halves_end}
 use Rattle.jxlm_chain.proofs.places.Places.halve.Goals as goal
 
