@@ -1,4 +1,4 @@
-//! Numbers of a test, written into regions and read from them.
+//! Numbers of a test: read from text, written into regions and read from them.
 
 ghost use Rattle.std.specs.Prelude.{[], ◌∷◌};
 ghost use Rattle.jxlm_base.specs.Outside.{KeepsOutside};
@@ -7,6 +7,17 @@ ghost use Rattle.jxlm_base.specs.Regions.{Lies};
 use jxlm_base::grid::{AlignedGrid, OutOfMemory, Region};
 use jxlm_base::region::{region_get, region_set};
 use jxlm_base::sample::Sample;
+use std::alloc::Global;
+use std::test::Fail;
+
+/// Signed decimal numbers with spaces or line ends between; none in an empty text.
+pub(crate) fn signed(alloc: Global, text: &str) -> Result<Vec<i32>, Fail> {
+    let mut numbers = Vec::new(alloc);
+    for word in text.split_whitespace() {
+        numbers.push(word.parse::<i32>()?)?;
+    }
+    Ok(numbers)
+}
 
 /// Writes numbers into a region, row by row, as far as it reaches.
 pub(crate) fn write<S: Sample>(store: &mut [AlignedGrid<S>], region: Region, numbers: &[i32])

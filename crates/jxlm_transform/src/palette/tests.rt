@@ -8,7 +8,7 @@ ghost use Rattle.jxlm_transform.specs.Palette.{PaletteLies};
 
 use super::palettes_have_one_image;
 use super::vectors::VECTORS;
-use crate::cells::{read, write};
+use crate::cells::{read, signed, write};
 use crate::transform::Palette;
 use jxlm_base::bits::Bitstream;
 use jxlm_base::error::Error;
@@ -184,28 +184,14 @@ fn drawn_palettes(rt: HostRuntime) -> Result<(), Fail> {
         let predictor = Predictor::try_from(vector.predictor)?;
         let palette = of_three(vector.colours, vector.deltas, predictor, Some(weights));
         let depth = vector.depth.min(32);
+        let table = signed(rt.alloc(), vector.table)?;
         let found = if vector.narrow {
-            finished::<i16>(
-                rt.alloc(),
-                &palette,
-                depth,
-                &vector.table,
-                3,
-                3,
-                &vector.index,
-            )?
+            finished::<i16>(rt.alloc(), &palette, depth, &table, 3, 3, &vector.index)?
         } else {
-            finished::<i32>(
-                rt.alloc(),
-                &palette,
-                depth,
-                &vector.table,
-                3,
-                3,
-                &vector.index,
-            )?
+            finished::<i32>(rt.alloc(), &palette, depth, &table, 3, 3, &vector.index)?
         };
-        assert_eq!(rt; found.as_slice(), vector.finished.as_slice());
+        let listed = signed(rt.alloc(), vector.finished)?;
+        assert_eq!(rt; found.as_slice(), listed.as_slice());
     }
     Ok(())
 }

@@ -8,7 +8,7 @@ ghost use Rattle.jxlm_transform.specs.Recoloured.{HaveOneSize};
 
 use super::inverse_rct;
 use super::vectors::{NARROW, WIDE};
-use crate::cells::{read, write};
+use crate::cells::{read, signed, write};
 use jxlm_base::error::Error;
 use jxlm_base::grid::{AlignedGrid, Region};
 use jxlm_base::sample::Sample;
@@ -134,9 +134,12 @@ fn each_type(rt: HostRuntime) -> Result<(), Fail> {
         let [a, b, c, d, e, f] = NARROW[kind as usize];
         let found = triple::<i16>(rt.alloc(), kind, a, b, c)?;
         assert_eq!(rt; found.as_slice(), [d, e, f].as_slice());
-        let [a, b, c, d, e, f] = WIDE[kind as usize];
-        let found = triple::<i32>(rt.alloc(), kind, a, b, c)?;
-        assert_eq!(rt; found.as_slice(), [d, e, f].as_slice());
+        let row = signed(rt.alloc(), WIDE[kind as usize])?;
+        let [a, b, c, finished @ ..] = row.as_slice() else {
+            return Err(Fail::new("fewer than three numbers"));
+        };
+        let found = triple::<i32>(rt.alloc(), kind, *a, *b, *c)?;
+        assert_eq!(rt; found.as_slice(), finished);
     }
     Ok(())
 }
@@ -161,34 +164,16 @@ fn narrow_rows(rt: HostRuntime) -> Result<(), Fail> {
 fn wide_rows(rt: HostRuntime) -> Result<(), Fail> {
     let a = [14, -1841335580, 0, -772832539, 0, -2147483648];
     let b = [1855549980, 7, 6, 1345722353, -267047961, 147183154];
-    let c = [
-        -2147483648,
-        2147483647,
-        -2147483648,
-        -3,
-        325029047,
-        -2147483648,
-    ];
-    let listed = [
-        781808170,
-        -767593750,
-        -1073741818,
-        572889812,
-        -104533438,
-        -926558670,
-        14,
-        -1841335580,
-        0,
-        -772832539,
-        0,
-        -2147483648,
-        -2147483634,
-        306148067,
-        -2147483648,
-        -772832542,
-        325029047,
-        0,
-    ];
+    let c = signed(
+        rt.alloc(),
+        "-2147483648 2147483647 -2147483648 -3 325029047 -2147483648",
+    )?;
+    let listed = signed(
+        rt.alloc(),
+        "781808170 -767593750 -1073741818 572889812 -104533438 -926558670
+         14 -1841335580 0 -772832539 0 -2147483648
+         -2147483634 306148067 -2147483648 -772832542 325029047 0",
+    )?;
     let found = undone::<i32>(rt.alloc(), 33, 2, 3, &a, &b, &c)?;
     assert_eq!(rt; found.as_slice(), listed.as_slice());
     Ok(())
