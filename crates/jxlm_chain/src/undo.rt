@@ -363,9 +363,10 @@ impl Undoing {
     }
 }
 
-/// Undoes all of these in a store, from the last to the first.
+/// Undoes all of these in a store, from the last to the first: each takes what those behind it have left, and changes no cell
+/// outside the regions that it names.
 ///
-/// What one of them asks holds of each. Afterwards the store holds the image that the transforms make the coded channels of.
+/// What each of them asks for holds of the store as it is before. No memory is taken, and nothing can fail.
 pub fn undo_all<S: Sample>(
     undoings: &[Undoing],
     store: &mut [AlignedGrid<S>],

@@ -1,6 +1,6 @@
 //! The state between two samples of a channel.
 
-ghost use Rattle.std.specs.Prelude.{◌≡◌, ◌+◌, ◌*◌, ◌<◌, ◌≤◌, ◌^◌, ℕ, ℤ, List, [], ◌∷◌, ◌++◌, false, IfOk, IfErr, OnErr, vec_len};
+ghost use Rattle.std.specs.Prelude.{◌≡◌, ◌+◌, ◌*◌, ◌<◌, ◌≤◌, ◌^◌, ℕ, ℤ, List, [], ◌∷◌, ◌++◌, false, None, IfOk, IfErr, OnErr, vec_len};
 ghost use Rattle.std.specs.Option.{option_copied, ForSome};
 ghost use Rattle.jxlm_base.specs.Fault.{NoMemory, fault_of};
 ghost use Rattle.jxlm_tree.specs.Correcting.{HasRows};
@@ -47,8 +47,12 @@ impl<S> PredictorState<S> {
     ghost use Rattle.jxlm_tree.specs.Around.{seen};
     ghost use Rattle.jxlm_tree.specs.Correcting.{IsMade};
 
-    /// A state that stands nowhere: it is to be reset before its first use.
-    pub fn new(alloc: Global) -> PredictorState<S> {
+    /// A state that stands nowhere, with no room, no weights and no earlier channel: it is to be reset before its first use.
+    pub fn new(alloc: Global) -> PredictorState<S>
+        ensures room { room_of result ≡ 0 }
+        ensures none { earlier_count result ≡ 0 }
+        ensures weights { weights_of result ≡ None }
+    {
         PredictorState {
             alloc,
             width: 0,
