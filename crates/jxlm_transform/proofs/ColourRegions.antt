@@ -1,21 +1,22 @@
 -- Colour of three regions, row by row.
-use Rattle.std.proofs.Common.{◌≡◌, ◌≢◌, ℕ, ◌+◌, ◌*◌, ◌/◌, ◌%◌, ◌<◌, ◌≤◌, inl, inr, List, [], ◌∷◌, length, ℤ, pos, refl, sym, ap, ◌∙◌, arith, subst}
-use Rattle.std.specs.Prelude.{get_or, map, slice_get, FitsSigned}
+use Rattle.std.proofs.Common.{◌≡◌, ◌≢◌, ℕ, ◌+◌, ◌*◌, ◌/◌, ◌%◌, ◌<◌, ◌≤◌, inl, inr, List, [], ◌∷◌, length, ℤ, refl, sym, ap, ◌∙◌, arith, subst}
+use Rattle.std.specs.Prelude.{get_or, map, slice_get}
 use Rattle.std.specs.List.{All}
 use Rattle.std.specs.Int.{Width}
 use Rattle.std.proofs.lemmas.Bool.{cases_eq}
 use Rattle.std.proofs.lemmas.List.{length-map}
-use Rattle.jxlm_base.specs.Colour.{Triple, triple, IsTripleOf, permuted, finished_by, finished_triple, coded_triple, triple_at, FinishesRows}
-use Rattle.jxlm_base.specs.Grid.{Grid, grid_by, at}
+use Rattle.jxlm_base.specs.Colour.{Triple, IsTripleOf, permuted, finished_by, finished_triple, coded_triple, triple_at, FinishesRows}
+use Rattle.jxlm_base.specs.Grid.{Grid, grid_by}
 use Rattle.jxlm_base.specs.Outside.{KeepsOutside, SetsRow, row_of}
 use Rattle.jxlm_base.specs.declared.subgrid.Region.{Region}
-use Rattle.jxlm_base.specs.Regions.{buffer_of, region_cell, Lies, AllLie, HasCell, AreApart, LieApart, store_meanings, grid_of}
+use Rattle.jxlm_base.specs.Regions.{region_cell, AllLie, HasCell, AreApart, LieApart, store_meanings, grid_of}
 use Rattle.jxlm_base.proofs.ColourLaws.{triple_same, permuted_fits, finished_fits, colour_is_lossless}
 use Rattle.jxlm_base.proofs.GridLaws.{grid_by_same}
 use Rattle.jxlm_base.proofs.Outside.{keeps_all, keeps_both, keeps_wider, lies_still, region_cell_kept, all_one, all_three, number_of_row, number_same}
 use Rattle.jxlm_base.proofs.Regions.{AreApart_sym, HasCell_at, at-grid_of}
+use Rattle.jxlm_base.specs.Squeeze.{AreGridSamples}
 use Rattle.jxlm_transform.specs.ColourRows.{AreThree, triple_of, rows_of, PutsRow, FinishesRow, FinishedUntil}
-use Rattle.jxlm_transform.specs.Recoloured.{recoloured, triple_in, HasSamples, HaveOneSize, UndoesColour}
+use Rattle.jxlm_transform.specs.Recoloured.{triple_in, HaveOneSize, UndoesColour}
 
 -- ---- rows of regions that share no cell
 
@@ -224,7 +225,7 @@ module _ {S : Type 0} (r s t : Region) where
           ∙ grid_by_same t.width t.height _ _ (λ x y p q. ap (λ k. k.third) (coded_back x y (omega arith) (omega arith))) in
           record {
             colour = three_lists _ _ _ _ _ _ first second third;
-            samples = all_three (HasSamples w) (grid_of (store_meanings f new) r) (grid_of (store_meanings f new) s) (grid_of (store_meanings f new) t)
+            samples = all_three (AreGridSamples w) (grid_of (store_meanings f new) r) (grid_of (store_meanings f new) s) (grid_of (store_meanings f new) t)
                 (λ x y p q. (now_fits x y p q).first) (λ x y p q. (now_fits x y (omega arith) (omega arith)).second) (λ x y p q. (now_fits x y (omega arith) (omega arith)).third);
           }
         where

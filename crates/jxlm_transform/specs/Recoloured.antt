@@ -1,10 +1,11 @@
 -- Colour of whole channels (ISO/IEC 18181-1, Modular: reversible colour transforms).
-use Rattle.std.specs.Prelude.{◌≡◌, ℕ, ◌<◌, List, [], ◌∷◌, map, ℤ, FitsSigned}
+use Rattle.std.specs.Prelude.{◌≡◌, ℕ, List, [], ◌∷◌, map, ℤ}
 use Rattle.std.specs.List.{All, AllPairs}
 use Rattle.std.specs.Int.{Width}
 use Rattle.jxlm_base.specs.Colour.{Triple, triple, coded_triple}
 use Rattle.jxlm_base.specs.Grid.{Grid, grid_by, at}
 use Rattle.jxlm_base.specs.Regions.{grid_of}
+use Rattle.jxlm_base.specs.Squeeze.{AreGridSamples}
 use Rattle.jxlm_base.specs.declared.subgrid.Region.{Region}
 
 -- the triple in column x of row y of three grids
@@ -18,10 +19,6 @@ recoloured w kind (f ∷ g ∷ h ∷ []) =
     part (λ t. t.first) ∷ part (λ t. t.second) ∷ part (λ t. t.third) ∷ []
 recoloured w kind gs = gs
 
--- each cell is a w-bit sample
-abbrev pub HasSamples : Width → Grid ℤ → Type 0
-HasSamples w g = (x y : ℕ) → x < g.width → y < g.height → FitsSigned w (at g x y)
-
 -- the regions have one size
 abbrev pub HaveOneSize : List Region → Type 0
 HaveOneSize rs = AllPairs (λ r s. (r.width ≡ s.width) × (r.height ≡ s.height)) rs
@@ -29,4 +26,4 @@ HaveOneSize rs = AllPairs (λ r s. (r.width ≡ s.width) × (r.height ≡ s.heig
 -- What stands in the regions now are w-bit samples, and they are coded as what stood there.
 pub record UndoesColour (w : Width) (kind : ℕ) (regions : List Region) (old new : List (Grid ℤ)) : Type 0 where
   pub colour : recoloured w kind (map (grid_of new) regions) ≡ map (grid_of old) regions
-  pub samples : All (HasSamples w) (map (grid_of new) regions)
+  pub samples : All (AreGridSamples w) (map (grid_of new) regions)

@@ -5,7 +5,7 @@ ghost use Rattle.std.specs.Option.{ForSome};
 ghost use Rattle.jxlm_base.specs.Fault.{NoMemory, fault_of};
 ghost use Rattle.jxlm_tree.specs.Holding.{IsCurrent};
 ghost use Rattle.jxlm_tree.specs.SelfCorrecting.{IsHeader};
-ghost use Rattle.std.specs.Int.{int_wrap, w32};
+ghost use Rattle.std.specs.Int.{int_wrap};
 ghost use Rattle.jxlm_base.specs.Grid.{at};
 ghost use Rattle.jxlm_base.specs.Regions.{Lies, grid_of, store_meanings};
 ghost use Rattle.jxlm_base.specs.Outside.{KeepsOutside};
@@ -20,6 +20,7 @@ use jxlm_base::grid::{AlignedGrid, Region};
 use jxlm_base::region::{region_get, region_set};
 use jxlm_base::sample::Sample;
 use jxlm_tree::predictor::{PredictorState, Properties};
+use jxlm_tree::reduced::reduced;
 use std::alloc::Global;
 
 /// The differences that negative indices name, by channels.
@@ -204,13 +205,6 @@ fn difference(depth: u32, k: u32, c: usize) -> i64
         return 0;
     }
     listed_difference(k, c) * delta_step(depth)
-}
-
-/// The number reduced to 32 bits.
-fn reduced(value: i64) -> i32
-    ensures { result ≡ int_wrap w32 value }
-{
-    (value.rem_euclid(4294967296) as u32).cast_signed()
 }
 
 /// The sample that a whole number is reduced to.

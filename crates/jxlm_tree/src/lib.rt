@@ -8,7 +8,7 @@ pub mod ma;
 mod nodes;
 pub mod predictor;
 mod properties;
-mod reduced;
+pub mod reduced;
 mod self_correcting;
 mod state;
 mod steps;

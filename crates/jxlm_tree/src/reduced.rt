@@ -4,8 +4,8 @@ ghost use Rattle.std.specs.Prelude.{◌≡◌};
 ghost use Rattle.std.specs.Int.{w32, int_wrap};
 ghost use Rattle.jxlm_base.specs.Numbers.{absolute};
 
-/// The number reduced to 32 bits.
-pub(crate) fn reduced(value: i64) -> i32
+/// The number of 32 bits that is the given one but for a multiple of 2^32.
+pub fn reduced(value: i64) -> i32
     ensures { result ≡ int_wrap w32 value }
 {
     (value.rem_euclid(4294967296) as u32).cast_signed()

@@ -1,4 +1,4 @@
-use Rattle.std.proofs.Common.{◌≡◌, sym, arith}
+use Rattle.std.proofs.Common.{sym, arith}
 use Rattle.jxlm_transform.proofs.PaletteColours.{no_digit}
 use Rattle.jxlm_transform.proofs.palette.digit_of_four.Goals as goal
 

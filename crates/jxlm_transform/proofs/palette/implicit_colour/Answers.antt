@@ -1,4 +1,4 @@
-use Rattle.std.proofs.Common.{◌≡◌, ap, ◌∙◌, ◌+◌, ◌*◌, ◌/◌, ◌-◌, ◌^◌, ◌%◌}
+use Rattle.std.proofs.Common.{ap, ◌∙◌, ◌+◌, ◌*◌, ◌/◌, ◌-◌, ◌^◌, ◌%◌}
 use Rattle.jxlm_transform.proofs.PaletteColours.{implicit_first, implicit_second}
 use Rattle.jxlm_transform.proofs.palette.implicit_colour.Goals as goal
 

@@ -1,4 +1,4 @@
-use Rattle.std.proofs.Common.{◌≡◌, ap, ◌∙◌, pos, ◌-ℤ◌, arith, w64, to_z, of_z, FitsSigned}
+use Rattle.std.proofs.Common.{ap, ◌∙◌, pos, ◌-ℤ◌, arith, w64, to_z, of_z, FitsSigned}
 use Rattle.std.specs.Prelude.{neg_ℤ}
 use Rattle.std.proofs.lemmas.Int.{to_z-of_z, fits_signed_from_abs}
 use Rattle.jxlm_transform.proofs.PaletteColours.{listed_even, listed_odd, minus_read}
