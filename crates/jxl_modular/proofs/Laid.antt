@@ -1,6 +1,6 @@
 -- What an image that is laid out keeps: its coded channels lie in the store, apart, and of their sizes; so they do where only cells change.
-use Rattle.std.proofs.Common.{◌≡◌, ℕ, List, length, map, Ok, refl, sym, ap, ◌∙◌, subst, ℤ, arith}
-use Rattle.std.specs.Prelude.{FitsSigned, take}
+use Rattle.std.proofs.Common.{◌≡◌, List, length, map, refl, sym, ap, ◌∙◌, subst, ℤ}
+use Rattle.std.specs.Prelude.{take}
 use Rattle.std.specs.Int.{Width}
 use Rattle.std.proofs.lemmas.List.{length-map, take-map}
 use Rattle.jxlm_base.specs.Grid.{Grid, meanings}
@@ -13,7 +13,7 @@ use Rattle.jxlm_chain.specs.Undo.{UndoesAll, undo_of_all}
 use Rattle.jxlm_chain.specs.Chain.{Chain}
 use Rattle.jxlm_transform.specs.Channels.{channel_of}
 use Rattle.jxlm_transform.specs.declared.channels.ModularChannelInfo.{ModularChannelInfo}
-use Rattle.jxl_modular.specs.Image.{Image, IsLaidOut, IsOnlyImage, coded_grids, given_list, grids_given, image_grids, list_coded}
+use Rattle.jxl_modular.specs.Image.{Image, IsLaidOut, IsOnlyImage, coded_grids, given_list, image_grids, list_coded}
 use Rattle.jxl_modular.specs.Layout.{channels_of}
 use Rattle.jxl_modular.specs.Part.{Fits}
 use Rattle.jxl_modular.specs.Progress.{SameSizes, grids_in}
@@ -22,7 +22,7 @@ use Rattle.jxl_modular.proofs.Layouts.{buffers_meanings, given_grids, grids_fit,
 use Rattle.jxlm_chain.proofs.CanUndo.{can_undo_all}
 use Rattle.jxlm_chain.proofs.LayoutLaws.{lie_first, lie_after_all}
 use Rattle.jxlm_chain.proofs.OneImage.{no_two_images}
-use Rattle.jxlm_chain.proofs.ShapeLaws.{buffers_kept, narrow_kept, shape_kept}
+use Rattle.jxlm_chain.proofs.ShapeLaws.{buffers_kept, narrow_kept}
 use Rattle.jxlm_chain.proofs.Undone.{chain_of}
 
 module _ {S D : Type 0} (x : Image S D) (laid : IsLaidOut x) where

@@ -8,6 +8,7 @@ pub mod NextSample
 pub mod Progress
 pub mod Starting
 pub mod Suits
+pub mod UndoneImage
 pub mod Samples
 pub mod Prefixes
 pub mod PartLaws

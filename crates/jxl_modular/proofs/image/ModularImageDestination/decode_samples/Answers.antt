@@ -1,4 +1,4 @@
-use Rattle.std.proofs.Common.{◌≡◌, ◌++◌, length, take, drop, refl, sym, ap, ◌∙◌, rules}
+use Rattle.std.proofs.Common.{◌≡◌, ◌++◌, length, take, drop, refl, ap, ◌∙◌}
 use Rattle.std.proofs.lemmas.Result.{err_from_is_err_and}
 use Rattle.jxlm_base.specs.Bits.{bytes_of, position_of}
 use Rattle.jxlm_base.specs.declared.error.Error.TheVariants.{Decoder}
@@ -39,19 +39,7 @@ invariant_of-self g c =
     let keeps = rw (c.deref-2.ensures.value, c.deref_mut.ensures.value) at c.in_err-decode_part.ensures.keeps in
     let whole : take c.self.inside.store.len (c.decode_part.new.store ++ drop (length c.decode_part.new.store) c.self.inside.store.items) ≡ c.decode_part.new.store =
     refilled c.self.inside.store.len c.decode_part.new.store c.self.inside.store.items c.self.inside.store.ok.0 keeps.count in
-    let image : Image g.row.S.Denot g.row.D.Denot = record {
-      weights = c.self.inside.header.wp_params;
-      steps = steps_in (header_of c.self.inside.header).transform;
-      config = c.self.inside.ma_ctx;
-      group_dim = c.self.inside.group_dim;
-      bit_depth = c.self.inside.bit_depth;
-      given = c.self.inside.given.items;
-      channels = c.self.inside.channels.items;
-      nb_meta = c.self.inside.nb_meta_channels;
-      store = c.self.inside.store.items;
-      coded = c.self.inside.coded.items;
-    } in
-    still_laid image _ c.self.invariant (same_but_store image _ (rw whole (shape_kept c.self.inside.coded.items c.self.inside.store.items c.decode_part.new.store keeps)))
+    still_laid _ _ c.self.invariant (same_but_store _ _ (rw whole (shape_kept c.self.inside.coded.items c.self.inside.store.items c.decode_part.new.store keeps)))
 
 pub returns-in_err-decode_part-clause-err : goal.returns-in_err-decode_part-clause-err
 returns-in_err-decode_part-clause-err g c =
@@ -88,18 +76,7 @@ returns-in_err-decode_part-clause-same g c =
     refilled c.self.inside.store.len c.decode_part.new.store c.self.inside.store.items c.self.inside.store.ok.0 keeps.count in
     rw (← c.self.view_is)
     (record {
-      cells = record {
-        weights = refl;
-        steps = refl;
-        config = refl;
-        group_dim = refl;
-        bit_depth = refl;
-        given = refl;
-        channels = refl;
-        nb_meta = refl;
-        coded = refl;
-        shape = rw whole (shape_kept c.self.inside.coded.items c.self.inside.store.items c.decode_part.new.store keeps);
-      };
+      cells = same_but_store _ _ (rw whole (shape_kept c.self.inside.coded.items c.self.inside.store.items c.decode_part.new.store keeps));
       outside = rw whole keeps;
     })
 
@@ -108,19 +85,7 @@ invariant_of-self-2 g c =
     let keeps = rw (c.deref-2.ensures.value, c.deref_mut.ensures.value) at c.in_ok-decode_part.ensures.keeps in
     let whole : take c.self.inside.store.len (c.decode_part.new.store ++ drop (length c.decode_part.new.store) c.self.inside.store.items) ≡ c.decode_part.new.store =
     refilled c.self.inside.store.len c.decode_part.new.store c.self.inside.store.items c.self.inside.store.ok.0 keeps.count in
-    let image : Image g.row.S.Denot g.row.D.Denot = record {
-      weights = c.self.inside.header.wp_params;
-      steps = steps_in (header_of c.self.inside.header).transform;
-      config = c.self.inside.ma_ctx;
-      group_dim = c.self.inside.group_dim;
-      bit_depth = c.self.inside.bit_depth;
-      given = c.self.inside.given.items;
-      channels = c.self.inside.channels.items;
-      nb_meta = c.self.inside.nb_meta_channels;
-      store = c.self.inside.store.items;
-      coded = c.self.inside.coded.items;
-    } in
-    still_laid image _ c.self.invariant (same_but_store image _ (rw whole (shape_kept c.self.inside.coded.items c.self.inside.store.items c.decode_part.new.store keeps)))
+    still_laid _ _ c.self.invariant (same_but_store _ _ (rw whole (shape_kept c.self.inside.coded.items c.self.inside.store.items c.decode_part.new.store keeps)))
 
 pub returns-clause-same : goal.returns-clause-same
 returns-clause-same g c =
@@ -129,17 +94,6 @@ returns-clause-same g c =
     refilled c.self.inside.store.len c.decode_part.new.store c.self.inside.store.items c.self.inside.store.ok.0 keeps.count in
     rw (← c.self.view_is)
     (record {
-      cells = record {
-        weights = refl;
-        steps = refl;
-        config = refl;
-        group_dim = refl;
-        bit_depth = refl;
-        given = refl;
-        channels = refl;
-        nb_meta = refl;
-        coded = refl;
-        shape = rw whole (shape_kept c.self.inside.coded.items c.self.inside.store.items c.decode_part.new.store keeps);
-      };
+      cells = same_but_store _ _ (rw whole (shape_kept c.self.inside.coded.items c.self.inside.store.items c.decode_part.new.store keeps));
       outside = rw whole keeps;
     })
