@@ -1,5 +1,5 @@
 -- The channels before a channel that are like it.
-use Rattle.std.proofs.Common.{◌≡◌, ℕ, zero, suc, ◌<◌, ◌≤◌, List, ◌∷◌, length, map, Bool, true, false, ◌&&◌, if◌then◌else◌, refl, arith, ℤ, rules}
+use Rattle.std.proofs.Common.{◌≡◌, ℕ, zero, suc, ◌<◌, ◌≤◌, List, ◌∷◌, length, map, Bool, true, false, if◌then◌else◌, refl, arith, rules}
 use Rattle.std.proofs.lemmas.List.Elements.{All-nil, All-cons}
 use Rattle.std.specs.Prelude.{filter}
 use Rattle.std.specs.List.{All}

@@ -1,16 +1,16 @@
 -- Where the channels of an image lie: the coded ones, and its own.
-use Rattle.std.proofs.Common.{◌≡◌, ℕ, zero, suc, ◌+◌, ◌<◌, ◌≤◌, List, [], ◌∷◌, ◌++◌, length, append_assoc, take, map, refl, sym, ap, ◌∙◌, subst, arith, ℤ}
+use Rattle.std.proofs.Common.{◌≡◌, suc, ◌≤◌, List, [], ◌∷◌, ◌++◌, length, append_assoc, take, map, refl, sym, ap, ◌∙◌, subst, arith, ℤ}
 use Rattle.std.specs.List.{AllZip}
 use Rattle.std.proofs.lemmas.List.{length-append}
 use Rattle.std.proofs.Math.Seq.{get_or-append_seam}
 use Rattle.jxlm_base.specs.Grid.{Grid, grid, IsFull}
-use Rattle.jxlm_base.specs.Regions.{region, grid_of, store_meanings, AllLie, LieApart, buffer_of}
+use Rattle.jxlm_base.specs.Regions.{region, grid_of, store_meanings, buffer_of}
 use Rattle.jxlm_base.specs.declared.subgrid.Region.{Region}
 use Rattle.jxlm_base.proofs.Regions.{grid_of_whole, IsFull-grid_of, IsFull-meanings}
-use Rattle.jxlm_chain.specs.Layout.{Sides, HasSides, HasBuffers, LieIn, buffers_of, sides_of, whole_regions, first_layout, layout_after_all}
+use Rattle.jxlm_chain.specs.Layout.{Sides, HasBuffers, sides_of, whole_regions, first_layout}
 use Rattle.jxlm_transform.specs.Channels.{Channel as Full, channel_of as full}
 use Rattle.jxlm_transform.specs.declared.channels.ModularChannelInfo.{ModularChannelInfo}
-use Rattle.jxl_modular.specs.Layout.{channel_of, channels_of}
+use Rattle.jxl_modular.specs.Layout.{channels_of}
 use Rattle.jxl_modular.specs.Part.{Channel, Fits}
 use Rattle.jxl_modular.specs.Progress.{SameSizes, grids_in}
 

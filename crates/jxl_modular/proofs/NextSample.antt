@@ -1,20 +1,19 @@
 -- The next sample of a part, by its flat trees and by what the predictor's state was set for.
-use Rattle.std.proofs.Common.{◌≡◌, ◌≢◌, ℕ, zero, suc, ◌+◌, ◌-◌, ◌*◌, ◌/◌, ◌%◌, ◌<◌, ◌≤◌, min, List, [], ◌∷◌, length, take, map, Bool, true, false, if◌then◌else◌, Option, Some, None, refl, sym, ap, ◌∙◌, subst, arith, ℤ, pos}
+use Rattle.std.proofs.Common.{◌≡◌, ◌≢◌, ℕ, zero, suc, ◌+◌, ◌-◌, ◌*◌, ◌/◌, ◌<◌, ◌≤◌, min, List, [], ◌∷◌, length, take, map, Bool, true, false, if◌then◌else◌, Option, Some, None, refl, sym, ap, ◌∙◌, arith, ℤ}
 use Rattle.std.specs.Prelude.{slice_get}
-use Rattle.std.specs.Int.{Width, w32, int_wrap}
+use Rattle.std.specs.Int.{w32, int_wrap}
 use Rattle.std.proofs.lemmas.List.{length-map}
 use Rattle.std.proofs.lemmas.Simd.{map-map}
-use Rattle.std.proofs.lemmas.Nat.{mod-mul-add, div-mul-add, mul-add-lt}
+use Rattle.std.proofs.lemmas.Nat.{mul-add-lt}
 use Rattle.jxlm_base.specs.Grid.{Grid}
-use Rattle.jxlm_base.specs.Regions.{grid_of, store_meanings, region}
+use Rattle.jxlm_base.specs.Regions.{grid_of}
 use Rattle.jxlm_base.specs.declared.subgrid.Region.{Region}
 use Rattle.jxlm_tree.specs.FlatTree.{earlier_named, leaf_reached, needs_weights}
 use Rattle.jxlm_tree.specs.Holding.{surroundings as surroundings_of}
-use Rattle.jxlm_tree.specs.Neighbours.{neighbours}
-use Rattle.jxlm_tree.specs.Predictions.{prediction, prediction_from}
+use Rattle.jxlm_tree.specs.Predictions.{prediction}
 use Rattle.jxlm_tree.specs.Properties.{Surroundings, place_property, property}
 use Rattle.jxlm_tree.specs.Standing.{Setting, setting}
-use Rattle.jxlm_tree.specs.Tree.{Shape, walk}
+use Rattle.jxlm_tree.specs.Tree.{walk}
 use Rattle.jxlm_tree.specs.declared.flat.Leaf.{Leaf}
 use Rattle.jxlm_tree.specs.declared.predictor.Predictor.{Predictor}
 use Rattle.jxlm_tree.specs.declared.predictor.Predictor.TheVariants.{Zero, West, North, AvgWestAndNorth, Select, Gradient, SelfCorrecting, NorthEast, NorthWest, WestWest, AvgWestAndNorthWest, AvgNorthAndNorthWest, AvgNorthAndNorthEast, AvgAll}
@@ -22,9 +21,9 @@ use Rattle.jxlm_tree.specs.declared.predictor.WpHeader.{WpHeader}
 use Rattle.jxlm_tree.proofs.FlatTrees.{goes_without_weights, reads_earlier_below, walks_by_properties}
 use Rattle.jxlm_tree.proofs.PropertiesLaws.{later_property}
 use Rattle.jxl_modular.specs.Coded.{next_prediction}
-use Rattle.jxl_modular.specs.Progress.{SameSizes, cells_ahead, grids_in, place_of}
+use Rattle.jxl_modular.specs.Progress.{SameSizes, cells_ahead, grids_in}
 use Rattle.jxl_modular.specs.Reading.{flat, leaf_at, predicted_at, region_at}
-use Rattle.jxl_modular.specs.Part.{Part, Channel, size, channel, cells_before, cells_of, Fits, earlier_alike, grid, grid_of as grid_before, next_channel, samples_of, next_leaf, surroundings, SeesBefore}
+use Rattle.jxl_modular.specs.Part.{Part, channel, earlier_alike, grid_of as grid_before, samples_of, next_leaf, surroundings, SeesBefore}
 use Rattle.jxl_modular.proofs.Earlier.{earlier_mapped, few_earlier}
 use Rattle.jxl_modular.proofs.Loops.{fits_in, grid_in, same_size}
 use Rattle.jxl_modular.proofs.Places.{each_sees_before}

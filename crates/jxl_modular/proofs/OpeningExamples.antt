@@ -1,6 +1,6 @@
 -- Computed examples: what is refused ahead of a tree, from bits.
 use Rattle.std.specs.Prelude.{◌≡◌, ℕ, List, [], ◌∷◌, replicate, Some, Err, Ok, refl, false, codes}
-use Rattle.jxlm_base.specs.Fault.{BadEnum, BadProfile, BadRct, BadSqueeze, NoGlobalTree, Eof}
+use Rattle.jxlm_base.specs.Fault.{BadEnum, BadRct, BadSqueeze, NoGlobalTree, Eof}
 use Rattle.jxlm_transform.specs.Channels.{image_list}
 use Rattle.jxlm_transform.specs.Params.{sized}
 use Rattle.jxlm_transform.specs.declared.param.ChannelShift.TheVariants.{Shifts}

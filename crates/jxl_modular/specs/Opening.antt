@@ -1,5 +1,5 @@
 -- What stands ahead of an image's tree, and in which order it is refused (ISO/IEC 18181-1, Modular: Modular header and its conditions).
-use Rattle.std.specs.Prelude.{◌≡◌, ◌+◌, ◌^◌, nat_lt, min, sum_by, List, [], ◌∷◌, ◌++◌, length, codes, Bool, true, false, ℕ, not, ◌&&◌, if◌then◌else◌, Result, Ok, Err}
+use Rattle.std.specs.Prelude.{◌≡◌, ◌+◌, ◌^◌, nat_lt, min, sum_by, List, length, codes, Bool, ℕ, not, ◌&&◌, if◌then◌else◌, Result, Ok, Err}
 use Rattle.jxlm_base.specs.Fault.{Fault, BadProfile, NoGlobalTree, UnlessMemory, fault_of}
 use Rattle.jxlm_base.specs.Grammar.{Grammar, IsExact, give, refuse}
 use Rattle.jxlm_base.specs.Grammar as fields

@@ -1,5 +1,5 @@
 -- How one cell of a part is read and written.
-use Rattle.std.specs.Prelude.{◌≡◌, ℕ, ◌+◌, ◌*◌, ◌^◌, ◌<◌, ◌≤◌, ℤ, List, length, map, min, take, slice_get, if◌then◌else◌, Option, None, Some, Result, Ok, Err, get_or}
+use Rattle.std.specs.Prelude.{◌≡◌, ℕ, ◌+◌, ◌<◌, ◌≤◌, ℤ, List, length, map, min, take, slice_get, if◌then◌else◌, Option, None, Some, Result, Ok, Err, get_or}
 use Rattle.std.specs.List.{All}
 use Rattle.std.specs.Int.{Width}
 use Rattle.jxlm_base.specs.Decoding.{Meaning, Taken}
@@ -19,7 +19,7 @@ use Rattle.jxlm_tree.specs.declared.predictor.WpHeader.{WpHeader}
 use Rattle.jxlm_tree.specs.declared.state.PredictorState.{PredictorState}
 use Rattle.jxl_modular.specs.Coded.{part_rule, sample_of}
 use Rattle.jxl_modular.specs.Layout.{channels_of}
-use Rattle.jxl_modular.specs.Part.{Part, Channel, IsNarrow, earlier_alike, greatest_width}
+use Rattle.jxl_modular.specs.Part.{Part, IsNarrow, earlier_alike, greatest_width}
 use Rattle.jxl_modular.specs.Progress.{SameSizes, cells_ahead, grids_in}
 use Rattle.jxl_modular.specs.declared.coding.PartCoding.{PartCoding}
 

@@ -4,7 +4,7 @@ use Rattle.std.specs.Prelude.{◌==◌, if◌then◌else◌, FitsSigned}
 use Rattle.std.specs.Int.{Width, int_wrap}
 use Rattle.std.proofs.lemmas.Int.{int_wrap_fits, int_wrap-add_left, SFits-int_wrap}
 use lib.IntN.{+ℤ-neg_ℤ_cancel, -ℤ-+ℤ_cancel, +ℤ_comm}
-use Rattle.jxlm_base.specs.Colour.{Triple, triple, IsTripleOf, permuted, unpermuted, plus, minus, halved, to_luma, from_luma, to_differences, from_differences, coded_by, finished_by, coded_triple, finished_triple, ColourIsLossless, ColourIsOneToOne}
+use Rattle.jxlm_base.specs.Colour.{Triple, triple, IsTripleOf, permuted, unpermuted, plus, minus, halved, to_luma, from_luma, to_differences, from_differences, coded_by, finished_by, finished_triple, ColourIsLossless, ColourIsOneToOne}
 
 pub triple_same : (a b c d e f : ℤ) → a ≡ d → b ≡ e → c ≡ f → triple a b c ≡ triple d e f
 triple_same a b c d e f p q r = ap (λ x. triple x b c) p ∙ ap (λ x. triple d x c) q ∙ ap (λ x. triple d e x) r

@@ -4,8 +4,8 @@ use Rattle.std.specs.Prelude.{get_or, slice_set, map}
 use Rattle.std.specs.Int.{Width}
 use Rattle.std.proofs.Math.ListN.{length-set}
 use Rattle.std.proofs.lemmas.Bool.{cases_eq}
-use Rattle.std.proofs.lemmas.List.{get_or-set_same, get_or-set_other, get_or-map, length-map, map-set, map-id}
-use Rattle.jxlm_base.specs.Colour.{Triple, triple, IsTripleOf, finished_by, triple_at, FinishesRows}
+use Rattle.std.proofs.lemmas.List.{get_or-set_same, get_or-set_other, get_or-map, length-map, map-set}
+use Rattle.jxlm_base.specs.Colour.{triple, IsTripleOf, finished_by, triple_at, FinishesRows}
 use Rattle.jxlm_base.proofs.ColourLaws.{triple_same}
 
 -- the first n places are finished, and the others as they were

@@ -7,9 +7,9 @@ use Rattle.std.proofs.Math.Seq.{drop-length, take-length}
 use Rattle.std.proofs.lemmas.Bool.{cases_eq, cases_lt}
 use Rattle.std.proofs.lemmas.List.{get_or-set_same, get_or-set_other, get_or_default, append-nil, drop-drop, length-append, length-take-le, length-drop}
 use Rattle.std.proofs.lemmas.Nat.{mul-le}
-use Rattle.jxlm_base.specs.Grid.{Grid, grid, cell, row, place, written, with_row, IsFull}
+use Rattle.jxlm_base.specs.Grid.{Grid, grid, cell, row, written, with_row, IsFull}
 use Rattle.jxlm_base.specs.Outside.{buffer_at, row_of, KeepsOutside, SetsRow}
-use Rattle.jxlm_base.specs.Regions.{Region, region, buffer_of, region_cell, Lies, HasCell}
+use Rattle.jxlm_base.specs.Regions.{Region, buffer_of, region_cell, Lies, HasCell}
 use Rattle.jxlm_base.proofs.Cells.{place_within}
 
 -- ---- the elements of parts of lists

@@ -1,8 +1,7 @@
 -- Parts of rows: what is read there, and what a write to one changes.
-use Rattle.std.proofs.Common.{◌≡◌, ℕ, zero, suc, ◌+◌, ◌-◌, ◌*◌, ◌<◌, ◌≤◌, ◌⊎◌, inl, inr, List, length, take, drop, ℤ, sym, refl, ap, ◌∙◌, subst, arith}
+use Rattle.std.proofs.Common.{◌≡◌, ℕ, suc, ◌+◌, ◌-◌, ◌*◌, ◌<◌, ◌≤◌, ◌⊎◌, inl, inr, List, length, take, drop, ℤ, sym, refl, ap, ◌∙◌, subst, arith}
 use Rattle.std.specs.Prelude.{slice_get, slice_range}
 use Rattle.std.proofs.Math.Nat.{mul_comm, mul-le-mul_right}
-use Rattle.std.proofs.lemmas.Nat.{mul-add-lt}
 use Rattle.std.proofs.lemmas.Bool.{cases_lt}
 use Rattle.std.proofs.lemmas.List.{length-take-le, length-drop}
 use Rattle.jxlm_base.specs.Grid.{Grid, at, cell, row, place, written, with_row, meanings, IsFull}

@@ -1,10 +1,10 @@
 -- Tendencies and pairs in machine numbers.
-use Rattle.std.proofs.Common.{◌≡◌, ℕ, ◌+◌, ◌-◌, ◌*◌, ◌/◌, ◌%◌, ◌<◌, ◌≤◌, ◌^◌, Bool, true, false, ◌&&◌, cond, nat_lt, inl, inr, ℤ, pos, negsuc, ◌+ℤ◌, ◌-ℤ◌, neg_ℤ, int_le, int_div, ◌<ℤ◌, unsigned_abs, FitsSigned, to_z, of_z, sym, refl, ap, ◌∙◌, subst, arith}
-use Rattle.std.specs.Int.{Width, w16, w32, int_wrap, int_wrapping_add, cast_signed}
+use Rattle.std.proofs.Common.{◌≡◌, ℕ, ◌+◌, ◌-◌, ◌*◌, ◌/◌, ◌%◌, ◌<◌, ◌≤◌, ◌^◌, Bool, true, false, ◌&&◌, cond, nat_lt, inl, inr, ℤ, pos, ◌+ℤ◌, ◌-ℤ◌, neg_ℤ, int_le, int_div, ◌<ℤ◌, unsigned_abs, FitsSigned, to_z, of_z, sym, refl, ap, ◌∙◌, subst, arith}
+use Rattle.std.specs.Int.{Width, w16, w32, int_wrap, int_wrapping_add}
 use Rattle.std.proofs.lemmas.Bool.{cases_lt}
 use Rattle.std.proofs.lemmas.Int.{ints, to_z-of_z, to_z_pos, wrapping_add_is, quot_fits, SFits-int_wrap}
 use Rattle.jxlm_base.specs.Squeeze.{slope, tendency}
-use Rattle.jxlm_base.specs.Unsqueeze.{pair_difference, first_of, second_of}
+use Rattle.jxlm_base.specs.Unsqueeze.{pair_difference, first_of}
 use Rattle.jxlm_base.proofs.SqueezeLaws.{if_lt, if_ge}
 
 -- what a comparison says of numbers that fit

@@ -1,10 +1,10 @@
 -- Rectangles undone row by row, or some columns at a time.
-use Rattle.std.proofs.Common.{◌≡◌, ℕ, zero, suc, ◌+◌, ◌-◌, ◌*◌, ◌/◌, ◌<◌, ◌≤◌, ◌⊎◌, inl, inr, List, length, ℤ, FitsSigned, sym, refl, ap, ◌∙◌, subst, arith}
-use Rattle.std.specs.Prelude.{slice_get, slice_range}
+use Rattle.std.proofs.Common.{◌≡◌, ℕ, ◌+◌, ◌-◌, ◌*◌, ◌/◌, ◌<◌, ◌≤◌, ◌⊎◌, inl, inr, List, length, ℤ, FitsSigned, sym, refl, ap, ◌∙◌, subst, arith}
+use Rattle.std.specs.Prelude.{slice_range}
 use Rattle.std.specs.Int.{Width}
 use Rattle.std.proofs.Math.Nat.{mul-le-mul_left, mul-div-le, le-div_iff_mul-le}
 use Rattle.std.proofs.lemmas.Bool.{cases_lt}
-use Rattle.jxlm_base.specs.Grid.{Grid, at, cell, row, place, written, with_row, meanings, grid_by, IsFull}
+use Rattle.jxlm_base.specs.Grid.{Grid, at, row, place, written, with_row, meanings, grid_by, IsFull}
 use Rattle.jxlm_base.specs.Squeeze.{AreSamples, AreSame, AreGridSamples, squeezed, squeezed_rows, squeezed_columns}
 use Rattle.jxlm_base.specs.Subgrid.{IsSameOutside}
 use Rattle.jxlm_base.specs.Unsqueeze.{number_at, IsUnsqueezed}

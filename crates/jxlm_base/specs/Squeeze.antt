@@ -1,5 +1,5 @@
 -- Squeeze of a row or a column (ISO/IEC 18181-1, Modular: squeeze, tendency).
-use Rattle.std.specs.Prelude.{◌≡◌, ℕ, suc, ◌+◌, ◌-◌, ◌*◌, ◌/◌, ◌%◌, ◌<◌, ◌&&◌, nat_lt, if◌then◌else◌, ℤ, pos, ◌+ℤ◌, ◌-ℤ◌, neg_ℤ, unsigned_abs, int_le, int_div, FitsSigned}
+use Rattle.std.specs.Prelude.{◌≡◌, ℕ, ◌+◌, ◌-◌, ◌*◌, ◌/◌, ◌%◌, ◌<◌, ◌&&◌, nat_lt, if◌then◌else◌, ℤ, pos, ◌-ℤ◌, neg_ℤ, unsigned_abs, int_le, int_div, FitsSigned}
 use Rattle.std.specs.Int.{Width, int_wrap}
 use Rattle.jxlm_base.specs.Grid.{Grid, at, grid_by}
 

@@ -1,5 +1,5 @@
 -- Chains of small images.
-use Rattle.std.proofs.Common.{◌≡◌, refl, true, false, ℕ, suc, zero, List, [], ◌∷◌, ℤ, pos, Ok, FitsSigned, arith, rules}
+use Rattle.std.proofs.Common.{◌≡◌, refl, true, false, ℕ, suc, zero, List, [], ◌∷◌, ℤ, pos, Ok, arith, rules}
 use Rattle.std.specs.Int.{w16, w32, int_wrap}
 use Rattle.jxlm_base.specs.Grid.{Grid, grid}
 use Rattle.jxlm_base.specs.Squeeze.{AreGridSamples}

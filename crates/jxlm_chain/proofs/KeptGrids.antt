@@ -1,18 +1,15 @@
 -- The grids of regions that an undoing leaves.
-use Rattle.std.proofs.Common.{◌≡◌, ℕ, zero, suc, ◌+◌, ◌<◌, ◌≤◌, List, [], ◌∷◌, length, ℤ, pos, FitsSigned, sym, ap, ◌∙◌, subst, arith}
-use Rattle.std.specs.Prelude.{get_or, map}
+use Rattle.std.proofs.Common.{◌≡◌, ℕ, ◌+◌, ◌<◌, ◌≤◌, List, [], ◌∷◌, length, ℤ, sym, subst, arith}
+use Rattle.std.specs.Prelude.{get_or}
 use Rattle.std.specs.List.{All, AllZip}
-use Rattle.std.specs.Int.{Width}
 use Rattle.std.proofs.lemmas.List.{get_or_default}
-use Rattle.jxlm_base.specs.Grid.{Grid, at, place}
+use Rattle.jxlm_base.specs.Grid.{Grid, at}
 use Rattle.jxlm_base.specs.Outside.{KeepsOutside}
 use Rattle.jxlm_base.specs.Regions.{buffer_of, grid_of, Lies, AllLie, AreApart, LieApart, store_meanings}
-use Rattle.jxlm_base.specs.Squeeze.{AreGridSamples}
 use Rattle.jxlm_base.specs.declared.subgrid.Region.{Region}
-use Rattle.jxlm_base.proofs.Cells.{place_within}
 use Rattle.jxlm_base.proofs.GridLaws.{grid_by_same}
 use Rattle.jxlm_base.proofs.Outside.{number_same, region_cell_kept}
-use Rattle.jxlm_base.proofs.Regions.{buffer_of-meanings, HasCell_at, apart_at, at-grid_of, IsFull-grid_of}
+use Rattle.jxlm_base.proofs.Regions.{HasCell_at, apart_at, IsFull-grid_of}
 use Rattle.jxlm_transform.specs.Channels.{Channel}
 use Rattle.jxlm_transform.specs.ChannelSteps.{range}
 use Rattle.jxlm_chain.specs.Chain.{AreGridsOf}

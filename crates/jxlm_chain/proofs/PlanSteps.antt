@@ -1,14 +1,14 @@
 -- Steps of a plan, one behind the other.
-use Rattle.std.proofs.Common.{◌≡◌, ℕ, suc, ◌+◌, ◌^◌, ◌<◌, ◌≤◌, List, [], ◌∷◌, ◌++◌, length, map, take, drop, get_or, Ok, refl, sym, ap, ◌∙◌, subst, append_assoc, arith}
+use Rattle.std.proofs.Common.{◌≡◌, ℕ, ◌+◌, ◌^◌, ◌<◌, ◌≤◌, List, [], ◌∷◌, ◌++◌, length, map, take, drop, get_or, Ok, refl, sym, ap, ◌∙◌, subst, append_assoc, arith}
 use Rattle.std.specs.List.{All}
-use Rattle.std.proofs.lemmas.List.{append-nil, map-append, take_more, drop_more, length-append}
+use Rattle.std.proofs.lemmas.List.{append-nil, take_more, drop_more}
 use Rattle.std.proofs.lemmas.List.Elements.{All-head, All-tail}
 use Rattle.jxlm_transform.specs.Channels.{Channel, ChannelList}
 use Rattle.jxlm_transform.specs.ChannelSteps.{Step, RctStep, PaletteStep, SqueezeStep, list_after_all, listed_steps}
 use Rattle.jxlm_transform.specs.Transforms.{Transform, OfRct, OfPalette, OfSqueeze}
 use Rattle.jxlm_transform.specs.declared.transform.SqueezeParams.{SqueezeParams}
-use Rattle.jxlm_chain.specs.Layout.{Layout, Sides, first_layout, layout_after, layout_after_all, tables_of}
-use Rattle.jxlm_chain.specs.Places.{CanTake, CanTakeAll, Suit, layout_of}
+use Rattle.jxlm_chain.specs.Layout.{Layout, first_layout, layout_after, layout_after_all, tables_of}
+use Rattle.jxlm_chain.specs.Places.{CanTakeAll, Suit, layout_of}
 use Rattle.jxlm_chain.specs.Steps.{HasChannels, steps_in}
 use Rattle.jxlm_chain.specs.Undo.{Undo, undo_of, undo_of_all}
 use Rattle.jxlm_chain.specs.Undoings.{GoesOn, undos_of}

@@ -1,12 +1,10 @@
 -- Room for undoing, and where it stays.
-use Rattle.std.proofs.Common.{◌≡◌, ℕ, ◌+◌, ◌<◌, ◌≤◌, List, [], length, get_or, refl, sym, ap, ◌∙◌, subst, arith}
+use Rattle.std.proofs.Common.{◌≡◌, ◌<◌, List, [], length, get_or, refl, sym, ap, ◌∙◌, arith}
 use Rattle.std.proofs.lemmas.List.{get_or_default}
 use Rattle.jxlm_base.specs.Grid.{Grid, grid}
 use Rattle.jxlm_base.specs.Outside.{buffer_at}
 use Rattle.jxlm_base.specs.Regions.{Lies, buffer_of}
 use Rattle.jxlm_base.specs.declared.subgrid.Region.{Region}
-use Rattle.jxlm_tree.specs.Standing.{HasSameRoom}
-use Rattle.jxlm_transform.specs.ColourRows.{HasRoom, KeepsRoom}
 use Rattle.jxlm_chain.specs.Scratch.{FitsGrid, HasRoomFor, KeepsScratch}
 use Rattle.jxlm_chain.specs.Shape.{SameShape}
 use Rattle.jxlm_chain.specs.declared.scratch.Scratch.{Scratch}

@@ -1,5 +1,5 @@
 -- Undoing from the last to the first.
-use Rattle.std.proofs.Common.{◌≡◌, ℕ, ◌+◌, ◌-◌, ◌^◌, ◌<◌, ◌≤◌, List, [], ◌∷◌, length, drop, get_or, map, ℤ, Option, refl, sym, ap, ◌∙◌, subst, arith}
+use Rattle.std.proofs.Common.{◌≡◌, ℕ, ◌+◌, ◌<◌, List, length, drop, get_or, ℤ, Option, sym, ap, ◌∙◌, subst, arith}
 use Rattle.std.specs.Int.{Width}
 use Rattle.std.specs.List.{All}
 use Rattle.std.proofs.lemmas.List.{drop_more, length-map}
@@ -8,12 +8,12 @@ use Rattle.jxlm_base.specs.Grid.{Grid}
 use Rattle.jxlm_tree.specs.declared.predictor.WpHeader.{WpHeader}
 use Rattle.jxlm_chain.specs.Scratch.{HasRoomFor, KeepsScratch, weights_in}
 use Rattle.jxlm_chain.specs.Shape.{SameShape}
-use Rattle.jxlm_chain.specs.Steps.{CanUndo, CanUndoAll, IsNarrowStore}
+use Rattle.jxlm_chain.specs.Steps.{CanUndoAll, IsNarrowStore}
 use Rattle.jxlm_chain.specs.Undo.{Undo, Undoes, UndoesAll}
 use Rattle.jxlm_chain.specs.Undoings.{SuitsWeights, undo_of_code, undos_of}
 use Rattle.jxlm_chain.specs.declared.scratch.Scratch.{Scratch}
 use Rattle.jxlm_chain.specs.declared.undo.Undoing.{Undoing}
-use Rattle.jxlm_chain.proofs.Rooms.{keeps_both, keeps_scratch, room_kept}
+use Rattle.jxlm_chain.proofs.Rooms.{keeps_both, room_kept}
 use Rattle.jxlm_chain.proofs.ShapeLaws.{narrow_kept, shape_undone, undos_kept}
 
 module _ {S : Type 0} (to_int : S → ℤ) (w : Width) (depth : ℕ) (us : List Undo) where

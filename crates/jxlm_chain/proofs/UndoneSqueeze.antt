@@ -1,18 +1,16 @@
 -- A squeeze step undone: the grids of the regions' two parts are the averages and the residuals of the grids now.
-use Rattle.std.proofs.Common.{◌≡◌, ℕ, zero, suc, ◌+◌, ◌-◌, ◌/◌, ◌<◌, List, [], ◌∷◌, length, Bool, true, false, cond, ℤ, refl, sym, ap, ◌∙◌, subst, arith}
+use Rattle.std.proofs.Common.{◌≡◌, ℕ, zero, suc, ◌<◌, List, [], ◌∷◌, length, Bool, ℤ, sym, ap, ◌∙◌, subst, arith}
 use Rattle.std.specs.Prelude.{get_or, map}
 use Rattle.std.specs.List.{All}
 use Rattle.std.specs.Int.{Width}
-use Rattle.std.proofs.lemmas.Bool.{lt-ltb, le-ltb}
 use Rattle.std.proofs.lemmas.List.Elements.{All-map}
-use Rattle.jxlm_base.specs.Grid.{Grid, grid, at}
+use Rattle.jxlm_base.specs.Grid.{Grid}
 use Rattle.jxlm_base.specs.Outside.{KeepsOutside}
-use Rattle.jxlm_base.specs.Regions.{grid_of, buffer_of, Lies, AllLie, AreApart, LieApart, store_meanings, HasCell}
-use Rattle.jxlm_base.specs.Squeeze.{AreGridSamples, averages, average_at, residual_at, squeezed}
+use Rattle.jxlm_base.specs.Regions.{grid_of, Lies, AllLie, AreApart, LieApart, store_meanings, HasCell}
+use Rattle.jxlm_base.specs.Squeeze.{AreGridSamples}
 use Rattle.jxlm_base.specs.declared.subgrid.Region.{Region}
-use Rattle.jxlm_base.proofs.GridLaws.{grid_by_same, at-grid_by}
 use Rattle.jxlm_base.proofs.Outside.{keeps_all, keeps_both, keeps_wider, all_one, all_lie_still}
-use Rattle.jxlm_base.proofs.Regions.{at-grid_of, AreApart_sym}
+use Rattle.jxlm_base.proofs.Regions.{AreApart_sym}
 use Rattle.jxlm_transform.specs.Channels.{Channel}
 use Rattle.jxlm_transform.specs.ChannelSteps.{SqueezeStep, range, with_halves}
 use Rattle.jxlm_transform.specs.declared.transform.SqueezeParams.{SqueezeParams}

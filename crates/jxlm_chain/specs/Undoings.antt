@@ -1,9 +1,9 @@
 -- Undoings as a program keeps them.
-use Rattle.std.specs.Prelude.{◌≡◌, ◌⊎◌, ℕ, List, ◌++◌, map, Option, None}
+use Rattle.std.specs.Prelude.{◌≡◌, ◌⊎◌, List, ◌++◌, map, Option, None}
 use Rattle.jxlm_tree.specs.declared.predictor.WpHeader.{WpHeader}
 use Rattle.jxlm_transform.specs.ChannelSteps.{Step}
 use Rattle.jxlm_chain.specs.Grids.{leader_of, members_of}
-use Rattle.jxlm_chain.specs.Layout.{Layout, layout_after_all}
+use Rattle.jxlm_chain.specs.Layout.{layout_after_all}
 use Rattle.jxlm_chain.specs.Places.{layout_of}
 use Rattle.jxlm_chain.specs.Undo.{Undo, UndoRct, UndoPalette, UndoSqueeze, undo_of_all}
 use Rattle.jxlm_chain.specs.declared.undo.Plan.{Plan}

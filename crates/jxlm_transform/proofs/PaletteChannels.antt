@@ -1,17 +1,16 @@
 -- The finished channels of a palette, one after the other, the last first.
-use Rattle.std.proofs.Common.{◌≡◌, ◌≢◌, ◌⊎◌, inl, inr, ℕ, ◌+◌, ◌<◌, ◌≤◌, List, [], ◌∷◌, length, sym, refl, ap, ◌∙◌, subst, arith, ℤ}
+use Rattle.std.proofs.Common.{◌≡◌, ◌⊎◌, inl, inr, ℕ, ◌+◌, ◌<◌, ◌≤◌, List, [], ◌∷◌, length, sym, refl, ap, ◌∙◌, subst, arith, ℤ}
 use Rattle.std.specs.Prelude.{get_or, map}
 use Rattle.std.specs.Int.{Width}
 use Rattle.std.proofs.lemmas.Bool.{cases_eq}
 use Rattle.std.proofs.lemmas.List.{get_or_default, get_or-map, length-map}
 use Rattle.jxlm_base.specs.Grid.{Grid, grid}
-use Rattle.jxlm_base.specs.Regions.{grid_of, store_meanings, Lies, AreApart}
+use Rattle.jxlm_base.specs.Regions.{grid_of, store_meanings, AreApart}
 use Rattle.jxlm_base.specs.declared.subgrid.Region.{Region}
 use Rattle.jxlm_base.specs.Outside.{KeepsOutside}
 use Rattle.jxlm_base.proofs.Regions.{apart_at}
 use Rattle.jxlm_base.proofs.Outside.{grid_kept, keeps_all, keeps_both, keeps_one_of, lies_still}
 use Rattle.jxlm_transform.specs.declared.transform.Palette.{Palette}
-use Rattle.jxlm_transform.specs.declared.palette.FinishedChannel.{FinishedChannel}
 use Rattle.jxlm_transform.specs.Palette.{IsPaletteOf, PaletteLies, finished_channel}
 use Rattle.jxlm_transform.specs.PaletteSteps.{ChannelLies, ChannelsDone, IsSimple, channel_at}
 use Rattle.jxlm_transform.proofs.PaletteLaws.{has_image}

@@ -1,10 +1,10 @@
 -- The colours of a palette's indices, as the code finds them.
 use Rattle.std.proofs.Common.{◌≡◌, ℕ, suc, zero, ◌+◌, ◌-◌, ◌*◌, ◌/◌, ◌%◌, ◌^◌, ◌<◌, ◌≤◌, ℤ, pos, negsuc, refl, sym, ap, ◌∙◌, arith, List, [], ◌∷◌, length, Bool, true, false, ◌&&◌, FitsSigned, to_z, of_z}
-use Rattle.std.specs.Prelude.{get_or, unsigned_abs, nat_le, nat_lt, if◌then◌else◌, min, ◌==◌, neg_ℤ, ◌*ℤ◌, ◌-ℤ◌}
+use Rattle.std.specs.Prelude.{get_or, unsigned_abs, nat_le, if◌then◌else◌, min, ◌==◌, neg_ℤ, ◌*ℤ◌, ◌-ℤ◌}
 use Rattle.std.proofs.Math.Nat.{pow-le-pow_right, div-eq_of_lt}
 use Rattle.std.proofs.lemmas.Nat.{mul-le}
 use Rattle.std.proofs.Math.Pow.{pow_mono}
-use Rattle.std.specs.Int.{w16, w32, w64}
+use Rattle.std.specs.Int.{w16, w64}
 use Rattle.std.specs.Int.Signed.{lt_z}
 use Rattle.std.proofs.lemmas.Bool.Decides.{nat_tests}
 use Rattle.std.proofs.lemmas.List.{get_or_past}

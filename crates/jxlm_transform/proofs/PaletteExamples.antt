@@ -1,5 +1,5 @@
 -- Palettes of a few cells.
-use Rattle.std.specs.Prelude.{◌≡◌, refl, ℕ, List, [], ◌∷◌, length, map, ℤ, pos, negsuc, neg_ℤ, None}
+use Rattle.std.specs.Prelude.{◌≡◌, refl, List, [], ◌∷◌, length, map, ℤ, pos, negsuc, neg_ℤ, None}
 use Rattle.std.specs.Int.{w16, w32, int_wrap}
 use Rattle.jxlm_base.specs.Grid.{grid}
 use Rattle.jxlm_tree.specs.declared.predictor.Predictor.TheVariants.{Zero, West, AvgWestAndNorth}

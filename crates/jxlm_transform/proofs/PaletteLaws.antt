@@ -1,7 +1,6 @@
 -- A table and an index channel have one list of finished channels.
 use Rattle.std.proofs.Common.{◌≡◌, inl, inr, ℕ, suc, zero, ◌+◌, ◌*◌, ◌/◌, ◌%◌, ◌<◌, ◌≤◌, List, [], ◌∷◌, ◌++◌, length, ℤ, pos, sym, refl, ap, ◌∙◌, arith, subst}
-use Rattle.std.specs.Prelude.{get_or, map, take}
-use Rattle.std.specs.List.{range_with_len, All}
+use Rattle.std.specs.Prelude.{get_or, take}
 use Rattle.std.specs.Int.{Width}
 use Rattle.std.proofs.lemmas.Bool.{cases_lt}
 use Rattle.std.proofs.lemmas.List.{length-append, take_more, take_all, take-append-le, get_or_append_left, get_or_push, get_or_default}

@@ -1,13 +1,13 @@
 -- The steps of a palette's inverse: one sample more.
-use Rattle.std.proofs.Common.{◌≡◌, ◌≢◌, inl, inr, ℕ, zero, suc, ◌+◌, ◌*◌, ◌/◌, ◌%◌, ◌^◌, ◌<◌, ◌≤◌, List, [], ◌∷◌, ◌++◌, length, sym, refl, ap, ◌∙◌, subst, arith, ℤ, pos, negsuc, ◌+ℤ◌}
-use Rattle.std.specs.Prelude.{get_or, take, slice_set, unsigned_abs, if◌then◌else◌, int_lt, nat_lt}
+use Rattle.std.proofs.Common.{◌≡◌, inl, inr, ℕ, suc, ◌+◌, ◌*◌, ◌/◌, ◌^◌, ◌<◌, ◌≤◌, List, [], ◌∷◌, ◌++◌, length, sym, refl, ap, ◌∙◌, subst, arith, ℤ, pos, negsuc, ◌+ℤ◌}
+use Rattle.std.specs.Prelude.{get_or, take, slice_set, unsigned_abs, if◌then◌else◌}
 use Rattle.std.specs.Int.{Width, int_wrap}
 use Rattle.std.proofs.lemmas.Bool.Decides.{nat_tests}
 use Rattle.std.proofs.lemmas.List.{take_more_set, get_or-set_other, length-append}
 use Rattle.std.proofs.lemmas.Nat.{mul-add-lt, div_below}
 use Rattle.std.proofs.Math.Nat.{mul_comm}
-use Rattle.jxlm_base.specs.Grid.{Grid, grid, at, with_cell}
-use Rattle.jxlm_base.specs.Regions.{grid_of, store_meanings, with_region_cell, Lies, AreApart}
+use Rattle.jxlm_base.specs.Grid.{Grid, at}
+use Rattle.jxlm_base.specs.Regions.{grid_of, store_meanings, with_region_cell}
 use Rattle.jxlm_base.specs.declared.subgrid.Region.{Region}
 use Rattle.jxlm_base.specs.Outside.{KeepsOutside}
 use Rattle.jxlm_base.proofs.Regions.{grid_of_set, grid_of_set_apart, IsFull-grid_of}
@@ -18,7 +18,7 @@ use Rattle.jxlm_transform.specs.declared.transform.Palette.{Palette}
 use Rattle.jxlm_transform.specs.declared.palette.FinishedChannel.{FinishedChannel}
 use Rattle.jxlm_transform.proofs.PaletteLaws.{is_finished}
 use Rattle.jxlm_transform.specs.Palette.{finished_channel, finished_sample, finished_samples, is_delta, colour_of, predicted}
-use Rattle.jxlm_transform.specs.PaletteSteps.{ChannelLies, SetsSample, Ahead, Filled, FillsOn, FillsOnBy, IsSimple, IsSimpleIndex, IsSimpleRow, StandsBefore, kept, looked_up, table_in, index_in}
+use Rattle.jxlm_transform.specs.PaletteSteps.{ChannelLies, SetsSample, Ahead, Filled, FillsOn, FillsOnBy, IsSimpleIndex, StandsBefore, kept, looked_up, table_in, index_in}
 
 -- ---- indices of the table that are no deltas
 

@@ -1,6 +1,6 @@
 -- How far the inverse of a palette has come: what its loops over channels, rows and columns keep.
-use Rattle.std.specs.Prelude.{◌≡◌, ℕ, ◌+◌, ◌*◌, ◌<◌, ◌≤◌, ◌⊎◌, List, [], ◌∷◌, ◌++◌, length, take, get_or, ℤ, pos, negsuc, unsigned_abs}
-use Rattle.std.specs.Int.{Width, int_wrap}
+use Rattle.std.specs.Prelude.{◌≡◌, ℕ, ◌<◌, ◌≤◌, ◌⊎◌, List, [], length, take, get_or, ℤ, pos, negsuc, unsigned_abs}
+use Rattle.std.specs.Int.{Width}
 use Rattle.jxlm_base.specs.Grid.{Grid, at}
 use Rattle.jxlm_base.specs.Regions.{Lies, AreApart, grid_of, store_meanings, with_region_cell}
 use Rattle.jxlm_base.specs.declared.subgrid.Region.{Region}
@@ -9,7 +9,7 @@ use Rattle.jxlm_tree.specs.Standing.{StandsAt, setting}
 use Rattle.jxlm_tree.specs.declared.state.PredictorState.{PredictorState}
 use Rattle.jxlm_transform.specs.declared.transform.Palette.{Palette}
 use Rattle.jxlm_transform.specs.declared.palette.FinishedChannel.{FinishedChannel}
-use Rattle.jxlm_transform.specs.Palette.{finished_channel, finished_sample, finished_samples}
+use Rattle.jxlm_transform.specs.Palette.{finished_channel, finished_samples}
 
 -- an index of the table that is no delta
 abbrev pub IsSimpleIndex : Palette → ℤ → Type 0

@@ -1,8 +1,7 @@
 -- What the program prints for the bytes of its input.
-use Rattle.std.specs.Prelude.{◌≡◌, ℕ, ◌⊎◌, ℤ, pos, List, map, replicate, Some, None, Result, Ok, Err}
+use Rattle.std.specs.Prelude.{◌≡◌, ℕ, ◌⊎◌, ℤ, pos, List, replicate, Some, None, Result, Ok, Err}
 use Rattle.std.specs.Int.{Width, w16, w32}
 use Rattle.jxlm_base.specs.Fault.{NoMemory, fault_of}
-use Rattle.jxlm_base.specs.Grid.{meanings}
 use Rattle.jxlm_base.specs.Plain.{PlainState, plain}
 use Rattle.jxlm_base.specs.declared.error.Error.{Error}
 use Rattle.jxlm_transform.specs.Params.{sized}

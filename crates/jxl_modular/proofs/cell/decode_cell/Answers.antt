@@ -1,12 +1,8 @@
-use Rattle.std.proofs.Common.{◌≡◌, ◌+◌, ◌*◌, ◌∷◌, ◌++◌, [], take, sym, ap, ◌∙◌, subst, List, rules, w32, FitsSigned}
+use Rattle.std.proofs.Common.{◌+◌, ◌*◌, take, ◌∙◌, rules, w32, FitsSigned}
 use Rattle.std.proofs.lemmas.Int.{to_z-of_z}
 use Rattle.std.proofs.lemmas.Result.{err_from_is_err_and}
 use Rattle.jxlm_base.specs.Bits.{bytes_of, position_of}
-use Rattle.jxlm_base.specs.Grid.{Grid}
 use Rattle.jxlm_base.specs.Regions.{grid_of, store_meanings}
-use Rattle.jxlm_tree.specs.Holding.{state_of, store_of}
-use Rattle.jxlm_tree.specs.Standing.{StandsAt}
-use Rattle.jxlm_tree.specs.declared.state.PredictorState.{PredictorState}
 use Rattle.jxl_modular.specs.Reading.{region_at, regions_of, setting_of}
 use Rattle.jxl_modular.proofs.CellLaws.{clusters_at, cost_at, is_ready, reads_cell, refuses_cell, has_room_so, roomy_still, stands_further, stands_so}
 use Rattle.jxl_modular.proofs.cell.decode_cell.Goals as goal

@@ -1,4 +1,4 @@
-use Rattle.std.proofs.Common.{Contains, refl, ap, sym, ◌∙◌}
+use Rattle.std.proofs.Common.{Contains}
 use Rattle.std.proofs.lemmas.Result.{err_from_is_err_and}
 use Rattle.jxlm_base.specs.Bits.{bytes_of, position_of}
 use Rattle.jxlm_tree.proofs.FlatTrees.{standing_leaf}

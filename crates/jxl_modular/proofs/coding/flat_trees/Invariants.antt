@@ -1,4 +1,3 @@
-use Rattle.std.proofs.Common.{◌≤◌}
 use Rattle.jxl_modular.specs.Reading.{HasFlats}
 use Rattle.jxl_modular.proofs.coding.flat_trees.Given as goal
 

@@ -1,4 +1,4 @@
-use Rattle.std.proofs.Common.{◌≡◌, ◌<◌, ◌-◌, ◌∙◌, suc, true, false, min, ap, sym, subst, arith, rules, []}
+use Rattle.std.proofs.Common.{◌≡◌, ◌<◌, ◌-◌, ◌∙◌, suc, true, false, min, ap, subst, arith, rules, []}
 use Rattle.jxlm_tree.specs.FlatTree.{FlatTree, earlier_named}
 use Rattle.jxlm_tree.specs.Standing.{StandsAt, setting}
 use Rattle.jxl_modular.specs.Reading.{reach_of, region_at, regions_of}

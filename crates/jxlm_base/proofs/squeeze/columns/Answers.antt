@@ -1,4 +1,4 @@
-use Rattle.std.proofs.Common.{◌≡◌, inl, inr, arith, refl}
+use Rattle.std.proofs.Common.{◌≡◌, inl, arith, refl}
 use Rattle.jxlm_base.specs.Subgrid.{whole}
 use Rattle.jxlm_base.proofs.RowWrites.{outside_none}
 use Rattle.jxlm_base.proofs.Undo.{no_columns, no_samples}

@@ -1,4 +1,4 @@
-use Rattle.std.proofs.Common.{◌≡◌, inl, inr, arith, refl}
+use Rattle.std.proofs.Common.{◌≡◌, inr, arith, refl}
 use Rattle.jxlm_base.specs.Subgrid.{whole}
 use Rattle.jxlm_base.proofs.RowWrites.{outside_none}
 use Rattle.jxlm_base.proofs.Undo.{no_rows, no_samples}

@@ -1,4 +1,4 @@
-use Rattle.std.proofs.Common.{◌≡◌, ◌+◌, ◌∙◌, ap, FitsSigned, length, arith, subst, sym}
+use Rattle.std.proofs.Common.{◌≡◌, ◌∙◌, ap, FitsSigned, length, arith, subst, sym}
 use Rattle.jxlm_base.proofs.NumberAt.{number_read}
 use Rattle.jxlm_base.proofs.Lines.{CopiedSoFar, copied_none, copied_more}
 use Rattle.jxlm_base.proofs.squeeze.single_line.Goals as goal

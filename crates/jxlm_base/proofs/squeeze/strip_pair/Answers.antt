@@ -1,6 +1,6 @@
-use Rattle.std.proofs.Common.{◌≡◌, ℕ, ◌+◌, ◌-◌, ◌*◌, ◌/◌, ◌<◌, ◌≤◌, List, ℤ, FitsSigned, length, arith, ◌∙◌, sym, ap, subst}
+use Rattle.std.proofs.Common.{◌≡◌, ℕ, ◌+◌, ◌*◌, ◌<◌, List, ℤ, FitsSigned, length, arith, ◌∙◌, sym, ap, subst}
 use Rattle.std.specs.Int.{Width}
-use Rattle.jxlm_base.specs.Grid.{Grid, at, meanings}
+use Rattle.jxlm_base.specs.Grid.{at, meanings}
 use Rattle.jxlm_base.specs.Squeeze.{averages}
 use Rattle.jxlm_base.specs.Subgrid.{whole}
 use Rattle.jxlm_base.specs.Unsqueeze.{number_at, next_in, first_of, second_of, column_in}

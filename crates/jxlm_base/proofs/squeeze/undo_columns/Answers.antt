@@ -1,4 +1,4 @@
-use Rattle.std.proofs.Common.{◌≡◌, ℕ, ◌+◌, ◌-◌, ◌*◌, ◌/◌, ◌<◌, ◌≤◌, inl, inr, length, arith, ◌∙◌, refl, sym, subst}
+use Rattle.std.proofs.Common.{◌≡◌, ℕ, ◌+◌, ◌<◌, ◌≤◌, inr, arith, ◌∙◌, refl, subst}
 use Rattle.std.specs.Int.{Width}
 use Rattle.jxlm_base.specs.Grid.{at as at_of, meanings}
 use Rattle.jxlm_base.specs.Squeeze.{AreSamples}

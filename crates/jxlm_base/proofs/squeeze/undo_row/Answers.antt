@@ -1,7 +1,5 @@
-use Rattle.std.proofs.Common.{◌≡◌, ℕ, ◌+◌, ◌<◌, ◌≤◌, List, length, arith, ◌∙◌}
-use Rattle.std.specs.Prelude.{slice_range}
+use Rattle.std.proofs.Common.{◌≡◌, ◌+◌, length, arith, ◌∙◌}
 use Rattle.std.proofs.lemmas.Grind.{common_steps}
-use Rattle.jxlm_base.specs.Grid.{Grid, row, written, with_row}
 use Rattle.jxlm_base.specs.Subgrid.{whole}
 use Rattle.jxlm_base.proofs.Undo.{row_undone, row_samples, row_outside}
 use Rattle.jxlm_base.proofs.squeeze.undo_row.Goals as goal

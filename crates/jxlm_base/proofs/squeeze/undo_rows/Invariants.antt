@@ -1,4 +1,4 @@
-use Rattle.std.proofs.Common.{◌≡◌, ℕ, ◌+◌, ◌<◌, length}
+use Rattle.std.proofs.Common.{◌≡◌, ℕ, ◌<◌, length}
 use Rattle.jxlm_base.specs.Squeeze.{AreSamples}
 use Rattle.jxlm_base.specs.Subgrid.{whole, IsSamePlace, IsSameOutside}
 use Rattle.jxlm_base.specs.Unsqueeze.{row_in, IsUnsqueezed}

@@ -1,6 +1,6 @@
-use Rattle.std.proofs.Common.{◌≡◌, ℕ, ◌+◌, ◌*◌, ◌<◌, ◌≤◌, ℤ, length, arith, ◌∙◌, refl, sym, ap}
+use Rattle.std.proofs.Common.{◌≡◌, ℕ, ◌+◌, ◌*◌, ℤ, arith, ◌∙◌, refl, sym, ap}
 use Rattle.std.specs.Int.{Width}
-use Rattle.jxlm_base.specs.Grid.{Grid, at, place, meanings}
+use Rattle.jxlm_base.specs.Grid.{at, place, meanings}
 use Rattle.jxlm_base.specs.Subgrid.{whole}
 use Rattle.jxlm_base.specs.Unsqueeze.{number_at, column_in}
 use Rattle.jxlm_base.proofs.NumberAt.{number_same}

@@ -1,4 +1,4 @@
-use Rattle.std.proofs.Common.{◌≡◌, ℕ, ◌+◌, ◌*◌, ◌<◌, ◌≤◌, length, arith, subst}
+use Rattle.std.proofs.Common.{◌≡◌, ◌+◌, length, arith, subst}
 use Rattle.jxlm_base.proofs.NumberAt.{number_read}
 use Rattle.jxlm_base.proofs.Lines.{LinesSoFar, lines_none, lines_more}
 use Rattle.jxlm_base.proofs.squeeze.unsqueeze_lines.Goals as goal

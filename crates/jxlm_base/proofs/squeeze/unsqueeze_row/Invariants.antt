@@ -1,4 +1,4 @@
-use Rattle.std.proofs.Common.{◌≡◌, ◌<◌, length}
+use Rattle.std.proofs.Common.{◌≡◌, length}
 use Rattle.jxlm_base.specs.Unsqueeze.{number_at, before_in}
 use Rattle.jxlm_base.proofs.RowLoop.{RowSoFar}
 use Rattle.jxlm_base.proofs.squeeze.unsqueeze_row.Given as goal

@@ -1,4 +1,4 @@
-use Rattle.std.proofs.Common.{◌≡◌, ℕ, ◌+◌, ◌*◌, ◌<◌, ◌≤◌, length, arith, ◌∙◌, refl, sym, subst}
+use Rattle.std.proofs.Common.{◌≡◌, ℕ, ◌+◌, ◌*◌, ◌<◌, length, arith, ◌∙◌, refl, subst}
 use Rattle.std.specs.Prelude.{slice_range}
 use Rattle.jxlm_base.specs.Subgrid.{whole, IsSameOutside}
 use Rattle.jxlm_base.proofs.RowWrites.{line_within, length-slice_range, outside_none, lines_outside, lines_written}

@@ -1,10 +1,9 @@
-use Rattle.std.proofs.Common.{◌≡◌, ◌<◌, ◌≤◌, ◌^◌, refl, sym, ap, ◌∙◌, inl, inr, Ok, Some, pos}
+use Rattle.std.proofs.Common.{refl, ap, ◌∙◌, inr, Ok, Some, pos}
 use Rattle.jxlm_base.specs.Plain.{plain}
-use Rattle.std.specs.Prelude.{map, replicate}
+use Rattle.std.specs.Prelude.{map}
 use Rattle.std.proofs.lemmas.Result.{err_from_is_err_and}
 use Rattle.jxlm_base.specs.Grid.{meanings}
 use Rattle.jxlm_base.specs.Bits.{bytes_of, position_of}
-use Rattle.jxlmod.specs.Drawing.{AreParamsOf}
 use Rattle.jxlmod.specs.Printing.{image_text}
 use Rattle.jxlmod.proofs.Pictures.{valid_params, moved}
 use Rattle.jxlmod.proofs.drawing.picture.Goals as goal

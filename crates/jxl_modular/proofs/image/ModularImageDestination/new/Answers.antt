@@ -10,7 +10,6 @@ use Rattle.jxlm_transform.specs.Transforms.{transform_of}
 use Rattle.jxlm_transform.specs.declared.channels.ModularChannelInfo.{ModularChannelInfo}
 use Rattle.jxlm_transform.specs.declared.transform.TransformInfo.{TransformInfo}
 use Rattle.jxl_modular.specs.Fresh.{zeros}
-use Rattle.jxl_modular.specs.Header.{header_of}
 use Rattle.jxl_modular.proofs.FreshLaws.{kept_again, narrow_channels, zeros_fit, zeros_narrow}
 use Rattle.jxl_modular.proofs.image.ModularImageDestination.new.Goals as goal
 

@@ -1,7 +1,4 @@
-use Rattle.std.proofs.Common.{◌≡◌, ◌<◌, inl, inr, true, refl, arith}
-use Rattle.std.proofs.lemmas.Bool.{cases_lt}
-use Rattle.jxlm_base.specs.Regions.{grid_of, store_meanings}
-use Rattle.jxlm_transform.proofs.PaletteChannels.{all_done, simple_where_empty}
+use Rattle.jxlm_transform.proofs.PaletteChannels.{all_done}
 use Rattle.jxlm_transform.proofs.transform.Palette.inverse.Goals as goal
 
 pub returns-then-is_simple-clause-finished : goal.returns-then-is_simple-clause-finished

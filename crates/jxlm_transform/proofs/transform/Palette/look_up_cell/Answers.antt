@@ -5,7 +5,6 @@ use Rattle.std.proofs.lemmas.Int.{to_z-of_z}
 use Rattle.jxlm_base.specs.Grid.{at}
 use Rattle.jxlm_base.specs.Regions.{store_meanings}
 use Rattle.jxlm_transform.specs.PaletteSteps.{table_in}
-use Rattle.jxlm_transform.proofs.PaletteSteps.{simple_place}
 use Rattle.jxlm_transform.proofs.transform.Palette.look_up_cell.Goals as goal
 
 pub returns : goal.returns

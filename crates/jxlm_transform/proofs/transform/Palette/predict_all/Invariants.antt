@@ -1,4 +1,4 @@
-use Rattle.std.proofs.Common.{ℕ, ◌-◌, length}
+use Rattle.std.proofs.Common.{◌-◌, length}
 use Rattle.jxlm_tree.specs.Standing.{HasSameRoom}
 use Rattle.jxlm_transform.specs.PaletteSteps.{ChannelsDone}
 use Rattle.jxlm_transform.proofs.transform.Palette.predict_all.Given as goal
