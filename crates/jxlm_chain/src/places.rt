@@ -1,6 +1,6 @@
 //! Where the channels of an image lie in a store, ahead of its transforms and behind each of them.
 
-ghost use Rattle.std.specs.Prelude.{◌≡◌, ℕ, ◌+◌, ◌^◌, ◌<◌, ◌≤◌, ◌++◌, length, map, IfOk};
+ghost use Rattle.std.specs.Prelude.{◌≡◌, ℕ, ◌+◌, ◌^◌, ◌<◌, ◌≤◌, ◌++◌, length, map, IfOk, IfErr};
 ghost use Rattle.std.specs.List.{All};
 ghost use Rattle.jxlm_base.specs.Squeeze.{averages as the_averages};
 ghost use Rattle.jxlm_transform.specs.SqueezedRegions.{average_region, residual_region};
@@ -185,12 +185,13 @@ impl Places {
     ///
     /// # Errors
     ///
-    /// `OutOfMemory` where memory is refused; nothing is said of the places then.
+    /// `OutOfMemory` where memory is refused; the places are as before then.
     pub fn index(&mut self, alloc: Global, palette: &Palette) -> Result<(), OutOfMemory>
         requires some_channels { 1 ≤ palette.now.num_c }
         requires range { palette.now.begin_c + palette.now.num_c ≤ length self.old.regions.items }
         requires room { self.old.buffers + 1 < 2 ^ 64 }
-        ensures { IfOk result (λ _. layout_of self.new ≡ layout_after (PaletteStep palette.now) (layout_of self.old)) }
+        ensures gives { IfOk result (λ _. layout_of self.new ≡ layout_after (PaletteStep palette.now) (layout_of self.old)) }
+        ensures unchanged { IfErr result (λ _. layout_of self.new ≡ layout_of self.old) }
     {
         let begin = palette.begin_c as usize;
         let count = palette.num_c as usize;
@@ -215,10 +216,11 @@ impl Places {
     ///
     /// # Errors
     ///
-    /// `OutOfMemory` where memory is refused; nothing is said of the places then.
+    /// `OutOfMemory` where memory is refused; the places are as before then.
     pub fn halve(&mut self, alloc: Global, step: &SqueezeParams) -> Result<(), OutOfMemory>
         requires { step.now.begin_c + step.now.num_c ≤ length self.old.regions.items }
-        ensures { IfOk result (λ _. layout_of self.new ≡ layout_after (SqueezeStep step.now) (layout_of self.old)) }
+        ensures gives { IfOk result (λ _. layout_of self.new ≡ layout_after (SqueezeStep step.now) (layout_of self.old)) }
+        ensures unchanged { IfErr result (λ _. layout_of self.new ≡ layout_of self.old) }
     {
         let regions = halved(alloc, step, &self.regions)?;
         self.regions = regions;
