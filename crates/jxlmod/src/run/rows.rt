@@ -68,7 +68,7 @@ fn pictures_are_printed(rt: HostRuntime) -> Result<(), Fail> {
         (four, GRADIENT, "channel 0 2x2\n1 3\n0 2\n"),
         ("decode 2 2 1 8 i16", GRADIENT, "channel 0 2x2\n1 3\n0 2\n"),
         (
-            "decode 02 2 001 8 i32",
+            "decode 002 2 001 8 i32",
             GRADIENT,
             "channel 0 2x2\n1 3\n0 2\n",
         ),
