@@ -1,5 +1,5 @@
 -- The ends of regions behind a step.
-use Rattle.std.proofs.Common.{◌≡◌, ℕ, ◌+◌, ◌^◌, ◌<◌, Bool, true, false, List, [], ◌∷◌, ◌++◌, map, take, drop, subst, sym, arith}
+use Rattle.std.proofs.Common.{◌≡◌, ℕ, ◌+◌, ◌^◌, ◌<◌, Bool, true, false, List, [], ◌∷◌, ◌++◌, map, take, drop, subst, sym, arith, refl, ◌∙◌, Result, Ok, Err, IfOk, IfErr}
 use Rattle.std.specs.List.{All}
 use Rattle.std.proofs.lemmas.List.Elements.{All-cons, All-nil, All-append}
 use Rattle.jxlm_base.specs.Regions.{region}
@@ -23,6 +23,13 @@ pub halves_end : (t : SqueezeParams) (rs new : List Region) → All HasEnds rs �
     new ≡ with_halves t (map (average_region t.horizontal) (range t.begin_c t.num_c rs)) (map (residual_region t.horizontal) (range t.begin_c t.num_c rs)) rs → All HasEnds new
 halves_end t rs new ends is =
     subst (All HasEnds) (sym is) (all_halves HasEnds t (average_region t.horizontal) (residual_region t.horizontal) rs (average_ends t.horizontal) (residual_ends t.horizontal) ends)
+
+-- and behind a call that put the halves of a range into a list, or left it as it was
+pub call_ends : {U E : Type 0} (t : SqueezeParams) (rs seen us averages residuals new : List Region) (r : Result U E) → All HasEnds rs → seen ≡ rs → us ≡ averages →
+    averages ≡ map (average_region t.horizontal) (range t.begin_c t.num_c seen) → residuals ≡ map (residual_region t.horizontal) (range t.begin_c t.num_c seen) →
+    IfOk r (λ _. new ≡ with_halves t us residuals rs) → IfErr r (λ _. new ≡ rs) → All HasEnds new
+call_ends t rs seen us averages residuals new (Ok u) ends same same_us a r gives unchanged = halves_end t rs new ends (gives ∙ rw (same_us, a, r, same) refl)
+call_ends t rs seen us averages residuals new (Err e) ends same same_us a r gives unchanged = subst (All HasEnds) (sym unchanged) ends
 
 -- of a range
 pub range_ends : (begin n : ℕ) (rs : List Region) → All HasEnds rs → All HasEnds (range begin n rs)

@@ -99,59 +99,6 @@ fn residual_parts(
     Ok(parts)
 }
 
-/// Four lists, one behind the other.
-fn joined(
-    alloc: Global,
-    first: &[Region],
-    second: &[Region],
-    third: &[Region],
-    fourth: &[Region],
-) -> Result<Vec<Region>, OutOfMemory>
-    ensures { IfOk result (λ v. v.items ≡ first.now ++ second.now ++ third.now ++ fourth.now) }
-{
-    let mut all = Vec::from_slice(alloc, first)?;
-    all.extend_from_slice(second)?;
-    all.extend_from_slice(third)?;
-    all.extend_from_slice(fourth)?;
-    Ok(all)
-}
-
-/// The regions with averages in the place of the range, and residuals behind it or at the end.
-fn arranged(
-    alloc: Global,
-    step: &SqueezeParams,
-    regions: &[Region],
-    averages: &[Region],
-    residuals: &[Region],
-) -> Result<Vec<Region>, OutOfMemory>
-    requires { step.now.begin_c + step.now.num_c ≤ length regions.now }
-    ensures { IfOk result (λ v. v.items ≡ the_halves step.now averages.now residuals.now regions.now) }
-{
-    let ahead = &regions[..step.begin_c];
-    let behind = &regions[step.begin_c + step.num_c..];
-    if step.in_place {
-        joined(alloc, ahead, averages, residuals, behind)
-    } else {
-        joined(alloc, ahead, averages, behind, residuals)
-    }
-}
-
-/// The regions after a squeeze step.
-fn halved(
-    alloc: Global,
-    step: &SqueezeParams,
-    regions: &[Region],
-) -> Result<Vec<Region>, OutOfMemory>
-    requires range { step.now.begin_c + step.now.num_c ≤ length regions.now }
-    requires ends { All HasEnds regions.now }
-    ensures { IfOk result (λ v. v.items ≡ the_halves step.now (map (average_region step.now.horizontal) (range step.now.begin_c step.now.num_c regions.now)) (map (residual_region step.now.horizontal) (range step.now.begin_c step.now.num_c regions.now)) regions.now) }
-{
-    let range = &regions[step.begin_c..step.begin_c + step.num_c];
-    let averages = average_parts(alloc, range, step.horizontal)?;
-    let residuals = residual_parts(alloc, range, step.horizontal)?;
-    arranged(alloc, step, regions, &averages, &residuals)
-}
-
 impl Places {
     ghost use Rattle.jxlm_chain.specs.Places.{layout_of};
 
@@ -193,19 +140,14 @@ impl Places {
         ensures gives { IfOk result (λ _. layout_of self.new ≡ layout_after (PaletteStep palette.now) (layout_of self.old)) }
         ensures unchanged { IfErr result (λ _. layout_of self.new ≡ layout_of self.old) }
     {
-        let begin = palette.begin_c as usize;
-        let count = palette.num_c as usize;
-        let table = [Region {
+        let table = Region {
             buffer: self.buffers,
             x: 0,
             y: 0,
             width: palette.nb_colours as usize,
-            height: count,
-        }];
-        let ahead = &self.regions[..begin + 1];
-        let behind = &self.regions[begin + count..];
-        let regions = joined(alloc, &table, ahead, behind, &[])?;
-        self.regions = regions;
+            height: palette.num_c as usize,
+        };
+        palette.put_table(&mut self.regions, table)?;
         self.buffers += 1;
         Ok(())
     }
@@ -222,8 +164,9 @@ impl Places {
         ensures gives { IfOk result (λ _. layout_of self.new ≡ layout_after (SqueezeStep step.now) (layout_of self.old)) }
         ensures unchanged { IfErr result (λ _. layout_of self.new ≡ layout_of self.old) }
     {
-        let regions = halved(alloc, step, &self.regions)?;
-        self.regions = regions;
-        Ok(())
+        let range = &self.regions[step.begin_c..step.begin_c + step.num_c];
+        let averages = average_parts(alloc, range, step.horizontal)?;
+        let residuals = residual_parts(alloc, range, step.horizontal)?;
+        step.put_halves(&mut self.regions, &averages, residuals)
     }
 }

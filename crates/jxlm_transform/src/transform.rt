@@ -8,6 +8,7 @@ ghost use Rattle.jxlm_tree.specs.WeightsHeader.{AnswersExactly};
 ghost use Rattle.jxlm_transform.specs.Transforms.{OfPalette, transform_of, begin_channel as the_begin_channel, rct, predictor, weights_for, palette, squeeze_params, squeeze, transform, least_of, greatest_of, IsRct, IsPalette, IsSqueezeParams, IsSqueeze, IsTransform, HasChannels, KeepsWeights, IsPaletteTransform, IsSqueezeTransform};
 
 mod default_squeeze;
+mod lists;
 mod steps;
 
 use jxlm_base::bits::{Bitstream, BitstreamError, U32Spec};

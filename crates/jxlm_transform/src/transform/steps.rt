@@ -50,23 +50,6 @@ fn keeps_meta(begin: usize, count: usize, nb_meta: usize) -> bool
     begin >= nb_meta || has_range(begin, count, nb_meta)
 }
 
-/// Four lists, one behind the other.
-fn joined(
-    alloc: Global,
-    first: &[ModularChannelInfo],
-    second: &[ModularChannelInfo],
-    third: &[ModularChannelInfo],
-    fourth: &[ModularChannelInfo],
-) -> std::result::Result<Vec<ModularChannelInfo>, OutOfMemory>
-    ensures { IfOk result (λ v. v.items ≡ first.now ++ second.now ++ third.now ++ fourth.now) }
-{
-    let mut all = Vec::from_slice(alloc, first).map_err(|_| OutOfMemory)?;
-    all.extend_from_slice(second).map_err(|_| OutOfMemory)?;
-    all.extend_from_slice(third).map_err(|_| OutOfMemory)?;
-    all.extend_from_slice(fourth).map_err(|_| OutOfMemory)?;
-    Ok(all)
-}
-
 impl Rct {
     /// Whether the transform suits the channels: three of them stand from its first on, of one size.
     /// The list stays as it is.
@@ -110,16 +93,13 @@ impl Palette {
         if !has_one_size(&channels.info, begin, count) || !keeps_meta(begin, count, nb_meta) {
             return Err(Error::InvalidPaletteParams);
         }
-        let table = [ModularChannelInfo::table(self.nb_colours, self.num_c)];
-        let ahead = &channels.info[..begin + 1];
-        let behind = &channels.info[begin + count..];
-        let info = joined(alloc, &table, ahead, behind, &[])?;
+        let table = ModularChannelInfo::table(self.nb_colours, self.num_c);
+        self.put_table(&mut channels.info, table)?;
         channels.nb_meta_channels = if begin < nb_meta {
             nb_meta + 2 - count
         } else {
             nb_meta + 1
         };
-        channels.info = info;
         Ok(())
     }
 }
@@ -187,40 +167,20 @@ impl SqueezeParams {
             && can_all_be_squeezed(&channels.info[self.begin_c..self.begin_c + self.num_c])
     }
 
-    /// The list with averages in the place of the range, and residuals behind it or at the end.
-    fn arranged(
+    /// Puts the halves of the channels of the range in their places.
+    fn halve(
         &self,
         alloc: Global,
-        channels: &[ModularChannelInfo],
-        averages: &[ModularChannelInfo],
-        residuals: &[ModularChannelInfo],
-    ) -> std::result::Result<Vec<ModularChannelInfo>, OutOfMemory>
-        requires { self.now.begin_c + self.now.num_c ≤ length channels.now }
-        ensures { IfOk result (λ v. map channel_of v.items ≡ the_halves self.now (map channel_of averages.now) (map channel_of residuals.now) (map channel_of channels.now)) }
-    {
-        let ahead = &channels[..self.begin_c];
-        let behind = &channels[self.begin_c + self.num_c..];
-        if self.in_place {
-            joined(alloc, ahead, averages, residuals, behind)
-        } else {
-            joined(alloc, ahead, averages, behind, residuals)
-        }
-    }
-
-    /// The list after the step.
-    fn with_halves(
-        &self,
-        alloc: Global,
-        channels: &[ModularChannelInfo],
-    ) -> std::result::Result<Vec<ModularChannelInfo>, OutOfMemory>
-        requires range { self.now.begin_c + self.now.num_c ≤ length channels.now }
-        requires each { All (λ c. IsTrue (can_be_squeezed (channel_of c))) (range self.now.begin_c self.now.num_c channels.now) }
-        ensures { IfOk result (λ v. map channel_of v.items ≡ the_halves self.now (map (average_channel self.now.horizontal) (range self.now.begin_c self.now.num_c (map channel_of channels.now))) (map (residual_channel self.now.horizontal) (range self.now.begin_c self.now.num_c (map channel_of channels.now))) (map channel_of channels.now)) }
+        channels: &mut Vec<ModularChannelInfo>,
+    ) -> std::result::Result<(), OutOfMemory>
+        requires range { self.now.begin_c + self.now.num_c ≤ length channels.old.items }
+        requires each { All (λ c. IsTrue (can_be_squeezed (channel_of c))) (range self.now.begin_c self.now.num_c channels.old.items) }
+        ensures { IfOk result (λ _. map channel_of channels.new.items ≡ the_halves self.now (map (average_channel self.now.horizontal) (range self.now.begin_c self.now.num_c (map channel_of channels.old.items))) (map (residual_channel self.now.horizontal) (range self.now.begin_c self.now.num_c (map channel_of channels.old.items))) (map channel_of channels.old.items)) }
     {
         let range = &channels[self.begin_c..self.begin_c + self.num_c];
         let averages = averages(alloc, range, self.horizontal)?;
         let residuals = residuals(alloc, range, self.horizontal)?;
-        self.arranged(alloc, channels, &averages, &residuals)
+        self.put_halves(channels, &averages, residuals)
     }
 
     /// Halves the channels of the range along one side. Averages stand in their place, residuals
@@ -245,11 +205,10 @@ impl SqueezeParams {
         if !self.suits(channels) {
             return Err(Error::InvalidSqueezeParams);
         }
-        let info = self.with_halves(alloc, &channels.info)?;
+        self.halve(alloc, &mut channels.info)?;
         if self.begin_c < channels.nb_meta_channels {
             channels.nb_meta_channels += self.num_c;
         }
-        channels.info = info;
         Ok(())
     }
 }

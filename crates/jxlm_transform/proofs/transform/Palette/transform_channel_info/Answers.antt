@@ -14,5 +14,5 @@ returns-clause-gives c =
     let meta = sym c.keeps_meta.ensures ∙ c.if-not-keeps_meta.false in
     let nb_meta : c.if-begin-nb_meta.channels ≡ (if nat_lt t.begin_c l.nb_meta then l.nb_meta + 2 - t.num_c else l.nb_meta + 1) =
     elim c.if-begin-nb_meta.branch [ then-begin-nb_meta w ↦ search (rules, tests) | else-begin-nb_meta w ↦ search (rules, tests) ] in
-    palette_suits t l (list_of (record { info = c.in_ok-info.info; nb_meta_channels = c.if-begin-nb_meta.channels })) there meta
-    (with_table c.table.result t.nb_colours t.num_c t.begin_c t.num_c xs c.deref-2.result.now c.deref-3.result.now c.in_ok-info.info.items c.table.ensures c.deref-2.ensures.value c.deref-3.ensures.value c.in_ok-info.ensures) nb_meta
+    palette_suits t l (list_of (record { info = c.put_table.new.list; nb_meta_channels = c.if-begin-nb_meta.channels })) there meta
+    (with_table c.table-table.result t.nb_colours t.num_c t.begin_c t.num_c xs c.put_table.new.list.items c.table-table.ensures c.in_ok-put_table.ensures.gives) nb_meta

@@ -6,10 +6,9 @@ use Rattle.jxlm_transform.specs.ChannelSteps.{can_be_squeezed, range, squeeze_ra
 use Rattle.jxlm_transform.proofs.Views.{range-map, all_pass}
 use Rattle.jxlm_transform.proofs.transform.SqueezeParams.transform_channel_info.Goals as goal
 
-pub with_halves-requires-clause-each : goal.with_halves-requires-clause-each
-with_halves-requires-clause-each c =
+pub halve-requires-clause-each : goal.halve-requires-clause-each
+halve-requires-clause-each c =
     let t = c.args.self.now in
     let l = list_of c.args.channels.now in
     let both = and_parts (squeeze_range t l) (list_all can_be_squeezed (range t.begin_c t.num_c l.channels)) (sym c.suits.ensures ∙ c.if-not-suits.false) in
-    let passes = all_pass can_be_squeezed (range t.begin_c t.num_c c.args.channels.now.info.items) (rw (range-map channel_of t.begin_c t.num_c c.args.channels.now.info.items) at both.1) in
-    rw c.deref.ensures.value passes
+    all_pass can_be_squeezed (range t.begin_c t.num_c c.args.channels.now.info.items) (rw (range-map channel_of t.begin_c t.num_c c.args.channels.now.info.items) at both.1)
