@@ -1,10 +1,9 @@
 //! With what a part is coded, and what is made ready before its first bit is read.
 
 ghost use Rattle.std.specs.Prelude.{◌≡◌, ℕ, ◌^◌, ◌<◌, ◌≤◌, List, IfOk, IfErr, length};
-ghost use Rattle.jxlm_base.specs.Fault.{fault_of};
+ghost use Rattle.jxlm_base.specs.Fault.{NoMemory, fault_of};
 ghost use Rattle.jxlm_base.specs.Grid.{Grid};
 ghost use Rattle.jxlm_tree.specs.SelfCorrecting.{IsHeader};
-ghost use Rattle.jxlm_tree.specs.TreeReading.{IsWantOfMemory};
 ghost use Rattle.jxl_modular.specs.Layout.{channel_of};
 ghost use Rattle.jxl_modular.specs.Part.{is_alike as alike};
 ghost use Rattle.jxl_modular.specs.Reading.{HasFlats, IsCodingOf, IsRoomy, IsRoomyFor, StandsBehind, region_at, regions_of};
@@ -82,7 +81,7 @@ pub(crate) fn start_channel<S: Sample, D: Decoder>(
     }
 }
 
-/// The tree as each of so many channels walks it. It is refused for want of memory alone.
+/// The tree as each of n channels walks it. The only error is `Buffer`, where memory runs out.
 pub(crate) fn flat_trees<D: Decoder>(
     alloc: Global,
     config: &MaConfig<D>,
@@ -90,18 +89,18 @@ pub(crate) fn flat_trees<D: Decoder>(
     channels: u32,
 ) -> Result<Vec<FlatMaTree>>
     ensures ok { IfOk result (λ v. HasFlats config.now.tree stream_index channels v.items) }
-    ensures err { IfErr result (λ e. IsWantOfMemory (fault_of e)) }
+    ensures err { IfErr result (λ e. fault_of e ≡ NoMemory) }
 {
     let mut flats = Vec::new(alloc);
     for channel in 0..channels {
-        let flat = config.make_flat_tree(channel, stream_index, channel)?;
+        let flat = config.make_flat_tree(alloc, channel, stream_index, channel)?;
         flats.push(flat).map_err(|_| OutOfMemory)?;
     }
     Ok(flats)
 }
 
 /// A state with room for channels of these flat trees and up to this width; it heeds the weights where the tree asks for
-/// them. It is refused for want of memory alone.
+/// them. The only error is `Buffer`, where memory runs out.
 pub(crate) fn roomy_state<S: Sample>(
     alloc: Global,
     flats: &[FlatMaTree],
@@ -111,7 +110,7 @@ pub(crate) fn roomy_state<S: Sample>(
     requires weights { IsHeader weights.now }
     requires narrow { widest ≤ 2 ^ 30 }
     ensures ok { IfOk result (λ s. IsRoomyFor widest weights.now flats.now s) }
-    ensures err { IfErr result (λ e. IsWantOfMemory (fault_of e)) }
+    ensures err { IfErr result (λ e. fault_of e ≡ NoMemory) }
 {
     let used = match flats.first() {
         Some(flat) if flat.need_self_correcting() => Some(weights),

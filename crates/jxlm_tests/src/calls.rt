@@ -55,7 +55,7 @@ fn a_tree_of_bytes(rt: HostRuntime) -> Result<(), Fail> {
     assert_eq!(rt; config.num_tree_nodes(), 1);
     assert_eq!(rt; config.tree_depth(), 0);
     assert_eq!(rt; config.decoder().cluster_map(), [0].as_slice());
-    let flat = config.make_flat_tree(0, 0, 0)?;
+    let flat = config.make_flat_tree(rt.alloc(), 0, 0, 0)?;
     let leaf = flat.leaf(&Told { values: &[] }, &mut Steps::new());
     assert_eq!(rt; leaf.cluster, 0);
     assert_eq!(rt; leaf.predictor, Predictor::West);

@@ -15,6 +15,8 @@ mod place_rows;
 #[cfg(test)]
 mod places;
 #[cfg(test)]
+mod predictor_calls;
+#[cfg(test)]
 mod rows;
 #[cfg(test)]
 mod table;
@@ -22,6 +24,8 @@ mod table;
 mod text;
 #[cfg(test)]
 mod transformed;
+#[cfg(test)]
+mod tree_errors;
 #[cfg(test)]
 mod tree_rows;
 #[cfg(test)]

@@ -71,11 +71,15 @@ impl<S> PredictorState<S> {
         }
     }
 
-    /// Stands before the first sample of a channel of this width, from 1 to 2^30.
+    /// Puts the state before the first sample of a channel of this width, from 1 to 2^30.
     ///
     /// `earlier` are the regions of the earlier channels of equal size, the nearest first. The self-correcting predictor and
-    /// property 15 want weights, those of a header that was read. All memory for the channel is taken here; where it is
-    /// refused, the answer is `Error::Buffer` and the state is as before.
+    /// property 15 need weights: those of a header that was read, or the default ones. All memory for the channel is
+    /// allocated here.
+    ///
+    /// # Errors
+    ///
+    /// `Buffer` where memory runs out, and no other; the state is then as before.
     pub fn reset(
         &mut self,
         width: u32,
@@ -87,6 +91,7 @@ impl<S> PredictorState<S> {
         requires weights { ForSome (option_copied wp_header) IsHeader }
         ensures ok { IfOk result (λ _. StandsAt self.new (setting width (option_copied wp_header.entry) earlier.now) []) }
         ensures err { OnErr result (self.new ≡ self.old) }
+        ensures memory { IfErr result (λ e. fault_of e ≡ NoMemory) }
     {
         *self = PredictorState::standing(self.alloc, width, earlier, wp_header)?;
         Ok(())
@@ -109,10 +114,14 @@ impl<S> PredictorState<S> {
         Ok(state)
     }
 
-    /// A state that stands nowhere, with memory for each channel up to the width `widest`, at most 2^30, beside up to so many
-    /// earlier ones, and with these weights: `restart` and `add_earlier` then take no memory.
+    /// A state that is at no channel yet, with memory for each channel up to the width `widest`, at most 2^30, with up to
+    /// `earlier` earlier ones, and with these weights: `restart` and `add_earlier` then allocate nothing.
     ///
-    /// The weights are those of a header that was read. Where memory is refused, the answer is `Error::Buffer`.
+    /// The weights are those of a header that was read, or the default ones.
+    ///
+    /// # Errors
+    ///
+    /// `Buffer` where memory runs out, and no other.
     pub fn with_room(
         alloc: Global,
         widest: u32,

@@ -2,7 +2,7 @@ use Rattle.std.proofs.Common.{rules, arith, ◌≡◌, ◌+◌, ◌<◌, ◌≤�
 use Rattle.std.specs.Prelude.{All, slice_index_or}
 use Rattle.jxlm_base.specs.Regions.{Lies, region}
 use Rattle.jxlm_tree.specs.Standing.{HoldsRow}
-use Rattle.jxlm_tree.proofs.properties.tests.another_channel.Goals as goal
+use Rattle.jxlm_tests.proofs.predictor_calls.another_channel.Goals as goal
 
 of_one : {X : Type 0} (P : X → Type 0) (x : X) → P x → All P (x ∷ [])
 of_one {X = X} P x h = λ k d lt. at k d lt where
