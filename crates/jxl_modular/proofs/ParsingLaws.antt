@@ -6,12 +6,12 @@ use Rattle.jxlm_base.specs.Decoding.{Meaning}
 use Rattle.jxlm_base.specs.Fault.{UnlessMemory, fault_of}
 use Rattle.jxlm_base.specs.Grammar.{IsRefused}
 use Rattle.jxlm_base.specs.declared.error.Error.{Error}
-use Rattle.jxlm_transform.proofs.Refusals.{unless_so}
 use Rattle.jxlm_transform.specs.Channels.{area, channel_of, image_list, list_of}
 use Rattle.jxlm_transform.specs.declared.channels.ModularChannelInfo.{ModularChannelInfo}
 use Rattle.jxlm_transform.specs.declared.channels.ModularChannels.{ModularChannels}
 use Rattle.jxlm_transform.specs.declared.param.ModularChannelParams.{ModularChannelParams}
 use Rattle.jxlm_transform.specs.declared.param.ModularParams.{ModularParams}
+use Rattle.jxlm_tree.proofs.Memory.{unless_so}
 use Rattle.jxlm_tree.specs.Tree.{Config}
 use Rattle.jxlm_tree.specs.TreeReading.{IsTreeAt, IsTooDeep, TreeGives, listing_at}
 use Rattle.jxl_modular.specs.Fresh.{fresh}
@@ -53,8 +53,8 @@ module _ {S D : Type 0} (d : Meaning D) (zero : S) (bytes : List ℕ) (p : ℕ) 
     pub tree_refused : (e : Error) (q : ℕ) → TreeGives d bytes limit depth_limit m (Err e) q →
         UnlessMemory (fault_of e) (IsRefused (opened d zero bytes p params) (fault_of e) q ⊎ IsTreeRefused d zero bytes p params (fault_of e) q)
     tree_refused e q gives =
-        unless_so (fault_of e) (IsRefused (listing_at d bytes limit m) (fault_of e) q ⊎ IsTooDeep d bytes limit depth_limit m (fault_of e) q)
-        (IsRefused (opened d zero bytes p params) (fault_of e) q ⊎ IsTreeRefused d zero bytes p params (fault_of e) q)
+        unless_so (fault_of e) {P = IsRefused (listing_at d bytes limit m) (fault_of e) q ⊎ IsTooDeep d bytes limit depth_limit m (fault_of e) q}
+        {Q = IsRefused (opened d zero bytes p params) (fault_of e) q ⊎ IsTreeRefused d zero bytes p params (fault_of e) q}
         (λ tree. inr (record {
           ahead = opening_of o;
           place = m;

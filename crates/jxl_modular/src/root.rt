@@ -4,12 +4,12 @@ ghost use Rattle.std.specs.Prelude.{◌≡◌, ◌≤◌, pos, length, None, Ok,
 ghost use Rattle.std.specs.List.{All};
 ghost use Rattle.std.specs.Option.{option_copied, option_copied_mut};
 ghost use Rattle.jxlm_base.specs.Bits.{bytes_of, position_of};
-ghost use Rattle.jxlm_base.specs.Grammar.{Answers};
 ghost use Rattle.jxlm_chain.specs.Layout.{HasNarrowTables};
 ghost use Rattle.jxlm_chain.specs.Steps.{HasChannels, HasWeights, steps_in};
 ghost use Rattle.jxlm_transform.specs.Channels.{IsNarrow, image_list, list_of};
 ghost use Rattle.jxlm_transform.specs.ChannelSteps.{list_after_all};
 ghost use Rattle.jxlm_transform.specs.Params.{IsValidChannel, IsValidParams};
+ghost use Rattle.jxlm_transform.specs.Transforms.{Parses};
 ghost use Rattle.jxlm_tree.specs.SelfCorrecting.{IsHeader};
 ghost use Rattle.jxl_modular.specs.Header.{header_of};
 ghost use Rattle.jxl_modular.specs.Opening.{CheckGives, conditions, opening, opening_of};
@@ -63,7 +63,7 @@ fn open(
     has_global: bool,
 ) -> Result<(ModularHeader, ModularChannels)>
     requires { All IsValidChannel params.now }
-    ensures gives { Answers opening_of result (position_of bits.new) ((opening has_global (image_list params.now)).read (bytes_of bits.old) (position_of bits.old)) }
+    ensures gives { Parses opening_of result (position_of bits.new) ((opening has_global (image_list params.now)).read (bytes_of bits.old) (position_of bits.old)) }
     ensures narrow { IfOk result (λ o. All IsNarrow (list_of o.1).channels) }
     ensures few { IfOk result (λ o. length o.1.info.items ≤ 65536) }
     ensures weights { IfOk result (λ o. IsHeader o.0.wp_params) }

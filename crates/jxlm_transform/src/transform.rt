@@ -3,9 +3,9 @@
 ghost use Rattle.std.specs.Prelude.{◌≡◌, ◌≤◌, ◌↔◌, ◌⊎◌, length, IsTrue, IfOk, None, Some};
 ghost use Rattle.std.specs.List.{All};
 ghost use Rattle.jxlm_base.specs.Bits.{bytes_of, position_of};
-ghost use Rattle.jxlm_base.specs.Grammar.{Answers, FitsU32, IsExact, Reads, number, repeated, u32 as the_u32};
+ghost use Rattle.jxlm_base.specs.Grammar.{FitsU32, IsExact, Reads, number, repeated, u32 as the_u32};
 ghost use Rattle.jxlm_tree.specs.WeightsHeader.{AnswersExactly};
-ghost use Rattle.jxlm_transform.specs.Transforms.{OfPalette, transform_of, begin_channel as the_begin_channel, rct, predictor, weights_for, palette, squeeze_params, squeeze, transform, least_of, greatest_of, IsRct, IsPalette, IsSqueezeParams, IsSqueeze, IsTransform, HasChannels, KeepsWeights, IsPaletteTransform, IsSqueezeTransform};
+ghost use Rattle.jxlm_transform.specs.Transforms.{OfPalette, transform_of, begin_channel as the_begin_channel, rct, predictor, weights_for, palette, squeeze_params, squeeze, transform, least_of, greatest_of, IsRct, IsPalette, IsSqueezeParams, IsSqueeze, IsTransform, HasChannels, KeepsWeights, IsPaletteTransform, IsSqueezeTransform, Parses};
 
 mod default_squeeze;
 mod lists;
@@ -226,7 +226,7 @@ impl Squeeze {
     /// A cut input is refused by `UnexpectedEof`, and the reader stands behind the last field that
     /// was read whole. Want of memory may be answered at any time.
     pub fn parse(alloc: Global, bits: &mut Bitstream<'_>) -> Result<Squeeze>
-        ensures gives { Answers (λ s. s.sp.items) result (position_of bits.new) (squeeze.read (bytes_of bits.old) (position_of bits.old)) }
+        ensures gives { Parses (λ s. s.sp.items) result (position_of bits.new) (squeeze.read (bytes_of bits.old) (position_of bits.old)) }
         ensures ranges { IfOk result (λ s. IsSqueeze s.sp.items) }
         ensures bytes { bytes_of bits.new ≡ bytes_of bits.old }
     {
@@ -244,7 +244,7 @@ impl Squeeze {
 
 /// So many steps of a squeeze.
 fn read_steps(alloc: Global, bits: &mut Bitstream<'_>, count: u32) -> Result<Vec<SqueezeParams>>
-    ensures gives { Answers (λ v. v.items) result (position_of bits.new) ((repeated count squeeze_params).read (bytes_of bits.old) (position_of bits.old)) }
+    ensures gives { Parses (λ v. v.items) result (position_of bits.new) ((repeated count squeeze_params).read (bytes_of bits.old) (position_of bits.old)) }
     ensures count { IfOk result (λ v. length v.items ≡ count) }
     ensures each { IfOk result (λ v. All IsSqueezeParams v.items) }
     ensures bytes { bytes_of bits.new ≡ bytes_of bits.old }
@@ -277,7 +277,7 @@ impl TransformInfo {
         bits: &mut Bitstream<'_>,
         wp_header: &WpHeader,
     ) -> Result<TransformInfo>
-        ensures gives { Answers transform_of result (position_of bits.new) ((transform wp_header.now).read (bytes_of bits.old) (position_of bits.old)) }
+        ensures gives { Parses transform_of result (position_of bits.new) ((transform wp_header.now).read (bytes_of bits.old) (position_of bits.old)) }
         ensures ranges { IfOk result (λ t. IsTransform (transform_of t)) }
         ensures some_channels { IfOk result (λ t. HasChannels (transform_of t)) }
         ensures weights { IfOk result (λ t. KeepsWeights wp_header.now (transform_of t)) }
