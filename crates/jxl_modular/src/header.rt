@@ -53,7 +53,7 @@ impl ModularHeader {
     ///
     /// A cut input is refused by `UnexpectedEof`; a transform of kind 3, and the number of a
     /// predictor that is none, by `InvalidEnum`. The reader then stands behind the last field that
-    /// was read whole. Want of memory may be answered at any transform.
+    /// was read whole. `Buffer` where it is out of memory, at any transform; no error of a decoder comes.
     pub fn parse(alloc: Global, bits: &mut Bitstream<'_>) -> Result<ModularHeader>
         ensures gives { Parses header_of result (position_of bits.new) (header.read (bytes_of bits.old) (position_of bits.old)) }
         ensures ranges { IfOk result (λ h. IsReadHeader (header_of h)) }
