@@ -203,8 +203,8 @@ listed_steps (OfRct t) = RctStep t ∷ []
 listed_steps (OfPalette t) = PaletteStep t ∷ []
 listed_steps (OfSqueeze steps) = map SqueezeStep steps
 
--- What a call that changes a list returned, and the list after it, is what the definition gives. After an error nothing is said of
--- the list.
+-- What a call that changes a list returned, and the list after it, is what the definition gives. After an error nothing is
+-- said of the list.
 abbrev pub ListIs : Result ChannelList Fault → Result (Unit {0}) Error → ChannelList → Type 0
 ListIs step (Ok u) l = step ≡ Ok l
 ListIs step (Err e) l = step ≡ Err (fault_of e)
@@ -219,7 +219,7 @@ abbrev pub StepsGive : Result (List SqueezeParams) Fault → Result (Unit {0}) E
 StepsGive steps (Ok u) listed = steps ≡ Ok listed
 StepsGive steps (Err e) listed = UnlessNoMemory (fault_of e) (steps ≡ Err (fault_of e))
 
--- what a call that applies a transform returned, the transform after it, which then lists its steps, and the list after it
+-- what a call that applies a transform returned, the transform after it, which then lists its steps, and the list
 abbrev pub TransformGives : Transform → ChannelList → Result (Unit {0}) Error → Transform → ChannelList → Type 0
 TransformGives t l (Ok u) listed m = (steps_of t l ≡ Ok (listed_steps listed)) × (list_after_all (listed_steps listed) l ≡ Ok m)
 TransformGives t l (Err e) listed m = UnlessNoMemory (fault_of e) ((steps_of t l >>= λ steps. list_after_all steps l) ≡ Err (fault_of e))

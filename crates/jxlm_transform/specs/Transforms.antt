@@ -163,8 +163,8 @@ abbrev pub KeepsWeights : WpHeader → Transform → Type 0
 KeepsWeights weights (OfPalette t) = (t.wp_header ≡ None) ⊎ (t.wp_header ≡ Some weights)
 KeepsWeights weights other = Unit {0}
 
--- What a call that reads fields and takes memory returned, seen by view, and where it left the reader, is what reading gives, unless it
--- is out of memory.
+-- What a call that reads fields and takes memory returned, seen by view, and where it left the reader, is what reading gives,
+-- unless it is out of memory.
 abbrev pub Parses : {X Y : Type 0} → (X → Y) → Result X Error → ℕ → Result (Found Y) Refused → Type 0
 Parses view (Ok x) q reading = reading ≡ Ok (record { value = view x; position = q })
 Parses view (Err e) q reading = UnlessNoMemory (fault_of e) (IsRefused reading (fault_of e) q)

@@ -122,8 +122,9 @@ impl ChannelShift {
         }
     }
 
-    /// Whether a channel may have this shift, as [`ChannelShift::shift_size`] requires: the shifts of `Shifts` and `Raw` are from
-    /// 0 to 30, and a JPEG channel is halved only along a side along which some channel has two samples.
+    /// Whether a channel may have this shift, as [`ChannelShift::shift_size`] requires: the shifts of
+    /// `Shifts` and `Raw` are from 0 to 30, and a JPEG channel is halved only along a side along which
+    /// some channel has two samples.
     pub fn is_valid(&self) -> bool
         ensures { IsTrue result ↔ IsValidShift self.now }
     {
@@ -231,8 +232,9 @@ impl ModularChannelParams {
         }
     }
 
-    /// Whether an image may have this channel, as [`ModularChannelInfo::new`](crate::channels::ModularChannelInfo::new) requires:
-    /// the sides of its picture are at most 2^30, and its shift is valid as by [`ChannelShift::is_valid`].
+    /// Whether an image may have this channel, as
+    /// [`ModularChannelInfo::new`](crate::channels::ModularChannelInfo::new) requires: the sides of its
+    /// picture are at most 2^30, and its shift is valid as by [`ChannelShift::is_valid`].
     pub fn is_valid(&self) -> bool
         ensures { IsTrue result ↔ IsValidChannel self.now }
     {
@@ -318,8 +320,9 @@ impl<'a, D: Decoder> ModularParams<'a, D> {
     }
 }
 
-/// Channels of one size are valid: any number of channels as large as their picture, with sides up to 2^30, and an image of at most
-/// 2^20 of them, of a bit depth of at most 32 and a group side that is a power of two from 2 to 2^20.
+/// Channels of one size are valid: any number of channels as large as their picture, with sides up to
+/// 2^30, and an image of at most 2^20 of them, with a bit depth of at most 32 and a group side that is a
+/// power of two from 2 to 2^20. It does nothing: a caller has the facts of its contract.
 pub fn channels_of_one_size_are_valid<D: Decoder>()
     ensures channels { OneSizeIsValid }
     ensures params { OneSizeOfImageIsValid D }

@@ -79,7 +79,7 @@ fn palette(words: &str) -> Result<Palette, Fail>
     })
 }
 
-// A squeeze of one step, by its direction, the place of its residuals, its first channel, and how many channels it has.
+// A squeeze of one step, by its direction, the place of its residuals, its first channel, and how many it has.
 fn squeeze(alloc: Global, words: &str) -> Result<Squeeze, Fail> {
     let (side, rest) = pair(words, ' ')?;
     let (place, rest) = pair(rest, ' ')?;
@@ -140,7 +140,8 @@ fn apply(
     }
 }
 
-// What transforms leave of a list, in words, or the error of one; each is applied by `prepare_transform_info`, or by its own type.
+// What transforms leave of a list, in words, or the error of one. Each is applied by `prepare_transform_info`, or by the call of
+// its own type.
 fn outcome(alloc: Global, given: &str, transforms: &str, prepared: bool) -> Result<String, Fail> {
     let mut list = list(alloc, given)?;
     for text in transforms.split(';') {
@@ -169,8 +170,7 @@ fn check(rt: &impl Abort, alloc: Global, row: &str) -> Result<(), Fail> {
 }
 
 // A list, transforms, and the list after them, or an error.
-const ROWS: &str =
-    "0 2x2 2x2|colour 0|invalid Rct transform parameters
+const ROWS: &str = "0 2x2 2x2|colour 0|invalid Rct transform parameters
 0 2x2 2x2 2x1|colour 0|invalid Rct transform parameters
 0 9x9 2x2 2x2 2x2|colour 1|0 9x9:0,0 2x2:0,0 2x2:0,0 2x2:0,0
 0 9x9 2x2 2x2 2x2|colour 1;colour 2|invalid Rct transform parameters

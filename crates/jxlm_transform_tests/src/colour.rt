@@ -117,8 +117,7 @@ fn check_triple<S: Sample>(
 }
 
 // The type, one triple, and what it becomes.
-const WORKED: &str =
-    "6:100 10 6 102 103 92
+const WORKED: &str = "6:100 10 6 102 103 92
 4:10 1 5 10 8 5
 7:1 2 3 3 1 2
 14:1 2 3 2 3 1
@@ -168,7 +167,11 @@ fn check_rows<S: Sample>(rt: &impl Abort, alloc: Global, line: &str) -> Result<(
     let kind = kind.parse::<u32>()?;
     let (width, height) = (width.parse::<usize>()?, height.parse::<usize>()?);
     let found = undone::<S>(alloc, kind, width, height, [&a, &b, &c])?;
-    assert_eq!(rt; found.as_slice(), signed(alloc, expected)?.as_slice(), "{line}");
+    assert_eq!(rt;
+        found.as_slice(),
+        signed(alloc, expected)?.as_slice(),
+        "{line}"
+    );
     Ok(())
 }
 

@@ -1,9 +1,8 @@
-// One generated triple for each type of colour transform: what is coded, and what it becomes. An independent program that follows the
-// definitions made them; its seed is not known. The row is the type of the transform, from 0 on.
+// One generated triple for each type of colour transform: what is coded, and what it becomes. An independent program that
+// follows the definitions made them; its seed is not known. The row is the type of the transform, from 0 on.
 
 /// Triples of 16 bits.
-pub const NARROW: &str =
-    "32767 -3 15018 32767 -3 15018
+pub const NARROW: &str = "32767 -3 15018 32767 -3 15018
 -22529 23906 -1 -22529 23906 -22530
 -15 32767 -15 -15 32752 -15
 32767 -8948 17 32767 23819 -32752
@@ -79,8 +78,7 @@ pub const NARROW: &str =
 32767 -25999 18 32767 6768 -32751";
 
 /// Triples of 32 bits.
-pub const WIDE: &str =
-    "1660860391 0 -8 1660860391 0 -8
+pub const WIDE: &str = "1660860391 0 -8 1660860391 0 -8
 -959773385 0 2147483647 -959773385 0 1187710262
 -1677856099 0 14 -1677856099 -1677856099 14
 6 -13 -2147483648 6 -7 -2147483642

@@ -16,7 +16,11 @@ use std::test::Fail;
 fn palette_text(alloc: Global, t: &Palette) -> Result<String, Fail> {
     let (begin, count, predictor) = (t.begin_c, t.num_c, t.d_pred);
     let (colours, deltas) = (t.nb_colours, t.nb_deltas);
-    let weights = if t.wp_header.is_some() { " weights" } else { "" };
+    let weights = if t.wp_header.is_some() {
+        " weights"
+    } else {
+        ""
+    };
     let text = format!(in alloc;
         "palette {begin} {count} {colours} {deltas} {predictor:?}{weights}"
     )?;
@@ -79,8 +83,14 @@ fn check(rt: &impl Abort, alloc: Global, row: &str) -> Result<(), Fail> {
     let text = match read(alloc, kind, &mut bits, &weights) {
         Ok(transform) => {
             let text = told(alloc, &transform)?;
-            assert_eq!(rt; transform.is_palette(), text.as_str().starts_with("palette"));
-            assert_eq!(rt; transform.is_squeeze(), text.as_str().starts_with("squeeze"));
+            assert_eq!(rt;
+                transform.is_palette(),
+                text.as_str().starts_with("palette")
+            );
+            assert_eq!(rt;
+                transform.is_squeeze(),
+                text.as_str().starts_with("squeeze")
+            );
             text
         }
         Err(error) => format!(in alloc; "{error}")?,
@@ -92,8 +102,7 @@ fn check(rt: &impl Abort, alloc: Global, row: &str) -> Result<(), Fail> {
 }
 
 // What is read, after how many bits, from these bytes; and what it is, or its error, with the position of the reader.
-const ROWS: &str =
-    "transform 4|0600|colour 0 6 @13
+const ROWS: &str = "transform 4|0600|colour 0 6 @13
 transform 4|663000|squeeze[across inside 0 1] @21
 transform 4|26|squeeze @8
 transform 4|36|bitstream error: invalid enum value 3 for TransformId @6

@@ -146,9 +146,16 @@ fn check<S: Sample>(
     let (table, rest) = pair(rest, '|')?;
     let (indices, expected) = pair(rest, '|')?;
     let (table, indices) = (signed(alloc, table)?, signed(alloc, indices)?);
-    let (width, height) = (u32::from(width.parse::<u8>()?), u32::from(height.parse::<u8>()?));
+    let (width, height) = (
+        u32::from(width.parse::<u8>()?),
+        u32::from(height.parse::<u8>()?),
+    );
     let found = finished::<S>(alloc, palette, depth, &table, width, height, &indices)?;
-    assert_eq!(rt; found.as_slice(), signed(alloc, expected)?.as_slice(), "{row}");
+    assert_eq!(rt;
+        found.as_slice(),
+        signed(alloc, expected)?.as_slice(),
+        "{row}"
+    );
     Ok(())
 }
 
@@ -163,8 +170,7 @@ const REDUCED: &str =
     "2 2|1 0 32767 0 1 0 32767 0 1 0 32767 0|2 3 0 1|32767 0 -32768 -16384 32767 0 -32768 -16384 32767 0 -32768 -16384";
 
 // Indices of the table alone, and no cells at all.
-const TABLE_ALONE: &str =
-    "2 2|7 -8 70000 9 10 11|1 0 0 1|-8 7 7 -8 9 70000 70000 9 11 10 10 11
+const TABLE_ALONE: &str = "2 2|7 -8 70000 9 10 11|1 0 0 1|-8 7 7 -8 9 70000 70000 9 11 10 10 11
 0 3|7 -8 70000 9 10 11||
 3 0|7 -8 70000 9 10 11||";
 

@@ -55,15 +55,18 @@ fn check_channel(rt: &impl Abort, alloc: Global, row: &str) -> Result<(), Fail> 
     assert_eq!(rt; found.as_str(), expected, "{row}");
     let valid = expected != "invalid";
     assert!(rt; shift.is_valid() || !valid, "{row}");
-    let params =
-        ModularParams::<PlainDecoder>::with_channels(256, 8, vec![in alloc; channel]?, None);
+    let params = ModularParams::<PlainDecoder>::with_channels(
+        256,
+        8,
+        vec![in alloc; channel]?,
+        None,
+    );
     assert_eq!(rt; params.is_valid(), valid, "{row}");
     Ok(())
 }
 
 // The sides of a picture and a shift, and the sides and shifts of the channel.
-const CHANNELS: &str =
-    "9x4 s,2|3x1 2 2
+const CHANNELS: &str = "9x4 s,2|3x1 2 2
 9x4 r,3,1|2x2 3 1
 5x7 j,1,0,1,0|6x8 0 0
 5x7 j,1,0,1,1|6x4 0 1
@@ -95,7 +98,10 @@ fn sides_and_shifts(rt: HostRuntime) -> Result<(), Fail> {
     }
     assert_eq!(rt; ChannelShift::from_shift(4294967295).hshift(), -1);
     let plain = ModularChannelParams::new(9, 4);
-    assert_eq!(rt; (plain.width, plain.height, plain.shift), (9, 4, ChannelShift::Shifts(0)));
+    assert_eq!(rt;
+        (plain.width, plain.height, plain.shift),
+        (9, 4, ChannelShift::Shifts(0))
+    );
     Ok(())
 }
 
@@ -129,8 +135,7 @@ fn check_image(rt: &impl Abort, alloc: Global, row: &str) -> Result<(), Fail> {
 }
 
 // The side of a group, the bit depth, how many channels there are, and whether that is valid.
-const IMAGES: &str =
-    "2 0 0|valid
+const IMAGES: &str = "2 0 0|valid
 1048576 32 0|valid
 256 33 0|invalid
 0 8 0|invalid

@@ -227,7 +227,8 @@ fn squeeze_line<S: Sample>(
     let mut row = Vec::new(alloc);
     for i in 0..len {
         let (x, y) = place(across, line, i);
-        row.push(generated::<S>(x, y, kind)).map_err(|_| OutOfMemory)?;
+        row.push(generated::<S>(x, y, kind))
+            .map_err(|_| OutOfMemory)?;
     }
     for (i, sample) in squeezed(alloc, &row)?.iter().enumerate() {
         let (x, y) = place(across, line, i);
@@ -278,8 +279,7 @@ fn every_width_and_height(rt: HostRuntime) -> std::result::Result<(), Fail> {
 }
 
 // Averages, then residuals, and the row that they come from, in both widths.
-const ROWS: &str =
-    "10 20 0 0|10 11 20 20
+const ROWS: &str = "10 20 0 0|10 11 20 20
 10 4 3|12 8 4
 7|7
 |
@@ -288,9 +288,9 @@ const ROWS: &str =
 0 1|0 -1
 5 5 5 0 0|5 5 5 5 5";
 
-// Generated rows of 16 bits that wrap. An independent program that follows the definitions made them; its seed is not known.
-const NARROW_ROWS: &str =
-    "32767 -1|32767 -32768
+// Generated rows of 16 bits that wrap. An independent program that follows the definitions made them; its seed is not
+// known.
+const NARROW_ROWS: &str = "32767 -1|32767 -32768
 0 -28027 -32768 32767 19320 -32768 -32768|9660 -9661 24779 -15296 16384 -16384 32767
 -13576 -32768 2941|-12105 -15047 -32768
 -6 -25089 21796 0 19 32767 32767 -12906 5273|-16390 16378 -8706 24063 17611 25982 2636 -2637 19
@@ -298,8 +298,7 @@ const NARROW_ROWS: &str =
 32767 32767 -23366 -32768 -10 -32768 3 -32768 -3 17425 -32768|-32768 32765 16383 -16385 -21029 -25704 -24056 24055 -8288 8269 -32768";
 
 // The same of 32 bits.
-const WIDE_ROWS: &str =
-    "3 1 0 20 2147483647|13 -8 1073741824 -1073741823 0
+const WIDE_ROWS: &str = "3 1 0 20 2147483647|13 -8 1073741824 -1073741823 0
 -2077575531 901133782|-1627008640 1766824874
 2 2147483647 -2147483648 -9 0 2147483647 8 -8 7 9 2147483647|5 -2 2147483643 -2147483645 -2147483645 2147483644 -5 -14 1073741809 -1073741809 2147483647
 -702638785 -605932110|-1005604840 -399672730
@@ -333,22 +332,21 @@ fn rows_and_columns_of_both_widths(rt: HostRuntime) -> std::result::Result<(), F
 }
 
 // A grid of 7 by 6 cells, and what it becomes where the rows, or the columns, of all but its outer cells are undone.
-const CODED: &str =
-    "9 8 7 6 5 4 3
+const CODED: &str = "9 8 7 6 5 4 3
 1 10 20 0 0 0 -1
 2 12000 0 -12000 0 0 -2
 3 10 4 5 3 -7 -3
 4 66 30 8 0 1 -4
 2 1 0 -1 -2 -3 -4";
-const ROWS_UNDONE: &str =
-    "9 8 7 6 5 4 3
+
+const ROWS_UNDONE: &str = "9 8 7 6 5 4 3
 1 10 11 20 20 0 -1
 2 12000 11999 3500 -3500 -12000 -2
 3 12 8 1 8 5 -3
 4 66 65 39 21 8 -4
 2 1 0 -1 -2 -3 -4";
-const COLUMNS_UNDONE: &str =
-    "9 8 7 6 5 4 3
+
+const COLUMNS_UNDONE: &str = "9 8 7 6 5 4 3
 1 14 22 3 1 -3 -1
 2 5 17 -3 -2 4 -2
 3 12033 15 -11996 0 0 -3

@@ -6,9 +6,7 @@ ghost use Rattle.jxlm_transform.specs.Params.{IsSide, IsValidParams};
 use jxlm_base::error::Result;
 use jxlm_base::grid::OutOfMemory;
 use jxlm_base::plain::PlainDecoder;
-use jxlm_transform::param::{
-    ModularChannelParams, ModularParams, channels_of_one_size_are_valid,
-};
+use jxlm_transform::param::{ModularChannelParams, ModularParams, channels_of_one_size_are_valid};
 use std::alloc::Global;
 
 /// An image of `count` channels of these sides, of 8 bits a sample, in groups of 256.

@@ -35,9 +35,10 @@ impl SqueezeParams {
         Ok(())
     }
 
-    /// Changes a list, which has one element for each channel, as the squeeze step changes the channels: averages replace the
-    /// elements of the range, and residuals come right after them (`in_place`) or at the end of the list. Residuals at the end
-    /// take time for their own number alone, others for all that comes after the range.
+    /// Changes a list, which has one element for each channel, as the squeeze step changes the
+    /// channels: averages replace the elements of the range, and residuals come right after them
+    /// (`in_place`) or at the end of the list. Residuals at the end take time for their own number
+    /// alone, others for all that comes after the range.
     ///
     /// # Errors
     ///
@@ -60,8 +61,9 @@ impl SqueezeParams {
 }
 
 impl Palette {
-    /// Changes a list, which has one element for each channel, as the palette changes the channels: the table's element comes
-    /// first, and of the range only the first element stays, for the channel of indices.
+    /// Changes a list, which has one element for each channel, as the palette changes the channels:
+    /// the table's element comes first, and of the range only the first element stays, for the
+    /// channel of indices.
     ///
     /// # Errors
     ///
