@@ -1,10 +1,10 @@
 -- Parameters of channels of one size.
-use Rattle.std.proofs.Common.{◌≡◌, ℕ, ◌^◌, ◌<◌, ◌≤◌, length, refl, subst, sym, arith, List}
+use Rattle.std.proofs.Common.{◌^◌, ◌≤◌, length, refl, subst, sym, arith, List}
 use Rattle.std.proofs.Math.Nat.{pow-le-pow_right}
 use Rattle.std.proofs.lemmas.List.{length-replicate}
 use Rattle.std.proofs.lemmas.List.Elements.{All-replicate}
 use Rattle.std.specs.List.{All}
-use Rattle.jxlm_transform.specs.Params.{IsGroupDim, IsSide, IsValidChannel, IsValidParams, OneSizeIsValid, OneSizeOfImageIsValid, PowersAreGroupDims, of_one_size, sized}
+use Rattle.jxlm_transform.specs.Params.{IsValidChannel, OneSizeIsValid, OneSizeOfImageIsValid, PowersAreGroupDims, sized}
 use Rattle.jxlm_transform.specs.declared.param.ChannelShift.TheVariants.{Shifts}
 use Rattle.jxlm_transform.specs.declared.param.ModularChannelParams.{ModularChannelParams}
 

@@ -1,4 +1,4 @@
-use Rattle.std.proofs.Common.{◌≡◌, ◌<◌, ◌/◌, ◌%◌, [], ◌∷◌, subst, sym, arith}
+use Rattle.std.proofs.Common.{◌/◌, ◌%◌, [], ◌∷◌, subst, sym, arith}
 use Rattle.jxlm_base.specs.Regions.{Lies}
 use Rattle.jxlm_base.specs.Outside.{KeepsOutside}
 use Rattle.jxlm_base.proofs.Outside.{keeps_all, keeps_both, keeps_written, lies_still}
