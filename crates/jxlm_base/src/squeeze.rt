@@ -327,7 +327,7 @@ fn undo_strip<S: Pairs>(
 }
 
 /// As many columns are undone at a time, if the scratch has room for them.
-pub(crate) const COLUMNS: usize = 32;
+pub(crate) const COLUMNS: usize = 256;
 
 /// Undoes each column of the rectangle, by way of `scratch`, which has room for a column and a cell more.
 pub(crate) fn undo_columns<S: Pairs>(subgrid: &mut MutableSubgrid<'_, S>, scratch: &mut [S])

@@ -6,10 +6,10 @@ ghost use Rattle.jxlm_base.specs.Fault.{NoMemory, fault_of};
 ghost use Rattle.jxlm_chain.specs.Grids.{leader_of, members_of};
 ghost use Rattle.jxlm_chain.specs.Layout.{Layout, first_layout, layout_after, layout_after_all, no_region};
 ghost use Rattle.jxlm_chain.specs.Places.{CanTake, CanTakeAll, Suit, layout_of};
-ghost use Rattle.jxlm_chain.specs.Scratch.{HasRoomFor, KeepsScratch, weights_in};
+ghost use Rattle.jxlm_chain.specs.Scratch.{HasRoomFor, HasRoomToUndo, KeepsScratch};
 ghost use Rattle.jxlm_chain.specs.Steps.{CanUndo, CanUndoAll, IsNarrowStore, steps_in};
 ghost use Rattle.jxlm_chain.specs.Undo.{UndoPalette, UndoRct, UndoSqueeze, Undoes, UndoesAll, undo_of, undo_of_all};
-ghost use Rattle.jxlm_chain.specs.Undoings.{GoesOn, SuitsWeights, undo_of_code, undos_of};
+ghost use Rattle.jxlm_chain.specs.Undoings.{GoesOn, undo_of_code, undos_of};
 ghost use Rattle.jxlm_transform.specs.Channels.{channel_of};
 ghost use Rattle.jxlm_transform.specs.ChannelSteps.{RctStep, PaletteStep, SqueezeStep, listed_steps, range};
 ghost use Rattle.jxlm_transform.specs.Transforms.{transform_of};
@@ -248,7 +248,7 @@ fn run_colour<S: Sample>(
     scratch: &mut Scratch<S>,
 )
     requires can { CanUndo store.old (UndoRct kind regions) }
-    requires room { HasRoomFor store.old scratch.old }
+    requires room { HasRoomToUndo scratch.old (UndoRct kind regions) }
     ensures undoes { (depth : ℕ) → Undoes S.to_int S.width depth (UndoRct kind regions) store.old store.new }
     ensures room { KeepsScratch scratch.old scratch.new }
 {
@@ -268,8 +268,7 @@ fn run_palette<S: Sample>(
     requires can { CanUndo store.old (UndoPalette palette.now table index members.now) }
     requires narrow { IsNarrowStore store.old }
     requires deep { bit_depth ≤ 32 }
-    requires room { HasRoomFor store.old scratch.old }
-    requires suits { SuitsWeights (weights_in scratch.old) (UndoPalette palette.now table index members.now) }
+    requires room { HasRoomToUndo scratch.old (UndoPalette palette.now table index members.now) }
     ensures undoes { Undoes S.to_int S.width bit_depth (UndoPalette palette.now table index members.now) store.old store.new }
     ensures room { KeepsScratch scratch.old scratch.new }
 {
@@ -299,8 +298,7 @@ fn run_indices<S: Sample>(
     requires can { CanUndo store.old (UndoPalette palette.now table (leader_of index.now) (members_of index.now)) }
     requires narrow { IsNarrowStore store.old }
     requires deep { bit_depth ≤ 32 }
-    requires room { HasRoomFor store.old scratch.old }
-    requires suits { SuitsWeights (weights_in scratch.old) (UndoPalette palette.now table (leader_of index.now) (members_of index.now)) }
+    requires room { HasRoomToUndo scratch.old (UndoPalette palette.now table (leader_of index.now) (members_of index.now)) }
     ensures undoes { Undoes S.to_int S.width bit_depth (UndoPalette palette.now table (leader_of index.now) (members_of index.now)) store.old store.new }
     ensures room { KeepsScratch scratch.old scratch.new }
 {
@@ -323,7 +321,7 @@ fn run_squeeze<S: Sample>(
     scratch: &mut Scratch<S>,
 )
     requires can { CanUndo store.old (UndoSqueeze horizontal region) }
-    requires room { HasRoomFor store.old scratch.old }
+    requires room { HasRoomToUndo scratch.old (UndoSqueeze horizontal region) }
     ensures undoes { (depth : ℕ) → Undoes S.to_int S.width depth (UndoSqueeze horizontal region) store.old store.new }
     ensures room { KeepsScratch scratch.old scratch.new }
 {
@@ -334,7 +332,7 @@ impl Undoing {
     /// Undoes what it names in a store.
     ///
     /// Its regions lie in the store as they must, no side of whose buffers is above 2^30. `bit_depth` is that of the picture, at
-    /// most 32. The scratch has room for the store, and the weights of the image. Cells outside the regions stay.
+    /// most 32. The scratch has room for it, and the weights of a palette that has some. Cells outside the regions stay.
     pub fn run<S: Sample>(
         &self,
         store: &mut [AlignedGrid<S>],
@@ -344,8 +342,7 @@ impl Undoing {
         requires can { CanUndo store.old (undo_of_code self.now) }
         requires narrow { IsNarrowStore store.old }
         requires deep { bit_depth ≤ 32 }
-        requires room { HasRoomFor store.old scratch.old }
-        requires suits { SuitsWeights (weights_in scratch.old) (undo_of_code self.now) }
+        requires room { HasRoomToUndo scratch.old (undo_of_code self.now) }
         ensures undoes { Undoes S.to_int S.width bit_depth (undo_of_code self.now) store.old store.new }
         ensures room { KeepsScratch scratch.old scratch.new }
     {
@@ -366,7 +363,8 @@ impl Undoing {
 /// Undoes all of these in a store, from the last to the first: each takes what those behind it have left, and changes no cell
 /// outside the regions that it names.
 ///
-/// What each of them asks for holds of the store as it is before. No memory is taken, and nothing can fail.
+/// What each of them asks for holds of the store as it is before, and the scratch has room for each. No memory is taken, and
+/// nothing can fail.
 pub fn undo_all<S: Sample>(
     undoings: &[Undoing],
     store: &mut [AlignedGrid<S>],
@@ -376,8 +374,7 @@ pub fn undo_all<S: Sample>(
     requires can { CanUndoAll store.old (undos_of undoings.now) }
     requires narrow { IsNarrowStore store.old }
     requires deep { bit_depth ≤ 32 }
-    requires room { HasRoomFor store.old scratch.old }
-    requires suits { All (SuitsWeights (weights_in scratch.old)) (undos_of undoings.now) }
+    requires room { HasRoomFor (undos_of undoings.now) scratch.old }
     ensures undoes { UndoesAll S.to_int S.width bit_depth (undos_of undoings.now) store.old store.new }
     ensures room { KeepsScratch scratch.old scratch.new }
 {
@@ -386,6 +383,3 @@ pub fn undo_all<S: Sample>(
         undoings[last].run(store, bit_depth, scratch);
     }
 }
-
-#[cfg(test)]
-mod tests;
