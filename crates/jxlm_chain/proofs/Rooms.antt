@@ -27,12 +27,12 @@ columns_right a b (Some weights) = omega arith
 -- the larger of two needs covers what each of them covers
 pub covers_left : (a b : Needs) (u : Undo) → Covers a u → Covers (larger_needs a b) u
 covers_left a b (UndoRct kind regions) h = omega arith
-covers_left a b (UndoPalette t table index regions) h = let more = columns_left a b t.wp_header in omega (arith, more, h)
+covers_left a b (UndoPalette t table index regions) (h, k) = let more = columns_left a b t.wp_header in (omega (arith, more, h), omega (arith, k))
 covers_left a b (UndoSqueeze horizontal r) h = omega arith
 
 pub covers_right : (a b : Needs) (u : Undo) → Covers b u → Covers (larger_needs a b) u
 covers_right a b (UndoRct kind regions) h = omega arith
-covers_right a b (UndoPalette t table index regions) h = let more = columns_right a b t.wp_header in omega (arith, more, h)
+covers_right a b (UndoPalette t table index regions) (h, k) = let more = columns_right a b t.wp_header in (omega (arith, more, h), omega (arith, k))
 covers_right a b (UndoSqueeze horizontal r) h = omega arith
 
 -- one undoing more is covered
@@ -77,6 +77,7 @@ module _ {S : Type 0} where
     line = refl;
     plain = record { same_room = refl; same_earlier_room = refl; same_weights = refl };
     weighted = record { same_room = refl; same_earlier_room = refl; same_weights = refl };
+    members = refl;
   }
 
   pub keeps_both : (a b c : Scratch S) → KeepsScratch a b → KeepsScratch b c → KeepsScratch a c
@@ -90,6 +91,7 @@ module _ {S : Type 0} where
           same_earlier_room = k.weighted.same_earlier_room ∙ h.weighted.same_earlier_room;
           same_weights = k.weighted.same_weights ∙ h.weighted.same_weights;
         };
+    members = k.members ∙ h.members;
   }
 
   state_kept : (a b : Scratch S) (o : Option WpHeader) → KeepsScratch a b → HasSameRoom (state_for o a) (state_for o b)
@@ -110,7 +112,9 @@ module _ {S : Type 0} where
       let same = state_kept a b t.wp_header k in
       let room = same.same_room in
       let was = h.0 in
-      (omega (arith, room, was), same.same_weights ∙ h.1)
+      let count = k.members in
+      let listed = h.2 in
+      (omega (arith, room, was), same.same_weights ∙ h.1, omega (arith, count, listed))
   room_still a b (UndoSqueeze horizontal r) k h = let l = k.line in omega (arith, l, h)
 
   pub room_kept : (us : List Undo) (a b : Scratch S) → KeepsScratch a b → HasRoomFor us a → HasRoomFor us b

@@ -1,5 +1,5 @@
 -- Room for undoing.
-use Rattle.std.specs.Prelude.{◌≡◌, ℕ, ◌+◌, ◌≤◌, ◌^◌, List, Option, Some, None, get_or, max, vec_len}
+use Rattle.std.specs.Prelude.{◌≡◌, ℕ, ◌+◌, ◌≤◌, ◌^◌, List, Option, Some, None, get_or, length, max, vec_len}
 use Rattle.std.specs.List.{All}
 use Rattle.jxlm_base.specs.declared.subgrid.Region.{Region}
 use Rattle.jxlm_tree.specs.Standing.{HasSameRoom, room_of, weights_of}
@@ -29,7 +29,7 @@ columns_for (Some weights) needs = needs.weighted
 -- the needs of an undoing are among these
 abbrev pub Covers : Needs → Undo → Type 0
 Covers needs (UndoRct kind regions) = (get_or regions 0 no_region).width ≤ needs.rows
-Covers needs (UndoPalette t table index regions) = index.width ≤ columns_for t.wp_header needs
+Covers needs (UndoPalette t table index regions) = (index.width ≤ columns_for t.wp_header needs) × (length regions ≤ needs.members)
 Covers needs (UndoSqueeze horizontal r) = max r.width (r.height + 1) ≤ needs.line
 
 -- palettes of no more than 2 ^ 30 columns
@@ -38,7 +38,7 @@ AreNarrow needs = (needs.plain ≤ 2 ^ 30) × (needs.weighted ≤ 2 ^ 30)
 
 -- the larger need of each kind
 abbrev pub larger_needs : Needs → Needs → Needs
-larger_needs a b = record { rows = max a.rows b.rows; line = max a.line b.line; plain = max a.plain b.plain; weighted = max a.weighted b.weighted }
+larger_needs a b = record { rows = max a.rows b.rows; line = max a.line b.line; plain = max a.plain b.plain; weighted = max a.weighted b.weighted; members = max a.members b.members }
 
 module _ {S : Type 0} where
   -- the state that predicts for palettes of these weights
@@ -46,11 +46,11 @@ module _ {S : Type 0} where
   state_for None scratch = scratch.plain
   state_for (Some weights) scratch = scratch.weighted
 
-  -- there is room for an undoing: three rows, a state with the palette's weights, or a row and a column with a sample more
+  -- there is room for an undoing: three rows; a state with the palette's weights, and its regions; a row, and a column with a sample more
   abbrev pub HasRoomToUndo : Scratch S → Undo → Type 0
   HasRoomToUndo scratch (UndoRct kind regions) = HasRoom scratch.rows (get_or regions 0 no_region).width
   HasRoomToUndo scratch (UndoPalette t table index regions) =
-      (index.width ≤ room_of (state_for t.wp_header scratch)) × (weights_of (state_for t.wp_header scratch) ≡ t.wp_header)
+      (index.width ≤ room_of (state_for t.wp_header scratch)) × (weights_of (state_for t.wp_header scratch) ≡ t.wp_header) × (length regions ≤ vec_len scratch.members)
   HasRoomToUndo scratch (UndoSqueeze horizontal r) = max r.width (r.height + 1) ≤ vec_len scratch.line
 
   -- there is room for each undoing
@@ -63,3 +63,4 @@ module _ {S : Type 0} where
     pub line : vec_len new.line ≡ vec_len old.line
     pub plain : HasSameRoom old.plain new.plain
     pub weighted : HasSameRoom old.weighted new.weighted
+    pub members : vec_len new.members ≡ vec_len old.members

@@ -26,6 +26,8 @@ pub struct Scratch<S> {
     pub(crate) plain: PredictorState<S>,
     /// Those of palettes with the image's weights.
     pub(crate) weighted: PredictorState<S>,
+    /// The regions of the channels that a palette stands for.
+    pub(crate) members: Vec<Region>,
 }
 
 /// How much undoing takes of each part of a scratch.
@@ -39,6 +41,8 @@ struct Needs {
     plain: usize,
     /// The columns of palettes with weights.
     weighted: usize,
+    /// The channels that a palette stands for.
+    members: usize,
 }
 
 /// What is taken where nothing is undone.
@@ -47,6 +51,16 @@ const NOTHING: Needs = Needs {
     line: 0,
     plain: 0,
     weighted: 0,
+    members: 0,
+};
+
+/// What stands in the list of regions until a palette is undone.
+const NO_REGION: Region = Region {
+    buffer: 0,
+    x: 0,
+    y: 0,
+    width: 0,
+    height: 0,
 };
 
 /// The squeezed columns that are undone at a time.
@@ -73,6 +87,7 @@ fn larger(a: Needs, b: Needs) -> Needs
         line: a.line.max(b.line),
         plain: a.plain.max(b.plain),
         weighted: a.weighted.max(b.weighted),
+        members: a.members.max(b.members),
     }
 }
 
@@ -90,13 +105,16 @@ impl Undoing {
             },
             Undoing::Palette { palette, index, .. } => {
                 let columns = index.leader().width;
+                let members = index.count();
                 match palette.wp_header {
                     None => Needs {
                         plain: columns,
+                        members,
                         ..NOTHING
                     },
                     Some(_) => Needs {
                         weighted: columns,
+                        members,
                         ..NOTHING
                     },
                 }
@@ -129,6 +147,13 @@ fn line<S: Sample>(alloc: Global, n: usize) -> std::result::Result<Vec<S>, OutOf
     Ok(vec![in alloc; S::default(); n]?)
 }
 
+/// A list of n regions.
+fn regions(alloc: Global, n: usize) -> std::result::Result<Vec<Region>, OutOfMemory>
+    ensures { IfOk result (λ v. vec_len v ≡ n) }
+{
+    Ok(vec![in alloc; NO_REGION; n]?)
+}
+
 impl<S: Sample> Scratch<S> {
     /// Room for each of these undoings, with the image's weights, which are those of a header that was read: as much of each kind
     /// as the undoing that takes most of it. No side of a palette's indices or of a squeezed region is above 2^30, and each
@@ -150,6 +175,7 @@ impl<S: Sample> Scratch<S> {
             line: line(alloc, needs.line)?,
             plain: PredictorState::with_room(alloc, needs.plain as u32, 0, None)?,
             weighted: PredictorState::with_room(alloc, needs.weighted as u32, 0, Some(weights))?,
+            members: regions(alloc, needs.members)?,
         })
     }
 }
