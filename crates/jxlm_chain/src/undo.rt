@@ -104,7 +104,7 @@ fn merged(leader: Region, members: Vec<TransformedGrid>) -> TransformedGrid
 }
 
 impl Places {
-    /// What undoes a colour transform behind these places.
+    /// What undoes a colour transform after these places.
     fn undo_colour(&self, step: &Rct) -> Undoing
         requires { step.now.begin_c + 3 ≤ length self.now.regions.items }
         ensures { undo_of_code result ∷ [] ≡ undo_of (RctStep step.now) (layout_of self.now) }
@@ -190,7 +190,7 @@ pub struct Plan {
     pub undoings: Vec<Undoing>,
     /// The places in that list of what undoes a palette.
     palettes: Vec<usize>,
-    /// Where the channels lie behind all transforms.
+    /// Where the channels lie after all transforms.
     pub places: Places,
 }
 
@@ -261,14 +261,14 @@ impl Plan {
         Ok(())
     }
 
-    /// What undoes these transforms of an image of these channels, each of which is the whole of a buffer of its own; behind
-    /// those stand the tables of palettes, in their order.
+    /// What undoes these transforms of an image of these channels, each of which is the whole of a buffer of its own; after
+    /// those come the tables of palettes, in their order.
     ///
     /// The transforms suit the channels, and list their steps.
     ///
     /// # Errors
     ///
-    /// `Buffer` where memory is refused.
+    /// `Buffer` where memory runs out.
     pub fn new(
         alloc: Global,
         transforms: &[TransformInfo],
@@ -381,7 +381,7 @@ impl Undoing {
     }
 }
 
-/// Undoes all of these in a store, from the last to the first: each takes what those behind it have left, and changes no cell
+/// Undoes all of these in a store, from the last to the first: each takes what those after it have left, and changes no cell
 /// outside the regions that it names.
 ///
 /// What each of them asks for holds of the store as it is before, and the scratch has room for each. No memory is taken, and
