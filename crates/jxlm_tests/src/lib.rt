@@ -17,6 +17,8 @@ mod places;
 #[cfg(test)]
 mod rows;
 #[cfg(test)]
+mod surface;
+#[cfg(test)]
 mod table;
 #[cfg(test)]
 mod text;
