@@ -31,5 +31,5 @@ returns-in_ok-print_image-in-Some g c = record {
   place = position_of c.decode_picture.new.bits;
   stands = moved plain g.S.Sealed.width g.S.Sealed.to_int c.args.bytes.now (bytes_of c.new-bits.result) 0 (g.S.Sealed.from_int (pos 0)) 0 (position_of c.new-bits.result) c.with_channels-params.result
       c.with_channels-params.result.channels.items (Ok (Some c.in-Some.image)) (Ok c.in_ok-image.image) (position_of c.decode_picture.new.bits) c.new-bits.ensures.bytes c.new-bits.ensures.position (ap Ok c.in-Some.is) c.in_ok-image.ensures.gives;
-  printed = c.in_ok-print_image-in-Some.ensures ∙ ap (λ s. image_text (map (meanings g.S.Sealed.to_int) s)) c.image_channels.ensures;
+  printed = c.in_ok-print_image-in-Some.ensures ∙ ap (λ s. image_text (map (meanings g.S.Sealed.to_int) s)) c.image_channels.ensures.grids;
 }
