@@ -28,10 +28,23 @@ use std::alloc::Global;
 use std::result::Result;
 use std::test::Fail;
 
-// The names that the root has beside its own.
-type Roots<'a, S> = (
+// The types that stand at the root too, by the names of their modules.
+type OfModules<'a, S> = (
+    error::Error,
+    error::Result<FlatMaTree>,
+    FlatMaTree,
+    MaConfig<PlainDecoder>,
+    MaConfigParams,
+    ChannelShift,
+    ModularChannelParams,
+    ModularParams<'a, PlainDecoder>,
+    S,
+);
+
+// The same types by their names at the root.
+type OfRoot<'a, S> = (
     jxl_modular::Error,
-    jxl_modular::Result<FlatMaTree>,
+    jxl_modular::Result<jxl_modular::FlatMaTree>,
     jxl_modular::FlatMaTree,
     jxl_modular::MaConfig<PlainDecoder>,
     jxl_modular::MaConfigParams,
@@ -40,6 +53,10 @@ type Roots<'a, S> = (
     jxl_modular::ModularParams<'a, PlainDecoder>,
     S,
 );
+
+fn are_the_same<'a, S: jxl_modular::Sample>(types: OfModules<'a, S>) -> OfRoot<'a, S> {
+    types
+}
 
 // No transforms, a tree of one leaf up to bit 68, and samples behind it.
 const PICTURE: [u8; 10] = [0x42, 0x00, 0x04, 0x00, 0x04, 0x0E, 0x05, 0xC0, 0x20, 0x06];
@@ -149,6 +166,9 @@ fn rectangles<S: Sample>(alloc: Global) -> jxl_modular::Result<(usize, usize, i3
     across?;
     down?;
     let (width, height): (usize, usize) = (rectangle.width(), rectangle.height());
+    if width > 0 && height > 0 {
+        let _: S = rectangle.get(0, 0);
+    }
     let cells: &[S] = copy.get_row(0);
     Ok((width, height, cells[1].add(copy.get(0, 0)).to_i32()))
 }
@@ -497,6 +517,7 @@ fn single_calls(rt: HostRuntime) -> Result<(), Fail> {
     let alloc = rt.alloc();
     assert_eq!(rt; bits(&PICTURE)?, (2, false, 2, 11));
     let [first, second, third] = causes();
+    assert_eq!(rt; format!(in alloc; "{third}")?.as_str(), "out of memory");
     assert_eq!(rt; any_error(first), (0, true));
     assert_eq!(rt; any_error(second), (0, true));
     assert_eq!(rt; any_error(third), (7, false));
@@ -530,6 +551,8 @@ fn reading(rt: HostRuntime) -> Result<(), Fail> {
     for number in 0..14 {
         assert_eq!(rt; number_of(Predictor::try_from(number)?), number);
     }
+    let unknown: Result<Predictor, BitstreamError> = Predictor::try_from(14);
+    assert!(rt; unknown.is_err());
     let mut bits = Bitstream::new(&PICTURE);
     assert_eq!(rt; bits.read_bits(4)?, 2);
     assert_eq!(rt; tree::<PlainDecoder>(alloc, &mut bits)?, [1, 1, 0]);
