@@ -100,9 +100,12 @@ impl<S: Sample> Properties<'_, S> {
         requires { IsCurrent self.now }
         ensures { (s : Setting) (samples : List ℤ) → StandsAt (state_of self.now) s samples → result ≡ int_wrap w32 (earlier_property (surroundings s (store_meanings S.to_int (store_of self.now)) samples) number) }
     {
-        match self.state.earlier.get(number / 4) {
-            Some(region) => self.of_region(*region, number % 4),
-            None => 0,
+        let earlier = &self.state.earlier;
+        let nearer = number / 4;
+        if nearer < earlier.len() {
+            self.of_region(earlier[earlier.len() - 1 - nearer], number % 4)
+        } else {
+            0
         }
     }
 
