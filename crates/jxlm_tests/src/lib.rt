@@ -7,6 +7,8 @@ mod calls;
 #[cfg(test)]
 mod drawn;
 #[cfg(test)]
+mod earlier;
+#[cfg(test)]
 mod outcome;
 #[cfg(test)]
 mod pictures;
