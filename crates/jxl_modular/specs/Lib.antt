@@ -6,6 +6,7 @@ pub mod Image
 pub mod Parts
 pub mod SameButSamples
 pub mod Picture
+pub mod Filled
 pub mod PartRests
 pub mod Samples
 pub mod Layout
