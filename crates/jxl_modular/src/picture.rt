@@ -51,9 +51,9 @@ fn fill<S: Sample, D: Decoder>(
 /// With no channels no bit is read, and there is no picture. The parameters are valid, and no global tree is handed in.
 ///
 /// It returns the picture at the reader's position, or the first error: of the header and the tree, as by
-/// [`Modular::parse`],
-/// or of the samples, as by [`decode`](crate::image::TransformedModularSubimage::decode). After an error the reader stands
-/// where the call that failed found it. It may be out of memory at any time.
+/// [`Modular::parse`], or of the samples, as by
+/// [`decode`](crate::image::TransformedModularSubimage::decode). After an error the reader stands where the call that
+/// failed found it. It may be out of memory at any time.
 ///
 /// For each sample whose read is tried, `steps` goes on by at most the tree's depth and one more.
 pub fn decode_picture<S: Sample, D: Decoder>(
