@@ -16,7 +16,7 @@ for doc in README.md CONTRIBUTING.md docs/*.md examples/*.md; do
     for path in $(grep -o '`[A-Za-z_.]*/[A-Za-z0-9_./-]*`' "$doc" | tr -d '`' | sort -u); do
         top=${path%%/*}
         if [ -e "$top" ]; then found=$path; elif [ -e "crates/$top" ]; then found=crates/$path; else continue; fi
-        case $path in *NAME*) continue ;; esac
+        case $path in *NAME* | */out/*) continue ;; esac
         if [ ! -e "$found" ]; then
             echo "$doc: no file $path"
             bad=1
