@@ -1,10 +1,24 @@
-# run: builds the program, and runs it on the input that is kept with it.
-# test: every proof, every edit that the prover must refuse, every test and the program's run.
+# run: a first look. Runs the program on the input that is kept with it, without any proof.
+# triangle: the same on examples/triangle.hex, drawn in the terminal.
+# build: proves and builds the program, and prints where it lies.
+# docs: looks up each name that the documents cite.
+# test: docs, and then every proof, every edit that the prover must refuse, every test and the program's run.
 
-.PHONY: run test
+.PHONY: run triangle build docs test
 
 run:
-	@cd crates/jxlmod && rt run -- $$(cat args) < stdin
+	@cd crates/jxlmod && rt try -- $$(cat args) < stdin
 
-test:
+triangle:
+	@python3 -c 'import sys; sys.stdout.buffer.write(bytes.fromhex(sys.stdin.read()))' < examples/triangle.hex \
+	    | (cd crates/jxlmod && rt try -- decode 32 16 1 8 i32) | awk -f examples/to_text.awk
+
+build:
+	@cd crates/jxlmod && rt run -- $$(cat args) < stdin > /dev/null
+	@echo crates/jxlmod/out/jxlmod
+
+docs:
+	@sh scripts/check_docs.sh
+
+test: docs
 	rt ci

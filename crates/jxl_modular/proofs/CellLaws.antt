@@ -1,18 +1,18 @@
 -- A cell of a part: what stands there, and what is read into it.
-use Rattle.std.proofs.Common.{◌≡◌, ℕ, ◌+◌, ◌*◌, ◌/◌, ◌<◌, ◌≤◌, ◌^◌, List, [], ◌∷◌, ◌++◌, length, take, refl, sym, ap, ◌∙◌, subst, arith, ℤ, slice_index_or}
+use Rattle.std.proofs.Common.{◌≡◌, ℕ, zero, suc, ◌+◌, ◌*◌, ◌/◌, ◌<◌, ◌≤◌, ◌^◌, List, [], ◌∷◌, ◌++◌, length, take, refl, sym, ap, ◌∙◌, subst, arith, ℤ, slice_index_or}
 use Rattle.std.specs.List.{All}
 use Rattle.std.specs.Int.{Width}
 use Rattle.std.proofs.lemmas.List.{length-take-le, take_more_set}
 use Rattle.std.proofs.lemmas.Nat.{div-mul-add, mul-add-lt}
 use Rattle.std.proofs.lemmas.Option.{get_or_from_slice_get}
-use Rattle.std.proofs.lemmas.List.Elements.{All-take}
+use Rattle.std.proofs.lemmas.List.Elements.{All-nil}
 use Rattle.jxlm_base.specs.Decoding.{Meaning}
 use Rattle.jxlm_base.specs.Grid.{Grid, with_cell}
 use Rattle.jxlm_base.specs.Regions.{AllLie, Lies, grid_of, region, store_meanings, with_region_cell}
 use Rattle.jxlm_base.specs.declared.decoder.DecoderError.{DecoderError}
 use Rattle.jxlm_base.specs.declared.subgrid.Region.{Region}
 use Rattle.jxlm_base.proofs.Regions.{IsFull-grid_of, Lies-meanings, grid_of_written, with_region_cell-meanings}
-use Rattle.jxlm_tree.specs.FlatTree.{ClustersStandIn, FlatTree}
+use Rattle.jxlm_tree.specs.FlatTree.{ClustersStandIn, FlatTree, earlier_named}
 use Rattle.jxlm_tree.specs.Neighbours.{row}
 use Rattle.jxlm_tree.specs.Standing.{HasSameRoom, HoldsRow, IsReady, Setting, StandsAt}
 use Rattle.jxlm_tree.specs.Tree.{depth}
@@ -20,7 +20,7 @@ use Rattle.jxlm_tree.specs.declared.flat.Leaf.{Leaf}
 use Rattle.jxlm_tree.specs.declared.state.PredictorState.{PredictorState}
 use Rattle.jxl_modular.specs.Coded.{next_prediction, part_rule, sample_of}
 use Rattle.jxl_modular.specs.Part.{channel, greatest_width, no_channel}
-use Rattle.jxl_modular.specs.Reading.{FindsClusters, IsCodingOf, IsRoomy, ReadsCell, ReadsNext, RefusesCell, RefusesNext, StandsBehind, ahead, cost_of, flat, leaf_at, part_of, predicted_at, reach_of, region_at, regions_of, setting_of}
+use Rattle.jxl_modular.specs.Reading.{FindsClusters, IsCodingOf, IsRoomy, ReadsCell, ReadsNext, RefusesCell, RefusesNext, StandsBehind, ahead, cost_of, flat, handed, leaf_at, part_of, predicted_at, region_at, regions_of, setting_of}
 use Rattle.jxl_modular.specs.declared.coding.PartCoding.{PartCoding}
 use Rattle.jxl_modular.proofs.Earlier.{earlier_all, same_sides}
 use Rattle.jxl_modular.proofs.Loops.{IsPlace, is_place, same_count, same_size}
@@ -32,6 +32,11 @@ stands_so s samples a b same h = subst (λ p. StandsAt p s samples) (sym same) h
 
 pub has_room_so : {X : Type 0} (old a b : PredictorState X) → b ≡ a → HasSameRoom old a → HasSameRoom old b
 has_room_so old a b same h = subst (HasSameRoom old) (sym same) h
+
+-- what holds of all earlier channels holds of those that are handed on
+all_handed : {X : Type 0} (n : ℕ) (P : X → Type 0) (xs : List X) → All P xs → All P (handed n xs)
+all_handed zero P xs h = All-nil P
+all_handed (suc n) P xs h = h
 
 module _ {D : Type 0} (c : PartCoding D) (coding : IsCodingOf c) (i : ℕ) (li : i < length (regions_of c)) where
   -- the flat tree of a channel
@@ -82,7 +87,7 @@ module _ {D : Type 0} (c : PartCoding D) (coding : IsCodingOf c) (i : ℕ) (li :
       stands = stands;
       few_rows = let n = narrow_at.1 in subst (λ k. k < 2 ^ 30) (sym row_is) (omega (arith, n, qy));
       earlier_hold = subst (λ k. All (λ r. HoldsRow r store reg.width k) (setting_of c i).earlier) (sym row_is)
-          (All-take (λ r. HoldsRow r store reg.width y) (reach_of c i) _ (earlier_all (part_of c).channels i (λ r. HoldsRow r store reg.width y) (region_at (regions_of c)) (λ e less alike.
+          (all_handed (earlier_named c.config.now.tree) (λ r. HoldsRow r store reg.width y) _ (earlier_all (part_of c).channels i (λ r. HoldsRow r store reg.width y) (region_at (regions_of c)) (λ e less alike.
           let le : e < length (regions_of c) = omega (arith, less, li) in
           let here = same_size (part_of c).channels (regions_of c) i coding.sizes li in
           let there = same_size (part_of c).channels (regions_of c) e coding.sizes le in

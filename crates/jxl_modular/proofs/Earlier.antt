@@ -7,7 +7,7 @@ use Rattle.jxl_modular.specs.Part.{Channel, channel, downward, earlier_alike, is
 
 module _ (P : ℕ → Bool) where
   -- those that pass are not more than those that are looked at
-  few : (k : ℕ) → length (filter P (downward k)) ≤ k
+  pub few : (k : ℕ) → length (filter P (downward k)) ≤ k
   few zero = omega arith
   few (suc k) = either (P k) (few k) where
     either : (b : Bool) → length (filter P (downward k)) ≤ k → length (if b then k ∷ filter P (downward k) else filter P (downward k)) ≤ suc k
@@ -40,6 +40,10 @@ module _ (channels : List Channel) (i : ℕ) where
 
   pub earlier_all : {X : Type 0} (Q : X → Type 0) (f : ℕ → X) → ((e : ℕ) → e < i → is_alike (channel channels e) (channel channels i) ≡ true → Q (f e)) → All Q (map f (earlier_alike channels i))
   earlier_all Q f holds = all_pass (λ e. is_alike (channel channels e) (channel channels i)) Q f i i (omega arith) holds
+
+-- channels that are alike are the same in sizes and shifts
+pub same_channel : (a b : Channel) → is_alike a b ≡ true → a ≡ b
+same_channel a b h = search (rules, h)
 
 -- channels that are alike have one size
 pub same_sides : (a b : Channel) → is_alike a b ≡ true → (a.width ≡ b.width) × (a.height ≡ b.height)

@@ -1,21 +1,17 @@
 -- Computed examples: headers, trees and samples, from bits.
-use Rattle.std.specs.Prelude.{◌≡◌, ℕ, zero, suc, ◌≤◌, ◌<◌, ℤ, pos, List, [], ◌∷◌, map, Ok, Err, refl, false, true, Bool}
-use Rattle.std.specs.List.{All}
+use Rattle.std.specs.Prelude.{◌≡◌, ℕ, ◌≤◌, ℤ, pos, List, [], ◌∷◌, Ok, Err, refl, false, true, Bool}
 use Rattle.std.specs.Int.{w32, int_wrap}
 use Rattle.std.specs.Int.Count.{count_leading_zeros}
 use Rattle.std.proofs.Common.{arith, inl, inr, sym}
-use Rattle.std.proofs.lemmas.List.Elements.{All-head}
-use Rattle.jxlm_base.specs.Grid.{Grid, grid, cell, IsFull}
-use Rattle.jxlm_base.specs.Regions.{region, HasCell}
+use Rattle.jxlm_base.specs.Grid.{Grid, grid}
 use Rattle.jxlm_base.specs.Plain.{PlainState, plain, number_at, mode_at, cluster_at, code_at, plain_parse, plain_begin, plain_read, token_at, run_at}
 use Rattle.jxlm_base.specs.declared.plain.Code.TheVariants.{Constant, Fixed}
 use Rattle.jxlm_base.specs.declared.plain.Mode.TheVariants.{Unsealed, Sealed, Runs}
 use Rattle.jxlm_base.specs.declared.plain.Mode.{Mode}
 use Rattle.jxlm_base.specs.declared.decoder.DecoderError.TheVariants.{UnexpectedEof, Invalid}
 use Rattle.jxlm_base.specs.declared.error.Error.TheVariants.{Decoder}
-use Rattle.jxlm_transform.specs.Channels.{image_list, image_channel, info_of}
+use Rattle.jxlm_transform.specs.Channels.{image_list}
 use Rattle.jxlm_transform.specs.ChannelSteps.{CodedList}
-use Rattle.jxlm_transform.specs.declared.channels.ModularChannelInfo.{ModularChannelInfo}
 use Rattle.jxlm_transform.specs.Params.{sized}
 use Rattle.jxlm_transform.specs.declared.param.ChannelShift.TheVariants.{Shifts}
 use Rattle.jxlm_transform.specs.declared.param.ModularChannelParams.{ModularChannelParams}
@@ -24,17 +20,12 @@ use Rattle.jxlm_tree.specs.TreeReading.{listing_at, drafts_at, nodes_at, node_at
 use Rattle.jxlm_tree.specs.WeightsHeader.{default_weights}
 use Rattle.jxlm_tree.specs.declared.flat.Leaf.{Leaf}
 use Rattle.jxlm_tree.specs.declared.predictor.Predictor.TheVariants.{Zero, Gradient}
-use Rattle.jxlm_transform.specs.declared.param.ModularParams.{ModularParams}
 use Rattle.jxl_modular.specs.Coded.{IsCodedWhole}
 use Rattle.jxl_modular.specs.Decode.{Standing, FailsToRead, FailsToEnd, DecodeAnswers}
 use Rattle.jxl_modular.specs.Header.{Header}
-use Rattle.jxl_modular.specs.Image.{Image}
-use Rattle.jxlm_chain.specs.Layout.{first_layout}
 use Rattle.jxl_modular.specs.Opening.{opening, node_limit}
 use Rattle.jxl_modular.specs.Part.{Part}
-use Rattle.jxl_modular.specs.Parsing.{IsImageAt}
-use Rattle.jxl_modular.specs.Picture.{IsFilled, IsPictureAt}
-use Rattle.jxl_modular.specs.Progress.{buffer_at}
+use Rattle.jxl_modular.specs.Picture.{IsPicture}
 
 -- one channel of 2 by 2
 abbrev square : List ModularChannelParams
@@ -203,75 +194,17 @@ run_samples = record {
   accepts = refl;
 }
 
--- Whatever else the parameters say, the picture stands at the start of those bytes: header, tree and samples, up to place 80.
-abbrev info : List ModularChannelInfo
-info = map (λ c. info_of (image_channel c)) square
-
-widths_stay : (b : ℕ) → (buffer_at row_grids b).width ≡ (buffer_at zeros_of_square b).width
-widths_stay zero = refl
-widths_stay (suc b) = refl
-
-heights_stay : (b : ℕ) → (buffer_at row_grids b).height ≡ (buffer_at zeros_of_square b).height
-heights_stay zero = refl
-heights_stay (suc b) = refl
-
-full_still : (b : ℕ) → IsFull (buffer_at zeros_of_square b) → IsFull (buffer_at row_grids b)
-full_still zero full = refl
-full_still (suc b) full = full
-
--- no cell lies outside the one channel
-cells_stay : (b x y : ℕ) → x < (buffer_at zeros_of_square b).width → y < (buffer_at zeros_of_square b).height → All (λ r. HasCell r b x y → ⊥) (first_layout (image_list square).channels).regions → cell (buffer_at row_grids b) x y ≡ cell (buffer_at zeros_of_square b) x y
-cells_stay zero x y in_row in_column outside =
-    let inside : HasCell (region 0 0 0 2 2) 0 x y = record { buffer = refl; left = omega arith; right = in_row; top = omega arith; bottom = in_column } in
-    absurd (All-head (λ r. HasCell r 0 x y → ⊥) (region 0 0 0 2 2) [] outside inside)
-cells_stay (suc b) x y in_row in_column outside = refl
-
-module _ (params : ModularParams PlainState) where
-  -- the image as it is read, and as it is filled
-  abbrev holding : List (Grid ℤ) → Image ℤ PlainState
-  holding grids = record {
-    weights = default_weights;
-    steps = [];
-    config = one_leaf gradient (three_bits Unsealed);
-    group_dim = params.group_dim;
-    bit_depth = params.bit_depth;
-    given = info;
-    channels = info;
-    nb_meta = 0;
-    store = grids;
-    coded = (first_layout (image_list square).channels).regions;
-  }
-
-  row_image : params.channels.items ≡ square → IsImageAt plain (pos 0) row_bytes 0 params (holding zeros_of_square) 68
-  row_image asked = record {
-    ahead = record { weights = default_weights; coded = as_given };
-    place = 4;
-    opens = rw asked row_opening;
-    tree = row_tree;
-    cells = rw asked refl;
-  }
-
-  row_filled : IsFilled plain w32 (λ z. z) row_bytes 0 (holding zeros_of_square) 68 (holding row_grids) 80
-  row_filled = record {
-    cells = row_grids;
-    coded = row_samples;
-    only = record {
-      chain = ((record { same_width = refl; same_height = refl; full = refl }, tt), refl);
-      only = λ other becomes. sym becomes.1;
-    };
-    same = record {
-      weights = refl;
-      steps = refl;
-      config = refl;
-      group_dim = refl;
-      bit_depth = refl;
-      given = refl;
-      channels = refl;
-      nb_meta = refl;
-      coded = refl;
-      shape = record { count = refl; width = widths_stay; height = heights_stay; full = full_still };
-    };
-  }
-
-  row_picture : params.channels.items ≡ square → IsPictureAt plain w32 (λ z. z) row_bytes 0 (pos 0) 0 params (holding row_grids) 80
-  row_picture asked = record { read = holding zeros_of_square; place = 68; reads = row_image asked; filled = row_filled }
+-- A picture stands at the start of those bytes: header, tree and samples, up to place 80, whatever the bit depth.
+row_picture : (bit_depth : ℕ) → IsPicture plain w32 row_bytes 0 (image_list square) 0 bit_depth row_grids 80
+row_picture bit_depth = record {
+  head = record { weights = default_weights; coded = as_given };
+  config = one_leaf gradient (three_bits Unsealed);
+  samples_at = 68;
+  samples = row_grids;
+  start = record { tree_at = 4; header = row_opening; tree = row_tree };
+  coded = row_samples;
+  only = record {
+    chain = ((record { same_width = refl; same_height = refl; full = refl }, tt), refl);
+    only = λ other becomes. sym becomes.1;
+  };
+}

@@ -1,6 +1,6 @@
 -- The laws of the fields that stand ahead of an image's tree.
 use Rattle.std.proofs.Common.{◌≡◌, ℕ, List, Bool, Result, Ok, Err, refl, ap, ◌∙◌}
-use Rattle.jxlm_base.specs.Fault.{Fault, UnlessMemory}
+use Rattle.jxlm_base.specs.Fault.{Fault, UnlessNoMemory}
 use Rattle.jxlm_base.specs.Grammar.{Grammar, IsExact, IsRefused, behind, flag, repeated, ◌>>=◌}
 use Rattle.jxlm_base.specs.declared.bits.U32Spec.TheVariants.{Const, Offset}
 use Rattle.jxlm_base.proofs.GrammarLaws.{exact-give, exact-refuse, exact-bind, exact-repeated, exact-flag, exact-u32}
@@ -36,7 +36,7 @@ exact-opening has_global list = bind exact-header λ h. exact-checked (resolved 
 -- where one of the transforms is refused, so is the header
 pub listed_refused : (bytes : List ℕ) (p : ℕ) (global : Bool) (a : ℕ) (weights : WpHeader) (b n m : ℕ) (fault : Fault) (q : ℕ) → flag.read bytes p ≡ Ok (record { value = global; position = a }) →
     wp_header.read bytes a ≡ Ok (record { value = weights; position = b }) → transform_count.read bytes b ≡ Ok (record { value = n; position = m }) →
-    UnlessMemory fault (IsRefused ((repeated n (transform weights)).read bytes m) fault q) → UnlessMemory fault (IsRefused (header.read bytes p) fault q)
+    UnlessNoMemory fault (IsRefused ((repeated n (transform weights)).read bytes m) fault q) → UnlessNoMemory fault (IsRefused (header.read bytes p) fault q)
 listed_refused bytes p global a weights b n m fault q first second third refused =
     let rest : header.read bytes p ≡ behind ((repeated n (transform weights)).read bytes m) (λ found. Ok (record { value = record { use_global_tree = global; wp_params = weights; transform = found.value }; position = found.position })) =
     rw (first, second, third) refl in

@@ -10,6 +10,7 @@ use Rattle.jxlm_base.proofs.Regions.{grid_of_whole, IsFull-grid_of, IsFull-meani
 use Rattle.jxlm_chain.specs.Layout.{Sides, HasBuffers, sides_of, whole_regions, first_layout}
 use Rattle.jxlm_transform.specs.Channels.{Channel as Full, channel_of as full}
 use Rattle.jxlm_transform.specs.declared.channels.ModularChannelInfo.{ModularChannelInfo}
+use Rattle.jxl_modular.specs.Image.{HaveSizes}
 use Rattle.jxl_modular.specs.Layout.{channels_of}
 use Rattle.jxl_modular.specs.Part.{Channel, Fits}
 use Rattle.jxl_modular.specs.Progress.{SameSizes, grids_in}
@@ -35,6 +36,12 @@ buffers_meanings f [] (g ∷ gs) h = absurd h
 buffers_meanings f (s ∷ sides) [] h = absurd h
 buffers_meanings f (s ∷ sides) (g ∷ gs) h =
     (record { same_width = h.0.same_width; same_height = h.0.same_height; full = IsFull-meanings f g h.0.full }, buffers_meanings f sides gs h.1)
+
+-- the first buffers have the sides of the channels, in their order
+pub given_sizes : {X : Type 0} (cs : List ModularChannelInfo) (more : List Sides) (store : List (Grid X)) → HasBuffers (sides_of (map full cs) ++ more) store → HaveSizes cs (take (length cs) store)
+given_sizes [] more store h = tt
+given_sizes (c ∷ cs) more [] h = absurd h
+given_sizes (c ∷ cs) more (g ∷ gs) h = ((h.0.same_width, h.0.same_height), given_sizes cs more gs h.1)
 
 -- grids of channels that have a buffer each, from one place of a store on
 grids_from : (cs : List Full) (more : List Sides) (front store : List (Grid ℤ)) → HasBuffers (sides_of cs ++ more) store → grids_in (whole_regions (length front) cs) (front ++ store) ≡ take (length cs) store

@@ -13,6 +13,8 @@ pub mod Samples
 pub mod Prefixes
 pub mod PartLaws
 pub mod PictureLaws
+pub mod ZeroGrids
+pub mod Filling
 pub mod Places
 pub mod TokenLaw
 pub mod Whole

@@ -22,7 +22,7 @@ use Rattle.jxlm_tree.proofs.FlatTrees.{goes_without_weights, reads_earlier_below
 use Rattle.jxlm_tree.proofs.PropertiesLaws.{later_property}
 use Rattle.jxl_modular.specs.Coded.{next_prediction}
 use Rattle.jxl_modular.specs.Progress.{SameSizes, cells_ahead, grids_in}
-use Rattle.jxl_modular.specs.Reading.{flat, leaf_at, predicted_at, region_at}
+use Rattle.jxl_modular.specs.Reading.{flat, handed, leaf_at, predicted_at, region_at}
 use Rattle.jxl_modular.specs.Part.{Part, channel, earlier_alike, grid_of as grid_before, samples_of, next_leaf, surroundings, SeesBefore}
 use Rattle.jxl_modular.proofs.Earlier.{earlier_mapped, few_earlier}
 use Rattle.jxl_modular.proofs.Loops.{fits_in, grid_in, same_size}
@@ -86,6 +86,12 @@ cut_same s f xs n (suc (suc (suc (suc (suc (suc (suc (suc (suc (suc (suc (suc (s
     let past : 16 ≤ (suc (suc (suc (suc (suc (suc (suc (suc (suc (suc (suc (suc (suc (suc (suc (suc k)))))))))))))))) = omega arith in
     let there : ((suc (suc (suc (suc (suc (suc (suc (suc (suc (suc (suc (suc (suc (suc (suc (suc k)))))))))))))))) - 16) / 4 < n = omega (arith, h) in
     later_property (with_earlier s (map f (take n xs))) (suc (suc (suc (suc (suc (suc (suc (suc (suc (suc (suc (suc (suc (suc (suc (suc k)))))))))))))))) past ∙ ap (int_wrap w32) (rw (got f n xs (((suc (suc (suc (suc (suc (suc (suc (suc (suc (suc (suc (suc (suc (suc (suc (suc k)))))))))))))))) - 16) / 4) there) refl) ∙ sym (later_property (with_earlier s (map f xs)) (suc (suc (suc (suc (suc (suc (suc (suc (suc (suc (suc (suc (suc (suc (suc (suc k)))))))))))))))) past)
+
+-- so it is where a tree that asks for none is handed none
+cut_handed : {X : Type 0} (s : Surroundings) (f : X → Grid ℤ) (xs : List X) (n i k : ℕ) → k < 16 + 4 * min i n →
+    place_property (with_earlier s (map f (handed n xs))) k ≡ place_property (with_earlier s (map f xs)) k
+cut_handed s f xs zero i k h = cut_same s f xs 0 k (omega (arith, h))
+cut_handed s f xs (suc n) i k h = refl
 
 -- a prediction is the same without weights by each predictor but the self-correcting one
 predicts_without : (a b : Option WpHeader) (samples : List ℤ) (width : ℕ) (p : Predictor) → p ≢ SelfCorrecting → prediction a samples width p ≡ prediction b samples width p
@@ -163,17 +169,17 @@ module _ (part : Part) (regions : List Region) (ints : List (Grid ℤ)) (i x y :
       ∙ sym (ap (λ (s : Surroundings). walk part.tree (property i part.stream s)) same_seen)
       ∙ sym (ap (λ n. walk part.tree (property n part.stream (surroundings part before))) sees.stands)
 
-  -- as many earlier channels as the tree can ask for are enough
-  abbrev reach : ℕ
-  reach = min i (earlier_named part.tree)
+  -- the earlier channels, where the tree asks for any
+  abbrev handed_on : List Region
+  handed_on = handed (earlier_named part.tree) earlier
 
   abbrev cut_with : Option WpHeader → Surroundings
-  cut_with weights = surroundings_of (setting reg.width weights (take reach earlier)) ints own
+  cut_with weights = surroundings_of (setting reg.width weights handed_on) ints own
 
   cut_leaf : (weights : Option WpHeader) → leaf_reached (flat part.tree part.stream i) (place_property (cut_with weights)) ≡ leaf_reached (flat part.tree part.stream i) (place_property (seen_with weights))
   cut_leaf weights =
       reads_earlier_below (flat part.tree part.stream i) (earlier_named part.tree) refl (place_property (cut_with weights)) (place_property (seen_with weights))
-      (λ k less. cut_same (seen_with weights) (grid_of ints) earlier reach k less)
+      (λ k less. cut_handed (seen_with weights) (grid_of ints) earlier (earlier_named part.tree) i k less)
 
   -- the prediction of the part, at its leaf
   predicted_with : next_prediction part before ≡ prediction (Some part.weights) own reg.width (next_leaf part before).predictor
@@ -184,9 +190,9 @@ module _ (part : Part) (regions : List Region) (ints : List (Grid ℤ)) (i x y :
     pub leaf_is : leaf_at (flat part.tree part.stream i) s ints own ≡ next_leaf part before
     pub predicted_is : predicted_at (flat part.tree part.stream i) s ints own ≡ next_prediction part before
 
-  pub is_next : IsNext (setting reg.width (if needs_weights part.tree then Some part.weights else None) (take reach earlier))
+  pub is_next : IsNext (setting reg.width (if needs_weights part.tree then Some part.weights else None) handed_on)
   is_next = either (needs_weights part.tree) refl where
-    either : (b : Bool) → needs_weights part.tree ≡ b → IsNext (setting reg.width (if b then Some part.weights else None) (take reach earlier))
+    either : (b : Bool) → needs_weights part.tree ≡ b → IsNext (setting reg.width (if b then Some part.weights else None) handed_on)
     either true is =
         let same = cut_leaf (Some part.weights) ∙ leaf_with in
         record {
@@ -199,6 +205,6 @@ module _ (part : Part) (regions : List Region) (ints : List (Grid ℤ)) (i x y :
         let same = goes.0 ∙ cut_leaf (Some part.weights) ∙ leaf_with in
         record {
           leaf_is = same;
-          predicted_is = predicts_without None (Some part.weights) own reg.width (leaf_at (flat part.tree part.stream i) (setting reg.width None (take reach earlier)) ints own).predictor goes.1
+          predicted_is = predicts_without None (Some part.weights) own reg.width (leaf_at (flat part.tree part.stream i) (setting reg.width None handed_on) ints own).predictor goes.1
               ∙ ap (λ (k : Leaf). prediction (Some part.weights) own reg.width k.predictor) same ∙ sym predicted_with;
         }

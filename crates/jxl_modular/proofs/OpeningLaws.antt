@@ -4,7 +4,7 @@ use Rattle.std.specs.Prelude.{codes, nat_lt, not, ◌&&◌, if◌then◌else◌}
 use Rattle.jxlm_chain.specs.Steps.{steps_in}
 use Rattle.std.proofs.lemmas.Bool.{ltb-false}
 use Rattle.std.proofs.lemmas.List.{append-nil}
-use Rattle.jxlm_base.specs.Fault.{Fault, BadProfile, NoGlobalTree, UnlessMemory}
+use Rattle.jxlm_base.specs.Fault.{Fault, BadProfile, NoGlobalTree, UnlessNoMemory}
 use Rattle.jxlm_base.specs.Grammar.{IsRefused}
 use Rattle.jxlm_transform.specs.Channels.{ChannelList}
 use Rattle.jxlm_transform.specs.ChannelSteps.{CodedList, Step, coded_list, listed_steps}
@@ -37,7 +37,7 @@ module _ (has_global : Bool) (list : ChannelList) where
 
 module _ (has_global : Bool) (list : ChannelList) (bytes : List ℕ) (p : ℕ) where
   -- where the header is refused, so is all
-  pub header_refused : (fault : Fault) (q : ℕ) → UnlessMemory fault (IsRefused (header.read bytes p) fault q) → UnlessMemory fault (IsRefused ((opening has_global list).read bytes p) fault q)
+  pub header_refused : (fault : Fault) (q : ℕ) → UnlessNoMemory fault (IsRefused (header.read bytes p) fault q) → UnlessNoMemory fault (IsRefused ((opening has_global list).read bytes p) fault q)
   header_refused fault q refused =
       unless_so fault (IsRefused (header.read bytes p) fault q) (IsRefused ((opening has_global list).read bytes p) fault q)
       (λ r. record { place = r.place; refuses = rw r.refuses refl; stands = r.stands }) refused
@@ -50,7 +50,7 @@ module _ (has_global : Bool) (list : ChannelList) (bytes : List ℕ) (p : ℕ) w
     refused_behind fault e = record { place = Some m; refuses = reads_on ∙ ap (λ (r : Result Opening Fault). (checked r).read bytes m) e; stands = refl }
 
     -- so it is where a transform is
-    pub transforms_refused : (fault : Fault) → UnlessMemory fault (coded_list h.transform list ≡ Err fault) → UnlessMemory fault (IsRefused ((opening has_global list).read bytes p) fault m)
+    pub transforms_refused : (fault : Fault) → UnlessNoMemory fault (coded_list h.transform list ≡ Err fault) → UnlessNoMemory fault (IsRefused ((opening has_global list).read bytes p) fault m)
     transforms_refused fault refused =
         unless_so fault (coded_list h.transform list ≡ Err fault) (IsRefused ((opening has_global list).read bytes p) fault m)
         (λ e. refused_behind fault (rw e refl)) refused

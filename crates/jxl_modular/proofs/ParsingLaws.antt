@@ -6,12 +6,12 @@ use Rattle.jxlm_base.specs.Decoding.{Meaning}
 use Rattle.jxlm_base.specs.Fault.{UnlessMemory, fault_of}
 use Rattle.jxlm_base.specs.Grammar.{IsRefused}
 use Rattle.jxlm_base.specs.declared.error.Error.{Error}
-use Rattle.jxlm_transform.proofs.Refusals.{unless_so}
-use Rattle.jxlm_transform.specs.Channels.{area, channel_of, image_list, list_of}
+use Rattle.jxlm_transform.specs.Channels.{ChannelList, area, channel_of, image_list, list_of}
 use Rattle.jxlm_transform.specs.declared.channels.ModularChannelInfo.{ModularChannelInfo}
 use Rattle.jxlm_transform.specs.declared.channels.ModularChannels.{ModularChannels}
 use Rattle.jxlm_transform.specs.declared.param.ModularChannelParams.{ModularChannelParams}
 use Rattle.jxlm_transform.specs.declared.param.ModularParams.{ModularParams}
+use Rattle.jxlm_tree.proofs.Memory.{unless_so}
 use Rattle.jxlm_tree.specs.Tree.{Config}
 use Rattle.jxlm_tree.specs.TreeReading.{IsTreeAt, IsTooDeep, TreeGives, listing_at}
 use Rattle.jxl_modular.specs.Fresh.{fresh}
@@ -33,32 +33,33 @@ areas_same (c ∷ cs) =
     ∙ sym (sum_by-cons area (channel_of c) (map channel_of cs))
 
 module _ {S D : Type 0} (d : Meaning D) (zero : S) (bytes : List ℕ) (p : ℕ) (params : ModularParams D) where
-  module _ (o : ModularHeader × ModularChannels) (m : ℕ) (opens : opened d zero bytes p params ≡ Ok (record { value = opening_of o; position = m }))
+  abbrev given : ChannelList
+  given = image_list params.channels.items
+
+  module _ (o : ModularHeader × ModularChannels) (m : ℕ) (opens : opened bytes given p ≡ Ok (record { value = opening_of o; position = m }))
       (limit : ℕ) (counted : limit ≡ min (1024 + sum_by (λ c. c.width * c.height) o.1.info.items) (2 ^ 20)) where
     limit_same : limit ≡ node_limit (list_of o.1).channels
     limit_same = counted ∙ ap (λ n. min (1024 + n) (2 ^ 20)) (areas_same o.1.info.items)
 
     -- an image of the tree that stands there
     pub image_stands : (config : Config D) (q : ℕ) (image : Image S D) → IsTreeAt d bytes limit depth_limit m config q →
-        image ≡ fresh zero (image_list params.channels.items) (opening_of o) config params.group_dim params.bit_depth → IsImageAt d zero bytes p params image q
+        image ≡ fresh zero given (opening_of o) config params.group_dim params.bit_depth → IsImageAt d zero bytes p params image q
     image_stands config q image tree same = rw same (record {
-      ahead = opening_of o;
-      place = m;
-      opens = opens;
-      tree = rw limit_same at tree;
+      head = opening_of o;
+      start = record { tree_at = m; header = opens; tree = rw limit_same at tree };
       cells = refl;
     })
 
     -- where a tree is refused, so is the image
     pub tree_refused : (e : Error) (q : ℕ) → TreeGives d bytes limit depth_limit m (Err e) q →
-        UnlessMemory (fault_of e) (IsRefused (opened d zero bytes p params) (fault_of e) q ⊎ IsTreeRefused d zero bytes p params (fault_of e) q)
+        UnlessMemory (fault_of e) (IsRefused (opened bytes given p) (fault_of e) q ⊎ IsTreeRefused d bytes given p (fault_of e) q)
     tree_refused e q gives =
-        unless_so (fault_of e) (IsRefused (listing_at d bytes limit m) (fault_of e) q ⊎ IsTooDeep d bytes limit depth_limit m (fault_of e) q)
-        (IsRefused (opened d zero bytes p params) (fault_of e) q ⊎ IsTreeRefused d zero bytes p params (fault_of e) q)
+        unless_so (fault_of e) {P = IsRefused (listing_at d bytes limit m) (fault_of e) q ⊎ IsTooDeep d bytes limit depth_limit m (fault_of e) q}
+        {Q = IsRefused (opened bytes given p) (fault_of e) q ⊎ IsTreeRefused d bytes given p (fault_of e) q}
         (λ tree. inr (record {
-          ahead = opening_of o;
-          place = m;
-          opens = opens;
+          head = opening_of o;
+          tree_at = m;
+          header = opens;
           tree = rw limit_same at tree;
         })) gives
 
@@ -67,6 +68,6 @@ module _ {S D : Type 0} (d : Meaning D) (zero : S) (bytes : List ℕ) (p : ℕ) 
   gives_image (c ∷ cs) image q some stands = (image, refl, stands)
 
   pub gives_fault : (cs : List ModularChannelParams) (e : Error) (q : ℕ) → 0 < length cs →
-      UnlessMemory (fault_of e) (IsRefused (opened d zero bytes p params) (fault_of e) q ⊎ IsTreeRefused d zero bytes p params (fault_of e) q) → ParseGives d zero bytes p params cs (Err e) q
+      UnlessMemory (fault_of e) (IsRefused (opened bytes given p) (fault_of e) q ⊎ IsTreeRefused d bytes given p (fault_of e) q) → ParseGives d zero bytes p params cs (Err e) q
   gives_fault [] e q some refused = absurd (omega (arith, some))
   gives_fault (c ∷ cs) e q some refused = refused

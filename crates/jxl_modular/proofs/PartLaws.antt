@@ -118,11 +118,11 @@ refuses_memory d w to_int bytes stream old p before (Bitstream b) h = absurd (me
 
 -- ---- what decoding a part answers
 
-some_of : (n : ℕ) (P Q : Type 0) → 0 < n → P → IfSome n P Q
+pub some_of : (n : ℕ) (P Q : Type 0) → 0 < n → P → IfSome n P Q
 some_of zero P Q h p = absurd (omega arith)
 some_of (suc n) P Q h p = p
 
-none_of : (n : ℕ) (P Q : Type 0) → (0 < n → ⊥) → Q → IfSome n P Q
+pub none_of : (n : ℕ) (P Q : Type 0) → (0 < n → ⊥) → Q → IfSome n P Q
 none_of zero P Q h q = q
 none_of (suc n) P Q h q = absurd (h (omega arith))
 

@@ -4,7 +4,7 @@ use Rattle.std.specs.List.{All}
 use Rattle.std.proofs.lemmas.List.{append-nil, drop_all, drop_more, map_push, take_all, take_more_set}
 use Rattle.std.proofs.lemmas.List.Elements.{All-head, All-tail}
 use lib.Seq.{drop-set-lt}
-use Rattle.jxlm_base.specs.Fault.{Fault, UnlessMemory}
+use Rattle.jxlm_base.specs.Fault.{Fault, UnlessNoMemory}
 use Rattle.jxlm_transform.specs.Channels.{ChannelList}
 use Rattle.jxlm_transform.specs.ChannelSteps.{CodedList, coded_list, list_after_all, listed_steps, steps_of, ◌>>=◌}
 use Rattle.jxlm_transform.specs.Transforms.{Transform, OfRct, OfPalette, OfSqueeze, HasChannels, IsTransform, transform_of}
@@ -65,7 +65,7 @@ prepared_more ts i d u l m total lt steps list so_far =
 
 -- the next one was refused
 pub prepared_refused : (ts : List TransformInfo) (i : ℕ) (d : TransformInfo) (l : ChannelList) (fault : Fault) (total : Result CodedList Fault) → i < length ts →
-    UnlessMemory fault ((steps_of (transform_of (get_or ts i d)) l >>= λ steps. list_after_all steps l) ≡ Err fault) → come_to i ts l ≡ total → UnlessMemory fault (total ≡ Err fault)
+    UnlessNoMemory fault ((steps_of (transform_of (get_or ts i d)) l >>= λ steps. list_after_all steps l) ≡ Err fault) → come_to i ts l ≡ total → UnlessNoMemory fault (total ≡ Err fault)
 prepared_refused ts i d l fault total lt refused so_far =
     let before : with_steps (steps_in (done i ts)) (coded_list (transform_of (get_or ts i d) ∷ left (i + 1) ts) l) ≡ total =
     sym (ap (λ (us : List Transform). with_steps (steps_in (done i ts)) (coded_list us l)) (first_left ts i d lt)) ∙ so_far in

@@ -1,6 +1,6 @@
 -- An image: what it was read with, and its buffers.
 use Rattle.std.specs.Prelude.{◌≡◌, ◌≤◌, ◌+◌, ℕ, List, length, map, take, ℤ, Ok, refl}
-use Rattle.std.specs.List.{All}
+use Rattle.std.specs.List.{All, AllZip}
 use Rattle.std.specs.Coded.{Coded, code_by, coded×, coded_list, coded_ℕ}
 use Rattle.std.specs.Int.{Width}
 use Rattle.jxlm_base.specs.Grid.{Grid, grid_code}
@@ -53,6 +53,10 @@ image_code {S} {D} w t c i r s =
     })
     (λ _. refl)
 
+-- a grid for each of these channels, as wide and as high as it
+abbrev pub HaveSizes : {S : Type 0} → List ModularChannelInfo → List (Grid S) → Type 0
+HaveSizes channels grids = AllZip (λ c g. (g.width ≡ c.width) × (g.height ≡ c.height)) channels grids
+
 module _ {S D : Type 0} where
   -- the image's own channels, and its coded ones
   abbrev pub given_list : Image S D → ChannelList
@@ -83,7 +87,7 @@ module _ {S D : Type 0} where
   abbrev pub grids_given : Image S D → List (Grid S)
   grids_given x = take (length x.given) x.store
 
-  -- the same, of the numbers that the samples stand for
+  -- the image's own channels, of the numbers that the samples stand for
   abbrev pub image_grids : (S → ℤ) → Image S D → List (Grid ℤ)
   image_grids to_int x = store_meanings to_int (grids_given x)
 

@@ -1,6 +1,6 @@
 -- What stands ahead of an image's tree, and in which order it is refused (ISO/IEC 18181-1, Modular: Modular header and its conditions).
 use Rattle.std.specs.Prelude.{◌≡◌, ◌+◌, ◌^◌, nat_lt, min, sum_by, List, length, codes, Bool, ℕ, not, ◌&&◌, if◌then◌else◌, Result, Ok, Err}
-use Rattle.jxlm_base.specs.Fault.{Fault, BadProfile, NoGlobalTree, UnlessMemory, fault_of}
+use Rattle.jxlm_base.specs.Fault.{Fault, BadProfile, NoGlobalTree, UnlessNoMemory, fault_of}
 use Rattle.jxlm_base.specs.Grammar.{Grammar, IsExact, give, refuse}
 use Rattle.jxlm_base.specs.Grammar as fields
 use Rattle.jxlm_base.specs.declared.error.Error.{Error}
@@ -44,7 +44,7 @@ opening has_global list = fields.◌>>=◌ header λ header. checked (resolved h
 -- What a call that applies transforms in order answered, the transforms behind it, which then list their steps, and the list behind it.
 abbrev pub PrepareGives : List Transform → ChannelList → Result (Unit {0}) Error → List Transform → ChannelList → Type 0
 PrepareGives ts l (Ok u) listed m = coded_list ts l ≡ Ok (record { steps = steps_in listed; list = m })
-PrepareGives ts l (Err e) listed m = UnlessMemory (fault_of e) (coded_list ts l ≡ Err (fault_of e))
+PrepareGives ts l (Err e) listed m = UnlessNoMemory (fault_of e) (coded_list ts l ≡ Err (fault_of e))
 
 -- what a call that checks the conditions answered
 abbrev pub CheckGives : Result (Unit {0}) Fault → Result (Unit {0}) Error → Type 0

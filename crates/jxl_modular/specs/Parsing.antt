@@ -1,12 +1,13 @@
--- What reading an image answers.
+-- What reading an image gives: its header and its tree (ISO/IEC 18181-1, Modular: Modular header, MA tree).
 use Rattle.std.specs.Prelude.{◌≡◌, ℕ, List, [], ◌∷◌, false, ◌⊎◌, Option, None, Some, Result, Ok, Err}
 use Rattle.jxlm_base.specs.Decoding.{Found, Meaning}
 use Rattle.jxlm_base.specs.Fault.{Fault, Refused, UnlessMemory, fault_of}
 use Rattle.jxlm_base.specs.Grammar.{IsRefused}
 use Rattle.jxlm_base.specs.declared.error.Error.{Error}
-use Rattle.jxlm_transform.specs.Channels.{image_list}
+use Rattle.jxlm_transform.specs.Channels.{ChannelList, image_list}
 use Rattle.jxlm_transform.specs.declared.param.ModularChannelParams.{ModularChannelParams}
 use Rattle.jxlm_transform.specs.declared.param.ModularParams.{ModularParams}
+use Rattle.jxlm_tree.specs.Tree.{Config}
 use Rattle.jxlm_tree.specs.TreeReading.{IsTreeAt, IsTooDeep, listing_at}
 use Rattle.jxl_modular.specs.Fresh.{fresh}
 use Rattle.jxl_modular.specs.Image.{Image}
@@ -17,30 +18,36 @@ use Rattle.jxl_modular.specs.declared.root.Modular.{Modular}
 abbrev pub image_of : {S D : Type 0} → Modular S D → Option (Image S D)
 image_of m = m.inner
 
-module _ {S D : Type 0} (d : Meaning D) (zero : S) (bytes : List ℕ) (p : ℕ) (params : ModularParams D) where
-  -- what is read ahead of the tree, at place p; no global tree is handed in
-  abbrev pub opened : Result (Found Opening) Refused
-  opened = (opening false (image_list params.channels.items)).read bytes p
+-- the header at bit position p, and what it comes to for the given channels; no global tree is handed in
+abbrev pub opened : List ℕ → ChannelList → ℕ → Result (Found Opening) Refused
+opened bytes given p = (opening false given).read bytes p
 
-  -- an image stands at place p up to place q: what stands ahead of its tree, and its tree; its cells are 0
-  pub record IsImageAt (image : Image S D) (q : ℕ) : Type 0 where
-    pub ahead : Opening
-    pub place : ℕ
-    pub opens : opened ≡ Ok (record { value = ahead; position = place })
-    pub tree : IsTreeAt d bytes (node_limit ahead.coded.list.channels) depth_limit place image.config q
-    pub cells : image ≡ fresh zero (image_list params.channels.items) ahead image.config params.group_dim params.bit_depth
+module _ {D : Type 0} (d : Meaning D) (bytes : List ℕ) (given : ChannelList) (p : ℕ) where
+  -- At bit position p, up to q, stand a header, which comes to this head for the given channels, and after it this MA tree with its decoder.
+  pub record IsStartAt (head : Opening) (config : Config D) (q : ℕ) : Type 0 where
+    pub tree_at : ℕ
+    pub header : opened bytes given p ≡ Ok (record { value = head; position = tree_at })
+    pub tree : IsTreeAt d bytes (node_limit head.coded.list.channels) depth_limit tree_at config q
 
-  -- what stands ahead of the tree is read, and the tree is refused
+  -- At bit position p stands a header, and reading the MA tree after it returns this error, and the reader is at q then.
   pub record IsTreeRefused (fault : Fault) (q : ℕ) : Type 0 where
-    pub ahead : Opening
-    pub place : ℕ
-    pub opens : opened ≡ Ok (record { value = ahead; position = place })
-    pub tree : IsRefused (listing_at d bytes (node_limit ahead.coded.list.channels) place) fault q ⊎ IsTooDeep d bytes (node_limit ahead.coded.list.channels) depth_limit place fault q
+    pub head : Opening
+    pub tree_at : ℕ
+    pub header : opened bytes given p ≡ Ok (record { value = head; position = tree_at })
+    pub tree : IsRefused (listing_at d bytes (node_limit head.coded.list.channels) tree_at) fault q ⊎ IsTooDeep d bytes (node_limit head.coded.list.channels) depth_limit tree_at fault q
 
-  -- What reading an image of these channels answers, and where it leaves the reader. With no channels no bit is read, and there is no image.
-  -- Else there is the image that stands there, or the fault of the first check that fails; memory may be refused at any time.
+module _ {S D : Type 0} (d : Meaning D) (zero : S) (bytes : List ℕ) (p : ℕ) (params : ModularParams D) where
+  -- an image stands at place p up to place q: its header and its tree; its cells are 0
+  pub record IsImageAt (image : Image S D) (q : ℕ) : Type 0 where
+    pub head : Opening
+    pub start : IsStartAt d bytes (image_list params.channels.items) p head image.config q
+    pub cells : image ≡ fresh zero (image_list params.channels.items) head image.config params.group_dim params.bit_depth
+
+  -- What reading an image of these channels gives, and where it leaves the reader. With no channels no bit is read, and there is no image.
+  -- Else there is the image that stands there, or the error of the first check that fails; it may be out of memory at any time.
   abbrev pub ParseGives : List ModularChannelParams → Result (Modular S D) Error → ℕ → Type 0
   ParseGives [] (Ok m) q = (image_of m ≡ None) × (q ≡ p)
   ParseGives [] (Err e) q = ⊥
   ParseGives (c ∷ cs) (Ok m) q = (image : Image S D) × (image_of m ≡ Some image) × IsImageAt image q
-  ParseGives (c ∷ cs) (Err e) q = UnlessMemory (fault_of e) (IsRefused opened (fault_of e) q ⊎ IsTreeRefused (fault_of e) q)
+  ParseGives (c ∷ cs) (Err e) q =
+      UnlessMemory (fault_of e) (IsRefused (opened bytes (image_list params.channels.items) p) (fault_of e) q ⊎ IsTreeRefused d bytes (image_list params.channels.items) p (fault_of e) q)

@@ -1,58 +1,77 @@
--- From bits to a finished picture.
-use Rattle.std.specs.Prelude.{◌≡◌, ℕ, ℤ, List, [], ◌∷◌, ◌⊎◌, Option, None, Some, Bool, Result, Ok, Err}
+-- A picture of one part, told by its bits and by grids of numbers alone (ISO/IEC 18181-1, Modular: header, MA tree, samples, inverse transforms).
+use Rattle.std.specs.Prelude.{◌≡◌, ℕ, ◌+◌, ◌*◌, ◌⊎◌, ℤ, pos, List, map, sum_by, true}
 use Rattle.std.specs.Int.{Width}
 use Rattle.jxlm_base.specs.Decoding.{Meaning}
-use Rattle.jxlm_base.specs.Fault.{Fault, OfDecoder, UnlessMemory, fault_of}
+use Rattle.jxlm_base.specs.Fault.{Fault, OfDecoder, UnlessMemory}
 use Rattle.jxlm_base.specs.Grammar.{IsRefused}
-use Rattle.jxlm_base.specs.Grid.{Grid}
+use Rattle.jxlm_base.specs.Grid.{Grid, filled}
 use Rattle.jxlm_base.specs.declared.decoder.DecoderError.{DecoderError}
-use Rattle.jxlm_base.specs.declared.error.Error.{Error}
-use Rattle.jxlm_transform.specs.declared.param.ModularChannelParams.{ModularChannelParams}
-use Rattle.jxlm_transform.specs.declared.param.ModularParams.{ModularParams}
+use Rattle.jxlm_chain.specs.Chain.{IsOnlyImage}
+use Rattle.jxlm_transform.specs.Channels.{ChannelList, area}
+use Rattle.jxlm_transform.specs.Channels as lists
+use Rattle.jxlm_tree.specs.Tree.{Config, Shape, depth}
+use Rattle.jxlm_tree.specs.declared.flat.Leaf.{Leaf}
 use Rattle.jxl_modular.specs.Coded.{IsCodedWhole}
-use Rattle.jxl_modular.specs.Decode.{Standing, Fails}
-use Rattle.jxl_modular.specs.Image.{Image, IsOnlyImage, coded_grids, image_grids, whole_part}
-use Rattle.jxl_modular.specs.Parsing.{IsImageAt, IsTreeRefused, opened}
-use Rattle.jxl_modular.specs.SameButSamples.{SameButCells}
+use Rattle.jxl_modular.specs.Decode.{Fails, MovesWithin}
+use Rattle.jxl_modular.specs.Opening.{Opening}
+use Rattle.jxl_modular.specs.Parsing.{IsStartAt, IsTreeRefused, opened}
+use Rattle.jxl_modular.specs.Part.{Part, Channel}
 
-module _ {S D : Type 0} (d : Meaning D) (w : Width) (to_int : S → ℤ) (bytes : List ℕ) (stream : ℕ) where
-  -- Some cells are coded whole from place p up to place q, and the new image's channels are the only ones that the transforms turn into them.
-  pub record IsFilled (old : Image S D) (p : ℕ) (new : Image S D) (q : ℕ) : Type 0 where
-    pub cells : List (Grid ℤ)
-    pub coded : IsCodedWhole d w (whole_part old stream) bytes old.config.decoder p cells q
-    pub only : IsOnlyImage w new (image_grids to_int new) cells
-    pub same : SameButCells old new
+-- a coded channel as a part sees it: its size and its shifts (Modular: channels)
+abbrev pub coded_channel : lists.Channel → Channel
+coded_channel c = record { width = c.width; height = c.height; hshift = c.hshift; vshift = c.vshift }
 
-  -- The decoder refuses the samples that should stand at place p: at its begin, at the read of one cell, or at the end; the reader stands at q.
-  pub record AreRefused (old : Image S D) (p : ℕ) (fault : Fault) (q : ℕ) : Type 0 where
-    pub cause : DecoderError
-    pub partial : Bool
-    pub left : Standing
+-- the part of all channels that the header's transforms leave (Modular: decoding of samples)
+abbrev pub coded_part : {D : Type 0} → ℕ → Opening → Config D → Part
+coded_part stream head config = record { channels = map coded_channel head.coded.list.channels; weights = head.weights; tree = config.tree; stream = stream }
+
+-- for each channel a grid of zeros
+abbrev pub zero_grids : List Channel → List (Grid ℤ)
+zero_grids channels = map (λ c. filled c.width c.height (pos 0)) channels
+
+-- for each of n samples at most as many nodes were looked at as the tree is deep, and one more
+abbrev pub StepsFor : Shape Leaf → ℕ → ℕ → ℕ → Type 0
+StepsFor tree n before after = MovesWithin before after (n * (depth tree + 1))
+
+module _ {D : Type 0} (d : Meaning D) (w : Width) (bytes : List ℕ) (stream : ℕ) (given : ChannelList) (p : ℕ) where
+  -- At bit position p, up to q, stands a picture of the given channels: its header and MA tree, and then the samples of the coded channels.
+  -- Its grids are the only ones that the header's transforms turn into these samples (Modular: inverse transforms).
+  pub record IsPicture (bit_depth : ℕ) (grids : List (Grid ℤ)) (q : ℕ) : Type 0 where
+    pub head : Opening
+    pub config : Config D
+    pub samples_at : ℕ
+    pub samples : List (Grid ℤ)
+    pub start : IsStartAt d bytes given p head config samples_at
+    pub coded : IsCodedWhole d w (coded_part stream head config) bytes config.decoder samples_at samples q
+    pub only : IsOnlyImage w bit_depth head.coded.steps given grids samples
+
+  -- Such a picture was read, and the count of steps went on by no more than all coded samples allow.
+  pub record IsPictureRead (bit_depth : ℕ) (grids : List (Grid ℤ)) (q before after : ℕ) : Type 0 where
+    pub picture : IsPicture bit_depth grids q
+    pub steps : StepsFor picture.config.tree (sum_by area picture.head.coded.list.channels) before after
+
+  -- Header and MA tree stand at bit position p. Decoding the samples of the coded channels, which are zeros before, returns this error, and
+  -- the reader is at q then; the count of steps went on by no more than the samples whose read was tried allow.
+  pub record SamplesFail (fault : Fault) (q before after : ℕ) : Type 0 where
+    pub head : Opening
+    pub config : Config D
+    pub samples_at : ℕ
+    pub start : IsStartAt d bytes given p head config samples_at
+    pub error : DecoderError
+    pub left : List (Grid ℤ)
     pub tried : ℕ
-    pub fails : Fails d w (whole_part old stream) bytes old.config.decoder (record { position = p; grids = coded_grids to_int old; partial = partial }) left cause tried
-    pub fault_is : fault ≡ OfDecoder cause
-    pub place : left.position ≡ q
+    pub fails :
+        Fails d w (coded_part stream head config) bytes config.decoder (record { position = samples_at; grids = zero_grids (map coded_channel head.coded.list.channels); partial = true })
+        (record { position = q; grids = left; partial = true }) error tried
+    pub error_is : fault ≡ OfDecoder error
+    pub steps : StepsFor config.tree tried before after
 
-  module _ (zero : S) (p : ℕ) (params : ModularParams D) where
-    -- a finished picture stands at place p up to place q: a header, a tree, and the samples of its channels
-    pub record IsPictureAt (picture : Image S D) (q : ℕ) : Type 0 where
-      pub read : Image S D
-      pub place : ℕ
-      pub reads : IsImageAt d zero bytes p params read place
-      pub filled : IsFilled read place picture q
+  -- There is no picture, by the first error: of the header, of the tree, or of the samples. It may be out of memory at any time.
+  abbrev pub PictureFails : Fault → ℕ → ℕ → ℕ → Type 0
+  PictureFails fault q before after =
+      UnlessMemory fault (((IsRefused (opened bytes given p) fault q ⊎ IsTreeRefused d bytes given p fault q) × (after ≡ before)) ⊎ SamplesFail fault q before after)
 
-    -- header and tree stand at place p, and the samples behind them are refused
-    pub record IsRefusedBehind (fault : Fault) (q : ℕ) : Type 0 where
-      pub read : Image S D
-      pub place : ℕ
-      pub reads : IsImageAt d zero bytes p params read place
-      pub refused : AreRefused read place fault q
-
-    -- What decoding a picture of these channels answers, and where it leaves the reader. With no channels no bit is read, and there is no picture.
-    -- Else it is the picture that stands there, or the first fault: of the header, of the tree, or of the samples. Memory may be refused at any time.
-    abbrev pub PictureGives : List ModularChannelParams → Result (Option (Image S D)) Error → ℕ → Type 0
-    PictureGives [] (Ok x) q = (x ≡ None) × (q ≡ p)
-    PictureGives [] (Err e) q = ⊥
-    PictureGives (c ∷ cs) (Ok None) q = ⊥
-    PictureGives (c ∷ cs) (Ok (Some picture)) q = IsPictureAt picture q
-    PictureGives (c ∷ cs) (Err e) q = UnlessMemory (fault_of e) (IsRefused (opened d zero bytes p params) (fault_of e) q ⊎ (IsTreeRefused d zero bytes p params (fault_of e) q ⊎ IsRefusedBehind (fault_of e) q))
+-- Also where it was out of memory: no step was taken, or header and tree stand there, and the steps are within those for all coded samples.
+abbrev pub StepsWithin : {D : Type 0} → Meaning D → List ℕ → ChannelList → ℕ → ℕ → ℕ → Type 0
+StepsWithin {D} d bytes given p before after =
+    (after ≡ before) ⊎ ((head : Opening) × (config : Config D) × (q : ℕ) × IsStartAt d bytes given p head config q × StepsFor config.tree (sum_by area head.coded.list.channels) before after)

@@ -1,5 +1,5 @@
 -- How one cell of a part is read and written.
-use Rattle.std.specs.Prelude.{◌≡◌, ℕ, ◌+◌, ◌<◌, ◌≤◌, ℤ, List, length, map, min, take, slice_get, if◌then◌else◌, Option, None, Some, Result, Ok, Err, get_or}
+use Rattle.std.specs.Prelude.{◌≡◌, ℕ, zero, suc, ◌+◌, ◌<◌, ◌≤◌, ℤ, List, [], length, map, take, slice_get, if◌then◌else◌, Option, None, Some, Result, Ok, Err, get_or}
 use Rattle.std.specs.List.{All}
 use Rattle.std.specs.Int.{Width}
 use Rattle.jxlm_base.specs.Decoding.{Meaning, Taken}
@@ -30,6 +30,11 @@ region_at regions i = get_or regions i (region 0 0 0 0 0)
 -- the tree as channel i walks it, which may ask for all channels before
 abbrev pub flat : Shape Leaf → ℕ → ℕ → FlatTree
 flat t stream i = record { tree = t; channel = i; stream_idx = stream; prev_channels = i }
+
+-- what is handed on, of earlier channels, to a tree that names n of them: none where n is 0, else all
+abbrev pub handed : {X : Type 0} → ℕ → List X → List X
+handed zero earlier = []
+handed (suc n) earlier = earlier
 
 -- There are so many flat trees, each of this tree for its channel.
 pub record HasFlats (t : Shape Leaf) (stream count : ℕ) (flats : List FlatTree) : Type 0 where
@@ -67,13 +72,13 @@ module _ {D : Type 0} where
   abbrev pub weights_used : PartCoding D → Option WpHeader
   weights_used c = if needs_weights c.config.now.tree then Some c.weights else None
 
-  -- how many of the channels before channel i the tree can ask for
-  abbrev pub reach_of : PartCoding D → ℕ → ℕ
-  reach_of c i = min i (earlier_named c.config.now.tree)
+  -- the regions of the channels before channel i that are like it, the nearest first
+  abbrev pub all_alike : PartCoding D → ℕ → List Region
+  all_alike c i = map (region_at (regions_of c)) (earlier_alike (part_of c).channels i)
 
-  -- the regions of the channels before channel i that are like it, the nearest first, and of no more than the tree can ask for
+  -- those that the state is handed
   abbrev pub earlier_regions : PartCoding D → ℕ → List Region
-  earlier_regions c i = take (reach_of c i) (map (region_at (regions_of c)) (earlier_alike (part_of c).channels i))
+  earlier_regions c i = handed (earlier_named c.config.now.tree) (all_alike c i)
 
   -- what the state is set for in channel i
   abbrev pub setting_of : PartCoding D → ℕ → Setting
@@ -93,6 +98,15 @@ module _ {D : Type 0} where
     -- the state stands behind the first n cells of channel i
     abbrev pub StandsBehind : PartCoding D → (X → ℤ) → List (Grid X) → ℕ → ℕ → PredictorState X → Type 0
     StandsBehind c to_int store i n state = StandsAt state (setting_of c i) (take n (grid_of (store_meanings to_int store) (region_at (regions_of c) i)).cells)
+
+    -- the state stands somewhere in channel i
+    pub record StandsIn (c : PartCoding D) (i : ℕ) (state : PredictorState X) : Type 0 where
+      pub before : List ℤ
+      pub stands : StandsAt state (setting_of c i) before
+
+    -- of the channels before channel i, the state was last in the one before, where that has columns
+    abbrev pub IsAfterChannel : PartCoding D → ℕ → PredictorState X → Type 0
+    IsAfterChannel c i state = (last : ℕ) → i ≡ last + 1 → 0 < (region_at (regions_of c) last).width → StandsIn c last state
 
 -- a sample was read at this leaf, over this prediction, from this reading; it left state t and place q
 pub record ReadsNext {S X : Type 0} (w : Width) (from_int : ℤ → X) (l : Leaf) (predicted : ℤ) (sample : X) (t : S) (q : ℕ) (reading : Result (Taken S) DecoderError) : Type 0 where

@@ -1,13 +1,13 @@
 //! With what a part is coded, and what is made ready before its first bit is read.
 
-ghost use Rattle.std.specs.Prelude.{◌≡◌, ℕ, ◌^◌, ◌<◌, ◌≤◌, List, IfOk, IfErr, length};
-ghost use Rattle.jxlm_base.specs.Fault.{fault_of};
+ghost use Rattle.std.specs.Prelude.{◌≡◌, ℕ, ℤ, ◌^◌, ◌<◌, ◌≤◌, List, IfOk, IfErr, length};
+ghost use Rattle.jxlm_base.specs.Fault.{NoMemory, fault_of};
 ghost use Rattle.jxlm_base.specs.Grid.{Grid};
 ghost use Rattle.jxlm_tree.specs.SelfCorrecting.{IsHeader};
-ghost use Rattle.jxlm_tree.specs.TreeReading.{IsWantOfMemory};
 ghost use Rattle.jxl_modular.specs.Layout.{channel_of};
 ghost use Rattle.jxl_modular.specs.Part.{is_alike as alike};
-ghost use Rattle.jxl_modular.specs.Reading.{HasFlats, IsCodingOf, IsRoomy, IsRoomyFor, StandsBehind, region_at, regions_of};
+ghost use Rattle.jxlm_tree.specs.Standing.{Setting, StandsAt, earlier_count, setting};
+ghost use Rattle.jxl_modular.specs.Reading.{HasFlats, IsAfterChannel, IsCodingOf, IsRoomy, IsRoomyFor, StandsBehind, all_alike, region_at, regions_of};
 
 use crate::channels::ModularChannelInfo;
 use jxlm_base::decoder::Decoder;
@@ -56,8 +56,10 @@ fn is_alike(a: &ModularChannelInfo, b: &ModularChannelInfo) -> bool
     a.width == b.width && a.height == b.height && a.hshift == b.hshift && a.vshift == b.vshift
 }
 
-/// Puts the state before the first sample of channel `i`: it is handed the regions of the channels before that are like
-/// it, the nearest first, and of no more than its tree can ask for.
+/// Puts the state before the first sample of channel `i`, with the regions of the channels before that are like it, the
+/// nearest first, where the tree asks for any.
+///
+/// Where the channel before is like it, the state has all of them but that one, and is handed only that.
 pub(crate) fn start_channel<S: Sample, D: Decoder>(
     state: &mut PredictorState<S>,
     coding: &PartCoding<'_, D>,
@@ -67,22 +69,43 @@ pub(crate) fn start_channel<S: Sample, D: Decoder>(
     requires columns { 0 < (region_at (regions_of coding.now) i).width }
     requires coding { IsCodingOf coding.now }
     requires roomy { IsRoomy coding.now state.old }
+    requires last { IsAfterChannel coding.now i state.old }
     ensures stands { (store : List (Grid S)) → StandsBehind coding.now S.to_int store i 0 state.new }
     ensures roomy { IsRoomy coding.now state.new }
 {
-    let reach = coding.flats[i].max_prev_channel_depth();
-    state.restart(coding.regions[i].width as u32);
-    let (mut e, mut count) = (i, 0);
-    while e > 0 && count < reach {
-        e -= 1;
+    let width = coding.regions[i].width as u32;
+    if coding.flats[i].max_prev_channel_depth() == 0 {
+        state.restart(width);
+    } else if is_alike(&coding.channels[i - 1], &coding.channels[i]) {
+        state.restart_alike();
+        state.add_earlier(coding.regions[i - 1]);
+    } else {
+        state.restart(width);
+        add_all_earlier(state, coding, i);
+    }
+}
+
+/// Hands the state, which has no earlier channel, the regions of all channels before channel `i` that are like it.
+fn add_all_earlier<S: Sample, D: Decoder>(
+    state: &mut PredictorState<S>,
+    coding: &PartCoding<'_, D>,
+    i: usize,
+)
+    requires channel { i < length (regions_of coding.now) }
+    requires coding { IsCodingOf coding.now }
+    requires roomy { IsRoomy coding.now state.old }
+    requires none { earlier_count state.old ≡ 0 }
+    ensures stands { (s : Setting) (samples : List ℤ) → StandsAt state.old s samples → StandsAt state.new (setting s.width s.weights (all_alike coding.now i)) samples }
+    ensures roomy { IsRoomy coding.now state.new }
+{
+    for e in 0..i {
         if is_alike(&coding.channels[e], &coding.channels[i]) {
             state.add_earlier(coding.regions[e]);
-            count += 1;
         }
     }
 }
 
-/// The tree as each of so many channels walks it. It is refused for want of memory alone.
+/// The tree as each of n channels walks it. The only error is `Buffer`, where memory runs out.
 pub(crate) fn flat_trees<D: Decoder>(
     alloc: Global,
     config: &MaConfig<D>,
@@ -90,18 +113,18 @@ pub(crate) fn flat_trees<D: Decoder>(
     channels: u32,
 ) -> Result<Vec<FlatMaTree>>
     ensures ok { IfOk result (λ v. HasFlats config.now.tree stream_index channels v.items) }
-    ensures err { IfErr result (λ e. IsWantOfMemory (fault_of e)) }
+    ensures err { IfErr result (λ e. fault_of e ≡ NoMemory) }
 {
     let mut flats = Vec::new(alloc);
     for channel in 0..channels {
-        let flat = config.make_flat_tree(channel, stream_index, channel)?;
+        let flat = config.make_flat_tree(alloc, channel, stream_index, channel)?;
         flats.push(flat).map_err(|_| OutOfMemory)?;
     }
     Ok(flats)
 }
 
 /// A state with room for channels of these flat trees and up to this width; it heeds the weights where the tree asks for
-/// them. It is refused for want of memory alone.
+/// them. The only error is `Buffer`, where memory runs out.
 pub(crate) fn roomy_state<S: Sample>(
     alloc: Global,
     flats: &[FlatMaTree],
@@ -111,7 +134,7 @@ pub(crate) fn roomy_state<S: Sample>(
     requires weights { IsHeader weights.now }
     requires narrow { widest ≤ 2 ^ 30 }
     ensures ok { IfOk result (λ s. IsRoomyFor widest weights.now flats.now s) }
-    ensures err { IfErr result (λ e. IsWantOfMemory (fault_of e)) }
+    ensures err { IfErr result (λ e. fault_of e ≡ NoMemory) }
 {
     let used = match flats.first() {
         Some(flat) if flat.need_self_correcting() => Some(weights),

@@ -5,7 +5,7 @@ ghost use Rattle.jxlm_base.specs.Bits.{bytes_of, position_of};
 ghost use Rattle.jxlm_base.specs.Regions.{AllLie, LieApart, store_meanings};
 ghost use Rattle.jxl_modular.specs.Part.{cells_before, cell_count};
 ghost use Rattle.jxl_modular.specs.Progress.{GoesOn, Stops, TakesSteps, DecodesAll, DecodesSome, KeepsOutside, place_of};
-ghost use Rattle.jxl_modular.specs.Reading.{FindsClusters, IsCodingOf, IsRoomy, StandsBehind, cost_of, part_of, region_at, regions_of};
+ghost use Rattle.jxl_modular.specs.Reading.{FindsClusters, IsAfterChannel, IsCodingOf, IsRoomy, StandsBehind, cost_of, part_of, region_at, regions_of};
 
 use crate::cell::decode_cell;
 use crate::coding::{PartCoding, start_channel};
@@ -70,9 +70,11 @@ fn decode_channel<S: Sample, D: Decoder>(
     requires coding { IsCodingOf coding.now }
     requires clusters { FindsClusters coding.now (D.meaning.cluster_map decoder.old) }
     requires roomy { IsRoomy coding.now state.old }
+    requires last { IsAfterChannel coding.now i state.old }
     ensures ok { OnOk result (GoesOn D.meaning S.width (part_of coding.now) (bytes_of bits.old) (regions_of coding.now) (cells_before (part_of coding.now).channels i) (cells_before (part_of coding.now).channels (i + 1)) (store_meanings S.to_int store.old) decoder.old (position_of bits.old) (store_meanings S.to_int store.new) decoder.new (position_of bits.new)) }
     ensures err { IfErr result (λ e. Stops D.meaning S.width (part_of coding.now) (bytes_of bits.old) (regions_of coding.now) (cost_of coding.now) steps.old steps.new (cells_before (part_of coding.now).channels i) (store_meanings S.to_int store.old) decoder.old (position_of bits.old) (store_meanings S.to_int store.new) (position_of bits.new) e) }
     ensures roomy { OnOk result (IsRoomy coding.now state.new) }
+    ensures last { OnOk result (IsAfterChannel coding.now (i + 1) state.new) }
     ensures work { OnOk result (TakesSteps (cost_of coding.now) (cells_before (part_of coding.now).channels i) (cells_before (part_of coding.now).channels (i + 1)) steps.old steps.new) }
     ensures more { steps.old ≤ steps.new }
     ensures keeps { KeepsOutside (regions_of coding.now) store.old store.new }

@@ -3,9 +3,9 @@
 ghost use Rattle.std.specs.Prelude.{◌≡◌, IfOk, length, map};
 ghost use Rattle.std.specs.List.{All};
 ghost use Rattle.jxlm_base.specs.Bits.{bytes_of, position_of};
-ghost use Rattle.jxlm_base.specs.Grammar.{Answers, repeated};
+ghost use Rattle.jxlm_base.specs.Grammar.{repeated};
 ghost use Rattle.jxlm_transform.specs.Channels.{HasItsMeta, list_of};
-ghost use Rattle.jxlm_transform.specs.Transforms.{IsTransform, KeepsWeights, transform, transform_of};
+ghost use Rattle.jxlm_transform.specs.Transforms.{IsTransform, KeepsWeights, Parses, transform, transform_of};
 ghost use Rattle.jxl_modular.specs.Opening.{PrepareGives};
 
 use jxlm_base::bits::{Bitstream, U32Spec};
@@ -31,7 +31,7 @@ fn read_transforms(
     count: u32,
     wp_params: &WpHeader,
 ) -> Result<Vec<TransformInfo>>
-    ensures gives { Answers (λ v. map transform_of v.items) result (position_of bits.new) ((repeated count (transform wp_params.now)).read (bytes_of bits.old) (position_of bits.old)) }
+    ensures gives { Parses (λ v. map transform_of v.items) result (position_of bits.new) ((repeated count (transform wp_params.now)).read (bytes_of bits.old) (position_of bits.old)) }
     ensures each { IfOk result (λ v. All IsTransform (map transform_of v.items)) }
     ensures weights { IfOk result (λ v. All (KeepsWeights wp_params.now) (map transform_of v.items)) }
     ensures bytes { bytes_of bits.new ≡ bytes_of bits.old }
@@ -53,9 +53,9 @@ impl ModularHeader {
     ///
     /// A cut input is refused by `UnexpectedEof`; a transform of kind 3, and the number of a
     /// predictor that is none, by `InvalidEnum`. The reader then stands behind the last field that
-    /// was read whole. Want of memory may be answered at any transform.
+    /// was read whole. `Buffer` where it is out of memory, at any transform; no error of a decoder comes.
     pub fn parse(alloc: Global, bits: &mut Bitstream<'_>) -> Result<ModularHeader>
-        ensures gives { Answers header_of result (position_of bits.new) (header.read (bytes_of bits.old) (position_of bits.old)) }
+        ensures gives { Parses header_of result (position_of bits.new) (header.read (bytes_of bits.old) (position_of bits.old)) }
         ensures ranges { IfOk result (λ h. IsReadHeader (header_of h)) }
         ensures bytes { bytes_of bits.new ≡ bytes_of bits.old }
     {

@@ -7,17 +7,82 @@ mod coding;
 mod decode;
 mod header;
 pub mod image;
-mod laws;
+pub mod laws;
 mod picture;
 mod root;
 
+/// Bits of the input.
+pub mod bits {
+    pub use jxlm_base::bits::{Bitstream, BitstreamError, U32Spec};
+}
+
+/// Entropy decoders.
+pub mod decoder {
+    pub use jxlm_base::decoder::{Decoder, DecoderError, RleToken};
+}
+
+/// Errors.
+pub mod error {
+    pub use jxlm_base::error::{Error, Result};
+}
+
+/// Trees as the samples of one channel walk them.
+pub mod flat {
+    pub use jxlm_tree::flat::{FlatMaTree, Leaf, Steps};
+}
+
+/// Grids of samples, and rectangles in them.
+pub mod grid {
+    pub use jxlm_base::grid::{AlignedGrid, MutableSubgrid, OutOfMemory, Region};
+}
+
+/// Meta-adaptive trees.
+pub mod ma {
+    pub use jxlm_tree::ma::{MaConfig, MaConfigParams};
+}
+
+/// What an image is read by.
+pub mod param {
+    pub use jxlm_transform::param::{ChannelShift, ModularChannelParams, ModularParams};
+}
+
+/// The plain decoder.
+pub mod plain {
+    pub use jxlm_base::plain::PlainDecoder;
+}
+
+/// Predictors, and the properties of a place in a channel.
+pub mod predictor {
+    pub use jxlm_tree::predictor::{
+        PredictionResult, Predictor, PredictorState, Properties, WpHeader,
+    };
+}
+
+/// Colour transforms undone.
+pub mod rct {
+    pub use jxlm_transform::rct::inverse_rct;
+}
+
+/// The two types of a sample.
+pub mod sample {
+    pub use jxlm_base::sample::{Sample, Sealed};
+}
+
+/// Squeeze steps undone.
+pub mod squeeze {
+    pub use jxlm_transform::squeeze::{inverse_h, inverse_v};
+}
+
+/// The headers of transforms.
+pub mod transform {
+    pub use jxlm_transform::transform::{Palette, Rct, Squeeze, SqueezeParams, TransformInfo};
+}
+
 pub use jxlm_base::error::{Error, Result};
 pub use jxlm_base::sample::Sample;
-pub use jxlm_base::{bits, decoder, error, grid, plain, sample};
 pub use jxlm_transform::channels::ModularChannelInfo;
-pub use jxlm_transform::param;
 pub use jxlm_transform::param::{ChannelShift, ModularChannelParams, ModularParams};
+pub use jxlm_tree::flat::FlatMaTree;
 pub use jxlm_tree::ma::{MaConfig, MaConfigParams};
-pub use jxlm_tree::{flat, ma, predictor};
 pub use picture::decode_picture;
 pub use root::Modular;

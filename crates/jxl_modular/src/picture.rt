@@ -1,10 +1,16 @@
 //! A picture from its bits.
 
-ghost use Rattle.std.specs.Prelude.{◌≡◌, pos, None, OnOk, IfErr};
+ghost use Rattle.std.specs.Prelude.{◌≡◌, ◌↔◌, ◌*◌, [], pos, None, IfOk, IfErr, IsOk, OnOk};
+ghost use Rattle.std.specs.Option.{IfSome};
 ghost use Rattle.jxlm_base.specs.Bits.{bytes_of, position_of};
 ghost use Rattle.jxlm_base.specs.Fault.{UnlessMemory, fault_of};
+ghost use Rattle.jxlm_chain.specs.Chain.{AreGridsOf};
+ghost use Rattle.jxlm_transform.specs.Channels.{image_list};
 ghost use Rattle.jxlm_transform.specs.Params.{IsValidParams};
-ghost use Rattle.jxl_modular.specs.Picture.{IsFilled, AreRefused, PictureGives};
+ghost use Rattle.jxl_modular.specs.Decode.{MovesWithin};
+ghost use Rattle.jxl_modular.specs.Filled.{IsFilled, FillFails};
+ghost use Rattle.jxl_modular.specs.Image.{IsLaidOut, cost_of, image_grids, samples_in};
+ghost use Rattle.jxl_modular.specs.Picture.{IsPictureRead, PictureFails, StepsWithin};
 
 use crate::image::ModularImageDestination;
 use crate::root::Modular;
@@ -13,47 +19,78 @@ use jxlm_base::decoder::Decoder;
 use jxlm_base::error::Result;
 use jxlm_base::sample::Sample;
 use jxlm_transform::param::ModularParams;
+use jxlm_tree::flat::Steps;
 use std::alloc::Global;
 
-/// Decodes and finishes all samples of an image that was read.
+/// Decodes all samples of an image that was read, and undoes its transforms.
 fn fill<S: Sample, D: Decoder>(
     alloc: Global,
     bits: &mut Bitstream<'_>,
     image: &mut ModularImageDestination<S, D>,
     stream_index: u32,
+    steps: &mut Steps,
 ) -> Result<()>
-    ensures ok { OnOk result (IsFilled D.meaning S.width S.to_int (bytes_of bits.old) stream_index image.old (position_of bits.old) image.new (position_of bits.new)) }
-    ensures err { IfErr result (λ e. UnlessMemory (fault_of e) (AreRefused D.meaning S.width S.to_int (bytes_of bits.old) stream_index image.old (position_of bits.old) (fault_of e) (position_of bits.new))) }
+    ensures ok { OnOk result (IsFilled D.meaning S.width S.to_int (bytes_of bits.old) stream_index image.old
+        (position_of bits.old) image.new (position_of bits.new)) }
+    ensures err { IfErr result (λ e. UnlessMemory (fault_of e) (FillFails D.meaning S.width S.to_int
+        (bytes_of bits.old) stream_index image.old (position_of bits.old) (fault_of e) (position_of bits.new)
+        steps.old steps.new)) }
+    ensures work { MovesWithin steps.old steps.new (samples_in image.old * cost_of image.old) }
+    ensures laid { IsLaidOut image.old }
     ensures bytes { bytes_of bits.new ≡ bytes_of bits.old }
 {
-    let mut part = image.prepare_subimage(alloc)?;
-    part.decode(alloc, bits, stream_index, false)?;
-    part.finish(alloc)?;
-    Ok(())
+    if image.has_samples() {
+        image.decode_samples(alloc, bits, stream_index, steps)?;
+    }
+    image.undo_transforms(alloc)
 }
 
-/// Reads a picture whose samples stand in one part: its header, its tree, and all its samples, finished.
+/// Reads a picture whose samples stand in one part: its header, its tree, and all its samples, and undoes its
+/// transforms.
 ///
 /// With no channels no bit is read, and there is no picture. The parameters are valid, and no global tree is handed in.
 ///
-/// The answer is the picture that stands at the reader's place, or the first fault: of the header and the tree, as by
-/// [`Modular::parse`], or of the samples, as by [`decode`](crate::image::TransformedModularSubimage::decode). The reader then
-/// stands where the refused call found it. Want of memory may be answered at any time.
+/// It returns the picture at the reader's position, or the first error: of the header and the tree, as by
+/// [`Modular::parse`], or of the samples, as by
+/// [`decode`](crate::image::TransformedModularSubimage::decode). After an error the reader stands where the call that
+/// failed found it. It may be out of memory at any time.
+///
+/// For each sample whose read is tried, `steps` goes on by at most the tree's depth and one more.
 pub fn decode_picture<S: Sample, D: Decoder>(
     alloc: Global,
     bits: &mut Bitstream<'_>,
     params: ModularParams<'_, D>,
     stream_index: u32,
+    steps: &mut Steps,
 ) -> Result<Option<ModularImageDestination<S, D>>>
     requires valid { IsValidParams params }
     requires alone { params.ma_config ≡ None }
-    ensures gives { PictureGives D.meaning S.width S.to_int (bytes_of bits.old) stream_index (S.from_int (pos 0)) (position_of bits.old) params.entry params.entry.channels.items result (position_of bits.new) }
+
+    // With no channels there is no picture: no bit is read, and no step is taken.
+    ensures none { (result ≡ Ok None) ↔ (params.entry.channels.items ≡ []) }
+    ensures unread { params.entry.channels.items ≡ []
+        → (position_of bits.new ≡ position_of bits.old) × (steps.new ≡ steps.old) }
+
+    // Else it is the picture at the reader's position, whose grids have the sides of the channels ..
+    ensures picture { IfOk result (λ made. IfSome made (λ picture.
+        IsPictureRead D.meaning S.width (bytes_of bits.old) stream_index (image_list params.entry.channels.items)
+        (position_of bits.old) params.entry.bit_depth (image_grids S.to_int picture) (position_of bits.new)
+        steps.old steps.new)) }
+    ensures sides { IfOk result (λ made. IfSome made (λ picture.
+        AreGridsOf (image_list params.entry.channels.items).channels (image_grids S.to_int picture))) }
+
+    // .. or the first error.
+    ensures err { IfErr result (λ e. PictureFails D.meaning S.width (bytes_of bits.old) stream_index
+        (image_list params.entry.channels.items) (position_of bits.old) (fault_of e) (position_of bits.new)
+        steps.old steps.new) }
+    ensures work { StepsWithin D.meaning (bytes_of bits.old) (image_list params.entry.channels.items)
+        (position_of bits.old) steps.old steps.new }
     ensures bytes { bytes_of bits.new ≡ bytes_of bits.old }
 {
     let modular = Modular::parse(alloc, bits, params)?;
     let Some(mut image) = modular.into_image() else {
         return Ok(None);
     };
-    fill(alloc, bits, &mut image, stream_index)?;
+    fill(alloc, bits, &mut image, stream_index, steps)?;
     Ok(Some(image))
 }

@@ -4,12 +4,12 @@ ghost use Rattle.std.specs.Prelude.{◌≡◌, ◌≤◌, pos, length, None, Ok,
 ghost use Rattle.std.specs.List.{All};
 ghost use Rattle.std.specs.Option.{option_copied, option_copied_mut};
 ghost use Rattle.jxlm_base.specs.Bits.{bytes_of, position_of};
-ghost use Rattle.jxlm_base.specs.Grammar.{Answers};
 ghost use Rattle.jxlm_chain.specs.Layout.{HasNarrowTables};
 ghost use Rattle.jxlm_chain.specs.Steps.{HasChannels, HasWeights, steps_in};
 ghost use Rattle.jxlm_transform.specs.Channels.{IsNarrow, image_list, list_of};
 ghost use Rattle.jxlm_transform.specs.ChannelSteps.{list_after_all};
 ghost use Rattle.jxlm_transform.specs.Params.{IsValidChannel, IsValidParams};
+ghost use Rattle.jxlm_transform.specs.Transforms.{Parses};
 ghost use Rattle.jxlm_tree.specs.SelfCorrecting.{IsHeader};
 ghost use Rattle.jxl_modular.specs.Header.{header_of};
 ghost use Rattle.jxl_modular.specs.Opening.{CheckGives, conditions, opening, opening_of};
@@ -63,7 +63,7 @@ fn open(
     has_global: bool,
 ) -> Result<(ModularHeader, ModularChannels)>
     requires { All IsValidChannel params.now }
-    ensures gives { Answers opening_of result (position_of bits.new) ((opening has_global (image_list params.now)).read (bytes_of bits.old) (position_of bits.old)) }
+    ensures gives { Parses opening_of result (position_of bits.new) ((opening has_global (image_list params.now)).read (bytes_of bits.old) (position_of bits.old)) }
     ensures narrow { IfOk result (λ o. All IsNarrow (list_of o.1).channels) }
     ensures few { IfOk result (λ o. length o.1.info.items ≤ 65536) }
     ensures weights { IfOk result (λ o. IsHeader o.0.wp_params) }
@@ -91,22 +91,29 @@ impl<S: Sample, D: Decoder> Modular<S, D> {
         Modular { inner: None }
     }
 
-    /// Reads the image that stands at the reader's place: its header and its tree. Its cells are 0
-    /// until they are decoded.
+    /// Reads the image at the reader's position: its header and its tree. Its samples are 0 until they are decoded.
     ///
-    /// With no channels no bit is read, and there is no image. The parameters are valid, and no
-    /// global tree is handed in.
+    /// With no channels no bit is read, and there is no image. The parameters must be valid
+    /// ([`is_valid`](ModularParams::is_valid)), without a global tree.
     ///
-    /// What stands there is refused by the first check that fails. A cut header is refused by
-    /// `UnexpectedEof`, and a kind of transform or a predictor that there is not by `InvalidEnum`. Then
-    /// each transform, in order, that does not suit the channels that the ones before it leave is
-    /// refused by `InvalidRctParams`, `InvalidPaletteParams` or `InvalidSqueezeParams`; then more than
-    /// 65536 coded channels by `ProfileConformance`; then a use of the global tree by
-    /// `GlobalMaTreeNotAvailable`; and then the tree as by [`MaConfig::parse`], where it may
-    /// have 1025 nodes and one more for each coded sample, at most 2^20 + 1, and a depth of 2048. The
-    /// reader then stands behind the last field that was read whole; inside a decoder's own `parse`
-    /// its place is the decoder's matter. Want of memory is answered where it is met, before the
-    /// checks that come later.
+    /// # Memory
+    ///
+    /// All grids of the image are made here, before the first token of a sample is read: the given channels, and for each
+    /// palette of the header a table with one row for each channel that it stands for, of at most 70911 samples. So nine
+    /// bytes can take 4 GB, by one channel of 2^15 by 2^15 samples of 32 bits. A caller that does not trust its input
+    /// bounds it before the call: by `is_valid`, and by the sum of the areas of the given channels times the bytes of a
+    /// sample. There are at most 273 palettes. The tree takes some dozens of bytes for each node.
+    ///
+    /// # Errors
+    ///
+    /// The error of the first check that fails. A truncated header is `UnexpectedEof`, and a number without a transform
+    /// or a predictor is `InvalidEnum`. Then each transform, in order, that does not suit the channels which the ones
+    /// before it leave is `InvalidRctParams`, `InvalidPaletteParams` or `InvalidSqueezeParams`; then more than 65536 coded
+    /// channels are `ProfileConformance`; then a header that uses the global tree is `GlobalMaTreeNotAvailable`; and then
+    /// come the errors of the tree, as by [`MaConfig::parse`]: it may have 1025 nodes and one more for each coded sample,
+    /// at most 2^20 + 1, and a depth of 2048. The reader is then after the last field that was read whole; after an error
+    /// inside a decoder's own `parse` its position is up to the decoder. Out of memory, `Buffer` or
+    /// `Decoder(OutOfMemory)`, may come at any time, and leaves the reader anywhere.
     pub fn parse(
         alloc: Global,
         bits: &mut Bitstream<'_>,

@@ -6,7 +6,7 @@ ghost use Rattle.jxlm_base.specs.declared.decoder.DecoderError.TheVariants.{Unex
 ghost use Rattle.jxlm_base.specs.Decoding.{Meaning, IsLawful, Keeps, Gives, BeginGives, ReadGives, RunGives, RunIsReads};
 
 use crate::bits::Bitstream;
-use std::alloc::{AllocFailed, Global};
+use std::alloc::{AllocError, AllocFailed, Global};
 
 /// Why a decoder refuses.
 #[derive(Clone, Copy, Debug, PartialEq, Eq, thiserror::Error)]
@@ -28,6 +28,14 @@ impl DecoderError {
         ensures { IsTrue result ↔ self.now ≡ UnexpectedEof }
     {
         matches!(self, DecoderError::UnexpectedEof)
+    }
+}
+
+impl From<AllocError> for DecoderError {
+    ghost from_gives = { λ _ e. e ≡ OutOfMemory };
+
+    fn from(_: AllocError) -> DecoderError {
+        DecoderError::OutOfMemory
     }
 }
 

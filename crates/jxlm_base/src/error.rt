@@ -5,6 +5,7 @@ ghost use Rattle.std.specs.Prelude.{◌≡◌, ◌↔◌, ◌⊎◌, IsTrue};
 use crate::bits::BitstreamError;
 use crate::decoder::DecoderError;
 use crate::grid::OutOfMemory;
+use std::alloc::{AllocError, AllocFailed};
 
 /// Why a call is refused: the header, the channels, the tree or the tokens, or want of memory.
 #[derive(Clone, Copy, Debug, PartialEq, Eq, thiserror::Error)]
@@ -82,6 +83,28 @@ impl From<OutOfMemory> for Error {
 
     fn from(cause: OutOfMemory) -> Error {
         Error::Buffer(cause)
+    }
+}
+
+/// `Buffer`, so that `?` serves on the calls that allocate.
+impl From<AllocError> for Error {
+    ghost use Rattle.jxlm_base.specs.declared.error.Error.TheVariants.{Buffer};
+
+    ghost from_gives = { λ _ e. e ≡ Buffer (record {}) };
+
+    fn from(_cause: AllocError) -> Error {
+        Error::Buffer(OutOfMemory)
+    }
+}
+
+/// `Buffer`, so that `?` serves on `push` and the other calls that hand back what they cannot store; the value is dropped.
+impl<T: Drop> From<AllocFailed<T>> for Error {
+    ghost use Rattle.jxlm_base.specs.declared.error.Error.TheVariants.{Buffer};
+
+    ghost from_gives = { λ _ e. e ≡ Buffer (record {}) };
+
+    fn from(_cause: AllocFailed<T>) -> Error {
+        Error::Buffer(OutOfMemory)
     }
 }
 
@@ -163,6 +186,22 @@ mod tests {
             has_text(&rt, rt.alloc(), error, text)?;
         }
         Ok(())
+    }
+
+    /// A list of one number, and a copy of it.
+    fn lists(alloc: Global) -> Result<(Vec<u8>, Vec<u8>)> {
+        let mut numbers = Vec::new(alloc);
+        numbers.push(7)?;
+        let copy = Vec::from_slice(alloc, &numbers)?;
+        Ok((numbers, copy))
+    }
+
+    #[test]
+    fn out_of_memory_is_an_error_of_the_buffer(rt: HostRuntime) {
+        let no_memory = Error::Buffer(OutOfMemory);
+        assert_eq!(rt; Error::from(AllocError), no_memory);
+        assert_eq!(rt; Error::from(AllocFailed { value: 7u8 }), no_memory);
+        assert!(rt; lists(rt.alloc()).is_ok_and(|lists| lists.0.len() == 1 && lists.1.len() == 1));
     }
 
     #[test]

@@ -1,5 +1,5 @@
 //! Grids of samples.
-ghost use Rattle.std.specs.Prelude.{◌≡◌, ◌+◌, ◌+ℤ◌, ◌*◌, ◌^◌, ◌<◌, ◌≤◌, pos, length, IfOk, Some, vec_len};
+ghost use Rattle.std.specs.Prelude.{◌≡◌, ◌+◌, ◌+ℤ◌, ◌*◌, ◌^◌, ◌<◌, ◌≤◌, pos, length, IfOk, IsOk, Some, vec_len};
 ghost use Rattle.std.specs.Int.{int_wrap};
 ghost use Rattle.std.specs.Borrow.{sem};
 ghost use Rattle.jxlm_base.specs.Grid.{Grid, IsFull, cell, row, written, filled, with_cell, with_row};
@@ -56,16 +56,22 @@ impl<S> Model for AlignedGrid<S> {
 impl<S: Sealed> AlignedGrid<S> {
     /// A grid of `width` columns and `height` rows, whose cells are 0.
     ///
-    /// Memory is asked for once. `OutOfMemory` where it is refused, or where there are more cells than a `usize` counts.
+    /// Memory is asked for once; without cells none is. `OutOfMemory` where it is refused, or where there are more cells
+    /// than a `usize` counts.
     pub fn new(alloc: Global, width: usize, height: usize) -> Result<Self, OutOfMemory>
         ensures zero { IfOk result (λ g. g ≡ filled width height (S.from_int (pos 0))) }
         ensures full { IfOk result (λ g. IsFull g) }
         ensures counted { IfOk result (λ _. width * height < 2 ^ 64) }
+        ensures no_cells { width * height ≡ 0 → IsOk result }
     {
         let Some(count) = width.checked_mul(height) else {
             return Err(OutOfMemory);
         };
-        let cells = vec![in alloc; S::default(); count]?;
+        let cells = if count == 0 {
+            Vec::new(alloc)
+        } else {
+            vec![in alloc; S::default(); count]?
+        };
         Ok(AlignedGrid {
             width,
             height,
@@ -73,11 +79,16 @@ impl<S: Sealed> AlignedGrid<S> {
         })
     }
 
-    /// A grid of the same cells, or `OutOfMemory` where memory is refused.
+    /// A grid of the same cells, or `OutOfMemory` where memory is refused. Without cells none is asked for.
     pub fn try_clone(&self, alloc: Global) -> Result<Self, OutOfMemory>
-        ensures { IfOk result (λ g. g ≡ self.now) }
+        ensures same { IfOk result (λ g. g ≡ self.now) }
+        ensures no_cells { self.now.width * self.now.height ≡ 0 → IsOk result }
     {
-        let cells = Vec::from_slice(alloc, &self.cells)?;
+        let cells = if self.cells.is_empty() {
+            Vec::new(alloc)
+        } else {
+            Vec::from_slice(alloc, &self.cells)?
+        };
         Ok(AlignedGrid {
             width: self.width,
             height: self.height,

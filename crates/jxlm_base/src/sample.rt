@@ -1,5 +1,5 @@
 //! The two types of a sample.
-ghost use Rattle.std.specs.Prelude.{◌≡◌, ◌↔◌, ◌+◌, ◌≤◌, ℤ, pos, IsOk, ◌+ℤ◌, ◌*ℤ◌, FitsSigned, refl, length, map, IfOk, IfErr, MatchResult};
+ghost use Rattle.std.specs.Prelude.{◌≡◌, ◌↔◌, ◌⊎◌, ◌+◌, ◌≤◌, ℤ, pos, IsOk, ◌+ℤ◌, ◌*ℤ◌, FitsSigned, refl, length, map, IfOk, IfErr, MatchResult};
 ghost use Rattle.std.specs.Int.{Width, w16, w32, int_wrap};
 ghost use Rattle.jxlm_base.specs.Colour.{FinishesRows};
 ghost use Rattle.jxlm_base.specs.Grid.{meanings};
@@ -61,7 +61,8 @@ pub trait Sealed: Copy + Default {
     /// Undoes a horizontal squeeze in place: in each row of the rectangle averages stand before residuals, and afterwards the
     /// row that becomes them when it is squeezed. Nothing outside changes.
     ///
-    /// Memory is asked for once, for a row. `OutOfMemory` where it is refused: then no cell has changed.
+    /// Memory is asked for once, for a row; a rectangle without cells takes none. `OutOfMemory` where it is refused: then no
+    /// cell has changed.
     fn squeeze_rows(
         alloc: Global,
         subgrid: &mut MutableSubgrid<'_, Self>,
@@ -69,12 +70,14 @@ pub trait Sealed: Copy + Default {
         ensures kept { KeepsOutside subgrid.old subgrid.new }
         ensures undone { IfOk result (λ _. squeezed_rows Self.width (numbers_in Self.to_int subgrid.new) ≡ numbers_in Self.to_int subgrid.old) }
         ensures samples { IfOk result (λ _. AreGridSamples Self.width (numbers_in Self.to_int subgrid.new)) }
-        ensures unchanged { IfErr result (λ _. whole subgrid.new ≡ whole subgrid.old) };
+        ensures unchanged { IfErr result (λ _. whole subgrid.new ≡ whole subgrid.old) }
+        ensures no_cells { (subgrid.old.width ≡ 0) ⊎ (subgrid.old.height ≡ 0) → IsOk result };
 
     /// Undoes a vertical squeeze in place: in each column of the rectangle averages stand above residuals, and afterwards the
     /// column that becomes them when it is squeezed. Nothing outside changes.
     ///
-    /// Memory is asked for once, for some columns. `OutOfMemory` where it is refused: then no cell has changed.
+    /// Memory is asked for once, for some columns; a rectangle without cells takes none. `OutOfMemory` where it is refused:
+    /// then no cell has changed.
     fn squeeze_columns(
         alloc: Global,
         subgrid: &mut MutableSubgrid<'_, Self>,
@@ -82,7 +85,8 @@ pub trait Sealed: Copy + Default {
         ensures kept { KeepsOutside subgrid.old subgrid.new }
         ensures undone { IfOk result (λ _. squeezed_columns Self.width (numbers_in Self.to_int subgrid.new) ≡ numbers_in Self.to_int subgrid.old) }
         ensures samples { IfOk result (λ _. AreGridSamples Self.width (numbers_in Self.to_int subgrid.new)) }
-        ensures unchanged { IfErr result (λ _. whole subgrid.new ≡ whole subgrid.old) };
+        ensures unchanged { IfErr result (λ _. whole subgrid.new ≡ whole subgrid.old) }
+        ensures no_cells { (subgrid.old.width ≡ 0) ⊎ (subgrid.old.height ≡ 0) → IsOk result };
 
     /// As `squeeze_rows`, by way of `scratch`, which has room for a row.
     fn squeeze_rows_in(subgrid: &mut MutableSubgrid<'_, Self>, scratch: &mut [Self])
@@ -93,7 +97,7 @@ pub trait Sealed: Copy + Default {
         ensures samples { AreGridSamples Self.width (numbers_in Self.to_int subgrid.new) };
 
     /// As `squeeze_columns`, by way of `scratch`, which has room for a column and a cell more. The more columns it has room
-    /// for, up to 32, the more are undone at a time.
+    /// for, up to 256, the more are undone at a time.
     fn squeeze_columns_in(subgrid: &mut MutableSubgrid<'_, Self>, scratch: &mut [Self])
         requires room { subgrid.old.height + 1 ≤ length scratch.old }
         ensures len { length scratch.new ≡ length scratch.old }

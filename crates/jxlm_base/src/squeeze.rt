@@ -1,5 +1,5 @@
 //! Squeezed rows and columns undone.
-ghost use Rattle.std.specs.Prelude.{◌≡◌, ℕ, suc, ℤ, ◌+◌, ◌-◌, ◌*◌, ◌/◌, ◌<◌, ◌≤◌, FitsSigned, length, min, slice_get, IfOk, IfErr};
+ghost use Rattle.std.specs.Prelude.{◌≡◌, ℕ, suc, ℤ, ◌+◌, ◌-◌, ◌*◌, ◌/◌, ◌<◌, ◌≤◌, ◌⊎◌, FitsSigned, length, min, slice_get, IfOk, IfErr, IsOk};
 ghost use Rattle.std.specs.Int.{Width, w16, w32};
 ghost use Rattle.jxlm_base.specs.Grid.{cell};
 ghost use Rattle.jxlm_base.specs.Squeeze.{slope, tendency, averages, AreSamples, AreGridSamples, squeezed_rows, squeezed_columns};
@@ -327,7 +327,7 @@ fn undo_strip<S: Pairs>(
 }
 
 /// As many columns are undone at a time, if the scratch has room for them.
-pub(crate) const COLUMNS: usize = 32;
+pub(crate) const COLUMNS: usize = 256;
 
 /// Undoes each column of the rectangle, by way of `scratch`, which has room for a column and a cell more.
 pub(crate) fn undo_columns<S: Pairs>(subgrid: &mut MutableSubgrid<'_, S>, scratch: &mut [S])
@@ -350,7 +350,7 @@ pub(crate) fn undo_columns<S: Pairs>(subgrid: &mut MutableSubgrid<'_, S>, scratc
     }
 }
 
-/// Undoes each row of the rectangle. `OutOfMemory` where memory is refused.
+/// Undoes each row of the rectangle. `OutOfMemory` where memory is refused, which a rectangle without cells does not ask for.
 pub(crate) fn rows<S: Pairs>(
     alloc: Global,
     zero: S,
@@ -360,12 +360,12 @@ pub(crate) fn rows<S: Pairs>(
     ensures undone { IfOk result (λ _. squeezed_rows S.width (numbers_in S.to_int subgrid.new) ≡ numbers_in S.to_int subgrid.old) }
     ensures samples { IfOk result (λ _. AreGridSamples S.width (numbers_in S.to_int subgrid.new)) }
     ensures unchanged { IfErr result (λ _. whole subgrid.new ≡ whole subgrid.old) }
+    ensures no_cells { (subgrid.old.width ≡ 0) ⊎ (subgrid.old.height ≡ 0) → IsOk result }
 {
-    let (width, height) = (subgrid.width(), subgrid.height());
-    if height == 0 {
+    if subgrid.is_empty() {
         return Ok(());
     }
-    let mut scratch = vec![in alloc; zero; width]?;
+    let mut scratch = vec![in alloc; zero; subgrid.width()]?;
     undo_rows(subgrid, &mut scratch);
     Ok(())
 }
@@ -381,7 +381,8 @@ fn room_for_columns(width: usize, height: usize) -> Result<usize, OutOfMemory>
     lines.checked_mul(columns).ok_or(OutOfMemory)
 }
 
-/// Undoes each column of the rectangle. `OutOfMemory` where memory is refused.
+/// Undoes each column of the rectangle. `OutOfMemory` where memory is refused, which a rectangle without cells does not ask
+/// for.
 pub(crate) fn columns<S: Pairs>(
     alloc: Global,
     zero: S,
@@ -391,12 +392,12 @@ pub(crate) fn columns<S: Pairs>(
     ensures undone { IfOk result (λ _. squeezed_columns S.width (numbers_in S.to_int subgrid.new) ≡ numbers_in S.to_int subgrid.old) }
     ensures samples { IfOk result (λ _. AreGridSamples S.width (numbers_in S.to_int subgrid.new)) }
     ensures unchanged { IfErr result (λ _. whole subgrid.new ≡ whole subgrid.old) }
+    ensures no_cells { (subgrid.old.width ≡ 0) ⊎ (subgrid.old.height ≡ 0) → IsOk result }
 {
-    let (width, height) = (subgrid.width(), subgrid.height());
-    if width == 0 {
+    if subgrid.is_empty() {
         return Ok(());
     }
-    let room = room_for_columns(width, height)?;
+    let room = room_for_columns(subgrid.width(), subgrid.height())?;
     let mut scratch = vec![in alloc; zero; room]?;
     undo_columns(subgrid, &mut scratch);
     Ok(())
@@ -405,6 +406,9 @@ pub(crate) fn columns<S: Pairs>(
 #[cfg(test)]
 mod tests {
     use super::*;
+    use crate::grid::AlignedGrid;
+    use crate::sample::Sample;
+    use std::test::Fail;
 
     #[test]
     fn tendencies(rt: HostRuntime) {
@@ -413,5 +417,60 @@ mod tests {
         assert_eq!(rt; narrow_tendency(-12000, 0, 12000), -7000);
         assert_eq!(rt; wide_tendency(-12000, 0, 12000), -7000);
         assert_eq!(rt; narrow_tendency(12000, 0, -12000), 7000);
+        assert_eq!(rt; wide_tendency(12000, 0, -12000), 7000);
+    }
+
+    /// Writes a sample, where the grid has such a cell.
+    fn set<S: Copy>(grid: &mut AlignedGrid<S>, x: usize, y: usize, sample: S) {
+        if x < grid.width() && y < grid.height() {
+            *grid.get_mut(x, y) = sample;
+        }
+    }
+
+    /// The samples that a row of averages and residuals comes from, or a column.
+    fn undone<S: Sample>(
+        alloc: Global,
+        across: bool,
+        coded: &[i32],
+    ) -> Result<Vec<i32>, OutOfMemory> {
+        let (width, height) = if across {
+            (coded.len(), 1)
+        } else {
+            (1, coded.len())
+        };
+        let mut grid = AlignedGrid::<S>::new(alloc, width, height)?;
+        for (i, number) in coded.iter().enumerate() {
+            let (x, y) = if across { (i, 0) } else { (0, i) };
+            set(&mut grid, x, y, S::from_i32(*number));
+        }
+        let (width, height) = (grid.width(), grid.height());
+        let mut subgrid = MutableSubgrid::new(&mut grid, 0, 0, width, height);
+        if across {
+            S::squeeze_rows(alloc, &mut subgrid)?;
+        } else {
+            S::squeeze_columns(alloc, &mut subgrid)?;
+        }
+        let mut samples = Vec::new(alloc);
+        for y in 0..grid.height() {
+            for sample in grid.get_row(y) {
+                samples.push(sample.to_i32())?;
+            }
+        }
+        Ok(samples)
+    }
+
+    #[test]
+    fn rows_and_columns(rt: HostRuntime) -> Result<(), Fail> {
+        let coded = [12000, 0, -12000, 0, 0, 0];
+        let samples = [12000, 11999, 3500, -3500, -12000, -12000];
+        for across in [true, false] {
+            let found = undone::<i16>(rt.alloc(), across, &[32767, -1])?;
+            assert_eq!(rt; found.as_slice(), [32767, -32768].as_slice());
+            let found = undone::<i16>(rt.alloc(), across, &coded)?;
+            assert_eq!(rt; found.as_slice(), samples.as_slice());
+            let found = undone::<i32>(rt.alloc(), across, &coded)?;
+            assert_eq!(rt; found.as_slice(), samples.as_slice());
+        }
+        Ok(())
     }
 }

@@ -1,5 +1,5 @@
 //! Rectangles of grids.
-ghost use Rattle.std.specs.Prelude.{◌≡◌, ◌+◌, ◌^◌, ◌<◌, ◌≤◌, Some, length, slice_range};
+ghost use Rattle.std.specs.Prelude.{◌≡◌, ◌↔◌, ◌⊎◌, ◌+◌, ◌^◌, ◌<◌, ◌≤◌, IsTrue, Some, length, slice_range};
 ghost use Rattle.jxlm_base.specs.Grid.{Grid, IsFull, cell, row, written, with_row};
 
 use crate::grid::AlignedGrid;
@@ -75,6 +75,13 @@ impl<'a, S: Copy> MutableSubgrid<'a, S> {
         ensures { result ≡ self.now.height }
     {
         self.height
+    }
+
+    /// Whether the rectangle has no cells.
+    pub(crate) fn is_empty(&self) -> bool
+        ensures { IsTrue result ↔ (self.now.width ≡ 0) ⊎ (self.now.height ≡ 0) }
+    {
+        self.width == 0 || self.height == 0
     }
 
     /// The `count` cells of row `y` of the rectangle from column `x` on, which lie inside.

@@ -2,7 +2,6 @@ mod ChainExamples
 pub mod CanUndo
 pub mod ColouredGrids
 pub mod Ends
-pub mod Greatest
 pub mod KeptGrids
 pub mod LayoutLaws
 pub mod ListLaws

@@ -1,16 +1,15 @@
 -- Undoing from the last to the first.
-use Rattle.std.proofs.Common.{◌≡◌, ℕ, ◌+◌, ◌<◌, List, length, drop, get_or, ℤ, Option, sym, ap, ◌∙◌, subst, arith}
+use Rattle.std.proofs.Common.{◌≡◌, ℕ, ◌+◌, ◌<◌, List, length, drop, get_or, ℤ, sym, ap, ◌∙◌, subst, arith}
 use Rattle.std.specs.Int.{Width}
 use Rattle.std.specs.List.{All}
 use Rattle.std.proofs.lemmas.List.{drop_more, length-map}
 use Rattle.std.proofs.Math.ListN.{get_or-map}
 use Rattle.jxlm_base.specs.Grid.{Grid}
-use Rattle.jxlm_tree.specs.declared.predictor.WpHeader.{WpHeader}
-use Rattle.jxlm_chain.specs.Scratch.{HasRoomFor, KeepsScratch, weights_in}
+use Rattle.jxlm_chain.specs.Scratch.{HasRoomFor, KeepsScratch}
 use Rattle.jxlm_chain.specs.Shape.{SameShape}
 use Rattle.jxlm_chain.specs.Steps.{CanUndoAll, IsNarrowStore}
 use Rattle.jxlm_chain.specs.Undo.{Undo, Undoes, UndoesAll}
-use Rattle.jxlm_chain.specs.Undoings.{SuitsWeights, undo_of_code, undos_of}
+use Rattle.jxlm_chain.specs.Undoings.{undo_of_code, undos_of}
 use Rattle.jxlm_chain.specs.declared.scratch.Scratch.{Scratch}
 use Rattle.jxlm_chain.specs.declared.undo.Undoing.{Undoing}
 use Rattle.jxlm_chain.proofs.Rooms.{keeps_both, room_kept}
@@ -22,8 +21,7 @@ module _ {S : Type 0} (to_int : S → ℤ) (w : Width) (depth : ℕ) (us : List 
     pub done : UndoesAll to_int w depth (drop k us) old now
     pub can : CanUndoAll now us
     pub narrow : IsNarrowStore now
-    pub room : HasRoomFor now b
-    pub suits : All (SuitsWeights (weights_in b)) us
+    pub room : HasRoomFor us b
     pub keeps : KeepsScratch a b
 
   pub undone_next : (j k : ℕ) (d : Undo) (old now new : List (Grid S)) (a b c : Scratch S) → j < length us → k ≡ j + 1 → Undone k old now a b → Undoes to_int w depth (get_or us j d) now new → KeepsScratch b c → Undone j old new a c
@@ -34,8 +32,7 @@ module _ {S : Type 0} (to_int : S → ℤ) (w : Width) (depth : ℕ) (us : List 
         done = subst (λ (vs : List Undo). UndoesAll to_int w depth vs old new) (sym (drop_more us j d lt)) (now, rest, one);
         can = undos_kept now new same us was.can;
         narrow = narrow_kept now new same was.narrow;
-        room = room_kept now new b c same keeps was.room;
-        suits = subst (λ (o : Option WpHeader). All (SuitsWeights o) us) (sym keeps.weighted.same_weights) was.suits;
+        room = room_kept us b c keeps was.room;
         keeps = keeps_both a b c was.keeps keeps;
       }
 

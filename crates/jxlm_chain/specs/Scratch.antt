@@ -1,29 +1,61 @@
 -- Room for undoing.
-use Rattle.std.specs.Prelude.{◌≡◌, ◌+◌, ◌≤◌, List, Option, None, vec_len}
+use Rattle.std.specs.Prelude.{◌≡◌, ℕ, ◌+◌, ◌≤◌, ◌^◌, List, Option, Some, None, get_or, length, max, vec_len}
 use Rattle.std.specs.List.{All}
-use Rattle.jxlm_base.specs.Grid.{Grid}
+use Rattle.jxlm_base.specs.declared.subgrid.Region.{Region}
 use Rattle.jxlm_tree.specs.Standing.{HasSameRoom, room_of, weights_of}
 use Rattle.jxlm_tree.specs.declared.predictor.WpHeader.{WpHeader}
+use Rattle.jxlm_tree.specs.declared.state.PredictorState.{PredictorState}
 use Rattle.jxlm_transform.specs.ColourRows.{HasRoom, KeepsRoom}
+use Rattle.jxlm_chain.specs.Layout.{no_region}
+use Rattle.jxlm_chain.specs.Undo.{Undo, UndoRct, UndoPalette, UndoSqueeze}
 use Rattle.jxlm_chain.specs.declared.scratch.Scratch.{Scratch}
+use Rattle.jxlm_chain.specs.declared.scratch.Needs.{Needs}
+
+-- no side of the region is above 2 ^ 30
+abbrev pub IsNarrow : Region → Type 0
+IsNarrow r = (r.width ≤ 2 ^ 30) × (r.height ≤ 2 ^ 30)
+
+-- a palette's indices and a squeezed region are narrow
+abbrev pub IsNarrowUndo : Undo → Type 0
+IsNarrowUndo (UndoRct kind regions) = Unit {0}
+IsNarrowUndo (UndoPalette t table index regions) = IsNarrow index
+IsNarrowUndo (UndoSqueeze horizontal r) = IsNarrow r
+
+-- the columns that a palette of these weights may have
+abbrev pub columns_for : Option WpHeader → Needs → ℕ
+columns_for None needs = needs.plain
+columns_for (Some weights) needs = needs.weighted
+
+-- the needs of an undoing are among these
+abbrev pub Covers : Needs → Undo → Type 0
+Covers needs (UndoRct kind regions) = (get_or regions 0 no_region).width ≤ needs.rows
+Covers needs (UndoPalette t table index regions) = (index.width ≤ columns_for t.wp_header needs) × (length regions ≤ needs.members)
+Covers needs (UndoSqueeze horizontal r) = max r.width (r.height + 1) ≤ needs.line
+
+-- palettes of no more than 2 ^ 30 columns
+abbrev pub AreNarrow : Needs → Type 0
+AreNarrow needs = (needs.plain ≤ 2 ^ 30) × (needs.weighted ≤ 2 ^ 30)
+
+-- the larger need of each kind
+abbrev pub larger_needs : Needs → Needs → Needs
+larger_needs a b = record { rows = max a.rows b.rows; line = max a.line b.line; plain = max a.plain b.plain; weighted = max a.weighted b.weighted; members = max a.members b.members }
 
 module _ {S : Type 0} where
-  -- there is room for what lies in a grid
-  pub record FitsGrid (scratch : Scratch S) (g : Grid S) : Type 0 where
-    pub rows : HasRoom scratch.rows g.width
-    pub across : g.width ≤ vec_len scratch.line
-    pub down : g.height + 1 ≤ vec_len scratch.line
-    pub plain : g.width ≤ room_of scratch.plain
-    pub weighted : g.width ≤ room_of scratch.weighted
+  -- the state that predicts for palettes of these weights
+  abbrev pub state_for : Option WpHeader → Scratch S → PredictorState S
+  state_for None scratch = scratch.plain
+  state_for (Some weights) scratch = scratch.weighted
 
-  -- there is room for what lies in a store, and a state without weights
-  pub record HasRoomFor (store : List (Grid S)) (scratch : Scratch S) : Type 0 where
-    pub fits : All (FitsGrid scratch) store
-    pub no_weights : weights_of scratch.plain ≡ None
+  -- there is room for an undoing: three rows; a state with the palette's weights, and its regions; a row, and a column with a sample more
+  abbrev pub HasRoomToUndo : Scratch S → Undo → Type 0
+  HasRoomToUndo scratch (UndoRct kind regions) = HasRoom scratch.rows (get_or regions 0 no_region).width
+  HasRoomToUndo scratch (UndoPalette t table index regions) =
+      (index.width ≤ room_of (state_for t.wp_header scratch)) × (weights_of (state_for t.wp_header scratch) ≡ t.wp_header) × (length regions ≤ vec_len scratch.members)
+  HasRoomToUndo scratch (UndoSqueeze horizontal r) = max r.width (r.height + 1) ≤ vec_len scratch.line
 
-  -- the weights of the other state
-  abbrev pub weights_in : Scratch S → Option WpHeader
-  weights_in scratch = weights_of scratch.weighted
+  -- there is room for each undoing
+  abbrev pub HasRoomFor : List Undo → Scratch S → Type 0
+  HasRoomFor undos scratch = All (HasRoomToUndo scratch) undos
 
   -- as much room as before, and the same weights
   pub record KeepsScratch (old new : Scratch S) : Type 0 where
@@ -31,3 +63,4 @@ module _ {S : Type 0} where
     pub line : vec_len new.line ≡ vec_len old.line
     pub plain : HasSameRoom old.plain new.plain
     pub weighted : HasSameRoom old.weighted new.weighted
+    pub members : vec_len new.members ≡ vec_len old.members

@@ -8,13 +8,3 @@ ghost use Rattle.jxlm_chain.specs.Chain.{NoTwoImages};
 pub fn no_two_images()
     ensures { (w : Width) (depth : ℕ) → NoTwoImages w depth }
 {}
-
-#[cfg(test)]
-mod tests {
-    use super::*;
-
-    #[test]
-    fn laws_can_be_called() {
-        no_two_images();
-    }
-}

@@ -1,4 +1,4 @@
-//! Where the channels of an image lie in a store, ahead of its transforms and behind each of them.
+//! Where the channels of an image lie in a store, before its transforms and after each of them.
 
 ghost use Rattle.std.specs.Prelude.{◌≡◌, ℕ, ◌+◌, ◌^◌, ◌<◌, ◌≤◌, ◌++◌, length, map, IfOk, IfErr};
 ghost use Rattle.std.specs.List.{All};
@@ -102,11 +102,11 @@ fn residual_parts(
 impl Places {
     ghost use Rattle.jxlm_chain.specs.Places.{layout_of};
 
-    /// The places ahead of all transforms: each channel is the whole of a buffer of its own.
+    /// The places before all transforms: each channel is the whole of a buffer of its own.
     ///
     /// # Errors
     ///
-    /// `OutOfMemory` where memory is refused.
+    /// `OutOfMemory` where memory runs out.
     pub fn new(alloc: Global, channels: &[ModularChannelInfo]) -> Result<Places, OutOfMemory>
         ensures { IfOk result (λ p. layout_of p ≡ first_layout (map channel_of channels.now)) }
     {
@@ -132,7 +132,7 @@ impl Places {
     ///
     /// # Errors
     ///
-    /// `OutOfMemory` where memory is refused; the places are as before then.
+    /// `OutOfMemory` where memory runs out; the places are as before then.
     pub fn index(&mut self, alloc: Global, palette: &Palette) -> Result<(), OutOfMemory>
         requires some_channels { 1 ≤ palette.now.num_c }
         requires range { palette.now.begin_c + palette.now.num_c ≤ length self.old.regions.items }
@@ -152,13 +152,13 @@ impl Places {
         Ok(())
     }
 
-    /// What becomes of the places by a squeeze step: each region of the range is cut in two.
+    /// What becomes of the places by a squeeze step: each region of the range is divided in two.
     ///
     /// All channels of the range have places.
     ///
     /// # Errors
     ///
-    /// `OutOfMemory` where memory is refused; the places are as before then.
+    /// `OutOfMemory` where memory runs out; the places are as before then.
     pub fn halve(&mut self, alloc: Global, step: &SqueezeParams) -> Result<(), OutOfMemory>
         requires { step.now.begin_c + step.now.num_c ≤ length self.old.regions.items }
         ensures gives { IfOk result (λ _. layout_of self.new ≡ layout_after (SqueezeStep step.now) (layout_of self.old)) }

@@ -6,10 +6,10 @@ ghost use Rattle.jxlm_base.specs.Fault.{NoMemory, fault_of};
 ghost use Rattle.jxlm_chain.specs.Grids.{leader_of, members_of};
 ghost use Rattle.jxlm_chain.specs.Layout.{Layout, first_layout, layout_after, layout_after_all, no_region};
 ghost use Rattle.jxlm_chain.specs.Places.{CanTake, CanTakeAll, Suit, layout_of};
-ghost use Rattle.jxlm_chain.specs.Scratch.{HasRoomFor, KeepsScratch, weights_in};
+ghost use Rattle.jxlm_chain.specs.Scratch.{HasRoomFor, HasRoomToUndo, KeepsScratch};
 ghost use Rattle.jxlm_chain.specs.Steps.{CanUndo, CanUndoAll, IsNarrowStore, steps_in};
 ghost use Rattle.jxlm_chain.specs.Undo.{UndoPalette, UndoRct, UndoSqueeze, Undoes, UndoesAll, undo_of, undo_of_all};
-ghost use Rattle.jxlm_chain.specs.Undoings.{GoesOn, SuitsWeights, undo_of_code, undos_of};
+ghost use Rattle.jxlm_chain.specs.Undoings.{GoesOn, undo_of_code, undos_of};
 ghost use Rattle.jxlm_transform.specs.Channels.{channel_of};
 ghost use Rattle.jxlm_transform.specs.ChannelSteps.{RctStep, PaletteStep, SqueezeStep, listed_steps, range};
 ghost use Rattle.jxlm_transform.specs.Transforms.{transform_of};
@@ -54,22 +54,57 @@ pub enum Undoing {
     },
 }
 
-/// The channel of the indices that stand for the channels of these regions.
-fn merged(alloc: Global, regions: &[Region]) -> Result<TransformedGrid, OutOfMemory>
-    requires { 1 ≤ length regions.now }
-    ensures leader { IfOk result (λ g. leader_of g ≡ get_or regions.now 0 no_region) }
-    ensures members { IfOk result (λ g. members_of g ≡ regions.now) }
+/// The channel that lies in the region: that of the indices of the last of these palettes that has them there, or one that stands
+/// for itself. The palettes are places in the list of undoings.
+fn channel_at(
+    alloc: Global,
+    undoings: &[Undoing],
+    palettes: &[usize],
+    region: Region,
+) -> Result<TransformedGrid, OutOfMemory>
+    ensures { IfOk result (λ g. leader_of g ≡ region) }
 {
-    let leader = regions[0];
-    if regions.len() == 1 {
-        return Ok(TransformedGrid::from(leader));
+    for place in palettes.iter().rev() {
+        if let Some(Undoing::Palette { index, .. }) = undoings.get(*place)
+            && index.leader() == region
+        {
+            return index.try_clone(alloc);
+        }
     }
-    let members = Vec::from_slice(alloc, regions)?;
-    Ok(TransformedGrid::Merged { leader, members })
+    Ok(TransformedGrid::Single(region))
+}
+
+/// The channels that lie in these regions.
+fn channels_at(
+    alloc: Global,
+    undoings: &[Undoing],
+    palettes: &[usize],
+    regions: &[Region],
+) -> Result<Vec<TransformedGrid>, OutOfMemory>
+    ensures { IfOk result (λ v. map leader_of v.items ≡ regions.now) }
+{
+    let mut channels = Vec::new(alloc);
+    for region in regions {
+        channels.push(channel_at(alloc, undoings, palettes, *region)?)?;
+    }
+    Ok(channels)
+}
+
+/// The channel of the indices that stand for these channels, the first of which lies in the region `leader`.
+fn merged(leader: Region, members: Vec<TransformedGrid>) -> TransformedGrid
+    requires some { 1 ≤ length members.items }
+    requires first { get_or (map leader_of members.items) 0 no_region ≡ leader }
+    ensures leader { leader_of result ≡ leader }
+    ensures members { members_of result ≡ map leader_of members.items }
+{
+    if members.len() == 1 && members[0].is_single() {
+        return TransformedGrid::Single(leader);
+    }
+    TransformedGrid::Merged { leader, members }
 }
 
 impl Places {
-    /// What undoes a colour transform behind these places.
+    /// What undoes a colour transform after these places.
     fn undo_colour(&self, step: &Rct) -> Undoing
         requires { step.now.begin_c + 3 ≤ length self.now.regions.items }
         ensures { undo_of_code result ∷ [] ≡ undo_of (RctStep step.now) (layout_of self.now) }
@@ -85,15 +120,23 @@ impl Places {
         }
     }
 
-    /// What undoes a palette.
-    fn undo_palette(&self, alloc: Global, palette: &Palette) -> Result<Undoing, OutOfMemory>
+    /// What undoes a palette after these undoings, of which the ones at the places `palettes` undo palettes.
+    fn undo_palette(
+        &self,
+        alloc: Global,
+        undoings: &[Undoing],
+        palettes: &[usize],
+        palette: &Palette,
+    ) -> Result<Undoing, OutOfMemory>
         requires some_channels { 1 ≤ palette.now.num_c }
         requires range { palette.now.begin_c + palette.now.num_c ≤ length self.now.regions.items }
         ensures { IfOk result (λ u. undo_of_code u ∷ [] ≡ undo_of (PaletteStep palette.now) (layout_of self.now)) }
     {
         let begin = palette.begin_c as usize;
         let count = palette.num_c as usize;
-        let index = merged(alloc, &self.regions[begin..begin + count])?;
+        let range = &self.regions[begin..begin + count];
+        let members = channels_at(alloc, undoings, palettes, range)?;
+        let index = merged(range[0], members);
         Ok(Undoing::Palette {
             palette: *palette,
             table: Region {
@@ -145,7 +188,9 @@ impl Places {
 pub struct Plan {
     /// What undoes the transforms, in their order: the last is run first.
     pub undoings: Vec<Undoing>,
-    /// Where the channels lie behind all transforms.
+    /// The places in that list of what undoes a palette.
+    palettes: Vec<usize>,
+    /// Where the channels lie after all transforms.
     pub places: Places,
 }
 
@@ -165,7 +210,10 @@ impl Plan {
         requires { CanTake (PaletteStep palette.now) (layout_of self.old.places) }
         ensures { IfOk result (λ _. GoesOn (PaletteStep palette.now ∷ []) self.old self.new) }
     {
-        let undoing = self.places.undo_palette(alloc, palette)?;
+        let undoing = self
+            .places
+            .undo_palette(alloc, &self.undoings, &self.palettes, palette)?;
+        self.palettes.push(self.undoings.len())?;
         self.undoings.push(undoing)?;
         self.places.index(alloc, palette)
     }
@@ -213,14 +261,14 @@ impl Plan {
         Ok(())
     }
 
-    /// What undoes these transforms of an image of these channels, each of which is the whole of a buffer of its own; behind
-    /// those stand the tables of palettes, in their order.
+    /// What undoes these transforms of an image of these channels, each of which is the whole of a buffer of its own; after
+    /// those come the tables of palettes, in their order.
     ///
     /// The transforms suit the channels, and list their steps.
     ///
     /// # Errors
     ///
-    /// `Buffer` where memory is refused.
+    /// `Buffer` where memory runs out.
     pub fn new(
         alloc: Global,
         transforms: &[TransformInfo],
@@ -233,8 +281,11 @@ impl Plan {
     {
         prove!(transforms.len() < usize::MAX - channels.len());
         let places = Places::new(alloc, channels)?;
-        let undoings = Vec::new(alloc);
-        let mut plan = Plan { undoings, places };
+        let mut plan = Plan {
+            undoings: Vec::new(alloc),
+            palettes: Vec::new(alloc),
+            places,
+        };
         plan.add_all(alloc, transforms)?;
         Ok(plan)
     }
@@ -248,47 +299,15 @@ fn run_colour<S: Sample>(
     scratch: &mut Scratch<S>,
 )
     requires can { CanUndo store.old (UndoRct kind regions) }
-    requires room { HasRoomFor store.old scratch.old }
+    requires room { HasRoomToUndo scratch.old (UndoRct kind regions) }
     ensures undoes { (depth : ℕ) → Undoes S.to_int S.width depth (UndoRct kind regions) store.old store.new }
     ensures room { KeepsScratch scratch.old scratch.new }
 {
     inverse_rct_within(kind % 7, kind / 7, store, regions, &mut scratch.rows);
 }
 
-/// Undoes a palette, in the state of its weights.
-fn run_palette<S: Sample>(
-    palette: &Palette,
-    table: Region,
-    index: Region,
-    members: &[Region],
-    store: &mut [AlignedGrid<S>],
-    bit_depth: u32,
-    scratch: &mut Scratch<S>,
-)
-    requires can { CanUndo store.old (UndoPalette palette.now table index members.now) }
-    requires narrow { IsNarrowStore store.old }
-    requires deep { bit_depth ≤ 32 }
-    requires room { HasRoomFor store.old scratch.old }
-    requires suits { SuitsWeights (weights_in scratch.old) (UndoPalette palette.now table index members.now) }
-    ensures undoes { Undoes S.to_int S.width bit_depth (UndoPalette palette.now table index members.now) store.old store.new }
-    ensures room { KeepsScratch scratch.old scratch.new }
-{
-    if palette.wp_header.is_none() {
-        palette.inverse(store, table, index, members, bit_depth, &mut scratch.plain);
-    } else {
-        palette.inverse(
-            store,
-            table,
-            index,
-            members,
-            bit_depth,
-            &mut scratch.weighted,
-        );
-    }
-}
-
 /// Undoes a palette of these indices, in the state of its weights.
-fn run_indices<S: Sample>(
+fn run_palette<S: Sample>(
     palette: &Palette,
     table: Region,
     index: &TransformedGrid,
@@ -299,19 +318,19 @@ fn run_indices<S: Sample>(
     requires can { CanUndo store.old (UndoPalette palette.now table (leader_of index.now) (members_of index.now)) }
     requires narrow { IsNarrowStore store.old }
     requires deep { bit_depth ≤ 32 }
-    requires room { HasRoomFor store.old scratch.old }
-    requires suits { SuitsWeights (weights_in scratch.old) (UndoPalette palette.now table (leader_of index.now) (members_of index.now)) }
+    requires room { HasRoomToUndo scratch.old (UndoPalette palette.now table (leader_of index.now) (members_of index.now)) }
     ensures undoes { Undoes S.to_int S.width bit_depth (UndoPalette palette.now table (leader_of index.now) (members_of index.now)) store.old store.new }
     ensures room { KeepsScratch scratch.old scratch.new }
 {
-    match index {
-        TransformedGrid::Single(region) => {
-            let own = [*region];
-            run_palette(palette, table, *region, &own, store, bit_depth, scratch);
-        }
-        TransformedGrid::Merged { leader, members } => {
-            run_palette(palette, table, *leader, members, store, bit_depth, scratch);
-        }
+    let leader = index.leader();
+    index.write_members(&mut scratch.members);
+    let members = &scratch.members[..index.count()];
+    if palette.wp_header.is_none() {
+        let state = &mut scratch.plain;
+        palette.inverse(store, table, leader, members, bit_depth, state);
+    } else {
+        let state = &mut scratch.weighted;
+        palette.inverse(store, table, leader, members, bit_depth, state);
     }
 }
 
@@ -323,7 +342,7 @@ fn run_squeeze<S: Sample>(
     scratch: &mut Scratch<S>,
 )
     requires can { CanUndo store.old (UndoSqueeze horizontal region) }
-    requires room { HasRoomFor store.old scratch.old }
+    requires room { HasRoomToUndo scratch.old (UndoSqueeze horizontal region) }
     ensures undoes { (depth : ℕ) → Undoes S.to_int S.width depth (UndoSqueeze horizontal region) store.old store.new }
     ensures room { KeepsScratch scratch.old scratch.new }
 {
@@ -334,7 +353,7 @@ impl Undoing {
     /// Undoes what it names in a store.
     ///
     /// Its regions lie in the store as they must, no side of whose buffers is above 2^30. `bit_depth` is that of the picture, at
-    /// most 32. The scratch has room for the store, and the weights of the image. Cells outside the regions stay.
+    /// most 32. The scratch has room for it, and the weights of a palette that has some. Cells outside the regions stay.
     pub fn run<S: Sample>(
         &self,
         store: &mut [AlignedGrid<S>],
@@ -344,8 +363,7 @@ impl Undoing {
         requires can { CanUndo store.old (undo_of_code self.now) }
         requires narrow { IsNarrowStore store.old }
         requires deep { bit_depth ≤ 32 }
-        requires room { HasRoomFor store.old scratch.old }
-        requires suits { SuitsWeights (weights_in scratch.old) (undo_of_code self.now) }
+        requires room { HasRoomToUndo scratch.old (undo_of_code self.now) }
         ensures undoes { Undoes S.to_int S.width bit_depth (undo_of_code self.now) store.old store.new }
         ensures room { KeepsScratch scratch.old scratch.new }
     {
@@ -355,7 +373,7 @@ impl Undoing {
                 palette,
                 table,
                 index,
-            } => run_indices(palette, *table, index, store, bit_depth, scratch),
+            } => run_palette(palette, *table, index, store, bit_depth, scratch),
             Undoing::Squeeze { horizontal, region } => {
                 run_squeeze(*horizontal, *region, store, scratch);
             }
@@ -363,10 +381,11 @@ impl Undoing {
     }
 }
 
-/// Undoes all of these in a store, from the last to the first: each takes what those behind it have left, and changes no cell
+/// Undoes all of these in a store, from the last to the first: each takes what those after it have left, and changes no cell
 /// outside the regions that it names.
 ///
-/// What each of them asks for holds of the store as it is before. No memory is taken, and nothing can fail.
+/// What each of them asks for holds of the store as it is before, and the scratch has room for each. No memory is taken, and
+/// nothing can fail.
 pub fn undo_all<S: Sample>(
     undoings: &[Undoing],
     store: &mut [AlignedGrid<S>],
@@ -376,8 +395,7 @@ pub fn undo_all<S: Sample>(
     requires can { CanUndoAll store.old (undos_of undoings.now) }
     requires narrow { IsNarrowStore store.old }
     requires deep { bit_depth ≤ 32 }
-    requires room { HasRoomFor store.old scratch.old }
-    requires suits { All (SuitsWeights (weights_in scratch.old)) (undos_of undoings.now) }
+    requires room { HasRoomFor (undos_of undoings.now) scratch.old }
     ensures undoes { UndoesAll S.to_int S.width bit_depth (undos_of undoings.now) store.old store.new }
     ensures room { KeepsScratch scratch.old scratch.new }
 {
@@ -386,6 +404,3 @@ pub fn undo_all<S: Sample>(
         undoings[last].run(store, bit_depth, scratch);
     }
 }
-
-#[cfg(test)]
-mod tests;

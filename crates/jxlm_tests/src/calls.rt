@@ -1,4 +1,5 @@
 // Calls that reading a picture does not make, or not with these values.
+ghost use Rattle.std.specs.Prelude.{◌<◌};
 
 use crate::bytewise::Bytewise;
 use crate::trees::Told;
@@ -7,7 +8,10 @@ use jxl_modular::decoder::{Decoder, DecoderError, RleToken};
 use jxl_modular::flat::Steps;
 use jxl_modular::plain::PlainDecoder;
 use jxl_modular::predictor::Predictor;
-use jxl_modular::{ChannelShift, MaConfig, MaConfigParams, ModularParams, decode_picture};
+use jxl_modular::{
+    ChannelShift, MaConfig, MaConfigParams, ModularChannelParams, ModularParams, decode_picture,
+};
+use std::alloc::Global;
 use std::test::Fail;
 
 #[test]
@@ -55,7 +59,7 @@ fn a_tree_of_bytes(rt: HostRuntime) -> Result<(), Fail> {
     assert_eq!(rt; config.num_tree_nodes(), 1);
     assert_eq!(rt; config.tree_depth(), 0);
     assert_eq!(rt; config.decoder().cluster_map(), [0].as_slice());
-    let flat = config.make_flat_tree(0, 0, 0)?;
+    let flat = config.make_flat_tree(rt.alloc(), 0, 0, 0)?;
     let leaf = flat.leaf(&Told { values: &[] }, &mut Steps::new());
     assert_eq!(rt; leaf.cluster, 0);
     assert_eq!(rt; leaf.predictor, Predictor::West);
@@ -78,7 +82,8 @@ fn channels_of_one_picture(rt: HostRuntime) -> Result<(), Fail> {
     let params = ModularParams::<PlainDecoder>::new(rt.alloc(), 5, 3, 256, 8, shifts, None)?;
     assert!(rt; params.is_valid());
     let mut bits = Bitstream::new(CONSTANT);
-    let image = decode_picture::<i16, PlainDecoder>(rt.alloc(), &mut bits, params, 0)?;
+    let mut steps = Steps::new();
+    let image = decode_picture::<i16, PlainDecoder>(rt.alloc(), &mut bits, params, 0, &mut steps)?;
     let image = image.ok_or("no image")?;
     let mut sizes = Vec::new(rt.alloc());
     for grid in image.image_channels() {
@@ -89,5 +94,30 @@ fn channels_of_one_picture(rt: HostRuntime) -> Result<(), Fail> {
     }
     assert_eq!(rt; sizes.as_slice(), [(5, 3), (3, 2), (5, 1)].as_slice());
     assert_eq!(rt; bits.position(), 79);
+    Ok(())
+}
+
+// The first sample of a picture of one channel: that there is one follows from the sides that are asked for.
+fn corner(alloc: Global, bytes: &[u8], width: u32, height: u32) -> Result<Option<i32>, Fail>
+    requires wide { 0 < width }
+    requires high { 0 < height }
+{
+    let channels = vec![in alloc; ModularChannelParams::new(width, height)]?;
+    let params = ModularParams::<PlainDecoder>::with_channels(256, 8, channels, None);
+    if !params.is_valid() {
+        return Ok(None);
+    }
+    let mut bits = Bitstream::new(bytes);
+    let mut steps = Steps::new();
+    let Some(image) = decode_picture::<i32, PlainDecoder>(alloc, &mut bits, params, 0, &mut steps)?
+    else {
+        return Ok(None);
+    };
+    Ok(Some(image.image_channels()[0].get(0, 0)))
+}
+
+#[test]
+fn the_first_sample(rt: HostRuntime) -> Result<(), Fail> {
+    assert_eq!(rt; corner(rt.alloc(), CONSTANT, 5, 3)?, Some(1));
     Ok(())
 }

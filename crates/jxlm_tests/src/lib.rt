@@ -7,6 +7,8 @@ mod calls;
 #[cfg(test)]
 mod drawn;
 #[cfg(test)]
+mod earlier;
+#[cfg(test)]
 mod outcome;
 #[cfg(test)]
 mod pictures;
@@ -15,13 +17,19 @@ mod place_rows;
 #[cfg(test)]
 mod places;
 #[cfg(test)]
+mod predictor_calls;
+#[cfg(test)]
 mod rows;
+#[cfg(test)]
+mod surface;
 #[cfg(test)]
 mod table;
 #[cfg(test)]
 mod text;
 #[cfg(test)]
 mod transformed;
+#[cfg(test)]
+mod tree_errors;
 #[cfg(test)]
 mod tree_rows;
 #[cfg(test)]

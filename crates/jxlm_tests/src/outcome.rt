@@ -4,6 +4,7 @@ ghost use Rattle.std.specs.Prelude.{◌≡◌, None, IfOk};
 use jxl_modular::bits::Bitstream;
 use jxl_modular::decoder::Decoder;
 use jxl_modular::error::Error;
+use jxl_modular::flat::Steps;
 use jxl_modular::image::ModularImageDestination;
 use jxl_modular::{Modular, ModularChannelParams, ModularParams, Sample, decode_picture};
 use std::alloc::Global;
@@ -105,7 +106,7 @@ pub fn at_once<S: Sample, D: Decoder>(
     let params = params::<D>(alloc, depth, channels)?;
     assert!(rt; params.is_valid());
     let mut bits = Bitstream::new(bytes);
-    let answer = decode_picture::<S, D>(alloc, &mut bits, params, 0);
+    let answer = decode_picture::<S, D>(alloc, &mut bits, params, 0, &mut Steps::new());
     let position = bits.position();
     let whole = answer.is_ok();
     let (fault, samples) = match answer {

@@ -12,6 +12,7 @@ use jxlm_base::bits::Bitstream;
 use jxlm_base::error::Error;
 use jxlm_base::grid::{AlignedGrid, OutOfMemory, Region};
 use jxlm_base::sample::Sample;
+use jxlm_tree::eighths::{after_clamp, before_clamp};
 use jxlm_tree::predictor::{Predictor, PredictorState, Properties, WpHeader};
 use std::alloc::Global;
 use std::process::Abort;
@@ -212,5 +213,42 @@ fn check_place<S: Sample>(
         let seen = told(alloc, &state.properties::<false>(&store), below, corrects)?;
         assert_eq!(rt; seen.as_str(), expected, "{put}");
     }
+    Ok(())
+}
+
+/// Stands at each place of a table in turn, and compares the weighted prediction: in eighths before its clamp and after it, property 15,
+/// and the sample.
+pub fn check_eighths<S: Sample>(rt: &impl Abort, alloc: Global, table: &str) -> Result<(), Fail> {
+    let mut state = PredictorState::<S>::new(alloc);
+    for line in table.lines() {
+        let (put, expected) = line.split_once("|:").ok_or("nothing expected")?;
+        check_eighths_at(rt, alloc, &mut state, put, expected)?;
+    }
+    Ok(())
+}
+
+fn eighths<S: Sample>(alloc: Global, properties: &Properties<'_, S>) -> Result<String, Fail>
+    requires { IsCurrent properties.now }
+{
+    let (before, after) = (before_clamp(properties), after_clamp(properties));
+    let (error, sample) = (
+        properties.get(15),
+        Predictor::SelfCorrecting.predict(properties),
+    );
+    Ok(format!(in alloc; "{before} {after} {error} {sample}")?)
+}
+
+fn check_eighths_at<S: Sample>(
+    rt: &impl Abort,
+    alloc: Global,
+    state: &mut PredictorState<S>,
+    put: &str,
+    expected: &str,
+) -> Result<(), Fail> {
+    let place = read_place(alloc, put)?;
+    let store = place.store::<S>(alloc)?;
+    place.stand(state, &store, &[])?;
+    let seen = eighths(alloc, &state.properties::<true>(&store))?;
+    assert_eq!(rt; seen.as_str(), expected, "{put}");
     Ok(())
 }

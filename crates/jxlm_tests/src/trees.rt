@@ -68,9 +68,9 @@ pub fn check<D: Decoder>(rt: &impl Abort, alloc: Global, table: &str) -> Result<
     Ok(())
 }
 
-// Reads the tree that stands behind so many bits under these limits, and compares what is told of it: how large it is, or why it is
-// refused, and where the reader stands then.
-fn read_tree<D: Decoder>(
+/// Reads the tree after n bits under these limits, and compares what is told of it: how large it is, or its error, and the reader's
+/// position then.
+pub fn read_tree<D: Decoder>(
     rt: &impl Abort,
     alloc: Global,
     bits: &mut Bitstream<'_>,
@@ -129,7 +129,7 @@ fn walk_once<D: Decoder>(
     let (channel, rest) = place.split_once(' ').ok_or("no stream")?;
     let (stream, earlier) = rest.split_once(' ').ok_or("no count of earlier channels")?;
     let (channel, stream, earlier) = (channel.parse()?, stream.parse()?, earlier.parse()?);
-    let flat = config.make_flat_tree(channel, stream, earlier)?;
+    let flat = config.make_flat_tree(alloc, channel, stream, earlier)?;
     let values = signed(alloc, values)?;
     let told = Told { values: &values };
     let leaf = flat.leaf(&told, &mut Steps::new());

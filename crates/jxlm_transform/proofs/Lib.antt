@@ -1,7 +1,6 @@
 mod ChannelExamples
 pub mod CodedLists
 pub mod ColourRegions
-pub mod ColourThree
 pub mod DefaultSteps
 pub mod FieldRanges
 pub mod Halvings
@@ -11,7 +10,6 @@ pub mod PaletteColours
 mod PaletteExamples
 pub mod PaletteLaws
 pub mod PaletteSteps
-pub mod PaletteThree
 pub mod Powers
 pub mod Refusals
 pub mod RepeatedLoop
@@ -21,3 +19,4 @@ pub mod SqueezedRegions
 mod TransformExamples
 pub mod TransformLaws
 pub mod Views
+pub mod ValidParams

@@ -1,15 +1,42 @@
--- Facts of refusals that are not want of memory.
+-- Facts of errors other than out of memory.
 use Rattle.std.proofs.Common.{◌≡◌, ℕ, List, Ok, Some, refl}
 use Rattle.std.specs.Prelude.{codes, ◌==◌}
 use Rattle.std.proofs.Common.{false}
-use Rattle.jxlm_base.specs.Fault.{Fault, Eof, BadEnum, BadProfile, BadTree, NoGlobalTree, BadRct, BadPalette, BadSqueeze, OfDecoder, NoMemory, UnlessMemory}
+use Rattle.jxlm_base.specs.Fault.{Fault, Eof, BadEnum, BadProfile, BadTree, NoGlobalTree, BadRct, BadPalette, BadSqueeze, OfDecoder, NoMemory, UnlessMemory, UnlessNoMemory}
 use Rattle.jxlm_base.specs.Grammar.{IsRefused, number}
 use Rattle.jxlm_base.specs.declared.decoder.DecoderError.TheVariants as decoder
 use Rattle.jxlm_transform.specs.Transforms.{squeeze, transform}
 use Rattle.jxlm_tree.specs.declared.predictor.WpHeader.{WpHeader}
 
--- a fact holds also where it is asked for unless there was no memory
-pub unless_memory : (fault : Fault) (P : Type 0) → P → UnlessMemory fault P
+-- a fact holds also where it is asked for unless it is out of memory
+pub unless_no_memory : (fault : Fault) (P : Type 0) → P → UnlessNoMemory fault P
+unless_no_memory NoMemory P holds = tt
+unless_no_memory Eof P holds = holds
+unless_no_memory (BadEnum name value) P holds = holds
+unless_no_memory (BadProfile text) P holds = holds
+unless_no_memory BadTree P holds = holds
+unless_no_memory NoGlobalTree P holds = holds
+unless_no_memory BadRct P holds = holds
+unless_no_memory BadPalette P holds = holds
+unless_no_memory BadSqueeze P holds = holds
+unless_no_memory (OfDecoder e) P holds = holds
+
+-- and so does a fact that follows from one
+pub unless_so : (fault : Fault) (P Q : Type 0) → (P → Q) → UnlessNoMemory fault P → UnlessNoMemory fault Q
+unless_so NoMemory P Q step holds = tt
+unless_so Eof P Q step holds = step holds
+unless_so (BadEnum name value) P Q step holds = step holds
+unless_so (BadProfile text) P Q step holds = step holds
+unless_so BadTree P Q step holds = step holds
+unless_so NoGlobalTree P Q step holds = step holds
+unless_so BadRct P Q step holds = step holds
+unless_so BadPalette P Q step holds = step holds
+unless_so BadSqueeze P Q step holds = step holds
+unless_so (OfDecoder e) P Q step holds = step holds
+
+-- and where a decoder may be out of memory too
+pub unless_memory : (fault : Fault) (P : Type 0) → UnlessNoMemory fault P → UnlessMemory fault P
+unless_memory NoMemory P holds = tt
 unless_memory Eof P holds = holds
 unless_memory (BadEnum name value) P holds = holds
 unless_memory (BadProfile text) P holds = holds
@@ -21,22 +48,6 @@ unless_memory BadSqueeze P holds = holds
 unless_memory (OfDecoder decoder.UnexpectedEof) P holds = holds
 unless_memory (OfDecoder (decoder.Invalid code)) P holds = holds
 unless_memory (OfDecoder decoder.OutOfMemory) P holds = tt
-unless_memory NoMemory P holds = tt
-
--- and so does a fact that follows from one
-pub unless_so : (fault : Fault) (P Q : Type 0) → (P → Q) → UnlessMemory fault P → UnlessMemory fault Q
-unless_so Eof P Q step holds = step holds
-unless_so (BadEnum name value) P Q step holds = step holds
-unless_so (BadProfile text) P Q step holds = step holds
-unless_so BadTree P Q step holds = step holds
-unless_so NoGlobalTree P Q step holds = step holds
-unless_so BadRct P Q step holds = step holds
-unless_so BadPalette P Q step holds = step holds
-unless_so BadSqueeze P Q step holds = step holds
-unless_so (OfDecoder decoder.UnexpectedEof) P Q step holds = step holds
-unless_so (OfDecoder (decoder.Invalid code)) P Q step holds = step holds
-unless_so (OfDecoder decoder.OutOfMemory) P Q step holds = tt
-unless_so NoMemory P Q step holds = tt
 
 -- where a squeeze is refused behind its kind, so is the transform
 pub squeeze_refused : (weights : WpHeader) (bytes : List ℕ) (p m q : ℕ) (fault : Fault) → (number 2).read bytes p ≡ Ok (record { value = 2; position = m }) →

@@ -2,7 +2,7 @@
 use Rattle.std.specs.Prelude.{◌≡◌, ℕ, zero, suc, ◌+◌, ◌-◌, ◌/◌, List, [], ◌∷◌, ◌++◌, length, map, take, drop, slice_range, Bool, true, false, not, ◌&&◌, ◌||◌, nat_lt, nat_le, ◌==◌, if◌then◌else◌, ℤ, pos, negsuc, int_le, Result, Ok, Err}
 use Rattle.std.specs.List.{list_all}
 use Rattle.std.specs.Int.{div_ceil}
-use Rattle.jxlm_base.specs.Fault.{Fault, BadRct, BadPalette, BadSqueeze, UnlessMemory, fault_of}
+use Rattle.jxlm_base.specs.Fault.{Fault, BadRct, BadPalette, BadSqueeze, UnlessNoMemory, fault_of}
 use Rattle.jxlm_base.specs.declared.error.Error.{Error}
 use Rattle.jxlm_transform.specs.Channels.{Channel, ChannelList}
 use Rattle.jxlm_transform.specs.Transforms.{Transform, OfRct, OfPalette, OfSqueeze}
@@ -203,23 +203,23 @@ listed_steps (OfRct t) = RctStep t ∷ []
 listed_steps (OfPalette t) = PaletteStep t ∷ []
 listed_steps (OfSqueeze steps) = map SqueezeStep steps
 
--- What a call that changes a list answered, and the list behind it, is what the definition gives. After a refusal nothing is
--- promised of the list.
+-- What a call that changes a list returned, and the list after it, is what the definition gives. After an error nothing is
+-- said of the list.
 abbrev pub ListIs : Result ChannelList Fault → Result (Unit {0}) Error → ChannelList → Type 0
 ListIs step (Ok u) l = step ≡ Ok l
 ListIs step (Err e) l = step ≡ Err (fault_of e)
 
--- the same of a call that takes memory: that may be refused at any time
+-- the same of a call that takes memory, which may be out of it at any time
 abbrev pub ListGives : Result ChannelList Fault → Result (Unit {0}) Error → ChannelList → Type 0
 ListGives step (Ok u) l = step ≡ Ok l
-ListGives step (Err e) l = UnlessMemory (fault_of e) (step ≡ Err (fault_of e))
+ListGives step (Err e) l = UnlessNoMemory (fault_of e) (step ≡ Err (fault_of e))
 
--- What a call that lists the steps of a squeeze answered, and the steps behind it.
+-- what a call that lists the steps of a squeeze returned, and the steps after it
 abbrev pub StepsGive : Result (List SqueezeParams) Fault → Result (Unit {0}) Error → List SqueezeParams → Type 0
 StepsGive steps (Ok u) listed = steps ≡ Ok listed
-StepsGive steps (Err e) listed = UnlessMemory (fault_of e) (steps ≡ Err (fault_of e))
+StepsGive steps (Err e) listed = UnlessNoMemory (fault_of e) (steps ≡ Err (fault_of e))
 
--- What a call that applies a transform answered, the transform behind it, which then lists its steps, and the list behind it.
+-- what a call that applies a transform returned, the transform after it, which then lists its steps, and the list
 abbrev pub TransformGives : Transform → ChannelList → Result (Unit {0}) Error → Transform → ChannelList → Type 0
 TransformGives t l (Ok u) listed m = (steps_of t l ≡ Ok (listed_steps listed)) × (list_after_all (listed_steps listed) l ≡ Ok m)
-TransformGives t l (Err e) listed m = UnlessMemory (fault_of e) ((steps_of t l >>= λ steps. list_after_all steps l) ≡ Err (fault_of e))
+TransformGives t l (Err e) listed m = UnlessNoMemory (fault_of e) ((steps_of t l >>= λ steps. list_after_all steps l) ≡ Err (fault_of e))

@@ -1,8 +1,9 @@
 -- What an image is read by.
-use Rattle.std.specs.Prelude.{ℕ, ◌≤◌, ◌^◌, length}
+use Rattle.std.specs.Prelude.{◌≡◌, ℕ, ◌≤◌, ◌^◌, List, length, replicate}
 use Rattle.std.specs.Int.{IsPowerOfTwo}
 use Rattle.std.specs.List.{All}
 use Rattle.jxlm_transform.specs.declared.param.ChannelShift.{ChannelShift}
+use Rattle.jxlm_transform.specs.declared.param.ChannelShift.TheVariants.{Shifts}
 use Rattle.jxlm_transform.specs.declared.param.ModularChannelParams.{ModularChannelParams}
 use Rattle.jxlm_transform.specs.declared.param.ModularParams.{ModularParams}
 use Rattle.jxlm_transform.specs.Shifts.{IsValidShift}
@@ -33,3 +34,21 @@ pub record IsValidParams {D : Type 0} (p : ModularParams D) : Type 0 where
 -- a channel with this shift in a picture of these sides
 abbrev pub sized : ℕ → ℕ → ChannelShift → ModularChannelParams
 sized width height shift = record { width = width; height = height; shift = shift }
+
+-- n channels as large as a picture of these sides
+abbrev pub of_one_size : ℕ → ℕ → ℕ → List ModularChannelParams
+of_one_size n width height = replicate n (sized width height (Shifts 0))
+
+-- they may be given
+abbrev pub OneSizeIsValid : Type 0
+OneSizeIsValid = (n width height : ℕ) → IsSide width → IsSide height → All IsValidChannel (of_one_size n width height)
+
+-- and an image of at most 2 ^ 20 of them may be read
+abbrev pub OneSizeOfImageIsValid : Type 0 → Type 0
+OneSizeOfImageIsValid D =
+    (p : ModularParams D) (n width height : ℕ) → p.channels.items ≡ of_one_size n width height → n ≤ 2 ^ 20 → IsSide width → IsSide height →
+    IsGroupDim p.group_dim → p.bit_depth ≤ 32 → IsValidParams p
+
+-- a power of two from 2 to 2 ^ 20 is a side of groups
+abbrev pub PowersAreGroupDims : Type 0
+PowersAreGroupDims = (k : ℕ) → 1 ≤ k → k ≤ 20 → IsGroupDim (2 ^ k)

@@ -1,11 +1,13 @@
 -- The transforms of a header, as they stand in the input
 -- (ISO/IEC 18181-1, Modular: the bundles TransformInfo and SqueezeParams).
-use Rattle.std.specs.Prelude.{◌≡◌, ◌⊎◌, ℕ, ◌+◌, ◌-◌, ◌^◌, ◌≤◌, min, max, List, length, slice_get, ◌==◌, codes, Option, Some, None}
+use Rattle.std.specs.Prelude.{◌≡◌, ◌⊎◌, ℕ, ◌+◌, ◌-◌, ◌^◌, ◌≤◌, min, max, List, length, slice_get, ◌==◌, codes, Option, Some, None, Result, Ok, Err}
 use Rattle.std.specs.List.{All}
-use Rattle.jxlm_base.specs.Fault.{Fault, BadEnum}
-use Rattle.jxlm_base.specs.Grammar.{Grammar, number, flag, u32, give, refuse, either, repeated, ◌>>=◌}
+use Rattle.jxlm_base.specs.Decoding.{Found}
+use Rattle.jxlm_base.specs.Fault.{Fault, BadEnum, Refused, UnlessNoMemory, fault_of}
+use Rattle.jxlm_base.specs.Grammar.{Grammar, IsRefused, number, flag, u32, give, refuse, either, repeated, ◌>>=◌}
 use Rattle.jxlm_base.specs.declared.bits.U32Spec.{U32Spec}
 use Rattle.jxlm_base.specs.declared.bits.U32Spec.TheVariants.{Const, Offset}
+use Rattle.jxlm_base.specs.declared.error.Error.{Error}
 use Rattle.jxlm_tree.specs.Predictions.{predictors}
 use Rattle.jxlm_tree.specs.declared.predictor.Predictor.{Predictor}
 use Rattle.jxlm_tree.specs.declared.predictor.Predictor.TheVariants.{SelfCorrecting}
@@ -160,3 +162,9 @@ HasChannels other = Unit {0}
 abbrev pub KeepsWeights : WpHeader → Transform → Type 0
 KeepsWeights weights (OfPalette t) = (t.wp_header ≡ None) ⊎ (t.wp_header ≡ Some weights)
 KeepsWeights weights other = Unit {0}
+
+-- What a call that reads fields and takes memory returned, seen by view, and where it left the reader, is what reading gives,
+-- unless it is out of memory.
+abbrev pub Parses : {X Y : Type 0} → (X → Y) → Result X Error → ℕ → Result (Found Y) Refused → Type 0
+Parses view (Ok x) q reading = reading ≡ Ok (record { value = view x; position = q })
+Parses view (Err e) q reading = UnlessNoMemory (fault_of e) (IsRefused reading (fault_of e) q)

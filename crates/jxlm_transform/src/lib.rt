@@ -1,8 +1,6 @@
 //! What an image's channels are, and what transforms do to them.
 #![tactic(auto)]
 
-#[cfg(test)]
-mod cells;
 pub mod channels;
 pub mod palette;
 pub mod param;

@@ -581,8 +581,3 @@ impl Palette {
 pub fn palettes_have_one_image()
     ensures { PaletteHasOneImage }
 {}
-
-#[cfg(test)]
-mod tests;
-#[cfg(test)]
-mod vectors;

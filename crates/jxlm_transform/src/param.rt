@@ -4,7 +4,7 @@ ghost use Rattle.std.specs.Prelude.{◌≡◌, ◌<◌, ◌≤◌, ◌↔◌, �
 ghost use Rattle.std.specs.Int.{div_ceil};
 ghost use Rattle.std.specs.List.{All, list_any};
 ghost use Rattle.jxlm_transform.specs.Shifts.{IsValidShift, shift_size, jpeg_shift, hshift, vshift, IsShift, upsampled_side as the_upsampled_side};
-ghost use Rattle.jxlm_transform.specs.Params.{IsSide, IsValidChannel, IsGroupDim, IsValidParams, sized};
+ghost use Rattle.jxlm_transform.specs.Params.{IsSide, IsValidChannel, IsGroupDim, IsValidParams, OneSizeIsValid, OneSizeOfImageIsValid, PowersAreGroupDims, sized};
 ghost use Rattle.jxlm_base.specs.Fault.{NoMemory, fault_of};
 
 use jxlm_base::decoder::Decoder;
@@ -122,7 +122,10 @@ impl ChannelShift {
         }
     }
 
-    fn is_valid(&self) -> bool
+    /// Whether a channel may have this shift, as [`ChannelShift::shift_size`] requires: the shifts of
+    /// `Shifts` and `Raw` are from 0 to 30, and a JPEG channel is halved only along a side along which
+    /// some channel has two samples.
+    pub fn is_valid(&self) -> bool
         ensures { IsTrue result ↔ IsValidShift self.now }
     {
         match *self {
@@ -229,7 +232,10 @@ impl ModularChannelParams {
         }
     }
 
-    fn is_valid(&self) -> bool
+    /// Whether an image may have this channel, as
+    /// [`ModularChannelInfo::new`](crate::channels::ModularChannelInfo::new) requires: the sides of its
+    /// picture are at most 2^30, and its shift is valid as by [`ChannelShift::is_valid`].
+    pub fn is_valid(&self) -> bool
         ensures { IsTrue result ↔ IsValidChannel self.now }
     {
         self.width <= MAX_SIDE && self.height <= MAX_SIDE && self.shift.is_valid()
@@ -314,134 +320,17 @@ impl<'a, D: Decoder> ModularParams<'a, D> {
     }
 }
 
+/// Channels of one size are valid: any number of channels as large as their picture, with sides up to
+/// 2^30, and an image of at most 2^20 of them, with a bit depth of at most 32 and a group side that is a
+/// power of two from 2 to 2^20. It does nothing: a caller has the facts of its contract.
+pub fn channels_of_one_size_are_valid<D: Decoder>()
+    ensures channels { OneSizeIsValid }
+    ensures params { OneSizeOfImageIsValid D }
+    ensures group_dim { PowersAreGroupDims }
+{}
+
 fn is_group_dim(group_dim: u32) -> bool
     ensures { IsTrue result ↔ IsGroupDim group_dim }
 {
     (2..=1 << 20).contains(&group_dim) && group_dim.is_power_of_two()
-}
-
-#[cfg(test)]
-mod tests {
-    use super::*;
-    use jxlm_base::plain::PlainDecoder;
-    use std::result::Result;
-    use std::test::Fail;
-
-    // The values 1, 2 and 0: the first channel is halved nowhere, the second down, the third both ways.
-    #[test]
-    fn jpeg_sizes(rt: HostRuntime) {
-        let first = ChannelShift::from_jpeg_upsampling([1, 2, 0], 0);
-        let second = ChannelShift::from_jpeg_upsampling([1, 2, 0], 1);
-        let third = ModularChannelParams::jpeg(5, 7, [1, 2, 0], 2);
-        assert_eq!(rt; first.shift_size((5, 7)), (6, 8));
-        assert_eq!(rt; second.shift_size((5, 7)), (6, 4));
-        assert_eq!(rt; third.shift.shift_size((third.width, third.height)), (3, 4));
-        assert_eq!(rt; (second.hshift(), second.vshift()), (0, 1));
-    }
-
-    #[test]
-    fn shifted_sizes(rt: HostRuntime) {
-        let both = ChannelShift::from_shift(2);
-        assert_eq!(rt; both.shift_size((9, 4)), (3, 1));
-        assert_eq!(rt; (both.hshift(), both.vshift()), (2, 2));
-        assert_eq!(rt; ChannelShift::from_shift(4294967295).hshift(), -1);
-        let each = ModularChannelParams::with_shift(9, 4, ChannelShift::Raw(3, 1));
-        assert_eq!(rt; each.shift.shift_size((9, 4)), (2, 2));
-        assert_eq!(rt;
-            ModularChannelParams::new(9, 4).shift,
-            ChannelShift::Shifts(0)
-        );
-    }
-
-    #[test]
-    fn one_size_of_all_channels(rt: HostRuntime) -> Result<(), Fail> {
-        let shifts = vec![in rt.alloc(); ChannelShift::Shifts(0), ChannelShift::Raw(1, 0)]?;
-        let params = ModularParams::<PlainDecoder>::new(rt.alloc(), 5, 3, 2, 8, shifts, None)?;
-        assert_eq!(rt; params.channels.len(), 2);
-        assert_eq!(rt;
-            (params.channels[1].width, params.channels[1].height),
-            (5, 3)
-        );
-        assert_eq!(rt; params.channels[1].shift, ChannelShift::Raw(1, 0));
-        assert!(rt; params.is_valid());
-        Ok(())
-    }
-
-    // Whether an image of one such channel may be read.
-    fn channel_is_valid(
-        rt: &HostRuntime,
-        width: u32,
-        height: u32,
-        shift: ChannelShift,
-    ) -> Result<bool, Fail> {
-        let channel = ModularChannelParams::with_shift(width, height, shift);
-        let channels = vec![in rt.alloc(); channel]?;
-        let params = ModularParams::<PlainDecoder>::with_channels(256, 8, channels, None);
-        Ok(params.is_valid())
-    }
-
-    // Whether an image without channels may be read.
-    fn is_valid(rt: &HostRuntime, group_dim: u32, bit_depth: u32) -> bool {
-        let channels = Vec::new(rt.alloc());
-        ModularParams::<PlainDecoder>::with_channels(
-            group_dim, bit_depth, channels, None,
-        ).is_valid()
-    }
-
-    #[test]
-    fn limits_of_channels(rt: HostRuntime) -> Result<(), Fail> {
-        let none = ChannelShift::Shifts(0);
-        assert!(rt; channel_is_valid(&rt, 1 << 30, 1 << 30, none)?);
-        assert!(rt; channel_is_valid(&rt, 0, 0, none)?);
-        assert!(rt; !channel_is_valid(&rt, (1 << 30) + 1, 1, none)?);
-        assert!(rt; !channel_is_valid(&rt, 1, (1 << 30) + 1, none)?);
-        assert!(rt; channel_is_valid(&rt, 1, 1, ChannelShift::Shifts(30))?);
-        assert!(rt; !channel_is_valid(&rt, 1, 1, ChannelShift::Shifts(31))?);
-        assert!(rt; channel_is_valid(&rt, 1, 1, ChannelShift::Raw(30, 30))?);
-        assert!(rt; !channel_is_valid(&rt, 1, 1, ChannelShift::Raw(31, 0))?);
-        assert!(rt; !channel_is_valid(&rt, 1, 1, ChannelShift::Raw(0, 31))?);
-        assert!(rt; !channel_is_valid(&rt, 1, 1, ChannelShift::Raw(-1, 0))?);
-        assert!(rt; !channel_is_valid(&rt, 1, 1, ChannelShift::Raw(0, -1))?);
-        Ok(())
-    }
-
-    #[test]
-    fn limits_of_jpeg_channels(rt: HostRuntime) -> Result<(), Fail> {
-        for among in [false, true] {
-            for halved in [false, true] {
-                let across = ChannelShift::JpegUpsampling {
-                    has_h_subsample: among,
-                    h_subsample: halved,
-                    has_v_subsample: false,
-                    v_subsample: false,
-                };
-                let down = ChannelShift::JpegUpsampling {
-                    has_h_subsample: false,
-                    h_subsample: false,
-                    has_v_subsample: among,
-                    v_subsample: halved,
-                };
-                assert_eq!(rt; channel_is_valid(&rt, 1, 1, across)?, among || !halved);
-                assert_eq!(rt; channel_is_valid(&rt, 1, 1, down)?, among || !halved);
-            }
-        }
-        Ok(())
-    }
-
-    #[test]
-    fn limits_of_an_image(rt: HostRuntime) -> Result<(), Fail> {
-        assert!(rt; is_valid(&rt, 2, 0));
-        assert!(rt; is_valid(&rt, 1 << 20, 32));
-        assert!(rt; !is_valid(&rt, 256, 33));
-        for group_dim in [0, 1, 3, 255, 1 << 21, 1 << 31] {
-            assert!(rt; !is_valid(&rt, group_dim, 8), "{group_dim}");
-        }
-        let channel = ModularChannelParams::new(1, 1);
-        for (count, fits) in [(1 << 20, true), ((1 << 20) + 1, false)] {
-            let channels = vec![in rt.alloc(); channel; count]?;
-            let params = ModularParams::<PlainDecoder>::with_channels(256, 8, channels, None);
-            assert_eq!(rt; params.is_valid(), fits);
-        }
-        Ok(())
-    }
 }

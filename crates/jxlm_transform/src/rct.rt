@@ -193,8 +193,3 @@ pub fn inverse_rct<S: Sample, const TYPE: u32>(
     inverse_rct_within(TYPE, permutation, store, regions, &mut scratch);
     Ok(())
 }
-
-#[cfg(test)]
-mod tests;
-#[cfg(test)]
-mod vectors;

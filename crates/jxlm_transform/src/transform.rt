@@ -3,9 +3,9 @@
 ghost use Rattle.std.specs.Prelude.{◌≡◌, ◌≤◌, ◌↔◌, ◌⊎◌, length, IsTrue, IfOk, None, Some};
 ghost use Rattle.std.specs.List.{All};
 ghost use Rattle.jxlm_base.specs.Bits.{bytes_of, position_of};
-ghost use Rattle.jxlm_base.specs.Grammar.{Answers, FitsU32, IsExact, Reads, number, repeated, u32 as the_u32};
+ghost use Rattle.jxlm_base.specs.Grammar.{FitsU32, IsExact, Reads, number, repeated, u32 as the_u32};
 ghost use Rattle.jxlm_tree.specs.WeightsHeader.{AnswersExactly};
-ghost use Rattle.jxlm_transform.specs.Transforms.{OfPalette, transform_of, begin_channel as the_begin_channel, rct, predictor, weights_for, palette, squeeze_params, squeeze, transform, least_of, greatest_of, IsRct, IsPalette, IsSqueezeParams, IsSqueeze, IsTransform, HasChannels, KeepsWeights, IsPaletteTransform, IsSqueezeTransform};
+ghost use Rattle.jxlm_transform.specs.Transforms.{OfPalette, transform_of, begin_channel as the_begin_channel, rct, predictor, weights_for, palette, squeeze_params, squeeze, transform, least_of, greatest_of, IsRct, IsPalette, IsSqueezeParams, IsSqueeze, IsTransform, HasChannels, KeepsWeights, IsPaletteTransform, IsSqueezeTransform, Parses};
 
 mod default_squeeze;
 mod lists;
@@ -221,12 +221,14 @@ impl SqueezeParams {
 }
 
 impl Squeeze {
-    /// The squeeze that stands at the reader's place: how many steps, at most 296, and the steps.
+    /// The squeeze that stands at the reader's position: how many steps, at most 296, and the steps.
     ///
-    /// A cut input is refused by `UnexpectedEof`, and the reader stands behind the last field that
-    /// was read whole. Want of memory may be answered at any time.
+    /// # Errors
+    ///
+    /// `UnexpectedEof` where the input is truncated; the reader is then after the last field that was
+    /// read whole. `Buffer` where it is out of memory, at any step.
     pub fn parse(alloc: Global, bits: &mut Bitstream<'_>) -> Result<Squeeze>
-        ensures gives { Answers (λ s. s.sp.items) result (position_of bits.new) (squeeze.read (bytes_of bits.old) (position_of bits.old)) }
+        ensures gives { Parses (λ s. s.sp.items) result (position_of bits.new) (squeeze.read (bytes_of bits.old) (position_of bits.old)) }
         ensures ranges { IfOk result (λ s. IsSqueeze s.sp.items) }
         ensures bytes { bytes_of bits.new ≡ bytes_of bits.old }
     {
@@ -242,9 +244,9 @@ impl Squeeze {
     }
 }
 
-/// So many steps of a squeeze.
+/// The `count` steps of a squeeze.
 fn read_steps(alloc: Global, bits: &mut Bitstream<'_>, count: u32) -> Result<Vec<SqueezeParams>>
-    ensures gives { Answers (λ v. v.items) result (position_of bits.new) ((repeated count squeeze_params).read (bytes_of bits.old) (position_of bits.old)) }
+    ensures gives { Parses (λ v. v.items) result (position_of bits.new) ((repeated count squeeze_params).read (bytes_of bits.old) (position_of bits.old)) }
     ensures count { IfOk result (λ v. length v.items ≡ count) }
     ensures each { IfOk result (λ v. All IsSqueezeParams v.items) }
     ensures bytes { bytes_of bits.new ≡ bytes_of bits.old }
@@ -266,18 +268,20 @@ fn read_kind(bits: &mut Bitstream<'_>) -> std::result::Result<u32, BitstreamErro
 }
 
 impl TransformInfo {
-    /// The transform that stands at the reader's place, behind two bits of its kind. A palette keeps
+    /// The transform that stands at the reader's position, after two bits of its kind. A palette keeps
     /// no weights, or these.
     ///
-    /// A cut input is refused by `UnexpectedEof`; kind 3, and the number of a predictor that is
-    /// none, by `InvalidEnum`. The reader then stands behind the last field that was read whole.
-    /// Want of memory may be answered in the middle of a squeeze.
+    /// # Errors
+    ///
+    /// `UnexpectedEof` where the input is truncated; `InvalidEnum` for kind 3, and for the number of
+    /// a predictor that is none. The reader is then after the last field that was read whole.
+    /// `Buffer` where it is out of memory, at any step of a squeeze.
     pub fn parse(
         alloc: Global,
         bits: &mut Bitstream<'_>,
         wp_header: &WpHeader,
     ) -> Result<TransformInfo>
-        ensures gives { Answers transform_of result (position_of bits.new) ((transform wp_header.now).read (bytes_of bits.old) (position_of bits.old)) }
+        ensures gives { Parses transform_of result (position_of bits.new) ((transform wp_header.now).read (bytes_of bits.old) (position_of bits.old)) }
         ensures ranges { IfOk result (λ t. IsTransform (transform_of t)) }
         ensures some_channels { IfOk result (λ t. HasChannels (transform_of t)) }
         ensures weights { IfOk result (λ t. KeepsWeights wp_header.now (transform_of t)) }
@@ -320,160 +324,3 @@ pub fn transforms_are_read_exactly()
     ensures squeeze { IsExact squeeze }
     ensures all { (weights : WpHeader) → IsExact (transform weights) }
 {}
-
-#[cfg(test)]
-mod tests {
-    use super::*;
-    use std::result::Result;
-    use std::test::Fail;
-
-    // The weights of the byte 01.
-    fn usual_weights() -> Result<WpHeader, Error> {
-        WpHeader::parse(&mut Bitstream::new(&[0x01]))
-    }
-
-    // The transform behind four bits of a header, and the reader behind it.
-    fn behind_header(alloc: Global, bytes: &[u8]) -> (Result<TransformInfo, Error>, u64) {
-        let mut bits = Bitstream::new(bytes);
-        let parsed = match (bits.read_bits(4), usual_weights()) {
-            (Ok(_), Ok(weights)) => TransformInfo::parse(alloc, &mut bits, &weights),
-            (Err(e), _) => Err(Error::Bitstream(e)),
-            (_, Err(e)) => Err(e),
-        };
-        (parsed, bits.position())
-    }
-
-    #[test]
-    fn transforms_of_whole_streams(rt: HostRuntime) -> Result<(), Fail> {
-        let (colour, position) = behind_header(rt.alloc(), &[0x06, 0x00]);
-        let colour = colour?;
-        assert!(rt; !colour.is_palette() && !colour.is_squeeze());
-        match colour {
-            TransformInfo::Rct(t) => assert_eq!(rt; (t.begin_c, t.rct_type), (0, 6)),
-            _ => assert!(rt; false),
-        }
-        assert_eq!(rt; position, 13);
-
-        let (squeeze, position) = behind_header(rt.alloc(), &[0x66, 0x30, 0x00]);
-        let squeeze = squeeze?;
-        assert!(rt; !squeeze.is_palette() && squeeze.is_squeeze());
-        match squeeze {
-            TransformInfo::Squeeze(t) => {
-                assert_eq!(rt; t.sp.len(), 1);
-                assert!(rt; t.sp[0].horizontal && t.sp[0].in_place);
-                assert_eq!(rt; (t.sp[0].begin_c, t.sp[0].num_c), (0, 1));
-            }
-            _ => assert!(rt; false),
-        }
-        assert_eq!(rt; position, 21);
-
-        let (default, position) = behind_header(rt.alloc(), &[0x26]);
-        match default? {
-            TransformInfo::Squeeze(t) => assert!(rt; t.sp.is_empty()),
-            _ => assert!(rt; false),
-        }
-        assert_eq!(rt; position, 8);
-        Ok(())
-    }
-
-    #[test]
-    fn what_is_no_transform_is_refused(rt: HostRuntime) {
-        let cases = [
-            ([0x36].as_slice(), "TransformId", 3, 6),
-            ([0x16, 0x00, 0x00, 0x1C].as_slice(), "MaProperty", 14, 29),
-        ];
-        for (bytes, name, value, place) in cases {
-            let (parsed, position) = behind_header(rt.alloc(), bytes);
-            let unknown = BitstreamError::InvalidEnum { name, value };
-            assert_eq!(rt;
-                (parsed.err(), position),
-                (Some(Error::Bitstream(unknown)), place)
-            );
-        }
-        let cut = Error::Bitstream(BitstreamError::UnexpectedEof);
-        let cases = [
-            ([0x06].as_slice(), 6),
-            ([0x16, 0x00, 0x00].as_slice(), 23),
-            ([0x66, 0x30].as_slice(), 14),
-            ([0x46].as_slice(), 6),
-        ];
-        for (bytes, place) in cases {
-            let (parsed, position) = behind_header(rt.alloc(), bytes);
-            assert_eq!(rt; (parsed.err(), position), (Some(cut), place));
-        }
-    }
-
-    #[test]
-    fn colour_transforms_at_their_limits(rt: HostRuntime) -> Result<(), Fail> {
-        let cases = [
-            ([0xfc, 0xff, 0xff, 0x01].as_slice(), (9287, 73), 25),
-            ([0x80, 0x00].as_slice(), (0, 0), 11),
-            ([0xf4, 0x7b].as_slice(), (71, 9), 16),
-            ([0xf8, 0x3f].as_slice(), (1095, 6), 16),
-        ];
-        for (bytes, fields, place) in cases {
-            let mut bits = Bitstream::new(bytes);
-            bits.read_bits(2)?;
-            let t = Rct::parse(&mut bits)?;
-            assert_eq!(rt; ((t.begin_c, t.rct_type), bits.position()), (fields, place));
-        }
-        Ok(())
-    }
-
-    #[test]
-    fn palettes_at_their_limits(rt: HostRuntime) -> Result<(), Fail> {
-        let weights = usual_weights()?;
-        let greatest = [0xf1, 0xff, 0xff, 0xff, 0xff, 0xff, 0xff, 0x37];
-        let cases = [
-            (
-                greatest.as_slice(),
-                (7, 8192, 70911, 66816),
-                Predictor::AvgAll,
-                62,
-            ),
-            (
-                [0x05, 0xc4, 0x7f, 0xff, 0x06].as_slice(),
-                (8, 3, 255, 256),
-                Predictor::SelfCorrecting,
-                36,
-            ),
-            (
-                [0x05, 0x18, 0x00, 0x14].as_slice(),
-                (8, 4, 256, 0),
-                Predictor::Gradient,
-                30,
-            ),
-        ];
-        for (bytes, fields, predictor, place) in cases {
-            let mut bits = Bitstream::new(bytes);
-            bits.read_bits(2)?;
-            let t = Palette::parse(&mut bits, &weights)?;
-            assert_eq!(rt; (t.begin_c, t.num_c, t.nb_colours, t.nb_deltas), fields);
-            assert_eq!(rt; (t.d_pred, bits.position()), (predictor, place));
-            assert_eq!(rt;
-                t.wp_header.is_some(),
-                predictor == Predictor::SelfCorrecting
-            );
-        }
-        Ok(())
-    }
-
-    #[test]
-    fn squeezes_of_two_steps(rt: HostRuntime) -> Result<(), Fail> {
-        let mut bits = Bitstream::new(&[0x16, 0xfd, 0xff, 0x7f, 0x05, 0x40]);
-        bits.read_bits(2)?;
-        let squeeze = Squeeze::parse(rt.alloc(), &mut bits)?;
-        assert_eq!(rt; (squeeze.sp.len(), bits.position()), (2, 47));
-        let [first, second] = [squeeze.sp[0], squeeze.sp[1]];
-        assert_eq!(rt; (first.horizontal, first.in_place), (true, false));
-        assert_eq!(rt; (first.begin_c, first.num_c), (9287, 19));
-        assert_eq!(rt; (second.horizontal, second.in_place), (false, true));
-        assert_eq!(rt; (second.begin_c, second.num_c), (72, 3));
-        Ok(())
-    }
-
-    #[test]
-    fn laws() {
-        transforms_are_read_exactly();
-    }
-}

@@ -154,10 +154,12 @@ module _ (header : WpHeader) (samples : List ℤ) (width : ℕ) (errors : List E
   clamped_is : column samples width ≡ x → row samples width ≡ y → AreErrorsAt e errors width x y → is_clamped_from e ≡ is_clamped header samples width errors
   clamped_is cx cy are = rw (cx, cy, are.w_is, are.n_is, are.nw_is) refl
 
+  pub unclamped_is : column samples width ≡ x → row samples width ≡ y → a ≡ neighbours samples width → AreErrorsAt e errors width x y → unclamped_from (sub_predictions_from header a e) (weights_from header (counted e.sums)) ≡ unclamped header samples width errors
+  unclamped_is cx cy is are = ap (λ (f : Four ℤ). unclamped_from f (weights_from header (counted e.sums))) (sub_predictions_are cx cy is are) ∙ ap (unclamped_from (sub_predictions header samples width errors)) (weights_are cx cy are)
+
   pub predicted_is : column samples width ≡ x → row samples width ≡ y → a ≡ neighbours samples width → AreErrorsAt e errors width x y → predicted_from header a e ≡ predicted header samples width errors
   predicted_is cx cy is are =
-      let z : unclamped_from (sub_predictions_from header a e) (weights_from header (counted e.sums)) ≡ unclamped header samples width errors =
-      ap (λ (f : Four ℤ). unclamped_from f (weights_from header (counted e.sums))) (sub_predictions_are cx cy is are) ∙ ap (unclamped_from (sub_predictions header samples width errors)) (weights_are cx cy are) in
+      let z : unclamped_from (sub_predictions_from header a e) (weights_from header (counted e.sums)) ≡ unclamped header samples width errors = unclamped_is cx cy is are in
       ap (λ (v : ℤ). cond (is_clamped_from e) (clamped_around a v) v) z
       ∙ ap (λ (b : Bool). cond b (clamped_around a (unclamped header samples width errors)) (unclamped header samples width errors)) (clamped_is cx cy are)
       ∙ ap (λ (b : Neighbours). cond (is_clamped header samples width errors) (clamped_around b (unclamped header samples width errors)) (unclamped header samples width errors)) is

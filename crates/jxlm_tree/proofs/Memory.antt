@@ -1,4 +1,5 @@
 -- What holds also holds unless there was no memory.
+use Rattle.std.proofs.Common.{◌≡◌, ◌⊎◌, inl, inr, sym, subst}
 use Rattle.jxlm_base.specs.Fault.{Fault, Eof, BadEnum, BadProfile, BadTree, NoGlobalTree, BadRct, BadPalette, BadSqueeze, OfDecoder, NoMemory, UnlessMemory}
 use Rattle.jxlm_base.specs.declared.decoder.DecoderError.TheVariants.{UnexpectedEof, Invalid, OutOfMemory}
 
@@ -30,3 +31,13 @@ always_so (OfDecoder UnexpectedEof) h = h
 always_so (OfDecoder (Invalid k)) h = h
 always_so (OfDecoder OutOfMemory) h = tt
 always_so NoMemory h = tt
+
+-- a fact leads to another one, out of memory aside
+pub or_so : {M P Q : Type 0} → (P → Q) → M ⊎ P → M ⊎ Q
+or_so f (inl m) = inl m
+or_so f (inr h) = inr (f h)
+
+-- out of memory by this crate's own lists and nodes is out of memory
+pub own_so : (fault : Fault) {P Q : Type 0} → (P → Q) → (fault ≡ NoMemory) ⊎ P → UnlessMemory fault Q
+own_so fault {Q = Q} f (inl m) = subst (λ (e : Fault). UnlessMemory e Q) (sym m) tt
+own_so fault f (inr h) = always_so fault (f h)

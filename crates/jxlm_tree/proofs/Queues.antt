@@ -5,7 +5,7 @@ use Rattle.jxlm_base.specs.Fault.{Fault}
 use Rattle.jxlm_tree.specs.Queue.{HasTooDeep, IsRefusedAsTooDeep, IsRefusedInQueue, deepest, taken_up, too_deep}
 use Rattle.jxlm_tree.specs.Tree.{Shape, leaf, decision, Node, leaf_node, decision_node, depth}
 use Rattle.jxlm_tree.proofs.Listing.{queue_of}
-use Rattle.jxlm_tree.proofs.Memory.{unless_so}
+use Rattle.jxlm_tree.proofs.Memory.{or_so}
 
 module _ {L : Type 0} where
   pub deepest-append : (ts us : List (Shape L)) → deepest (ts ++ us) ≡ max (deepest ts) (deepest us)
@@ -27,7 +27,7 @@ module _ {L : Type 0} where
   -- a decision that is refused would stand in the queue
   pub refused_in_queue : (limit property : ℕ) (value : ℤ) (right left : Shape L) (rest : List (Shape L)) (fault : Fault) → IsRefusedAsTooDeep limit (decision property value left right) fault →
       IsRefusedInQueue limit (taken_up (decision_node property value) (right ∷ (left ∷ rest))) fault
-  refused_in_queue limit property value right left rest fault h = unless_so fault (has_too_deep limit property value right left rest fault) h
+  refused_in_queue limit property value right left rest fault h = or_so (has_too_deep limit property value right left rest fault) h
 
   -- a tree that is not too deep joins those that are not
   pub still_shallow : (limit : ℕ) (ts : List (Shape L)) (t : Shape L) → deepest ts ≤ limit → depth t ≤ limit → deepest (ts ++ t ∷ []) ≤ limit

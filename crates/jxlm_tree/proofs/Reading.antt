@@ -10,7 +10,7 @@ use Rattle.jxlm_tree.specs.Tree.{Shape, leaf, decision, Node, Config, leaf_node,
 use Rattle.jxlm_tree.specs.Queue.{IsTooDeepListing, ListsTooDeep}
 use Rattle.jxlm_tree.specs.TreeReading.{Draft, Drawn, Listing, with_clusters, leaf_count, children, through, node_at, nodes_at, drafts_at, listing_at, limit_fault, most_nodes, is_endless, IsTooDeep, IsTreeAt}
 use Rattle.jxlm_tree.specs.declared.flat.Leaf.{Leaf}
-use Rattle.jxlm_tree.proofs.Memory.{unless_so}
+use Rattle.jxlm_tree.proofs.Memory.{own_so}
 use Rattle.jxlm_tree.proofs.Listing.{Lists, lists-levels, levels-injective}
 
 bind_ok : {A B : Type 0} (r : Result A Refused) (f : A → Result B Refused) (y : B) → (r >>= f) ≡ Ok y → (x : A) × (r ≡ Ok x) × (f x ≡ Ok y)
@@ -122,4 +122,4 @@ module _ {S : Type 0} (d : Meaning S) (bytes : List ℕ) where
   pub too_deep_is_refused : (node_limit depth_limit p : ℕ) (ns : List (Node Leaf)) (decoder : S) (q : ℕ) (fault : Fault) → listing_at d bytes node_limit p ≡ Ok (record { value = record { nodes = ns; decoder = decoder }; position = q }) →
       IsTooDeepListing depth_limit ns fault → UnlessMemory fault (IsRefused (listing_at d bytes node_limit p) fault q ⊎ IsTooDeep d bytes node_limit depth_limit p fault q)
   too_deep_is_refused node_limit depth_limit p ns decoder q fault reads refused =
-      unless_so fault (λ (deep : ListsTooDeep depth_limit ns fault). inr (record { config = config_of deep.tree decoder; reads = rw deep.lists reads; beyond = deep.beyond; refusal = deep.refusal })) refused
+      own_so fault (λ (deep : ListsTooDeep depth_limit ns fault). inr (record { config = config_of deep.tree decoder; reads = rw deep.lists reads; beyond = deep.beyond; refusal = deep.refusal })) refused

@@ -11,7 +11,7 @@ use Rattle.jxlm_tree.specs.Tree.{AllLeaves, Shape, leaf, decision, Node, leaf_no
 use Rattle.jxlm_tree.specs.TreeReading.{Draft, IsLeafOf, leaf_count, with_clusters}
 use Rattle.jxlm_tree.specs.declared.flat.Leaf.{Leaf}
 use Rattle.jxlm_tree.proofs.Listing.{Lists, queue_of, queue_of-levels, queue_of-lists}
-use Rattle.jxlm_tree.proofs.Memory.{unless_so}
+use Rattle.jxlm_tree.proofs.Memory.{or_so}
 use Rattle.jxlm_tree.proofs.Queues.{queue_behind}
 
 -- ---- counts and leaves
@@ -123,7 +123,7 @@ module _ (clusters : List ℕ) where
   -- what is too deep in the queue is so in the tree
   pub too_deep_in_tree : (limit : ℕ) (t : Shape Leaf) (ns : List (Node Leaf)) (queue : Option (List (Shape Leaf))) (q : List (Shape Leaf)) (fault : Fault) → levels t ≡ ns → queue ≡ Some q → deepest q ≤ depth t →
       IsRefusedInQueue limit queue fault → IsTooDeepListing limit ns fault
-  too_deep_in_tree limit t ns queue q fault e is h refused = let now = rw is at refused in unless_so fault (too_deep_whole limit t ns q fault e h) now
+  too_deep_in_tree limit t ns queue q fault e is h refused = let now = rw is at refused in or_so (too_deep_whole limit t ns q fault e h) now
 
 leaf_count-append : (xs ys : List (Node Draft)) → leaf_count (xs ++ ys) ≡ leaf_count xs + leaf_count ys
 leaf_count-append [] ys = omega arith

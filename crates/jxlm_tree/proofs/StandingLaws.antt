@@ -1,6 +1,9 @@
 -- Where a state stands, and where after a sample more.
-use Rattle.std.proofs.Common.{◌≡◌, ℕ, ◌+◌, ◌*◌, ◌<◌, ◌≤◌, inl, inr, ℤ, List, length, Some, None, Option, ap, ◌∙◌}
+use Rattle.std.proofs.Common.{◌≡◌, ℕ, ◌+◌, ◌-◌, ◌*◌, ◌<◌, ◌≤◌, inl, inr, ℤ, List, length, reverse, get_or, Some, None, Option, sym, ap, ◌∙◌, arith}
+use Rattle.std.specs.Prelude.{slice_get}
 use Rattle.std.proofs.lemmas.Bool.{cases_lt}
+use Rattle.std.proofs.lemmas.List.{get_or-reverse, length-reverse, reverse-reverse}
+use Rattle.std.proofs.lemmas.Option.{slice_get-get_or}
 use Rattle.jxlm_tree.specs.Correcting.{Corrects, CorrectsBy, CorrectsBehind, CorrectsNext, HoldsColumn, IsMade, IsMadeBy}
 use Rattle.jxlm_tree.specs.Neighbours.{column, row}
 use Rattle.jxlm_tree.specs.Standing.{Setting, StandsAt, column_of, row_of, width_of, earlier_count}
@@ -47,4 +50,17 @@ module _ {S : Type 0} (state : PredictorState S) (s : Setting) (samples : List �
 
   -- as many earlier channels as it has
   pub stands_earlier : earlier_count state ≡ length s.earlier
-  stands_earlier = state.earlier.ok.0 ∙ ap length stands.same_earlier
+  stands_earlier = state.earlier.ok.0 ∙ ap length stands.same_earlier ∙ length-reverse s.earlier
+
+-- element k of a list that is kept the other way round
+pub reversed_at : {X : Type 0} (xs items : List X) (len k : ℕ) (x : X) → items ≡ reverse xs → len ≡ length xs → k < length xs → x ≡ get_or items (len - 1 - k) x → slice_get xs k ≡ Some x
+reversed_at xs items len k x is long near read =
+    let same = length-reverse xs in
+    slice_get-get_or xs k x near
+    ∙ ap Some (
+    ap (λ l. get_or l k x) (sym (reverse-reverse xs))
+    ∙ get_or-reverse (reverse xs) k x (omega (arith, same, near))
+    ∙ ap (λ n. get_or (reverse xs) (n - 1 - k) x) (same ∙ sym long)
+    ∙ ap (λ l. get_or l (len - 1 - k) x) (sym is)
+    ∙ sym read
+    )

@@ -1,10 +1,10 @@
 -- The errors of the self-correcting predictor as the code keeps them, and what it makes of a place.
-use Rattle.std.specs.Prelude.{◌≡◌, ℕ, zero, suc, ◌+◌, ◌-◌, ◌/◌, ◌%◌, ◌^◌, ◌<◌, ◌≤◌, ℤ, pos, ◌+ℤ◌, ◌-ℤ◌, ◌*ℤ◌, unsigned_abs, nat_lt, Bool, not, ◌&&◌, ◌||◌, if◌then◌else◌, List, map, length, slice_index_or, vec_len, Option, Some, None}
+use Rattle.std.specs.Prelude.{◌≡◌, ℕ, zero, suc, ◌+◌, ◌-◌, ◌*◌, ◌/◌, ◌%◌, ◌^◌, ◌<◌, ◌≤◌, ℤ, pos, ◌+ℤ◌, ◌-ℤ◌, ◌*ℤ◌, unsigned_abs, nat_lt, Bool, not, ◌&&◌, ◌||◌, if◌then◌else◌, List, map, length, slice_index_or, vec_len, Option, Some, None}
 use Rattle.std.specs.Int.{w32, int_wrap, int_shr, is_negative}
 use Rattle.std.specs.Option.{ForSome}
 use Rattle.std.specs.Ordering.{int_eq}
 use Rattle.jxlm_tree.specs.Around.{clamped_around}
-use Rattle.jxlm_tree.specs.Neighbours.{Neighbours}
+use Rattle.jxlm_tree.specs.Neighbours.{Neighbours, neighbours}
 use Rattle.jxlm_tree.specs.SelfCorrecting.{each, total, shifted, weight_of, reciprocal, west_error, north_error, north_west_error, north_east_error, error_sums, Four, Errors, no_errors, errors_at, errors_of, self_corrected, greatest_error, sub_predictions}
 use Rattle.jxlm_tree.specs.declared.predictor.WpHeader.{WpHeader}
 use Rattle.jxlm_tree.specs.declared.self_correcting.CellErrors.{CellErrors}
@@ -121,6 +121,11 @@ pub record CorrectsBy (c : Corrector) (header : WpHeader) (width x y : ℕ) (sam
   pub same_width : c.width ≡ width
   pub same_header : c.header ≡ header
   pub keeps : KeepsErrors width x y (cell_errors c.west) (cell_errors c.west_west) (map cell_errors c.previous.items) (map cell_errors c.current.items) (errors_of header samples width (length samples))
+
+-- it holds at (x, y) with these neighbours, of the corrector's weights, the width and the samples
+abbrev pub AtPlace : Corrector → ℕ → ℕ → Neighbours → (WpHeader → ℕ → List ℤ → Type 0) → Type 0
+AtPlace c x y around P = (header : WpHeader) (width : ℕ) (samples : List ℤ) → CorrectsBy c header width x y samples →
+    length samples ≡ y * width + x → around ≡ neighbours samples width → P header width samples
 
 -- the same at the place behind (x, y)
 abbrev pub CorrectsNext : Corrector → WpHeader → ℕ → ℕ → ℕ → List ℤ → Type 0

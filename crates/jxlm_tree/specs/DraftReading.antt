@@ -1,7 +1,9 @@
 -- What the steps of reading a tree answer.
-use Rattle.std.specs.Prelude.{◌≡◌, ℕ, zero, suc, ◌+◌, ◌<◌, ◌≤◌, ◌^◌, FitsSigned, List, [], ◌∷◌, Some, Result, Ok, Err}
+use Rattle.std.specs.Prelude.{◌≡◌, ◌⊎◌, ℕ, zero, suc, ◌+◌, ◌<◌, ◌≤◌, ◌^◌, FitsSigned, List, [], ◌∷◌, Some, Result, Ok, Err}
 use Rattle.std.specs.Int.{w32}
-use Rattle.jxlm_base.specs.Fault.{Refused, UnlessMemory, fault_of}
+use Rattle.jxlm_base.specs.Decoding.{Found}
+use Rattle.jxlm_base.specs.Fault.{NoMemory, Refused, fault_of}
+use Rattle.jxlm_base.specs.Grammar.{IsRefused}
 use Rattle.jxlm_base.specs.declared.error.Error.{Error}
 use Rattle.jxlm_tree.specs.Tree.{Node, leaf_node, decision_node}
 use Rattle.jxlm_tree.specs.TreeReading as reading
@@ -48,7 +50,12 @@ abbrev pub DrawnGives : {X Y S : Type 0} → (X → Y) → Result X Error → S 
 DrawnGives view (Ok x) t q reading = reading ≡ Ok (record { value = view x; state = t; position = q })
 DrawnGives view (Err e) t q reading = reading ≡ Err (record { fault = fault_of e; position = Some q })
 
--- the same where memory may be refused at any time
+-- the same, where the list of nodes may be out of memory at any time
 abbrev pub DrawnAnswers : {X Y S : Type 0} → (X → Y) → Result X Error → S → ℕ → Result (Drawn Y S) Refused → Type 0
 DrawnAnswers view (Ok x) t q reading = reading ≡ Ok (record { value = view x; state = t; position = q })
-DrawnAnswers view (Err e) t q reading = UnlessMemory (fault_of e) (reading ≡ Err (record { fault = fault_of e; position = Some q }))
+DrawnAnswers view (Err e) t q reading = (fault_of e ≡ NoMemory) ⊎ (reading ≡ Err (record { fault = fault_of e; position = Some q }))
+
+-- the same of a whole list, after which no decoder is left
+abbrev pub ListAnswers : {X Y : Type 0} → (X → Y) → Result X Error → ℕ → Result (Found Y) Refused → Type 0
+ListAnswers view (Ok x) q reading = reading ≡ Ok (record { value = view x; position = q })
+ListAnswers view (Err e) q reading = (fault_of e ≡ NoMemory) ⊎ IsRefused reading (fault_of e) q

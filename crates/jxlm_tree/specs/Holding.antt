@@ -1,5 +1,5 @@
 -- What the properties of a place hold.
-use Rattle.std.specs.Prelude.{◌≡◌, ℕ, ℤ, pos, ◌+ℤ◌, ◌-ℤ◌, List, [], ◌∷◌, map}
+use Rattle.std.specs.Prelude.{◌≡◌, ℕ, ℤ, pos, ◌+ℤ◌, ◌-ℤ◌, List, [], ◌∷◌, map, Option}
 use Rattle.std.specs.Int.{w32, int_wrap}
 use Rattle.jxlm_base.specs.Grid.{Grid}
 use Rattle.jxlm_base.specs.Numbers.{absolute}
@@ -9,6 +9,7 @@ use Rattle.jxlm_tree.specs.Correcting.{IsMade}
 use Rattle.jxlm_tree.specs.Neighbours.{Neighbours, neighbours}
 use Rattle.jxlm_tree.specs.Properties.{Surroundings, own_properties}
 use Rattle.jxlm_tree.specs.Standing.{Setting, StandsAt, IsReady}
+use Rattle.jxlm_tree.specs.declared.predictor.WpHeader.{WpHeader}
 use Rattle.jxlm_tree.specs.declared.properties.Properties.{Properties}
 use Rattle.jxlm_tree.specs.declared.state.PredictorState.{PredictorState}
 
@@ -48,6 +49,10 @@ module _ {S : Type 0} where
 
   abbrev pub store_of : Properties S → List (Grid S)
   store_of p = p.store.now
+
+  -- the value is what f makes of the weights, the samples and the width, wherever the state stands
+  abbrev pub IsOfPlace : Properties S → (Option WpHeader → List ℤ → ℕ → ℤ) → ℤ → Type 0
+  IsOfPlace p f value = (s : Setting) (samples : List ℤ) → StandsAt (state_of p) s samples → value ≡ f s.weights samples s.width
 
   -- They are the properties of the place at which the state stands, wherever that is.
   pub record IsCurrent (p : Properties S) : Type 0 where

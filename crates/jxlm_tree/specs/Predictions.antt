@@ -5,7 +5,7 @@ use Rattle.jxlm_base.specs.Fault.{BadEnum, bitstream_fault}
 use Rattle.jxlm_base.specs.Numbers.{clamped_gradient}
 use Rattle.jxlm_base.specs.declared.bits.BitstreamError.{BitstreamError}
 use Rattle.jxlm_tree.specs.Neighbours.{Neighbours, neighbours}
-use Rattle.jxlm_tree.specs.SelfCorrecting.{self_corrected}
+use Rattle.jxlm_tree.specs.SelfCorrecting.{self_corrected, self_unclamped}
 use Rattle.jxlm_tree.specs.declared.predictor.Predictor.{Predictor}
 use Rattle.jxlm_tree.specs.declared.predictor.Predictor.TheVariants.{Zero, West, North, AvgWestAndNorth, Select, Gradient, SelfCorrecting, NorthEast, NorthWest, WestWest, AvgWestAndNorthWest, AvgNorthAndNorthWest, AvgNorthAndNorthEast, AvgAll}
 use Rattle.jxlm_tree.specs.declared.predictor.WpHeader.{WpHeader}
@@ -40,6 +40,11 @@ prediction_from a p AvgAll = int_div (pos 6 *ℤ a.n -ℤ pos 2 *ℤ a.nn +ℤ p
 abbrev pub corrected : Option WpHeader → List ℤ → ℕ → ℤ
 corrected None samples width = pos 0
 corrected (Some weights) samples width = self_corrected weights samples width
+
+-- the same before it is clamped
+abbrev pub unclamped_correction : Option WpHeader → List ℤ → ℕ → ℤ
+unclamped_correction None samples width = pos 0
+unclamped_correction (Some weights) samples width = self_unclamped weights samples width
 
 -- the prediction at the place behind the samples, reduced to 32 bits
 abbrev pub prediction : Option WpHeader → List ℤ → ℕ → Predictor → ℤ

@@ -1,6 +1,6 @@
 -- How a tree comes from the end of its listing by a queue: a leaf goes to the back, and a decision takes its right and then its left tree from the front.
-use Rattle.std.specs.Prelude.{◌≡◌, ℕ, ◌<◌, max, List, [], ◌∷◌, ◌++◌, Option, None, Some, codes}
-use Rattle.jxlm_base.specs.Fault.{Fault, BadProfile, UnlessMemory}
+use Rattle.std.specs.Prelude.{◌≡◌, ◌⊎◌, ℕ, ◌<◌, max, List, [], ◌∷◌, ◌++◌, Option, None, Some, codes}
+use Rattle.jxlm_base.specs.Fault.{Fault, BadProfile, NoMemory}
 use Rattle.jxlm_tree.specs.Tree.{Shape, leaf, decision, Node, leaf_node, decision_node, depth, levels}
 
 module _ {L : Type 0} where
@@ -20,9 +20,9 @@ module _ {L : Type 0} where
 abbrev pub too_deep : Fault
 too_deep = BadProfile (codes "decoded MA tree is too deep")
 
--- this tree is too deep, or there was no memory
+-- this tree is too deep, or out of memory
 abbrev pub IsRefusedAsTooDeep : {L : Type 0} → ℕ → Shape L → Fault → Type 0
-IsRefusedAsTooDeep limit t fault = UnlessMemory fault ((fault ≡ too_deep) × (limit < depth t))
+IsRefusedAsTooDeep limit t fault = (fault ≡ NoMemory) ⊎ ((fault ≡ too_deep) × (limit < depth t))
 
 -- a tree of the queue is too deep
 pub record HasTooDeep {L : Type 0} (limit : ℕ) (queue : Option (List (Shape L))) (fault : Fault) : Type 0 where
@@ -32,7 +32,7 @@ pub record HasTooDeep {L : Type 0} (limit : ℕ) (queue : Option (List (Shape L)
   pub beyond : limit < deepest trees
 
 abbrev pub IsRefusedInQueue : {L : Type 0} → ℕ → Option (List (Shape L)) → Fault → Type 0
-IsRefusedInQueue limit queue fault = UnlessMemory fault (HasTooDeep limit queue fault)
+IsRefusedInQueue limit queue fault = (fault ≡ NoMemory) ⊎ HasTooDeep limit queue fault
 
 -- the tree of this listing is too deep
 pub record ListsTooDeep {L : Type 0} (limit : ℕ) (listing : List (Node L)) (fault : Fault) : Type 0 where
@@ -42,4 +42,4 @@ pub record ListsTooDeep {L : Type 0} (limit : ℕ) (listing : List (Node L)) (fa
   pub beyond : limit < depth tree
 
 abbrev pub IsTooDeepListing : {L : Type 0} → ℕ → List (Node L) → Fault → Type 0
-IsTooDeepListing limit listing fault = UnlessMemory fault (ListsTooDeep limit listing fault)
+IsTooDeepListing limit listing fault = (fault ≡ NoMemory) ⊎ ListsTooDeep limit listing fault

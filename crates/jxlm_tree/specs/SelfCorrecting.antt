@@ -208,6 +208,10 @@ module _ (header : WpHeader) where
   abbrev pub self_corrected : List ℤ → ℕ → ℤ
   self_corrected samples width = predicted samples width (errors_of samples width (length samples))
 
+  -- the same before it is clamped
+  abbrev pub self_unclamped : List ℤ → ℕ → ℤ
+  self_unclamped samples width = unclamped samples width (errors_of samples width (length samples))
+
   -- and the greatest error
   abbrev pub greatest_error : List ℤ → ℕ → ℤ
   greatest_error samples width = greatest_at (errors_of samples width (length samples)) width (column samples width) (row samples width)

@@ -1,5 +1,5 @@
 -- Where a predictor's state stands.
-use Rattle.std.specs.Prelude.{◌≡◌, ℕ, ◌+◌, ◌^◌, ◌<◌, ◌≤◌, ℤ, List, Option, All, vec_len, vec_capacity}
+use Rattle.std.specs.Prelude.{◌≡◌, ℕ, ◌+◌, ◌^◌, ◌<◌, ◌≤◌, ℤ, List, reverse, Option, All, vec_len, vec_capacity}
 use Rattle.jxlm_base.specs.Grid.{Grid}
 use Rattle.jxlm_base.specs.Regions.{Lies}
 use Rattle.jxlm_base.specs.declared.subgrid.Region.{Region}
@@ -18,10 +18,14 @@ pub record Setting : Type 0 where
 abbrev pub setting : ℕ → Option WpHeader → List Region → Setting
 setting w h e = record { width = w; weights = h; earlier = e }
 
+-- the regions of the state's earlier channels, the nearest first
+abbrev pub HasEarlier : {S : Type 0} → PredictorState S → List Region → Type 0
+HasEarlier state earlier = state.earlier.items ≡ reverse earlier
+
 -- the state is the one behind these samples of a channel, in row order
 pub record StandsAt {S : Type 0} (state : PredictorState S) (s : Setting) (samples : List ℤ) : Type 0 where
   pub same_width : state.width ≡ s.width
-  pub same_earlier : state.earlier.items ≡ s.earlier
+  pub same_earlier : HasEarlier state s.earlier
   pub rolls : Rolls s.width state.x state.y state.w state.n state.nw state.gradient state.previous.items state.current.items samples
   pub corrects : Corrects state.corrector s.weights s.width state.x state.y samples
 

@@ -1,8 +1,8 @@
 -- How a tree is read (ISO/IEC 18181-1, Modular: decoding of meta-adaptive trees), by what a decoder means.
-use Rattle.std.specs.Prelude.{◌≡◌, ℕ, zero, suc, ◌+◌, ◌-◌, ◌*◌, ◌^◌, ◌<◌, ◌≤◌, ◌⊎◌, min, nat_lt, if◌then◌else◌, ℤ, FitsSigned, List, [], ◌∷◌, slice_get, slice_index, Contains, Bool, true, false, Option, None, Some, Result, Ok, Err, codes}
+use Rattle.std.specs.Prelude.{◌≡◌, ℕ, zero, suc, ◌+◌, ◌-◌, ◌*◌, ◌^◌, ◌<◌, ◌≤◌, ◌⊎◌, min, nat_lt, if◌then◌else◌, ℤ, FitsSigned, List, [], ◌∷◌, slice_get, slice_index, Contains, Bool, true, false, Option, None, Some, Result, Ok, Err, IsOk, codes}
 use Rattle.std.specs.Int.{w32}
 use Rattle.jxlm_base.specs.Decoding.{Found, Taken, Meaning}
-use Rattle.jxlm_base.specs.Fault.{Fault, BadEnum, BadProfile, BadTree, OfDecoder, Refused, fault_of, UnlessMemory, ◌>>=◌}
+use Rattle.jxlm_base.specs.Fault.{Fault, BadEnum, BadProfile, BadTree, NoMemory, OfDecoder, Refused, fault_of, UnlessMemory, ◌>>=◌}
 use Rattle.jxlm_base.specs.Grammar.{IsRefused}
 use Rattle.jxlm_base.specs.Numbers.{unpack}
 use Rattle.jxlm_base.specs.declared.decoder.DecoderError.{DecoderError}
@@ -165,6 +165,11 @@ module _ {S : Type 0} (d : Meaning S) (bytes : List ℕ) where
       value = record { nodes = with_clusters (d.cluster_map leaves.value) 0 nodes.value; decoder = leaves.value };
       position = leaves.position;
     })
+
+  -- The tree's own lists and nodes are out of memory only after the decoder of its nodes was read.
+  abbrev pub MemoryGives : {X : Type 0} → ℕ → Result X Error → Type 0
+  MemoryGives p (Ok x) = Unit {0}
+  MemoryGives p (Err e) = fault_of e ≡ NoMemory → IsOk (d.parse bytes p 6)
 
   module _ (node_limit depth_limit : ℕ) (p : ℕ) where
     -- at place p stand the nodes of this tree, level by level, and the decoder of its leaves' clusters, up to place q

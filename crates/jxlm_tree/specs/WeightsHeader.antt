@@ -6,7 +6,7 @@ use Rattle.jxlm_base.specs.Grammar.{Grammar, IsRefused, number, flag, give, eith
 use Rattle.jxlm_base.specs.declared.error.Error.{Error}
 use Rattle.jxlm_tree.specs.declared.predictor.WpHeader.{WpHeader}
 
--- the usual weights
+-- the default weights
 abbrev pub default_weights : WpHeader
 default_weights = record { default_wp = true; wp_p1 = 16; wp_p2 = 10; wp_p3a = 7; wp_p3b = 7; wp_p3c = 7; wp_p3d = 0; wp_p3e = 0; wp_w0 = 13; wp_w1 = 12; wp_w2 = 12; wp_w3 = 12 }
 
@@ -26,11 +26,11 @@ listed_weights = do
   w3 ← number 4
   give (record { default_wp = false; wp_p1 = p1; wp_p2 = p2; wp_p3a = p3a; wp_p3b = p3b; wp_p3c = p3c; wp_p3d = p3d; wp_p3e = p3e; wp_w0 = w0; wp_w1 = w1; wp_w2 = w2; wp_w3 = w3 })
 
--- a flag, and behind it the weights where they are not the usual ones
+-- a flag, and after it the weights where they are not the default ones
 abbrev pub wp_header : Grammar WpHeader
 wp_header = do
-  usual ← flag
-  either usual (give default_weights) listed_weights
+  is_default ← flag
+  either is_default (give default_weights) listed_weights
 
 -- What a call that takes no memory answered, and where it left the reader, is what reading gives.
 abbrev pub AnswersExactly : {X : Type 0} → Result X Error → ℕ → Result (Found X) Refused → Type 0

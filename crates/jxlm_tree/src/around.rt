@@ -108,25 +108,3 @@ impl Around {
         low.max(value.min(high))
     }
 }
-
-#[cfg(test)]
-mod tests {
-    use super::*;
-
-    // Toward zero, also below it.
-    #[test]
-    fn averages(rt: HostRuntime) {
-        let all = Around {
-            w: -1,
-            n: -1,
-            nw: -1,
-            ne: -1,
-            nee: -1,
-            nn: -1,
-            ww: -1,
-        };
-        assert_eq!(rt; all.prediction(0, Predictor::AvgAll), 0);
-        let two = Around { w: -3, n: 0, ..all };
-        assert_eq!(rt; two.prediction(0, Predictor::AvgWestAndNorth), -1);
-    }
-}

@@ -3,6 +3,7 @@
 
 mod around;
 mod build;
+pub mod eighths;
 pub mod flat;
 pub mod ma;
 mod nodes;

@@ -3,8 +3,7 @@
 ghost use Rattle.std.specs.Prelude.{◌≡◌, ◌≤◌, ◌<◌, ◌^◌, ℕ, length, map, slice_index, IfOk, IfErr};
 ghost use Rattle.jxlm_base.specs.Bits.{bytes_of, position_of};
 ghost use Rattle.jxlm_base.specs.Fault.{fault_of};
-ghost use Rattle.jxlm_base.specs.Grammar.{Answers};
-ghost use Rattle.jxlm_tree.specs.DraftReading.{AllDrafts, DrawnAnswers, DrawnGives, IsDraft, IsDraftNode, ListsTrees, draft_of, node_of};
+ghost use Rattle.jxlm_tree.specs.DraftReading.{AllDrafts, DrawnAnswers, DrawnGives, IsDraft, IsDraftNode, ListAnswers, ListsTrees, draft_of, node_of};
 ghost use Rattle.jxlm_tree.specs.TreeReading.{children as children_of, drafts_at, is_endless as has_no_end, leaf_at, limit_fault, most_nodes, multiplier_at, node_at, nodes_at, predictor_at, read_context as token_of};
 
 use crate::flat::Leaf;
@@ -80,7 +79,7 @@ pub fn read_tree<D: Decoder>(
 ) -> Result<Vec<DraftNode>>
     requires contexts { length (D.meaning.cluster_map decoder.old) ≡ 6 }
     requires nodes { node_limit ≤ 2 ^ 26 }
-    ensures gives { Answers (λ x. map node_of x.items) result (position_of bits.new) (drafts_at D.meaning (bytes_of bits.old) node_limit decoder.old (position_of bits.old)) }
+    ensures gives { ListAnswers (λ x. map node_of x.items) result (position_of bits.new) (drafts_at D.meaning (bytes_of bits.old) node_limit decoder.old (position_of bits.old)) }
     ensures within { IfOk result (λ x. AllDrafts (map node_of x.items)) }
     ensures listing { IfOk result (λ x. ListsTrees 1 (map node_of x.items)) }
     ensures count { IfOk result (λ x. length x.items ≤ 2 ^ 26) }

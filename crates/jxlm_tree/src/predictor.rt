@@ -8,7 +8,7 @@ ghost use Rattle.jxlm_tree.specs.Predictions.{prediction};
 ghost use Rattle.jxlm_tree.specs.SelfCorrecting.{IsHeader};
 ghost use Rattle.jxlm_tree.specs.SelfCorrectingRanges.{AlwaysInRange};
 ghost use Rattle.jxlm_tree.specs.Standing.{Setting, StandsAt};
-ghost use Rattle.jxlm_tree.specs.WeightsHeader.{AnswersExactly, default_weights, listed_weights, wp_header};
+ghost use Rattle.jxlm_tree.specs.WeightsHeader.{AnswersExactly, listed_weights, wp_header};
 
 pub use crate::properties::Properties;
 use crate::reduced::reduced;
@@ -102,7 +102,7 @@ impl Predictor {
 /// Of a header that was read, `wp_p1` to `wp_p3e` are at most 31 and `wp_w0` to `wp_w3` at most 15.
 #[derive(Clone, Copy)]
 pub struct WpHeader {
-    /// Whether the weights are the usual ones, which the header then does not list.
+    /// Whether the weights are the default ones, which the header then does not list.
     pub default_wp: bool,
     /// How much the second sub-prediction heeds the true errors around.
     pub wp_p1: u32,
@@ -128,27 +128,14 @@ pub struct WpHeader {
     pub wp_w3: u32,
 }
 
-impl WpHeader {
-    /// The weights that stand at the reader's place: a flag, and behind it, where it says that they
-    /// are not the usual ones, seven numbers of 5 bits and four of 4 bits.
-    ///
-    /// A cut input is refused by `UnexpectedEof`, and the reader stands behind the last field that
-    /// was read whole.
-    pub fn parse(bits: &mut Bitstream<'_>) -> Result<WpHeader>
-        ensures gives { AnswersExactly result (position_of bits.new) (wp_header.read (bytes_of bits.old) (position_of bits.old)) }
-        ensures ranges { IfOk result (λ h. IsHeader h) }
-        ensures bytes { bytes_of bits.new ≡ bytes_of bits.old }
-    {
-        if bits.read_bool()? {
-            return Ok(WpHeader::usual());
-        }
-        let listed = WpHeader::listed(bits)?;
-        Ok(listed)
-    }
+impl Default for WpHeader {
+    ghost use Rattle.std.specs.Prelude.{◌≡◌};
+    ghost use Rattle.jxlm_tree.specs.WeightsHeader.{default_weights};
 
-    fn usual() -> WpHeader
-        ensures { result ≡ default_weights }
-    {
+    ghost is_default = { λ h. h ≡ default_weights };
+
+    /// The default weights, those of a header that lists none: `default_wp` is true.
+    fn default() -> WpHeader {
         WpHeader {
             default_wp: true,
             wp_p1: 16,
@@ -163,6 +150,26 @@ impl WpHeader {
             wp_w2: 12,
             wp_w3: 12,
         }
+    }
+}
+
+impl WpHeader {
+    /// Reads the weights at the reader's position: a flag and, where it is not set, seven numbers of 5 bits and four of 4 bits.
+    /// Where it is set, the weights are the default ones.
+    ///
+    /// # Errors
+    ///
+    /// `UnexpectedEof` where the input is truncated: the reader is then after the last whole field.
+    pub fn parse(bits: &mut Bitstream<'_>) -> Result<WpHeader>
+        ensures gives { AnswersExactly result (position_of bits.new) (wp_header.read (bytes_of bits.old) (position_of bits.old)) }
+        ensures ranges { IfOk result (λ h. IsHeader h) }
+        ensures bytes { bytes_of bits.new ≡ bytes_of bits.old }
+    {
+        if bits.read_bool()? {
+            return Ok(WpHeader::default());
+        }
+        let listed = WpHeader::listed(bits)?;
+        Ok(listed)
     }
 
     fn field(bits: &mut Bitstream<'_>, n: u32) -> std::result::Result<u32, BitstreamError>
@@ -207,72 +214,3 @@ pub fn self_correcting_stays_in_range()
 pub fn weights_are_read_exactly()
     ensures { IsExact wp_header }
 {}
-
-#[cfg(test)]
-mod tests {
-    use super::*;
-    use jxlm_base::error::Error;
-    use std::test::Fail;
-
-    #[test]
-    fn numbers_of_predictors(rt: HostRuntime) {
-        assert_eq!(rt; Predictor::try_from(5), Ok(Predictor::Gradient));
-        assert_eq!(rt; Predictor::try_from(13), Ok(Predictor::AvgAll));
-        assert_eq!(rt;
-            Predictor::try_from(14),
-            Err(BitstreamError::InvalidEnum {
-                name: "MaProperty",
-                value: 14,
-            })
-        );
-        assert_eq!(rt; Predictor::default(), Predictor::Zero);
-    }
-
-    #[test]
-    fn usual_weights(rt: HostRuntime) -> std::result::Result<(), Fail> {
-        let mut bits = Bitstream::new(&[0x01]);
-        let header = WpHeader::parse(&mut bits)?;
-        assert_eq!(rt; bits.position(), 1);
-        assert!(rt; header.default_wp);
-        assert_eq!(rt; [header.wp_p1, header.wp_p2], [16, 10]);
-        assert_eq!(rt; [header.wp_p3a, header.wp_p3b, header.wp_p3c], [7, 7, 7]);
-        assert_eq!(rt; [header.wp_p3d, header.wp_p3e], [0, 0]);
-        assert_eq!(rt;
-            [header.wp_w0, header.wp_w1, header.wp_w2, header.wp_w3],
-            [13, 12, 12, 12]
-        );
-        Ok(())
-    }
-
-    #[test]
-    fn listed_weights(rt: HostRuntime) -> std::result::Result<(), Fail> {
-        let bytes = [0x7e, 0x10, 0x83, 0x14, 0xf3, 0x87, 0x09];
-        let mut bits = Bitstream::new(&bytes);
-        let header = WpHeader::parse(&mut bits)?;
-        assert_eq!(rt; bits.position(), 52);
-        assert!(rt; !header.default_wp);
-        assert_eq!(rt; [header.wp_p1, header.wp_p2], [31, 1]);
-        assert_eq!(rt; [header.wp_p3a, header.wp_p3b, header.wp_p3c], [2, 3, 4]);
-        assert_eq!(rt; [header.wp_p3d, header.wp_p3e], [5, 6]);
-        assert_eq!(rt;
-            [header.wp_w0, header.wp_w1, header.wp_w2, header.wp_w3],
-            [15, 7, 8, 9]
-        );
-        Ok(())
-    }
-
-    // Cut inside the sixth number.
-    #[test]
-    fn cut_weights(rt: HostRuntime) {
-        let mut bits = Bitstream::new(&[0x7e, 0x10, 0x83, 0x14]);
-        let refused = Error::Bitstream(BitstreamError::UnexpectedEof);
-        assert_eq!(rt; WpHeader::parse(&mut bits).err(), Some(refused));
-        assert_eq!(rt; bits.position(), 31);
-    }
-
-    #[test]
-    fn laws() {
-        self_correcting_stays_in_range();
-        weights_are_read_exactly();
-    }
-}

@@ -100,9 +100,12 @@ impl<S: Sample> Properties<'_, S> {
         requires { IsCurrent self.now }
         ensures { (s : Setting) (samples : List ℤ) → StandsAt (state_of self.now) s samples → result ≡ int_wrap w32 (earlier_property (surroundings s (store_meanings S.to_int (store_of self.now)) samples) number) }
     {
-        match self.state.earlier.get(number / 4) {
-            Some(region) => self.of_region(*region, number % 4),
-            None => 0,
+        let earlier = &self.state.earlier;
+        let nearer = number / 4;
+        if nearer < earlier.len() {
+            self.of_region(earlier[earlier.len() - 1 - nearer], number % 4)
+        } else {
+            0
         }
     }
 
@@ -187,67 +190,5 @@ impl<S> Properties<'_, S> {
             own: _,
         } = self;
         state.advance(sample, correction);
-    }
-}
-
-#[cfg(test)]
-mod tests {
-    use super::*;
-    use crate::predictor::{Predictor, WpHeader};
-    use jxlm_base::bits::Bitstream;
-    use jxlm_base::region::region_set;
-    use std::test::Fail;
-
-    // Width 3 and the usual weights, in a state with more room: what is made of the place behind a sample of 1.
-    #[test]
-    fn self_correcting_row(rt: HostRuntime) -> Result<(), Fail> {
-        let header = WpHeader::parse(&mut Bitstream::new(&[0x01]))?;
-        let mut state: PredictorState<i32> = PredictorState::with_room(
-            rt.alloc(),
-            5,
-            0,
-            Some(&header),
-        )?;
-        state.restart(3);
-        state.properties::<true>(&[]).record(1);
-        let second = state.properties::<true>(&[]);
-        assert_eq!(rt; [second.get(2), second.get(3), second.get(15)], [0, 1, -8]);
-        assert_eq!(rt; PredictionResult::eightfold(&second.correction), 8);
-        assert_eq!(rt; Predictor::SelfCorrecting.predict(&second), 1);
-        Ok(())
-    }
-
-    // Behind a channel of width 3 one of width 4, beside an earlier one whose first cell is 5: nothing of the first is left.
-    #[test]
-    fn another_channel(rt: HostRuntime) -> Result<(), Fail> {
-        let header = WpHeader::parse(&mut Bitstream::new(&[0x01]))?;
-        let mut store = vec![in rt.alloc(); AlignedGrid::<i32>::new(rt.alloc(), 4, 1)?]?;
-        let region = Region {
-            buffer: 0,
-            x: 0,
-            y: 0,
-            width: 4,
-            height: 1,
-        };
-        region_set(&mut store, region, 0, 0, -5);
-        let mut state: PredictorState<i32> = PredictorState::with_room(
-            rt.alloc(),
-            4,
-            1,
-            Some(&header),
-        )?;
-        state.restart(3);
-        state.properties::<true>(&[]).record(-1000);
-        state.restart(4);
-        state.add_earlier(region);
-        let first = state.properties::<true>(&store);
-        for property in 2..16 {
-            assert_eq!(rt; first.get(property), 0, "at {property}");
-        }
-        assert_eq!(rt; [first.get(16), first.get(17)], [5, -5]);
-        assert_eq!(rt; [first.get(18), first.property(19)], [5, -5]);
-        assert_eq!(rt; first.get(20), 0);
-        assert_eq!(rt; Predictor::SelfCorrecting.predict(&first), 0);
-        Ok(())
     }
 }

@@ -393,9 +393,9 @@ impl PredictionResult {
 
 impl Corrector {
     ghost use Rattle.jxlm_tree.specs.Around.{seen};
-    ghost use Rattle.jxlm_tree.specs.Correcting.{AreErrorsAt, Corrects, CorrectsBehind, CorrectsBy, CorrectsNext, HasRows, HoldsColumn, IsMade, IsMadeBy, cell_errors, header_of, counted, errors_above, errors_above_left, errors_above_right, sums_from};
+    ghost use Rattle.jxlm_tree.specs.Correcting.{AreErrorsAt, AtPlace, Corrects, CorrectsBehind, CorrectsBy, CorrectsNext, HasRows, HoldsColumn, IsMade, IsMadeBy, cell_errors, header_of, counted, errors_above, errors_above_left, errors_above_right, sums_from};
     ghost use Rattle.jxlm_tree.specs.declared.predictor.WpHeader.{WpHeader};
-    ghost use Rattle.jxlm_tree.specs.Neighbours.{neighbours};
+    ghost use Rattle.jxlm_tree.specs.SelfCorrecting.{self_unclamped};
 
     /// Rows for channels up to this width.
     pub(crate) fn with_room(
@@ -443,10 +443,20 @@ impl Corrector {
     ) -> PredictionResult
         requires in_row { x < self.now.width }
         requires inner { EDGE ≡ false → (2 ≤ y) × (2 ≤ x) × (x + 2 < self.now.width) }
-        ensures { (header : WpHeader) (width : ℕ) (samples : List ℤ) → CorrectsBy self.now header width x y samples → length samples ≡ y * width + x → seen around.now ≡ neighbours samples width → IsMadeBy result header width samples }
+        ensures { AtPlace self.now x y (seen around.now) (IsMadeBy result) }
     {
         let errors = self.errors_around::<EDGE>(x, y);
         PredictionResult::of_place(&self.header, around, &errors)
+    }
+
+    /// The prediction in eighths before its clamp, at column `x` of row `y` with these neighbours.
+    pub(crate) fn unclamped(&self, x: usize, y: usize, around: &Around) -> i64
+        requires { x < self.now.width }
+        ensures { AtPlace self.now x y (seen around.now) (λ h w s. result ≡ self_unclamped h s w) }
+    {
+        let errors = self.errors_around::<true>(x, y);
+        let subpred = SubPredictions::of_place(&self.header, around, &errors);
+        subpred.weighted(&errors.sums.weights(&self.header))
     }
 
     fn above<const EDGE: bool>(&self, x: usize, y: usize) -> CellErrors

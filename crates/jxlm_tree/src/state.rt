@@ -31,6 +31,7 @@ pub struct PredictorState<S> {
     pub(crate) gradient: i32,
     pub(crate) previous: Vec<i32>,
     pub(crate) current: Vec<i32>,
+    // The nearest last.
     pub(crate) earlier: Vec<Region>,
     pub(crate) corrector: Option<Corrector>,
     marker: PhantomData<S>,
@@ -42,7 +43,7 @@ pub struct PredictorState<S> {
 }
 
 impl<S> PredictorState<S> {
-    ghost use Rattle.jxlm_tree.specs.Standing.{Setting, StandsAt, Stands, IsInner, RollsIn, KeepsSetting, HasSameRoom, IsNext, setting, room_of, earlier_room_of, earlier_count, weights_of};
+    ghost use Rattle.jxlm_tree.specs.Standing.{Setting, StandsAt, Stands, HasEarlier, IsInner, RollsIn, KeepsSetting, HasSameRoom, IsNext, setting, room_of, earlier_room_of, earlier_count, weights_of};
     ghost use Rattle.jxlm_tree.specs.Neighbours.{neighbours, north_east, north_east_east, north_north, west_west};
     ghost use Rattle.jxlm_tree.specs.Around.{seen};
     ghost use Rattle.jxlm_tree.specs.Correcting.{IsMade};
@@ -71,11 +72,15 @@ impl<S> PredictorState<S> {
         }
     }
 
-    /// Stands before the first sample of a channel of this width, from 1 to 2^30.
+    /// Puts the state before the first sample of a channel of this width, from 1 to 2^30.
     ///
     /// `earlier` are the regions of the earlier channels of equal size, the nearest first. The self-correcting predictor and
-    /// property 15 want weights, those of a header that was read. All memory for the channel is taken here; where it is
-    /// refused, the answer is `Error::Buffer` and the state is as before.
+    /// property 15 need weights: those of a header that was read, or the default ones. All memory for the channel is
+    /// allocated here.
+    ///
+    /// # Errors
+    ///
+    /// `Buffer` where memory runs out, and no other; the state is then as before.
     pub fn reset(
         &mut self,
         width: u32,
@@ -87,6 +92,7 @@ impl<S> PredictorState<S> {
         requires weights { ForSome (option_copied wp_header) IsHeader }
         ensures ok { IfOk result (λ _. StandsAt self.new (setting width (option_copied wp_header.entry) earlier.now) []) }
         ensures err { OnErr result (self.new ≡ self.old) }
+        ensures memory { IfErr result (λ e. fault_of e ≡ NoMemory) }
     {
         *self = PredictorState::standing(self.alloc, width, earlier, wp_header)?;
         Ok(())
@@ -104,15 +110,20 @@ impl<S> PredictorState<S> {
         ensures { IfOk result (λ s. StandsAt s (setting width (option_copied wp_header.entry) earlier.now) []) }
     {
         let mut state = PredictorState::roomy(alloc, width, 0, wp_header)?;
-        state.restart(width);
         state.earlier = Vec::from_slice(alloc, earlier)?;
+        state.earlier.reverse();
+        state.begin(width);
         Ok(state)
     }
 
-    /// A state that stands nowhere, with memory for each channel up to the width `widest`, at most 2^30, beside up to so many
-    /// earlier ones, and with these weights: `restart` and `add_earlier` then take no memory.
+    /// A state that is at no channel yet, with memory for each channel up to the width `widest`, at most 2^30, with up to
+    /// `earlier` earlier ones, and with these weights: `restart`, `restart_alike` and `add_earlier` then allocate nothing.
     ///
-    /// The weights are those of a header that was read. Where memory is refused, the answer is `Error::Buffer`.
+    /// The weights are those of a header that was read, or the default ones.
+    ///
+    /// # Errors
+    ///
+    /// `Buffer` where memory runs out, and no other.
     pub fn with_room(
         alloc: Global,
         widest: u32,
@@ -173,6 +184,28 @@ impl<S> PredictorState<S> {
         ensures none { earlier_count self.new ≡ 0 }
         ensures room { HasSameRoom self.old self.new }
     {
+        self.earlier.clear();
+        self.begin(width);
+    }
+
+    /// Stands before the first sample of another channel of the same width, with weights and earlier channels as they are.
+    pub fn restart_alike(&mut self)
+        requires stands { Stands self.old }
+        ensures stands { (s : Setting) (samples : List ℤ) → StandsAt self.old s samples → StandsAt self.new (setting s.width (weights_of self.old) s.earlier) [] }
+        ensures same { earlier_count self.new ≡ earlier_count self.old }
+        ensures room { HasSameRoom self.old self.new }
+    {
+        self.begin(self.width);
+    }
+
+    // Before the first sample of a channel of this width; the earlier channels stay.
+    fn begin(&mut self, width: u32)
+        requires some { 0 < width }
+        requires roomy { width ≤ room_of self.old }
+        ensures stands { (earlier : List Region) → HasEarlier self.old earlier → StandsAt self.new (setting width (weights_of self.old) earlier) [] }
+        ensures same { earlier_count self.new ≡ earlier_count self.old }
+        ensures room { HasSameRoom self.old self.new }
+    {
         self.width = width;
         self.x = 0;
         self.y = 0;
@@ -180,16 +213,15 @@ impl<S> PredictorState<S> {
         self.n = 0;
         self.nw = 0;
         self.gradient = 0;
-        self.earlier.clear();
         Corrector::restart_where_kept(&mut self.corrector, width);
     }
 
-    /// One earlier channel more, behind those that are nearer: the region of one that is as large as the channel.
+    /// One earlier channel more, nearer than those before: the region of one that is as large as the channel.
     ///
     /// There is room for it.
     pub fn add_earlier(&mut self, region: Region)
         requires { earlier_count self.old < earlier_room_of self.old }
-        ensures stands { (s : Setting) (samples : List ℤ) → StandsAt self.old s samples → StandsAt self.new (setting s.width s.weights (s.earlier ++ region ∷ [])) samples }
+        ensures stands { (s : Setting) (samples : List ℤ) → StandsAt self.old s samples → StandsAt self.new (setting s.width s.weights (region ∷ s.earlier)) samples }
         ensures more { earlier_count self.new ≡ earlier_count self.old + 1 }
         ensures room { HasSameRoom self.old self.new }
     {

@@ -1,18 +1,23 @@
--- The parameters of a command are valid, and a picture at the start of the input is one at place 0 of its bytes.
-use Rattle.std.proofs.Common.{◌≡◌, ℕ, ℤ, ◌≤◌, ◌^◌, List, length, refl, arith, ◌∙◌, sym, ap, subst}
-use Rattle.std.specs.Prelude.{replicate, Option, Result}
+-- The parameters of a command are valid, and its channels are those that it asks for.
+use Rattle.std.proofs.Common.{◌≡◌, ℕ, zero, suc, pos, ◌≤◌, ◌%◌, ◌^◌, List, ◌∷◌, length, map, ℤ, refl, arith, ◌∙◌, sym, ap, subst}
+use Rattle.std.specs.Prelude.{replicate}
 use Rattle.std.specs.List.{All}
-use Rattle.std.specs.Int.{Width}
+use Rattle.std.specs.Int.{Width, div_ceil}
+use Rattle.std.proofs.Math.Nat.{div-one}
 use Rattle.std.proofs.lemmas.List.{length-replicate}
 use Rattle.std.proofs.lemmas.List.Elements.{All-replicate}
-use Rattle.jxlm_base.specs.Decoding.{Meaning}
-use Rattle.jxlm_base.specs.declared.error.Error.{Error}
 use Rattle.jxlm_transform.specs.Params.{IsValidParams, IsValidChannel, IsSide, sized}
 use Rattle.jxlm_transform.specs.declared.param.ChannelShift.TheVariants.{Shifts}
 use Rattle.jxlm_transform.specs.declared.param.ModularChannelParams.{ModularChannelParams}
 use Rattle.jxlm_transform.specs.declared.param.ModularParams.{ModularParams}
-use Rattle.jxl_modular.specs.Image.{Image}
-use Rattle.jxl_modular.specs.Picture.{PictureGives}
+use Rattle.jxlm_transform.specs.Channels.{Channel, ChannelList, image_channel, image_list}
+use Rattle.jxlmod.specs.Drawing.{IsPictureError, channels_asked}
+use Rattle.jxlm_base.specs.Fault.{NoMemory, fault_of}
+use Rattle.jxlm_base.specs.Grid.{Grid}
+use Rattle.jxlm_base.specs.Plain.{plain}
+use Rattle.jxlm_base.specs.declared.error.Error.{Error}
+use Rattle.jxl_modular.specs.Picture.{IsPicture, PictureFails}
+use Rattle.jxl_modular.proofs.PictureLaws.{no_memory}
 
 pub valid_params : {D : Type 0} (width height channels bit_depth : ℕ) (p : ModularParams D) → p.group_dim ≡ 256 → p.bit_depth ≡ bit_depth →
     p.channels.items ≡ replicate channels (sized width height (Shifts 0)) → channels ≤ 2 ^ 20 → bit_depth ≤ 32 → IsSide width → IsSide height → IsValidParams p
@@ -27,10 +32,44 @@ valid_params width height channels bit_depth p g b is many deep wide high =
       channels = subst (All IsValidChannel) (sym is) (All-replicate IsValidChannel channels (sized width height (Shifts 0)) one);
     }
 
-pub moved : {S D : Type 0} (d : Meaning D) (w : Width) (to_int : S → ℤ) (bytes bytes' : List ℕ) (stream : ℕ) (zero : S) (p p' : ℕ) (params : ModularParams D) (list : List ModularChannelParams)
-    (r r' : Result (Option (Image S D)) Error) (q : ℕ) → bytes' ≡ bytes → p' ≡ p → r' ≡ r →
-    PictureGives d w to_int bytes' stream zero p' params list r' q → PictureGives d w to_int bytes stream zero p params list r q
-moved d w to_int bytes bytes' stream zero p p' params list r r' q b e f h =
-    subst (λ x. PictureGives d w to_int x stream zero p params list r q) b
-    (subst (λ x. PictureGives d w to_int bytes' stream zero x params list r q) e
-    (subst (λ x. PictureGives d w to_int bytes' stream zero p' params list x q) f h))
+-- ---- the channels that are asked for
+
+size_same : (n : ℕ) → div_ceil n (2 ^ 0) ≡ n
+size_same n = let one = div-one n in let rest : n % 1 ≡ 0 = omega arith in rw (one, rest) (omega arith)
+
+each_asked : (width height : ℕ) → image_channel (sized width height (Shifts 0)) ≡ record { width = width; height = height; original_width = width; original_height = height; hshift = pos 0; vshift = pos 0; shift = Shifts 0 }
+each_asked width height =
+    ap (λ n. record { width = n; height = div_ceil height (2 ^ 0); original_width = width; original_height = height; hshift = pos 0; vshift = pos 0; shift = Shifts 0 }) (size_same width)
+    ∙ ap (λ n. record { width = width; height = n; original_width = width; original_height = height; hshift = pos 0; vshift = pos 0; shift = Shifts 0 }) (size_same height)
+
+replicated : (n : ℕ) (c : ModularChannelParams) (d : Channel) → image_channel c ≡ d → map image_channel (replicate n c) ≡ replicate n d
+replicated zero c d same = refl
+replicated (suc n) c d same = ap (λ (e : Channel). e ∷ map image_channel (replicate n c)) same ∙ ap (λ (rest : List Channel). d ∷ rest) (replicated n c d same)
+
+pub asked : (width height n : ℕ) (given : List ModularChannelParams) → given ≡ replicate n (sized width height (Shifts 0)) → image_list given ≡ channels_asked width height n
+asked width height n given is =
+    ap (λ (cs : List ModularChannelParams). image_list cs) is
+    ∙ ap (λ (cs : List Channel). record { channels = cs; nb_meta = 0 }) (replicated n (sized width height (Shifts 0)) _ (each_asked width height))
+
+-- ---- what comes of a picture at the start of the bytes
+
+module _ (w : Width) (width height channels : ℕ) (bytes bytes' : List ℕ) (p : ℕ) (given : ChannelList) (same : bytes' ≡ bytes) (start : p ≡ 0) (are : given ≡ channels_asked width height channels) where
+  pub at_start : (deep bit_depth : ℕ) (grids : List (Grid ℤ)) (q : ℕ) → deep ≡ bit_depth → IsPicture plain w bytes' 0 given p deep grids q → IsPicture plain w bytes 0 (channels_asked width height channels) 0 bit_depth grids q
+  at_start deep bit_depth grids q depth h =
+      subst (λ (l : ChannelList). IsPicture plain w bytes 0 l 0 bit_depth grids q) are
+      (subst (λ (n : ℕ). IsPicture plain w bytes 0 given n bit_depth grids q) start (subst (λ (b : List ℕ). IsPicture plain w b 0 given p bit_depth grids q) same
+      (subst (λ (n : ℕ). IsPicture plain w bytes' 0 given p n grids q) depth h)))
+
+  pub error_at_start : (error : Error) (q before after : ℕ) → before ≡ 0 → PictureFails plain w bytes' 0 given p (fault_of error) q before after → IsPictureError w width height channels bytes error
+  error_at_start error q before after nought h = record {
+    place = q;
+    steps = after;
+    fails = subst (λ (l : ChannelList). PictureFails plain w bytes 0 l 0 (fault_of error) q 0 after) are
+        (subst (λ (n : ℕ). PictureFails plain w bytes 0 given n (fault_of error) q 0 after) start
+        (subst (λ (b : List ℕ). PictureFails plain w b 0 given p (fault_of error) q 0 after) same
+        (subst (λ (n : ℕ). PictureFails plain w bytes' 0 given p (fault_of error) q n after) nought h)));
+  }
+
+-- it was out of memory
+pub out_of_memory : (w : Width) (width height channels : ℕ) (bytes : List ℕ) (error : Error) → fault_of error ≡ NoMemory → IsPictureError w width height channels bytes error
+out_of_memory w width height channels bytes error is = record { place = 0; steps = 0; fails = no_memory (fault_of error) _ is }

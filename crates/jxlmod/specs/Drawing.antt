@@ -1,14 +1,13 @@
 -- What the program prints for the bytes of its input.
-use Rattle.std.specs.Prelude.{◌≡◌, ℕ, ◌⊎◌, ℤ, pos, List, replicate, Some, None, Result, Ok, Err}
+use Rattle.std.specs.Prelude.{ℕ, ◌≡◌, ℤ, pos, List, replicate, Result, Ok, Err}
 use Rattle.std.specs.Int.{Width, w16, w32}
-use Rattle.jxlm_base.specs.Fault.{NoMemory, fault_of}
-use Rattle.jxlm_base.specs.Plain.{PlainState, plain}
+use Rattle.jxlm_base.specs.Fault.{fault_of}
+use Rattle.jxlm_base.specs.Grid.{Grid}
+use Rattle.jxlm_base.specs.Plain.{plain}
 use Rattle.jxlm_base.specs.declared.error.Error.{Error}
-use Rattle.jxlm_transform.specs.Params.{sized}
+use Rattle.jxlm_transform.specs.Channels.{ChannelList}
 use Rattle.jxlm_transform.specs.declared.param.ChannelShift.TheVariants.{Shifts}
-use Rattle.jxlm_transform.specs.declared.param.ModularParams.{ModularParams}
-use Rattle.jxl_modular.specs.Image.{Image, image_grids}
-use Rattle.jxl_modular.specs.Picture.{PictureGives}
+use Rattle.jxl_modular.specs.Picture.{IsPicture, PictureFails}
 use Rattle.jxlmod.specs.Printing.{image_text}
 use Rattle.jxlmod.specs.declared.arguments.Command.{Command}
 use Rattle.jxlmod.specs.declared.arguments.Command.TheVariants.{Decode}
@@ -20,35 +19,36 @@ abbrev pub width_of : Samples → Width
 width_of I16 = w16
 width_of I32 = w32
 
--- the parameters that a command stands for: groups of 256, no global tree, and channels of one size and shift 0
-pub record AreParamsOf (width height channels bit_depth : ℕ) (params : ModularParams PlainState) : Type 0 where
-  pub group_dim : params.group_dim ≡ 256
-  pub bits : params.bit_depth ≡ bit_depth
-  pub sizes : params.channels.items ≡ replicate channels (sized width height (Shifts 0))
-  pub alone : params.ma_config ≡ None
+-- n channels of one size and of shift 0
+abbrev pub channels_asked : ℕ → ℕ → ℕ → ChannelList
+channels_asked width height n = record {
+  channels = replicate n (record { width = width; height = height; original_width = width; original_height = height; hshift = pos 0; vshift = pos 0; shift = Shifts 0 });
+  nb_meta = 0;
+}
 
-module _ {S : Type 0} (w : Width) (to_int : S → ℤ) (from_int : ℤ → S) (width height channels bit_depth : ℕ) (bytes : List ℕ) where
-  -- the text is that of the picture that stands at the start of the bytes, coded in the plain format, at stream index 0
-  pub record IsPictureText (text : List ℕ) : Type 0 where
-    pub params : ModularParams PlainState
-    pub asked : AreParamsOf width height channels bit_depth params
-    pub picture : Image S PlainState
+module _ (w : Width) (width height channels : ℕ) (bytes : List ℕ) where
+  -- the text is that of the picture at the start of the bytes, in the format of the plain decoder, at stream index 0
+  pub record IsPictureText (bit_depth : ℕ) (text : List ℕ) : Type 0 where
+    pub grids : List (Grid ℤ)
     pub place : ℕ
-    pub stands : PictureGives plain w to_int bytes 0 (from_int (pos 0)) 0 params params.channels.items (Ok (Some picture)) place
-    pub printed : text ≡ image_text (image_grids to_int picture)
+    pub picture : IsPicture plain w bytes 0 (channels_asked width height channels) 0 bit_depth grids place
+    pub printed : text ≡ image_text grids
 
-  -- the header, the tree or the samples that should stand at the start of the bytes are refused by this fault
-  pub record IsPictureRefused (fault : Error) : Type 0 where
-    pub params : ModularParams PlainState
-    pub asked : AreParamsOf width height channels bit_depth params
+  -- there is no picture at the start of the bytes, by this error, or it was out of memory
+  pub record IsPictureError (error : Error) : Type 0 where
     pub place : ℕ
-    pub refused : PictureGives plain w to_int bytes 0 (from_int (pos 0)) 0 params params.channels.items (Err fault) place
+    pub steps : ℕ
+    pub fails : PictureFails plain w bytes 0 (channels_asked width height channels) 0 (fault_of error) place 0 steps
 
-  -- there was no memory, or the bytes are refused
-  abbrev pub IsPictureFault : Error → Type 0
-  IsPictureFault fault = (fault_of fault ≡ NoMemory) ⊎ IsPictureRefused fault
+-- the text for the bytes and a command
+abbrev pub Draws : List ℕ → Command → List ℕ → Type 0
+Draws bytes (Decode width height channels bit_depth samples) text = IsPictureText (width_of samples) width height channels bytes bit_depth text
 
--- what is answered for the bytes and a command
+-- there is none, by this error
+abbrev pub FailsToDraw : List ℕ → Command → Error → Type 0
+FailsToDraw bytes (Decode width height channels bit_depth samples) error = IsPictureError (width_of samples) width height channels bytes error
+
+-- what is returned for the bytes and a command
 abbrev pub Answers : List ℕ → Command → Result (List ℕ) Error → Type 0
-Answers bytes (Decode width height channels bit_depth samples) (Ok text) = IsPictureText (width_of samples) (λ z. z) (λ z. z) width height channels bit_depth bytes text
-Answers bytes (Decode width height channels bit_depth samples) (Err fault) = IsPictureFault (width_of samples) (λ z. z) (λ z. z) width height channels bit_depth bytes fault
+Answers bytes command (Ok text) = Draws bytes command text
+Answers bytes command (Err error) = FailsToDraw bytes command error

@@ -1,6 +1,7 @@
 -- How the program ends.
-use Rattle.std.specs.Prelude.{ℕ, List, Option}
+use Rattle.std.specs.Prelude.{ℕ, ◌<◌, List, Option}
 use Rattle.std.specs.Io.KnownBytes.{Appends, Consumes, IsAtEnd}
+use Rattle.jxlmod.specs.Arguments.{channels_of}
 use Rattle.jxlmod.specs.declared.arguments.Command.{Command}
 use Rattle.jxlmod.specs.declared.run.Failure.{Failure}
 use Rattle.jxlmod.specs.declared.run.Failure.TheVariants.{WrongArguments, Unreadable, Refused, Unwritable}
@@ -28,3 +29,11 @@ pub record IsAnswered (answers : Command → List ℕ → Type 0) (left rest : O
   pub read : Consumes left rest bytes
   pub ended : IsAtEnd rest
   pub answered : answers command bytes
+
+-- a command with channels is asked for; of the input, which was left, these bytes were read, and rest stands after them
+pub record IsPartlyRead (asks : Command → Type 0) (left rest : Option (List ℕ)) : Type 0 where
+  pub command : Command
+  pub asked : asks command
+  pub some : 0 < channels_of command
+  pub bytes : List ℕ
+  pub read : Consumes left rest bytes

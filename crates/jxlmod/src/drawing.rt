@@ -1,8 +1,8 @@
 //! The text of a picture, from its bytes.
-ghost use Rattle.std.specs.Prelude.{◌≡◌, ◌≤◌, ◌<◌, ◌^◌, ℤ, pos, MatchResult, IfOk, replicate, string_bytes};
+ghost use Rattle.std.specs.Prelude.{◌≡◌, ◌≤◌, ◌<◌, ◌^◌, MatchResult, IfOk, replicate, string_bytes};
 ghost use Rattle.jxlm_transform.specs.Params.{sized};
 ghost use Rattle.jxlm_transform.specs.declared.param.ChannelShift.TheVariants.{Shifts};
-ghost use Rattle.jxlmod.specs.Drawing.{Answers, IsPictureText, IsPictureFault, width_of};
+ghost use Rattle.jxlmod.specs.Drawing.{Answers, IsPictureText, IsPictureError};
 
 use crate::arguments::{Command, Samples};
 use crate::printing::print_image;
@@ -14,6 +14,7 @@ use jxlm_base::grid::OutOfMemory;
 use jxlm_base::plain::PlainDecoder;
 use jxlm_base::sample::Sample;
 use jxlm_transform::param::{ModularChannelParams, ModularParams};
+use jxlm_tree::flat::Steps;
 use std::alloc::Global;
 
 /// The side of a group of the pictures that are drawn.
@@ -69,12 +70,14 @@ fn picture<S: Sample>(
     requires deep { bit_depth ≤ 32 }
     requires wide { width ≤ 2 ^ 30 }
     requires high { height ≤ 2 ^ 30 }
-    ensures { MatchResult result (λ text. IsPictureText S.width S.to_int S.from_int width height channels bit_depth bytes.now (string_bytes text)) (λ fault. IsPictureFault S.width S.to_int S.from_int width height channels bit_depth bytes.now fault) }
+    ensures { MatchResult result
+        (λ text. IsPictureText S.width width height channels bytes.now bit_depth (string_bytes text))
+        (λ error. IsPictureError S.width width height channels bytes.now error) }
 {
     let channels = channel_list(alloc, width, height, channels)?;
     let params = ModularParams::with_channels(GROUP_DIM, bit_depth, channels, None);
     let mut bits = Bitstream::new(bytes);
-    let image = decode_picture::<S, PlainDecoder>(alloc, &mut bits, params, 0)?;
+    let image = decode_picture::<S, PlainDecoder>(alloc, &mut bits, params, 0, &mut Steps::new())?;
     match image {
         Some(image) => Ok(print_image(alloc, image.image_channels())?),
         None => Ok(String::new(alloc)),

@@ -7,7 +7,7 @@ ghost use Rattle.jxlm_base.specs.declared.error.Error.{Error};
 ghost use Rattle.jxlmod.specs.declared.arguments.Command.{Command};
 ghost use Rattle.jxlmod.specs.Arguments.{AreFor, AreWrong, IsWithinLimits, channels_of};
 ghost use Rattle.jxlmod.specs.Drawing.{Answers};
-ghost use Rattle.jxlmod.specs.Run.{IsDrawn, IsAnswered, status_of};
+ghost use Rattle.jxlmod.specs.Run.{IsDrawn, IsAnswered, IsPartlyRead, status_of};
 
 use crate::arguments::{Command, USAGE};
 use crate::drawing::PartDrawer;
@@ -83,8 +83,11 @@ pub fn run_with<R: Read, W: Write, E: Write, D: Draw>(
         (R.remaining input.old) (R.remaining input.new) (W.contents output.old) (W.contents output.new) }
     ensures quiet { result ≡ 0 → faults.new ≡ faults.old }
 
-    // A fault is told, and the output stays; or the output cannot be written, and nothing is told.
+    // An error, for a command with channels alone: it is told, and the output stays; or the output cannot be written, and
+    // nothing is told. Of the input nothing is lost.
     ensures failed { result ≡ 1 → (output.new ≡ output.old) ⊎ (faults.new ≡ faults.old) }
+    ensures asked { result ≡ 1
+        → IsPartlyRead (AreFor (map string_bytes words.now)) (R.remaining input.old) (R.remaining input.new) }
 {
     match carry_out(alloc, words, input, output, drawer) {
         Ok(()) => 0,
@@ -112,15 +115,17 @@ pub fn run<R: Read, W: Write, E: Write>(
         (R.remaining input.old) (R.remaining input.new) (W.contents output.old) (W.contents output.new) }
     ensures quiet { result ≡ 0 → faults.new ≡ faults.old }
     ensures failed { result ≡ 1 → (output.new ≡ output.old) ⊎ (faults.new ≡ faults.old) }
+    ensures asked { result ≡ 1
+        → IsPartlyRead (AreFor (map string_bytes words.now)) (R.remaining input.old) (R.remaining input.new) }
 {
     run_with(alloc, words, input, output, faults, &PartDrawer)
 }
 
 /// Carries out what the words ask for, as `run_with` does, and answers why it was not done.
 ///
-/// Wrong words are answered before the input is read. An image is refused by what the drawer answers
-/// for all the bytes of the input, and the output stays then; that it cannot be written shows only
-/// when a text was drawn.
+/// Wrong words are answered before the input is read. That the input cannot be read shows only for a
+/// command with channels. An image is refused by what the drawer answers for all the bytes of the
+/// input, and the output stays then; that it cannot be written shows only when a text was drawn.
 pub fn carry_out<R: Read, W: Write, D: Draw>(
     alloc: Global,
     words: &[String],
@@ -131,6 +136,8 @@ pub fn carry_out<R: Read, W: Write, D: Draw>(
     ensures wrong { IsErrOf result Failure.WrongArguments ↔ AreWrong (map string_bytes words.now) }
     ensures unread { IsErrOf result Failure.WrongArguments → input.new ≡ input.old }
     ensures kept { IfErr result (λ failure. failure ≢ Failure.Unwritable → output.new ≡ output.old) }
+    ensures asked { IfErr result (λ failure. failure ≢ Failure.WrongArguments
+        → IsPartlyRead (AreFor (map string_bytes words.now)) (R.remaining input.old) (R.remaining input.new)) }
     ensures nothing { (c : Command) → AreFor (map string_bytes words.now) c → channels_of c ≡ 0
         → IsOk result × (input.new ≡ input.old) × (output.new ≡ output.old) }
     ensures done { OnOk result ((c : Command) → AreFor (map string_bytes words.now) c → 0 < channels_of c

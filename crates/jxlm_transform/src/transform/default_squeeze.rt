@@ -11,7 +11,7 @@ use crate::channels::{ModularChannelInfo, ModularChannels};
 use jxlm_base::error::{Error, Result};
 use jxlm_base::grid::OutOfMemory;
 
-/// The greatest side that the default squeeze leaves alone.
+/// The maximum side that the default squeeze leaves alone.
 const SMALL_SIDE: u32 = 8;
 
 /// A squeeze of `count` channels from `first` on.
@@ -26,7 +26,7 @@ fn step_of_all(first: usize, count: usize, horizontal: bool) -> SqueezeParams
     }
 }
 
-/// A squeeze of the two channels behind `first`.
+/// A squeeze of the two channels after `first`.
 fn step_of_chroma(first: usize, horizontal: bool) -> SqueezeParams
     requires { first < 2 ^ 63 }
     ensures { result ≡ the_step_of_chroma first horizontal }
@@ -96,7 +96,7 @@ fn has_chroma(leader: &ModularChannelInfo, others: &[ModularChannelInfo]) -> boo
     others.len() >= 2 && are_of_size(leader, &others[..1])
 }
 
-/// Adds the squeezes of the two channels behind the first, where there are three and the first two
+/// Adds the squeezes of the two channels after the first, where there are three and the first two
 /// have one size.
 fn add_chroma(
     steps: &mut Vec<SqueezeParams>,
@@ -125,8 +125,8 @@ impl Squeeze {
     ///
     /// # Errors
     ///
-    /// `InvalidSqueezeParams` where no step is listed and all channels are meta channels. Want of
-    /// memory may be answered at any time. After a refusal nothing is promised of the steps.
+    /// `InvalidSqueezeParams` where no step is listed and all channels are meta channels; `Buffer`
+    /// where it is out of memory. After an error nothing is said of the steps.
     pub fn set_default_params(&mut self, channels: &ModularChannels) -> Result<()>
         requires { HasItsMeta (list_of channels.now) }
         ensures { StepsGive (steps_of_squeeze self.old.sp.items (list_of channels.now)) result self.new.sp.items }

@@ -1,4 +1,4 @@
-//! What stands in a list, one element for each channel, behind a squeeze step or a palette.
+//! Lists with one element for each channel, changed in place by a squeeze step or a palette.
 
 ghost use Rattle.std.specs.Prelude.{◌≡◌, ◌≤◌, ◌+◌, ◌++◌, ◌∷◌, length, take, drop, IsTrue, IsFalse, IfOk, IfErr};
 ghost use Rattle.jxlm_transform.specs.ChannelSteps.{with_halves};
@@ -15,7 +15,7 @@ fn overwrite<T: Copy>(list: &mut Vec<T>, begin: usize, others: &[T])
 }
 
 impl SqueezeParams {
-    /// Puts residuals right behind the range (`in_place`) or at the end.
+    /// Puts residuals right after the range (`in_place`) or at the end.
     fn put_residuals<T: Copy + Drop>(
         &self,
         list: &mut Vec<T>,
@@ -35,13 +35,14 @@ impl SqueezeParams {
         Ok(())
     }
 
-    /// Writes averages over the elements of the range, and puts residuals right behind them
-    /// (`in_place`) or at the end. Residuals at the end cost their number alone; others move what
-    /// stands behind the range.
+    /// Changes a list, which has one element for each channel, as the squeeze step changes the
+    /// channels: averages replace the elements of the range, and residuals come right after them
+    /// (`in_place`) or at the end of the list. Residuals at the end take time for their own number
+    /// alone, others for all that comes after the range.
     ///
     /// # Errors
     ///
-    /// `OutOfMemory` where memory is refused; the list is as before then.
+    /// `OutOfMemory`; the list is then as before.
     pub fn put_halves<T: Copy + Drop>(
         &self,
         list: &mut Vec<T>,
@@ -60,12 +61,13 @@ impl SqueezeParams {
 }
 
 impl Palette {
-    /// Puts an element for the table first, and leaves that of the first channel of the range alone
-    /// of the range.
+    /// Changes a list, which has one element for each channel, as the palette changes the channels:
+    /// the table's element comes first, and of the range only the first element stays, for the
+    /// channel of indices.
     ///
     /// # Errors
     ///
-    /// `OutOfMemory` where memory is refused; the list is as before then.
+    /// `OutOfMemory`; the list is then as before.
     pub fn put_table<T: Copy + Drop>(&self, list: &mut Vec<T>, table: T) -> Result<(), OutOfMemory>
         requires some_channels { 1 ≤ self.now.num_c }
         requires range { self.now.begin_c + self.now.num_c ≤ length list.old.items }

@@ -1,6 +1,6 @@
 //! What transforms do to the list of an image's channels.
 
-ghost use Rattle.std.specs.Prelude.{◌≡◌, ◌≤◌, ◌+◌, ◌++◌, ◌&&◌, nat_le, length, map, IsTrue, IfOk};
+ghost use Rattle.std.specs.Prelude.{◌≡◌, ◌≤◌, ◌+◌, ◌++◌, ◌&&◌, nat_le, length, map, IsTrue, IfOk, IfErr};
 ghost use Rattle.std.specs.List.{All, list_all};
 ghost use Rattle.jxlm_transform.specs.Channels.{HasItsMeta, channel_of, list_of};
 ghost use Rattle.jxlm_transform.specs.Transforms.{HasChannels, transform_of};
@@ -75,8 +75,8 @@ impl Palette {
     /// # Errors
     ///
     /// `InvalidPaletteParams` where the range is not there, its channels differ in size, or it
-    /// begins among the meta channels and does not end there. Want of memory may be answered at any
-    /// time. After a refusal nothing is promised of the list.
+    /// begins among the meta channels and does not end there; `Buffer` where it is out of memory.
+    /// After an error the list is as before.
     pub fn transform_channel_info(
         &self,
         alloc: Global,
@@ -86,6 +86,7 @@ impl Palette {
         requires meta { HasItsMeta (list_of channels.old) }
         ensures gives { ListGives (palette_step self.now (list_of channels.old)) result (list_of channels.new) }
         ensures meta { IfOk result (λ _. HasItsMeta (list_of channels.new)) }
+        ensures unchanged { IfErr result (λ _. list_of channels.new ≡ list_of channels.old) }
     {
         let begin = self.begin_c as usize;
         let count = self.num_c as usize;
@@ -175,7 +176,8 @@ impl SqueezeParams {
     ) -> std::result::Result<(), OutOfMemory>
         requires range { self.now.begin_c + self.now.num_c ≤ length channels.old.items }
         requires each { All (λ c. IsTrue (can_be_squeezed (channel_of c))) (range self.now.begin_c self.now.num_c channels.old.items) }
-        ensures { IfOk result (λ _. map channel_of channels.new.items ≡ the_halves self.now (map (average_channel self.now.horizontal) (range self.now.begin_c self.now.num_c (map channel_of channels.old.items))) (map (residual_channel self.now.horizontal) (range self.now.begin_c self.now.num_c (map channel_of channels.old.items))) (map channel_of channels.old.items)) }
+        ensures gives { IfOk result (λ _. map channel_of channels.new.items ≡ the_halves self.now (map (average_channel self.now.horizontal) (range self.now.begin_c self.now.num_c (map channel_of channels.old.items))) (map (residual_channel self.now.horizontal) (range self.now.begin_c self.now.num_c (map channel_of channels.old.items))) (map channel_of channels.old.items)) }
+        ensures unchanged { IfErr result (λ _. channels.new.items ≡ channels.old.items) }
     {
         let range = &channels[self.begin_c..self.begin_c + self.num_c];
         let averages = averages(alloc, range, self.horizontal)?;
@@ -184,15 +186,15 @@ impl SqueezeParams {
     }
 
     /// Halves the channels of the range along one side. Averages stand in their place, residuals
-    /// right behind the range (`in_place`) or at the end of the list. The shift of that side grows
+    /// right after the range (`in_place`) or at the end of the list. The shift of that side grows
     /// by one in both where it is 0 or more. What becomes of meta channels is a meta channel.
     ///
     /// # Errors
     ///
     /// `InvalidSqueezeParams` where the range is not there; where it begins among the meta channels
     /// and does not end there, or is not squeezed in place; and where a channel of it has a side of
-    /// 0 or a shift above 30. Want of memory may be answered at any time. After a refusal nothing is
-    /// promised of the list.
+    /// 0 or a shift above 30. `Buffer` where it is out of memory. After an error the list is as
+    /// before.
     pub fn transform_channel_info(
         &self,
         alloc: Global,
@@ -201,6 +203,7 @@ impl SqueezeParams {
         requires { HasItsMeta (list_of channels.old) }
         ensures gives { ListGives (squeeze_step self.now (list_of channels.old)) result (list_of channels.new) }
         ensures meta { IfOk result (λ _. HasItsMeta (list_of channels.new)) }
+        ensures unchanged { IfErr result (λ _. list_of channels.new ≡ list_of channels.old) }
     {
         if !self.suits(channels) {
             return Err(Error::InvalidSqueezeParams);
@@ -215,7 +218,11 @@ impl SqueezeParams {
 
 impl Squeeze {
     /// Applies the squeezes that are listed, in order: each as in
-    /// [`SqueezeParams::transform_channel_info`], up to the first that is refused.
+    /// [`SqueezeParams::transform_channel_info`].
+    ///
+    /// # Errors
+    ///
+    /// The error of the first that has one. After it nothing is said of the list.
     pub fn transform_channel_info(
         &self,
         alloc: Global,
@@ -240,9 +247,9 @@ impl TransformInfo {
     /// # Errors
     ///
     /// `InvalidRctParams`, `InvalidPaletteParams` or `InvalidSqueezeParams`, by its kind, where it
-    /// does not suit the channels; the default squeeze where no channel is left for it. Want of
-    /// memory may be answered at any time. After a refusal nothing is promised of the transform and
-    /// the list, but that they may be dropped.
+    /// does not suit the channels; the default squeeze where no channel is left for it. `Buffer`
+    /// where it is out of memory. After an error nothing is said of the transform and the list, but
+    /// that they may be dropped.
     pub fn prepare_transform_info(
         &mut self,
         alloc: Global,
@@ -261,298 +268,5 @@ impl TransformInfo {
                 squeeze.transform_channel_info(alloc, channels)
             }
         }
-    }
-}
-
-#[cfg(test)]
-mod tests {
-    use super::*;
-    use crate::param::{ChannelShift, ModularChannelParams, ModularParams};
-    use jxlm_base::plain::PlainDecoder;
-    use jxlm_tree::predictor::Predictor;
-    use std::process::Abort;
-    use std::result::Result;
-    use std::test::Fail;
-
-    // A channel of an image, of this size.
-    fn channel(width: u32, height: u32) -> ModularChannelInfo {
-        ModularChannelInfo {
-            width,
-            height,
-            original_width: width,
-            original_height: height,
-            hshift: 0,
-            vshift: 0,
-            original_shift: ChannelShift::Shifts(0),
-        }
-    }
-
-    // The channels of an image of these sizes.
-    fn channels(alloc: Global, sizes: &[(u32, u32)]) -> Result<ModularChannels, Fail>
-        ensures { IfOk result (λ l. HasItsMeta (list_of l)) }
-    {
-        let mut info = Vec::new(alloc);
-        for (width, height) in sizes {
-            info.push(channel(*width, *height))?;
-        }
-        Ok(ModularChannels {
-            info,
-            nb_meta_channels: 0,
-        })
-    }
-
-    // Width, height and shifts of each channel.
-    fn assert_channels(rt: &impl Abort, list: &ModularChannels, expected: &[(u32, u32, i32, i32)]) {
-        assert_eq!(rt; list.info.len(), expected.len());
-        for (info, expected) in list.info.iter().zip(expected) {
-            assert_eq!(rt;
-                (info.width, info.height, info.hshift, info.vshift),
-                *expected
-            );
-        }
-    }
-
-    fn palette(begin_c: u32, num_c: u32, nb_colours: u32) -> Palette
-        ensures { result.num_c ≡ num_c }
-    {
-        Palette {
-            begin_c,
-            num_c,
-            nb_colours,
-            nb_deltas: 0,
-            d_pred: Predictor::Zero,
-            wp_header: None,
-        }
-    }
-
-    fn step(horizontal: bool, in_place: bool, begin_c: usize, num_c: usize) -> SqueezeParams {
-        SqueezeParams {
-            horizontal,
-            in_place,
-            begin_c,
-            num_c,
-        }
-    }
-
-    #[test]
-    fn colour_needs_three_channels_of_one_size(rt: HostRuntime) -> Result<(), Fail> {
-        let refused = Some(Error::InvalidRctParams);
-        let colour = |begin_c| Rct {
-            begin_c,
-            rct_type: 6,
-        };
-        let two = channels(rt.alloc(), &[(2, 2), (2, 2)])?;
-        assert_eq!(rt; colour(0).transform_channel_info(&two).err(), refused);
-        let unlike = channels(rt.alloc(), &[(2, 2), (2, 2), (2, 1)])?;
-        assert_eq!(rt; colour(0).transform_channel_info(&unlike).err(), refused);
-        let mut four = channels(rt.alloc(), &[(9, 9), (2, 2), (2, 2), (2, 2)])?;
-        TransformInfo::Rct(colour(1)).prepare_transform_info(rt.alloc(), &mut four)?;
-        assert_channels(
-            &rt,
-            &four,
-            &[(9, 9, 0, 0), (2, 2, 0, 0), (2, 2, 0, 0), (2, 2, 0, 0)],
-        );
-        assert_eq!(rt; colour(2).transform_channel_info(&four).err(), refused);
-        Ok(())
-    }
-
-    // A table of three channels, a table over that table, and a squeeze of a table, whose shifts stay.
-    #[test]
-    fn tables_are_meta_channels(rt: HostRuntime) -> Result<(), Fail> {
-        let mut list = channels(rt.alloc(), &[(16, 16), (16, 16), (16, 16)])?;
-        TransformInfo::Palette(palette(0, 3, 5)).prepare_transform_info(rt.alloc(), &mut list)?;
-        assert_channels(&rt, &list, &[(5, 3, -1, -1), (16, 16, 0, 0)]);
-        assert_eq!(rt; list.nb_meta_channels, 1);
-        assert_eq!(rt; list.info[0].original_size(), (5, 3));
-
-        step(true, true, 0, 1).transform_channel_info(rt.alloc(), &mut list)?;
-        assert_channels(
-            &rt,
-            &list,
-            &[(3, 3, -1, -1), (2, 3, -1, -1), (16, 16, 0, 0)],
-        );
-        assert_eq!(rt; list.nb_meta_channels, 2);
-        palette(0, 1, 7).transform_channel_info(rt.alloc(), &mut list)?;
-        assert_channels(
-            &rt,
-            &list,
-            &[
-                (7, 1, -1, -1),
-                (3, 3, -1, -1),
-                (2, 3, -1, -1),
-                (16, 16, 0, 0),
-            ],
-        );
-        assert_eq!(rt; list.nb_meta_channels, 3);
-        Ok(())
-    }
-
-    #[test]
-    fn residuals_in_place_and_at_the_end(rt: HostRuntime) -> Result<(), Fail> {
-        let mut list = channels(rt.alloc(), &[(5, 4), (7, 2), (3, 3)])?;
-        step(true, true, 0, 2).transform_channel_info(rt.alloc(), &mut list)?;
-        let expected = [
-            (3, 4, 1, 0),
-            (4, 2, 1, 0),
-            (2, 4, 1, 0),
-            (3, 2, 1, 0),
-            (3, 3, 0, 0),
-        ];
-        assert_channels(&rt, &list, &expected);
-        let mut list = channels(rt.alloc(), &[(5, 4), (7, 3), (3, 3)])?;
-        step(false, false, 0, 2).transform_channel_info(rt.alloc(), &mut list)?;
-        let expected = [
-            (5, 2, 0, 1),
-            (7, 2, 0, 1),
-            (3, 3, 0, 0),
-            (5, 2, 0, 1),
-            (7, 1, 0, 1),
-        ];
-        assert_channels(&rt, &list, &expected);
-        assert_eq!(rt; list.nb_meta_channels, 0);
-        Ok(())
-    }
-
-    // Whether a step suits one channel of 16 by 16 behind a table of 5 by 3.
-    fn refusal(rt: &HostRuntime, step: SqueezeParams) -> Result<Option<Error>, Fail> {
-        let mut list = channels(rt.alloc(), &[(16, 16), (16, 16), (16, 16)])?;
-        palette(0, 3, 5).transform_channel_info(rt.alloc(), &mut list)?;
-        Ok(step.transform_channel_info(rt.alloc(), &mut list).err())
-    }
-
-    #[test]
-    fn squeezes_that_do_not_suit(rt: HostRuntime) -> Result<(), Fail> {
-        let refused = Some(Error::InvalidSqueezeParams);
-        assert_eq!(rt; refusal(&rt, step(true, true, 1, 1))?, None);
-        assert_eq!(rt; refusal(&rt, step(true, true, 1, 2))?, refused);
-        assert_eq!(rt; refusal(&rt, step(true, true, usize::MAX, 2))?, refused);
-        assert_eq!(rt; refusal(&rt, step(true, true, 0, 2))?, refused);
-        assert_eq!(rt; refusal(&rt, step(true, false, 0, 1))?, refused);
-        let mut flat = channels(rt.alloc(), &[(0, 4)])?;
-        let answer = step(false, true, 0, 1).transform_channel_info(rt.alloc(), &mut flat);
-        assert_eq!(rt; answer.err(), refused);
-        Ok(())
-    }
-
-    // How a palette is refused for these channels, the first of which is a meta channel.
-    fn palette_refusal(rt: &HostRuntime, begin_c: u32, num_c: u32) -> Result<Option<Error>, Fail>
-        requires { 1 ≤ num_c }
-    {
-        let mut list = channels(rt.alloc(), &[(16, 16), (16, 16), (16, 15)])?;
-        list.nb_meta_channels = list.info.len().min(1);
-        let answer = palette(begin_c, num_c, 7).transform_channel_info(rt.alloc(), &mut list);
-        Ok(answer.err())
-    }
-
-    #[test]
-    fn palettes_that_do_not_suit(rt: HostRuntime) -> Result<(), Fail> {
-        let refused = Some(Error::InvalidPaletteParams);
-        assert_eq!(rt; palette_refusal(&rt, 0, 1)?, None);
-        assert_eq!(rt; palette_refusal(&rt, 2, 1)?, None);
-        assert_eq!(rt; palette_refusal(&rt, 0, 2)?, refused);
-        assert_eq!(rt; palette_refusal(&rt, 1, 2)?, refused);
-        assert_eq!(rt; palette_refusal(&rt, 3, 1)?, refused);
-        assert_eq!(rt; palette_refusal(&rt, u32::MAX, u32::MAX)?, refused);
-        Ok(())
-    }
-
-    // A side of one sample can be squeezed on, up to a shift of 31.
-    #[test]
-    fn shifts_grow_up_to_31(rt: HostRuntime) -> Result<(), Fail> {
-        let mut list = channels(rt.alloc(), &[])?;
-        let often = ModularChannelInfo {
-            hshift: 30,
-            ..channel(1, 1)
-        };
-        list.info.push(often)?;
-        step(true, true, 0, 1).transform_channel_info(rt.alloc(), &mut list)?;
-        assert_channels(&rt, &list, &[(1, 1, 31, 0), (0, 1, 31, 0)]);
-        let answer = step(false, true, 0, 1).transform_channel_info(rt.alloc(), &mut list);
-        assert_eq!(rt; answer.err(), Some(Error::InvalidSqueezeParams));
-        Ok(())
-    }
-
-    // How many steps the default squeeze of an image of these sizes has; and it is applied.
-    fn squeeze(rt: &HostRuntime, list: &mut ModularChannels) -> Result<usize, Fail>
-        requires { HasItsMeta (list_of list.old) }
-    {
-        let steps = Vec::new(rt.alloc());
-        let mut transform = TransformInfo::Squeeze(Squeeze { sp: steps });
-        transform.prepare_transform_info(rt.alloc(), list)?;
-        match transform {
-            TransformInfo::Squeeze(t) => Ok(t.sp.len()),
-            _ => Ok(0),
-        }
-    }
-
-    #[test]
-    fn default_squeezes(rt: HostRuntime) -> Result<(), Fail> {
-        let mut one = channels(rt.alloc(), &[(16, 16)])?;
-        assert_eq!(rt; squeeze(&rt, &mut one)?, 2);
-        assert_channels(&rt, &one, &[(8, 8, 1, 1), (8, 8, 1, 1), (16, 8, 0, 1)]);
-        let mut wide = channels(rt.alloc(), &[(33, 5)])?;
-        assert_eq!(rt; squeeze(&rt, &mut wide)?, 3);
-        assert_channels(
-            &rt,
-            &wide,
-            &[(5, 5, 3, 0), (4, 5, 3, 0), (8, 5, 2, 0), (16, 5, 1, 0)],
-        );
-        let mut small = channels(rt.alloc(), &[(8, 8)])?;
-        assert_eq!(rt; squeeze(&rt, &mut small)?, 0);
-        assert_channels(&rt, &small, &[(8, 8, 0, 0)]);
-        let mut three = channels(rt.alloc(), &[(16, 16), (16, 16), (16, 16)])?;
-        assert_eq!(rt; squeeze(&rt, &mut three)?, 4);
-        let expected = [
-            (8, 8, 1, 1),
-            (4, 4, 2, 2),
-            (4, 4, 2, 2),
-            (8, 8, 1, 1),
-            (4, 4, 2, 2),
-            (4, 4, 2, 2),
-            (16, 8, 0, 1),
-            (8, 4, 1, 2),
-            (8, 4, 1, 2),
-            (8, 16, 1, 0),
-            (8, 16, 1, 0),
-            (8, 8, 1, 1),
-            (8, 8, 1, 1),
-        ];
-        assert_channels(&rt, &three, &expected);
-        Ok(())
-    }
-
-    #[test]
-    fn the_default_squeeze_needs_a_channel(rt: HostRuntime) -> Result<(), Fail> {
-        let mut none = Squeeze {
-            sp: Vec::new(rt.alloc()),
-        };
-        let empty = channels(rt.alloc(), &[])?;
-        assert_eq!(rt;
-            none.set_default_params(&empty).err(),
-            Some(Error::InvalidSqueezeParams)
-        );
-        let mut listed = Squeeze {
-            sp: vec![in rt.alloc(); step(true, true, 0, 1)]?,
-        };
-        listed.set_default_params(&empty)?;
-        assert_eq!(rt; listed.sp.len(), 1);
-        let mut list = channels(rt.alloc(), &[(4, 1)])?;
-        listed.transform_channel_info(rt.alloc(), &mut list)?;
-        assert_channels(&rt, &list, &[(2, 1, 1, 0), (2, 1, 1, 0)]);
-        Ok(())
-    }
-
-    #[test]
-    fn what_channels_came_with(rt: HostRuntime) -> Result<(), Fail> {
-        let given = ModularChannelParams::with_shift(9, 4, ChannelShift::Shifts(2));
-        let given = vec![in rt.alloc(); given]?;
-        let params = ModularParams::<PlainDecoder>::with_channels(256, 8, given, None);
-        assert!(rt; params.is_valid());
-        let list = ModularChannels::new(rt.alloc(), &params.channels)?;
-        assert_eq!(rt; (list.info.len(), list.nb_meta_channels), (1, 0));
-        assert_eq!(rt; (list.info[0].width, list.info[0].height), (3, 1));
-        assert_eq!(rt; list.info[0].original_size(), (9, 4));
-        assert_eq!(rt; list.info[0].shift(), ChannelShift::Shifts(2));
-        Ok(())
     }
 }

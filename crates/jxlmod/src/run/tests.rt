@@ -10,16 +10,18 @@ use std::test::Fail;
 const USAGE_LINE: &str =
     "usage: jxlmod decode W H N BITS i16|i32 | jxlmod sections W H N BITS i16|i32 GROUP_DIM\n";
 
-// Gives its bytes, and then fails.
+// Gives its bytes, and then fails. Whether it has failed is kept.
 #[derive(Drop)]
 struct CutReader<'a> {
     bytes: &'a [u8],
+    has_failed: bool,
 }
 
 impl Read for CutReader<'_> {
     fn read(&mut self, buf: &mut [u8]) -> io::Result<usize> {
         let n = self.bytes.read(buf)?;
         if n == 0 && !buf.is_empty() {
+            self.has_failed = true;
             return Err(io::Error::from(ErrorKind::Other));
         }
         Ok(n)
@@ -47,6 +49,23 @@ impl Write for SmallWriter {
 
     fn flush(&mut self) -> io::Result<()> {
         Ok(())
+    }
+}
+
+// Takes all that is written, and cannot pass it on.
+#[derive(Drop)]
+struct StuckWriter {
+    taken: Vec<u8>,
+}
+
+impl Write for StuckWriter {
+    fn write(&mut self, buf: &[u8]) -> io::Result<usize> {
+        self.taken.extend_from_slice(buf)?;
+        Ok(buf.len())
+    }
+
+    fn flush(&mut self) -> io::Result<()> {
+        Err(io::Error::from(ErrorKind::Other))
     }
 }
 
@@ -108,7 +127,10 @@ fn writes_what_is_drawn(rt: HostRuntime) -> Result<(), Fail> {
 fn reads_nothing_for_no_channels(rt: HostRuntime) -> Result<(), Fail> {
     let alloc = rt.alloc();
     let words = words(alloc, "decode 4294967295 2 0 8 i32")?;
-    let mut input = CutReader { bytes: b"" };
+    let mut input = CutReader {
+        bytes: b"",
+        has_failed: false,
+    };
     let mut output = Vec::new(alloc);
     let mut faults = Vec::new(alloc);
     let status = run_with(alloc, &words, &mut input, &mut output, &mut faults, &Echo);
@@ -121,7 +143,10 @@ fn wrong_words_are_answered_first(rt: HostRuntime) -> Result<(), Fail> {
     let alloc = rt.alloc();
     for line in ["", "decode", "decode 2 2 1 8 i64", "sections 3 1 1 8 i32 2"] {
         let words = words(alloc, line)?;
-        let mut input = CutReader { bytes: b"" };
+        let mut input = CutReader {
+            bytes: b"",
+            has_failed: false,
+        };
         let mut output = Vec::new(alloc);
         let mut faults = Vec::new(alloc);
         let status = run_with(alloc, &words, &mut input, &mut output, &mut faults, &Echo);
@@ -136,11 +161,15 @@ fn input_that_is_cut_off_is_told(rt: HostRuntime) -> Result<(), Fail> {
     let alloc = rt.alloc();
     let words = words(alloc, "decode 2 2 1 8 i32")?;
     for bytes in [b"".as_slice(), b"channel".as_slice()] {
-        let mut input = CutReader { bytes };
+        let mut input = CutReader {
+            bytes,
+            has_failed: false,
+        };
         let mut output = Vec::new(alloc);
         let mut faults = Vec::new(alloc);
         let status = run_with(alloc, &words, &mut input, &mut output, &mut faults, &Echo);
         assert_eq!(rt; (status, output.len()), (1, 0));
+        assert_eq!(rt; (input.bytes.len(), input.has_failed), (0, true));
         assert_eq!(rt;
             faults.as_slice(),
             b"error: cannot read standard input\n".as_slice()
@@ -162,6 +191,20 @@ fn output_that_is_full_is_an_error(rt: HostRuntime) -> Result<(), Fail> {
         assert_eq!(rt; (ended, output.taken.len()), (status, room));
         assert_eq!(rt; faults.len(), 0);
     }
+    Ok(())
+}
+
+#[test]
+fn output_that_cannot_be_flushed_is_an_error(rt: HostRuntime) -> Result<(), Fail> {
+    let alloc = rt.alloc();
+    let words = words(alloc, "decode 2 2 1 8 i32")?;
+    let mut input = b"1 2\n".as_slice();
+    let taken = Vec::new(alloc);
+    let mut output = StuckWriter { taken };
+    let mut faults = Vec::new(alloc);
+    let status = run_with(alloc, &words, &mut input, &mut output, &mut faults, &Echo);
+    assert_eq!(rt; (status, faults.len()), (1, 0));
+    assert_eq!(rt; output.taken.as_slice(), b"1 2\n".as_slice());
     Ok(())
 }
 

@@ -1,13 +1,11 @@
-use Rattle.std.proofs.Common.{◌≡◌, ◌<◌, ◌-◌, ◌∙◌, suc, true, false, min, ap, subst, arith, rules, []}
+use Rattle.std.proofs.Common.{◌≡◌, ◌+◌, ◌-◌, ◌<◌, ◌∙◌, min, [], ap, arith, rules, true}
 use Rattle.jxlm_tree.specs.FlatTree.{FlatTree, earlier_named}
-use Rattle.jxlm_tree.specs.Standing.{StandsAt, setting}
-use Rattle.jxl_modular.specs.Reading.{reach_of, region_at, regions_of}
-use Rattle.jxl_modular.proofs.CellLaws.{flat_at, narrow_at, roomy_still}
-use Rattle.jxl_modular.proofs.Starting.{IsUnderWay, as_many_channels, begun, fits_widest, passes_is, passes_over, takes_alike}
+use Rattle.jxl_modular.proofs.CellLaws.{flat_at, narrow_at}
+use Rattle.jxl_modular.proofs.Starting.{as_many_channels, fits_widest, passes_is, room_for_last, set_by_last, set_for_all, set_for_none, somewhere, was_last}
 use Rattle.jxl_modular.proofs.coding.start_channel.Goals as goal
 
-pub overflow_cast-coding : goal.overflow_cast-coding
-overflow_cast-coding g c = let n = (narrow_at c.args.coding.now c.requires.coding c.args.i c.requires.channel).0 in search (rules, n)
+pub overflow_cast-width : goal.overflow_cast-width
+overflow_cast-width g c = let n = (narrow_at c.args.coding.now c.requires.coding c.args.i c.requires.channel).0 in search (rules, n)
 
 pub restart-requires-clause-roomy : goal.restart-requires-clause-roomy
 restart-requires-clause-roomy g c =
@@ -15,39 +13,62 @@ restart-requires-clause-roomy g c =
     let room = c.requires.roomy.widest in
     omega (arith, n, room)
 
-pub loop-e-init : goal.loop-e-init
-loop-e-init g c = (
-  begun c.args.coding.now c.args.i c.restart.new.self
-      (subst (λ weights. StandsAt c.restart.new.self (setting (region_at (regions_of c.args.coding.now) c.args.i).width weights []) []) c.requires.roomy.weights c.restart.ensures.stands)
-      (roomy_still c.args.coding.now c.requires.coding c.args.i c.requires.channel c.args.state.now c.restart.new.self c.restart.ensures.room c.requires.roomy),
-  c.max_prev_channel_depth-reach.ensures.depth ∙ ap (λ (t : FlatTree). min t.prev_channels (earlier_named t.tree)) (flat_at c.args.coding.now c.requires.coding c.args.i c.requires.channel _),
-)
+pub bounds-coding-i-else-max_prev_channel_depth-eq0 : goal.bounds-coding-i-else-max_prev_channel_depth-eq0
+bounds-coding-i-else-max_prev_channel_depth-eq0 g c = let n = as_many_channels c.args.coding.now c.requires.coding in omega (arith, n, c.requires.channel)
 
-pub bounds-coding-e : goal.bounds-coding-e
-bounds-coding-e g c =
+pub bounds-coding-i-else-max_prev_channel_depth-eq0-2 : goal.bounds-coding-i-else-max_prev_channel_depth-eq0-2
+bounds-coding-i-else-max_prev_channel_depth-eq0-2 g c = let n = as_many_channels c.args.coding.now c.requires.coding in omega (arith, n, c.requires.channel)
+
+pub restart_alike-requires : goal.restart_alike-requires
+restart_alike-requires g c =
+    let depth = c.max_prev_channel_depth.ensures.depth ∙ ap (λ (t : FlatTree). min t.prev_channels (earlier_named t.tree)) (flat_at c.args.coding.now c.requires.coding c.args.i c.requires.channel _) in
+    let asked : 0 < min c.args.i (earlier_named c.args.coding.now.config.now.tree) = omega (arith, depth, c.if-max_prev_channel_depth-eq0.false) in
+    let next : c.args.i ≡ c.args.i - 1 + 1 = omega (arith, asked) in
     let n = as_many_channels c.args.coding.now c.requires.coding in
-    let within = c.loop-e.invariant.0.within in
-    omega (arith, n, within, c.requires.channel, c.loop-e-test.true)
+    let alike = passes_is c.args.coding.now c.args.i (c.args.i - 1) _ _ true (omega (arith, n, next, c.requires.channel)) (omega (arith, n, c.requires.channel)) c.if-is_alike.ensures in
+    let last = was_last c.args.coding.now c.requires.coding c.args.i c.requires.channel (c.args.i - 1) next alike c.args.state.now c.requires.columns c.requires.last in
+    record { stands = somewhere c.args.coding.now (c.args.i - 1) c.args.state.now last }
 
-pub bounds-coding-i-in-loop-e : goal.bounds-coding-i-in-loop-e
-bounds-coding-i-in-loop-e g c = let n = as_many_channels c.args.coding.now c.requires.coding in omega (arith, n, c.requires.channel)
+pub overflow_sub-i-then-is_alike : goal.overflow_sub-i-then-is_alike
+overflow_sub-i-then-is_alike g c =
+    let depth = c.max_prev_channel_depth.ensures.depth ∙ ap (λ (t : FlatTree). min t.prev_channels (earlier_named t.tree)) (flat_at c.args.coding.now c.requires.coding c.args.i c.requires.channel _) in
+    let asked : 0 < min c.args.i (earlier_named c.args.coding.now.config.now.tree) = omega (arith, depth, c.if-max_prev_channel_depth-eq0.false) in
+    omega (arith, asked)
 
-pub loop-e-preserved-then-is_alike : goal.loop-e-preserved-then-is_alike
-loop-e-preserved-then-is_alike g c =
+pub add_earlier-requires : goal.add_earlier-requires
+add_earlier-requires g c =
+    let depth = c.max_prev_channel_depth.ensures.depth ∙ ap (λ (t : FlatTree). min t.prev_channels (earlier_named t.tree)) (flat_at c.args.coding.now c.requires.coding c.args.i c.requires.channel _) in
+    let asked : 0 < min c.args.i (earlier_named c.args.coding.now.config.now.tree) = omega (arith, depth, c.if-max_prev_channel_depth-eq0.false) in
+    let next : c.args.i ≡ c.args.i - 1 + 1 = omega (arith, asked) in
     let n = as_many_channels c.args.coding.now c.requires.coding in
-    let within = c.loop-e.invariant.0.within in
-    let more : c.loop-e.e ≡ suc (c.loop-e.e - 1) = omega (arith, c.loop-e-test.true) in
-    let passes = passes_is c.args.coding.now c.args.i (c.loop-e.e - 1) _ _ true (omega (arith, n, within, c.requires.channel, c.loop-e-test.true)) (omega (arith, n, c.requires.channel)) c.if-is_alike.ensures in
-    let room : c.loop-e.count < reach_of c.args.coding.now c.args.i = omega (arith, c.loop-e.invariant.1, c.if-count-reach.true) in (
-      takes_alike c.args.coding.now c.args.i c.requires.coding c.requires.channel (c.loop-e.e - 1) c.loop-e.count c.loop-e.state c.add_earlier.new.self passes room
-          (subst (λ k. IsUnderWay c.args.coding.now c.args.i k c.loop-e.count c.loop-e.state) more c.loop-e.invariant.0) c.add_earlier.ensures.stands c.add_earlier.ensures.room,
-      c.loop-e.invariant.1,
-    )
+    let alike = passes_is c.args.coding.now c.args.i (c.args.i - 1) _ _ true (omega (arith, n, next, c.requires.channel)) (omega (arith, n, c.requires.channel)) c.if-is_alike.ensures in
+    let last = was_last c.args.coding.now c.requires.coding c.args.i c.requires.channel (c.args.i - 1) next alike c.args.state.now c.requires.columns c.requires.last in
+    room_for_last c.args.coding.now c.args.i asked (c.args.i - 1) next c.requires.channel c.args.state.now c.restart_alike.new.self last c.restart_alike.ensures.same c.restart_alike.ensures.room c.requires.roomy
 
-pub loop-e-preserved : goal.loop-e-preserved
-loop-e-preserved g c =
+pub restart-requires-else-is_alike-clause-roomy : goal.restart-requires-else-is_alike-clause-roomy
+restart-requires-else-is_alike-clause-roomy g c =
+    let n = fits_widest c.args.coding.now c.requires.coding c.args.i c.requires.channel in
+    let room = c.requires.roomy.widest in
+    omega (arith, n, room)
+
+pub returns-then-max_prev_channel_depth-eq0-clause-stands : goal.returns-then-max_prev_channel_depth-eq0-clause-stands
+returns-then-max_prev_channel_depth-eq0-clause-stands g c = λ store.
+    let depth = c.max_prev_channel_depth.ensures.depth ∙ ap (λ (t : FlatTree). min t.prev_channels (earlier_named t.tree)) (flat_at c.args.coding.now c.requires.coding c.args.i c.requires.channel _) in
+    set_for_none c.args.coding.now c.args.i c.restart.new.self _ c.requires.roomy.weights (omega (arith, depth, c.if-max_prev_channel_depth-eq0.true)) c.restart.ensures.stands
+
+pub returns-then-is_alike-clause-stands : goal.returns-then-is_alike-clause-stands
+returns-then-is_alike-clause-stands g c = λ store.
+    let depth = c.max_prev_channel_depth.ensures.depth ∙ ap (λ (t : FlatTree). min t.prev_channels (earlier_named t.tree)) (flat_at c.args.coding.now c.requires.coding c.args.i c.requires.channel _) in
+    let asked : 0 < min c.args.i (earlier_named c.args.coding.now.config.now.tree) = omega (arith, depth, c.if-max_prev_channel_depth-eq0.false) in
+    let next : c.args.i ≡ c.args.i - 1 + 1 = omega (arith, asked) in
     let n = as_many_channels c.args.coding.now c.requires.coding in
-    let within = c.loop-e.invariant.0.within in
-    let more : c.loop-e.e ≡ suc (c.loop-e.e - 1) = omega (arith, c.loop-e-test.true) in
-    let passes = passes_is c.args.coding.now c.args.i (c.loop-e.e - 1) _ _ false (omega (arith, n, within, c.requires.channel, c.loop-e-test.true)) (omega (arith, n, c.requires.channel)) c.if-is_alike.ensures in
-    (passes_over c.args.coding.now c.args.i (c.loop-e.e - 1) c.loop-e.count c.loop-e.state passes (subst (λ k. IsUnderWay c.args.coding.now c.args.i k c.loop-e.count c.loop-e.state) more c.loop-e.invariant.0), c.loop-e.invariant.1)
+    let alike = passes_is c.args.coding.now c.args.i (c.args.i - 1) _ _ true (omega (arith, n, next, c.requires.channel)) (omega (arith, n, c.requires.channel)) c.if-is_alike.ensures in
+    let last = was_last c.args.coding.now c.requires.coding c.args.i c.requires.channel (c.args.i - 1) next alike c.args.state.now c.requires.columns c.requires.last in
+    set_by_last c.args.coding.now c.args.i asked (c.args.i - 1) next c.requires.coding c.requires.channel alike c.args.state.now c.restart_alike.new.self c.add_earlier.new.self last c.requires.roomy
+    c.restart_alike.ensures.stands c.add_earlier.ensures.stands
+
+pub returns-else-is_alike-clause-stands : goal.returns-else-is_alike-clause-stands
+returns-else-is_alike-clause-stands g c = λ store.
+    let depth = c.max_prev_channel_depth.ensures.depth ∙ ap (λ (t : FlatTree). min t.prev_channels (earlier_named t.tree)) (flat_at c.args.coding.now c.requires.coding c.args.i c.requires.channel _) in
+    let asked : 0 < min c.args.i (earlier_named c.args.coding.now.config.now.tree) = omega (arith, depth, c.if-max_prev_channel_depth-eq0.false) in
+    set_for_all c.args.coding.now c.args.i c.add_all_earlier.new.state _ c.requires.roomy.weights asked (c.add_all_earlier.ensures.stands _ [] c.restart-else-is_alike.ensures.stands)

@@ -24,6 +24,7 @@ loop-i-preserved g c =
           0 (cells_before part.channels c.loop-i.i) (store_meanings to_int c.loop-i.store) c.loop-i.decoder (position_of c.loop-i.bits) c.loop-i.invariant.goes
           (cells_before part.channels (c.loop-i.i + 1)) (store_meanings to_int c.decode_channel.new.store) c.decode_channel.new.decoder (position_of c.decode_channel.new.bits) next;
       roomy = c.in_ok-decode_channel.ensures.roomy;
+      last = c.in_ok-decode_channel.ensures.last;
       work = takes_further (cost_of c.args.coding.now) 0 (cells_before part.channels c.loop-i.i) (cells_before part.channels (c.loop-i.i + 1))
           c.args.steps.now c.loop-i.steps c.decode_channel.new.steps c.loop-i.invariant.work c.in_ok-decode_channel.ensures.work;
       more = let before = c.loop-i.invariant.more in omega (arith, before, c.in_ok-decode_channel.ensures.more);

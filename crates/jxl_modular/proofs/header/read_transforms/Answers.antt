@@ -3,7 +3,7 @@ use Rattle.std.proofs.lemmas.List.{map_push}
 use Rattle.std.proofs.lemmas.List.Elements.{All-push}
 use Rattle.std.proofs.lemmas.Result.{err_from_is_err_and}
 use Rattle.jxlm_base.specs.Bits.{bytes_of, position_of}
-use Rattle.jxlm_base.specs.Fault.{fault_of, UnlessMemory}
+use Rattle.jxlm_base.specs.Fault.{fault_of, UnlessNoMemory}
 use Rattle.jxlm_base.specs.Grammar.{IsRefused, repeated}
 use Rattle.jxlm_transform.proofs.Refusals.{unless_so}
 use Rattle.jxlm_transform.proofs.RepeatedLoop.{goes_on, stops}
@@ -19,8 +19,8 @@ returns-in_err-transform-clause-gives c =
     let bytes = bytes_of c.args.bits.now in
     let q = position_of c.parse.new.bits in
     let all = (repeated c.args.count field).read bytes (position_of c.args.bits.now) in
-    let gives : UnlessMemory fault (IsRefused (field.read bytes (position_of c.loop.bits)) fault q) = rw c.loop.invariant.bytes at c.in_err-transform.ensures.gives in
-    let refused : UnlessMemory fault (IsRefused all fault q) =
+    let gives : UnlessNoMemory fault (IsRefused (field.read bytes (position_of c.loop.bits)) fault q) = rw c.loop.invariant.bytes at c.in_err-transform.ensures.gives in
+    let refused : UnlessNoMemory fault (IsRefused all fault q) =
     unless_so fault (IsRefused (field.read bytes (position_of c.loop.bits)) fault q) (IsRefused all fault q)
     (λ r. record {
       place = r.place;

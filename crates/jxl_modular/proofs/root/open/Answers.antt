@@ -2,7 +2,7 @@ use Rattle.std.proofs.Common.{◌≡◌, map, refl, Ok}
 use Rattle.std.proofs.lemmas.Result.{err_from_is_err_and}
 use Rattle.jxlm_base.specs.Bits.{bytes_of, position_of}
 use Rattle.jxlm_base.specs.Fault.{fault_of}
-use Rattle.jxlm_transform.proofs.Refusals.{unless_memory}
+use Rattle.jxlm_transform.proofs.Refusals.{unless_no_memory}
 use Rattle.jxlm_transform.proofs.SideBounds.{narrow_coded, narrow_image}
 use Rattle.jxlm_transform.specs.Channels.{image_list, list_of}
 use Rattle.jxlm_transform.specs.ChannelSteps.{CodedList, coded_list}
@@ -30,7 +30,7 @@ returns-in_err-check-clause-gives c =
     let fault = fault_of c.in_err-check.field-0.0 in
     let refused = condition_fails c.args.has_global (image_list c.args.params.now) (bytes_of c.args.bits.now) (position_of c.args.bits.now) h (position_of c.parse.new.bits) c.in_ok-header.ensures.gives coded found k fault refl
     c.in_err-check.ensures in
-    rw (p.1, p.2) (unless_memory fault _ refused)
+    rw (p.1, p.2) (unless_no_memory fault _ refused)
 
 pub returns-clause-gives : goal.returns-clause-gives
 returns-clause-gives c =

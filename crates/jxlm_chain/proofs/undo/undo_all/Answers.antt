@@ -1,9 +1,9 @@
 use Rattle.std.proofs.Common.{◌≡◌, ℕ, ◌+◌, ◌-◌, length, sym, subst, arith}
 use Rattle.std.proofs.lemmas.List.{length-map}
-use Rattle.jxlm_chain.specs.Scratch.{weights_in}
+use Rattle.jxlm_chain.specs.Scratch.{HasRoomToUndo}
 use Rattle.jxlm_chain.specs.Steps.{CanUndo}
 use Rattle.jxlm_chain.specs.Undo.{Undoes}
-use Rattle.jxlm_chain.specs.Undoings.{SuitsWeights, undo_of_code, undos_of}
+use Rattle.jxlm_chain.specs.Undoings.{undo_of_code, undos_of}
 use Rattle.jxlm_chain.proofs.UndoLoop.{Undone, holds_at, undo_at, undone_next}
 use Rattle.jxlm_chain.proofs.undo.undo_all.Goals as goal
 
@@ -12,10 +12,10 @@ run-requires-clause-can g c κs within =
     let us = c.args.undoings.now in
     holds_at (CanUndo c.loop-i.store) us (length us - 1 - c.loop-i.i) c.index-undoings-last.result (omega arith) c.index-undoings-last.is c.loop-i.invariant.can
 
-pub run-requires-clause-suits : goal.run-requires-clause-suits
-run-requires-clause-suits g c κs within =
+pub run-requires-clause-room : goal.run-requires-clause-room
+run-requires-clause-room g c κs within =
     let us = c.args.undoings.now in
-    holds_at (SuitsWeights (weights_in c.loop-i.scratch)) us (length us - 1 - c.loop-i.i) c.index-undoings-last.result (omega arith) c.index-undoings-last.is c.loop-i.invariant.suits
+    holds_at (HasRoomToUndo c.loop-i.scratch) us (length us - 1 - c.loop-i.i) c.index-undoings-last.result (omega arith) c.index-undoings-last.is c.loop-i.invariant.room
 
 pub loop-i-preserved : goal.loop-i-preserved
 loop-i-preserved g c =

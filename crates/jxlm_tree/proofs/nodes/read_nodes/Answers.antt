@@ -1,11 +1,9 @@
 use Rattle.std.proofs.Common.{suc, ◌≡◌, ◌<◌, ◌+◌, ◌-◌, ◌∷◌, ◌++◌, [], length, map, ap, ◌∙◌, arith, rules}
 use Rattle.std.proofs.lemmas.List.{length-append, map-append}
 use Rattle.jxlm_base.specs.Bits.{bytes_of, position_of}
-use Rattle.jxlm_base.specs.Fault.{fault_of}
 use Rattle.jxlm_tree.specs.DraftReading.{node_of}
 use Rattle.jxlm_tree.specs.TreeReading.{children, limit_fault, most_nodes}
 use Rattle.jxlm_tree.proofs.Accumulated.{node_more, node_refused, no_room, all_read, children_few, drafts_more}
-use Rattle.jxlm_tree.proofs.Memory.{always_so}
 use Rattle.jxlm_tree.proofs.nodes.read_nodes.Goals as goal
 
 pub returns-in_err-check_room-clause-gives : goal.returns-in_err-check_room-clause-gives
@@ -14,7 +12,6 @@ returns-in_err-check_room-clause-gives g c =
     let none : most_nodes c.args.node_limit - length l.nodes.items ≡ 0 = omega (arith, c.in_err-check_room.ensures.err.0) in
     let full = no_room g.D.Decoder.meaning (bytes_of c.args.bits.now) (limit_fault c.args.node_limit) (map node_of l.nodes.items) _ l.missing l.decoder (position_of l.bits) none c.loop-missing-test.true in
     let reads = rw (← c.in_err-check_room.ensures.err.1) at (l.invariant.reads ∙ full) in
-    let fact = always_so (fault_of c.in_err-check_room.field-0.0) reads in
     search rules
 
 pub returns-in_err-node-clause-gives : goal.returns-in_err-node-clause-gives
@@ -23,7 +20,7 @@ returns-in_err-node-clause-gives g c =
     let some : 0 < most_nodes c.args.node_limit - length l.nodes.items = omega (arith, c.in_ok-check_room.ensures.ok) in
     let node = rw l.invariant.bytes at c.in_err-node.ensures.gives in
     let refused = node_refused g.D.Decoder.meaning (bytes_of c.args.bits.now) (limit_fault c.args.node_limit) (map node_of l.nodes.items) _ l.missing l.decoder (position_of l.bits) _ some c.loop-missing-test.true node in
-    let fact = always_so (fault_of c.in_err-node.field-0.0) (l.invariant.reads ∙ refused) in
+    let reads = l.invariant.reads ∙ refused in
     search rules
 
 pub loop-missing-preserved : goal.loop-missing-preserved

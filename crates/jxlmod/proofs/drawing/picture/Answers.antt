@@ -1,12 +1,17 @@
-use Rattle.std.proofs.Common.{refl, ap, ◌∙◌, inr, Ok, Some, pos}
-use Rattle.jxlm_base.specs.Plain.{plain}
-use Rattle.std.specs.Prelude.{map}
+use Rattle.std.proofs.Common.{refl, ap, ◌∙◌, map}
 use Rattle.std.proofs.lemmas.Result.{err_from_is_err_and}
-use Rattle.jxlm_base.specs.Grid.{meanings}
 use Rattle.jxlm_base.specs.Bits.{bytes_of, position_of}
+use Rattle.jxlm_base.specs.Grid.{meanings}
+use Rattle.jxlm_transform.specs.Channels.{image_list}
+use Rattle.jxl_modular.specs.Image.{image_grids}
 use Rattle.jxlmod.specs.Printing.{image_text}
-use Rattle.jxlmod.proofs.Pictures.{valid_params, moved}
+use Rattle.jxlmod.proofs.Pictures.{valid_params, asked, at_start, error_at_start, out_of_memory}
 use Rattle.jxlmod.proofs.drawing.picture.Goals as goal
+
+pub returns-in_err-channels : goal.returns-in_err-channels
+returns-in_err-channels g c =
+    let e = err_from_is_err_and c.from_residual.result c.from_residual.ensures.1 in
+    rw (e.1, e.2) (out_of_memory g.S.Sealed.width c.args.width c.args.height c.args.channels c.args.bytes.now _ refl)
 
 pub decode_picture-requires-clause-valid : goal.decode_picture-requires-clause-valid
 decode_picture-requires-clause-valid g c κs within =
@@ -14,22 +19,20 @@ decode_picture-requires-clause-valid g c κs within =
 
 pub returns-in_err-image : goal.returns-in_err-image
 returns-in_err-image g c =
-    let p = err_from_is_err_and c.from_residual-in_err-image.result c.from_residual-in_err-image.ensures.1 in
-    rw (p.1, p.2) (inr (record {
-      params = c.with_channels-params.result;
-      asked = rw c.with_channels-params.ensures (record { group_dim = refl; bits = refl; sizes = c.in_ok-channels.ensures; alone = refl });
-      place = position_of c.decode_picture.new.bits;
-      refused = moved plain g.S.Sealed.width g.S.Sealed.to_int c.args.bytes.now (bytes_of c.new-bits.result) 0 (g.S.Sealed.from_int (pos 0)) 0 (position_of c.new-bits.result) c.with_channels-params.result
-          c.with_channels-params.result.channels.items _ _ (position_of c.decode_picture.new.bits) c.new-bits.ensures.bytes c.new-bits.ensures.position refl c.in_err-image.ensures.gives;
-    }))
+    let e = err_from_is_err_and c.from_residual-in_err-image.result c.from_residual-in_err-image.ensures.1 in
+    let are = asked c.args.width c.args.height c.args.channels c.with_channels-params.result.channels.items (rw c.with_channels-params.ensures c.in_ok-channels.ensures) in
+    rw (e.1, e.2)
+    (error_at_start g.S.Sealed.width c.args.width c.args.height c.args.channels c.args.bytes.now (bytes_of c.new-bits.result) (position_of c.new-bits.result) (image_list c.with_channels-params.result.channels.items)
+    c.new-bits.ensures.bytes c.new-bits.ensures.position are _ (position_of c.decode_picture.new.bits) c.new.result c.decode_picture.new.steps c.new.ensures c.in_err-image.ensures.err)
 
 pub returns-in_ok-print_image-in-Some : goal.returns-in_ok-print_image-in-Some
-returns-in_ok-print_image-in-Some g c = record {
-  params = c.with_channels-params.result;
-  asked = rw c.with_channels-params.ensures (record { group_dim = refl; bits = refl; sizes = c.in_ok-channels.ensures; alone = refl });
-  picture = c.in-Some.image;
-  place = position_of c.decode_picture.new.bits;
-  stands = moved plain g.S.Sealed.width g.S.Sealed.to_int c.args.bytes.now (bytes_of c.new-bits.result) 0 (g.S.Sealed.from_int (pos 0)) 0 (position_of c.new-bits.result) c.with_channels-params.result
-      c.with_channels-params.result.channels.items (Ok (Some c.in-Some.image)) (Ok c.in_ok-image.image) (position_of c.decode_picture.new.bits) c.new-bits.ensures.bytes c.new-bits.ensures.position (ap Ok c.in-Some.is) c.in_ok-image.ensures.gives;
-  printed = c.in_ok-print_image-in-Some.ensures ∙ ap (λ s. image_text (map (meanings g.S.Sealed.to_int) s)) c.image_channels.ensures;
-}
+returns-in_ok-print_image-in-Some g c =
+    let are = asked c.args.width c.args.height c.args.channels c.with_channels-params.result.channels.items (rw c.with_channels-params.ensures c.in_ok-channels.ensures) in
+    let read = rw c.in-Some.is at c.in_ok-image.ensures.picture in
+    record {
+      grids = image_grids g.S.Sealed.to_int c.in-Some.image;
+      place = position_of c.decode_picture.new.bits;
+      picture = at_start g.S.Sealed.width c.args.width c.args.height c.args.channels c.args.bytes.now (bytes_of c.new-bits.result) (position_of c.new-bits.result) (image_list c.with_channels-params.result.channels.items)
+          c.new-bits.ensures.bytes c.new-bits.ensures.position are _ c.args.bit_depth _ (position_of c.decode_picture.new.bits) (rw c.with_channels-params.ensures refl) read.picture;
+      printed = c.in_ok-print_image-in-Some.ensures ∙ ap (λ s. image_text (map (meanings g.S.Sealed.to_int) s)) c.image_channels.ensures.grids;
+    }

@@ -1,7 +1,7 @@
 use Rattle.std.proofs.Common.{◌≡◌, ◌∙◌, Ok}
 use Rattle.std.proofs.lemmas.Result.{err_from_is_err_and}
 use Rattle.jxlm_base.specs.Bits.{bytes_of, position_of}
-use Rattle.jxlm_base.specs.Fault.{fault_of, UnlessMemory}
+use Rattle.jxlm_base.specs.Fault.{fault_of, UnlessNoMemory}
 use Rattle.jxlm_base.specs.Grammar.{IsRefused, repeated}
 use Rattle.jxlm_transform.specs.Transforms.{transform}
 use Rattle.jxlm_tree.specs.WeightsHeader.{wp_header}
@@ -23,5 +23,5 @@ returns-in_err-transform-clause-gives c =
     let to_weights = c.parse.ensures.bytes ∙ c.read_bool.ensures.bytes in
     let second : wp_header.read bytes a ≡ Ok (record { value = weights; position = b }) = rw c.read_bool.ensures.bytes at c.in_ok-wp_params.ensures.gives in
     let third : transform_count.read bytes b ≡ Ok (record { value = n; position = m }) = rw to_weights at c.in_ok-nb_transforms.ensures.gives in
-    let gives : UnlessMemory fault (IsRefused ((repeated n (transform weights)).read bytes m) fault q) = rw (c.read_u32.ensures.bytes ∙ to_weights) at c.in_err-transform.ensures.gives in
+    let gives : UnlessNoMemory fault (IsRefused ((repeated n (transform weights)).read bytes m) fault q) = rw (c.read_u32.ensures.bytes ∙ to_weights) at c.in_err-transform.ensures.gives in
     rw (p.1, p.2) (listed_refused bytes (position_of c.args.bits.now) c.in_ok-use_global_tree.use_global_tree a weights b n m fault q c.in_ok-use_global_tree.ensures.gives second third gives)

@@ -1,15 +1,16 @@
-use Rattle.std.proofs.Common.{◌≡◌, sym, map, ap, subst, ◌∙◌, List}
+use Rattle.std.proofs.Common.{◌≡◌, sym, map, ap, subst, ◌∙◌, List, Some}
 use Rattle.std.specs.List.{All}
 use Rattle.jxlm_base.specs.Grid.{Grid}
 use Rattle.jxlm_chain.specs.Layout.{first_layout}
 use Rattle.jxlm_chain.specs.Places.{Suit}
-use Rattle.jxlm_chain.specs.Scratch.{weights_in}
+use Rattle.jxlm_chain.specs.Scratch.{HasRoomFor, IsNarrowUndo}
 use Rattle.jxlm_chain.specs.Steps.{CanUndoAll, IsNarrowStore, steps_in}
-use Rattle.jxlm_chain.specs.Undo.{undo_of_all}
+use Rattle.jxlm_chain.specs.Undo.{Undo, undo_of_all}
 use Rattle.jxlm_chain.specs.Undoings.{SuitsWeights, undos_of}
 use Rattle.jxlm_chain.specs.declared.undo.Undoing.{Undoing}
 use Rattle.jxlm_transform.specs.Channels.{channel_of}
 use Rattle.jxlm_transform.specs.Transforms.{transform_of}
+use Rattle.jxlm_chain.proofs.Rooms.{narrow_undos}
 use Rattle.jxl_modular.specs.Header.{header_of}
 use Rattle.jxl_modular.proofs.Laid.{can_undo}
 use Rattle.jxl_modular.proofs.Suits.{steps_suit}
@@ -26,6 +27,18 @@ new-requires g c =
     } in
     rw (c.deref.ensures.value, c.deref-2.ensures.value) suit
 
+pub new-requires-2-clause-narrow : goal.new-requires-2-clause-narrow
+new-requires-2-clause-narrow g c κs within =
+    let undos : undos_of c.deref-3.result.now ≡ undo_of_all (steps_in (header_of c.self.inside.header).transform) (first_layout (map channel_of c.self.inside.given.items)) =
+    ap (λ (us : List Undoing). undos_of us) c.deref-3.ensures.value ∙ (rw (c.deref.ensures.value, c.deref-2.ensures.value) at c.in_ok-plan.ensures.undoings) in
+    subst (All IsNarrowUndo) (sym undos) (narrow_undos c.self.inside.store.items _ c.self.invariant.narrow_store (can_undo _ c.self.invariant))
+
+pub new-requires-2-clause-suits : goal.new-requires-2-clause-suits
+new-requires-2-clause-suits g c κs within =
+    let undos : undos_of c.deref-3.result.now ≡ undo_of_all (steps_in (header_of c.self.inside.header).transform) (first_layout (map channel_of c.self.inside.given.items)) =
+    ap (λ (us : List Undoing). undos_of us) c.deref-3.ensures.value ∙ (rw (c.deref.ensures.value, c.deref-2.ensures.value) at c.in_ok-plan.ensures.undoings) in
+    subst (All (SuitsWeights (Some c.self.inside.header.wp_params))) (sym undos) (steps_suit _ _ _ c.self.invariant.palettes)
+
 pub undo_all-requires-clause-can : goal.undo_all-requires-clause-can
 undo_all-requires-clause-can g c κs within =
     let undos : undos_of c.deref-4.result.now ≡ undo_of_all (steps_in (header_of c.self.inside.header).transform) (first_layout (map channel_of c.self.inside.given.items)) =
@@ -36,13 +49,10 @@ undo_all-requires-clause-can g c κs within =
 pub undo_all-requires-clause-narrow : goal.undo_all-requires-clause-narrow
 undo_all-requires-clause-narrow g c κs within = subst (λ (store : List (Grid g.row.S.Denot)). IsNarrowStore store) (sym c.deref_mut.ensures.value) c.self.invariant.narrow_store
 
-pub undo_all-requires-clause-suits : goal.undo_all-requires-clause-suits
-undo_all-requires-clause-suits g c κs within =
-    let undos : undos_of c.deref-4.result.now ≡ undo_of_all (steps_in (header_of c.self.inside.header).transform) (first_layout (map channel_of c.self.inside.given.items)) =
-    ap (λ (us : List Undoing). undos_of us) c.deref-4.ensures.value ∙ (rw (c.deref.ensures.value, c.deref-2.ensures.value) at c.in_ok-plan.ensures.undoings) in
-    subst (λ us. All (SuitsWeights (weights_in c.in_ok-scratch.scratch)) us) (sym undos)
-    (subst (λ weights. All (SuitsWeights weights) (undo_of_all (steps_in (header_of c.self.inside.header).transform) (first_layout (map channel_of c.self.inside.given.items)))) (sym c.in_ok-scratch.ensures.weights)
-    (steps_suit _ _ _ c.self.invariant.palettes))
+pub undo_all-requires-clause-room : goal.undo_all-requires-clause-room
+undo_all-requires-clause-room g c κs within =
+    let same : undos_of c.deref-3.result.now ≡ undos_of c.deref-4.result.now = ap (λ (us : List Undoing). undos_of us) (c.deref-3.ensures.value ∙ sym c.deref-4.ensures.value) in
+    subst (λ (us : List Undo). HasRoomFor us c.in_ok-scratch.scratch) same c.in_ok-scratch.ensures.room
 
 pub invariant_of-self : goal.invariant_of-self
 invariant_of-self g c =

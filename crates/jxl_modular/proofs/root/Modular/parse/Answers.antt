@@ -51,7 +51,7 @@ returns-in_err-ma_ctx-clause-gives g c =
     let no_global : c.is_some-has_global.result ≡ false = search rules in
     let counted_some : 0 < params.channels.len = not_zero params.channels.len (sym c.is_empty.ensures ∙ c.if-is_empty.false) in
     let some : 0 < length ps = omega (arith, counted_some, params.channels.ok.0) in
-    let opens : opened d zero bytes p params ≡ Ok (record { value = opening_of o; position = m }) = rw (no_global, c.deref.ensures.value) at c.in_ok-header.ensures.gives in
+    let opens : opened bytes (image_list ps) p ≡ Ok (record { value = opening_of o; position = m }) = rw (no_global, c.deref.ensures.value) at c.in_ok-header.ensures.gives in
     let counted : limit ≡ min (1024 + sum_by (λ c. c.width * c.height) o.1.info.items) (2 ^ 20) = c.node_limit.ensures ∙ ap (λ (xs : List ModularChannelInfo). min (1024 + sum_by (λ c. c.width * c.height) xs) (2 ^ 20)) c.deref-2.ensures.value in
     let e = c.in_err-ma_ctx.field-0.0 in
     let q = position_of c.parse.new.bits in
@@ -73,7 +73,7 @@ returns-clause-gives g c =
     let no_global : c.is_some-has_global.result ≡ false = search rules in
     let counted_some : 0 < params.channels.len = not_zero params.channels.len (sym c.is_empty.ensures ∙ c.if-is_empty.false) in
     let some : 0 < length ps = omega (arith, counted_some, params.channels.ok.0) in
-    let opens : opened d zero bytes p params ≡ Ok (record { value = opening_of o; position = m }) = rw (no_global, c.deref.ensures.value) at c.in_ok-header.ensures.gives in
+    let opens : opened bytes (image_list ps) p ≡ Ok (record { value = opening_of o; position = m }) = rw (no_global, c.deref.ensures.value) at c.in_ok-header.ensures.gives in
     let counted : limit ≡ min (1024 + sum_by (λ c. c.width * c.height) o.1.info.items) (2 ^ 20) = c.node_limit.ensures ∙ ap (λ (xs : List ModularChannelInfo). min (1024 + sum_by (λ c. c.width * c.height) xs) (2 ^ 20)) c.deref-2.ensures.value in
     let q = position_of c.parse.new.bits in
     let tree : IsTreeAt d bytes limit depth_limit m c.in_ok-ma_ctx.ma_ctx q = rw c.in_ok-header.ensures.bytes at c.in_ok-ma_ctx.ensures.gives in

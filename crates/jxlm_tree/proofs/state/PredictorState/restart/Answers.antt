@@ -1,12 +1,5 @@
+use Rattle.std.proofs.Common.{[]}
 use Rattle.jxlm_tree.proofs.state.PredictorState.restart.Goals as goal
 
-pub invariant_of-self : goal.invariant_of-self
-invariant_of-self g c =
-    let old = c.args.self.now in
-    record {
-      within_room = c.requires.roomy;
-      narrow = old.narrow;
-      previous_len = old.previous_len;
-      current_len = old.current_len;
-      corrector_rows = c.restart_where_kept.ensures.rows old.room old.corrector_rows;
-    }
+pub returns-clause-stands : goal.returns-clause-stands
+returns-clause-stands g c = c.begin.ensures.stands [] c.clear.ensures.items

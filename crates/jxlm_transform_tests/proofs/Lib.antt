@@ -1,0 +1,2 @@
+mod ColourThree
+mod PaletteThree

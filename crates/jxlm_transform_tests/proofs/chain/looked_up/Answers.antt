@@ -1,0 +1,25 @@
+use Rattle.std.proofs.Common.{◌≤◌, ◌^◌, ℕ, List, [], ◌∷◌, None, inl, refl, arith}
+use Rattle.std.proofs.lemmas.List.Elements.{All-from_recursion}
+use Rattle.jxlm_tree.specs.declared.predictor.Predictor.TheVariants.{Zero}
+use Rattle.jxlm_transform.specs.ChannelSteps.{Step, PaletteStep}
+use Rattle.jxlm_chain.specs.Layout.{Sides}
+use Rattle.jxlm_chain.specs.Steps.{HasChannels, HasWeights}
+use Rattle.jxlm_transform_tests.proofs.chain.looked_up.Goals as goal
+
+abbrev steps : List Step
+steps = PaletteStep (record { begin_c = 0; num_c = 1; nb_colours = 3; nb_deltas = 0; d_pred = Zero; wp_header = None }) ∷ []
+
+abbrev side : ℕ → Sides
+side n = record { width = n; height = 1 }
+
+abbrev IsSmall : Sides → Type 0
+IsSmall s = (s.width ≤ 2 ^ 30) × (s.height ≤ 2 ^ 30)
+
+pub undo-requires-clause-suit : goal.undo-requires-clause-suit
+undo-requires-clause-suit g c κs within = record { nb_meta = 0; coded = _; gives = refl; some_channels = All-from_recursion HasChannels steps (omega arith, tt) }
+
+pub undo-requires-clause-small : goal.undo-requires-clause-small
+undo-requires-clause-small g c κs within = All-from_recursion IsSmall (side 3 ∷ side 3 ∷ []) ((omega arith, omega arith), ((omega arith, omega arith), tt))
+
+pub undo-requires-clause-weights : goal.undo-requires-clause-weights
+undo-requires-clause-weights g c κs within = λ w. All-from_recursion (HasWeights w) steps (inl refl, tt)

@@ -1,0 +1,28 @@
+//! Tests of transforms: how a header has them, what they do to channels, and how they are undone.
+#![tactic(auto)]
+
+#[cfg(test)]
+mod cells;
+#[cfg(test)]
+mod chain;
+#[cfg(test)]
+mod channels;
+#[cfg(test)]
+mod colour;
+#[cfg(test)]
+mod colour_rows;
+#[cfg(test)]
+mod fields;
+#[cfg(test)]
+mod long_header;
+#[cfg(test)]
+mod palette_rows;
+#[cfg(test)]
+mod palettes;
+#[cfg(test)]
+mod params;
+#[cfg(test)]
+mod squeezes;
+#[cfg(test)]
+mod text;
+pub mod valid;

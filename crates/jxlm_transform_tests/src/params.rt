@@ -1,0 +1,168 @@
+// What an image is read by: sizes, shifts and limits.
+
+use crate::text::pair;
+use jxlm_base::plain::PlainDecoder;
+use jxlm_transform::param::{ChannelShift, ModularChannelParams, ModularParams};
+use std::alloc::Global;
+use std::process::Abort;
+use std::result::Result;
+use std::test::Fail;
+
+// Whether a word is 1.
+fn flag(word: &str) -> bool {
+    word == "1"
+}
+
+// A shift: `s,S` for both sides, `r,H,V` for each, and `j,A,H,B,V` for a JPEG channel, with 0 and 1 for its flags.
+fn shift(text: &str) -> Result<ChannelShift, Fail> {
+    let (kind, words) = pair(text, ',')?;
+    if kind == "s" {
+        return Ok(ChannelShift::from_shift(words.parse::<u32>()?));
+    }
+    let (first, rest) = pair(words, ',')?;
+    if kind == "r" {
+        return Ok(ChannelShift::Raw(first.parse::<i32>()?, rest.parse::<i32>()?));
+    }
+    let (across, rest) = pair(rest, ',')?;
+    let (second, down) = pair(rest, ',')?;
+    Ok(ChannelShift::JpegUpsampling {
+        has_h_subsample: flag(first),
+        h_subsample: flag(across),
+        has_v_subsample: flag(second),
+        v_subsample: flag(down),
+    })
+}
+
+// The sides of a channel and its shifts, where it is valid.
+fn channel_text(alloc: Global, channel: &ModularChannelParams) -> Result<String, Fail> {
+    if !channel.is_valid() {
+        return Ok(format!(in alloc; "invalid")?);
+    }
+    let (width, height) = channel.shift.shift_size((channel.width, channel.height));
+    let (hshift, vshift) = (channel.shift.hshift(), channel.shift.vshift());
+    Ok(format!(in alloc; "{width}x{height} {hshift} {vshift}")?)
+}
+
+// Compares the sides and shifts of a channel, and whether an image of it alone is valid.
+fn check_channel(rt: &impl Abort, alloc: Global, row: &str) -> Result<(), Fail> {
+    let (given, expected) = pair(row, '|')?;
+    let (sides, words) = pair(given, ' ')?;
+    let (width, height) = pair(sides, 'x')?;
+    let shift = shift(words)?;
+    let (width, height) = (width.parse::<u32>()?, height.parse::<u32>()?);
+    let channel = ModularChannelParams::with_shift(width, height, shift);
+    let found = channel_text(alloc, &channel)?;
+    assert_eq!(rt; found.as_str(), expected, "{row}");
+    let valid = expected != "invalid";
+    assert!(rt; shift.is_valid() || !valid, "{row}");
+    let params = ModularParams::<PlainDecoder>::with_channels(
+        256,
+        8,
+        vec![in alloc; channel]?,
+        None,
+    );
+    assert_eq!(rt; params.is_valid(), valid, "{row}");
+    Ok(())
+}
+
+// The sides of a picture and a shift, and the sides and shifts of the channel.
+const CHANNELS: &str = "9x4 s,2|3x1 2 2
+9x4 r,3,1|2x2 3 1
+5x7 j,1,0,1,0|6x8 0 0
+5x7 j,1,0,1,1|6x4 0 1
+5x7 j,1,1,1,1|3x4 1 1
+1073741824x1073741824 s,0|1073741824x1073741824 0 0
+0x0 s,0|0x0 0 0
+1073741825x1 s,0|invalid
+1x1073741825 s,0|invalid
+1x1 s,30|1x1 30 30
+1x1 s,31|invalid
+1x1 s,4294967295|invalid
+1x1 r,30,30|1x1 30 30
+1x1 r,31,0|invalid
+1x1 r,0,31|invalid
+1x1 r,-1,0|invalid
+1x1 r,0,-1|invalid
+1x1 j,0,0,0,0|1x1 0 0
+1x1 j,0,1,0,0|invalid
+1x1 j,1,0,0,0|2x1 0 0
+1x1 j,1,1,0,0|1x1 1 0
+1x1 j,0,0,0,1|invalid
+1x1 j,0,0,1,0|1x2 0 0
+1x1 j,0,0,1,1|1x1 0 1";
+
+#[test]
+fn sides_and_shifts(rt: HostRuntime) -> Result<(), Fail> {
+    for row in CHANNELS.lines() {
+        check_channel(&rt, rt.alloc(), row)?;
+    }
+    assert_eq!(rt; ChannelShift::from_shift(4294967295).hshift(), -1);
+    let plain = ModularChannelParams::new(9, 4);
+    assert_eq!(rt;
+        (plain.width, plain.height, plain.shift),
+        (9, 4, ChannelShift::Shifts(0))
+    );
+    Ok(())
+}
+
+// The values 1, 2 and 0: the first channel is halved nowhere, the second down, the third both ways.
+#[test]
+fn channels_of_jpeg_pictures(rt: HostRuntime) {
+    let first = ChannelShift::from_jpeg_upsampling([1, 2, 0], 0);
+    let second = ChannelShift::from_jpeg_upsampling([1, 2, 0], 1);
+    let third = ModularChannelParams::jpeg(5, 7, [1, 2, 0], 2);
+    assert_eq!(rt; first.shift_size((5, 7)), (6, 8));
+    assert_eq!(rt; second.shift_size((5, 7)), (6, 4));
+    assert_eq!(rt; third.shift.shift_size((third.width, third.height)), (3, 4));
+    assert_eq!(rt; (second.hshift(), second.vshift()), (0, 1));
+}
+
+// Compares whether an image of so many channels of one sample is valid.
+fn check_image(rt: &impl Abort, alloc: Global, row: &str) -> Result<(), Fail> {
+    let (group_dim, rest) = pair(row, ' ')?;
+    let (bit_depth, rest) = pair(rest, ' ')?;
+    let (count, expected) = pair(rest, '|')?;
+    let channel = ModularChannelParams::new(1, 1);
+    let channels = vec![in alloc; channel; count.parse::<usize>()?]?;
+    let params = ModularParams::<PlainDecoder>::with_channels(
+        group_dim.parse::<u32>()?,
+        bit_depth.parse::<u32>()?,
+        channels,
+        None,
+    );
+    assert_eq!(rt; params.is_valid(), expected == "valid", "{row}");
+    Ok(())
+}
+
+// The side of a group, the bit depth, how many channels there are, and whether that is valid.
+const IMAGES: &str = "2 0 0|valid
+1048576 32 0|valid
+256 33 0|invalid
+0 8 0|invalid
+1 8 0|invalid
+3 8 0|invalid
+255 8 0|invalid
+2097152 8 0|invalid
+2147483648 8 0|invalid
+256 8 1048576|valid
+256 8 1048577|invalid";
+
+#[test]
+fn limits_of_images(rt: HostRuntime) -> Result<(), Fail> {
+    for row in IMAGES.lines() {
+        check_image(&rt, rt.alloc(), row)?;
+    }
+    Ok(())
+}
+
+#[test]
+fn one_picture_of_all_channels(rt: HostRuntime) -> Result<(), Fail> {
+    let shifts = vec![in rt.alloc(); ChannelShift::Shifts(0), ChannelShift::Raw(1, 0)]?;
+    let params = ModularParams::<PlainDecoder>::new(rt.alloc(), 5, 3, 2, 8, shifts, None)?;
+    assert_eq!(rt; params.channels.len(), 2);
+    let second = params.channels[1];
+    assert_eq!(rt; (second.width, second.height), (5, 3));
+    assert_eq!(rt; second.shift, ChannelShift::Raw(1, 0));
+    assert!(rt; params.is_valid());
+    Ok(())
+}

@@ -1,0 +1,367 @@
+// Squeeze steps undone: rows, columns and regions, as listed and as a squeeze of these tests' own makes them.
+
+use crate::cells::{read, write};
+use crate::text::{pair, signed};
+use jxlm_base::error::Result;
+use jxlm_base::grid::{AlignedGrid, MutableSubgrid, OutOfMemory, Region};
+use jxlm_base::sample::Sample;
+use jxlm_transform::squeeze::{inverse_h, inverse_v, unsqueeze};
+use std::alloc::Global;
+use std::process::Abort;
+use std::test::Fail;
+
+fn get<S: Sample>(grid: &AlignedGrid<S>, x: usize, y: usize) -> i64 {
+    if x < grid.width() && y < grid.height() {
+        grid.get(x, y).to_i64()
+    } else {
+        0
+    }
+}
+
+fn set<S: Sample>(grid: &mut AlignedGrid<S>, x: usize, y: usize, value: S) {
+    if x < grid.width() && y < grid.height() {
+        *grid.get_mut(x, y) = value;
+    }
+}
+
+// Undoes the rectangle that leaves one cell around it.
+fn undo<S: Sample>(alloc: Global, across: bool, grid: &mut AlignedGrid<S>) -> Result<()> {
+    let (width, height) = (grid.width(), grid.height());
+    if width < 2 || height < 2 {
+        return Ok(());
+    }
+    let mut subgrid = MutableSubgrid::new(grid, 1, 1, width - 2, height - 2);
+    if across {
+        inverse_h(alloc, &mut subgrid)
+    } else {
+        inverse_v(alloc, &mut subgrid)
+    }
+}
+
+// A grid of 0 with room for a rectangle and a cell around it.
+fn room<S: Sample>(alloc: Global, width: usize, height: usize) -> Result<AlignedGrid<S>> {
+    let grid = AlignedGrid::new(alloc, width.saturating_add(2), height.saturating_add(2))?;
+    Ok(grid)
+}
+
+// Where sample `i` of a line stands in a grid with a cell around the rectangle.
+fn place(across: bool, line: usize, i: usize) -> (usize, usize) {
+    let (line, i) = (line.saturating_add(1), i.saturating_add(1));
+    if across { (i, line) } else { (line, i) }
+}
+
+// The row, or the column, that these averages and residuals come from.
+fn undone<S: Sample>(alloc: Global, across: bool, coded: &[i32]) -> Result<Vec<i32>> {
+    let (width, height) = if across {
+        (coded.len(), 1)
+    } else {
+        (1, coded.len())
+    };
+    let mut grid = room::<S>(alloc, width, height)?;
+    for (i, sample) in coded.iter().enumerate() {
+        let (x, y) = place(across, 0, i);
+        set(&mut grid, x, y, S::from_i32(*sample));
+    }
+    undo(alloc, across, &mut grid)?;
+    let mut samples = Vec::new(alloc);
+    for y in 1..height.saturating_add(1) {
+        for x in 1..width.saturating_add(1) {
+            samples
+                .push(reduced::<i32>(get(&grid, x, y)))
+                .map_err(|_| OutOfMemory)?;
+        }
+    }
+    Ok(samples)
+}
+
+// What a grid of 7 by 6 cells becomes, as the second of a store, where all but its outer cells are undone.
+fn undone_inside<S: Sample>(alloc: Global, across: bool, cells: &[i32]) -> Result<Vec<i32>> {
+    let first = AlignedGrid::<S>::new(alloc, 1, 1)?;
+    let second = AlignedGrid::<S>::new(alloc, 7, 6)?;
+    let mut store = [first, second];
+    let outer = Region {
+        buffer: 1,
+        x: 0,
+        y: 0,
+        width: 7,
+        height: 6,
+    };
+    let inner = Region {
+        buffer: 1,
+        x: 1,
+        y: 1,
+        width: 5,
+        height: 4,
+    };
+    write(&mut store, outer, cells);
+    unsqueeze(across, &mut store, inner, &mut [S::default(); 5]);
+    let mut numbers = Vec::new(alloc);
+    read(&store, outer, &mut numbers)?;
+    Ok(numbers)
+}
+
+// The number, reduced to the type's width.
+fn reduced<S: Sample>(value: i64) -> S {
+    S::from_u32(value.rem_euclid(4294967296) as u32)
+}
+
+// ---- a squeeze, forward
+
+fn tendency(a: i64, b: i64, c: i64) -> i64 {
+    let (p, q) = (a.wrapping_sub(b), b.wrapping_sub(c));
+    if p < 0 || q < 0 {
+        if p <= 0 && q <= 0 {
+            return tendency_of_fall(p.wrapping_neg(), q.wrapping_neg()).wrapping_neg();
+        }
+        return 0;
+    }
+    tendency_of_fall(p, q)
+}
+
+fn tendency_of_fall(p: i64, q: i64) -> i64 {
+    let sum = p.wrapping_mul(4).wrapping_add(q.wrapping_mul(3));
+    let mut x = sum.wrapping_add(6) / 12;
+    if x.wrapping_sub(x % 2) > p.wrapping_mul(2) {
+        x = p.wrapping_mul(2).wrapping_add(1);
+    }
+    if x.wrapping_add(x % 2) > q.wrapping_mul(2) {
+        x = q.wrapping_mul(2);
+    }
+    x
+}
+
+fn sample<S: Sample>(row: &[S], i: usize) -> i64 {
+    if i < row.len() { row[i].to_i64() } else { 0 }
+}
+
+fn difference<S: Sample>(row: &[S], k: usize) -> i64 {
+    let i = k.saturating_mul(2);
+    let (a, b) = (sample(row, i), sample(row, i.saturating_add(1)));
+    reduced::<S>(a.wrapping_sub(b)).to_i64()
+}
+
+fn average<S: Sample>(row: &[S], k: usize) -> S {
+    let i = k.saturating_mul(2);
+    let first = sample(row, i);
+    if i.saturating_add(1) < row.len() {
+        reduced(first.wrapping_sub(difference(row, k) / 2))
+    } else {
+        reduced(first)
+    }
+}
+
+fn residual<S: Sample>(row: &[S], k: usize) -> S {
+    let own = average(row, k).to_i64();
+    let left = if k == 0 {
+        own
+    } else {
+        sample(row, k.saturating_mul(2).saturating_sub(1))
+    };
+    let next = k.saturating_add(1);
+    let right = if next < row.len().div_ceil(2) {
+        average(row, next).to_i64()
+    } else {
+        own
+    };
+    reduced(difference(row, k).wrapping_sub(tendency(left, own, right)))
+}
+
+// The row of these samples, squeezed.
+fn squeezed<S: Sample>(alloc: Global, row: &[S]) -> Result<Vec<S>> {
+    let mut coded = Vec::new(alloc);
+    for k in 0..row.len().div_ceil(2) {
+        coded.push(average(row, k)).map_err(|_| OutOfMemory)?;
+    }
+    for k in 0..row.len() / 2 {
+        coded.push(residual(row, k)).map_err(|_| OutOfMemory)?;
+    }
+    Ok(coded)
+}
+
+// A generated sample of a cell: small steps, great ones, and both ends of the type. `kind` is the seed.
+fn generated<S: Sample>(x: usize, y: usize, kind: u32) -> S {
+    let (x, y) = ((x % 65536) as u32, (y % 65536) as u32);
+    let seed = x.wrapping_mul(73).wrapping_add(y.wrapping_mul(151));
+    let hash = seed.wrapping_mul(2654435761).wrapping_add(kind) ^ (seed >> 3);
+    match hash.wrapping_add(kind) % 4 {
+        0 => S::from_u32(hash % 9),
+        1 => S::from_u32(hash),
+        2 => S::from_u32(hash / 65537),
+        _ => S::from_u32(if hash % 2 == 0 {
+            2147483647
+        } else {
+            2147516416
+        }),
+    }
+}
+
+// Generates every cell of a grid.
+fn generate<S: Sample>(grid: &mut AlignedGrid<S>, kind: u32) {
+    for y in 0..grid.height() {
+        for x in 0..grid.width() {
+            set(grid, x, y, generated(x, y, kind));
+        }
+    }
+}
+
+// Whether every cell is the generated one.
+fn is_generated<S: Sample>(grid: &AlignedGrid<S>, kind: u32) -> bool {
+    let mut same = true;
+    for y in 0..grid.height() {
+        for x in 0..grid.width() {
+            same = same && get(grid, x, y) == generated::<S>(x, y, kind).to_i64();
+        }
+    }
+    same
+}
+
+// Writes a line of this length, squeezed.
+fn squeeze_line<S: Sample>(
+    alloc: Global,
+    across: bool,
+    grid: &mut AlignedGrid<S>,
+    line: usize,
+    len: usize,
+    kind: u32,
+) -> Result<()> {
+    let mut row = Vec::new(alloc);
+    for i in 0..len {
+        let (x, y) = place(across, line, i);
+        row.push(generated::<S>(x, y, kind))
+            .map_err(|_| OutOfMemory)?;
+    }
+    for (i, sample) in squeezed(alloc, &row)?.iter().enumerate() {
+        let (x, y) = place(across, line, i);
+        set(grid, x, y, *sample);
+    }
+    Ok(())
+}
+
+// Whether a picture of these sides comes back from its squeezed rows, or columns, and the cells around it stay.
+fn comes_back<S: Sample>(
+    alloc: Global,
+    across: bool,
+    sides: (usize, usize),
+    kind: u32,
+) -> Result<bool> {
+    let (width, height) = sides;
+    let mut grid = room::<S>(alloc, width, height)?;
+    generate(&mut grid, kind);
+    let (lines, len) = if across {
+        (height, width)
+    } else {
+        (width, height)
+    };
+    for line in 0..lines {
+        squeeze_line(alloc, across, &mut grid, line, len, kind)?;
+    }
+    undo(alloc, across, &mut grid)?;
+    Ok(is_generated(&grid, kind))
+}
+
+#[test]
+fn every_width_and_height(rt: HostRuntime) -> std::result::Result<(), Fail> {
+    for width in 0..21 {
+        for height in 0..21 {
+            for across in [true, false] {
+                let kind = if width % 2 == 0 { 5 } else { 11 };
+                assert!(rt; comes_back::<i16>(rt.alloc(), across, (width, height), kind)?);
+                assert!(rt; comes_back::<i32>(rt.alloc(), across, (width, height), kind)?);
+            }
+        }
+    }
+    // more columns than are undone at a time
+    for across in [true, false] {
+        assert!(rt; comes_back::<i16>(rt.alloc(), across, (300, 9), 2)?);
+        assert!(rt; comes_back::<i32>(rt.alloc(), across, (270, 12), 3)?);
+    }
+    Ok(())
+}
+
+// Averages, then residuals, and the row that they come from, in both widths.
+const ROWS: &str = "10 20 0 0|10 11 20 20
+10 4 3|12 8 4
+7|7
+|
+12000 0 -12000 0 0 0|12000 11999 3500 -3500 -12000 -12000
+66 30|81 51
+0 1|0 -1
+5 5 5 0 0|5 5 5 5 5";
+
+// Generated rows of 16 bits that wrap. An independent program that follows the definitions made them; its seed is not
+// known.
+const NARROW_ROWS: &str = "32767 -1|32767 -32768
+0 -28027 -32768 32767 19320 -32768 -32768|9660 -9661 24779 -15296 16384 -16384 32767
+-13576 -32768 2941|-12105 -15047 -32768
+-6 -25089 21796 0 19 32767 32767 -12906 5273|-16390 16378 -8706 24063 17611 25982 2636 -2637 19
+10 8 -7 19 16 0 -32768|18 1 8 8 -16391 16377 19
+32767 32767 -23366 -32768 -10 -32768 3 -32768 -3 17425 -32768|-32768 32765 16383 -16385 -21029 -25704 -24056 24055 -8288 8269 -32768";
+
+// The same of 32 bits.
+const WIDE_ROWS: &str = "3 1 0 20 2147483647|13 -8 1073741824 -1073741823 0
+-2077575531 901133782|-1627008640 1766824874
+2 2147483647 -2147483648 -9 0 2147483647 8 -8 7 9 2147483647|5 -2 2147483643 -2147483645 -2147483645 2147483644 -5 -14 1073741809 -1073741809 2147483647
+-702638785 -605932110|-1005604840 -399672730
+-104190760 2147483647 -15 -1 16 11 -8|-104190753 -104190768 -2147483644 2147483641 -19 -11 -1
+2147483647 19 -2 -2147483648 -2147483648 2147483647 7 0|1073741824 -1073741825 1073741842 -1073741805 1 -6 -2147483648 -2147483648";
+
+// Undoes a row, and a column.
+fn check_rows<S: Sample>(
+    rt: &impl Abort,
+    alloc: Global,
+    table: &str,
+) -> std::result::Result<(), Fail> {
+    for line in table.lines() {
+        let (coded, expected) = pair(line, '|')?;
+        let (coded, expected) = (signed(alloc, coded)?, signed(alloc, expected)?);
+        for across in [true, false] {
+            let found = undone::<S>(alloc, across, &coded)?;
+            assert_eq!(rt; found.as_slice(), expected.as_slice(), "{line}");
+        }
+    }
+    Ok(())
+}
+
+#[test]
+fn rows_and_columns_of_both_widths(rt: HostRuntime) -> std::result::Result<(), Fail> {
+    check_rows::<i16>(&rt, rt.alloc(), ROWS)?;
+    check_rows::<i32>(&rt, rt.alloc(), ROWS)?;
+    check_rows::<i16>(&rt, rt.alloc(), NARROW_ROWS)?;
+    check_rows::<i32>(&rt, rt.alloc(), WIDE_ROWS)?;
+    Ok(())
+}
+
+// A grid of 7 by 6 cells, and what it becomes where the rows, or the columns, of all but its outer cells are undone.
+const CODED: &str = "9 8 7 6 5 4 3
+1 10 20 0 0 0 -1
+2 12000 0 -12000 0 0 -2
+3 10 4 5 3 -7 -3
+4 66 30 8 0 1 -4
+2 1 0 -1 -2 -3 -4";
+
+const ROWS_UNDONE: &str = "9 8 7 6 5 4 3
+1 10 11 20 20 0 -1
+2 12000 11999 3500 -3500 -12000 -2
+3 12 8 1 8 5 -3
+4 66 65 39 21 8 -4
+2 1 0 -1 -2 -3 -4";
+
+const COLUMNS_UNDONE: &str = "9 8 7 6 5 4 3
+1 14 22 3 1 -3 -1
+2 5 17 -3 -2 4 -2
+3 12033 15 -11996 0 0 -3
+4 11967 -15 -12004 0 -1 -4
+2 1 0 -1 -2 -3 -4";
+
+#[test]
+fn regions_of_a_store(rt: HostRuntime) -> std::result::Result<(), Fail> {
+    let coded = signed(rt.alloc(), CODED)?;
+    for (across, expected) in [(true, ROWS_UNDONE), (false, COLUMNS_UNDONE)] {
+        let expected = signed(rt.alloc(), expected)?;
+        let found = undone_inside::<i16>(rt.alloc(), across, &coded)?;
+        assert_eq!(rt; found.as_slice(), expected.as_slice());
+        let found = undone_inside::<i32>(rt.alloc(), across, &coded)?;
+        assert_eq!(rt; found.as_slice(), expected.as_slice());
+    }
+    Ok(())
+}

@@ -1,0 +1,33 @@
+//! Parameters of channels of one size, valid by their contract.
+
+ghost use Rattle.std.specs.Prelude.{◌≡◌, ◌≤◌, ◌^◌, None, IfOk};
+ghost use Rattle.jxlm_transform.specs.Params.{IsSide, IsValidParams};
+
+use jxlm_base::error::Result;
+use jxlm_base::grid::OutOfMemory;
+use jxlm_base::plain::PlainDecoder;
+use jxlm_transform::param::{ModularChannelParams, ModularParams, channels_of_one_size_are_valid};
+use std::alloc::Global;
+
+/// An image of `count` channels of these sides, of 8 bits a sample, in groups of 256.
+///
+/// # Errors
+///
+/// `Buffer` where it is out of memory.
+pub fn channels_of_one_size(
+    alloc: Global,
+    width: u32,
+    height: u32,
+    count: usize,
+) -> Result<ModularParams<'static, PlainDecoder>>
+    requires width { IsSide width }
+    requires height { IsSide height }
+    requires count { count ≤ 2 ^ 20 }
+    ensures valid { IfOk result (λ p. IsValidParams p) }
+    ensures no_tree { IfOk result (λ p. p.ma_config ≡ None) }
+{
+    channels_of_one_size_are_valid::<PlainDecoder>();
+    let channel = ModularChannelParams::new(width, height);
+    let channels = vec![in alloc; channel; count].map_err(|_| OutOfMemory)?;
+    Ok(ModularParams::with_channels(256, 8, channels, None))
+}
