@@ -123,5 +123,14 @@ awk '
     END { exit bad }
 ' "$index" docs/PROVED.md docs/DEFINITIONS.md || bad=1
 
+# no crate cites the inner definitions of another
+for crate in crates/*/; do
+    name=$(basename "$crate")
+    if grep -rl "Rattle\.$name\.specs\.Inner" crates/*/src crates/*/specs crates/*/proofs 2>/dev/null | grep -v "^crates/$name/"; then
+        echo "the files above cite inner definitions of $name"
+        bad=1
+    fi
+done
+
 if [ "$bad" = 0 ]; then echo "docs: each name is there"; fi
 exit "$bad"

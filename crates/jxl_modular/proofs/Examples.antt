@@ -20,11 +20,11 @@ use Rattle.jxlm_tree.specs.TreeReading.{listing_at, drafts_at, nodes_at, node_at
 use Rattle.jxlm_tree.specs.WeightsHeader.{default_weights}
 use Rattle.jxlm_tree.specs.declared.flat.Leaf.{Leaf}
 use Rattle.jxlm_tree.specs.declared.predictor.Predictor.TheVariants.{Zero, Gradient}
-use Rattle.jxl_modular.specs.Coded.{IsCodedWhole}
-use Rattle.jxl_modular.specs.Decode.{Standing, FailsToRead, FailsToEnd, DecodeAnswers}
-use Rattle.jxl_modular.specs.Header.{Header}
-use Rattle.jxl_modular.specs.Opening.{opening, node_limit}
-use Rattle.jxl_modular.specs.Part.{Part}
+use Rattle.jxlm_part.specs.Coded.{IsCodedWhole}
+use Rattle.jxlm_part.specs.Decode.{Standing, FailsToRead, FailsToEnd, DecodeAnswers}
+use Rattle.jxlm_header.specs.Header.{Header}
+use Rattle.jxlm_header.specs.Opening.{opening, node_limit}
+use Rattle.jxlm_part.specs.Part.{Part}
 use Rattle.jxl_modular.specs.Picture.{IsPicture}
 
 -- one channel of 2 by 2

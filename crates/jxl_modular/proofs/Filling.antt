@@ -15,12 +15,12 @@ use Rattle.jxlm_chain.specs.Chain as chain
 use Rattle.jxlm_transform.specs.Channels.{channel_of}
 use Rattle.jxlm_transform.specs.ChannelSteps.{Step}
 use Rattle.jxlm_transform.specs.declared.channels.ModularChannelInfo.{ModularChannelInfo}
-use Rattle.jxl_modular.specs.Decode.{Standing, Fails, MovesWithin}
-use Rattle.jxl_modular.specs.Filled.{IsFilled, FillFails}
+use Rattle.jxlm_part.specs.Decode.{Standing, Fails, MovesWithin}
+use Rattle.jxl_modular.specs.Inner.Filled.{IsFilled, FillFails}
 use Rattle.jxl_modular.specs.Image.{Image, IsOnlyImage, coded_grids, cost_of, image_grids, samples_in, whole_part}
-use Rattle.jxl_modular.specs.Part.{Part, cell_count}
+use Rattle.jxlm_part.specs.Part.{Part, cell_count}
 use Rattle.jxl_modular.specs.SameButSamples.{SameButCells, SameButSamples}
-use Rattle.jxl_modular.specs.Samples.{DecodesSamples, FailsAtOnePlace, RefusesSamples}
+use Rattle.jxl_modular.specs.Inner.Samples.{DecodesSamples, FailsAtOnePlace, RefusesSamples}
 use Rattle.jxl_modular.proofs.PartLaws.{some_of, none_of}
 
 -- no more reads are tried than there are samples

@@ -4,8 +4,9 @@ use Rattle.std.proofs.lemmas.List.{map-append, length-replicate, take_more}
 use Rattle.std.proofs.lemmas.List.Elements.{All-append, All-map, All-nil, All-cons, All-head, All-tail}
 use Rattle.std.specs.List.{All}
 use Rattle.jxlm_base.specs.Grid.{filled}
-use Rattle.jxlm_chain.specs.Layout.{HasBuffers, HasNarrowTables, Sides, buffers_of, sides_of, tables_of}
-use Rattle.jxlm_chain.specs.Steps.{IsNarrowStore, steps_in}
+use Rattle.jxlm_chain.specs.Layout.{HasBuffers, buffers_of, sides_of}
+use Rattle.jxlm_transform.specs.Steps.{HasNarrowTables, Sides, tables_of, steps_in}
+use Rattle.jxlm_chain.specs.Steps.{IsNarrowStore}
 use Rattle.jxlm_transform.specs.Channels.{Channel as Full, IsNarrow, channel_of as seen, info_of}
 use Rattle.jxlm_transform.specs.ChannelSteps.{Step, RctStep, PaletteStep, SqueezeStep, listed_steps}
 use Rattle.jxlm_transform.specs.Transforms.{Transform, OfRct, OfPalette, OfSqueeze, transform_of}
@@ -13,9 +14,9 @@ use Rattle.jxlm_transform.specs.declared.channels.ModularChannelInfo.{ModularCha
 use Rattle.jxlm_transform.specs.declared.transform.SqueezeParams.{SqueezeParams}
 use Rattle.jxlm_transform.specs.declared.transform.TransformInfo.{TransformInfo}
 use Rattle.jxl_modular.specs.Fresh.{tables_for, zeros}
-use Rattle.jxl_modular.specs.Layout.{channel_of, channels_of}
-use Rattle.jxl_modular.specs.Part as part
-use Rattle.jxl_modular.proofs.OpeningLaws.{steps_further}
+use Rattle.jxlm_part.specs.Layout.{channel_of, channels_of}
+use Rattle.jxlm_part.specs.Part as part
+use Rattle.jxlm_header.proofs.OpeningLaws.{steps_further}
 
 -- grids of zeros have their sides
 pub zeros_fit : {S : Type 0} (zero : S) (sides : List Sides) → HasBuffers sides (zeros zero sides)

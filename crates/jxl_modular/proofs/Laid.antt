@@ -6,7 +6,8 @@ use Rattle.std.proofs.lemmas.List.{length-map, take-map}
 use Rattle.jxlm_base.specs.Grid.{Grid, meanings}
 use Rattle.jxlm_base.specs.Regions.{store_meanings, AllLie, LieApart}
 use Rattle.jxlm_base.specs.declared.subgrid.Region.{Region}
-use Rattle.jxlm_chain.specs.Layout.{LieIn, Layout, first_layout, layout_after_all, tables_of}
+use Rattle.jxlm_chain.specs.Layout.{LieIn, Layout, first_layout, layout_after_all}
+use Rattle.jxlm_transform.specs.Steps.{tables_of}
 use Rattle.jxlm_chain.specs.Shape.{SameShape}
 use Rattle.jxlm_chain.specs.Steps.{CanUndoAll}
 use Rattle.jxlm_chain.specs.Undo.{UndoesAll, undo_of_all}
@@ -14,9 +15,9 @@ use Rattle.jxlm_chain.specs.Chain.{Chain}
 use Rattle.jxlm_transform.specs.Channels.{channel_of}
 use Rattle.jxlm_transform.specs.declared.channels.ModularChannelInfo.{ModularChannelInfo}
 use Rattle.jxl_modular.specs.Image.{Image, IsLaidOut, IsOnlyImage, coded_grids, given_list, image_grids, list_coded}
-use Rattle.jxl_modular.specs.Layout.{channels_of}
-use Rattle.jxl_modular.specs.Part.{Fits}
-use Rattle.jxl_modular.specs.Progress.{SameSizes, grids_in}
+use Rattle.jxlm_part.specs.Layout.{channels_of}
+use Rattle.jxlm_part.specs.Part.{Fits}
+use Rattle.jxlm_part.specs.Progress.{SameSizes, grids_in}
 use Rattle.jxl_modular.specs.SameButSamples.{SameButCells}
 use Rattle.jxl_modular.proofs.Layouts.{buffers_meanings, given_grids, grids_fit, same_sizes}
 use Rattle.jxlm_chain.proofs.CanUndo.{can_undo_all}

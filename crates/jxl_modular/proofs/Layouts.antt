@@ -7,13 +7,14 @@ use Rattle.jxlm_base.specs.Grid.{Grid, grid, IsFull}
 use Rattle.jxlm_base.specs.Regions.{region, grid_of, store_meanings, buffer_of}
 use Rattle.jxlm_base.specs.declared.subgrid.Region.{Region}
 use Rattle.jxlm_base.proofs.Regions.{grid_of_whole, IsFull-grid_of, IsFull-meanings}
-use Rattle.jxlm_chain.specs.Layout.{Sides, HasBuffers, sides_of, whole_regions, first_layout}
+use Rattle.jxlm_chain.specs.Layout.{HasBuffers, sides_of, whole_regions, first_layout}
+use Rattle.jxlm_transform.specs.Steps.{Sides}
 use Rattle.jxlm_transform.specs.Channels.{Channel as Full, channel_of as full}
 use Rattle.jxlm_transform.specs.declared.channels.ModularChannelInfo.{ModularChannelInfo}
 use Rattle.jxl_modular.specs.Image.{HaveSizes}
-use Rattle.jxl_modular.specs.Layout.{channels_of}
-use Rattle.jxl_modular.specs.Part.{Channel, Fits}
-use Rattle.jxl_modular.specs.Progress.{SameSizes, grids_in}
+use Rattle.jxlm_part.specs.Layout.{channels_of}
+use Rattle.jxlm_part.specs.Part.{Channel, Fits}
+use Rattle.jxlm_part.specs.Progress.{SameSizes, grids_in}
 
 -- regions of the channels' sides
 pub same_sizes : (cs : List ModularChannelInfo) (rs : List Region) → AllZip (λ (c : Full) (r : Region). (r.width ≡ c.width) × (r.height ≡ c.height)) (map full cs) rs → SameSizes (channels_of cs) rs

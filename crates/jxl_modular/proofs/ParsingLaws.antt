@@ -16,9 +16,9 @@ use Rattle.jxlm_tree.specs.Tree.{Config}
 use Rattle.jxlm_tree.specs.TreeReading.{IsTreeAt, IsTooDeep, TreeGives, listing_at}
 use Rattle.jxl_modular.specs.Fresh.{fresh}
 use Rattle.jxl_modular.specs.Image.{Image}
-use Rattle.jxl_modular.specs.Opening.{node_limit, depth_limit, opening_of}
+use Rattle.jxlm_header.specs.Opening.{node_limit, depth_limit, opening_of}
 use Rattle.jxl_modular.specs.Parsing.{IsImageAt, IsTreeRefused, ParseGives, opened}
-use Rattle.jxl_modular.specs.declared.header.ModularHeader.{ModularHeader}
+use Rattle.jxlm_header.specs.declared.header.ModularHeader.{ModularHeader}
 
 -- a number that is not 0
 pub not_zero : (n : ℕ) → (n == 0) ≡ false → 0 < n

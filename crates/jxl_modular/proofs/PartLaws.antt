@@ -1,5 +1,5 @@
 -- The part of all coded channels of an image.
-use Rattle.std.proofs.Common.{◌≡◌, ◌≢◌, ℕ, zero, suc, ◌+◌, ◌*◌, ◌<◌, ◌≤◌, List, [], ◌∷◌, ◌++◌, length, take, drop, Bool, refl, sym, ap, ◌∙◌, subst, arith, ℤ}
+use Rattle.std.proofs.Common.{◌≡◌, ◌≢◌, ℕ, zero, suc, ◌+◌, ◌*◌, ◌<◌, ◌≤◌, List, [], ◌∷◌, ◌++◌, length, take, drop, Bool, refl, sym, ap, ◌∙◌, subst, arith, ℤ, inl, Result, Ok, Err, false}
 use Rattle.std.proofs.Math.Seq.{take-append_seam}
 use Rattle.std.proofs.lemmas.List.{length-map}
 use Rattle.std.specs.Int.{Width}
@@ -14,24 +14,23 @@ use Rattle.jxlm_tree.specs.Tree.{Shape}
 use Rattle.jxlm_tree.specs.TreeReading.{IsWantOfMemory}
 use Rattle.jxlm_tree.specs.declared.flat.Leaf.{Leaf}
 use Rattle.jxlm_tree.specs.declared.predictor.WpHeader.{WpHeader}
-use Rattle.std.proofs.Common.{inl, Result, Ok, Err, false}
 use Rattle.jxlm_base.specs.declared.bits.BitstreamError.{BitstreamError}
 use Rattle.jxlm_base.specs.declared.bits.BitstreamError.TheVariants as bit_errors
 use Rattle.jxlm_base.specs.declared.error.Error.{Error}
 use Rattle.jxlm_base.specs.declared.error.Error.TheVariants.{InvalidMaTree, GlobalMaTreeNotAvailable, InvalidRctParams, InvalidPaletteParams, InvalidSqueezeParams, Bitstream, Decoder, Buffer}
-use Rattle.jxl_modular.specs.Coded.{IfSome}
-use Rattle.jxl_modular.specs.Decode.{Standing, DecodeAnswers, MovesWithin}
+use Rattle.jxlm_part.specs.Coded.{IfSome}
+use Rattle.jxlm_part.specs.Decode.{Standing, DecodeAnswers, MovesWithin}
 use Rattle.jxl_modular.specs.Image.{Image, IsLaidOut, coded_grids, cost_of as image_cost, whole_part, samples_in}
-use Rattle.jxl_modular.specs.Layout.{channels_of}
-use Rattle.jxl_modular.specs.Part.{Channel, Part, cell_count, greatest_width}
-use Rattle.jxl_modular.specs.Progress.{DecodesAll, DecodesSome}
-use Rattle.jxl_modular.specs.Reading.{HasFlats, IsCodingOf, IsRoomy, IsRoomyFor, regions_of}
-use Rattle.jxl_modular.specs.Samples.{DecodesSamples, FailsAtOnePlace, RefusesSamples}
+use Rattle.jxlm_part.specs.Layout.{channels_of}
+use Rattle.jxlm_part.specs.Part.{Channel, Part, cell_count, greatest_width}
+use Rattle.jxlm_part.specs.Progress.{DecodesAll, DecodesSome}
+use Rattle.jxlm_part.specs.Reading.{HasFlats, IsCodingOf, IsRoomy, IsRoomyFor, regions_of}
+use Rattle.jxl_modular.specs.Inner.Samples.{DecodesSamples, FailsAtOnePlace, RefusesSamples}
 use Rattle.jxlm_transform.specs.declared.channels.ModularChannelInfo.{ModularChannelInfo}
-use Rattle.jxl_modular.specs.declared.coding.PartCoding.{PartCoding}
+use Rattle.jxlm_part.specs.declared.coding.PartCoding.{PartCoding}
 use Rattle.jxlm_tree.specs.declared.state.PredictorState.{PredictorState}
-use Rattle.jxl_modular.proofs.Starting.{roomy_for}
-use Rattle.jxl_modular.proofs.Loops.{same_count}
+use Rattle.jxlm_part.proofs.Starting.{roomy_for}
+use Rattle.jxlm_part.proofs.Loops.{same_count}
 use Rattle.jxl_modular.proofs.Laid.{coded_sizes, coded_fit}
 
 -- a list written over whole

@@ -8,19 +8,19 @@ use Rattle.jxlm_base.specs.Fault.{Fault, NoMemory, UnlessMemory, fault_of}
 use Rattle.jxlm_base.specs.Grid.{Grid}
 use Rattle.jxlm_base.specs.declared.error.Error.{Error}
 use Rattle.jxlm_chain.specs.Chain.{AreGridsOf, Chain, IsOnlyImage}
-use Rattle.jxlm_transform.proofs.Refusals.{unless_so}
+use Rattle.jxlm_tree.proofs.Memory.{unless_so}
 use Rattle.jxlm_transform.specs.Channels.{Channel, ChannelList, area, channel_of, info_of, image_list}
 use Rattle.jxlm_transform.specs.ChannelSteps.{Step}
 use Rattle.jxlm_transform.specs.declared.param.ModularChannelParams.{ModularChannelParams}
 use Rattle.jxlm_transform.specs.declared.param.ModularParams.{ModularParams}
-use Rattle.jxl_modular.specs.Coded.{IsCodedWhole}
-use Rattle.jxl_modular.specs.Decode.{Fails, MovesWithin}
-use Rattle.jxl_modular.specs.Filled.{IsFilled, FillFails}
+use Rattle.jxlm_part.specs.Coded.{IsCodedWhole}
+use Rattle.jxlm_part.specs.Decode.{Fails, MovesWithin}
+use Rattle.jxl_modular.specs.Inner.Filled.{IsFilled, FillFails}
 use Rattle.jxl_modular.specs.Fresh.{fresh}
 use Rattle.jxl_modular.specs.Image.{Image, IsLaidOut, cost_of, coded_grids, image_grids, samples_in, whole_part}
-use Rattle.jxl_modular.specs.Layout.{channels_of}
+use Rattle.jxlm_part.specs.Layout.{channels_of}
 use Rattle.jxl_modular.specs.Parsing.{ParseGives, IsImageAt, image_of}
-use Rattle.jxl_modular.specs.Part as part
+use Rattle.jxlm_part.specs.Part as part
 use Rattle.jxl_modular.specs.Picture.{IsPicture, IsPictureRead, PictureFails, SamplesFail, StepsFor, StepsWithin, coded_channel, zero_grids}
 use Rattle.jxl_modular.specs.declared.root.Modular.{Modular}
 use Rattle.jxl_modular.proofs.ZeroGrids.{fresh_zeros}
@@ -84,7 +84,7 @@ module _ {S D : Type 0} (d : Meaning D) (z : S) (bytes : List ℕ) (p : ℕ) (pa
   pub fails_read : (w : Width) (stream : ℕ) (list : List ModularChannelParams) (e : Error) (q before : ℕ) → ParseGives d z bytes p params list (Err e) q →
       PictureFails d w bytes stream (image_list params.channels.items) p (fault_of e) q before before
   fails_read w stream [] e q before h = absurd h
-  fails_read w stream (c ∷ cs) e q before h = unless_so (fault_of e) _ _ (λ either. inl (either, refl)) h
+  fails_read w stream (c ∷ cs) e q before h = unless_so (fault_of e) (λ either. inl (either, refl)) h
 
 -- ---- an image that was read, and then filled
 
@@ -155,4 +155,4 @@ module _ {S D : Type 0} (d : Meaning D) (w : Width) (to_int : S → ℤ) (bytes 
 
     -- an error of filling is one of the picture
     pub fails_filling : UnlessMemory fault (FillFails d w to_int bytes stream read place fault q before after) → PictureFails d w bytes stream given p fault q before after
-    fails_filling h = unless_so fault _ _ (λ f. inr (samples_fail f)) h
+    fails_filling h = unless_so fault (λ f. inr (samples_fail f)) h

@@ -7,16 +7,17 @@ use Rattle.jxlm_base.specs.declared.subgrid.Region.{Region}
 use Rattle.jxlm_base.proofs.Cells.{grid_same}
 use Rattle.jxlm_base.proofs.GridLaws.{IsFull-grid_by, cell-grid_by, cell-filled, grid_by_same}
 use Rattle.std.proofs.lemmas.List.{length-replicate}
-use Rattle.jxlm_chain.specs.Layout.{Sides, buffers_of}
+use Rattle.jxlm_chain.specs.Layout.{buffers_of}
+use Rattle.jxlm_transform.specs.Steps.{Sides}
 use Rattle.jxlm_transform.specs.Channels.{ChannelList}
 use Rattle.jxlm_tree.specs.Tree.{Config}
 use Rattle.jxl_modular.specs.Fresh.{fresh, zeros}
 use Rattle.jxl_modular.specs.Image.{Image, IsLaidOut, coded_grids}
-use Rattle.jxl_modular.specs.Layout.{channels_of}
-use Rattle.jxl_modular.specs.Opening.{Opening}
-use Rattle.jxl_modular.specs.Part.{Channel}
+use Rattle.jxlm_part.specs.Layout.{channels_of}
+use Rattle.jxlm_header.specs.Opening.{Opening}
+use Rattle.jxlm_part.specs.Part.{Channel}
 use Rattle.jxl_modular.specs.Picture.{zero_grids}
-use Rattle.jxl_modular.specs.Progress.{SameSizes, grids_in}
+use Rattle.jxlm_part.specs.Progress.{SameSizes, grids_in}
 use Rattle.jxl_modular.proofs.Laid.{coded_sizes}
 
 none_at : (n i : ℕ) → get_or (replicate n (pos 0)) i (pos 0) ≡ pos 0

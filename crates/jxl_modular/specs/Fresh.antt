@@ -1,12 +1,13 @@
 -- An image before any of its samples is decoded.
 use Rattle.std.specs.Prelude.{ℕ, List, [], ◌∷◌, map}
 use Rattle.jxlm_base.specs.Grid.{Grid, filled}
-use Rattle.jxlm_chain.specs.Layout.{Sides, buffers_of, first_layout, layout_after_all}
+use Rattle.jxlm_chain.specs.Layout.{buffers_of, first_layout, layout_after_all}
+use Rattle.jxlm_transform.specs.Steps.{Sides}
 use Rattle.jxlm_tree.specs.Tree.{Config}
 use Rattle.jxlm_transform.specs.Channels.{ChannelList, info_of}
 use Rattle.jxlm_transform.specs.Transforms.{Transform, OfRct, OfPalette, OfSqueeze}
 use Rattle.jxl_modular.specs.Image.{Image}
-use Rattle.jxl_modular.specs.Opening.{Opening}
+use Rattle.jxlm_header.specs.Opening.{Opening}
 
 -- for each buffer a grid of its sides, whose cells are 0
 abbrev pub zeros : {S : Type 0} → S → List Sides → List (Grid S)

@@ -7,7 +7,8 @@ use Rattle.jxlm_base.specs.Grid.{Grid, grid_code}
 use Rattle.jxlm_base.specs.Regions.{store_meanings}
 use Rattle.jxlm_base.specs.declared.subgrid.Region.{Region}
 use Rattle.jxlm_chain.specs.Layout.{HasBuffers, buffers_of, first_layout, layout_after_all}
-use Rattle.jxlm_chain.specs.Steps.{HasChannels, HasWeights, IsNarrowStore}
+use Rattle.jxlm_chain.specs.Steps.{IsNarrowStore}
+use Rattle.jxlm_transform.specs.Steps.{HasChannels, HasWeights}
 use Rattle.jxlm_chain.specs.Chain as chain
 use Rattle.jxlm_transform.specs.Channels.{ChannelList, channel_of}
 use Rattle.jxlm_transform.specs.ChannelSteps.{Step, list_after_all}
@@ -15,9 +16,9 @@ use Rattle.jxlm_transform.specs.declared.channels.ModularChannelInfo.{ModularCha
 use Rattle.jxlm_tree.specs.Tree.{Config, depth}
 use Rattle.jxlm_tree.specs.SelfCorrecting.{IsHeader}
 use Rattle.jxlm_tree.specs.declared.predictor.WpHeader.{WpHeader}
-use Rattle.jxl_modular.specs.Layout.{channels_of}
-use Rattle.jxl_modular.specs.Part.{Part, IsNarrow, cell_count}
-use Rattle.jxl_modular.specs.Progress.{grids_in}
+use Rattle.jxlm_part.specs.Layout.{channels_of}
+use Rattle.jxlm_part.specs.Part.{Part, IsNarrow, cell_count}
+use Rattle.jxlm_part.specs.Progress.{grids_in}
 
 -- the weights of its header, the steps of its transforms, its tree with the decoder of the leaves, the side of its groups, the bit depth
 -- of its samples, its own channels, its coded channels, the first nb_meta of which hold tables and what became of them, its buffers, and

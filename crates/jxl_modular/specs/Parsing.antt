@@ -11,7 +11,7 @@ use Rattle.jxlm_tree.specs.Tree.{Config}
 use Rattle.jxlm_tree.specs.TreeReading.{IsTreeAt, IsTooDeep, listing_at}
 use Rattle.jxl_modular.specs.Fresh.{fresh}
 use Rattle.jxl_modular.specs.Image.{Image}
-use Rattle.jxl_modular.specs.Opening.{Opening, opening, node_limit, depth_limit}
+use Rattle.jxlm_header.specs.Opening.{Opening, opening, node_limit, depth_limit}
 use Rattle.jxl_modular.specs.declared.root.Modular.{Modular}
 
 -- the image that there is; with no channels there is none

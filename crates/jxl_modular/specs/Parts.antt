@@ -1,7 +1,7 @@
 -- A part of an image, and what a call on it leaves.
 use Rattle.std.specs.Prelude.{ℕ, ℤ, Bool}
 use Rattle.std.specs.Borrow.{GName}
-use Rattle.jxl_modular.specs.Decode.{Standing}
+use Rattle.jxlm_part.specs.Decode.{Standing}
 use Rattle.jxl_modular.specs.Image.{Image, coded_grids}
 use Rattle.jxl_modular.specs.declared.image.TransformedModularSubimage.{TransformedModularSubimage}
 

@@ -11,11 +11,11 @@ use Rattle.jxlm_transform.specs.Channels.{ChannelList, area}
 use Rattle.jxlm_transform.specs.Channels as lists
 use Rattle.jxlm_tree.specs.Tree.{Config, Shape, depth}
 use Rattle.jxlm_tree.specs.declared.flat.Leaf.{Leaf}
-use Rattle.jxl_modular.specs.Coded.{IsCodedWhole}
-use Rattle.jxl_modular.specs.Decode.{Fails, MovesWithin}
-use Rattle.jxl_modular.specs.Opening.{Opening}
+use Rattle.jxlm_part.specs.Coded.{IsCodedWhole}
+use Rattle.jxlm_part.specs.Decode.{Fails, MovesWithin}
+use Rattle.jxlm_header.specs.Opening.{Opening}
 use Rattle.jxl_modular.specs.Parsing.{IsStartAt, IsTreeRefused, opened}
-use Rattle.jxl_modular.specs.Part.{Part, Channel}
+use Rattle.jxlm_part.specs.Part.{Part, Channel}
 
 -- a coded channel as a part sees it: its size and its shifts (Modular: channels)
 abbrev pub coded_channel : lists.Channel → Channel

@@ -2,7 +2,7 @@
 use Rattle.std.specs.Prelude.{◌≡◌}
 use Rattle.jxlm_chain.specs.Shape.{SameShape}
 use Rattle.jxl_modular.specs.Image.{Image}
-use Rattle.jxl_modular.specs.Progress.{KeepsOutside}
+use Rattle.jxlm_part.specs.Progress.{KeepsOutside}
 
 module _ {S D : Type 0} where
   -- Only cells of the buffers may differ: weights, steps, tree, channels and regions are as before, and so are the buffers' sizes.

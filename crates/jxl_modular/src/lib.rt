@@ -1,11 +1,6 @@
 //! Modular images of JPEG XL.
 #![tactic(auto)]
 
-mod cell;
-mod channels;
-mod coding;
-mod decode;
-mod header;
 pub mod image;
 pub mod laws;
 mod picture;

@@ -7,8 +7,8 @@ ghost use Rattle.jxlm_base.specs.Fault.{UnlessMemory, fault_of};
 ghost use Rattle.jxlm_chain.specs.Chain.{AreGridsOf};
 ghost use Rattle.jxlm_transform.specs.Channels.{image_list};
 ghost use Rattle.jxlm_transform.specs.Params.{IsValidParams};
-ghost use Rattle.jxl_modular.specs.Decode.{MovesWithin};
-ghost use Rattle.jxl_modular.specs.Filled.{IsFilled, FillFails};
+ghost use Rattle.jxlm_part.specs.Decode.{MovesWithin};
+ghost use Rattle.jxl_modular.specs.Inner.Filled.{IsFilled, FillFails};
 ghost use Rattle.jxl_modular.specs.Image.{IsLaidOut, cost_of, image_grids, samples_in};
 ghost use Rattle.jxl_modular.specs.Picture.{IsPictureRead, PictureFails, StepsWithin};
 

@@ -1,83 +1,27 @@
 //! Modular images as they are read.
 
-ghost use Rattle.std.specs.Prelude.{◌≡◌, ◌≤◌, pos, length, None, Ok, IfOk};
+ghost use Rattle.std.specs.Prelude.{◌≡◌, pos, None, Ok};
 ghost use Rattle.std.specs.List.{All};
 ghost use Rattle.std.specs.Option.{option_copied, option_copied_mut};
 ghost use Rattle.jxlm_base.specs.Bits.{bytes_of, position_of};
-ghost use Rattle.jxlm_chain.specs.Layout.{HasNarrowTables};
-ghost use Rattle.jxlm_chain.specs.Steps.{HasChannels, HasWeights, steps_in};
-ghost use Rattle.jxlm_transform.specs.Channels.{IsNarrow, image_list, list_of};
-ghost use Rattle.jxlm_transform.specs.ChannelSteps.{list_after_all};
-ghost use Rattle.jxlm_transform.specs.Params.{IsValidChannel, IsValidParams};
-ghost use Rattle.jxlm_transform.specs.Transforms.{Parses};
-ghost use Rattle.jxlm_tree.specs.SelfCorrecting.{IsHeader};
-ghost use Rattle.jxl_modular.specs.Header.{header_of};
-ghost use Rattle.jxl_modular.specs.Opening.{CheckGives, conditions, opening, opening_of};
+ghost use Rattle.jxlm_transform.specs.Params.{IsValidParams};
 ghost use Rattle.jxl_modular.specs.Parsing.{ParseGives, image_of};
 
-use crate::channels::node_limit;
-use crate::header::{ModularHeader, prepare_transforms};
 use crate::image::ModularImageDestination;
-use jxlm_base::bits::{Bitstream, BitstreamError};
+use jxlm_base::bits::Bitstream;
 use jxlm_base::decoder::Decoder;
-use jxlm_base::error::{Error, Result};
+use jxlm_base::error::Result;
 use jxlm_base::sample::Sample;
+use jxlm_header::opening::{DEPTH_LIMIT, node_limit, open};
 use jxlm_transform::channels::ModularChannels;
-use jxlm_transform::param::{ModularChannelParams, ModularParams};
+use jxlm_transform::param::ModularParams;
 use jxlm_tree::ma::{MaConfig, MaConfigParams};
 use std::alloc::Global;
-
-/// The greatest number of coded channels.
-const MAX_CODED_CHANNELS: usize = 65536;
-
-/// The greatest depth of a tree of an image's own.
-const DEPTH_LIMIT: usize = 2048;
 
 /// A Modular image, or none where there are no channels.
 #[derive(Drop)]
 pub struct Modular<S, D: Decoder> {
     inner: Option<ModularImageDestination<S, D>>,
-}
-
-/// The conditions on a header and its coded channels, in order: at most 65536 channels are coded, and
-/// a global tree that is asked for is there.
-fn check(header: &ModularHeader, channels: &ModularChannels, has_global: bool) -> Result<()>
-    ensures { CheckGives (conditions has_global (header_of header.now) (list_of channels.now)) result }
-{
-    if channels.info.len() > MAX_CODED_CHANNELS {
-        let refusal = BitstreamError::ProfileConformance("nb_channels_tr too large");
-        return Err(Error::Bitstream(refusal));
-    }
-    if header.use_global_tree && !has_global {
-        return Err(Error::GlobalMaTreeNotAvailable);
-    }
-    Ok(())
-}
-
-/// Reads what stands ahead of a tree: the header, whose transforms are applied to the channels of the
-/// image, and whose conditions come behind them.
-fn open(
-    alloc: Global,
-    bits: &mut Bitstream<'_>,
-    params: &[ModularChannelParams],
-    has_global: bool,
-) -> Result<(ModularHeader, ModularChannels)>
-    requires { All IsValidChannel params.now }
-    ensures gives { Parses opening_of result (position_of bits.new) ((opening has_global (image_list params.now)).read (bytes_of bits.old) (position_of bits.old)) }
-    ensures narrow { IfOk result (λ o. All IsNarrow (list_of o.1).channels) }
-    ensures few { IfOk result (λ o. length o.1.info.items ≤ 65536) }
-    ensures weights { IfOk result (λ o. IsHeader o.0.wp_params) }
-    ensures list { IfOk result (λ o. list_after_all (steps_in (header_of o.0).transform) (image_list params.now) ≡ Ok (list_of o.1)) }
-    ensures steps { IfOk result (λ o. All HasChannels (steps_in (header_of o.0).transform)) }
-    ensures palettes { IfOk result (λ o. All (HasWeights o.0.wp_params) (steps_in (header_of o.0).transform)) }
-    ensures tables { IfOk result (λ o. HasNarrowTables (steps_in (header_of o.0).transform)) }
-    ensures bytes { bytes_of bits.new ≡ bytes_of bits.old }
-{
-    let mut header = ModularHeader::parse(alloc, bits)?;
-    let mut channels = ModularChannels::new(alloc, params)?;
-    prepare_transforms(alloc, &mut header.transform, &mut channels)?;
-    check(&header, &channels, has_global)?;
-    Ok((header, channels))
 }
 
 impl<S: Sample, D: Decoder> Modular<S, D> {

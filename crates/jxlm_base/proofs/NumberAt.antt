@@ -6,7 +6,7 @@ use Rattle.std.proofs.Math.ListN.{length-append, length-set}
 use Rattle.std.proofs.lemmas.List.{get_or-map, get_or-set_same, length-take-le, length-drop}
 use Rattle.std.proofs.lemmas.Option.{unwrap_or-slice_get, slice_get-map}
 use Rattle.jxlm_base.specs.Grid.{written}
-use Rattle.jxlm_base.specs.Unsqueeze.{number_at}
+use Rattle.jxlm_base.specs.Inner.Unsqueeze.{number_at}
 use Rattle.jxlm_base.proofs.Cells.{slice_get-set_other}
 
 module _ {X : Type 0} where

@@ -4,7 +4,7 @@ use Rattle.std.specs.Int.{Width, w16, w32, int_wrap, int_wrapping_add}
 use Rattle.std.proofs.lemmas.Bool.{cases_lt}
 use Rattle.std.proofs.lemmas.Int.{ints, to_z-of_z, to_z_pos, wrapping_add_is, quot_fits, SFits-int_wrap}
 use Rattle.jxlm_base.specs.Squeeze.{slope, tendency}
-use Rattle.jxlm_base.specs.Unsqueeze.{pair_difference, first_of}
+use Rattle.jxlm_base.specs.Inner.Unsqueeze.{pair_difference, first_of}
 use Rattle.jxlm_base.proofs.SqueezeLaws.{if_lt, if_ge}
 
 -- what a comparison says of numbers that fit

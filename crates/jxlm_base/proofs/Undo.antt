@@ -7,7 +7,7 @@ use Rattle.std.proofs.lemmas.Bool.{cases_lt}
 use Rattle.jxlm_base.specs.Grid.{Grid, at, row, place, written, with_row, meanings, grid_by, IsFull}
 use Rattle.jxlm_base.specs.Squeeze.{AreSamples, AreSame, AreGridSamples, squeezed, squeezed_rows, squeezed_columns}
 use Rattle.jxlm_base.specs.Subgrid.{IsSameOutside}
-use Rattle.jxlm_base.specs.Unsqueeze.{number_at, IsUnsqueezed}
+use Rattle.jxlm_base.specs.Inner.Unsqueeze.{number_at, IsUnsqueezed}
 use Rattle.jxlm_base.proofs.NumberAt.{number_same}
 use Rattle.jxlm_base.proofs.GridLaws.{grid_by_same, at-grid_by}
 use Rattle.jxlm_base.proofs.SqueezeLaws.{IsUnsqueezed_same, squeezed_is, samples_of_undone}

@@ -8,10 +8,9 @@ pub mod GridLends
 pub mod Numbers
 pub mod Outside
 pub mod Plain
-pub mod PlainLaws
 pub mod Regions
 pub mod SampleLaws
 pub mod PlainTokens
 pub mod Squeeze
 pub mod Subgrid
-pub mod Unsqueeze
+pub mod Inner

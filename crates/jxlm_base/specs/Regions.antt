@@ -65,3 +65,7 @@ LieApart rs = AllPairs AreApart rs
 abbrev pub WritesChangeOneGrid : List Region → Type 0
 WritesChangeOneGrid rs = (store : List (Grid ℤ)) (i x y : ℕ) (v : ℤ) (d : Region) → AllLie rs store → i < length rs → let r : Region = get_or rs i d in
     x < r.width → y < r.height → map (grid_of (with_region_cell store r x y v)) rs ≡ slice_set (map (grid_of store) rs) i (with_cell (grid_of store r) x y v)
+
+-- the grids that stand in regions
+abbrev pub grids_in : List Region → List (Grid ℤ) → List (Grid ℤ)
+grids_in regions store = map (grid_of store) regions

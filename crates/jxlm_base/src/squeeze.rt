@@ -4,7 +4,7 @@ ghost use Rattle.std.specs.Int.{Width, w16, w32};
 ghost use Rattle.jxlm_base.specs.Grid.{cell};
 ghost use Rattle.jxlm_base.specs.Squeeze.{slope, tendency, averages, AreSamples, AreGridSamples, squeezed_rows, squeezed_columns};
 ghost use Rattle.jxlm_base.specs.Subgrid.{whole, IsSamePlace, IsSameOutside, KeepsOutside, numbers_in};
-ghost use Rattle.jxlm_base.specs.Unsqueeze.{first_of, second_of, next_in, first_in, before_in, number_at, row_in, column_in, IsUnsqueezed};
+ghost use Rattle.jxlm_base.specs.Inner.Unsqueeze.{first_of, second_of, next_in, first_in, before_in, number_at, row_in, column_in, IsUnsqueezed};
 
 use crate::grid::OutOfMemory;
 use crate::subgrid::MutableSubgrid;

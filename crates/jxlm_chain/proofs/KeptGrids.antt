@@ -5,7 +5,7 @@ use Rattle.std.specs.List.{All, AllZip}
 use Rattle.std.proofs.lemmas.List.{get_or_default}
 use Rattle.jxlm_base.specs.Grid.{Grid, at}
 use Rattle.jxlm_base.specs.Outside.{KeepsOutside}
-use Rattle.jxlm_base.specs.Regions.{buffer_of, grid_of, Lies, AllLie, AreApart, LieApart, store_meanings}
+use Rattle.jxlm_base.specs.Regions.{buffer_of, grid_of, Lies, AllLie, AreApart, LieApart, store_meanings, grids_in}
 use Rattle.jxlm_base.specs.declared.subgrid.Region.{Region}
 use Rattle.jxlm_base.proofs.GridLaws.{grid_by_same}
 use Rattle.jxlm_base.proofs.Outside.{number_same, region_cell_kept}
@@ -13,7 +13,7 @@ use Rattle.jxlm_base.proofs.Regions.{HasCell_at, apart_at, IsFull-grid_of}
 use Rattle.jxlm_transform.specs.Channels.{Channel}
 use Rattle.jxlm_transform.specs.ChannelSteps.{range}
 use Rattle.jxlm_chain.specs.Chain.{AreGridsOf}
-use Rattle.jxlm_chain.specs.Layout.{Layout, LieIn, grids_in}
+use Rattle.jxlm_chain.specs.Layout.{Layout, LieIn}
 use Rattle.jxlm_chain.proofs.Ranges.{range_at, range_length}
 
 module _ {S : Type 0} (f : S → ℤ) where

@@ -16,8 +16,8 @@ use Rattle.jxlm_transform.specs.ChannelSteps.{Step, RctStep, PaletteStep, Squeez
 use Rattle.jxlm_transform.specs.declared.transform.Palette.{Palette}
 use Rattle.jxlm_transform.specs.declared.transform.SqueezeParams.{SqueezeParams}
 use Rattle.jxlm_transform.specs.SqueezedRegions.{average_region, residual_region}
-use Rattle.jxlm_chain.specs.Layout.{Layout, Sides, whole_regions, first_layout, layout_after, layout_after_all, no_region, sides_of, tables_of, buffers_of, HasSides, HasBuffers, HasTables, LieIn}
-use Rattle.jxlm_chain.specs.Steps.{HasChannels}
+use Rattle.jxlm_chain.specs.Layout.{Layout, whole_regions, first_layout, layout_after, layout_after_all, no_region, sides_of, buffers_of, HasSides, HasBuffers, HasTables, LieIn}
+use Rattle.jxlm_transform.specs.Steps.{Sides, tables_of, HasChannels}
 use Rattle.jxlm_chain.proofs.ListsApart.{pairs_cons, zip_length, zip_parts}
 use Rattle.jxlm_chain.proofs.StepFacts.{PaletteApplies, SqueezeApplies, rct_applies, palette_applies, squeeze_applies, same_ok, first_step}
 use Rattle.jxlm_chain.proofs.StepParts.{with_first, all_first, all_halves, pairs_first, pairs_halves, zip_first, zip_halves}

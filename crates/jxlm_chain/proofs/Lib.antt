@@ -15,7 +15,6 @@ pub mod SampleGrids
 pub mod ShapeLaws
 pub mod SqueezedGrids
 pub mod StepFacts
-pub mod StepLaws
 pub mod StepParts
 pub mod UndoLoop
 pub mod Undone

@@ -7,9 +7,9 @@ use Rattle.jxlm_transform.specs.Channels.{Channel, ChannelList}
 use Rattle.jxlm_transform.specs.ChannelSteps.{Step, RctStep, PaletteStep, SqueezeStep, list_after_all, listed_steps}
 use Rattle.jxlm_transform.specs.Transforms.{Transform, OfRct, OfPalette, OfSqueeze}
 use Rattle.jxlm_transform.specs.declared.transform.SqueezeParams.{SqueezeParams}
-use Rattle.jxlm_chain.specs.Layout.{Layout, first_layout, layout_after, layout_after_all, tables_of}
+use Rattle.jxlm_chain.specs.Layout.{Layout, first_layout, layout_after, layout_after_all}
+use Rattle.jxlm_transform.specs.Steps.{tables_of, HasChannels, steps_in}
 use Rattle.jxlm_chain.specs.Places.{CanTakeAll, Suit, layout_of}
-use Rattle.jxlm_chain.specs.Steps.{HasChannels, steps_in}
 use Rattle.jxlm_chain.specs.Undo.{Undo, undo_of, undo_of_all}
 use Rattle.jxlm_chain.specs.Undoings.{GoesOn, undos_of}
 use Rattle.jxlm_chain.specs.declared.undo.Plan.{Plan}

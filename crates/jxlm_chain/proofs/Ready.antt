@@ -7,9 +7,10 @@ use Rattle.jxlm_base.specs.declared.subgrid.Region.{Region}
 use Rattle.jxlm_tree.specs.declared.predictor.WpHeader.{WpHeader}
 use Rattle.jxlm_transform.specs.Channels.{Channel}
 use Rattle.jxlm_transform.specs.ChannelSteps.{Step, RctStep, PaletteStep, SqueezeStep, range}
-use Rattle.jxlm_chain.specs.Layout.{Layout, Sides, HasBuffers, buffers_of, first_layout, layout_after}
+use Rattle.jxlm_chain.specs.Layout.{Layout, HasBuffers, buffers_of, first_layout, layout_after}
+use Rattle.jxlm_transform.specs.Steps.{Sides, HasWeights}
 use Rattle.jxlm_chain.specs.Places.{Suit}
-use Rattle.jxlm_chain.specs.Steps.{CanUndoAll, HasWeights, IsNarrowStore}
+use Rattle.jxlm_chain.specs.Steps.{CanUndoAll, IsNarrowStore}
 use Rattle.jxlm_chain.specs.Undo.{Undo, UndoSqueeze, undo_of, undo_of_all}
 use Rattle.jxlm_chain.specs.Undoings.{SuitsWeights}
 use Rattle.jxlm_chain.proofs.CanUndo.{can_undo_all}

@@ -4,12 +4,12 @@ use Rattle.std.specs.Prelude.{Ok}
 use Rattle.std.specs.List.{All}
 use Rattle.std.specs.Int.{Width}
 use Rattle.jxlm_base.specs.Grid.{Grid}
-use Rattle.jxlm_base.specs.Regions.{store_meanings}
+use Rattle.jxlm_base.specs.Regions.{store_meanings, grids_in}
 use Rattle.jxlm_transform.specs.Channels.{Channel, ChannelList}
 use Rattle.jxlm_transform.specs.ChannelSteps.{Step, RctStep, PaletteStep, SqueezeStep, list_after_all}
 use Rattle.jxlm_chain.specs.Chain.{Codes, Chain}
-use Rattle.jxlm_chain.specs.Layout.{Layout, LieIn, HasTables, layout_after, layout_after_all, grids_in}
-use Rattle.jxlm_chain.specs.Steps.{HasChannels}
+use Rattle.jxlm_chain.specs.Layout.{Layout, LieIn, HasTables, layout_after, layout_after_all}
+use Rattle.jxlm_transform.specs.Steps.{HasChannels}
 use Rattle.jxlm_chain.specs.Undo.{Undo, UndoesAll, undo_of, undo_of_all}
 use Rattle.jxlm_chain.proofs.KeptGrids.{grids_of_lying}
 use Rattle.jxlm_chain.proofs.LayoutLaws.{lie_after}

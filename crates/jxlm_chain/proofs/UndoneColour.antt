@@ -4,14 +4,14 @@ use Rattle.std.specs.Prelude.{map}
 use Rattle.std.specs.Int.{Width}
 use Rattle.jxlm_base.specs.Grid.{Grid}
 use Rattle.jxlm_base.specs.Outside.{KeepsOutside}
-use Rattle.jxlm_base.specs.Regions.{grid_of, store_meanings}
+use Rattle.jxlm_base.specs.Regions.{grid_of, store_meanings, grids_in}
 use Rattle.jxlm_base.specs.declared.subgrid.Region.{Region}
 use Rattle.jxlm_transform.specs.Channels.{Channel}
 use Rattle.jxlm_transform.specs.ChannelSteps.{RctStep, range, with_range}
 use Rattle.jxlm_transform.specs.Recoloured.{recoloured, UndoesColour}
 use Rattle.jxlm_transform.specs.declared.transform.Rct.{Rct}
 use Rattle.jxlm_chain.specs.Chain.{AreSampleGrids, Codes}
-use Rattle.jxlm_chain.specs.Layout.{Layout, LieIn, layout_after, grids_in}
+use Rattle.jxlm_chain.specs.Layout.{Layout, LieIn, layout_after}
 use Rattle.jxlm_chain.specs.Undo.{UndoRct, Undoes, UndoesAll, undo_of}
 use Rattle.jxlm_chain.proofs.KeptGrids.{grid_out_of_range}
 use Rattle.jxlm_chain.proofs.Ranges.{range_map, with_own, with_range_same}

@@ -4,14 +4,14 @@ use Rattle.std.specs.Prelude.{get_or, map}
 use Rattle.std.specs.Int.{Width}
 use Rattle.jxlm_base.specs.Grid.{Grid}
 use Rattle.jxlm_base.specs.Outside.{KeepsOutside}
-use Rattle.jxlm_base.specs.Regions.{region, grid_of, store_meanings}
+use Rattle.jxlm_base.specs.Regions.{region, grid_of, store_meanings, grids_in}
 use Rattle.jxlm_base.specs.declared.subgrid.Region.{Region}
 use Rattle.jxlm_transform.specs.Channels.{Channel}
 use Rattle.jxlm_transform.specs.ChannelSteps.{PaletteStep, range}
 use Rattle.jxlm_transform.specs.Palette.{IsPaletteOf}
 use Rattle.jxlm_transform.specs.declared.transform.Palette.{Palette}
 use Rattle.jxlm_chain.specs.Chain.{Codes}
-use Rattle.jxlm_chain.specs.Layout.{Layout, LieIn, layout_after, grids_in, no_region}
+use Rattle.jxlm_chain.specs.Layout.{Layout, LieIn, layout_after, no_region}
 use Rattle.jxlm_chain.specs.Undo.{UndoPalette, Undoes, UndoesAll, undo_of}
 use Rattle.jxlm_chain.proofs.KeptGrids.{grid_out_of_range}
 use Rattle.jxlm_chain.proofs.Ranges.{range_map, with_range_map, with_range_same}

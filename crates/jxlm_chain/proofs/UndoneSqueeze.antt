@@ -6,7 +6,7 @@ use Rattle.std.specs.Int.{Width}
 use Rattle.std.proofs.lemmas.List.Elements.{All-map}
 use Rattle.jxlm_base.specs.Grid.{Grid}
 use Rattle.jxlm_base.specs.Outside.{KeepsOutside}
-use Rattle.jxlm_base.specs.Regions.{grid_of, Lies, AllLie, AreApart, LieApart, store_meanings, HasCell}
+use Rattle.jxlm_base.specs.Regions.{grid_of, Lies, AllLie, AreApart, LieApart, store_meanings, HasCell, grids_in}
 use Rattle.jxlm_base.specs.Squeeze.{AreGridSamples}
 use Rattle.jxlm_base.specs.declared.subgrid.Region.{Region}
 use Rattle.jxlm_base.proofs.Outside.{keeps_all, keeps_both, keeps_wider, all_one, all_lie_still}
@@ -17,7 +17,7 @@ use Rattle.jxlm_transform.specs.declared.transform.SqueezeParams.{SqueezeParams}
 use Rattle.jxlm_transform.specs.SqueezedRegions.{average_region, residual_region, average_grid, residual_grid, squeezed_grid, UndoesSqueeze}
 use Rattle.jxlm_transform.proofs.SqueezedRegions.{averages_stood, residuals_stood}
 use Rattle.jxlm_chain.specs.Chain.{AreSampleGrids, Codes}
-use Rattle.jxlm_chain.specs.Layout.{Layout, LieIn, layout_after, grids_in}
+use Rattle.jxlm_chain.specs.Layout.{Layout, LieIn, layout_after}
 use Rattle.jxlm_chain.specs.Undo.{UndoSqueeze, UndoesAll, undo_of}
 use Rattle.jxlm_chain.proofs.KeptGrids.{grid_apart, grid_out_of_range}
 use Rattle.jxlm_chain.proofs.Ranges.{range_map, with_halves_map, with_halves_same, map_map_same}

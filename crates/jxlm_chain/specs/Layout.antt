@@ -8,6 +8,7 @@ use Rattle.jxlm_base.specs.declared.subgrid.Region.{Region}
 use Rattle.jxlm_transform.specs.Channels.{Channel}
 use Rattle.jxlm_transform.specs.ChannelSteps.{Step, RctStep, PaletteStep, SqueezeStep, range, with_range, with_halves}
 use Rattle.jxlm_transform.specs.SqueezedRegions.{average_region, residual_region}
+use Rattle.jxlm_transform.specs.Steps.{Sides, tables_of}
 
 -- a region for each channel, and how many buffers are taken so far
 pub record Layout : Type 0 where
@@ -44,25 +45,9 @@ abbrev pub layout_after_all : List Step → Layout → Layout
 layout_after_all [] l = l
 layout_after_all (s ∷ ss) l = layout_after_all ss (layout_after s l)
 
--- the sides of a buffer
-pub record Sides : Type 0 where
-  pub width : ℕ
-  pub height : ℕ
-
 -- the buffers of channels that have one each
 abbrev pub sides_of : List Channel → List Sides
 sides_of cs = map (λ c. record { width = c.width; height = c.height }) cs
-
--- the buffers of the tables of steps, in order
-abbrev pub tables_of : List Step → List Sides
-tables_of [] = []
-tables_of (RctStep t ∷ ss) = tables_of ss
-tables_of (PaletteStep t ∷ ss) = record { width = t.nb_colours; height = t.num_c } ∷ tables_of ss
-tables_of (SqueezeStep t ∷ ss) = tables_of ss
-
--- no side of a table is above 2 ^ 30
-abbrev pub HasNarrowTables : List Step → Type 0
-HasNarrowTables ss = All (λ s. (s.width ≤ 2 ^ 30) × (s.height ≤ 2 ^ 30)) (tables_of ss)
 
 -- the buffers of an image of these channels and steps: those of the channels, and then those of the tables
 abbrev pub buffers_of : List Channel → List Step → List Sides
@@ -92,7 +77,3 @@ module _ {S : Type 0} where
     pub lie : AllLie l.regions store
     pub taken : All (λ r. r.buffer < l.buffers) l.regions
     pub apart : LieApart l.regions
-
--- the grids that stand in regions
-abbrev pub grids_in : List Region → List (Grid ℤ) → List (Grid ℤ)
-grids_in regions store = map (grid_of store) regions

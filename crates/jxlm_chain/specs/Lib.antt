@@ -1,5 +1,4 @@
 pub mod Chain
-pub mod Ends
 pub mod Grids
 pub mod Layout
 pub mod Places
@@ -8,3 +7,4 @@ pub mod Shape
 pub mod Steps
 pub mod Undo
 pub mod Undoings
+pub mod Inner

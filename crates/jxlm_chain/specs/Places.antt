@@ -4,7 +4,7 @@ use Rattle.std.specs.List.{All}
 use Rattle.jxlm_transform.specs.Channels.{Channel, ChannelList}
 use Rattle.jxlm_transform.specs.ChannelSteps.{Step, RctStep, PaletteStep, SqueezeStep, list_after_all}
 use Rattle.jxlm_chain.specs.Layout.{Layout, layout_after}
-use Rattle.jxlm_chain.specs.Steps.{HasChannels}
+use Rattle.jxlm_transform.specs.Steps.{HasChannels}
 use Rattle.jxlm_chain.specs.declared.places.Places.{Places}
 
 -- the layout that a program keeps

@@ -10,23 +10,6 @@ use Rattle.jxlm_transform.specs.Recoloured.{HaveOneSize}
 use Rattle.jxlm_transform.specs.Transforms.{Transform}
 use Rattle.jxlm_chain.specs.Undo.{Undo, UndoRct, UndoPalette, UndoSqueeze}
 
--- the steps that transforms list
-abbrev pub steps_in : List Transform → List Step
-steps_in [] = []
-steps_in (t ∷ ts) = listed_steps t ++ steps_in ts
-
--- a palette stands for a channel or more
-abbrev pub HasChannels : Step → Type 0
-HasChannels (RctStep t) = Unit {0}
-HasChannels (PaletteStep t) = 1 ≤ t.num_c
-HasChannels (SqueezeStep t) = Unit {0}
-
--- a palette has no weights, or these
-abbrev pub HasWeights : WpHeader → Step → Type 0
-HasWeights weights (RctStep t) = Unit {0}
-HasWeights weights (PaletteStep t) = (t.wp_header ≡ None) ⊎ (t.wp_header ≡ Some weights)
-HasWeights weights (SqueezeStep t) = Unit {0}
-
 module _ {S : Type 0} where
   -- an undoing's regions lie in the store as they must
   abbrev pub CanUndo : List (Grid S) → Undo → Type 0

@@ -1,3 +1,2 @@
 pub mod Bytewise
-pub mod BytewiseLaws
-pub mod Places
+pub mod Inner

@@ -23,7 +23,7 @@ impl Model for Bytewise {
 }
 
 impl Decoder for Bytewise {
-    ghost use Rattle.jxlm_tests.specs.BytewiseLaws.{bytewise_lawful};
+    ghost use Rattle.jxlm_tests.specs.Inner.BytewiseLaws.{bytewise_lawful};
 
     ghost meaning = { bytewise };
 

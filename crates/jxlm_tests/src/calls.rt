@@ -2,7 +2,6 @@
 ghost use Rattle.std.specs.Prelude.{◌<◌};
 
 use crate::bytewise::Bytewise;
-use crate::trees::Told;
 use jxl_modular::bits::Bitstream;
 use jxl_modular::decoder::{Decoder, DecoderError, RleToken};
 use jxl_modular::flat::Steps;
@@ -11,6 +10,7 @@ use jxl_modular::predictor::Predictor;
 use jxl_modular::{
     ChannelShift, MaConfig, MaConfigParams, ModularChannelParams, ModularParams, decode_picture,
 };
+use jxlm_tree_tests::told::Told;
 use std::alloc::Global;
 use std::test::Fail;
 

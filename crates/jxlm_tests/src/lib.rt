@@ -13,24 +13,10 @@ mod outcome;
 #[cfg(test)]
 mod pictures;
 #[cfg(test)]
-mod place_rows;
-#[cfg(test)]
-mod places;
-#[cfg(test)]
-mod predictor_calls;
-#[cfg(test)]
 mod rows;
 #[cfg(test)]
 mod surface;
 #[cfg(test)]
 mod table;
 #[cfg(test)]
-mod text;
-#[cfg(test)]
 mod transformed;
-#[cfg(test)]
-mod tree_errors;
-#[cfg(test)]
-mod tree_rows;
-#[cfg(test)]
-mod trees;

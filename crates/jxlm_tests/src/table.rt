@@ -1,10 +1,10 @@
 // Tables of pictures: each picture has the sizes of its channels, its bytes, and what is told of it, with a bar between; behind the
 // sizes may stand a slash and the bit depth, which is else 8. A line has several pictures, with a semicolon between.
 use crate::outcome::{Outcome, at_once, by_calls};
-use crate::text::bytes;
 use jxl_modular::decoder::Decoder;
 use jxl_modular::error::Error;
 use jxl_modular::{ModularChannelParams, Sample};
+use jxlm_tree_tests::text::bytes;
 use std::alloc::Global;
 use std::process::Abort;
 use std::test::Fail;

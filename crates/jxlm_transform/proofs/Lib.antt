@@ -20,3 +20,4 @@ mod TransformExamples
 pub mod TransformLaws
 pub mod Views
 pub mod ValidParams
+pub mod StepLaws

@@ -12,7 +12,7 @@ use Rattle.jxlm_base.proofs.Regions.{apart_at}
 use Rattle.jxlm_base.proofs.Outside.{grid_kept, keeps_all, keeps_both, keeps_one_of, lies_still}
 use Rattle.jxlm_transform.specs.declared.transform.Palette.{Palette}
 use Rattle.jxlm_transform.specs.Palette.{IsPaletteOf, PaletteLies, finished_channel}
-use Rattle.jxlm_transform.specs.PaletteSteps.{ChannelLies, ChannelsDone, IsSimple, channel_at}
+use Rattle.jxlm_transform.specs.Inner.PaletteSteps.{ChannelLies, ChannelsDone, IsSimple, channel_at}
 use Rattle.jxlm_transform.proofs.PaletteLaws.{has_image}
 
 module _ {S : Type 0} (to_int : S → ℤ) (w : Width) (t : Palette) (table index : Region) (finished : List Region) (old : List (Grid S)) (lies : PaletteLies t table index finished old) where

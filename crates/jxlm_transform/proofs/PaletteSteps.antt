@@ -18,7 +18,7 @@ use Rattle.jxlm_transform.specs.declared.transform.Palette.{Palette}
 use Rattle.jxlm_transform.specs.declared.palette.FinishedChannel.{FinishedChannel}
 use Rattle.jxlm_transform.proofs.PaletteLaws.{is_finished}
 use Rattle.jxlm_transform.specs.Palette.{finished_channel, finished_sample, finished_samples, is_delta, colour_of, predicted}
-use Rattle.jxlm_transform.specs.PaletteSteps.{ChannelLies, SetsSample, Ahead, Filled, FillsOn, FillsOnBy, IsSimpleIndex, StandsBefore, kept, looked_up, table_in, index_in}
+use Rattle.jxlm_transform.specs.Inner.PaletteSteps.{ChannelLies, SetsSample, Ahead, Filled, FillsOn, FillsOnBy, IsSimpleIndex, StandsBefore, kept, looked_up, table_in, index_in}
 
 -- ---- indices of the table that are no deltas
 

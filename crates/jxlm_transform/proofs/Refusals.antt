@@ -1,7 +1,6 @@
 -- Facts of errors other than out of memory.
-use Rattle.std.proofs.Common.{◌≡◌, ℕ, List, Ok, Some, refl}
+use Rattle.std.proofs.Common.{◌≡◌, ℕ, List, Ok, Some, refl, false}
 use Rattle.std.specs.Prelude.{codes, ◌==◌}
-use Rattle.std.proofs.Common.{false}
 use Rattle.jxlm_base.specs.Fault.{Fault, Eof, BadEnum, BadProfile, BadTree, NoGlobalTree, BadRct, BadPalette, BadSqueeze, OfDecoder, NoMemory, UnlessMemory, UnlessNoMemory}
 use Rattle.jxlm_base.specs.Grammar.{IsRefused, number}
 use Rattle.jxlm_base.specs.declared.decoder.DecoderError.TheVariants as decoder

@@ -2,9 +2,10 @@ pub mod ChannelSteps
 pub mod ColourRows
 pub mod Channels
 pub mod Palette
-pub mod PaletteSteps
 pub mod Params
 pub mod Recoloured
 pub mod Shifts
 pub mod SqueezedRegions
+pub mod Steps
 pub mod Transforms
+pub mod Inner

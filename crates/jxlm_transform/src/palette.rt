@@ -12,7 +12,7 @@ ghost use Rattle.jxlm_base.specs.Outside.{KeepsOutside};
 ghost use Rattle.jxlm_tree.specs.Predictions.{prediction};
 ghost use Rattle.jxlm_tree.specs.Standing.{Setting, StandsAt, IsReady, HasSameRoom, room_of, setting, weights_of};
 ghost use Rattle.jxlm_transform.specs.Palette.{colour_of, deltas, difference, implicit_colour, is_delta, listed_difference, finished_channel, finished_sample, IsPaletteOf, PaletteHasOneImage, PaletteLies};
-ghost use Rattle.jxlm_transform.specs.PaletteSteps.{ChannelLies, ChannelsDone, channel_at, FillsOn, FillsOnBy, IsSimple, IsSimpleIndex, IsSimpleRow, SetsSample, StandsBefore, index_in, looked_up, table_in};
+ghost use Rattle.jxlm_transform.specs.Inner.PaletteSteps.{ChannelLies, ChannelsDone, channel_at, FillsOn, FillsOnBy, IsSimple, IsSimpleIndex, IsSimpleRow, SetsSample, StandsBefore, index_in, looked_up, table_in};
 
 use crate::transform::Palette;
 use jxlm_base::error::Result;

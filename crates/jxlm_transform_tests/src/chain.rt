@@ -4,7 +4,7 @@ ghost use Rattle.std.specs.Prelude.{◌≡◌, ◌^◌, ◌≤◌, length, map, 
 ghost use Rattle.std.specs.List.{All};
 ghost use Rattle.jxlm_chain.specs.Layout.{HasBuffers, HasSides, buffers_of};
 ghost use Rattle.jxlm_chain.specs.Places.{Suit};
-ghost use Rattle.jxlm_chain.specs.Steps.{HasWeights, steps_in};
+ghost use Rattle.jxlm_transform.specs.Steps.{HasWeights, steps_in};
 ghost use Rattle.jxlm_transform.specs.Channels.{channel_of};
 ghost use Rattle.jxlm_transform.specs.Transforms.{transform_of};
 ghost use Rattle.jxlm_tree.specs.declared.predictor.WpHeader.{WpHeader};

@@ -4,13 +4,13 @@ ghost use Rattle.std.specs.Prelude.{◌≤◌, IfOk};
 ghost use Rattle.jxlm_transform.specs.Channels.{HasItsMeta, list_of};
 ghost use Rattle.jxlm_transform.specs.Transforms.{HasChannels, transform_of};
 
-use crate::text::pair;
 use jxlm_base::error::Error;
 use jxlm_base::plain::PlainDecoder;
 use jxlm_transform::channels::{ModularChannelInfo, ModularChannels};
 use jxlm_transform::param::{ChannelShift, ModularChannelParams, ModularParams};
 use jxlm_transform::transform::{Palette, Rct, Squeeze, SqueezeParams, TransformInfo};
 use jxlm_tree::predictor::Predictor;
+use jxlm_tree_tests::text::pair;
 use std::alloc::Global;
 use std::process::Abort;
 use std::result::Result;

@@ -8,11 +8,11 @@ ghost use Rattle.jxlm_transform.specs.Recoloured.{HaveOneSize};
 
 use crate::cells::{read, write};
 use crate::colour_rows::{NARROW, WIDE};
-use crate::text::{pair, signed};
 use jxlm_base::error::Error;
 use jxlm_base::grid::{AlignedGrid, Region};
 use jxlm_base::sample::Sample;
 use jxlm_transform::rct::inverse_rct;
+use jxlm_tree_tests::text::{pair, signed};
 use std::alloc::Global;
 use std::process::Abort;
 use std::result::Result;

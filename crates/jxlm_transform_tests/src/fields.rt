@@ -1,12 +1,12 @@
 // Transforms as a header has them.
 
-use crate::text::{bytes, pair};
 use jxlm_base::bits::Bitstream;
 use jxlm_base::error::Error;
 use jxlm_transform::transform::{
     Palette, Rct, Squeeze, SqueezeParams, TransformInfo, transforms_are_read_exactly,
 };
 use jxlm_tree::predictor::WpHeader;
+use jxlm_tree_tests::text::{bytes, pair};
 use std::alloc::Global;
 use std::process::Abort;
 use std::result::Result;

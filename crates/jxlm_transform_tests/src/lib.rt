@@ -23,6 +23,4 @@ mod palettes;
 mod params;
 #[cfg(test)]
 mod squeezes;
-#[cfg(test)]
-mod text;
 pub mod valid;

@@ -8,7 +8,6 @@ ghost use Rattle.jxlm_transform.specs.Palette.{PaletteLies};
 
 use crate::cells::{read, write};
 use crate::palette_rows;
-use crate::text::{bytes, pair, signed};
 use jxlm_base::bits::Bitstream;
 use jxlm_base::error::Error;
 use jxlm_base::grid::{AlignedGrid, OutOfMemory, Region};
@@ -16,6 +15,7 @@ use jxlm_base::sample::Sample;
 use jxlm_transform::palette::palettes_have_one_image;
 use jxlm_transform::transform::Palette;
 use jxlm_tree::predictor::{Predictor, PredictorState, WpHeader};
+use jxlm_tree_tests::text::{bytes, pair, signed};
 use std::alloc::Global;
 use std::process::Abort;
 use std::result::Result;

@@ -1,8 +1,8 @@
 // What an image is read by: sizes, shifts and limits.
 
-use crate::text::pair;
 use jxlm_base::plain::PlainDecoder;
 use jxlm_transform::param::{ChannelShift, ModularChannelParams, ModularParams};
+use jxlm_tree_tests::text::pair;
 use std::alloc::Global;
 use std::process::Abort;
 use std::result::Result;

@@ -1,11 +1,11 @@
 // Squeeze steps undone: rows, columns and regions, as listed and as a squeeze of these tests' own makes them.
 
 use crate::cells::{read, write};
-use crate::text::{pair, signed};
 use jxlm_base::error::Result;
 use jxlm_base::grid::{AlignedGrid, MutableSubgrid, OutOfMemory, Region};
 use jxlm_base::sample::Sample;
 use jxlm_transform::squeeze::{inverse_h, inverse_v, unsqueeze};
+use jxlm_tree_tests::text::{pair, signed};
 use std::alloc::Global;
 use std::process::Abort;
 use std::test::Fail;

@@ -2,7 +2,7 @@
 use Rattle.std.proofs.Common.{◌≡◌, ℕ, zero, suc, ◌+◌, ◌-◌, ◌<◌, ◌≤◌, List, [], ◌∷◌, ◌++◌, Some, Result, Ok, Err, refl, sym, ap, ◌∙◌, arith, append_assoc, append-nil}
 use Rattle.jxlm_base.specs.Decoding.{Meaning}
 use Rattle.jxlm_base.specs.Fault.{Fault, Refused, ◌>>=◌}
-use Rattle.jxlm_tree.specs.DraftReading.{AllDrafts, IsDraftNode}
+use Rattle.jxlm_tree.specs.Inner.DraftReading.{AllDrafts, IsDraftNode}
 use Rattle.jxlm_tree.specs.Tree.{Node, leaf_node, decision_node}
 use Rattle.jxlm_tree.specs.TreeReading.{Draft, Drawn, children, node_at, nodes_at}
 

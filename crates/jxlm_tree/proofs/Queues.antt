@@ -2,7 +2,7 @@
 use Rattle.std.proofs.Common.{◌≡◌, ℕ, ◌<◌, ◌≤◌, max, ℤ, List, [], ◌∷◌, ◌++◌, Option, None, Some, refl, subst, arith, map}
 use Rattle.std.specs.Option.{option_and_then}
 use Rattle.jxlm_base.specs.Fault.{Fault}
-use Rattle.jxlm_tree.specs.Queue.{HasTooDeep, IsRefusedAsTooDeep, IsRefusedInQueue, deepest, taken_up, too_deep}
+use Rattle.jxlm_tree.specs.Inner.Queue.{HasTooDeep, IsRefusedAsTooDeep, IsRefusedInQueue, deepest, taken_up, too_deep}
 use Rattle.jxlm_tree.specs.Tree.{Shape, leaf, decision, Node, leaf_node, decision_node, depth}
 use Rattle.jxlm_tree.proofs.Listing.{queue_of}
 use Rattle.jxlm_tree.proofs.Memory.{or_so}

@@ -5,9 +5,9 @@ use Rattle.std.proofs.lemmas.List.{take-append-drop, length-take-le, length-appe
 use Rattle.jxlm_base.specs.Decoding.{Found, Meaning}
 use Rattle.jxlm_base.specs.Fault.{Fault, Refused, UnlessMemory, ◌>>=◌}
 use Rattle.jxlm_base.specs.Grammar.{IsRefused}
-use Rattle.jxlm_tree.specs.DraftReading.{ListsTrees}
+use Rattle.jxlm_tree.specs.Inner.DraftReading.{ListsTrees}
 use Rattle.jxlm_tree.specs.Tree.{Shape, leaf, decision, Node, Config, leaf_node, decision_node, config_of, levels}
-use Rattle.jxlm_tree.specs.Queue.{IsTooDeepListing, ListsTooDeep}
+use Rattle.jxlm_tree.specs.Inner.Queue.{IsTooDeepListing, ListsTooDeep}
 use Rattle.jxlm_tree.specs.TreeReading.{Draft, Drawn, Listing, with_clusters, leaf_count, children, through, node_at, nodes_at, drafts_at, listing_at, limit_fault, most_nodes, is_endless, IsTooDeep, IsTreeAt}
 use Rattle.jxlm_tree.specs.declared.flat.Leaf.{Leaf}
 use Rattle.jxlm_tree.proofs.Memory.{own_so}

@@ -4,9 +4,9 @@ use Rattle.std.specs.Prelude.{slice_index}
 use Rattle.std.specs.Option.{option_and_then}
 use Rattle.std.proofs.lemmas.List.Elements.{Contains-get_or}
 use Rattle.jxlm_base.specs.Fault.{Fault}
-use Rattle.jxlm_tree.specs.Building.{leaves_in}
-use Rattle.jxlm_tree.specs.DraftReading.{AllDrafts, IsDraft}
-use Rattle.jxlm_tree.specs.Queue.{HasTooDeep, IsRefusedInQueue, IsTooDeepListing, ListsTooDeep, deepest, taken_up}
+use Rattle.jxlm_tree.specs.Inner.Building.{leaves_in}
+use Rattle.jxlm_tree.specs.Inner.DraftReading.{AllDrafts, IsDraft}
+use Rattle.jxlm_tree.specs.Inner.Queue.{HasTooDeep, IsRefusedInQueue, IsTooDeepListing, ListsTooDeep, deepest, taken_up}
 use Rattle.jxlm_tree.specs.Tree.{AllLeaves, Shape, leaf, decision, Node, leaf_node, decision_node, depth, levels, node_count}
 use Rattle.jxlm_tree.specs.TreeReading.{Draft, IsLeafOf, leaf_count, with_clusters}
 use Rattle.jxlm_tree.specs.declared.flat.Leaf.{Leaf}

@@ -1,14 +1,11 @@
 pub mod Around
-pub mod Building
 pub mod Correcting
 pub mod DecodingSamples
-pub mod DraftReading
 pub mod FlatTree
 pub mod Holding
 pub mod Neighbours
 pub mod Predictions
 pub mod Properties
-pub mod Queue
 pub mod Rolling
 pub mod SelfCorrecting
 pub mod SelfCorrectingRanges
@@ -16,5 +13,5 @@ pub mod Standing
 pub mod Tree
 pub mod TreeCode
 pub mod TreeReading
-pub mod TreeShape
 pub mod WeightsHeader
+pub mod Inner

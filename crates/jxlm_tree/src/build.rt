@@ -2,12 +2,12 @@
 
 ghost use Rattle.std.specs.Prelude.{◌≡◌, ◌+◌, ◌≤◌, ℕ, ◌∷◌, List, length, map, IfOk, IfErr, IsSome, Some};
 ghost use Rattle.jxlm_base.specs.Fault.{fault_of};
-ghost use Rattle.jxlm_tree.specs.Building.{leaves_in, listed_of, trees_in};
-ghost use Rattle.jxlm_tree.specs.DraftReading.{AllDrafts, ListsTrees, draft_of, node_of};
-ghost use Rattle.jxlm_tree.specs.Queue.{IsRefusedInQueue, IsTooDeepListing, deepest, taken_up};
+ghost use Rattle.jxlm_tree.specs.Inner.Building.{leaves_in, listed_of, trees_in};
+ghost use Rattle.jxlm_tree.specs.Inner.DraftReading.{AllDrafts, ListsTrees, draft_of, node_of};
+ghost use Rattle.jxlm_tree.specs.Inner.Queue.{IsRefusedInQueue, IsTooDeepListing, deepest, taken_up};
 ghost use Rattle.jxlm_tree.specs.Tree.{AllLeaves, Node, levels, node_count};
 ghost use Rattle.jxlm_tree.specs.TreeReading.{Draft as DraftLeaf, IsLeafOf, leaf_count, with_clusters};
-ghost use Rattle.jxlm_tree.specs.TreeShape.{shape_of};
+ghost use Rattle.jxlm_tree.specs.Inner.TreeShape.{shape_of};
 
 use crate::flat::Leaf;
 use crate::nodes::DraftNode;

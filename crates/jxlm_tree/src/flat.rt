@@ -7,7 +7,7 @@ ghost use Rattle.jxlm_tree.specs.DecodingSamples.{SampleGives};
 ghost use Rattle.jxlm_tree.specs.FlatTree.{AnswersAs, ClustersStandIn, FlatTree, GoesWithoutWeights, HasMultiplier, ReadsEarlierBelow, asked, earlier_named, leaf_reached, needs_weights, residual_of};
 ghost use Rattle.jxlm_tree.specs.Properties.{Surroundings, place_property, property};
 ghost use Rattle.jxlm_tree.specs.Tree.{AllLeaves, StandsAtLeaf, depth, node_count, nodes_on_way, walk};
-ghost use Rattle.jxlm_tree.specs.TreeShape.{shape_of};
+ghost use Rattle.jxlm_tree.specs.Inner.TreeShape.{shape_of};
 
 use crate::predictor::Predictor;
 pub use crate::steps::Steps;
@@ -79,7 +79,7 @@ impl Model for FlatMaTree {
     ghost use Rattle.jxlm_tree.specs.FlatTree.{AnswersAs, ClustersStandIn, FlatTree, HasMultiplier, earlier_named, needs_weights};
     ghost use Rattle.jxlm_tree.specs.Tree.{AllLeaves, node_count};
     ghost use Rattle.jxlm_tree.specs.TreeCode.{coded_flat};
-    ghost use Rattle.jxlm_tree.specs.TreeShape.{shape_of};
+    ghost use Rattle.jxlm_tree.specs.Inner.TreeShape.{shape_of};
     ghost use Rattle.jxlm_tree.specs.contracts.flat.Leaf as leaves;
 
     ghost Value = { FlatTree };

@@ -5,7 +5,7 @@ ghost use Rattle.jxlm_base.specs.Bits.{bytes_of, position_of};
 ghost use Rattle.jxlm_base.specs.Decoding.{Found};
 ghost use Rattle.jxlm_base.specs.Fault.{NoMemory, fault_of};
 ghost use Rattle.jxlm_base.specs.Grammar.{Answers};
-ghost use Rattle.jxlm_tree.specs.DraftReading.{ListsTrees, node_of};
+ghost use Rattle.jxlm_tree.specs.Inner.DraftReading.{ListsTrees, node_of};
 ghost use Rattle.jxlm_tree.specs.FlatTree.{ClustersStandIn};
 ghost use Rattle.jxlm_tree.specs.Tree.{AllLeaves, Shape, levels, node_count, depth};
 ghost use Rattle.jxlm_tree.specs.TreeReading.{IsLeafOf, IsWantOfMemory, Listing, MemoryGives, TreeGives, leaf_count, listing_at, through};
@@ -51,7 +51,7 @@ impl<D: Decoder> Model for MaConfig<D> {
     ghost use Rattle.jxlm_tree.specs.Tree.{AllLeaves, Config, config_of, depth, node_count};
     ghost use Rattle.jxlm_tree.specs.TreeReading.{IsLeafOf};
     ghost use Rattle.jxlm_tree.specs.TreeCode.{coded_config};
-    ghost use Rattle.jxlm_tree.specs.TreeShape.{shape_of};
+    ghost use Rattle.jxlm_tree.specs.Inner.TreeShape.{shape_of};
     ghost use Rattle.jxlm_tree.specs.contracts.flat.Leaf as leaves;
 
     ghost Value = { Config D };

@@ -3,9 +3,9 @@
 ghost use Rattle.std.specs.Prelude.{◌≡◌, ◌≤◌, IfOk, IfErr};
 ghost use Rattle.jxlm_base.specs.Fault.{fault_of};
 ghost use Rattle.jxlm_tree.specs.FlatTree.{earlier_named, earlier_of, needs_weights};
-ghost use Rattle.jxlm_tree.specs.Queue.{IsRefusedAsTooDeep};
+ghost use Rattle.jxlm_tree.specs.Inner.Queue.{IsRefusedAsTooDeep};
 ghost use Rattle.jxlm_tree.specs.Tree.{decision, depth as depth_of, leaf as leaf_shape};
-ghost use Rattle.jxlm_tree.specs.TreeShape.{shape_of};
+ghost use Rattle.jxlm_tree.specs.Inner.TreeShape.{shape_of};
 
 use crate::flat::Leaf;
 use crate::predictor::Predictor;

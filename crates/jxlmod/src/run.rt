@@ -6,7 +6,7 @@ ghost use Rattle.std.specs.Vec.Iter.{into_iter_items};
 ghost use Rattle.jxlm_base.specs.declared.error.Error.{Error};
 ghost use Rattle.jxlmod.specs.declared.arguments.Command.{Command};
 ghost use Rattle.jxlmod.specs.Arguments.{AreFor, AreWrong, IsWithinLimits, channels_of};
-ghost use Rattle.jxlmod.specs.Drawing.{Answers};
+ghost use Rattle.jxlmod.specs.Drawing.{Draws};
 ghost use Rattle.jxlmod.specs.Run.{IsDrawn, IsAnswered, IsPartlyRead, status_of};
 
 use crate::arguments::{Command, USAGE};
@@ -111,7 +111,7 @@ pub fn run<R: Read, W: Write, E: Write>(
     ensures nothing { (c : Command) → AreFor (map string_bytes words.now) c → channels_of c ≡ 0
         → (result ≡ 0) × (input.new ≡ input.old) × (output.new ≡ output.old) × (faults.new ≡ faults.old) }
     ensures done { result ≡ 0 → (c : Command) → AreFor (map string_bytes words.now) c → 0 < channels_of c
-        → IsDrawn (λ bytes text. Answers bytes c (Ok text))
+        → IsDrawn (λ bytes text. Draws bytes c text)
         (R.remaining input.old) (R.remaining input.new) (W.contents output.old) (W.contents output.new) }
     ensures quiet { result ≡ 0 → faults.new ≡ faults.old }
     ensures failed { result ≡ 1 → (output.new ≡ output.old) ⊎ (faults.new ≡ faults.old) }

@@ -2,21 +2,20 @@
 
 ghost use Rattle.std.specs.Prelude.{◌≡◌, ◌++◌, pos, map, IfOk, IfErr, OnOk};
 ghost use Rattle.jxlm_base.specs.Fault.{NoMemory, fault_of};
-ghost use Rattle.jxlm_chain.specs.Layout.{sides_of, tables_of};
-ghost use Rattle.jxlm_chain.specs.Steps.{steps_in};
+ghost use Rattle.jxlm_chain.specs.Layout.{sides_of};
+ghost use Rattle.jxlm_transform.specs.Steps.{tables_of, steps_in};
 ghost use Rattle.jxlm_transform.specs.Channels.{channel_of};
 ghost use Rattle.jxlm_transform.specs.Transforms.{transform_of};
 ghost use Rattle.jxl_modular.specs.Fresh.{fresh, tables_for, zeros};
 
 use super::ModularImageDestination;
-use crate::channels::ModularChannelInfo;
-use crate::header::ModularHeader;
 use jxlm_base::decoder::Decoder;
 use jxlm_base::error::Result;
 use jxlm_base::grid::{AlignedGrid, OutOfMemory};
 use jxlm_base::sample::Sample;
 use jxlm_chain::undo::Plan;
-use jxlm_transform::channels::ModularChannels;
+use jxlm_header::header::ModularHeader;
+use jxlm_transform::channels::{ModularChannelInfo, ModularChannels};
 use jxlm_transform::transform::TransformInfo;
 use jxlm_tree::ma::MaConfig;
 use std::alloc::Global;
@@ -71,13 +70,13 @@ fn with_tables<S: Sample>(
 impl<S: Sample, D: Decoder> ModularImageDestination<S, D> {
     ghost use Rattle.std.specs.Prelude.{◌≤◌, length, Ok};
     ghost use Rattle.std.specs.List.{All};
-    ghost use Rattle.jxlm_chain.specs.Steps.{HasChannels, HasWeights};
-    ghost use Rattle.jxlm_chain.specs.Layout.{HasNarrowTables};
+    ghost use Rattle.jxlm_transform.specs.Steps.{HasChannels, HasWeights};
+    ghost use Rattle.jxlm_transform.specs.Steps.{HasNarrowTables};
     ghost use Rattle.jxlm_transform.specs.Channels.{IsNarrow, list_of};
     ghost use Rattle.jxlm_transform.specs.ChannelSteps.{list_after_all};
     ghost use Rattle.jxlm_tree.specs.SelfCorrecting.{IsHeader};
-    ghost use Rattle.jxl_modular.specs.Header.{header_of};
-    ghost use Rattle.jxl_modular.specs.Opening.{opening_of};
+    ghost use Rattle.jxlm_header.specs.Header.{header_of};
+    ghost use Rattle.jxlm_header.specs.Opening.{opening_of};
 
     /// An image of these channels, whose coded channels are those that the transforms of its header
     /// leave, each in its region. All cells are 0. No side is above 2^30, at most 65536 channels are

@@ -3,7 +3,7 @@ use Rattle.std.specs.Int.{Width}
 use Rattle.jxlm_base.specs.Grid.{at, meanings}
 use Rattle.jxlm_base.specs.Squeeze.{averages}
 use Rattle.jxlm_base.specs.Subgrid.{whole}
-use Rattle.jxlm_base.specs.Unsqueeze.{number_at, next_in, first_of, second_of, column_in}
+use Rattle.jxlm_base.specs.Inner.Unsqueeze.{number_at, next_in, first_of, second_of, column_in}
 use Rattle.jxlm_base.proofs.RowWrites.{part_numbers}
 use Rattle.jxlm_base.proofs.Strips.{lines_within, pair_line}
 use Rattle.jxlm_base.proofs.squeeze.strip_pair.Goals as goal

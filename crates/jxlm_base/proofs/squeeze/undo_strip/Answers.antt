@@ -2,7 +2,7 @@ use Rattle.std.proofs.Common.{◌≡◌, ℕ, ◌+◌, ◌*◌, ℤ, arith, ◌�
 use Rattle.std.specs.Int.{Width}
 use Rattle.jxlm_base.specs.Grid.{at, place, meanings}
 use Rattle.jxlm_base.specs.Subgrid.{whole}
-use Rattle.jxlm_base.specs.Unsqueeze.{number_at, column_in}
+use Rattle.jxlm_base.specs.Inner.Unsqueeze.{number_at, column_in}
 use Rattle.jxlm_base.proofs.NumberAt.{number_same}
 use Rattle.jxlm_base.proofs.SqueezeLaws.{IsUnsqueezed_same}
 use Rattle.jxlm_base.proofs.squeeze.undo_strip.Goals as goal

@@ -2,7 +2,7 @@ use Rattle.std.proofs.Common.{◌≡◌, ℕ, ◌+◌, ◌/◌, ◌<◌, ℤ, Fi
 use Rattle.std.specs.Int.{Width}
 use Rattle.jxlm_base.specs.Grid.{at, meanings}
 use Rattle.jxlm_base.specs.Subgrid.{whole}
-use Rattle.jxlm_base.specs.Unsqueeze.{number_at, column_in}
+use Rattle.jxlm_base.specs.Inner.Unsqueeze.{number_at, column_in}
 use Rattle.jxlm_base.proofs.RowWrites.{part_numbers}
 use Rattle.jxlm_base.proofs.Strips.{StripSoFar, strip_none, strip_more, strip_even, strip_odd}
 use Rattle.jxlm_base.proofs.squeeze.unsqueeze_strip.Goals as goal

@@ -1,6 +1,6 @@
 use Rattle.std.proofs.Common.{◌≡◌, ◌+◌, length}
 use Rattle.jxlm_base.specs.Subgrid.{whole}
-use Rattle.jxlm_base.specs.Unsqueeze.{column_in}
+use Rattle.jxlm_base.specs.Inner.Unsqueeze.{column_in}
 use Rattle.jxlm_base.proofs.Strips.{StripSoFar}
 use Rattle.jxlm_base.proofs.squeeze.unsqueeze_strip.Given as goal
 

@@ -2,7 +2,7 @@ use Rattle.std.proofs.Common.{ℕ, List, [], ◌∷◌, None, refl, arith}
 use Rattle.std.proofs.lemmas.List.Elements.{All-from_recursion}
 use Rattle.jxlm_tree.specs.declared.predictor.Predictor.TheVariants.{Zero}
 use Rattle.jxlm_transform.specs.ChannelSteps.{Step, PaletteStep}
-use Rattle.jxlm_chain.specs.Steps.{HasChannels}
+use Rattle.jxlm_transform.specs.Steps.{HasChannels}
 use Rattle.jxlm_transform_tests.proofs.chain.a_plan_holds_merged_channels.Goals as goal
 
 abbrev palette : ℕ → Step

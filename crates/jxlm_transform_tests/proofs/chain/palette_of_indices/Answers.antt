@@ -2,8 +2,7 @@ use Rattle.std.proofs.Common.{◌≤◌, ◌^◌, ℕ, List, [], ◌∷◌, None
 use Rattle.std.proofs.lemmas.List.Elements.{All-from_recursion}
 use Rattle.jxlm_tree.specs.declared.predictor.Predictor.TheVariants.{Zero}
 use Rattle.jxlm_transform.specs.ChannelSteps.{Step, PaletteStep}
-use Rattle.jxlm_chain.specs.Layout.{Sides}
-use Rattle.jxlm_chain.specs.Steps.{HasChannels, HasWeights}
+use Rattle.jxlm_transform.specs.Steps.{Sides, HasChannels, HasWeights}
 use Rattle.jxlm_transform_tests.proofs.chain.palette_of_indices.Goals as goal
 
 abbrev palette : ℕ → Step

@@ -1,8 +1,7 @@
 use Rattle.std.proofs.Common.{◌≤◌, ◌^◌, ℕ, List, [], ◌∷◌, refl, arith}
 use Rattle.std.proofs.lemmas.List.Elements.{All-from_recursion}
 use Rattle.jxlm_transform.specs.ChannelSteps.{Step, RctStep}
-use Rattle.jxlm_chain.specs.Layout.{Sides}
-use Rattle.jxlm_chain.specs.Steps.{HasChannels, HasWeights}
+use Rattle.jxlm_transform.specs.Steps.{Sides, HasChannels, HasWeights}
 use Rattle.jxlm_transform_tests.proofs.chain.recoloured.Goals as goal
 
 abbrev steps : List Step

@@ -3,7 +3,7 @@ use Rattle.jxlm_transform.specs.Channels.{channel_of}
 use Rattle.jxlm_transform.specs.Transforms.{transform_of}
 use Rattle.jxlm_chain.specs.Layout.{buffers_of, first_layout}
 use Rattle.jxlm_chain.specs.Scratch.{HasRoomFor}
-use Rattle.jxlm_chain.specs.Steps.{steps_in}
+use Rattle.jxlm_transform.specs.Steps.{steps_in}
 use Rattle.jxlm_chain.specs.Undo.{Undo}
 use Rattle.jxlm_chain.specs.Undoings.{undos_of}
 use Rattle.jxlm_chain.proofs.Ready.{narrow_buffers, undoings_can, undoings_suit}

@@ -1,11 +1,11 @@
 use Rattle.std.proofs.Common.{◌≡◌, ◌∷◌, [], map, sym, ap, ◌∙◌, arith, rules}
 use Rattle.std.proofs.lemmas.List.{length-map, map-append}
 use Rattle.jxlm_base.specs.Fault.{fault_of}
-use Rattle.jxlm_tree.specs.Building.{listed_of, trees_in}
-use Rattle.jxlm_tree.specs.DraftReading.{node_of}
+use Rattle.jxlm_tree.specs.Inner.Building.{listed_of, trees_in}
+use Rattle.jxlm_tree.specs.Inner.DraftReading.{node_of}
 use Rattle.jxlm_tree.specs.Tree.{levels, node_count}
 use Rattle.jxlm_tree.specs.TreeReading.{with_clusters}
-use Rattle.jxlm_tree.specs.TreeShape.{shape_of}
+use Rattle.jxlm_tree.specs.Inner.TreeShape.{shape_of}
 use Rattle.jxlm_tree.proofs.Reading.{tree_of_listing}
 use Rattle.jxlm_tree.proofs.Shapes.{count_is, fewer_left, is_taken_up, leaves_are, nothing_left, place_is, some_left, split_at, too_deep_in_tree, whole_taken}
 use Rattle.jxlm_tree.proofs.build.build.Goals as goal

@@ -1,7 +1,7 @@
 use Rattle.std.proofs.Common.{◌≡◌, ◌≤◌, List, Some, ◌++◌, length, map}
-use Rattle.jxlm_tree.specs.Building.{trees_in}
-use Rattle.jxlm_tree.specs.DraftReading.{node_of}
-use Rattle.jxlm_tree.specs.Queue.{deepest}
+use Rattle.jxlm_tree.specs.Inner.Building.{trees_in}
+use Rattle.jxlm_tree.specs.Inner.DraftReading.{node_of}
+use Rattle.jxlm_tree.specs.Inner.Queue.{deepest}
 use Rattle.jxlm_tree.specs.Tree.{Node}
 use Rattle.jxlm_tree.specs.TreeReading.{Draft, leaf_count, with_clusters}
 use Rattle.jxlm_tree.proofs.Listing.{queue_of}

@@ -1,10 +1,10 @@
 use Rattle.std.proofs.Common.{◌≡◌, ◌≤◌, ◌∷◌, ◌++◌, [], ap, ◌∙◌, arith, rules}
 use Rattle.std.proofs.lemmas.List.{map-append}
 use Rattle.jxlm_base.specs.Fault.{fault_of}
-use Rattle.jxlm_tree.specs.Building.{listed_of, trees_in}
-use Rattle.jxlm_tree.specs.Queue.{IsRefusedInQueue, deepest, taken_up}
+use Rattle.jxlm_tree.specs.Inner.Building.{listed_of, trees_in}
+use Rattle.jxlm_tree.specs.Inner.Queue.{IsRefusedInQueue, deepest, taken_up}
 use Rattle.jxlm_tree.specs.Tree.{depth}
-use Rattle.jxlm_tree.specs.TreeShape.{shape_of}
+use Rattle.jxlm_tree.specs.Inner.TreeShape.{shape_of}
 use Rattle.jxlm_tree.proofs.Queues.{deepest_behind, refused_in_queue, still_shallow}
 use Rattle.jxlm_tree.proofs.build.take_up.Goals as goal
 use Rattle.jxlm_tree.proofs.build.take_up.Goals.{in-Leaf, in-Decision+in-Some+in-Some-pop_front+in_ok-subtree-in-Decision}

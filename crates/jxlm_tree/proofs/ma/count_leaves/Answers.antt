@@ -1,6 +1,6 @@
 use Rattle.std.proofs.Common.{arith, map}
 use Rattle.std.proofs.lemmas.List.{length-map}
-use Rattle.jxlm_tree.specs.DraftReading.{node_of}
+use Rattle.jxlm_tree.specs.Inner.DraftReading.{node_of}
 use Rattle.jxlm_tree.proofs.Reading.{leaves_and_decisions}
 use Rattle.jxlm_tree.proofs.ma.count_leaves.Goals as goal
 

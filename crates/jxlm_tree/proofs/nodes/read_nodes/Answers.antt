@@ -1,7 +1,7 @@
 use Rattle.std.proofs.Common.{suc, ◌≡◌, ◌<◌, ◌+◌, ◌-◌, ◌∷◌, ◌++◌, [], length, map, ap, ◌∙◌, arith, rules}
 use Rattle.std.proofs.lemmas.List.{length-append, map-append}
 use Rattle.jxlm_base.specs.Bits.{bytes_of, position_of}
-use Rattle.jxlm_tree.specs.DraftReading.{node_of}
+use Rattle.jxlm_tree.specs.Inner.DraftReading.{node_of}
 use Rattle.jxlm_tree.specs.TreeReading.{children, limit_fault, most_nodes}
 use Rattle.jxlm_tree.proofs.Accumulated.{node_more, node_refused, no_room, all_read, children_few, drafts_more}
 use Rattle.jxlm_tree.proofs.nodes.read_nodes.Goals as goal

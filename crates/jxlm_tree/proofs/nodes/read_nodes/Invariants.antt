@@ -1,6 +1,6 @@
 use Rattle.std.proofs.Common.{◌≡◌, ◌≤◌, length, map, ◌+◌, ◌-◌}
 use Rattle.jxlm_base.specs.Bits.{bytes_of, position_of}
-use Rattle.jxlm_tree.specs.DraftReading.{AllDrafts, node_of}
+use Rattle.jxlm_tree.specs.Inner.DraftReading.{AllDrafts, node_of}
 use Rattle.jxlm_tree.specs.TreeReading.{limit_fault, most_nodes, nodes_at}
 use Rattle.jxlm_tree.proofs.Accumulated.{with_front}
 use Rattle.jxlm_tree.proofs.nodes.read_nodes.Given as goal

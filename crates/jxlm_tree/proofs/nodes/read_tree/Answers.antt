@@ -1,6 +1,6 @@
 use Rattle.std.proofs.Common.{◌≡◌, Ok, map, rules}
 use Rattle.jxlm_base.specs.Bits.{bytes_of, position_of}
-use Rattle.jxlm_tree.specs.DraftReading.{node_of}
+use Rattle.jxlm_tree.specs.Inner.DraftReading.{node_of}
 use Rattle.jxlm_tree.specs.TreeReading.{drafts_at}
 use Rattle.jxlm_tree.proofs.Reading.{drafts_close}
 use Rattle.jxlm_tree.proofs.nodes.read_tree.Goals as goal

@@ -1,8 +1,7 @@
-use Rattle.std.proofs.Common.{◌≡◌, ◌<◌, ◌^◌, ℤ, pos, ◌*ℤ◌, unsigned_abs, FitsSigned, refl, arith}
+use Rattle.std.proofs.Common.{◌≡◌, ◌<◌, ◌^◌, ℤ, pos, ◌*ℤ◌, unsigned_abs, FitsSigned, refl, arith, ℕ, to_z}
 use Rattle.std.specs.Int.{w64}
 use Rattle.std.proofs.lemmas.Int.{to_z-of_z, to_z_pos, fits_signed_from_abs}
 use Rattle.jxlm_tree.proofs.Ranges.{abs_mul}
-use Rattle.std.proofs.Common.{ℕ, to_z}
 use Rattle.jxlm_tree.proofs.self_correcting.scaled.Goals as goal
 
 pub overflow_mul-result : goal.overflow_mul-result

@@ -2,14 +2,14 @@ use Rattle.std.proofs.Common.{◌≡◌, ◌++◌, length, take, drop, refl, ap,
 use Rattle.std.proofs.lemmas.Result.{err_from_is_err_and}
 use Rattle.jxlm_base.specs.Bits.{bytes_of, position_of}
 use Rattle.jxlm_base.specs.declared.error.Error.TheVariants.{Decoder}
-use Rattle.jxl_modular.specs.Header.{header_of}
+use Rattle.jxlm_header.specs.Header.{header_of}
 use Rattle.jxl_modular.specs.Image.{Image}
-use Rattle.jxl_modular.specs.Layout.{channels_of}
-use Rattle.jxl_modular.specs.Part.{greatest_width}
+use Rattle.jxlm_part.specs.Layout.{channels_of}
+use Rattle.jxlm_part.specs.Part.{greatest_width}
 use Rattle.jxl_modular.proofs.PartLaws.{refilled, is_coding, roomy_part, same_part, refuses_samples, refuses_so, with_store}
 use Rattle.jxl_modular.proofs.Laid.{coded_apart, coded_lie, same_but_store, still_laid}
 use Rattle.jxlm_chain.proofs.ShapeLaws.{shape_kept}
-use Rattle.jxlm_chain.specs.Steps.{steps_in}
+use Rattle.jxlm_transform.specs.Steps.{steps_in}
 use Rattle.jxl_modular.proofs.image.ModularImageDestination.decode_samples.Goals as goal
 
 pub decode_part-requires-clause-lie : goal.decode_part-requires-clause-lie

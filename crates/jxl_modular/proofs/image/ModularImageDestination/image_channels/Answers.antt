@@ -1,9 +1,8 @@
 use Rattle.std.proofs.Common.{◌≡◌, arith, length, map, subst, sym, take}
 use Rattle.std.proofs.lemmas.List.{length-map, length-take-le}
-use Rattle.jxlm_chain.specs.Layout.{tables_of}
-use Rattle.jxlm_chain.specs.Steps.{steps_in}
+use Rattle.jxlm_transform.specs.Steps.{tables_of, steps_in}
 use Rattle.jxlm_transform.specs.Channels.{channel_of}
-use Rattle.jxl_modular.specs.Header.{header_of}
+use Rattle.jxlm_header.specs.Header.{header_of}
 use Rattle.jxl_modular.specs.Image.{HaveSizes}
 use Rattle.jxl_modular.proofs.Layouts.{given_sizes, given_within}
 use Rattle.jxl_modular.proofs.image.ModularImageDestination.image_channels.Goals as goal

@@ -1,9 +1,10 @@
 use Rattle.std.proofs.Common.{List, ◌≡◌, ◌++◌, pos, sym, ap, ◌∙◌, subst, map, refl, Ok}
 use Rattle.std.proofs.lemmas.List.{map-append}
 use Rattle.jxlm_base.specs.Grid.{filled}
-use Rattle.jxlm_chain.specs.Layout.{HasBuffers, Layout, Sides, buffers_of, first_layout, layout_after_all, sides_of, tables_of}
+use Rattle.jxlm_chain.specs.Layout.{HasBuffers, Layout, buffers_of, first_layout, layout_after_all, sides_of}
+use Rattle.jxlm_transform.specs.Steps.{Sides, tables_of, steps_in}
 use Rattle.jxlm_chain.specs.Places.{Suit}
-use Rattle.jxlm_chain.specs.Steps.{IsNarrowStore, steps_in}
+use Rattle.jxlm_chain.specs.Steps.{IsNarrowStore}
 use Rattle.jxlm_transform.specs.Channels.{channel_of, list_of}
 use Rattle.jxlm_transform.specs.ChannelSteps.{Step, list_after_all}
 use Rattle.jxlm_transform.specs.Transforms.{transform_of}

@@ -1,7 +1,7 @@
 use Rattle.std.proofs.Common.{◌∙◌, ap, arith}
-use Rattle.jxl_modular.specs.Layout.{channels_of}
-use Rattle.jxl_modular.specs.Part.{greatest_width}
-use Rattle.jxl_modular.proofs.Starting.{narrow_widest}
+use Rattle.jxlm_part.specs.Layout.{channels_of}
+use Rattle.jxlm_part.specs.Part.{greatest_width}
+use Rattle.jxlm_part.proofs.Starting.{narrow_widest}
 use Rattle.jxl_modular.proofs.image.ModularImageDestination.ready.Goals as goal
 
 pub roomy_state-requires-clause-narrow : goal.roomy_state-requires-clause-narrow

@@ -4,14 +4,15 @@ use Rattle.jxlm_base.specs.Grid.{Grid}
 use Rattle.jxlm_chain.specs.Layout.{first_layout}
 use Rattle.jxlm_chain.specs.Places.{Suit}
 use Rattle.jxlm_chain.specs.Scratch.{HasRoomFor, IsNarrowUndo}
-use Rattle.jxlm_chain.specs.Steps.{CanUndoAll, IsNarrowStore, steps_in}
+use Rattle.jxlm_chain.specs.Steps.{CanUndoAll, IsNarrowStore}
+use Rattle.jxlm_transform.specs.Steps.{steps_in}
 use Rattle.jxlm_chain.specs.Undo.{Undo, undo_of_all}
 use Rattle.jxlm_chain.specs.Undoings.{SuitsWeights, undos_of}
 use Rattle.jxlm_chain.specs.declared.undo.Undoing.{Undoing}
 use Rattle.jxlm_transform.specs.Channels.{channel_of}
 use Rattle.jxlm_transform.specs.Transforms.{transform_of}
 use Rattle.jxlm_chain.proofs.Rooms.{narrow_undos}
-use Rattle.jxl_modular.specs.Header.{header_of}
+use Rattle.jxlm_header.specs.Header.{header_of}
 use Rattle.jxl_modular.proofs.Laid.{can_undo}
 use Rattle.jxl_modular.proofs.Suits.{steps_suit}
 use Rattle.jxl_modular.proofs.UndoneImage.{same, laid_after, only}

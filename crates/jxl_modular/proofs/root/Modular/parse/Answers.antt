@@ -1,11 +1,11 @@
-use Rattle.std.proofs.Common.{arith, sym, ◌≡◌, ◌+◌, ◌*◌, ◌^◌, ◌<◌, min, pos, List, length, sum_by, false, rules, Err, Ok, ap, ◌∙◌}
+use Rattle.std.proofs.Common.{arith, sym, ◌≡◌, ◌+◌, ◌*◌, ◌^◌, ◌<◌, min, pos, List, length, sum_by, false, rules, Err, Ok, ap, ◌∙◌, subst}
 use Rattle.jxlm_base.specs.Bits.{bytes_of, position_of}
 use Rattle.jxlm_transform.specs.declared.channels.ModularChannelInfo.{ModularChannelInfo}
 use Rattle.jxlm_transform.specs.declared.channels.ModularChannels.{ModularChannels}
 use Rattle.jxlm_tree.specs.TreeReading.{TreeGives, IsTreeAt}
-use Rattle.jxl_modular.specs.Opening.{depth_limit, opening_of}
+use Rattle.jxlm_header.specs.Opening.{depth_limit, opening_of}
 use Rattle.jxl_modular.specs.Parsing.{ParseGives, opened}
-use Rattle.jxl_modular.specs.declared.header.ModularHeader.{ModularHeader}
+use Rattle.jxlm_header.specs.declared.header.ModularHeader.{ModularHeader}
 use Rattle.jxl_modular.proofs.ParsingLaws.{image_stands, tree_refused, not_zero, gives_image, gives_fault}
 use Rattle.jxl_modular.proofs.root.Modular.parse.Goals as goal
 use Rattle.jxlm_base.specs.Fault.{fault_of}
@@ -14,7 +14,6 @@ use Rattle.jxlm_transform.specs.declared.param.ModularChannelParams.{ModularChan
 use Rattle.jxlm_transform.proofs.SideBounds.{narrow_image}
 use Rattle.jxl_modular.specs.Fresh.{fresh}
 use Rattle.jxl_modular.proofs.PictureLaws.{no_memory}
-use Rattle.std.proofs.Common.{subst}
 use Rattle.std.specs.List.{All}
 
 pub new-requires-2-clause-narrow_given : goal.new-requires-2-clause-narrow_given

@@ -1,7 +1,7 @@
 use Rattle.std.proofs.Common.{◌≡◌, map, take}
 use Rattle.std.specs.List.{All}
 use Rattle.jxlm_transform.specs.Channels.{channel_of}
-use Rattle.jxlm_chain.specs.Ends.{HasEnds}
+use Rattle.jxlm_chain.specs.Inner.Ends.{HasEnds}
 use Rattle.jxlm_chain.specs.Layout.{whole_regions}
 use Rattle.jxlm_chain.proofs.places.Places.new.Given as goal
 

@@ -3,7 +3,7 @@ use Rattle.jxlm_transform.specs.ChannelSteps.{Step, listed_steps}
 use Rattle.jxlm_transform.specs.Transforms.{transform_of}
 use Rattle.jxlm_transform.specs.declared.transform.TransformInfo.{TransformInfo}
 use Rattle.jxlm_chain.specs.Places.{CanTakeAll, layout_of}
-use Rattle.jxlm_chain.specs.Steps.{steps_in}
+use Rattle.jxlm_transform.specs.Steps.{steps_in}
 use Rattle.jxlm_chain.specs.Undoings.{GoesOn}
 use Rattle.jxlm_chain.proofs.PlanSteps.{goes_next, rest_next, take_next}
 use Rattle.jxlm_chain.proofs.undo.Plan.add_all.Goals as goal

@@ -1,7 +1,7 @@
 use Rattle.std.proofs.Common.{map, take, drop}
 use Rattle.jxlm_transform.specs.Transforms.{transform_of}
 use Rattle.jxlm_chain.specs.Places.{CanTakeAll, layout_of}
-use Rattle.jxlm_chain.specs.Steps.{steps_in}
+use Rattle.jxlm_transform.specs.Steps.{steps_in}
 use Rattle.jxlm_chain.specs.Undoings.{GoesOn}
 use Rattle.jxlm_chain.proofs.undo.Plan.add_all.Given as goal
 

@@ -4,7 +4,7 @@ use Rattle.jxlm_transform.specs.Channels.{channel_of}
 use Rattle.jxlm_transform.specs.Transforms.{transform_of}
 use Rattle.jxlm_chain.specs.Layout.{Layout}
 use Rattle.jxlm_chain.specs.Places.{CanTakeAll}
-use Rattle.jxlm_chain.specs.Steps.{steps_in}
+use Rattle.jxlm_transform.specs.Steps.{steps_in}
 use Rattle.jxlm_chain.proofs.PlanSteps.{can_take_all}
 use Rattle.jxlm_chain.proofs.undo.Plan.new.Goals as goal
 

@@ -1,7 +1,7 @@
 use Rattle.std.proofs.Common.{◌≡◌, true, refl, rules, arith}
 use Rattle.std.proofs.lemmas.Bool.Decides.{nat_tests}
 use Rattle.jxlm_base.specs.Regions.{grid_of, store_meanings}
-use Rattle.jxlm_transform.specs.PaletteSteps.{IsSimpleRow}
+use Rattle.jxlm_transform.specs.Inner.PaletteSteps.{IsSimpleRow}
 use borrow.Author.Count.{below_more}
 use Rattle.jxlm_transform.proofs.transform.Palette.is_simple.Goals as goal
 

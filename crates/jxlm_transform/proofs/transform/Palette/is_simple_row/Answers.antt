@@ -3,7 +3,7 @@ use Rattle.std.proofs.lemmas.Int.{to_z-of_z}
 use Rattle.std.proofs.lemmas.Bool.Decides.{nat_tests}
 use Rattle.jxlm_base.specs.Grid.{at}
 use Rattle.jxlm_base.specs.Regions.{grid_of, store_meanings}
-use Rattle.jxlm_transform.specs.PaletteSteps.{IsSimpleIndex}
+use Rattle.jxlm_transform.specs.Inner.PaletteSteps.{IsSimpleIndex}
 use borrow.Author.Count.{below_more}
 use Rattle.jxlm_transform.proofs.transform.Palette.is_simple_row.Goals as goal
 

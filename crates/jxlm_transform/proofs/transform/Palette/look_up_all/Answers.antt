@@ -2,7 +2,7 @@ use Rattle.std.proofs.Common.{◌≡◌, ◌+◌, ◌-◌, [], ◌∷◌, length
 use Rattle.jxlm_base.specs.Regions.{grid_of, store_meanings}
 use Rattle.jxlm_base.specs.Outside.{KeepsOutside}
 use Rattle.jxlm_transform.specs.Palette.{finished_channel}
-use Rattle.jxlm_transform.specs.PaletteSteps.{ChannelLies, ChannelsDone, IsSimple, index_in, table_in}
+use Rattle.jxlm_transform.specs.Inner.PaletteSteps.{ChannelLies, ChannelsDone, IsSimple, index_in, table_in}
 use Rattle.jxlm_transform.proofs.PaletteChannels.{channel_lies, none_done, one_done}
 use Rattle.jxlm_transform.proofs.transform.Palette.look_up_all.Goals as goal
 

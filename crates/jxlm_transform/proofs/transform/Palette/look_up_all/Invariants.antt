@@ -1,5 +1,5 @@
 use Rattle.std.proofs.Common.{ℕ, ◌-◌, length}
-use Rattle.jxlm_transform.specs.PaletteSteps.{ChannelsDone}
+use Rattle.jxlm_transform.specs.Inner.PaletteSteps.{ChannelsDone}
 use Rattle.jxlm_transform.proofs.transform.Palette.look_up_all.Given as goal
 
 abbrev pub invariant-loop-i : goal.invariant-loop-i

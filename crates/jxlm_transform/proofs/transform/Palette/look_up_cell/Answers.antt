@@ -4,7 +4,7 @@ use Rattle.std.specs.Int.{int_wrap}
 use Rattle.std.proofs.lemmas.Int.{to_z-of_z}
 use Rattle.jxlm_base.specs.Grid.{at}
 use Rattle.jxlm_base.specs.Regions.{store_meanings}
-use Rattle.jxlm_transform.specs.PaletteSteps.{table_in}
+use Rattle.jxlm_transform.specs.Inner.PaletteSteps.{table_in}
 use Rattle.jxlm_transform.proofs.transform.Palette.look_up_cell.Goals as goal
 
 pub returns : goal.returns

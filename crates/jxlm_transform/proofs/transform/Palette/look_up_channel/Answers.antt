@@ -1,7 +1,7 @@
 use Rattle.std.proofs.Common.{◌≡◌, ◌*◌, [], ◌∷◌, refl, sym, ap, subst, arith}
 use Rattle.jxlm_base.specs.Regions.{store_meanings}
 use Rattle.jxlm_base.proofs.Outside.{keeps_all, keeps_both}
-use Rattle.jxlm_transform.specs.PaletteSteps.{IsSimpleIndex, index_in, table_in}
+use Rattle.jxlm_transform.specs.Inner.PaletteSteps.{IsSimpleIndex, index_in, table_in}
 use Rattle.jxlm_transform.proofs.PaletteSteps.{channel_lies_still, channel_finished, fills_between, later_index, nothing_filled}
 use Rattle.jxlm_transform.proofs.transform.Palette.look_up_channel.Goals as goal
 

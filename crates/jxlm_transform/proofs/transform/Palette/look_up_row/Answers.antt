@@ -1,7 +1,7 @@
 use Rattle.std.proofs.Common.{◌≡◌, ◌+◌, ◌*◌, [], ◌∷◌, refl, sym, ap, ◌∙◌, subst, arith}
 use Rattle.jxlm_base.specs.Regions.{store_meanings}
 use Rattle.jxlm_base.proofs.Outside.{keeps_all, keeps_both}
-use Rattle.jxlm_transform.specs.PaletteSteps.{ChannelLies, IsSimpleIndex, index_in, table_in}
+use Rattle.jxlm_transform.specs.Inner.PaletteSteps.{ChannelLies, IsSimpleIndex, index_in, table_in}
 use Rattle.jxlm_transform.proofs.PaletteSteps.{cell_keeps, cell_ahead, channel_lies_still, fills_between, later_index, looked_up_fills}
 use Rattle.jxlm_transform.proofs.transform.Palette.look_up_row.Goals as goal
 

@@ -1,7 +1,7 @@
 use Rattle.std.proofs.Common.{ℕ, ◌+◌, ◌*◌, [], ◌∷◌}
 use Rattle.jxlm_base.specs.Regions.{store_meanings}
 use Rattle.jxlm_base.specs.Outside.{KeepsOutside}
-use Rattle.jxlm_transform.specs.PaletteSteps.{FillsOn, kept}
+use Rattle.jxlm_transform.specs.Inner.PaletteSteps.{FillsOn, kept}
 use Rattle.jxlm_transform.proofs.transform.Palette.look_up_row.Given as goal
 
 abbrev pub invariant-loop-x : goal.invariant-loop-x

@@ -1,6 +1,6 @@
 use Rattle.std.proofs.Common.{◌-◌, length}
 use Rattle.jxlm_tree.specs.Standing.{HasSameRoom}
-use Rattle.jxlm_transform.specs.PaletteSteps.{ChannelsDone}
+use Rattle.jxlm_transform.specs.Inner.PaletteSteps.{ChannelsDone}
 use Rattle.jxlm_transform.proofs.transform.Palette.predict_all.Given as goal
 
 abbrev pub invariant-loop-i : goal.invariant-loop-i

@@ -5,7 +5,7 @@ use Rattle.std.proofs.lemmas.Int.{to_z-of_z, fits_signed_from_abs}
 use Rattle.jxlm_base.specs.Regions.{store_meanings}
 use Rattle.jxlm_tree.specs.Standing.{StandsAt, setting}
 use Rattle.jxlm_transform.specs.Palette.{colour_of, finished_sample, is_delta, predicted}
-use Rattle.jxlm_transform.specs.PaletteSteps.{table_in}
+use Rattle.jxlm_transform.specs.Inner.PaletteSteps.{table_in}
 use Rattle.jxlm_transform.proofs.PaletteSteps.{finished_is, is_ready}
 use Rattle.jxlm_transform.proofs.transform.Palette.predict_cell.Goals as goal
 

@@ -1,7 +1,7 @@
 use Rattle.std.proofs.Common.{◌≡◌, ◌*◌, [], ◌∷◌, refl, ap, arith}
 use Rattle.jxlm_base.specs.Regions.{store_meanings}
 use Rattle.jxlm_base.proofs.Outside.{keeps_all, keeps_both}
-use Rattle.jxlm_transform.specs.PaletteSteps.{index_in, table_in}
+use Rattle.jxlm_transform.specs.Inner.PaletteSteps.{index_in, table_in}
 use Rattle.jxlm_transform.proofs.PaletteSteps.{channel_lies_still, channel_finished, fills_by_between, same_room_on, nothing_filled}
 use Rattle.jxlm_transform.proofs.transform.Palette.predict_channel.Goals as goal
 

@@ -1,7 +1,7 @@
 use Rattle.std.proofs.Common.{◌≡◌, ◌+◌, ◌*◌, [], ◌∷◌, refl, ap, ◌∙◌, subst, arith}
 use Rattle.jxlm_base.specs.Regions.{store_meanings}
 use Rattle.jxlm_base.proofs.Outside.{keeps_all, keeps_both}
-use Rattle.jxlm_transform.specs.PaletteSteps.{ChannelLies, StandsBefore}
+use Rattle.jxlm_transform.specs.Inner.PaletteSteps.{ChannelLies, StandsBefore}
 use Rattle.jxlm_transform.proofs.PaletteSteps.{cell_keeps, channel_lies_still, fills_by_between, same_room_on, predicted_fills, stands_further}
 use Rattle.jxlm_transform.proofs.transform.Palette.predict_row.Goals as goal
 

@@ -1,8 +1,6 @@
-use Rattle.std.proofs.Common.{◌<◌, ◌^◌, ℤ, pos, ◌*ℤ◌, unsigned_abs, FitsSigned, ◌∙◌, refl, arith, rules}
-use Rattle.std.specs.Int.{w32, w64}
+use Rattle.std.proofs.Common.{◌<◌, ◌^◌, ℤ, pos, ◌*ℤ◌, unsigned_abs, FitsSigned, ◌∙◌, refl, arith, rules, ℕ, Bool, true, false, cond}
+use Rattle.std.specs.Int.{w32, w64, int_min, int_max}
 use Rattle.std.proofs.lemmas.Int.{to_z-of_z, ints}
-use Rattle.std.proofs.Common.{ℕ, Bool, true, false, cond}
-use Rattle.std.specs.Int.{int_min, int_max}
 use Rattle.std.specs.Int.Signed.{lt_z}
 use Rattle.jxlm_base.specs.Numbers.{clamped}
 use Rattle.jxlm_tree.proofs.around.Around.clamped.Goals as goal

@@ -1,7 +1,7 @@
 use Rattle.std.proofs.Common.{◌≡◌, ◌≤◌, ◌+◌, ℕ, ℤ}
 use Rattle.jxlm_tree.specs.FlatTree.{AnswersAs, HasMultiplier, asked, leaf_reached}
 use Rattle.jxlm_tree.specs.Tree.{AllLeaves, StandsAtLeaf, depth, nodes_on_way, walk}
-use Rattle.jxlm_tree.specs.TreeShape.{shape_of}
+use Rattle.jxlm_tree.specs.Inner.TreeShape.{shape_of}
 use Rattle.jxlm_tree.specs.declared.flat.Leaf.{Leaf}
 use Rattle.jxlm_tree.proofs.flat.FlatMaTree.leaf.Given as goal
 

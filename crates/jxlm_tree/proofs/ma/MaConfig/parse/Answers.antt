@@ -1,7 +1,7 @@
 use Rattle.std.proofs.Common.{◌≡◌, Ok, map, rules}
 use Rattle.jxlm_base.specs.Bits.{bytes_of, position_of}
 use Rattle.jxlm_base.specs.Fault.{fault_of}
-use Rattle.jxlm_tree.specs.DraftReading.{node_of}
+use Rattle.jxlm_tree.specs.Inner.DraftReading.{node_of}
 use Rattle.jxlm_tree.specs.TreeReading.{listing_at, with_clusters}
 use Rattle.jxlm_tree.proofs.Reading.{too_deep_is_refused}
 use Rattle.jxlm_tree.proofs.ma.MaConfig.parse.Goals as goal

@@ -1,7 +1,6 @@
-use Rattle.std.proofs.Common.{◌≡◌, ◌*◌, ◌≤◌, ◌^◌, ◌-◌, ◌/◌, ◌+◌, pos, ◌+ℤ◌, unsigned_abs, FitsSigned, refl, arith, rules}
+use Rattle.std.proofs.Common.{◌≡◌, ◌*◌, ◌≤◌, ◌^◌, ◌-◌, ◌/◌, ◌+◌, pos, ◌+ℤ◌, unsigned_abs, FitsSigned, refl, arith, rules, to_z}
 use Rattle.std.specs.Int.{w64}
 use Rattle.std.proofs.lemmas.Int.{to_z-of_z, to_z_pos, fits_signed_from_abs}
-use Rattle.std.proofs.Common.{to_z}
 use Rattle.jxlm_tree.specs.Correcting.{predicted_by, counted}
 use Rattle.jxlm_tree.proofs.Ranges.{abs_add, weighted}
 use Rattle.jxlm_tree.proofs.self_correcting.SubPredictions.sum.Goals as goal

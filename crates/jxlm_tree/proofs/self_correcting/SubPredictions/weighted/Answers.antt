@@ -1,7 +1,6 @@
-use Rattle.std.proofs.Common.{◌≡◌, ◌<◌, ◌^◌, ℤ, pos, ◌*ℤ◌, unsigned_abs, FitsSigned, ap, ◌∙◌, refl, arith, rules}
+use Rattle.std.proofs.Common.{◌≡◌, ◌<◌, ◌^◌, ℤ, pos, ◌*ℤ◌, unsigned_abs, FitsSigned, ap, ◌∙◌, refl, arith, rules, to_z, negsuc}
 use Rattle.std.specs.Int.{w64, int_shr}
 use Rattle.std.proofs.lemmas.Int.{to_z-of_z, to_z_pos, fits_signed_from_abs}
-use Rattle.std.proofs.Common.{to_z, negsuc}
 use Rattle.jxlm_tree.specs.Correcting.{counted}
 use Rattle.jxlm_tree.specs.SelfCorrecting.{total, reciprocal}
 use Rattle.jxlm_tree.proofs.Ranges.{product}

@@ -1,7 +1,0 @@
-use Rattle.std.proofs.Common.{◌≡◌, drop, max}
-use Rattle.jxl_modular.specs.Layout.{channels_of}
-use Rattle.jxl_modular.specs.Part.{greatest_width}
-use Rattle.jxl_modular.proofs.channels.greatest_width.Given as goal
-
-abbrev pub invariant-loop-channel : goal.invariant-loop-channel
-invariant-loop-channel l = max l.widest (greatest_width (channels_of (drop l.channel-index l.channels))) ≡ greatest_width (channels_of l.channels)

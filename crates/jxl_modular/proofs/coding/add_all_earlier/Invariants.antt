@@ -1,5 +1,0 @@
-use Rattle.jxl_modular.proofs.Starting.{IsUnderWay}
-use Rattle.jxl_modular.proofs.coding.add_all_earlier.Given as goal
-
-abbrev pub invariant-loop-e : goal.invariant-loop-e
-invariant-loop-e g l = IsUnderWay l.coding l.i l.e l.fn.state l.state

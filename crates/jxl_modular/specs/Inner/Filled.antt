@@ -1,0 +1,26 @@
+-- What decoding all samples of an image that was read, and undoing its transforms, gives.
+use Rattle.std.specs.Prelude.{◌≡◌, ℕ, ◌+◌, ◌*◌, ◌≤◌, ℤ, List, true}
+use Rattle.std.specs.Int.{Width}
+use Rattle.jxlm_base.specs.Decoding.{Meaning}
+use Rattle.jxlm_base.specs.Fault.{Fault, OfDecoder}
+use Rattle.jxlm_base.specs.Grid.{Grid}
+use Rattle.jxlm_base.specs.declared.decoder.DecoderError.{DecoderError}
+use Rattle.jxlm_part.specs.Coded.{IsCodedWhole}
+use Rattle.jxlm_part.specs.Decode.{Fails}
+use Rattle.jxl_modular.specs.Image.{Image, IsOnlyImage, coded_grids, cost_of, image_grids, whole_part}
+
+module _ {S D : Type 0} (d : Meaning D) (w : Width) (to_int : S → ℤ) (bytes : List ℕ) (stream : ℕ) (old : Image S D) (p : ℕ) where
+  -- Some samples are coded whole from place p up to place q, and the new image's channels are the only ones that the transforms turn into them.
+  pub record IsFilled (new : Image S D) (q : ℕ) : Type 0 where
+    pub samples : List (Grid ℤ)
+    pub coded : IsCodedWhole d w (whole_part old stream) bytes old.config.decoder p samples q
+    pub only : IsOnlyImage w old (image_grids to_int new) samples
+
+  -- decoding the samples from place p is this error, which leaves the reader at place q
+  pub record FillFails (fault : Fault) (q before after : ℕ) : Type 0 where
+    pub error : DecoderError
+    pub left : List (Grid ℤ)
+    pub tried : ℕ
+    pub fails : Fails d w (whole_part old stream) bytes old.config.decoder (record { position = p; grids = coded_grids to_int old; partial = true }) (record { position = q; grids = left; partial = true }) error tried
+    pub error_is : fault ≡ OfDecoder error
+    pub steps : after ≤ before + tried * cost_of old

@@ -1,0 +1,48 @@
+-- The laws of the fields that stand ahead of an image's tree.
+use Rattle.std.proofs.Common.{◌≡◌, ℕ, List, Bool, Result, Ok, Err, refl, ap, ◌∙◌}
+use Rattle.jxlm_base.specs.Fault.{Fault, UnlessNoMemory}
+use Rattle.jxlm_base.specs.Grammar.{Grammar, IsExact, IsRefused, behind, flag, repeated, ◌>>=◌}
+use Rattle.jxlm_base.specs.declared.bits.U32Spec.TheVariants.{Const, Offset}
+use Rattle.jxlm_base.proofs.GrammarLaws.{exact-give, exact-refuse, exact-bind, exact-repeated, exact-flag, exact-u32}
+use Rattle.jxlm_transform.specs.Channels.{ChannelList}
+use Rattle.jxlm_transform.specs.Transforms.{transform}
+use Rattle.jxlm_transform.proofs.TransformLaws.{exact-transform}
+use Rattle.jxlm_tree.proofs.WeightsLaws.{exact-wp_header}
+use Rattle.jxlm_transform.proofs.Refusals.{unless_so}
+use Rattle.jxlm_tree.specs.WeightsHeader.{wp_header}
+use Rattle.jxlm_tree.specs.declared.predictor.WpHeader.{WpHeader}
+use Rattle.jxlm_header.specs.Header.{header, transform_count}
+use Rattle.jxlm_header.specs.Opening.{checked, resolved, opening}
+
+bind : {X Y : Type 0} {field : Grammar X} {next : X → Grammar Y} → IsExact field → ((x : X) → IsExact (next x)) → IsExact (field >>= next)
+bind {field} {next} first rest = exact-bind field next first rest
+
+-- what is read as a header stands there, and what stands there is read
+pub exact-header : IsExact header
+exact-header =
+    bind exact-flag λ use_global_tree. bind exact-wp_header λ weights.
+    bind (exact-u32 (Const 0) (Const 1) (Offset 2 4) (Offset 18 8)) λ count.
+    bind (exact-repeated count (transform weights) (exact-transform weights)) λ transforms.
+    exact-give (record { use_global_tree = use_global_tree; wp_params = weights; transform = transforms })
+
+exact-checked : {X : Type 0} (r : Result X Fault) → IsExact (checked r)
+exact-checked (Ok x) = exact-give x
+exact-checked (Err e) = exact-refuse e
+
+-- and so is all that stands ahead of the tree
+pub exact-opening : (has_global : Bool) (list : ChannelList) → IsExact (opening has_global list)
+exact-opening has_global list = bind exact-header λ h. exact-checked (resolved has_global list h)
+
+-- where one of the transforms is refused, so is the header
+pub listed_refused : (bytes : List ℕ) (p : ℕ) (global : Bool) (a : ℕ) (weights : WpHeader) (b n m : ℕ) (fault : Fault) (q : ℕ) → flag.read bytes p ≡ Ok (record { value = global; position = a }) →
+    wp_header.read bytes a ≡ Ok (record { value = weights; position = b }) → transform_count.read bytes b ≡ Ok (record { value = n; position = m }) →
+    UnlessNoMemory fault (IsRefused ((repeated n (transform weights)).read bytes m) fault q) → UnlessNoMemory fault (IsRefused (header.read bytes p) fault q)
+listed_refused bytes p global a weights b n m fault q first second third refused =
+    let rest : header.read bytes p ≡ behind ((repeated n (transform weights)).read bytes m) (λ found. Ok (record { value = record { use_global_tree = global; wp_params = weights; transform = found.value }; position = found.position })) =
+    rw (first, second, third) refl in
+    unless_so fault (IsRefused ((repeated n (transform weights)).read bytes m) fault q) (IsRefused (header.read bytes p) fault q)
+    (λ r. record {
+      place = r.place;
+      refuses = rest ∙ ap (λ all. behind all (λ found. Ok (record { value = record { use_global_tree = global; wp_params = weights; transform = found.value }; position = found.position }))) r.refuses;
+      stands = r.stands;
+    }) refused

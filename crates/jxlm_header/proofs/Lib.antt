@@ -1,0 +1,4 @@
+pub mod HeaderLaws
+pub mod OpeningLaws
+pub mod Preparing
+mod OpeningExamples

@@ -1,0 +1,72 @@
+-- What is answered ahead of a tree, from what its steps answer.
+use Rattle.std.proofs.Common.{◌≡◌, ℕ, ◌≤◌, Bool, true, false, List, [], ◌∷◌, ◌++◌, length, Some, Result, Ok, Err, refl, sym, ap, ◌∙◌, append_assoc}
+use Rattle.std.specs.Prelude.{codes, nat_lt, not, ◌&&◌, if◌then◌else◌}
+use Rattle.jxlm_transform.specs.Steps.{steps_in}
+use Rattle.std.proofs.lemmas.Bool.{ltb-false}
+use Rattle.std.proofs.lemmas.List.{append-nil}
+use Rattle.jxlm_base.specs.Fault.{Fault, BadProfile, NoGlobalTree, UnlessNoMemory}
+use Rattle.jxlm_base.specs.Grammar.{IsRefused}
+use Rattle.jxlm_transform.specs.Channels.{ChannelList}
+use Rattle.jxlm_transform.specs.ChannelSteps.{CodedList, Step, coded_list, listed_steps}
+use Rattle.jxlm_transform.specs.Transforms.{Transform}
+use Rattle.jxlm_transform.proofs.Refusals.{unless_so}
+use Rattle.jxlm_header.specs.Header.{Header, header}
+use Rattle.jxlm_header.specs.Opening.{Opening, checked, conditions, resolved, opening}
+
+-- the steps of one transform more
+pub steps_further : (ts : List Transform) (t : Transform) → steps_in (ts ++ t ∷ []) ≡ steps_in ts ++ listed_steps t
+steps_further [] t = append-nil (listed_steps t)
+steps_further (u ∷ ts) t = ap (λ (ss : List Step). listed_steps u ++ ss) (steps_further ts t) ∙ sym (append_assoc (listed_steps u) (steps_in ts) (listed_steps t))
+
+abbrev first_of_two : Bool → Bool → Fault → Fault → Result (Unit {0}) Fault
+first_of_two a b e f = if a then Err e else if b then Err f else Ok tt
+
+first_not : (a b : Bool) (e f : Fault) → first_of_two a b e f ≡ Ok tt → a ≡ false
+first_not true b e f h = cc
+first_not false b e f h = refl
+
+module _ (has_global : Bool) (list : ChannelList) where
+  -- the conditions look at the flag of the global tree alone
+  pub conditions_alike : (h k : Header) → h.use_global_tree ≡ k.use_global_tree → conditions has_global h list ≡ conditions has_global k list
+  conditions_alike h k flags = rw flags refl
+
+  -- where they hold, the channels are not too many
+  pub few_channels : (h : Header) → conditions has_global h list ≡ Ok tt → length list.channels ≤ 65536
+  few_channels h holds =
+      ltb-false 65536 (length list.channels) (first_not (nat_lt 65536 (length list.channels)) (h.use_global_tree && not has_global) (BadProfile (codes "nb_channels_tr too large")) NoGlobalTree holds)
+
+module _ (has_global : Bool) (list : ChannelList) (bytes : List ℕ) (p : ℕ) where
+  -- where the header is refused, so is all
+  pub header_refused : (fault : Fault) (q : ℕ) → UnlessNoMemory fault (IsRefused (header.read bytes p) fault q) → UnlessNoMemory fault (IsRefused ((opening has_global list).read bytes p) fault q)
+  header_refused fault q refused =
+      unless_so fault (IsRefused (header.read bytes p) fault q) (IsRefused ((opening has_global list).read bytes p) fault q)
+      (λ r. record { place = r.place; refuses = rw r.refuses refl; stands = r.stands }) refused
+
+  module _ (h : Header) (m : ℕ) (reads : header.read bytes p ≡ Ok (record { value = h; position = m })) where
+    reads_on : (opening has_global list).read bytes p ≡ (checked (resolved has_global list h)).read bytes m
+    reads_on = rw reads refl
+
+    refused_behind : (fault : Fault) → resolved has_global list h ≡ Err fault → IsRefused ((opening has_global list).read bytes p) fault m
+    refused_behind fault e = record { place = Some m; refuses = reads_on ∙ ap (λ (r : Result Opening Fault). (checked r).read bytes m) e; stands = refl }
+
+    -- so it is where a transform is
+    pub transforms_refused : (fault : Fault) → UnlessNoMemory fault (coded_list h.transform list ≡ Err fault) → UnlessNoMemory fault (IsRefused ((opening has_global list).read bytes p) fault m)
+    transforms_refused fault refused =
+        unless_so fault (coded_list h.transform list ≡ Err fault) (IsRefused ((opening has_global list).read bytes p) fault m)
+        (λ e. refused_behind fault (rw e refl)) refused
+
+    module _ (coded : CodedList) (found : coded_list h.transform list ≡ Ok coded) where
+      -- and where a condition fails, by the header as its transforms list their steps
+      pub condition_fails : (k : Header) (fault : Fault) → k.use_global_tree ≡ h.use_global_tree → conditions has_global k coded.list ≡ Err fault →
+          IsRefused ((opening has_global list).read bytes p) fault m
+      condition_fails k fault flags fails =
+          let here : conditions has_global h coded.list ≡ Err fault = sym (conditions_alike has_global coded.list k h flags) ∙ fails in
+          refused_behind fault (rw (found, here) refl)
+
+      -- where all hold, it is opened
+      pub is_opened : (k : Header) → k.use_global_tree ≡ h.use_global_tree → conditions has_global k coded.list ≡ Ok tt →
+          (opening has_global list).read bytes p ≡ Ok (record { value = record { weights = h.wp_params; coded = coded }; position = m })
+      is_opened k flags holds =
+          let here : conditions has_global h coded.list ≡ Ok tt = sym (conditions_alike has_global coded.list k h flags) ∙ holds in
+          let all : resolved has_global list h ≡ Ok (record { weights = h.wp_params; coded = coded }) = rw (found, here) refl in
+          reads_on ∙ ap (λ (r : Result Opening Fault). (checked r).read bytes m) all

@@ -1,0 +1,85 @@
+-- Transforms that are applied one after the other, as a loop does that writes them.
+use Rattle.std.proofs.Common.{◌≡◌, ℕ, ◌+◌, ◌<◌, ◌≤◌, List, [], ◌∷◌, ◌++◌, length, map, take, drop, get_or, set, Result, Ok, Err, refl, sym, ap, ◌∙◌, arith}
+use Rattle.std.specs.List.{All}
+use Rattle.std.proofs.lemmas.List.{append-nil, drop_all, drop_more, map_push, take_all, take_more_set}
+use Rattle.std.proofs.lemmas.List.Elements.{All-head, All-tail}
+use lib.Seq.{drop-set-lt}
+use Rattle.jxlm_base.specs.Fault.{Fault, UnlessNoMemory}
+use Rattle.jxlm_transform.specs.Channels.{ChannelList}
+use Rattle.jxlm_transform.specs.ChannelSteps.{CodedList, coded_list, list_after_all, listed_steps, steps_of, ◌>>=◌}
+use Rattle.jxlm_transform.specs.Transforms.{Transform, OfRct, OfPalette, OfSqueeze, HasChannels, IsTransform, transform_of}
+use Rattle.jxlm_transform.specs.declared.transform.TransformInfo.{TransformInfo}
+use Rattle.jxlm_transform.proofs.CodedLists.{with_steps, all_applied, transform_applied, transform_refused}
+use Rattle.jxlm_transform.proofs.Refusals.{unless_so}
+use Rattle.jxlm_transform.specs.Steps.{steps_in}
+use Rattle.jxlm_header.proofs.OpeningLaws.{steps_further}
+
+-- a palette that was read has a channel
+pub has_channels : (t : Transform) → IsTransform t → HasChannels t
+has_channels (OfRct t) is = tt
+has_channels (OfPalette t) is = is.some_channels
+has_channels (OfSqueeze steps) is = tt
+
+-- the transforms behind the first i
+abbrev pub left : ℕ → List TransformInfo → List Transform
+left i ts = map transform_of (drop i ts)
+
+-- the first i
+abbrev pub done : ℕ → List TransformInfo → List Transform
+done i ts = map transform_of (take i ts)
+
+pub first_left : (ts : List TransformInfo) (i : ℕ) (d : TransformInfo) → i < length ts → left i ts ≡ transform_of (get_or ts i d) ∷ left (i + 1) ts
+first_left ts i d lt = ap (map transform_of) (drop_more ts i d lt)
+
+pub left_behind : (ts : List TransformInfo) (i : ℕ) (u : TransformInfo) → left (i + 1) (set ts i u) ≡ left (i + 1) ts
+left_behind ts i u = ap (map transform_of) (drop-set-lt (i + 1) ts i u (omega arith))
+
+pub one_done : (ts : List TransformInfo) (i : ℕ) (u : TransformInfo) → i < length ts → done (i + 1) (set ts i u) ≡ done i ts ++ transform_of u ∷ []
+one_done ts i u lt = ap (map transform_of) (take_more_set ts i u lt) ∙ map_push transform_of (take i ts) u
+
+-- those that are left have the ranges of a header
+pub first_is : (ts : List TransformInfo) (i : ℕ) (d : TransformInfo) → i < length ts → All IsTransform (left i ts) → IsTransform (transform_of (get_or ts i d))
+first_is ts i d lt are = All-head IsTransform (transform_of (get_or ts i d)) (left (i + 1) ts) (rw (first_left ts i d lt) at are)
+
+pub others_are : (ts : List TransformInfo) (i : ℕ) (d u : TransformInfo) → i < length ts → All IsTransform (left i ts) → All IsTransform (left (i + 1) (set ts i u))
+others_are ts i d u lt are = rw (left_behind ts i u) (All-tail IsTransform (transform_of (get_or ts i d)) (left (i + 1) ts) (rw (first_left ts i d lt) at are))
+
+-- what the transforms that are done and those that are left come to
+abbrev pub come_to : ℕ → List TransformInfo → ChannelList → Result CodedList Fault
+come_to i ts l = with_steps (steps_in (done i ts)) (coded_list (left i ts) l)
+
+pub nothing_done : (ts : List TransformInfo) (l : ChannelList) → come_to 0 ts l ≡ coded_list (map transform_of ts) l
+nothing_done ts l = same (coded_list (map transform_of ts) l) where
+  same : (r : Result CodedList Fault) → with_steps [] r ≡ r
+  same (Ok coded) = refl
+  same (Err e) = refl
+
+-- one more was applied
+pub prepared_more : (ts : List TransformInfo) (i : ℕ) (d u : TransformInfo) (l m : ChannelList) (total : Result CodedList Fault) → i < length ts →
+    steps_of (transform_of (get_or ts i d)) l ≡ Ok (listed_steps (transform_of u)) → list_after_all (listed_steps (transform_of u)) l ≡ Ok m → come_to i ts l ≡ total → come_to (i + 1) (set ts i u) m ≡ total
+prepared_more ts i d u l m total lt steps list so_far =
+    let before : with_steps (steps_in (done i ts)) (coded_list (transform_of (get_or ts i d) ∷ left (i + 1) ts) l) ≡ total =
+    sym (ap (λ (us : List Transform). with_steps (steps_in (done i ts)) (coded_list us l)) (first_left ts i d lt)) ∙ so_far in
+    rw (left_behind ts i u, one_done ts i u lt, steps_further (done i ts) (transform_of u))
+    (transform_applied (steps_in (done i ts)) (transform_of (get_or ts i d)) (transform_of u) (left (i + 1) ts) l m total steps list before)
+
+-- the next one was refused
+pub prepared_refused : (ts : List TransformInfo) (i : ℕ) (d : TransformInfo) (l : ChannelList) (fault : Fault) (total : Result CodedList Fault) → i < length ts →
+    UnlessNoMemory fault ((steps_of (transform_of (get_or ts i d)) l >>= λ steps. list_after_all steps l) ≡ Err fault) → come_to i ts l ≡ total → UnlessNoMemory fault (total ≡ Err fault)
+prepared_refused ts i d l fault total lt refused so_far =
+    let before : with_steps (steps_in (done i ts)) (coded_list (transform_of (get_or ts i d) ∷ left (i + 1) ts) l) ≡ total =
+    sym (ap (λ (us : List Transform). with_steps (steps_in (done i ts)) (coded_list us l)) (first_left ts i d lt)) ∙ so_far in
+    unless_so fault _ (total ≡ Err fault) (λ r. transform_refused (steps_in (done i ts)) (transform_of (get_or ts i d)) (left (i + 1) ts) l fault total r before) refused
+
+-- all were applied
+pub all_prepared : (ts : List TransformInfo) (i : ℕ) (l : ChannelList) (total : Result CodedList Fault) → length ts ≤ i → come_to i ts l ≡ total → total ≡ Ok (record { steps = steps_in (map transform_of ts); list = l })
+all_prepared ts i l total le so_far =
+    all_applied (steps_in (map transform_of ts)) l total
+    (ap (λ (us : List TransformInfo). with_steps (steps_in (map transform_of us)) (coded_list [] l)) (sym (take_all i ts le))
+    ∙ ap (λ (us : List TransformInfo). with_steps (steps_in (done i ts)) (coded_list (map transform_of us) l)) (sym (drop_all i ts le)) ∙ so_far)
+
+-- a list that was written back whole
+pub written_back : {X : Type 0} (xs ys : List X) (n : ℕ) → length xs ≡ length ys → n ≡ length ys → take n (xs ++ drop (length xs) ys) ≡ xs
+written_back xs ys n same long =
+    let none : drop (length xs) ys ≡ [] = drop_all (length xs) ys (omega (arith, same)) in
+    ap (λ rest. take n (xs ++ rest)) none ∙ ap (take n) (append-nil xs) ∙ take_all n xs (omega (arith, same, long))

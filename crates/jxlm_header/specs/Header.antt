@@ -1,0 +1,39 @@
+-- The header of an image (ISO/IEC 18181-1, Modular: Modular header).
+use Rattle.std.specs.Prelude.{ℕ, List, map, Bool}
+use Rattle.std.specs.List.{All}
+use Rattle.jxlm_base.specs.Grammar.{Grammar, flag, u32, give, repeated, ◌>>=◌}
+use Rattle.jxlm_base.specs.declared.bits.U32Spec.TheVariants.{Const, Offset}
+use Rattle.jxlm_transform.specs.Transforms.{Transform, IsTransform, KeepsWeights, transform, transform_of}
+use Rattle.jxlm_tree.specs.SelfCorrecting.{IsHeader}
+use Rattle.jxlm_tree.specs.WeightsHeader.{wp_header}
+use Rattle.jxlm_tree.specs.declared.predictor.WpHeader.{WpHeader}
+use Rattle.jxlm_header.specs.declared.header.ModularHeader.{ModularHeader}
+
+-- whether the global tree is used, the weights of the self-correcting predictor, and the transforms in order
+pub record Header : Type 0 where
+  pub use_global_tree : Bool
+  pub wp_params : WpHeader
+  pub transform : List Transform
+
+-- how many transforms are listed, at most 273
+abbrev pub transform_count : Grammar ℕ
+transform_count = u32 (Const 0) (Const 1) (Offset 2 4) (Offset 18 8)
+
+-- the flag of the global tree, the weights, and the transforms behind their count
+abbrev pub header : Grammar Header
+header = do
+  use_global_tree ← flag
+  weights ← wp_header
+  count ← transform_count
+  transforms ← repeated count (transform weights)
+  give (record { use_global_tree = use_global_tree; wp_params = weights; transform = transforms })
+
+-- a header, seen without its memory
+abbrev pub header_of : ModularHeader → Header
+header_of h = record { use_global_tree = h.use_global_tree; wp_params = h.wp_params; transform = map transform_of h.transform.items }
+
+-- the ranges of a header that was read
+pub record IsReadHeader (h : Header) : Type 0 where
+  pub weights : IsHeader h.wp_params
+  pub transforms : All IsTransform h.transform
+  pub palettes : All (KeepsWeights h.wp_params) h.transform

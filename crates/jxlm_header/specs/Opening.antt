@@ -1,0 +1,68 @@
+-- What stands ahead of an image's tree, and in which order it is refused (ISO/IEC 18181-1, Modular: Modular header and its conditions).
+use Rattle.std.specs.Prelude.{◌≡◌, ◌+◌, ◌^◌, nat_lt, min, sum_by, List, length, codes, Bool, ℕ, not, ◌&&◌, if◌then◌else◌, Result, Ok, Err}
+use Rattle.jxlm_base.specs.Fault.{Fault, BadProfile, NoGlobalTree, UnlessNoMemory, fault_of}
+use Rattle.jxlm_base.specs.Grammar.{Grammar, IsExact, give, refuse}
+use Rattle.jxlm_base.specs.Grammar as fields
+use Rattle.jxlm_base.specs.declared.error.Error.{Error}
+use Rattle.jxlm_transform.specs.Steps.{steps_in}
+use Rattle.jxlm_tree.specs.declared.predictor.WpHeader.{WpHeader}
+use Rattle.jxlm_transform.specs.Channels.{Channel, ChannelList, area, list_of}
+use Rattle.jxlm_transform.specs.ChannelSteps.{CodedList, coded_list, ◌>>=◌}
+use Rattle.jxlm_transform.specs.Transforms.{Transform}
+use Rattle.jxlm_transform.specs.declared.channels.ModularChannels.{ModularChannels}
+use Rattle.jxlm_header.specs.Header.{Header, header, header_of}
+use Rattle.jxlm_header.specs.declared.header.ModularHeader.{ModularHeader}
+
+-- the weights of the header, and what its transforms come to: their steps, and the channels that are coded
+pub record Opening : Type 0 where
+  pub weights : WpHeader
+  pub coded : CodedList
+
+-- a value that is found without bits, or its refusal
+abbrev pub checked : {X : Type 0} → Result X Fault → Grammar X
+checked (Ok x) = give x
+checked (Err e) = refuse e
+
+-- The conditions on a header and its coded channels, in order: at most 65536 channels are coded, and a global tree that it asks for was
+-- handed in.
+abbrev pub conditions : Bool → Header → ChannelList → Result (Unit {0}) Fault
+conditions has_global header list =
+    if nat_lt 65536 (length list.channels) then Err (BadProfile (codes "nb_channels_tr too large")) else
+    if header.use_global_tree && not has_global then Err NoGlobalTree else Ok tt
+
+-- each transform in turn against the channels that the ones before it leave, and then the conditions
+abbrev pub resolved : Bool → ChannelList → Header → Result Opening Fault
+resolved has_global list header =
+    coded_list header.transform list >>= λ coded.
+    conditions has_global header coded.list >>= λ _.
+    Ok (record { weights = header.wp_params; coded = coded })
+
+-- the whole header, and then what it comes to
+abbrev pub opening : Bool → ChannelList → Grammar Opening
+opening has_global list = fields.◌>>=◌ header λ header. checked (resolved has_global list header)
+
+-- What a call that applies transforms in order answered, the transforms behind it, which then list their steps, and the list behind it.
+abbrev pub PrepareGives : List Transform → ChannelList → Result (Unit {0}) Error → List Transform → ChannelList → Type 0
+PrepareGives ts l (Ok u) listed m = coded_list ts l ≡ Ok (record { steps = steps_in listed; list = m })
+PrepareGives ts l (Err e) listed m = UnlessNoMemory (fault_of e) (coded_list ts l ≡ Err (fault_of e))
+
+-- what a call that checks the conditions answered
+abbrev pub CheckGives : Result (Unit {0}) Fault → Result (Unit {0}) Error → Type 0
+CheckGives check (Ok u) = check ≡ Ok tt
+CheckGives check (Err e) = check ≡ Err (fault_of e)
+
+-- a header and its coded channels, as a program keeps them
+abbrev pub opening_of : ModularHeader × ModularChannels → Opening
+opening_of o = record { weights = (header_of o.0).wp_params; coded = record { steps = steps_in (header_of o.0).transform; list = list_of o.1 } }
+
+-- what is read ahead of a tree stands there, and what stands there is read
+abbrev pub OpeningIsExact : Type 0
+OpeningIsExact = (has_global : Bool) (list : ChannelList) → IsExact (opening has_global list)
+
+-- a tree of the image's own may have one node more than this
+abbrev pub node_limit : List Channel → ℕ
+node_limit channels = min (1024 + sum_by area channels) (2 ^ 20)
+
+-- and at most this depth
+abbrev pub depth_limit : ℕ
+depth_limit = 2048

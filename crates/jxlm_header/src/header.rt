@@ -1,0 +1,98 @@
+//! The header of a Modular image.
+
+ghost use Rattle.std.specs.Prelude.{◌≡◌, IfOk, length, map};
+ghost use Rattle.std.specs.List.{All};
+ghost use Rattle.jxlm_base.specs.Bits.{bytes_of, position_of};
+ghost use Rattle.jxlm_base.specs.Grammar.{repeated};
+ghost use Rattle.jxlm_transform.specs.Channels.{HasItsMeta, list_of};
+ghost use Rattle.jxlm_transform.specs.Transforms.{IsTransform, KeepsWeights, Parses, transform, transform_of};
+ghost use Rattle.jxlm_header.specs.Opening.{PrepareGives};
+
+use jxlm_base::bits::{Bitstream, U32Spec};
+use jxlm_base::error::Result;
+use jxlm_base::grid::OutOfMemory;
+use jxlm_transform::channels::ModularChannels;
+use jxlm_transform::transform::TransformInfo;
+use jxlm_tree::predictor::WpHeader;
+use std::alloc::Global;
+
+/// What stands ahead of an image's tree.
+#[derive(Drop)]
+pub struct ModularHeader {
+    pub use_global_tree: bool,
+    pub wp_params: WpHeader,
+    pub transform: Vec<TransformInfo>,
+}
+
+/// So many transforms, of which each palette keeps no weights, or these.
+fn read_transforms(
+    alloc: Global,
+    bits: &mut Bitstream<'_>,
+    count: u32,
+    wp_params: &WpHeader,
+) -> Result<Vec<TransformInfo>>
+    ensures gives { Parses (λ v. map transform_of v.items) result (position_of bits.new) ((repeated count (transform wp_params.now)).read (bytes_of bits.old) (position_of bits.old)) }
+    ensures each { IfOk result (λ v. All IsTransform (map transform_of v.items)) }
+    ensures weights { IfOk result (λ v. All (KeepsWeights wp_params.now) (map transform_of v.items)) }
+    ensures bytes { bytes_of bits.new ≡ bytes_of bits.old }
+{
+    let mut transforms = Vec::new(alloc);
+    for _ in 0..count {
+        let transform = TransformInfo::parse(alloc, bits, wp_params)?;
+        transforms.push(transform).map_err(|_| OutOfMemory)?;
+    }
+    Ok(transforms)
+}
+
+impl ModularHeader {
+    ghost use Rattle.jxlm_header.specs.Header.{IsReadHeader, header, header_of};
+
+    /// The header that stands at the reader's place: whether the global tree is used, the weights
+    /// of the self-correcting predictor, and the transforms, at most 273. A palette keeps no weights,
+    /// or the header's.
+    ///
+    /// A cut input is refused by `UnexpectedEof`; a transform of kind 3, and the number of a
+    /// predictor that is none, by `InvalidEnum`. The reader then stands behind the last field that
+    /// was read whole. `Buffer` where it is out of memory, at any transform; no error of a decoder comes.
+    pub fn parse(alloc: Global, bits: &mut Bitstream<'_>) -> Result<ModularHeader>
+        ensures gives { Parses header_of result (position_of bits.new) (header.read (bytes_of bits.old) (position_of bits.old)) }
+        ensures ranges { IfOk result (λ h. IsReadHeader (header_of h)) }
+        ensures bytes { bytes_of bits.new ≡ bytes_of bits.old }
+    {
+        let use_global_tree = bits.read_bool()?;
+        let wp_params = WpHeader::parse(bits)?;
+        let nb_transforms = bits.read_u32(
+            U32Spec::Const(0),
+            U32Spec::Const(1),
+            U32Spec::Offset(2, 4),
+            U32Spec::Offset(18, 8),
+        )?;
+        let transform = read_transforms(alloc, bits, nb_transforms, &wp_params)?;
+        Ok(ModularHeader {
+            use_global_tree,
+            wp_params,
+            transform,
+        })
+    }
+}
+
+/// Applies transforms that were read to the channels of an image, in order, up to the first that is
+/// refused. Each then lists its steps.
+///
+/// Want of memory may be answered at any time. After a refusal nothing is promised of the transforms
+/// and the list.
+pub fn prepare_transforms(
+    alloc: Global,
+    transforms: &mut Vec<TransformInfo>,
+    channels: &mut ModularChannels,
+) -> Result<()>
+    requires ranges { All IsTransform (map transform_of transforms.old.items) }
+    requires meta { HasItsMeta (list_of channels.old) }
+    ensures gives { PrepareGives (map transform_of transforms.old.items) (list_of channels.old) result (map transform_of transforms.new.items) (list_of channels.new) }
+    ensures count { IfOk result (λ _. length transforms.new.items ≡ length transforms.old.items) }
+{
+    for transform in transforms.iter_mut() {
+        transform.prepare_transform_info(alloc, channels)?;
+    }
+    Ok(())
+}

@@ -1,0 +1,12 @@
+pub mod CellLaws
+pub mod Counts
+pub mod Earlier
+pub mod Loops
+pub mod NextSample
+pub mod Progress
+pub mod Starting
+pub mod Samples
+pub mod Prefixes
+pub mod Places
+pub mod TokenLaw
+pub mod Whole

@@ -1,0 +1,217 @@
+-- What the loops of decoding keep: one cell more, one row more, one channel more.
+use Rattle.std.proofs.Common.{◌≡◌, ℕ, zero, suc, ◌+◌, ◌*◌, ◌<◌, ◌≤◌, List, [], ◌∷◌, length, refl, sym, ap, ◌∙◌, subst, arith, ℤ}
+use Rattle.std.specs.Prelude.{slice_set}
+use Rattle.std.specs.Int.{Width}
+use Rattle.std.proofs.lemmas.List.{length-append}
+use Rattle.std.proofs.Math.Seq.{take-length}
+use Rattle.std.proofs.lemmas.List.Sums.{sum_by-cons}
+use Rattle.jxlm_base.specs.Decoding.{Taken, Meaning}
+use Rattle.jxlm_base.specs.Grid.{Grid, with_cell}
+use Rattle.jxlm_base.specs.Regions.{region, grid_of, store_meanings, with_region_cell, AllLie, LieApart}
+use Rattle.jxlm_base.specs.declared.decoder.DecoderError.{DecoderError}
+use Rattle.jxlm_base.specs.declared.subgrid.Region.{Region}
+use Rattle.jxlm_base.proofs.Regions.{grids_of_written, with_region_cell-meanings, AllLie-meanings, IsFull-grid_of}
+use Rattle.jxlm_part.specs.Coded.{part_rule}
+use Rattle.jxlm_part.specs.Part.{Part, Channel, size, channel, cell_count, cells_before, cells_of, Fits, grid as grid_at}
+use Rattle.jxlm_part.specs.Progress.{Reached, Stopped, SameSizes, place_of, cells_ahead, grids_in, GoesOn, Stops, TakesSteps}
+use Rattle.jxlm_part.specs.Reading.{ReadsCell, RefusesCell, region_at}
+use Rattle.jxlm_part.proofs.Places.{before_suc}
+use Rattle.jxlm_part.proofs.Progress.{reached_more, with_cell_of, stands_within}
+
+-- sizes of regions and channels
+pub same_count : (channels : List Channel) (regions : List Region) → SameSizes channels regions → length channels ≡ length regions
+same_count [] [] h = refl
+same_count [] (r ∷ rs) h = absurd h
+same_count (c ∷ cs) [] h = absurd h
+same_count (c ∷ cs) (r ∷ rs) h = let n = same_count cs rs h.2 in omega (arith, n)
+
+pub same_size : (channels : List Channel) (regions : List Region) (i : ℕ) → SameSizes channels regions → i < length regions →
+    ((region_at regions i).width ≡ (channel channels i).width) × ((region_at regions i).height ≡ (channel channels i).height)
+same_size [] [] i h l = absurd (omega arith)
+same_size [] (r ∷ rs) i h l = absurd h
+same_size (c ∷ cs) [] i h l = absurd h
+same_size (c ∷ cs) (r ∷ rs) zero h l = (h.0, h.1)
+same_size (c ∷ cs) (r ∷ rs) (suc i) h l = same_size cs rs i h.2 (omega arith)
+
+pub grid_in : (store : List (Grid ℤ)) (regions : List Region) (i : ℕ) → i < length regions → grid_at (grids_in regions store) i ≡ grid_of store (region_at regions i)
+grid_in store [] i l = absurd (omega arith)
+grid_in store (r ∷ rs) zero l = refl
+grid_in store (r ∷ rs) (suc i) l = grid_in store rs i (omega arith)
+
+-- all cells of grids that fit their channels
+pub all_cells : (channels : List Channel) (grids : List (Grid ℤ)) → Fits channels grids → length (cells_of grids) ≡ cell_count channels
+all_cells [] [] fit = refl
+all_cells [] (g ∷ gs) fit = absurd fit
+all_cells (c ∷ cs) [] fit = absurd fit
+all_cells (c ∷ cs) (g ∷ gs) fit =
+    let whole : length g.cells ≡ size c = fit.2 ∙ ap (λ w. w * g.height) fit.0 ∙ ap (λ h. c.width * h) fit.1 in
+    let rest = all_cells cs gs fit.3 in
+    let all = sum_by-cons size c cs in
+    let both = length-append g.cells (cells_of gs) in
+    omega (arith, whole, rest, all, both)
+
+-- ---- steps
+
+sums_within : (a b c s t u : ℕ) → t + a ≤ s + b → u + b ≤ t + c → u + a ≤ s + c
+sums_within a b c s t u h k = omega (arith, h, k)
+
+pub takes_none : (cost k before : ℕ) → TakesSteps cost k k before before
+takes_none cost k before = omega arith
+
+pub takes_one : (cost k before after : ℕ) → after ≤ before + cost → TakesSteps cost k (suc k) before after
+takes_one cost k before after h = omega (arith, h)
+
+pub takes_further : (cost a b c s t u : ℕ) → TakesSteps cost a b s t → TakesSteps cost b c t u → TakesSteps cost a c s u
+takes_further cost a b c s t u h k = sums_within (a * cost) (b * cost) (c * cost) s t u h k
+
+pub takes_between : (cost a b c d s t : ℕ) → a ≡ c → b ≡ d → TakesSteps cost a b s t → TakesSteps cost c d s t
+takes_between cost a b c d s t p q h = rw (← p, ← q) h
+
+pub takes_next : (cost : ℕ) (part : Part) (i x y before after : ℕ) → after ≤ before + cost → TakesSteps cost (place_of part i x y) (place_of part i (x + 1) y) before after
+takes_next cost part i x y before after h =
+    let k : ℕ = place_of part i x y in
+    let next : suc k ≡ place_of part i (x + 1) y = omega arith in
+    subst (λ n. TakesSteps cost k n before after) next (takes_one cost k before after h)
+
+-- ---- places
+
+pub row_ends : (part : Part) (i y : ℕ) → place_of part i (channel part.channels i).width y ≡ place_of part i 0 (y + 1)
+row_ends part i y = omega arith
+
+pub channel_begins : (part : Part) (i : ℕ) → place_of part i 0 0 ≡ cells_before part.channels i
+channel_begins part i = omega arith
+
+ends_list : (channels : List Channel) (i : ℕ) → i < length channels → cells_before channels i + size (channel channels i) ≡ cells_before channels (i + 1)
+ends_list [] i l = absurd (omega arith)
+ends_list (c ∷ cs) zero l =
+    let b = before_suc c cs 0 in
+    let one : suc 0 ≡ 0 + 1 = omega arith in
+    let m : cells_before (c ∷ cs) (0 + 1) ≡ size c + cells_before cs 0 = ap (cells_before (c ∷ cs)) (sym one) ∙ b in
+    omega (arith, m)
+ends_list (c ∷ cs) (suc i) l =
+    let b = before_suc c cs i in let n = before_suc c cs (i + 1) in let e = ends_list cs i (omega arith) in
+    let same : suc (i + 1) ≡ suc i + 1 = omega arith in
+    let m : cells_before (c ∷ cs) (suc i + 1) ≡ size c + cells_before cs (i + 1) = ap (cells_before (c ∷ cs)) (sym same) ∙ n in
+    omega (arith, b, m, e)
+
+pub channel_ends : (part : Part) (i : ℕ) → i < length part.channels → place_of part i 0 (channel part.channels i).height ≡ cells_before part.channels (i + 1)
+channel_ends part i l =
+    let c = channel part.channels i in
+    let e = ends_list part.channels i l in
+    let m : c.height * c.width + 0 ≡ size c = omega arith in
+    ap (λ n. cells_before part.channels i + n) m ∙ e
+
+-- regions that have the sizes of channels hold grids that fit them
+pub fits_in : (channels : List Channel) (regions : List Region) (store : List (Grid ℤ)) → SameSizes channels regions → Fits channels (grids_in regions store)
+fits_in [] [] store h = tt
+fits_in [] (r ∷ rs) store h = absurd h
+fits_in (c ∷ cs) [] store h = absurd h
+fits_in (c ∷ cs) (r ∷ rs) store h = (h.0, h.1, IsFull-grid_of store r, fits_in cs rs store h.2)
+
+-- a place of a region is one of its channel
+pub record IsPlace (part : Part) (i x y : ℕ) : Type 0 where
+  pub there : i < length part.channels
+  pub column : x < (channel part.channels i).width
+  pub row : y < (channel part.channels i).height
+
+module _ (part : Part) (regions : List Region) (sizes : SameSizes part.channels regions) where
+  pub is_place : (i x y : ℕ) → i < length regions → x < (region_at regions i).width → y < (region_at regions i).height → IsPlace part i x y
+  is_place i x y li px qy =
+      let same = same_size part.channels regions i sizes li in
+      let count = same_count part.channels regions sizes in
+      record {
+        there = omega (arith, count);
+        column = subst (λ n. x < n) same.0 px;
+        row = subst (λ n. y < n) same.1 qy;
+      }
+
+  -- ---- the ends of rows and channels
+
+  pub row_done : (i y : ℕ) → i < length regions → place_of part i (region_at regions i).width y ≡ place_of part i 0 (y + 1)
+  row_done i y li = ap (λ n. place_of part i n y) (same_size part.channels regions i sizes li).0 ∙ row_ends part i y
+
+  pub channel_done : (i : ℕ) → i < length regions → place_of part i 0 (region_at regions i).height ≡ cells_before part.channels (i + 1)
+  channel_done i li =
+      let count = same_count part.channels regions sizes in
+      ap (λ n. place_of part i 0 n) (same_size part.channels regions i sizes li).1 ∙ channel_ends part i (omega (arith, count))
+
+  pub channel_empty : (i : ℕ) → i < length regions → (region_at regions i).width ≡ 0 → cells_before part.channels i ≡ cells_before part.channels (i + 1)
+  channel_empty i li none =
+      let count = same_count part.channels regions sizes in
+      let e = ends_list part.channels i (omega (arith, count)) in
+      let z : (channel part.channels i).width ≡ 0 = sym (same_size part.channels regions i sizes li).0 ∙ none in
+      let n : size (channel part.channels i) ≡ 0 = ap (λ n. n * (channel part.channels i).height) z ∙ omega arith in
+      omega (arith, e, n)
+
+  pub all_done : cells_before part.channels (length regions) ≡ cell_count part.channels
+  all_done = ap (cells_before part.channels) (sym (same_count part.channels regions sizes)) ∙ ap cell_count (take-length part.channels)
+
+module _ {S : Type 0} (d : Meaning S) (w : Width) (part : Part) (bytes : List ℕ) (regions : List Region) where
+  -- a cell was read and written
+  pub cell_goes_on : {X : Type 0} (to_int : X → ℤ) (from_int : ℤ → X) → ((n : ℤ) → to_int (from_int n) ≡ n) → (i x y : ℕ) (store new : List (Grid X)) (s t : S) (p q : ℕ) →
+      SameSizes part.channels regions → LieApart regions → AllLie regions store → i < length regions → x < (region_at regions i).width → y < (region_at regions i).height →
+      ReadsCell d w part bytes regions to_int i x y store s p from_int new t q →
+      GoesOn d w part bytes regions (place_of part i x y) (place_of part i (x + 1) y) (store_meanings to_int store) s p (store_meanings to_int new) t q
+  cell_goes_on {X} to_int from_int back i x y store new s t p q sizes apart lie li px qy reads decoder p0 old r =
+      let ints : List (Grid ℤ) = store_meanings to_int store in
+      let reg : Region = region_at regions i in
+      let at = is_place part regions sizes i x y li px qy in
+      let k : ℕ = place_of part i x y in
+      let v : ℤ = (part_rule d w part bytes).value (cells_ahead part (grids_in regions ints) i x y) reads.token in
+      let taken : Taken S = record { token = reads.token; state = t; position = q } in
+      let store' : store_meanings to_int new ≡ with_region_cell ints reg x y v =
+      ap (store_meanings to_int) reads.written ∙ with_region_cell-meanings to_int store reg x y (from_int v) ∙ ap (with_region_cell ints reg x y) (back v) in
+      let grids' : grids_in regions (store_meanings to_int new) ≡ with_cell_of (grids_in regions ints) i x y v =
+      ap (grids_in regions) store' ∙ grids_of_written ints regions i x y v (region 0 0 0 0 0) apart (AllLie-meanings to_int store regions lie) li px qy
+      ∙ ap (λ (g : Grid ℤ). slice_set (grids_in regions ints) i (with_cell g x y v)) (sym (grid_in ints regions i li)) in
+      let next : suc k ≡ place_of part i (x + 1) y = omega arith in
+      let more = reached_more d w part bytes decoder p0 old k i x y (grids_in regions ints) s p taken at.there at.column at.row refl r reads.read in
+      subst (λ n. Reached d w part bytes decoder p0 old n (grids_in regions (store_meanings to_int new)) t q) next
+      (subst (λ (gs : List (Grid ℤ)). Reached d w part bytes decoder p0 old (suc k) gs t q) (sym grids') more)
+
+  -- a read was refused, and each read up to it took at most so many steps
+  abbrev IsStopped : S → ℕ → List (Grid ℤ) → DecoderError → List (Grid ℤ) → ℕ → ℕ → ℕ → ℕ → ℕ → Type 0
+  IsStopped decoder p0 old e now q cost from before after = (stopped : Stopped d w part bytes decoder p0 old e now q) × TakesSteps cost from (suc stopped.count) before after
+
+  -- the read of a cell was refused
+  pub cell_stops : {X : Type 0} (to_int : X → ℤ) (cost before after : ℕ) (i x y : ℕ) (store new : List (Grid X)) (s t : S) (p q : ℕ) (e : DecoderError) →
+      after ≤ before + cost → SameSizes part.channels regions → i < length regions → x < (region_at regions i).width → y < (region_at regions i).height →
+      RefusesCell d w part bytes regions to_int i x y store s p new t q e →
+      Stops d w part bytes regions cost before after (place_of part i x y) (store_meanings to_int store) s p (store_meanings to_int new) q e
+  cell_stops {X} to_int cost before after i x y store new s t p q e work sizes li px qy refuses decoder p0 old r =
+      let ints : List (Grid ℤ) = store_meanings to_int store in
+      let at = is_place part regions sizes i x y li px qy in
+      let stopped : Stopped d w part bytes decoder p0 old e (grids_in regions ints) p = record {
+        count = place_of part i x y;
+        state = s;
+        within = subst (λ n. place_of part i x y < n) (all_cells part.channels (grids_in regions ints) r.fits) (stands_within part.channels (grids_in regions ints) i x y r.fits at.there at.column at.row);
+        reached = r;
+        fault = refuses.fault;
+      } in
+      let place : ℕ = place_of part i x y in
+      subst (λ n. IsStopped decoder p0 old e (grids_in regions (store_meanings to_int new)) n cost place before after) (sym refuses.place_is)
+      (subst (λ (gs : List (Grid X)). IsStopped decoder p0 old e (grids_in regions (store_meanings to_int gs)) p cost place before after) (sym refuses.store_is)
+      (stopped, takes_one cost place before after work))
+
+  -- ---- one behind another
+
+  module _ (store : List (Grid ℤ)) (s : S) (p : ℕ) where
+    pub stays : (from to : ℕ) → from ≡ to → GoesOn d w part bytes regions from to store s p store s p
+    stays from to same decoder p0 old r = subst (λ n. Reached d w part bytes decoder p0 old n (grids_in regions store) s p) same r
+
+    module _ (from middle : ℕ) (store' : List (Grid ℤ)) (s' : S) (p' : ℕ) (first : GoesOn d w part bytes regions from middle store s p store' s' p') where
+      -- the same, where the places are told otherwise
+      pub goes_between : (from' to' : ℕ) → from' ≡ from → middle ≡ to' → GoesOn d w part bytes regions from' to' store s p store' s' p'
+      goes_between from' to' a b decoder p0 old r =
+          subst (λ n. Reached d w part bytes decoder p0 old n (grids_in regions store') s' p') b
+          (first decoder p0 old (subst (λ n. Reached d w part bytes decoder p0 old n (grids_in regions store) s p) a r))
+
+      pub goes_further : (to : ℕ) (store'' : List (Grid ℤ)) (s'' : S) (p'' : ℕ) → GoesOn d w part bytes regions middle to store' s' p' store'' s'' p'' →
+          GoesOn d w part bytes regions from to store s p store'' s'' p''
+      goes_further to store'' s'' p'' second decoder p0 old r = second decoder p0 old (first decoder p0 old r)
+
+      pub stops_further : (cost before then after : ℕ) (store'' : List (Grid ℤ)) (p'' : ℕ) (e : DecoderError) → TakesSteps cost from middle before then →
+          Stops d w part bytes regions cost then after middle store' s' p' store'' p'' e → Stops d w part bytes regions cost before after from store s p store'' p'' e
+      stops_further cost before then after store'' p'' e work second decoder p0 old r =
+          let last = second decoder p0 old (first decoder p0 old r) in
+          (last.0, takes_further cost from middle (suc last.0.count) before then after work last.1)

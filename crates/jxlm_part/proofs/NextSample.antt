@@ -1,0 +1,210 @@
+-- The next sample of a part, by its flat trees and by what the predictor's state was set for.
+use Rattle.std.proofs.Common.{◌≡◌, ◌≢◌, ℕ, zero, suc, ◌+◌, ◌-◌, ◌*◌, ◌/◌, ◌<◌, ◌≤◌, min, List, [], ◌∷◌, length, take, map, Bool, true, false, if◌then◌else◌, Option, Some, None, refl, sym, ap, ◌∙◌, arith, ℤ}
+use Rattle.std.specs.Prelude.{slice_get}
+use Rattle.std.specs.Int.{w32, int_wrap}
+use Rattle.std.proofs.lemmas.List.{length-map}
+use Rattle.std.proofs.lemmas.Simd.{map-map}
+use Rattle.std.proofs.lemmas.Nat.{mul-add-lt}
+use Rattle.jxlm_base.specs.Grid.{Grid}
+use Rattle.jxlm_base.specs.Regions.{grid_of}
+use Rattle.jxlm_base.specs.declared.subgrid.Region.{Region}
+use Rattle.jxlm_tree.specs.FlatTree.{earlier_named, leaf_reached, needs_weights}
+use Rattle.jxlm_tree.specs.Holding.{surroundings as surroundings_of}
+use Rattle.jxlm_tree.specs.Predictions.{prediction}
+use Rattle.jxlm_tree.specs.Properties.{Surroundings, place_property, property}
+use Rattle.jxlm_tree.specs.Standing.{Setting, setting}
+use Rattle.jxlm_tree.specs.Tree.{walk}
+use Rattle.jxlm_tree.specs.declared.flat.Leaf.{Leaf}
+use Rattle.jxlm_tree.specs.declared.predictor.Predictor.{Predictor}
+use Rattle.jxlm_tree.specs.declared.predictor.Predictor.TheVariants.{Zero, West, North, AvgWestAndNorth, Select, Gradient, SelfCorrecting, NorthEast, NorthWest, WestWest, AvgWestAndNorthWest, AvgNorthAndNorthWest, AvgNorthAndNorthEast, AvgAll}
+use Rattle.jxlm_tree.specs.declared.predictor.WpHeader.{WpHeader}
+use Rattle.jxlm_tree.proofs.FlatTrees.{goes_without_weights, reads_earlier_below, walks_by_properties}
+use Rattle.jxlm_tree.proofs.PropertiesLaws.{later_property}
+use Rattle.jxlm_part.specs.Coded.{next_prediction}
+use Rattle.jxlm_part.specs.Progress.{SameSizes, cells_ahead, grids_in}
+use Rattle.jxlm_part.specs.Reading.{flat, handed, leaf_at, predicted_at, region_at}
+use Rattle.jxlm_part.specs.Part.{Part, channel, earlier_alike, grid_of as grid_before, samples_of, next_leaf, surroundings, SeesBefore}
+use Rattle.jxlm_part.proofs.Earlier.{earlier_mapped, few_earlier}
+use Rattle.jxlm_part.proofs.Loops.{fits_in, grid_in, same_size}
+use Rattle.jxlm_part.proofs.Places.{each_sees_before}
+
+-- what properties look at, with and without weights
+abbrev with_weights : Surroundings → Option WpHeader → Surroundings
+with_weights s weights = record s { weights = weights }
+
+-- a property other than 15 is the same without weights
+weightless : (s : Surroundings) (a b : Option WpHeader) (k : ℕ) → k ≢ 15 → place_property (with_weights s a) k ≡ place_property (with_weights s b) k
+weightless s a b zero h = refl
+weightless s a b (suc zero) h = refl
+weightless s a b (suc (suc zero)) h = refl
+weightless s a b (suc (suc (suc zero))) h = refl
+weightless s a b (suc (suc (suc (suc zero)))) h = refl
+weightless s a b (suc (suc (suc (suc (suc zero))))) h = refl
+weightless s a b (suc (suc (suc (suc (suc (suc zero)))))) h = refl
+weightless s a b (suc (suc (suc (suc (suc (suc (suc zero))))))) h = refl
+weightless s a b (suc (suc (suc (suc (suc (suc (suc (suc zero)))))))) h = refl
+weightless s a b (suc (suc (suc (suc (suc (suc (suc (suc (suc zero))))))))) h = refl
+weightless s a b (suc (suc (suc (suc (suc (suc (suc (suc (suc (suc zero)))))))))) h = refl
+weightless s a b (suc (suc (suc (suc (suc (suc (suc (suc (suc (suc (suc zero))))))))))) h = refl
+weightless s a b (suc (suc (suc (suc (suc (suc (suc (suc (suc (suc (suc (suc zero)))))))))))) h = refl
+weightless s a b (suc (suc (suc (suc (suc (suc (suc (suc (suc (suc (suc (suc (suc zero))))))))))))) h = refl
+weightless s a b (suc (suc (suc (suc (suc (suc (suc (suc (suc (suc (suc (suc (suc (suc zero)))))))))))))) h = refl
+weightless s a b (suc (suc (suc (suc (suc (suc (suc (suc (suc (suc (suc (suc (suc (suc (suc zero))))))))))))))) h = absurd (h refl)
+weightless s a b (suc (suc (suc (suc (suc (suc (suc (suc (suc (suc (suc (suc (suc (suc (suc (suc k)))))))))))))))) h =
+    let past : 16 ≤ (suc (suc (suc (suc (suc (suc (suc (suc (suc (suc (suc (suc (suc (suc (suc (suc k)))))))))))))))) = omega arith in
+    later_property (with_weights s a) (suc (suc (suc (suc (suc (suc (suc (suc (suc (suc (suc (suc (suc (suc (suc (suc k)))))))))))))))) past ∙ sym (later_property (with_weights s b) (suc (suc (suc (suc (suc (suc (suc (suc (suc (suc (suc (suc (suc (suc (suc (suc k)))))))))))))))) past)
+
+-- the first of a list are found in it
+got : {X Y : Type 0} (f : X → Y) (n : ℕ) (xs : List X) (j : ℕ) → j < n → slice_get (map f (take n xs)) j ≡ slice_get (map f xs) j
+got f zero xs j l = absurd (omega arith)
+got f (suc n) [] j l = refl
+got f (suc n) (x ∷ xs) zero l = refl
+got f (suc n) (x ∷ xs) (suc j) l = got f n xs j (omega arith)
+
+abbrev with_earlier : Surroundings → List (Grid ℤ) → Surroundings
+with_earlier s grids = record s { earlier = grids }
+
+-- a property of the first earlier channels is the same where there are no others
+cut_same : {X : Type 0} (s : Surroundings) (f : X → Grid ℤ) (xs : List X) (n k : ℕ) → k < 16 + 4 * n → place_property (with_earlier s (map f (take n xs))) k ≡ place_property (with_earlier s (map f xs)) k
+cut_same s f xs n zero h = refl
+cut_same s f xs n (suc zero) h = refl
+cut_same s f xs n (suc (suc zero)) h = refl
+cut_same s f xs n (suc (suc (suc zero))) h = refl
+cut_same s f xs n (suc (suc (suc (suc zero)))) h = refl
+cut_same s f xs n (suc (suc (suc (suc (suc zero))))) h = refl
+cut_same s f xs n (suc (suc (suc (suc (suc (suc zero)))))) h = refl
+cut_same s f xs n (suc (suc (suc (suc (suc (suc (suc zero))))))) h = refl
+cut_same s f xs n (suc (suc (suc (suc (suc (suc (suc (suc zero)))))))) h = refl
+cut_same s f xs n (suc (suc (suc (suc (suc (suc (suc (suc (suc zero))))))))) h = refl
+cut_same s f xs n (suc (suc (suc (suc (suc (suc (suc (suc (suc (suc zero)))))))))) h = refl
+cut_same s f xs n (suc (suc (suc (suc (suc (suc (suc (suc (suc (suc (suc zero))))))))))) h = refl
+cut_same s f xs n (suc (suc (suc (suc (suc (suc (suc (suc (suc (suc (suc (suc zero)))))))))))) h = refl
+cut_same s f xs n (suc (suc (suc (suc (suc (suc (suc (suc (suc (suc (suc (suc (suc zero))))))))))))) h = refl
+cut_same s f xs n (suc (suc (suc (suc (suc (suc (suc (suc (suc (suc (suc (suc (suc (suc zero)))))))))))))) h = refl
+cut_same s f xs n (suc (suc (suc (suc (suc (suc (suc (suc (suc (suc (suc (suc (suc (suc (suc zero))))))))))))))) h = refl
+cut_same s f xs n (suc (suc (suc (suc (suc (suc (suc (suc (suc (suc (suc (suc (suc (suc (suc (suc k)))))))))))))))) h =
+    let past : 16 ≤ (suc (suc (suc (suc (suc (suc (suc (suc (suc (suc (suc (suc (suc (suc (suc (suc k)))))))))))))))) = omega arith in
+    let there : ((suc (suc (suc (suc (suc (suc (suc (suc (suc (suc (suc (suc (suc (suc (suc (suc k)))))))))))))))) - 16) / 4 < n = omega (arith, h) in
+    later_property (with_earlier s (map f (take n xs))) (suc (suc (suc (suc (suc (suc (suc (suc (suc (suc (suc (suc (suc (suc (suc (suc k)))))))))))))))) past ∙ ap (int_wrap w32) (rw (got f n xs (((suc (suc (suc (suc (suc (suc (suc (suc (suc (suc (suc (suc (suc (suc (suc (suc k)))))))))))))))) - 16) / 4) there) refl) ∙ sym (later_property (with_earlier s (map f xs)) (suc (suc (suc (suc (suc (suc (suc (suc (suc (suc (suc (suc (suc (suc (suc (suc k)))))))))))))))) past)
+
+-- so it is where a tree that asks for none is handed none
+cut_handed : {X : Type 0} (s : Surroundings) (f : X → Grid ℤ) (xs : List X) (n i k : ℕ) → k < 16 + 4 * min i n →
+    place_property (with_earlier s (map f (handed n xs))) k ≡ place_property (with_earlier s (map f xs)) k
+cut_handed s f xs zero i k h = cut_same s f xs 0 k (omega (arith, h))
+cut_handed s f xs (suc n) i k h = refl
+
+-- a prediction is the same without weights by each predictor but the self-correcting one
+predicts_without : (a b : Option WpHeader) (samples : List ℤ) (width : ℕ) (p : Predictor) → p ≢ SelfCorrecting → prediction a samples width p ≡ prediction b samples width p
+predicts_without a b samples width Zero h = refl
+predicts_without a b samples width West h = refl
+predicts_without a b samples width North h = refl
+predicts_without a b samples width AvgWestAndNorth h = refl
+predicts_without a b samples width Select h = refl
+predicts_without a b samples width Gradient h = refl
+predicts_without a b samples width SelfCorrecting h = absurd (h refl)
+predicts_without a b samples width NorthEast h = refl
+predicts_without a b samples width NorthWest h = refl
+predicts_without a b samples width WestWest h = refl
+predicts_without a b samples width AvgWestAndNorthWest h = refl
+predicts_without a b samples width AvgNorthAndNorthWest h = refl
+predicts_without a b samples width AvgNorthAndNorthEast h = refl
+predicts_without a b samples width AvgAll h = refl
+
+module _ (part : Part) (regions : List Region) (ints : List (Grid ℤ)) (i x y : ℕ) (sizes : SameSizes part.channels regions) (li : i < length regions)
+    (l : i < length part.channels) (px : x < (channel part.channels i).width) (qy : y < (channel part.channels i).height) where
+  abbrev before : List ℤ
+  before = cells_ahead part (grids_in regions ints) i x y
+
+  abbrev reg : Region
+  reg = region_at regions i
+
+  -- the cells of the channel before the place
+  abbrev own : List ℤ
+  own = take (y * reg.width + x) (grid_of ints reg).cells
+
+  abbrev earlier : List Region
+  earlier = map (region_at regions) (earlier_alike part.channels i)
+
+  abbrev seen_with : Option WpHeader → Surroundings
+  seen_with weights = surroundings_of (setting reg.width weights earlier) ints own
+
+  sees : SeesBefore part.channels (grids_in regions ints) i (y * (channel part.channels i).width + x) before
+  sees = each_sees_before part.channels (grids_in regions ints) i (y * (channel part.channels i).width + x) (fits_in part.channels regions ints sizes) l
+      (mul-add-lt y (channel part.channels i).width x (channel part.channels i).height qy px)
+
+  wide : reg.width ≡ (channel part.channels i).width
+  wide = (same_size part.channels regions i sizes li).0
+
+  abbrev made : ℕ → List ℤ → List (Grid ℤ) → Surroundings
+  made width samples grids = record { weights = Some part.weights; width = width; samples = samples; earlier = grids }
+
+  samples_are : samples_of part.channels before i ≡ own
+  samples_are = sees.own ∙ ap (λ (g : Grid ℤ). take (y * (channel part.channels i).width + x) g.cells) (grid_in ints regions i li)
+      ∙ ap (λ n. take (y * n + x) (grid_of ints reg).cells) (sym wide)
+
+  earlier_are : map (grid_before part.channels before) (earlier_alike part.channels i) ≡ map (grid_of ints) earlier
+  earlier_are =
+      earlier_mapped part.channels i (grid_before part.channels before) (λ e. grid_of ints (region_at regions e)) (λ e less. sees.earlier e less ∙ grid_in ints regions e (omega arith))
+      ∙ sym (map-map (grid_of ints) (region_at regions) (earlier_alike part.channels i))
+
+  -- what the next sample sees is what the state was set for, and the cells before it
+  same_seen : surroundings part before ≡ seen_with (Some part.weights)
+  same_seen =
+      ap (λ n. made (channel part.channels n).width (samples_of part.channels before n) (map (grid_before part.channels before) (earlier_alike part.channels n))) sees.stands
+      ∙ ap (λ n. made n (samples_of part.channels before i) (map (grid_before part.channels before) (earlier_alike part.channels i))) (sym wide)
+      ∙ ap (λ samples. made reg.width samples (map (grid_before part.channels before) (earlier_alike part.channels i))) samples_are
+      ∙ ap (made reg.width own) earlier_are
+
+  few : length (map (grid_of ints) earlier) ≤ i
+  few =
+      let a = length-map earlier (grid_of ints) in
+      let b = length-map (earlier_alike part.channels i) (region_at regions) in
+      let c = few_earlier part.channels i in
+      omega (arith, a, b, c)
+
+  -- with weights, the flat tree leads to the leaf of the part
+  leaf_with : leaf_reached (flat part.tree part.stream i) (place_property (seen_with (Some part.weights))) ≡ next_leaf part before
+  leaf_with =
+      walks_by_properties (flat part.tree part.stream i) (seen_with (Some part.weights)) few
+      ∙ sym (ap (λ (s : Surroundings). walk part.tree (property i part.stream s)) same_seen)
+      ∙ sym (ap (λ n. walk part.tree (property n part.stream (surroundings part before))) sees.stands)
+
+  -- the earlier channels, where the tree asks for any
+  abbrev handed_on : List Region
+  handed_on = handed (earlier_named part.tree) earlier
+
+  abbrev cut_with : Option WpHeader → Surroundings
+  cut_with weights = surroundings_of (setting reg.width weights handed_on) ints own
+
+  cut_leaf : (weights : Option WpHeader) → leaf_reached (flat part.tree part.stream i) (place_property (cut_with weights)) ≡ leaf_reached (flat part.tree part.stream i) (place_property (seen_with weights))
+  cut_leaf weights =
+      reads_earlier_below (flat part.tree part.stream i) (earlier_named part.tree) refl (place_property (cut_with weights)) (place_property (seen_with weights))
+      (λ k less. cut_handed (seen_with weights) (grid_of ints) earlier (earlier_named part.tree) i k less)
+
+  -- the prediction of the part, at its leaf
+  predicted_with : next_prediction part before ≡ prediction (Some part.weights) own reg.width (next_leaf part before).predictor
+  predicted_with = ap (λ (s : Surroundings). prediction s.weights s.samples s.width (next_leaf part before).predictor) same_seen
+
+  -- The leaf and the prediction that the flat tree leads to are those of the next sample of the part.
+  pub record IsNext (s : Setting) : Type 0 where
+    pub leaf_is : leaf_at (flat part.tree part.stream i) s ints own ≡ next_leaf part before
+    pub predicted_is : predicted_at (flat part.tree part.stream i) s ints own ≡ next_prediction part before
+
+  pub is_next : IsNext (setting reg.width (if needs_weights part.tree then Some part.weights else None) handed_on)
+  is_next = either (needs_weights part.tree) refl where
+    either : (b : Bool) → needs_weights part.tree ≡ b → IsNext (setting reg.width (if b then Some part.weights else None) handed_on)
+    either true is =
+        let same = cut_leaf (Some part.weights) ∙ leaf_with in
+        record {
+          leaf_is = same;
+          predicted_is = ap (λ (k : Leaf). prediction (Some part.weights) own reg.width k.predictor) same ∙ sym predicted_with;
+        }
+    either false is =
+        let goes = goes_without_weights (flat part.tree part.stream i) is (place_property (cut_with None)) (place_property (cut_with (Some part.weights)))
+        (λ k other. weightless (cut_with None) None (Some part.weights) k other) in
+        let same = goes.0 ∙ cut_leaf (Some part.weights) ∙ leaf_with in
+        record {
+          leaf_is = same;
+          predicted_is = predicts_without None (Some part.weights) own reg.width (leaf_at (flat part.tree part.stream i) (setting reg.width None handed_on) ints own).predictor goes.1
+              ∙ ap (λ (k : Leaf). prediction (Some part.weights) own reg.width k.predictor) same ∙ sym predicted_with;
+        }

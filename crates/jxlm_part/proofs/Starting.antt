@@ -1,0 +1,225 @@
+-- How a state is set for a channel, and what is made ready for it.
+use Rattle.std.proofs.Common.{◌≡◌, ℕ, zero, suc, ◌+◌, ◌^◌, ◌<◌, ◌≤◌, ◌⊎◌, inl, inr, min, List, [], ◌∷◌, ◌++◌, length, map, Bool, true, false, if◌then◌else◌, Option, Some, refl, sym, ap, ◌∙◌, subst, arith, get_or, ℤ}
+use Rattle.std.specs.Prelude.{filter, slice_get}
+use Rattle.std.specs.List.{All}
+use Rattle.std.proofs.lemmas.Bool.{cases_lt}
+use Rattle.std.proofs.lemmas.List.Elements.{All-head, All-tail}
+use Rattle.std.proofs.lemmas.List.{length-append, length-map, get_or-map, get_or_append_left}
+use Rattle.std.proofs.lemmas.Option.{slice_get-get_or, get_or_from_slice_get}
+use Rattle.std.proofs.Math.Seq.{get_or-append_seam}
+use Rattle.jxlm_base.specs.declared.subgrid.Region.{Region}
+use Rattle.jxlm_tree.specs.FlatTree.{FlatTree, earlier_named}
+use Rattle.jxlm_tree.specs.Standing.{HasSameRoom, Setting, Stands, StandsAt, earlier_count, earlier_room_of, setting, weights_of}
+use Rattle.jxlm_tree.specs.Tree.{Shape}
+use Rattle.jxlm_tree.specs.declared.flat.Leaf.{Leaf}
+use Rattle.jxlm_tree.specs.declared.predictor.WpHeader.{WpHeader}
+use Rattle.jxlm_tree.specs.declared.state.PredictorState.{PredictorState}
+use Rattle.jxlm_tree.proofs.StandingLaws.{stands_earlier}
+use Rattle.jxlm_part.specs.Layout.{channel_of}
+use Rattle.jxlm_transform.specs.declared.channels.ModularChannelInfo.{ModularChannelInfo}
+use Rattle.jxlm_part.specs.Part.{Channel, IsNarrow, channel, no_channel, downward, earlier_alike, greatest_width, is_alike}
+use Rattle.jxlm_part.specs.Reading.{HasFlats, IsAfterChannel, IsCodingOf, IsRoomy, IsRoomyFor, StandsIn, all_alike, earlier_regions, flat, handed, part_of, region_at, regions_of, setting_of, weights_used}
+use Rattle.jxlm_part.specs.declared.coding.PartCoding.{PartCoding}
+use Rattle.jxlm_part.proofs.CellLaws.{roomy_still}
+use Rattle.jxlm_part.proofs.Earlier.{few, few_earlier, same_channel, same_sides}
+use Rattle.jxlm_part.proofs.Loops.{same_count, same_size}
+
+-- no channel is wider than the widest
+pub within_widest : (channels : List Channel) (i : ℕ) → i < length channels → (channel channels i).width ≤ greatest_width channels
+within_widest [] i l = absurd (omega arith)
+within_widest (c ∷ cs) zero l = omega arith
+within_widest (c ∷ cs) (suc i) l = let h = within_widest cs i (omega arith) in omega (arith, h)
+
+-- where all channels are narrow, so is the widest
+pub narrow_widest : (channels : List Channel) → All IsNarrow channels → greatest_width channels ≤ 2 ^ 30
+narrow_widest [] h = omega arith
+narrow_widest (c ∷ cs) h =
+    let first = (All-head IsNarrow c cs h).0 in
+    let rest = narrow_widest cs (All-tail IsNarrow c cs h) in
+    omega (arith, first, rest)
+
+-- where a tree asks for no earlier channel, or there is none, none is handed on; else all are
+pub none_asked : (n i : ℕ) (all : List Region) → (i ≡ 0 → all ≡ []) → min i n ≡ 0 → handed n all ≡ []
+none_asked zero i all none h = refl
+none_asked (suc n) i all none h = none (omega (arith, h))
+
+pub some_asked : (n : ℕ) (all : List Region) → 0 < n → handed n all ≡ all
+some_asked zero all h = absurd (omega (arith, h))
+some_asked (suc n) all h = refl
+
+module _ {D : Type 0} (c : PartCoding D) (i : ℕ) where
+  abbrev passes : ℕ → Bool
+  passes e = is_alike (channel (part_of c).channels e) (channel (part_of c).channels i)
+
+  -- the regions of the channels below e that are like channel i
+  abbrev pub below : ℕ → List Region
+  below e = map (region_at (regions_of c)) (filter passes (downward e))
+
+  below_suc : (e : ℕ) (b : Bool) → passes e ≡ b → below (suc e) ≡ (if b then region_at (regions_of c) e ∷ below e else below e)
+  below_suc e true is = rw is refl
+  below_suc e false is = rw is refl
+
+  pub one_more : (e : ℕ) (b : Bool) → passes e ≡ b → below (e + 1) ≡ (if b then region_at (regions_of c) e ∷ below e else below e)
+  one_more e b is = ap below (let n : e + 1 ≡ suc e = omega arith in n) ∙ below_suc e b is
+
+  -- behind a channel that is like it a channel has one earlier channel more
+  pub next_alike : (last : ℕ) → i ≡ last + 1 → passes last ≡ true → all_alike c i ≡ region_at (regions_of c) last ∷ all_alike c last
+  next_alike last next is =
+      ap below next ∙ one_more last true is
+      ∙ ap (λ it. region_at (regions_of c) last ∷ map (region_at (regions_of c)) (filter (λ e. is_alike (channel (part_of c).channels e) it) (downward last))) (sym (same_channel (channel (part_of c).channels last) (channel (part_of c).channels i) is))
+
+module _ {D X : Type 0} (c : PartCoding D) (i : ℕ) where
+  -- The channels below e were looked at: a state is handed the regions of those that are like channel i.
+  pub record IsUnderWay (e : ℕ) (old state : PredictorState X) : Type 0 where
+    pub stands : (width : ℕ) (weights : Option WpHeader) (samples : List ℤ) → StandsAt old (setting width weights []) samples → StandsAt state (setting width weights (below c i e)) samples
+    pub counted : earlier_count state ≡ length (below c i e)
+    pub roomy : IsRoomy c state
+
+  pub begun : (state : PredictorState X) → earlier_count state ≡ 0 → IsRoomy c state → IsUnderWay 0 state state
+  begun state none roomy = record { stands = λ width weights samples h. h; counted = none; roomy = roomy }
+
+  -- there is room for one more
+  pub has_room : (e : ℕ) (old state : PredictorState X) → i < length (regions_of c) → e < i → IsUnderWay e old state → earlier_count state < earlier_room_of state
+  has_room e old state li less h =
+      let few = few (passes c i) e in
+      let long = length-map (filter (passes c i) (downward e)) (region_at (regions_of c)) in
+      let count = h.counted in
+      let room = h.roomy.earlier in
+      omega (arith, few, long, count, room, li, less)
+
+  pub takes_alike : (coding : IsCodingOf c) (li : i < length (regions_of c)) (e : ℕ) (old state new : PredictorState X) → passes c i e ≡ true → IsUnderWay e old state →
+      ((s : Setting) (samples : List ℤ) → StandsAt state s samples → StandsAt new (setting s.width s.weights (region_at (regions_of c) e ∷ s.earlier)) samples) →
+      earlier_count new ≡ earlier_count state + 1 → HasSameRoom state new → IsUnderWay (e + 1) old new
+  takes_alike coding li e old state new is h adds more same = record {
+    stands = λ width weights samples at. subst (λ rs. StandsAt new (setting width weights rs) samples) (sym (one_more c i e true is)) (adds _ samples (h.stands width weights samples at));
+    counted = let n = ap length (one_more c i e true is) in let m = h.counted in omega (arith, n, m, more);
+    roomy = roomy_still c coding i li state new same h.roomy;
+  }
+
+  pub passes_over : (e : ℕ) (old state : PredictorState X) → passes c i e ≡ false → IsUnderWay e old state → IsUnderWay (e + 1) old state
+  passes_over e old state is h = record {
+    stands = λ width weights samples at. subst (λ rs. StandsAt state (setting width weights rs) samples) (sym (one_more c i e false is)) (h.stands width weights samples at);
+    counted = h.counted ∙ ap length (sym (one_more c i e false is));
+    roomy = h.roomy;
+  }
+
+-- a channel, as it is kept
+pub channel_at : {D : Type 0} (c : PartCoding D) (k : ℕ) (d : ModularChannelInfo) → k < length c.channels.now → channel (part_of c).channels k ≡ channel_of (get_or c.channels.now k d)
+channel_at c k d l = get_or-map channel_of c.channels.now k d no_channel l
+
+pub passes_is : {D : Type 0} (c : PartCoding D) (i e : ℕ) (a b : ModularChannelInfo) (r : Bool) → e < length c.channels.now → i < length c.channels.now →
+    r ≡ is_alike (channel_of (get_or c.channels.now e a)) (channel_of (get_or c.channels.now i b)) → passes c i e ≡ r
+passes_is c i e a b r le li is = ap (λ x. is_alike x (channel (part_of c).channels i)) (channel_at c e a le) ∙ ap (is_alike (channel_of (get_or c.channels.now e a))) (channel_at c i b li) ∙ sym is
+
+module _ {D : Type 0} (c : PartCoding D) (coding : IsCodingOf c) where
+  -- there is a channel for each region
+  pub as_many_channels : length c.channels.now ≡ length (regions_of c)
+  as_many_channels = sym (length-map c.channels.now _) ∙ same_count (part_of c).channels (regions_of c) coding.sizes
+
+  pub fits_widest : (i : ℕ) → i < length (regions_of c) → (region_at (regions_of c) i).width ≤ c.widest
+  fits_widest i li =
+      let count = same_count (part_of c).channels (regions_of c) coding.sizes in
+      let same = (same_size (part_of c).channels (regions_of c) i coding.sizes li).0 in
+      let most = within_widest (part_of c).channels i (omega (arith, count, li)) in
+      let widest = coding.widest in
+      omega (arith, same, most, widest)
+
+module _ {D : Type 0} (c : PartCoding D) (i : ℕ) (asked : 0 < min i (earlier_named c.config.now.tree)) where
+  some : 0 < earlier_named c.config.now.tree
+  some = omega (arith, asked)
+
+module _ {D : Type 0} (c : PartCoding D) (coding : IsCodingOf c) (i : ℕ) (li : i < length (regions_of c)) (last : ℕ) (next : i ≡ last + 1) (alike : passes c i last ≡ true) where
+  -- the channel before is as wide
+  pub same_width : (region_at (regions_of c) last).width ≡ (region_at (regions_of c) i).width
+  same_width =
+      (same_size (part_of c).channels (regions_of c) last coding.sizes (omega (arith, next, li))).0 ∙ (same_sides (channel (part_of c).channels last) (channel (part_of c).channels i) alike).0
+      ∙ sym (same_size (part_of c).channels (regions_of c) i coding.sizes li).0
+
+  -- so the state was last in it
+  pub was_last : {X : Type 0} (state : PredictorState X) → 0 < (region_at (regions_of c) i).width → IsAfterChannel c i state → StandsIn c last state
+  was_last state columns after = after last next (subst (λ n. 0 < n) (sym same_width) columns)
+
+module _ {D X : Type 0} (c : PartCoding D) (i : ℕ) where
+  -- a state without earlier channels is set for a channel that has none, or whose tree asks for none
+  pub set_for_none : (state : PredictorState X) (weights : Option WpHeader) → weights ≡ weights_used c → min i (earlier_named c.config.now.tree) ≡ 0 →
+      StandsAt state (setting (region_at (regions_of c) i).width weights []) [] → StandsAt state (setting_of c i) []
+  set_for_none state weights same none h =
+      let no = none_asked (earlier_named c.config.now.tree) i (all_alike c i) (λ first. ap (all_alike c) first) none in
+      subst (λ rs. StandsAt state (setting (region_at (regions_of c) i).width (weights_used c) rs) []) (sym no)
+      (subst (λ w. StandsAt state (setting (region_at (regions_of c) i).width w []) []) same h)
+
+  -- one with all earlier channels is set for a channel whose tree asks for some
+  pub set_for_all : (state : PredictorState X) (weights : Option WpHeader) → weights ≡ weights_used c → 0 < min i (earlier_named c.config.now.tree) →
+      StandsAt state (setting (region_at (regions_of c) i).width weights (all_alike c i)) [] → StandsAt state (setting_of c i) []
+  set_for_all state weights same asked h =
+      subst (λ rs. StandsAt state (setting (region_at (regions_of c) i).width (weights_used c) rs) []) (sym (some_asked (earlier_named c.config.now.tree) (all_alike c i) (some c i asked)))
+      (subst (λ w. StandsAt state (setting (region_at (regions_of c) i).width w (all_alike c i)) []) same h)
+
+  pub somewhere : (state : PredictorState X) → StandsIn c i state → Stands state
+  somewhere state h = record { where_set = setting_of c i; before = h.before; stands = h.stands }
+
+  -- none was before the first channel
+  pub after_none : (state : PredictorState X) → IsAfterChannel c 0 state
+  after_none state = λ last next columns. absurd (omega (arith, next))
+
+  module _ (asked : 0 < min i (earlier_named c.config.now.tree)) (last : ℕ) (next : i ≡ last + 1) where
+    -- there is room for the channel before
+    pub room_for_last : i < length (regions_of c) → (old mid : PredictorState X) → StandsIn c last old → earlier_count mid ≡ earlier_count old → HasSameRoom old mid → IsRoomy c old → earlier_count mid < earlier_room_of mid
+    room_for_last li old mid h count same roomy =
+        let has = stands_earlier old (setting_of c last) h.before h.stands in
+        let all = ap length (some_asked (earlier_named c.config.now.tree) (all_alike c last) (some c i asked)) in
+        let long = length-map (earlier_alike (part_of c).channels last) (region_at (regions_of c)) in
+        let few = few_earlier (part_of c).channels last in
+        let room = roomy.earlier in
+        let kept = same.same_earlier_room in
+        omega (arith, has, all, long, few, room, kept, count, next, li)
+
+    -- with it the state has all
+    pub set_by_last : (coding : IsCodingOf c) → i < length (regions_of c) → passes c i last ≡ true → (old mid new : PredictorState X) → StandsIn c last old → IsRoomy c old →
+        ((s : Setting) (samples : List ℤ) → StandsAt old s samples → StandsAt mid (setting s.width (weights_of old) s.earlier) []) →
+        ((s : Setting) (samples : List ℤ) → StandsAt mid s samples → StandsAt new (setting s.width s.weights (region_at (regions_of c) last ∷ s.earlier)) samples) →
+        StandsAt new (setting_of c i) []
+    set_by_last coding li alike old mid new h roomy restarts adds =
+        let one = adds _ [] (restarts (setting_of c last) h.before h.stands) in
+        let all = some_asked (earlier_named c.config.now.tree) (all_alike c last) (some c i asked) in
+        set_for_all new (weights_of old) roomy.weights asked
+        (subst (λ rs. StandsAt new (setting (region_at (regions_of c) i).width (weights_of old) rs) [])
+        (ap (λ rs. region_at (regions_of c) last ∷ rs) all ∙ sym (next_alike c i last next alike))
+        (subst (λ n. StandsAt new (setting n (weights_of old) (region_at (regions_of c) last ∷ earlier_regions c last)) []) (same_width c coding i li last next alike) one))
+
+pub no_flats : (t : Shape Leaf) (stream : ℕ) → HasFlats t stream 0 []
+no_flats t stream = record { count_is = refl; each = λ i h. absurd (omega arith) }
+
+-- one flat tree more
+pub flats_more : (t : Shape Leaf) (stream k : ℕ) (flats : List FlatTree) (next : FlatTree) → HasFlats t stream k flats → next ≡ flat t stream k → HasFlats t stream (k + 1) (flats ++ next ∷ [])
+flats_more t stream k flats next h is = record {
+  count_is = let n = h.count_is in let m = length-append flats (next ∷ []) in omega (arith, n, m);
+  each = λ i less. either i less (cases_lt i k);
+} where
+  either : (i : ℕ) → i < k + 1 → (i < k) ⊎ (k ≤ i) → slice_get (flats ++ next ∷ []) i ≡ Some (flat t stream i)
+  either i less (inl lt) =
+      let n = h.count_is in
+      let m = length-append flats (next ∷ []) in
+      let inside : i < length (flats ++ next ∷ []) = omega (arith, n, m, less) in
+      slice_get-get_or (flats ++ next ∷ []) i next inside
+      ∙ ap Some (get_or_append_left flats (next ∷ []) next i (omega (arith, n, lt)) ∙ get_or_from_slice_get flats i (flat t stream i) next (h.each i lt))
+  either i less (inr ge) =
+      let n = h.count_is in
+      let m = length-append flats (next ∷ []) in
+      let at : i ≡ length flats = omega (arith, n, less, ge) in
+      let it : i ≡ k = omega (arith, less, ge) in
+      let inside : i < length (flats ++ next ∷ []) = omega (arith, n, m, less) in
+      slice_get-get_or (flats ++ next ∷ []) i next inside
+      ∙ ap Some (ap (λ n. get_or (flats ++ next ∷ []) n next) at ∙ get_or-append_seam flats next [] next ∙ is ∙ ap (flat t stream) (sym it))
+
+-- a state that has room for channels of flat trees has room for those of a part
+pub roomy_for : {D X : Type 0} (c : PartCoding D) (state : PredictorState X) → IsCodingOf c → IsRoomyFor c.widest c.weights c.flats.now state → 0 < length (regions_of c) → IsRoomy c state
+roomy_for c state coding h some =
+    let wide = h.widest_is in
+    let earlier = h.earlier_is in
+    let count = coding.flats.count_is in
+    record {
+      widest = omega (arith, wide);
+      earlier = omega (arith, earlier, count);
+      weights = h.weights_is (flat c.config.now.tree c.stream_index 0) (coding.flats.each 0 some);
+    }

@@ -1,0 +1,22 @@
+use Rattle.std.proofs.Common.{◌≡◌, ◌+◌, ◌*◌, ◌≤◌}
+use Rattle.jxlm_base.specs.Bits.{bytes_of, position_of}
+use Rattle.jxlm_base.specs.Regions.{store_meanings}
+use Rattle.jxlm_part.specs.Progress.{GoesOn, KeepsOutside, TakesSteps, place_of}
+use Rattle.jxlm_part.specs.Reading.{IsRoomy, StandsBehind, cost_of, part_of, region_at, regions_of}
+use Rattle.jxlm_part.proofs.decode.decode_row.Given as goal
+
+abbrev pub invariant-loop-x : goal.invariant-loop-x
+invariant-loop-x g l =
+    let d = g.D.Decoder.meaning in
+    let part = part_of l.coding in
+    record {
+      bytes : bytes_of l.bits ≡ bytes_of l.fn.bits;
+      clusters : d.cluster_map l.decoder ≡ d.cluster_map l.fn.decoder;
+      keeps : KeepsOutside (regions_of l.coding) l.fn.store l.store;
+      goes : GoesOn d g.S.Sealed.width part (bytes_of l.fn.bits) (regions_of l.coding) (place_of part l.i 0 l.y) (place_of part l.i l.x l.y)
+          (store_meanings g.S.Sealed.to_int l.fn.store) l.fn.decoder (position_of l.fn.bits) (store_meanings g.S.Sealed.to_int l.store) l.decoder (position_of l.bits);
+      stands : StandsBehind l.coding g.S.Sealed.to_int l.store l.i (l.y * (region_at (regions_of l.coding) l.i).width + l.x) l.state;
+      roomy : IsRoomy l.coding l.state;
+      work : TakesSteps (cost_of l.coding) (place_of part l.i 0 l.y) (place_of part l.i l.x l.y) l.fn.steps l.steps;
+      more : l.fn.steps ≤ l.steps;
+    }

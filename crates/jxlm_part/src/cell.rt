@@ -1,0 +1,94 @@
+//! One cell of a part, and how it is read.
+
+ghost use Rattle.std.specs.Prelude.{◌≡◌, ℕ, ℤ, pos, ◌+ℤ◌, ◌*ℤ◌, ◌+◌, ◌*◌, ◌^◌, ◌<◌, ◌≤◌, List, IfOk, OnOk, IfErr, ◌≢◌, length};
+ghost use Rattle.std.specs.Int.{int_wrap};
+ghost use Rattle.jxlm_base.specs.Bits.{bytes_of, position_of};
+ghost use Rattle.jxlm_base.specs.Regions.{AllLie, store_meanings};
+ghost use Rattle.jxlm_base.specs.Numbers.{unpack};
+ghost use Rattle.jxlm_tree.specs.FlatTree.{ClustersStandIn};
+ghost use Rattle.jxlm_tree.specs.Holding.{IsCurrent, state_of, store_of};
+ghost use Rattle.jxlm_tree.specs.Standing.{Setting, StandsAt};
+ghost use Rattle.jxlm_tree.specs.Tree.{depth};
+ghost use Rattle.jxlm_part.specs.Reading.{FindsClusters, IsCodingOf, IsRoomy, ReadsCell, ReadsNext, RefusesCell, RefusesNext, StandsBehind, cost_of, leaf_at, part_of, predicted_at, region_at, regions_of};
+
+use crate::coding::PartCoding;
+use jxlm_base::bits::Bitstream;
+use jxlm_base::decoder::{Decoder, DecoderError};
+use jxlm_base::grid::AlignedGrid;
+use jxlm_base::region::region_set;
+use jxlm_base::sample::{Sample, Sealed};
+use jxlm_tree::flat::{FlatMaTree, Leaf, Steps};
+use jxlm_tree::predictor::{PredictorState, Properties};
+
+/// The sample of a token: times the multiplier, and the offset and the prediction more.
+fn sample_from<S: Sample>(token: u32, leaf: Leaf, predicted: i32) -> S
+    requires { leaf.multiplier < 2 ^ 31 }
+    ensures { result ≡ S.from_int (int_wrap S.width (unpack token *ℤ pos leaf.multiplier +ℤ leaf.offset +ℤ predicted)) }
+{
+    S::unpack_signed_u32(token)
+        .wrapping_muladd_i32(leaf.multiplier as i32, leaf.offset)
+        .add(S::from_i32(predicted))
+}
+
+/// Reads the sample of the place of these properties: at the leaf to which the tree leads, over that leaf's prediction.
+fn next_sample<S: Sample, D: Decoder>(
+    bits: &mut Bitstream<'_>,
+    decoder: &mut D,
+    steps: &mut Steps,
+    properties: &Properties<'_, S>,
+    flat: &FlatMaTree,
+    widest: u32,
+) -> Result<S, DecoderError>
+    requires current { IsCurrent properties.now }
+    requires clusters { ClustersStandIn (D.meaning.cluster_map decoder.old) flat.now.tree }
+    ensures ok { IfOk result (λ v. (s : Setting) (samples : List ℤ) → StandsAt (state_of properties.now) s samples → ReadsNext S.width S.from_int (leaf_at flat.now s (store_meanings S.to_int (store_of properties.now)) samples) (predicted_at flat.now s (store_meanings S.to_int (store_of properties.now)) samples) v decoder.new (position_of bits.new) (D.meaning.read decoder.old (bytes_of bits.old) (position_of bits.old) (leaf_at flat.now s (store_meanings S.to_int (store_of properties.now)) samples).cluster widest)) }
+    ensures err { IfErr result (λ e. (s : Setting) (samples : List ℤ) → StandsAt (state_of properties.now) s samples → RefusesNext decoder.old decoder.new (position_of bits.old) (position_of bits.new) e (D.meaning.read decoder.old (bytes_of bits.old) (position_of bits.old) (leaf_at flat.now s (store_meanings S.to_int (store_of properties.now)) samples).cluster widest)) }
+    ensures clusters { OnOk result (D.meaning.cluster_map decoder.new ≡ D.meaning.cluster_map decoder.old) }
+    ensures memory { IfErr result (λ e. e ≢ DecoderError.OutOfMemory) }
+    ensures bytes { bytes_of bits.new ≡ bytes_of bits.old }
+    ensures cost { steps.new ≤ steps.old + depth flat.now.tree + 1 }
+    ensures more { steps.old ≤ steps.new }
+{
+    let leaf = *flat.leaf(properties, steps);
+    let token = decoder.read_varint_with_multiplier_clustered(bits, leaf.cluster, widest)?;
+    let predicted = leaf.predictor.predict(properties);
+    Ok(sample_from(token, leaf, predicted))
+}
+
+/// Reads the cell in column `x` of row `y` of channel `i`; the state stands before it, and behind it then.
+pub(crate) fn decode_cell<S: Sample, D: Decoder>(
+    bits: &mut Bitstream<'_>,
+    decoder: &mut D,
+    state: &mut PredictorState<S>,
+    steps: &mut Steps,
+    store: &mut [AlignedGrid<S>],
+    coding: &PartCoding<'_, D>,
+    i: usize,
+    x: usize,
+    y: usize,
+) -> Result<(), DecoderError>
+    requires lie { AllLie (regions_of coding.now) store.old }
+    requires channel { i < length (regions_of coding.now) }
+    requires column { x < (region_at (regions_of coding.now) i).width }
+    requires in_rows { y < (region_at (regions_of coding.now) i).height }
+    requires coding { IsCodingOf coding.now }
+    requires clusters { FindsClusters coding.now (D.meaning.cluster_map decoder.old) }
+    requires stands { StandsBehind coding.now S.to_int store.old i (y * (region_at (regions_of coding.now) i).width + x) state.old }
+    requires roomy { IsRoomy coding.now state.old }
+    ensures ok { OnOk result (ReadsCell D.meaning S.width (part_of coding.now) (bytes_of bits.old) (regions_of coding.now) S.to_int i x y store.old decoder.old (position_of bits.old) S.from_int store.new decoder.new (position_of bits.new)) }
+    ensures err { IfErr result (λ e. RefusesCell D.meaning S.width (part_of coding.now) (bytes_of bits.old) (regions_of coding.now) S.to_int i x y store.old decoder.old (position_of bits.old) store.new decoder.new (position_of bits.new) e) }
+    ensures stands { OnOk result (StandsBehind coding.now S.to_int store.new i (y * (region_at (regions_of coding.now) i).width + x + 1) state.new) }
+    ensures roomy { OnOk result (IsRoomy coding.now state.new) }
+    ensures clusters { OnOk result (D.meaning.cluster_map decoder.new ≡ D.meaning.cluster_map decoder.old) }
+    ensures memory { IfErr result (λ e. e ≢ DecoderError.OutOfMemory) }
+    ensures bytes { bytes_of bits.new ≡ bytes_of bits.old }
+    ensures cost { steps.new ≤ steps.old + cost_of coding.now }
+    ensures more { steps.old ≤ steps.new }
+{
+    let properties = state.properties::<true>(store);
+    let flat = &coding.flats[i];
+    let sample = next_sample(bits, decoder, steps, &properties, flat, coding.widest)?;
+    properties.record(sample.to_i32());
+    region_set(store, coding.regions[i], x, y, sample);
+    Ok(())
+}

@@ -1,0 +1,144 @@
+//! With what a part is coded, and what is made ready before its first bit is read.
+
+ghost use Rattle.std.specs.Prelude.{◌≡◌, ℤ, ◌^◌, ◌<◌, ◌≤◌, List, IfOk, IfErr, length};
+ghost use Rattle.jxlm_base.specs.Fault.{NoMemory, fault_of};
+ghost use Rattle.jxlm_base.specs.Grid.{Grid};
+ghost use Rattle.jxlm_tree.specs.SelfCorrecting.{IsHeader};
+ghost use Rattle.jxlm_part.specs.Layout.{channel_of};
+ghost use Rattle.jxlm_part.specs.Part.{is_alike as alike};
+ghost use Rattle.jxlm_tree.specs.Standing.{Setting, StandsAt, earlier_count, setting};
+ghost use Rattle.jxlm_part.specs.Reading.{HasFlats, IsAfterChannel, IsCodingOf, IsRoomy, IsRoomyFor, StandsBehind, all_alike, region_at, regions_of};
+
+use jxlm_base::decoder::Decoder;
+use jxlm_base::error::Result;
+use jxlm_base::grid::{AlignedGrid, OutOfMemory, Region};
+use jxlm_base::sample::{Sample, Sealed};
+use jxlm_transform::channels::ModularChannelInfo;
+use jxlm_tree::flat::FlatMaTree;
+use jxlm_tree::ma::MaConfig;
+use jxlm_tree::predictor::{PredictorState, WpHeader};
+use std::alloc::Global;
+
+/// With what the samples of a part are coded.
+#[derive(Drop)]
+pub struct PartCoding<'a, D: Decoder> {
+    /// Its channels, in order.
+    pub channels: &'a [ModularChannelInfo],
+    /// Their regions in the store.
+    pub regions: &'a [Region],
+    /// Its tree.
+    pub config: &'a MaConfig<D>,
+    /// The tree as each channel walks it.
+    pub flats: &'a [FlatMaTree],
+    /// The weights of the self-correcting predictor.
+    pub weights: WpHeader,
+    /// The index of its stream.
+    pub stream_index: u32,
+    /// The greatest width of its channels.
+    pub widest: u32,
+}
+
+/// What is made ready before the first bit of a part is read.
+#[derive(Drop)]
+pub struct Ready<S, D: Decoder> {
+    /// The entropy decoder, as the tree was read with it.
+    pub decoder: D,
+    /// The tree as each channel walks it.
+    pub flats: Vec<FlatMaTree>,
+    /// The state, with room for each channel.
+    pub state: PredictorState<S>,
+}
+
+/// Whether two channels have equal sizes and shifts.
+fn is_alike(a: &ModularChannelInfo, b: &ModularChannelInfo) -> bool
+    ensures { result ≡ alike (channel_of a.now) (channel_of b.now) }
+{
+    a.width == b.width && a.height == b.height && a.hshift == b.hshift && a.vshift == b.vshift
+}
+
+/// Puts the state before the first sample of channel `i`, with the regions of the channels before that are like it, the
+/// nearest first, where the tree asks for any.
+///
+/// Where the channel before is like it, the state has all of them but that one, and is handed only that.
+pub(crate) fn start_channel<S: Sample, D: Decoder>(
+    state: &mut PredictorState<S>,
+    coding: &PartCoding<'_, D>,
+    i: usize,
+)
+    requires channel { i < length (regions_of coding.now) }
+    requires columns { 0 < (region_at (regions_of coding.now) i).width }
+    requires coding { IsCodingOf coding.now }
+    requires roomy { IsRoomy coding.now state.old }
+    requires last { IsAfterChannel coding.now i state.old }
+    ensures stands { (store : List (Grid S)) → StandsBehind coding.now S.to_int store i 0 state.new }
+    ensures roomy { IsRoomy coding.now state.new }
+{
+    let width = coding.regions[i].width as u32;
+    if coding.flats[i].max_prev_channel_depth() == 0 {
+        state.restart(width);
+    } else if is_alike(&coding.channels[i - 1], &coding.channels[i]) {
+        state.restart_alike();
+        state.add_earlier(coding.regions[i - 1]);
+    } else {
+        state.restart(width);
+        add_all_earlier(state, coding, i);
+    }
+}
+
+/// Hands the state, which has no earlier channel, the regions of all channels before channel `i` that are like it.
+fn add_all_earlier<S: Sample, D: Decoder>(
+    state: &mut PredictorState<S>,
+    coding: &PartCoding<'_, D>,
+    i: usize,
+)
+    requires channel { i < length (regions_of coding.now) }
+    requires coding { IsCodingOf coding.now }
+    requires roomy { IsRoomy coding.now state.old }
+    requires none { earlier_count state.old ≡ 0 }
+    ensures stands { (s : Setting) (samples : List ℤ) → StandsAt state.old s samples → StandsAt state.new (setting s.width s.weights (all_alike coding.now i)) samples }
+    ensures roomy { IsRoomy coding.now state.new }
+{
+    for e in 0..i {
+        if is_alike(&coding.channels[e], &coding.channels[i]) {
+            state.add_earlier(coding.regions[e]);
+        }
+    }
+}
+
+/// The tree as each of n channels walks it. The only error is `Buffer`, where memory runs out.
+pub fn flat_trees<D: Decoder>(
+    alloc: Global,
+    config: &MaConfig<D>,
+    stream_index: u32,
+    channels: u32,
+) -> Result<Vec<FlatMaTree>>
+    ensures ok { IfOk result (λ v. HasFlats config.now.tree stream_index channels v.items) }
+    ensures err { IfErr result (λ e. fault_of e ≡ NoMemory) }
+{
+    let mut flats = Vec::new(alloc);
+    for channel in 0..channels {
+        let flat = config.make_flat_tree(alloc, channel, stream_index, channel)?;
+        flats.push(flat).map_err(|_| OutOfMemory)?;
+    }
+    Ok(flats)
+}
+
+/// A state with room for channels of these flat trees and up to this width; it heeds the weights where the tree asks for
+/// them. The only error is `Buffer`, where memory runs out.
+pub fn roomy_state<S: Sample>(
+    alloc: Global,
+    flats: &[FlatMaTree],
+    widest: u32,
+    weights: &WpHeader,
+) -> Result<PredictorState<S>>
+    requires weights { IsHeader weights.now }
+    requires narrow { widest ≤ 2 ^ 30 }
+    ensures ok { IfOk result (λ s. IsRoomyFor widest weights.now flats.now s) }
+    ensures err { IfErr result (λ e. fault_of e ≡ NoMemory) }
+{
+    let used = match flats.first() {
+        Some(flat) if flat.need_self_correcting() => Some(weights),
+        _ => None,
+    };
+    PredictorState::with_room(alloc, widest, flats.len(), used)
+}

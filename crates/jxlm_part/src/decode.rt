@@ -1,0 +1,153 @@
+//! The loops that decode the samples of a part, in the order of its cells.
+
+ghost use Rattle.std.specs.Prelude.{◌≡◌, ◌+◌, ◌*◌, ◌<◌, ◌≤◌, OnOk, IfErr, ◌≢◌, length};
+ghost use Rattle.jxlm_base.specs.Bits.{bytes_of, position_of};
+ghost use Rattle.jxlm_base.specs.Regions.{AllLie, LieApart, store_meanings};
+ghost use Rattle.jxlm_part.specs.Part.{cells_before, cell_count};
+ghost use Rattle.jxlm_part.specs.Progress.{GoesOn, Stops, TakesSteps, DecodesAll, DecodesSome, KeepsOutside, place_of};
+ghost use Rattle.jxlm_part.specs.Reading.{FindsClusters, IsAfterChannel, IsCodingOf, IsRoomy, StandsBehind, cost_of, part_of, region_at, regions_of};
+
+use crate::cell::decode_cell;
+use crate::coding::{PartCoding, start_channel};
+use jxlm_base::bits::Bitstream;
+use jxlm_base::decoder::{Decoder, DecoderError};
+use jxlm_base::grid::AlignedGrid;
+use jxlm_base::sample::Sample;
+use jxlm_tree::flat::Steps;
+use jxlm_tree::predictor::PredictorState;
+
+/// Reads row `y` of channel `i`.
+fn decode_row<S: Sample, D: Decoder>(
+    bits: &mut Bitstream<'_>,
+    decoder: &mut D,
+    state: &mut PredictorState<S>,
+    steps: &mut Steps,
+    store: &mut [AlignedGrid<S>],
+    coding: &PartCoding<'_, D>,
+    i: usize,
+    y: usize,
+) -> Result<(), DecoderError>
+    requires lie { AllLie (regions_of coding.now) store.old }
+    requires apart { LieApart (regions_of coding.now) }
+    requires channel { i < length (regions_of coding.now) }
+    requires in_rows { y < (region_at (regions_of coding.now) i).height }
+    requires coding { IsCodingOf coding.now }
+    requires clusters { FindsClusters coding.now (D.meaning.cluster_map decoder.old) }
+    requires stands { StandsBehind coding.now S.to_int store.old i (y * (region_at (regions_of coding.now) i).width) state.old }
+    requires columns { 0 < (region_at (regions_of coding.now) i).width }
+    requires roomy { IsRoomy coding.now state.old }
+    ensures ok { OnOk result (GoesOn D.meaning S.width (part_of coding.now) (bytes_of bits.old) (regions_of coding.now) (place_of (part_of coding.now) i 0 y) (place_of (part_of coding.now) i 0 (y + 1)) (store_meanings S.to_int store.old) decoder.old (position_of bits.old) (store_meanings S.to_int store.new) decoder.new (position_of bits.new)) }
+    ensures err { IfErr result (λ e. Stops D.meaning S.width (part_of coding.now) (bytes_of bits.old) (regions_of coding.now) (cost_of coding.now) steps.old steps.new (place_of (part_of coding.now) i 0 y) (store_meanings S.to_int store.old) decoder.old (position_of bits.old) (store_meanings S.to_int store.new) (position_of bits.new) e) }
+    ensures stands { OnOk result (StandsBehind coding.now S.to_int store.new i ((y + 1) * (region_at (regions_of coding.now) i).width) state.new) }
+    ensures roomy { OnOk result (IsRoomy coding.now state.new) }
+    ensures work { OnOk result (TakesSteps (cost_of coding.now) (place_of (part_of coding.now) i 0 y) (place_of (part_of coding.now) i 0 (y + 1)) steps.old steps.new) }
+    ensures more { steps.old ≤ steps.new }
+    ensures keeps { KeepsOutside (regions_of coding.now) store.old store.new }
+    ensures clusters { OnOk result (D.meaning.cluster_map decoder.new ≡ D.meaning.cluster_map decoder.old) }
+    ensures memory { IfErr result (λ e. e ≢ DecoderError.OutOfMemory) }
+    ensures bytes { bytes_of bits.new ≡ bytes_of bits.old }
+{
+    let region = coding.regions[i];
+    for x in 0..region.width {
+        decode_cell(bits, decoder, state, steps, store, coding, i, x, y)?;
+    }
+    Ok(())
+}
+
+/// Reads channel `i`, row by row; a channel without columns has no cell.
+fn decode_channel<S: Sample, D: Decoder>(
+    bits: &mut Bitstream<'_>,
+    decoder: &mut D,
+    state: &mut PredictorState<S>,
+    steps: &mut Steps,
+    store: &mut [AlignedGrid<S>],
+    coding: &PartCoding<'_, D>,
+    i: usize,
+) -> Result<(), DecoderError>
+    requires lie { AllLie (regions_of coding.now) store.old }
+    requires apart { LieApart (regions_of coding.now) }
+    requires channel { i < length (regions_of coding.now) }
+    requires coding { IsCodingOf coding.now }
+    requires clusters { FindsClusters coding.now (D.meaning.cluster_map decoder.old) }
+    requires roomy { IsRoomy coding.now state.old }
+    requires last { IsAfterChannel coding.now i state.old }
+    ensures ok { OnOk result (GoesOn D.meaning S.width (part_of coding.now) (bytes_of bits.old) (regions_of coding.now) (cells_before (part_of coding.now).channels i) (cells_before (part_of coding.now).channels (i + 1)) (store_meanings S.to_int store.old) decoder.old (position_of bits.old) (store_meanings S.to_int store.new) decoder.new (position_of bits.new)) }
+    ensures err { IfErr result (λ e. Stops D.meaning S.width (part_of coding.now) (bytes_of bits.old) (regions_of coding.now) (cost_of coding.now) steps.old steps.new (cells_before (part_of coding.now).channels i) (store_meanings S.to_int store.old) decoder.old (position_of bits.old) (store_meanings S.to_int store.new) (position_of bits.new) e) }
+    ensures roomy { OnOk result (IsRoomy coding.now state.new) }
+    ensures last { OnOk result (IsAfterChannel coding.now (i + 1) state.new) }
+    ensures work { OnOk result (TakesSteps (cost_of coding.now) (cells_before (part_of coding.now).channels i) (cells_before (part_of coding.now).channels (i + 1)) steps.old steps.new) }
+    ensures more { steps.old ≤ steps.new }
+    ensures keeps { KeepsOutside (regions_of coding.now) store.old store.new }
+    ensures clusters { OnOk result (D.meaning.cluster_map decoder.new ≡ D.meaning.cluster_map decoder.old) }
+    ensures memory { IfErr result (λ e. e ≢ DecoderError.OutOfMemory) }
+    ensures bytes { bytes_of bits.new ≡ bytes_of bits.old }
+{
+    let region = coding.regions[i];
+    if region.width == 0 {
+        return Ok(());
+    }
+    start_channel(state, coding, i);
+    for y in 0..region.height {
+        decode_row(bits, decoder, state, steps, store, coding, i, y)?;
+    }
+    Ok(())
+}
+
+/// Reads all channels of a part, in order.
+fn decode_channels<S: Sample, D: Decoder>(
+    bits: &mut Bitstream<'_>,
+    decoder: &mut D,
+    state: &mut PredictorState<S>,
+    steps: &mut Steps,
+    store: &mut [AlignedGrid<S>],
+    coding: &PartCoding<'_, D>,
+) -> Result<(), DecoderError>
+    requires lie { AllLie (regions_of coding.now) store.old }
+    requires apart { LieApart (regions_of coding.now) }
+    requires coding { IsCodingOf coding.now }
+    requires clusters { FindsClusters coding.now (D.meaning.cluster_map decoder.old) }
+    requires roomy { IsRoomy coding.now state.old }
+    ensures ok { OnOk result (GoesOn D.meaning S.width (part_of coding.now) (bytes_of bits.old) (regions_of coding.now) 0 (cell_count (part_of coding.now).channels) (store_meanings S.to_int store.old) decoder.old (position_of bits.old) (store_meanings S.to_int store.new) decoder.new (position_of bits.new)) }
+    ensures err { IfErr result (λ e. Stops D.meaning S.width (part_of coding.now) (bytes_of bits.old) (regions_of coding.now) (cost_of coding.now) steps.old steps.new 0 (store_meanings S.to_int store.old) decoder.old (position_of bits.old) (store_meanings S.to_int store.new) (position_of bits.new) e) }
+    ensures work { OnOk result (TakesSteps (cost_of coding.now) 0 (cell_count (part_of coding.now).channels) steps.old steps.new) }
+    ensures more { steps.old ≤ steps.new }
+    ensures keeps { KeepsOutside (regions_of coding.now) store.old store.new }
+    ensures memory { IfErr result (λ e. e ≢ DecoderError.OutOfMemory) }
+    ensures bytes { bytes_of bits.new ≡ bytes_of bits.old }
+{
+    for i in 0..coding.regions.len() {
+        decode_channel(bits, decoder, state, steps, store, coding, i)?;
+    }
+    Ok(())
+}
+
+/// Decodes all samples of a part: the decoder begins, the channels are read in order, and the decoder accepts the end.
+///
+/// A fault is that of the beginning, of the read of one cell, or of the end; the cells before are decoded then, and the
+/// others as they were.
+pub fn decode_part<S: Sample, D: Decoder>(
+    bits: &mut Bitstream<'_>,
+    decoder: &mut D,
+    state: &mut PredictorState<S>,
+    steps: &mut Steps,
+    store: &mut [AlignedGrid<S>],
+    coding: &PartCoding<'_, D>,
+) -> Result<(), DecoderError>
+    requires lie { AllLie (regions_of coding.now) store.old }
+    requires apart { LieApart (regions_of coding.now) }
+    requires coding { IsCodingOf coding.now }
+    requires clusters { FindsClusters coding.now (D.meaning.cluster_map decoder.old) }
+    requires roomy { IsRoomy coding.now state.old }
+    ensures ok { OnOk result (DecodesAll D.meaning S.width (part_of coding.now) (bytes_of bits.old) (regions_of coding.now) decoder.old (store_meanings S.to_int store.old) (position_of bits.old) (store_meanings S.to_int store.new) (position_of bits.new)) }
+    ensures err { IfErr result (λ e. DecodesSome D.meaning S.width (part_of coding.now) (bytes_of bits.old) (regions_of coding.now) decoder.old (store_meanings S.to_int store.old) (position_of bits.old) (store_meanings S.to_int store.new) (position_of bits.new) (cost_of coding.now) steps.old steps.new e) }
+    ensures work { OnOk result (steps.new ≤ steps.old + cell_count (part_of coding.now).channels * cost_of coding.now) }
+    ensures more { steps.old ≤ steps.new }
+    ensures keeps { KeepsOutside (regions_of coding.now) store.old store.new }
+    ensures memory { IfErr result (λ e. e ≢ DecoderError.OutOfMemory) }
+    ensures bytes { bytes_of bits.new ≡ bytes_of bits.old }
+{
+    decoder.begin(bits)?;
+    decode_channels(bits, decoder, state, steps, store, coding)?;
+    decoder.finalize()?;
+    Ok(())
+}

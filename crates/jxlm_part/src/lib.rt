@@ -1,0 +1,8 @@
+//! One part of a Modular image decoded: the samples of a list of channels, in the order of their cells.
+#![tactic(auto)]
+
+mod cell;
+pub mod channels;
+pub mod coding;
+pub mod decode;
+pub mod laws;

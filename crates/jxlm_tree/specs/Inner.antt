@@ -1,0 +1,4 @@
+pub mod Building
+pub mod DraftReading
+pub mod Queue
+pub mod TreeShape

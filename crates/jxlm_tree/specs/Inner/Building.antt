@@ -1,0 +1,23 @@
+-- The program's nodes and trees while a tree is put together, as the definitions have them.
+use Rattle.std.specs.Prelude.{ℕ, List, map}
+use Rattle.jxlm_tree.specs.Tree.{Shape, Node, leaf_node, decision_node}
+use Rattle.jxlm_tree.specs.TreeReading.{Draft}
+use Rattle.jxlm_tree.specs.Inner.TreeShape.{shape_of}
+use Rattle.jxlm_tree.specs.declared.build.ListedNode.{ListedNode}
+use Rattle.jxlm_tree.specs.declared.build.ListedNode.TheVariants as node
+use Rattle.jxlm_tree.specs.declared.flat.Leaf.{Leaf}
+use Rattle.jxlm_tree.specs.declared.tree.Subtree.{Subtree}
+
+-- the node of a listing
+abbrev pub listed_of : ListedNode → Node Leaf
+listed_of (node.Leaf l) = leaf_node l
+listed_of (node.Decision property value) = decision_node property value
+
+-- a leaf is one leaf
+abbrev pub leaves_in : Node Draft → ℕ
+leaves_in (leaf_node l) = 1
+leaves_in (decision_node property value) = 0
+
+-- depths left out
+abbrev pub trees_in : List Subtree → List (Shape Leaf)
+trees_in subtrees = map (λ (x : Subtree). shape_of x.tree) subtrees

@@ -1,0 +1,12 @@
+use Rattle.std.proofs.Common.{vec_len}
+use Rattle.jxlm_tree.specs.Standing.{setting}
+use Rattle.jxlm_tree_tests.proofs.PlaceLaws.{inner}
+use Rattle.jxlm_tree_tests.proofs.places.check_place.Goals as goal
+
+pub properties-requires-then-is_inner-clause-inner :
+    goal.properties-requires-then-is_inner-clause-inner
+properties-requires-then-is_inner-clause-inner g c =
+    let place = c.in_ok-place.place in
+    let s = setting place.width place.weights c.deref-then-is_inner-2.result.now in
+    let far = c.is_inner.ensures c.if-is_inner.true in
+    λ _. inner c.stand-then-is_inner.new.state s (vec_len place.before) c.in_ok-stand-2.ensures far.0 far.1 far.2

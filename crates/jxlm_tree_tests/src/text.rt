@@ -1,0 +1,42 @@
+//! The words of tables: numbers, and bytes by hexadecimal digits.
+
+ghost use Rattle.std.specs.Prelude.{◌≤◌};
+
+use std::alloc::Global;
+use std::test::Fail;
+
+/// Signed numbers with spaces between; none in an empty text.
+pub fn signed(alloc: Global, text: &str) -> Result<Vec<i32>, Fail> {
+    let mut numbers = Vec::new(alloc);
+    for word in text.split_whitespace() {
+        numbers.push(word.parse::<i32>()?)?;
+    }
+    Ok(numbers)
+}
+
+/// Two words with a mark between.
+pub fn pair<'a>(text: &'a str, mark: char) -> Result<(&'a str, &'a str), Fail> {
+    let pair = text.split_once(mark).ok_or("a word is missing")?;
+    Ok(pair)
+}
+
+fn digit(c: u8) -> u8
+    ensures { result ≤ 15 }
+{
+    match c {
+        b'0'..=b'9' => c - b'0',
+        b'a'..=b'f' => c - b'a' + 10,
+        _ => 0,
+    }
+}
+
+/// The bytes of hexadecimal digits.
+pub fn bytes(alloc: Global, digits: &str) -> Result<Vec<u8>, Fail> {
+    let mut bytes = Vec::new(alloc);
+    let mut digits = digits.bytes();
+    while let Some(high) = digits.next() {
+        let low = digits.next().ok_or("an odd number of digits")?;
+        bytes.push(16 * digit(high) + digit(low))?;
+    }
+    Ok(bytes)
+}

@@ -1,0 +1,25 @@
+//! Properties as a test tells them.
+
+use jxlm_tree::flat::PlaceProperties;
+
+/// Properties of a place, from property 2 on; those after the last are 0.
+#[derive(Clone, Copy)]
+pub struct Told<'a> {
+    /// The properties.
+    pub values: &'a [i32],
+}
+
+impl PlaceProperties for Told<'_> {
+    ghost use Rattle.std.specs.Prelude.{ℕ};
+
+    ghost IsCurrent = { λ _. Unit {0} };
+
+    ghost gives = { λ _ _ _. Unit {0} };
+
+    fn property(&self, number: usize) -> i32 {
+        let Some(index) = number.checked_sub(2) else {
+            return 0;
+        };
+        self.values.get(index).copied().unwrap_or(0)
+    }
+}
