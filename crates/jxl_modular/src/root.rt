@@ -118,7 +118,9 @@ impl<S: Sample, D: Decoder> Modular<S, D> {
 #[cfg(test)]
 mod tests {
     use super::*;
+    use jxlm_base::bits::BitstreamError;
     use jxlm_base::decoder::DecoderError;
+    use jxlm_base::error::Error;
     use jxlm_base::plain::PlainDecoder;
     use jxlm_transform::param::{ChannelShift, ModularChannelParams};
     use std::result::Result;

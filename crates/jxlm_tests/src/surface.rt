@@ -382,7 +382,7 @@ fn tree<D: Decoder>(alloc: Global, bits: &mut Bitstream<'_>) -> error::Result<[u
     let copy: MaConfig<D> = config.try_clone(alloc)?;
     let decoder: &D = copy.decoder();
     let clusters: usize = decoder.cluster_map().len();
-    let flat: FlatMaTree = copy.make_flat_tree(0, 0, 0)?;
+    let flat: FlatMaTree = copy.make_flat_tree(alloc, 0, 0, 0)?;
     let weights: bool = flat.need_self_correcting();
     let (nodes, earlier): (usize, usize) = (flat.num_nodes(), flat.max_prev_channel_depth());
     let (all, depth): (usize, usize) = (config.num_tree_nodes(), config.tree_depth());
