@@ -179,6 +179,43 @@ fn told<S: Sample>(
     Ok(text)
 }
 
+impl Place {
+    // The text of the place, once the state has come there.
+    fn told_at<S: Sample>(
+        &self,
+        alloc: Global,
+        state: &mut PredictorState<S>,
+        store: &[AlignedGrid<S>],
+        regions: &[Region],
+        below: usize,
+        corrects: bool,
+    ) -> Result<String, Fail>
+        requires { All (λ r. HoldsRow r store.now self.now.width (vec_len self.now.before / self.now.width)) regions.now }
+    {
+        self.stand(state, store, regions)?;
+        told(alloc, &state.properties::<true>(store), below, corrects)
+    }
+
+    // The same of a place that is away from every edge but the last row, without a look at edges.
+    fn told_inside<S: Sample>(
+        &self,
+        alloc: Global,
+        state: &mut PredictorState<S>,
+        store: &[AlignedGrid<S>],
+        regions: &[Region],
+        below: usize,
+        corrects: bool,
+    ) -> Result<String, Fail>
+        requires hold { All (λ r. HoldsRow r store.now self.now.width (vec_len self.now.before / self.now.width)) regions.now }
+        requires rows { 2 ≤ vec_len self.now.before / self.now.width }
+        requires left { 2 ≤ vec_len self.now.before % self.now.width }
+        requires right { vec_len self.now.before % self.now.width + 2 < self.now.width }
+    {
+        self.stand(state, store, regions)?;
+        told(alloc, &state.properties::<false>(store), below, corrects)
+    }
+}
+
 /// Stands at each place of a table in turn, and compares what is told there.
 pub fn check<S: Sample>(rt: &impl Abort, alloc: Global, table: &str) -> Result<(), Fail> {
     let mut state = PredictorState::<S>::new(alloc);
@@ -205,12 +242,10 @@ fn check_place<S: Sample>(
             .all(|region| holds_row(&store, *region, width, row))
     );
     let (below, corrects) = (20 + 4 * regions.len(), place.weights.is_some());
-    place.stand(state, &store, &regions)?;
-    let seen = told(alloc, &state.properties::<true>(&store), below, corrects)?;
+    let seen = place.told_at(alloc, state, &store, &regions, below, corrects)?;
     assert_eq!(rt; seen.as_str(), expected, "{put}");
     if place.is_inner() {
-        place.stand(state, &store, &regions)?;
-        let seen = told(alloc, &state.properties::<false>(&store), below, corrects)?;
+        let seen = place.told_inside(alloc, state, &store, &regions, below, corrects)?;
         assert_eq!(rt; seen.as_str(), expected, "{put}");
     }
     Ok(())
