@@ -102,7 +102,7 @@ apart_at rs i j d apart p q ne =
       | inr ge ↦ AreApart_sym (get_or rs j d) (get_or rs i d) (apart j i d (omega arith) p)
     ]
 
--- ---- the grids that stand in regions
+-- ---- the grids in regions
 
 at_same : (g h : Grid ℤ) (x y i j : ℕ) → cell g x y ≡ cell h i j → at g x y ≡ at h i j
 at_same g h x y i j e = sym (unwrap_or-slice_get g.cells (place g x y) (pos 0)) ∙ ap (λ o. unwrap_or o (pos 0)) e ∙ unwrap_or-slice_get h.cells (place h i j) (pos 0)

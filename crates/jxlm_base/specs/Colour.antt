@@ -16,7 +16,7 @@ pub record IsTripleOf (w : Width) (t : Triple) : Type 0 where
   pub second : FitsSigned w t.second
   pub third : FitsSigned w t.third
 
--- The finished channels stand in an order that the kind's multiple of seven names; 6 and above name the first again.
+-- The finished channels are in an order that the kind's multiple of seven names; 6 and above name the first again.
 abbrev pub permuted : ℕ → Triple → Triple
 permuted order t =
     if order == 1 then triple t.third t.first t.second else if order == 2 then triple t.second t.third t.first else if order == 3 then triple t.first t.third t.second
@@ -99,7 +99,7 @@ module _ (w : Width) where
 abbrev pub triple_at : List ℤ → List ℤ → List ℤ → ℕ → Triple
 triple_at a b c i = triple (get_or a i (pos 0)) (get_or b i (pos 0)) (get_or c i (pos 0))
 
--- three rows of w-bit samples, finished place by place, before they stand in their order
+-- three rows of w-bit samples, finished cell by cell, before they are put in their order
 pub record FinishesRows (w : Width) (t : ℕ) (a b c a' b' c' : List ℤ) : Type 0 where
   pub first_length : length a' ≡ length a
   pub second_length : length b' ≡ length b

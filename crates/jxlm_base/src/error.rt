@@ -1,4 +1,4 @@
-//! Why the library refuses.
+//! The errors of the library.
 
 ghost use Rattle.std.specs.Prelude.{◌≡◌, ◌↔◌, ◌⊎◌, IsTrue};
 
@@ -7,7 +7,7 @@ use crate::decoder::DecoderError;
 use crate::grid::OutOfMemory;
 use std::alloc::{AllocError, AllocFailed};
 
-/// Why a call is refused: the header, the channels, the tree or the tokens, or want of memory.
+/// Why a call returns no value: the header, the channels, the tree or the tokens, or out of memory.
 #[derive(Clone, Copy, Debug, PartialEq, Eq, thiserror::Error)]
 pub enum Error {
     /// The meta-adaptive tree is invalid.
@@ -22,21 +22,21 @@ pub enum Error {
     /// The channels do not suit a palette.
     #[error("invalid Palette transform parameters")]
     InvalidPaletteParams,
-    /// The channels do not suit a squeeze, or cannot be cut into groups.
+    /// The channels do not suit a squeeze, or cannot be divided into groups.
     #[error("invalid Squeeze transform parameters")]
     InvalidSqueezeParams,
-    /// A field of the header is refused, for this cause.
+    /// A field of the header has no value, for this cause.
     #[error("bitstream error: {0}")]
     Bitstream(BitstreamError),
-    /// The entropy decoder refuses, for this cause.
+    /// The entropy decoder returned this error.
     #[error("entropy decoder error: {0}")]
     Decoder(DecoderError),
-    /// There is no memory for samples or tables.
+    /// Out of memory for samples or tables.
     #[error("{0}")]
     Buffer(OutOfMemory),
 }
 
-/// The answer of a call that the library can refuse.
+/// The result of a call that may return an error of the library.
 pub type Result<T> = std::result::Result<T, Error>;
 
 impl Error {

@@ -7,7 +7,7 @@ use crate::grid::AlignedGrid;
 /// A rectangle of one grid of a store.
 #[derive(Clone, Copy, PartialEq, Eq)]
 pub struct Region {
-    /// The place of the grid in the store, from 0 on.
+    /// The index of the grid in the store, from 0 on.
     pub buffer: usize,
     /// The rectangle's first column.
     pub x: usize,
