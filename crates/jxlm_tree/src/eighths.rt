@@ -8,7 +8,7 @@ ghost use Rattle.jxlm_tree.specs.Predictions.{corrected, unclamped_correction};
 use crate::properties::Properties;
 use crate::self_correcting::PredictionResult;
 
-/// The prediction at the place of these properties, times 8, before it is clamped; 0 where there are no weights.
+/// The prediction at the cell of these properties, times 8, before it is clamped; 0 where there are no weights.
 pub fn before_clamp<S>(properties: &Properties<'_, S>) -> i64
     requires { IsCurrent properties.now }
     ensures { IsOfPlace properties.now unclamped_correction result }
@@ -22,7 +22,7 @@ pub fn before_clamp<S>(properties: &Properties<'_, S>) -> i64
     }
 }
 
-/// The prediction at the place of these properties, times 8, after its clamp; 0 where there are no weights.
+/// The prediction at the cell of these properties, times 8, after its clamp; 0 where there are no weights.
 pub fn after_clamp<S>(properties: &Properties<'_, S>) -> i64
     requires { IsCurrent properties.now }
     ensures { IsOfPlace properties.now corrected result }

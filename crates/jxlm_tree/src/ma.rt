@@ -28,7 +28,7 @@ use std::rc::Rc;
 pub struct MaConfigParams {
     /// A tree may have one node more than this; at most 2^26.
     pub node_limit: usize,
-    /// The greatest depth that a tree may have; at most 2048.
+    /// The maximum depth that a tree may have; at most 2048.
     pub depth_limit: usize,
 }
 
@@ -64,7 +64,8 @@ impl<D: Decoder> Model for MaConfig<D> {
 }
 
 impl<D: Decoder> MaConfig<D> {
-    /// Reads the tree at the reader's position, and the decoder of its leaves after it.
+    /// Reads the tree at the reader's position, and the decoder of its leaves after it (ISO/IEC 18181-1, Modular:
+    /// decoding of meta-adaptive trees).
     ///
     /// # Errors
     ///
@@ -124,14 +125,14 @@ impl<D: Decoder> MaConfig<D> {
         })
     }
 
-    /// The tree as the samples of one channel walk it: `channel` is its place in its part, `stream_idx` the index of the
-    /// stream, and `prev_channels` the number of earlier channels that it may ask for.
+    /// The tree as the samples of one channel walk it: `channel` is its index in its part, `stream_idx` the index of
+    /// the stream, and `prev_channels` the number of earlier channels that it may ask for.
     ///
     /// The nodes are shared.
     ///
     /// # Errors
     ///
-    /// `Buffer` where memory runs out, and no other.
+    /// `Buffer` if it is out of memory, and no other.
     pub fn make_flat_tree(
         &self,
         _alloc: Global,
@@ -172,7 +173,7 @@ impl<D: Decoder> MaConfig<D> {
         self.num_tree_nodes
     }
 
-    /// The greatest number of decisions from the root to a leaf: at most 2048.
+    /// The maximum number of decisions from the root to a leaf: at most 2048.
     pub fn tree_depth(&self) -> usize
         ensures depth { result ≡ depth self.now.tree }
         ensures most { result ≤ 2048 }
