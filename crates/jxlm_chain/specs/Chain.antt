@@ -10,7 +10,7 @@ use Rattle.jxlm_transform.specs.Palette.{IsPaletteOf}
 use Rattle.jxlm_transform.specs.Recoloured.{recoloured}
 use Rattle.jxlm_transform.specs.SqueezedRegions.{average_grid, residual_grid}
 
--- the grid has the channel's sides, and a number at each place
+-- the grid has the channel's sides, and a number in each cell
 pub record HasSidesOf (c : Channel) (g : Grid ℤ) : Type 0 where
   pub same_width : g.width ≡ c.width
   pub same_height : g.height ≡ c.height
@@ -28,8 +28,8 @@ module _ (w : Width) where
 
 -- and depth bits in the picture
 module _ (w : Width) (depth : ℕ) where
-  -- One step codes the grids ahead as those behind it. What it codes by colour or squeeze are w-bit samples; what a palette stands for
-  -- is made of them. Grids out of its range stay.
+  -- One step codes the grids before it as those after it. What it codes by colour or squeeze are w-bit samples; what
+  -- a palette stands for is made of them. Grids out of its range stay.
   abbrev pub Codes : Step → List (Grid ℤ) → List (Grid ℤ) → Type 0
   Codes (RctStep t) ahead behind =
       AreSampleGrids w (range t.begin_c 3 ahead) × (behind ≡ with_range t.begin_c 3 (recoloured w t.rct_type (range t.begin_c 3 ahead)) ahead)

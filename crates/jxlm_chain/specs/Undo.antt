@@ -19,7 +19,7 @@ pub data Undo : Type 0 where
   UndoPalette : Palette → Region → Region → List Region → Undo
   UndoSqueeze : Bool → Region → Undo
 
--- what undoes a step, with the regions ahead of it
+-- what undoes a step, with the regions before it
 abbrev pub undo_of : Step → Layout → List Undo
 undo_of (RctStep t) l = UndoRct t.rct_type (range t.begin_c 3 l.regions) ∷ []
 undo_of (PaletteStep t) l = UndoPalette t (region l.buffers 0 0 t.nb_colours t.num_c) (get_or l.regions t.begin_c no_region) (range t.begin_c t.num_c l.regions) ∷ []

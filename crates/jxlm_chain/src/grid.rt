@@ -66,7 +66,7 @@ impl TransformedGrid {
     ///
     /// # Errors
     ///
-    /// `OutOfMemory` where memory runs out.
+    /// `OutOfMemory`, and no other.
     pub fn try_clone(&self, alloc: Global) -> Result<TransformedGrid, OutOfMemory>
         ensures leader { IfOk result (λ g. leader_of g ≡ leader_of self.now) }
         ensures members { IfOk result (λ g. members_of g ≡ members_of self.now) }

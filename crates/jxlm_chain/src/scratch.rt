@@ -54,7 +54,7 @@ const NOTHING: Needs = Needs {
     members: 0,
 };
 
-/// What stands in the list of regions until a palette is undone.
+/// What is in the list of regions until a palette is undone.
 const NO_REGION: Region = Region {
     buffer: 0,
     x: 0,
@@ -127,7 +127,7 @@ impl Undoing {
     }
 }
 
-/// What undoing one after the other takes.
+/// What undoing one after another takes.
 fn needs_of_all(undoings: &[Undoing]) -> Needs
     requires { All IsNarrowUndo (undos_of undoings.now) }
     ensures covers { All (Covers result) (undos_of undoings.now) }
@@ -140,7 +140,7 @@ fn needs_of_all(undoings: &[Undoing]) -> Needs
     needs
 }
 
-/// A line of n samples.
+/// A buffer of n samples.
 fn line<S: Sample>(alloc: Global, n: usize) -> std::result::Result<Vec<S>, OutOfMemory>
     ensures { IfOk result (λ v. vec_len v ≡ n) }
 {
@@ -161,7 +161,7 @@ impl<S: Sample> Scratch<S> {
     ///
     /// # Errors
     ///
-    /// `Buffer` where memory runs out.
+    /// `Buffer` if it is out of memory, and no other.
     pub fn new(alloc: Global, undoings: &[Undoing], weights: &WpHeader) -> Result<Scratch<S>>
         requires narrow { All IsNarrowUndo (undos_of undoings.now) }
         requires suits { All (SuitsWeights (Some weights.now)) (undos_of undoings.now) }

@@ -55,8 +55,8 @@ pub enum Undoing {
     },
 }
 
-/// The channel that lies in the region: that of the indices of the last of these palettes that has them there, or one that stands
-/// for itself. The palettes are places in the list of undoings.
+/// The channel that lies in the region: that of the indices of the last of these palettes that has them there, or one
+/// that stands for itself. The palettes are indices into the list of undoings.
 fn channel_at(
     alloc: Global,
     undoings: &[Undoing],
@@ -121,7 +121,7 @@ impl Places {
         }
     }
 
-    /// What undoes a palette after these undoings, of which the ones at the places `palettes` undo palettes.
+    /// What undoes a palette after these undoings, of which the ones with the indices `palettes` undo palettes.
     fn undo_palette(
         &self,
         alloc: Global,
@@ -189,7 +189,7 @@ impl Places {
 pub struct Plan {
     /// What undoes the transforms, in their order: the last is run first.
     pub undoings: Vec<Undoing>,
-    /// The places in that list of what undoes a palette.
+    /// The indices in that list of what undoes a palette.
     palettes: Vec<usize>,
     /// Where the channels lie after all transforms.
     pub places: Places,
@@ -269,7 +269,7 @@ impl Plan {
     ///
     /// # Errors
     ///
-    /// `Buffer` where memory runs out.
+    /// `Buffer` if it is out of memory, and no other.
     pub fn new(
         alloc: Global,
         transforms: &[TransformInfo],
