@@ -1,4 +1,5 @@
--- A picture of one part, told by its bits and by grids of numbers alone (ISO/IEC 18181-1, Modular: header, MA tree, samples, inverse transforms).
+-- A picture of one part, described by its bits and by grids of numbers alone (ISO/IEC 18181-1, Modular: header, MA
+-- tree, samples, inverse transforms).
 use Rattle.std.specs.Prelude.{◌≡◌, ℕ, ◌+◌, ◌*◌, ◌⊎◌, ℤ, pos, List, map, sum_by, true}
 use Rattle.std.specs.Int.{Width}
 use Rattle.jxlm_base.specs.Decoding.{Meaning}
@@ -50,8 +51,9 @@ module _ {D : Type 0} (d : Meaning D) (w : Width) (bytes : List ℕ) (stream : �
     pub picture : IsPicture bit_depth grids q
     pub steps : StepsFor picture.config.tree (sum_by area picture.head.coded.list.channels) before after
 
-  -- Header and MA tree stand at bit position p. Decoding the samples of the coded channels, which are zeros before, returns this error, and
-  -- the reader is at q then; the count of steps went on by no more than the samples whose read was tried allow.
+  -- Header and MA tree stand at bit position p. Decoding the samples of the coded channels, which are zeros before,
+  -- returns this error, and the reader is at q then; the count of steps went on by no more than the samples whose
+  -- read was tried allow.
   pub record SamplesFail (fault : Fault) (q before after : ℕ) : Type 0 where
     pub head : Opening
     pub config : Config D

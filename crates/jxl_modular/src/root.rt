@@ -35,7 +35,8 @@ impl<S: Sample, D: Decoder> Modular<S, D> {
         Modular { inner: None }
     }
 
-    /// Reads the image at the reader's position: its header and its tree. Its samples are 0 until they are decoded.
+    /// Reads the image at the reader's position: its header and its tree (ISO/IEC 18181-1, Modular: Modular header,
+    /// MA tree). Its samples are 0 until they are decoded.
     ///
     /// With no channels no bit is read, and there is no image. The parameters must be valid
     /// ([`is_valid`](ModularParams::is_valid)), without a global tree.
@@ -106,7 +107,7 @@ impl<S: Sample, D: Decoder> Modular<S, D> {
         self.inner.as_mut()
     }
 
-    /// The image, given up by what held it; with no channels there is none.
+    /// The image, released by what held it; with no channels there is none.
     pub fn into_image(self) -> Option<ModularImageDestination<S, D>>
         ensures { result ≡ image_of self }
     {
@@ -124,7 +125,7 @@ mod tests {
     use std::result::Result;
     use std::test::Fail;
 
-    // No transforms, a tree of one leaf up to bit 68, and samples behind it.
+    // No transforms, a tree of one leaf up to bit 68, and samples after it.
     const ONE_LEAF: [u8; 10] = [0x42, 0x00, 0x04, 0x00, 0x04, 0x0E, 0x05, 0xC0, 0x20, 0x06];
 
     type Image<S> = ModularImageDestination<S, PlainDecoder>;
@@ -144,7 +145,7 @@ mod tests {
         Ok(seen)
     }
 
-    /// What an image of these channels is read as, and where the reader stands then.
+    /// What an image of these channels is read as, and the reader's position then.
     fn read<S: Sample>(
         alloc: Global,
         bytes: &[u8],
@@ -159,7 +160,7 @@ mod tests {
         Ok((modular, bits.position()))
     }
 
-    /// Why an image of so many channels of 1 by 1 sample is refused, and where the reader stands then.
+    /// The error of an image of n channels of 1 by 1 sample, and the reader's position then.
     fn refusal(rt: &HostRuntime, bytes: &[u8], count: usize) -> Result<(Option<Error>, u64), Fail> {
         let channels = vec![in rt.alloc(); ModularChannelParams::new(1, 1); count]?;
         let (modular, position) = read::<i32>(rt.alloc(), bytes, channels)?;
@@ -233,7 +234,7 @@ mod tests {
 
     const EOF: Error = Error::Bitstream(BitstreamError::UnexpectedEof);
 
-    // A header that is accepted, behind which the tree is cut.
+    // A header that is accepted, after which the tree is truncated.
     const CUT_TREE: Error = Error::Decoder(DecoderError::UnexpectedEof);
 
     const TOO_MANY: &str = "nb_channels_tr too large";
