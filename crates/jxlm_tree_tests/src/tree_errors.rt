@@ -1,4 +1,5 @@
-// Small trees, whole and with errors, and the deepest ones. What is told of them was computed from the format's definitions.
+// Small trees, whole and with errors, and the deepest ones. What is expected of them was computed from the format's
+// definitions.
 
 use crate::told::Told;
 use crate::trees::{check, read_tree};
