@@ -16,7 +16,7 @@ use std::process::Abort;
 use std::result::Result;
 use std::test::Fail;
 
-// A channel by its sides, as `3x2`, and behind a colon its shifts, where they are not 0, as `3x2:1,0`.
+// A channel by its sides, as `3x2`, and after a colon its shifts, where they are not 0, as `3x2:1,0`.
 fn channel(text: &str) -> Result<ModularChannelInfo, Fail> {
     let (sides, shifts) = text.split_once(':').unwrap_or((text, "0,0"));
     let (width, height) = pair(sides, 'x')?;
@@ -79,7 +79,7 @@ fn palette(words: &str) -> Result<Palette, Fail>
     })
 }
 
-// A squeeze of one step, by its direction, the place of its residuals, its first channel, and how many it has.
+// A squeeze of one step, by its direction, where its residuals go, its first channel, and how many it has.
 fn squeeze(alloc: Global, words: &str) -> Result<Squeeze, Fail> {
     let (side, rest) = pair(words, ' ')?;
     let (place, rest) = pair(rest, ' ')?;

@@ -9,7 +9,7 @@ use std::alloc::{AllocError, Global};
 use std::result::Result;
 use std::test::Fail;
 
-// Bits that are written one after the other, the low bit of each byte first.
+// Bits that are written one after another, the low bit of each byte first.
 #[derive(Drop)]
 struct Bits {
     bytes: Vec<u8>,
@@ -73,7 +73,7 @@ fn push_squeeze(bits: &mut Bits, first: u32) -> Result<(), AllocError> {
     Ok(())
 }
 
-// A header of so many such squeezes, from 18 to 273.
+// A header of n such squeezes, from 18 to 273.
 fn header(alloc: Global, squeezes: u32) -> Result<Vec<u8>, AllocError> {
     let mut bits = Bits::new(alloc);
     bits.push(0, 1)?;
@@ -86,7 +86,7 @@ fn header(alloc: Global, squeezes: u32) -> Result<Vec<u8>, AllocError> {
     Ok(bits.bytes)
 }
 
-// Why the header is refused, and the position of the reader then.
+// The header's error, and the position of the reader then.
 fn outcome(alloc: Global, bytes: &[u8]) -> Result<(Option<Error>, u64), Fail> {
     let params = channels_of_one_size(alloc, 1, 1, GIVEN)?;
     let mut bits = Bitstream::new(bytes);
