@@ -7,7 +7,8 @@ use jxl_modular::plain::PlainDecoder;
 use jxlm_tree_tests::text::bytes;
 use std::test::Fail;
 
-// Decisions on the samples of the three nearest earlier channels of equal size, where channels of two sizes stand in turn.
+// Decisions on the samples of the three nearest earlier channels of equal size, where channels of two sizes come in
+// turn.
 const IN_TURN: &str =
     "2x1 2x1 1x1 2x1 1x1 1x1 2x1|0200000028acd14c1a0004000040000050008040000000000821ff31|1 3 3 5 0 0 3 0 1 2 6 @222";
 
