@@ -50,7 +50,7 @@ module _ {S D : Type 0} (d : Meaning D) (zero : S) (bytes : List ℕ) (p : ℕ) 
       cells = refl;
     })
 
-    -- where a tree is an error, so is the image
+    -- where a tree gives an error, so does the image
     pub tree_refused : (e : Error) (q : ℕ) → TreeGives d bytes limit depth_limit m (Err e) q →
         UnlessMemory (fault_of e) (IsRefused (opened bytes given p) (fault_of e) q ⊎ IsTreeRefused d bytes given p (fault_of e) q)
     tree_refused e q gives =

@@ -107,7 +107,7 @@ impl<S: Sample, D: Decoder> Modular<S, D> {
         self.inner.as_mut()
     }
 
-    /// The image, released by what held it; with no channels there is none.
+    /// The image, taken from what held it; with no channels there is none.
     pub fn into_image(self) -> Option<ModularImageDestination<S, D>>
         ensures { result ≡ image_of self }
     {

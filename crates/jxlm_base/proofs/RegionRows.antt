@@ -127,7 +127,7 @@ module _ {S : Type 0} (g : Grid S) (full : IsFull g) (y : ℕ) (below : y < g.he
 -- ---- rows of regions
 
 module _ {S : Type 0} (store : List (Grid S)) (r : Region) (y : ℕ) (lies : Lies r store) (below : y < r.height) where
-  -- the row's buffer, and its place there
+  -- the row's buffer, and its line there
   abbrev buffer : Grid S
   buffer = buffer_of store r
 

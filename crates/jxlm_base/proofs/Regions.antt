@@ -94,7 +94,7 @@ apart_by_rows r s le = λ b x y h k. let a = h.bottom in let b = k.top in absurd
 pub HasCell_at : (r : Region) (x y : ℕ) → x < r.width → y < r.height → HasCell r r.buffer (r.x + x) (r.y + y)
 HasCell_at r x y p q = record { buffer = refl; left = omega arith; right = omega arith; top = omega arith; bottom = omega arith }
 
--- regions at two places of a list of regions that lie apart
+-- two regions of a list of regions that lie apart
 pub apart_at : (rs : List Region) (i j : ℕ) (d : Region) → LieApart rs → i < length rs → j < length rs → i ≢ j → AreApart (get_or rs i d) (get_or rs j d)
 apart_at rs i j d apart p q ne =
     elim (cases_lt i j) [

@@ -2,7 +2,7 @@
 use Rattle.std.specs.Prelude.{◌≡◌, ℕ, ◌<◌, ◌/◌, ◌%◌, ◌==◌, if◌then◌else◌, ℤ, pos, ◌+ℤ◌, ◌-ℤ◌, List, length, get_or, FitsSigned}
 use Rattle.std.specs.Int.{Width, int_wrap, int_shr}
 
--- three samples at one place
+-- three samples of one cell
 pub record Triple : Type 0 where
   pub first : ℤ
   pub second : ℤ
@@ -95,7 +95,7 @@ module _ (w : Width) where
   abbrev pub ColourIsOneToOne : Type 0
   ColourIsOneToOne = (kind : ℕ) (x y : Triple) → IsTripleOf w x → IsTripleOf w y → coded_triple kind x ≡ coded_triple kind y → x ≡ y
 
--- the triple at place i of three rows
+-- the triple of cell i of three rows
 abbrev pub triple_at : List ℤ → List ℤ → List ℤ → ℕ → Triple
 triple_at a b c i = triple (get_or a i (pos 0)) (get_or b i (pos 0)) (get_or c i (pos 0))
 

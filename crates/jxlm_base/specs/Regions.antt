@@ -20,7 +20,7 @@ module _ {S : Type 0} where
   abbrev pub with_region_cell : List (Grid S) → Region → ℕ → ℕ → S → List (Grid S)
   with_region_cell store r x y v = slice_set store r.buffer (with_cell (buffer_of store r) (r.x + x) (r.y + y) v)
 
-  -- the region lies inside a buffer of the store, in which each place has a cell
+  -- the region lies inside a full buffer of the store
   pub record Lies (r : Region) (store : List (Grid S)) : Type 0 where
     pub there : r.buffer < length store
     pub full : IsFull (buffer_of store r)

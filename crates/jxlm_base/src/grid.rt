@@ -100,7 +100,7 @@ impl<S: Sealed> AlignedGrid<S> {
 impl<S: Copy> AlignedGrid<S> {
     ghost use Rattle.jxlm_base.specs.GridLends.{LendsCell, LendsRow};
 
-    /// How many columns there are. Each place of the grid has a cell.
+    /// How many columns there are. Each of them has a cell in each row.
     pub fn width(&self) -> usize
         ensures value { result ≡ self.now.width }
         ensures full { IsFull self.now }
@@ -108,7 +108,7 @@ impl<S: Copy> AlignedGrid<S> {
         self.width
     }
 
-    /// How many rows there are. Each place of the grid has a cell.
+    /// How many rows there are. Each of them has a cell in each column.
     pub fn height(&self) -> usize
         ensures value { result ≡ self.now.height }
         ensures full { IsFull self.now }

@@ -1,4 +1,4 @@
--- What a step that is not an error says of the list before it, and of the one after it.
+-- What a step without an error says of the list before it, and of the one after it.
 use Rattle.std.proofs.Common.{◌≡◌, ℕ, ◌+◌, ◌≤◌, Bool, true, false, ◌-◌, not, ◌&&◌, ◌||◌, nat_lt, nat_le, if◌then◌else◌, List, [], ◌∷◌, ◌++◌, length, map, take, drop, Result, Ok, Err, refl, leb-true}
 use Rattle.std.specs.List.{list_all}
 use Rattle.jxlm_base.specs.Fault.{Fault, BadRct, BadPalette, BadSqueeze}

@@ -1,4 +1,4 @@
-//! What undoes the transforms of an image in a store, planned and run.
+//! What undoes the transforms of an image in a store, planned and run (ISO/IEC 18181-1, Modular: inverse transforms).
 
 ghost use Rattle.std.specs.Prelude.{◌≡◌, ℕ, ◌+◌, ◌^◌, ◌<◌, ◌≤◌, [], ◌∷◌, ◌++◌, ◌⊎◌, length, get_or, map, IfOk, IfErr};
 ghost use Rattle.std.specs.List.{All};
@@ -385,7 +385,7 @@ impl Undoing {
 /// Undoes all of these in a store, from the last to the first: each takes what those after it have left, and changes no cell
 /// outside the regions that it names.
 ///
-/// What each of them asks for holds of the store as it is before, and the scratch has room for each. No memory is taken, and
+/// What each of them requires holds of the store as it is before, and the scratch has room for each. No memory is taken, and
 /// nothing can fail.
 pub fn undo_all<S: Sample>(
     undoings: &[Undoing],

@@ -33,7 +33,7 @@ exact-checked (Err e) = exact-refuse e
 pub exact-opening : (has_global : Bool) (list : ChannelList) → IsExact (opening has_global list)
 exact-opening has_global list = bind exact-header λ h. exact-checked (resolved has_global list h)
 
--- where one of the transforms is an error, so is the header
+-- where one of the transforms gives an error, so does the header
 pub listed_refused : (bytes : List ℕ) (p : ℕ) (global : Bool) (a : ℕ) (weights : WpHeader) (b n m : ℕ) (fault : Fault) (q : ℕ) → flag.read bytes p ≡ Ok (record { value = global; position = a }) →
     wp_header.read bytes a ≡ Ok (record { value = weights; position = b }) → transform_count.read bytes b ≡ Ok (record { value = n; position = m }) →
     UnlessNoMemory fault (IsRefused ((repeated n (transform weights)).read bytes m) fault q) → UnlessNoMemory fault (IsRefused (header.read bytes p) fault q)

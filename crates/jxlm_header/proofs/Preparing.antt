@@ -63,7 +63,7 @@ prepared_more ts i d u l m total lt steps list so_far =
     rw (left_behind ts i u, one_done ts i u lt, steps_further (done i ts) (transform_of u))
     (transform_applied (steps_in (done i ts)) (transform_of (get_or ts i d)) (transform_of u) (left (i + 1) ts) l m total steps list before)
 
--- the next one was an error
+-- the next one gave an error
 pub prepared_refused : (ts : List TransformInfo) (i : ℕ) (d : TransformInfo) (l : ChannelList) (fault : Fault) (total : Result CodedList Fault) → i < length ts →
     UnlessNoMemory fault ((steps_of (transform_of (get_or ts i d)) l >>= λ steps. list_after_all steps l) ≡ Err fault) → come_to i ts l ≡ total → UnlessNoMemory fault (total ≡ Err fault)
 prepared_refused ts i d l fault total lt refused so_far =

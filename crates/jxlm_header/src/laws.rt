@@ -1,4 +1,4 @@
-//! A law of what stands before an image's tree.
+//! A law of what comes before an image's tree.
 
 ghost use Rattle.jxlm_header.specs.Opening.{OpeningIsExact};
 

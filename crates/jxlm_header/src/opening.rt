@@ -1,4 +1,4 @@
-//! What stands before an image's tree: the header, applied to the channels, and its conditions.
+//! What comes before an image's tree: the header, applied to the channels, and its conditions.
 
 ghost use Rattle.std.specs.Prelude.{◌≡◌, ◌+◌, ◌*◌, ◌^◌, ◌≤◌, length, min, sum_by, Ok, IfOk};
 ghost use Rattle.std.specs.List.{All};

@@ -169,11 +169,11 @@ module _ {S : Type 0} (d : Meaning S) (w : Width) (part : Part) (bytes : List �
       subst (λ n. Reached d w part bytes decoder p0 old n (grids_in regions (store_meanings to_int new)) t q) next
       (subst (λ (gs : List (Grid ℤ)). Reached d w part bytes decoder p0 old (suc k) gs t q) (sym grids') more)
 
-  -- a read was an error, and each read up to it took at most `cost` steps
+  -- a read returned an error, and each read up to it took at most `cost` steps
   abbrev IsStopped : S → ℕ → List (Grid ℤ) → DecoderError → List (Grid ℤ) → ℕ → ℕ → ℕ → ℕ → ℕ → Type 0
   IsStopped decoder p0 old e now q cost from before after = (stopped : Stopped d w part bytes decoder p0 old e now q) × TakesSteps cost from (suc stopped.count) before after
 
-  -- the read of a cell was an error
+  -- the read of a cell returned an error
   pub cell_stops : {X : Type 0} (to_int : X → ℤ) (cost before after : ℕ) (i x y : ℕ) (store new : List (Grid X)) (s t : S) (p q : ℕ) (e : DecoderError) →
       after ≤ before + cost → SameSizes part.channels regions → i < length regions → x < (region_at regions i).width → y < (region_at regions i).height →
       RefusesCell d w part bytes regions to_int i x y store s p new t q e →

@@ -58,7 +58,7 @@ fn are_the_same<'a, S: jxl_modular::Sample>(types: OfModules<'a, S>) -> OfRoot<'
     types
 }
 
-// No transforms, a tree of one leaf up to bit 68, and samples behind it.
+// No transforms, a tree of one leaf up to bit 68, and samples after it.
 const PICTURE: [u8; 10] = [0x42, 0x00, 0x04, 0x00, 0x04, 0x0E, 0x05, 0xC0, 0x20, 0x06];
 
 fn bits(bytes: &[u8]) -> Result<(u32, bool, u32, u64), BitstreamError> {
@@ -367,7 +367,7 @@ fn inner_place<S: Sample>(state: &mut PredictorState<S>, store: &[AlignedGrid<S>
     state.properties::<false>(store).get(7)
 }
 
-// No public call hands one out.
+// No public call returns one.
 fn nothing_predicted(prediction: Option<PredictionResult>) -> bool {
     prediction.is_none()
 }

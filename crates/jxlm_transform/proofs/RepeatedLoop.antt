@@ -24,7 +24,7 @@ module _ {Y : Type 0} where
       let one : with_front front ((repeated (count - i) g).read bytes p) ≡ with_front (front ++ y ∷ []) ((repeated (count - (i + 1)) g).read bytes q) = rw (k, h) (regroup front y ((repeated (count - (i + 1)) g).read bytes q)) in
       sym one ∙ so_far
 
-  -- a field was an error
+  -- a field gave an error
   pub stops : (g : Grammar Y) (bytes : List ℕ) (front : List Y) (count i p : ℕ) (e : Refused) (total : Result (Found (List Y)) Refused) → i < count →
       g.read bytes p ≡ Err e → with_front front ((repeated (count - i) g).read bytes p) ≡ total → total ≡ Err e
   stops g bytes front count i p e total lt h so_far =

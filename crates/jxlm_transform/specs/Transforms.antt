@@ -153,7 +153,7 @@ abbrev pub IsSqueezeTransform : Transform → Type 0
 IsSqueezeTransform (OfSqueeze steps) = Unit {0}
 IsSqueezeTransform other = ⊥
 
--- a palette has a channel at least
+-- a palette has at least one channel
 abbrev pub HasChannels : Transform → Type 0
 HasChannels (OfPalette t) = 1 ≤ t.num_c
 HasChannels other = Unit {0}

@@ -145,7 +145,7 @@ fn quarters(depth: u32, digit: u32) -> u64
     product / 4
 }
 
-/// An eighth of the samples of a depth, and 1 at least.
+/// An eighth of the samples of a depth, and at least 1.
 fn eighth(depth: u32) -> u64
     requires { depth ≤ 32 }
     ensures value { result ≡ 2 ^ (depth - 3) }

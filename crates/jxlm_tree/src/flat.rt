@@ -92,7 +92,7 @@ impl Model for FlatMaTree {
 }
 
 impl FlatMaTree {
-    // The tree of n nodes, which needs weights or not and names so many earlier channels.
+    // The tree of `num_nodes` nodes, which needs weights or not and names `prev_channels_named` earlier channels.
     pub(crate) fn new(
         tree: Rc<MaTreeNode>,
         num_nodes: usize,

@@ -156,7 +156,7 @@ fn holds_row<S: Copy>(store: &[AlignedGrid<S>], region: Region, width: u32, y: u
 }
 
 // The properties from 2 on, below this number, and after a bar what each predictor makes of the cell: the weighted
-// one only where it is wanted.
+// one only where it is asked for.
 fn told<S: Sample>(
     alloc: Global,
     properties: &Properties<'_, S>,

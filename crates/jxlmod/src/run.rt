@@ -24,7 +24,7 @@ pub enum Failure {
     WrongArguments,
     /// The input cannot be read, or it is out of memory for it.
     Unreadable,
-    /// The image has this error.
+    /// The image gives this error.
     Refused(Error),
     /// The output cannot be written.
     Unwritable,

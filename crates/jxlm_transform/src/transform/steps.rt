@@ -1,4 +1,4 @@
-//! What transforms do to the list of an image's channels.
+//! What transforms do to the list of an image's channels (ISO/IEC 18181-1, Modular: the channels after each transform).
 
 ghost use Rattle.std.specs.Prelude.{◌≡◌, ◌≤◌, ◌+◌, ◌++◌, ◌&&◌, nat_le, length, map, IsTrue, IfOk, IfErr};
 ghost use Rattle.std.specs.List.{All, list_all};
@@ -69,8 +69,8 @@ impl Rct {
 }
 
 impl Palette {
-    /// Puts the table first, and one channel of indices instead of the range, which has a
-    /// channel at least. The table is a meta channel, and so are the indices of meta channels.
+    /// Puts the table first, and one channel of indices instead of the range, which has at least
+    /// one channel. The table is a meta channel, and so are the indices of meta channels.
     ///
     /// # Errors
     ///
@@ -240,7 +240,7 @@ impl Squeeze {
 }
 
 impl TransformInfo {
-    /// Applies the transform to the channels of an image. A palette has a channel at least. A
+    /// Applies the transform to the channels of an image. A palette has at least one channel. A
     /// squeeze that lists no steps lists the default ones from then on, which are those of this
     /// list.
     ///

@@ -95,7 +95,7 @@ impl Draw for Echo {
     }
 }
 
-// Every image has an error.
+// Every image gives an error.
 #[derive(Drop)]
 struct Refuses {
     fault: Error,
