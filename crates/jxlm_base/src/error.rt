@@ -97,7 +97,8 @@ impl From<AllocError> for Error {
     }
 }
 
-/// `Buffer`, so that `?` serves on `push` and the other calls that return what they cannot store; the value is dropped.
+/// `Buffer`, so that `?` serves on `push` and the other calls that return what they cannot store; the value is
+/// dropped.
 impl<T: Drop> From<AllocFailed<T>> for Error {
     ghost use Rattle.jxlm_base.specs.declared.error.Error.TheVariants.{Buffer};
 

@@ -23,7 +23,8 @@ pub trait Sealed: Copy + Default {
 
     ghost width: { Width };
 
-    /// The signed number of a token, reduced to the type's width (ISO/IEC 18181-1, Modular: signed numbers): 2k stands for k, and 2k + 1 for -k - 1.
+    /// The signed number of a token, reduced to the type's width (ISO/IEC 18181-1, Modular: signed numbers): 2k
+    /// stands for k, and 2k + 1 for -k - 1.
     fn unpack_signed_u32(value: u32) -> Self
         ensures { result ≡ Self.from_int (int_wrap Self.width (unpack value)) };
 

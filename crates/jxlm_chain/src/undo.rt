@@ -385,8 +385,8 @@ impl Undoing {
 /// Undoes all of these in a store, from the last to the first: each takes what those after it have left, and changes no cell
 /// outside the regions that it names.
 ///
-/// What each of them requires holds of the store as it is before, and the scratch has room for each. No memory is taken, and
-/// nothing can fail.
+/// What each of them requires holds of the store as it is before, and the scratch has room for each. No memory is
+/// taken, and nothing can fail.
 pub fn undo_all<S: Sample>(
     undoings: &[Undoing],
     store: &mut [AlignedGrid<S>],

@@ -173,7 +173,7 @@ impl<S: Sample> PlaceProperties for Properties<'_, S> {
 }
 
 impl<S> Properties<'_, S> {
-    /// Gives the sample of this cell to the state.
+    /// Records the sample of this cell in the state.
     ///
     /// The state is then after the samples before and this one, at the next cell, and has the room that it had.
     pub fn record(self, sample: i32)

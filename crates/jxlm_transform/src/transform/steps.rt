@@ -1,4 +1,5 @@
-//! What transforms do to the list of an image's channels (ISO/IEC 18181-1, Modular: the channels after each transform).
+//! What transforms do to the list of an image's channels (ISO/IEC 18181-1, Modular: the channels after each
+//! transform).
 
 ghost use Rattle.std.specs.Prelude.{◌≡◌, ◌≤◌, ◌+◌, ◌++◌, ◌&&◌, nat_le, length, map, IsTrue, IfOk, IfErr};
 ghost use Rattle.std.specs.List.{All, list_all};
