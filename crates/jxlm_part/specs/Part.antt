@@ -68,7 +68,7 @@ downward (suc i) = i ∷ downward i
 abbrev pub earlier_alike : List Channel → ℕ → List ℕ
 earlier_alike channels i = filter (λ e. is_alike (channel channels e) (channel channels i)) (downward i)
 
--- What the next sample of the part is, after the samples before it, of all its channels.
+-- Where the next sample of the part is, after the samples before it, of all its channels.
 module _ (channels : List Channel) (before : List ℤ) where
   -- its channel
   abbrev pub next_channel : ℕ

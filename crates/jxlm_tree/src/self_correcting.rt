@@ -417,7 +417,7 @@ impl Corrector {
         })
     }
 
-    /// Comes before the first sample of a channel of this width, where there are weights.
+    /// Begins at the first cell of a channel of this width, where there are weights.
     pub(crate) fn restart_where_kept(corrector: &mut Option<Corrector>, width: u32)
         requires { HasRows corrector.old width }
         ensures corrects { Corrects corrector.new (header_of corrector.old) width 0 0 [] }
