@@ -66,8 +66,8 @@ module _ {S D : Type 0} where
   abbrev pub list_coded : Image S D → ChannelList
   list_coded x = record { channels = map channel_of x.channels; nb_meta = x.nb_meta }
 
-  -- The coded channels, which are narrow and at most 65536, are those that the steps leave, and lie where these put them; the buffers are
-  -- those of the image's own channels, and then those of the tables.
+  -- The coded channels, which are narrow and at most 65536, are those that the steps leave, and lie where these put
+  -- them; the buffers are those of the image's own channels, and then those of the tables.
   pub record IsLaidOut (x : Image S D) : Type 0 where
     pub list : list_after_all x.steps (given_list x) ≡ Ok (list_coded x)
     pub regions : x.coded ≡ (layout_after_all x.steps (first_layout (given_list x).channels)).regions

@@ -30,7 +30,8 @@ module _ {D : Type 0} (d : Meaning D) (bytes : List ℕ) (given : ChannelList) (
     pub header : opened bytes given p ≡ Ok (record { value = head; position = tree_at })
     pub tree : IsTreeAt d bytes (node_limit head.coded.list.channels) depth_limit tree_at config q
 
-  -- At bit position p stands a header, and reading the MA tree after it returns this error, and the reader is at q then.
+  -- At bit position p stands a header, and reading the MA tree after it returns this error, and the reader is at q
+  -- then.
   pub record IsTreeRefused (fault : Fault) (q : ℕ) : Type 0 where
     pub head : Opening
     pub tree_at : ℕ

@@ -43,22 +43,23 @@ impl<S: Sample, D: Decoder> Modular<S, D> {
     ///
     /// # Memory
     ///
-    /// All grids of the image are made here, before the first token of a sample is read: the given channels, and for each
-    /// palette of the header a table with one row for each channel that it stands for, of at most 70911 samples. So nine
-    /// bytes can take 4 GB, by one channel of 2^15 by 2^15 samples of 32 bits. A caller that does not trust its input
-    /// bounds it before the call: by `is_valid`, and by the sum of the areas of the given channels times the bytes of a
-    /// sample. There are at most 273 palettes. The tree takes some dozens of bytes for each node.
+    /// All grids of the image are made here, before the first token of a sample is read: the given channels, and for
+    /// each palette of the header a table with one row for each channel that it stands for, of at most 70911 samples.
+    /// So nine bytes can take 4 GB, by one channel of 2^15 by 2^15 samples of 32 bits. A caller that does not trust
+    /// its input bounds it before the call: by `is_valid`, and by the sum of the areas of the given channels times
+    /// the bytes of a sample. There are at most 273 palettes. The tree takes some dozens of bytes for each node.
     ///
     /// # Errors
     ///
-    /// The error of the first check that fails. A truncated header is `UnexpectedEof`, and a number without a transform
-    /// or a predictor is `InvalidEnum`. Then each transform, in order, that does not suit the channels which the ones
-    /// before it leave is `InvalidRctParams`, `InvalidPaletteParams` or `InvalidSqueezeParams`; then more than 65536 coded
-    /// channels are `ProfileConformance`; then a header that uses the global tree is `GlobalMaTreeNotAvailable`; and then
-    /// come the errors of the tree, as by [`MaConfig::parse`]: it may have 1025 nodes and one more for each coded sample,
-    /// at most 2^20 + 1, and a depth of 2048. The reader is then after the last field that was read whole; after an error
-    /// inside a decoder's own `parse` its position is up to the decoder. Out of memory, `Buffer` or
-    /// `Decoder(OutOfMemory)`, may come at any time, and leaves the reader anywhere.
+    /// The error of the first check that fails. A truncated header is `UnexpectedEof`, and a number without a
+    /// transform or a predictor is `InvalidEnum`. Then each transform, in order, that does not suit the channels
+    /// which the ones before it leave is `InvalidRctParams`, `InvalidPaletteParams` or `InvalidSqueezeParams`; then
+    /// more than 65536 coded channels are `ProfileConformance`; then a header that uses the global tree is
+    /// `GlobalMaTreeNotAvailable`; and then come the errors of the tree, as by [`MaConfig::parse`]: it may have 1025
+    /// nodes and one more for each coded sample, at most 2^20 + 1, and a depth of 2048. The reader is then after the
+    /// last field that was read whole; after an error inside a decoder's own `parse` its position is up to the
+    /// decoder. Out of memory, `Buffer` or `Decoder(OutOfMemory)`, may come at any time, and leaves the reader
+    /// anywhere.
     pub fn parse(
         alloc: Global,
         bits: &mut Bitstream<'_>,

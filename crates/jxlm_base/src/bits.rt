@@ -72,9 +72,9 @@ fn last_at(b: &[u8], i: usize) -> [u8; 8]
 
 /// A reader of the input: its bytes, and a bit position in it.
 ///
-/// Bit i of the input is bit i mod 8, least significant first, of byte i div 8. A copy reads on by itself from the same
-/// position. Each read takes bits from the position on, and leaves the reader after them; one that would pass the end
-/// returns `UnexpectedEof`, and leaves the reader as it was.
+/// Bit i of the input is bit i mod 8, least significant first, of byte i div 8. A copy reads on by itself from the
+/// same position. Each read takes bits from the position on, and leaves the reader after them; one that would pass
+/// the end returns `UnexpectedEof`, and leaves the reader as it was.
 #[derive(Clone, Copy)]
 pub struct Bitstream<'a> {
     bytes: &'a [u8],

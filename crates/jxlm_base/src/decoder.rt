@@ -98,8 +98,8 @@ pub trait Decoder: Sized + Drop {
 
     /// Reads a token of a context: the read of its cluster, with multiplier 0.
     ///
-    /// The context is below the number that `parse` was asked for. Errors are those of the read, and leave decoder and reader
-    /// as they were.
+    /// The context is below the number that `parse` was asked for. Errors are those of the read, and leave decoder
+    /// and reader as they were.
     fn read_varint(&mut self, bits: &mut Bitstream<'_>, context: u32) -> Result<u32, DecoderError>
         requires { context < length (meaning.cluster_map self.old) }
         ensures gives { ReadGives result self.old self.new (position_of bits.old) (position_of bits.new) (meaning.read self.old (bytes_of bits.old) (position_of bits.old) (slice_index (meaning.cluster_map self.old) context) 0) }
@@ -127,10 +127,10 @@ pub trait Decoder: Sized + Drop {
 
     /// Reads a token of a cluster, or a whole run, where `as_rle` is true and no run is open.
     ///
-    /// The cluster is one of `cluster_map`. `Value(v)` is the read of the token v, under any multiplier. `Repeat(n)`, n at
-    /// least 1, stands for n reads, the first of this cluster, the others of any clusters, under any multipliers: each gives
-    /// the token before (0 if there is none), and only the first moves the reader. Either leaves no run open. An error is
-    /// that of the read, and leaves decoder and reader as they were.
+    /// The cluster is one of `cluster_map`. `Value(v)` is the read of the token v, under any multiplier. `Repeat(n)`,
+    /// n at least 1, stands for n reads, the first of this cluster, the others of any clusters, under any
+    /// multipliers: each gives the token before (0 if there is none), and only the first moves the reader. Either
+    /// leaves no run open. An error is that of the read, and leaves decoder and reader as they were.
     fn read_varint_clustered(
         &mut self,
         bits: &mut Bitstream<'_>,
@@ -157,7 +157,8 @@ pub trait Decoder: Sized + Drop {
     fn as_rle(&self) -> bool
         ensures { result ≡ meaning.as_rle self.now };
 
-    /// Ends a stream of tokens: an error, which is never `OutOfMemory`, says that the tokens cannot be those that were meant.
+    /// Ends a stream of tokens: an error, which is never `OutOfMemory`, says that the tokens cannot be those that
+    /// were meant.
     ///
     /// Where `as_rle` is true the result is `Ok`.
     fn finalize(&self) -> Result<(), DecoderError>

@@ -43,8 +43,8 @@ impl Error {
     ghost use Rattle.jxlm_base.specs.Fault.{Fault, Eof, OfDecoder, fault_of};
     ghost use Rattle.jxlm_base.specs.declared.decoder.DecoderError.TheVariants.{UnexpectedEof};
 
-    /// Whether the input ended too early, in a field or in the entropy decoder: true for `UnexpectedEof` in `Bitstream`
-    /// or in `Decoder`, and for nothing else.
+    /// Whether the input ended too early, in a field or in the entropy decoder: true for `UnexpectedEof` in
+    /// `Bitstream` or in `Decoder`, and for nothing else.
     pub fn unexpected_eof(&self) -> bool
         ensures { IsTrue result ↔ ((fault_of self.now ≡ Eof) ⊎ (fault_of self.now ≡ OfDecoder UnexpectedEof)) }
     {

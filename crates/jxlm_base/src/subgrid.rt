@@ -37,7 +37,8 @@ pub struct MutableSubgrid<'a, S> {
 impl<'a, S: Copy> MutableSubgrid<'a, S> {
     ghost use Rattle.jxlm_base.specs.Subgrid.{whole, loan, IsAt, IsSamePlace};
 
-    /// The rectangle of `width` columns and `height` rows whose first cell is in column `x` of row `y`; it lies inside.
+    /// The rectangle of `width` columns and `height` rows whose first cell is in column `x` of row `y`; it lies
+    /// inside.
     ///
     /// The grid is as before.
     pub fn new(

@@ -1,4 +1,5 @@
--- What transforms make of an image's samples (ISO/IEC 18181-1, Modular: inverse transforms, from the image to the coded channels).
+-- What transforms make of an image's samples (ISO/IEC 18181-1, Modular: inverse transforms, from the image to the
+-- coded channels).
 use Rattle.std.specs.Prelude.{◌≡◌, ℕ, List, [], ◌∷◌, map, ℤ, Ok}
 use Rattle.std.specs.List.{All, AllZip}
 use Rattle.std.specs.Int.{Width}
@@ -39,8 +40,8 @@ module _ (w : Width) (depth : ℕ) where
       AreSampleGrids w (range t.begin_c t.num_c ahead) ×
       (behind ≡ with_halves t (map (average_grid w t.horizontal) (range t.begin_c t.num_c ahead)) (map (residual_grid w t.horizontal) (range t.begin_c t.num_c ahead)) ahead)
 
-  -- The image, of the channels of a list, becomes the coded grids: between each two steps there are grids, for the channels that
-  -- the steps give.
+  -- The image, of the channels of a list, becomes the coded grids: between each two steps there are grids, for the
+  -- channels that the steps give.
   abbrev pub Chain : List Step → ChannelList → List (Grid ℤ) → List (Grid ℤ) → Type 0
   Chain [] l image coded = AreGridsOf l.channels image × (coded ≡ image)
   Chain (s ∷ ss) l image coded =

@@ -6,8 +6,8 @@ ghost use Rattle.jxlm_chain.specs.Grids.{leader_of};
 use jxlm_base::grid::{OutOfMemory, Region};
 use std::alloc::Global;
 
-/// Where the samples of a channel lie. The channel of a palette's indices stands for others, which come back where the palette is
-/// undone.
+/// Where the samples of a channel lie. The channel of a palette's indices stands for others, which come back where
+/// the palette is undone.
 #[derive(Drop)]
 pub enum TransformedGrid {
     /// A channel that stands for itself, or for one that lies where it lies.

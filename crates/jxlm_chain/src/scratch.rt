@@ -66,7 +66,8 @@ const NO_REGION: Region = Region {
 /// The squeezed columns that are undone at a time.
 const COLUMNS: usize = 256;
 
-/// The samples of the line in which a squeeze of the region is undone: a row, or several columns with a sample more each.
+/// The samples of the line in which a squeeze of the region is undone: a row, or several columns with a sample more
+/// each.
 fn line_for(horizontal: bool, region: &Region) -> usize
     requires { IsNarrow region.now }
     ensures { max region.now.width (region.now.height + 1) ≤ result }
@@ -155,9 +156,9 @@ fn regions(alloc: Global, n: usize) -> std::result::Result<Vec<Region>, OutOfMem
 }
 
 impl<S: Sample> Scratch<S> {
-    /// Room for each of these undoings, with the image's weights, which are those of a header that was read: as much of each kind
-    /// as the undoing that takes most of it. No side of a palette's indices or of a squeezed region is above 2^30, and each
-    /// palette has the image's weights or none.
+    /// Room for each of these undoings, with the image's weights, which are those of a header that was read: as much
+    /// of each kind as the undoing that takes most of it. No side of a palette's indices or of a squeezed region is
+    /// above 2^30, and each palette has the image's weights or none.
     ///
     /// # Errors
     ///

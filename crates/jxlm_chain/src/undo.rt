@@ -262,8 +262,8 @@ impl Plan {
         Ok(())
     }
 
-    /// What undoes these transforms of an image of these channels, each of which is the whole of a buffer of its own; after
-    /// those come the tables of palettes, in their order.
+    /// What undoes these transforms of an image of these channels, each of which is the whole of a buffer of its own;
+    /// after those come the tables of palettes, in their order.
     ///
     /// The transforms suit the channels, and list their steps.
     ///
@@ -353,8 +353,9 @@ fn run_squeeze<S: Sample>(
 impl Undoing {
     /// Undoes what it names in a store.
     ///
-    /// Its regions lie in the store as they must, no side of whose buffers is above 2^30. `bit_depth` is that of the picture, at
-    /// most 32. The scratch has room for it, and the weights of a palette that has some. Cells outside the regions stay.
+    /// Its regions lie in the store as they must, no side of whose buffers is above 2^30. `bit_depth` is that of the
+    /// picture, at most 32. The scratch has room for it, and the weights of a palette that has some. Cells outside
+    /// the regions stay.
     pub fn run<S: Sample>(
         &self,
         store: &mut [AlignedGrid<S>],
@@ -382,8 +383,8 @@ impl Undoing {
     }
 }
 
-/// Undoes all of these in a store, from the last to the first: each takes what those after it have left, and changes no cell
-/// outside the regions that it names.
+/// Undoes all of these in a store, from the last to the first: each takes what those after it have left, and changes
+/// no cell outside the regions that it names.
 ///
 /// What each of them requires holds of the store as it is before, and the scratch has room for each. No memory is
 /// taken, and nothing can fail.

@@ -41,7 +41,8 @@ pub record HasFlats (t : Shape Leaf) (stream count : ℕ) (flats : List FlatTree
   pub count_is : length flats ≡ count
   pub each : (i : ℕ) → i < count → slice_get flats i ≡ Some (flat t stream i)
 
--- the state has room for channels of these flat trees up to this width, and the weights, where the first flat tree asks for them
+-- the state has room for channels of these flat trees up to this width, and the weights, where the first flat tree
+-- asks for them
 pub record IsRoomyFor {X : Type 0} (widest : ℕ) (weights : WpHeader) (flats : List FlatTree) (state : PredictorState X) : Type 0 where
   pub widest_is : room_of state ≡ widest
   pub earlier_is : earlier_room_of state ≡ length flats

@@ -21,7 +21,8 @@ fn earlier_channels_of_two_sizes_in_turn(rt: HostRuntime) -> Result<(), Fail> {
     check::<i16, PlainDecoder>(&rt, rt.alloc(), IN_TURN)
 }
 
-// As many channels as there may be, each of one sample. All but the first 60001 have one that is 60001 before, and that is 7.
+// As many channels as there may be, each of one sample. All but the first 60001 have one that is 60001 before, and
+// that is 7.
 #[test]
 fn an_earlier_channel_far_before(rt: HostRuntime) -> Result<(), Fail> {
     let channels = vec![in rt.alloc(); ModularChannelParams::new(1, 1); 65536]?;

@@ -1,5 +1,5 @@
-// The public surface of the library, named through `jxl_modular` alone: each type, function, variant and field of it. One that is
-// missing, or has another type, does not compile. What is computed on the way are worked examples.
+// The public surface of the library, named through `jxl_modular` alone: each type, function, variant and field of it.
+// One that is missing, or has another type, does not compile. What is computed on the way are worked examples.
 
 ghost use Rattle.std.specs.Prelude.{◌≡◌, Contains, None, true};
 ghost use Rattle.jxl_modular.specs.FlatTree.{ClustersStandIn};

@@ -1,4 +1,5 @@
--- What transforms do to a list of channels (ISO/IEC 18181-1, Modular: the channels after each transform, the default squeeze).
+-- What transforms do to a list of channels (ISO/IEC 18181-1, Modular: the channels after each transform, the default
+-- squeeze).
 use Rattle.std.specs.Prelude.{◌≡◌, ℕ, zero, suc, ◌+◌, ◌-◌, ◌/◌, List, [], ◌∷◌, ◌++◌, length, map, take, drop, slice_range, Bool, true, false, not, ◌&&◌, ◌||◌, nat_lt, nat_le, ◌==◌, if◌then◌else◌, ℤ, pos, negsuc, int_le, Result, Ok, Err}
 use Rattle.std.specs.List.{list_all}
 use Rattle.std.specs.Int.{div_ceil}
@@ -102,11 +103,13 @@ residual_channel horizontal c = half horizontal (squeezed_side horizontal c / 2)
 abbrev pub can_be_squeezed : Channel → Bool
 can_be_squeezed c = nat_lt 0 c.width && nat_lt 0 c.height && int_le c.hshift (pos 30) && int_le c.vshift (pos 30)
 
--- the range of a squeeze step is there, and where it begins among the meta channels it is squeezed in place and ends there
+-- the range of a squeeze step is there, and where it begins among the meta channels it is squeezed in place and ends
+-- there
 abbrev pub squeeze_range : SqueezeParams → ChannelList → Bool
 squeeze_range t l = has_range t.begin_c t.num_c l.channels && (not (nat_lt t.begin_c l.nb_meta) || t.in_place && nat_le (t.begin_c + t.num_c) l.nb_meta)
 
--- A squeeze step needs such a range, of channels that can be squeezed; what becomes of meta channels is a meta channel.
+-- A squeeze step needs such a range, of channels that can be squeezed; what becomes of meta channels is a meta
+-- channel.
 abbrev pub squeeze_step : SqueezeParams → ChannelList → Result ChannelList Fault
 squeeze_step t l =
     let cs : List Channel = range t.begin_c t.num_c l.channels in

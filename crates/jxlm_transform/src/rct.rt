@@ -142,9 +142,9 @@ fn finish_regions<S: Sample>(
 /// Undoes a colour transform of three regions, in memory that is lent (ISO/IEC 18181-1, Modular: reversible colour
 /// transforms).
 ///
-/// The type of the transform is 7 times `permutation` and `ty` more, with `ty` at most 6. The regions lie in the store, share no
-/// cell and have one size. Afterwards they hold the samples that this transform codes as what they held before; no other cell
-/// changed.
+/// The type of the transform is 7 times `permutation` and `ty` more, with `ty` at most 6. The regions lie in the
+/// store, share no cell and have one size. Afterwards they hold the samples that this transform codes as what they
+/// held before; no other cell changed.
 pub fn inverse_rct_within<S: Sample>(
     ty: u32,
     permutation: u32,
@@ -170,9 +170,9 @@ pub fn inverse_rct_within<S: Sample>(
 
 /// Undoes a colour transform of three regions (ISO/IEC 18181-1, Modular: reversible colour transforms).
 ///
-/// The type of the transform is 7 times `permutation` and `TYPE` more, with `TYPE` at most 6. The regions lie in the store, share
-/// no cell and have one size. Afterwards they hold the samples that this transform codes as what they held before; no other cell
-/// changed.
+/// The type of the transform is 7 times `permutation` and `TYPE` more, with `TYPE` at most 6. The regions lie in the
+/// store, share no cell and have one size. Afterwards they hold the samples that this transform codes as what they
+/// held before; no other cell changed.
 ///
 /// # Errors
 ///

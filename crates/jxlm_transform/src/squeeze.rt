@@ -13,8 +13,9 @@ use jxlm_base::grid::{AlignedGrid, MutableSubgrid, Region};
 use jxlm_base::sample::Sample;
 use std::alloc::Global;
 
-/// Undoes a horizontal squeeze step, in place: each row of the rectangle holds averages, then residuals, and afterwards the row
-/// that they were squeezed from. Nothing outside the rectangle changes; a rectangle with a side of 0 has nothing to undo.
+/// Undoes a horizontal squeeze step, in place: each row of the rectangle holds averages, then residuals, and
+/// afterwards the row that they were squeezed from. Nothing outside the rectangle changes; a rectangle with a side of
+/// 0 has nothing to undo.
 ///
 /// # Errors
 ///
@@ -30,8 +31,9 @@ pub fn inverse_h<S: Sample>(alloc: Global, subgrid: &mut MutableSubgrid<'_, S>) 
     Ok(())
 }
 
-/// Undoes a vertical squeeze step, in place: each column of the rectangle holds averages, then residuals, and afterwards the
-/// column that they were squeezed from. Nothing outside the rectangle changes; a rectangle with a side of 0 has nothing to undo.
+/// Undoes a vertical squeeze step, in place: each column of the rectangle holds averages, then residuals, and
+/// afterwards the column that they were squeezed from. Nothing outside the rectangle changes; a rectangle with a side
+/// of 0 has nothing to undo.
 ///
 /// # Errors
 ///

@@ -140,8 +140,8 @@ fn apply(
     }
 }
 
-// What transforms leave of a list, in words, or the error of one. Each is applied by `prepare_transform_info`, or by the call of
-// its own type.
+// What transforms leave of a list, in words, or the error of one. Each is applied by `prepare_transform_info`, or by
+// the call of its own type.
 fn outcome(alloc: Global, given: &str, transforms: &str, prepared: bool) -> Result<String, Fail> {
     let mut list = list(alloc, given)?;
     for text in transforms.split(';') {

@@ -1,4 +1,5 @@
-// A header of 64 KB that appends residuals again and again: each step costs what it appends, and not what the list has.
+// A header of 64 KB that appends residuals again and again: each step costs what it appends, and not what the list
+// has.
 
 use crate::valid::channels_of_one_size;
 use jxl_modular::Modular;
@@ -47,7 +48,8 @@ impl Bits {
 // How many channels are given.
 const GIVEN: usize = 9306;
 
-// How far above 1096 the first channel of a step is: each range of 19 channels is squeezed 60 times, across and down in turn.
+// How far above 1096 the first channel of a step is: each range of 19 channels is squeezed 60 times, across and down
+// in turn.
 fn first_channel(step: u32) -> u32 {
     (step / 60).wrapping_mul(19)
 }
@@ -94,8 +96,8 @@ fn outcome(alloc: Global, bytes: &[u8]) -> Result<(Option<Error>, u64), Fail> {
     Ok((modular.err(), bits.position()))
 }
 
-// 76 squeezes of 296 steps append 427424 channels, in a few hundredths of a second. A list that is made anew at each step takes
-// more than the minute that a test has.
+// 76 squeezes of 296 steps append 427424 channels, in a few hundredths of a second. A list that is made anew at each
+// step takes more than the minute that a test has.
 #[test]
 fn many_appended_steps(rt: HostRuntime) -> Result<(), Fail> {
     let bytes = header(rt.alloc(), 76)?;

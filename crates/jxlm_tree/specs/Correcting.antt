@@ -106,8 +106,8 @@ errors_from prediction subs sample = record {
   sub_errors = each (λ s. (unsigned_abs (s -ℤ sample *ℤ pos 8) + 3) / 8 % 2 ^ 32) subs;
 }
 
--- At (x, y), with the errors of the cells before: those at the left and two to the left in the row, the current row up to x, and the row
--- above.
+-- At (x, y), with the errors of the cells before: those at the left and two to the left in the row, the current row
+-- up to x, and the row above.
 pub record KeepsErrors (width x y : ℕ) (west west_west : Errors) (previous current errors : List Errors) : Type 0 where
   pub west_none : x ≡ 0 → west ≡ no_errors
   pub west_is : (before : ℕ) → x ≡ suc before → west ≡ errors_at errors width before y

@@ -17,7 +17,8 @@ use Rattle.jxlm_tree.specs.declared.state.PredictorState.{PredictorState}
 abbrev pub surroundings : Setting → List (Grid ℤ) → List ℤ → Surroundings
 surroundings s store samples = record { weights = s.weights; width = s.width; samples = samples; earlier = map (grid_of store) s.earlier }
 
--- properties 0 to 15 at (x, y) with these neighbours, where `change` is property 9 of the sample before and `error` property 15
+-- properties 0 to 15 at (x, y) with these neighbours, where `change` is property 9 of the sample before and `error`
+-- property 15
 abbrev pub own_list : ℕ → ℕ → Neighbours → ℤ → ℤ → List ℤ
 own_list x y a change error =
     pos 0

@@ -51,7 +51,8 @@ own_properties s =
     ∷ error_property s.weights s.samples s.width
     ∷ []
 
--- what an earlier channel leads to expect at (x, y): nothing at the start, above in column 0, left in row 0, else the clamped gradient
+-- what an earlier channel leads to expect at (x, y): nothing at the start, above in column 0, left in row 0, else the
+-- clamped gradient
 abbrev pub expected : List ℤ → ℕ → ℕ → ℕ → ℤ
 expected cells width zero zero = pos 0
 expected cells width zero (suc y) = at cells width 0 y

@@ -1,6 +1,7 @@
 //! The weighted (self-correcting) prediction in eighths of a sample, before and after its clamp.
 //!
-//! Reading an image never asks for these: a sample is predicted by `Predictor::predict`, which rounds the clamped prediction.
+//! Reading an image never asks for these: a sample is predicted by `Predictor::predict`, which rounds the clamped
+//! prediction.
 
 ghost use Rattle.jxlm_tree.specs.Holding.{IsCurrent, IsOfPlace};
 ghost use Rattle.jxlm_tree.specs.Predictions.{corrected, unclamped_correction};

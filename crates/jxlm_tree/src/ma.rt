@@ -69,14 +69,14 @@ impl<D: Decoder> MaConfig<D> {
     ///
     /// # Errors
     ///
-    /// That of the first check that fails. `Decoder`: a decoder's own error. `InvalidMaTree`: the tree would have no end, more
-    /// than 2^26 nodes, or a multiplier of 2^31 and more. `InvalidEnum`: a number that no predictor has.
-    /// `ProfileConformance`: more than `node_limit + 1` nodes or, once the decoder of the leaves is read, a depth above
-    /// `depth_limit`. The reader is then after the last token that was read; after an error of a decoder's `parse` its
-    /// position is that decoder's own matter.
+    /// That of the first check that fails. `Decoder`: a decoder's own error. `InvalidMaTree`: the tree would have no
+    /// end, more than 2^26 nodes, or a multiplier of 2^31 and more. `InvalidEnum`: a number that no predictor has.
+    /// `ProfileConformance`: more than `node_limit + 1` nodes or, once the decoder of the leaves is read, a depth
+    /// above `depth_limit`. The reader is then after the last token that was read; after an error of a decoder's
+    /// `parse` its position is that decoder's own matter.
     ///
-    /// Out of memory is `Buffer` where the tree itself needs it, which is only after the decoder of its nodes was read, and
-    /// `Decoder(OutOfMemory)` where a decoder does. No tree deeper than the limit is ever held.
+    /// Out of memory is `Buffer` where the tree itself needs it, which is only after the decoder of its nodes was
+    /// read, and `Decoder(OutOfMemory)` where a decoder does. No tree deeper than the limit is ever held.
     #[tactic(auto, unfolding(crate::specs::TreeReading::listing_at))]
     pub fn parse(alloc: Global, bits: &mut Bitstream<'_>, params: MaConfigParams) -> Result<Self>
         requires nodes { params.node_limit ≤ 2 ^ 26 }

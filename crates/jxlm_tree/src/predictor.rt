@@ -154,8 +154,8 @@ impl Default for WpHeader {
 }
 
 impl WpHeader {
-    /// Reads the weights at the reader's position: a flag and, where it is not set, seven numbers of 5 bits and four of 4 bits.
-    /// Where it is set, the weights are the default ones.
+    /// Reads the weights at the reader's position: a flag and, where it is not set, seven numbers of 5 bits and four
+    /// of 4 bits. Where it is set, the weights are the default ones.
     ///
     /// # Errors
     ///

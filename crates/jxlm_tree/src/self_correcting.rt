@@ -133,8 +133,8 @@ fn weight(w: u32, sum: u32) -> u32
     4 + ((w * reciprocal((sum >> shift) as usize + 1)) >> shift)
 }
 
-/// The sum of the errors of a sub-prediction at five neighbours, reduced to 32 bits. In the last column the error above
-/// right is what those above and to the left give together.
+/// The sum of the errors of a sub-prediction at five neighbours, reduced to 32 bits. In the last column the error
+/// above right is what those above and to the left give together.
 fn error_sum(nw: u32, ww: u32, n: u32, w: u32, ne: u32, last: bool) -> u32
     ensures { result ≡ (nw + ww + n + w + (if last then n + w else ne)) % 2 ^ 32 }
 {

@@ -117,8 +117,9 @@ impl<S> PredictorState<S> {
         Ok(state)
     }
 
-    /// A state that is at no channel yet, with memory for each channel up to the width `widest`, at most 2^30, with up to
-    /// `earlier` earlier ones, and with these weights: `restart`, `restart_alike` and `add_earlier` then allocate nothing.
+    /// A state that is at no channel yet, with memory for each channel up to the width `widest`, at most 2^30, with
+    /// up to `earlier` earlier ones, and with these weights: `restart`, `restart_alike` and `add_earlier` then
+    /// allocate nothing.
     ///
     /// The weights are those of a header that was read, or the default ones.
     ///

@@ -56,8 +56,8 @@ fn told(alloc: Global, header: &WpHeader) -> Result<String, Fail> {
 
 const DEFAULT: &str = "true 16 10 7 7 7 0 0 13 12 12 12";
 
-// Bytes, and what is read of them: weights or an error, and the reader's position. Default weights, listed ones, and those truncated in
-// the sixth number and in the flag.
+// Bytes, and what is read of them: weights or an error, and the reader's position. Default weights, listed ones, and
+// those truncated in the sixth number and in the flag.
 const HEADERS: &str = "01|true 16 10 7 7 7 0 0 13 12 12 12 @1
 7e108314f38709|false 31 1 2 3 4 5 6 15 7 8 9 @52
 7e108314|bitstream error: unexpected end of input @31
@@ -142,7 +142,8 @@ fn a_state_with_more_room(rt: HostRuntime) -> Result<(), Fail> {
     Ok(())
 }
 
-// After a channel of width 3 one of width 4, beside an earlier one whose first cell is -5: nothing of the first is left.
+// After a channel of width 3 one of width 4, beside an earlier one whose first cell is -5: nothing of the first is
+// left.
 #[test]
 fn another_channel(rt: HostRuntime) -> Result<(), Fail> {
     let header = WpHeader::default();

@@ -37,7 +37,8 @@ module _ {S D : Type 0} (d : Meaning D) (w : Width) (to_int : S → ℤ) (bytes 
   RefusesSamples before after (Buffer m) = StaysAsBefore before after
   RefusesSamples before after e = ⊥
 
--- What is made ready for the samples of an image: its decoder, its tree for each channel, and a state with room for them.
+-- What is made ready for the samples of an image: its decoder, its tree for each channel, and a state with room for
+-- them.
 pub record IsReadyFor {S D : Type 0} (image : Image S D) (stream : ℕ) (r : Ready S D) : Type 0 where
   pub decoder_is : r.decoder ≡ image.config.decoder
   pub flats_are : HasFlats image.config.tree stream (length image.channels) r.flats.items
