@@ -1,4 +1,4 @@
-//! Modular images of JPEG XL.
+//! Modular images of JPEG XL (ISO/IEC 18181-1).
 #![tactic(auto)]
 
 pub mod image;

@@ -123,8 +123,8 @@ impl<'a> Bitstream<'a> {
         }
     }
 
-    /// The next `n` bits, at most 32, as a number: `u(n)`. The first bit is the least significant. For
-    /// `n` = 0 the number is 0, also at the end.
+    /// The next `n` bits, at most 32, as a number: `u(n)` (ISO/IEC 18181-1, field types). The first bit is the least
+    /// significant. For `n` = 0 the number is 0, also at the end.
     ///
     /// `UnexpectedEof` if fewer than `n` bits are left: the reader is then unchanged.
     pub fn read_bits(&mut self, n: u32) -> Result<u32, BitstreamError>
@@ -144,7 +144,7 @@ impl<'a> Bitstream<'a> {
         Ok(value as u32)
     }
 
-    /// The next bit as a truth value: a `Bool`.
+    /// The next bit as a truth value: a `Bool` (ISO/IEC 18181-1, field types).
     ///
     /// `UnexpectedEof` at the end of the input: the reader is then unchanged.
     pub fn read_bool(&mut self) -> Result<bool, BitstreamError>
@@ -191,7 +191,8 @@ impl<'a> Bitstream<'a> {
         }
     }
 
-    /// A `U32` field: two bits, as a number, choose one of the four parts, and its value is read.
+    /// A `U32` field (ISO/IEC 18181-1, field types): two bits, as a number, choose one of the four parts, and its
+    /// value is read.
     ///
     /// `UnexpectedEof` if the two bits, or those of the chosen part, pass the end: the reader is then before the two
     /// bits, as before the call.

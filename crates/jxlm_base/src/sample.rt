@@ -36,7 +36,8 @@ pub trait Sealed: Copy + Default {
     fn wrapping_muladd_i32(self, mul: i32, add: i32) -> Self
         ensures { result ≡ Self.from_int (int_wrap Self.width (Self.to_int self *ℤ mul +ℤ add)) };
 
-    /// `n + w - nw`, clamped between the minimum and the maximum of `n` and `w`.
+    /// `n + w - nw`, clamped between the minimum and the maximum of `n` and `w` (ISO/IEC 18181-1, Modular:
+    /// predictors).
     fn grad_clamped(n: Self, w: Self, nw: Self) -> Self
         ensures { result ≡ Self.from_int (clamped_gradient (Self.to_int n) (Self.to_int w) (Self.to_int nw)) };
 

@@ -59,7 +59,8 @@ pub trait PlaceProperties {
         ensures { gives self.now number result };
 }
 
-/// A tree, with what the samples of one channel of one stream need to walk it.
+/// A tree, with what the samples of one channel of one stream need to walk it (ISO/IEC 18181-1, Modular:
+/// meta-adaptive trees).
 ///
 /// It shares the tree's nodes. Contracts see it as the tree, the channel's index in its part, the
 /// stream's index, and the number of earlier channels.
