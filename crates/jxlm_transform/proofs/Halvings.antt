@@ -27,7 +27,7 @@ fuel (suc n) (suc k) side h i =
     (λ above. let lt = smaller side above in fuel n k (div_ceil side 2) (omega arith) (omega arith))
 
 -- a side above 8 is halved once more often than its half
-more : (side : ℕ) → nat_lt 8 side ≡ true → halvings side ≡ suc (halvings (div_ceil side 2))
+pub more : (side : ℕ) → nat_lt 8 side ≡ true → halvings side ≡ suc (halvings (div_ceil side 2))
 more zero t = cc
 more (suc k) t =
     let lt = smaller (suc k) (ltb-true 8 (suc k) t) in
@@ -35,7 +35,7 @@ more (suc k) t =
     rw (t, one, fuel k (div_ceil (suc k) 2) (div_ceil (suc k) 2) (omega arith) (omega arith)) refl
 
 -- one that is at most 8 is not halved
-none : (side : ℕ) → nat_lt 8 side ≡ false → halvings side ≡ 0
+pub none : (side : ℕ) → nat_lt 8 side ≡ false → halvings side ≡ 0
 none zero t = refl
 none (suc k) t = rw t refl
 

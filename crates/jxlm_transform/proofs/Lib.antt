@@ -15,6 +15,7 @@ pub mod Refusals
 pub mod RepeatedLoop
 pub mod ShiftBounds
 pub mod SideBounds
+pub mod SmallSides
 pub mod SqueezedRegions
 mod TransformExamples
 pub mod TransformLaws

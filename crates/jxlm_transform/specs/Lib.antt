@@ -1,4 +1,5 @@
 pub mod ChannelSteps
+pub mod DefaultSqueeze
 pub mod ColourRows
 pub mod Channels
 pub mod Palette

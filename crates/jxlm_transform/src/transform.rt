@@ -5,6 +5,7 @@ ghost use Rattle.std.specs.List.{All};
 ghost use Rattle.jxlm_base.specs.Bits.{bytes_of, position_of};
 ghost use Rattle.jxlm_base.specs.Grammar.{FitsU32, IsExact, Reads, number, repeated, u32 as the_u32};
 ghost use Rattle.jxlm_tree.specs.WeightsHeader.{AnswersExactly};
+ghost use Rattle.jxlm_transform.specs.DefaultSqueeze.{LeavesSmallSides, TakesFewestSteps};
 ghost use Rattle.jxlm_transform.specs.Transforms.{OfPalette, transform_of, begin_channel as the_begin_channel, rct, predictor, weights_for, palette, squeeze_params, squeeze, transform, least_of, greatest_of, IsRct, IsPalette, IsSqueezeParams, IsSqueeze, IsTransform, HasChannels, KeepsWeights, IsPaletteTransform, IsSqueezeTransform, Parses};
 
 mod default_squeeze;
@@ -323,4 +324,11 @@ pub fn transforms_are_read_exactly()
     ensures palette { (weights : WpHeader) → IsExact (palette weights) }
     ensures squeeze { IsExact squeeze }
     ensures all { (weights : WpHeader) → IsExact (transform weights) }
+{}
+
+/// The default squeeze halves the first of its channels until no side of it is above 8, and no more
+/// often.
+pub fn default_squeeze_halves_to_eight()
+    ensures steps { TakesFewestSteps }
+    ensures sides { LeavesSmallSides }
 {}

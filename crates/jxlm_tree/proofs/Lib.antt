@@ -13,4 +13,5 @@ pub mod Reading
 pub mod Rolling
 pub mod Shapes
 pub mod StandingLaws
+pub mod TreeStanding
 pub mod WeightsLaws

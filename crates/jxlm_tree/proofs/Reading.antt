@@ -17,10 +17,10 @@ bind_ok : {A B : Type 0} (r : Result A Refused) (f : A → Result B Refused) (y 
 bind_ok (Ok x) f y h = (x, refl, h)
 bind_ok (Err e) f y h = cc
 
-same : {A : Type 0} (x y : A) (r : Result A Refused) → r ≡ Ok x → r ≡ Ok y → y ≡ x
+pub same : {A : Type 0} (x y : A) (r : Result A Refused) → r ≡ Ok x → r ≡ Ok y → y ≡ x
 same x y r h k = cc
 
-passed : {A : Type 0} (b : Bool) (e : Refused) (r : Result A Refused) (x : A) → cond b (Err e) r ≡ Ok x → r ≡ Ok x
+pub passed : {A : Type 0} (b : Bool) (e : Refused) (r : Result A Refused) (x : A) → cond b (Err e) r ≡ Ok x → r ≡ Ok x
 passed true e r x h = cc
 passed false e r x h = h
 

@@ -13,5 +13,6 @@ pub mod Standing
 pub mod Tree
 pub mod TreeCode
 pub mod TreeReading
+pub mod TreeStands
 pub mod WeightsHeader
 pub mod Inner

@@ -9,6 +9,7 @@ ghost use Rattle.jxlm_tree.specs.Inner.DraftReading.{ListsTrees, node_of};
 ghost use Rattle.jxlm_tree.specs.FlatTree.{ClustersStandIn};
 ghost use Rattle.jxlm_tree.specs.Tree.{AllLeaves, Shape, levels, node_count, depth};
 ghost use Rattle.jxlm_tree.specs.TreeReading.{IsLeafOf, IsWantOfMemory, Listing, MemoryGives, TreeGives, leaf_count, listing_at, through};
+ghost use Rattle.jxlm_tree.specs.TreeStands.{OneTreeStands, TreesAreReadExactly};
 ghost use Rattle.jxlm_tree.specs.declared.flat.Leaf.{Leaf};
 
 use crate::build::build;
@@ -208,4 +209,11 @@ pub fn each_listing_is_of_a_tree<D: Decoder>()
 /// No two trees have one listing.
 pub fn no_two_trees_share_a_listing()
     ensures { (t u : Shape Leaf) → levels t ≡ levels u → t ≡ u }
+{}
+
+/// A tree that is read stands in the bits token after token, a tree that stands there is read, and no two trees stand at one
+/// bit position.
+pub fn each_tree_is_read_exactly<D: Decoder>()
+    ensures exactly { TreesAreReadExactly D.meaning }
+    ensures one { OneTreeStands D.meaning }
 {}

@@ -6,7 +6,9 @@ use jxlm_base::bits::Bitstream;
 use jxlm_base::decoder::Decoder;
 use jxlm_base::plain::PlainDecoder;
 use jxlm_tree::flat::{Steps, a_flat_tree_walks_by_properties};
-use jxlm_tree::ma::{each_listing_is_of_a_tree, no_two_trees_share_a_listing};
+use jxlm_tree::ma::{
+    each_listing_is_of_a_tree, each_tree_is_read_exactly, no_two_trees_share_a_listing,
+};
 use std::test::Fail;
 
 // Leaves: of two streams; West of cluster 1, then truncated in its predictor, in its offset and at the start; with the multipliers 2^30
@@ -151,4 +153,5 @@ fn laws() {
     a_flat_tree_walks_by_properties();
     each_listing_is_of_a_tree::<PlainDecoder>();
     no_two_trees_share_a_listing();
+    each_tree_is_read_exactly::<PlainDecoder>();
 }
