@@ -47,7 +47,7 @@ one_leaf l decoder = config_of (leaf l) decoder
 abbrev three_bits : Mode → PlainState
 three_bits mode = record { mode = mode; codes = Fixed 3 ∷ []; clusters = 0 ∷ [] }
 
--- Four samples by the clamped gradient. The tokens are numbers of three bits, 2, 4, 1 and 0, from place 68 on.
+-- Four samples by the clamped gradient. The tokens are numbers of three bits, 2, 4, 1 and 0, from bit 68 on.
 abbrev row_bytes : List ℕ
 row_bytes = 0x42 ∷ 0x00 ∷ 0x04 ∷ 0x00 ∷ 0x04 ∷ 0x0E ∷ 0x05 ∷ 0xC0 ∷ 0x20 ∷ 0x06 ∷ []
 
@@ -88,7 +88,7 @@ row_samples = record {
   accepts = refl;
 }
 
--- Without its last byte the read of the second sample is refused: one is decoded, and the reader stands behind it.
+-- Without its last byte the read of the second sample is an error: one is decoded, and the reader is after it.
 abbrev cut_bytes : List ℕ
 cut_bytes = 0x42 ∷ 0x00 ∷ 0x04 ∷ 0x00 ∷ 0x04 ∷ 0x0E ∷ 0x05 ∷ 0xC0 ∷ 0x20 ∷ []
 
@@ -112,7 +112,7 @@ cut_samples = record {
 cut_answers : DecodeAnswers plain w32 (part_of gradient) cut_bytes (three_bits Unsealed) (standing 68 (pos 0 ∷ pos 0 ∷ pos 0 ∷ pos 0 ∷ []) true) (standing 71 (pos 1 ∷ pos 0 ∷ pos 0 ∷ pos 0 ∷ []) true) false (Err (Decoder UnexpectedEof)) 2
 cut_answers = (refl, (omega arith, inr (inl cut_samples)))
 
--- The same samples behind their sum, which is 7, and behind 8: there all four are coded, and the end is refused.
+-- The same samples after their sum, which is 7, and after 8: there all four are coded, and the end is an error.
 abbrev sealed_bytes : ℕ → List ℕ
 sealed_bytes seal = 0x42 ∷ 0x00 ∷ 0x04 ∷ 0x00 ∷ 0x04 ∷ 0x0E ∷ 0x15 ∷ 0xC0 ∷ seal ∷ 0x20 ∷ 0x06 ∷ []
 
@@ -149,7 +149,7 @@ wrongly_sealed_samples = record {
 wrongly_sealed_answers : DecodeAnswers plain w32 (part_of gradient) (sealed_bytes 0x80) (sealed 0) (standing 68 (pos 0 ∷ pos 0 ∷ pos 0 ∷ pos 0 ∷ []) true) (standing 88 (pos 1 ∷ pos 3 ∷ pos 0 ∷ pos 2 ∷ []) true) false (Err (Decoder (Invalid 4))) 4
 wrongly_sealed_answers = (omega arith, inr (inr wrongly_sealed_samples))
 
--- The constant token 3, doubled, and 5 more: no bit is read behind the tree, which ends at place 79.
+-- The constant token 3, doubled, and 5 more: no bit is read after the tree, which ends at bit 79.
 abbrev constant_bytes : List ℕ
 constant_bytes = 0x82 ∷ 0x00 ∷ 0x40 ∷ 0x80 ∷ 0x04 ∷ 0x12 ∷ 0x3A ∷ 0x08 ∷ 0x40 ∷ 0x61 ∷ []
 
@@ -194,7 +194,7 @@ run_samples = record {
   accepts = refl;
 }
 
--- A picture stands at the start of those bytes: header, tree and samples, up to place 80, whatever the bit depth.
+-- A picture stands at the start of those bytes: header, tree and samples, up to bit 80, whatever the bit depth.
 row_picture : (bit_depth : ℕ) → IsPicture plain w32 row_bytes 0 (image_list square) 0 bit_depth row_grids 80
 row_picture bit_depth = record {
   head = record { weights = default_weights; coded = as_given };

@@ -1,4 +1,5 @@
--- Decoding all samples of an image that was read, and undoing its transforms: what comes of it, from what comes of the two.
+-- Decoding all samples of an image that was read, and undoing its transforms: what comes of it, from what comes of
+-- the two.
 use Rattle.std.proofs.Common.{◌≡◌, ℕ, ◌+◌, ◌*◌, ◌<◌, ◌≤◌, List, map, Ok, Err, inl, inr, true, refl, subst, arith, ◌∙◌, ℤ}
 use Rattle.std.proofs.Math.Nat.{mul-le-mul_right}
 use Rattle.std.specs.Int.{Width}

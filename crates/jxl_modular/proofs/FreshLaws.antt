@@ -42,7 +42,7 @@ zeros_further zero cs i d h =
     ∙ ap (zeros zero) (map-append (λ (c : Full). record { width = c.width; height = c.height }) (map seen (take i cs)) (seen (get_or cs i d) ∷ []))
     ∙ map-append (λ (s : Sides). filled s.width s.height zero) (sides_of (map seen (take i cs))) _
 
--- the tables of steps behind others
+-- the tables of steps after others
 tables_both : (ss us : List Step) → tables_of (ss ++ us) ≡ tables_of ss ++ tables_of us
 tables_both [] us = refl
 tables_both (RctStep t ∷ ss) us = tables_both ss us

@@ -1,4 +1,5 @@
--- What an image that is laid out keeps: its coded channels lie in the store, apart, and of their sizes; so they do where only cells change.
+-- What an image that is laid out keeps: its coded channels lie in the store, apart, and of their sizes; so they do
+-- where only cells change.
 use Rattle.std.proofs.Common.{◌≡◌, List, length, map, refl, sym, ap, ◌∙◌, subst, ℤ}
 use Rattle.std.specs.Prelude.{take}
 use Rattle.std.specs.Int.{Width}
@@ -91,7 +92,7 @@ same_but_store x s shape = record {
   shape = shape;
 }
 
--- Where all steps of an image were undone, its channels are the only ones that become the coded grids as they stood.
+-- Where all steps of an image were undone, its channels are the only ones that become the coded grids as they were.
 pub only_image : {S D : Type 0} (to_int : S → ℤ) (w : Width) (x y : Image S D) → IsLaidOut x → IsLaidOut y → SameButCells x y →
     UndoesAll to_int w x.bit_depth (undo_of_all x.steps (first_layout (given_list x).channels)) x.store y.store → IsOnlyImage w y (image_grids to_int y) (coded_grids to_int x)
 only_image to_int w x y laid laid_y same undone =

@@ -23,7 +23,7 @@ same_sizes [] (r ∷ rs) h = absurd h
 same_sizes (c ∷ cs) [] h = absurd h
 same_sizes (c ∷ cs) (r ∷ rs) h = (h.0.0, h.0.1, same_sizes cs rs h.1)
 
--- what stands in them fits the channels
+-- what is in them fits the channels
 pub grids_fit : (cs : List Channel) (rs : List Region) (store : List (Grid ℤ)) → SameSizes cs rs → Fits cs (grids_in rs store)
 grids_fit [] [] store h = tt
 grids_fit [] (r ∷ rs) store h = absurd h
@@ -44,7 +44,7 @@ given_sizes [] more store h = tt
 given_sizes (c ∷ cs) more [] h = absurd h
 given_sizes (c ∷ cs) more (g ∷ gs) h = ((h.0.same_width, h.0.same_height), given_sizes cs more gs h.1)
 
--- grids of channels that have a buffer each, from one place of a store on
+-- grids of channels that have a buffer each, from one buffer of a store on
 grids_from : (cs : List Full) (more : List Sides) (front store : List (Grid ℤ)) → HasBuffers (sides_of cs ++ more) store → grids_in (whole_regions (length front) cs) (front ++ store) ≡ take (length cs) store
 grids_from [] more front store h = refl
 grids_from (c ∷ cs) more front [] h = absurd h

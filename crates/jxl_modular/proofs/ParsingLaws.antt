@@ -1,4 +1,4 @@
--- What reading an image answers, from what its steps answer.
+-- What reading an image returns, from what its steps return.
 use Rattle.std.proofs.Common.{◌≡◌, ℕ, zero, suc, false, ◌+◌, ◌*◌, ◌^◌, ◌<◌, min, List, [], ◌∷◌, length, map, sum_by, Ok, Err, inr, refl, sym, ap, ◌∙◌, arith}
 use Rattle.std.specs.Prelude.{◌⊎◌, ◌==◌, Some}
 use Rattle.std.proofs.lemmas.List.Sums.{sum_by-cons}
@@ -50,7 +50,7 @@ module _ {S D : Type 0} (d : Meaning D) (zero : S) (bytes : List ℕ) (p : ℕ) 
       cells = refl;
     })
 
-    -- where a tree is refused, so is the image
+    -- where a tree gives an error, so does the image
     pub tree_refused : (e : Error) (q : ℕ) → TreeGives d bytes limit depth_limit m (Err e) q →
         UnlessMemory (fault_of e) (IsRefused (opened bytes given p) (fault_of e) q ⊎ IsTreeRefused d bytes given p (fault_of e) q)
     tree_refused e q gives =

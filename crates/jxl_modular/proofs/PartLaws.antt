@@ -91,7 +91,7 @@ module _ {S D : Type 0} (d : Meaning D) (w : Width) (to_int : S → ℤ) (bytes 
     refuses_samples (Invalid k) ne some = fails_samples (Invalid k) some
     refuses_samples OutOfMemory ne some = absurd (ne refl)
 
--- what refuses the samples of an image refuses those of the same
+-- an error in the samples of an image is one in those of the same
 pub refuses_so : {S D : Type 0} (d : Meaning D) (w : Width) (to_int : S → ℤ) (bytes : List ℕ) (stream : ℕ) (x old new : Image S D) (p q before after : ℕ) (e : Error) → x ≡ old →
     RefusesSamples d w to_int bytes stream x p new q before after e → RefusesSamples d w to_int bytes stream old p new q before after e
 refuses_so d w to_int bytes stream x old new p q before after e same h = subst (λ im. RefusesSamples d w to_int bytes stream im p new q before after e) same h
@@ -101,7 +101,7 @@ memory_of_bits bit_errors.UnexpectedEof h = h
 memory_of_bits (bit_errors.InvalidEnum name value) h = h
 memory_of_bits (bit_errors.ProfileConformance text) h = h
 
--- where there was no memory, all is as before
+-- where it is out of memory, all is as before
 pub refuses_memory : {S D : Type 0} (d : Meaning D) (w : Width) (to_int : S → ℤ) (bytes : List ℕ) (stream : ℕ) (old : Image S D) (p before : ℕ) (e : Error) → IsWantOfMemory (fault_of e) →
     RefusesSamples d w to_int bytes stream old p old p before before e
 refuses_memory d w to_int bytes stream old p before (Decoder UnexpectedEof) h = absurd h
@@ -115,7 +115,7 @@ refuses_memory d w to_int bytes stream old p before InvalidPaletteParams h = abs
 refuses_memory d w to_int bytes stream old p before InvalidSqueezeParams h = absurd h
 refuses_memory d w to_int bytes stream old p before (Bitstream b) h = absurd (memory_of_bits b h)
 
--- ---- what decoding a part answers
+-- ---- what decoding a part returns
 
 pub some_of : (n : ℕ) (P Q : Type 0) → 0 < n → P → IfSome n P Q
 some_of zero P Q h p = absurd (omega arith)
@@ -129,7 +129,7 @@ abbrev pub stands : {S D : Type 0} → (S → ℤ) → Image S D → ℕ → Boo
 stands to_int x p partial = record { position = p; grids = coded_grids to_int x; partial = partial }
 
 module _ {S D : Type 0} (d : Meaning D) (w : Width) (to_int : S → ℤ) (bytes : List ℕ) (old : Image S D) (p : ℕ) (partial : Bool) (stream : ℕ) where
-  -- what is answered, and how many steps were taken
+  -- what is returned, and how many steps were taken
   abbrev Answers : Bool → Image S D → ℕ → Bool → Result (Unit {0}) Error → ℕ → ℕ → Type 0
   Answers allow new q still result before after =
       (tried : ℕ) × DecodeAnswers d w (whole_part old stream) bytes old.config.decoder (stands to_int old p partial) (stands to_int new q still) allow result tried × MovesWithin before after (tried * image_cost old)
@@ -161,7 +161,7 @@ module _ {S D : Type 0} (d : Meaning D) (w : Width) (to_int : S → ℤ) (bytes 
     (omega arith, omega arith),
   )
 
-  -- the decoder refuses, or there is no memory
+  -- the decoder returns an error, or it is out of memory
   pub answers_fault : (allow : Bool) (e : Error) (new : Image S D) (q before after : ℕ) → allow ≡ false → 0 < samples_in old → before ≤ after → RefusesSamples d w to_int bytes stream old p new q before after e →
       Answers allow new q partial (Err e) before after
   answers_fault allow (Decoder UnexpectedEof) new q before after denied cells more fails = let f = fails partial cells in (f.0, (denied, f.1), (more, f.2))

@@ -35,7 +35,7 @@ module _ {S D : Type 0} (to_int : S → ℤ) (w : Width) {x : Image S D} (laid :
   pub laid_after : IsLaidOut (record x { store = after })
   laid_after = still_laid x (record x { store = after }) laid same
 
-  -- its channels are the only ones that become the coded grids as they stood
+  -- its channels are the only ones that become the coded grids as they were
   pub only : IsOnlyImage w (record x { store = after }) (image_grids to_int (record x { store = after })) (coded_grids to_int x)
   only =
       only_image to_int w x (record x { store = after }) laid laid_after same

@@ -13,7 +13,7 @@ use Rattle.jxlm_header.specs.Opening.{Opening}
 abbrev pub zeros : {S : Type 0} → S → List Sides → List (Grid S)
 zeros zero sides = map (λ s. filled s.width s.height zero) sides
 
--- the tables that one transform wants
+-- the tables that one transform needs
 abbrev pub tables_for : Transform → List Sides
 tables_for (OfRct t) = []
 tables_for (OfPalette t) = record { width = t.nb_colours; height = t.num_c } ∷ []

@@ -20,9 +20,9 @@ use Rattle.jxlm_part.specs.Layout.{channels_of}
 use Rattle.jxlm_part.specs.Part.{Part, IsNarrow, cell_count}
 use Rattle.jxlm_part.specs.Progress.{grids_in}
 
--- the weights of its header, the steps of its transforms, its tree with the decoder of the leaves, the side of its groups, the bit depth
--- of its samples, its own channels, its coded channels, the first nb_meta of which hold tables and what became of them, its buffers, and
--- the regions of the coded channels in them
+-- the weights of its header, the steps of its transforms, its tree with the decoder of the leaves, the side of its
+-- groups, the bit depth of its samples, its own channels, its coded channels, the first nb_meta of which hold tables
+-- and what became of them, its buffers, and the regions of the coded channels in them
 pub record Image (S D : Type 0) : Type 0 where
   pub weights : WpHeader
   pub steps : List Step
@@ -66,8 +66,8 @@ module _ {S D : Type 0} where
   abbrev pub list_coded : Image S D → ChannelList
   list_coded x = record { channels = map channel_of x.channels; nb_meta = x.nb_meta }
 
-  -- The coded channels, which are narrow and at most 65536, are those that the steps leave, and lie where these put them; the buffers are
-  -- those of the image's own channels, and then those of the tables.
+  -- The coded channels, which are narrow and at most 65536, are those that the steps leave, and lie where these put
+  -- them; the buffers are those of the image's own channels, and then those of the tables.
   pub record IsLaidOut (x : Image S D) : Type 0 where
     pub list : list_after_all x.steps (given_list x) ≡ Ok (list_coded x)
     pub regions : x.coded ≡ (layout_after_all x.steps (first_layout (given_list x).channels)).regions

@@ -18,18 +18,20 @@ use Rattle.jxl_modular.specs.declared.root.Modular.{Modular}
 abbrev pub image_of : {S D : Type 0} → Modular S D → Option (Image S D)
 image_of m = m.inner
 
--- the header at bit position p, and what it comes to for the given channels; no global tree is handed in
+-- the header at bit position p, and what it comes to for the given channels; no global tree is given
 abbrev pub opened : List ℕ → ChannelList → ℕ → Result (Found Opening) Refused
 opened bytes given p = (opening false given).read bytes p
 
 module _ {D : Type 0} (d : Meaning D) (bytes : List ℕ) (given : ChannelList) (p : ℕ) where
-  -- At bit position p, up to q, stand a header, which comes to this head for the given channels, and after it this MA tree with its decoder.
+  -- At bit position p, up to q, stand a header, which comes to this head for the given channels, and after it this MA
+  -- tree with its decoder.
   pub record IsStartAt (head : Opening) (config : Config D) (q : ℕ) : Type 0 where
     pub tree_at : ℕ
     pub header : opened bytes given p ≡ Ok (record { value = head; position = tree_at })
     pub tree : IsTreeAt d bytes (node_limit head.coded.list.channels) depth_limit tree_at config q
 
-  -- At bit position p stands a header, and reading the MA tree after it returns this error, and the reader is at q then.
+  -- At bit position p stands a header, and reading the MA tree after it returns this error, and the reader is at q
+  -- then.
   pub record IsTreeRefused (fault : Fault) (q : ℕ) : Type 0 where
     pub head : Opening
     pub tree_at : ℕ
@@ -37,14 +39,15 @@ module _ {D : Type 0} (d : Meaning D) (bytes : List ℕ) (given : ChannelList) (
     pub tree : IsRefused (listing_at d bytes (node_limit head.coded.list.channels) tree_at) fault q ⊎ IsTooDeep d bytes (node_limit head.coded.list.channels) depth_limit tree_at fault q
 
 module _ {S D : Type 0} (d : Meaning D) (zero : S) (bytes : List ℕ) (p : ℕ) (params : ModularParams D) where
-  -- an image stands at place p up to place q: its header and its tree; its cells are 0
+  -- an image stands at position p up to position q: its header and its tree; its cells are 0
   pub record IsImageAt (image : Image S D) (q : ℕ) : Type 0 where
     pub head : Opening
     pub start : IsStartAt d bytes (image_list params.channels.items) p head image.config q
     pub cells : image ≡ fresh zero (image_list params.channels.items) head image.config params.group_dim params.bit_depth
 
-  -- What reading an image of these channels gives, and where it leaves the reader. With no channels no bit is read, and there is no image.
-  -- Else there is the image that stands there, or the error of the first check that fails; it may be out of memory at any time.
+  -- What reading an image of these channels gives, and where it leaves the reader. With no channels no bit is read,
+  -- and there is no image. Else there is the image that stands there, or the error of the first check that fails; it
+  -- may be out of memory at any time.
   abbrev pub ParseGives : List ModularChannelParams → Result (Modular S D) Error → ℕ → Type 0
   ParseGives [] (Ok m) q = (image_of m ≡ None) × (q ≡ p)
   ParseGives [] (Err e) q = ⊥

@@ -21,6 +21,6 @@ module _ {S D : Type 0} where
   abbrev pub steps_of : TransformedModularSubimage S D → ℕ
   steps_of part = part.steps
 
-  -- what decoding changes, with the reader's place
+  -- what decoding changes, with the reader's position
   abbrev pub standing : (S → ℤ) → TransformedModularSubimage S D → ℕ → Standing
   standing to_int part p = record { position = p; grids = coded_grids to_int (image_of part); partial = is_partial part }

@@ -1,4 +1,5 @@
--- A picture of one part, told by its bits and by grids of numbers alone (ISO/IEC 18181-1, Modular: header, MA tree, samples, inverse transforms).
+-- A picture of one part, described by its bits and by grids of numbers alone (ISO/IEC 18181-1, Modular: header, MA
+-- tree, samples, inverse transforms).
 use Rattle.std.specs.Prelude.{◌≡◌, ℕ, ◌+◌, ◌*◌, ◌⊎◌, ℤ, pos, List, map, sum_by, true}
 use Rattle.std.specs.Int.{Width}
 use Rattle.jxlm_base.specs.Decoding.{Meaning}
@@ -34,8 +35,9 @@ abbrev pub StepsFor : Shape Leaf → ℕ → ℕ → ℕ → Type 0
 StepsFor tree n before after = MovesWithin before after (n * (depth tree + 1))
 
 module _ {D : Type 0} (d : Meaning D) (w : Width) (bytes : List ℕ) (stream : ℕ) (given : ChannelList) (p : ℕ) where
-  -- At bit position p, up to q, stands a picture of the given channels: its header and MA tree, and then the samples of the coded channels.
-  -- Its grids are the only ones that the header's transforms turn into these samples (Modular: inverse transforms).
+  -- At bit position p, up to q, stands a picture of the given channels: its header and MA tree, and then the samples
+  -- of the coded channels. Its grids are the only ones that the header's transforms turn into these samples (Modular:
+  -- inverse transforms).
   pub record IsPicture (bit_depth : ℕ) (grids : List (Grid ℤ)) (q : ℕ) : Type 0 where
     pub head : Opening
     pub config : Config D
@@ -50,8 +52,9 @@ module _ {D : Type 0} (d : Meaning D) (w : Width) (bytes : List ℕ) (stream : �
     pub picture : IsPicture bit_depth grids q
     pub steps : StepsFor picture.config.tree (sum_by area picture.head.coded.list.channels) before after
 
-  -- Header and MA tree stand at bit position p. Decoding the samples of the coded channels, which are zeros before, returns this error, and
-  -- the reader is at q then; the count of steps went on by no more than the samples whose read was tried allow.
+  -- Header and MA tree stand at bit position p. Decoding the samples of the coded channels, which are zeros before,
+  -- returns this error, and the reader is at q then; the count of steps went on by no more than the samples whose
+  -- read was tried allow.
   pub record SamplesFail (fault : Fault) (q before after : ℕ) : Type 0 where
     pub head : Opening
     pub config : Config D
@@ -66,12 +69,14 @@ module _ {D : Type 0} (d : Meaning D) (w : Width) (bytes : List ℕ) (stream : �
     pub error_is : fault ≡ OfDecoder error
     pub steps : StepsFor config.tree tried before after
 
-  -- There is no picture, by the first error: of the header, of the tree, or of the samples. It may be out of memory at any time.
+  -- There is no picture, by the first error: of the header, of the tree, or of the samples. It may be out of memory
+  -- at any time.
   abbrev pub PictureFails : Fault → ℕ → ℕ → ℕ → Type 0
   PictureFails fault q before after =
       UnlessMemory fault (((IsRefused (opened bytes given p) fault q ⊎ IsTreeRefused d bytes given p fault q) × (after ≡ before)) ⊎ SamplesFail fault q before after)
 
--- Also where it was out of memory: no step was taken, or header and tree stand there, and the steps are within those for all coded samples.
+-- Also where it was out of memory: no step was taken, or header and tree stand there, and the steps are within those
+-- for all coded samples.
 abbrev pub StepsWithin : {D : Type 0} → Meaning D → List ℕ → ChannelList → ℕ → ℕ → ℕ → Type 0
 StepsWithin {D} d bytes given p before after =
     (after ≡ before) ⊎ ((head : Opening) × (config : Config D) × (q : ℕ) × IsStartAt d bytes given p head config q × StepsFor config.tree (sum_by area head.coded.list.channels) before after)

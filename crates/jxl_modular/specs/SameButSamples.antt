@@ -5,7 +5,8 @@ use Rattle.jxl_modular.specs.Image.{Image}
 use Rattle.jxlm_part.specs.Progress.{KeepsOutside}
 
 module _ {S D : Type 0} where
-  -- Only cells of the buffers may differ: weights, steps, tree, channels and regions are as before, and so are the buffers' sizes.
+  -- Only cells of the buffers may differ: weights, steps, tree, channels and regions are as before, and so are the
+  -- buffers' sizes.
   pub record SameButCells (old new : Image S D) : Type 0 where
     pub weights : new.weights ≡ old.weights
     pub steps : new.steps ≡ old.steps

@@ -1,4 +1,4 @@
-//! Laws of what stands before an image's tree, and of coded samples.
+//! Laws of what comes before an image's tree, and of coded samples.
 
 pub use jxlm_header::laws::each_opening_is_read_exactly;
 pub use jxlm_part::laws::{

@@ -1,4 +1,4 @@
-//! Modular images of JPEG XL.
+//! Modular images of JPEG XL (ISO/IEC 18181-1).
 #![tactic(auto)]
 
 pub mod image;
@@ -46,14 +46,14 @@ pub mod plain {
     pub use jxlm_base::plain::PlainDecoder;
 }
 
-/// Predictors, and the properties of a place in a channel.
+/// Predictors, and the properties of a cell of a channel.
 pub mod predictor {
     pub use jxlm_tree::predictor::{
         PredictionResult, Predictor, PredictorState, Properties, WpHeader,
     };
 }
 
-/// Colour transforms undone.
+/// Colour transforms, inverse-transformed.
 pub mod rct {
     pub use jxlm_transform::rct::inverse_rct;
 }
@@ -63,7 +63,7 @@ pub mod sample {
     pub use jxlm_base::sample::{Sample, Sealed};
 }
 
-/// Squeeze steps undone.
+/// Squeeze steps, inverse-transformed.
 pub mod squeeze {
     pub use jxlm_transform::squeeze::{inverse_h, inverse_v};
 }

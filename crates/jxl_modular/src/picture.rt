@@ -45,17 +45,19 @@ fn fill<S: Sample, D: Decoder>(
     image.undo_transforms(alloc)
 }
 
-/// Reads a picture whose samples stand in one part: its header, its tree, and all its samples, and undoes its
-/// transforms.
+/// Reads a picture whose samples are in one part: its header, its tree, and all its samples, and undoes its transforms
+/// (ISO/IEC 18181-1, Modular: header, MA tree, samples, inverse transforms).
 ///
-/// With no channels no bit is read, and there is no picture. The parameters are valid, and no global tree is handed in.
-///
-/// It returns the picture at the reader's position, or the first error: of the header and the tree, as by
-/// [`Modular::parse`], or of the samples, as by
-/// [`decode`](crate::image::TransformedModularSubimage::decode). After an error the reader stands where the call that
-/// failed found it. It may be out of memory at any time.
+/// With no channels no bit is read, and there is no picture. The parameters are valid, and no global tree is given. It
+/// returns the picture at the reader's position, and the reader is after it then.
 ///
 /// For each sample whose read is tried, `steps` goes on by at most the tree's depth and one more.
+///
+/// # Errors
+///
+/// The first error: of the header and the tree, as by [`Modular::parse`], or of the samples, as by
+/// [`decode`](crate::image::TransformedModularSubimage::decode). The reader is then where that call leaves it. It may
+/// be out of memory at any time.
 pub fn decode_picture<S: Sample, D: Decoder>(
     alloc: Global,
     bits: &mut Bitstream<'_>,

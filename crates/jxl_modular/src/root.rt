@@ -35,29 +35,31 @@ impl<S: Sample, D: Decoder> Modular<S, D> {
         Modular { inner: None }
     }
 
-    /// Reads the image at the reader's position: its header and its tree. Its samples are 0 until they are decoded.
+    /// Reads the image at the reader's position: its header and its tree (ISO/IEC 18181-1, Modular: Modular header,
+    /// MA tree). Its samples are 0 until they are decoded.
     ///
     /// With no channels no bit is read, and there is no image. The parameters must be valid
     /// ([`is_valid`](ModularParams::is_valid)), without a global tree.
     ///
     /// # Memory
     ///
-    /// All grids of the image are made here, before the first token of a sample is read: the given channels, and for each
-    /// palette of the header a table with one row for each channel that it stands for, of at most 70911 samples. So nine
-    /// bytes can take 4 GB, by one channel of 2^15 by 2^15 samples of 32 bits. A caller that does not trust its input
-    /// bounds it before the call: by `is_valid`, and by the sum of the areas of the given channels times the bytes of a
-    /// sample. There are at most 273 palettes. The tree takes some dozens of bytes for each node.
+    /// All grids of the image are made here, before the first token of a sample is read: the given channels, and for
+    /// each palette of the header a table with one row for each channel that it stands for, of at most 70911 samples.
+    /// So nine bytes can take 4 GB, by one channel of 2^15 by 2^15 samples of 32 bits. A caller that does not trust
+    /// its input bounds it before the call: by `is_valid`, and by the sum of the areas of the given channels times
+    /// the bytes of a sample. There are at most 273 palettes. The tree takes some dozens of bytes for each node.
     ///
     /// # Errors
     ///
-    /// The error of the first check that fails. A truncated header is `UnexpectedEof`, and a number without a transform
-    /// or a predictor is `InvalidEnum`. Then each transform, in order, that does not suit the channels which the ones
-    /// before it leave is `InvalidRctParams`, `InvalidPaletteParams` or `InvalidSqueezeParams`; then more than 65536 coded
-    /// channels are `ProfileConformance`; then a header that uses the global tree is `GlobalMaTreeNotAvailable`; and then
-    /// come the errors of the tree, as by [`MaConfig::parse`]: it may have 1025 nodes and one more for each coded sample,
-    /// at most 2^20 + 1, and a depth of 2048. The reader is then after the last field that was read whole; after an error
-    /// inside a decoder's own `parse` its position is up to the decoder. Out of memory, `Buffer` or
-    /// `Decoder(OutOfMemory)`, may come at any time, and leaves the reader anywhere.
+    /// The error of the first check that fails. A truncated header is `UnexpectedEof`, and a number without a
+    /// transform or a predictor is `InvalidEnum`. Then each transform, in order, that does not suit the channels
+    /// which the ones before it leave is `InvalidRctParams`, `InvalidPaletteParams` or `InvalidSqueezeParams`; then
+    /// more than 65536 coded channels are `ProfileConformance`; then a header that uses the global tree is
+    /// `GlobalMaTreeNotAvailable`; and then come the errors of the tree, as by [`MaConfig::parse`]: it may have 1025
+    /// nodes and one more for each coded sample, at most 2^20 + 1, and a depth of 2048. The reader is then after the
+    /// last field that was read whole; after an error inside a decoder's own `parse` its position is up to the
+    /// decoder. Out of memory, `Buffer` or `Decoder(OutOfMemory)`, may come at any time, and leaves the reader
+    /// anywhere.
     pub fn parse(
         alloc: Global,
         bits: &mut Bitstream<'_>,
@@ -106,7 +108,7 @@ impl<S: Sample, D: Decoder> Modular<S, D> {
         self.inner.as_mut()
     }
 
-    /// The image, given up by what held it; with no channels there is none.
+    /// The image, taken from what held it; with no channels there is none.
     pub fn into_image(self) -> Option<ModularImageDestination<S, D>>
         ensures { result ≡ image_of self }
     {
@@ -126,7 +128,7 @@ mod tests {
     use std::result::Result;
     use std::test::Fail;
 
-    // No transforms, a tree of one leaf up to bit 68, and samples behind it.
+    // No transforms, a tree of one leaf up to bit 68, and samples after it.
     const ONE_LEAF: [u8; 10] = [0x42, 0x00, 0x04, 0x00, 0x04, 0x0E, 0x05, 0xC0, 0x20, 0x06];
 
     type Image<S> = ModularImageDestination<S, PlainDecoder>;
@@ -146,7 +148,7 @@ mod tests {
         Ok(seen)
     }
 
-    /// What an image of these channels is read as, and where the reader stands then.
+    /// What an image of these channels is read as, and the reader's position then.
     fn read<S: Sample>(
         alloc: Global,
         bytes: &[u8],
@@ -161,7 +163,7 @@ mod tests {
         Ok((modular, bits.position()))
     }
 
-    /// Why an image of so many channels of 1 by 1 sample is refused, and where the reader stands then.
+    /// The error of an image of n channels of 1 by 1 sample, and the reader's position then.
     fn refusal(rt: &HostRuntime, bytes: &[u8], count: usize) -> Result<(Option<Error>, u64), Fail> {
         let channels = vec![in rt.alloc(); ModularChannelParams::new(1, 1); count]?;
         let (modular, position) = read::<i32>(rt.alloc(), bytes, channels)?;
@@ -235,7 +237,7 @@ mod tests {
 
     const EOF: Error = Error::Bitstream(BitstreamError::UnexpectedEof);
 
-    // A header that is accepted, behind which the tree is cut.
+    // A header that is accepted, after which the tree is truncated.
     const CUT_TREE: Error = Error::Decoder(DecoderError::UnexpectedEof);
 
     const TOO_MANY: &str = "nb_channels_tr too large";

@@ -8,7 +8,7 @@ use Rattle.std.proofs.lemmas.List.{get_or-set_same, get_or-set_other, get_or-map
 use Rattle.jxlm_base.specs.Colour.{triple, IsTripleOf, finished_by, triple_at, FinishesRows}
 use Rattle.jxlm_base.proofs.ColourLaws.{triple_same}
 
--- the first n places are finished, and the others as they were
+-- the first n cells are finished, and the others as they were
 pub record RowsUntil (w : Width) (t n : ℕ) (a b c a' b' c' : List ℤ) : Type 0 where
   pub first_length : length a' ≡ length a
   pub second_length : length b' ≡ length b

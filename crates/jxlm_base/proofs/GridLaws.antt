@@ -40,7 +40,7 @@ module _ {S : Type 0} where
   get-first_rows : (f : ℕ → ℕ → S) (w n x y : ℕ) (d : S) → x < w → y < n → get_or (rows f w 0 n) (y * w + x) d ≡ f x y
   get-first_rows f w n x y d p q = let e : 0 + y ≡ y = omega arith in get-rows f w 0 n x y d p q ∙ ap (f x) e
 
-  -- each place of a grid by coordinates has a cell, and in column x of row y it is f x y
+  -- a grid by coordinates is full, and its cell in column x of row y is f x y
   pub IsFull-grid_by : (w h : ℕ) (f : ℕ → ℕ → S) → IsFull (grid_by w h f)
   IsFull-grid_by w h f = length-rows f w 0 h
 

@@ -1,4 +1,4 @@
--- What a store keeps outside regions: one write behind another, and the regions that are not touched.
+-- What a store keeps outside regions: one write after another, and the regions that are not touched.
 use Rattle.std.proofs.Common.{◌≡◌, ℕ, zero, suc, ◌+◌, ◌<◌, ◌≤◌, List, [], ◌∷◌, length, ℤ, pos, refl, sym, ap, ◌∙◌, subst, arith}
 use Rattle.std.specs.Prelude.{get_or, map, slice_get}
 use Rattle.std.specs.List.{All}
@@ -26,7 +26,7 @@ module _ {X : Type 0} (P : X → Type 0) where
   all_three a b c p q r (suc (suc zero)) d h = r
   all_three a b c p q r (suc (suc (suc k))) d h = absurd (omega arith)
 
--- ---- one write behind another
+-- ---- one write after another
 
 module _ {S : Type 0} where
   pub keeps_all : (regions : List Region) (store : List (Grid S)) → KeepsOutside regions store store

@@ -15,7 +15,7 @@ use Rattle.jxlm_base.specs.declared.plain.Mode.TheVariants.{Unsealed, Sealed, Ru
 use Rattle.jxlm_base.proofs.BitsLemmas.{bits_at-bound}
 use Rattle.jxlm_base.proofs.PlainGives.{state}
 
--- what is meant by a number that stands at a place
+-- what is meant by a number at a bit position
 abbrev There : List ℕ → ℕ → ℕ → ℕ → ℕ → Type 0
 There bytes p b value q = (p + b ≤ 8 * length bytes) × (value ≡ bits_at bytes p b) × (q ≡ p + b)
 

@@ -67,7 +67,7 @@ module _ {S : Type 0} (xs : List S) (i : ℕ) (vs : List S) (fits : i + length v
   pub length-written : length (written xs i vs) ≡ length xs
   length-written = length-take-le (length xs) (pasted ++ drop (length pasted) xs) (omega (arith, length-append pasted (drop (length pasted) xs), length-pasted))
 
-  -- where the others fit, nothing is cut
+  -- where the others fit, nothing is left out
   pub written_is : written xs i vs ≡ take i xs ++ (vs ++ drop (i + length vs) xs)
   written_is =
       ap (λ n. take (length xs) (pasted ++ drop n xs)) length-pasted ∙ ap (λ ys. take (length xs) (pasted ++ ys)) (drop-length xs)
@@ -127,7 +127,7 @@ module _ {S : Type 0} (g : Grid S) (full : IsFull g) (y : ℕ) (below : y < g.he
 -- ---- rows of regions
 
 module _ {S : Type 0} (store : List (Grid S)) (r : Region) (y : ℕ) (lies : Lies r store) (below : y < r.height) where
-  -- the row's buffer, and its place there
+  -- the row's buffer, and its line there
   abbrev buffer : Grid S
   buffer = buffer_of store r
 

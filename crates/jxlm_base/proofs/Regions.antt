@@ -94,7 +94,7 @@ apart_by_rows r s le = λ b x y h k. let a = h.bottom in let b = k.top in absurd
 pub HasCell_at : (r : Region) (x y : ℕ) → x < r.width → y < r.height → HasCell r r.buffer (r.x + x) (r.y + y)
 HasCell_at r x y p q = record { buffer = refl; left = omega arith; right = omega arith; top = omega arith; bottom = omega arith }
 
--- regions at two places of a list of regions that lie apart
+-- two regions of a list of regions that lie apart
 pub apart_at : (rs : List Region) (i j : ℕ) (d : Region) → LieApart rs → i < length rs → j < length rs → i ≢ j → AreApart (get_or rs i d) (get_or rs j d)
 apart_at rs i j d apart p q ne =
     elim (cases_lt i j) [
@@ -102,7 +102,7 @@ apart_at rs i j d apart p q ne =
       | inr ge ↦ AreApart_sym (get_or rs j d) (get_or rs i d) (apart j i d (omega arith) p)
     ]
 
--- ---- the grids that stand in regions
+-- ---- the grids in regions
 
 at_same : (g h : Grid ℤ) (x y i j : ℕ) → cell g x y ≡ cell h i j → at g x y ≡ at h i j
 at_same g h x y i j e = sym (unwrap_or-slice_get g.cells (place g x y) (pos 0)) ∙ ap (λ o. unwrap_or o (pos 0)) e ∙ unwrap_or-slice_get h.cells (place h i j) (pos 0)

@@ -10,12 +10,12 @@ use Rattle.jxlm_base.specs.Inner.Unsqueeze.{number_at}
 use Rattle.jxlm_base.proofs.Cells.{place_within}
 use Rattle.jxlm_base.proofs.NumberAt.{get-slice_range, get-written_in, get-written_before, get-written_after, length-written, number_same}
 
--- the line behind line i ends inside
+-- the line after line i ends inside
 pub line_within : (i h n room : ℕ) → i < h → (h + 1) * n ≤ room → i * n + n + n ≤ room
 line_within i h n room p r = let m = mul-le-mul_right {m = i + 2} {n = h + 1} n (omega arith) in omega arith
 
 module _ {S : Type 0} where
-  -- a row's last cell stands before the end
+  -- a row's last cell is before the end
   row_within : (g : Grid S) (y : ℕ) → IsFull g → y < g.height → y * g.width + g.width ≤ length g.cells
   row_within g y full h =
       let a = mul-le-mul_right {m = suc y} {n = g.height} g.width (omega arith) in

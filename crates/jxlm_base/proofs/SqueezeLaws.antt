@@ -188,7 +188,7 @@ module _ (w : Width) (n : ℕ) (c d : ℕ → ℤ) (same : AreSame n c d) where
   before_same zero h = same 0 (omega arith)
   before_same (suc k) h = moved (second_of w) k (omega arith) (before_same k (omega arith))
 
-  -- what is undone depends on the first n places alone
+  -- what is undone depends on the first n samples alone
   pub IsUnsqueezed_same : (a b : ℕ → ℤ) → AreSame n a b → IsUnsqueezed w n c a → IsUnsqueezed w n d b
   IsUnsqueezed_same a b equal u = record {
     first = λ k h. sym (equal (2 * k) (omega arith)) ∙ u.first k h ∙ moved (first_of w) k h (before_same k h);

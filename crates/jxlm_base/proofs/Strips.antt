@@ -1,4 +1,5 @@
--- Columns undone pair by pair, several at a time: line 0 of a strip has the first averages, line i + 1 the undone row i.
+-- Columns undone pair by pair, several at a time: line 0 of a strip has the first averages, line i + 1 the undone row
+-- i.
 use Rattle.std.proofs.Common.{◌≡◌, ℕ, suc, ◌+◌, ◌-◌, ◌*◌, ◌/◌, ◌<◌, ◌≤◌, inl, inr, List, length, ℤ, FitsSigned, ap, ◌∙◌, subst, arith}
 use Rattle.std.specs.Int.{Width}
 use Rattle.std.proofs.Math.Nat.{mul-le-mul_left, mul-le-mul_right}

@@ -2,7 +2,7 @@
 use Rattle.std.specs.Prelude.{◌≡◌, ℕ, ◌<◌, ◌/◌, ◌%◌, ◌==◌, if◌then◌else◌, ℤ, pos, ◌+ℤ◌, ◌-ℤ◌, List, length, get_or, FitsSigned}
 use Rattle.std.specs.Int.{Width, int_wrap, int_shr}
 
--- three samples at one place
+-- three samples of one cell
 pub record Triple : Type 0 where
   pub first : ℤ
   pub second : ℤ
@@ -16,7 +16,7 @@ pub record IsTripleOf (w : Width) (t : Triple) : Type 0 where
   pub second : FitsSigned w t.second
   pub third : FitsSigned w t.third
 
--- The finished channels stand in an order that the kind's multiple of seven names; 6 and above name the first again.
+-- The finished channels are in an order that the kind's multiple of seven names; 6 and above name the first again.
 abbrev pub permuted : ℕ → Triple → Triple
 permuted order t =
     if order == 1 then triple t.third t.first t.second else if order == 2 then triple t.second t.third t.first else if order == 3 then triple t.first t.third t.second
@@ -55,7 +55,8 @@ module _ (w : Width) where
       let f : ℤ = minus middle (halved t.second) in
       triple (plus f t.second) e f
 
-  -- The third loses the first where the kind is odd; the second loses nothing, the first, or the mean of first and third.
+  -- The third loses the first where the kind is odd; the second loses nothing, the first, or the mean of first and
+  -- third.
   abbrev pub to_differences : ℕ → Triple → Triple
   to_differences t x =
       triple x.first
@@ -95,11 +96,11 @@ module _ (w : Width) where
   abbrev pub ColourIsOneToOne : Type 0
   ColourIsOneToOne = (kind : ℕ) (x y : Triple) → IsTripleOf w x → IsTripleOf w y → coded_triple kind x ≡ coded_triple kind y → x ≡ y
 
--- the triple at place i of three rows
+-- the triple of cell i of three rows
 abbrev pub triple_at : List ℤ → List ℤ → List ℤ → ℕ → Triple
 triple_at a b c i = triple (get_or a i (pos 0)) (get_or b i (pos 0)) (get_or c i (pos 0))
 
--- three rows of w-bit samples, finished place by place, before they stand in their order
+-- three rows of w-bit samples, finished cell by cell, before they are put in their order
 pub record FinishesRows (w : Width) (t : ℕ) (a b c a' b' c' : List ℤ) : Type 0 where
   pub first_length : length a' ≡ length a
   pub second_length : length b' ≡ length b

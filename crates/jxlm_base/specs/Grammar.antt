@@ -1,4 +1,4 @@
--- Fields that stand in the input: how each is read, and what it means that a value stands there
+-- Fields in the input: how each is read, and what it means that a value stands at a bit position
 -- (ISO/IEC 18181-1, notation of bundles and of the field types u(n), Bool and U32).
 use Rattle.std.specs.Prelude.{◌≡◌, ℕ, zero, suc, ◌+◌, ◌*◌, ◌^◌, ◌≤◌, List, [], ◌∷◌, length, Bool, nat_lt, ◌==◌, if◌then◌else◌, MatchBool, Option, Some, None, Result, Ok, Err}
 use Rattle.jxlm_base.specs.Bits.{bits_at}
@@ -9,11 +9,11 @@ use Rattle.jxlm_base.specs.declared.bits.U32Spec.{U32Spec}
 use Rattle.jxlm_base.specs.declared.bits.U32Spec.TheVariants.{Const, Offset}
 use Rattle.jxlm_base.specs.declared.error.Error.{Error}
 
--- A kind of field, over bytes and places in bits.
+-- A kind of field, over bytes and bit positions.
 pub record Grammar (X : Type 0) : Type 1 where
-  -- what is read at a place: the value and the place behind it, or the first fault and the reader's place
+  -- what is read at a position: the value and the position after it, or the first error and the reader's position then
   pub read : List ℕ → ℕ → Result (Found X) Refused
-  -- the value stands from the first place to the second, in any of its spellings
+  -- the value stands from the first position to the second, in any of its spellings
   pub Stands : List ℕ → ℕ → X → ℕ → Type 0
 
 -- The two laws of a field: what is read stands there; what stands there is read.
@@ -26,7 +26,7 @@ abbrev pub behind : {X Y : Type 0} → Result (Found X) Refused → (Found X →
 behind (Ok found) next = next found
 behind (Err e) next = Err e
 
--- a reading whose fault leaves the reader at p
+-- a reading whose error leaves the reader at p
 abbrev pub undone : {X : Type 0} → ℕ → Result (Found X) Refused → Result (Found X) Refused
 undone p (Ok found) = Ok found
 undone p (Err e) = Err (record { fault = e.fault; position = Some p })
@@ -42,11 +42,11 @@ number n = record {
 abbrev pub give : {X : Type 0} → X → Grammar X
 give x = record { read = λ bytes p. Ok (record { value = x; position = p }); Stands = λ bytes p y q. (y ≡ x) × (q ≡ p) }
 
--- no value has this meaning
+-- a field without values: reading it returns this error
 abbrev pub refuse : {X : Type 0} → Fault → Grammar X
 refuse fault = record { read = λ bytes p. Err (record { fault = fault; position = Some p }); Stands = λ bytes p y q. ⊥ }
 
--- one field, and behind it one that may depend on its value
+-- one field, and after it one that may depend on its value
 infixl 10 ◌>>=◌
 abbrev pub ◌>>=◌ : {X Y : Type 0} → Grammar X → (X → Grammar Y) → Grammar Y
 ◌>>=◌ {X} field next = record {
@@ -61,7 +61,7 @@ either b yes_field no_field = record {
   Stands = λ bytes p x q. MatchBool b (yes_field.Stands bytes p x q) (no_field.Stands bytes p x q);
 }
 
--- fields that are cut off together: a fault leaves the reader before them all
+-- fields that are truncated together: an error leaves the reader before them all
 abbrev pub whole : {X : Type 0} → Grammar X → Grammar X
 whole field = record { read = λ bytes p. undone p (field.read bytes p); Stands = field.Stands }
 
@@ -79,14 +79,14 @@ flag = do
   bit ← number 1
   give (bit == 1)
 
--- a part of a U32: a constant, or n bits above a least value
+-- a part of a U32: a constant, or n bits above a minimum
 abbrev pub part : U32Spec → Grammar ℕ
 part (Const n) = give n
 part (Offset least n) = do
   v ← number n
   give (least + v)
 
--- U32: two bits choose one of four parts; cut off, it leaves the reader before them
+-- U32: two bits choose one of four parts; truncated, it leaves the reader before them
 abbrev pub selected : U32Spec → U32Spec → U32Spec → U32Spec → Grammar ℕ
 selected d0 d1 d2 d3 = do
   selector ← number 2
@@ -95,28 +95,29 @@ selected d0 d1 d2 d3 = do
 abbrev pub u32 : U32Spec → U32Spec → U32Spec → U32Spec → Grammar ℕ
 u32 d0 d1 d2 d3 = whole (selected d0 d1 d2 d3)
 
--- the greatest value of a part is a 32-bit number
+-- the maximum of a part is a 32-bit number
 abbrev pub FitsU32 : U32Spec → Type 0
 FitsU32 (Const n) = Unit {0}
 FitsU32 (Offset least n) = (n ≤ 32) × (least + 2 ^ n ≤ 2 ^ 32)
 
--- What a read answered, seen by view, and where it left the reader, is what reading gives.
+-- What a read returned, seen by view, and where it left the reader, are what reading gives.
 abbrev pub Reads : {X Y : Type 0} → (X → Y) → Result X BitstreamError → ℕ → Result (Found Y) Refused → Type 0
 Reads view (Ok x) q reading = reading ≡ Ok (record { value = view x; position = q })
 Reads view (Err e) q reading = reading ≡ Err (record { fault = bitstream_fault e; position = Some q })
 
--- the reader stands there, where a place is named; where none is, it is the decoder's own matter
+-- the reader is at the position that is named; where none is, it is the decoder's own matter
 abbrev pub StandsAtPlace : Option ℕ → ℕ → Type 0
 StandsAtPlace None q = Unit {0}
 StandsAtPlace (Some p) q = q ≡ p
 
--- the reading is refused by this fault, and the reader stands at q
+-- the reading returns this error, and the reader is at q
 pub record IsRefused {Y : Type 0} (reading : Result (Found Y) Refused) (fault : Fault) (q : ℕ) : Type 0 where
   pub place : Option ℕ
   pub refuses : reading ≡ Err (record { fault = fault; position = place })
   pub stands : StandsAtPlace place q
 
--- What a call answered, seen by view, and where it left the reader, is what reading gives; memory may be refused at any time.
+-- What a call returned, seen by view, and where it left the reader, are what reading gives; out of memory may come at
+-- any time.
 abbrev pub Answers : {X Y : Type 0} → (X → Y) → Result X Error → ℕ → Result (Found Y) Refused → Type 0
 Answers view (Ok x) q reading = reading ≡ Ok (record { value = view x; position = q })
 Answers view (Err e) q reading = UnlessMemory (fault_of e) (IsRefused reading (fault_of e) q)

@@ -10,14 +10,14 @@ unpack token = if token % 2 == 0 then pos (token / 2) else negsuc (token / 2)
 abbrev pub absolute : ℤ → ℤ
 absolute z = pos (unsigned_abs z)
 
--- z, brought between low and high
+-- z, clamped between low and high
 abbrev pub clamped : ℤ → ℤ → ℤ → ℤ
 clamped low high z = int_max low (int_min z high)
 
--- the greatest k for which 2 ^ k is at most n, and 0 where n is 0; for n below 2 ^ 64
+-- the maximum k for which 2 ^ k is at most n, and 0 where n is 0; for n below 2 ^ 64
 abbrev pub floor_log2 : ℕ → ℕ
 floor_log2 n = 63 - leading_zeros w64 n
 
--- n + w - nw, brought between the lesser and the greater of n and w
+-- n + w - nw, clamped between the minimum and the maximum of n and w
 abbrev pub clamped_gradient : ℤ → ℤ → ℤ → ℤ
 clamped_gradient n w nw = clamped (int_min n w) (int_max n w) (n +ℤ w -ℤ nw)

@@ -20,7 +20,7 @@ module _ {S : Type 0} where
   abbrev pub with_region_cell : List (Grid S) → Region → ℕ → ℕ → S → List (Grid S)
   with_region_cell store r x y v = slice_set store r.buffer (with_cell (buffer_of store r) (r.x + x) (r.y + y) v)
 
-  -- the region lies inside a buffer of the store, in which each place has a cell
+  -- the region lies inside a full buffer of the store
   pub record Lies (r : Region) (store : List (Grid S)) : Type 0 where
     pub there : r.buffer < length store
     pub full : IsFull (buffer_of store r)
@@ -41,7 +41,7 @@ module _ {S : Type 0} where
   abbrev pub store_meanings : {T : Type 0} → (S → T) → List (Grid S) → List (Grid T)
   store_meanings f store = map (meanings f) store
 
--- the grid that stands in a region
+-- the grid in a region
 abbrev pub grid_of : List (Grid ℤ) → Region → Grid ℤ
 grid_of store r = grid_by r.width r.height (λ x y. at (buffer_of store r) (r.x + x) (r.y + y))
 
@@ -66,6 +66,6 @@ abbrev pub WritesChangeOneGrid : List Region → Type 0
 WritesChangeOneGrid rs = (store : List (Grid ℤ)) (i x y : ℕ) (v : ℤ) (d : Region) → AllLie rs store → i < length rs → let r : Region = get_or rs i d in
     x < r.width → y < r.height → map (grid_of (with_region_cell store r x y v)) rs ≡ slice_set (map (grid_of store) rs) i (with_cell (grid_of store r) x y v)
 
--- the grids that stand in regions
+-- the grids in regions
 abbrev pub grids_in : List Region → List (Grid ℤ) → List (Grid ℤ)
 grids_in regions store = map (grid_of store) regions

@@ -40,6 +40,6 @@ module _ {S : Type 0} where
     pub place : IsSamePlace old new
     pub cells : IsSameOutside old.x old.y old.width old.height (whole old) (whole new)
 
-  -- the numbers that stand in the rectangle
+  -- the numbers in the rectangle
   abbrev pub numbers_in : (S → ℤ) → MutableSubgrid S → Grid ℤ
   numbers_in f s = grid_by s.width s.height (λ x y. at (meanings f (whole s)) (s.x + x) (s.y + y))

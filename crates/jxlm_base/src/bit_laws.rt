@@ -7,7 +7,7 @@ ghost use Rattle.jxlm_base.specs.declared.bits.U32Spec.{U32Spec};
 
 /// The number of n bits: it is below 2^n, and its binary digits are the bits, the first the least significant.
 ///
-/// n bits and the m bits behind them make the number of the n + m bits, and the eight bits of a byte make the byte.
+/// n bits and the m bits after them make the number of the n + m bits, and the eight bits of a byte make the byte.
 pub fn numbers_of_bits()
     ensures below { (bytes : List ℕ) (p n : ℕ) → bits_at bytes p n < 2 ^ n }
     ensures digits { (bytes : List ℕ) (p n j : ℕ) → j < n → bits_at bytes p n / 2 ^ j % 2 ≡ bit_at bytes (p + j) }

@@ -1,10 +1,10 @@
-//! Bits of the input, least significant first, and the numbers that they make.
+//! Bits of the input, least significant first, and the numbers that they make (ISO/IEC 18181-1, bit packing).
 
 ghost use Rattle.std.specs.Prelude.{◌≡◌, ℕ, ◌+◌, ◌*◌, ◌/◌, ◌%◌, ◌^◌, ◌-◌, ◌<◌, ◌≤◌, ◌↔◌, min, length, slice_index, IfOk, IfErr, IsTrue, Bool};
 
 use thiserror::Error;
 
-/// Why a read of the input is refused.
+/// Why a read of the input returns no value.
 #[derive(Clone, Copy, Debug, PartialEq, Eq, Error)]
 pub enum BitstreamError {
     /// The input ends before the field does.
@@ -29,15 +29,15 @@ impl BitstreamError {
     }
 }
 
-/// A part of a `U32` field: a constant, or a number of some bits above an offset.
+/// A part of a `U32` field: a constant, or a number of n bits above a minimum.
 ///
-/// `Offset(least, n)` stands for `n` bits whose number is added to `least`. `Bitstream::read_u32` asks that `n` is at
-/// most 32 and that the greatest value, `least + 2^n - 1`, is a `u32`.
+/// `Offset(minimum, n)` stands for `n` bits whose number is added to `minimum`. `Bitstream::read_u32` asks that `n`
+/// is at most 32 and that the maximum, `minimum + 2^n - 1`, is a `u32`.
 #[derive(Clone, Copy, Debug, PartialEq, Eq)]
 pub enum U32Spec {
     /// This number, which takes no bits.
     Const(u32),
-    /// The first number plus the number of as many bits as the second says.
+    /// The first number plus the number of n bits, where n is the second.
     Offset(u32, u32),
 }
 
@@ -58,7 +58,7 @@ fn eight_at(b: &[u8], i: usize) -> [u8; 8]
     ]
 }
 
-// The fewer than eight bytes from byte i on, and behind them zeros.
+// The fewer than eight bytes from byte i on, and zeros after them.
 fn last_at(b: &[u8], i: usize) -> [u8; 8]
     requires here { i ≤ length b.now }
     requires few { length b.now < i + 8 }
@@ -70,11 +70,11 @@ fn last_at(b: &[u8], i: usize) -> [u8; 8]
     eight
 }
 
-/// A reader of the input: its bytes, and a place in it, counted in bits.
+/// A reader of the input: its bytes, and a bit position in it.
 ///
-/// Bit i of the input is bit i mod 8, least significant first, of byte i div 8. A copy reads on by itself from the same
-/// place. Each read takes bits from the place on, and leaves the place behind them; one that would pass the end answers
-/// `UnexpectedEof`, and leaves the reader as it was.
+/// Bit i of the input is bit i mod 8, least significant first, of byte i div 8. A copy reads on by itself from the
+/// same position. Each read takes bits from the position on, and leaves the reader after them; one that would pass
+/// the end returns `UnexpectedEof`, and leaves the reader as it was.
 #[derive(Clone, Copy)]
 pub struct Bitstream<'a> {
     bytes: &'a [u8],
@@ -100,7 +100,7 @@ impl<'a> Bitstream<'a> {
         }
     }
 
-    /// How many bits lie before the place, or `u64::MAX` where they are more than that.
+    /// The bit position: how many bits of the input are before it, or `u64::MAX` where they are more than that.
     pub fn position(&self) -> u64
         ensures { result ≡ min (position_of self.now) (2 ^ 64 - 1) }
     {
@@ -111,7 +111,7 @@ impl<'a> Bitstream<'a> {
         }
     }
 
-    // The 64 bits from the start of the reader's byte on; past the end they are 0.
+    // The 64 bits from the start of the reader's byte on; those after the end are 0.
     fn word(&self) -> u64
         ensures { (b n : ℕ) → b + n ≤ 64 → result / 2 ^ b % 2 ^ n ≡ bits_at self.now.bytes.now (8 * self.now.byte + b) n }
     {
@@ -123,10 +123,10 @@ impl<'a> Bitstream<'a> {
         }
     }
 
-    /// The next `n` bits, at most 32, as a number: `u(n)`. The first bit is the least significant. For
-    /// `n` = 0 the number is 0, also at the end.
+    /// The next `n` bits, at most 32, as a number: `u(n)` (ISO/IEC 18181-1, field types). The first bit is the least
+    /// significant. For `n` = 0 the number is 0, also at the end.
     ///
-    /// `UnexpectedEof` where fewer than `n` bits are left: the reader is then unchanged.
+    /// `UnexpectedEof` if fewer than `n` bits are left: the reader is then unchanged.
     pub fn read_bits(&mut self, n: u32) -> Result<u32, BitstreamError>
         requires { n ≤ 32 }
         ensures ok { IfOk result (λ v. (position_of self.old + n ≤ 8 * length (bytes_of self.old)) × (v ≡ bits_at (bytes_of self.old) (position_of self.old) n) × (position_of self.new ≡ position_of self.old + n)) }
@@ -144,7 +144,7 @@ impl<'a> Bitstream<'a> {
         Ok(value as u32)
     }
 
-    /// The next bit as a truth value: a `Bool`.
+    /// The next bit as a truth value: a `Bool` (ISO/IEC 18181-1, field types).
     ///
     /// `UnexpectedEof` at the end of the input: the reader is then unchanged.
     pub fn read_bool(&mut self) -> Result<bool, BitstreamError>
@@ -191,10 +191,11 @@ impl<'a> Bitstream<'a> {
         }
     }
 
-    /// A `U32` field: two bits, as a number, choose one of the four parts, and its value is read.
+    /// A `U32` field (ISO/IEC 18181-1, field types): two bits, as a number, choose one of the four parts, and its
+    /// value is read.
     ///
-    /// `UnexpectedEof` where the two bits, or those of the chosen part, pass the end: the reader then stands before the
-    /// two bits, as before the call.
+    /// `UnexpectedEof` if the two bits, or those of the chosen part, pass the end: the reader is then before the two
+    /// bits, as before the call.
     pub fn read_u32(
         &mut self,
         d0: U32Spec,

@@ -1,4 +1,4 @@
-//! The colour of rows of samples undone, for both types by one body.
+//! The colour of rows of samples, inverse-transformed for both types by one body.
 ghost use Rattle.std.specs.Prelude.{◌≡◌, ℤ, FitsSigned, length, map};
 ghost use Rattle.std.specs.Int.{Width, w16, w32};
 ghost use Rattle.jxlm_base.specs.Colour.{triple, plus, minus, halved, finished_by, FinishesRows, from_luma as the_luma_undone, from_differences as the_differences_undone};
@@ -98,7 +98,7 @@ fn from_differences<S: Arithmetic>(ty: u32, a: S, b: S, c: S) -> (S, S, S)
     (a, e, f)
 }
 
-/// The finished samples of three coded ones, in the order in which those stand.
+/// The finished samples of three coded ones, in the order of those.
 fn finished<S: Arithmetic>(ty: u32, a: S, b: S, c: S) -> (S, S, S)
     ensures { triple (S.to_int result.0) (S.to_int result.1) (S.to_int result.2) ≡ finished_by S.width ty (triple (S.to_int a) (S.to_int b) (S.to_int c)) }
 {
@@ -109,7 +109,7 @@ fn finished<S: Arithmetic>(ty: u32, a: S, b: S, c: S) -> (S, S, S)
     }
 }
 
-/// Finishes three rows of one length, place by place.
+/// Finishes three rows of one length, cell by cell.
 pub(crate) fn finish_rows<S: Arithmetic>(ty: u32, a: &mut [S], b: &mut [S], c: &mut [S])
     requires second { length b.old ≡ length a.old }
     requires third { length c.old ≡ length a.old }

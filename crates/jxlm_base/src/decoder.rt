@@ -8,7 +8,7 @@ ghost use Rattle.jxlm_base.specs.Decoding.{Meaning, IsLawful, Keeps, Gives, Begi
 use crate::bits::Bitstream;
 use std::alloc::{AllocError, AllocFailed, Global};
 
-/// Why a decoder refuses.
+/// Why a decoder returns no value.
 #[derive(Clone, Copy, Debug, PartialEq, Eq, thiserror::Error)]
 pub enum DecoderError {
     /// The input ends before the token does.
@@ -17,7 +17,7 @@ pub enum DecoderError {
     /// What was read has no meaning; the number says why.
     #[error("invalid code {0}")]
     Invalid(u32),
-    /// There is no memory.
+    /// Out of memory.
     #[error("out of memory")]
     OutOfMemory,
 }
@@ -47,46 +47,50 @@ impl<T: Drop> From<AllocFailed<T>> for DecoderError {
     }
 }
 
-/// What a read of runs gives.
+/// What a read of runs returns.
 #[derive(Clone, Copy, Debug, PartialEq, Eq)]
 pub enum RleToken {
     /// This token, once.
     Value(u32),
-    /// The token before (0 if there is none), so many times; at least once.
+    /// The token before (0 if there is none), n times; n is at least 1.
     Repeat(u32),
 }
 
 /// An entropy decoder: the tokens of an image, read from its bits.
 ///
-/// Tokens belong to contexts, and contexts that share a code form a cluster. A decoder is parsed once; its tokens are read
-/// between `begin` and `finalize`, as often as there are streams of them. All that the answers of its calls depend on is its
-/// state, which contracts see as one value (`impl Model`); `meaning` says what each call answers from it, and `lawful` that
-/// these answers fit together.
+/// Tokens belong to contexts, and contexts that share a code form a cluster. A decoder is parsed once; its tokens are
+/// read between `begin` and `finalize`, as often as there are streams of them. All that the results of its calls
+/// depend on is its state, which contracts see as one value (`impl Model`); `meaning` says what each call returns
+/// from it, and `lawful` that these results fit together.
 pub trait Decoder: Sized + Drop {
-    /// What the calls answer, as functions of the state, the input's bytes and a place in it.
+    /// What the calls return, as functions of the state, the input's bytes and a bit position in it.
     ghost meaning: { Meaning Self };
 
-    /// Reads a decoder for so many contexts.
+    /// Reads a decoder for `contexts` contexts.
     ///
-    /// Memory aside, the answer and the place behind it depend on the input, the reader's place and `contexts` alone. The
-    /// decoder has one cluster for each context. Any error may come; after one the reader's place is this decoder's own
-    /// matter. Where memory is refused the answer is `OutOfMemory`.
+    /// Memory aside, the result and the position after it depend on the input, the reader's position and `contexts`
+    /// alone. The decoder has one cluster for each context.
+    ///
+    /// # Errors
+    ///
+    /// Any error may come; after one the reader's position is this decoder's own matter. Out of memory is
+    /// `OutOfMemory`.
     fn parse(alloc: Global, bits: &mut Bitstream<'_>, contexts: u32) -> Result<Self, DecoderError>
         ensures gives { Gives (λ d. d) result (position_of bits.new) (meaning.parse (bytes_of bits.old) (position_of bits.old) contexts) }
         ensures bytes { bytes_of bits.new ≡ bytes_of bits.old };
 
     /// The same decoder once more, in the same state.
     ///
-    /// Where memory is refused the answer is `OutOfMemory`, and `self` is as it was.
+    /// Out of memory is `OutOfMemory`, and `self` is then as it was.
     fn try_clone(&self, alloc: Global) -> Result<Self, DecoderError>
         ensures ok { IfOk result (λ d. d ≡ self.now) }
         ensures err { IfErr result (λ e. e ≡ OutOfMemory) };
 
-    /// Begins a stream of tokens at the reader's place.
+    /// Begins a stream of tokens at the reader's position.
     ///
-    /// It may read bits, and it depends on the decoder, the input and the place alone. Afterwards no run is open and there
-    /// is no token before; clusters, single tokens and `as_rle` are as they were. An error, which is never `OutOfMemory`,
-    /// leaves the reader's place, and of the decoder what `parse` settled.
+    /// It may read bits, and it depends on the decoder, the input and the position alone. Afterwards no run is open
+    /// and there is no token before; clusters, single tokens and `as_rle` are as they were. An error, which is never
+    /// `OutOfMemory`, leaves the reader's position, and of the decoder what `parse` settled.
     fn begin(&mut self, bits: &mut Bitstream<'_>) -> Result<(), DecoderError>
         ensures gives { BeginGives result self.old self.new (position_of bits.old) (position_of bits.new) (meaning.begin self.old (bytes_of bits.old) (position_of bits.old)) }
         ensures keeps { Keeps meaning self.old self.new }
@@ -94,8 +98,8 @@ pub trait Decoder: Sized + Drop {
 
     /// Reads a token of a context: the read of its cluster, with multiplier 0.
     ///
-    /// The context is below the number that `parse` was asked for. Errors are those of the read, and leave decoder and reader
-    /// as they were.
+    /// The context is below the number that `parse` was asked for. Errors are those of the read, and leave decoder
+    /// and reader as they were.
     fn read_varint(&mut self, bits: &mut Bitstream<'_>, context: u32) -> Result<u32, DecoderError>
         requires { context < length (meaning.cluster_map self.old) }
         ensures gives { ReadGives result self.old self.new (position_of bits.old) (position_of bits.new) (meaning.read self.old (bytes_of bits.old) (position_of bits.old) (slice_index (meaning.cluster_map self.old) context) 0) }
@@ -107,10 +111,10 @@ pub trait Decoder: Sized + Drop {
 
     /// Reads a token of a cluster.
     ///
-    /// The cluster is one of `cluster_map`. The multiplier is for decoders that copy earlier tokens by distances: it is the
-    /// width of the picture that the tokens belong to, or 0. Token, new state and new place depend on the state, the input,
-    /// the place, the cluster and the multiplier alone. An error, which is never `OutOfMemory`, leaves decoder and reader
-    /// as they were.
+    /// The cluster is one of `cluster_map`. The multiplier is for decoders that copy earlier tokens by distances: it
+    /// is the width of the picture that the tokens belong to, or 0. Token, new state and new position depend on the
+    /// state, the input, the position, the cluster and the multiplier alone. An error, which is never `OutOfMemory`,
+    /// leaves decoder and reader as they were.
     fn read_varint_with_multiplier_clustered(
         &mut self,
         bits: &mut Bitstream<'_>,
@@ -123,10 +127,10 @@ pub trait Decoder: Sized + Drop {
 
     /// Reads a token of a cluster, or a whole run, where `as_rle` is true and no run is open.
     ///
-    /// The cluster is one of `cluster_map`. `Value(v)` is the read of the token v, under any multiplier. `Repeat(n)`, n at
-    /// least 1, stands for n reads, the first of this cluster, the others of any clusters, under any multipliers: each gives
-    /// the token before (0 if there is none), and only the first moves the reader. Either leaves no run open. An error is
-    /// that of the read, and leaves decoder and reader as they were.
+    /// The cluster is one of `cluster_map`. `Value(v)` is the read of the token v, under any multiplier. `Repeat(n)`,
+    /// n at least 1, stands for n reads, the first of this cluster, the others of any clusters, under any
+    /// multipliers: each gives the token before (0 if there is none), and only the first moves the reader. Either
+    /// leaves no run open. An error is that of the read, and leaves decoder and reader as they were.
     fn read_varint_clustered(
         &mut self,
         bits: &mut Bitstream<'_>,
@@ -153,13 +157,14 @@ pub trait Decoder: Sized + Drop {
     fn as_rle(&self) -> bool
         ensures { result ≡ meaning.as_rle self.now };
 
-    /// Ends a stream of tokens: an error, which is never `OutOfMemory`, says that the tokens cannot be those that were meant.
+    /// Ends a stream of tokens: an error, which is never `OutOfMemory`, says that the tokens cannot be those that
+    /// were meant.
     ///
-    /// Where `as_rle` is true the answer is `Ok`.
+    /// Where `as_rle` is true the result is `Ok`.
     fn finalize(&self) -> Result<(), DecoderError>
         ensures { result ≡ meaning.finalize self.now };
 
-    /// The laws that tie these answers together.
+    /// The laws that tie these results together.
     ghost lawful: { IsLawful meaning };
 }
 

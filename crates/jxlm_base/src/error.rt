@@ -1,4 +1,4 @@
-//! Why the library refuses.
+//! The errors of the library.
 
 ghost use Rattle.std.specs.Prelude.{◌≡◌, ◌↔◌, ◌⊎◌, IsTrue};
 
@@ -7,7 +7,7 @@ use crate::decoder::DecoderError;
 use crate::grid::OutOfMemory;
 use std::alloc::{AllocError, AllocFailed};
 
-/// Why a call is refused: the header, the channels, the tree or the tokens, or want of memory.
+/// Why a call returns no value: the header, the channels, the tree or the tokens, or out of memory.
 #[derive(Clone, Copy, Debug, PartialEq, Eq, thiserror::Error)]
 pub enum Error {
     /// The meta-adaptive tree is invalid.
@@ -22,29 +22,29 @@ pub enum Error {
     /// The channels do not suit a palette.
     #[error("invalid Palette transform parameters")]
     InvalidPaletteParams,
-    /// The channels do not suit a squeeze, or cannot be cut into groups.
+    /// The channels do not suit a squeeze, or cannot be divided into groups.
     #[error("invalid Squeeze transform parameters")]
     InvalidSqueezeParams,
-    /// A field of the header is refused, for this cause.
+    /// A field of the header has no value, for this cause.
     #[error("bitstream error: {0}")]
     Bitstream(BitstreamError),
-    /// The entropy decoder refuses, for this cause.
+    /// The entropy decoder returned this error.
     #[error("entropy decoder error: {0}")]
     Decoder(DecoderError),
-    /// There is no memory for samples or tables.
+    /// Out of memory for samples or tables.
     #[error("{0}")]
     Buffer(OutOfMemory),
 }
 
-/// The answer of a call that the library can refuse.
+/// The result of a call that may return an error of the library.
 pub type Result<T> = std::result::Result<T, Error>;
 
 impl Error {
     ghost use Rattle.jxlm_base.specs.Fault.{Fault, Eof, OfDecoder, fault_of};
     ghost use Rattle.jxlm_base.specs.declared.decoder.DecoderError.TheVariants.{UnexpectedEof};
 
-    /// Whether the input ended too early, in a field or in the entropy decoder: true for `UnexpectedEof` in `Bitstream`
-    /// or in `Decoder`, and for nothing else.
+    /// Whether the input ended too early, in a field or in the entropy decoder: true for `UnexpectedEof` in
+    /// `Bitstream` or in `Decoder`, and for nothing else.
     pub fn unexpected_eof(&self) -> bool
         ensures { IsTrue result ↔ ((fault_of self.now ≡ Eof) ⊎ (fault_of self.now ≡ OfDecoder UnexpectedEof)) }
     {
@@ -97,7 +97,8 @@ impl From<AllocError> for Error {
     }
 }
 
-/// `Buffer`, so that `?` serves on `push` and the other calls that hand back what they cannot store; the value is dropped.
+/// `Buffer`, so that `?` serves on `push` and the other calls that return what they cannot store; the value is
+/// dropped.
 impl<T: Drop> From<AllocFailed<T>> for Error {
     ghost use Rattle.jxlm_base.specs.declared.error.Error.TheVariants.{Buffer};
 

@@ -9,7 +9,7 @@ pub use crate::subgrid::{MutableSubgrid, Region};
 use std::alloc::{AllocError, AllocFailed, Global};
 use std::marker::Model;
 
-/// There was no memory.
+/// Out of memory.
 #[derive(Clone, Copy, PartialEq, Eq, Debug, thiserror::Error)]
 #[error("out of memory")]
 pub struct OutOfMemory;
@@ -56,7 +56,7 @@ impl<S> Model for AlignedGrid<S> {
 impl<S: Sealed> AlignedGrid<S> {
     /// A grid of `width` columns and `height` rows, whose cells are 0.
     ///
-    /// Memory is asked for once; without cells none is. `OutOfMemory` where it is refused, or where there are more cells
+    /// Memory is asked for once; without cells none is. `OutOfMemory` if it is not given, or if there are more cells
     /// than a `usize` counts.
     pub fn new(alloc: Global, width: usize, height: usize) -> Result<Self, OutOfMemory>
         ensures zero { IfOk result (λ g. g ≡ filled width height (S.from_int (pos 0))) }
@@ -79,7 +79,7 @@ impl<S: Sealed> AlignedGrid<S> {
         })
     }
 
-    /// A grid of the same cells, or `OutOfMemory` where memory is refused. Without cells none is asked for.
+    /// A grid of the same cells, or `OutOfMemory`. Without cells no memory is asked for.
     pub fn try_clone(&self, alloc: Global) -> Result<Self, OutOfMemory>
         ensures same { IfOk result (λ g. g ≡ self.now) }
         ensures no_cells { self.now.width * self.now.height ≡ 0 → IsOk result }
@@ -100,7 +100,7 @@ impl<S: Sealed> AlignedGrid<S> {
 impl<S: Copy> AlignedGrid<S> {
     ghost use Rattle.jxlm_base.specs.GridLends.{LendsCell, LendsRow};
 
-    /// How many columns there are. Each place of the grid has a cell.
+    /// How many columns there are. Each of them has a cell in each row.
     pub fn width(&self) -> usize
         ensures value { result ≡ self.now.width }
         ensures full { IsFull self.now }
@@ -108,7 +108,7 @@ impl<S: Copy> AlignedGrid<S> {
         self.width
     }
 
-    /// How many rows there are. Each place of the grid has a cell.
+    /// How many rows there are. Each of them has a cell in each column.
     pub fn height(&self) -> usize
         ensures value { result ≡ self.now.height }
         ensures full { IsFull self.now }

@@ -1,4 +1,4 @@
-//! Laws of the definitions that contracts cite. Each is what a function ensures that does nothing.
+//! Laws of the definitions that contracts cite: each is the contract of a function that does nothing.
 ghost use Rattle.std.specs.Prelude.{◌≡◌, ◌↔◌, ℕ, ℤ, ◌+◌, ◌+ℤ◌, ◌*ℤ◌, ◌^◌, ◌<◌, FitsSigned, List, Some};
 ghost use Rattle.std.specs.Int.{Width, w16, w32, int_wrap};
 ghost use Rattle.jxlm_base.specs.Colour.{ColourIsLossless, ColourIsOneToOne};

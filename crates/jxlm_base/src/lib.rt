@@ -1,4 +1,4 @@
-//! The base of the decoder: bits, faults, samples, grids, entropy decoders.
+//! The base of the decoder: bits, errors, samples, grids, entropy decoders.
 #![tactic(auto)]
 
 pub mod bit_laws;

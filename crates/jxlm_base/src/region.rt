@@ -78,7 +78,7 @@ mod tests {
     use std::alloc::Global;
     use std::test::Fail;
 
-    /// What stands in the second grid of a store after a write through a region of it.
+    /// What is in the second grid of a store after a write through a region of it.
     fn written<S: Sample>(alloc: Global) -> Result<(i32, i32, i32), OutOfMemory> {
         let first = AlignedGrid::<S>::new(alloc, 4, 3)?;
         let second = AlignedGrid::<S>::new(alloc, 5, 4)?;
@@ -98,7 +98,7 @@ mod tests {
         ))
     }
 
-    /// What stands in the second grid of a store after a row of a region was written.
+    /// What is in the second grid of a store after a row of a region was written.
     fn written_row<S: Sample>(alloc: Global) -> Result<Vec<i32>, OutOfMemory> {
         let first = AlignedGrid::<S>::new(alloc, 4, 3)?;
         let second = AlignedGrid::<S>::new(alloc, 4, 2)?;

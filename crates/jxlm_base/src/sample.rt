@@ -23,7 +23,8 @@ pub trait Sealed: Copy + Default {
 
     ghost width: { Width };
 
-    /// The signed number of a token, reduced to the type's width: 2k stands for k, and 2k + 1 for -k - 1.
+    /// The signed number of a token, reduced to the type's width (ISO/IEC 18181-1, Modular: signed numbers): 2k
+    /// stands for k, and 2k + 1 for -k - 1.
     fn unpack_signed_u32(value: u32) -> Self
         ensures { result ≡ Self.from_int (int_wrap Self.width (unpack value)) };
 
@@ -35,7 +36,8 @@ pub trait Sealed: Copy + Default {
     fn wrapping_muladd_i32(self, mul: i32, add: i32) -> Self
         ensures { result ≡ Self.from_int (int_wrap Self.width (Self.to_int self *ℤ mul +ℤ add)) };
 
-    /// `n + w - nw`, clamped between the lesser and the greater of `n` and `w`.
+    /// `n + w - nw`, clamped between the minimum and the maximum of `n` and `w` (ISO/IEC 18181-1, Modular:
+    /// predictors).
     fn grad_clamped(n: Self, w: Self, nw: Self) -> Self
         ensures { result ≡ Self.from_int (clamped_gradient (Self.to_int n) (Self.to_int w) (Self.to_int nw)) };
 
@@ -49,7 +51,8 @@ pub trait Sealed: Copy + Default {
         ensures same { MatchResult result (λ g. g ≡ meanings Self.to_int grid) (λ g. g ≡ grid) }
         ensures kind { IsOk result ↔ (Self.width ≡ w16) };
 
-    /// Undoes one of the seven kinds of colour on three rows of one length, place by place, in the order in which they stand.
+    /// Undoes one of the seven kinds of colour on three rows of one length, cell by cell, in the order of the rows
+    /// (ISO/IEC 18181-1, Modular: reversible colour transforms).
     ///
     /// `ty` is at most 6.
     fn rct_rows(ty: u32, a: &mut [Self], b: &mut [Self], c: &mut [Self])
@@ -58,11 +61,12 @@ pub trait Sealed: Copy + Default {
         requires third { length c.old ≡ length a.old }
         ensures { FinishesRows Self.width ty (map Self.to_int a.old) (map Self.to_int b.old) (map Self.to_int c.old) (map Self.to_int a.new) (map Self.to_int b.new) (map Self.to_int c.new) };
 
-    /// Undoes a horizontal squeeze in place: in each row of the rectangle averages stand before residuals, and afterwards the
-    /// row that becomes them when it is squeezed. Nothing outside changes.
+    /// Undoes a horizontal squeeze in place (ISO/IEC 18181-1, Modular: squeeze): each row of the rectangle is
+    /// averages and then residuals, and afterwards the row that becomes them when it is squeezed. Nothing outside
+    /// changes.
     ///
-    /// Memory is asked for once, for a row; a rectangle without cells takes none. `OutOfMemory` where it is refused: then no
-    /// cell has changed.
+    /// Memory is asked for once, for a row; a rectangle without cells takes none. `OutOfMemory` if it is not given:
+    /// then no cell has changed.
     fn squeeze_rows(
         alloc: Global,
         subgrid: &mut MutableSubgrid<'_, Self>,
@@ -73,11 +77,11 @@ pub trait Sealed: Copy + Default {
         ensures unchanged { IfErr result (λ _. whole subgrid.new ≡ whole subgrid.old) }
         ensures no_cells { (subgrid.old.width ≡ 0) ⊎ (subgrid.old.height ≡ 0) → IsOk result };
 
-    /// Undoes a vertical squeeze in place: in each column of the rectangle averages stand above residuals, and afterwards the
-    /// column that becomes them when it is squeezed. Nothing outside changes.
+    /// Undoes a vertical squeeze in place: each column of the rectangle is averages and then, below them, residuals,
+    /// and afterwards the column that becomes them when it is squeezed. Nothing outside changes.
     ///
-    /// Memory is asked for once, for some columns; a rectangle without cells takes none. `OutOfMemory` where it is refused:
-    /// then no cell has changed.
+    /// Memory is asked for once, for some columns; a rectangle without cells takes none. `OutOfMemory` if it is not
+    /// given: then no cell has changed.
     fn squeeze_columns(
         alloc: Global,
         subgrid: &mut MutableSubgrid<'_, Self>,
@@ -88,7 +92,7 @@ pub trait Sealed: Copy + Default {
         ensures unchanged { IfErr result (λ _. whole subgrid.new ≡ whole subgrid.old) }
         ensures no_cells { (subgrid.old.width ≡ 0) ⊎ (subgrid.old.height ≡ 0) → IsOk result };
 
-    /// As `squeeze_rows`, by way of `scratch`, which has room for a row.
+    /// As `squeeze_rows`, with `scratch`, which has room for a row.
     fn squeeze_rows_in(subgrid: &mut MutableSubgrid<'_, Self>, scratch: &mut [Self])
         requires room { subgrid.old.width ≤ length scratch.old }
         ensures len { length scratch.new ≡ length scratch.old }
@@ -96,8 +100,8 @@ pub trait Sealed: Copy + Default {
         ensures undone { squeezed_rows Self.width (numbers_in Self.to_int subgrid.new) ≡ numbers_in Self.to_int subgrid.old }
         ensures samples { AreGridSamples Self.width (numbers_in Self.to_int subgrid.new) };
 
-    /// As `squeeze_columns`, by way of `scratch`, which has room for a column and a cell more. The more columns it has room
-    /// for, up to 256, the more are undone at a time.
+    /// As `squeeze_columns`, with `scratch`, which has room for a column and a cell more. The more columns it has
+    /// room for, up to 256, the more are undone at a time.
     fn squeeze_columns_in(subgrid: &mut MutableSubgrid<'_, Self>, scratch: &mut [Self])
         requires room { subgrid.old.height + 1 ≤ length scratch.old }
         ensures len { length scratch.new ≡ length scratch.old }

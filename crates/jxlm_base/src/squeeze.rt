@@ -1,4 +1,4 @@
-//! Squeezed rows and columns undone.
+//! Rows and columns unsqueezed.
 ghost use Rattle.std.specs.Prelude.{◌≡◌, ℕ, suc, ℤ, ◌+◌, ◌-◌, ◌*◌, ◌/◌, ◌<◌, ◌≤◌, ◌⊎◌, FitsSigned, length, min, slice_get, IfOk, IfErr, IsOk};
 ghost use Rattle.std.specs.Int.{Width, w16, w32};
 ghost use Rattle.jxlm_base.specs.Grid.{cell};
@@ -10,7 +10,7 @@ use crate::grid::OutOfMemory;
 use crate::subgrid::MutableSubgrid;
 use std::alloc::Global;
 
-/// A sample's type as squeezing needs it. `Sealed` stands on it.
+/// A sample's type as squeezing needs it. `Sealed` is built on it.
 pub(crate) trait Pairs: Copy {
     // the number that a sample stands for, and the type's width
     ghost to_int: { Self → ℤ };
@@ -154,7 +154,7 @@ fn unsqueeze_row<S: Pairs>(coded: &[S], row: &mut [S])
     }
 }
 
-/// Undoes row `y` of the rectangle, by way of `scratch`, which has room for a row.
+/// Undoes row `y` of the rectangle, with `scratch`, which has room for a row.
 fn undo_row<S: Pairs>(subgrid: &mut MutableSubgrid<'_, S>, y: usize, scratch: &mut [S])
     requires in_rows { y < subgrid.old.height }
     requires room { subgrid.old.width ≤ length scratch.old }
@@ -170,7 +170,7 @@ fn undo_row<S: Pairs>(subgrid: &mut MutableSubgrid<'_, S>, y: usize, scratch: &m
     subgrid.write_cells(0, y, row);
 }
 
-/// Undoes each row of the rectangle, by way of `scratch`, which has room for a row.
+/// Undoes each row of the rectangle, with `scratch`, which has room for a row.
 pub(crate) fn undo_rows<S: Pairs>(subgrid: &mut MutableSubgrid<'_, S>, scratch: &mut [S])
     requires room { subgrid.old.width ≤ length scratch.old }
     ensures len { length scratch.new ≡ length scratch.old }
@@ -187,8 +187,8 @@ pub(crate) fn undo_rows<S: Pairs>(subgrid: &mut MutableSubgrid<'_, S>, scratch: 
     }
 }
 
-/// Undoes one pair of rows of several columns: the samples before the pair stand in `strip` from `at` on, and its own are
-/// written behind them.
+/// Undoes one pair of rows of several columns: the samples before the pair are in `strip` from `at` on, and its own
+/// are written after them.
 fn unsqueeze_lines<S: Pairs>(
     averages: &[S],
     next: &[S],
@@ -228,7 +228,7 @@ fn single_line<S: Pairs>(line: &[S], strip: &mut [S], at: usize)
     }
 }
 
-/// Where the average after that of pair `k` stands, of `len` samples; that of the pair's own where there is none.
+/// Where the average after that of pair `k` is, of `len` samples; that of the pair's own where there is none.
 fn place_of_next(len: usize, k: usize) -> usize
     requires { k < len / 2 }
     ensures within { result < averages len }
@@ -237,8 +237,8 @@ fn place_of_next(len: usize, k: usize) -> usize
     if k + 1 < len - len / 2 { k + 1 } else { k }
 }
 
-/// Undoes pair `k` of `columns` columns, from column `x` on: the lines of `strip` are the first averages and the undone rows,
-/// of which those before the pair stand there.
+/// Undoes pair `k` of `columns` columns, from column `x` on: the lines of `strip` are the first averages and the
+/// undone rows, of which those before the pair are there.
 #[tactic(auto, using(crate::proofs::Strips::lines_within))]
 fn strip_pair<S: Pairs>(
     subgrid: &MutableSubgrid<'_, S>,
@@ -306,7 +306,7 @@ fn write_strip<S: Copy>(subgrid: &mut MutableSubgrid<'_, S>, x: usize, columns: 
     }
 }
 
-/// Undoes `columns` columns of the rectangle, from column `x` on, by way of `strip`.
+/// Undoes `columns` columns of the rectangle, from column `x` on, with `strip`.
 fn undo_strip<S: Pairs>(
     subgrid: &mut MutableSubgrid<'_, S>,
     x: usize,
@@ -326,10 +326,10 @@ fn undo_strip<S: Pairs>(
     write_strip(subgrid, x, columns, strip);
 }
 
-/// As many columns are undone at a time, if the scratch has room for them.
+/// How many columns are undone at a time, if the scratch has room for them.
 pub(crate) const COLUMNS: usize = 256;
 
-/// Undoes each column of the rectangle, by way of `scratch`, which has room for a column and a cell more.
+/// Undoes each column of the rectangle, with `scratch`, which has room for a column and a cell more.
 pub(crate) fn undo_columns<S: Pairs>(subgrid: &mut MutableSubgrid<'_, S>, scratch: &mut [S])
     requires room { subgrid.old.height + 1 ≤ length scratch.old }
     ensures len { length scratch.new ≡ length scratch.old }
@@ -350,7 +350,8 @@ pub(crate) fn undo_columns<S: Pairs>(subgrid: &mut MutableSubgrid<'_, S>, scratc
     }
 }
 
-/// Undoes each row of the rectangle. `OutOfMemory` where memory is refused, which a rectangle without cells does not ask for.
+/// Undoes each row of the rectangle. `OutOfMemory` if no memory is given; a rectangle without cells does not ask for
+/// any.
 pub(crate) fn rows<S: Pairs>(
     alloc: Global,
     zero: S,
@@ -370,7 +371,7 @@ pub(crate) fn rows<S: Pairs>(
     Ok(())
 }
 
-/// How much room the scratch of columns takes, for a rectangle of these sides.
+/// How many cells the scratch of columns has, for a rectangle of these sides.
 #[tactic(auto, using(crate::proofs::Strips::at_least))]
 fn room_for_columns(width: usize, height: usize) -> Result<usize, OutOfMemory>
     requires { 0 < width }
@@ -381,8 +382,8 @@ fn room_for_columns(width: usize, height: usize) -> Result<usize, OutOfMemory>
     lines.checked_mul(columns).ok_or(OutOfMemory)
 }
 
-/// Undoes each column of the rectangle. `OutOfMemory` where memory is refused, which a rectangle without cells does not ask
-/// for.
+/// Undoes each column of the rectangle. `OutOfMemory` if no memory is given; a rectangle without cells does not ask
+/// for any.
 pub(crate) fn columns<S: Pairs>(
     alloc: Global,
     zero: S,

@@ -7,7 +7,7 @@ use crate::grid::AlignedGrid;
 /// A rectangle of one grid of a store.
 #[derive(Clone, Copy, PartialEq, Eq)]
 pub struct Region {
-    /// The place of the grid in the store, from 0 on.
+    /// The index of the grid in the store, from 0 on.
     pub buffer: usize,
     /// The rectangle's first column.
     pub x: usize,
@@ -37,7 +37,8 @@ pub struct MutableSubgrid<'a, S> {
 impl<'a, S: Copy> MutableSubgrid<'a, S> {
     ghost use Rattle.jxlm_base.specs.Subgrid.{whole, loan, IsAt, IsSamePlace};
 
-    /// The rectangle of `width` columns and `height` rows whose first cell is in column `x` of row `y`; it lies inside.
+    /// The rectangle of `width` columns and `height` rows whose first cell is in column `x` of row `y`; it lies
+    /// inside.
     ///
     /// The grid is as before.
     pub fn new(

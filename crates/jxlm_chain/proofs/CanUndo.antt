@@ -1,4 +1,4 @@
--- Each step of a chain can be undone where the channels ahead of it lie as they must.
+-- Each step of a chain can be undone where the channels before it lie as they must.
 use Rattle.std.proofs.Common.{◌≡◌, ℕ, suc, ◌+◌, ◌-◌, ◌<◌, ◌≤◌, inl, true, ◌==◌, List, [], ◌∷◌, length, drop, get_or, Ok, refl, sym, ap, ◌∙◌, subst, eqb-true, arith}
 use Rattle.std.specs.List.{All, AllZip}
 use Rattle.std.proofs.lemmas.List.{get_or_default, get_or-take, get_or-drop, length-take, length-drop}

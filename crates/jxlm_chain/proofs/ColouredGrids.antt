@@ -30,7 +30,7 @@ module _ (w : Width) where
     abbrev Is : Grid ℤ → Type 0
     Is g = IsGridOf w c g
 
-    -- one coded part at a place
+    -- one coded part of a triple
     part_at : (f g h : Grid ℤ) → Is f → (p : Triple → ℤ) (x y : ℕ) → x < c.width → y < c.height →
         at (grid_by f.width f.height (λ x y. p (coded_triple w kind (triple_in f g h x y)))) x y ≡ p (coded_triple w kind (triple_in f g h x y))
     part_at f g h is p x y i j = made_at w c f.width f.height c.width c.height x y (λ x y. p (coded_triple w kind (triple_in f g h x y))) is.same_width is.same_height i j

@@ -1,4 +1,4 @@
--- The ends of regions behind a step.
+-- The ends of regions after a step.
 use Rattle.std.proofs.Common.{◌≡◌, ℕ, ◌+◌, ◌^◌, ◌<◌, Bool, true, false, List, [], ◌∷◌, ◌++◌, map, take, drop, subst, sym, arith, refl, ◌∙◌, Result, Ok, Err, IfOk, IfErr}
 use Rattle.std.specs.List.{All}
 use Rattle.std.proofs.lemmas.List.Elements.{All-cons, All-nil, All-append}
@@ -18,13 +18,13 @@ residual_ends : (horizontal : Bool) (r : Region) → HasEnds r → HasEnds (resi
 residual_ends true r h = let c = h.column in record { column = omega arith; row = h.row }
 residual_ends false r h = let c = h.row in record { column = h.column; row = omega arith }
 
--- behind a squeeze step
+-- after a squeeze step
 pub halves_end : (t : SqueezeParams) (rs new : List Region) → All HasEnds rs →
     new ≡ with_halves t (map (average_region t.horizontal) (range t.begin_c t.num_c rs)) (map (residual_region t.horizontal) (range t.begin_c t.num_c rs)) rs → All HasEnds new
 halves_end t rs new ends is =
     subst (All HasEnds) (sym is) (all_halves HasEnds t (average_region t.horizontal) (residual_region t.horizontal) rs (average_ends t.horizontal) (residual_ends t.horizontal) ends)
 
--- and behind a call that put the halves of a range into a list, or left it as it was
+-- and after a call that put the halves of a range into a list, or left it as it was
 pub call_ends : {U E : Type 0} (t : SqueezeParams) (rs seen us averages residuals new : List Region) (r : Result U E) → All HasEnds rs → seen ≡ rs → us ≡ averages →
     averages ≡ map (average_region t.horizontal) (range t.begin_c t.num_c seen) → residuals ≡ map (residual_region t.horizontal) (range t.begin_c t.num_c seen) →
     IfOk r (λ _. new ≡ with_halves t us residuals rs) → IfErr r (λ _. new ≡ rs) → All HasEnds new
@@ -35,7 +35,7 @@ call_ends t rs seen us averages residuals new (Err e) ends same same_us a r give
 pub range_ends : (begin n : ℕ) (rs : List Region) → All HasEnds rs → All HasEnds (range begin n rs)
 range_ends begin n rs ends = all_range HasEnds begin n rs ends
 
--- behind a palette
+-- after a palette
 pub first_ends : (begin n colours rows buffer : ℕ) (rs new : List Region) → All HasEnds rs → colours < 2 ^ 32 → rows < 2 ^ 32 →
     new ≡ region buffer 0 0 colours rows ∷ (take (begin + 1) rs ++ drop (begin + n) rs) → All HasEnds new
 first_ends begin n colours rows buffer rs new ends c r is =

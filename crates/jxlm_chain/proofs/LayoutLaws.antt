@@ -1,4 +1,4 @@
--- Where the channels of an image lie: ahead of all steps, and behind each.
+-- Where the channels of an image lie: before all steps, and after each.
 use Rattle.std.proofs.Common.{◌≡◌, ℕ, zero, suc, ◌+◌, ◌/◌, ◌<◌, ◌≤◌, inl, inr, Bool, true, false, List, [], ◌∷◌, ◌++◌, length, take, drop, get_or, Ok, refl, sym, ap, ◌∙◌, subst, le_refl, arith}
 use Rattle.std.specs.List.{All, AllZip}
 use Rattle.std.proofs.lemmas.Bool.{cases_lt}
@@ -29,7 +29,7 @@ HasSize c r = (r.width ≡ c.width) × (r.height ≡ c.height)
 -- ---- the tables of steps
 
 module _ {S : Type 0} where
-  -- buffers behind the first b are those of the tables
+  -- buffers after the first b are those of the tables
   pub tables_there : (ss : List Step) (b : ℕ) (store : List (Grid S)) → b ≤ length store → AllZip HasSides (tables_of ss) (drop b store) → HasTables ss b store
   tables_there [] b store le z = let long = length-drop b store in let none = zip_length HasSides [] (drop b store) z in omega (arith, long, none)
   tables_there (RctStep t ∷ ss) b store le z = tables_there ss b store le z
@@ -50,7 +50,7 @@ module _ {S : Type 0} where
   tables_fit (PaletteStep t ∷ ss) b store h = let le = tables_fit ss (suc b) store h.1 in omega arith
   tables_fit (SqueezeStep t ∷ ss) b store h = tables_fit ss b store h
 
--- ---- ahead of all steps
+-- ---- before all steps
 
 pub whole_sizes : (cs : List Channel) (b : ℕ) → AllZip HasSize cs (whole_regions b cs)
 whole_sizes [] b = tt
@@ -172,7 +172,7 @@ residual_size : (horizontal : Bool) (c : Channel) (r : Region) → HasSize c r �
 residual_size true c r h = let h0 = h.0 in (ap (λ n. n / 2) h0, h.1)
 residual_size false c r h = let h1 = h.1 in (h.0, ap (λ n. n / 2) h1)
 
--- ---- behind each step
+-- ---- after each step
 
 module _ {S : Type 0} (store : List (Grid S)) where
   lie_after_palette : (t : Palette) (l m : ChannelList) (places : Layout) → PaletteApplies t l m → 1 ≤ t.num_c → LieIn l.channels places store →
@@ -208,7 +208,7 @@ module _ {S : Type 0} (store : List (Grid S)) where
         apart = pairs_halves AreApart AreApart_sym t f g rs (average_apart t.horizontal) (residual_apart t.horizontal) (halves_apart t.horizontal) h.apart;
       }
 
--- Behind a step the channels lie as they must, and the tables of later steps follow.
+-- After a step the channels lie as they must, and the tables of later steps follow.
 pub lie_after : {S : Type 0} (s : Step) (l m : ChannelList) (places : Layout) (ss : List Step) (store : List (Grid S)) → list_after s l ≡ Ok m → HasChannels s → LieIn l.channels places store → HasTables (s ∷ ss) places.buffers store →
     LieIn m.channels (layout_after s places) store × HasTables ss (layout_after s places).buffers store
 lie_after (RctStep t) l m places ss store e some h tables = (subst (λ cs. LieIn cs places store) (rct_applies t l m e).behind h, tables)
@@ -216,7 +216,7 @@ lie_after (PaletteStep t) l m places ss store e some h tables =
     (lie_after_palette store t l m places (palette_applies t l m e) some h tables.0 (tables_fit ss (suc places.buffers) store tables.1), tables.1)
 lie_after (SqueezeStep t) l m places ss store e some h tables = (lie_after_squeeze store t l m places (squeeze_applies t l m e) h, tables)
 
--- behind all steps; the store has no further buffers
+-- after all steps; the store has no further buffers
 pub lie_after_all : {S : Type 0} (ss : List Step) (l m : ChannelList) (places : Layout) (store : List (Grid S)) → list_after_all ss l ≡ Ok m → All HasChannels ss → LieIn l.channels places store → HasTables ss places.buffers store →
     LieIn m.channels (layout_after_all ss places) store × HasTables [] (layout_after_all ss places).buffers store
 lie_after_all [] l m places store e some h tables = (subst (λ (x : ChannelList). LieIn x.channels places store) (same_ok l m e) h, tables)
@@ -251,15 +251,15 @@ beside_after (SqueezeStep t) l m places e some z =
     subst (λ cs. AllZip Beside cs (layout_after (SqueezeStep t) places).regions) (squeeze_applies t l m e).behind
     (zip_halves Beside t (average_channel t.horizontal) (residual_channel t.horizontal) (average_region t.horizontal) (residual_region t.horizontal) l.channels places.regions (λ c r h. tt) (λ c r h. tt) z)
 
--- a region for each channel, ahead of all steps
+-- a region for each channel, before all steps
 pub length_first : (cs : List Channel) → length (first_layout cs).regions ≡ length cs
 length_first cs = sym (zip_length HasSize cs (whole_regions 0 cs) (whole_sizes cs 0))
 
--- behind a step
+-- after a step
 pub length_after : (s : Step) (l m : ChannelList) (places : Layout) → list_after s l ≡ Ok m → HasChannels s → length places.regions ≡ length l.channels → length (layout_after s places).regions ≡ length m.channels
 length_after s l m places e some long = sym (zip_length Beside m.channels (layout_after s places).regions (beside_after s l m places e some (beside_same l.channels places.regions long)))
 
--- and behind all steps
+-- and after all steps
 pub length_after_all : (ss : List Step) (l m : ChannelList) (places : Layout) → list_after_all ss l ≡ Ok m → All HasChannels ss → length places.regions ≡ length l.channels → length (layout_after_all ss places).regions ≡ length m.channels
 length_after_all [] l m places e some long = subst (λ (x : ChannelList). length places.regions ≡ length x.channels) (same_ok l m e) long
 length_after_all (s ∷ ss) l m places e some long =

@@ -1,4 +1,4 @@
--- Lists with a range replaced, and lists that are related place by place.
+-- Lists with a range replaced, and lists that are related element by element.
 use Rattle.std.proofs.Common.{◌≡◌, ℕ, zero, suc, ◌+◌, ◌-◌, ◌≤◌, List, [], ◌∷◌, ◌++◌, length, min, take, drop, sym, refl, ap, ◌∙◌, arith}
 use Rattle.std.specs.List.{AllZip}
 use Rattle.std.proofs.Math.ListN.{length-take, length-drop, take-append-drop, length-append}
@@ -24,7 +24,7 @@ module _ {X : Type 0} where
   pub length-range : (b n : ℕ) (xs : List X) → b + n ≤ length xs → length (range b n xs) ≡ n
   length-range b n xs l = length-take (b + n - b) (drop b xs) ∙ (let d = length-drop b xs in omega arith)
 
-  -- a list is what is ahead of a range, the range, and what is behind it
+  -- a list is what is before a range, the range, and what is after it
   pub with_own_range : (b n : ℕ) (xs : List X) → with_range b n (range b n xs) xs ≡ xs
   with_own_range b n xs =
       let many : b + n - b ≡ n = omega arith in

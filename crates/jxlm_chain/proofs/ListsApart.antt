@@ -1,4 +1,4 @@
--- Parts of lists: what holds of pairs of their elements, and of two lists place by place.
+-- Parts of lists: what holds of pairs of their elements, and of two lists element by element.
 use Rattle.std.proofs.Common.{◌≡◌, ℕ, zero, suc, ◌+◌, ◌-◌, ◌<◌, ◌≤◌, inl, inr, List, [], ◌∷◌, ◌++◌, length, map, take, drop, get_or, refl, sym, ap, subst, subst₂, arith}
 use Rattle.std.specs.List.{All, AllPairs, AllZip}
 use Rattle.std.proofs.lemmas.Bool.{cases_lt, cases_eq}
@@ -108,7 +108,7 @@ module _ {X : Type 0} (R : X → X → Type 0) where
       ] in
       subst₂ R (sym (get_or-map f xs i d d ia)) (sym (get_or-map g xs j d d jb)) two
 
--- ---- two lists place by place
+-- ---- two lists element by element
 
 module _ {X Y : Type 0} (R : X → Y → Type 0) where
   pub zip_length : (xs : List X) (ys : List Y) → AllZip R xs ys → length xs ≡ length ys

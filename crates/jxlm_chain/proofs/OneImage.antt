@@ -33,7 +33,7 @@ after_same x y e = cc
 abbrev Grids : Type 0
 Grids = List (Grid ℤ)
 
--- where the residuals stand, by the test that chooses it
+-- where the residuals are, by the test that chooses it
 halves_parts : (in_place : Bool) (b n : ℕ) (us vs us' vs' xs ys : Grids) → length us ≡ length us' → length vs ≡ length vs' → length xs ≡ length ys →
     (if in_place then with_range b n (us ++ vs) xs else with_range b n us xs ++ vs) ≡ (if in_place then with_range b n (us' ++ vs') ys else with_range b n us' ys ++ vs') →
     (take b xs ≡ take b ys) × (us ≡ us') × (vs ≡ vs') × (drop (b + n) xs ≡ drop (b + n) ys)

@@ -1,4 +1,4 @@
--- Steps of a plan, one behind the other.
+-- Steps of a plan, one after another.
 use Rattle.std.proofs.Common.{◌≡◌, ℕ, ◌+◌, ◌^◌, ◌<◌, ◌≤◌, List, [], ◌∷◌, ◌++◌, length, map, take, drop, get_or, Ok, refl, sym, ap, ◌∙◌, subst, append_assoc, arith}
 use Rattle.std.specs.List.{All}
 use Rattle.std.proofs.lemmas.List.{append-nil, take_more, drop_more}
@@ -47,7 +47,7 @@ goes_one s p q undoings places =
 pub goes_nowhere : (p : Plan) → GoesOn [] p p
 goes_nowhere p = record { undoings = sym (append-nil (undos_of p.undoings.items)); places = refl }
 
--- ---- the steps of a list's elements, one after the other
+-- ---- the steps of a list's elements, one after another
 
 module _ {X : Type 0} (steps : List X → List Step) (one : X → List Step) (none : steps [] ≡ []) (first : (x : X) (xs : List X) → steps (x ∷ xs) ≡ one x ++ steps xs) where
   steps_push : (xs : List X) (x : X) → steps (xs ++ x ∷ []) ≡ steps xs ++ one x
@@ -55,7 +55,7 @@ module _ {X : Type 0} (steps : List X → List Step) (one : X → List Step) (no
   steps_push (y ∷ ys) x =
       first y (ys ++ x ∷ []) ∙ ap (λ (ss : List Step). one y ++ ss) (steps_push ys x) ∙ sym (append_assoc (one y) (steps ys) (one x)) ∙ ap (λ (ss : List Step). ss ++ one x) (sym (first y ys))
 
-  -- the next one can be taken, and then those behind it
+  -- the next one can be taken, and then those after it
   pub take_next : (xs : List X) (i : ℕ) (d : X) (l : Layout) → i < length xs → CanTakeAll (steps (drop i xs)) l → CanTakeAll (one (get_or xs i d)) l × CanTakeAll (steps (drop (i + 1) xs)) (layout_after_all (one (get_or xs i d)) l)
   take_next xs i d l lt h =
       let e : steps (drop i xs) ≡ one (get_or xs i d) ++ steps (drop (i + 1) xs) = ap steps (drop_more xs i d lt) ∙ first (get_or xs i d) (drop (i + 1) xs) in

@@ -1,4 +1,4 @@
--- Ranges of lists: what stands in them, and what maps make of lists with others in their place.
+-- Ranges of lists: what is in them, and what maps make of lists with others instead of them.
 use Rattle.std.proofs.Common.{◌≡◌, ℕ, suc, ◌+◌, ◌-◌, ◌<◌, ◌≤◌, List, [], ◌∷◌, ◌++◌, length, refl, sym, ap, ◌∙◌, arith}
 use Rattle.std.specs.Prelude.{get_or, map, take, drop, Bool, true, false, if◌then◌else◌}
 use Rattle.std.proofs.lemmas.List.{take-map, drop-map, map-append, append_assoc, take-append-drop, drop-drop, get_or-take, get_or-drop, length-take, length-drop}
@@ -17,7 +17,7 @@ module _ {X : Type 0} (begin n : ℕ) (xs : List X) where
   pub range_at : (i : ℕ) (d : X) → i < n → get_or (range begin n xs) i d ≡ get_or xs (begin + i) d
   range_at i d h = get_or-take (begin + n - begin) (drop begin xs) i d (omega arith) ∙ get_or-drop begin xs i d
 
-  -- a list with what stands in its range is that list
+  -- a list with what is in its range is that list
   pub with_own : with_range begin n (range begin n xs) xs ≡ xs
   with_own =
       let e : begin + n - begin ≡ n = omega arith in

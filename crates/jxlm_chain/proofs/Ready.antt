@@ -1,4 +1,4 @@
--- What the undoings of a plan ask of a store, from what is known of its steps.
+-- What the undoings of a plan need of a store, from what is known of its steps.
 use Rattle.std.proofs.Common.{◌≡◌, Option, sym, subst, ◌^◌, ◌≤◌, Bool, List, [], ◌∷◌, map, Some, arith}
 use Rattle.std.specs.List.{All}
 use Rattle.std.proofs.lemmas.List.Elements.{All-append, All-cons, All-from_recursion, All-head, All-nil, All-tail}

@@ -8,7 +8,7 @@ use Rattle.jxlm_base.specs.Squeeze.{AreGridSamples}
 use Rattle.jxlm_transform.specs.Channels.{Channel}
 use Rattle.jxlm_chain.specs.Chain.{AreGridsOf, AreSampleGrids}
 
--- the grid has the channel's sides, and a w-bit sample at each place
+-- the grid has the channel's sides, and a w-bit sample in each cell
 pub record IsGridOf (w : Width) (c : Channel) (g : Grid ℤ) : Type 0 where
   pub same_width : g.width ≡ c.width
   pub same_height : g.height ≡ c.height

@@ -1,4 +1,4 @@
--- What a step that is not refused says of the list ahead of it, and of the one behind.
+-- What a step without an error says of the list before it, and of the one after it.
 use Rattle.std.proofs.Common.{◌≡◌, ℕ, ◌+◌, ◌≤◌, Bool, true, false, ◌-◌, not, ◌&&◌, ◌||◌, nat_lt, nat_le, if◌then◌else◌, List, [], ◌∷◌, ◌++◌, length, map, take, drop, Result, Ok, Err, refl, leb-true}
 use Rattle.std.specs.List.{list_all}
 use Rattle.jxlm_base.specs.Fault.{Fault, BadRct, BadPalette, BadSqueeze}
@@ -68,7 +68,7 @@ squeeze_applies t l m e =
     let (a, b) = both_of (here && meta) (list_all can_be_squeezed cs) test in
     record { there = in_range t.begin_c t.num_c l.channels (both_of here meta a).0; can = b; behind = λ i. (same i).channels }
 
--- ---- steps one after the other
+-- ---- steps one after another
 
 -- what a result that is Ok came from
 pub came : {X Y : Type 0} (r : Result X Fault) (next : X → Result Y Fault) (y : Y) → r >>= next ≡ Ok y → (x : X) × (r ≡ Ok x) × (next x ≡ Ok y)

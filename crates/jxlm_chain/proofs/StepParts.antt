@@ -7,11 +7,11 @@ use Rattle.jxlm_transform.specs.ChannelSteps.{range, with_range, with_halves}
 use Rattle.jxlm_transform.specs.declared.transform.SqueezeParams.{SqueezeParams}
 use Rattle.jxlm_chain.proofs.ListsApart.{AllCross, pairs_take, pairs_drop, pairs_append, pairs_map, cross_take_drop, cross_take_right, cross_turned, cross_append_left, cross_append_right, cross_map_left, cross_map_right, cross_maps, zip_append, zip_take, zip_drop, zip_map}
 
--- one element in the place of a range is the range's first, where that is kept
+-- one element instead of a range is the range's first, where that is kept
 pub with_first : {X : Type 0} (begin n : ℕ) (xs : List X) (d : X) → begin < length xs → with_range begin n (get_or xs begin d ∷ []) xs ≡ take (begin + 1) xs ++ drop (begin + n) xs
 with_first begin n xs d lt = ap (λ ys. ys ++ drop (begin + n) xs) (sym (take_more xs begin d lt))
 
--- two lists, both in the place between others, or the second of them at the end
+-- two lists, both between others, or the second of them at the end
 abbrev pub placed : {X : Type 0} → Bool → List X → List X → List X → List X → List X
 placed inside ahead fs gs behind = if inside then ahead ++ (fs ++ gs) ++ behind else ahead ++ fs ++ behind ++ gs
 
@@ -42,7 +42,7 @@ module _ {X : Type 0} (R : X → X → Type 0) where
   pairs_first begin n xs le pairs =
       pairs_append R (take (begin + 1) xs) (drop (begin + n) xs) (pairs_take R (begin + 1) xs pairs) (pairs_drop R (begin + n) xs pairs) (cross_take_drop R (begin + 1) (begin + n) xs (omega arith) pairs)
 
-  -- a range, and what stands ahead of it and behind it
+  -- a range, and what is before it and after it
   cross_ahead : (begin n : ℕ) (xs : List X) → AllPairs R xs → AllCross R (take begin xs) (range begin n xs)
   cross_ahead begin n xs pairs = cross_take_right R (begin + n - begin) (take begin xs) (drop begin xs) (cross_take_drop R begin begin xs (omega arith) pairs)
 

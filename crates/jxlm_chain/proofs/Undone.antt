@@ -1,4 +1,4 @@
--- Steps undone: what one of them leaves is coded as what stood there, and all of them together make a chain.
+-- Steps undone: what one of them leaves is coded as what was there, and all of them together make a chain.
 use Rattle.std.proofs.Common.{◌≡◌, ℕ, suc, List, [], ◌∷◌, ◌++◌, ℤ, refl, sym, ap, subst, arith}
 use Rattle.std.specs.Prelude.{Ok}
 use Rattle.std.specs.List.{All}
@@ -20,7 +20,7 @@ use Rattle.jxlm_chain.proofs.UndonePalette.{palette_codes}
 use Rattle.jxlm_chain.proofs.UndoneSqueeze.{squeeze_codes}
 
 module _ {S : Type 0} (to_int : S → ℤ) (w : Width) (depth : ℕ) where
-  -- the store between some undoings and those behind them
+  -- the store between some undoings and those after them
   pub undone_split : (us vs : List Undo) (old new : List (Grid S)) → UndoesAll to_int w depth (us ++ vs) old new →
       (between : List (Grid S)) × UndoesAll to_int w depth vs old between × UndoesAll to_int w depth us between new
   undone_split [] vs old new h = (new, h, refl)
@@ -28,7 +28,7 @@ module _ {S : Type 0} (to_int : S → ℤ) (w : Width) (depth : ℕ) where
       let rest = undone_split us vs old h.0 h.1 in
       (rest.0, rest.1, (h.0, rest.2, h.2))
 
-  -- what a step's undoings leave is coded as what stood there
+  -- what a step's undoings leave is coded as what was there
   pub codes_of : (s : Step) (cs : List Channel) (places : Layout) (old new : List (Grid S)) → LieIn cs places old → UndoesAll to_int w depth (undo_of s places) old new →
       Codes w depth s (grids_in places.regions (store_meanings to_int new)) (grids_in (layout_after s places).regions (store_meanings to_int old))
   codes_of (RctStep t) cs places old new lies h = colour_codes to_int w depth t places cs old new lies h
@@ -36,7 +36,7 @@ module _ {S : Type 0} (to_int : S → ℤ) (w : Width) (depth : ℕ) where
   codes_of (SqueezeStep t) cs places old new lies h = squeeze_codes to_int w depth t places cs old new lies h
 
 module _ {S : Type 0} (to_int : S → ℤ) (w : Width) (depth : ℕ) where
-  -- The steps undone: the grids ahead of them become those that stood behind them.
+  -- The steps undone: the grids before them become those that were after them.
   pub chain_of : (ss : List Step) (l m : ChannelList) (places : Layout) (old new : List (Grid S)) → list_after_all ss l ≡ Ok m → All HasChannels ss → LieIn l.channels places old → HasTables ss places.buffers old →
       UndoesAll to_int w depth (undo_of_all ss places) old new →
       Chain w depth ss l (grids_in places.regions (store_meanings to_int new)) (grids_in (layout_after_all ss places).regions (store_meanings to_int old))

@@ -1,4 +1,4 @@
--- A colour step undone: the three grids now, recoloured, are those that stood there.
+-- A colour step undone: the three grids now, recoloured, are those that were there.
 use Rattle.std.proofs.Common.{◌≡◌, ℕ, List, ℤ, sym, ap, ◌∙◌, subst}
 use Rattle.std.specs.Prelude.{map}
 use Rattle.std.specs.Int.{Width}

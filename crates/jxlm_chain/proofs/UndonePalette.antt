@@ -1,4 +1,4 @@
--- A palette step undone: the finished grids are those of the table and the indices that stood there.
+-- A palette step undone: the finished grids are those of the table and the indices that were there.
 use Rattle.std.proofs.Common.{ℕ, List, [], ◌∷◌, ℤ, sym, ap, ◌∙◌, subst}
 use Rattle.std.specs.Prelude.{get_or, map}
 use Rattle.std.specs.Int.{Width}

@@ -23,13 +23,13 @@ use Rattle.jxlm_chain.proofs.KeptGrids.{grid_apart, grid_out_of_range}
 use Rattle.jxlm_chain.proofs.Ranges.{range_map, with_halves_map, with_halves_same, map_map_same}
 use Rattle.jxlm_chain.proofs.StepParts.{all_range, pairs_range}
 
--- ---- several regions, one behind another
+-- ---- several regions, one after another
 
 first_and_rest : {X : Type 0} (P : X → Type 0) (x : X) (xs : List X) → P x → All P xs → All P (x ∷ xs)
 first_and_rest P x xs p ps zero d h = p
 first_and_rest P x xs p ps (suc k) d h = ps k d (omega arith)
 
--- what stands in each region now, squeezed, is what stood there
+-- what is in each region now, squeezed, is what was there
 abbrev pub AreSqueezed : Width → Bool → List Region → List (Grid ℤ) → List (Grid ℤ) → Type 0
 AreSqueezed w horizontal rs old new = All (λ r. UndoesSqueeze w horizontal r old new) rs
 
@@ -59,7 +59,7 @@ module _ {S : Type 0} (to_int : S → ℤ) (w : Width) (depth : ℕ) (horizontal
       }) in
       (squeezed_now, keeps)
 
--- the averages and the residuals of the regions' grids stood in their two parts
+-- the averages and the residuals of the regions' grids were in their two parts
 module _ (w : Width) (horizontal : Bool) (rs : List Region) (old new : List (Grid ℤ)) (squeezed : AreSqueezed w horizontal rs old new) where
   averages_of : map (grid_of old) (map (average_region horizontal) rs) ≡ map (average_grid w horizontal) (map (grid_of new) rs)
   averages_of = map_map_same (grid_of old) (average_region horizontal) (average_grid w horizontal) (grid_of new) rs (λ k d h. sym (averages_stood w (get_or rs k d) old new horizontal (squeezed k d h)))

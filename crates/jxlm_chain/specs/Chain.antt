@@ -1,4 +1,5 @@
--- What transforms make of an image's samples (ISO/IEC 18181-1, Modular: inverse transforms, from the image to the coded channels).
+-- What transforms make of an image's samples (ISO/IEC 18181-1, Modular: inverse transforms, from the image to the
+-- coded channels).
 use Rattle.std.specs.Prelude.{◌≡◌, ℕ, List, [], ◌∷◌, map, ℤ, Ok}
 use Rattle.std.specs.List.{All, AllZip}
 use Rattle.std.specs.Int.{Width}
@@ -10,7 +11,7 @@ use Rattle.jxlm_transform.specs.Palette.{IsPaletteOf}
 use Rattle.jxlm_transform.specs.Recoloured.{recoloured}
 use Rattle.jxlm_transform.specs.SqueezedRegions.{average_grid, residual_grid}
 
--- the grid has the channel's sides, and a number at each place
+-- the grid has the channel's sides, and a number in each cell
 pub record HasSidesOf (c : Channel) (g : Grid ℤ) : Type 0 where
   pub same_width : g.width ≡ c.width
   pub same_height : g.height ≡ c.height
@@ -28,8 +29,8 @@ module _ (w : Width) where
 
 -- and depth bits in the picture
 module _ (w : Width) (depth : ℕ) where
-  -- One step codes the grids ahead as those behind it. What it codes by colour or squeeze are w-bit samples; what a palette stands for
-  -- is made of them. Grids out of its range stay.
+  -- One step codes the grids before it as those after it. What it codes by colour or squeeze are w-bit samples; what
+  -- a palette stands for is made of them. Grids out of its range stay.
   abbrev pub Codes : Step → List (Grid ℤ) → List (Grid ℤ) → Type 0
   Codes (RctStep t) ahead behind =
       AreSampleGrids w (range t.begin_c 3 ahead) × (behind ≡ with_range t.begin_c 3 (recoloured w t.rct_type (range t.begin_c 3 ahead)) ahead)
@@ -39,8 +40,8 @@ module _ (w : Width) (depth : ℕ) where
       AreSampleGrids w (range t.begin_c t.num_c ahead) ×
       (behind ≡ with_halves t (map (average_grid w t.horizontal) (range t.begin_c t.num_c ahead)) (map (residual_grid w t.horizontal) (range t.begin_c t.num_c ahead)) ahead)
 
-  -- The image, of the channels of a list, becomes the coded grids: between each two steps there are grids, for the channels that
-  -- the steps give.
+  -- The image, of the channels of a list, becomes the coded grids: between each two steps there are grids, for the
+  -- channels that the steps give.
   abbrev pub Chain : List Step → ChannelList → List (Grid ℤ) → List (Grid ℤ) → Type 0
   Chain [] l image coded = AreGridsOf l.channels image × (coded ≡ image)
   Chain (s ∷ ss) l image coded =

@@ -1,4 +1,4 @@
--- Where samples lie in a store: the regions of an image's channels, ahead of each step and behind it.
+-- Where samples lie in a store: the regions of an image's channels, before each step and after it.
 use Rattle.std.specs.Prelude.{◌≡◌, ℕ, suc, ◌^◌, ◌<◌, ◌≤◌, List, [], ◌∷◌, ◌++◌, length, map, get_or, ℤ}
 use Rattle.std.specs.List.{All, AllZip}
 use Rattle.jxlm_base.specs.Grid.{Grid, IsFull}
@@ -20,15 +20,16 @@ abbrev pub whole_regions : ℕ → List Channel → List Region
 whole_regions b [] = []
 whole_regions b (c ∷ cs) = region b 0 0 c.width c.height ∷ whole_regions (suc b) cs
 
--- ahead of all steps
+-- before all steps
 abbrev pub first_layout : List Channel → Layout
 first_layout cs = record { regions = whole_regions 0 cs; buffers = length cs }
 
--- what stands where there is no region
+-- the region that is given where there is none
 abbrev pub no_region : Region
 no_region = region 0 0 0 0 0
 
--- Behind a step: a table has the next buffer, and its indices lie where the first of its channels lay; a squeezed region is cut in two.
+-- After a step: a table has the next buffer, and its indices lie where the first of its channels lay; a squeezed
+-- region is divided in two.
 abbrev pub layout_after : Step → Layout → Layout
 layout_after (RctStep t) l = l
 layout_after (PaletteStep t) l = record {
@@ -40,7 +41,7 @@ layout_after (SqueezeStep t) l = record {
   buffers = l.buffers;
 }
 
--- behind all steps
+-- after all steps
 abbrev pub layout_after_all : List Step → Layout → Layout
 layout_after_all [] l = l
 layout_after_all (s ∷ ss) l = layout_after_all ss (layout_after s l)

@@ -21,7 +21,7 @@ IsNarrowUndo (UndoRct kind regions) = Unit {0}
 IsNarrowUndo (UndoPalette t table index regions) = IsNarrow index
 IsNarrowUndo (UndoSqueeze horizontal r) = IsNarrow r
 
--- the columns that a palette of these weights may have
+-- how many columns a palette of these weights may have
 abbrev pub columns_for : Option WpHeader → Needs → ℕ
 columns_for None needs = needs.plain
 columns_for (Some weights) needs = needs.weighted
@@ -46,7 +46,8 @@ module _ {S : Type 0} where
   state_for None scratch = scratch.plain
   state_for (Some weights) scratch = scratch.weighted
 
-  -- there is room for an undoing: three rows; a state with the palette's weights, and its regions; a row, and a column with a sample more
+  -- there is room for an undoing: three rows; a state with the palette's weights, and its regions; a row, and a
+  -- column with a sample more
   abbrev pub HasRoomToUndo : Scratch S → Undo → Type 0
   HasRoomToUndo scratch (UndoRct kind regions) = HasRoom scratch.rows (get_or regions 0 no_region).width
   HasRoomToUndo scratch (UndoPalette t table index regions) =

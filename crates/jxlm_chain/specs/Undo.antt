@@ -1,4 +1,5 @@
--- What undoes the steps of a chain in a store: each step becomes one undoing or more, which name the regions that they change.
+-- What undoes the steps of a chain in a store: each step becomes one undoing or more, which name the regions that
+-- they change.
 use Rattle.std.specs.Prelude.{◌≡◌, ℕ, List, [], ◌∷◌, ◌++◌, map, get_or, Bool, ℤ}
 use Rattle.std.specs.Int.{Width}
 use Rattle.jxlm_base.specs.Grid.{Grid}
@@ -12,14 +13,14 @@ use Rattle.jxlm_transform.specs.SqueezedRegions.{UndoesSqueeze}
 use Rattle.jxlm_transform.specs.declared.transform.Palette.{Palette}
 use Rattle.jxlm_chain.specs.Layout.{Layout, layout_after, no_region}
 
--- a colour kind and its three regions; a palette, the regions of its table and its indices, and those of its channels; or a way
--- of squeezing and the region that was squeezed
+-- a colour kind and its three regions; a palette, the regions of its table and its indices, and those of its
+-- channels; or a way of squeezing and the region that was squeezed
 pub data Undo : Type 0 where
   UndoRct : ℕ → List Region → Undo
   UndoPalette : Palette → Region → Region → List Region → Undo
   UndoSqueeze : Bool → Region → Undo
 
--- what undoes a step, with the regions ahead of it
+-- what undoes a step, with the regions before it
 abbrev pub undo_of : Step → Layout → List Undo
 undo_of (RctStep t) l = UndoRct t.rct_type (range t.begin_c 3 l.regions) ∷ []
 undo_of (PaletteStep t) l = UndoPalette t (region l.buffers 0 0 t.nb_colours t.num_c) (get_or l.regions t.begin_c no_region) (range t.begin_c t.num_c l.regions) ∷ []

@@ -6,8 +6,8 @@ ghost use Rattle.jxlm_chain.specs.Grids.{leader_of};
 use jxlm_base::grid::{OutOfMemory, Region};
 use std::alloc::Global;
 
-/// Where the samples of a channel lie. The channel of a palette's indices stands for others, which come back where the palette is
-/// undone.
+/// Where the samples of a channel lie. The channel of a palette's indices stands for others, which come back where
+/// the palette is undone.
 #[derive(Drop)]
 pub enum TransformedGrid {
     /// A channel that stands for itself, or for one that lies where it lies.
@@ -66,7 +66,7 @@ impl TransformedGrid {
     ///
     /// # Errors
     ///
-    /// `OutOfMemory` where memory runs out.
+    /// `OutOfMemory`, and no other.
     pub fn try_clone(&self, alloc: Global) -> Result<TransformedGrid, OutOfMemory>
         ensures leader { IfOk result (λ g. leader_of g ≡ leader_of self.now) }
         ensures members { IfOk result (λ g. members_of g ≡ members_of self.now) }

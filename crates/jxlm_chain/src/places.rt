@@ -106,7 +106,7 @@ impl Places {
     ///
     /// # Errors
     ///
-    /// `OutOfMemory` where memory runs out.
+    /// `OutOfMemory`, and no other.
     pub fn new(alloc: Global, channels: &[ModularChannelInfo]) -> Result<Places, OutOfMemory>
         ensures { IfOk result (λ p. layout_of p ≡ first_layout (map channel_of channels.now)) }
     {
@@ -125,14 +125,14 @@ impl Places {
         Ok(Places { regions, buffers })
     }
 
-    /// What becomes of the places by a palette: its table has the next buffer and stands first, and its indices lie where the
-    /// first channel of the range lay.
+    /// What becomes of the places by a palette: its table has the next buffer and comes first, and its indices lie
+    /// where the first channel of the range lay.
     ///
     /// The range is of one channel or more, all of which have places.
     ///
     /// # Errors
     ///
-    /// `OutOfMemory` where memory runs out; the places are as before then.
+    /// `OutOfMemory`, and no other; the places are as before then.
     pub fn index(&mut self, alloc: Global, palette: &Palette) -> Result<(), OutOfMemory>
         requires some_channels { 1 ≤ palette.now.num_c }
         requires range { palette.now.begin_c + palette.now.num_c ≤ length self.old.regions.items }
@@ -158,7 +158,7 @@ impl Places {
     ///
     /// # Errors
     ///
-    /// `OutOfMemory` where memory runs out; the places are as before then.
+    /// `OutOfMemory`, and no other; the places are as before then.
     pub fn halve(&mut self, alloc: Global, step: &SqueezeParams) -> Result<(), OutOfMemory>
         requires { step.now.begin_c + step.now.num_c ≤ length self.old.regions.items }
         ensures gives { IfOk result (λ _. layout_of self.new ≡ layout_after (SqueezeStep step.now) (layout_of self.old)) }

@@ -54,7 +54,7 @@ const NOTHING: Needs = Needs {
     members: 0,
 };
 
-/// What stands in the list of regions until a palette is undone.
+/// What is in the list of regions until a palette is undone.
 const NO_REGION: Region = Region {
     buffer: 0,
     x: 0,
@@ -66,7 +66,8 @@ const NO_REGION: Region = Region {
 /// The squeezed columns that are undone at a time.
 const COLUMNS: usize = 256;
 
-/// The samples of the line in which a squeeze of the region is undone: a row, or several columns with a sample more each.
+/// The samples of the line in which a squeeze of the region is undone: a row, or several columns with a sample more
+/// each.
 fn line_for(horizontal: bool, region: &Region) -> usize
     requires { IsNarrow region.now }
     ensures { max region.now.width (region.now.height + 1) ≤ result }
@@ -127,7 +128,7 @@ impl Undoing {
     }
 }
 
-/// What undoing one after the other takes.
+/// What undoing one after another takes.
 fn needs_of_all(undoings: &[Undoing]) -> Needs
     requires { All IsNarrowUndo (undos_of undoings.now) }
     ensures covers { All (Covers result) (undos_of undoings.now) }
@@ -140,7 +141,7 @@ fn needs_of_all(undoings: &[Undoing]) -> Needs
     needs
 }
 
-/// A line of n samples.
+/// A buffer of n samples.
 fn line<S: Sample>(alloc: Global, n: usize) -> std::result::Result<Vec<S>, OutOfMemory>
     ensures { IfOk result (λ v. vec_len v ≡ n) }
 {
@@ -155,13 +156,13 @@ fn regions(alloc: Global, n: usize) -> std::result::Result<Vec<Region>, OutOfMem
 }
 
 impl<S: Sample> Scratch<S> {
-    /// Room for each of these undoings, with the image's weights, which are those of a header that was read: as much of each kind
-    /// as the undoing that takes most of it. No side of a palette's indices or of a squeezed region is above 2^30, and each
-    /// palette has the image's weights or none.
+    /// Room for each of these undoings, with the image's weights, which are those of a header that was read: as much
+    /// of each kind as the undoing that takes most of it. No side of a palette's indices or of a squeezed region is
+    /// above 2^30, and each palette has the image's weights or none.
     ///
     /// # Errors
     ///
-    /// `Buffer` where memory runs out.
+    /// `Buffer` if it is out of memory, and no other.
     pub fn new(alloc: Global, undoings: &[Undoing], weights: &WpHeader) -> Result<Scratch<S>>
         requires narrow { All IsNarrowUndo (undos_of undoings.now) }
         requires suits { All (SuitsWeights (Some weights.now)) (undos_of undoings.now) }

@@ -1,4 +1,4 @@
-//! What undoes the transforms of an image in a store, planned and run.
+//! What undoes the transforms of an image in a store, planned and run (ISO/IEC 18181-1, Modular: inverse transforms).
 
 ghost use Rattle.std.specs.Prelude.{◌≡◌, ℕ, ◌+◌, ◌^◌, ◌<◌, ◌≤◌, [], ◌∷◌, ◌++◌, ◌⊎◌, length, get_or, map, IfOk, IfErr};
 ghost use Rattle.std.specs.List.{All};
@@ -55,8 +55,8 @@ pub enum Undoing {
     },
 }
 
-/// The channel that lies in the region: that of the indices of the last of these palettes that has them there, or one that stands
-/// for itself. The palettes are places in the list of undoings.
+/// The channel that lies in the region: that of the indices of the last of these palettes that has them there, or one
+/// that stands for itself. The palettes are indices into the list of undoings.
 fn channel_at(
     alloc: Global,
     undoings: &[Undoing],
@@ -121,7 +121,7 @@ impl Places {
         }
     }
 
-    /// What undoes a palette after these undoings, of which the ones at the places `palettes` undo palettes.
+    /// What undoes a palette after these undoings, of which the ones with the indices `palettes` undo palettes.
     fn undo_palette(
         &self,
         alloc: Global,
@@ -189,7 +189,7 @@ impl Places {
 pub struct Plan {
     /// What undoes the transforms, in their order: the last is run first.
     pub undoings: Vec<Undoing>,
-    /// The places in that list of what undoes a palette.
+    /// The indices in that list of what undoes a palette.
     palettes: Vec<usize>,
     /// Where the channels lie after all transforms.
     pub places: Places,
@@ -262,14 +262,14 @@ impl Plan {
         Ok(())
     }
 
-    /// What undoes these transforms of an image of these channels, each of which is the whole of a buffer of its own; after
-    /// those come the tables of palettes, in their order.
+    /// What undoes these transforms of an image of these channels, each of which is the whole of a buffer of its own;
+    /// after those come the tables of palettes, in their order.
     ///
     /// The transforms suit the channels, and list their steps.
     ///
     /// # Errors
     ///
-    /// `Buffer` where memory runs out.
+    /// `Buffer` if it is out of memory, and no other.
     pub fn new(
         alloc: Global,
         transforms: &[TransformInfo],
@@ -353,8 +353,9 @@ fn run_squeeze<S: Sample>(
 impl Undoing {
     /// Undoes what it names in a store.
     ///
-    /// Its regions lie in the store as they must, no side of whose buffers is above 2^30. `bit_depth` is that of the picture, at
-    /// most 32. The scratch has room for it, and the weights of a palette that has some. Cells outside the regions stay.
+    /// Its regions lie in the store as they must, no side of whose buffers is above 2^30. `bit_depth` is that of the
+    /// picture, at most 32. The scratch has room for it, and the weights of a palette that has some. Cells outside
+    /// the regions stay.
     pub fn run<S: Sample>(
         &self,
         store: &mut [AlignedGrid<S>],
@@ -382,11 +383,11 @@ impl Undoing {
     }
 }
 
-/// Undoes all of these in a store, from the last to the first: each takes what those after it have left, and changes no cell
-/// outside the regions that it names.
+/// Undoes all of these in a store, from the last to the first: each takes what those after it have left, and changes
+/// no cell outside the regions that it names.
 ///
-/// What each of them asks for holds of the store as it is before, and the scratch has room for each. No memory is taken, and
-/// nothing can fail.
+/// What each of them requires holds of the store as it is before, and the scratch has room for each. No memory is
+/// taken, and nothing can fail.
 pub fn undo_all<S: Sample>(
     undoings: &[Undoing],
     store: &mut [AlignedGrid<S>],

@@ -1,4 +1,4 @@
--- The laws of the fields that stand ahead of an image's tree.
+-- The laws of the fields that come before an image's tree.
 use Rattle.std.proofs.Common.{◌≡◌, ℕ, List, Bool, Result, Ok, Err, refl, ap, ◌∙◌}
 use Rattle.jxlm_base.specs.Fault.{Fault, UnlessNoMemory}
 use Rattle.jxlm_base.specs.Grammar.{Grammar, IsExact, IsRefused, behind, flag, repeated, ◌>>=◌}
@@ -29,11 +29,11 @@ exact-checked : {X : Type 0} (r : Result X Fault) → IsExact (checked r)
 exact-checked (Ok x) = exact-give x
 exact-checked (Err e) = exact-refuse e
 
--- and so is all that stands ahead of the tree
+-- and so is all that comes before the tree
 pub exact-opening : (has_global : Bool) (list : ChannelList) → IsExact (opening has_global list)
 exact-opening has_global list = bind exact-header λ h. exact-checked (resolved has_global list h)
 
--- where one of the transforms is refused, so is the header
+-- where one of the transforms gives an error, so does the header
 pub listed_refused : (bytes : List ℕ) (p : ℕ) (global : Bool) (a : ℕ) (weights : WpHeader) (b n m : ℕ) (fault : Fault) (q : ℕ) → flag.read bytes p ≡ Ok (record { value = global; position = a }) →
     wp_header.read bytes a ≡ Ok (record { value = weights; position = b }) → transform_count.read bytes b ≡ Ok (record { value = n; position = m }) →
     UnlessNoMemory fault (IsRefused ((repeated n (transform weights)).read bytes m) fault q) → UnlessNoMemory fault (IsRefused (header.read bytes p) fault q)

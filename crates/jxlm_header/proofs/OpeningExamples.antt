@@ -1,4 +1,4 @@
--- Computed examples: what is refused ahead of a tree, from bits.
+-- Computed examples: errors before a tree, from bits.
 use Rattle.std.specs.Prelude.{◌≡◌, ℕ, List, [], ◌∷◌, replicate, Some, Err, Ok, refl, false, codes}
 use Rattle.jxlm_base.specs.Fault.{BadEnum, BadRct, BadSqueeze, NoGlobalTree, Eof}
 use Rattle.jxlm_transform.specs.Channels.{image_list}
@@ -15,7 +15,7 @@ squares n = replicate n (sized 2 2 (Shifts 0))
 abbrev square : List ModularChannelParams
 square = squares 1
 
--- What is refused ahead of the tree: no bit, a cut header, a global tree that is not there.
+-- Errors before the tree: no bit, a truncated header, a global tree that is not there.
 nothing_there : (opening false (image_list square)).read [] 0 ≡ Err (record { fault = Eof; position = Some 0 })
 nothing_there = refl
 
@@ -25,7 +25,7 @@ cut_header = refl
 no_global_tree : (opening false (image_list square)).read (0x03 ∷ []) 0 ≡ Err (record { fault = NoGlobalTree; position = Some 4 })
 no_global_tree = refl
 
--- A kind of transform, and a predictor, that there is not; and a palette that is cut at its predictor.
+-- A kind of transform, and a predictor, that there is not; and a palette that is truncated at its predictor.
 a_kind : (opening false (image_list square)).read (0x36 ∷ []) 0 ≡ Err (record { fault = BadEnum (codes "TransformId") 3; position = Some 6 })
 a_kind = refl
 
@@ -35,7 +35,7 @@ a_predictor = refl
 cut_palette : (opening false (image_list square)).read (0x16 ∷ 0x00 ∷ 0x00 ∷ []) 0 ≡ Err (record { fault = Eof; position = Some 23 })
 cut_palette = refl
 
--- A colour transform of two channels, and one of three, behind which the global tree is missing.
+-- A colour transform of two channels, and one of three, after which the global tree is missing.
 two_channels : (opening false (image_list (squares 2))).read (0x06 ∷ 0x00 ∷ []) 0 ≡ Err (record { fault = BadRct; position = Some 13 })
 two_channels = refl
 

@@ -1,4 +1,4 @@
--- What is answered ahead of a tree, from what its steps answer.
+-- What is returned before a tree, from what its steps return.
 use Rattle.std.proofs.Common.{◌≡◌, ℕ, ◌≤◌, Bool, true, false, List, [], ◌∷◌, ◌++◌, length, Some, Result, Ok, Err, refl, sym, ap, ◌∙◌, append_assoc}
 use Rattle.std.specs.Prelude.{codes, nat_lt, not, ◌&&◌, if◌then◌else◌}
 use Rattle.jxlm_transform.specs.Steps.{steps_in}
@@ -36,7 +36,7 @@ module _ (has_global : Bool) (list : ChannelList) where
       ltb-false 65536 (length list.channels) (first_not (nat_lt 65536 (length list.channels)) (h.use_global_tree && not has_global) (BadProfile (codes "nb_channels_tr too large")) NoGlobalTree holds)
 
 module _ (has_global : Bool) (list : ChannelList) (bytes : List ℕ) (p : ℕ) where
-  -- where the header is refused, so is all
+  -- where the header gives an error, so does all
   pub header_refused : (fault : Fault) (q : ℕ) → UnlessNoMemory fault (IsRefused (header.read bytes p) fault q) → UnlessNoMemory fault (IsRefused ((opening has_global list).read bytes p) fault q)
   header_refused fault q refused =
       unless_so fault (IsRefused (header.read bytes p) fault q) (IsRefused ((opening has_global list).read bytes p) fault q)
@@ -49,7 +49,7 @@ module _ (has_global : Bool) (list : ChannelList) (bytes : List ℕ) (p : ℕ) w
     refused_behind : (fault : Fault) → resolved has_global list h ≡ Err fault → IsRefused ((opening has_global list).read bytes p) fault m
     refused_behind fault e = record { place = Some m; refuses = reads_on ∙ ap (λ (r : Result Opening Fault). (checked r).read bytes m) e; stands = refl }
 
-    -- so it is where a transform is
+    -- so it is where a transform does
     pub transforms_refused : (fault : Fault) → UnlessNoMemory fault (coded_list h.transform list ≡ Err fault) → UnlessNoMemory fault (IsRefused ((opening has_global list).read bytes p) fault m)
     transforms_refused fault refused =
         unless_so fault (coded_list h.transform list ≡ Err fault) (IsRefused ((opening has_global list).read bytes p) fault m)

@@ -1,4 +1,4 @@
--- Transforms that are applied one after the other, as a loop does that writes them.
+-- Transforms that are applied one after another, as a loop does that writes them.
 use Rattle.std.proofs.Common.{◌≡◌, ℕ, ◌+◌, ◌<◌, ◌≤◌, List, [], ◌∷◌, ◌++◌, length, map, take, drop, get_or, set, Result, Ok, Err, refl, sym, ap, ◌∙◌, arith}
 use Rattle.std.specs.List.{All}
 use Rattle.std.proofs.lemmas.List.{append-nil, drop_all, drop_more, map_push, take_all, take_more_set}
@@ -20,7 +20,7 @@ has_channels (OfRct t) is = tt
 has_channels (OfPalette t) is = is.some_channels
 has_channels (OfSqueeze steps) is = tt
 
--- the transforms behind the first i
+-- the transforms after the first i
 abbrev pub left : ℕ → List TransformInfo → List Transform
 left i ts = map transform_of (drop i ts)
 
@@ -63,7 +63,7 @@ prepared_more ts i d u l m total lt steps list so_far =
     rw (left_behind ts i u, one_done ts i u lt, steps_further (done i ts) (transform_of u))
     (transform_applied (steps_in (done i ts)) (transform_of (get_or ts i d)) (transform_of u) (left (i + 1) ts) l m total steps list before)
 
--- the next one was refused
+-- the next one gave an error
 pub prepared_refused : (ts : List TransformInfo) (i : ℕ) (d : TransformInfo) (l : ChannelList) (fault : Fault) (total : Result CodedList Fault) → i < length ts →
     UnlessNoMemory fault ((steps_of (transform_of (get_or ts i d)) l >>= λ steps. list_after_all steps l) ≡ Err fault) → come_to i ts l ≡ total → UnlessNoMemory fault (total ≡ Err fault)
 prepared_refused ts i d l fault total lt refused so_far =

@@ -9,7 +9,8 @@ use Rattle.jxlm_tree.specs.WeightsHeader.{wp_header}
 use Rattle.jxlm_tree.specs.declared.predictor.WpHeader.{WpHeader}
 use Rattle.jxlm_header.specs.declared.header.ModularHeader.{ModularHeader}
 
--- whether the global tree is used, the weights of the self-correcting predictor, and the transforms in order
+-- whether the global tree is used, the weights of the weighted (self-correcting) predictor, and the transforms in
+-- order
 pub record Header : Type 0 where
   pub use_global_tree : Bool
   pub wp_params : WpHeader
@@ -19,7 +20,7 @@ pub record Header : Type 0 where
 abbrev pub transform_count : Grammar ℕ
 transform_count = u32 (Const 0) (Const 1) (Offset 2 4) (Offset 18 8)
 
--- the flag of the global tree, the weights, and the transforms behind their count
+-- the flag of the global tree, the weights, and the transforms after their count
 abbrev pub header : Grammar Header
 header = do
   use_global_tree ← flag

@@ -1,4 +1,5 @@
--- What stands ahead of an image's tree, and in which order it is refused (ISO/IEC 18181-1, Modular: Modular header and its conditions).
+-- What comes before an image's tree, and in which order it is checked (ISO/IEC 18181-1, Modular: Modular header and
+-- its conditions).
 use Rattle.std.specs.Prelude.{◌≡◌, ◌+◌, ◌^◌, nat_lt, min, sum_by, List, length, codes, Bool, ℕ, not, ◌&&◌, if◌then◌else◌, Result, Ok, Err}
 use Rattle.jxlm_base.specs.Fault.{Fault, BadProfile, NoGlobalTree, UnlessNoMemory, fault_of}
 use Rattle.jxlm_base.specs.Grammar.{Grammar, IsExact, give, refuse}
@@ -18,13 +19,13 @@ pub record Opening : Type 0 where
   pub weights : WpHeader
   pub coded : CodedList
 
--- a value that is found without bits, or its refusal
+-- a value that is found without bits, or its error
 abbrev pub checked : {X : Type 0} → Result X Fault → Grammar X
 checked (Ok x) = give x
 checked (Err e) = refuse e
 
--- The conditions on a header and its coded channels, in order: at most 65536 channels are coded, and a global tree that it asks for was
--- handed in.
+-- The conditions on a header and its coded channels, in order: at most 65536 channels are coded, and a global tree
+-- that it asks for was given.
 abbrev pub conditions : Bool → Header → ChannelList → Result (Unit {0}) Fault
 conditions has_global header list =
     if nat_lt 65536 (length list.channels) then Err (BadProfile (codes "nb_channels_tr too large")) else
@@ -41,12 +42,13 @@ resolved has_global list header =
 abbrev pub opening : Bool → ChannelList → Grammar Opening
 opening has_global list = fields.◌>>=◌ header λ header. checked (resolved has_global list header)
 
--- What a call that applies transforms in order answered, the transforms behind it, which then list their steps, and the list behind it.
+-- What a call that applies transforms in order returned, the transforms after it, which then list their steps, and
+-- the list after it.
 abbrev pub PrepareGives : List Transform → ChannelList → Result (Unit {0}) Error → List Transform → ChannelList → Type 0
 PrepareGives ts l (Ok u) listed m = coded_list ts l ≡ Ok (record { steps = steps_in listed; list = m })
 PrepareGives ts l (Err e) listed m = UnlessNoMemory (fault_of e) (coded_list ts l ≡ Err (fault_of e))
 
--- what a call that checks the conditions answered
+-- what a call that checks the conditions returned
 abbrev pub CheckGives : Result (Unit {0}) Fault → Result (Unit {0}) Error → Type 0
 CheckGives check (Ok u) = check ≡ Ok tt
 CheckGives check (Err e) = check ≡ Err (fault_of e)
@@ -55,7 +57,7 @@ CheckGives check (Err e) = check ≡ Err (fault_of e)
 abbrev pub opening_of : ModularHeader × ModularChannels → Opening
 opening_of o = record { weights = (header_of o.0).wp_params; coded = record { steps = steps_in (header_of o.0).transform; list = list_of o.1 } }
 
--- what is read ahead of a tree stands there, and what stands there is read
+-- what is read before a tree stands there, and what stands there is read
 abbrev pub OpeningIsExact : Type 0
 OpeningIsExact = (has_global : Bool) (list : ChannelList) → IsExact (opening has_global list)
 

@@ -1,4 +1,4 @@
-//! The header of a Modular image.
+//! The header of a Modular image (ISO/IEC 18181-1, Modular: Modular header).
 
 ghost use Rattle.std.specs.Prelude.{◌≡◌, IfOk, length, map};
 ghost use Rattle.std.specs.List.{All};
@@ -16,7 +16,7 @@ use jxlm_transform::transform::TransformInfo;
 use jxlm_tree::predictor::WpHeader;
 use std::alloc::Global;
 
-/// What stands ahead of an image's tree.
+/// What comes before an image's tree.
 #[derive(Drop)]
 pub struct ModularHeader {
     pub use_global_tree: bool,
@@ -24,7 +24,7 @@ pub struct ModularHeader {
     pub transform: Vec<TransformInfo>,
 }
 
-/// So many transforms, of which each palette keeps no weights, or these.
+/// `count` transforms, of which each palette keeps no weights, or these.
 fn read_transforms(
     alloc: Global,
     bits: &mut Bitstream<'_>,
@@ -47,13 +47,15 @@ fn read_transforms(
 impl ModularHeader {
     ghost use Rattle.jxlm_header.specs.Header.{IsReadHeader, header, header_of};
 
-    /// The header that stands at the reader's place: whether the global tree is used, the weights
-    /// of the self-correcting predictor, and the transforms, at most 273. A palette keeps no weights,
-    /// or the header's.
+    /// The header that stands at the reader's position: whether the global tree is used, the weights
+    /// of the weighted (self-correcting) predictor, and the transforms, at most 273. A palette keeps no
+    /// weights, or the header's.
     ///
-    /// A cut input is refused by `UnexpectedEof`; a transform of kind 3, and the number of a
-    /// predictor that is none, by `InvalidEnum`. The reader then stands behind the last field that
-    /// was read whole. `Buffer` where it is out of memory, at any transform; no error of a decoder comes.
+    /// # Errors
+    ///
+    /// `UnexpectedEof` if the input is truncated; `InvalidEnum` for a transform of kind 3, and for the
+    /// number of a predictor that is none. The reader is then after the last field that was read whole.
+    /// `Buffer` if it is out of memory, at any transform; no error of a decoder comes.
     pub fn parse(alloc: Global, bits: &mut Bitstream<'_>) -> Result<ModularHeader>
         ensures gives { Parses header_of result (position_of bits.new) (header.read (bytes_of bits.old) (position_of bits.old)) }
         ensures ranges { IfOk result (λ h. IsReadHeader (header_of h)) }
@@ -76,11 +78,13 @@ impl ModularHeader {
     }
 }
 
-/// Applies transforms that were read to the channels of an image, in order, up to the first that is
-/// refused. Each then lists its steps.
+/// Applies transforms that were read to the channels of an image, in order, up to the first that has
+/// an error. Each then lists its steps.
 ///
-/// Want of memory may be answered at any time. After a refusal nothing is promised of the transforms
-/// and the list.
+/// # Errors
+///
+/// That of the first transform that has one, or out of memory, at any time. After an error nothing is
+/// promised of the transforms and the list.
 pub fn prepare_transforms(
     alloc: Global,
     transforms: &mut Vec<TransformInfo>,

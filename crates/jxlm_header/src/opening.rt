@@ -1,4 +1,4 @@
-//! What stands before an image's tree: the header, applied to the channels, and its conditions.
+//! What comes before an image's tree: the header, applied to the channels, and its conditions.
 
 ghost use Rattle.std.specs.Prelude.{◌≡◌, ◌+◌, ◌*◌, ◌^◌, ◌≤◌, length, min, sum_by, Ok, IfOk};
 ghost use Rattle.std.specs.List.{All};
@@ -25,7 +25,7 @@ const MAX_CODED_CHANNELS: usize = 65536;
 /// The maximum depth of a tree of an image's own.
 pub const DEPTH_LIMIT: usize = 2048;
 
-/// The greatest number of nodes, less one, that a tree of an image's own may have.
+/// The maximum number of nodes, less one, that a tree of an image's own may have.
 const MAX_NODE_LIMIT: u64 = 1 << 20;
 
 /// The limit on the nodes of a tree of an image's own: by the number of samples of its channels.
@@ -55,8 +55,13 @@ fn check(header: &ModularHeader, channels: &ModularChannels, has_global: bool) -
     Ok(())
 }
 
-/// Reads what stands ahead of a tree: the header, whose transforms are applied to the channels of the
-/// image, and whose conditions come behind them.
+/// Reads what comes before a tree: the header, whose transforms are applied to the channels of the
+/// image, and whose conditions come after them.
+///
+/// # Errors
+///
+/// That of the header, of the first transform that does not suit the channels, or of the first
+/// condition that does not hold; out of memory may come at any time.
 pub fn open(
     alloc: Global,
     bits: &mut Bitstream<'_>,

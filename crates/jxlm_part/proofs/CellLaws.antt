@@ -1,4 +1,4 @@
--- A cell of a part: what stands there, and what is read into it.
+-- A cell of a part: what it holds, and what is read into it.
 use Rattle.std.proofs.Common.{◌≡◌, ℕ, zero, suc, ◌+◌, ◌*◌, ◌/◌, ◌<◌, ◌≤◌, ◌^◌, List, [], ◌∷◌, ◌++◌, length, take, refl, sym, ap, ◌∙◌, subst, arith, ℤ, slice_index_or}
 use Rattle.std.specs.List.{All}
 use Rattle.std.specs.Int.{Width}
@@ -33,7 +33,7 @@ stands_so s samples a b same h = subst (λ p. StandsAt p s samples) (sym same) h
 pub has_room_so : {X : Type 0} (old a b : PredictorState X) → b ≡ a → HasSameRoom old a → HasSameRoom old b
 has_room_so old a b same h = subst (HasSameRoom old) (sym same) h
 
--- what holds of all earlier channels holds of those that are handed on
+-- what holds of all earlier channels holds of those that are given to the state
 all_handed : {X : Type 0} (n : ℕ) (P : X → Type 0) (xs : List X) → All P xs → All P (handed n xs)
 all_handed zero P xs h = All-nil P
 all_handed (suc n) P xs h = h
@@ -79,7 +79,7 @@ module _ {D : Type 0} (c : PartCoding D) (coding : IsCodingOf c) (i : ℕ) (li :
     row_is : row (take (y * reg.width + x) cells) reg.width ≡ y
     row_is = ap (λ n. n / reg.width) (length-take-le (y * reg.width + x) cells (omega (arith, inside))) ∙ div-mul-add y reg.width x px
 
-    -- the state can give the properties of the place
+    -- the state can give the properties of the cell
     pub is_ready : (state : PredictorState X) → StandsBehind c to_int store i (y * reg.width + x) state → IsReady state store
     is_ready state stands = record {
       where_set = setting_of c i;
@@ -99,7 +99,7 @@ module _ {D : Type 0} (c : PartCoding D) (coding : IsCodingOf c) (i : ℕ) (li :
           })));
     }
 
-    -- behind the cell, once it is written, stands what stood before it and its sample
+    -- after the cell, once it is written, the cells are those before it and its sample
     pub stands_further : (sample : X) (new : List (Grid X)) (state : PredictorState X) → new ≡ with_region_cell store reg x y sample →
         StandsAt state (setting_of c i) (take (y * reg.width + x) cells ++ to_int sample ∷ []) → StandsBehind c to_int new i (y * reg.width + x + 1) state
     stands_further sample new state written stands =

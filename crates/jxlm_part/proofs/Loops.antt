@@ -73,7 +73,7 @@ takes_next cost part i x y before after h =
     let next : suc k ≡ place_of part i (x + 1) y = omega arith in
     subst (λ n. TakesSteps cost k n before after) next (takes_one cost k before after h)
 
--- ---- places
+-- ---- cells by their number
 
 pub row_ends : (part : Part) (i y : ℕ) → place_of part i (channel part.channels i).width y ≡ place_of part i 0 (y + 1)
 row_ends part i y = omega arith
@@ -108,7 +108,7 @@ fits_in [] (r ∷ rs) store h = absurd h
 fits_in (c ∷ cs) [] store h = absurd h
 fits_in (c ∷ cs) (r ∷ rs) store h = (h.0, h.1, IsFull-grid_of store r, fits_in cs rs store h.2)
 
--- a place of a region is one of its channel
+-- a cell of a region is one of its channel
 pub record IsPlace (part : Part) (i x y : ℕ) : Type 0 where
   pub there : i < length part.channels
   pub column : x < (channel part.channels i).width
@@ -169,11 +169,11 @@ module _ {S : Type 0} (d : Meaning S) (w : Width) (part : Part) (bytes : List �
       subst (λ n. Reached d w part bytes decoder p0 old n (grids_in regions (store_meanings to_int new)) t q) next
       (subst (λ (gs : List (Grid ℤ)). Reached d w part bytes decoder p0 old (suc k) gs t q) (sym grids') more)
 
-  -- a read was refused, and each read up to it took at most so many steps
+  -- a read returned an error, and each read up to it took at most `cost` steps
   abbrev IsStopped : S → ℕ → List (Grid ℤ) → DecoderError → List (Grid ℤ) → ℕ → ℕ → ℕ → ℕ → ℕ → Type 0
   IsStopped decoder p0 old e now q cost from before after = (stopped : Stopped d w part bytes decoder p0 old e now q) × TakesSteps cost from (suc stopped.count) before after
 
-  -- the read of a cell was refused
+  -- the read of a cell returned an error
   pub cell_stops : {X : Type 0} (to_int : X → ℤ) (cost before after : ℕ) (i x y : ℕ) (store new : List (Grid X)) (s t : S) (p q : ℕ) (e : DecoderError) →
       after ≤ before + cost → SameSizes part.channels regions → i < length regions → x < (region_at regions i).width → y < (region_at regions i).height →
       RefusesCell d w part bytes regions to_int i x y store s p new t q e →
@@ -193,14 +193,14 @@ module _ {S : Type 0} (d : Meaning S) (w : Width) (part : Part) (bytes : List �
       (subst (λ (gs : List (Grid X)). IsStopped decoder p0 old e (grids_in regions (store_meanings to_int gs)) p cost place before after) (sym refuses.store_is)
       (stopped, takes_one cost place before after work))
 
-  -- ---- one behind another
+  -- ---- one after another
 
   module _ (store : List (Grid ℤ)) (s : S) (p : ℕ) where
     pub stays : (from to : ℕ) → from ≡ to → GoesOn d w part bytes regions from to store s p store s p
     stays from to same decoder p0 old r = subst (λ n. Reached d w part bytes decoder p0 old n (grids_in regions store) s p) same r
 
     module _ (from middle : ℕ) (store' : List (Grid ℤ)) (s' : S) (p' : ℕ) (first : GoesOn d w part bytes regions from middle store s p store' s' p') where
-      -- the same, where the places are told otherwise
+      -- the same, where the numbers are others but equal
       pub goes_between : (from' to' : ℕ) → from' ≡ from → middle ≡ to' → GoesOn d w part bytes regions from' to' store s p store' s' p'
       goes_between from' to' a b decoder p0 old r =
           subst (λ n. Reached d w part bytes decoder p0 old n (grids_in regions store') s' p') b

@@ -87,13 +87,13 @@ cut_same s f xs n (suc (suc (suc (suc (suc (suc (suc (suc (suc (suc (suc (suc (s
     let there : ((suc (suc (suc (suc (suc (suc (suc (suc (suc (suc (suc (suc (suc (suc (suc (suc k)))))))))))))))) - 16) / 4 < n = omega (arith, h) in
     later_property (with_earlier s (map f (take n xs))) (suc (suc (suc (suc (suc (suc (suc (suc (suc (suc (suc (suc (suc (suc (suc (suc k)))))))))))))))) past ∙ ap (int_wrap w32) (rw (got f n xs (((suc (suc (suc (suc (suc (suc (suc (suc (suc (suc (suc (suc (suc (suc (suc (suc k)))))))))))))))) - 16) / 4) there) refl) ∙ sym (later_property (with_earlier s (map f xs)) (suc (suc (suc (suc (suc (suc (suc (suc (suc (suc (suc (suc (suc (suc (suc (suc k)))))))))))))))) past)
 
--- so it is where a tree that asks for none is handed none
+-- so it is where a tree that asks for none is given none
 cut_handed : {X : Type 0} (s : Surroundings) (f : X → Grid ℤ) (xs : List X) (n i k : ℕ) → k < 16 + 4 * min i n →
     place_property (with_earlier s (map f (handed n xs))) k ≡ place_property (with_earlier s (map f xs)) k
 cut_handed s f xs zero i k h = cut_same s f xs 0 k (omega (arith, h))
 cut_handed s f xs (suc n) i k h = refl
 
--- a prediction is the same without weights by each predictor but the self-correcting one
+-- a prediction is the same without weights by each predictor but the weighted one
 predicts_without : (a b : Option WpHeader) (samples : List ℤ) (width : ℕ) (p : Predictor) → p ≢ SelfCorrecting → prediction a samples width p ≡ prediction b samples width p
 predicts_without a b samples width Zero h = refl
 predicts_without a b samples width West h = refl
@@ -118,7 +118,7 @@ module _ (part : Part) (regions : List Region) (ints : List (Grid ℤ)) (i x y :
   abbrev reg : Region
   reg = region_at regions i
 
-  -- the cells of the channel before the place
+  -- the cells of the channel before this one
   abbrev own : List ℤ
   own = take (y * reg.width + x) (grid_of ints reg).cells
 

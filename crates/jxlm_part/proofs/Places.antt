@@ -1,4 +1,4 @@
--- Where the cells of a part stand.
+-- Where the cells of a part are.
 use Rattle.std.proofs.Common.{◌≡◌, ℕ, zero, suc, ◌+◌, ◌-◌, ◌*◌, ◌<◌, ◌≤◌, List, [], ◌∷◌, ◌++◌, length, take, drop, refl, sym, ap, ◌∙◌, arith, ℤ}
 use Rattle.std.proofs.Math.Seq.{drop-append-add}
 use Rattle.std.proofs.lemmas.Bool.{lt-ltb, le-ltb}
@@ -10,7 +10,7 @@ use Rattle.jxlm_part.specs.Part.{Channel, size, channel, channel_of, cells_befor
 pub before_suc : (c : Channel) (cs : List Channel) (i : ℕ) → cells_before (c ∷ cs) (suc i) ≡ size c + cells_before cs i
 before_suc c cs i = sum_by-cons size c (take i cs)
 
--- what stands from channel i on: its grid's cells, and more
+-- what comes from channel i on: its grid's cells, and more
 pub record Split (channels : List Channel) (grids : List (Grid ℤ)) (i : ℕ) : Type 0 where
   pub rest : List ℤ
   pub from : drop (cells_before channels i) (cells_of grids) ≡ (grid grids i).cells ++ rest

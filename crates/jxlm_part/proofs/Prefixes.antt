@@ -1,4 +1,4 @@
--- A prefix depends on its own cells alone, it grows at its end, and there is one; so no part is both whole and refused.
+-- A prefix depends on its own cells alone, it grows at its end, and there is one; so no part is both whole and failed.
 use Rattle.std.proofs.Common.{◌≡◌, ℕ, zero, suc, ◌<◌, ◌≤◌, inl, inr, List, [], ◌∷◌, Some, Result, Ok, Err, take, refl, sym, ap, ◌∙◌, arith, add-one, ℤ}
 use Rattle.std.specs.Prelude.{slice_get}
 use Rattle.std.specs.Int.{Width}
@@ -80,7 +80,7 @@ clash r x e h k = cc
 same_found : {S : Type 0} (x y : Found S) (r : Result (Found S) DecoderError) → r ≡ Ok x → r ≡ Ok y → x ≡ y
 same_found x y r h k = cc
 
--- Where some grids are coded to the end, decoding is not refused: begin, each read and finalize have one answer.
+-- Where some grids are coded to the end, decoding returns no error: begin, each read and finalize have one result.
 pub coded_or_fails : {S : Type 0} (d : Meaning S) (w : Width) (part : Part) (bytes : List ℕ) (decoder : S) (old new : Standing) (e : DecoderError) (tried : ℕ) (grids : List (Grid ℤ)) (r : ℕ) →
     IsCodedToTheEnd d w part bytes decoder old.position grids r → Fails d w part bytes decoder old new e tried → ⊥
 coded_or_fails {S} d w part bytes decoder old new e tried grids r whole (cells, inl f) = clash (d.begin decoder bytes old.position) _ _ whole.coded.begins f.fault

@@ -52,7 +52,7 @@ rest_more new old k v h =
     let one : suc k ≡ k + 1 = omega arith in
     drop-set-lt (suc k) new k v l ∙ rw one (sym (drop-drop 1 k new) ∙ ap (drop 1) h ∙ drop-drop 1 k old)
 
--- where a cell stands among all cells, and that it does
+-- where a cell is among all cells, and that it is
 pub stands_within : (channels : List Channel) (grids : List (Grid ℤ)) (i x y : ℕ) → Fits channels grids → i < length channels →
     x < (channel channels i).width → y < (channel channels i).height → cells_before channels i + (y * (channel channels i).width + x) < length (cells_of grids)
 stands_within channels grids i x y fit l p q =

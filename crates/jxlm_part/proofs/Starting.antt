@@ -38,7 +38,7 @@ narrow_widest (c ∷ cs) h =
     let rest = narrow_widest cs (All-tail IsNarrow c cs h) in
     omega (arith, first, rest)
 
--- where a tree asks for no earlier channel, or there is none, none is handed on; else all are
+-- where a tree asks for no earlier channel, or there is none, none is given; else all are
 pub none_asked : (n i : ℕ) (all : List Region) → (i ≡ 0 → all ≡ []) → min i n ≡ 0 → handed n all ≡ []
 none_asked zero i all none h = refl
 none_asked (suc n) i all none h = none (omega (arith, h))
@@ -62,14 +62,14 @@ module _ {D : Type 0} (c : PartCoding D) (i : ℕ) where
   pub one_more : (e : ℕ) (b : Bool) → passes e ≡ b → below (e + 1) ≡ (if b then region_at (regions_of c) e ∷ below e else below e)
   one_more e b is = ap below (let n : e + 1 ≡ suc e = omega arith in n) ∙ below_suc e b is
 
-  -- behind a channel that is like it a channel has one earlier channel more
+  -- after a channel that is like it a channel has one earlier channel more
   pub next_alike : (last : ℕ) → i ≡ last + 1 → passes last ≡ true → all_alike c i ≡ region_at (regions_of c) last ∷ all_alike c last
   next_alike last next is =
       ap below next ∙ one_more last true is
       ∙ ap (λ it. region_at (regions_of c) last ∷ map (region_at (regions_of c)) (filter (λ e. is_alike (channel (part_of c).channels e) it) (downward last))) (sym (same_channel (channel (part_of c).channels last) (channel (part_of c).channels i) is))
 
 module _ {D X : Type 0} (c : PartCoding D) (i : ℕ) where
-  -- The channels below e were looked at: a state is handed the regions of those that are like channel i.
+  -- The channels below e were looked at: a state is given the regions of those that are like channel i.
   pub record IsUnderWay (e : ℕ) (old state : PredictorState X) : Type 0 where
     pub stands : (width : ℕ) (weights : Option WpHeader) (samples : List ℤ) → StandsAt old (setting width weights []) samples → StandsAt state (setting width weights (below c i e)) samples
     pub counted : earlier_count state ≡ length (below c i e)

@@ -1,4 +1,4 @@
--- The samples of a part, as they are coded (Modular: decoding of samples).
+-- The samples of a part, as they are coded (ISO/IEC 18181-1, Modular: decoding of samples).
 use Rattle.std.specs.Prelude.{◌≡◌, ℕ, zero, suc, ℤ, pos, ◌+ℤ◌, ◌*ℤ◌, List, Ok}
 use Rattle.std.specs.Int.{Width, int_wrap}
 use Rattle.jxlm_base.specs.Decoding.{Found, Meaning}
@@ -13,7 +13,7 @@ use Rattle.jxlm_part.specs.Rule.{Rule, CodedPrefix}
 abbrev pub sample_of : Width → Leaf → ℤ → ℕ → ℤ
 sample_of w leaf predicted token = int_wrap w (unpack token *ℤ pos leaf.multiplier +ℤ leaf.offset +ℤ predicted)
 
--- the prediction of the next sample of a part, behind the samples before it
+-- the prediction of the next sample of a part, after the samples before it
 abbrev pub next_prediction : Part → List ℤ → ℤ
 next_prediction part before =
     let s = surroundings part before in
@@ -25,20 +25,21 @@ IfSome zero P Q = Q
 IfSome (suc n) P Q = P
 
 module _ {S : Type 0} (d : Meaning S) (w : Width) (part : Part) (bytes : List ℕ) where
-  -- The next sample of a part: its token is read from the cluster of its leaf, and the greatest width goes with each read.
+  -- The next sample of a part: its token is read from the cluster of its leaf, and the maximum width goes with each
+  -- read.
   abbrev pub part_rule : Rule S
   part_rule = record {
     read = λ before s p. d.read s bytes p (next_leaf part before).cluster (greatest_width part.channels);
     value = λ before token. sample_of w (next_leaf part before) (next_prediction part before) token;
   }
 
-  -- the decoder begins at place p, and the first k samples are coded from there up to this state and place
+  -- the decoder begins at position p, and the first k samples are coded from there up to this state and position
   pub record IsCoded (decoder : S) (p k : ℕ) (grids : List (Grid ℤ)) (state : S) (q : ℕ) : Type 0 where
     pub start : Found S
     pub begins : d.begin decoder bytes p ≡ Ok start
     pub joined : CodedPrefix part_rule (cells_of grids) start.value start.position k state q
 
-  -- all samples are coded from place p up to place q, and the decoder accepts the end
+  -- all samples are coded from position p up to position q, and the decoder accepts the end
   pub record IsCodedToTheEnd (decoder : S) (p : ℕ) (grids : List (Grid ℤ)) (q : ℕ) : Type 0 where
     pub state : S
     pub coded : IsCoded decoder p (cell_count part.channels) grids state q

@@ -1,4 +1,4 @@
--- What decoding a part answers, and what stands then.
+-- What decoding a part returns, and what it leaves.
 use Rattle.std.specs.Prelude.{◌≡◌, ℕ, suc, ◌+◌, ◌<◌, ◌≤◌, ◌⊎◌, ℤ, List, take, drop, Bool, true, false, Result, Ok, Err}
 use Rattle.std.specs.Int.{Width}
 use Rattle.jxlm_base.specs.Decoding.{Meaning}
@@ -10,21 +10,21 @@ use Rattle.jxlm_base.specs.declared.error.Error.TheVariants.{Decoder, Buffer}
 use Rattle.jxlm_part.specs.Coded.{part_rule, IsCoded, IsCodedWhole}
 use Rattle.jxlm_part.specs.Part.{Part, cell_count, cells_of, Fits}
 
--- what decoding changes: the reader's place, the part's grids, and whether it is partial
+-- what decoding changes: the reader's position, the part's grids, and whether it is partial
 pub record Standing : Type 0 where
   pub position : ℕ
   pub grids : List (Grid ℤ)
   pub partial : Bool
 
 module _ {S : Type 0} (d : Meaning S) (w : Width) (part : Part) (bytes : List ℕ) (decoder : S) (old new : Standing) where
-  -- begin refuses: nothing changed, and no read was tried
+  -- begin returns the error: nothing changed, and no read was tried
   pub record FailsToBegin (e : DecoderError) (tried : ℕ) : Type 0 where
     pub fault : d.begin decoder bytes old.position ≡ Err e
     pub unchanged : new ≡ old
     pub tries : tried ≡ 0
 
-  -- the read of cell `count` refuses: the cells before are coded, that one and the others are as before,
-  -- and the reader stands where that read found it
+  -- the read of cell `count` returns the error: the cells before are coded, that one and the others are as before,
+  -- and the reader is where that read began
   pub record FailsToRead (e : DecoderError) (tried : ℕ) : Type 0 where
     pub count : ℕ
     pub state : S
@@ -36,7 +36,7 @@ module _ {S : Type 0} (d : Meaning S) (w : Width) (part : Part) (bytes : List �
     pub as_partial : new.partial ≡ old.partial
     pub tries : tried ≡ suc count
 
-  -- finalize refuses: all cells are coded, and the reader stands behind them
+  -- finalize returns the error: all cells are coded, and the reader is after them
   pub record FailsToEnd (e : DecoderError) (tried : ℕ) : Type 0 where
     pub state : S
     pub coded : IsCoded d w part bytes decoder old.position (cell_count part.channels) new.grids state new.position
@@ -45,7 +45,7 @@ module _ {S : Type 0} (d : Meaning S) (w : Width) (part : Part) (bytes : List �
     pub as_partial : new.partial ≡ old.partial
     pub tries : tried ≡ cell_count part.channels
 
-  -- a part with cells is refused by e at one of the three
+  -- a part with cells fails with e at one of the three
   abbrev pub Fails : DecoderError → ℕ → Type 0
   Fails e tried = (0 < cell_count part.channels) × (FailsToBegin e tried ⊎ (FailsToRead e tried ⊎ FailsToEnd e tried))
 
@@ -56,12 +56,13 @@ module _ {S : Type 0} (d : Meaning S) (w : Width) (part : Part) (bytes : List �
     pub whole : new.partial ≡ false
     pub tries : tried ≡ cell_count part.channels
 
-  -- there was no memory: nothing changed
+  -- out of memory: nothing changed
   pub record IsUnchanged (tried : ℕ) : Type 0 where
     pub unchanged : new ≡ old
     pub tries : tried ≡ 0
 
-  -- The answer of decoding: Ok where the part is whole, or where the input ends and that is allowed; else the decoder's fault.
+  -- What decoding returns: Ok where the part is whole, or where the input ends and that is allowed; else the
+  -- decoder's error.
   abbrev pub DecodeAnswers : Bool → Result (Unit {0}) Error → ℕ → Type 0
   DecodeAnswers allow_partial (Ok u) tried = IsWhole tried ⊎ ((allow_partial ≡ true) × Fails UnexpectedEof tried)
   DecodeAnswers allow_partial (Err (Decoder UnexpectedEof)) tried = (allow_partial ≡ false) × Fails UnexpectedEof tried
@@ -70,6 +71,6 @@ module _ {S : Type 0} (d : Meaning S) (w : Width) (part : Part) (bytes : List �
   DecodeAnswers allow_partial (Err (Buffer m)) tried = IsUnchanged tried
   DecodeAnswers allow_partial (Err e) tried = ⊥
 
--- a count went on, and by no more than so many
+-- a count went on, and by at most n
 abbrev pub MovesWithin : ℕ → ℕ → ℕ → Type 0
 MovesWithin before after most = (before ≤ after) × (after ≤ before + most)

@@ -1,4 +1,4 @@
--- A part: channels whose samples are coded one behind another (Modular: channels, order of samples).
+-- A part: channels whose samples are coded one after another (ISO/IEC 18181-1, Modular: channels, order of samples).
 use Rattle.std.specs.Prelude.{◌≡◌, ℕ, zero, suc, ◌+◌, ◌-◌, ◌*◌, ◌^◌, ◌<◌, ◌≤◌, max, ℤ, pos, List, [], ◌∷◌, ◌++◌, length, take, drop, map, filter, sum_by, slice_index_or, nat_lt, ◌==◌, ◌&&◌, Bool, if◌then◌else◌, Some}
 use Rattle.std.specs.Ordering.{int_eq}
 use Rattle.jxlm_base.specs.Grid.{Grid, IsFull}
@@ -29,7 +29,7 @@ IsNarrow c = (c.width ≤ 2 ^ 30) × (c.height ≤ 2 ^ 30)
 abbrev pub size : Channel → ℕ
 size c = c.width * c.height
 
--- what stands where there is no channel
+-- the channel that is given where there is none
 abbrev pub no_channel : Channel
 no_channel = record { width = 0; height = 0; hshift = pos 0; vshift = pos 0 }
 
@@ -41,16 +41,16 @@ channel channels i = slice_index_or channels i no_channel
 abbrev pub cell_count : List Channel → ℕ
 cell_count channels = sum_by size channels
 
--- how many cells stand before channel i
+-- how many cells are before channel i
 abbrev pub cells_before : List Channel → ℕ → ℕ
 cells_before channels i = cell_count (take i channels)
 
--- the channel in which cell k stands: cells go channel by channel, and in each row by row
+-- the channel that cell k is in: cells go channel by channel, and in each row by row
 abbrev pub channel_of : List Channel → ℕ → ℕ
 channel_of [] k = 0
 channel_of (c ∷ channels) k = if nat_lt k (size c) then 0 else suc (channel_of channels (k - size c))
 
--- the greatest width, of channels without cells too
+-- the maximum width, of channels without cells too
 abbrev pub greatest_width : List Channel → ℕ
 greatest_width [] = 0
 greatest_width (c ∷ channels) = max c.width (greatest_width channels)
@@ -68,7 +68,7 @@ downward (suc i) = i ∷ downward i
 abbrev pub earlier_alike : List Channel → ℕ → List ℕ
 earlier_alike channels i = filter (λ e. is_alike (channel channels e) (channel channels i)) (downward i)
 
--- Where the next sample of the part stands, behind the samples before it, of all its channels.
+-- Where the next sample of the part is, after the samples before it, of all its channels.
 module _ (channels : List Channel) (before : List ℤ) where
   -- its channel
   abbrev pub next_channel : ℕ
@@ -113,14 +113,15 @@ Fits (c ∷ channels) (g ∷ grids) = (g.width ≡ c.width) × (g.height ≡ c.h
 abbrev pub grid : List (Grid ℤ) → ℕ → Grid ℤ
 grid grids i = slice_index_or grids i (record { width = 0; height = 0; cells = [] })
 
--- Behind the first cells of some grids, up to place j of channel i, the next sample sees the first j samples of its own grid, and the earlier grids whole.
+-- After the first cells of some grids, up to cell j of channel i, the next sample sees the first j samples of its own
+-- grid, and the earlier grids whole.
 pub record SeesBefore (channels : List Channel) (grids : List (Grid ℤ)) (i j : ℕ) (before : List ℤ) : Type 0 where
   pub behind : before ≡ take (cells_before channels i + j) (cells_of grids)
   pub stands : next_channel channels before ≡ i
   pub own : samples_of channels before i ≡ take j (grid grids i).cells
   pub earlier : (e : ℕ) → e < i → grid_of channels before e ≡ grid grids e
 
--- So it is at each place of each channel.
+-- So it is at each cell of each channel.
 abbrev pub EachSeesBefore : Type 0
 EachSeesBefore = (channels : List Channel) (grids : List (Grid ℤ)) (i j : ℕ) → Fits channels grids → i < length channels → j < size (channel channels i) →
     SeesBefore channels grids i j (take (cells_before channels i + j) (cells_of grids))

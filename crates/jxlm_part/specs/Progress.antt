@@ -18,7 +18,7 @@ module _ {S : Type 0} (d : Meaning S) (w : Width) (part : Part) (bytes : List �
     pub rest : drop k (cells_of now) ≡ drop k (cells_of old)
     pub fits : Fits part.channels now
 
-  -- the read of the next cell was refused there by e
+  -- the read of the next cell returned the error e there
   pub record Stopped (e : DecoderError) (now : List (Grid ℤ)) (q : ℕ) : Type 0 where
     pub count : ℕ
     pub state : S
@@ -33,26 +33,26 @@ SameSizes [] (r ∷ regions) = ⊥
 SameSizes (c ∷ channels) [] = ⊥
 SameSizes (c ∷ channels) (r ∷ regions) = (r.width ≡ c.width) × (r.height ≡ c.height) × SameSizes channels regions
 
--- how many cells of a part stand before column x of row y of channel i
+-- how many cells of a part are before column x of row y of channel i
 abbrev pub place_of : Part → ℕ → ℕ → ℕ → ℕ
 place_of part i x y = cells_before part.channels i + (y * (channel part.channels i).width + x)
 
--- the cells that stand before column x of row y of grid i
+-- the cells before column x of row y of grid i
 abbrev pub cells_ahead : Part → List (Grid ℤ) → ℕ → ℕ → ℕ → List ℤ
 cells_ahead part grids i x y = take (place_of part i x y) (cells_of grids)
 
--- from one cell up to another, each took at most so many steps
+-- from one cell up to another, each took at most `cost` steps
 abbrev pub TakesSteps : ℕ → ℕ → ℕ → ℕ → ℕ → Type 0
 TakesSteps cost from to before after = after + from * cost ≤ before + to * cost
 
 module _ {S : Type 0} (d : Meaning S) (w : Width) (part : Part) (bytes : List ℕ) (regions : List Region) where
-  -- Whatever was decoded before: where decoding had come to one place, it has come to the other.
+  -- Whatever was decoded before: where the first `from` cells were decoded, the first `to` are now.
   abbrev pub GoesOn : ℕ → ℕ → List (Grid ℤ) → S → ℕ → List (Grid ℤ) → S → ℕ → Type 0
   GoesOn from to store s p store' s' p' = (decoder : S) (p0 : ℕ) (old : List (Grid ℤ)) →
       Reached d w part bytes decoder p0 old from (grids_in regions store) s p → Reached d w part bytes decoder p0 old to (grids_in regions store') s' p'
 
-  -- Whatever was decoded before: where decoding had come to that place, the read of that cell or of a later one was refused by e,
-  -- and each read up to it took at most so many steps.
+  -- Whatever was decoded before: where decoding had come to that cell, the read of it or of a later one returned the
+  -- error e, and each read up to it took at most `cost` steps.
   abbrev pub Stops : ℕ → ℕ → ℕ → ℕ → List (Grid ℤ) → S → ℕ → List (Grid ℤ) → ℕ → DecoderError → Type 0
   Stops cost before after from store s p store' p' e = (decoder : S) (p0 : ℕ) (old : List (Grid ℤ)) →
       Reached d w part bytes decoder p0 old from (grids_in regions store) s p →
@@ -63,7 +63,8 @@ module _ {S : Type 0} (d : Meaning S) (w : Width) (part : Part) (bytes : List �
     abbrev pub DecodesAll : Type 0
     DecodesAll = IsCodedToTheEnd d w part bytes decoder p (grids_in regions new) q × Fits part.channels (grids_in regions new)
 
-    -- the part, where it has cells, is refused by e, and stays as partial as it was; each read that was tried took at most so many steps
+    -- the part, where it has cells, fails with e, and stays as partial as it was; each read that was tried took at
+    -- most `cost` steps
     abbrev pub DecodesSome : ℕ → ℕ → ℕ → DecoderError → Type 0
     DecodesSome cost before after e = (partial : Bool) → 0 < cell_count part.channels →
         (tried : ℕ) × Fails d w part bytes decoder (record { position = p; grids = grids_in regions old; partial = partial }) (record { position = q; grids = grids_in regions new; partial = partial }) e tried × (after ≤ before + tried * cost)

@@ -31,17 +31,18 @@ region_at regions i = get_or regions i (region 0 0 0 0 0)
 abbrev pub flat : Shape Leaf → ℕ → ℕ → FlatTree
 flat t stream i = record { tree = t; channel = i; stream_idx = stream; prev_channels = i }
 
--- what is handed on, of earlier channels, to a tree that names n of them: none where n is 0, else all
+-- the earlier channels that a tree is given that names n of them: none where n is 0, else all
 abbrev pub handed : {X : Type 0} → ℕ → List X → List X
 handed zero earlier = []
 handed (suc n) earlier = earlier
 
--- There are so many flat trees, each of this tree for its channel.
+-- There are `count` flat trees, each of this tree for its channel.
 pub record HasFlats (t : Shape Leaf) (stream count : ℕ) (flats : List FlatTree) : Type 0 where
   pub count_is : length flats ≡ count
   pub each : (i : ℕ) → i < count → slice_get flats i ≡ Some (flat t stream i)
 
--- the state has room for channels of these flat trees up to this width, and the weights, where the first flat tree asks for them
+-- the state has room for channels of these flat trees up to this width, and the weights, where the first flat tree
+-- asks for them
 pub record IsRoomyFor {X : Type 0} (widest : ℕ) (weights : WpHeader) (flats : List FlatTree) (state : PredictorState X) : Type 0 where
   pub widest_is : room_of state ≡ widest
   pub earlier_is : earlier_room_of state ≡ length flats
@@ -56,7 +57,8 @@ module _ {D : Type 0} where
   abbrev pub regions_of : PartCoding D → List Region
   regions_of c = c.regions.now
 
-  -- The regions have the sizes of the channels, which are narrow; the greatest width is theirs; each channel has its flat tree; the weights are those of a header.
+  -- The regions have the sizes of the channels, which are narrow; the maximum width is theirs; each channel has its
+  -- flat tree; the weights are those of a header.
   pub record IsCodingOf (c : PartCoding D) : Type 0 where
     pub sizes : SameSizes (part_of c).channels (regions_of c)
     pub narrow : All IsNarrow (part_of c).channels
@@ -76,7 +78,7 @@ module _ {D : Type 0} where
   abbrev pub all_alike : PartCoding D → ℕ → List Region
   all_alike c i = map (region_at (regions_of c)) (earlier_alike (part_of c).channels i)
 
-  -- those that the state is handed
+  -- those that the state is given
   abbrev pub earlier_regions : PartCoding D → ℕ → List Region
   earlier_regions c i = handed (earlier_named c.config.now.tree) (all_alike c i)
 
@@ -84,7 +86,7 @@ module _ {D : Type 0} where
   abbrev pub setting_of : PartCoding D → ℕ → Setting
   setting_of c i = setting (region_at (regions_of c) i).width (weights_used c) (earlier_regions c i)
 
-  -- the greatest number of steps to a leaf
+  -- the maximum number of steps to a leaf
   abbrev pub cost_of : PartCoding D → ℕ
   cost_of c = depth c.config.now.tree + 1
 
@@ -95,11 +97,11 @@ module _ {D : Type 0} where
       pub earlier : length (regions_of c) ≤ earlier_room_of state
       pub weights : weights_of state ≡ weights_used c
 
-    -- the state stands behind the first n cells of channel i
+    -- the state is at the cell after the first n of channel i
     abbrev pub StandsBehind : PartCoding D → (X → ℤ) → List (Grid X) → ℕ → ℕ → PredictorState X → Type 0
     StandsBehind c to_int store i n state = StandsAt state (setting_of c i) (take n (grid_of (store_meanings to_int store) (region_at (regions_of c) i)).cells)
 
-    -- the state stands somewhere in channel i
+    -- the state is at some cell of channel i
     pub record StandsIn (c : PartCoding D) (i : ℕ) (state : PredictorState X) : Type 0 where
       pub before : List ℤ
       pub stands : StandsAt state (setting_of c i) before
@@ -108,19 +110,19 @@ module _ {D : Type 0} where
     abbrev pub IsAfterChannel : PartCoding D → ℕ → PredictorState X → Type 0
     IsAfterChannel c i state = (last : ℕ) → i ≡ last + 1 → 0 < (region_at (regions_of c) last).width → StandsIn c last state
 
--- a sample was read at this leaf, over this prediction, from this reading; it left state t and place q
+-- a sample was read at this leaf, over this prediction, from this reading; it left state t and position q
 pub record ReadsNext {S X : Type 0} (w : Width) (from_int : ℤ → X) (l : Leaf) (predicted : ℤ) (sample : X) (t : S) (q : ℕ) (reading : Result (Taken S) DecoderError) : Type 0 where
   pub token : ℕ
   pub read : reading ≡ Ok (record { token = token; state = t; position = q })
   pub sample_is : sample ≡ from_int (sample_of w l predicted token)
 
--- the read was refused by e, and state and place stay
+-- the read returned the error e, and state and position stay
 pub record RefusesNext {S : Type 0} (s t : S) (p q : ℕ) (e : DecoderError) (reading : Result (Taken S) DecoderError) : Type 0 where
   pub fault : reading ≡ Err e
   pub state_is : t ≡ s
   pub place_is : q ≡ p
 
--- the leaf to which a flat tree leads where a state was set so, behind these samples
+-- the leaf to which a flat tree leads where a state was set so, after these samples
 abbrev pub leaf_at : FlatTree → Setting → List (Grid ℤ) → List ℤ → Leaf
 leaf_at flat s store samples = leaf_reached flat (place_property (surroundings s store samples))
 
@@ -133,13 +135,14 @@ module _ {S X : Type 0} (d : Meaning S) (w : Width) (part : Part) (bytes : List 
   abbrev pub ahead : List ℤ
   ahead = cells_ahead part (grids_in regions (store_meanings to_int store)) i x y
 
-  -- The part's next token was read in state s at place p, and left state t and place q; its sample was written into column x of row y of region i.
+  -- The part's next token was read in state s at position p, and left state t and position q; its sample was written
+  -- into column x of row y of region i.
   pub record ReadsCell (from_int : ℤ → X) (new : List (Grid X)) (t : S) (q : ℕ) : Type 0 where
     pub token : ℕ
     pub read : (part_rule d w part bytes).read ahead s p ≡ Ok (record { token = token; state = t; position = q })
     pub written : new ≡ with_region_cell store (region_at regions i) x y (from_int ((part_rule d w part bytes).value ahead token))
 
-  -- the read of the part's next token was refused by e, and nothing changed
+  -- the read of the part's next token returned the error e, and nothing changed
   pub record RefusesCell (new : List (Grid X)) (t : S) (q : ℕ) (e : DecoderError) : Type 0 where
     pub fault : (part_rule d w part bytes).read ahead s p ≡ Err e
     pub store_is : new ≡ store

@@ -20,7 +20,7 @@ use jxlm_base::sample::{Sample, Sealed};
 use jxlm_tree::flat::{FlatMaTree, Leaf, Steps};
 use jxlm_tree::predictor::{PredictorState, Properties};
 
-/// The sample of a token: times the multiplier, and the offset and the prediction more.
+/// The sample of a token: times the multiplier, plus the offset and the prediction.
 fn sample_from<S: Sample>(token: u32, leaf: Leaf, predicted: i32) -> S
     requires { leaf.multiplier < 2 ^ 31 }
     ensures { result ≡ S.from_int (int_wrap S.width (unpack token *ℤ pos leaf.multiplier +ℤ leaf.offset +ℤ predicted)) }
@@ -30,7 +30,7 @@ fn sample_from<S: Sample>(token: u32, leaf: Leaf, predicted: i32) -> S
         .add(S::from_i32(predicted))
 }
 
-/// Reads the sample of the place of these properties: at the leaf to which the tree leads, over that leaf's prediction.
+/// Reads the sample of the cell of these properties: at the leaf to which the tree leads, over that leaf's prediction.
 fn next_sample<S: Sample, D: Decoder>(
     bits: &mut Bitstream<'_>,
     decoder: &mut D,
@@ -55,7 +55,8 @@ fn next_sample<S: Sample, D: Decoder>(
     Ok(sample_from(token, leaf, predicted))
 }
 
-/// Reads the cell in column `x` of row `y` of channel `i`; the state stands before it, and behind it then.
+/// Reads the cell in column `x` of row `y` of channel `i`; the state must be at this cell, and is at the next one
+/// afterwards.
 pub(crate) fn decode_cell<S: Sample, D: Decoder>(
     bits: &mut Bitstream<'_>,
     decoder: &mut D,

@@ -6,7 +6,7 @@ ghost use Rattle.jxlm_part.specs.Part.{cell_count, greatest_width as the_greates
 
 use jxlm_transform::channels::ModularChannelInfo;
 
-/// The greatest width of the channels, also of those without samples; 0 where there are none.
+/// The maximum width of the channels, also of those without samples; 0 where there are none.
 pub fn greatest_width(channels: &[ModularChannelInfo]) -> u32
     ensures { result ≡ the_greatest_width (channels_of channels.now) }
 {

@@ -1,4 +1,4 @@
-//! With what a part is coded, and what is made ready before its first bit is read.
+//! Everything a part is decoded with, and what is made ready before its first bit is read.
 
 ghost use Rattle.std.specs.Prelude.{◌≡◌, ℤ, ◌^◌, ◌<◌, ◌≤◌, List, IfOk, IfErr, length};
 ghost use Rattle.jxlm_base.specs.Fault.{NoMemory, fault_of};
@@ -19,7 +19,7 @@ use jxlm_tree::ma::MaConfig;
 use jxlm_tree::predictor::{PredictorState, WpHeader};
 use std::alloc::Global;
 
-/// With what the samples of a part are coded.
+/// Everything the samples of a part are decoded with.
 #[derive(Drop)]
 pub struct PartCoding<'a, D: Decoder> {
     /// Its channels, in order.
@@ -30,11 +30,11 @@ pub struct PartCoding<'a, D: Decoder> {
     pub config: &'a MaConfig<D>,
     /// The tree as each channel walks it.
     pub flats: &'a [FlatMaTree],
-    /// The weights of the self-correcting predictor.
+    /// The weights of the weighted (self-correcting) predictor.
     pub weights: WpHeader,
     /// The index of its stream.
     pub stream_index: u32,
-    /// The greatest width of its channels.
+    /// The maximum width of its channels.
     pub widest: u32,
 }
 
@@ -56,10 +56,10 @@ fn is_alike(a: &ModularChannelInfo, b: &ModularChannelInfo) -> bool
     a.width == b.width && a.height == b.height && a.hshift == b.hshift && a.vshift == b.vshift
 }
 
-/// Puts the state before the first sample of channel `i`, with the regions of the channels before that are like it, the
+/// Puts the state at the first cell of channel `i`, with the regions of the channels before that are like it, the
 /// nearest first, where the tree asks for any.
 ///
-/// Where the channel before is like it, the state has all of them but that one, and is handed only that.
+/// Where the channel before is like it, the state has all of them but that one, and is given only that.
 pub(crate) fn start_channel<S: Sample, D: Decoder>(
     state: &mut PredictorState<S>,
     coding: &PartCoding<'_, D>,
@@ -85,7 +85,7 @@ pub(crate) fn start_channel<S: Sample, D: Decoder>(
     }
 }
 
-/// Hands the state, which has no earlier channel, the regions of all channels before channel `i` that are like it.
+/// Gives the state, which has no earlier channel, the regions of all channels before channel `i` that are like it.
 fn add_all_earlier<S: Sample, D: Decoder>(
     state: &mut PredictorState<S>,
     coding: &PartCoding<'_, D>,
@@ -105,7 +105,11 @@ fn add_all_earlier<S: Sample, D: Decoder>(
     }
 }
 
-/// The tree as each of n channels walks it. The only error is `Buffer`, where memory runs out.
+/// The tree as each of n channels walks it.
+///
+/// # Errors
+///
+/// `Buffer` if it is out of memory, and no other.
 pub fn flat_trees<D: Decoder>(
     alloc: Global,
     config: &MaConfig<D>,
@@ -123,8 +127,12 @@ pub fn flat_trees<D: Decoder>(
     Ok(flats)
 }
 
-/// A state with room for channels of these flat trees and up to this width; it heeds the weights where the tree asks for
-/// them. The only error is `Buffer`, where memory runs out.
+/// A state with room for channels of these flat trees and up to this width; it has the weights where the tree asks for
+/// them.
+///
+/// # Errors
+///
+/// `Buffer` if it is out of memory, and no other.
 pub fn roomy_state<S: Sample>(
     alloc: Global,
     flats: &[FlatMaTree],

@@ -121,10 +121,13 @@ fn decode_channels<S: Sample, D: Decoder>(
     Ok(())
 }
 
-/// Decodes all samples of a part: the decoder begins, the channels are read in order, and the decoder accepts the end.
+/// Decodes all samples of a part (ISO/IEC 18181-1, Modular: decoding of samples): the decoder begins, the channels are
+/// read in order, and the decoder accepts the end.
 ///
-/// A fault is that of the beginning, of the read of one cell, or of the end; the cells before are decoded then, and the
-/// others as they were.
+/// # Errors
+///
+/// That of the beginning, of the read of one cell, or of the end; the cells before are decoded then, and the others
+/// are as they were.
 pub fn decode_part<S: Sample, D: Decoder>(
     bits: &mut Bitstream<'_>,
     decoder: &mut D,

@@ -16,7 +16,7 @@ pub fn each_sample_sees_what_is_before()
     ensures { part.EachSeesBefore }
 {}
 
-/// Where some samples are coded to the end, decoding is not refused by the decoder.
+/// Where some samples are coded to the end, decoding returns no error of the decoder.
 pub fn what_is_coded_is_not_refused<D: Decoder>()
     ensures { (w : Width) (p : part.Part) (bytes : List ℕ) (decoder : D) (old new : Standing) (e : DecoderError) (tried : ℕ) (grids : List (Grid ℤ)) (q : ℕ) → IsCodedToTheEnd D.meaning w p bytes decoder old.position grids q → Fails D.meaning w p bytes decoder old new e tried → ⊥ }
 {}

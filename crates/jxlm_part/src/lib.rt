@@ -1,4 +1,5 @@
-//! One part of a Modular image decoded: the samples of a list of channels, in the order of their cells.
+//! One part of a Modular image decoded: the samples of a list of channels, in the order of their cells (ISO/IEC
+//! 18181-1, Modular: decoding of samples).
 #![tactic(auto)]
 
 mod cell;

@@ -1,4 +1,4 @@
--- What a decoder of bytes answers. Its state is the cluster of each context; all are cluster 0.
+-- What a decoder of bytes returns. Its state is the cluster of each context; all are cluster 0.
 use Rattle.std.specs.Prelude.{ℕ, ◌+◌, ◌*◌, List, length, replicate, false, if◌then◌else◌, nat_lt, None, Result, Ok, Err}
 use Rattle.jxlm_base.specs.Bits.{bits_at}
 use Rattle.jxlm_base.specs.Decoding.{Taken, Meaning}

@@ -54,7 +54,7 @@ impl Decoder for Bytewise {
         bits.read_bits(8).map_err(|_| DecoderError::UnexpectedEof)
     }
 
-    // There are no runs, so nobody can meet what the trait asks for here; this asks for less.
+    // There are no runs, so nobody can meet what the trait requires here; this requires less.
     fn read_varint_clustered(
         &mut self,
         bits: &mut Bitstream<'_>,

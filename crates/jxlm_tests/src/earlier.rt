@@ -7,7 +7,8 @@ use jxl_modular::plain::PlainDecoder;
 use jxlm_tree_tests::text::bytes;
 use std::test::Fail;
 
-// Decisions on the samples of the three nearest earlier channels of equal size, where channels of two sizes stand in turn.
+// Decisions on the samples of the three nearest earlier channels of equal size, where channels of two sizes come in
+// turn.
 const IN_TURN: &str =
     "2x1 2x1 1x1 2x1 1x1 1x1 2x1|0200000028acd14c1a0004000040000050008040000000000821ff31|1 3 3 5 0 0 3 0 1 2 6 @222";
 
@@ -20,7 +21,8 @@ fn earlier_channels_of_two_sizes_in_turn(rt: HostRuntime) -> Result<(), Fail> {
     check::<i16, PlainDecoder>(&rt, rt.alloc(), IN_TURN)
 }
 
-// As many channels as there may be, each of one sample. All but the first 60001 have one that is 60001 before, and that is 7.
+// As many channels as there may be, each of one sample. All but the first 60001 have one that is 60001 before, and
+// that is 7.
 #[test]
 fn an_earlier_channel_far_before(rt: HostRuntime) -> Result<(), Fail> {
     let channels = vec![in rt.alloc(); ModularChannelParams::new(1, 1); 65536]?;

@@ -11,8 +11,8 @@ use std::alloc::Global;
 use std::process::Abort;
 use std::test::Fail;
 
-// Why the bits were refused, if they were; the samples, in their order; where the reader stands; and
-// whether the part was told to be whole.
+// The error, if there was one; the samples, in their order; the reader's position; and whether the
+// part was returned as whole.
 #[derive(Drop)]
 pub struct Outcome {
     pub fault: Option<Error>,

@@ -1,5 +1,5 @@
-// Pictures at both widths and by two decoders. Bytes were drawn, and what is told of them was computed by a program of its own,
-// from the format's definitions by coordinates.
+// Pictures at both widths and by two decoders. Bytes were generated, and what is expected of them was computed by an
+// independent program, from the format's definitions by coordinates.
 
 use crate::bytewise::Bytewise;
 use crate::table::check;
@@ -18,7 +18,7 @@ const PLAIN_16: &str =
 4x1 1x4 2x2|0201840c050293c7093e140011fcef432084d6a419b1df68350628a3f3cdb19e9132e4b7d3e700|-200 32568 -16584 24376 16184 24376 -200 24376 32568 16184 -16584 7992 @306;1x1|0201840c050281c18202281c1c|42 @102;3x2 2x3|0201840c050603814df8040078699313bfd8a98d6d001c855121908a8e27fc416d4a64be3472fa4f431cf5d4e5036df7792983c594192c4dc209c5d20a|17128 1564 450 -31182 -11990 18288 25372 16544 -25734 -23966 -4224 20060 @484;4x1 1x4 2x2|0201840c05068360d6e09381000040e32bc62fe23724deefbb26fc3ae729a4ddeeacb2f5e070fd3c4120eb791e66f322d7333baa6ab4670543b88c3eaa8608|-26861 14885 -5787 27994 31826 1676 12415 32053 -27635 27111 16962 819 @503;1x1|0201840c05060f0e9c22e20880c8bf2d|27889 @126;3x2 2x3|0201840c050e9d3c0ea44c44590085f2ffc15c333db35300|-9016 -18032 5793 -15755 7924 1185 -22094 10547 30164 27833 8070 -16155 @186;4x1 1x4 2x2|0201840c050e8d29dcbb27f8500114d499123e19df913104|-25723 -10486 4751 -12780 -17531 30474 12943 28180 7045 -10486 -10486 -11633 @188
 1x1|0201840c050e9d3c0e9c2e6b2e80849131|29384 @134;0x5|0201840c050e0d040202180000|@89;7x0 0x0|0201840c050e0d0402001800|@89;0x3 2x1 300x0 2x2 3x0|0201840c0506038100000631b001|1 3 -1 -1 2 5 @105";
 
-// Tokens that are bytes, and all that one picture is cut to.
+// Tokens that are bytes, and all that one picture is truncated to.
 const BYTES_32: &str =
     "2x2|02500000002040100000|1 3 0 2 @76;3x2|0210f08ff1f7ef1f20000008|invalid meta-adaptive tree;3x2|0210f08fe1f7ef1f20000008|2147483520 -2130706688 33554048 -16777472 -16777600 -1090519552 @92;2x2 1x2|0250e0ef01f01f2030405000|127 -1073741570 1073742078 -2147483140 -2147483521 -1073741570 @92;0x4 5x1|02001080f0ffef0ff80700|-8388609 8323071 4194303 -4194305 -1 @84;0x3 3x0|025000000090807000|@44;2x2||bitstream error: unexpected end of input;2x2|02|entropy decoder error: unexpected end of input;2x2|0250|entropy decoder error: unexpected end of input;2x2|025000|entropy decoder error: unexpected end of input;2x2|02500000|entropy decoder error: unexpected end of input;2x2|0250000000|entropy decoder error: unexpected end of input;2x2|025000000020|0 0 0 0 @44 entropy decoder error: unexpected end of input;2x2|02500000002040|1 0 0 0 @52 entropy decoder error: unexpected end of input;2x2|0250000000204010|1 3 0 0 @60 entropy decoder error: unexpected end of input
 2x2|025000000020401000|1 3 0 0 @68 entropy decoder error: unexpected end of input";

@@ -1,5 +1,5 @@
-// Small pictures, each with all that it is cut to. Samples, places and faults of the first six were computed by hand; all were computed
-// by a program of its own.
+// Small pictures, each with all that it is truncated to. Samples, positions and errors of the first six were computed
+// by hand; all were computed by an independent program.
 
 use crate::table::check;
 use jxl_modular::plain::PlainDecoder;
@@ -9,7 +9,7 @@ use std::test::Fail;
 const GRADIENT: &str =
     "2x2|42000400040e05c02006|1 3 0 2 @80;2x2|42000400040e05c020|1 0 0 0 @71 entropy decoder error: unexpected end of input;2x2|42000400040e05c0|entropy decoder error: unexpected end of input;2x2|42000400040e05|entropy decoder error: unexpected end of input;2x2|42000400040e|entropy decoder error: unexpected end of input;2x2|4200040004|entropy decoder error: unexpected end of input;2x2|42000400|entropy decoder error: unexpected end of input;2x2|420004|entropy decoder error: unexpected end of input;2x2|4200|entropy decoder error: unexpected end of input;2x2|42|entropy decoder error: unexpected end of input;2x2||bitstream error: unexpected end of input";
 
-// The constant token 3, doubled, and 5 more: behind the tree no bit is read.
+// The constant token 3, doubled, and 5 more: after the tree no bit is read.
 const CONSTANT: &str =
     "2x2|8200408004123a084061|1 1 1 1 @79;2x2|8200408004123a0840|entropy decoder error: unexpected end of input;2x2|8200408004123a08|entropy decoder error: unexpected end of input;2x2|8200408004123a|entropy decoder error: unexpected end of input;2x2|820040800412|entropy decoder error: unexpected end of input;2x2|8200408004|entropy decoder error: unexpected end of input;2x2|82004080|entropy decoder error: unexpected end of input;2x2|820040|entropy decoder error: unexpected end of input;2x2|8200|entropy decoder error: unexpected end of input;2x2|82|entropy decoder error: unexpected end of input;2x2||bitstream error: unexpected end of input";
 
@@ -21,11 +21,11 @@ const RUN: &str =
 const RUN_OF_NONE: &str =
     "2x2|42000400040e0dc07000|0 0 0 0 @77;2x2|42000400040e0dc070|0 0 0 0 @68 entropy decoder error: unexpected end of input;2x2|42000400040e0dc0|entropy decoder error: unexpected end of input;2x2|42000400040e0d|entropy decoder error: unexpected end of input;2x2|42000400040e|entropy decoder error: unexpected end of input;2x2|4200040004|entropy decoder error: unexpected end of input;2x2|42000400|entropy decoder error: unexpected end of input;2x2|420004|entropy decoder error: unexpected end of input;2x2|4200|entropy decoder error: unexpected end of input;2x2|42|entropy decoder error: unexpected end of input;2x2||bitstream error: unexpected end of input";
 
-// The tokens of the first behind their sum.
+// The tokens of the first after their sum.
 const SEALED: &str =
     "2x2|42000400040e15c0702006|1 3 0 2 @88;2x2|42000400040e15c07020|1 0 0 0 @79 entropy decoder error: unexpected end of input;2x2|42000400040e15c070|0 0 0 0 @68 entropy decoder error: unexpected end of input;2x2|42000400040e15c0|entropy decoder error: unexpected end of input;2x2|42000400040e15|entropy decoder error: unexpected end of input;2x2|42000400040e|entropy decoder error: unexpected end of input;2x2|4200040004|entropy decoder error: unexpected end of input;2x2|42000400|entropy decoder error: unexpected end of input;2x2|420004|entropy decoder error: unexpected end of input;2x2|4200|entropy decoder error: unexpected end of input;2x2|42|entropy decoder error: unexpected end of input;2x2||bitstream error: unexpected end of input";
 
-// The same behind a sum that is one too great: the end is refused, and all samples are there.
+// The same after a sum that is one too large: the end is an error, and all samples are there.
 const WRONG_SEAL: &str =
     "2x2|42000400040e15c0802006|1 3 0 2 @88 entropy decoder error: invalid code 4;2x2|42000400040e15c08020|1 0 0 0 @79 entropy decoder error: unexpected end of input;2x2|42000400040e15c080|0 0 0 0 @68 entropy decoder error: unexpected end of input;2x2|42000400040e15c0|entropy decoder error: unexpected end of input;2x2|42000400040e15|entropy decoder error: unexpected end of input;2x2|42000400040e|entropy decoder error: unexpected end of input;2x2|4200040004|entropy decoder error: unexpected end of input;2x2|42000400|entropy decoder error: unexpected end of input;2x2|420004|entropy decoder error: unexpected end of input;2x2|4200|entropy decoder error: unexpected end of input;2x2|42|entropy decoder error: unexpected end of input;2x2||bitstream error: unexpected end of input";
 
@@ -39,13 +39,13 @@ const EARLIER: &str =
 2x1 2x1|0200000048241000000019000000000000|entropy decoder error: unexpected end of input;2x1 2x1|02000000482410000000190000000000|entropy decoder error: unexpected end of input;2x1 2x1|020000004824100000001900000000|entropy decoder error: unexpected end of input;2x1 2x1|0200000048241000000019000000|entropy decoder error: unexpected end of input;2x1 2x1|02000000482410000000190000|entropy decoder error: unexpected end of input;2x1 2x1|020000004824100000001900|entropy decoder error: unexpected end of input;2x1 2x1|0200000048241000000019|entropy decoder error: unexpected end of input;2x1 2x1|02000000482410000000|entropy decoder error: unexpected end of input;2x1 2x1|020000004824100000|entropy decoder error: unexpected end of input;2x1 2x1|0200000048241000|entropy decoder error: unexpected end of input;2x1 2x1|02000000482410|entropy decoder error: unexpected end of input;2x1 2x1|020000004824|entropy decoder error: unexpected end of input
 2x1 2x1|0200000048|entropy decoder error: unexpected end of input;2x1 2x1|02000000|entropy decoder error: unexpected end of input;2x1 2x1|020000|entropy decoder error: unexpected end of input;2x1 2x1|0200|entropy decoder error: unexpected end of input;2x1 2x1|02|entropy decoder error: unexpected end of input;2x1 2x1||bitstream error: unexpected end of input";
 
-// Behind a first sample of 1 the greatest error is -8: a sample is its token above -8, the self-correcting prediction and its token
-// above -9, and else 15 less than its token.
+// After a first sample of 1 the maximum error is -8: a sample is its token above -8, the weighted prediction and its
+// token above -9, and else 15 less than its token.
 const GREATEST_ERROR: &str =
     "3x1|0200000028e00300000023300000003a000000280428|1 1 -3 @176;3x1|0200000028e00300000023300000003a0000002804|1 0 0 @166 entropy decoder error: unexpected end of input;3x1|0200000028e00300000023300000003a00000028|entropy decoder error: unexpected end of input;3x1|0200000028e00300000023300000003a000000|entropy decoder error: unexpected end of input;3x1|0200000028e00300000023300000003a0000|entropy decoder error: unexpected end of input;3x1|0200000028e00300000023300000003a00|entropy decoder error: unexpected end of input;3x1|0200000028e00300000023300000003a|entropy decoder error: unexpected end of input;3x1|0200000028e0030000002330000000|entropy decoder error: unexpected end of input;3x1|0200000028e00300000023300000|entropy decoder error: unexpected end of input;3x1|0200000028e003000000233000|entropy decoder error: unexpected end of input;3x1|0200000028e0030000002330|entropy decoder error: unexpected end of input;3x1|0200000028e00300000023|entropy decoder error: unexpected end of input
 3x1|0200000028e003000000|entropy decoder error: unexpected end of input;3x1|0200000028e0030000|entropy decoder error: unexpected end of input;3x1|0200000028e00300|entropy decoder error: unexpected end of input;3x1|0200000028e003|entropy decoder error: unexpected end of input;3x1|0200000028e0|entropy decoder error: unexpected end of input;3x1|0200000028|entropy decoder error: unexpected end of input;3x1|02000000|entropy decoder error: unexpected end of input;3x1|020000|entropy decoder error: unexpected end of input;3x1|0200|entropy decoder error: unexpected end of input;3x1|02|entropy decoder error: unexpected end of input;3x1||bitstream error: unexpected end of input";
 
-// The self-correcting predictor alone.
+// The weighted predictor alone.
 const SELF_CORRECTING: &str =
     "3x3|020000002880010000a0486210c04ef0|-5 -5 -7 -5 -6 -1 -9 -7 13 @128;3x3|020000002880010000a0486210c04e|-5 -5 -7 -5 -6 -1 -9 0 0 @118 entropy decoder error: unexpected end of input;3x3|020000002880010000a0486210c0|-5 -5 -7 -5 -6 0 0 0 0 @108 entropy decoder error: unexpected end of input;3x3|020000002880010000a0486210|-5 -5 -7 -5 0 0 0 0 0 @103 entropy decoder error: unexpected end of input;3x3|020000002880010000a04862|-5 -5 0 0 0 0 0 0 0 @93 entropy decoder error: unexpected end of input;3x3|020000002880010000a048|-5 0 0 0 0 0 0 0 0 @88 entropy decoder error: unexpected end of input;3x3|020000002880010000a0|entropy decoder error: unexpected end of input;3x3|020000002880010000|entropy decoder error: unexpected end of input;3x3|0200000028800100|entropy decoder error: unexpected end of input;3x3|02000000288001|entropy decoder error: unexpected end of input;3x3|020000002880|entropy decoder error: unexpected end of input;3x3|0200000028|entropy decoder error: unexpected end of input
 3x3|02000000|entropy decoder error: unexpected end of input;3x3|020000|entropy decoder error: unexpected end of input;3x3|0200|entropy decoder error: unexpected end of input;3x3|02|entropy decoder error: unexpected end of input;3x3||bitstream error: unexpected end of input";

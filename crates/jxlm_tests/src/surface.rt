@@ -1,5 +1,5 @@
-// The public surface of the library, named through `jxl_modular` alone: each type, function, variant and field of it. One that is
-// missing, or has another type, does not compile. What is computed on the way are worked examples.
+// The public surface of the library, named through `jxl_modular` alone: each type, function, variant and field of it.
+// One that is missing, or has another type, does not compile. What is computed on the way are worked examples.
 
 ghost use Rattle.std.specs.Prelude.{◌≡◌, Contains, None, true};
 ghost use Rattle.jxl_modular.specs.FlatTree.{ClustersStandIn};
@@ -28,7 +28,7 @@ use std::alloc::Global;
 use std::result::Result;
 use std::test::Fail;
 
-// The types that stand at the root too, by the names of their modules.
+// The types that are at the root too, by the names of their modules.
 type OfModules<'a, S> = (
     error::Error,
     error::Result<FlatMaTree>,
@@ -58,7 +58,7 @@ fn are_the_same<'a, S: jxl_modular::Sample>(types: OfModules<'a, S>) -> OfRoot<'
     types
 }
 
-// No transforms, a tree of one leaf up to bit 68, and samples behind it.
+// No transforms, a tree of one leaf up to bit 68, and samples after it.
 const PICTURE: [u8; 10] = [0x42, 0x00, 0x04, 0x00, 0x04, 0x0E, 0x05, 0xC0, 0x20, 0x06];
 
 fn bits(bytes: &[u8]) -> Result<(u32, bool, u32, u64), BitstreamError> {
@@ -123,7 +123,7 @@ fn causes() -> [error::Error; 3] {
     ]
 }
 
-// The calls of single samples: 1 - 3, 10 * 2 + 1, the least of three, and a number both ways.
+// The calls of single samples: 1 - 3, 10 * 2 + 1, the minimum of three, and a number both ways.
 fn samples<S: Sample>() -> (i32, i32, i32, i64) {
     let sum: S = S::unpack_signed_u32(2).add(S::from_i32(-3));
     let product: S = S::from_u32(10).wrapping_muladd_i32(2, 1);
@@ -349,7 +349,7 @@ fn before<S>(alloc: Global, wp_header: &WpHeader) -> error::Result<PredictorStat
     Ok(state)
 }
 
-// The sample to the west, and the next place.
+// The sample to the west, and the next cell.
 fn place<S: Sample>(state: &mut PredictorState<S>, store: &[AlignedGrid<S>]) -> i32
     requires { IsReady state.old store.now }
 {
@@ -359,7 +359,7 @@ fn place<S: Sample>(state: &mut PredictorState<S>, store: &[AlignedGrid<S>]) -> 
     west
 }
 
-// A place whose neighbours are all there.
+// A cell whose neighbours are all there.
 fn inner_place<S: Sample>(state: &mut PredictorState<S>, store: &[AlignedGrid<S>]) -> i32
     requires ready { IsReady state.old store.now }
     requires inner { IsInner state.old }
@@ -367,12 +367,12 @@ fn inner_place<S: Sample>(state: &mut PredictorState<S>, store: &[AlignedGrid<S>
     state.properties::<false>(store).get(7)
 }
 
-// No public call hands one out.
+// No public call returns one.
 fn nothing_predicted(prediction: Option<PredictionResult>) -> bool {
     prediction.is_none()
 }
 
-// The tree behind four bits of a header, in its own words.
+// The tree after four bits of a header, in its own words.
 fn tree<D: Decoder>(alloc: Global, bits: &mut Bitstream<'_>) -> error::Result<[usize; 3]> {
     let params = MaConfigParams {
         node_limit: 1024,
@@ -393,7 +393,7 @@ fn tree<D: Decoder>(alloc: Global, bits: &mut Bitstream<'_>) -> error::Result<[u
     ])
 }
 
-// The leaf of a place, and the sample that its token stands for.
+// The leaf of a cell, and the sample that its token stands for.
 fn leaf<S: Sample, D: Decoder>(
     flat: &FlatMaTree,
     bits: &mut Bitstream<'_>,
@@ -432,7 +432,7 @@ fn transform(
     Ok((kind, palette, squeeze))
 }
 
-// Each transform behind its kind.
+// Each transform after its kind.
 fn kinds(alloc: Global, bits: &mut Bitstream<'_>, wp_header: &WpHeader) -> error::Result<usize> {
     let mut copy = *bits;
     let _: Rct = Rct::parse(bits)?;
@@ -507,7 +507,7 @@ fn picture<S: Sample>(
     decode_picture(alloc, &mut Bitstream::new(&PICTURE), params, 0, &mut steps)
 }
 
-// How a channel that is handed out was given.
+// How a channel that is returned was given.
 fn given(info: &ModularChannelInfo) -> (ChannelShift, (u32, u32)) {
     let shift: ChannelShift = info.shift();
     (shift, info.original_size())

@@ -1,5 +1,6 @@
-// Tables of pictures: each picture has the sizes of its channels, its bytes, and what is told of it, with a bar between; behind the
-// sizes may stand a slash and the bit depth, which is else 8. A line has several pictures, with a semicolon between.
+// Tables of pictures: each picture has the sizes of its channels, its bytes, and what is expected of it, with a bar
+// between; after the sizes may come a slash and the bit depth, which is else 8. A line has several pictures, with a
+// semicolon between.
 use crate::outcome::{Outcome, at_once, by_calls};
 use jxl_modular::decoder::Decoder;
 use jxl_modular::error::Error;
@@ -20,7 +21,7 @@ fn channels(alloc: Global, sizes: &str) -> Result<Vec<ModularChannelParams>, Fai
     Ok(channels)
 }
 
-// How many samples are told one by one.
+// How many samples are printed one by one.
 const FEW: usize = 12;
 
 // Each sample, times a power of 31, the last times 1, added up modulo 2^32.
@@ -45,7 +46,8 @@ fn numbers(alloc: Global, samples: &[i32]) -> Result<String, Fail> {
     Ok(text)
 }
 
-// The samples, or their checksum, and the reader's place, with the fault of the samples, if there is one; or the fault of what stands before them.
+// The samples, or their checksum, and the reader's position, with the error of the samples, if there is one; or the
+// error of what comes before them.
 fn told(alloc: Global, outcome: &Outcome) -> Result<String, Fail> {
     let samples = numbers(alloc, &outcome.samples)?;
     let position = outcome.position;
@@ -56,7 +58,7 @@ fn told(alloc: Global, outcome: &Outcome) -> Result<String, Fail> {
     })
 }
 
-// Reads a picture call by call, and once more by one call, and compares what is told of it.
+// Reads a picture call by call, and once more by one call, and compares what is expected of it.
 fn check_picture<S: Sample, D: Decoder>(
     rt: &impl Abort,
     alloc: Global,
@@ -96,7 +98,7 @@ fn check_line<S: Sample, D: Decoder>(
     Ok(())
 }
 
-/// Reads each picture of a table call by call, and once more by one call, and compares what is told of it.
+/// Reads each picture of a table call by call, and once more by one call, and compares what is expected of it.
 pub fn check<S: Sample, D: Decoder>(
     rt: &impl Abort,
     alloc: Global,

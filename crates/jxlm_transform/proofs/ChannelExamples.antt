@@ -62,6 +62,6 @@ palette_across = refl
 squeezed_table : coded_sizes (palette 3 5 ∷ OfSqueeze (record { horizontal = true; in_place = true; begin_c = 0; num_c = 1 } ∷ []) ∷ []) three ≡ Ok ((3, 3) ∷ (2, 3) ∷ (16, 16) ∷ [])
 squeezed_table = refl
 
--- the residuals of a table must stand behind it
+-- the residuals of a table must be right after it
 table_at_end : coded_sizes (palette 3 5 ∷ OfSqueeze (record { horizontal = true; in_place = false; begin_c = 0; num_c = 1 } ∷ []) ∷ []) three ≡ Err BadSqueeze
 table_at_end = refl

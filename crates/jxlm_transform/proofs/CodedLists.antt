@@ -1,4 +1,4 @@
--- Applying transforms one after the other, as a loop does.
+-- Applying transforms one after another, as a loop does.
 use Rattle.std.proofs.Common.{◌≡◌, List, [], ◌∷◌, ◌++◌, Result, Ok, Err, refl, sym, ap, ◌∙◌, append_assoc}
 use Rattle.std.proofs.lemmas.List.{append-nil}
 use Rattle.jxlm_base.specs.Fault.{Fault}
@@ -25,7 +25,7 @@ stays_refused : {X Y Z : Type 0} (r : Result X Fault) (g : X → Result Y Fault)
 stays_refused (Err e) g h fault refused = cc
 stays_refused {Y} {Z} (Ok x) g h fault refused = rw refused refl
 
--- a transform was refused
+-- a transform gave an error
 pub transform_refused : (front : List Step) (t : Transform) (ts : List Transform) (l : ChannelList) (fault : Fault) (total : Result CodedList Fault) →
     (steps_of t l >>= λ steps. list_after_all steps l) ≡ Err fault → with_steps front (coded_list (t ∷ ts) l) ≡ total → total ≡ Err fault
 transform_refused front t ts l fault total refused so_far =

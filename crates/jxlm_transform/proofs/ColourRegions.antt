@@ -68,7 +68,7 @@ module _ {S : Type 0} (r s t : Region) where
     third_height = h.third_height;
   }
 
-  -- ---- three rows written one behind another
+  -- ---- three rows written one after another
 
   module _ (f : S → ℤ) (y : ℕ) (a b c : List S) (s0 s1 s2 s3 : List (Grid S)) (three : AreThree r s t s0) (below : y < r.height)
       (first : SetsRow r y a s0 s1) (second : SetsRow s y b s1 s2) (third : SetsRow t y c s2 s3) where
@@ -130,7 +130,7 @@ module _ {S : Type 0} (r s t : Region) where
           };
         }
 
-    -- ---- row behind row
+    -- ---- row after row
 
     pub until_start : (store : List (Grid S)) → FinishedUntil r s t f w ty order 0 store store
     until_start store = record {

@@ -8,7 +8,7 @@ use Rattle.jxlm_transform.specs.declared.channels.ModularChannelInfo.{ModularCha
 use Rattle.jxlm_transform.specs.declared.channels.ModularChannels.{ModularChannels}
 use Rattle.jxlm_transform.specs.declared.transform.SqueezeParams.{SqueezeParams}
 
--- the squeezes of chroma, and behind them those of all channels, are the default squeeze
+-- the squeezes of chroma, and after them those of all channels, are the default squeeze
 pub default_listed : (l : ModularChannels) (leader : ModularChannelInfo) (others : List ModularChannelInfo) (xs ys zs : List SqueezeParams) → xs ≡ [] →
     take (length l.info.items - l.nb_meta_channels) (drop l.nb_meta_channels l.info.items) ≡ leader ∷ others →
     ys ≡ xs ++ default_of_chroma l.nb_meta_channels (map channel_of (leader ∷ others)) →

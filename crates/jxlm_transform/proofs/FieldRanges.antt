@@ -21,7 +21,7 @@ either-between : (b : Bool) (f g : Grammar ℕ) (bytes : List ℕ) (p v q low hi
 either-between true f g bytes p v q low high one two s = one s
 either-between false f g bytes p v q low high one two s = two s
 
--- A U32 that is read lies between the least and the greatest value of its parts.
+-- A U32 that is read lies between the minimum and the maximum of its parts.
 pub u32-between : (d0 d1 d2 d3 : U32Spec) (bytes : List ℕ) (p : ℕ) (found : Found ℕ) → (u32 d0 d1 d2 d3).read bytes p ≡ Ok found →
     (least_of d0 d1 d2 d3 ≤ found.value) × (found.value ≤ greatest_of d0 d1 d2 d3)
 u32-between d0 d1 d2 d3 bytes p found e =
@@ -39,7 +39,7 @@ u32-between d0 d1 d2 d3 bytes p found e =
     (λ w. let r = part-between d2 bytes m v q w in (omega arith, omega arith))
     (λ w. let r = part-between d3 bytes m v q w in (omega arith, omega arith)) u) t) chosen
 
--- so what a call that reads one answers is at least the least and at most the greatest value
+-- so what a call that reads one returns is at least the minimum and at most the maximum
 pub at_least : (d0 d1 d2 d3 : U32Spec) (bytes : List ℕ) (p q : ℕ) (r : Result ℕ BitstreamError) → Reads (λ (v : ℕ). v) r q ((u32 d0 d1 d2 d3).read bytes p) → IfOk r (λ v. least_of d0 d1 d2 d3 ≤ v)
 at_least d0 d1 d2 d3 bytes p q (Ok v) reads = (u32-between d0 d1 d2 d3 bytes p (record { value = v; position = q }) reads).0
 at_least d0 d1 d2 d3 bytes p q (Err e) reads = tt

@@ -1,4 +1,4 @@
--- The finished channels of a palette, one after the other, the last first.
+-- The finished channels of a palette, one after another, the last first.
 use Rattle.std.proofs.Common.{◌≡◌, ◌⊎◌, inl, inr, ℕ, ◌+◌, ◌<◌, ◌≤◌, List, [], ◌∷◌, length, sym, refl, ap, ◌∙◌, subst, arith, ℤ}
 use Rattle.std.specs.Prelude.{get_or, map}
 use Rattle.std.specs.Int.{Width}

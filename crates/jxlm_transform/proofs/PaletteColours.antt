@@ -13,7 +13,7 @@ use Rattle.jxlm_base.specs.Grid.{Grid, at}
 use Rattle.jxlm_transform.specs.declared.transform.Palette.{Palette}
 use Rattle.jxlm_transform.specs.Palette.{colour_of, deltas, listed_difference, difference, implicit_colour}
 
--- a number below a power has no digit in its place
+-- a number below a power has no digit there
 pub no_digit : (b c n j : ℕ) → 0 < b → n ≤ c → j < b ^ n → j / b ^ c % b ≡ 0
 no_digit b c n j some l h =
     let grows : b ^ n ≤ b ^ c = pow-le-pow_right some l in

@@ -15,7 +15,7 @@ positive zero h n p = absurd (omega arith)
 positive (suc w) h n p = omega arith
 
 module _ (w : Width) (depth : ℕ) (t : Palette) (table index : Grid ℤ) (c : ℕ) where
-  -- the sample that stands at place k behind the ones before
+  -- sample k after the ones before
   abbrev next : ℕ → List ℤ → ℤ
   next k before = finished_sample w depth t table (get_or index.cells k (pos 0)) c before index.width
 

@@ -132,7 +132,7 @@ module _ {S : Type 0} (to_int : S → ℤ) (t : Palette) (p : FinishedChannel) w
         (subst (λ n. Filled w depth t p table index (k + 1) (store_meanings to_int n)) (sym sets.written)
         (filled_set to_int t p old lies x y k px py is sets.sample w depth table index f (sets.sample_is ∙ e)))
 
-  -- what stands at a place of the table and the indices, where they are as they were
+  -- what is in a cell of the table and of the indices, where they are as they were
   pub index_at : (ints : List (Grid ℤ)) (k x y : ℕ) (table index : Grid ℤ) → Ahead p k table index ints → k ≡ y * p.index.width + x → at (index_in p ints) x y ≡ get_or index.cells k (pos 0)
   index_at ints k x y table index a is = ap (λ n. get_or (index_in p ints).cells n (pos 0)) (sym is) ∙ a.indices k (omega arith)
 
@@ -196,7 +196,7 @@ module _ {S : Type 0} (to_int : S → ℤ) (t : Palette) (p : FinishedChannel) (
 -- ---- rows and channels
 
 module _ (w : Width) (depth : ℕ) (t : Palette) (p : FinishedChannel) (old new : List (Grid ℤ)) where
-  -- the same, where the last place is told otherwise
+  -- the same, where the last number is another but equal one
   pub fills_between : (from to to' : ℕ) → FillsOn w depth t p from to old new → to ≡ to' → FillsOn w depth t p from to' old new
   fills_between from to to' f same table index before = subst (λ n. Filled w depth t p table index n new) same (f table index before)
 
@@ -236,7 +236,7 @@ module _ {S : Type 0} (t : Palette) (width k k' : ℕ) (state state' : Predictor
     stands = h;
   }
 
--- a state behind so many samples of a channel is ready in any store
+-- a state after k samples of a channel is ready in any store
 pub is_ready : {S : Type 0} (t : Palette) (width height x y : ℕ) (state : PredictorState S) (store : List (Grid S)) → StandsBefore t width (y * width + x) state → x < width → y < height → height ≤ 2 ^ 30 →
     IsReady state store
 is_ready t width height x y state store stands px py few =

@@ -48,7 +48,7 @@ unless_memory (OfDecoder decoder.UnexpectedEof) P holds = holds
 unless_memory (OfDecoder (decoder.Invalid code)) P holds = holds
 unless_memory (OfDecoder decoder.OutOfMemory) P holds = tt
 
--- where a squeeze is refused behind its kind, so is the transform
+-- where a squeeze gives an error after its kind, so does the transform
 pub squeeze_refused : (weights : WpHeader) (bytes : List ℕ) (p m q : ℕ) (fault : Fault) → (number 2).read bytes p ≡ Ok (record { value = 2; position = m }) →
     IsRefused (squeeze.read bytes m) fault q → IsRefused ((transform weights).read bytes p) fault q
 squeeze_refused weights bytes p m q fault kind refused = record { place = refused.place; refuses = rw (kind, refused.refuses) refl; stands = refused.stands }

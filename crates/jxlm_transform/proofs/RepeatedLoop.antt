@@ -1,4 +1,4 @@
--- Reading fields of one kind one after the other, as a loop does.
+-- Reading fields of one kind one after another, as a loop does.
 use Rattle.std.proofs.Common.{◌≡◌, ℕ, suc, ◌-◌, ◌+◌, ◌≤◌, ◌<◌, List, [], ◌∷◌, ◌++◌, Result, Ok, Err, refl, sym, ap, ◌∙◌, append_assoc, arith}
 use Rattle.std.proofs.lemmas.List.{append-nil}
 use Rattle.jxlm_base.specs.Decoding.{Found}
@@ -24,7 +24,7 @@ module _ {Y : Type 0} where
       let one : with_front front ((repeated (count - i) g).read bytes p) ≡ with_front (front ++ y ∷ []) ((repeated (count - (i + 1)) g).read bytes q) = rw (k, h) (regroup front y ((repeated (count - (i + 1)) g).read bytes q)) in
       sym one ∙ so_far
 
-  -- a field was refused
+  -- a field gave an error
   pub stops : (g : Grammar Y) (bytes : List ℕ) (front : List Y) (count i p : ℕ) (e : Refused) (total : Result (Found (List Y)) Refused) → i < count →
       g.read bytes p ≡ Err e → with_front front ((repeated (count - i) g).read bytes p) ≡ total → total ≡ Err e
   stops g bytes front count i p e total lt h so_far =

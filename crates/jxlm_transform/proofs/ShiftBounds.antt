@@ -14,7 +14,7 @@ use Rattle.jxlm_transform.specs.declared.param.ChannelShift.TheVariants.{JpegUps
 pub div_ceil-le_self : (n m : ℕ) → 0 < m → div_ceil n m ≤ n
 div_ceil-le_self n m h = omega (arith, div-add-mod' n m, le-mul_of_pos_right (n / m) h)
 
--- a side of a channel of a JPEG picture can be greater by one than the picture's, but does not pass the limit
+-- a side of a channel of a JPEG picture can be larger by one than the picture's, but does not pass the limit
 IsSide-upsampled_side : (has halved : Bool) (n : ℕ) → IsSide n → IsSide (upsampled_side has halved n)
 IsSide-upsampled_side false halved n h = h
 IsSide-upsampled_side true false n h = omega arith

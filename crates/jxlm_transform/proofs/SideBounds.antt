@@ -92,7 +92,7 @@ steps_fit (OfSqueeze steps) l ss is e =
     let (listed, found, mapped) = came (steps_of_squeeze steps l) (λ steps. Ok (map SqueezeStep steps)) ss e in
     subst (All StepFits) (same_steps _ ss mapped) (squeezes_fit listed)
 
--- where no side is above 2 ^ 30 before transforms that a header can have, none is behind them
+-- where no side is above 2 ^ 30 before transforms that a header can have, none is after them
 pub narrow_coded : (ts : List Transform) (l : ChannelList) (coded : CodedList) → All IsTransform ts → All IsNarrow l.channels → coded_list ts l ≡ Ok coded → All IsNarrow coded.list.channels
 narrow_coded [] l coded are k e = subst (λ (x : CodedList). AreNarrow x.list.channels) (same _ coded e) k where
   same : (x y : CodedList) → ◌≡◌ {A = Result CodedList Fault} (Ok x) (Ok y) → x ≡ y

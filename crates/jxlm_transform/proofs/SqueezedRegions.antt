@@ -1,4 +1,5 @@
--- A region of a store whose rows or columns were squeezed: where its averages and residuals stand, and what undoing them leaves.
+-- A region of a store whose rows or columns were squeezed: where its averages and residuals are, and what undoing them
+-- leaves.
 use Rattle.std.proofs.Common.{◌≡◌, ℕ, ◌+◌, ◌-◌, ◌/◌, ◌<◌, ◌≤◌, inl, inr, List, [], ◌∷◌, Bool, true, false, ℤ, refl, sym, ap, ◌∙◌, subst, arith}
 use Rattle.std.specs.Prelude.{cond, nat_lt, get_or, slice_set}
 use Rattle.std.specs.Int.{Width}
@@ -16,7 +17,7 @@ use Rattle.jxlm_base.proofs.GridLaws.{grid_by_same, at-grid_by}
 use Rattle.jxlm_base.proofs.Regions.{at-grid_of, buffer_of-meanings}
 use Rattle.jxlm_transform.specs.SqueezedRegions.{average_region, residual_region, average_grid, residual_grid, UndoesSqueeze}
 
--- ---- where averages and residuals stand
+-- ---- where averages and residuals are
 
 if_lt : {X : Type 0} (a b : ℕ) (x y : X) → a < b → cond (nat_lt a b) x y ≡ x
 if_lt a b x y h = ap (λ (t : Bool). cond t x y) (lt-ltb a b h)
@@ -47,7 +48,7 @@ module _ (w : Width) (r : Region) (old new : List (Grid ℤ)) (x y : ℕ) (p : x
       ∙ ap (λ g. at g x y) u.squeezed ∙ at-grid_of old r x y p q
 
 module _ (w : Width) (r : Region) (old new : List (Grid ℤ)) where
-  -- the averages of what stands in the region now stood in its first part, and the residuals in its second
+  -- the averages of what is in the region now were in its first part, and the residuals in its second
   pub averages_stood : (horizontal : Bool) → UndoesSqueeze w horizontal r old new → average_grid w horizontal (grid_of new r) ≡ grid_of old (average_region horizontal r)
   averages_stood true u =
       grid_by_same (averages r.width) r.height (λ x y. average_at w r.width (λ i. at (grid_of new r) i y) x) (λ x y. at (buffer_of old r) (r.x + x) (r.y + y))

@@ -1,4 +1,4 @@
--- The steps that the transforms of a header come to: what they keep, and the list behind them.
+-- The steps that the transforms of a header come to: what they keep, and the list after them.
 use Rattle.std.proofs.Common.{◌≡◌, ◌≤◌, ◌^◌, List, [], ◌∷◌, ◌++◌, map, Result, Ok, refl, ap, ◌∙◌, subst, arith}
 use Rattle.std.specs.List.{All}
 use Rattle.std.proofs.lemmas.List.Elements.{All-nil, All-cons, All-head, All-tail, All-append}
@@ -46,14 +46,14 @@ steps_weights weights = of_all (KeepsWeights weights) (HasWeights weights) (λ t
 pub steps_channels : (ts : List Transform) (l : ChannelList) (c : CodedList) → All IsTransform ts → coded_list ts l ≡ Ok c → All HasChannels c.steps
 steps_channels = of_all IsTransform HasChannels (λ t. tt) (λ t is. is.some_channels) (λ t. tt)
 
--- steps behind others go on from the list that those leave
+-- steps after others go on from the list that those leave
 pub after_both : (ss us : List Step) (l m : ChannelList) → list_after_all ss l ≡ Ok m → list_after_all (ss ++ us) l ≡ list_after_all us m
 after_both [] us l m e = ap (list_after_all us) (same_ok l m e)
 after_both (s ∷ ss) us l m e =
     let (n, first, rest) = came (list_after s l) (list_after_all ss) m e in
     rw first (after_both ss us n m rest)
 
--- the list behind the transforms is the one behind their steps
+-- the list after the transforms is the one after their steps
 pub steps_list : (ts : List Transform) (l : ChannelList) (c : CodedList) → coded_list ts l ≡ Ok c → list_after_all c.steps l ≡ Ok c.list
 steps_list [] l c e = subst (λ (x : CodedList). list_after_all x.steps l ≡ Ok x.list) (same_ok _ c e) refl
 steps_list (t ∷ ts) l c e =

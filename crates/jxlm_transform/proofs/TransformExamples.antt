@@ -4,7 +4,7 @@ use Rattle.jxlm_base.specs.Fault.{Eof, BadEnum}
 use Rattle.jxlm_tree.specs.WeightsHeader.{default_weights}
 use Rattle.jxlm_transform.specs.Transforms.{OfRct, OfSqueeze, transform}
 
--- behind four bits of a header: a colour transform of the first three channels
+-- after four bits of a header: a colour transform of the first three channels
 colour_row : (transform default_weights).read (0x06 ∷ 0x00 ∷ []) 4 ≡ Ok (record { value = OfRct (record { begin_c = 0; rct_type = 6 }); position = 13 })
 colour_row = refl
 
@@ -22,6 +22,6 @@ kind_row = refl
 predictor_row : (transform default_weights).read (0x16 ∷ 0x00 ∷ 0x00 ∷ 0x1C ∷ []) 4 ≡ Err (record { fault = BadEnum (codes "MaProperty") 14; position = Some 29 })
 predictor_row = refl
 
--- cut in a U32: the reader stands before it
+-- truncated in a U32: the reader is before it
 cut_row : (transform default_weights).read (0x16 ∷ 0x00 ∷ 0x00 ∷ []) 4 ≡ Err (record { fault = Eof; position = Some 23 })
 cut_row = refl

@@ -17,7 +17,7 @@ module _ {X Y : Type 0} where
   pub range-map : (f : X → Y) (begin n : ℕ) (xs : List X) → range begin n (map f xs) ≡ map f (range begin n xs)
   range-map f begin n xs = ap (take (begin + n - begin)) (drop-map f begin xs) ∙ take-map f (begin + n - begin) (drop begin xs)
 
--- all that stands behind a place
+-- all that is after an element
 pub rest : (e : ℕ) (xs : List ModularChannelInfo) → take (length xs - e) (drop e xs) ≡ drop e xs
 rest e xs = grind (arith, common_steps)
 
@@ -40,7 +40,7 @@ call_halves t averages residuals xs seen us new (Ok u) same same_us a r e =
     ap (map channel_of) e ∙ seen-halves t us residuals xs ∙ rw (same_us, a, r, same, range-map channel_of t.begin_c t.num_c xs) refl
 call_halves t averages residuals xs seen us new (Err e) same same_us a r said = tt
 
--- a list with a table ahead and the rest of a range left out
+-- a list with a table first and the rest of a range left out
 pub with_table : (table : ModularChannelInfo) (colours rows begin n : ℕ) (xs ys : List ModularChannelInfo) → channel_of table ≡ table_channel colours rows →
     ys ≡ table ∷ (take (begin + 1) xs ++ drop (begin + n) xs) →
     map channel_of ys ≡ table_channel colours rows ∷ (take (begin + 1) (map channel_of xs) ++ drop (begin + n) (map channel_of xs))

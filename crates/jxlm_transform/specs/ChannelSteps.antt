@@ -1,4 +1,5 @@
--- What transforms do to a list of channels (ISO/IEC 18181-1, Modular: the channels after each transform, the default squeeze).
+-- What transforms do to a list of channels (ISO/IEC 18181-1, Modular: the channels after each transform, the default
+-- squeeze).
 use Rattle.std.specs.Prelude.{◌≡◌, ℕ, zero, suc, ◌+◌, ◌-◌, ◌/◌, List, [], ◌∷◌, ◌++◌, length, map, take, drop, slice_range, Bool, true, false, not, ◌&&◌, ◌||◌, nat_lt, nat_le, ◌==◌, if◌then◌else◌, ℤ, pos, negsuc, int_le, Result, Ok, Err}
 use Rattle.std.specs.List.{list_all}
 use Rattle.std.specs.Int.{div_ceil}
@@ -11,7 +12,7 @@ use Rattle.jxlm_transform.specs.declared.transform.Rct.{Rct}
 use Rattle.jxlm_transform.specs.declared.transform.Palette.{Palette}
 use Rattle.jxlm_transform.specs.declared.transform.SqueezeParams.{SqueezeParams}
 
--- what follows a step that is not refused
+-- what follows a step without an error
 infixl 10 ◌>>=◌
 abbrev pub ◌>>=◌ : {X Y : Type 0} → Result X Fault → (X → Result Y Fault) → Result Y Fault
 (Ok x) >>= next = next x
@@ -21,11 +22,11 @@ abbrev pub ◌>>=◌ : {X Y : Type 0} → Result X Fault → (X → Result Y Fau
 abbrev pub range : {X : Type 0} → ℕ → ℕ → List X → List X
 range begin n xs = slice_range xs begin (begin + n)
 
--- xs with others in the place of the n elements from begin on
+-- xs with others instead of the n elements from begin on
 abbrev pub with_range : {X : Type 0} → ℕ → ℕ → List X → List X → List X
 with_range begin n others xs = take begin xs ++ others ++ drop (begin + n) xs
 
--- xs after a squeeze step: averages in the place of the range, residuals right behind them or at the end
+-- xs after a squeeze step: averages instead of the range, residuals right after them or at the end
 abbrev pub with_halves : {X : Type 0} → SqueezeParams → List X → List X → List X → List X
 with_halves t averages residuals xs =
     if t.in_place then with_range t.begin_c t.num_c (averages ++ residuals) xs else with_range t.begin_c t.num_c averages xs ++ residuals
@@ -63,8 +64,8 @@ table_channel colours channels = record {
   shift = Raw (negsuc 0) (negsuc 0);
 }
 
--- A palette needs channels of one size, all meta or none. Its table stands first, and the first channel of the range is that of the
--- indices; the table is a meta channel, and so are the indices of meta channels.
+-- A palette needs channels of one size, all meta or none. Its table comes first, and the first channel of the range
+-- is that of the indices; the table is a meta channel, and so are the indices of meta channels.
 abbrev pub palette_step : Palette → ChannelList → Result ChannelList Fault
 palette_step t l =
     let cs : List Channel = l.channels in
@@ -102,11 +103,13 @@ residual_channel horizontal c = half horizontal (squeezed_side horizontal c / 2)
 abbrev pub can_be_squeezed : Channel → Bool
 can_be_squeezed c = nat_lt 0 c.width && nat_lt 0 c.height && int_le c.hshift (pos 30) && int_le c.vshift (pos 30)
 
--- the range of a squeeze step is there, and where it begins among the meta channels it is squeezed in place and ends there
+-- the range of a squeeze step is there, and where it begins among the meta channels it is squeezed in place and ends
+-- there
 abbrev pub squeeze_range : SqueezeParams → ChannelList → Bool
 squeeze_range t l = has_range t.begin_c t.num_c l.channels && (not (nat_lt t.begin_c l.nb_meta) || t.in_place && nat_le (t.begin_c + t.num_c) l.nb_meta)
 
--- A squeeze step needs such a range, of channels that can be squeezed; what becomes of meta channels is a meta channel.
+-- A squeeze step needs such a range, of channels that can be squeezed; what becomes of meta channels is a meta
+-- channel.
 abbrev pub squeeze_step : SqueezeParams → ChannelList → Result ChannelList Fault
 squeeze_step t l =
     let cs : List Channel = range t.begin_c t.num_c l.channels in
@@ -136,17 +139,18 @@ in_turn (suc a) (suc b) step = step true ∷ step false ∷ in_turn a b step
 abbrev pub step_of_all : ℕ → ℕ → Bool → SqueezeParams
 step_of_all f n horizontal = record { horizontal = horizontal; in_place = true; begin_c = f; num_c = n }
 
--- The default squeeze of the n channels from f on, the first of sides w and h: both ways in turn, the greater side first, until
--- no side is above 8.
+-- The default squeeze of the n channels from f on, the first of sides w and h: both ways in turn, the longer side
+-- first, until no side is above 8.
 abbrev pub default_of_all : ℕ → ℕ → ℕ → ℕ → List SqueezeParams
 default_of_all f n w h =
     if nat_le w h && nat_lt 8 h then step_of_all f n false ∷ in_turn (halvings w) (halvings (div_ceil h 2)) (step_of_all f n) else in_turn (halvings w) (halvings h) (step_of_all f n)
 
--- a step of the two channels behind channel f
+-- a step of the two channels after channel f
 abbrev pub step_of_chroma : ℕ → Bool → SqueezeParams
 step_of_chroma f horizontal = record { horizontal = horizontal; in_place = false; begin_c = f + 1; num_c = 2 }
 
--- ahead of it, the two channels behind the first are squeezed once both ways, where there are three or more and the first two have one size
+-- before it, the two channels after the first are squeezed once both ways, where there are three or more and the first
+-- two have one size
 abbrev pub default_of_chroma : ℕ → List Channel → List SqueezeParams
 default_of_chroma f cs = if nat_le 3 (length cs) && one_size (take 2 cs) then step_of_chroma f true ∷ step_of_chroma f false ∷ [] else []
 
@@ -172,7 +176,7 @@ steps_of (OfRct t) l = Ok (RctStep t ∷ [])
 steps_of (OfPalette t) l = Ok (PaletteStep t ∷ [])
 steps_of (OfSqueeze steps) l = steps_of_squeeze steps l >>= λ steps. Ok (map SqueezeStep steps)
 
--- the list after a step, or its one refusal
+-- the list after a step, or its one error
 abbrev pub list_after : Step → ChannelList → Result ChannelList Fault
 list_after (RctStep t) l = rct_step t l
 list_after (PaletteStep t) l = palette_step t l
@@ -203,8 +207,8 @@ listed_steps (OfRct t) = RctStep t ∷ []
 listed_steps (OfPalette t) = PaletteStep t ∷ []
 listed_steps (OfSqueeze steps) = map SqueezeStep steps
 
--- What a call that changes a list returned, and the list after it, is what the definition gives. After an error nothing is
--- said of the list.
+-- What a call that changes a list returned, and the list after it, are what the definition gives. After an error
+-- nothing is said of the list.
 abbrev pub ListIs : Result ChannelList Fault → Result (Unit {0}) Error → ChannelList → Type 0
 ListIs step (Ok u) l = step ≡ Ok l
 ListIs step (Err e) l = step ≡ Err (fault_of e)

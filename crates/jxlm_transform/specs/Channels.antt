@@ -7,8 +7,8 @@ use Rattle.jxlm_transform.specs.declared.param.ModularChannelParams.{ModularChan
 use Rattle.jxlm_transform.specs.Params.{IsSide}
 use Rattle.jxlm_transform.specs.Shifts as shifts
 
--- A channel as it is coded: its sides, the sides of its picture, its shifts (those of a table are -1), and the shift that it was
--- given with.
+-- A channel as it is coded: its sides, the sides of its picture, its shifts (those of a table are -1), and the shift
+-- that it was given with.
 pub record Channel : Type 0 where
   pub width : ℕ
   pub height : ℕ

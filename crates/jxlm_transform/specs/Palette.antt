@@ -37,20 +37,20 @@ deltas =
     of_three (pos 64) (down 64) (down 64) ∷ of_three (pos 96) (pos 0) (pos 96) ∷ of_three (pos 45) (down 45) (pos 24) ∷ of_three (pos 24) (pos 45) (down 45) ∷
     of_three (pos 64) (pos 64) (down 64) ∷ of_three (pos 128) (pos 128) (pos 0) ∷ of_three (pos 0) (pos 0) (down 128) ∷ of_three (down 24) (pos 45) (down 45) ∷ []
 
--- The difference that index -k - 1 names in channel c at 8 bits a sample: the table repeats after 143, every other index has the
--- opposite sign, and from the fourth channel on it is 0.
+-- The difference that index -k - 1 names in channel c at 8 bits a sample: the table repeats after 143, every other
+-- index has the opposite sign, and from the fourth channel on it is 0.
 unfoldable pub listed_difference : ℕ → ℕ → ℤ
 listed_difference k c =
     let i : ℕ = k % 143 in
     let d : ℤ = get_or (get_or deltas ((i + 1) / 2) []) c (pos 0) in
     if i % 2 == 0 then neg_ℤ d else d
 
--- the same at any depth: deeper samples, up to 24 bits, take greater steps
+-- the same at any depth: deeper samples, up to 24 bits, take larger steps
 abbrev pub difference : ℕ → ℕ → ℕ → ℤ
 difference depth k c = listed_difference k c *ℤ pos (2 ^ (min depth 24 - 8))
 
--- The j-th colour behind the table in channel c: 64 of a cube of 4 levels a side, raised by an eighth, then those of a cube
--- of 5 levels a side; a channel has the digit of its place in the number.
+-- The j-th colour after the table in channel c: 64 of a cube of 4 levels a side, raised by an eighth, then those of a
+-- cube of 5 levels a side; a channel has the digit of its index in the number.
 unfoldable pub implicit_colour : ℕ → ℕ → ℕ → ℕ
 implicit_colour depth j c =
     let most : ℕ = 2 ^ depth - 1 in
@@ -65,12 +65,12 @@ colour_of depth t table (negsuc k) c = difference depth k c
 abbrev pub is_delta : Palette → ℤ → Bool
 is_delta t i = int_lt i (pos t.nb_deltas)
 
--- What the palette's predictor makes of the samples before a place of its channel, whose width this is, with the weights that
--- the palette keeps.
+-- What the palette's predictor makes of the samples before a cell of its channel, whose width this is, with the
+-- weights that the palette keeps.
 abbrev pub predicted : Palette → List ℤ → ℕ → ℤ
 predicted t before width = prediction t.wp_header before width t.d_pred
 
--- a grid of the index channel's sides, each place of which has a cell
+-- a full grid of the index channel's sides
 pub record HasSidesOf (index g : Grid ℤ) : Type 0 where
   pub same_width : g.width ≡ index.width
   pub same_height : g.height ≡ index.height
@@ -78,12 +78,12 @@ pub record HasSidesOf (index g : Grid ℤ) : Type 0 where
 
 -- w bits a sample in memory, depth bits in the picture
 module _ (w : Width) (depth : ℕ) (t : Palette) (table : Grid ℤ) where
-  -- the finished sample of index i in channel c, behind these samples of the channel
+  -- the finished sample of index i in channel c, after these samples of the channel
   unfoldable pub finished_sample : ℤ → ℕ → List ℤ → ℕ → ℤ
   finished_sample i c before width = int_wrap w (if is_delta t i then colour_of depth t table i c +ℤ predicted t before width else colour_of depth t table i c)
 
-  -- The finished channels are of the index channel's sides, and at each place of each of them stands the finished sample of the
-  -- place's index, behind the samples before it, row by row.
+  -- The finished channels are of the index channel's sides, and each cell of each of them holds the finished sample
+  -- of the cell's index, after the samples before it, row by row.
   pub record IsPaletteOf (index : Grid ℤ) (finished : List (Grid ℤ)) : Type 0 where
     pub count : length finished ≡ t.num_c
     pub sides : All (HasSidesOf index) finished
@@ -91,7 +91,7 @@ module _ (w : Width) (depth : ℕ) (t : Palette) (table : Grid ℤ) where
         let g : Grid ℤ = get_or finished c (grid 0 0 []) in
         at g x y ≡ finished_sample (at index x y) c (take (place g x y) g.cells) index.width
 
-  -- the first n samples of finished channel c, one behind the other
+  -- the first n samples of finished channel c, one after another
   abbrev pub finished_samples : Grid ℤ → ℕ → ℕ → List ℤ
   finished_samples index c zero = []
   finished_samples index c (suc n) =
@@ -105,9 +105,9 @@ module _ (w : Width) (depth : ℕ) (t : Palette) (table : Grid ℤ) where
   abbrev pub finished_channels : Grid ℤ → List (Grid ℤ)
   finished_channels index = map (finished_channel index) (below t.num_c)
 
--- Where a palette stands in a store: its table, the channel of its indices, and the channels that it becomes, which have the sides
--- of the index channel. No two of these share a cell, and none shares one with the table; the first may be the index channel itself,
--- and otherwise none shares a cell with that.
+-- Where a palette is in a store: its table, the channel of its indices, and the channels that it becomes, which have
+-- the sides of the index channel. No two of these share a cell, and none shares one with the table; the first may be
+-- the index channel itself, and otherwise none shares a cell with that.
 pub record PaletteLies {S : Type 0} (t : Palette) (table index : Region) (finished : List Region) (store : List (Grid S)) : Type 0 where
   pub table_lies : Lies table store
   pub index_lies : Lies index store

@@ -23,7 +23,7 @@ recoloured w kind gs = gs
 abbrev pub HaveOneSize : List Region → Type 0
 HaveOneSize rs = AllPairs (λ r s. (r.width ≡ s.width) × (r.height ≡ s.height)) rs
 
--- What stands in the regions now are w-bit samples, and they are coded as what stood there.
+-- What is in the regions now are w-bit samples, and they are coded as what was there.
 pub record UndoesColour (w : Width) (kind : ℕ) (regions : List Region) (old new : List (Grid ℤ)) : Type 0 where
   pub colour : recoloured w kind (map (grid_of new) regions) ≡ map (grid_of old) regions
   pub samples : All (AreGridSamples w) (map (grid_of new) regions)

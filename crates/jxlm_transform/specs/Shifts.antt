@@ -6,8 +6,8 @@ use Rattle.std.specs.List.{list_any}
 use Rattle.jxlm_transform.specs.declared.param.ChannelShift.{ChannelShift}
 use Rattle.jxlm_transform.specs.declared.param.ChannelShift.TheVariants.{JpegUpsampling, Shifts, Raw}
 
--- a side along which some channel has two samples for one of another: half of it rounded up, and twice that where a channel
--- isn't halved
+-- a side along which some channel has two samples for one of another: half of it rounded up, and twice that where a
+-- channel isn't halved
 abbrev pub upsampled_side : Bool → Bool → ℕ → ℕ
 upsampled_side false halved n = n
 upsampled_side true halved n = if halved then div_ceil n 2 else 2 * div_ceil n 2
@@ -30,8 +30,9 @@ vshift (JpegUpsampling has_h h has_v v) = if v then pos 1 else pos 0
 vshift (Shifts s) = cast_signed w32 s
 vshift (Raw h v) = v
 
--- The channel of this index, by the samples that each of three channels has across and down: the value 0 stands for 1 and 1,
--- 1 for 2 and 2, 2 for 2 and 1, 3 for 1 and 2. A channel is halved along a side where it has 1 and some channel has 2.
+-- The channel of this index, by the samples that each of three channels has across and down: the value 0 stands for 1
+-- and 1, 1 for 2 and 2, 2 for 2 and 1, 3 for 1 and 2. A channel is halved along a side where it has 1 and some
+-- channel has 2.
 abbrev pub jpeg_shift : List ℕ → ℕ → ChannelShift
 jpeg_shift values i =
     let value : ℕ = slice_index values i in

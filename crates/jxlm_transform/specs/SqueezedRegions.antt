@@ -32,7 +32,7 @@ module _ (w : Width) where
   residual_grid true g = grid_by (g.width / 2) g.height (λ x y. residual_at w g.width (λ i. at g i y) x)
   residual_grid false g = grid_by g.width (g.height / 2) (λ x y. residual_at w g.height (λ i. at g x i) y)
 
-  -- the region's grid is w-bit samples now that, squeezed, are what stood there
+  -- the region's grid now is w-bit samples that, squeezed, are what was there
   pub record UndoesSqueeze (horizontal : Bool) (r : Region) (old new : List (Grid ℤ)) : Type 0 where
     pub squeezed : squeezed_grid horizontal (grid_of new r) ≡ grid_of old r
     pub samples : AreGridSamples w (grid_of new r)

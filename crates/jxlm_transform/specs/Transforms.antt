@@ -41,7 +41,7 @@ rct = do
   kind ← u32 (Const 6) (Offset 0 2) (Offset 2 4) (Offset 10 6)
   give (record { begin_c = begin; rct_type = kind })
 
--- what is there, or this fault where nothing is
+-- what is there, or this error where nothing is
 abbrev pub present : {X : Type 0} → Fault → Option X → Grammar X
 present fault (Some x) = give x
 present fault None = refuse fault
@@ -92,13 +92,13 @@ seen view field = do
   x ← field
   give (view x)
 
--- a transform behind its two bits of kind; kind 3 has no meaning
+-- a transform after its two bits of kind; kind 3 has no meaning
 abbrev pub transform : WpHeader → Grammar Transform
 transform weights = do
   kind ← number 2
   either (kind == 0) (seen OfRct rct) (either (kind == 1) (seen OfPalette (palette weights)) (either (kind == 2) (seen OfSqueeze squeeze) (refuse (BadEnum (codes "TransformId") kind))))
 
--- the least and the greatest value of a part
+-- the minimum and the maximum of a part
 abbrev pub least_value : U32Spec → ℕ
 least_value (Const n) = n
 least_value (Offset least n) = least
@@ -107,7 +107,7 @@ abbrev pub greatest_value : U32Spec → ℕ
 greatest_value (Const n) = n
 greatest_value (Offset least n) = least + 2 ^ n - 1
 
--- the least value of a U32, and its greatest
+-- the minimum of a U32, and its maximum
 abbrev pub least_of : U32Spec → U32Spec → U32Spec → U32Spec → ℕ
 least_of d0 d1 d2 d3 = min (min (least_value d0) (least_value d1)) (min (least_value d2) (least_value d3))
 
@@ -153,7 +153,7 @@ abbrev pub IsSqueezeTransform : Transform → Type 0
 IsSqueezeTransform (OfSqueeze steps) = Unit {0}
 IsSqueezeTransform other = ⊥
 
--- a palette has a channel at least
+-- a palette has at least one channel
 abbrev pub HasChannels : Transform → Type 0
 HasChannels (OfPalette t) = 1 ≤ t.num_c
 HasChannels other = Unit {0}
@@ -163,8 +163,8 @@ abbrev pub KeepsWeights : WpHeader → Transform → Type 0
 KeepsWeights weights (OfPalette t) = (t.wp_header ≡ None) ⊎ (t.wp_header ≡ Some weights)
 KeepsWeights weights other = Unit {0}
 
--- What a call that reads fields and takes memory returned, seen by view, and where it left the reader, is what reading gives,
--- unless it is out of memory.
+-- What a call that reads fields and takes memory returned, seen by view, and where it left the reader, are what
+-- reading gives, unless it is out of memory.
 abbrev pub Parses : {X Y : Type 0} → (X → Y) → Result X Error → ℕ → Result (Found Y) Refused → Type 0
 Parses view (Ok x) q reading = reading ≡ Ok (record { value = view x; position = q })
 Parses view (Err e) q reading = UnlessNoMemory (fault_of e) (IsRefused reading (fault_of e) q)

@@ -1,4 +1,4 @@
-//! The channels of an image, as they are coded.
+//! The channels of an image, as they are coded (ISO/IEC 18181-1, Modular: channel list).
 
 ghost use Rattle.std.specs.Prelude.{◌≡◌, ◌≤ℤ◌, pos, IsTrue, IfOk, IfErr};
 ghost use Rattle.std.specs.List.{All};
@@ -151,7 +151,11 @@ pub struct ModularChannels {
 }
 
 impl ModularChannels {
-    /// The channels of an image, before any transform. It is refused for want of memory alone.
+    /// The channels of an image, before any transform.
+    ///
+    /// # Errors
+    ///
+    /// `Buffer` if it is out of memory, and no other.
     pub fn new(alloc: Global, params: &[ModularChannelParams]) -> Result<ModularChannels>
         requires { All IsValidChannel params.now }
         ensures ok { IfOk result (λ l. list_of l ≡ image_list params.now) }

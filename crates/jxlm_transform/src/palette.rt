@@ -124,7 +124,7 @@ fn digit_of_five(j: u32, c: usize) -> u32
     if c < 14 { j / POWERS_OF_FIVE[c] % 5 } else { 0 }
 }
 
-/// The greatest sample of a depth.
+/// The maximum sample of a depth.
 #[tactic(auto, using(crate::proofs::PaletteColours::depth_power, std::proofs::lemmas::Nat::pow_pos))]
 fn greatest_sample(depth: u32) -> u64
     requires { depth ≤ 32 }
@@ -134,7 +134,7 @@ fn greatest_sample(depth: u32) -> u64
     (1u64 << depth) - 1
 }
 
-/// A quarter of so many times the greatest sample of a depth.
+/// A quarter of `digit` times the maximum sample of a depth.
 fn quarters(depth: u32, digit: u32) -> u64
     requires deep { depth ≤ 32 }
     requires digit { digit < 5 }
@@ -145,7 +145,7 @@ fn quarters(depth: u32, digit: u32) -> u64
     product / 4
 }
 
-/// An eighth of the samples of a depth, and 1 at least.
+/// An eighth of the samples of a depth, and at least 1.
 fn eighth(depth: u32) -> u64
     requires { depth ≤ 32 }
     ensures value { result ≡ 2 ^ (depth - 3) }
@@ -154,7 +154,7 @@ fn eighth(depth: u32) -> u64
     1u64 << depth.saturating_sub(3)
 }
 
-/// The `j`-th colour behind the table in channel `c`.
+/// The `j`-th colour after the table in channel `c`.
 fn implicit_colour(depth: u32, j: u32, c: usize) -> u64
     requires { depth ≤ 32 }
     ensures value { result ≡ implicit_colour depth j c }
@@ -188,7 +188,7 @@ fn listed_difference(k: u32, c: usize) -> i64
     if i % 2 == 0 { -entry } else { entry }
 }
 
-/// How much greater the differences of a depth are than those of 8 bits.
+/// How much larger the differences of a depth are than those of 8 bits.
 fn delta_step(depth: u32) -> i64
     ensures value { result ≡ pos (2 ^ (min depth 24 - 8)) }
     ensures bound { unsigned_abs result ≤ 2 ^ 16 }
@@ -224,7 +224,8 @@ fn number_at<S: Sample>(store: &[AlignedGrid<S>], region: Region, x: usize, y: u
     region_get(store, region, x, y).to_i32()
 }
 
-/// One of the channels that a palette becomes: where the table, the indices and the channel's samples stand, and its number.
+/// One of the channels that a palette becomes: where the table, the indices and the channel's samples are, and its
+/// number.
 #[derive(Clone, Copy)]
 struct FinishedChannel {
     table: Region,
@@ -234,7 +235,8 @@ struct FinishedChannel {
 }
 
 impl Palette {
-    /// The colour of an index in channel `c`, before any prediction: it stands in the table, is implicit, or is a difference.
+    /// The colour of an index in channel `c`, before any prediction: it is in the table, is implicit, or is a
+    /// difference.
     fn colour<S: Sample>(
         &self,
         store: &[AlignedGrid<S>],
@@ -260,7 +262,7 @@ impl Palette {
         }
     }
 
-    /// A colour, and the prediction more where its index is a delta.
+    /// A colour, plus the prediction where its index is a delta.
     fn raised(&self, index: i32, colour: i64, predicted: i32) -> i64
         requires { unsigned_abs colour < 2 ^ 34 }
         ensures { result ≡ if is_delta self.now index then colour +ℤ predicted else colour }
@@ -272,7 +274,8 @@ impl Palette {
         }
     }
 
-    /// The finished sample of an index of this colour, at the place of these properties, behind which the state then stands.
+    /// The finished sample of an index of this colour, at the cell of these properties; the state is at the next one
+    /// afterwards.
     fn sampled<S: Sample>(&self, properties: Properties<'_, S>, index: i32, colour: i64) -> S
         requires current { IsCurrent properties }
         requires small { unsigned_abs colour < 2 ^ 34 }
@@ -286,7 +289,7 @@ impl Palette {
         sample
     }
 
-    /// The same at the state's place.
+    /// The same at the state's cell.
     fn next_sample<S: Sample>(
         &self,
         store: &[AlignedGrid<S>],
@@ -395,7 +398,7 @@ impl Palette {
 }
 
 impl Palette {
-    /// Finishes one sample, at the place of the state, which moves on.
+    /// Finishes one sample, at the state's cell; the state is at the next one afterwards.
     fn predict_cell<S: Sample>(
         &self,
         store: &mut [AlignedGrid<S>],
@@ -421,7 +424,7 @@ impl Palette {
         region_set(store, channel.target, x, y, sample);
     }
 
-    /// Finishes row `y`, at whose start the state stands.
+    /// Finishes row `y`; the state must be at its first cell.
     fn predict_row<S: Sample>(
         &self,
         store: &mut [AlignedGrid<S>],
@@ -445,7 +448,7 @@ impl Palette {
         }
     }
 
-    /// Finishes a channel, before whose first sample the state stands.
+    /// Finishes a channel; the state must be at its first cell.
     fn predict_channel<S: Sample>(
         &self,
         store: &mut [AlignedGrid<S>],
@@ -484,7 +487,7 @@ impl FinishedChannel {
 }
 
 impl Palette {
-    /// Looks up the samples of all finished channels, the first last, since it may stand where the indices do.
+    /// Looks up the samples of all finished channels, the first last, since it may be where the indices are.
     fn look_up_all<S: Sample>(
         &self,
         store: &mut [AlignedGrid<S>],
@@ -502,7 +505,7 @@ impl Palette {
         }
     }
 
-    /// Finishes all channels, the first last, since it may stand where the indices do.
+    /// Finishes all channels, the first last, since it may be where the indices are.
     fn predict_all<S: Sample>(
         &self,
         store: &mut [AlignedGrid<S>],
@@ -529,11 +532,13 @@ impl Palette {
         }
     }
 
-    /// Turns the indices of a palette into the samples of the channels that it stands for.
+    /// Turns the indices of a palette into the samples of the channels that it stands for (ISO/IEC 18181-1, Modular:
+    /// inverse palette).
     ///
-    /// `table`, `index` and `finished` are regions of the store: the table of colours, the channel of indices, and the channels,
-    /// of which the first may be the index channel's own region. `bit_depth` is that of the picture, at most 32. The state's
-    /// memory is used for predictions: it has the palette's weights, and room for the width of the channels.
+    /// `table`, `index` and `finished` are regions of the store: the table of colours, the channel of indices, and
+    /// the channels, of which the first may be the index channel's own region. `bit_depth` is that of the picture, at
+    /// most 32. The state's memory is used for predictions: it has the palette's weights, and room for the width of
+    /// the channels.
     ///
     /// No memory is taken, and no cell outside `finished` changes.
     pub fn inverse<S: Sample>(
@@ -562,10 +567,13 @@ impl Palette {
         self.predict_all(store, table, index, finished, bit_depth, state);
     }
 
-    /// The memory that `inverse` asks for where channels are so wide, at most 2^30.
+    /// The memory that `inverse` needs for channels of this width, at most 2^30.
     ///
-    /// The weights that the palette keeps are those of a header that was read. Where memory is refused, the answer is
-    /// `Error::Buffer`.
+    /// The weights that the palette keeps are those of a header that was read.
+    ///
+    /// # Errors
+    ///
+    /// `Buffer` if it is out of memory, and no other.
     pub fn scratch<S>(&self, alloc: Global, width: u32) -> Result<PredictorState<S>>
         requires narrow { width ≤ 2 ^ 30 }
         requires weights { ForSome self.now.wp_header IsHeader }

@@ -13,13 +13,13 @@ use jxlm_base::grid::OutOfMemory;
 use jxlm_tree::ma::MaConfig;
 use std::alloc::Global;
 
-/// The greatest side of a picture.
+/// The maximum side of a picture.
 const MAX_SIDE: u32 = 1 << 30;
 
-/// The greatest number of channels given.
+/// The maximum number of channels given.
 const MAX_CHANNELS: usize = 1 << 20;
 
-/// How a channel is smaller than the picture it belongs to.
+/// How a channel is smaller than the picture it belongs to (ISO/IEC 18181-1, Modular: channel list).
 #[derive(Clone, Copy, Debug, PartialEq, Eq)]
 pub enum ChannelShift {
     /// The channel of a JPEG picture: along each side, whether some channel has two samples for
@@ -34,14 +34,14 @@ pub enum ChannelShift {
         /// This one is halved down.
         v_subsample: bool,
     },
-    /// So many halvings of both sides.
+    /// How often both sides are halved.
     Shifts(u32),
-    /// So many halvings across, and so many down.
+    /// How often the width is halved, and how often the height.
     Raw(i32, i32),
 }
 
 impl ChannelShift {
-    /// So many halvings of both sides.
+    /// Both sides are halved `shift` times.
     pub fn from_shift(shift: u32) -> ChannelShift
         ensures { result ≡ ChannelShift.Shifts shift }
     {
@@ -156,7 +156,7 @@ fn is_halved(some_has_two: bool, value: u32, alone: u32) -> bool
     some_has_two && (value == 0 || value == alone)
 }
 
-/// A side, halved so many times.
+/// A side, halved `shift` times.
 fn shifted_side(side: u32, shift: u32) -> u32
     requires { shift ≤ 30 }
     ensures { result ≡ div_ceil side (2 ^ shift) }
@@ -260,7 +260,7 @@ impl<'a, D: Decoder> ModularParams<'a, D> {
     ///
     /// # Errors
     ///
-    /// [`Error::Buffer`](jxlm_base::error::Error) where there is no memory, and no other.
+    /// [`Error::Buffer`](jxlm_base::error::Error) if it is out of memory, and no other.
     pub fn new(
         alloc: Global,
         width: u32,

@@ -1,4 +1,4 @@
-//! The colour of three channels undone.
+//! The colour of three channels, inverse-transformed.
 
 ghost use Rattle.std.specs.Prelude.{◌≡◌, ◌+◌, ◌*◌, ◌<◌, ◌≤◌, length, map, get_or, IfOk, IfErr, OnOk, OnErr};
 ghost use Rattle.jxlm_base.specs.Colour.{permuted, triple_at};
@@ -23,7 +23,7 @@ pub struct RctScratch<S> {
 }
 
 impl<S: Sample> RctScratch<S> {
-    /// Room for rows of up to `width` samples, or `OutOfMemory` where memory is refused.
+    /// Room for rows of up to `width` samples, or `OutOfMemory`.
     pub fn new(alloc: Global, width: usize) -> Result<RctScratch<S>, OutOfMemory>
         ensures { IfOk result (λ s. HasRoom s width) }
     {
@@ -139,11 +139,12 @@ fn finish_regions<S: Sample>(
     }
 }
 
-/// Undoes a colour transform of three regions, in memory that is lent.
+/// Undoes a colour transform of three regions, in memory that is lent (ISO/IEC 18181-1, Modular: reversible colour
+/// transforms).
 ///
-/// The type of the transform is 7 times `permutation` and `ty` more, with `ty` at most 6. The regions lie in the store, share no
-/// cell and have one size. Afterwards they hold the samples that this transform codes as what they held before; no other cell
-/// changed.
+/// The type of the transform is 7 times `permutation` and `ty` more, with `ty` at most 6. The regions lie in the
+/// store, share no cell and have one size. Afterwards they hold the samples that this transform codes as what they
+/// held before; no other cell changed.
 pub fn inverse_rct_within<S: Sample>(
     ty: u32,
     permutation: u32,
@@ -167,13 +168,16 @@ pub fn inverse_rct_within<S: Sample>(
     finish_regions(ty, permutation, store, first, second, third, a, b, c);
 }
 
-/// Undoes a colour transform of three regions.
+/// Undoes a colour transform of three regions (ISO/IEC 18181-1, Modular: reversible colour transforms).
 ///
-/// The type of the transform is 7 times `permutation` and `TYPE` more, with `TYPE` at most 6. The regions lie in the store, share
-/// no cell and have one size. Afterwards they hold the samples that this transform codes as what they held before; no other cell
-/// changed.
+/// The type of the transform is 7 times `permutation` and `TYPE` more, with `TYPE` at most 6. The regions lie in the
+/// store, share no cell and have one size. Afterwards they hold the samples that this transform codes as what they
+/// held before; no other cell changed.
 ///
-/// It takes memory for three rows before it writes. Where that is refused it answers `Buffer`, and no cell changed.
+/// # Errors
+///
+/// `Buffer` if it is out of memory, and no other: it takes memory for three rows before it writes, and then no cell
+/// has changed.
 pub fn inverse_rct<S: Sample, const TYPE: u32>(
     alloc: Global,
     permutation: u32,

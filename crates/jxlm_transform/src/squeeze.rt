@@ -1,4 +1,4 @@
-//! Squeeze steps undone.
+//! Squeeze steps, inverse-transformed (ISO/IEC 18181-1, Modular: squeeze).
 
 ghost use Rattle.std.specs.Prelude.{◌≡◌, ◌+◌, ◌≤◌, [], ◌∷◌, length, max, IfOk, IfErr};
 ghost use Rattle.jxlm_base.specs.Fault.{NoMemory, fault_of};
@@ -13,10 +13,13 @@ use jxlm_base::grid::{AlignedGrid, MutableSubgrid, Region};
 use jxlm_base::sample::Sample;
 use std::alloc::Global;
 
-/// Undoes a horizontal squeeze step, in place: each row of the rectangle holds averages, then residuals, and afterwards the row
-/// that they were squeezed from. Nothing outside the rectangle changes; a rectangle with a side of 0 has nothing to undo.
+/// Undoes a horizontal squeeze step, in place: each row of the rectangle holds averages, then residuals, and
+/// afterwards the row that they were squeezed from. Nothing outside the rectangle changes; a rectangle with a side of
+/// 0 has nothing to undo.
 ///
-/// Refused for memory alone; then no cell has changed.
+/// # Errors
+///
+/// `Buffer` if it is out of memory, and no other; then no cell has changed.
 pub fn inverse_h<S: Sample>(alloc: Global, subgrid: &mut MutableSubgrid<'_, S>) -> Result<()>
     ensures kept { KeepsOutside subgrid.old subgrid.new }
     ensures undone { IfOk result (λ _. squeezed_rows S.width (numbers_in S.to_int subgrid.new) ≡ numbers_in S.to_int subgrid.old) }
@@ -28,10 +31,13 @@ pub fn inverse_h<S: Sample>(alloc: Global, subgrid: &mut MutableSubgrid<'_, S>) 
     Ok(())
 }
 
-/// Undoes a vertical squeeze step, in place: each column of the rectangle holds averages, then residuals, and afterwards the
-/// column that they were squeezed from. Nothing outside the rectangle changes; a rectangle with a side of 0 has nothing to undo.
+/// Undoes a vertical squeeze step, in place: each column of the rectangle holds averages, then residuals, and
+/// afterwards the column that they were squeezed from. Nothing outside the rectangle changes; a rectangle with a side
+/// of 0 has nothing to undo.
 ///
-/// Refused for memory alone; then no cell has changed.
+/// # Errors
+///
+/// `Buffer` if it is out of memory, and no other; then no cell has changed.
 pub fn inverse_v<S: Sample>(alloc: Global, subgrid: &mut MutableSubgrid<'_, S>) -> Result<()>
     ensures kept { KeepsOutside subgrid.old subgrid.new }
     ensures undone { IfOk result (λ _. squeezed_columns S.width (numbers_in S.to_int subgrid.new) ≡ numbers_in S.to_int subgrid.old) }
@@ -43,10 +49,11 @@ pub fn inverse_v<S: Sample>(alloc: Global, subgrid: &mut MutableSubgrid<'_, S>) 
     Ok(())
 }
 
-/// Undoes a squeeze step of a region of the store, across or down, by way of `scratch`.
+/// Undoes a squeeze step of a region of the store, across or down, with `scratch`.
 ///
-/// Averages stand in the left part of the region, or in the upper one, and residuals in the rest. Afterwards the region holds the
-/// samples that they were squeezed from; no other cell changed. `scratch` has room for a row, and for a column and a cell more.
+/// The left part of the region, or the upper one, is averages, and the rest residuals. Afterwards the region holds
+/// the samples that they were squeezed from; no other cell changed. `scratch` has room for a row, and for a column
+/// and a cell more.
 pub fn unsqueeze<S: Sample>(
     horizontal: bool,
     store: &mut [AlignedGrid<S>],

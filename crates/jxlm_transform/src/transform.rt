@@ -1,4 +1,4 @@
-//! Transforms of an image's channels, as a header lists them.
+//! Transforms of an image's channels, as a header lists them (ISO/IEC 18181-1, Modular: the bundle TransformInfo).
 
 ghost use Rattle.std.specs.Prelude.{◌≡◌, ◌≤◌, ◌↔◌, ◌⊎◌, length, IsTrue, IfOk, None, Some};
 ghost use Rattle.std.specs.List.{All};
@@ -27,7 +27,7 @@ pub struct Rct {
     pub rct_type: u32,
 }
 
-/// A table of colours in the place of a range of channels.
+/// A table of colours instead of a range of channels.
 #[derive(Clone, Copy)]
 pub struct Palette {
     /// The first channel of the range.
@@ -40,7 +40,7 @@ pub struct Palette {
     pub nb_deltas: u32,
     /// The predictor of these.
     pub d_pred: Predictor,
-    /// The header's weights, where the predictor is the self-correcting one.
+    /// The header's weights, where the predictor is the weighted (self-correcting) one.
     pub wp_header: Option<WpHeader>,
 }
 
@@ -49,7 +49,7 @@ pub struct Palette {
 pub struct SqueezeParams {
     /// Whether the width is halved, and not the height.
     pub horizontal: bool,
-    /// Whether residuals stand right behind the range, and not at the end of the list.
+    /// Whether residuals come right after the range, and not at the end of the list.
     pub in_place: bool,
     /// The first channel of the range.
     pub begin_c: usize,
@@ -108,10 +108,12 @@ fn begin_channel(bits: &mut Bitstream<'_>) -> std::result::Result<u32, Bitstream
 }
 
 impl Rct {
-    /// The colour transform that stands at the reader's place.
+    /// The colour transform that stands at the reader's position.
     ///
-    /// A cut input is refused by `UnexpectedEof`, and the reader stands behind the last field that
-    /// was read whole.
+    /// # Errors
+    ///
+    /// `UnexpectedEof` if the input is truncated; the reader is then after the last field that was read
+    /// whole.
     pub fn parse(bits: &mut Bitstream<'_>) -> Result<Rct>
         ensures gives { AnswersExactly result (position_of bits.new) (rct.read (bytes_of bits.old) (position_of bits.old)) }
         ensures ranges { IfOk result (λ t. IsRct t) }
@@ -139,11 +141,13 @@ fn read_predictor(bits: &mut Bitstream<'_>) -> std::result::Result<Predictor, Bi
 }
 
 impl Palette {
-    /// The palette that stands at the reader's place. It keeps the weights where its predictor is
-    /// the self-correcting one.
+    /// The palette that stands at the reader's position. It keeps the weights where its predictor is
+    /// the weighted (self-correcting) one.
     ///
-    /// A cut input is refused by `UnexpectedEof`, and the number of a predictor that is none by
-    /// `InvalidEnum`. The reader then stands behind the last field that was read whole.
+    /// # Errors
+    ///
+    /// `UnexpectedEof` if the input is truncated, and `InvalidEnum` for the number of a predictor that
+    /// is none. The reader is then after the last field that was read whole.
     pub fn parse(bits: &mut Bitstream<'_>, wp_header: &WpHeader) -> Result<Palette>
         ensures gives { AnswersExactly result (position_of bits.new) ((palette wp_header.now).read (bytes_of bits.old) (position_of bits.old)) }
         ensures ranges { IfOk result (λ t. IsPalette t) }
@@ -226,8 +230,8 @@ impl Squeeze {
     ///
     /// # Errors
     ///
-    /// `UnexpectedEof` where the input is truncated; the reader is then after the last field that was
-    /// read whole. `Buffer` where it is out of memory, at any step.
+    /// `UnexpectedEof` if the input is truncated; the reader is then after the last field that was
+    /// read whole. `Buffer` if it is out of memory, at any step.
     pub fn parse(alloc: Global, bits: &mut Bitstream<'_>) -> Result<Squeeze>
         ensures gives { Parses (λ s. s.sp.items) result (position_of bits.new) (squeeze.read (bytes_of bits.old) (position_of bits.old)) }
         ensures ranges { IfOk result (λ s. IsSqueeze s.sp.items) }
@@ -274,9 +278,9 @@ impl TransformInfo {
     ///
     /// # Errors
     ///
-    /// `UnexpectedEof` where the input is truncated; `InvalidEnum` for kind 3, and for the number of
+    /// `UnexpectedEof` if the input is truncated; `InvalidEnum` for kind 3, and for the number of
     /// a predictor that is none. The reader is then after the last field that was read whole.
-    /// `Buffer` where it is out of memory, at any step of a squeeze.
+    /// `Buffer` if it is out of memory, at any step of a squeeze.
     pub fn parse(
         alloc: Global,
         bits: &mut Bitstream<'_>,

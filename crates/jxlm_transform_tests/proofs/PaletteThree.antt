@@ -19,7 +19,7 @@ pairs_of_three R a b c h k l (suc zero) (suc (suc zero)) d p q = l
 pairs_of_three R a b c h k l (suc zero) (suc (suc (suc j))) d p q = absurd (omega arith)
 pairs_of_three R a b c h k l (suc (suc i)) j d p q = absurd (omega arith)
 
--- a grid of these sides, each place of which has a cell
+-- a full grid of these sides
 pub record IsOfSides {S : Type 0} (g : Grid S) (w h : ℕ) : Type 0 where
   pub full : IsFull g
   pub columns : g.width ≡ w

@@ -16,7 +16,7 @@ use std::process::Abort;
 use std::result::Result;
 use std::test::Fail;
 
-// A channel by its sides, as `3x2`, and behind a colon its shifts, where they are not 0, as `3x2:1,0`.
+// A channel by its sides, as `3x2`, and after a colon its shifts, where they are not 0, as `3x2:1,0`.
 fn channel(text: &str) -> Result<ModularChannelInfo, Fail> {
     let (sides, shifts) = text.split_once(':').unwrap_or((text, "0,0"));
     let (width, height) = pair(sides, 'x')?;
@@ -79,7 +79,7 @@ fn palette(words: &str) -> Result<Palette, Fail>
     })
 }
 
-// A squeeze of one step, by its direction, the place of its residuals, its first channel, and how many it has.
+// A squeeze of one step, by its direction, where its residuals go, its first channel, and how many it has.
 fn squeeze(alloc: Global, words: &str) -> Result<Squeeze, Fail> {
     let (side, rest) = pair(words, ' ')?;
     let (place, rest) = pair(rest, ' ')?;
@@ -140,8 +140,8 @@ fn apply(
     }
 }
 
-// What transforms leave of a list, in words, or the error of one. Each is applied by `prepare_transform_info`, or by the call of
-// its own type.
+// What transforms leave of a list, in words, or the error of one. Each is applied by `prepare_transform_info`, or by
+// the call of its own type.
 fn outcome(alloc: Global, given: &str, transforms: &str, prepared: bool) -> Result<String, Fail> {
     let mut list = list(alloc, given)?;
     for text in transforms.split(';') {

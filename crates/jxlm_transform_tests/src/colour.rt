@@ -65,7 +65,7 @@ fn run<S: Sample>(
     Ok(())
 }
 
-// What three channels of these sides become, one after the other.
+// What three channels of these sides become, one after another.
 fn undone<S: Sample>(
     alloc: Global,
     kind: u32,

@@ -1,5 +1,5 @@
-// One generated triple for each type of colour transform: what is coded, and what it becomes. An independent program that
-// follows the definitions made them; its seed is not known. The row is the type of the transform, from 0 on.
+// One generated triple for each type of colour transform: what is coded, and what it becomes. An independent program
+// that follows the definitions made them; its seed is not known. The row is the type of the transform, from 0 on.
 
 /// Triples of 16 bits.
 pub const NARROW: &str = "32767 -3 15018 32767 -3 15018

@@ -131,4 +131,5 @@ fn fields_of_transforms(rt: HostRuntime) -> Result<(), Fail> {
 #[test]
 fn laws() {
     transforms_are_read_exactly();
+    default_squeeze_halves_to_eight();
 }

@@ -1,4 +1,5 @@
-// A header of 64 KB that appends residuals again and again: each step costs what it appends, and not what the list has.
+// A header of 64 KB that appends residuals again and again: each step costs what it appends, and not what the list
+// has.
 
 use crate::valid::channels_of_one_size;
 use jxl_modular::Modular;
@@ -9,7 +10,7 @@ use std::alloc::{AllocError, Global};
 use std::result::Result;
 use std::test::Fail;
 
-// Bits that are written one after the other, the low bit of each byte first.
+// Bits that are written one after another, the low bit of each byte first.
 #[derive(Drop)]
 struct Bits {
     bytes: Vec<u8>,
@@ -47,7 +48,8 @@ impl Bits {
 // How many channels are given.
 const GIVEN: usize = 9306;
 
-// How far above 1096 the first channel of a step is: each range of 19 channels is squeezed 60 times, across and down in turn.
+// How far above 1096 the first channel of a step is: each range of 19 channels is squeezed 60 times, across and down
+// in turn.
 fn first_channel(step: u32) -> u32 {
     (step / 60).wrapping_mul(19)
 }
@@ -73,7 +75,7 @@ fn push_squeeze(bits: &mut Bits, first: u32) -> Result<(), AllocError> {
     Ok(())
 }
 
-// A header of so many such squeezes, from 18 to 273.
+// A header of n such squeezes, from 18 to 273.
 fn header(alloc: Global, squeezes: u32) -> Result<Vec<u8>, AllocError> {
     let mut bits = Bits::new(alloc);
     bits.push(0, 1)?;
@@ -86,7 +88,7 @@ fn header(alloc: Global, squeezes: u32) -> Result<Vec<u8>, AllocError> {
     Ok(bits.bytes)
 }
 
-// Why the header is refused, and the position of the reader then.
+// The header's error, and the position of the reader then.
 fn outcome(alloc: Global, bytes: &[u8]) -> Result<(Option<Error>, u64), Fail> {
     let params = channels_of_one_size(alloc, 1, 1, GIVEN)?;
     let mut bits = Bitstream::new(bytes);
@@ -94,8 +96,8 @@ fn outcome(alloc: Global, bytes: &[u8]) -> Result<(Option<Error>, u64), Fail> {
     Ok((modular.err(), bits.position()))
 }
 
-// 76 squeezes of 296 steps append 427424 channels, in a few hundredths of a second. A list that is made anew at each step takes
-// more than the minute that a test has.
+// 76 squeezes of 296 steps append 427424 channels, in a few hundredths of a second. A list that is made anew at each
+// step takes more than the minute that a test has.
 #[test]
 fn many_appended_steps(rt: HostRuntime) -> Result<(), Fail> {
     let bytes = header(rt.alloc(), 76)?;

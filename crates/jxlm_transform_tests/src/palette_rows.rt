@@ -1,9 +1,9 @@
-// Generated palettes of three channels of 3 by 3 samples, each predictor twice. An independent program that follows the
-// definitions cell by cell made them; its seed is not known.
+// Generated palettes of three channels of 3 by 3 samples, each predictor twice. An independent program that follows
+// the definitions cell by cell made them; its seed is not known.
 //
-// A row has the width of samples; the bit depth, how many colours and deltas, and the predictor's number; the weights as a
-// header has them, by hexadecimal digits; the table, row by row, with 0 after its end; the indices, row by row; and what they
-// become, channel by channel.
+// A row has the width of samples; the bit depth, how many colours and deltas, and the predictor's number; the weights
+// as a header has them, by hexadecimal digits; the table, row by row, with 0 after its end; the indices, row by row;
+// and what they become, channel by channel.
 
 /// The rows.
 pub const ROWS: &str =

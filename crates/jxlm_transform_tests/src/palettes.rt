@@ -1,4 +1,4 @@
-// Palettes of three channels undone, where the first stands at the indices' place.
+// Palettes of three channels undone, where the first is where the indices are.
 
 ghost use Rattle.std.specs.Prelude.{◌≡◌, ◌^◌, ◌≤◌};
 ghost use Rattle.std.specs.Option.{ForSome};
@@ -70,7 +70,7 @@ fn run<S: Sample>(
     Ok(())
 }
 
-// What three channels of these sides become, one after the other.
+// What three channels of these sides become, one after another.
 fn finished<S: Sample>(
     alloc: Global,
     palette: &Palette,

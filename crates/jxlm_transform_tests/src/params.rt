@@ -117,7 +117,7 @@ fn channels_of_jpeg_pictures(rt: HostRuntime) {
     assert_eq!(rt; (second.hshift(), second.vshift()), (0, 1));
 }
 
-// Compares whether an image of so many channels of one sample is valid.
+// Compares whether an image of n channels of one sample is valid.
 fn check_image(rt: &impl Abort, alloc: Global, row: &str) -> Result<(), Fail> {
     let (group_dim, rest) = pair(row, ' ')?;
     let (bit_depth, rest) = pair(rest, ' ')?;

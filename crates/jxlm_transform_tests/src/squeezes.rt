@@ -44,7 +44,7 @@ fn room<S: Sample>(alloc: Global, width: usize, height: usize) -> Result<Aligned
     Ok(grid)
 }
 
-// Where sample `i` of a line stands in a grid with a cell around the rectangle.
+// Where sample `i` of a line is in a grid with a cell around the rectangle.
 fn place(across: bool, line: usize, i: usize) -> (usize, usize) {
     let (line, i) = (line.saturating_add(1), i.saturating_add(1));
     if across { (i, line) } else { (line, i) }
@@ -178,7 +178,7 @@ fn squeezed<S: Sample>(alloc: Global, row: &[S]) -> Result<Vec<S>> {
     Ok(coded)
 }
 
-// A generated sample of a cell: small steps, great ones, and both ends of the type. `kind` is the seed.
+// A generated sample of a cell: small steps, large ones, and both ends of the type. `kind` is the seed.
 fn generated<S: Sample>(x: usize, y: usize, kind: u32) -> S {
     let (x, y) = ((x % 65536) as u32, (y % 65536) as u32);
     let seed = x.wrapping_mul(73).wrapping_add(y.wrapping_mul(151));

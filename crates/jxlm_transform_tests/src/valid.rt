@@ -13,7 +13,7 @@ use std::alloc::Global;
 ///
 /// # Errors
 ///
-/// `Buffer` where it is out of memory.
+/// `Buffer` if it is out of memory, and no other.
 pub fn channels_of_one_size(
     alloc: Global,
     width: u32,

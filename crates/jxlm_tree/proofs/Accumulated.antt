@@ -1,4 +1,4 @@
--- Nodes that are read one behind another: what was read before stands in front of what is still read.
+-- Nodes that are read one after another: what was read before comes before what is still read.
 use Rattle.std.proofs.Common.{◌≡◌, ℕ, zero, suc, ◌+◌, ◌-◌, ◌<◌, ◌≤◌, List, [], ◌∷◌, ◌++◌, Some, Result, Ok, Err, refl, sym, ap, ◌∙◌, arith, append_assoc, append-nil}
 use Rattle.jxlm_base.specs.Decoding.{Meaning}
 use Rattle.jxlm_base.specs.Fault.{Fault, Refused, ◌>>=◌}
@@ -15,7 +15,7 @@ module _ {S : Type 0} where
   with_front-nil (Ok x) = refl
   with_front-nil (Err e) = refl
 
-  -- one node more in front
+  -- one node more before the others
   with_front-more : (front : List (Node Draft)) (n : Node Draft) (r : Result (Drawn (List (Node Draft)) S) Refused) → with_front front (with_front (n ∷ []) r) ≡ with_front (front ++ n ∷ []) r
   with_front-more front n (Ok x) = ap (λ (v : List (Node Draft)). Ok (record { value = v; state = x.state; position = x.position })) (sym (append_assoc front (n ∷ []) x.value))
   with_front-more front n (Err e) = refl
@@ -42,7 +42,7 @@ module _ {S : Type 0} where
         let now : more ≡ missing + children n = omega (arith, m) in
         rw (left, now) (ap (with_front front) (node_first room missing s t p q n e) ∙ with_front-more front n (nodes_at d bytes limit room (missing + children n) t q))
 
-    -- a node is refused
+    -- a node gives an error
     pub node_refused : (front : List (Node Draft)) (room missing : ℕ) (s : S) (p : ℕ) (e : Refused) → 0 < room → 0 < missing → node_at d bytes s p ≡ Err e → with_front front (nodes_at d bytes limit room missing s p) ≡ Err e
     unfolding nodes_at
     node_refused front zero missing s p e h k r = absurd (omega (arith, h))

@@ -12,7 +12,7 @@ use Rattle.jxlm_tree.specs.SelfCorrecting.{Four, Errors, no_errors, errors_at, w
 use Rattle.jxlm_tree.specs.declared.predictor.WpHeader.{WpHeader}
 use Rattle.jxlm_tree.proofs.Causal.{errors_same}
 
--- ---- the errors around a place
+-- ---- the errors around a cell
 
 module _ (errors : List Errors) (width : ℕ) where
   pub north_is : (x y : ℕ) → (errors_above errors width x y).true_error ≡ north_error errors width x y
@@ -139,7 +139,7 @@ map-set f [] i v = refl
 map-set f (x ∷ xs) zero v = refl
 map-set f (x ∷ xs) (suc i) v = ap (λ ys. f x ∷ ys) (map-set f xs i v)
 
--- ---- what is made of a place is what the definitions make of it
+-- ---- what is made of a cell is what the definitions make of it
 
 module _ (header : WpHeader) (samples : List ℤ) (width : ℕ) (errors : List Errors) (a : Neighbours) (e : ErrorsAround) (x y : ℕ) where
   pub sub_predictions_are : column samples width ≡ x → row samples width ≡ y → a ≡ neighbours samples width → AreErrorsAt e errors width x y → sub_predictions_from header a e ≡ sub_predictions header samples width errors

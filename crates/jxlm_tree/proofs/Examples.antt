@@ -9,7 +9,7 @@ use Rattle.jxlm_tree.specs.Properties.{place_property}
 use Rattle.jxlm_tree.specs.declared.predictor.Predictor.TheVariants.{AvgAll, AvgWestAndNorth, SelfCorrecting}
 use Rattle.jxlm_tree.specs.WeightsHeader.{default_weights}
 
--- width 3, behind one sample of 1: property 15 is -8, p is 10 before and 8 after the clamp, and the prediction is 1
+-- width 3, after one sample of 1: property 15 is -8, p is 10 before and 8 after the clamp, and the prediction is 1
 self_correcting_property : greatest_error default_weights (pos 1 ∷ []) 3 ≡ negsuc 7
 unfolding int_wrap count_leading_zeros
 self_correcting_property = refl
@@ -43,7 +43,7 @@ cells = pos 3 ∷ negsuc 4 ∷ pos 7 ∷ pos 100 ∷ pos 0 ∷ negsuc 2147483647
 abbrev earlier_cells : List ℤ
 earlier_cells = pos 1 ∷ pos 2 ∷ pos 3 ∷ pos 4 ∷ pos 5 ∷ negsuc 5 ∷ pos 7 ∷ negsuc 7 ∷ negsuc 8 ∷ pos 10 ∷ pos 11 ∷ pos 2147483647 ∷ []
 
--- properties 2 to 15 behind so many of the cells, and those of the earlier channel
+-- properties 2 to 15 after n of the cells, and those of the earlier channel
 abbrev properties_behind : ℕ → List ℤ
 properties_behind n =
     map (place_property (record { weights = Some default_weights; width = 4; samples = take n cells; earlier = record { width = 4; height = 3; cells = earlier_cells } ∷ [] }))

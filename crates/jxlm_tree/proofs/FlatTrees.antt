@@ -63,7 +63,7 @@ goes_without_weights t h = λ f g same. (
 
 -- ---- earlier channels
 
--- a property that is not of a channel farther than n is below those of the channel behind
+-- a property that is not of a channel farther than n is below those of the channel after it
 below_named : (k n : ℕ) → earlier_of k ≤ n → k < 16 + 4 * n
 below_named k n h = either (cases_lt k 16) where
   either : (k < 16) ⊎ (16 ≤ k) → k < 16 + 4 * n

@@ -3,7 +3,7 @@ use Rattle.std.proofs.Common.{◌≡◌, ℕ, ◌+◌, ◌-◌, ◌*◌, ◌%◌
 use Rattle.std.proofs.Math.Nat.{mod-eq_of_lt}
 
 module _ (log : ℕ) (small : log ≤ 30) where
-  -- the least such power
+  -- the minimum such power
   pub least_power : 2 ≤ 2 ^ (31 - log)
   least_power = pow_mono {i = 1} {j = 31 - log} (omega (arith, small))
 

@@ -70,7 +70,7 @@ own_kept s x y w n nw g e previous current samples a r hx hy is fw fn fe error =
     let wg : int_wrap w32 (gradient_at samples s.width x y) ≡ gradient_at samples s.width x y = int_wrap_fits w32 _ (SFits-int_wrap w32 _) in
     rw is (rw (← error, we, wn, ww, cx, cy, small_wraps x hx, small_wraps y hy, wg, change_is s.width x y w n nw g previous current samples r) refl)
 
--- without weights there is no greatest error
+-- without weights there is no maximum error
 pub error-some : (o : Option WpHeader) (r : PredictionResult) (width : ℕ) (samples : List ℤ) → IsMade (Some r) o width samples → r.max_error ≡ error_property o samples width
 error-some None r width samples h = absurd h
 error-some (Some w) r width samples h = h.max_error_is

@@ -1,4 +1,4 @@
--- A queue of trees: what stands in it, and how deep that is.
+-- A queue of trees: what is in it, and how deep that is.
 use Rattle.std.proofs.Common.{◌≡◌, ℕ, ◌<◌, ◌≤◌, max, ℤ, List, [], ◌∷◌, ◌++◌, Option, None, Some, refl, subst, arith, map}
 use Rattle.std.specs.Option.{option_and_then}
 use Rattle.jxlm_base.specs.Fault.{Fault}
@@ -24,7 +24,7 @@ module _ {L : Type 0} where
     beyond = omega (arith, h.1, deepest_last rest (decision property value left right));
   }
 
-  -- a decision that is refused would stand in the queue
+  -- a decision that is too deep would be in the queue
   pub refused_in_queue : (limit property : ℕ) (value : ℤ) (right left : Shape L) (rest : List (Shape L)) (fault : Fault) → IsRefusedAsTooDeep limit (decision property value left right) fault →
       IsRefusedInQueue limit (taken_up (decision_node property value) (right ∷ (left ∷ rest))) fault
   refused_in_queue limit property value right left rest fault h = or_so (has_too_deep limit property value right left rest fault) h
@@ -33,7 +33,7 @@ module _ {L : Type 0} where
   pub still_shallow : (limit : ℕ) (ts : List (Shape L)) (t : Shape L) → deepest ts ≤ limit → depth t ≤ limit → deepest (ts ++ t ∷ []) ≤ limit
   still_shallow limit ts t h k = omega (arith, deepest-append ts (t ∷ []))
 
-  -- what stands behind two trees is no deeper
+  -- what is after two trees is no deeper
   pub deepest_behind : {X : Type 0} (f : X → Shape L) (limit : ℕ) (xs : List X) (a b : X) (rest : List X) → xs ≡ a ∷ (b ∷ rest) → deepest (map f xs) ≤ limit → deepest (map f rest) ≤ limit
   deepest_behind f limit xs a b rest e h = let whole = rw e at h in omega (arith, whole)
 
@@ -53,7 +53,7 @@ module _ {L : Type 0} where
   before n None new e = cc
   before n (Some queue) new e = (queue, refl, e)
 
-  -- the queue behind the last nodes, where all have one
+  -- the queue after the last nodes, where all have one
   pub queue_behind : (front ns : List (Node L)) (whole : List (Shape L)) → queue_of (front ++ ns) ≡ Some whole → (queue : List (Shape L)) × (queue_of ns ≡ Some queue) × (deepest queue ≤ deepest whole)
   queue_behind [] ns whole e = (whole, e, omega arith)
   queue_behind (n ∷ front) ns whole e =

@@ -12,14 +12,14 @@ use Rattle.jxlm_tree.specs.Rolling.{Rolls}
 pub at-push : (samples : List ℤ) (s : ℤ) (width x y : ℕ) → y * width + x < length samples → at (samples ++ s ∷ []) width x y ≡ at samples width x y
 at-push samples s width x y h = get_or_append_left samples (s ∷ []) (pos 0) (y * width + x) h
 
--- the last one is at the place behind the others
+-- the last one is at the cell after the others
 pub at-push_last : (samples : List ℤ) (s : ℤ) (width x y : ℕ) → length samples ≡ y * width + x → at (samples ++ s ∷ []) width x y ≡ s
 at-push_last samples s width x y h = get_or_push samples s (pos 0) (y * width + x) h
 
 pub length-push : (samples : List ℤ) (s : ℤ) → length (samples ++ s ∷ []) ≡ length samples + 1
 length-push samples s = length-append samples (s ∷ [])
 
--- the neighbours of a place among the samples, or right behind them, are as before
+-- the neighbours of a cell among the samples, or right after them, are as before
 module _ (samples : List ℤ) (s : ℤ) (width : ℕ) where
   west-push : (x y : ℕ) → y * width + x ≤ length samples → 0 < width → west (samples ++ s ∷ []) width x y ≡ west samples width x y
   west-push zero zero h w = refl
@@ -52,14 +52,14 @@ module _ (width x y : ℕ) (w n nw g s : ℤ) (previous current samples : List �
             rw e (get_or-set_same current x s (pos 0) (omega arith) ∙ sym (at-push_last samples s width x y place))
       ]
 
-  -- property 9 of the place
+  -- property 9 of the cell
   gradient-kept : Rolls width x y w n nw g previous current samples → int_wrap w32 (w -ℤ nw +ℤ n) ≡ gradient_at (samples ++ s ∷ []) width x y
   gradient-kept r =
       let place = r.place in
       let in_row = r.in_row in
       rw (r.west_is, r.north_west_is, r.north_is) (sym (gradient_at-push samples s width x y (omega arith) (omega arith)))
 
-  -- what still stands of the row two above
+  -- what is still left of the row two above
   two_above-kept : Rolls width x y w n nw g previous current samples → (i above : ℕ) → x + 1 ≤ i → i < width → y ≡ suc (suc above) → get_or (set current x s) i (pos 0) ≡ at (samples ++ s ∷ []) width i above
   two_above-kept r i above le lt e =
       let place = r.place in
@@ -146,7 +146,7 @@ Rolls_none width previous current h = record {
 }
 
 module _ (width x y : ℕ) (w n nw g : ℤ) (previous current samples : List ℤ) (r : Rolls width x y w n nw g previous current samples) where
-  -- the place
+  -- the cell
   pub column_is : column samples width ≡ x
   column_is = rw r.place (mod-mul-add y width x r.in_row)
 

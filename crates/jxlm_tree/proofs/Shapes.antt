@@ -98,7 +98,7 @@ module _ (clusters : List ℕ) where
       rw more (ap (λ (ns : List (Node Leaf)). leaf_node (record { cluster = slice_index clusters k; predictor = l.predictor; offset = l.offset; multiplier = l.multiplier }) ∷ ns) (with_clusters-append (suc k) xs ys))
   with_clusters-append k (decision_node p v ∷ xs) ys = ap (λ (ns : List (Node Leaf)). decision_node p v ∷ ns) (with_clusters-append k xs ys)
 
-  -- how a queue stands when a node has been taken up, where the whole listing is that of t
+  -- how a queue is when a node has been taken up, where the whole listing is that of t
   pub record TakenUp (t : Shape Leaf) (front rest : List (Node Draft)) (n : Node Draft) (listed_node : Node Leaf) (trees : List (Shape Leaf)) : Type 0 where
     pub queue : List (Shape Leaf)
     pub taken : taken_up listed_node trees ≡ Some queue
@@ -136,7 +136,7 @@ leaf_count-last [] (decision_node p v) = refl
 leaf_count-last (leaf_node l ∷ ns) n = omega (arith, leaf_count-last ns n)
 leaf_count-last (decision_node p v ∷ ns) n = leaf_count-last ns n
 
--- one node from the end of what is left stands before what was taken
+-- one node from the end of what is left comes before what was taken
 pub split_at : (ns left front rest : List (Node Draft)) (n : Node Draft) → ns ≡ left ++ rest → left ≡ front ++ n ∷ [] → ns ≡ front ++ n ∷ rest
 split_at ns left front rest n whole last = whole ∙ ap (λ xs. xs ++ rest) last ∙ append_assoc front (n ∷ []) rest
 

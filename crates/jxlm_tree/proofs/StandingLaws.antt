@@ -1,4 +1,4 @@
--- Where a state stands, and where after a sample more.
+-- Which cell a state is at, and which after a sample more.
 use Rattle.std.proofs.Common.{◌≡◌, ℕ, ◌+◌, ◌-◌, ◌*◌, ◌<◌, ◌≤◌, inl, inr, ℤ, List, length, reverse, get_or, Some, None, Option, sym, ap, ◌∙◌, arith}
 use Rattle.std.specs.Prelude.{slice_get}
 use Rattle.std.proofs.lemmas.Bool.{cases_lt}
@@ -13,7 +13,7 @@ use Rattle.jxlm_tree.specs.declared.self_correcting.PredictionResult.{Prediction
 use Rattle.jxlm_tree.specs.declared.state.PredictorState.{PredictorState}
 use Rattle.jxlm_tree.proofs.Rolling.{column_is, row_is}
 
--- the next place is in the row, or at the start of the next row
+-- the next cell is in the row, or at the start of the next row
 pub corrects_next : (o p : Option Corrector) (weights : Option WpHeader) (width x y i j : ℕ) (samples : List ℤ) → p ≡ o → CorrectsBehind o weights width x y samples →
     (x + 1 < width → (i ≡ x + 1) × (j ≡ y)) → (width ≤ x + 1 → (i ≡ 0) × (j ≡ y + 1)) → Corrects p weights width i j samples
 corrects_next o p weights width x y i j samples same behind inside ends =
@@ -31,7 +31,7 @@ pub recorded : (c d : Corrector) (r : PredictionResult) (weights : Option WpHead
 recorded c d r None width x y samples more h made step = absurd h
 recorded c d r (Some w) width x y samples more h made step = step w h made
 
--- what a place of a state says of the samples before it
+-- what a cell of a state says of the samples before it
 module _ {S : Type 0} (state : PredictorState S) (s : Setting) (samples : List ℤ) (stands : StandsAt state s samples) where
   pub stands_column : column samples s.width ≡ column_of state
   stands_column = column_is _ _ _ _ _ _ _ _ _ _ stands.rolls

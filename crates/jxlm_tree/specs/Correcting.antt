@@ -1,4 +1,4 @@
--- The errors of the self-correcting predictor as the code keeps them, and what it makes of a place.
+-- The errors of the weighted (self-correcting) predictor as the code keeps them, and what it makes of a cell.
 use Rattle.std.specs.Prelude.{◌≡◌, ℕ, zero, suc, ◌+◌, ◌-◌, ◌*◌, ◌/◌, ◌%◌, ◌^◌, ◌<◌, ◌≤◌, ℤ, pos, ◌+ℤ◌, ◌-ℤ◌, ◌*ℤ◌, unsigned_abs, nat_lt, Bool, not, ◌&&◌, ◌||◌, if◌then◌else◌, List, map, length, slice_index_or, vec_len, Option, Some, None}
 use Rattle.std.specs.Int.{w32, int_wrap, int_shr, is_negative}
 use Rattle.std.specs.Option.{ForSome}
@@ -53,7 +53,7 @@ sums_from nw ww n w ne last = record { s0 = of_one nw.s0 ww.s0 n.s0 w.s0 ne.s0; 
   of_one : ℕ → ℕ → ℕ → ℕ → ℕ → ℕ
   of_one nw ww n w ne = (nw + ww + n + w + (if last then n + w else ne)) % 2 ^ 32
 
--- What is made of a place with these neighbours and these errors around: the sub-predictions,
+-- What is made of a cell with these neighbours and these errors around: the sub-predictions,
 abbrev pub sub_predictions_from : WpHeader → Neighbours → ErrorsAround → Four ℤ
 sub_predictions_from header a e =
     let w = a.w *ℤ pos 8 in
@@ -93,21 +93,21 @@ predicted_from header a e =
     let z = unclamped_from (sub_predictions_from header a e) (weights_from header (counted e.sums)) in
     if is_clamped_from e then clamped_around a z else z
 
--- the greatest error,
+-- the maximum error,
 abbrev pub greatest_from : ErrorsAround → ℤ
 greatest_from e = further (further (further e.w e.n) e.nw) e.ne where
   further : ℤ → ℤ → ℤ
   further a b = if nat_lt (unsigned_abs a) (unsigned_abs b) then b else a
 
--- and the errors behind the sample
+-- and the errors after the sample
 abbrev pub errors_from : ℤ → Four ℤ → ℤ → Errors
 errors_from prediction subs sample = record {
   true_error = int_wrap w32 (prediction -ℤ sample *ℤ pos 8);
   sub_errors = each (λ s. (unsigned_abs (s -ℤ sample *ℤ pos 8) + 3) / 8 % 2 ^ 32) subs;
 }
 
--- At (x, y), with the errors of the cells before: those at the left and two to the left in the row, the current row up to x, and the row
--- above.
+-- At (x, y), with the errors of the cells before: those at the left and two to the left in the row, the current row
+-- up to x, and the row above.
 pub record KeepsErrors (width x y : ℕ) (west west_west : Errors) (previous current errors : List Errors) : Type 0 where
   pub west_none : x ≡ 0 → west ≡ no_errors
   pub west_is : (before : ℕ) → x ≡ suc before → west ≡ errors_at errors width before y
@@ -127,7 +127,7 @@ abbrev pub AtPlace : Corrector → ℕ → ℕ → Neighbours → (WpHeader → 
 AtPlace c x y around P = (header : WpHeader) (width : ℕ) (samples : List ℤ) → CorrectsBy c header width x y samples →
     length samples ≡ y * width + x → around ≡ neighbours samples width → P header width samples
 
--- the same at the place behind (x, y)
+-- the same at the cell after (x, y)
 abbrev pub CorrectsNext : Corrector → WpHeader → ℕ → ℕ → ℕ → List ℤ → Type 0
 CorrectsNext c header width x y samples = (x + 1 < width → CorrectsBy c header width (x + 1) y samples) × (width ≤ x + 1 → CorrectsBy c header width 0 (y + 1) samples)
 
@@ -138,7 +138,7 @@ Corrects None (Some h) width x y samples = ⊥
 Corrects (Some c) None width x y samples = ⊥
 Corrects (Some c) (Some h) width x y samples = CorrectsBy c h width x y samples
 
--- the same at the place behind (x, y)
+-- the same at the cell after (x, y)
 abbrev pub CorrectsBehind : Option Corrector → Option WpHeader → ℕ → ℕ → ℕ → List ℤ → Type 0
 CorrectsBehind o weights width x y samples = (x + 1 < width → Corrects o weights width (x + 1) y samples) × (width ≤ x + 1 → Corrects o weights width 0 (y + 1) samples)
 
@@ -147,7 +147,7 @@ abbrev pub HoldsColumn : Option Corrector → ℕ → Type 0
 HoldsColumn None x = Unit {0}
 HoldsColumn (Some c) x = x < c.width
 
--- a corrector's rows hold so many columns
+-- a corrector's rows hold n columns
 abbrev pub HasRows : Option Corrector → ℕ → Type 0
 HasRows o n = ForSome o (λ c. (n ≤ vec_len c.previous) × (n ≤ vec_len c.current))
 
@@ -156,7 +156,7 @@ abbrev pub header_of : Option Corrector → Option WpHeader
 header_of None = None
 header_of (Some c) = Some c.header
 
--- what was made is what the predictor makes of the place behind the samples, of which these are the errors
+-- what was made is what the predictor makes of the cell after the samples, of which these are the errors
 pub record IsMadeBy (r : PredictionResult) (header : WpHeader) (width : ℕ) (samples : List ℤ) : Type 0 where
   pub prediction_is : r.prediction ≡ self_corrected header samples width
   pub max_error_is : r.max_error ≡ greatest_error header samples width

@@ -1,4 +1,4 @@
--- What reading a sample by a tree answers.
+-- What reading a sample by a tree returns.
 use Rattle.std.specs.Prelude.{◌≡◌, ℕ, ℤ, Result, Ok, Err}
 use Rattle.jxlm_base.specs.Decoding.{Taken}
 use Rattle.jxlm_base.specs.declared.decoder.DecoderError.{DecoderError}
@@ -8,14 +8,14 @@ use Rattle.jxlm_tree.specs.FlatTree.{residual_of}
 use Rattle.jxlm_tree.specs.declared.flat.Leaf.{Leaf}
 use Rattle.jxlm_tree.specs.declared.predictor.Predictor.{Predictor}
 
--- the token that reading gave, and the state t and the place q behind it
+-- the token that reading gave, and the state t and the position q after it
 pub record ReadsSample {S : Type 0} (l : Leaf) (residual : ℤ) (predictor : Predictor) (t : S) (q : ℕ) (reading : Result (Taken S) DecoderError) : Type 0 where
   pub token : ℕ
   pub reads : reading ≡ Ok (record { token = token; state = t; position = q })
   pub residual_is : residual ≡ residual_of l token
   pub predictor_is : predictor ≡ l.predictor
 
--- reading refuses, and state and place stay
+-- reading returns an error, and state and position stay
 pub record RefusesSample {S : Type 0} (e : Error) (s t : S) (p q : ℕ) (reading : Result (Taken S) DecoderError) : Type 0 where
   pub cause : DecoderError
   pub error : e ≡ Decoder cause
@@ -23,7 +23,7 @@ pub record RefusesSample {S : Type 0} (e : Error) (s t : S) (p q : ℕ) (reading
   pub state : t ≡ s
   pub place : q ≡ p
 
--- reading at this leaf, from state s at place p, answered this
+-- reading at this leaf, from state s at position p, returned this
 abbrev pub SampleGives : {S : Type 0} → Leaf → Result (ℤ × Predictor) Error → S → S → ℕ → ℕ → Result (Taken S) DecoderError → Type 0
 SampleGives l (Ok x) s t p q reading = ReadsSample l x.0 x.1 t q reading
 SampleGives l (Err e) s t p q reading = RefusesSample e s t p q reading

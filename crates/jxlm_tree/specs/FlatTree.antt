@@ -7,15 +7,15 @@ use Rattle.jxlm_tree.specs.declared.flat.Leaf.{Leaf}
 use Rattle.jxlm_tree.specs.declared.predictor.Predictor.{Predictor}
 use Rattle.jxlm_tree.specs.declared.predictor.Predictor.TheVariants.{Zero, West, North, AvgWestAndNorth, Select, Gradient, SelfCorrecting, NorthEast, NorthWest, WestWest, AvgWestAndNorthWest, AvgNorthAndNorthWest, AvgNorthAndNorthEast, AvgAll}
 
--- a tree, the channel's place in its part, the stream's index, and how many earlier channels there are
+-- a tree, the channel's index in its part, the stream's index, and how many earlier channels there are
 pub record FlatTree : Type 0 where
   pub tree : Shape Leaf
   pub channel : ℕ
   pub stream_idx : ℕ
   pub prev_channels : ℕ
 
--- property k as a decision asks for it: 0 and 1 are the channel and the stream, read as 32-bit numbers; those of earlier channels that
--- there are none of are 0; each other one is that of the place
+-- property k as a decision asks for it: 0 and 1 are the channel and the stream, read as 32-bit numbers; those of
+-- earlier channels that there are none of are 0; each other one is that of the cell
 abbrev pub asked : FlatTree → (ℕ → ℤ) → ℕ → ℤ
 asked t of_place k =
     if k == 0 then int_wrap w32 (pos t.channel)
@@ -23,11 +23,11 @@ asked t of_place k =
     else if nat_lt k (16 + 4 * t.prev_channels) then of_place k
     else pos 0
 
--- the leaf to which the properties of a place lead
+-- the leaf to which the properties of a cell lead
 abbrev pub leaf_reached : FlatTree → (ℕ → ℤ) → Leaf
 leaf_reached t of_place = walk t.tree (asked t of_place)
 
--- f is what a place answers for its properties
+-- f is what a cell returns for its properties
 abbrev pub AnswersAs : {P : Type 0} → (P → ℕ → ℤ → Type 0) → P → (ℕ → ℤ) → Type 0
 AnswersAs gives place f = (k : ℕ) (v : ℤ) → gives place k v → v ≡ f k
 
@@ -35,7 +35,7 @@ AnswersAs gives place f = (k : ℕ) (v : ℤ) → gives place k v → v ≡ f k
 abbrev pub residual_of : Leaf → ℕ → ℤ
 residual_of l token = int_wrap w32 (unpack token *ℤ pos l.multiplier +ℤ l.offset)
 
--- the self-correcting predictor, of all
+-- of all predictors, the weighted one
 abbrev pub is_self_correcting : Predictor → Bool
 is_self_correcting Zero = false
 is_self_correcting West = false
@@ -52,7 +52,7 @@ is_self_correcting AvgNorthAndNorthWest = false
 is_self_correcting AvgNorthAndNorthEast = false
 is_self_correcting AvgAll = false
 
--- property 15 or the self-correcting predictor stands somewhere in the tree
+-- property 15 or the weighted predictor is somewhere in the tree
 abbrev pub needs_weights : Shape Leaf → Bool
 needs_weights (leaf l) = is_self_correcting l.predictor
 needs_weights (decision k value left right) = (k == 15) || needs_weights left || needs_weights right
@@ -61,7 +61,7 @@ needs_weights (decision k value left right) = (k == 15) || needs_weights left ||
 abbrev pub earlier_of : ℕ → ℕ
 earlier_of k = if nat_lt k 16 then 0 else (k - 16) / 4 + 1
 
--- how many earlier channels a walk can ask for: the farthest of which a property stands somewhere in the tree
+-- how many earlier channels a walk can ask for: the farthest of which a property is somewhere in the tree
 abbrev pub earlier_named : Shape Leaf → ℕ
 earlier_named (leaf l) = 0
 earlier_named (decision k value left right) = max (earlier_of k) (max (earlier_named left) (earlier_named right))
@@ -74,7 +74,7 @@ HasMultiplier l = (1 ≤ l.multiplier) × (l.multiplier < 2 ^ 31)
 abbrev pub ClustersStandIn : List ℕ → Shape Leaf → Type 0
 ClustersStandIn clusters t = AllLeaves (λ l. Contains clusters l.cluster) t
 
--- properties that are the same but for property 15 lead to one leaf, which does not predict by the self-correcting predictor
+-- properties that are the same but for property 15 lead to one leaf, which does not predict by the weighted predictor
 abbrev pub GoesWithoutWeights : FlatTree → Type 0
 GoesWithoutWeights t = (f g : ℕ → ℤ) → ((k : ℕ) → k ≢ 15 → f k ≡ g k) → (leaf_reached t f ≡ leaf_reached t g) × ((leaf_reached t f).predictor ≢ SelfCorrecting)
 

@@ -1,4 +1,4 @@
--- What the properties of a place hold.
+-- What the properties of a cell hold.
 use Rattle.std.specs.Prelude.{◌≡◌, ℕ, ℤ, pos, ◌+ℤ◌, ◌-ℤ◌, List, [], ◌∷◌, map, Option}
 use Rattle.std.specs.Int.{w32, int_wrap}
 use Rattle.jxlm_base.specs.Grid.{Grid}
@@ -13,11 +13,12 @@ use Rattle.jxlm_tree.specs.declared.predictor.WpHeader.{WpHeader}
 use Rattle.jxlm_tree.specs.declared.properties.Properties.{Properties}
 use Rattle.jxlm_tree.specs.declared.state.PredictorState.{PredictorState}
 
--- what the properties look at where a state was set so, behind these samples; the store is one of whole numbers
+-- what the properties look at where a state was set so, after these samples; the store is one of whole numbers
 abbrev pub surroundings : Setting → List (Grid ℤ) → List ℤ → Surroundings
 surroundings s store samples = record { weights = s.weights; width = s.width; samples = samples; earlier = map (grid_of store) s.earlier }
 
--- properties 0 to 15 at (x, y) with these neighbours, where `change` is property 9 of the sample before and `error` property 15
+-- properties 0 to 15 at (x, y) with these neighbours, where `change` is property 9 of the sample before and `error`
+-- property 15
 abbrev pub own_list : ℕ → ℕ → Neighbours → ℤ → ℤ → List ℤ
 own_list x y a change error =
     pos 0
@@ -38,7 +39,7 @@ own_list x y a change error =
     ∷ error
     ∷ []
 
--- properties 0 to 15 of a place
+-- properties 0 to 15 of a cell
 abbrev pub own_of : Surroundings → List ℤ
 own_of s = pos 0 ∷ pos 0 ∷ map (int_wrap w32) (own_properties s)
 
@@ -50,11 +51,11 @@ module _ {S : Type 0} where
   abbrev pub store_of : Properties S → List (Grid S)
   store_of p = p.store.now
 
-  -- the value is what f makes of the weights, the samples and the width, wherever the state stands
+  -- the value is what f makes of the weights, the samples and the width, whatever cell the state is at
   abbrev pub IsOfPlace : Properties S → (Option WpHeader → List ℤ → ℕ → ℤ) → ℤ → Type 0
   IsOfPlace p f value = (s : Setting) (samples : List ℤ) → StandsAt (state_of p) s samples → value ≡ f s.weights samples s.width
 
-  -- They are the properties of the place at which the state stands, wherever that is.
+  -- They are the properties of the cell that the state is at, whichever that is.
   pub record IsCurrent (p : Properties S) : Type 0 where
     pub ready : IsReady (state_of p) (store_of p)
     pub around_is : (s : Setting) (samples : List ℤ) → StandsAt (state_of p) s samples → seen p.around ≡ neighbours samples s.width

@@ -1,4 +1,5 @@
--- The neighbours of a place (ISO/IEC 18181-1, Modular: neighbouring samples). Samples stand in row order; a place is a column x and a row y.
+-- The neighbours of a cell (ISO/IEC 18181-1, Modular: neighbouring samples). Samples are in row order; a cell is in a
+-- column x and a row y.
 use Rattle.std.specs.Prelude.{ℕ, zero, suc, ◌+◌, ◌*◌, ◌/◌, ◌%◌, ℤ, pos, List, length, slice_index_or, nat_lt, if◌then◌else◌}
 
 -- the sample in column x of row y
@@ -66,13 +67,13 @@ neighbours_at samples width x y = record {
   ww = west_west samples width x y;
 }
 
--- the column and the row of the place behind the samples
+-- the column and the row of the cell after the samples
 abbrev pub column : List ℤ → ℕ → ℕ
 column samples width = length samples % width
 
 abbrev pub row : List ℤ → ℕ → ℕ
 row samples width = length samples / width
 
--- the neighbours of the place behind the samples
+-- the neighbours of the cell after the samples
 abbrev pub neighbours : List ℤ → ℕ → Neighbours
 neighbours samples width = neighbours_at samples width (column samples width) (row samples width)

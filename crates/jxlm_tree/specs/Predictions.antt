@@ -14,12 +14,12 @@ use Rattle.jxlm_tree.specs.declared.predictor.WpHeader.{WpHeader}
 abbrev pub predictors : List Predictor
 predictors = Zero ∷ West ∷ North ∷ AvgWestAndNorth ∷ Select ∷ Gradient ∷ SelfCorrecting ∷ NorthEast ∷ NorthWest ∷ WestWest ∷ AvgWestAndNorthWest ∷ AvgNorthAndNorthWest ∷ AvgNorthAndNorthEast ∷ AvgAll ∷ []
 
--- what a number gives as a predictor: the one in its place of the list, or the fault of a number that names none
+-- what a number gives as a predictor: the one at its index of the list, or the error of a number that names none
 abbrev pub IsPredictorOf : ℕ → Result Predictor BitstreamError → Type 0
 IsPredictorOf number (Ok predictor) = slice_get predictors number ≡ Some predictor
 IsPredictorOf number (Err e) = (slice_get predictors number ≡ None) × (bitstream_fault e ≡ BadEnum (codes "MaProperty") number)
 
--- what a predictor makes of the neighbours, p being the self-correcting prediction times 8; division is toward zero
+-- what a predictor makes of the neighbours, p being the weighted prediction times 8; division is toward zero
 abbrev pub prediction_from : Neighbours → ℤ → Predictor → ℤ
 prediction_from a p Zero = pos 0
 prediction_from a p West = a.w
@@ -36,7 +36,7 @@ prediction_from a p AvgNorthAndNorthWest = int_div (a.n +ℤ a.nw) (pos 2)
 prediction_from a p AvgNorthAndNorthEast = int_div (a.n +ℤ a.ne) (pos 2)
 prediction_from a p AvgAll = int_div (pos 6 *ℤ a.n -ℤ pos 2 *ℤ a.nn +ℤ pos 7 *ℤ a.w +ℤ a.ww +ℤ a.nee +ℤ pos 3 *ℤ a.ne +ℤ pos 8) (pos 16)
 
--- the self-correcting prediction times 8, where there are weights for it
+-- the weighted prediction times 8, where there are weights for it
 abbrev pub corrected : Option WpHeader → List ℤ → ℕ → ℤ
 corrected None samples width = pos 0
 corrected (Some weights) samples width = self_corrected weights samples width
@@ -46,6 +46,6 @@ abbrev pub unclamped_correction : Option WpHeader → List ℤ → ℕ → ℤ
 unclamped_correction None samples width = pos 0
 unclamped_correction (Some weights) samples width = self_unclamped weights samples width
 
--- the prediction at the place behind the samples, reduced to 32 bits
+-- the prediction at the cell after the samples, reduced to 32 bits
 abbrev pub prediction : Option WpHeader → List ℤ → ℕ → Predictor → ℤ
 prediction weights samples width predictor = int_wrap w32 (prediction_from (neighbours samples width) (corrected weights samples width) predictor)

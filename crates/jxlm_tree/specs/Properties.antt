@@ -1,4 +1,4 @@
--- The properties of a place (ISO/IEC 18181-1, Modular: properties).
+-- The properties of a cell (ISO/IEC 18181-1, Modular: properties).
 use Rattle.std.specs.Prelude.{ℕ, zero, suc, ◌-◌, ◌/◌, ◌%◌, ◌==◌, nat_lt, if◌then◌else◌, ℤ, pos, ◌+ℤ◌, ◌-ℤ◌, List, [], ◌∷◌, slice_get, slice_index_or, Option, Some, None}
 use Rattle.std.specs.Int.{w32, int_wrap}
 use Rattle.jxlm_base.specs.Grid.{Grid}
@@ -7,8 +7,8 @@ use Rattle.jxlm_tree.specs.Neighbours.{neighbours, at, west, north, north_west, 
 use Rattle.jxlm_tree.specs.SelfCorrecting.{greatest_error}
 use Rattle.jxlm_tree.specs.declared.predictor.WpHeader.{WpHeader}
 
--- What the properties of a place look at: the weights, if there are any; the width; the samples before the place, in row order;
--- the earlier channels of this size, whole, the nearest first.
+-- What the properties of a cell look at: the weights, if there are any; the width; the samples before the cell, in row
+-- order; the earlier channels of this size, whole, the nearest first.
 pub record Surroundings : Type 0 where
   pub weights : Option WpHeader
   pub width : ℕ
@@ -24,12 +24,12 @@ abbrev pub west_change : List ℤ → ℕ → ℕ → ℕ → ℤ
 west_change samples width zero y = west samples width zero y
 west_change samples width (suc x) y = west samples width (suc x) y -ℤ gradient_at samples width x y
 
--- property 15: the greatest error, or 0 without weights
+-- property 15: the maximum error, or 0 without weights
 abbrev pub error_property : Option WpHeader → List ℤ → ℕ → ℤ
 error_property None samples width = pos 0
 error_property (Some weights) samples width = greatest_error weights samples width
 
--- properties 2 to 15, at the place behind the samples, before they are reduced
+-- properties 2 to 15, at the cell after the samples, before they are reduced
 abbrev pub own_properties : Surroundings → List ℤ
 own_properties s =
     let a = neighbours s.samples s.width in
@@ -51,7 +51,8 @@ own_properties s =
     ∷ error_property s.weights s.samples s.width
     ∷ []
 
--- what an earlier channel leads to expect at (x, y): nothing at the start, above in column 0, left in row 0, else the clamped gradient
+-- what an earlier channel leads to expect at (x, y): nothing at the start, above in column 0, left in row 0, else the
+-- clamped gradient
 abbrev pub expected : List ℤ → ℕ → ℕ → ℕ → ℤ
 expected cells width zero zero = pos 0
 expected cells width zero (suc y) = at cells width 0 y
@@ -72,14 +73,15 @@ earlier_property s n = of_channel (slice_get s.earlier (n / 4)) where
   of_channel None = pos 0
   of_channel (Some g) = slice_index_or (earlier_properties g (column s.samples s.width) (row s.samples s.width)) (n % 4) (pos 0)
 
--- property k at the place behind the samples, reduced to 32 bits; properties 0 and 1 are not of the place, and are 0 here
+-- property k at the cell after the samples, reduced to 32 bits; properties 0 and 1 are not of the cell, and are 0 here
 abbrev pub place_property : Surroundings → ℕ → ℤ
 place_property s k =
     if nat_lt k 2 then pos 0
     else if nat_lt k 16 then int_wrap w32 (slice_index_or (own_properties s) (k - 2) (pos 0))
     else int_wrap w32 (earlier_property s (k - 16))
 
--- property k as a tree's walk sees it: 0 is the channel's place in its part and 1 the stream index, both read as 32-bit numbers
+-- property k as a tree's walk sees it: 0 is the channel's index in its part and 1 the stream index, both read as
+-- 32-bit numbers
 abbrev pub property : ℕ → ℕ → Surroundings → ℕ → ℤ
 property channel stream s k =
     if k == 0 then int_wrap w32 (pos channel)

@@ -3,8 +3,8 @@ use Rattle.std.specs.Prelude.{◌≡◌, ℕ, suc, ◌+◌, ◌*◌, ◌<◌, �
 use Rattle.jxlm_tree.specs.Neighbours.{at, west, north, north_west}
 use Rattle.jxlm_tree.specs.Properties.{gradient_at}
 
--- At (x, y), behind these samples in row order: the neighbours w, n and nw; property 9 of the sample before in the row, 0 at its start;
--- the row above; the current row up to x, and from there on the row two above.
+-- At (x, y), after these samples in row order: the neighbours w, n and nw; property 9 of the sample before in the
+-- row, 0 at its start; the row above; the current row up to x, and from there on the row two above.
 pub record Rolls (width x y : ℕ) (w n nw gradient : ℤ) (previous current samples : List ℤ) : Type 0 where
   pub in_row : x < width
   pub place : length samples ≡ y * width + x

@@ -1,4 +1,5 @@
--- The self-correcting predictor (ISO/IEC 18181-1, Modular: self-correcting predictor), cell by cell in row order.
+-- The weighted (self-correcting) predictor (ISO/IEC 18181-1, Modular: self-correcting predictor), cell by cell in row
+-- order.
 use Rattle.std.specs.Prelude.{ℕ, zero, suc, ◌+◌, ◌-◌, ◌*◌, ◌/◌, ◌%◌, ◌^◌, ◌<◌, ℤ, pos, ◌+ℤ◌, ◌-ℤ◌, ◌*ℤ◌, List, [], ◌∷◌, ◌++◌, length, take, slice_index_or, unsigned_abs, nat_lt, Bool, not, ◌&&◌, ◌||◌, if◌then◌else◌}
 use Rattle.std.specs.Int.{w32, int_wrap, int_shr, int_min, int_max, is_negative}
 use Rattle.std.specs.Ordering.{int_eq}
@@ -21,7 +22,7 @@ each f four = record { s0 = f four.s0; s1 = f four.s1; s2 = f four.s2; s3 = f fo
 abbrev pub total : Four ℕ → ℕ
 total four = four.s0 + four.s1 + four.s2 + four.s3
 
--- What is known of a cell behind it: the true error, and the errors of the sub-predictions.
+-- What is known of a cell after it: the true error, and the errors of the sub-predictions.
 pub record Errors : Type 0 where
   pub true_error : ℤ
   pub sub_errors : Four ℕ
@@ -30,7 +31,7 @@ pub record Errors : Type 0 where
 abbrev pub no_errors : Errors
 no_errors = record { true_error = pos 0; sub_errors = record { s0 = 0; s1 = 0; s2 = 0; s3 = 0 } }
 
--- The errors of the cells before the place, in row order.
+-- The errors of the cells before this one, in row order.
 module _ (errors : List Errors) (width : ℕ) where
   -- those of the cell in column x of row y
   abbrev pub errors_at : ℕ → ℕ → Errors
@@ -97,13 +98,13 @@ module _ (errors : List Errors) (width : ℕ) where
     s3 = error_sum (λ e. e.s3) x y;
   }
 
-  -- the greatest error: of the true errors at west, north, north west and north east the first that is furthest from 0
+  -- the maximum error: of the true errors at west, north, north west and north east the first that is furthest from 0
   abbrev pub greatest_at : ℕ → ℕ → ℤ
   greatest_at x y = further (further (further (west_error x y) (north_error x y)) (north_west_error x y)) (north_east_error x y) where
     further : ℤ → ℤ → ℤ
     further a b = if nat_lt (unsigned_abs a) (unsigned_abs b) then b else a
 
--- 2 ^ 24 divided by i, rounded downward
+-- 2 ^ 24 divided by i, rounded down
 abbrev pub reciprocal : ℕ → ℕ
 reciprocal i = 2 ^ 24 / i
 
@@ -119,7 +120,7 @@ weight_of w sum = 4 + w * reciprocal (sum / 2 ^ shift_of sum + 1) / 2 ^ shift_of
 abbrev pub shifted : Four ℕ → Four ℕ
 shifted weights = each (λ weight. weight / 2 ^ floor_log2 (total weights / 16)) weights
 
--- With the header's weights, at the place behind the samples, of which these are the errors.
+-- With the header's weights, at the cell after the samples, of which these are the errors.
 module _ (header : WpHeader) where
   module _ (samples : List ℤ) (width : ℕ) (errors : List Errors) where
     -- a neighbour times 8
@@ -180,7 +181,7 @@ module _ (header : WpHeader) where
         let none_negative = not (is_negative e_w || is_negative e_n || is_negative e_nw) in
         not (all_negative || none_negative) || (int_eq e_w e_n && int_eq e_n e_nw)
 
-    -- the prediction times 8: clamped between the least and the greatest of west, north and north east
+    -- the prediction times 8: clamped between the minimum and the maximum of west, north and north east
     abbrev pub predicted : ℤ
     predicted =
         let w = eightfold (λ a. a.w) in
@@ -204,7 +205,7 @@ module _ (header : WpHeader) where
   errors_of samples width zero = []
   errors_of samples width (suc i) = grown (take i samples) width (errors_of samples width i) (slice_index_or samples i (pos 0))
 
-  -- at the place behind the samples: the prediction times 8
+  -- at the cell after the samples: the prediction times 8
   abbrev pub self_corrected : List ℤ → ℕ → ℤ
   self_corrected samples width = predicted samples width (errors_of samples width (length samples))
 
@@ -212,11 +213,11 @@ module _ (header : WpHeader) where
   abbrev pub self_unclamped : List ℤ → ℕ → ℤ
   self_unclamped samples width = unclamped samples width (errors_of samples width (length samples))
 
-  -- and the greatest error
+  -- and the maximum error
   abbrev pub greatest_error : List ℤ → ℕ → ℤ
   greatest_error samples width = greatest_at (errors_of samples width (length samples)) width (column samples width) (row samples width)
 
--- the weights of a header that was read lie in these ranges
+-- the weights of a header that was read are in these ranges
 pub record IsHeader (header : WpHeader) : Type 0 where
   pub p1 : header.wp_p1 < 32
   pub p2 : header.wp_p2 < 32

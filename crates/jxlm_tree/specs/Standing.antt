@@ -1,4 +1,4 @@
--- Where a predictor's state stands.
+-- Which cell a predictor's state is at.
 use Rattle.std.specs.Prelude.{◌≡◌, ℕ, ◌+◌, ◌^◌, ◌<◌, ◌≤◌, ℤ, List, reverse, Option, All, vec_len, vec_capacity}
 use Rattle.jxlm_base.specs.Grid.{Grid}
 use Rattle.jxlm_base.specs.Regions.{Lies}
@@ -9,7 +9,8 @@ use Rattle.jxlm_tree.specs.Rolling.{Rolls}
 use Rattle.jxlm_tree.specs.declared.state.PredictorState.{PredictorState}
 use Rattle.jxlm_tree.specs.declared.predictor.WpHeader.{WpHeader}
 
--- What a state is reset for: a channel's width, the weights if there are any, the regions of the earlier channels, the nearest first.
+-- What a state is reset for: a channel's width, the weights if there are any, the regions of the earlier channels, the
+-- nearest first.
 pub record Setting : Type 0 where
   pub width : ℕ
   pub weights : Option WpHeader
@@ -22,14 +23,14 @@ setting w h e = record { width = w; weights = h; earlier = e }
 abbrev pub HasEarlier : {S : Type 0} → PredictorState S → List Region → Type 0
 HasEarlier state earlier = state.earlier.items ≡ reverse earlier
 
--- the state is the one behind these samples of a channel, in row order
+-- the state is the one after these samples of a channel, in row order
 pub record StandsAt {S : Type 0} (state : PredictorState S) (s : Setting) (samples : List ℤ) : Type 0 where
   pub same_width : state.width ≡ s.width
   pub same_earlier : HasEarlier state s.earlier
   pub rolls : Rolls s.width state.x state.y state.w state.n state.nw state.gradient state.previous.items state.current.items samples
   pub corrects : Corrects state.corrector s.weights s.width state.x state.y samples
 
--- the rolling rows and values are those behind these samples
+-- the rolling rows and values are those after these samples
 abbrev pub RollsIn : {S : Type 0} → PredictorState S → List ℤ → Type 0
 RollsIn state samples = Rolls state.width state.x state.y state.w state.n state.nw state.gradient state.previous.items state.current.items samples
 
@@ -40,11 +41,11 @@ pub record KeepsSetting {S : Type 0} (old new : PredictorState S) : Type 0 where
   pub same_earlier : new.earlier ≡ old.earlier
   pub same_corrector : new.corrector ≡ old.corrector
 
--- the place is the next one: in the row, or at the start of the next row
+-- the cell is the next one: in the row, or at the start of the next row
 abbrev pub IsNext : {S : Type 0} → PredictorState S → PredictorState S → Type 0
 IsNext old new = (old.x + 1 < old.width → (new.x ≡ old.x + 1) × (new.y ≡ old.y)) × (old.width ≤ old.x + 1 → (new.x ≡ 0) × (new.y ≡ old.y + 1))
 
--- the state stands somewhere
+-- the state is at some cell
 pub record Stands {S : Type 0} (state : PredictorState S) : Type 0 where
   pub where_set : Setting
   pub before : List ℤ
@@ -56,7 +57,7 @@ pub record HoldsRow {S : Type 0} (r : Region) (store : List (Grid S)) (width y :
   pub as_wide : r.width ≡ width
   pub below : y < r.height
 
--- the state stands somewhere, in one of the first 2 ^ 30 rows, each of which the regions of the earlier channels hold
+-- the state is at some cell, in one of the first 2 ^ 30 rows, each of which the regions of the earlier channels hold
 pub record IsReady {S : Type 0} (state : PredictorState S) (store : List (Grid S)) : Type 0 where
   pub where_set : Setting
   pub before : List ℤ
@@ -64,7 +65,7 @@ pub record IsReady {S : Type 0} (state : PredictorState S) (store : List (Grid S
   pub few_rows : row before where_set.width < 2 ^ 30
   pub earlier_hold : All (λ r. HoldsRow r store where_set.width (row before where_set.width)) where_set.earlier
 
--- the column and the row of the state's place, and the channel's width
+-- the column and the row of the state's cell, and the channel's width
 module _ {S : Type 0} where
   abbrev pub column_of : PredictorState S → ℕ
   column_of state = state.x
@@ -96,7 +97,7 @@ module _ {S : Type 0} where
     pub same_earlier_room : earlier_room_of new ≡ earlier_room_of old
     pub same_weights : weights_of new ≡ weights_of old
 
-  -- the place is two or more columns and rows away from every edge but the last row
+  -- the cell is two or more columns and rows away from every edge but the last row
   pub record IsInner (state : PredictorState S) : Type 0 where
     pub rows_above : 2 ≤ row_of state
     pub columns_left : 2 ≤ column_of state

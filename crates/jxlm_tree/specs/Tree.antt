@@ -1,4 +1,4 @@
--- Decision trees (ISO/IEC 18181-1, Modular: meta-adaptive trees). They are told by what stands at their leaves.
+-- Decision trees (ISO/IEC 18181-1, Modular: meta-adaptive trees). They are described by what their leaves hold.
 use Rattle.std.specs.Prelude.{◌≡◌, ◌⊎◌, ℕ, ◌+◌, max, ℤ, int_lt, if◌then◌else◌, List, [], ◌∷◌, ◌++◌}
 use Rattle.jxlm_tree.specs.declared.flat.Leaf.{Leaf}
 
@@ -18,12 +18,12 @@ module _ {L : Type 0} where
   walk (leaf l) f = l
   walk (decision k value left right) f = if int_lt value (f k) then walk left f else walk right f
 
-  -- how many nodes stand on the way to it, itself among them
+  -- how many nodes are on the way to it, itself among them
   abbrev pub nodes_on_way : Shape L → (ℕ → ℤ) → ℕ
   nodes_on_way (leaf l) f = 1
   nodes_on_way (decision k value left right) f = 1 + (if int_lt value (f k) then nodes_on_way left f else nodes_on_way right f)
 
-  -- the greatest number of decisions from the root to a leaf
+  -- the maximum number of decisions from the root to a leaf
   abbrev pub depth : Shape L → ℕ
   depth (leaf l) = 0
   depth (decision k value left right) = max (depth left) (depth right) + 1
@@ -38,7 +38,7 @@ module _ {L : Type 0} where
   AllLeaves P (leaf l) = P l
   AllLeaves P (decision k value left right) = AllLeaves P left × AllLeaves P right
 
-  -- x stands at a leaf
+  -- x is at a leaf
   abbrev pub StandsAtLeaf : Shape L → L → Type 0
   StandsAtLeaf (leaf l) x = x ≡ l
   StandsAtLeaf (decision k value left right) x = StandsAtLeaf left x ⊎ StandsAtLeaf right x
@@ -54,7 +54,7 @@ module _ {L : Type 0} where
   rows (leaf l) = (leaf_node l ∷ []) ∷ []
   rows (decision k value left right) = (decision_node k value ∷ []) ∷ beside (rows left) (rows right)
 
-  -- rows one behind another
+  -- rows one after another
   abbrev pub in_a_row : List (List (Node L)) → List (Node L)
   in_a_row [] = []
   in_a_row (a ∷ as') = a ++ in_a_row as'

@@ -1,4 +1,5 @@
--- A code for trees, by which a proof tells them apart: the nodes from the leaves up, from which the tree is put together again.
+-- A code for trees, by which a proof tells them apart: the nodes from the leaves up, from which the tree is put
+-- together again.
 use Rattle.std.proofs.Common.{◌≡◌, ℕ, ℤ, List, [], ◌∷◌, ◌++◌, refl, sym, ap, ◌∙◌, append_assoc, append-nil, get_or, ◌⊎◌, inl, inr}
 use Rattle.std.specs.Coded.{Coded, code_by, coded×, coded⊎, coded_list, coded_ℕ, coded_ℤ}
 use Rattle.jxlm_tree.specs.FlatTree.{FlatTree}

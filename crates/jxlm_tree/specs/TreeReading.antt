@@ -12,11 +12,11 @@ use Rattle.jxlm_tree.specs.Tree.{Node, Config, leaf_node, decision_node, levels,
 use Rattle.jxlm_tree.specs.declared.flat.Leaf.{Leaf}
 use Rattle.jxlm_tree.specs.declared.predictor.Predictor.{Predictor}
 
--- refused, with the reader at p
+-- an error, with the reader at p
 abbrev pub refused_at : {X : Type 0} → ℕ → Fault → Result X Refused
 refused_at p fault = Err (record { fault = fault; position = Some p })
 
--- what a call of the decoder gives; its fault leaves the reader at that place
+-- what a call of the decoder gives; its error leaves the reader at that position
 abbrev pub through : {X : Type 0} → Option ℕ → Result X DecoderError → Result X Refused
 through place (Ok x) = Ok x
 through place (Err e) = Err (record { fault = OfDecoder e; position = place })
@@ -34,7 +34,7 @@ pub record Draft : Type 0 where
   pub offset : ℤ
   pub multiplier : ℕ
 
--- what was read, and the decoder's state and the place behind it
+-- what was read, and the decoder's state and the position after it
 pub record Drawn (X S : Type 0) : Type 0 where
   pub value : X
   pub state : S
@@ -58,7 +58,7 @@ leaf_count [] = 0
 leaf_count (decision_node k value ∷ rest) = leaf_count rest
 leaf_count (leaf_node l ∷ rest) = suc (leaf_count rest)
 
--- how many nodes a node calls for behind it
+-- how many nodes a node calls for after it
 abbrev pub children : Node Draft → ℕ
 children (leaf_node l) = 0
 children (decision_node k value) = 2
@@ -67,7 +67,7 @@ children (decision_node k value) = 2
 abbrev pub most_nodes : ℕ → ℕ
 most_nodes node_limit = min (2 ^ 26) (node_limit + 1)
 
--- how a tree with more nodes is refused
+-- the error of a tree with more nodes
 abbrev pub limit_fault : ℕ → Fault
 limit_fault node_limit = if nat_lt (node_limit + 1) (2 ^ 26) then BadProfile (codes "MA tree limit exceeded") else BadTree
 
@@ -77,19 +77,19 @@ is_endless None = false
 is_endless (Some zero) = false
 is_endless (Some (suc k)) = true
 
--- What is known of a leaf that was read: its cluster is one of the decoder's, and its numbers lie in these ranges.
+-- What is known of a leaf that was read: its cluster is one of the decoder's, and its numbers are in these ranges.
 pub record IsLeafOf (clusters : List ℕ) (l : Leaf) : Type 0 where
   pub cluster : Contains clusters l.cluster
   pub offset : FitsSigned w32 l.offset
   pub least : 1 ≤ l.multiplier
   pub below : l.multiplier < 2 ^ 31
 
--- there was no memory
+-- out of memory
 abbrev pub IsWantOfMemory : Fault → Type 0
 IsWantOfMemory fault = UnlessMemory fault ⊥
 
 module _ {S : Type 0} (d : Meaning S) (bytes : List ℕ) where
-  -- the read of a context; its fault leaves the reader where it stood
+  -- the read of a context; its error leaves the reader where it was
   abbrev pub read_context : ℕ → S → ℕ → Result (Drawn ℕ S) Refused
   read_context context s p = drawn (d.read s bytes p (slice_index (d.cluster_map s) context) 0) where
     drawn : Result (Taken S) DecoderError → Result (Drawn ℕ S) Refused
@@ -124,7 +124,7 @@ module _ {S : Type 0} (d : Meaning S) (bytes : List ℕ) where
       position = multiplier.position;
     })
 
-  -- a node: 0 stands before a leaf, and k + 1 before a decision on property k, which its value follows
+  -- a node: 0 comes before a leaf, and k + 1 before a decision on property k, which its value follows
   unfoldable pub node_at : S → ℕ → Result (Drawn (Node Draft) S) Refused
   node_at s p = do
     kind ← read_context 1 s p
@@ -138,7 +138,8 @@ module _ {S : Type 0} (d : Meaning S) (bytes : List ℕ) where
         value ← read_context 0 s p
         Ok (record { value = decision_node k (unpack value.value); state = value.state; position = value.position })
 
-  -- `missing` nodes, and those that they call for; `room` more may be read, and where one is missing then, the tree is refused by `limit`
+  -- `missing` nodes, and those that they call for; `room` more may be read, and where one is missing then, `limit` is
+  -- the error
   unfoldable pub nodes_at : Fault → ℕ → ℕ → S → ℕ → Result (Drawn (List (Node Draft)) S) Refused
   nodes_at limit room zero s p = Ok (record { value = []; state = s; position = p })
   nodes_at limit zero (suc missing) s p = refused_at p limit
@@ -147,7 +148,7 @@ module _ {S : Type 0} (d : Meaning S) (bytes : List ℕ) where
     others ← nodes_at limit room (missing + children first.value) first.state first.position
     Ok (record { value = first.value ∷ others.value; state = others.state; position = others.position })
 
-  -- the nodes of a tree by a decoder that stands before its tokens
+  -- the nodes of a tree by a decoder that is before its tokens
   unfoldable pub drafts_at : ℕ → S → ℕ → Result (Found (List (Node Draft))) Refused
   drafts_at node_limit s p = if is_endless (d.single_token s (slice_index (d.cluster_map s) 1)) then refused_at p BadTree else (do
     start ← through (Some p) (d.begin s bytes p)
@@ -155,7 +156,8 @@ module _ {S : Type 0} (d : Meaning S) (bytes : List ℕ) where
     ended ← through (Some nodes.position) (d.finalize nodes.state)
     Ok (record { value = nodes.value; position = nodes.position }))
 
-  -- the nodes of the tree at a place, level by level: a decoder of six contexts, the nodes, and a decoder with a context for each leaf
+  -- the nodes of the tree at a position, level by level: a decoder of six contexts, the nodes, and a decoder with a
+  -- context for each leaf
   unfoldable pub listing_at : ℕ → ℕ → Result (Found (Listing S)) Refused
   listing_at node_limit p = do
     decoder ← through None (d.parse bytes p 6)
@@ -172,23 +174,25 @@ module _ {S : Type 0} (d : Meaning S) (bytes : List ℕ) where
   MemoryGives p (Err e) = fault_of e ≡ NoMemory → IsOk (d.parse bytes p 6)
 
   module _ (node_limit depth_limit : ℕ) (p : ℕ) where
-    -- at place p stand the nodes of this tree, level by level, and the decoder of its leaves' clusters, up to place q
+    -- at position p stand the nodes of this tree, level by level, and the decoder of its leaves' clusters, up to
+    -- position q
     abbrev pub IsListedAt : Config S → ℕ → Type 0
     IsListedAt config q = listing_at node_limit p ≡ Ok (record { value = record { nodes = levels config.tree; decoder = config.decoder }; position = q })
 
-    -- that is the tree at place p, with its decoder, and q is the place behind both
+    -- that is the tree at position p, with its decoder, and q is the position after both
     pub record IsTreeAt (config : Config S) (q : ℕ) : Type 0 where
       pub reads : IsListedAt config q
       pub within : depth config.tree ≤ depth_limit
 
-    -- the tree at place p is too deep, and q is the place behind it
+    -- the tree at position p is too deep, and q is the position after it
     pub record IsTooDeep (fault : Fault) (q : ℕ) : Type 0 where
       pub config : Config S
       pub reads : IsListedAt config q
       pub beyond : depth_limit < depth config.tree
       pub refusal : fault ≡ BadProfile (codes "decoded MA tree is too deep")
 
-    -- What reading a tree answers, and where it leaves the reader: the tree, or the fault of the first check that fails; memory may be refused at any time.
+    -- What reading a tree returns, and where it leaves the reader: the tree, or the error of the first check that
+    -- fails; out of memory may come at any time.
     abbrev pub TreeGives : Result (Config S) Error → ℕ → Type 0
     TreeGives (Ok config) q = IsTreeAt config q
     TreeGives (Err e) q = UnlessMemory (fault_of e) (IsRefused (listing_at node_limit p) (fault_of e) q ⊎ IsTooDeep (fault_of e) q)

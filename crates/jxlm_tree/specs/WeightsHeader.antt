@@ -1,4 +1,4 @@
--- The weights of the self-correcting predictor, as they stand in the input (ISO/IEC 18181-1, Modular: the bundle WPHeader).
+-- The weights of the weighted predictor, as they stand in the input (ISO/IEC 18181-1, Modular: the bundle WPHeader).
 use Rattle.std.specs.Prelude.{◌≡◌, ℕ, true, false, Result, Ok, Err}
 use Rattle.jxlm_base.specs.Decoding.{Found}
 use Rattle.jxlm_base.specs.Fault.{Refused, fault_of}
@@ -32,7 +32,7 @@ wp_header = do
   is_default ← flag
   either is_default (give default_weights) listed_weights
 
--- What a call that takes no memory answered, and where it left the reader, is what reading gives.
+-- What a call that takes no memory returned, and where it left the reader, are what reading gives.
 abbrev pub AnswersExactly : {X : Type 0} → Result X Error → ℕ → Result (Found X) Refused → Type 0
 AnswersExactly (Ok x) q reading = reading ≡ Ok (record { value = x; position = q })
 AnswersExactly (Err e) q reading = IsRefused reading (fault_of e) q

@@ -1,4 +1,4 @@
-//! The samples around a place.
+//! The samples around a cell.
 
 ghost use Rattle.std.specs.Prelude.{◌≡◌, ◌+ℤ◌, ◌-ℤ◌, ◌*ℤ◌, pos, int_div, unsigned_abs, nat_lt, if◌then◌else◌, ◌<◌, ◌≤◌, ◌^◌};
 ghost use Rattle.jxlm_tree.specs.declared.predictor.Predictor.TheVariants.{AvgAll};
@@ -8,7 +8,7 @@ ghost use Rattle.jxlm_tree.specs.Around.{clamped_around, seen};
 use crate::predictor::Predictor;
 use jxlm_base::sample::Sealed;
 
-/// The neighbours of a place, each by the edge rules.
+/// The neighbours of a cell, each by the edge rules.
 #[derive(Clone, Copy)]
 pub(crate) struct Around {
     /// Left.
@@ -65,7 +65,7 @@ impl Around {
         (self.nearest() + self.farther() + 8) / 16
     }
 
-    /// What a predictor makes of the neighbours. `corrected` is the self-correcting prediction times 8.
+    /// What a predictor makes of the neighbours. `corrected` is the weighted prediction times 8.
     pub(crate) fn prediction(&self, corrected: i64, predictor: Predictor) -> i64
         requires { unsigned_abs corrected < 2 ^ 62 }
         ensures { result ≡ prediction_from (seen self.now) corrected predictor }
@@ -96,7 +96,7 @@ impl Around {
         self.w as i64 * 8 + self.ne as i64 * 8 - self.n as i64 * 8
     }
 
-    /// The number brought between the least and the greatest of left, above and above right, each times 8.
+    /// The number clamped between the minimum and the maximum of left, above and above right, each times 8.
     pub(crate) fn clamped(&self, value: i64) -> i64
         requires { unsigned_abs value < 2 ^ 40 }
         ensures value { result ≡ clamped_around (seen self.now) value }

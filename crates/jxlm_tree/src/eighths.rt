@@ -1,6 +1,7 @@
 //! The weighted (self-correcting) prediction in eighths of a sample, before and after its clamp.
 //!
-//! Reading an image never asks for these: a sample is predicted by `Predictor::predict`, which rounds the clamped prediction.
+//! Reading an image never asks for these: a sample is predicted by `Predictor::predict`, which rounds the clamped
+//! prediction.
 
 ghost use Rattle.jxlm_tree.specs.Holding.{IsCurrent, IsOfPlace};
 ghost use Rattle.jxlm_tree.specs.Predictions.{corrected, unclamped_correction};
@@ -8,7 +9,7 @@ ghost use Rattle.jxlm_tree.specs.Predictions.{corrected, unclamped_correction};
 use crate::properties::Properties;
 use crate::self_correcting::PredictionResult;
 
-/// The prediction at the place of these properties, times 8, before it is clamped; 0 where there are no weights.
+/// The prediction at the cell of these properties, times 8, before it is clamped; 0 where there are no weights.
 pub fn before_clamp<S>(properties: &Properties<'_, S>) -> i64
     requires { IsCurrent properties.now }
     ensures { IsOfPlace properties.now unclamped_correction result }
@@ -22,7 +23,7 @@ pub fn before_clamp<S>(properties: &Properties<'_, S>) -> i64
     }
 }
 
-/// The prediction at the place of these properties, times 8, after its clamp; 0 where there are no weights.
+/// The prediction at the cell of these properties, times 8, after its clamp; 0 where there are no weights.
 pub fn after_clamp<S>(properties: &Properties<'_, S>) -> i64
     requires { IsCurrent properties.now }
     ensures { IsOfPlace properties.now corrected result }

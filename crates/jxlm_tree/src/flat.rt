@@ -45,12 +45,12 @@ impl Leaf {
     }
 }
 
-/// What answers for the properties of a place, from property 2 on.
+/// What returns the properties of a cell, from property 2 on.
 pub trait PlaceProperties {
-    // What it owes before it can answer.
+    // What must hold of it before it is asked.
     ghost IsCurrent: { Self → Type 0 };
 
-    // Which numbers it may answer for a property.
+    // Which numbers it may return for a property.
     ghost gives: { Self → ℕ → ℤ → Type 0 };
 
     /// The property of this number, from 2 on, in 32 bits.
@@ -59,9 +59,10 @@ pub trait PlaceProperties {
         ensures { gives self.now number result };
 }
 
-/// A tree, with what the samples of one channel of one stream need to walk it.
+/// A tree, with what the samples of one channel of one stream need to walk it (ISO/IEC 18181-1, Modular:
+/// meta-adaptive trees).
 ///
-/// It shares the tree's nodes. Contracts see it as the tree, the channel's place in its part, the
+/// It shares the tree's nodes. Contracts see it as the tree, the channel's index in its part, the
 /// stream's index, and the number of earlier channels.
 #[derive(Drop)]
 pub struct FlatMaTree {
@@ -92,7 +93,7 @@ impl Model for FlatMaTree {
 }
 
 impl FlatMaTree {
-    // The tree of so many nodes, which needs weights or not and names so many earlier channels.
+    // The tree of `num_nodes` nodes, which needs weights or not and names `prev_channels_named` earlier channels.
     pub(crate) fn new(
         tree: Rc<MaTreeNode>,
         num_nodes: usize,
@@ -126,8 +127,8 @@ impl FlatMaTree {
         self.num_nodes
     }
 
-    /// Whether the tree asks for the self-correcting predictor: true where property 15 or
-    /// `SelfCorrecting` stands in it.
+    /// Whether the tree asks for the weighted (self-correcting) predictor: true where property 15 or
+    /// `SelfCorrecting` is somewhere in it.
     ///
     /// Where it is false, property 15 does not matter, and no leaf predicts so.
     pub fn need_self_correcting(&self) -> bool
@@ -138,7 +139,7 @@ impl FlatMaTree {
     }
 
     /// How many of the earlier channels a walk may ask for, the nearest first: those that are there, up
-    /// to the farthest of which a property stands in the tree.
+    /// to the farthest of which a property is in the tree.
     pub fn max_prev_channel_depth(&self) -> usize
         ensures depth { result ≡ min self.now.prev_channels (earlier_named self.now.tree) }
         ensures below { ReadsEarlierBelow self.now result }
@@ -146,8 +147,8 @@ impl FlatMaTree {
         self.prev_channels.min(self.prev_channels_named) as usize
     }
 
-    /// The leaf to which these properties lead, from the root on: to the left where a decision's
-    /// property is greater than its value.
+    /// The leaf to which these properties lead, from the root on (ISO/IEC 18181-1, Modular:
+    /// meta-adaptive trees): to the left where a decision's property is greater than its value.
     ///
     /// Property 0 is the channel and 1 the stream, both read as signed numbers of 32 bits; those of
     /// earlier channels that are not there are 0. Each node that is looked at, the leaf among them, is a
@@ -198,8 +199,11 @@ impl FlatMaTree {
     /// this multiplier of distances: the sample before its prediction, in 32 bits, and how it is
     /// predicted.
     ///
-    /// The clusters of the tree's leaves are those of the decoder. An error, which is `Decoder`,
-    /// leaves decoder and reader as they were.
+    /// The clusters of the tree's leaves are those of the decoder.
+    ///
+    /// # Errors
+    ///
+    /// `Decoder`, and no other; it leaves decoder and reader as they were.
     pub fn decode_sample<D: Decoder, P: PlaceProperties>(
         &self,
         bits: &mut Bitstream<'_>,
@@ -230,7 +234,7 @@ fn read_as_signed(number: u32) -> i32
     number.cast_signed()
 }
 
-/// The walk of a flat tree is that of the whole tree by the properties of the place, where the
+/// The walk of a flat tree is that of the whole tree by the properties of the cell, where the
 /// earlier channels are not more than those that it may ask for.
 pub fn a_flat_tree_walks_by_properties()
     ensures { (t : FlatTree) (s : Surroundings) → length s.earlier ≤ t.prev_channels → leaf_reached t (place_property s) ≡ walk t.tree (property t.channel t.stream_idx s) }

@@ -29,7 +29,7 @@ use std::rc::Rc;
 pub struct MaConfigParams {
     /// A tree may have one node more than this; at most 2^26.
     pub node_limit: usize,
-    /// The greatest depth that a tree may have; at most 2048.
+    /// The maximum depth that a tree may have; at most 2048.
     pub depth_limit: usize,
 }
 
@@ -65,18 +65,19 @@ impl<D: Decoder> Model for MaConfig<D> {
 }
 
 impl<D: Decoder> MaConfig<D> {
-    /// Reads the tree at the reader's position, and the decoder of its leaves after it.
+    /// Reads the tree at the reader's position, and the decoder of its leaves after it (ISO/IEC 18181-1, Modular:
+    /// decoding of meta-adaptive trees).
     ///
     /// # Errors
     ///
-    /// That of the first check that fails. `Decoder`: a decoder's own error. `InvalidMaTree`: the tree would have no end, more
-    /// than 2^26 nodes, or a multiplier of 2^31 and more. `InvalidEnum`: a number that no predictor has.
-    /// `ProfileConformance`: more than `node_limit + 1` nodes or, once the decoder of the leaves is read, a depth above
-    /// `depth_limit`. The reader is then after the last token that was read; after an error of a decoder's `parse` its
-    /// position is that decoder's own matter.
+    /// That of the first check that fails. `Decoder`: a decoder's own error. `InvalidMaTree`: the tree would have no
+    /// end, more than 2^26 nodes, or a multiplier of 2^31 and more. `InvalidEnum`: a number that no predictor has.
+    /// `ProfileConformance`: more than `node_limit + 1` nodes or, once the decoder of the leaves is read, a depth
+    /// above `depth_limit`. The reader is then after the last token that was read; after an error of a decoder's
+    /// `parse` its position is that decoder's own matter.
     ///
-    /// Out of memory is `Buffer` where the tree itself needs it, which is only after the decoder of its nodes was read, and
-    /// `Decoder(OutOfMemory)` where a decoder does. No tree deeper than the limit is ever held.
+    /// Out of memory is `Buffer` where the tree itself needs it, which is only after the decoder of its nodes was
+    /// read, and `Decoder(OutOfMemory)` where a decoder does. No tree deeper than the limit is ever held.
     #[tactic(auto, unfolding(crate::specs::TreeReading::listing_at))]
     pub fn parse(alloc: Global, bits: &mut Bitstream<'_>, params: MaConfigParams) -> Result<Self>
         requires nodes { params.node_limit ≤ 2 ^ 26 }
@@ -125,14 +126,14 @@ impl<D: Decoder> MaConfig<D> {
         })
     }
 
-    /// The tree as the samples of one channel walk it: `channel` is its place in its part, `stream_idx` the index of the
-    /// stream, and `prev_channels` the number of earlier channels that it may ask for.
+    /// The tree as the samples of one channel walk it: `channel` is its index in its part, `stream_idx` the index of
+    /// the stream, and `prev_channels` the number of earlier channels that it may ask for.
     ///
     /// The nodes are shared.
     ///
     /// # Errors
     ///
-    /// `Buffer` where memory runs out, and no other.
+    /// `Buffer` if it is out of memory, and no other.
     pub fn make_flat_tree(
         &self,
         _alloc: Global,
@@ -173,7 +174,7 @@ impl<D: Decoder> MaConfig<D> {
         self.num_tree_nodes
     }
 
-    /// The greatest number of decisions from the root to a leaf: at most 2048.
+    /// The maximum number of decisions from the root to a leaf: at most 2048.
     pub fn tree_depth(&self) -> usize
         ensures depth { result ≡ depth self.now.tree }
         ensures most { result ≤ 2048 }

@@ -48,7 +48,7 @@ pub enum DraftNode {
 }
 
 impl DraftNode {
-    // How many nodes stand below it, side by side.
+    // How many nodes are below it, side by side.
     fn children(&self) -> usize
         ensures { result ≡ children_of (node_of self.now) }
     {

@@ -1,4 +1,4 @@
-//! Predictors, and the weights of the self-correcting one.
+//! Predictors, and the weights of the weighted (self-correcting) one.
 
 ghost use Rattle.std.specs.Prelude.{◌≡◌, ◌≤◌, ◌<◌, ◌^◌, ℤ, List, IfOk};
 ghost use Rattle.jxlm_base.specs.Bits.{bytes_of, position_of};
@@ -17,8 +17,8 @@ pub use crate::state::PredictorState;
 use jxlm_base::bits::{Bitstream, BitstreamError};
 use jxlm_base::error::Result;
 
-/// How a sample is predicted from the samples before it. The variants stand in the order of their
-/// numbers, from 0 to 13.
+/// How a sample is predicted from the samples before it (ISO/IEC 18181-1, Modular: predictors). The
+/// variants are in the order of their numbers, from 0 to 13.
 #[derive(Clone, Copy, PartialEq, Eq, Hash, Debug, Default)]
 pub enum Predictor {
     /// Always 0.
@@ -59,7 +59,7 @@ impl TryFrom<u32> for Predictor {
 
     ghost try_from_gives = { IsPredictorOf };
 
-    /// The predictor of a number; 14 and up are refused by `InvalidEnum`.
+    /// The predictor of a number; `InvalidEnum` if it is 14 or more.
     fn try_from(value: u32) -> std::result::Result<Predictor, BitstreamError> {
         Ok(match value {
             0 => Predictor::Zero,
@@ -87,7 +87,7 @@ impl TryFrom<u32> for Predictor {
 }
 
 impl Predictor {
-    /// What the predictor makes of the place of these properties, reduced to 32 bits.
+    /// What the predictor makes of the cell of these properties, reduced to 32 bits.
     pub fn predict<S>(self, properties: &Properties<'_, S>) -> i32
         requires { IsCurrent properties.now }
         ensures { (s : Setting) (samples : List ℤ) → StandsAt (state_of properties.now) s samples → result ≡ prediction s.weights samples s.width self }
@@ -97,7 +97,7 @@ impl Predictor {
     }
 }
 
-/// The weights of the self-correcting predictor.
+/// The weights of the weighted (self-correcting) predictor (ISO/IEC 18181-1, Modular: the bundle WPHeader).
 ///
 /// Of a header that was read, `wp_p1` to `wp_p3e` are at most 31 and `wp_w0` to `wp_w3` at most 15.
 #[derive(Clone, Copy)]
@@ -154,12 +154,12 @@ impl Default for WpHeader {
 }
 
 impl WpHeader {
-    /// Reads the weights at the reader's position: a flag and, where it is not set, seven numbers of 5 bits and four of 4 bits.
-    /// Where it is set, the weights are the default ones.
+    /// Reads the weights at the reader's position: a flag and, where it is not set, seven numbers of 5 bits and four
+    /// of 4 bits. Where it is set, the weights are the default ones.
     ///
     /// # Errors
     ///
-    /// `UnexpectedEof` where the input is truncated: the reader is then after the last whole field.
+    /// `UnexpectedEof` if the input is truncated: the reader is then after the last whole field.
     pub fn parse(bits: &mut Bitstream<'_>) -> Result<WpHeader>
         ensures gives { AnswersExactly result (position_of bits.new) (wp_header.read (bytes_of bits.old) (position_of bits.old)) }
         ensures ranges { IfOk result (λ h. IsHeader h) }
@@ -203,7 +203,7 @@ impl WpHeader {
     }
 }
 
-/// The numbers of the self-correcting predictor stay in their ranges, for all samples of 32 bits
+/// The numbers of the weighted predictor stay in their ranges, for all samples of 32 bits
 /// and all weights of a header.
 pub fn self_correcting_stays_in_range()
     ensures { AlwaysInRange }

@@ -1,4 +1,4 @@
-//! The properties of a place, which hold the state until the place's sample is recorded.
+//! The properties of a cell, which hold the state until the cell's sample is recorded.
 
 ghost use Rattle.std.specs.Prelude.{◌≡◌, ◌+◌, ◌-◌, ◌<◌, ◌≤◌, ◌^◌, ℕ, ℤ, pos, List, [], ◌∷◌, ◌++◌, false, slice_index_or};
 ghost use Rattle.std.specs.Int.{w32, int_wrap};
@@ -18,7 +18,7 @@ use jxlm_base::grid::{AlignedGrid, Region};
 use jxlm_base::region::region_get;
 use jxlm_base::sample::{Sample, Sealed};
 
-/// The properties of the place at which a state stands.
+/// The properties of the cell that a state is at (ISO/IEC 18181-1, Modular: properties).
 #[derive(Drop)]
 pub struct Properties<'p, S> {
     pub(crate) state: &'p mut PredictorState<S>,
@@ -56,7 +56,7 @@ fn own_properties(x: u32, y: u32, around: &Around, gradient: i32, max_error: i32
 }
 
 impl<S> PredictorState<S> {
-    /// The properties of the place at which the state stands.
+    /// The properties of the cell that the state is at.
     pub fn properties<'p, const EDGE: bool>(
         &'p mut self,
         store: &'p [AlignedGrid<S>],
@@ -173,9 +173,9 @@ impl<S: Sample> PlaceProperties for Properties<'_, S> {
 }
 
 impl<S> Properties<'_, S> {
-    /// Hands the state on behind the sample of this place.
+    /// Records the sample of this cell in the state.
     ///
-    /// The state then stands behind the samples before and this one, and has the room that it had.
+    /// The state is then after the samples before and this one, at the next cell, and has the room that it had.
     pub fn record(self, sample: i32)
         requires { IsCurrent self }
         ensures stands { (s : Setting) (samples : List ℤ) → StandsAt self.entry.state.now s samples → StandsAt self.exit.0.now s (samples ++ sample ∷ []) }

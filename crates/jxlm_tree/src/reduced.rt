@@ -11,7 +11,7 @@ pub fn reduced(value: i64) -> i32
     (value.rem_euclid(4294967296) as u32).cast_signed()
 }
 
-/// The number without its sign, reduced to 32 bits: the least number stays as it is.
+/// The number without its sign, reduced to 32 bits: the minimum stays as it is.
 pub(crate) fn reduced_absolute(value: i32) -> i32
     ensures { result ≡ int_wrap w32 (absolute value) }
 {

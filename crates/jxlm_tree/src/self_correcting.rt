@@ -1,4 +1,4 @@
-//! The self-correcting predictor: the errors that it remembers, and what it makes of a place.
+//! The weighted (self-correcting) predictor: the errors that it remembers, and what it makes of a cell.
 
 ghost use Rattle.jxlm_base.specs.Numbers.{floor_log2};
 ghost use Rattle.jxlm_tree.specs.SelfCorrecting.{IsHeader, errors_of, reciprocal, shifted, total, weight_of};
@@ -12,7 +12,7 @@ use jxlm_base::grid::OutOfMemory;
 use std::alloc::Global;
 use std::mem;
 
-/// 2^24 divided by each number from 1 to 64, rounded downward.
+/// 2^24 divided by each number from 1 to 64, rounded down.
 const RECIPROCALS: [u32; 65] = [
     0, 16777216, 8388608, 5592405, 4194304, 3355443, 2796202, 2396745, 2097152, 1864135, 1677721,
     1525201, 1398101, 1290555, 1198372, 1118481, 1048576, 986895, 932067, 883011, 838860, 798915,
@@ -44,7 +44,7 @@ pub(crate) struct SubPredictions {
     ghost below3: { unsigned_abs s3 < 2 ^ 37 },
 }
 
-/// What is known of a cell behind it.
+/// What is known of a cell after it.
 #[derive(Clone, Copy)]
 pub(crate) struct CellErrors {
     /// The prediction less the sample, both times 8.
@@ -65,7 +65,7 @@ const NO_ERRORS: CellErrors = CellErrors {
     sub_errors: NO_COUNTS,
 };
 
-/// The errors at the neighbours of a place.
+/// The errors at the neighbours of a cell.
 #[derive(Clone, Copy)]
 pub(crate) struct ErrorsAround {
     /// The true error to the left.
@@ -80,12 +80,12 @@ pub(crate) struct ErrorsAround {
     pub(crate) sums: Counts,
 }
 
-/// What the self-correcting predictor makes of a place.
+/// What the weighted predictor makes of a cell.
 #[derive(Clone, Copy)]
 pub struct PredictionResult {
     /// The prediction times 8.
     pub(crate) prediction: i64,
-    /// The greatest error around: property 15.
+    /// The maximum error around: property 15.
     pub(crate) max_error: i32,
     /// The sub-predictions, times 8.
     pub(crate) subpred: SubPredictions,
@@ -106,7 +106,7 @@ pub(crate) struct Corrector {
     ghost current_len: { width ≤ vec_len current },
 }
 
-/// The greatest k for which 2^k is at most `n`; 0 where `n` is 0.
+/// The maximum k for which 2^k is at most `n`; 0 where `n` is 0.
 fn floor_log2(n: u64) -> u32
     ensures value { result ≡ floor_log2 n }
     ensures narrow { n < 2 ^ 32 → result < 32 }
@@ -114,7 +114,7 @@ fn floor_log2(n: u64) -> u32
     63u32.saturating_sub(n.leading_zeros())
 }
 
-/// 2^24 divided by `i`, rounded downward.
+/// 2^24 divided by `i`, rounded down.
 fn reciprocal(i: usize) -> u32
     requires some { 1 ≤ i }
     requires listed { i ≤ 64 }
@@ -133,8 +133,8 @@ fn weight(w: u32, sum: u32) -> u32
     4 + ((w * reciprocal((sum >> shift) as usize + 1)) >> shift)
 }
 
-/// The sum of the errors of a sub-prediction at five neighbours, reduced to 32 bits. In the last column the error above
-/// right is what those above and to the left give together.
+/// The sum of the errors of a sub-prediction at five neighbours, reduced to 32 bits. In the last column the error
+/// above right is what those above and to the left give together.
 fn error_sum(nw: u32, ww: u32, n: u32, w: u32, ne: u32, last: bool) -> u32
     ensures { result ≡ (nw + ww + n + w + (if last then n + w else ne)) % 2 ^ 32 }
 {
@@ -189,7 +189,7 @@ fn eased(sample: i32, steer: i64) -> i64
     sample as i64 * 8 - (steer >> 5)
 }
 
-/// A sample times 8, less 1/32 of so many times three true errors.
+/// A sample times 8, less 1/32 of `factor` times the sum of three true errors.
 fn steered(sample: i32, a: i32, b: i32, c: i32, factor: u32) -> i64
     requires { factor < 32 }
     ensures value { result ≡ sample *ℤ pos 8 -ℤ int_shr ((a +ℤ b +ℤ c) *ℤ pos factor) 5 }
@@ -340,7 +340,7 @@ impl PredictionResult {
     ghost use Rattle.jxlm_tree.specs.Properties.{error_property};
     ghost use Rattle.jxlm_tree.specs.declared.predictor.WpHeader.{WpHeader};
 
-    /// Property 15: the greatest error, or 0 where nothing was made.
+    /// Property 15: the maximum error, or 0 where nothing was made.
     pub(crate) fn greatest_error(made: &Option<PredictionResult>) -> i32
         ensures { (weights : Option WpHeader) (width : ℕ) (samples : List ℤ) → IsMade made.now weights width samples → result ≡ error_property weights samples width }
     {
@@ -417,7 +417,7 @@ impl Corrector {
         })
     }
 
-    /// Comes before the first sample of a channel of this width, where there are weights.
+    /// Begins at the first cell of a channel of this width, where there are weights.
     pub(crate) fn restart_where_kept(corrector: &mut Option<Corrector>, width: u32)
         requires { HasRows corrector.old width }
         ensures corrects { Corrects corrector.new (header_of corrector.old) width 0 0 [] }
@@ -434,7 +434,7 @@ impl Corrector {
         }
     }
 
-    /// What is made of the place in column `x` of row `y`, with these neighbours.
+    /// What is made of the cell in column `x` of row `y`, with these neighbours.
     pub(crate) fn predict<const EDGE: bool>(
         &self,
         x: usize,
@@ -534,7 +534,7 @@ impl Corrector {
         }
     }
 
-    /// Moves on behind the sample in column `x`, where there are weights and `made` was made.
+    /// Goes on to the cell after the sample in column `x`, where there are weights and `made` was made.
     pub(crate) fn record_where_made(
         corrector: &mut Option<Corrector>,
         x: usize,
@@ -555,7 +555,7 @@ impl Corrector {
         }
     }
 
-    /// Moves on behind the sample in column `x`, of which `made` was made.
+    /// Goes on to the cell after the sample in column `x`, of which `made` was made.
     pub(crate) fn record(&mut self, x: usize, made: &PredictionResult, sample: i32)
         requires { x < self.old.width }
         ensures next { (header : WpHeader) (width y : ℕ) (samples : List ℤ) → CorrectsBy self.old header width x y samples → length samples ≡ y * width + x → IsMadeBy made.now header width samples → CorrectsNext self.new header width x y (samples ++ sample ∷ []) }

@@ -16,7 +16,7 @@ use std::marker::PhantomData;
 use std::mem;
 
 /// What the prediction of a channel's samples remembers of those before: the last two rows, and where there are
-/// weights, the errors of the self-correcting predictor in them.
+/// weights, the errors of the weighted (self-correcting) predictor in them.
 #[derive(Drop)]
 pub struct PredictorState<S> {
     alloc: Global,
@@ -48,7 +48,8 @@ impl<S> PredictorState<S> {
     ghost use Rattle.jxlm_tree.specs.Around.{seen};
     ghost use Rattle.jxlm_tree.specs.Correcting.{IsMade};
 
-    /// A state that stands nowhere, with no room, no weights and no earlier channel: it is to be reset before its first use.
+    /// A state that is at no cell, with no room, no weights and no earlier channel: it is to be reset before its
+    /// first use.
     pub fn new(alloc: Global) -> PredictorState<S>
         ensures room { room_of result ≡ 0 }
         ensures none { earlier_count result ≡ 0 }
@@ -72,15 +73,15 @@ impl<S> PredictorState<S> {
         }
     }
 
-    /// Puts the state before the first sample of a channel of this width, from 1 to 2^30.
+    /// Puts the state at the first cell of a channel of this width, from 1 to 2^30.
     ///
-    /// `earlier` are the regions of the earlier channels of equal size, the nearest first. The self-correcting predictor and
+    /// `earlier` are the regions of the earlier channels of equal size, the nearest first. The weighted predictor and
     /// property 15 need weights: those of a header that was read, or the default ones. All memory for the channel is
     /// allocated here.
     ///
     /// # Errors
     ///
-    /// `Buffer` where memory runs out, and no other; the state is then as before.
+    /// `Buffer` if it is out of memory, and no other; the state is then as before.
     pub fn reset(
         &mut self,
         width: u32,
@@ -116,14 +117,15 @@ impl<S> PredictorState<S> {
         Ok(state)
     }
 
-    /// A state that is at no channel yet, with memory for each channel up to the width `widest`, at most 2^30, with up to
-    /// `earlier` earlier ones, and with these weights: `restart`, `restart_alike` and `add_earlier` then allocate nothing.
+    /// A state that is at no channel yet, with memory for each channel up to the width `widest`, at most 2^30, with
+    /// up to `earlier` earlier ones, and with these weights: `restart`, `restart_alike` and `add_earlier` then
+    /// allocate nothing.
     ///
     /// The weights are those of a header that was read, or the default ones.
     ///
     /// # Errors
     ///
-    /// `Buffer` where memory runs out, and no other.
+    /// `Buffer` if it is out of memory, and no other.
     pub fn with_room(
         alloc: Global,
         widest: u32,
@@ -175,8 +177,8 @@ impl<S> PredictorState<S> {
         })
     }
 
-    /// Stands before the first sample of a channel of this width, from 1 to that for which there is room, with the weights as
-    /// they are and no earlier channel.
+    /// Puts the state at the first cell of a channel of this width, from 1 to that for which there is room, with the
+    /// weights as they are and no earlier channel.
     pub fn restart(&mut self, width: u32)
         requires some { 0 < width }
         requires roomy { width ≤ room_of self.old }
@@ -188,7 +190,8 @@ impl<S> PredictorState<S> {
         self.begin(width);
     }
 
-    /// Stands before the first sample of another channel of the same width, with weights and earlier channels as they are.
+    /// Puts the state at the first cell of another channel of the same width, with weights and earlier channels as
+    /// they are.
     pub fn restart_alike(&mut self)
         requires stands { Stands self.old }
         ensures stands { (s : Setting) (samples : List ℤ) → StandsAt self.old s samples → StandsAt self.new (setting s.width (weights_of self.old) s.earlier) [] }
@@ -198,7 +201,7 @@ impl<S> PredictorState<S> {
         self.begin(self.width);
     }
 
-    // Before the first sample of a channel of this width; the earlier channels stay.
+    // At the first cell of a channel of this width; the earlier channels stay.
     fn begin(&mut self, width: u32)
         requires some { 0 < width }
         requires roomy { width ≤ room_of self.old }
@@ -276,7 +279,7 @@ impl<S> PredictorState<S> {
         }
     }
 
-    /// The neighbours of the place.
+    /// The neighbours of the cell.
     pub(crate) fn around<const EDGE: bool>(&self) -> Around
         requires in_row { self.now.x < self.now.width }
         requires inner { EDGE ≡ false → IsInner self.now }
@@ -293,7 +296,7 @@ impl<S> PredictorState<S> {
         }
     }
 
-    /// What the self-correcting predictor makes of the place with these neighbours, where there are weights.
+    /// What the weighted predictor makes of the cell with these neighbours, where there are weights.
     pub(crate) fn correction<const EDGE: bool>(&self, around: &Around) -> Option<PredictionResult>
         requires stands { Stands self.now }
         requires inner { EDGE ≡ false → IsInner self.now }
@@ -307,7 +310,7 @@ impl<S> PredictorState<S> {
         }
     }
 
-    /// Moves on behind `sample`; `correction` is what `correction` gave for the place.
+    /// Goes on to the cell after `sample`; `correction` is what `correction` gave for the cell.
     pub(crate) fn advance(&mut self, sample: i32, correction: Option<PredictionResult>)
         requires stands { Stands self.old }
         requires few_rows { self.old.y < 2 ^ 30 }

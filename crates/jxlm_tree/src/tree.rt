@@ -14,7 +14,7 @@ use jxlm_base::error::{Error, Result};
 use jxlm_base::grid::OutOfMemory;
 use std::alloc::Global;
 
-/// A node of a meta-adaptive tree, with all that stands below it.
+/// A node of a meta-adaptive tree, with all that is below it.
 #[derive(Drop)]
 pub enum MaTreeNode {
     /// What is done with the samples that come here.
@@ -29,7 +29,7 @@ pub enum MaTreeNode {
 }
 
 impl MaTreeNode {
-    /// Whether property 15 or `SelfCorrecting` stands here or below.
+    /// Whether property 15 or `SelfCorrecting` is here or below.
     pub fn needs_self_correcting(&self) -> bool
         ensures { result ≡ needs_weights (shape_of self.now) }
     {

@@ -1,4 +1,4 @@
--- A state that stands behind so many samples can tell of its place.
+-- A state that is at the cell after n samples can return the properties of that cell.
 use Rattle.std.proofs.Common.{◌≡◌, ℕ, ◌+◌, ◌/◌, ◌%◌, ◌^◌, ◌<◌, ◌≤◌, List, All, arith, ap, sym, ◌∙◌}
 use Rattle.std.proofs.Math.Nat.{div-mul-le_self, div-le_self, le_trans}
 use Rattle.std.proofs.lemmas.Nat.{le-div}
@@ -9,7 +9,7 @@ use Rattle.jxlm_tree.specs.Standing.{Setting, HoldsRow, IsReady, IsInner}
 use Rattle.jxlm_tree.specs.declared.state.PredictorState.{PredictorState}
 use Rattle.jxlm_tree.proofs.Rolling.{column_is, row_is}
 
--- fewer samples stand in no later row
+-- fewer samples are in no later row
 pub rows_so_far : (count n width : ℕ) → count ≤ n → 0 < width → count / width ≤ n / width
 rows_so_far count n width le some = le-div (count / width) n width some (le_trans (div-mul-le_self count width) le)
 

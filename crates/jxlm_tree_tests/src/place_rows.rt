@@ -1,11 +1,12 @@
-// Places of channels. Samples and weights were drawn at random, from seeds 1 to 90 at 32 bits and 1 to 60 at 16, and what is told of
-// the places was computed by a program of its own, from the format's definitions by coordinates.
+// Cells of channels. Samples and weights were generated from seeds 1 to 90 at 32 bits and 1 to 60 at 16, and what is
+// expected of the cells was computed by an independent program, from the format's definitions by coordinates.
 
 use crate::places::check;
 use std::test::Fail;
 
-// A line has the channel's width; the weights, as the bytes of a header; the samples before the place; those of the earlier channels;
-// and behind a colon the properties from 2 on, four more than there are, and what the predictors from 0 to 13 make of the place.
+// A line has the channel's width; the weights, as the bytes of a header; the samples before the cell; those of the
+// earlier channels; and after a colon the properties from 2 on, four more than there are, and what the predictors
+// from 0 to 13 make of the cell.
 const PLACES: &str =
     "4|c007007cf0f00f|-1875700508 -642677928 1785363621 -283877117 101798751 -1428478167 -1189993286 -676051044 -58301453||:2 1 1428478167 58301453 -1428478167 -58301453 -160100204 -1588578371 -160100204 1530276918 -238484881 -785800239 0 2082968700 0 0 0 0 | 0 -58301453 -1428478167 -743389810 -1428478167 -1428478167 -913489351 -1189993286 101798751 -58301453 21748649 -663339708 -1309235726 -749872229
 3|24c2eb9507b60b|-19 0|-14 -11 -3;-892897386 2050369407 -299662683|:0 2 0 0 0 0 19 0 0 0 0 0 19 -184 3 -3 8 8 299662683 -299662683 -1944935206 1944935206 0 0 0 0 | 0 0 0 0 0 0 0 0 0 -19 0 0 0 0
@@ -88,13 +89,13 @@ const PLACES: &str =
 4|01|-11 -2147483648 -19 14 67 2147483647 2147483647 -1477186291|-1311140862 -21964847 -1031239411 -2029731585 -1383830921 -781416349 -1999306799 1413787450 -768221539|:2 0 67 67 67 67 67 67 0 0 -2147483580 78 0 859005262 768221539 -768221539 615609382 615609382 0 0 0 0 | 0 67 67 67 67 67 594129030 2147483647 67 67 67 67 1073741857 536870972
 5|5ac54205c2ae04|101 100 100 101 98 96 96 92 95 88 97 98|2147483647 -1 2147483647 2147483647 0 -1 -2147483648 -2147483648 0 2147483647 -2147483648 0 2147483647|:2 2 92 98 92 98 1 94 2 4 -3 -8 1 41 2147483647 2147483647 2147483647 2147483647 0 0 0 0 | 0 98 92 95 92 94 97 95 96 97 97 94 93 94";
 
-// Behind a first sample of 1 the greatest error is -8 and the self-correcting prediction 1; with -1 all around, the average of all is
-// 0; the average of -3 and 0 is -1.
+// After a first sample of 1 the maximum error is -8 and the weighted prediction 1; with -1 all around, the average of
+// all is 0; the average of -3 and 0 is -1.
 const WORKED: &str = "3|01|1||:0 1 1 1 1 1 1 1 0 0 0 0 0 -8 0 0 0 0 | 0 1 1 1 1 1 1 1 1 1 1 1 1 1
 5|01|-1 -1 -1 -1 -1 -1 -1 -1 -1 -1 -1 -1||:2 2 1 1 -1 -1 0 -1 0 0 0 0 0 0 0 0 0 0 | 0 -1 -1 -1 -1 -1 -1 -1 -1 -1 -1 -1 -1 0
 2|01|0 0 -3||:1 1 0 3 0 -3 -3 -3 -3 0 0 0 0 24 0 0 0 0 | 0 -3 0 -1 -3 -3 -2 0 0 -3 -1 0 0 -1";
 
-// The same as the drawn ones, with samples of 16 bits.
+// The same as the generated ones, with samples of 16 bits.
 const NARROW: &str =
     "4|01|-32768 -169 0 -17 32767 15 32767||:1 3 17 32767 -17 32767 32583 32750 32767 17 0 0 32752 -262016 0 0 0 0 | 0 32767 -17 16375 32767 32750 18312 -17 0 15 16383 -8 -17 14328
 5|01|0 19202 142 -265 32767 292 -13 -270||:1 3 265 270 -265 -270 18803 -677 -412 407 -33032 0 -257 -264256 0 0 0 0 | 0 -270 -265 -267 -270 -270 11882 32767 142 -13 -64 -61 16251 8007

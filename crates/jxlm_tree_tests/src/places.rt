@@ -1,4 +1,4 @@
-// Tables of places in a channel, each with the samples before it and what is told of it.
+// Tables of cells of a channel, each with the samples before it and what is expected of it.
 
 ghost use Rattle.std.specs.Prelude.{◌≡◌, ◌+◌, ◌<◌, ◌≤◌, ◌^◌, ◌/◌, ◌%◌, All, IfOk, true, vec_len};
 ghost use Rattle.std.specs.Option.{ForSome};
@@ -18,8 +18,8 @@ use std::alloc::Global;
 use std::process::Abort;
 use std::test::Fail;
 
-// A place of a channel: the weights, if there are any, and the samples before it in row order; and the earlier channels of the same
-// size, the nearest first, each with its samples up to the same place.
+// A cell of a channel: the weights, if there are any, and the samples before it in row order; and the earlier
+// channels of the same size, the nearest first, each with its samples up to the same cell.
 #[derive(Drop)]
 struct Place {
     width: u32,
@@ -43,8 +43,8 @@ fn weights(alloc: Global, digits: &str) -> Result<Option<WpHeader>, Fail>
     Ok(Some(WpHeader::parse(&mut Bitstream::new(&bytes))?))
 }
 
-// A line's place: its width, the digits of the weights, the samples before it, and the earlier channels' samples with semicolons
-// between.
+// A line's cell: its width, the digits of the weights, the samples before it, and the earlier channels' samples with
+// semicolons between.
 fn read_place(alloc: Global, line: &str) -> Result<Place, Fail> {
     let mut fields = line.split('|');
     let width = fields.next().ok_or("no width")?.parse::<u32>()?;
@@ -83,14 +83,14 @@ impl Place {
         self.before.len() / self.width as usize
     }
 
-    // Whether the place is two or more columns and rows away from every edge but the last row.
+    // Whether the cell is two or more columns and rows away from every edge but the last row.
     fn is_inner(&self) -> bool
         ensures { result ≡ true → (2 ≤ vec_len self.now.before / self.now.width) × (2 ≤ vec_len self.now.before % self.now.width) × (vec_len self.now.before % self.now.width + 2 < self.now.width) }
     {
         self.row() >= 2 && self.column() >= 2 && self.column() + 2 < self.width as usize
     }
 
-    // A buffer for each earlier channel, whose samples stand from column 1 of row 2 on.
+    // A buffer for each earlier channel, whose samples are from column 1 of row 2 on.
     fn store<S: Sample>(&self, alloc: Global) -> Result<Vec<AlignedGrid<S>>, OutOfMemory> {
         let mut store = Vec::new(alloc);
         for samples in &self.earlier {
@@ -106,7 +106,7 @@ impl Place {
         Ok(store)
     }
 
-    // Where the earlier channels stand.
+    // Where the earlier channels are.
     fn regions(&self, alloc: Global) -> Result<Vec<Region>, OutOfMemory> {
         let mut regions = Vec::new(alloc);
         for buffer in 0..self.earlier.len() {
@@ -121,7 +121,7 @@ impl Place {
         Ok(regions)
     }
 
-    // Stands before the channel's first sample, and goes on to the place.
+    // Begins at the channel's first cell, and goes on to this one.
     fn stand<S: Sample>(
         &self,
         state: &mut PredictorState<S>,
@@ -155,8 +155,8 @@ fn holds_row<S: Copy>(store: &[AlignedGrid<S>], region: Region, width: u32, y: u
         && y < region.height
 }
 
-// The properties from 2 on, below this number, and behind a bar what each predictor makes of the place: the self-correcting one
-// only where it is wanted.
+// The properties from 2 on, below this number, and after a bar what each predictor makes of the cell: the weighted
+// one only where it is asked for.
 fn told<S: Sample>(
     alloc: Global,
     properties: &Properties<'_, S>,
@@ -180,7 +180,7 @@ fn told<S: Sample>(
 }
 
 impl Place {
-    // The text of the place, once the state has come there.
+    // The text of the properties at the place, once the state is there.
     fn told_at<S: Sample>(
         &self,
         alloc: Global,
@@ -196,7 +196,7 @@ impl Place {
         told(alloc, &state.properties::<true>(store), below, corrects)
     }
 
-    // The same of a place that is away from every edge but the last row, without a look at edges.
+    // The same at a place that is inside, by `properties` without edges.
     fn told_inside<S: Sample>(
         &self,
         alloc: Global,
@@ -216,7 +216,7 @@ impl Place {
     }
 }
 
-/// Stands at each place of a table in turn, and compares what is told there.
+/// Goes to each cell of a table in turn, and compares what is expected there.
 pub fn check<S: Sample>(rt: &impl Abort, alloc: Global, table: &str) -> Result<(), Fail> {
     let mut state = PredictorState::<S>::new(alloc);
     for line in table.lines() {
@@ -251,8 +251,8 @@ fn check_place<S: Sample>(
     Ok(())
 }
 
-/// Stands at each place of a table in turn, and compares the weighted prediction: in eighths before its clamp and after it, property 15,
-/// and the sample.
+/// Goes to each cell of a table in turn, and compares the weighted prediction: in eighths before its clamp and after
+/// it, property 15, and the sample.
 pub fn check_eighths<S: Sample>(rt: &impl Abort, alloc: Global, table: &str) -> Result<(), Fail> {
     let mut state = PredictorState::<S>::new(alloc);
     for line in table.lines() {

@@ -1,4 +1,4 @@
-// Predictors by number, weights, and places that a state with room comes to.
+// Predictors by number, weights, and cells that a state with room comes to.
 
 use crate::places::{check, check_eighths};
 use crate::text::bytes;
@@ -56,8 +56,8 @@ fn told(alloc: Global, header: &WpHeader) -> Result<String, Fail> {
 
 const DEFAULT: &str = "true 16 10 7 7 7 0 0 13 12 12 12";
 
-// Bytes, and what is read of them: weights or an error, and the reader's position. Default weights, listed ones, and those truncated in
-// the sixth number and in the flag.
+// Bytes, and what is read of them: weights or an error, and the reader's position. Default weights, listed ones, and
+// those truncated in the sixth number and in the flag.
 const HEADERS: &str = "01|true 16 10 7 7 7 0 0 13 12 12 12 @1
 7e108314f38709|false 31 1 2 3 4 5 6 15 7 8 9 @52
 7e108314|bitstream error: unexpected end of input @31
@@ -90,7 +90,7 @@ fn weights(rt: HostRuntime) -> Result<(), Fail> {
     Ok(())
 }
 
-// Averages round toward zero, also below it: all neighbours are -1, and -3 is left of a place below 0.
+// Averages round toward zero, also below it: all neighbours are -1, and -3 is left of a cell below 0.
 const AVERAGES: &str =
     "5||-1 -1 -1 -1 -1 -1 -1 -1 -1 -1 -1 -1||:2 2 1 1 -1 -1 0 -1 0 0 0 0 0 0 0 0 0 0 | 0 -1 -1 -1 -1 -1 -1 -1 -1 -1 -1 -1 0
 2||0 0 -3||:1 1 0 3 0 -3 -3 -3 -3 0 0 0 0 0 0 0 0 0 | 0 -3 0 -1 -3 -3 0 0 -3 -1 0 0 -1";
@@ -101,9 +101,9 @@ fn averages(rt: HostRuntime) -> Result<(), Fail> {
     check::<i16>(&rt, rt.alloc(), AVERAGES)
 }
 
-// A line has a place as in the table of places, and behind a colon the weighted prediction in eighths before its clamp and after it,
-// property 15, and the sample. First comes a worked place, with weights and without; the places from the fourth on were drawn at random,
-// from seed 7. All were computed from the format's definitions.
+// A line has a cell as in the table of cells, and after a colon the weighted prediction in eighths before its clamp
+// and after it, property 15, and the sample. First comes a worked cell, with weights and without; the cells from the
+// fourth on were generated, from seed 7. All were computed from the format's definitions.
 const EIGHTHS: &str = "3|01|1||:10 8 -8 1
 3||1||:0 0 0 0
 3|01|||:0 0 0 0
@@ -123,7 +123,7 @@ fn clamps(rt: HostRuntime) -> Result<(), Fail> {
     check_eighths::<i32>(&rt, rt.alloc(), EIGHTHS)
 }
 
-// Width 3 and the default weights, in a state with more room: the place after a sample of 1.
+// Width 3 and the default weights, in a state with more room: the cell after a sample of 1.
 #[test]
 fn a_state_with_more_room(rt: HostRuntime) -> Result<(), Fail> {
     let header = WpHeader::default();
@@ -142,7 +142,8 @@ fn a_state_with_more_room(rt: HostRuntime) -> Result<(), Fail> {
     Ok(())
 }
 
-// After a channel of width 3 one of width 4, beside an earlier one whose first cell is -5: nothing of the first is left.
+// After a channel of width 3 one of width 4, beside an earlier one whose first cell is -5: nothing of the first is
+// left.
 #[test]
 fn another_channel(rt: HostRuntime) -> Result<(), Fail> {
     let header = WpHeader::default();

@@ -1,8 +1,8 @@
-//! Properties as a test tells them.
+//! Properties as a test gives them.
 
 use jxlm_tree::flat::PlaceProperties;
 
-/// Properties of a place, from property 2 on; those after the last are 0.
+/// Properties of a cell, from property 2 on; those after the last are 0.
 #[derive(Clone, Copy)]
 pub struct Told<'a> {
     /// The properties.

@@ -1,4 +1,5 @@
-// Small trees, whole and with errors, and the deepest ones. What is told of them was computed from the format's definitions.
+// Small trees, whole and with errors, and the deepest ones. What is expected of them was computed from the format's
+// definitions.
 
 use crate::told::Told;
 use crate::trees::{check, read_tree};
@@ -11,9 +12,10 @@ use jxlm_tree::ma::{
 };
 use std::test::Fail;
 
-// Leaves: of two streams; West of cluster 1, then truncated in its predictor, in its offset and at the start; with the multipliers 2^30
-// and 2^31 - 1, each then one more, and 2^31; in a tree whose only token is a decision; of predictor 14. Then three nodes under several
-// limits, once truncated in the third; and seven nodes: property 3, then 17 and 1.
+// Leaves: of two streams; West of cluster 1, then truncated in its predictor, in its offset and at the start; with
+// the multipliers 2^30 and 2^31 - 1, each then one more, and 2^31; in a tree whose only token is a decision; of
+// predictor 14. Then three nodes under several limits, once truncated in the third; and seven nodes: property 3, then
+// 17 and 1.
 const TREES: &str =
     "4 0 0|42000400040e05c02006|1 nodes, depth 0 @68|0 0 0:=0 Gradient 0 1 1 @71;0 0 0:=0 Gradient 0 1 2 @74;0 0 0:=0 Gradient 0 1 -1 @77;0 0 0:=0 Gradient 0 1 0 @80
 4 0 0|8200408004123a084061|1 nodes, depth 0 @79|0 0 0:=0 Zero 5 2 1 @79
@@ -78,8 +80,8 @@ fn set(bytes: &mut [u8; 1546], place: usize) {
     }
 }
 
-// A chain of decisions on property 0, each the right child of the one before. A node is one bit, and all else is constant; the last
-// leaf has a cluster of its own.
+// A chain of decisions on property 0, each the right child of the one before. A node is one bit, and all else is
+// constant; the last leaf has a cluster of its own.
 fn chain(depth: u16) -> [u8; 1546] {
     let depth = usize::from(depth);
     let mut bytes = [0; 1546];

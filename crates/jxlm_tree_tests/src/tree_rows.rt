@@ -1,5 +1,5 @@
-// Trees, some of them damaged, and walks through them. They were drawn at random, from seeds 1 to 303, and what is told of them was
-// computed by a program of its own, from the format's definitions.
+// Trees, some of them damaged, and walks through them. They were generated, from seeds 1 to 303, and what is expected
+// of them was computed by an independent program, from the format's definitions.
 
 use crate::trees::check;
 use jxlm_base::plain::PlainDecoder;
@@ -108,8 +108,8 @@ const TREES: &str =
 4 1048576 2048|92440044188006070000002c0000003c00000070000000f0000000c0ffffffdf03000080180000000f000000fcffffff010000003014600810c00300000016000000000000000c0102780000003002000000000000800100000040000f000000c8000000000000003014600000000000000000c0030000003c000000000000000c0300000000300cf0000000200b0000c00300008010000000000000000c05180a3004000000001080a1021fb626915636cc201006218981182004c100906360e401|23 nodes, depth 6 @1538|5 1 0:0 -2147483648 15 20 16 -3 0 0 -17 -1 -2147483648 0 55=9 SelfCorrecting 0 1 -1 @1540;1 2147483648 0:-1 1 -1 0 12 -2147483648 0 -2147483648 18 -1 0 -1 -13=6 SelfCorrecting 0 1 15 @1548
 4 100 3|e208884420081241fef37e00300000e401000000c00000000300400000680400|7 nodes, depth 3 @248|4294967295 5 0:0 0 0 0 0 1 1 1 -2147483648 2147483647 1 -1 223=0 SelfCorrecting 0 1 -1 @256;0 2147483648 1:-2147483648 -2147483648 -1 2147483647 -2147483648 2147483647 1 2147483647 2147483647 -17 1 -6 227=0 SelfCorrecting 0 1 -1 @256;0 5 9:0 -13 1 2147483647 2147483647 1 1 -1 0 -2147483648 -1 -2147483648 5=0 AvgWestAndNorth 0 1 -1 @256;1 5 9:0 2147483647 0 -1 0 9 -4 0 -2147483648 2 -2147483648 0 -5=0 AvgWestAndNorth 0 1 -1 @256;5 2147483648 1:1 6 1 -15 -1 2147483647 -4 2147483647 -1 -2147483648 -1 2147483647=0 AvgWestAndNorth 0 1 -1 @256";
 
-// Three nodes within their limits, above the limit of nodes, and above that of depth; nine nodes on property 9, with the cuts 5, 7, 10
-// and 3; a cut that no value is above, and one that all others are above.
+// Three nodes within their limits, above the limit of nodes, and above that of depth; nine nodes on property 9, with
+// the decision values 5, 7, 10 and 3; a decision value that no property is above, and one that all others are above.
 const WORKED: &str =
     "0 2 1|000000008200020000000000400c01|3 nodes, depth 1 @106|0 0 0:0 1=0 West 0 1 -2 @110;0 0 0:0 0=0 Zero 0 1 2 @114
 0 1 1|000000008200020000000000400c01|bitstream error: MA tree limit exceeded @65

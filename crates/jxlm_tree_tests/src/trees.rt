@@ -48,8 +48,8 @@ pub fn check<D: Decoder>(rt: &impl Abort, alloc: Global, table: &str) -> Result<
     Ok(())
 }
 
-/// Reads the tree after n bits under these limits, and compares what is told of it: how large it is, or its error, and the reader's
-/// position then.
+/// Reads the tree after n bits under these limits, and compares what is expected of it: how large it is, or its
+/// error, and the reader's position then.
 pub fn read_tree<D: Decoder>(
     rt: &impl Abort,
     alloc: Global,
@@ -75,7 +75,7 @@ pub fn read_tree<D: Decoder>(
     Ok(parsed.ok())
 }
 
-// Reads one token for each of the walks, which have semicolons behind them.
+// Reads one token for each of the walks, which have semicolons after them.
 fn walk_all<D: Decoder>(
     rt: &impl Abort,
     alloc: Global,
@@ -91,8 +91,8 @@ fn walk_all<D: Decoder>(
     Ok(())
 }
 
-// Walks by a channel, a stream, a count of earlier channels and, behind a colon, the properties from 2 on; and compares, behind an
-// equals sign, the leaf, the sample before its prediction and where the reader then stands.
+// Walks by a channel, a stream, a count of earlier channels and, after a colon, the properties from 2 on; and
+// compares, after an equals sign, the leaf, the sample before its prediction and the reader's position then.
 fn walk_once<D: Decoder>(
     rt: &impl Abort,
     alloc: Global,

@@ -12,7 +12,7 @@ use Rattle.jxlmod.specs.Printing.{line, row_text, rows_text, channel_text, image
 flat_map-push : {X : Type 0} (f : X → List ℕ) (xs : List X) (x : X) → flat_map f (xs ++ x ∷ []) ≡ flat_map f xs ++ f x
 flat_map-push f xs x = flat_map-append f xs (x ∷ []) ∙ ap (λ bs. flat_map f xs ++ bs) (append-nil (f x))
 
--- what is joined is the first piece, and then the others, each behind the byte
+-- what is joined is the first piece, and then the others, each after the byte
 join_with_byte-cons : {X : Type 0} (c : ℕ) (f : X → List ℕ) (x : X) (xs : List X) → join_with_byte c (map f (x ∷ xs)) ≡ f x ++ flat_map (λ y. c ∷ f y) xs
 join_with_byte-cons c f x [] = sym (append-nil (f x))
 join_with_byte-cons c f x (y ∷ ys) = ap (λ bs. f x ++ (c ∷ bs)) (join_with_byte-cons c f y ys)
@@ -21,7 +21,7 @@ pub row_text-cons : {X : Type 0} (number : X → ℤ) (x : X) (xs : List X) → 
 row_text-cons number x xs =
     ap (λ ts. join_with_byte 32 ts) (map-map signed_decimal number (x ∷ xs)) ∙ join_with_byte-cons 32 (λ y. signed_decimal (number y)) x xs
 
--- a row whose first number is printed, then each other behind a space, then the end of the line
+-- a row whose first number is printed, then each other after a space, then the end of the line
 pub row_printed : {X : Type 0} (number : X → ℤ) (row : List X) (x : X) (rest : List X) (i : ℕ) (before begun so_far after : List ℕ) → row ≡ x ∷ rest → length rest ≤ i → begun ≡ before ++ signed_decimal (number x) → so_far ≡ begun ++ flat_map (λ y. 32 ∷ signed_decimal (number y)) (take i rest) → after ≡ so_far ++ 10 ∷ [] → after ≡ before ++ line (row_text (map number row))
 row_printed number row x rest i before begun so_far after cut all e f g =
     let numbers = signed_decimal (number x) in

@@ -10,7 +10,7 @@ IsOfDigits text = EachIndex text (λ k. IsInRange 48 57 (slice_index text k))
 abbrev pub IsDecimal : List ℕ → Type 0
 IsDecimal text = (0 < length text) × IsOfDigits text
 
--- what digits write together: the sum of each digit times ten to the power of how many digits stand behind it
+-- what digits write together: the sum of each digit times ten to the power of how many digits come after it
 abbrev pub decimal_value : List ℕ → ℕ
 decimal_value [] = 0
 decimal_value (c ∷ cs) = (c - 48) * 10 ^ length cs + decimal_value cs

@@ -3,7 +3,7 @@ ghost use Rattle.std.specs.Prelude.{◌≡◌, ◌<◌, ◌↔◌, ◌^◌, IsTr
 ghost use Rattle.std.specs.Option.{SomeIff};
 ghost use Rattle.jxlmod.specs.Decimals.{IsDecimal, IsOfDigits, decimal_value};
 
-/// What wrong arguments are answered with.
+/// What is printed for wrong arguments.
 pub const USAGE: &str =
     "usage: jxlmod decode W H N BITS i16|i32 | jxlmod sections W H N BITS i16|i32 GROUP_DIM";
 

@@ -17,11 +17,11 @@ use jxlm_transform::param::{ModularChannelParams, ModularParams};
 use jxlm_tree::flat::Steps;
 use std::alloc::Global;
 
-/// The side of a group of the pictures that are drawn.
+/// The side of a group of the pictures that are printed.
 const GROUP_DIM: u32 = 256;
 
-/// Draws the picture that stands at the start of the bytes: a header and the samples of one part, in
-/// the format of the plain decoder.
+/// Makes the text of the picture that stands at the start of the bytes: a header and the samples of
+/// one part, in the format of the plain decoder.
 #[derive(Clone, Copy)]
 pub struct PartDrawer;
 
@@ -43,7 +43,7 @@ impl Draw for PartDrawer {
     }
 }
 
-/// So many channels of these sides and of shift 0.
+/// `count` channels of these sides and of shift 0.
 fn channel_list(
     alloc: Global,
     width: u32,
@@ -56,7 +56,7 @@ fn channel_list(
     Ok(vec![in alloc; channel; count as usize]?)
 }
 
-/// The text of the picture of so many channels of these sides.
+/// The text of the picture of `channels` channels of these sides.
 fn picture<S: Sample>(
     alloc: Global,
     bytes: &[u8],

@@ -22,9 +22,9 @@ use std::io::{ErrorKind, Read, Write};
 pub enum Failure {
     /// The arguments ask for nothing that the program does.
     WrongArguments,
-    /// The input cannot be read, or there is no memory for it.
+    /// The input cannot be read, or it is out of memory for it.
     Unreadable,
-    /// The image is refused.
+    /// The image gives this error.
     Refused(Error),
     /// The output cannot be written.
     Unwritable,
@@ -42,7 +42,7 @@ impl From<Error> for Failure {
 
 /// What makes the text of an image from the bytes of the input.
 pub trait Draw {
-    // what may be answered for the bytes and the command: a text or a fault
+    // what may be returned for the bytes and the command: a text or an error
     ghost answers: { List ℕ → Command → Result (List ℕ) Error → Type 0 };
 
     /// The text of the image that the command asks for, which has a channel.
@@ -55,7 +55,7 @@ pub trait Draw {
 }
 
 /// Carries out what the words ask for, which are the arguments without the program's name, and
-/// answers the status to end with: 0 where it is done, 1 where it fails, and 2 where the words are
+/// returns the status to end with: 0 where it is done, 1 where it fails, and 2 where the words are
 /// wrong, and then nothing is read. The drawer makes the text of the image from the bytes of the
 /// input. The output gets that text alone and `faults` a line on what failed, each as far as it can
 /// be written. An image of no channels is nothing: no stream is touched.
@@ -77,14 +77,14 @@ pub fn run_with<R: Read, W: Write, E: Write, D: Draw>(
     ensures nothing { (c : Command) → AreFor (map string_bytes words.now) c → channels_of c ≡ 0
         → (result ≡ 0) × (input.new ≡ input.old) × (output.new ≡ output.old) × (faults.new ≡ faults.old) }
 
-    // Done: the output has the text that was drawn of all the input, and no fault is told.
+    // Done: the output has the text that was made of all the input, and no error is printed.
     ensures done { result ≡ 0 → (c : Command) → AreFor (map string_bytes words.now) c → 0 < channels_of c
         → IsDrawn (λ bytes text. D.answers bytes c (Ok text))
         (R.remaining input.old) (R.remaining input.new) (W.contents output.old) (W.contents output.new) }
     ensures quiet { result ≡ 0 → faults.new ≡ faults.old }
 
-    // An error, for a command with channels alone: it is told, and the output stays; or the output cannot be written, and
-    // nothing is told. Of the input nothing is lost.
+    // An error, for a command with channels alone: it is printed, and the output stays; or the output cannot be
+    // written, and nothing is printed. Of the input nothing is lost.
     ensures failed { result ≡ 1 → (output.new ≡ output.old) ⊎ (faults.new ≡ faults.old) }
     ensures asked { result ≡ 1
         → IsPartlyRead (AreFor (map string_bytes words.now)) (R.remaining input.old) (R.remaining input.new) }
@@ -121,11 +121,13 @@ pub fn run<R: Read, W: Write, E: Write>(
     run_with(alloc, words, input, output, faults, &PartDrawer)
 }
 
-/// Carries out what the words ask for, as `run_with` does, and answers why it was not done.
+/// Carries out what the words ask for, as `run_with` does, and returns why it was not done.
 ///
-/// Wrong words are answered before the input is read. That the input cannot be read shows only for a
-/// command with channels. An image is refused by what the drawer answers for all the bytes of the
-/// input, and the output stays then; that it cannot be written shows only when a text was drawn.
+/// # Errors
+///
+/// `WrongArguments` comes before the input is read. `Unreadable` shows only for a command with
+/// channels. `Refused` is the error that the drawer returns for all the bytes of the input, and the
+/// output stays then; `Unwritable` shows only when a text was made.
 pub fn carry_out<R: Read, W: Write, D: Draw>(
     alloc: Global,
     words: &[String],
@@ -174,7 +176,7 @@ fn write_text<W: Write>(output: &mut W, text: &str) -> Result<(), Failure>
     Ok(())
 }
 
-/// Writes the line of a failure, as far as it can be written, and answers the status to end with.
+/// Writes the line of a failure, as far as it can be written, and returns the status to end with.
 /// Of output that cannot be written nothing is said.
 pub fn report<E: Write>(faults: &mut E, failure: Failure) -> u8
     ensures status { result ≡ status_of failure }
@@ -193,7 +195,7 @@ pub fn report<E: Write>(faults: &mut E, failure: Failure) -> u8
 }
 
 /// The words of the arguments: all but the first, which is the program's name. Arguments that are
-/// not text are wrong ones; where there is no memory for them, there is none to read the input.
+/// not text are wrong ones; where it is out of memory for them, the input cannot be read either.
 pub fn words_of(alloc: Global, arguments: io::Result<Args>) -> Result<Vec<String>, Failure>
     ensures ok { IfOk result (λ words. IsOkAnd arguments (λ all. words.items ≡ drop 1 (into_iter_items all))) }
     ensures wrong { IsErrOf result Failure.WrongArguments ↔ IsErrAnd arguments (λ e. error_kind e ≢ ErrorKind.OutOfMemory) }

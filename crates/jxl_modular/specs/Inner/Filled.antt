@@ -10,13 +10,14 @@ use Rattle.jxlm_part.specs.Decode.{Fails}
 use Rattle.jxl_modular.specs.Image.{Image, IsOnlyImage, coded_grids, cost_of, image_grids, whole_part}
 
 module _ {S D : Type 0} (d : Meaning D) (w : Width) (to_int : S → ℤ) (bytes : List ℕ) (stream : ℕ) (old : Image S D) (p : ℕ) where
-  -- Some samples are coded whole from place p up to place q, and the new image's channels are the only ones that the transforms turn into them.
+  -- Some samples are coded whole from position p up to position q, and the new image's channels are the only ones
+  -- that the transforms turn into them.
   pub record IsFilled (new : Image S D) (q : ℕ) : Type 0 where
     pub samples : List (Grid ℤ)
     pub coded : IsCodedWhole d w (whole_part old stream) bytes old.config.decoder p samples q
     pub only : IsOnlyImage w old (image_grids to_int new) samples
 
-  -- decoding the samples from place p is this error, which leaves the reader at place q
+  -- decoding the samples from position p is this error, which leaves the reader at position q
   pub record FillFails (fault : Fault) (q before after : ℕ) : Type 0 where
     pub error : DecoderError
     pub left : List (Grid ℤ)

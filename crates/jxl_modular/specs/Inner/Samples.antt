@@ -19,7 +19,8 @@ module _ {S D : Type 0} (d : Meaning D) (w : Width) (to_int : S → ℤ) (bytes 
   abbrev pub DecodesSamples : Type 0
   DecodesSamples = IsCodedToTheEnd d w (whole_part old stream) bytes old.config.decoder p (coded_grids to_int new) q × Fits (channels_of old.channels) (coded_grids to_int new)
 
-  -- The decoder refuses at one of begin, a read, or the end; each read that was tried took at most as many steps as the tree's depth and one more.
+  -- The decoder returns an error at one of begin, a read, or the end; each read that was tried took at most as many
+  -- steps as the tree's depth and one more.
   abbrev pub FailsAtOnePlace : ℕ → ℕ → DecoderError → Type 0
   FailsAtOnePlace before after e = (partial : Bool) → 0 < samples_in old →
       (tried : ℕ) × Fails d w (whole_part old stream) bytes old.config.decoder (record { position = p; grids = coded_grids to_int old; partial = partial }) (record { position = q; grids = coded_grids to_int new; partial = partial }) e tried × (after ≤ before + tried * cost_of old)
@@ -28,7 +29,7 @@ module _ {S D : Type 0} (d : Meaning D) (w : Width) (to_int : S → ℤ) (bytes 
   abbrev pub StaysAsBefore : ℕ → ℕ → Type 0
   StaysAsBefore before after = (new ≡ old) × (q ≡ p) × (after ≡ before)
 
-  -- The decoder refuses, or there was no memory.
+  -- The decoder returns an error, or it is out of memory.
   abbrev pub RefusesSamples : ℕ → ℕ → Error → Type 0
   RefusesSamples before after (Decoder UnexpectedEof) = FailsAtOnePlace before after UnexpectedEof
   RefusesSamples before after (Decoder (Invalid k)) = FailsAtOnePlace before after (Invalid k)
@@ -36,7 +37,8 @@ module _ {S D : Type 0} (d : Meaning D) (w : Width) (to_int : S → ℤ) (bytes 
   RefusesSamples before after (Buffer m) = StaysAsBefore before after
   RefusesSamples before after e = ⊥
 
--- What is made ready for the samples of an image: its decoder, its tree for each channel, and a state with room for them.
+-- What is made ready for the samples of an image: its decoder, its tree for each channel, and a state with room for
+-- them.
 pub record IsReadyFor {S D : Type 0} (image : Image S D) (stream : ℕ) (r : Ready S D) : Type 0 where
   pub decoder_is : r.decoder ≡ image.config.decoder
   pub flats_are : HasFlats image.config.tree stream (length image.channels) r.flats.items

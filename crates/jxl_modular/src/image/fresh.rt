@@ -20,7 +20,7 @@ use jxlm_transform::transform::TransformInfo;
 use jxlm_tree::ma::MaConfig;
 use std::alloc::Global;
 
-/// For each channel a grid of its size, whose cells are 0. It is refused for want of memory alone.
+/// For each channel a grid of its size, whose cells are 0. Out of memory is its only error.
 fn zero_grids<S: Sample>(
     alloc: Global,
     channels: &[ModularChannelInfo],
@@ -36,7 +36,8 @@ fn zero_grids<S: Sample>(
     Ok(grids)
 }
 
-/// Adds a grid for the table of a palette, whose cells are 0; other transforms have none. It is refused for want of memory alone.
+/// Adds a grid for the table of a palette, whose cells are 0; other transforms have none. Out of memory is its only
+/// error.
 fn add_table<S: Sample>(
     alloc: Global,
     grids: &mut Vec<AlignedGrid<S>>,
@@ -52,7 +53,7 @@ fn add_table<S: Sample>(
     Ok(())
 }
 
-/// The grids, and behind them one for the table of each palette, whose cells are 0. It is refused for want of memory alone.
+/// The grids, and after them one for the table of each palette, whose cells are 0. Out of memory is its only error.
 fn with_tables<S: Sample>(
     alloc: Global,
     mut grids: Vec<AlignedGrid<S>>,
@@ -80,8 +81,8 @@ impl<S: Sample, D: Decoder> ModularImageDestination<S, D> {
 
     /// An image of these channels, whose coded channels are those that the transforms of its header
     /// leave, each in its region. All cells are 0. No side is above 2^30, at most 65536 channels are
-    /// coded, and weights and palettes are those of a header that was read. It is refused for want of
-    /// memory alone.
+    /// coded, and weights and palettes are those of a header that was read. Out of memory is its only
+    /// error.
     pub(crate) fn new(
         alloc: Global,
         header: ModularHeader,

@@ -6,7 +6,8 @@ use Rattle.jxlm_base.specs.Grid.{Grid, at, meanings}
 use Rattle.jxlm_base.specs.Squeeze.{tendency, averages}
 
 module _ (w : Width) where
-  -- of a pair: its difference, from the sample before it, its average, the next average and its residual; and its samples
+  -- of a pair: its difference, from the sample before it, its average, the next average and its residual; and its
+  -- samples
   abbrev pub pair_difference : ℤ → ℤ → ℤ → ℤ → ℤ
   pair_difference before m next r = int_wrap w (r +ℤ tendency before m next)
 

@@ -8,7 +8,7 @@ use Rattle.jxlm_tests.specs.Bytewise.{bytewise}
 same : (s : List ℕ) → Keeps bytewise s s
 same s = record { clusters = refl; single = λ c within. refl; rle = refl }
 
--- a read that answered left the state
+-- a read that is Ok left the state
 kept : (s : List ℕ) (cut : Bool) (x y : Taken (List ℕ)) → y.state ≡ s → cond cut (Err UnexpectedEof) (Ok y) ≡ Ok x → x.state ≡ s
 kept s true x y e h = cc
 kept s false x y e h = let g : x ≡ y = cc in rw g e

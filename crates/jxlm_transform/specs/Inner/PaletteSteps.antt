@@ -23,8 +23,8 @@ IsSimpleRow t index y = (x : ℕ) → x < index.width → IsSimpleIndex t (at in
 abbrev pub IsSimple : Palette → Grid ℤ → Type 0
 IsSimple t index = (y : ℕ) → y < index.height → IsSimpleRow t index y
 
--- The channel's regions lie in the store. The samples take none of the table's cells; of the indices' they take all, each its own, or
--- none.
+-- The channel's regions lie in the store. The samples take none of the table's cells; of the indices' cells they take
+-- all, each its own, or none.
 pub record ChannelLies {S : Type 0} (t : Palette) (p : FinishedChannel) (store : List (Grid S)) : Type 0 where
   pub table_lies : Lies p.table store
   pub index_lies : Lies p.index store
@@ -42,7 +42,7 @@ pub record SetsSample {S : Type 0} (to_int : S → ℤ) (p : FinishedChannel) (x
   pub sample_is : to_int sample ≡ z
   pub written : new ≡ with_region_cell old p.target x y sample
 
--- the table is as it was, and so are the indices from place k on
+-- the table is as it was, and so are the indices from cell k on
 pub record Ahead (p : FinishedChannel) (k : ℕ) (table index : Grid ℤ) (ints : List (Grid ℤ)) : Type 0 where
   pub table_is : grid_of ints p.table ≡ table
   pub indices : (i : ℕ) → k ≤ i → get_or (grid_of ints p.index).cells i (pos 0) ≡ get_or index.cells i (pos 0)
@@ -65,11 +65,11 @@ module _ (w : Width) (depth : ℕ) (t : Palette) (p : FinishedChannel) where
     pub ahead : Ahead p k table index ints
     pub as_wide : index.width ≡ p.index.width
 
-  -- Whatever the table and the indices were: where the samples had come to one place, they have come to the other.
+  -- Whatever the table and the indices were: where the first `from` samples were finished, the first `to` are now.
   abbrev pub FillsOn : ℕ → ℕ → List (Grid ℤ) → List (Grid ℤ) → Type 0
   FillsOn from to old new = (table index : Grid ℤ) → Filled table index from old → Filled table index to new
 
-  -- the same, with a state that stands behind the samples
+  -- the same, with a state that is at the cell after the samples
   abbrev pub FillsOnBy : {S : Type 0} → ℕ → ℕ → List (Grid ℤ) → PredictorState S → List (Grid ℤ) → PredictorState S → Type 0
   FillsOnBy from to old state new state' = (table index : Grid ℤ) → Filled table index from old →
       StandsAt state (setting p.index.width t.wp_header []) (finished_samples w depth t table index p.number from) →
@@ -79,13 +79,13 @@ module _ (w : Width) (depth : ℕ) (t : Palette) (p : FinishedChannel) where
 abbrev pub looked_up : Grid ℤ → ℤ → ℕ → ℤ
 looked_up table i c = at table (unsigned_abs i) c
 
--- the state stands behind so many samples of a channel of this width, with the palette's weights
+-- the state is at the cell after k samples of a channel of this width, with the palette's weights
 pub record StandsBefore {S : Type 0} (t : Palette) (width k : ℕ) (state : PredictorState S) : Type 0 where
   pub before : List ℤ
   pub count : length before ≡ k
   pub stands : StandsAt state (setting width t.wp_header []) before
 
--- the channels from number `left` on are finished, and what the others want is as it was
+-- the channels from number `left` on are finished, and what the others need is as it was
 pub record ChannelsDone {S : Type 0} (to_int : S → ℤ) (w : Width) (depth : ℕ) (t : Palette) (table index : Region) (finished : List Region) (left : ℕ) (old new : List (Grid S)) : Type 0 where
   pub within : left ≤ length finished
   pub keeps : KeepsOutside finished old new

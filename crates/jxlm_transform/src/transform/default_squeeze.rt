@@ -1,4 +1,4 @@
-//! The squeeze that stands where a header lists no steps.
+//! The squeeze of a header that lists no steps (ISO/IEC 18181-1, Modular: default squeeze).
 
 ghost use Rattle.std.specs.Prelude.{◌≡◌, ◌+◌, ◌^◌, ◌<◌, ◌&&◌, ◌++◌, ◌∷◌, [], nat_le, nat_lt, length, map, take, if◌then◌else◌, IfOk};
 ghost use Rattle.std.specs.Int.{div_ceil};
@@ -39,7 +39,7 @@ fn step_of_chroma(first: usize, horizontal: bool) -> SqueezeParams
     }
 }
 
-/// Adds the step where the side is not small, and gives what the step leaves of the side.
+/// Adds the step where the side is not small, and returns what the step leaves of the side.
 fn add_halving(
     steps: &mut Vec<SqueezeParams>,
     step: SqueezeParams,
@@ -72,7 +72,7 @@ fn add_in_turn(
     Ok(())
 }
 
-/// Adds the squeezes of all channels, the first of these sides: the greater side first.
+/// Adds the squeezes of all channels, the first of these sides: the longer side first.
 fn add_all(
     steps: &mut Vec<SqueezeParams>,
     first: usize,
@@ -125,8 +125,8 @@ impl Squeeze {
     ///
     /// # Errors
     ///
-    /// `InvalidSqueezeParams` where no step is listed and all channels are meta channels; `Buffer`
-    /// where it is out of memory. After an error nothing is said of the steps.
+    /// `InvalidSqueezeParams` if no step is listed and all channels are meta channels; `Buffer`
+    /// if it is out of memory. After an error nothing is said of the steps.
     pub fn set_default_params(&mut self, channels: &ModularChannels) -> Result<()>
         requires { HasItsMeta (list_of channels.now) }
         ensures { StepsGive (steps_of_squeeze self.old.sp.items (list_of channels.now)) result self.new.sp.items }

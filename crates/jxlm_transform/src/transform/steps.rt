@@ -1,4 +1,5 @@
-//! What transforms do to the list of an image's channels.
+//! What transforms do to the list of an image's channels (ISO/IEC 18181-1, Modular: the channels after each
+//! transform).
 
 ghost use Rattle.std.specs.Prelude.{◌≡◌, ◌≤◌, ◌+◌, ◌++◌, ◌&&◌, nat_le, length, map, IsTrue, IfOk, IfErr};
 ghost use Rattle.std.specs.List.{All, list_all};
@@ -51,12 +52,12 @@ fn keeps_meta(begin: usize, count: usize, nb_meta: usize) -> bool
 }
 
 impl Rct {
-    /// Whether the transform suits the channels: three of them stand from its first on, of one size.
+    /// Whether the transform suits the channels: from its first channel on there are three, of one size.
     /// The list stays as it is.
     ///
     /// # Errors
     ///
-    /// `InvalidRctParams` where they are not there, or differ in size.
+    /// `InvalidRctParams` if they are not there, or differ in size.
     pub fn transform_channel_info(&self, channels: &ModularChannels) -> Result<()>
         ensures { ListIs (rct_step self.now (list_of channels.now)) result (list_of channels.now) }
     {
@@ -69,13 +70,13 @@ impl Rct {
 }
 
 impl Palette {
-    /// Puts the table first, and one channel of indices in the place of the range, which has a
-    /// channel at least. The table is a meta channel, and so are the indices of meta channels.
+    /// Puts the table first, and one channel of indices instead of the range, which has at least
+    /// one channel. The table is a meta channel, and so are the indices of meta channels.
     ///
     /// # Errors
     ///
-    /// `InvalidPaletteParams` where the range is not there, its channels differ in size, or it
-    /// begins among the meta channels and does not end there; `Buffer` where it is out of memory.
+    /// `InvalidPaletteParams` if the range is not there, its channels differ in size, or it
+    /// begins among the meta channels and does not end there; `Buffer` if it is out of memory.
     /// After an error the list is as before.
     pub fn transform_channel_info(
         &self,
@@ -185,15 +186,15 @@ impl SqueezeParams {
         self.put_halves(channels, &averages, residuals)
     }
 
-    /// Halves the channels of the range along one side. Averages stand in their place, residuals
+    /// Halves the channels of the range along one side. Averages take their place, residuals come
     /// right after the range (`in_place`) or at the end of the list. The shift of that side grows
     /// by one in both where it is 0 or more. What becomes of meta channels is a meta channel.
     ///
     /// # Errors
     ///
-    /// `InvalidSqueezeParams` where the range is not there; where it begins among the meta channels
-    /// and does not end there, or is not squeezed in place; and where a channel of it has a side of
-    /// 0 or a shift above 30. `Buffer` where it is out of memory. After an error the list is as
+    /// `InvalidSqueezeParams` if the range is not there; if it begins among the meta channels
+    /// and does not end there, or is not squeezed in place; and if a channel of it has a side of
+    /// 0 or a shift above 30. `Buffer` if it is out of memory. After an error the list is as
     /// before.
     pub fn transform_channel_info(
         &self,
@@ -240,15 +241,15 @@ impl Squeeze {
 }
 
 impl TransformInfo {
-    /// Applies the transform to the channels of an image. A palette has a channel at least. A
+    /// Applies the transform to the channels of an image. A palette has at least one channel. A
     /// squeeze that lists no steps lists the default ones from then on, which are those of this
     /// list.
     ///
     /// # Errors
     ///
-    /// `InvalidRctParams`, `InvalidPaletteParams` or `InvalidSqueezeParams`, by its kind, where it
-    /// does not suit the channels; the default squeeze where no channel is left for it. `Buffer`
-    /// where it is out of memory. After an error nothing is said of the transform and the list, but
+    /// `InvalidRctParams`, `InvalidPaletteParams` or `InvalidSqueezeParams`, by its kind, if it
+    /// does not suit the channels; the default squeeze if no channel is left for it. `Buffer`
+    /// if it is out of memory. After an error nothing is said of the transform and the list, but
     /// that they may be dropped.
     pub fn prepare_transform_info(
         &mut self,

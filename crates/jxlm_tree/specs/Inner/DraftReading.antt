@@ -1,4 +1,4 @@
--- What the steps of reading a tree answer.
+-- What the steps of reading a tree return.
 use Rattle.std.specs.Prelude.{◌≡◌, ◌⊎◌, ℕ, zero, suc, ◌+◌, ◌<◌, ◌≤◌, ◌^◌, FitsSigned, List, [], ◌∷◌, Some, Result, Ok, Err}
 use Rattle.std.specs.Int.{w32}
 use Rattle.jxlm_base.specs.Decoding.{Found}
@@ -45,7 +45,7 @@ ListsTrees (suc m) [] = ⊥
 ListsTrees (suc m) (leaf_node l ∷ ns) = ListsTrees m ns
 ListsTrees (suc m) (decision_node property value ∷ ns) = ListsTrees (m + 2) ns
 
--- what was answered, seen by view, with the decoder's state t and the reader at q, is what reading gives
+-- what was returned, seen by view, with the decoder's state t and the reader at q, is what reading gives
 abbrev pub DrawnGives : {X Y S : Type 0} → (X → Y) → Result X Error → S → ℕ → Result (Drawn Y S) Refused → Type 0
 DrawnGives view (Ok x) t q reading = reading ≡ Ok (record { value = view x; state = t; position = q })
 DrawnGives view (Err e) t q reading = reading ≡ Err (record { fault = fault_of e; position = Some q })

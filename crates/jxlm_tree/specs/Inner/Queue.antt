@@ -1,22 +1,23 @@
--- How a tree comes from the end of its listing by a queue: a leaf goes to the back, and a decision takes its right and then its left tree from the front.
+-- How a tree comes from the end of its listing by a queue: a leaf goes to the back, and a decision takes its right and
+-- then its left tree from the front.
 use Rattle.std.specs.Prelude.{◌≡◌, ◌⊎◌, ℕ, ◌<◌, max, List, [], ◌∷◌, ◌++◌, Option, None, Some, codes}
 use Rattle.jxlm_base.specs.Fault.{Fault, BadProfile, NoMemory}
 use Rattle.jxlm_tree.specs.Tree.{Shape, leaf, decision, Node, leaf_node, decision_node, depth, levels}
 
 module _ {L : Type 0} where
-  -- the queue behind a node
+  -- the queue after a node
   abbrev pub taken_up : Node L → List (Shape L) → Option (List (Shape L))
   taken_up (leaf_node l) queue = Some (queue ++ leaf l ∷ [])
   taken_up (decision_node property value) [] = None
   taken_up (decision_node property value) (right ∷ []) = None
   taken_up (decision_node property value) (right ∷ (left ∷ rest)) = Some (rest ++ decision property value left right ∷ [])
 
-  -- the greatest depth among trees
+  -- the maximum depth among trees
   abbrev pub deepest : List (Shape L) → ℕ
   deepest [] = 0
   deepest (t ∷ ts) = max (depth t) (deepest ts)
 
--- how a tree that is too deep is refused
+-- the error of a tree that is too deep
 abbrev pub too_deep : Fault
 too_deep = BadProfile (codes "decoded MA tree is too deep")
 

@@ -1,9 +1,9 @@
--- Where a predictor's state stands, by how many samples are behind it.
+-- Which cell a predictor's state is at, by how many samples are before it.
 use Rattle.std.specs.Prelude.{◌≡◌, ℕ, ℤ, List, length}
 use Rattle.jxlm_tree.specs.Standing.{Setting, StandsAt}
 use Rattle.jxlm_tree.specs.declared.state.PredictorState.{PredictorState}
 
--- the state stands behind so many samples of a channel, whichever they are
+-- the state is at the cell after n samples of a channel, whichever they are
 pub record StandsBehind {S : Type 0} (state : PredictorState S) (s : Setting) (count : ℕ) : Type 0 where
   pub before : List ℤ
   pub stands : StandsAt state s before

@@ -1,4 +1,4 @@
-// Whole pictures, worked out by hand, and every input that is cut short.
+// Whole pictures, worked out by hand, and every input that is truncated.
 use super::*;
 use std::test::Fail;
 
@@ -108,7 +108,7 @@ fn a_wrong_sum_is_refused(rt: HostRuntime) -> Result<(), Fail> {
     Ok(())
 }
 
-// Headers whose transforms have no meaning, are cut short, or do not suit the channels.
+// Headers whose transforms have no meaning, are truncated, or do not suit the channels.
 #[test]
 fn headers_are_refused(rt: HostRuntime) -> Result<(), Fail> {
     for (line, bytes, text) in [

@@ -1,4 +1,4 @@
-// What no clause says: the lines on standard error, and faults of the streams.
+// What no clause says: the lines on standard error, and errors of the streams.
 ghost use Rattle.std.specs.Prelude.{◌≡◌, IfOk, IsErr};
 
 use super::*;
@@ -95,7 +95,7 @@ impl Draw for Echo {
     }
 }
 
-// Every image is refused.
+// Every image gives an error.
 #[derive(Drop)]
 struct Refuses {
     fault: Error,

@@ -3,7 +3,7 @@ use Rattle.std.proofs.lemmas.Bool.Decides.{nat_tests}
 use Rattle.jxlm_tree.specs.SelfCorrecting.{reciprocal}
 use Rattle.jxlm_tree.proofs.self_correcting.reciprocal.Goals as goal
 
--- each number is the reciprocal of its place, of which the first is k
+-- each number is the reciprocal of its index, of which the first is k
 abbrev list_reciprocals : List ℕ → ℕ → Bool
 list_reciprocals [] k = true
 list_reciprocals (x ∷ xs) k = eqb x (reciprocal k) && list_reciprocals xs (k + 1)

@@ -7,7 +7,7 @@ use Rattle.jxlmod.specs.Run.{IsDrawn}
 use Rattle.jxlmod.proofs.ArgumentLemmas.{AreFor-one}
 use Rattle.jxlmod.proofs.run.carry_out.Goals as goal
 
--- what was drawn for one command of the words was drawn for each, since they have one at most
+-- what was made for one command of the words was made for each, since they have one at most
 IsDrawn-each : (draws : Command → List ℕ → List ℕ → Type 0) (words : List (List ℕ)) (c : Command) → AreFor words c → {left rest held holds : Option (List ℕ)} → IsDrawn (draws c) left rest held holds → (d : Command) → AreFor words d → IsDrawn (draws d) left rest held holds
 IsDrawn-each draws words c asked drawn d asked_too =
     let P : Command → Type 0 = λ e. draws e drawn.bytes drawn.text in
