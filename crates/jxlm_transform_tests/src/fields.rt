@@ -3,7 +3,8 @@
 use jxlm_base::bits::Bitstream;
 use jxlm_base::error::Error;
 use jxlm_transform::transform::{
-    Palette, Rct, Squeeze, SqueezeParams, TransformInfo, transforms_are_read_exactly,
+    Palette, Rct, Squeeze, SqueezeParams, TransformInfo, default_squeeze_halves_to_eight,
+    transforms_are_read_exactly,
 };
 use jxlm_tree::predictor::WpHeader;
 use jxlm_tree_tests::text::{bytes, pair};
