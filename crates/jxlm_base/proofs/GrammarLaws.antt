@@ -4,8 +4,9 @@ use Rattle.std.specs.Prelude.{nat_lt, ◌==◌, if◌then◌else◌}
 use Rattle.std.proofs.lemmas.Bool.{ltb-false, le-ltb}
 use Rattle.jxlm_base.specs.Bits.{bits_at}
 use Rattle.jxlm_base.specs.Decoding.{Found}
+use Rattle.jxlm_base.specs.Fault as reading
 use Rattle.jxlm_base.specs.Fault.{Fault, Eof, Refused}
-use Rattle.jxlm_base.specs.Grammar.{Grammar, IsExact, behind, undone, number, give, refuse, either, whole, repeated, flag, part, u32, ◌>>=◌}
+use Rattle.jxlm_base.specs.Grammar.{Grammar, IsExact, undone, number, give, refuse, either, whole, repeated, flag, part, u32, ◌>>=◌}
 use Rattle.jxlm_base.specs.declared.bits.U32Spec.{U32Spec}
 use Rattle.jxlm_base.specs.declared.bits.U32Spec.TheVariants.{Const, Offset}
 
@@ -42,7 +43,7 @@ exact-number n = record {
 }
 
 behind_found : {X Y : Type 0} (r : Result (Found X) Refused) (next : Found X → Result (Found Y) Refused) (found : Found Y) →
-    behind r next ≡ Ok found → (first : Found X) × (r ≡ Ok first) × (next first ≡ Ok found)
+    reading.◌>>=◌ r next ≡ Ok found → (first : Found X) × (r ≡ Ok first) × (next first ≡ Ok found)
 behind_found (Ok first) next found e = (first, refl, e)
 behind_found (Err fault) next found e = absurd (none_found fault found e)
 

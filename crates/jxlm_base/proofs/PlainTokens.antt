@@ -2,7 +2,8 @@
 use Rattle.std.proofs.Common.{◌≡◌, ℕ, zero, suc, ◌+◌, ◌-◌, ◌*◌, ◌%◌, ◌<◌, ◌≤◌, List, [], ◌∷◌, length, replicate, Bool, true, false, cond, nat_lt, ◌==◌, Result, Ok, Err, MatchResult, refl, sym, ap, arith, ◌∙◌}
 use Rattle.std.proofs.lemmas.Bool.Decides.{nat_tests}
 use Rattle.jxlm_base.specs.Bits.{bits_at}
-use Rattle.jxlm_base.specs.Decoding.{Found, Taken, TakenAll, Asked, reads, ◌>>=◌}
+use Rattle.jxlm_base.specs.Decoding.{Found, Taken, Asked, reads}
+use Rattle.jxlm_base.specs.Fault.{◌>>=◌}
 use Rattle.jxlm_base.specs.Plain.{PlainState, Read, number_at, code_of, is_runs, owed_in, last_in, begin_mode, token_at, run_at, plain_begin, plain_read, plain}
 use Rattle.jxlm_base.specs.Inner.PlainLaws.{bind_ok, ok_same}
 use Rattle.jxlm_base.specs.PlainTokens.{FixedTokensAreNumbers, SealsAreSums, RunsRepeat, is_sealed, counted, fixed_sum}
@@ -56,7 +57,7 @@ fixed_token (Runs last left) bytes p b h = cc
 pub fixed_tokens_are_numbers : FixedTokensAreNumbers
 unfolding plain_read
 fixed_tokens_are_numbers s bytes p c m b h e =
-    match_then (λ x. There bytes p b x.token x.position) (λ x. There bytes p b x.token x.position) (NotThere bytes p b) (token_at s.mode (code_of s.codes c) bytes p) _ (rw e (fixed_token s.mode bytes p b h)) (λ x k. k)
+    match_then (λ x. There bytes p b x.token x.position) (λ x. There bytes p b x.value x.position) (NotThere bytes p b) (token_at s.mode (code_of s.codes c) bytes p) _ (rw e (fixed_token s.mode bytes p b h)) (λ x k. k)
 
 -- what was taken from a sum, and what is left of it, are the sum
 taken : (v t : ℕ) → v < 256 → ((v + 256 - t % 256) % 256 + t) % 256 ≡ v
@@ -70,8 +71,8 @@ token_counts v (Fixed width) bytes p x lt h =
     let b = bind_ok (number_at bytes p width) _ x h in
     rw (ok_same _ _ b.2) ((v + 256 - b.0.value % 256) % 256, refl, omega arith, taken v b.0.value lt)
 
-read_counts : (s : PlainState) (v : ℕ) (codes : List Code) (clusters : List ℕ) (bytes : List ℕ) (p c m : ℕ) (x : Taken PlainState) → s ≡ state (Sealed v) codes clusters → v < 256 →
-    plain_read s bytes p c m ≡ Ok x → (w : ℕ) × (x.state ≡ state (Sealed w) codes clusters) × (w < 256) × ((w + counted (code_of codes c) x.token) % 256 ≡ v)
+read_counts : (s : PlainState) (v : ℕ) (codes : List Code) (clusters : List ℕ) (bytes : List ℕ) (p c m : ℕ) (x : Taken ℕ PlainState) → s ≡ state (Sealed v) codes clusters → v < 256 →
+    plain_read s bytes p c m ≡ Ok x → (w : ℕ) × (x.state ≡ state (Sealed w) codes clusters) × (w < 256) × ((w + counted (code_of codes c) x.value) % 256 ≡ v)
 unfolding plain_read
 read_counts s v codes clusters bytes p c m x is lt h =
     let g : plain_read (state (Sealed v) codes clusters) bytes p c m ≡ Ok x = sym (ap (λ (t : PlainState). plain_read t bytes p c m) is) ∙ h in
@@ -82,9 +83,9 @@ read_counts s v codes clusters bytes p c m x is lt h =
 all_counted : (w a b u v : ℕ) → v < 256 → (w + b) % 256 ≡ u → (u + a) % 256 ≡ v → (w + (a + b)) % 256 ≡ v
 all_counted w a b u v lt h k = omega arith
 
-reads_count : (asked : List Asked) (s : PlainState) (v : ℕ) (codes : List Code) (clusters : List ℕ) (bytes : List ℕ) (p : ℕ) (x : TakenAll PlainState) →
+reads_count : (asked : List Asked) (s : PlainState) (v : ℕ) (codes : List Code) (clusters : List ℕ) (bytes : List ℕ) (p : ℕ) (x : Taken (List ℕ) PlainState) →
     s ≡ state (Sealed v) codes clusters → v < 256 → reads plain s bytes p asked ≡ Ok x →
-    (w : ℕ) × (x.state ≡ state (Sealed w) codes clusters) × (w < 256) × ((w + fixed_sum codes asked x.tokens) % 256 ≡ v)
+    (w : ℕ) × (x.state ≡ state (Sealed w) codes clusters) × (w < 256) × ((w + fixed_sum codes asked x.value) % 256 ≡ v)
 reads_count [] s v codes clusters bytes p x is lt h = rw (ok_same _ _ h) (v, is, lt, omega arith)
 reads_count (asked ∷ others) s v codes clusters bytes p x is lt h =
     let a = bind_ok (plain_read s bytes p asked.cluster asked.multiplier) _ x h in
@@ -92,7 +93,7 @@ reads_count (asked ∷ others) s v codes clusters bytes p x is lt h =
     let first = read_counts s v codes clusters bytes p asked.cluster asked.multiplier a.0 is lt a.1 in
     let rest = reads_count others a.0.state first.0 codes clusters bytes a.0.position b.0 first.1 first.2 b.1 in
     rw (ok_same _ _ b.2)
-    (rest.0, rest.1, rest.2, all_counted rest.0 (counted (code_of codes asked.cluster) a.0.token) (fixed_sum codes others b.0.tokens) first.0 v lt rest.3 first.3)
+    (rest.0, rest.1, rest.2, all_counted rest.0 (counted (code_of codes asked.cluster) a.0.value) (fixed_sum codes others b.0.value) first.0 v lt rest.3 first.3)
 
 seal_left : (w n v : ℕ) → w < 256 → v < 256 → (w + n) % 256 ≡ v → (w == 0) ≡ (n % 256 == v)
 seal_left w n v hw hv h = grind (arith, nat_tests)
@@ -113,10 +114,10 @@ seals_are_sums s bytes p begun asked x r h k =
     let begins : begun.value ≡ state (Sealed (bits_at bytes p 8)) s.codes s.clusters = rw (ok_same _ _ b.2, mode) refl in
     let lt : bits_at bytes p 8 < 256 = bits_at-bound bytes p 8 in
     let end = reads_count asked begun.value (bits_at bytes p 8) s.codes s.clusters bytes begun.position x begins lt k in
-    rw (end.1, seal_left end.0 (fixed_sum s.codes asked x.tokens) (bits_at bytes p 8) end.2 lt end.3) refl
+    rw (end.1, seal_left end.0 (fixed_sum s.codes asked x.value) (bits_at bytes p 8) end.2 lt end.3) refl
 
 owed_repeat : (asked : List Asked) (last n : ℕ) (codes : List Code) (clusters : List ℕ) (bytes : List ℕ) (p : ℕ) → length asked ≡ n →
-    reads plain (state (Runs last n) codes clusters) bytes p asked ≡ Ok (record { tokens = replicate n last; state = state (Runs last 0) codes clusters; position = p })
+    reads plain (state (Runs last n) codes clusters) bytes p asked ≡ Ok (record { value = replicate n last; state = state (Runs last 0) codes clusters; position = p })
 unfolding plain_read token_at
 owed_repeat [] last zero codes clusters bytes p h = refl
 owed_repeat [] last (suc n) codes clusters bytes p h = absurd (omega arith)
@@ -135,7 +136,7 @@ run_begins last code bytes p h one =
 
 mode_repeats : (mode : Mode) (codes : List Code) (clusters : List ℕ) (bytes : List ℕ) (p : ℕ) (asked : List Asked) → is_runs mode ≡ true → owed_in mode ≡ 0 → p + 9 ≤ 8 * length bytes →
     bits_at bytes p 1 ≡ 1 → length asked ≡ 1 + bits_at bytes (p + 1) 8 →
-    reads plain (state mode codes clusters) bytes p asked ≡ Ok (record { tokens = replicate (length asked) (last_in mode); state = state mode codes clusters; position = p + 9 })
+    reads plain (state mode codes clusters) bytes p asked ≡ Ok (record { value = replicate (length asked) (last_in mode); state = state mode codes clusters; position = p + 9 })
 unfolding plain_read
 mode_repeats Unsealed codes clusters bytes p asked r o h one many = cc
 mode_repeats (Sealed sum) codes clusters bytes p asked r o h one many = cc

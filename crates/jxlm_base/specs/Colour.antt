@@ -55,8 +55,7 @@ module _ (w : Width) where
       let f : ℤ = minus middle (halved t.second) in
       triple (plus f t.second) e f
 
-  -- The third loses the first where the kind is odd; the second loses nothing, the first, or the mean of first and
-  -- third.
+  -- The third loses the first where the kind is odd; the second loses nothing, the first, or the mean of the others.
   abbrev pub to_differences : ℕ → Triple → Triple
   to_differences t x =
       triple x.first

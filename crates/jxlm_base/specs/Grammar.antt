@@ -1,8 +1,8 @@
--- Fields in the input: how each is read, and what it means that a value stands at a bit position
--- (ISO/IEC 18181-1, notation of bundles and of the field types u(n), Bool and U32).
-use Rattle.std.specs.Prelude.{◌≡◌, ℕ, zero, suc, ◌+◌, ◌*◌, ◌^◌, ◌≤◌, List, [], ◌∷◌, length, Bool, nat_lt, ◌==◌, if◌then◌else◌, MatchBool, Option, Some, None, Result, Ok, Err}
+-- Fields in the input: how each is read, and where a value stands (ISO/IEC 18181-1, notation of bundles and field types).
+use Rattle.std.specs.Prelude.{◌≡◌, ℕ, zero, suc, ◌+◌, ◌*◌, ◌^◌, ◌≤◌, List, [], ◌∷◌, length, Bool, nat_lt, ◌==◌, if◌then◌else◌, MatchBool, Option, Some, IfSome, Result, Ok, Err}
 use Rattle.jxlm_base.specs.Bits.{bits_at}
 use Rattle.jxlm_base.specs.Decoding.{Found}
+use Rattle.jxlm_base.specs.Fault as reading
 use Rattle.jxlm_base.specs.Fault.{Fault, Eof, Refused, bitstream_fault, fault_of, UnlessMemory}
 use Rattle.jxlm_base.specs.declared.bits.BitstreamError.{BitstreamError}
 use Rattle.jxlm_base.specs.declared.bits.U32Spec.{U32Spec}
@@ -20,11 +20,6 @@ pub record Grammar (X : Type 0) : Type 1 where
 pub record IsExact {X : Type 0} (field : Grammar X) : Type 0 where
   pub read_stands : (bytes : List ℕ) (p : ℕ) (found : Found X) → field.read bytes p ≡ Ok found → field.Stands bytes p found.value found.position
   pub stands_read : (bytes : List ℕ) (p : ℕ) (x : X) (q : ℕ) → field.Stands bytes p x q → field.read bytes p ≡ Ok (record { value = x; position = q })
-
--- what follows a reading that found something
-abbrev pub behind : {X Y : Type 0} → Result (Found X) Refused → (Found X → Result (Found Y) Refused) → Result (Found Y) Refused
-behind (Ok found) next = next found
-behind (Err e) next = Err e
 
 -- a reading whose error leaves the reader at p
 abbrev pub undone : {X : Type 0} → ℕ → Result (Found X) Refused → Result (Found X) Refused
@@ -50,7 +45,7 @@ refuse fault = record { read = λ bytes p. Err (record { fault = fault; position
 infixl 10 ◌>>=◌
 abbrev pub ◌>>=◌ : {X Y : Type 0} → Grammar X → (X → Grammar Y) → Grammar Y
 ◌>>=◌ {X} field next = record {
-  read = λ bytes p. behind (field.read bytes p) (λ found. (next found.value).read bytes found.position);
+  read = λ bytes p. reading.◌>>=◌ (field.read bytes p) (λ found. (next found.value).read bytes found.position);
   Stands = λ bytes p y q. (x : X) × (m : ℕ) × field.Stands bytes p x m × (next x).Stands bytes m y q;
 }
 
@@ -68,23 +63,16 @@ whole field = record { read = λ bytes p. undone p (field.read bytes p); Stands 
 -- n fields of one kind
 abbrev pub repeated : {X : Type 0} → ℕ → Grammar X → Grammar (List X)
 repeated zero field = give []
-repeated (suc n) field = do
-  x ← field
-  xs ← repeated n field
-  give (x ∷ xs)
+repeated (suc n) field = field >>= λ x. repeated n field >>= λ xs. give (x ∷ xs)
 
 -- Bool
 abbrev pub flag : Grammar Bool
-flag = do
-  bit ← number 1
-  give (bit == 1)
+flag = number 1 >>= λ bit. give (bit == 1)
 
 -- a part of a U32: a constant, or n bits above a minimum
 abbrev pub part : U32Spec → Grammar ℕ
 part (Const n) = give n
-part (Offset least n) = do
-  v ← number n
-  give (least + v)
+part (Offset least n) = number n >>= λ v. give (least + v)
 
 -- U32: two bits choose one of four parts; truncated, it leaves the reader before them
 abbrev pub selected : U32Spec → U32Spec → U32Spec → U32Spec → Grammar ℕ
@@ -105,16 +93,11 @@ abbrev pub Reads : {X Y : Type 0} → (X → Y) → Result X BitstreamError → 
 Reads view (Ok x) q reading = reading ≡ Ok (record { value = view x; position = q })
 Reads view (Err e) q reading = reading ≡ Err (record { fault = bitstream_fault e; position = Some q })
 
--- the reader is at the position that is named; where none is, it is the decoder's own matter
-abbrev pub StandsAtPlace : Option ℕ → ℕ → Type 0
-StandsAtPlace None q = Unit {0}
-StandsAtPlace (Some p) q = q ≡ p
-
--- the reading returns this error, and the reader is at q
-pub record IsRefused {Y : Type 0} (reading : Result (Found Y) Refused) (fault : Fault) (q : ℕ) : Type 0 where
+-- the reading returns this error, and the reader is at q, unless that is the decoder's own matter
+pub record IsRefused {Y : Type 0} (reading : Result Y Refused) (fault : Fault) (q : ℕ) : Type 0 where
   pub place : Option ℕ
   pub refuses : reading ≡ Err (record { fault = fault; position = place })
-  pub stands : StandsAtPlace place q
+  pub stands : IfSome place (λ p. q ≡ p)
 
 -- What a call returned, seen by view, and where it left the reader, are what reading gives; out of memory may come at
 -- any time.

@@ -158,7 +158,7 @@ module _ {S : Type 0} (d : Meaning S) (w : Width) (part : Part) (bytes : List �
       let at = is_place part regions sizes i x y li px qy in
       let k : ℕ = place_of part i x y in
       let v : ℤ = (part_rule d w part bytes).value (cells_ahead part (grids_in regions ints) i x y) reads.token in
-      let taken : Taken S = record { token = reads.token; state = t; position = q } in
+      let taken : Taken ℕ S = record { value = reads.token; state = t; position = q } in
       let store' : store_meanings to_int new ≡ with_region_cell ints reg x y v =
       ap (store_meanings to_int) reads.written ∙ with_region_cell-meanings to_int store reg x y (from_int v) ∙ ap (with_region_cell ints reg x y) (back v) in
       let grids' : grids_in regions (store_meanings to_int new) ≡ with_cell_of (grids_in regions ints) i x y v =

@@ -38,7 +38,7 @@ module _ {S : Type 0} (rule : Rule S) (s0 : S) (p0 : ℕ) where
 
   -- one cell more
   pub prefix_more : (f g : List ℤ) (k : ℕ) (s : S) (p token : ℕ) (t : S) (q : ℕ) → take k f ≡ take k g → CodedPrefix rule f s0 p0 k s p →
-      rule.read (take k g) s p ≡ Ok (record { token = token; state = t; position = q }) → slice_get g k ≡ Some (rule.value (take k g) token) → CodedPrefix rule g s0 p0 (suc k) t q
+      rule.read (take k g) s p ≡ Ok (record { value = token; state = t; position = q }) → slice_get g k ≡ Some (rule.value (take k g) token) → CodedPrefix rule g s0 p0 (suc k) t q
   prefix_more f g k s p token t q same h read value = (s, p, token, prefix_same f g k s p same h, read, value)
 
   -- two prefixes of one length are one
@@ -47,31 +47,31 @@ module _ {S : Type 0} (rule : Rule S) (s0 : S) (p0 : ℕ) where
     pub place : p ≡ q
     pub cells : take k f ≡ take k g
 
-  same_taken : (x y : Taken S) (r : Result (Taken S) DecoderError) → r ≡ Ok x → r ≡ Ok y → x ≡ y
+  same_taken : (x y : Taken ℕ S) (r : Result (Taken ℕ S) DecoderError) → r ≡ Ok x → r ≡ Ok y → x ≡ y
   same_taken x y r h k = cc
 
   pub prefix_one : (f g : List ℤ) (k : ℕ) (s t : S) (p q : ℕ) → CodedPrefix rule f s0 p0 k s p → CodedPrefix rule g s0 p0 k t q → One k f g s t p q
   prefix_one f g zero s t p q h i = record { state = h.0 ∙ sym i.0; place = h.1 ∙ sym i.1; cells = refl }
   prefix_one f g (suc k) s t p q h i =
       let before = prefix_one f g k h.0 i.0 h.1 i.1 h.3 i.3 in
-      let other : rule.read (take k f) h.0 h.1 ≡ Ok (record { token = i.2; state = t; position = q }) = rw (before.state, before.place, before.cells) i.4 in
+      let other : rule.read (take k f) h.0 h.1 ≡ Ok (record { value = i.2; state = t; position = q }) = rw (before.state, before.place, before.cells) i.4 in
       let same = same_taken _ _ (rule.read (take k f) h.0 h.1) h.4 other in
-      let token : h.2 ≡ i.2 = ap (λ (x : Taken S). x.token) same in
+      let token : h.2 ≡ i.2 = ap (λ (x : Taken ℕ S). x.value) same in
       let cell : slice_get g k ≡ Some (rule.value (take k f) h.2) = rw (token, before.cells) i.5 in
       record {
-        state = ap (λ (x : Taken S). x.state) same;
-        place = ap (λ (x : Taken S). x.position) same;
+        state = ap (λ (x : Taken ℕ S). x.state) same;
+        place = ap (λ (x : Taken ℕ S). x.position) same;
         cells = take_same f g k (rule.value (take k f) h.2) before.cells h.5 cell;
       }
 
   -- a shorter prefix is part of a longer one
   pub prefix_part : (f : List ℤ) (n k : ℕ) (s : S) (p : ℕ) → k < n → CodedPrefix rule f s0 p0 n s p →
-      (t : S) × (q : ℕ) × (x : Taken S) × CodedPrefix rule f s0 p0 k t q × (rule.read (take k f) t q ≡ Ok x)
+      (t : S) × (q : ℕ) × (x : Taken ℕ S) × CodedPrefix rule f s0 p0 k t q × (rule.read (take k f) t q ≡ Ok x)
   prefix_part f zero k s p l h = absurd (omega arith)
   prefix_part f (suc n) k s p l h =
       elim (cases_lt k n) [
         | inl w ↦ prefix_part f n k h.0 h.1 w h.3
-        | inr w ↦ (let i : k ≡ n = omega arith in rw i (h.0, h.1, record { token = h.2; state = s; position = p }, h.3, h.4))
+        | inr w ↦ (let i : k ≡ n = omega arith in rw i (h.0, h.1, record { value = h.2; state = s; position = p }, h.3, h.4))
       ]
 
 clash : {A : Type 0} (r : Result A DecoderError) (x : A) (e : DecoderError) → r ≡ Ok x → r ≡ Err e → ⊥

@@ -62,15 +62,15 @@ stands_within channels grids i x y fit l p q =
 
 module _ {S : Type 0} (d : Meaning S) (w : Width) (part : Part) (bytes : List ℕ) (decoder : S) (p0 : ℕ) (old : List (Grid ℤ)) where
   -- the next cell was read and written
-  pub reached_more : (k i x y : ℕ) (now : List (Grid ℤ)) (s : S) (q : ℕ) (taken : Taken S) →
+  pub reached_more : (k i x y : ℕ) (now : List (Grid ℤ)) (s : S) (q : ℕ) (taken : Taken ℕ S) →
       i < length part.channels → x < (channel part.channels i).width → y < (channel part.channels i).height →
       k ≡ cells_before part.channels i + (y * (channel part.channels i).width + x) →
       Reached d w part bytes decoder p0 old k now s q →
       (part_rule d w part bytes).read (take k (cells_of now)) s q ≡ Ok taken →
-      Reached d w part bytes decoder p0 old (suc k) (with_cell_of now i x y ((part_rule d w part bytes).value (take k (cells_of now)) taken.token)) taken.state taken.position
+      Reached d w part bytes decoder p0 old (suc k) (with_cell_of now i x y ((part_rule d w part bytes).value (take k (cells_of now)) taken.value)) taken.state taken.position
   reached_more k i x y now s q taken l px qy is r read =
       let rule = part_rule d w part bytes in
-      let v : ℤ = rule.value (take k (cells_of now)) taken.token in
+      let v : ℤ = rule.value (take k (cells_of now)) taken.value in
       let written : cells_of (with_cell_of now i x y v) ≡ set (cells_of now) k v = cells_written part.channels now i x y v r.fits l px qy ∙ ap (λ n. set (cells_of now) n v) (sym is) in
       let inside : k < length (cells_of now) = subst (λ n. n < length (cells_of now)) (sym is) (stands_within part.channels now i x y r.fits l px qy) in
       let same : take k (cells_of now) ≡ take k (cells_of (with_cell_of now i x y v)) = sym (take-set (cells_of now) k v) ∙ ap (take k) (sym written) in
@@ -78,9 +78,9 @@ module _ {S : Type 0} (d : Meaning S) (w : Width) (part : Part) (bytes : List �
         coded = record {
           start = r.coded.start;
           begins = r.coded.begins;
-          joined = prefix_more rule r.coded.start.value r.coded.start.position (cells_of now) (cells_of (with_cell_of now i x y v)) k s q taken.token taken.state taken.position same
+          joined = prefix_more rule r.coded.start.value r.coded.start.position (cells_of now) (cells_of (with_cell_of now i x y v)) k s q taken.value taken.state taken.position same
               r.coded.joined (subst (λ (before : List ℤ). rule.read before s q ≡ Ok taken) same read)
-              (ap (λ (cs : List ℤ). slice_get cs k) written ∙ slice_get-set_same (cells_of now) k v inside ∙ ap (λ (before : List ℤ). Some (rule.value before taken.token)) same);
+              (ap (λ (cs : List ℤ). slice_get cs k) written ∙ slice_get-set_same (cells_of now) k v inside ∙ ap (λ (before : List ℤ). Some (rule.value before taken.value)) same);
         };
         rest = ap (drop (suc k)) written ∙ rest_more (cells_of now) (cells_of old) k v r.rest;
         fits = fits_written part.channels now i x y v r.fits;

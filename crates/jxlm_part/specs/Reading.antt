@@ -111,13 +111,13 @@ module _ {D : Type 0} where
     IsAfterChannel c i state = (last : ℕ) → i ≡ last + 1 → 0 < (region_at (regions_of c) last).width → StandsIn c last state
 
 -- a sample was read at this leaf, over this prediction, from this reading; it left state t and position q
-pub record ReadsNext {S X : Type 0} (w : Width) (from_int : ℤ → X) (l : Leaf) (predicted : ℤ) (sample : X) (t : S) (q : ℕ) (reading : Result (Taken S) DecoderError) : Type 0 where
+pub record ReadsNext {S X : Type 0} (w : Width) (from_int : ℤ → X) (l : Leaf) (predicted : ℤ) (sample : X) (t : S) (q : ℕ) (reading : Result (Taken ℕ S) DecoderError) : Type 0 where
   pub token : ℕ
-  pub read : reading ≡ Ok (record { token = token; state = t; position = q })
+  pub read : reading ≡ Ok (record { value = token; state = t; position = q })
   pub sample_is : sample ≡ from_int (sample_of w l predicted token)
 
 -- the read returned the error e, and state and position stay
-pub record RefusesNext {S : Type 0} (s t : S) (p q : ℕ) (e : DecoderError) (reading : Result (Taken S) DecoderError) : Type 0 where
+pub record RefusesNext {S : Type 0} (s t : S) (p q : ℕ) (e : DecoderError) (reading : Result (Taken ℕ S) DecoderError) : Type 0 where
   pub fault : reading ≡ Err e
   pub state_is : t ≡ s
   pub place_is : q ≡ p
@@ -139,7 +139,7 @@ module _ {S X : Type 0} (d : Meaning S) (w : Width) (part : Part) (bytes : List 
   -- into column x of row y of region i.
   pub record ReadsCell (from_int : ℤ → X) (new : List (Grid X)) (t : S) (q : ℕ) : Type 0 where
     pub token : ℕ
-    pub read : (part_rule d w part bytes).read ahead s p ≡ Ok (record { token = token; state = t; position = q })
+    pub read : (part_rule d w part bytes).read ahead s p ≡ Ok (record { value = token; state = t; position = q })
     pub written : new ≡ with_region_cell store (region_at regions i) x y (from_int ((part_rule d w part bytes).value ahead token))
 
   -- the read of the part's next token returned the error e, and nothing changed

@@ -6,8 +6,8 @@ use Rattle.jxlm_base.specs.declared.decoder.DecoderError.{DecoderError}
 use Rattle.jxlm_base.specs.declared.decoder.DecoderError.TheVariants.{UnexpectedEof}
 
 -- the next eight bits, which must all be there
-abbrev pub byte_at : List ℕ → List ℕ → ℕ → Result (Taken (List ℕ)) DecoderError
-byte_at s bytes p = if nat_lt (8 * length bytes) (p + 8) then Err UnexpectedEof else Ok (record { token = bits_at bytes p 8; state = s; position = p + 8 })
+abbrev pub byte_at : List ℕ → List ℕ → ℕ → Result (Taken ℕ (List ℕ)) DecoderError
+byte_at s bytes p = if nat_lt (8 * length bytes) (p + 8) then Err UnexpectedEof else Ok (record { value = bits_at bytes p 8; state = s; position = p + 8 })
 
 abbrev pub bytewise : Meaning (List ℕ)
 bytewise = record {

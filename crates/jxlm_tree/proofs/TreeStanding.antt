@@ -63,8 +63,8 @@ bind_to : {A B : Type 0} (r : Result A Refused) (f : A → Result B Refused) (x 
 bind_to (Ok z) f x y h k = cc
 bind_to (Err e) f x y h k = cc
 
-abbrev token_of : {S : Type 0} → Result (Taken S) DecoderError → ℕ
-token_of (Ok taken) = taken.token
+abbrev token_of : {S : Type 0} → Result (Taken ℕ S) DecoderError → ℕ
+token_of (Ok taken) = taken.value
 token_of (Err e) = 0
 
 -- ---- clusters and counts
@@ -124,7 +124,7 @@ module _ {S : Type 0} (d : Meaning S) (bytes : List ℕ) where
 
   token_there : (context : ℕ) (s : S) (p : ℕ) (x : Drawn ℕ S) → read_context d bytes context s p ≡ Ok x → TokenStands d bytes context (cursor s p) x.value (cursor x.state x.position)
   token_there context s p x h = of (d.read s bytes p (slice_index (d.cluster_map s) context) 0) refl where
-    of : (r : Result (Taken S) DecoderError) → d.read s bytes p (slice_index (d.cluster_map s) context) 0 ≡ r → r ≡ Ok (record { token = x.value; state = x.state; position = x.position })
+    of : (r : Result (Taken ℕ S) DecoderError) → d.read s bytes p (slice_index (d.cluster_map s) context) 0 ≡ r → r ≡ Ok (record { value = x.value; state = x.state; position = x.position })
     of (Ok taken) e = let k = rw e at h in rw (same _ _ _ refl k) refl
     of (Err fault) e = let k = rw e at h in cc
 
@@ -366,7 +366,7 @@ module _ {S : Type 0} (d : Meaning S) (bytes : List ℕ) where
 
     endless_after : (context token : ℕ) (a b : Found S) → context < 6 → TokenStands d bytes context a token b → Endless a.value → Endless b.value
     endless_after context token a b k h e =
-        endless_kept a.value b.value (lawful.read_keeps a.value bytes a.position (slice_index (d.cluster_map a.value) context) 0 (record { token = token; state = b.value; position = b.position }) (within_clusters a.value context e.contexts k) h) e
+        endless_kept a.value b.value (lawful.read_keeps a.value bytes a.position (slice_index (d.cluster_map a.value) context) 0 (record { value = token; state = b.value; position = b.position }) (within_clusters a.value context e.contexts k) h) e
 
     no_leaf : (a b : Found S) → TokenStands d bytes 1 a 0 b → Endless a.value → ⊥
     no_leaf a b h e =

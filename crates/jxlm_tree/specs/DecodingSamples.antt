@@ -9,14 +9,14 @@ use Rattle.jxlm_tree.specs.declared.flat.Leaf.{Leaf}
 use Rattle.jxlm_tree.specs.declared.predictor.Predictor.{Predictor}
 
 -- the token that reading gave, and the state t and the position q after it
-pub record ReadsSample {S : Type 0} (l : Leaf) (residual : ℤ) (predictor : Predictor) (t : S) (q : ℕ) (reading : Result (Taken S) DecoderError) : Type 0 where
+pub record ReadsSample {S : Type 0} (l : Leaf) (residual : ℤ) (predictor : Predictor) (t : S) (q : ℕ) (reading : Result (Taken ℕ S) DecoderError) : Type 0 where
   pub token : ℕ
-  pub reads : reading ≡ Ok (record { token = token; state = t; position = q })
+  pub reads : reading ≡ Ok (record { value = token; state = t; position = q })
   pub residual_is : residual ≡ residual_of l token
   pub predictor_is : predictor ≡ l.predictor
 
 -- reading returns an error, and state and position stay
-pub record RefusesSample {S : Type 0} (e : Error) (s t : S) (p q : ℕ) (reading : Result (Taken S) DecoderError) : Type 0 where
+pub record RefusesSample {S : Type 0} (e : Error) (s t : S) (p q : ℕ) (reading : Result (Taken ℕ S) DecoderError) : Type 0 where
   pub cause : DecoderError
   pub error : e ≡ Decoder cause
   pub refuses : reading ≡ Err cause
@@ -24,6 +24,6 @@ pub record RefusesSample {S : Type 0} (e : Error) (s t : S) (p q : ℕ) (reading
   pub place : q ≡ p
 
 -- reading at this leaf, from state s at position p, returned this
-abbrev pub SampleGives : {S : Type 0} → Leaf → Result (ℤ × Predictor) Error → S → S → ℕ → ℕ → Result (Taken S) DecoderError → Type 0
+abbrev pub SampleGives : {S : Type 0} → Leaf → Result (ℤ × Predictor) Error → S → S → ℕ → ℕ → Result (Taken ℕ S) DecoderError → Type 0
 SampleGives l (Ok x) s t p q reading = ReadsSample l x.0 x.1 t q reading
 SampleGives l (Err e) s t p q reading = RefusesSample e s t p q reading

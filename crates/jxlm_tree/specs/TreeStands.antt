@@ -17,7 +17,7 @@ leaf_clusters (leaf_node l ∷ rest) = l.cluster ∷ leaf_clusters rest
 module _ {S : Type 0} (d : Meaning S) (bytes : List ℕ) where
   -- the token of a context stands from cursor a to cursor b
   abbrev pub TokenStands : ℕ → Found S → ℕ → Found S → Type 0
-  TokenStands context a token b = d.read a.value bytes a.position (slice_index (d.cluster_map a.value) context) 0 ≡ Ok (record { token = token; state = b.value; position = b.position })
+  TokenStands context a token b = d.read a.value bytes a.position (slice_index (d.cluster_map a.value) context) 0 ≡ Ok (record { value = token; state = b.value; position = b.position })
 
   -- The tokens of a leaf stand from cursor a to cursor b: its predictor's number, its offset, and its multiplier,
   -- which is a factor times a power of two.

@@ -9,11 +9,11 @@ same : (s : List ℕ) → Keeps bytewise s s
 same s = record { clusters = refl; single = λ c within. refl; rle = refl }
 
 -- a read that is Ok left the state
-kept : (s : List ℕ) (cut : Bool) (x y : Taken (List ℕ)) → y.state ≡ s → cond cut (Err UnexpectedEof) (Ok y) ≡ Ok x → x.state ≡ s
+kept : (s : List ℕ) (cut : Bool) (x y : Taken ℕ (List ℕ)) → y.state ≡ s → cond cut (Err UnexpectedEof) (Ok y) ≡ Ok x → x.state ≡ s
 kept s true x y e h = cc
 kept s false x y e h = let g : x ≡ y = cc in rw g e
 
-refused : (cut : Bool) (y : Taken (List ℕ)) → cond cut (Err UnexpectedEof) (Ok y) ≢ Err OutOfMemory
+refused : (cut : Bool) (y : Taken ℕ (List ℕ)) → cond cut (Err UnexpectedEof) (Ok y) ≢ Err OutOfMemory
 refused true y = λ h. cc
 refused false y = λ h. cc
 
