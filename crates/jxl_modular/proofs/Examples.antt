@@ -57,7 +57,7 @@ row_opening = refl
 row_limit : node_limit (image_list square).channels ≡ 1028
 row_limit = refl
 
-row_listing : listing_at plain row_bytes 1028 4 ≡ Ok (record { value = record { nodes = levels (one_leaf gradient (three_bits Unsealed)).tree; decoder = three_bits Unsealed }; position = 68 })
+row_listing : listing_at plain row_bytes 1028 4 ≡ Ok (record { value = levels (one_leaf gradient (three_bits Unsealed)).tree; state = three_bits Unsealed; position = 68 })
 unfolding listing_at drafts_at nodes_at node_at leaf_at predictor_at multiplier_at plain_parse plain_begin plain_read number_at mode_at cluster_at code_at token_at
 row_listing = refl
 
@@ -159,7 +159,7 @@ doubled = record { cluster = 0; predictor = Zero; offset = pos 5; multiplier = 2
 abbrev constant_decoder : PlainState
 constant_decoder = record { mode = Unsealed; codes = Constant 3 ∷ []; clusters = 0 ∷ [] }
 
-constant_listing : listing_at plain constant_bytes 1028 4 ≡ Ok (record { value = record { nodes = levels (one_leaf doubled constant_decoder).tree; decoder = constant_decoder }; position = 79 })
+constant_listing : listing_at plain constant_bytes 1028 4 ≡ Ok (record { value = levels (one_leaf doubled constant_decoder).tree; state = constant_decoder; position = 79 })
 unfolding listing_at drafts_at nodes_at node_at leaf_at predictor_at multiplier_at plain_parse plain_begin plain_read number_at mode_at cluster_at code_at token_at
 constant_listing = refl
 

@@ -1,27 +1,28 @@
 -- Nodes that are read one after another: what was read before comes before what is still read.
 use Rattle.std.proofs.Common.{◌≡◌, ℕ, zero, suc, ◌+◌, ◌-◌, ◌<◌, ◌≤◌, List, [], ◌∷◌, ◌++◌, Some, Result, Ok, Err, refl, sym, ap, ◌∙◌, arith, append_assoc, append-nil}
 use Rattle.jxlm_base.specs.Decoding.{Meaning}
+use Rattle.jxlm_base.specs.Decoding.{Taken}
 use Rattle.jxlm_base.specs.Fault.{Fault, Refused, ◌>>=◌}
 use Rattle.jxlm_tree.specs.Inner.DraftReading.{AllDrafts, IsDraftNode}
 use Rattle.jxlm_tree.specs.Tree.{Node, leaf_node, decision_node}
-use Rattle.jxlm_tree.specs.TreeReading.{Draft, Drawn, children, node_at, nodes_at}
+use Rattle.jxlm_tree.specs.TreeReading.{Draft, children, node_at, nodes_at}
 
 module _ {S : Type 0} where
-  abbrev pub with_front : List (Node Draft) → Result (Drawn (List (Node Draft)) S) Refused → Result (Drawn (List (Node Draft)) S) Refused
+  abbrev pub with_front : List (Node Draft) → Result (Taken (List (Node Draft)) S) Refused → Result (Taken (List (Node Draft)) S) Refused
   with_front front (Ok x) = Ok (record { value = front ++ x.value; state = x.state; position = x.position })
   with_front front (Err e) = Err e
 
-  pub with_front-nil : (r : Result (Drawn (List (Node Draft)) S) Refused) → with_front [] r ≡ r
+  pub with_front-nil : (r : Result (Taken (List (Node Draft)) S) Refused) → with_front [] r ≡ r
   with_front-nil (Ok x) = refl
   with_front-nil (Err e) = refl
 
   -- one node more before the others
-  with_front-more : (front : List (Node Draft)) (n : Node Draft) (r : Result (Drawn (List (Node Draft)) S) Refused) → with_front front (with_front (n ∷ []) r) ≡ with_front (front ++ n ∷ []) r
+  with_front-more : (front : List (Node Draft)) (n : Node Draft) (r : Result (Taken (List (Node Draft)) S) Refused) → with_front front (with_front (n ∷ []) r) ≡ with_front (front ++ n ∷ []) r
   with_front-more front n (Ok x) = ap (λ (v : List (Node Draft)). Ok (record { value = v; state = x.state; position = x.position })) (sym (append_assoc front (n ∷ []) x.value))
   with_front-more front n (Err e) = refl
 
   module _ (d : Meaning S) (bytes : List ℕ) (limit : Fault) where
-    placed_first : (n : Node Draft) (r : Result (Drawn (List (Node Draft)) S) Refused) →
+    placed_first : (n : Node Draft) (r : Result (Taken (List (Node Draft)) S) Refused) →
         (r >>= (λ others. Ok (record { value = n ∷ others.value; state = others.state; position = others.position }))) ≡ with_front (n ∷ []) r
     placed_first n (Ok x) = refl
     placed_first n (Err e) = refl

@@ -2,13 +2,13 @@
 use Rattle.std.proofs.Common.{◌≡◌, ℕ, zero, suc, ◌+◌, List, [], ◌∷◌, ◌++◌, None, Some, Result, Ok, Err, Bool, true, false, cond, refl, sym, ap, ◌∙◌, subst, arith, length, take, drop, ◌⊎◌, inr}
 use Rattle.std.specs.Prelude.{slice_index}
 use Rattle.std.proofs.lemmas.List.{take-append-drop, length-take-le, length-append}
-use Rattle.jxlm_base.specs.Decoding.{Found, Meaning}
+use Rattle.jxlm_base.specs.Decoding.{Found, Meaning, Taken}
 use Rattle.jxlm_base.specs.Fault.{Fault, Refused, UnlessMemory, ◌>>=◌}
 use Rattle.jxlm_base.specs.Grammar.{IsRefused}
-use Rattle.jxlm_tree.specs.Inner.DraftReading.{ListsTrees}
+use Rattle.jxlm_tree.specs.Inner.DraftReading.{ListsTrees, is_endless}
 use Rattle.jxlm_tree.specs.Tree.{Shape, leaf, decision, Node, Config, leaf_node, decision_node, config_of, levels}
 use Rattle.jxlm_tree.specs.Inner.Queue.{IsTooDeepListing, ListsTooDeep}
-use Rattle.jxlm_tree.specs.TreeReading.{Draft, Drawn, Listing, with_clusters, leaf_count, children, through, node_at, nodes_at, drafts_at, listing_at, limit_fault, most_nodes, is_endless, IsTooDeep, IsTreeAt}
+use Rattle.jxlm_tree.specs.TreeReading.{Draft, with_clusters, leaf_count, children, through, node_at, nodes_at, drafts_at, listing_at, limit_fault, most_nodes, IsTooDeep, IsTreeAt}
 use Rattle.jxlm_tree.specs.declared.flat.Leaf.{Leaf}
 use Rattle.jxlm_tree.proofs.Memory.{own_so}
 use Rattle.jxlm_tree.proofs.Listing.{Lists, lists-levels, levels-injective}
@@ -83,7 +83,7 @@ children_close (leaf_node l) ns m h = let e : m + 0 ≡ m = omega arith in rw e 
 children_close (decision_node k v) ns m h = h
 
 module _ {S : Type 0} (d : Meaning S) (bytes : List ℕ) where
-  nodes_close : (limit : Fault) (room missing : ℕ) (s : S) (p : ℕ) (x : Drawn (List (Node Draft)) S) → nodes_at d bytes limit room missing s p ≡ Ok x → ListsTrees missing x.value
+  nodes_close : (limit : Fault) (room missing : ℕ) (s : S) (p : ℕ) (x : Taken (List (Node Draft)) S) → nodes_at d bytes limit room missing s p ≡ Ok x → ListsTrees missing x.value
   unfolding nodes_at
   nodes_close limit zero zero s p x h = rw (same _ _ _ refl h) tt
   nodes_close limit zero (suc missing) s p x h = cc
@@ -103,7 +103,7 @@ module _ {S : Type 0} (d : Meaning S) (bytes : List ℕ) where
       rw (same _ _ _ refl e.2) (nodes_close (limit_fault node_limit) (most_nodes node_limit) 1 b.0.value b.0.position c.0 c.1)
 
   -- each listing that is read is that of a tree
-  pub listing_of_tree : (node_limit p : ℕ) (x : Found (Listing S)) → listing_at d bytes node_limit p ≡ Ok x → (t : Shape Leaf) × (levels t ≡ x.value.nodes)
+  pub listing_of_tree : (node_limit p : ℕ) (x : Taken (List (Node Leaf)) S) → listing_at d bytes node_limit p ≡ Ok x → (t : Shape Leaf) × (levels t ≡ x.value)
   unfolding listing_at
   listing_of_tree node_limit p x h =
       let a = bind_ok (through None (d.parse bytes p 6)) _ x h in
@@ -116,10 +116,10 @@ module _ {S : Type 0} (d : Meaning S) (bytes : List ℕ) where
 
   -- and of no other
   pub one_tree : (node_limit depth_limit p : ℕ) (x y : Config S) (q z : ℕ) → IsTreeAt d bytes node_limit depth_limit p x q → IsTreeAt d bytes node_limit depth_limit p y z → x.tree ≡ y.tree
-  one_tree node_limit depth_limit p x y q z h i = levels-injective x.tree y.tree (ap (λ (found : Found (Listing S)). found.value.nodes) (same _ _ (listing_at d bytes node_limit p) i.reads h.reads))
+  one_tree node_limit depth_limit p x y q z h i = levels-injective x.tree y.tree (ap (λ (found : Taken (List (Node Leaf)) S). found.value) (same _ _ (listing_at d bytes node_limit p) i.reads h.reads))
 
   -- a tree that is read whole and is too deep
-  pub too_deep_is_refused : (node_limit depth_limit p : ℕ) (ns : List (Node Leaf)) (decoder : S) (q : ℕ) (fault : Fault) → listing_at d bytes node_limit p ≡ Ok (record { value = record { nodes = ns; decoder = decoder }; position = q }) →
+  pub too_deep_is_refused : (node_limit depth_limit p : ℕ) (ns : List (Node Leaf)) (decoder : S) (q : ℕ) (fault : Fault) → listing_at d bytes node_limit p ≡ Ok (record { value = ns; state = decoder; position = q }) →
       IsTooDeepListing depth_limit ns fault → UnlessMemory fault (IsRefused (listing_at d bytes node_limit p) fault q ⊎ IsTooDeep d bytes node_limit depth_limit p fault q)
   too_deep_is_refused node_limit depth_limit p ns decoder q fault reads refused =
       own_so fault (λ (deep : ListsTooDeep depth_limit ns fault). inr (record { config = config_of deep.tree decoder; reads = rw deep.lists reads; beyond = deep.beyond; refusal = deep.refusal })) refused

@@ -1,6 +1,6 @@
 -- A tree is read where it stands, and stands where it is read.
 use Rattle.std.proofs.Common.{◌≡◌, ℕ, zero, suc, ◌+◌, ◌-◌, ◌*◌, ◌^◌, ◌<◌, ◌≤◌, List, [], ◌∷◌, ◌++◌, ◌⊎◌, inl, inr, None, Some, Option, Result, Ok, Err, Bool, true, false, cond, nat_lt, refl, sym, ap, ◌∙◌, subst, arith, length, drop, pow_mono, pow-add}
-use Rattle.std.specs.Prelude.{slice_get, slice_index, Contains}
+use Rattle.std.specs.Prelude.{slice_get, slice_index, Contains, codes, ok_or}
 use Rattle.std.proofs.lemmas.Bool.{cases_lt, le-ltb, ltb-false}
 use Rattle.std.proofs.lemmas.List.{length-append}
 use Rattle.std.proofs.lemmas.List.Elements.{Contains-get_or}
@@ -8,12 +8,12 @@ use Rattle.std.proofs.Math.ListN.{drop_of_length-le}
 use Rattle.std.proofs.Math.Nat.{lt_of_mul-lt-mul_right}
 use Rattle.std.proofs.Math.Seq.{drop-cons}
 use Rattle.jxlm_base.specs.Decoding.{Found, IsLawful, Keeps, Meaning, Taken}
-use Rattle.jxlm_base.specs.Fault.{Fault, Refused, ◌>>=◌}
+use Rattle.jxlm_base.specs.Fault.{Fault, BadEnum, Refused, ◌>>=◌}
 use Rattle.jxlm_base.specs.declared.decoder.DecoderError.{DecoderError}
-use Rattle.jxlm_tree.specs.Inner.DraftReading.{ListsTrees}
+use Rattle.jxlm_tree.specs.Inner.DraftReading.{ListsTrees, is_endless}
 use Rattle.jxlm_tree.specs.Predictions.{predictors}
 use Rattle.jxlm_tree.specs.Tree.{Shape, leaf, decision, Node, Config, config_of, leaf_node, decision_node, levels, node_count}
-use Rattle.jxlm_tree.specs.TreeReading.{Draft, Drawn, IsTreeAt, Listing, children, drafts_at, is_endless, leaf_at, leaf_count, limit_fault, listing_at, most_nodes, multiplier_at, node_at, nodes_at, predictor_at, predictor_of, read_context, through, with_clusters}
+use Rattle.jxlm_tree.specs.TreeReading.{Draft, IsTreeAt, children, drafts_at, leaf_at, leaf_count, limit_fault, listing_at, most_nodes, multiplier_at, node_at, nodes_at, predictor_at, read_context, through, with_clusters}
 use Rattle.jxlm_tree.specs.TreeStands.{LeafStands, NodeStands, NodesStand, TokenStands, OneTreeStands, TreeStands, TreesAreReadExactly, leaf_clusters}
 use Rattle.jxlm_tree.specs.declared.flat.Leaf.{Leaf}
 use Rattle.jxlm_tree.specs.declared.predictor.Predictor.{Predictor}
@@ -36,6 +36,10 @@ cursor s p = record { value = s; position = p }
 -- a leaf with a cluster
 abbrev in_cluster : ℕ → Draft → Leaf
 in_cluster c l = record { cluster = c; predictor = l.predictor; offset = l.offset; multiplier = l.multiplier }
+
+-- the predictor of a number, or the error of a number that names none
+abbrev predictor_of : ℕ → ℕ → Result Predictor Refused
+predictor_of number p = ok_or (slice_get predictors number) (record { fault = BadEnum (codes "MaProperty") number; position = Some p })
 
 predictor_is : (number p : ℕ) (x : Predictor) → predictor_of number p ≡ Ok x → slice_get predictors number ≡ Some x
 predictor_is number p x h = of (slice_get predictors number) refl where
@@ -122,7 +126,7 @@ within_bounds log factor h =
 module _ {S : Type 0} (d : Meaning S) (bytes : List ℕ) where
   -- ---- what is read stands there
 
-  token_there : (context : ℕ) (s : S) (p : ℕ) (x : Drawn ℕ S) → read_context d bytes context s p ≡ Ok x → TokenStands d bytes context (cursor s p) x.value (cursor x.state x.position)
+  token_there : (context : ℕ) (s : S) (p : ℕ) (x : Taken ℕ S) → read_context d bytes context s p ≡ Ok x → TokenStands d bytes context (cursor s p) x.value (cursor x.state x.position)
   token_there context s p x h = of (d.read s bytes p (slice_index (d.cluster_map s) context) 0) refl where
     of : (r : Result (Taken ℕ S) DecoderError) → d.read s bytes p (slice_index (d.cluster_map s) context) 0 ≡ r → r ≡ Ok (record { value = x.value; state = x.state; position = x.position })
     of (Ok taken) e = let k = rw e at h in rw (same _ _ _ refl k) refl
@@ -144,14 +148,14 @@ module _ {S : Type 0} (d : Meaning S) (bytes : List ℕ) where
     is : multiplier ≡ (factor + 1) * 2 ^ log
     below : multiplier < 2 ^ 31
 
-  predictor_there : (s : S) (p : ℕ) (x : Drawn Predictor S) → predictor_at d bytes s p ≡ Ok x → PredictorStands (cursor s p) x.value (cursor x.state x.position)
+  predictor_there : (s : S) (p : ℕ) (x : Taken Predictor S) → predictor_at d bytes s p ≡ Ok x → PredictorStands (cursor s p) x.value (cursor x.state x.position)
   unfolding predictor_at
   predictor_there s p x h =
       bind_then (read_context d bytes 2 s p) _ x h (λ a e rest.
       bind_then (predictor_of a.value a.position) _ x rest (λ predictor is ends.
       rw (same _ _ _ refl ends) (record { number = a.value; stands = token_there 2 s p a e; is = predictor_is a.value a.position predictor is })))
 
-  multiplier_there : (s : S) (p : ℕ) (x : Drawn ℕ S) → multiplier_at d bytes s p ≡ Ok x → MultiplierStands (cursor s p) x.value (cursor x.state x.position)
+  multiplier_there : (s : S) (p : ℕ) (x : Taken ℕ S) → multiplier_at d bytes s p ≡ Ok x → MultiplierStands (cursor s p) x.value (cursor x.state x.position)
   unfolding multiplier_at
   multiplier_there s p x h =
       bind_then (read_context d bytes 4 s p) _ x h (λ log log_read rest.
@@ -168,7 +172,7 @@ module _ {S : Type 0} (d : Meaning S) (bytes : List ℕ) where
         below = multiplier_below log.value small factor.value within;
       })))
 
-  leaf_there : (c : ℕ) (s : S) (p : ℕ) (x : Drawn Draft S) → leaf_at d bytes s p ≡ Ok x → LeafStands d bytes (cursor s p) (in_cluster c x.value) (cursor x.state x.position)
+  leaf_there : (c : ℕ) (s : S) (p : ℕ) (x : Taken Draft S) → leaf_at d bytes s p ≡ Ok x → LeafStands d bytes (cursor s p) (in_cluster c x.value) (cursor x.state x.position)
   unfolding leaf_at
   leaf_there c s p x h =
       bind_then (predictor_at d bytes s p) _ x h (λ a first rest.
@@ -199,7 +203,7 @@ module _ {S : Type 0} (d : Meaning S) (bytes : List ℕ) where
   DraftStands a (leaf_node l) b = (c : ℕ) → NodeStands d bytes a (leaf_node (in_cluster c l)) b
   DraftStands a (decision_node property value) b = NodeStands d bytes a (decision_node property value) b
 
-  of_kind_there : (token : ℕ) (t : S) (q : ℕ) (s : S) (p : ℕ) (x : Drawn (Node Draft) S) → read_context d bytes 1 s p ≡ Ok (record { value = token; state = t; position = q }) →
+  of_kind_there : (token : ℕ) (t : S) (q : ℕ) (s : S) (p : ℕ) (x : Taken (Node Draft) S) → read_context d bytes 1 s p ≡ Ok (record { value = token; state = t; position = q }) →
       node_at d bytes s p ≡ Ok x → DraftStands (cursor s p) x.value (cursor x.state x.position)
   unfolding node_at
   of_kind_there zero t q s p x e h =
@@ -211,7 +215,7 @@ module _ {S : Type 0} (d : Meaning S) (bytes : List ℕ) where
       bind_then (read_context d bytes 0 t q) _ x k (λ value is ends.
       rw (same _ _ _ refl ends) (cursor t q, value.value, token_there 1 s p _ e, token_there 0 t q value is, refl))
 
-  node_there : (s : S) (p : ℕ) (x : Drawn (Node Draft) S) → node_at d bytes s p ≡ Ok x → DraftStands (cursor s p) x.value (cursor x.state x.position)
+  node_there : (s : S) (p : ℕ) (x : Taken (Node Draft) S) → node_at d bytes s p ≡ Ok x → DraftStands (cursor s p) x.value (cursor x.state x.position)
   unfolding node_at
   node_there s p x h =
       bind_then (read_context d bytes 1 s p) _ x h (λ kind is rest. of_kind_there kind.value kind.state kind.position s p x is h)
@@ -221,7 +225,7 @@ module _ {S : Type 0} (d : Meaning S) (bytes : List ℕ) where
   prepended clusters (leaf_node l) ns a m b first rest k = (m, first (slice_index clusters k), rest (suc k))
   prepended clusters (decision_node property value) ns a m b first rest k = (m, first, rest k)
 
-  nodes_there : (clusters : List ℕ) (limit : Fault) (room missing : ℕ) (s : S) (p : ℕ) (x : Drawn (List (Node Draft)) S) → nodes_at d bytes limit room missing s p ≡ Ok x →
+  nodes_there : (clusters : List ℕ) (limit : Fault) (room missing : ℕ) (s : S) (p : ℕ) (x : Taken (List (Node Draft)) S) → nodes_at d bytes limit room missing s p ≡ Ok x →
       (k : ℕ) → NodesStand d bytes (cursor s p) (with_clusters clusters k x.value) (cursor x.state x.position)
   unfolding nodes_at
   nodes_there clusters limit zero zero s p x h = rw (same _ _ _ refl h) (λ k. refl)
@@ -234,7 +238,7 @@ module _ {S : Type 0} (d : Meaning S) (bytes : List ℕ) where
       (prepended clusters n.value ns.value (cursor s p) (cursor n.state n.position) (cursor ns.state ns.position) (node_there s p n is) (nodes_there clusters limit room (missing + children n.value) n.state n.position ns are))))
 
   -- no more than there is room for
-  nodes_few : (limit : Fault) (room missing : ℕ) (s : S) (p : ℕ) (x : Drawn (List (Node Draft)) S) → nodes_at d bytes limit room missing s p ≡ Ok x → length x.value ≤ room
+  nodes_few : (limit : Fault) (room missing : ℕ) (s : S) (p : ℕ) (x : Taken (List (Node Draft)) S) → nodes_at d bytes limit room missing s p ≡ Ok x → length x.value ≤ room
   unfolding nodes_at
   nodes_few limit zero zero s p x h = rw (same _ _ _ refl h) (omega arith)
   nodes_few limit zero (suc missing) s p x h = cc
@@ -273,7 +277,7 @@ module _ {S : Type 0} (d : Meaning S) (bytes : List ℕ) where
   read_stands : IsLawful d → (node_limit depth_limit p : ℕ) (config : Config S) (q : ℕ) → IsTreeAt d bytes node_limit depth_limit p config q → TreeStands d bytes node_limit depth_limit p config q
   unfolding listing_at
   read_stands lawful node_limit depth_limit p config q h =
-      let x : Found (Listing S) = record { value = record { nodes = levels config.tree; decoder = config.decoder }; position = q } in
+      let x : Taken (List (Node Leaf)) S = record { value = levels config.tree; state = config.decoder; position = q } in
       bind_then (through None (d.parse bytes p 6)) _ x h.reads (λ decoder parsed rest.
       bind_then (drafts_at d bytes node_limit decoder.value decoder.position) _ x rest (λ drafts drawn more.
       bind_then (through None (d.parse bytes drafts.position (leaf_count drafts.value))) _ x more (λ leaves read ends.
@@ -282,9 +286,9 @@ module _ {S : Type 0} (d : Meaning S) (bytes : List ℕ) where
       let leaves_read : d.parse bytes drafts.position (leaf_count drafts.value) ≡ Ok leaves = through_ok None _ leaves read in
       let count : length clusters ≡ leaf_count drafts.value = lawful.parse_clusters bytes drafts.position (leaf_count drafts.value) leaves leaves_read in
       let whole = same _ _ _ refl ends in
-      let nodes_are : levels config.tree ≡ with_clusters clusters 0 drafts.value = ap (λ (y : Found (Listing S)). y.value.nodes) whole in
-      let decoder_is : config.decoder ≡ leaves.value = ap (λ (y : Found (Listing S)). y.value.decoder) whole in
-      let q_is : q ≡ leaves.position = ap (λ (y : Found (Listing S)). y.position) whole in
+      let nodes_are : levels config.tree ≡ with_clusters clusters 0 drafts.value = ap (λ (y : Taken (List (Node Leaf)) S). y.value) whole in
+      let decoder_is : config.decoder ≡ leaves.value = ap (λ (y : Taken (List (Node Leaf)) S). y.state) whole in
+      let q_is : q ≡ leaves.position = ap (λ (y : Taken (List (Node Leaf)) S). y.position) whole in
       let clusters_are : leaf_clusters (levels config.tree) ≡ clusters = ap leaf_clusters nodes_are ∙ clusters_back clusters 0 drafts.value (omega (arith, count)) in
       let few = stand.few in
       let nodes_count : node_count config.tree ≡ length drafts.value = count_is clusters config.tree drafts.value nodes_are in
@@ -424,9 +428,9 @@ module _ {S : Type 0} (d : Meaning S) (bytes : List ℕ) where
         let first = stands_read node_limit depth_limit p x q h in
         let second = stands_read node_limit depth_limit p y r k in
         let whole = same _ _ (listing_at d bytes node_limit p) second.reads first.reads in
-        let trees : x.tree ≡ y.tree = levels-injective x.tree y.tree (ap (λ (found : Found (Listing S)). found.value.nodes) whole) in
-        let decoders : x.decoder ≡ y.decoder = ap (λ (found : Found (Listing S)). found.value.decoder) whole in
-        (ap (λ (t : Shape Leaf). config_of t x.decoder) trees ∙ ap (config_of y.tree) decoders, ap (λ (found : Found (Listing S)). found.position) whole)
+        let trees : x.tree ≡ y.tree = levels-injective x.tree y.tree (ap (λ (found : Taken (List (Node Leaf)) S). found.value) whole) in
+        let decoders : x.decoder ≡ y.decoder = ap (λ (found : Taken (List (Node Leaf)) S). found.state) whole in
+        (ap (λ (t : Shape Leaf). config_of t x.decoder) trees ∙ ap (config_of y.tree) decoders, ap (λ (found : Taken (List (Node Leaf)) S). found.position) whole)
 
 pub read_exactly : {S : Type 0} (d : Meaning S) → IsLawful d → TreesAreReadExactly d
 read_exactly d lawful = λ bytes node_limit depth_limit p config q. (read_stands d bytes lawful node_limit depth_limit p config q, stands_read d bytes lawful node_limit depth_limit p config q)

@@ -1,6 +1,7 @@
 -- How a tree is read (ISO/IEC 18181-1, Modular: decoding of meta-adaptive trees), by what a decoder means.
-use Rattle.std.specs.Prelude.{◌≡◌, ℕ, zero, suc, ◌+◌, ◌-◌, ◌*◌, ◌^◌, ◌<◌, ◌≤◌, ◌⊎◌, min, nat_lt, if◌then◌else◌, ℤ, FitsSigned, List, [], ◌∷◌, slice_get, slice_index, Contains, Bool, true, false, Option, None, Some, Result, Ok, Err, IsOk, codes}
+use Rattle.std.specs.Prelude.{◌≡◌, ℕ, zero, suc, ◌+◌, ◌-◌, ◌*◌, ◌^◌, ◌<◌, ◌≤◌, ◌⊎◌, min, nat_lt, if◌then◌else◌, ℤ, FitsSigned, List, [], ◌∷◌, slice_get, slice_index, Contains, Option, None, Some, Result, Ok, Err, IsOk, codes, unwrap_or, ok_or}
 use Rattle.std.specs.Int.{w32}
+use Rattle.std.specs.Result.{result_map_both}
 use Rattle.jxlm_base.specs.Decoding.{Found, Taken, Meaning}
 use Rattle.jxlm_base.specs.Fault.{Fault, BadEnum, BadProfile, BadTree, NoMemory, OfDecoder, Refused, fault_of, UnlessMemory, ◌>>=◌}
 use Rattle.jxlm_base.specs.Grammar.{IsRefused}
@@ -18,32 +19,13 @@ refused_at p fault = Err (record { fault = fault; position = Some p })
 
 -- what a call of the decoder gives; its error leaves the reader at that position
 abbrev pub through : {X : Type 0} → Option ℕ → Result X DecoderError → Result X Refused
-through place (Ok x) = Ok x
-through place (Err e) = Err (record { fault = OfDecoder e; position = place })
-
--- the predictor of a number; there are fourteen
-abbrev pub predictor_of : ℕ → ℕ → Result Predictor Refused
-predictor_of number p = from_list (slice_get predictors number) where
-  from_list : Option Predictor → Result Predictor Refused
-  from_list (Some predictor) = Ok predictor
-  from_list None = refused_at p (BadEnum (codes "MaProperty") number)
+through place = result_map_both (λ x. x) (λ e. record { fault = OfDecoder e; position = place })
 
 -- what is read of a leaf: all but its cluster
 pub record Draft : Type 0 where
   pub predictor : Predictor
   pub offset : ℤ
   pub multiplier : ℕ
-
--- what was read, and the decoder's state and the position after it
-pub record Drawn (X S : Type 0) : Type 0 where
-  pub value : X
-  pub state : S
-  pub position : ℕ
-
--- the nodes of a tree, and the decoder of its leaves' clusters
-pub record Listing (S : Type 0) : Type 0 where
-  pub nodes : List (Node Leaf)
-  pub decoder : S
 
 -- The leaves, numbered from k on in their order, have the clusters of their numbers.
 abbrev pub with_clusters : List ℕ → ℕ → List (Node Draft) → List (Node Leaf)
@@ -71,12 +53,6 @@ most_nodes node_limit = min (2 ^ 26) (node_limit + 1)
 abbrev pub limit_fault : ℕ → Fault
 limit_fault node_limit = if nat_lt (node_limit + 1) (2 ^ 26) then BadProfile (codes "MA tree limit exceeded") else BadTree
 
--- a single token other than 0 before each node would make each node a decision
-abbrev pub is_endless : Option ℕ → Bool
-is_endless None = false
-is_endless (Some zero) = false
-is_endless (Some (suc k)) = true
-
 -- What is known of a leaf that was read: its cluster is one of the decoder's, and its numbers are in these ranges.
 pub record IsLeafOf (clusters : List ℕ) (l : Leaf) : Type 0 where
   pub cluster : Contains clusters l.cluster
@@ -90,21 +66,19 @@ IsWantOfMemory fault = UnlessMemory fault ⊥
 
 module _ {S : Type 0} (d : Meaning S) (bytes : List ℕ) where
   -- the read of a context; its error leaves the reader where it was
-  abbrev pub read_context : ℕ → S → ℕ → Result (Drawn ℕ S) Refused
-  read_context context s p = drawn (d.read s bytes p (slice_index (d.cluster_map s) context) 0) where
-    drawn : Result (Taken S) DecoderError → Result (Drawn ℕ S) Refused
-    drawn (Ok taken) = Ok (record { value = taken.token; state = taken.state; position = taken.position })
-    drawn (Err e) = refused_at p (OfDecoder e)
+  abbrev pub read_context : ℕ → S → ℕ → Result (Taken ℕ S) Refused
+  read_context context s p = through (Some p) (d.read s bytes p (slice_index (d.cluster_map s) context) 0)
 
-  -- the predictor of a leaf
-  unfoldable pub predictor_at : S → ℕ → Result (Drawn Predictor S) Refused
+  -- the predictor of a leaf, by its number
+  unfoldable pub predictor_at : S → ℕ → Result (Taken Predictor S) Refused
   predictor_at s p = do
     number ← read_context 2 s p
-    predictor ← predictor_of number.value number.position
+    let unknown : Refused = record { fault = BadEnum (codes "MaProperty") number.value; position = Some number.position }
+    predictor ← ok_or (slice_get predictors number.value) unknown
     Ok (record { value = predictor; state = number.state; position = number.position })
 
   -- the multiplier of a leaf: (factor + 1) * 2 ^ log, below 2 ^ 31
-  unfoldable pub multiplier_at : S → ℕ → Result (Drawn ℕ S) Refused
+  unfoldable pub multiplier_at : S → ℕ → Result (Taken ℕ S) Refused
   multiplier_at s p = do
     log ← read_context 4 s p
     if nat_lt 30 log.value then refused_at log.position BadTree else (do
@@ -113,24 +87,21 @@ module _ {S : Type 0} (d : Meaning S) (bytes : List ℕ) where
           Ok (record { value = (factor.value + 1) * 2 ^ log.value; state = factor.state; position = factor.position }))
 
   -- a leaf: predictor, offset and multiplier
-  unfoldable pub leaf_at : S → ℕ → Result (Drawn Draft S) Refused
+  unfoldable pub leaf_at : S → ℕ → Result (Taken Draft S) Refused
   leaf_at s p = do
     predictor ← predictor_at s p
     offset ← read_context 3 predictor.state predictor.position
     multiplier ← multiplier_at offset.state offset.position
-    Ok (record {
-      value = record { predictor = predictor.value; offset = unpack offset.value; multiplier = multiplier.value };
-      state = multiplier.state;
-      position = multiplier.position;
-    })
+    let draft : Draft = record { predictor = predictor.value; offset = unpack offset.value; multiplier = multiplier.value }
+    Ok (record { value = draft; state = multiplier.state; position = multiplier.position })
 
   -- a node: 0 comes before a leaf, and k + 1 before a decision on property k, which its value follows
-  unfoldable pub node_at : S → ℕ → Result (Drawn (Node Draft) S) Refused
+  unfoldable pub node_at : S → ℕ → Result (Taken (Node Draft) S) Refused
   node_at s p = do
     kind ← read_context 1 s p
     of_kind kind.value kind.state kind.position
     where
-      of_kind : ℕ → S → ℕ → Result (Drawn (Node Draft) S) Refused
+      of_kind : ℕ → S → ℕ → Result (Taken (Node Draft) S) Refused
       of_kind zero s p = do
         read ← leaf_at s p
         Ok (record { value = leaf_node read.value; state = read.state; position = read.position })
@@ -138,9 +109,8 @@ module _ {S : Type 0} (d : Meaning S) (bytes : List ℕ) where
         value ← read_context 0 s p
         Ok (record { value = decision_node k (unpack value.value); state = value.state; position = value.position })
 
-  -- `missing` nodes, and those that they call for; `room` more may be read, and where one is missing then, `limit` is
-  -- the error
-  unfoldable pub nodes_at : Fault → ℕ → ℕ → S → ℕ → Result (Drawn (List (Node Draft)) S) Refused
+  -- `missing` nodes, and those that they call for, of which `room` may be read; one more is the error `limit`
+  unfoldable pub nodes_at : Fault → ℕ → ℕ → S → ℕ → Result (Taken (List (Node Draft)) S) Refused
   nodes_at limit room zero s p = Ok (record { value = []; state = s; position = p })
   nodes_at limit zero (suc missing) s p = refused_at p limit
   nodes_at limit (suc room) (suc missing) s p = do
@@ -148,25 +118,22 @@ module _ {S : Type 0} (d : Meaning S) (bytes : List ℕ) where
     others ← nodes_at limit room (missing + children first.value) first.state first.position
     Ok (record { value = first.value ∷ others.value; state = others.state; position = others.position })
 
-  -- the nodes of a tree by a decoder that is before its tokens
+  -- the nodes of a tree by a decoder before its tokens; a single token before each node, other than 0, makes no leaf
   unfoldable pub drafts_at : ℕ → S → ℕ → Result (Found (List (Node Draft))) Refused
-  drafts_at node_limit s p = if is_endless (d.single_token s (slice_index (d.cluster_map s) 1)) then refused_at p BadTree else (do
+  drafts_at node_limit s p = if nat_lt 0 (unwrap_or (d.single_token s (slice_index (d.cluster_map s) 1)) 0) then refused_at p BadTree else (do
     start ← through (Some p) (d.begin s bytes p)
     nodes ← nodes_at (limit_fault node_limit) (most_nodes node_limit) 1 start.value start.position
     ended ← through (Some nodes.position) (d.finalize nodes.state)
     Ok (record { value = nodes.value; position = nodes.position }))
 
-  -- the nodes of the tree at a position, level by level: a decoder of six contexts, the nodes, and a decoder with a
-  -- context for each leaf
-  unfoldable pub listing_at : ℕ → ℕ → Result (Found (Listing S)) Refused
+  -- at a position: a decoder of six contexts, the nodes level by level, and a decoder with a context for each leaf
+  unfoldable pub listing_at : ℕ → ℕ → Result (Taken (List (Node Leaf)) S) Refused
   listing_at node_limit p = do
     decoder ← through None (d.parse bytes p 6)
     nodes ← drafts_at node_limit decoder.value decoder.position
     leaves ← through None (d.parse bytes nodes.position (leaf_count nodes.value))
-    Ok (record {
-      value = record { nodes = with_clusters (d.cluster_map leaves.value) 0 nodes.value; decoder = leaves.value };
-      position = leaves.position;
-    })
+    let listing = with_clusters (d.cluster_map leaves.value) 0 nodes.value
+    Ok (record { value = listing; state = leaves.value; position = leaves.position })
 
   -- The tree's own lists and nodes are out of memory only after the decoder of its nodes was read.
   abbrev pub MemoryGives : {X : Type 0} → ℕ → Result X Error → Type 0
@@ -174,10 +141,9 @@ module _ {S : Type 0} (d : Meaning S) (bytes : List ℕ) where
   MemoryGives p (Err e) = fault_of e ≡ NoMemory → IsOk (d.parse bytes p 6)
 
   module _ (node_limit depth_limit : ℕ) (p : ℕ) where
-    -- at position p stand the nodes of this tree, level by level, and the decoder of its leaves' clusters, up to
-    -- position q
+    -- from position p to q stand the nodes of this tree, level by level, and the decoder of its leaves' clusters
     abbrev pub IsListedAt : Config S → ℕ → Type 0
-    IsListedAt config q = listing_at node_limit p ≡ Ok (record { value = record { nodes = levels config.tree; decoder = config.decoder }; position = q })
+    IsListedAt config q = listing_at node_limit p ≡ Ok (record { value = levels config.tree; state = config.decoder; position = q })
 
     -- that is the tree at position p, with its decoder, and q is the position after both
     pub record IsTreeAt (config : Config S) (q : ℕ) : Type 0 where

@@ -2,13 +2,13 @@
 
 ghost use Rattle.std.specs.Prelude.{◌≡◌, ◌≢◌, ◌≤◌, ◌^◌, ℕ, List, length, map, IfOk, IfErr};
 ghost use Rattle.jxlm_base.specs.Bits.{bytes_of, position_of};
-ghost use Rattle.jxlm_base.specs.Decoding.{Found};
+ghost use Rattle.jxlm_base.specs.Decoding.{Taken};
 ghost use Rattle.jxlm_base.specs.Fault.{NoMemory, fault_of};
 ghost use Rattle.jxlm_base.specs.Grammar.{Answers};
 ghost use Rattle.jxlm_tree.specs.Inner.DraftReading.{ListsTrees, node_of};
 ghost use Rattle.jxlm_tree.specs.FlatTree.{ClustersStandIn};
-ghost use Rattle.jxlm_tree.specs.Tree.{AllLeaves, Shape, levels, node_count, depth};
-ghost use Rattle.jxlm_tree.specs.TreeReading.{IsLeafOf, IsWantOfMemory, Listing, MemoryGives, TreeGives, leaf_count, listing_at, through};
+ghost use Rattle.jxlm_tree.specs.Tree.{AllLeaves, Node, Shape, levels, node_count, depth};
+ghost use Rattle.jxlm_tree.specs.TreeReading.{IsLeafOf, IsWantOfMemory, MemoryGives, TreeGives, leaf_count, listing_at, through};
 ghost use Rattle.jxlm_tree.specs.TreeStands.{OneTreeStands, TreesAreReadExactly};
 ghost use Rattle.jxlm_tree.specs.declared.flat.Leaf.{Leaf};
 
@@ -204,7 +204,7 @@ fn count_leaves(nodes: &[DraftNode]) -> u32
 
 /// What is read as the nodes of a tree is the listing of a tree.
 pub fn each_listing_is_of_a_tree<D: Decoder>()
-    ensures { (bytes : List ℕ) (node_limit p : ℕ) (x : Found (Listing D)) → listing_at D.meaning bytes node_limit p ≡ Ok x → (t : Shape Leaf) × (levels t ≡ x.value.nodes) }
+    ensures { (bytes : List ℕ) (node_limit p : ℕ) (x : Taken (List (Node Leaf)) D) → listing_at D.meaning bytes node_limit p ≡ Ok x → (t : Shape Leaf) × (levels t ≡ x.value) }
 {}
 
 /// No two trees have one listing.

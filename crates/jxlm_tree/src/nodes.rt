@@ -3,8 +3,8 @@
 ghost use Rattle.std.specs.Prelude.{◌≡◌, ◌≤◌, ◌<◌, ◌^◌, ℕ, length, map, slice_index, IfOk, IfErr};
 ghost use Rattle.jxlm_base.specs.Bits.{bytes_of, position_of};
 ghost use Rattle.jxlm_base.specs.Fault.{fault_of};
-ghost use Rattle.jxlm_tree.specs.Inner.DraftReading.{AllDrafts, DrawnAnswers, DrawnGives, IsDraft, IsDraftNode, ListAnswers, ListsTrees, draft_of, node_of};
-ghost use Rattle.jxlm_tree.specs.TreeReading.{children as children_of, drafts_at, is_endless as has_no_end, leaf_at, limit_fault, most_nodes, multiplier_at, node_at, nodes_at, predictor_at, read_context as token_of};
+ghost use Rattle.jxlm_tree.specs.Inner.DraftReading.{AllDrafts, DrawnAnswers, DrawnGives, IsDraft, IsDraftNode, ListAnswers, ListsTrees, draft_of, is_endless as has_no_end, node_of};
+ghost use Rattle.jxlm_tree.specs.TreeReading.{children as children_of, drafts_at, leaf_at, limit_fault, most_nodes, multiplier_at, node_at, nodes_at, predictor_at, read_context as token_of};
 
 use crate::flat::Leaf;
 use crate::predictor::Predictor;

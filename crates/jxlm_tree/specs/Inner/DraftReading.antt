@@ -1,16 +1,19 @@
 -- What the steps of reading a tree return.
-use Rattle.std.specs.Prelude.{◌≡◌, ◌⊎◌, ℕ, zero, suc, ◌+◌, ◌<◌, ◌≤◌, ◌^◌, FitsSigned, List, [], ◌∷◌, Some, Result, Ok, Err}
+use Rattle.std.specs.Prelude.{◌≡◌, ◌⊎◌, ℕ, zero, suc, ◌+◌, ◌<◌, ◌≤◌, ◌^◌, FitsSigned, List, [], ◌∷◌, Bool, nat_lt, Option, Some, unwrap_or, Result, Ok, Err}
 use Rattle.std.specs.Int.{w32}
-use Rattle.jxlm_base.specs.Decoding.{Found}
+use Rattle.jxlm_base.specs.Decoding.{Found, Taken}
 use Rattle.jxlm_base.specs.Fault.{NoMemory, Refused, fault_of}
 use Rattle.jxlm_base.specs.Grammar.{IsRefused}
 use Rattle.jxlm_base.specs.declared.error.Error.{Error}
 use Rattle.jxlm_tree.specs.Tree.{Node, leaf_node, decision_node}
 use Rattle.jxlm_tree.specs.TreeReading as reading
-use Rattle.jxlm_tree.specs.TreeReading.{Drawn}
 use Rattle.jxlm_tree.specs.declared.nodes.Draft.{Draft}
 use Rattle.jxlm_tree.specs.declared.nodes.DraftNode.{DraftNode}
 use Rattle.jxlm_tree.specs.declared.nodes.DraftNode.TheVariants as node
+
+-- a single token before each node, other than 0, would make each node a decision
+abbrev pub is_endless : Option ℕ → Bool
+is_endless single = nat_lt 0 (unwrap_or single 0)
 
 -- a leaf without its cluster, as the definitions have it
 abbrev pub draft_of : Draft → reading.Draft
@@ -46,12 +49,12 @@ ListsTrees (suc m) (leaf_node l ∷ ns) = ListsTrees m ns
 ListsTrees (suc m) (decision_node property value ∷ ns) = ListsTrees (m + 2) ns
 
 -- what was returned, seen by view, with the decoder's state t and the reader at q, is what reading gives
-abbrev pub DrawnGives : {X Y S : Type 0} → (X → Y) → Result X Error → S → ℕ → Result (Drawn Y S) Refused → Type 0
+abbrev pub DrawnGives : {X Y S : Type 0} → (X → Y) → Result X Error → S → ℕ → Result (Taken Y S) Refused → Type 0
 DrawnGives view (Ok x) t q reading = reading ≡ Ok (record { value = view x; state = t; position = q })
 DrawnGives view (Err e) t q reading = reading ≡ Err (record { fault = fault_of e; position = Some q })
 
 -- the same, where the list of nodes may be out of memory at any time
-abbrev pub DrawnAnswers : {X Y S : Type 0} → (X → Y) → Result X Error → S → ℕ → Result (Drawn Y S) Refused → Type 0
+abbrev pub DrawnAnswers : {X Y S : Type 0} → (X → Y) → Result X Error → S → ℕ → Result (Taken Y S) Refused → Type 0
 DrawnAnswers view (Ok x) t q reading = reading ≡ Ok (record { value = view x; state = t; position = q })
 DrawnAnswers view (Err e) t q reading = (fault_of e ≡ NoMemory) ⊎ (reading ≡ Err (record { fault = fault_of e; position = Some q }))
 
