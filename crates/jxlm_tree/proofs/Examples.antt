@@ -3,7 +3,7 @@ use Rattle.std.specs.Prelude.{◌≡◌, ℕ, ℤ, pos, negsuc, List, [], ◌∷
 use Rattle.std.specs.Int.{int_wrap}
 use Rattle.std.specs.Int.Count.{count_leading_zeros}
 use Rattle.jxlm_tree.specs.Neighbours.{Neighbours}
-use Rattle.jxlm_tree.specs.SelfCorrecting.{unclamped, errors_of, self_corrected, greatest_error}
+use Rattle.jxlm_tree.specs.SelfCorrecting.{self_unclamped, self_corrected, greatest_error}
 use Rattle.jxlm_tree.specs.Predictions.{prediction, prediction_from, predictors}
 use Rattle.jxlm_tree.specs.Properties.{place_property}
 use Rattle.jxlm_tree.specs.declared.predictor.Predictor.TheVariants.{AvgAll, AvgWestAndNorth, SelfCorrecting}
@@ -14,7 +14,7 @@ self_correcting_property : greatest_error default_weights (pos 1 ∷ []) 3 ≡ n
 unfolding int_wrap count_leading_zeros
 self_correcting_property = refl
 
-self_correcting_unclamped : unclamped default_weights (pos 1 ∷ []) 3 (errors_of default_weights (pos 1 ∷ []) 3 1) ≡ pos 10
+self_correcting_unclamped : self_unclamped default_weights (pos 1 ∷ []) 3 ≡ pos 10
 unfolding int_wrap count_leading_zeros
 self_correcting_unclamped = refl
 

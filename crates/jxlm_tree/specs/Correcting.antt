@@ -1,11 +1,9 @@
 -- The errors of the weighted (self-correcting) predictor as the code keeps them, and what it makes of a cell.
-use Rattle.std.specs.Prelude.{◌≡◌, ℕ, zero, suc, ◌+◌, ◌-◌, ◌*◌, ◌/◌, ◌%◌, ◌^◌, ◌<◌, ◌≤◌, ℤ, pos, ◌+ℤ◌, ◌-ℤ◌, ◌*ℤ◌, unsigned_abs, nat_lt, Bool, not, ◌&&◌, ◌||◌, if◌then◌else◌, List, map, length, slice_index_or, vec_len, Option, Some, None}
-use Rattle.std.specs.Int.{w32, int_wrap, int_shr, is_negative}
+use Rattle.std.specs.Prelude.{◌≡◌, ℕ, zero, suc, ◌+◌, ◌*◌, ◌/◌, ◌%◌, ◌^◌, ◌<◌, ◌≤◌, ℤ, pos, ◌-ℤ◌, ◌*ℤ◌, unsigned_abs, nat_lt, Bool, if◌then◌else◌, List, map, length, slice_index_or, vec_len, Option, Some, None}
+use Rattle.std.specs.Int.{w32, int_wrap}
 use Rattle.std.specs.Option.{ForSome}
-use Rattle.std.specs.Ordering.{int_eq}
-use Rattle.jxlm_tree.specs.Around.{clamped_around}
 use Rattle.jxlm_tree.specs.Neighbours.{Neighbours, neighbours}
-use Rattle.jxlm_tree.specs.SelfCorrecting.{each, total, shifted, weight_of, reciprocal, west_error, north_error, north_west_error, north_east_error, error_sums, Four, Errors, no_errors, errors_at, errors_of, self_corrected, greatest_error, sub_predictions}
+use Rattle.jxlm_tree.specs.SelfCorrecting.{each, Four, Errors, ErrorsNear, no_errors, errors_at, errors_above, errors_of, near, self_corrected, greatest_error, sub_predictions}
 use Rattle.jxlm_tree.specs.declared.predictor.WpHeader.{WpHeader}
 use Rattle.jxlm_tree.specs.declared.self_correcting.CellErrors.{CellErrors}
 use Rattle.jxlm_tree.specs.declared.self_correcting.Corrector.{Corrector}
@@ -25,18 +23,9 @@ predicted_by s = record { s0 = s.s0; s1 = s.s1; s2 = s.s2; s3 = s.s3 }
 abbrev pub cell_errors : CellErrors → Errors
 cell_errors e = record { true_error = e.true_error; sub_errors = counted e.sub_errors }
 
--- the errors at the neighbours, by the edge rules
-pub record AreErrorsAt (e : ErrorsAround) (errors : List Errors) (width x y : ℕ) : Type 0 where
-  pub w_is : e.w ≡ west_error errors width x y
-  pub n_is : e.n ≡ north_error errors width x y
-  pub nw_is : e.nw ≡ north_west_error errors width x y
-  pub ne_is : e.ne ≡ north_east_error errors width x y
-  pub sums_are : counted e.sums ≡ error_sums errors width x y
-
--- those in the row above, in row 0 none
-abbrev pub errors_above : List Errors → ℕ → ℕ → ℕ → Errors
-errors_above errors width x zero = no_errors
-errors_above errors width x (suc y) = errors_at errors width x y
+-- the errors around a cell
+abbrev pub near_of : ErrorsAround → ErrorsNear
+near_of e = record { w = e.w; n = e.n; nw = e.nw; ne = e.ne; sums = counted e.sums }
 
 -- those above left; in column 0 those above
 abbrev pub errors_above_left : List Errors → ℕ → ℕ → ℕ → Errors
@@ -53,53 +42,7 @@ sums_from nw ww n w ne last = record { s0 = of_one nw.s0 ww.s0 n.s0 w.s0 ne.s0; 
   of_one : ℕ → ℕ → ℕ → ℕ → ℕ → ℕ
   of_one nw ww n w ne = (nw + ww + n + w + (if last then n + w else ne)) % 2 ^ 32
 
--- What is made of a cell with these neighbours and these errors around: the sub-predictions,
-abbrev pub sub_predictions_from : WpHeader → Neighbours → ErrorsAround → Four ℤ
-sub_predictions_from header a e =
-    let w = a.w *ℤ pos 8 in
-    let n = a.n *ℤ pos 8 in
-    let nw = a.nw *ℤ pos 8 in
-    let ne = a.ne *ℤ pos 8 in
-    let nn = a.nn *ℤ pos 8 in
-    record {
-      s0 = w +ℤ ne -ℤ n;
-      s1 = n -ℤ int_shr ((e.w +ℤ e.n +ℤ e.ne) *ℤ pos header.wp_p1) 5;
-      s2 = w -ℤ int_shr ((e.w +ℤ e.n +ℤ e.nw) *ℤ pos header.wp_p2) 5;
-      s3 = n -ℤ int_shr (e.nw *ℤ pos header.wp_p3a +ℤ e.n *ℤ pos header.wp_p3b +ℤ e.ne *ℤ pos header.wp_p3c +ℤ (nn -ℤ n) *ℤ pos header.wp_p3d +ℤ (nw -ℤ w) *ℤ pos header.wp_p3e) 5;
-    }
-
--- their weights,
-abbrev pub weights_from : WpHeader → Four ℕ → Four ℕ
-weights_from header sums = shifted (record { s0 = weight_of header.wp_w0 sums.s0; s1 = weight_of header.wp_w1 sums.s1; s2 = weight_of header.wp_w2 sums.s2; s3 = weight_of header.wp_w3 sums.s3 })
-
--- their sum by weights,
-abbrev pub weighted_from : Four ℤ → Four ℕ → ℤ
-weighted_from s v = pos (total v / 2 - 1) +ℤ s.s0 *ℤ pos v.s0 +ℤ s.s1 *ℤ pos v.s1 +ℤ s.s2 *ℤ pos v.s2 +ℤ s.s3 *ℤ pos v.s3
-
--- divided by the sum of the weights,
-abbrev pub unclamped_from : Four ℤ → Four ℕ → ℤ
-unclamped_from s v = int_shr (weighted_from s v *ℤ pos (reciprocal (total v))) 24
-
--- whether it is clamped,
-abbrev pub is_clamped_from : ErrorsAround → Bool
-is_clamped_from e =
-    let all_negative = is_negative e.w && is_negative e.n && is_negative e.nw in
-    let none_negative = not (is_negative e.w || is_negative e.n || is_negative e.nw) in
-    not (all_negative || none_negative) || (int_eq e.w e.n && int_eq e.n e.nw)
-
--- the prediction,
-abbrev pub predicted_from : WpHeader → Neighbours → ErrorsAround → ℤ
-predicted_from header a e =
-    let z = unclamped_from (sub_predictions_from header a e) (weights_from header (counted e.sums)) in
-    if is_clamped_from e then clamped_around a z else z
-
--- the maximum error,
-abbrev pub greatest_from : ErrorsAround → ℤ
-greatest_from e = further (further (further e.w e.n) e.nw) e.ne where
-  further : ℤ → ℤ → ℤ
-  further a b = if nat_lt (unsigned_abs a) (unsigned_abs b) then b else a
-
--- and the errors after the sample
+-- the errors of a cell with this prediction and these sub-predictions after its sample
 abbrev pub errors_from : ℤ → Four ℤ → ℤ → Errors
 errors_from prediction subs sample = record {
   true_error = int_wrap w32 (prediction -ℤ sample *ℤ pos 8);
@@ -156,11 +99,11 @@ abbrev pub header_of : Option Corrector → Option WpHeader
 header_of None = None
 header_of (Some c) = Some c.header
 
--- what was made is what the predictor makes of the cell after the samples, of which these are the errors
+-- what was made is what the predictor makes of the cell after the samples
 pub record IsMadeBy (r : PredictionResult) (header : WpHeader) (width : ℕ) (samples : List ℤ) : Type 0 where
   pub prediction_is : r.prediction ≡ self_corrected header samples width
   pub max_error_is : r.max_error ≡ greatest_error header samples width
-  pub subpred_is : predicted_by r.subpred ≡ sub_predictions header samples width (errors_of header samples width (length samples))
+  pub subpred_is : predicted_by r.subpred ≡ sub_predictions header (neighbours samples width) (near header samples width)
 
 -- it is made where there are weights
 abbrev pub IsMade : Option PredictionResult → Option WpHeader → ℕ → List ℤ → Type 0

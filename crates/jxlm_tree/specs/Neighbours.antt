@@ -1,8 +1,7 @@
--- The neighbours of a cell (ISO/IEC 18181-1, Modular: neighbouring samples). Samples are in row order; a cell is in a
--- column x and a row y.
+-- The neighbours of a cell in column x and row y (ISO/IEC 18181-1, Modular: neighbouring samples).
 use Rattle.std.specs.Prelude.{ℕ, zero, suc, ◌+◌, ◌*◌, ◌/◌, ◌%◌, ℤ, pos, List, length, slice_index_or, nat_lt, if◌then◌else◌}
 
--- the sample in column x of row y
+-- the sample in column x of row y; samples are in row order
 abbrev pub at : List ℤ → ℕ → ℕ → ℕ → ℤ
 at samples width x y = slice_index_or samples (y * width + x) (pos 0)
 

@@ -1,6 +1,7 @@
 -- The fourteen predictions (ISO/IEC 18181-1, Modular: predictors).
 use Rattle.std.specs.Prelude.{ℕ, nat_lt, if◌then◌else◌, ℤ, pos, ◌+ℤ◌, ◌-ℤ◌, ◌*ℤ◌, unsigned_abs, int_div, List, [], ◌∷◌, slice_get, Option, Some, None, Result, Ok, Err, codes, ◌≡◌}
 use Rattle.std.specs.Int.{w32, int_wrap, int_shr}
+use Rattle.std.specs.Option.{option_map_or}
 use Rattle.jxlm_base.specs.Fault.{BadEnum, bitstream_fault}
 use Rattle.jxlm_base.specs.Numbers.{clamped_gradient}
 use Rattle.jxlm_base.specs.declared.bits.BitstreamError.{BitstreamError}
@@ -38,13 +39,11 @@ prediction_from a p AvgAll = int_div (pos 6 *ℤ a.n -ℤ pos 2 *ℤ a.nn +ℤ p
 
 -- the weighted prediction times 8, where there are weights for it
 abbrev pub corrected : Option WpHeader → List ℤ → ℕ → ℤ
-corrected None samples width = pos 0
-corrected (Some weights) samples width = self_corrected weights samples width
+corrected weights samples width = option_map_or (λ h. self_corrected h samples width) weights (pos 0)
 
 -- the same before it is clamped
 abbrev pub unclamped_correction : Option WpHeader → List ℤ → ℕ → ℤ
-unclamped_correction None samples width = pos 0
-unclamped_correction (Some weights) samples width = self_unclamped weights samples width
+unclamped_correction weights samples width = option_map_or (λ h. self_unclamped h samples width) weights (pos 0)
 
 -- the prediction at the cell after the samples, reduced to 32 bits
 abbrev pub prediction : Option WpHeader → List ℤ → ℕ → Predictor → ℤ

@@ -1,6 +1,7 @@
 -- The properties of a cell (ISO/IEC 18181-1, Modular: properties).
 use Rattle.std.specs.Prelude.{ℕ, zero, suc, ◌-◌, ◌/◌, ◌%◌, ◌==◌, nat_lt, if◌then◌else◌, ℤ, pos, ◌+ℤ◌, ◌-ℤ◌, List, [], ◌∷◌, slice_get, slice_index_or, Option, Some, None}
 use Rattle.std.specs.Int.{w32, int_wrap}
+use Rattle.std.specs.Option.{option_map_or}
 use Rattle.jxlm_base.specs.Grid.{Grid}
 use Rattle.jxlm_base.specs.Numbers.{absolute, clamped_gradient}
 use Rattle.jxlm_tree.specs.Neighbours.{neighbours, at, west, north, north_west, column, row}
@@ -26,8 +27,7 @@ west_change samples width (suc x) y = west samples width (suc x) y -ℤ gradient
 
 -- property 15: the maximum error, or 0 without weights
 abbrev pub error_property : Option WpHeader → List ℤ → ℕ → ℤ
-error_property None samples width = pos 0
-error_property (Some weights) samples width = greatest_error weights samples width
+error_property weights samples width = option_map_or (λ h. greatest_error h samples width) weights (pos 0)
 
 -- properties 2 to 15, at the cell after the samples, before they are reduced
 abbrev pub own_properties : Surroundings → List ℤ
@@ -35,24 +35,12 @@ own_properties s =
     let a = neighbours s.samples s.width in
     let x = column s.samples s.width in
     let y = row s.samples s.width in
-    pos y
-    ∷ pos x
-    ∷ absolute a.n
-    ∷ absolute a.w
-    ∷ a.n
-    ∷ a.w
-    ∷ west_change s.samples s.width x y
-    ∷ gradient_at s.samples s.width x y
-    ∷ (a.w -ℤ a.nw)
-    ∷ (a.nw -ℤ a.n)
-    ∷ (a.n -ℤ a.ne)
-    ∷ (a.n -ℤ a.nn)
-    ∷ (a.w -ℤ a.ww)
-    ∷ error_property s.weights s.samples s.width
-    ∷ []
+    pos y ∷ pos x ∷ absolute a.n ∷ absolute a.w ∷ a.n ∷ a.w
+    ∷ west_change s.samples s.width x y ∷ gradient_at s.samples s.width x y
+    ∷ (a.w -ℤ a.nw) ∷ (a.nw -ℤ a.n) ∷ (a.n -ℤ a.ne) ∷ (a.n -ℤ a.nn) ∷ (a.w -ℤ a.ww)
+    ∷ error_property s.weights s.samples s.width ∷ []
 
--- what an earlier channel leads to expect at (x, y): nothing at the start, above in column 0, left in row 0, else the
--- clamped gradient
+-- what an earlier channel leads to expect: 0 at the start, above in column 0, left in row 0, else the clamped gradient
 abbrev pub expected : List ℤ → ℕ → ℕ → ℕ → ℤ
 expected cells width zero zero = pos 0
 expected cells width zero (suc y) = at cells width 0 y
@@ -80,8 +68,7 @@ place_property s k =
     else if nat_lt k 16 then int_wrap w32 (slice_index_or (own_properties s) (k - 2) (pos 0))
     else int_wrap w32 (earlier_property s (k - 16))
 
--- property k as a tree's walk sees it: 0 is the channel's index in its part and 1 the stream index, both read as
--- 32-bit numbers
+-- property k as a walk sees it: 0 and 1 are the channel's index in its part and the stream index, as 32-bit numbers
 abbrev pub property : ℕ → ℕ → Surroundings → ℕ → ℤ
 property channel stream s k =
     if k == 0 then int_wrap w32 (pos channel)

@@ -1,5 +1,4 @@
--- The weighted (self-correcting) predictor (ISO/IEC 18181-1, Modular: self-correcting predictor), cell by cell in row
--- order.
+-- The weighted (self-correcting) predictor (ISO/IEC 18181-1, Modular: self-correcting predictor).
 use Rattle.std.specs.Prelude.{ℕ, zero, suc, ◌+◌, ◌-◌, ◌*◌, ◌/◌, ◌%◌, ◌^◌, ◌<◌, ℤ, pos, ◌+ℤ◌, ◌-ℤ◌, ◌*ℤ◌, List, [], ◌∷◌, ◌++◌, length, take, slice_index_or, unsigned_abs, nat_lt, Bool, not, ◌&&◌, ◌||◌, if◌then◌else◌}
 use Rattle.std.specs.Int.{w32, int_wrap, int_shr, int_min, int_max, is_negative}
 use Rattle.std.specs.Ordering.{int_eq}
@@ -31,78 +30,53 @@ pub record Errors : Type 0 where
 abbrev pub no_errors : Errors
 no_errors = record { true_error = pos 0; sub_errors = record { s0 = 0; s1 = 0; s2 = 0; s3 = 0 } }
 
+-- What is known around a cell: the true errors at four neighbours, and the error sums of the sub-predictions.
+pub record ErrorsNear : Type 0 where
+  pub w : ℤ
+  pub n : ℤ
+  pub nw : ℤ
+  pub ne : ℤ
+  pub sums : Four ℕ
+
 -- The errors of the cells before this one, in row order.
 module _ (errors : List Errors) (width : ℕ) where
   -- those of the cell in column x of row y
   abbrev pub errors_at : ℕ → ℕ → Errors
   errors_at x y = slice_index_or errors (y * width + x) no_errors
 
-  -- the true error above; in row 0 none
-  abbrev pub north_error : ℕ → ℕ → ℤ
-  north_error x zero = pos 0
-  north_error x (suc y) = (errors_at x y).true_error
+  -- those above; in row 0 none
+  abbrev pub errors_above : ℕ → ℕ → Errors
+  errors_above x zero = no_errors
+  errors_above x (suc y) = errors_at x y
 
-  -- left; in column 0 none
-  abbrev pub west_error : ℕ → ℕ → ℤ
-  west_error zero y = pos 0
-  west_error (suc x) y = (errors_at x y).true_error
+  -- those to the left; in column 0 none
+  abbrev pub errors_left : ℕ → ℕ → Errors
+  errors_left zero y = no_errors
+  errors_left (suc x) y = errors_at x y
 
-  -- above left; in row 0 none, in column 0 as north
-  abbrev pub north_west_error : ℕ → ℕ → ℤ
-  north_west_error x zero = pos 0
-  north_west_error zero (suc y) = north_error zero (suc y)
-  north_west_error (suc x) (suc y) = (errors_at x y).true_error
+  -- the sum of one sub-prediction's errors around (x, y), reduced; in the last column north and west make north east
+  abbrev pub error_sum : (Four ℕ → ℕ) → ℕ → ℕ → ℕ
+  error_sum sub x y =
+      let n = sub (errors_above x y).sub_errors in
+      let w = sub (errors_left x y).sub_errors in
+      let ne = if nat_lt (x + 1) width then sub (errors_above (x + 1) y).sub_errors else n + w in
+      (sub (errors_above (x - 1) y).sub_errors + sub (errors_left (x - 1) y).sub_errors + n + w + ne) % 2 ^ 32
 
-  -- above right; in row 0 none, in the last column as north
-  abbrev pub north_east_error : ℕ → ℕ → ℤ
-  north_east_error x zero = pos 0
-  north_east_error x (suc y) = if nat_lt (x + 1) width then (errors_at (x + 1) y).true_error else north_error x (suc y)
-
-  -- The errors of one sub-prediction at the neighbours.
-  module _ (sub : Four ℕ → ℕ) where
-    -- above; in row 0 none
-    abbrev pub sub_north : ℕ → ℕ → ℕ
-    sub_north x zero = 0
-    sub_north x (suc y) = sub (errors_at x y).sub_errors
-
-    -- left; in column 0 none
-    abbrev pub sub_west : ℕ → ℕ → ℕ
-    sub_west zero y = 0
-    sub_west (suc x) y = sub (errors_at x y).sub_errors
-
-    -- two to the left; in columns 0 and 1 none
-    abbrev pub sub_west_west : ℕ → ℕ → ℕ
-    sub_west_west zero y = 0
-    sub_west_west (suc zero) y = 0
-    sub_west_west (suc (suc x)) y = sub (errors_at x y).sub_errors
-
-    -- above left; in row 0 none, in column 0 as north
-    abbrev pub sub_north_west : ℕ → ℕ → ℕ
-    sub_north_west zero y = sub_north zero y
-    sub_north_west (suc x) y = sub_north x y
-
-    -- above right; in row 0 none, in the last column as north and west together
-    abbrev pub sub_north_east : ℕ → ℕ → ℕ
-    sub_north_east x y = if nat_lt (x + 1) width then sub_north (x + 1) y else sub_north x y + sub_west x y
-
-    -- their sum, reduced to 32 bits
-    abbrev pub error_sum : ℕ → ℕ → ℕ
-    error_sum x y = (sub_north_west x y + sub_west_west x y + sub_north x y + sub_west x y + sub_north_east x y) % 2 ^ 32
-
-  -- the sums of all four
-  abbrev pub error_sums : ℕ → ℕ → Four ℕ
-  error_sums x y = record {
-    s0 = error_sum (λ e. e.s0) x y;
-    s1 = error_sum (λ e. e.s1) x y;
-    s2 = error_sum (λ e. e.s2) x y;
-    s3 = error_sum (λ e. e.s3) x y;
+  -- the errors around (x, y); in column 0 north is north west, and in the last column north east
+  abbrev pub errors_near : ℕ → ℕ → ErrorsNear
+  errors_near x y = record {
+    w = (errors_left x y).true_error;
+    n = (errors_above x y).true_error;
+    nw = (errors_above (x - 1) y).true_error;
+    ne = (if nat_lt (x + 1) width then errors_above (x + 1) y else errors_above x y).true_error;
+    sums = record { s0 = error_sum (λ f. f.s0) x y; s1 = error_sum (λ f. f.s1) x y; s2 = error_sum (λ f. f.s2) x y; s3 = error_sum (λ f. f.s3) x y };
   }
 
-  -- the maximum error: of the true errors at west, north, north west and north east the first that is furthest from 0
-  abbrev pub greatest_at : ℕ → ℕ → ℤ
-  greatest_at x y = further (further (further (west_error x y) (north_error x y)) (north_west_error x y)) (north_east_error x y) where
-    further : ℤ → ℤ → ℤ
-    further a b = if nat_lt (unsigned_abs a) (unsigned_abs b) then b else a
+-- the maximum error: of the true errors at west, north, north west and north east the first that is furthest from 0
+abbrev pub greatest : ErrorsNear → ℤ
+greatest e = further (further (further e.w e.n) e.nw) e.ne where
+  further : ℤ → ℤ → ℤ
+  further a b = if nat_lt (unsigned_abs a) (unsigned_abs b) then b else a
 
 -- 2 ^ 24 divided by i, rounded down
 abbrev pub reciprocal : ℕ → ℕ
@@ -120,102 +94,90 @@ weight_of w sum = 4 + w * reciprocal (sum / 2 ^ shift_of sum + 1) / 2 ^ shift_of
 abbrev pub shifted : Four ℕ → Four ℕ
 shifted weights = each (λ weight. weight / 2 ^ floor_log2 (total weights / 16)) weights
 
--- With the header's weights, at the cell after the samples, of which these are the errors.
-module _ (header : WpHeader) where
-  module _ (samples : List ℤ) (width : ℕ) (errors : List Errors) where
-    -- a neighbour times 8
-    abbrev pub eightfold : (Neighbours → ℤ) → ℤ
-    eightfold neighbour = neighbour (neighbours samples width) *ℤ pos 8
+-- how much each sub-prediction counts, by its error sum: the four weights, shifted so that their sum is small
+abbrev pub weights : WpHeader → Four ℕ → Four ℕ
+weights header sums = shifted (record {
+  s0 = weight_of header.wp_w0 sums.s0;
+  s1 = weight_of header.wp_w1 sums.s1;
+  s2 = weight_of header.wp_w2 sums.s2;
+  s3 = weight_of header.wp_w3 sums.s3;
+})
 
-    -- the true error at a neighbour
-    abbrev pub error_at : (List Errors → ℕ → ℕ → ℕ → ℤ) → ℤ
-    error_at neighbour = neighbour errors width (column samples width) (row samples width)
+-- the weighted sum of the sub-predictions s under weights v, and half the weights, for rounding
+abbrev pub weighted_sum : Four ℤ → Four ℕ → ℤ
+weighted_sum s v =
+    pos (total v / 2 - 1) +ℤ s.s0 *ℤ pos v.s0 +ℤ s.s1 *ℤ pos v.s1 +ℤ s.s2 *ℤ pos v.s2 +ℤ s.s3 *ℤ pos v.s3
 
-    -- the four sub-predictions
-    abbrev pub sub_predictions : Four ℤ
-    sub_predictions =
-        let w = eightfold (λ a. a.w) in
-        let n = eightfold (λ a. a.n) in
-        let nw = eightfold (λ a. a.nw) in
-        let ne = eightfold (λ a. a.ne) in
-        let nn = eightfold (λ a. a.nn) in
-        let e_w = error_at west_error in
-        let e_n = error_at north_error in
-        let e_nw = error_at north_west_error in
-        let e_ne = error_at north_east_error in
-        record {
-          s0 = w +ℤ ne -ℤ n;
-          s1 = n -ℤ int_shr ((e_w +ℤ e_n +ℤ e_ne) *ℤ pos header.wp_p1) 5;
-          s2 = w -ℤ int_shr ((e_w +ℤ e_n +ℤ e_nw) *ℤ pos header.wp_p2) 5;
-          s3 = n -ℤ int_shr (e_nw *ℤ pos header.wp_p3a +ℤ e_n *ℤ pos header.wp_p3b +ℤ e_ne *ℤ pos header.wp_p3c +ℤ (nn -ℤ n) *ℤ pos header.wp_p3d +ℤ (nw -ℤ w) *ℤ pos header.wp_p3e) 5;
-        }
+-- the prediction times 8, before it is clamped: the weighted sum divided by the sum of the weights
+abbrev pub unclamped : Four ℤ → Four ℕ → ℤ
+unclamped s v = int_shr (weighted_sum s v *ℤ pos (reciprocal (total v))) 24
 
-    -- how much each of them counts: the four weights, shifted so that their sum is small
-    abbrev pub weights : Four ℕ
-    weights =
-        let sums = error_sums errors width (column samples width) (row samples width) in
-        shifted (record {
-          s0 = weight_of header.wp_w0 sums.s0;
-          s1 = weight_of header.wp_w1 sums.s1;
-          s2 = weight_of header.wp_w2 sums.s2;
-          s3 = weight_of header.wp_w3 sums.s3;
-        })
+-- it is clamped unless the true errors at west, north and north west have one sign and are not all equal
+abbrev pub is_clamped : ErrorsNear → Bool
+is_clamped e =
+    let all_negative = is_negative e.w && is_negative e.n && is_negative e.nw in
+    let none_negative = not (is_negative e.w || is_negative e.n || is_negative e.nw) in
+    not (all_negative || none_negative) || (int_eq e.w e.n && int_eq e.n e.nw)
 
-    -- the weighted sum of the sub-predictions, and half the weights, for rounding
-    abbrev pub weighted_sum : ℤ
-    weighted_sum =
-        let s = sub_predictions in
-        pos (total weights / 2 - 1) +ℤ s.s0 *ℤ pos weights.s0 +ℤ s.s1 *ℤ pos weights.s1 +ℤ s.s2 *ℤ pos weights.s2 +ℤ s.s3 *ℤ pos weights.s3
+-- With the header's weights, at a cell with these neighbours and these errors around it.
+module _ (header : WpHeader) (a : Neighbours) (e : ErrorsNear) where
+  -- the four sub-predictions times 8
+  abbrev pub sub_predictions : Four ℤ
+  sub_predictions =
+      let w = a.w *ℤ pos 8 in
+      let n = a.n *ℤ pos 8 in
+      record {
+        s0 = w +ℤ a.ne *ℤ pos 8 -ℤ n;
+        s1 = n -ℤ int_shr ((e.w +ℤ e.n +ℤ e.ne) *ℤ pos header.wp_p1) 5;
+        s2 = w -ℤ int_shr ((e.w +ℤ e.n +ℤ e.nw) *ℤ pos header.wp_p2) 5;
+        s3 = n -ℤ int_shr (e.nw *ℤ pos header.wp_p3a +ℤ e.n *ℤ pos header.wp_p3b +ℤ e.ne *ℤ pos header.wp_p3c
+            +ℤ (a.nn *ℤ pos 8 -ℤ n) *ℤ pos header.wp_p3d +ℤ (a.nw *ℤ pos 8 -ℤ w) *ℤ pos header.wp_p3e) 5;
+      }
 
-    -- the prediction times 8, before it is clamped: the weighted sum divided by the sum of the weights
-    abbrev pub unclamped : ℤ
-    unclamped = int_shr (weighted_sum *ℤ pos (reciprocal (total weights))) 24
+  -- the prediction times 8: clamped between the minimum and the maximum of west, north and north east
+  abbrev pub predicted : ℤ
+  predicted =
+      let w = a.w *ℤ pos 8 in
+      let n = a.n *ℤ pos 8 in
+      let ne = a.ne *ℤ pos 8 in
+      let z = unclamped sub_predictions (weights header e.sums) in
+      if is_clamped e then clamped (int_min (int_min n w) ne) (int_max (int_max n w) ne) z else z
 
-    -- it is clamped unless the true errors at west, north and north west have one sign and are not all equal
-    abbrev pub is_clamped : Bool
-    is_clamped =
-        let e_w = error_at west_error in
-        let e_n = error_at north_error in
-        let e_nw = error_at north_west_error in
-        let all_negative = is_negative e_w && is_negative e_n && is_negative e_nw in
-        let none_negative = not (is_negative e_w || is_negative e_n || is_negative e_nw) in
-        not (all_negative || none_negative) || (int_eq e_w e_n && int_eq e_n e_nw)
-
-    -- the prediction times 8: clamped between the minimum and the maximum of west, north and north east
-    abbrev pub predicted : ℤ
-    predicted =
-        let w = eightfold (λ a. a.w) in
-        let n = eightfold (λ a. a.n) in
-        let ne = eightfold (λ a. a.ne) in
-        if is_clamped then clamped (int_min (int_min n w) ne) (int_max (int_max n w) ne) unclamped else unclamped
-
-    -- what is known of the next cell once it has this sample
-    abbrev pub errors_behind : ℤ → Errors
-    errors_behind sample = record {
-      true_error = int_wrap w32 (predicted -ℤ sample *ℤ pos 8);
-      sub_errors = each (λ s. (unsigned_abs (s -ℤ sample *ℤ pos 8) + 3) / 8 % 2 ^ 32) sub_predictions;
+-- what is known of the cell after the samples once it has this sample, where these are the errors before it
+abbrev pub errors_behind : WpHeader → List ℤ → ℕ → List Errors → ℤ → Errors
+errors_behind header samples width errors sample =
+    let a = neighbours samples width in
+    let e = errors_near errors width (column samples width) (row samples width) in
+    record {
+      true_error = int_wrap w32 (predicted header a e -ℤ sample *ℤ pos 8);
+      sub_errors = each (λ s. (unsigned_abs (s -ℤ sample *ℤ pos 8) + 3) / 8 % 2 ^ 32) (sub_predictions header a e);
     }
 
-    -- the errors with those of the next cell
-    abbrev pub grown : ℤ → List Errors
-    grown sample = errors ++ errors_behind sample ∷ []
+-- The errors of the first i samples: those of each sample follow from the samples before it and from their errors.
+abbrev pub errors_of : WpHeader → List ℤ → ℕ → ℕ → List Errors
+errors_of header samples width zero = []
+errors_of header samples width (suc i) =
+    let errors = errors_of header samples width i in
+    errors ++ errors_behind header (take i samples) width errors (slice_index_or samples i (pos 0)) ∷ []
 
-  -- The errors of the first i samples: those of each sample follow from the samples before it and from their errors.
-  abbrev pub errors_of : List ℤ → ℕ → ℕ → List Errors
-  errors_of samples width zero = []
-  errors_of samples width (suc i) = grown (take i samples) width (errors_of samples width i) (slice_index_or samples i (pos 0))
+-- at the cell after the samples: the errors around it,
+abbrev pub near : WpHeader → List ℤ → ℕ → ErrorsNear
+near header samples width =
+    errors_near (errors_of header samples width (length samples)) width (column samples width) (row samples width)
 
-  -- at the cell after the samples: the prediction times 8
-  abbrev pub self_corrected : List ℤ → ℕ → ℤ
-  self_corrected samples width = predicted samples width (errors_of samples width (length samples))
+-- the prediction times 8,
+abbrev pub self_corrected : WpHeader → List ℤ → ℕ → ℤ
+self_corrected header samples width = predicted header (neighbours samples width) (near header samples width)
 
-  -- the same before it is clamped
-  abbrev pub self_unclamped : List ℤ → ℕ → ℤ
-  self_unclamped samples width = unclamped samples width (errors_of samples width (length samples))
+-- the same before it is clamped,
+abbrev pub self_unclamped : WpHeader → List ℤ → ℕ → ℤ
+self_unclamped header samples width =
+    let e = near header samples width in
+    unclamped (sub_predictions header (neighbours samples width) e) (weights header e.sums)
 
-  -- and the maximum error
-  abbrev pub greatest_error : List ℤ → ℕ → ℤ
-  greatest_error samples width = greatest_at (errors_of samples width (length samples)) width (column samples width) (row samples width)
+-- and the maximum error
+abbrev pub greatest_error : WpHeader → List ℤ → ℕ → ℤ
+greatest_error header samples width = greatest (near header samples width)
 
 -- the weights of a header that was read are in these ranges
 pub record IsHeader (header : WpHeader) : Type 0 where

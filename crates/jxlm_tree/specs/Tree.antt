@@ -1,5 +1,6 @@
 -- Decision trees (ISO/IEC 18181-1, Modular: meta-adaptive trees). They are described by what their leaves hold.
 use Rattle.std.specs.Prelude.{◌≡◌, ◌⊎◌, ℕ, ◌+◌, max, ℤ, int_lt, if◌then◌else◌, List, [], ◌∷◌, ◌++◌}
+use Rattle.std.specs.List.{flat_map}
 use Rattle.jxlm_tree.specs.declared.flat.Leaf.{Leaf}
 
 -- a tree: a leaf, or a decision on a property and a value, with the trees to the left and to the right
@@ -54,14 +55,9 @@ module _ {L : Type 0} where
   rows (leaf l) = (leaf_node l ∷ []) ∷ []
   rows (decision k value left right) = (decision_node k value ∷ []) ∷ beside (rows left) (rows right)
 
-  -- rows one after another
-  abbrev pub in_a_row : List (List (Node L)) → List (Node L)
-  in_a_row [] = []
-  in_a_row (a ∷ as') = a ++ in_a_row as'
-
   -- the nodes level by level, the left child before the right
   abbrev pub levels : Shape L → List (Node L)
-  levels t = in_a_row (rows t)
+  levels t = flat_map (λ row. row) (rows t)
 
 -- a tree, and the decoder of its leaves' clusters
 pub record Config (S : Type 0) : Type 0 where

@@ -1,7 +1,7 @@
 //! The weighted (self-correcting) predictor: the errors that it remembers, and what it makes of a cell.
 
 ghost use Rattle.jxlm_base.specs.Numbers.{floor_log2};
-ghost use Rattle.jxlm_tree.specs.SelfCorrecting.{IsHeader, errors_of, reciprocal, shifted, total, weight_of};
+ghost use Rattle.jxlm_tree.specs.SelfCorrecting.{IsHeader, errors_above, errors_near, errors_of, greatest, is_clamped, predicted, reciprocal, self_unclamped, shifted, sub_predictions, total, unclamped, weight_of, weighted_sum, weights};
 ghost use Rattle.std.specs.Int.{int_shr};
 ghost use Rattle.std.specs.Prelude.{◌≡◌, ◌+◌, ◌*◌, ◌<◌, ◌≤◌, ◌^◌, ◌+ℤ◌, ◌-ℤ◌, ◌*ℤ◌, pos, ℕ, ℤ, List, [], ◌∷◌, ◌++◌, length, Option, Some, ◌/◌, ◌%◌, nat_lt, if◌then◌else◌, not, IfOk, false, vec_len, unsigned_abs};
 
@@ -201,16 +201,16 @@ fn steered(sample: i32, a: i32, b: i32, c: i32, factor: u32) -> i64
 
 impl ErrorsAround {
     ghost use Rattle.jxlm_tree.specs.Around.{clamped_around, seen};
-    ghost use Rattle.jxlm_tree.specs.Correcting.{greatest_from, is_clamped_from};
+    ghost use Rattle.jxlm_tree.specs.Correcting.{near_of};
 
     fn greatest(&self) -> i32
-        ensures { result ≡ greatest_from self.now }
+        ensures { result ≡ greatest (near_of self.now) }
     {
         further(further(further(self.w, self.n), self.nw), self.ne)
     }
 
     fn is_clamped(&self) -> bool
-        ensures { result ≡ is_clamped_from self.now }
+        ensures { result ≡ is_clamped (near_of self.now) }
     {
         let all_negative = self.w < 0 && self.n < 0 && self.nw < 0;
         let none_negative = !(self.w < 0 || self.n < 0 || self.nw < 0);
@@ -220,7 +220,7 @@ impl ErrorsAround {
     /// The prediction: clamped where the errors say so.
     fn settled(&self, around: &Around, unclamped: i64) -> i64
         requires { unsigned_abs unclamped < 2 ^ 40 }
-        ensures value { result ≡ if is_clamped_from self.now then clamped_around (seen around.now) unclamped else unclamped }
+        ensures value { result ≡ if is_clamped (near_of self.now) then clamped_around (seen around.now) unclamped else unclamped }
         ensures bound { unsigned_abs result < 2 ^ 40 }
     {
         if self.is_clamped() {
@@ -242,7 +242,7 @@ impl ErrorsAround {
 }
 
 impl Counts {
-    ghost use Rattle.jxlm_tree.specs.Correcting.{counted, weights_from};
+    ghost use Rattle.jxlm_tree.specs.Correcting.{counted};
 
     fn total(&self) -> u32
         requires { total (counted self.now) < 2 ^ 32 }
@@ -267,7 +267,7 @@ impl Counts {
     /// The weights of the four sub-predictions, whose errors have these sums.
     fn weights(&self, header: &WpHeader) -> Counts
         requires { IsHeader header.now }
-        ensures value { counted result ≡ weights_from header.now (counted self.now) }
+        ensures value { counted result ≡ weights header.now (counted self.now) }
         ensures least { 13 ≤ total (counted result) }
         ensures greatest { total (counted result) ≤ 31 }
     {
@@ -283,11 +283,11 @@ impl Counts {
 
 impl SubPredictions {
     ghost use Rattle.jxlm_tree.specs.Around.{seen};
-    ghost use Rattle.jxlm_tree.specs.Correcting.{counted, predicted_by, sub_predictions_from, weighted_from, unclamped_from};
+    ghost use Rattle.jxlm_tree.specs.Correcting.{counted, near_of, predicted_by};
 
     fn of_place(header: &WpHeader, around: &Around, errors: &ErrorsAround) -> SubPredictions
         requires { IsHeader header.now }
-        ensures { predicted_by result ≡ sub_predictions_from header.now (seen around.now) errors.now }
+        ensures { predicted_by result ≡ sub_predictions header.now (seen around.now) (near_of errors.now) }
     {
         SubPredictions {
             s0: around.slope(),
@@ -299,7 +299,7 @@ impl SubPredictions {
 
     fn last(header: &WpHeader, around: &Around, errors: &ErrorsAround) -> i64
         requires { IsHeader header.now }
-        ensures value { result ≡ (sub_predictions_from header.now (seen around.now) errors.now).s3 }
+        ensures value { result ≡ (sub_predictions header.now (seen around.now) (near_of errors.now)).s3 }
         ensures bound { unsigned_abs result < 2 ^ 37 }
     {
         let down = scaled(difference(around.nn, around.n), header.wp_p3d);
@@ -311,7 +311,7 @@ impl SubPredictions {
     fn sum(&self, weights: &Counts) -> i64
         requires least { 13 ≤ total (counted weights.now) }
         requires greatest { total (counted weights.now) ≤ 31 }
-        ensures value { result ≡ weighted_from (predicted_by self.now) (counted weights.now) }
+        ensures value { result ≡ weighted_sum (predicted_by self.now) (counted weights.now) }
         ensures bound { unsigned_abs result < 2 ^ 42 }
     {
         (weights.total() / 2 - 1) as i64
@@ -325,7 +325,7 @@ impl SubPredictions {
     fn weighted(&self, weights: &Counts) -> i64
         requires least { 13 ≤ total (counted weights.now) }
         requires greatest { total (counted weights.now) ≤ 31 }
-        ensures value { result ≡ unclamped_from (predicted_by self.now) (counted weights.now) }
+        ensures value { result ≡ unclamped (predicted_by self.now) (counted weights.now) }
         ensures bound { unsigned_abs result < 2 ^ 40 }
     {
         let reciprocal = reciprocal(weights.total() as usize);
@@ -335,7 +335,7 @@ impl SubPredictions {
 
 impl PredictionResult {
     ghost use Rattle.jxlm_tree.specs.Around.{seen};
-    ghost use Rattle.jxlm_tree.specs.Correcting.{IsMade, cell_errors, errors_from, greatest_from, predicted_by, predicted_from, sub_predictions_from};
+    ghost use Rattle.jxlm_tree.specs.Correcting.{IsMade, cell_errors, errors_from, near_of, predicted_by};
     ghost use Rattle.jxlm_tree.specs.Predictions.{corrected};
     ghost use Rattle.jxlm_tree.specs.Properties.{error_property};
     ghost use Rattle.jxlm_tree.specs.declared.predictor.WpHeader.{WpHeader};
@@ -363,9 +363,9 @@ impl PredictionResult {
 
     fn of_place(header: &WpHeader, around: &Around, errors: &ErrorsAround) -> PredictionResult
         requires { IsHeader header.now }
-        ensures prediction { result.prediction ≡ predicted_from header.now (seen around.now) errors.now }
-        ensures max_error { result.max_error ≡ greatest_from errors.now }
-        ensures subpred { predicted_by result.subpred ≡ sub_predictions_from header.now (seen around.now) errors.now }
+        ensures prediction { result.prediction ≡ predicted header.now (seen around.now) (near_of errors.now) }
+        ensures max_error { result.max_error ≡ greatest (near_of errors.now) }
+        ensures subpred { predicted_by result.subpred ≡ sub_predictions header.now (seen around.now) (near_of errors.now) }
     {
         let subpred = SubPredictions::of_place(header, around, errors);
         let unclamped = subpred.weighted(&errors.sums.weights(header));
@@ -393,9 +393,8 @@ impl PredictionResult {
 
 impl Corrector {
     ghost use Rattle.jxlm_tree.specs.Around.{seen};
-    ghost use Rattle.jxlm_tree.specs.Correcting.{AreErrorsAt, AtPlace, Corrects, CorrectsBehind, CorrectsBy, CorrectsNext, HasRows, HoldsColumn, IsMade, IsMadeBy, cell_errors, header_of, counted, errors_above, errors_above_left, errors_above_right, sums_from};
+    ghost use Rattle.jxlm_tree.specs.Correcting.{AtPlace, Corrects, CorrectsBehind, CorrectsBy, CorrectsNext, HasRows, HoldsColumn, IsMade, IsMadeBy, cell_errors, header_of, counted, errors_above_left, errors_above_right, near_of, sums_from};
     ghost use Rattle.jxlm_tree.specs.declared.predictor.WpHeader.{WpHeader};
-    ghost use Rattle.jxlm_tree.specs.SelfCorrecting.{self_unclamped};
 
     /// Rows for channels up to this width.
     pub(crate) fn with_room(
@@ -507,7 +506,7 @@ impl Corrector {
     fn errors_around<const EDGE: bool>(&self, x: usize, y: usize) -> ErrorsAround
         requires in_row { x < self.now.width }
         requires inner { EDGE ≡ false → (2 ≤ y) × (2 ≤ x) × (x + 2 < self.now.width) }
-        ensures { (header : WpHeader) (width : ℕ) (samples : List ℤ) → CorrectsBy self.now header width x y samples → AreErrorsAt result (errors_of header samples width (length samples)) width x y }
+        ensures { (header : WpHeader) (width : ℕ) (samples : List ℤ) → CorrectsBy self.now header width x y samples → near_of result ≡ errors_near (errors_of header samples width (length samples)) width x y }
     {
         let n = self.above::<EDGE>(x, y);
         let nw = self.above_left::<EDGE>(x, y);
