@@ -98,9 +98,3 @@ pub record IsRefused {Y : Type 0} (reading : Result Y Refused) (fault : Fault) (
   pub place : Option ℕ
   pub refuses : reading ≡ Err (record { fault = fault; position = place })
   pub stands : IfSome place (λ p. q ≡ p)
-
--- What a call returned, seen by view, and where it left the reader, are what reading gives; out of memory may come at
--- any time.
-abbrev pub Answers : {X Y : Type 0} → (X → Y) → Result X Error → ℕ → Result (Found Y) Refused → Type 0
-Answers view (Ok x) q reading = reading ≡ Ok (record { value = view x; position = q })
-Answers view (Err e) q reading = UnlessMemory (fault_of e) (IsRefused reading (fault_of e) q)

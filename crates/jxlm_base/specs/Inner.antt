@@ -1,2 +1,4 @@
 pub mod PlainLaws
+pub mod PlainReads
+pub mod SampleLaws
 pub mod Unsqueeze

@@ -9,7 +9,6 @@ pub mod Numbers
 pub mod Outside
 pub mod Plain
 pub mod Regions
-pub mod SampleLaws
 pub mod PlainTokens
 pub mod Squeeze
 pub mod Subgrid

@@ -6,7 +6,7 @@ ghost use Rattle.jxlm_base.specs.Grid.{meanings};
 ghost use Rattle.jxlm_base.specs.Numbers.{unpack, clamped_gradient};
 ghost use Rattle.jxlm_base.specs.Squeeze.{AreGridSamples, squeezed_rows, squeezed_columns};
 ghost use Rattle.jxlm_base.specs.Subgrid.{whole, KeepsOutside, numbers_in};
-ghost use Rattle.jxlm_base.specs.SampleLaws.{fits_wider, int_wrap-narrow, int_wrap_again};
+ghost use Rattle.jxlm_base.specs.Inner.SampleLaws.{fits_wider, int_wrap-narrow, int_wrap_again};
 
 use crate::colour::finish_rows;
 use crate::grid::{AlignedGrid, OutOfMemory};

@@ -1,7 +1,8 @@
 -- The laws of the fields that come before an image's tree.
 use Rattle.std.proofs.Common.{◌≡◌, ℕ, List, Bool, Result, Ok, Err, refl, ap, ◌∙◌}
+use Rattle.jxlm_base.specs.Fault as reading
 use Rattle.jxlm_base.specs.Fault.{Fault, UnlessNoMemory}
-use Rattle.jxlm_base.specs.Grammar.{Grammar, IsExact, IsRefused, behind, flag, repeated, ◌>>=◌}
+use Rattle.jxlm_base.specs.Grammar.{Grammar, IsExact, IsRefused, flag, repeated, ◌>>=◌}
 use Rattle.jxlm_base.specs.declared.bits.U32Spec.TheVariants.{Const, Offset}
 use Rattle.jxlm_base.proofs.GrammarLaws.{exact-give, exact-refuse, exact-bind, exact-repeated, exact-flag, exact-u32}
 use Rattle.jxlm_transform.specs.Channels.{ChannelList}
@@ -38,11 +39,11 @@ pub listed_refused : (bytes : List ℕ) (p : ℕ) (global : Bool) (a : ℕ) (wei
     wp_header.read bytes a ≡ Ok (record { value = weights; position = b }) → transform_count.read bytes b ≡ Ok (record { value = n; position = m }) →
     UnlessNoMemory fault (IsRefused ((repeated n (transform weights)).read bytes m) fault q) → UnlessNoMemory fault (IsRefused (header.read bytes p) fault q)
 listed_refused bytes p global a weights b n m fault q first second third refused =
-    let rest : header.read bytes p ≡ behind ((repeated n (transform weights)).read bytes m) (λ found. Ok (record { value = record { use_global_tree = global; wp_params = weights; transform = found.value }; position = found.position })) =
+    let rest : header.read bytes p ≡ reading.◌>>=◌ ((repeated n (transform weights)).read bytes m) (λ found. Ok (record { value = record { use_global_tree = global; wp_params = weights; transform = found.value }; position = found.position })) =
     rw (first, second, third) refl in
     unless_so fault (IsRefused ((repeated n (transform weights)).read bytes m) fault q) (IsRefused (header.read bytes p) fault q)
     (λ r. record {
       place = r.place;
-      refuses = rest ∙ ap (λ all. behind all (λ found. Ok (record { value = record { use_global_tree = global; wp_params = weights; transform = found.value }; position = found.position }))) r.refuses;
+      refuses = rest ∙ ap (λ all. reading.◌>>=◌ all (λ found. Ok (record { value = record { use_global_tree = global; wp_params = weights; transform = found.value }; position = found.position }))) r.refuses;
       stands = r.stands;
     }) refused

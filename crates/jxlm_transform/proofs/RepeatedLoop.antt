@@ -2,16 +2,16 @@
 use Rattle.std.proofs.Common.{◌≡◌, ℕ, suc, ◌-◌, ◌+◌, ◌≤◌, ◌<◌, List, [], ◌∷◌, ◌++◌, Result, Ok, Err, refl, sym, ap, ◌∙◌, append_assoc, arith}
 use Rattle.std.proofs.lemmas.List.{append-nil}
 use Rattle.jxlm_base.specs.Decoding.{Found}
-use Rattle.jxlm_base.specs.Fault.{Refused}
-use Rattle.jxlm_base.specs.Grammar.{Grammar, behind, repeated}
+use Rattle.jxlm_base.specs.Fault.{Refused, ◌>>=◌}
+use Rattle.jxlm_base.specs.Grammar.{Grammar, repeated}
 
 module _ {Y : Type 0} where
   -- what was read before, and what is still read
   abbrev pub with_front : List Y → Result (Found (List Y)) Refused → Result (Found (List Y)) Refused
-  with_front front r = behind r (λ f. Ok (record { value = front ++ f.value; position = f.position }))
+  with_front front r = r >>= (λ f. Ok (record { value = front ++ f.value; position = f.position }))
 
   regroup : (front : List Y) (y : Y) (r : Result (Found (List Y)) Refused) →
-      with_front front (behind r (λ f. Ok (record { value = y ∷ f.value; position = f.position }))) ≡ with_front (front ++ y ∷ []) r
+      with_front front (r >>= (λ f. Ok (record { value = y ∷ f.value; position = f.position }))) ≡ with_front (front ++ y ∷ []) r
   regroup front y (Ok f) = ap (λ (ys : List Y). Ok (record { value = ys; position = f.position })) (simp append_assoc)
   regroup front y (Err e) = refl
 

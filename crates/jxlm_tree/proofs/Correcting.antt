@@ -5,7 +5,8 @@ use Rattle.std.proofs.lemmas.List.{get_or-set_same, get_or-set_other, get_or_app
 use Rattle.std.proofs.Math.Seq.{take-length}
 use Rattle.std.proofs.lemmas.Bool.{cases_lt, lt-ltb, le-ltb}
 use Rattle.jxlm_tree.specs.Neighbours.{neighbours, column, row}
-use Rattle.jxlm_tree.specs.Correcting.{errors_from, sums_from, KeepsErrors, errors_above_left, errors_above_right}
+use Rattle.jxlm_tree.specs.Correcting.{KeepsErrors}
+use Rattle.jxlm_tree.specs.Inner.CorrectingSteps.{errors_from, sums_from, errors_above_left, errors_above_right}
 use Rattle.jxlm_tree.specs.SelfCorrecting.{Four, Errors, ErrorsNear, no_errors, errors_at, errors_above, errors_left, errors_near, near, sub_predictions, predicted, errors_of, errors_behind}
 use Rattle.jxlm_tree.specs.declared.predictor.WpHeader.{WpHeader}
 use Rattle.jxlm_tree.proofs.Causal.{errors_same}

@@ -10,7 +10,8 @@ use Rattle.std.proofs.lemmas.Bool.{lt-ltb, le-ltb}
 use Rattle.jxlm_base.specs.Grid.{Grid}
 use Rattle.jxlm_tree.specs.Neighbours.{Neighbours, neighbours, column, row, west}
 use Rattle.jxlm_tree.specs.Properties.{Surroundings, own_properties, earlier_property, earlier_properties, place_property, west_change, gradient_at, error_property}
-use Rattle.jxlm_tree.specs.Holding.{surroundings, own_of, own_list}
+use Rattle.jxlm_tree.specs.Holding.{surroundings, own_of}
+use Rattle.jxlm_tree.specs.Inner.OwnProperties.{own_list}
 use Rattle.jxlm_tree.specs.Correcting.{IsMade}
 use Rattle.jxlm_tree.specs.Predictions.{corrected}
 use Rattle.jxlm_tree.specs.Rolling.{Rolls}

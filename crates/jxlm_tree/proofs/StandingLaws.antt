@@ -4,7 +4,8 @@ use Rattle.std.specs.Prelude.{slice_get}
 use Rattle.std.proofs.lemmas.Bool.{cases_lt}
 use Rattle.std.proofs.lemmas.List.{get_or-reverse, length-reverse, reverse-reverse}
 use Rattle.std.proofs.lemmas.Option.{slice_get-get_or}
-use Rattle.jxlm_tree.specs.Correcting.{Corrects, CorrectsBy, CorrectsBehind, CorrectsNext, HoldsColumn, IsMade, IsMadeBy}
+use Rattle.jxlm_tree.specs.Correcting.{Corrects, CorrectsBy, IsMade, IsMadeBy}
+use Rattle.jxlm_tree.specs.Inner.CorrectingSteps.{CorrectsBehind, CorrectsNext, HoldsColumn}
 use Rattle.jxlm_tree.specs.Neighbours.{column, row}
 use Rattle.jxlm_tree.specs.Standing.{Setting, StandsAt, column_of, row_of, width_of, earlier_count}
 use Rattle.jxlm_tree.specs.declared.predictor.WpHeader.{WpHeader}

@@ -7,7 +7,3 @@ use Rattle.jxlm_tree.specs.declared.around.Around.{Around}
 
 abbrev pub seen : Around → Neighbours
 seen a = record { w = a.w; n = a.n; nw = a.nw; ne = a.ne; nee = a.nee; nn = a.nn; ww = a.ww }
-
--- z, clamped between the minimum and the maximum of north, west and north east, each times 8
-abbrev pub clamped_around : Neighbours → ℤ → ℤ
-clamped_around a z = clamped (int_min (int_min (a.n *ℤ pos 8) (a.w *ℤ pos 8)) (a.ne *ℤ pos 8)) (int_max (int_max (a.n *ℤ pos 8) (a.w *ℤ pos 8)) (a.ne *ℤ pos 8)) z

@@ -17,28 +17,6 @@ use Rattle.jxlm_tree.specs.declared.state.PredictorState.{PredictorState}
 abbrev pub surroundings : Setting → List (Grid ℤ) → List ℤ → Surroundings
 surroundings s store samples = record { weights = s.weights; width = s.width; samples = samples; earlier = map (grid_of store) s.earlier }
 
--- properties 0 to 15 at (x, y) with these neighbours, where `change` is property 9 of the sample before and `error`
--- property 15
-abbrev pub own_list : ℕ → ℕ → Neighbours → ℤ → ℤ → List ℤ
-own_list x y a change error =
-    pos 0
-    ∷ pos 0
-    ∷ pos y
-    ∷ pos x
-    ∷ int_wrap w32 (absolute a.n)
-    ∷ int_wrap w32 (absolute a.w)
-    ∷ a.n
-    ∷ a.w
-    ∷ int_wrap w32 (a.w -ℤ change)
-    ∷ int_wrap w32 (a.w -ℤ a.nw +ℤ a.n)
-    ∷ int_wrap w32 (a.w -ℤ a.nw)
-    ∷ int_wrap w32 (a.nw -ℤ a.n)
-    ∷ int_wrap w32 (a.n -ℤ a.ne)
-    ∷ int_wrap w32 (a.n -ℤ a.nn)
-    ∷ int_wrap w32 (a.w -ℤ a.ww)
-    ∷ error
-    ∷ []
-
 -- properties 0 to 15 of a cell
 abbrev pub own_of : Surroundings → List ℤ
 own_of s = pos 0 ∷ pos 0 ∷ map (int_wrap w32) (own_properties s)

@@ -3,7 +3,8 @@
 ghost use Rattle.std.specs.Prelude.{◌≡◌, ◌+ℤ◌, ◌-ℤ◌, ◌*ℤ◌, pos, int_div, unsigned_abs, nat_lt, if◌then◌else◌, ◌<◌, ◌≤◌, ◌^◌};
 ghost use Rattle.jxlm_tree.specs.declared.predictor.Predictor.TheVariants.{AvgAll};
 ghost use Rattle.jxlm_tree.specs.Predictions.{prediction_from};
-ghost use Rattle.jxlm_tree.specs.Around.{clamped_around, seen};
+ghost use Rattle.jxlm_tree.specs.Around.{seen};
+ghost use Rattle.jxlm_tree.specs.Inner.CorrectingSteps.{clamped_around};
 
 use crate::predictor::Predictor;
 use jxlm_base::sample::Sealed;

@@ -4,8 +4,7 @@ ghost use Rattle.std.specs.Prelude.{◌≡◌, ◌≢◌, ◌≤◌, ◌^◌, �
 ghost use Rattle.jxlm_base.specs.Bits.{bytes_of, position_of};
 ghost use Rattle.jxlm_base.specs.Decoding.{Taken};
 ghost use Rattle.jxlm_base.specs.Fault.{NoMemory, fault_of};
-ghost use Rattle.jxlm_base.specs.Grammar.{Answers};
-ghost use Rattle.jxlm_tree.specs.Inner.DraftReading.{ListsTrees, node_of};
+ghost use Rattle.jxlm_tree.specs.Inner.DraftReading.{Answers, ListsTrees, node_of};
 ghost use Rattle.jxlm_tree.specs.FlatTree.{ClustersStandIn};
 ghost use Rattle.jxlm_tree.specs.Tree.{AllLeaves, Node, Shape, levels, node_count, depth};
 ghost use Rattle.jxlm_tree.specs.TreeReading.{IsLeafOf, IsWantOfMemory, MemoryGives, TreeGives, leaf_count, listing_at, through};

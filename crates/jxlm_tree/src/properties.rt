@@ -5,7 +5,8 @@ ghost use Rattle.std.specs.Int.{w32, int_wrap};
 ghost use Rattle.jxlm_base.specs.Grid.{at};
 ghost use Rattle.jxlm_base.specs.Regions.{Lies, grid_of, store_meanings};
 ghost use Rattle.jxlm_tree.specs.Around.{seen};
-ghost use Rattle.jxlm_tree.specs.Holding.{own_list, IsCurrent, surroundings, state_of, store_of};
+ghost use Rattle.jxlm_tree.specs.Inner.OwnProperties.{own_list};
+ghost use Rattle.jxlm_tree.specs.Holding.{IsCurrent, surroundings, state_of, store_of};
 ghost use Rattle.jxlm_tree.specs.Properties.{place_property, earlier_properties, earlier_property, expected};
 ghost use Rattle.jxlm_tree.specs.Standing.{Setting, StandsAt, IsReady, IsInner, HasSameRoom};
 

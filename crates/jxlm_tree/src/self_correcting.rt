@@ -200,8 +200,8 @@ fn steered(sample: i32, a: i32, b: i32, c: i32, factor: u32) -> i64
 }
 
 impl ErrorsAround {
-    ghost use Rattle.jxlm_tree.specs.Around.{clamped_around, seen};
-    ghost use Rattle.jxlm_tree.specs.Correcting.{near_of};
+    ghost use Rattle.jxlm_tree.specs.Around.{seen};
+    ghost use Rattle.jxlm_tree.specs.Inner.CorrectingSteps.{clamped_around, near_of};
 
     fn greatest(&self) -> i32
         ensures { result ≡ greatest (near_of self.now) }
@@ -283,7 +283,8 @@ impl Counts {
 
 impl SubPredictions {
     ghost use Rattle.jxlm_tree.specs.Around.{seen};
-    ghost use Rattle.jxlm_tree.specs.Correcting.{counted, near_of, predicted_by};
+    ghost use Rattle.jxlm_tree.specs.Correcting.{counted, predicted_by};
+    ghost use Rattle.jxlm_tree.specs.Inner.CorrectingSteps.{near_of};
 
     fn of_place(header: &WpHeader, around: &Around, errors: &ErrorsAround) -> SubPredictions
         requires { IsHeader header.now }
@@ -335,7 +336,8 @@ impl SubPredictions {
 
 impl PredictionResult {
     ghost use Rattle.jxlm_tree.specs.Around.{seen};
-    ghost use Rattle.jxlm_tree.specs.Correcting.{IsMade, cell_errors, errors_from, near_of, predicted_by};
+    ghost use Rattle.jxlm_tree.specs.Correcting.{IsMade, cell_errors, predicted_by};
+    ghost use Rattle.jxlm_tree.specs.Inner.CorrectingSteps.{errors_from, near_of};
     ghost use Rattle.jxlm_tree.specs.Predictions.{corrected};
     ghost use Rattle.jxlm_tree.specs.Properties.{error_property};
     ghost use Rattle.jxlm_tree.specs.declared.predictor.WpHeader.{WpHeader};
@@ -393,7 +395,8 @@ impl PredictionResult {
 
 impl Corrector {
     ghost use Rattle.jxlm_tree.specs.Around.{seen};
-    ghost use Rattle.jxlm_tree.specs.Correcting.{AtPlace, Corrects, CorrectsBehind, CorrectsBy, CorrectsNext, HasRows, HoldsColumn, IsMade, IsMadeBy, cell_errors, header_of, counted, errors_above_left, errors_above_right, near_of, sums_from};
+    ghost use Rattle.jxlm_tree.specs.Correcting.{Corrects, CorrectsBy, HasRows, IsMade, IsMadeBy, cell_errors, header_of, counted};
+    ghost use Rattle.jxlm_tree.specs.Inner.CorrectingSteps.{AtPlace, CorrectsBehind, CorrectsNext, HoldsColumn, errors_above_left, errors_above_right, near_of, sums_from};
     ghost use Rattle.jxlm_tree.specs.declared.predictor.WpHeader.{WpHeader};
 
     /// Rows for channels up to this width.

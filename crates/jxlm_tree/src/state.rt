@@ -43,7 +43,8 @@ pub struct PredictorState<S> {
 }
 
 impl<S> PredictorState<S> {
-    ghost use Rattle.jxlm_tree.specs.Standing.{Setting, StandsAt, Stands, HasEarlier, IsInner, RollsIn, KeepsSetting, HasSameRoom, IsNext, setting, room_of, earlier_room_of, earlier_count, weights_of};
+    ghost use Rattle.jxlm_tree.specs.Inner.StateSteps.{IsNext, KeepsSetting, RollsIn};
+    ghost use Rattle.jxlm_tree.specs.Standing.{Setting, StandsAt, Stands, HasEarlier, IsInner, HasSameRoom, setting, room_of, earlier_room_of, earlier_count, weights_of};
     ghost use Rattle.jxlm_tree.specs.Neighbours.{neighbours, north_east, north_east_east, north_north, west_west};
     ghost use Rattle.jxlm_tree.specs.Around.{seen};
     ghost use Rattle.jxlm_tree.specs.Correcting.{IsMade};

@@ -2,7 +2,7 @@
 use Rattle.std.specs.Prelude.{◌≡◌, ◌⊎◌, ℕ, zero, suc, ◌+◌, ◌<◌, ◌≤◌, ◌^◌, FitsSigned, List, [], ◌∷◌, Bool, nat_lt, Option, Some, unwrap_or, Result, Ok, Err}
 use Rattle.std.specs.Int.{w32}
 use Rattle.jxlm_base.specs.Decoding.{Found, Taken}
-use Rattle.jxlm_base.specs.Fault.{NoMemory, Refused, fault_of}
+use Rattle.jxlm_base.specs.Fault.{NoMemory, Refused, UnlessMemory, fault_of}
 use Rattle.jxlm_base.specs.Grammar.{IsRefused}
 use Rattle.jxlm_base.specs.declared.error.Error.{Error}
 use Rattle.jxlm_tree.specs.Tree.{Node, leaf_node, decision_node}
@@ -62,3 +62,9 @@ DrawnAnswers view (Err e) t q reading = (fault_of e ≡ NoMemory) ⊎ (reading �
 abbrev pub ListAnswers : {X Y : Type 0} → (X → Y) → Result X Error → ℕ → Result (Found Y) Refused → Type 0
 ListAnswers view (Ok x) q reading = reading ≡ Ok (record { value = view x; position = q })
 ListAnswers view (Err e) q reading = (fault_of e ≡ NoMemory) ⊎ IsRefused reading (fault_of e) q
+
+-- What a call returned, seen by view, and where it left the reader, are what reading gives; out of memory may come at
+-- any time.
+abbrev pub Answers : {X Y : Type 0} → (X → Y) → Result X Error → ℕ → Result (Found Y) Refused → Type 0
+Answers view (Ok x) q reading = reading ≡ Ok (record { value = view x; position = q })
+Answers view (Err e) q reading = UnlessMemory (fault_of e) (IsRefused reading (fault_of e) q)

@@ -1,7 +1,7 @@
 use Rattle.std.proofs.Common.{rules, FitsSigned, ◌∙◌, ap, pos}
 use Rattle.std.specs.Int.{w16, w32, int_wrap}
 use Rattle.std.proofs.lemmas.Int.{to_z-of_z}
-use Rattle.jxlm_base.specs.SampleLaws.{int_wrap-narrow}
+use Rattle.jxlm_base.specs.Inner.SampleLaws.{int_wrap-narrow}
 use Rattle.jxlm_base.proofs.Wraps.{cast_signed-wraps_i32}
 use Rattle.jxlm_base.proofs.sample.I16Sample.from_u32.Goals as goal
 

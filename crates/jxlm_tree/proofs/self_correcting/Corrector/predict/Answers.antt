@@ -1,7 +1,7 @@
 use Rattle.std.proofs.Common.{◌≡◌, ◌<◌, ◌∙◌, ap, arith}
 use Rattle.std.proofs.lemmas.Nat.{mod-mul-add, div-mul-add}
 use Rattle.jxlm_tree.specs.Around.{seen}
-use Rattle.jxlm_tree.specs.Correcting.{near_of}
+use Rattle.jxlm_tree.specs.Inner.CorrectingSteps.{near_of}
 use Rattle.jxlm_tree.specs.Neighbours.{Neighbours, column, row}
 use Rattle.jxlm_tree.specs.SelfCorrecting.{greatest, near, predicted, sub_predictions}
 use Rattle.jxlm_tree.proofs.Correcting.{near_at}
