@@ -42,6 +42,7 @@ pub enum U32Spec {
 }
 
 // Eight bytes from byte i on.
+#[inline(always)]
 fn eight_at(b: &[u8], i: usize) -> [u8; 8]
     requires { i + 8 ≤ length b.now }
     ensures { (j : ℕ) → j < 8 → slice_index result j ≡ slice_index b.now (i + j) }
@@ -111,34 +112,73 @@ impl<'a> Bitstream<'a> {
         }
     }
 
-    // The 64 bits from the start of the reader's byte on; those after the end are 0.
-    fn word(&self) -> u64
-        ensures { (b n : ℕ) → b + n ≤ 64 → result / 2 ^ b % 2 ^ n ≡ bits_at self.now.bytes.now (8 * self.now.byte + b) n }
+    // The 64 bits from the start of the reader's byte on, where eight bytes are left.
+    #[inline(always)]
+    fn full_word(&self) -> u64
+        requires { self.now.byte + 8 ≤ length self.now.bytes.now }
+        ensures { (b n : ℕ) → b + n ≤ 64
+            → result / 2 ^ b % 2 ^ n ≡ bits_at self.now.bytes.now (8 * self.now.byte + b) n }
     {
-        let left = self.bytes.len() - self.byte;
-        if left >= 8 {
-            u64::from_le_bytes(eight_at(self.bytes, self.byte))
-        } else {
-            u64::from_le_bytes(last_at(self.bytes, self.byte))
-        }
+        u64::from_le_bytes(eight_at(self.bytes, self.byte))
     }
 
-    /// The next `n` bits, at most 32, as a number: `u(n)` (ISO/IEC 18181-1, field types). The first bit is the least
-    /// significant. For `n` = 0 the number is 0, also at the end.
-    ///
-    /// `UnexpectedEof` if fewer than `n` bits are left: the reader is then unchanged.
-    pub fn read_bits(&mut self, n: u32) -> Result<u32, BitstreamError>
-        requires { n ≤ 32 }
-        ensures ok { IfOk result (λ v. (position_of self.old + n ≤ 8 * length (bytes_of self.old)) × (v ≡ bits_at (bytes_of self.old) (position_of self.old) n) × (position_of self.new ≡ position_of self.old + n)) }
+    // The same where fewer are left; bits after the end are 0.
+    fn last_word(&self) -> u64
+        requires { length self.now.bytes.now < self.now.byte + 8 }
+        ensures { (b n : ℕ) → b + n ≤ 64
+            → result / 2 ^ b % 2 ^ n ≡ bits_at self.now.bytes.now (8 * self.now.byte + b) n }
+    {
+        u64::from_le_bytes(last_at(self.bytes, self.byte))
+    }
+
+    // `read_bits` where fewer than eight bytes are left.
+    #[cold]
+    #[inline(never)]
+    fn read_near_end(&mut self, n: u32) -> Result<u32, BitstreamError>
+        requires narrow { n ≤ 32 }
+        requires few { length self.old.bytes.now < self.old.byte + 8 }
+        ensures ok { IfOk result (λ v. (position_of self.old + n ≤ 8 * length (bytes_of self.old))
+            × (v ≡ bits_at (bytes_of self.old) (position_of self.old) n)
+            × (position_of self.new ≡ position_of self.old + n)) }
         ensures below { IfOk result (λ v. v < 2 ^ n) }
-        ensures err { IfErr result (λ e. (8 * length (bytes_of self.old) < position_of self.old + n) × (e ≡ BitstreamError.UnexpectedEof) × (self.new ≡ self.old)) }
+        ensures err { IfErr result (λ e. (8 * length (bytes_of self.old) < position_of self.old + n)
+            × (e ≡ BitstreamError.UnexpectedEof) × (self.new ≡ self.old)) }
         ensures bytes { bytes_of self.new ≡ bytes_of self.old }
     {
         let end = self.bit + n;
         if end.div_ceil(8) as usize > self.bytes.len() - self.byte {
             return Err(BitstreamError::UnexpectedEof);
         }
-        let value = (self.word() >> self.bit) % (1 << n);
+        let value = (self.last_word() >> self.bit) % (1 << n);
+        self.byte += (end / 8) as usize;
+        self.bit = end % 8;
+        Ok(value as u32)
+    }
+
+    /// The next `n` bits, at most 32, as a number: `u(n)` (ISO/IEC 18181-1, field types). The first bit is the least
+    /// significant. For `n` = 0 the number is 0, also at the end.
+    ///
+    /// `UnexpectedEof` if fewer than `n` bits are left: the reader is then unchanged.
+    #[inline(always)]
+    pub fn read_bits(&mut self, n: u32) -> Result<u32, BitstreamError>
+        requires { n ≤ 32 }
+        ensures ok { IfOk result (λ v. (position_of self.old + n ≤ 8 * length (bytes_of self.old))
+            × (v ≡ bits_at (bytes_of self.old) (position_of self.old) n)
+            × (position_of self.new ≡ position_of self.old + n)) }
+        ensures below { IfOk result (λ v. v < 2 ^ n) }
+        ensures err { IfErr result (λ e. (8 * length (bytes_of self.old) < position_of self.old + n)
+            × (e ≡ BitstreamError.UnexpectedEof) × (self.new ≡ self.old)) }
+        ensures bytes { bytes_of self.new ≡ bytes_of self.old }
+    {
+        if self.bytes.len() - self.byte < 8 {
+            // a copy, so that a reader in a local variable may stay in registers
+            let mut ahead = *self;
+            let value = ahead.read_near_end(n)?;
+            *self = ahead;
+            return Ok(value);
+        }
+        let end = self.bit + n;
+        let value = (self.full_word() >> self.bit) % (1 << n);
         self.byte += (end / 8) as usize;
         self.bit = end % 8;
         Ok(value as u32)

@@ -1,0 +1,94 @@
+//! One image, decoded again and again between two readings of the clock.
+ghost use Rattle.std.specs.Prelude.{IfOk, IfSome};
+ghost use Rattle.jxl_modular.specs.Image.{image_grids};
+ghost use Rattle.jxlbench.specs.Decoding.{IsChecksumOf, IsPictureOf};
+
+use crate::checksum::checksum;
+use crate::request::Request;
+use crate::run::Failure;
+use jxl_modular::bits::Bitstream;
+use jxl_modular::error::Result;
+use jxl_modular::flat::Steps;
+use jxl_modular::image::ModularImageDestination;
+use jxl_modular::plain::PlainDecoder;
+use jxl_modular::sample::Sample;
+use jxl_modular::{ModularChannelParams, ModularParams, decode_picture};
+use std::alloc::Global;
+use std::time::{Clock, Instant};
+
+/// The side of a group of the images that are decoded.
+const GROUP_DIM: u32 = 256;
+
+/// What was measured.
+pub struct Measured {
+    /// How long all runs together took.
+    pub nanoseconds: u128,
+    /// The checksum of the samples.
+    pub checksum: u64,
+}
+
+/// The image at the start of the bytes, or none where the library takes no such channels.
+#[inline(never)]
+fn image<S: Sample>(
+    alloc: Global,
+    bytes: &[u8],
+    request: Request,
+) -> Result<Option<ModularImageDestination<S, PlainDecoder>>>
+    ensures { IfOk result (λ made. IfSome made (λ image.
+        IsPictureOf S.width request bytes.now (image_grids S.to_int image))) }
+{
+    let channel = ModularChannelParams::new(request.width, request.height);
+    let channels = vec![in alloc; channel; request.channels as usize]?;
+    let params = ModularParams::with_channels(GROUP_DIM, request.bit_depth, channels, None);
+    if !params.is_valid() {
+        return Ok(None);
+    }
+    decode_picture(
+        alloc,
+        &mut Bitstream::new(bytes),
+        params,
+        0,
+        &mut Steps::new(),
+    )
+}
+
+/// The same image, parsed, decoded and finished as often as the request says; the last one is returned.
+fn image_again<S: Sample>(
+    alloc: Global,
+    bytes: &[u8],
+    request: Request,
+) -> Result<Option<ModularImageDestination<S, PlainDecoder>>>
+    ensures { IfOk result (λ made. IfSome made (λ image.
+        IsPictureOf S.width request bytes.now (image_grids S.to_int image))) }
+{
+    for _ in 1..request.repeat {
+        image::<S>(alloc, bytes, request)?;
+    }
+    image(alloc, bytes, request)
+}
+
+/// How long the runs take. Between the two readings of the clock nothing is read, printed or summed.
+///
+/// # Errors
+///
+/// `WrongArguments` if the library takes no such channels, `Refused` if the image has an error, `Unusable` if the clock
+/// cannot be read.
+pub fn measure<S: Sample, C: Clock>(
+    alloc: Global,
+    clock: &C,
+    bytes: &[u8],
+    request: Request,
+) -> std::result::Result<Measured, Failure>
+    ensures { IfOk result (λ measured. IsChecksumOf S.width request bytes.now measured.checksum) }
+{
+    let start = Instant::now(clock)?;
+    let image = image_again::<S>(alloc, bytes, request)?;
+    let passed = start.elapsed(clock)?;
+    let Some(image) = image else {
+        return Err(Failure::WrongArguments);
+    };
+    Ok(Measured {
+        nanoseconds: passed.as_nanos(),
+        checksum: checksum(image.image_channels()),
+    })
+}
