@@ -9,6 +9,7 @@ pub mod PaletteChannels
 pub mod PaletteColours
 mod PaletteExamples
 pub mod PaletteLaws
+pub mod PaletteRows
 pub mod PaletteSteps
 pub mod Powers
 pub mod Refusals

@@ -119,11 +119,6 @@ module _ {S : Type 0} (to_int : S → ℤ) (t : Palette) (p : FinishedChannel) w
     pub cell_keeps : KeepsOutside (p.target ∷ []) old new
     cell_keeps = subst (λ n. KeepsOutside (p.target ∷ []) old n) (sym sets.written) (keeps_set to_int t p old lies x y (y * p.index.width + x) px py refl sets.sample)
 
-    pub cell_ahead : (k k' : ℕ) (table index : Grid ℤ) → k ≡ y * p.index.width + x → k' ≡ k + 1 → Ahead p k table index (store_meanings to_int old) → Ahead p k' table index (store_meanings to_int new)
-    cell_ahead k k' table index is next a =
-        subst (λ n. Ahead p n table index (store_meanings to_int new)) (sym next)
-        (subst (λ n. Ahead p (k + 1) table index (store_meanings to_int n)) (sym sets.written) (ahead_set to_int t p old lies x y k px py is sets.sample table index a))
-
     pub cell_filled : (w : Width) (depth k k' : ℕ) (table index : Grid ℤ) → k ≡ y * p.index.width + x → k' ≡ k + 1 → Filled w depth t p table index k (store_meanings to_int old) →
         z ≡ finished_sample w depth t table (get_or index.cells k (pos 0)) p.number (finished_samples w depth t table index p.number k) index.width →
         Filled w depth t p table index k' (store_meanings to_int new)
@@ -149,22 +144,6 @@ module _ {S : Type 0} (to_int : S → ℤ) (t : Palette) (p : FinishedChannel) w
     table_is = g.table_is ∙ f.table_is;
     indices = λ i h. g.indices i h ∙ f.indices i (omega arith);
   }
-
--- ---- a sample looked up in the table
-
-module _ {S : Type 0} (to_int : S → ℤ) (t : Palette) (p : FinishedChannel) (w : Width) (old new : List (Grid S)) (x y : ℕ) (lies : ChannelLies t p old) (px : x < p.index.width) (py : y < p.index.height)
-    (simple : IsSimpleIndex t (at (index_in p (store_meanings to_int old)) x y))
-    (sets : SetsSample to_int p x y (int_wrap w (looked_up (table_in p (store_meanings to_int old)) (at (index_in p (store_meanings to_int old)) x y) p.number)) old new) where
-  pub looked_up_fills : (depth k k' : ℕ) → k ≡ y * p.index.width + x → k' ≡ k + 1 → FillsOn w depth t p k k' (store_meanings to_int old) (store_meanings to_int new)
-  looked_up_fills depth k k' is next table index f =
-      let ints : List (Grid ℤ) = store_meanings to_int old in
-      let i : ℤ = at (index_in p ints) x y in
-      let there : i ≡ get_or index.cells k (pos 0) = index_at to_int t p ints k x y table index f.ahead is in
-      let before : List ℤ = finished_samples w depth t table index p.number k in
-      cell_filled to_int t p old new x y _ lies px py sets w depth k k' table index is next f
-      (ap (λ (g : Grid ℤ). int_wrap w (looked_up g i p.number)) f.ahead.table_is
-      ∙ sym (simple_sample w depth t table i p.number before index.width simple)
-      ∙ ap (λ j. finished_sample w depth t table j p.number before index.width) there)
 
 -- ---- a sample by prediction
 

@@ -1,23 +1,24 @@
 //! The inverse of palettes: indices become colours again.
 
-ghost use Rattle.std.specs.Prelude.{◌≡◌, ◌+◌, ◌-◌, ◌*◌, ◌/◌, ◌%◌, ◌^◌, ◌<◌, ◌≤◌, ◌↔◌, IsTrue, ℕ, ℤ, pos, ◌+ℤ◌, if◌then◌else◌, unsigned_abs, List, [], ◌∷◌, ◌++◌, get_or, length, map, min, IfOk, IfErr};
+ghost use Rattle.std.specs.Prelude.{◌≡◌, ◌+◌, ◌-◌, ◌*◌, ◌/◌, ◌%◌, ◌^◌, ◌<◌, ◌≤◌, ◌↔◌, IsTrue, ℕ, ℤ, pos, ◌+ℤ◌, if◌then◌else◌, unsigned_abs, List, [], ◌∷◌, ◌++◌, get_or, length, take, drop, map, min, FitsSigned, IfOk, IfErr};
 ghost use Rattle.std.specs.Option.{ForSome};
 ghost use Rattle.jxlm_base.specs.Fault.{NoMemory, fault_of};
 ghost use Rattle.jxlm_tree.specs.Holding.{IsCurrent};
 ghost use Rattle.jxlm_tree.specs.SelfCorrecting.{IsHeader};
-ghost use Rattle.std.specs.Int.{int_wrap};
+ghost use Rattle.std.specs.Int.{int_wrap, w32};
 ghost use Rattle.jxlm_base.specs.Grid.{at};
 ghost use Rattle.jxlm_base.specs.Regions.{Lies, grid_of, store_meanings};
-ghost use Rattle.jxlm_base.specs.Outside.{KeepsOutside};
+ghost use Rattle.jxlm_base.specs.Inner.Unsqueeze.{number_at};
+ghost use Rattle.jxlm_base.specs.Outside.{KeepsOutside, SetsRow};
 ghost use Rattle.jxlm_tree.specs.Predictions.{prediction};
 ghost use Rattle.jxlm_tree.specs.Standing.{Setting, StandsAt, IsReady, HasSameRoom, room_of, setting, weights_of};
 ghost use Rattle.jxlm_transform.specs.Palette.{colour_of, deltas, difference, implicit_colour, is_delta, listed_difference, finished_channel, finished_sample, IsPaletteOf, PaletteHasOneImage, PaletteLies};
-ghost use Rattle.jxlm_transform.specs.Inner.PaletteSteps.{ChannelLies, ChannelsDone, channel_at, FillsOn, FillsOnBy, IsSimple, IsSimpleIndex, IsSimpleRow, SetsSample, StandsBefore, index_in, looked_up, table_in};
+ghost use Rattle.jxlm_transform.specs.Inner.PaletteSteps.{ChannelLies, ChannelsDone, channel_at, columns_of, FillsOn, FillsOnBy, AreSimple, IsSimple, IsSimpleIndex, IsSimpleRow, SetsSample, StandsBefore, index_in, kept, table_in};
 
 use crate::transform::Palette;
 use jxlm_base::error::Result;
 use jxlm_base::grid::{AlignedGrid, Region};
-use jxlm_base::region::{region_get, region_set};
+use jxlm_base::region::{region_get, region_row, region_set};
 use jxlm_base::sample::Sample;
 use jxlm_tree::predictor::{PredictorState, Properties};
 use jxlm_tree::reduced::reduced;
@@ -224,6 +225,53 @@ fn number_at<S: Sample>(store: &[AlignedGrid<S>], region: Region, x: usize, y: u
     region_get(store, region, x, y).to_i32()
 }
 
+/// How many samples are looked up before they are written.
+const LINE: usize = 256;
+
+/// `count` columns of a region of the store, from column `x` on.
+#[inline(always)]
+fn columns_of<S: Copy>(store: &[AlignedGrid<S>], region: Region, x: usize, count: usize) -> Region
+    requires lies { Lies region store.now }
+    requires inside { x + count ≤ region.width }
+    ensures { result ≡ columns_of region x count }
+{
+    let grid = &store[region.buffer];
+    prove!(region.x <= grid.width());
+    Region {
+        x: region.x + x,
+        width: count,
+        ..region
+    }
+}
+
+/// Writes the samples of these numbers over the cells of a row from `start` on.
+#[inline(always)]
+fn write_samples<S: Sample>(row: &mut [S], start: usize, numbers: &[i32])
+    requires inside { start + length numbers.now ≤ length row.old }
+    requires numbers { (j : ℕ) → j < length numbers.now → FitsSigned w32 (get_or numbers.now j (pos 0)) }
+    ensures { row.new ≡ take start row.old
+        ++ (map (λ n. S.from_int (int_wrap S.width n)) numbers.now ++ drop (start + length numbers.now) row.old) }
+{
+    for j in 0..numbers.len() {
+        row[start + j] = S::from_i32(numbers[j]);
+    }
+}
+
+/// Writes the samples of these numbers into row `y` of a region of the store, which is as wide.
+#[inline(always)]
+fn set_row<S: Sample>(store: &mut [AlignedGrid<S>], region: Region, y: usize, numbers: &[i32])
+    requires lies { Lies region store.old }
+    requires in_rows { y < region.height }
+    requires fits { length numbers.now ≡ region.width }
+    requires numbers { (j : ℕ) → j < length numbers.now → FitsSigned w32 (get_or numbers.now j (pos 0)) }
+    ensures { SetsRow region y (map (λ n. S.from_int (int_wrap S.width n)) numbers.now) store.old store.new }
+{
+    let grid = &mut store[region.buffer];
+    prove!(region.x <= grid.width() && region.y < grid.height());
+    let row = grid.get_row_mut(region.y + y);
+    write_samples(row, region.x, numbers);
+}
+
 /// One of the channels that a palette becomes: where the table, the indices and the channel's samples are, and its
 /// number.
 #[derive(Clone, Copy)]
@@ -320,18 +368,25 @@ impl Palette {
         place < self.nb_colours
     }
 
+    /// Whether all indices of a row do.
+    #[inline(always)]
+    fn are_simple<S: Sample>(&self, indices: &[S]) -> bool
+        ensures { IsTrue result ↔ AreSimple self.now (number_at S.to_int indices.now) (length indices.now) }
+    {
+        let mut simple = true;
+        for j in 0..indices.len() {
+            simple &= self.is_simple_index(indices[j].to_i32());
+        }
+        simple
+    }
+
     /// Whether all indices of row `y` do.
     fn is_simple_row<S: Sample>(&self, store: &[AlignedGrid<S>], index: Region, y: usize) -> bool
         requires lies { Lies index store.now }
         requires in_rows { y < index.height }
         ensures { IsTrue result ↔ IsSimpleRow self.now (grid_of (store_meanings S.to_int store.now) index) y }
     {
-        for x in 0..index.width {
-            if !self.is_simple_index(number_at(store, index, x, y)) {
-                return false;
-            }
-        }
-        true
+        self.are_simple(region_row(store, index, y))
     }
 
     /// Whether all indices do.
@@ -347,52 +402,93 @@ impl Palette {
         true
     }
 
-    /// Looks up one finished sample.
-    fn look_up_cell<S: Sample>(
+    /// Looks up the numbers of a channel's samples, by their indices, in its colours.
+    #[inline(always)]
+    fn look_up<S: Sample>(&self, colours: &[S], indices: &[S], line: &mut [i32])
+        requires columns { length colours.now ≡ self.now.nb_colours }
+        requires as_many { length line.old ≡ length indices.now }
+        requires simple { AreSimple self.now (number_at S.to_int indices.now) (length indices.now) }
+        ensures len { length line.new ≡ length line.old }
+        ensures fit { (j : ℕ) → j < length indices.now → FitsSigned w32 (get_or line.new j (pos 0)) }
+        ensures looked_up { (j : ℕ) → j < length indices.now → get_or line.new j (pos 0)
+            ≡ number_at S.to_int colours.now (unsigned_abs (number_at S.to_int indices.now j)) }
+    {
+        for j in 0..line.len() {
+            let place = indices[j].to_i32() as usize;
+            line[j] = colours[place].to_i32();
+        }
+    }
+
+    /// Looks up finished samples of row `y` from column `x` on, as many as `line` has room for.
+    fn look_up_part<S: Sample>(
         &self,
         store: &mut [AlignedGrid<S>],
         channel: FinishedChannel,
         x: usize,
         y: usize,
+        line: &mut [i32],
     )
         requires lies { ChannelLies self.now channel store.old }
-        requires column { x < channel.index.width }
+        requires columns { x + length line.old ≤ channel.index.width }
         requires in_rows { y < channel.index.height }
-        requires simple { IsSimpleIndex self.now (at (index_in channel (store_meanings S.to_int store.old)) x y) }
-        ensures { SetsSample S.to_int channel x y (int_wrap S.width (looked_up (table_in channel (store_meanings S.to_int store.old)) (at (index_in channel (store_meanings S.to_int store.old)) x y) channel.number)) store.old store.new }
+        requires simple { AreSimple self.now (λ j. at (index_in channel (store_meanings S.to_int store.old)) (x + j) y)
+            (length line.old) }
+        ensures len { length line.new ≡ length line.old }
+        ensures keeps { KeepsOutside (channel.target ∷ []) store.old store.new }
+        ensures kept { kept channel (y * channel.index.width + x + length line.old)
+            (store_meanings S.to_int store.old) (store_meanings S.to_int store.new) }
+        ensures fills { (depth : ℕ) → FillsOn S.width depth self.now channel (y * channel.index.width + x)
+            (y * channel.index.width + x + length line.old) (store_meanings S.to_int store.old) (store_meanings S.to_int store.new) }
     {
-        let place = number_at(store, channel.index, x, y).unsigned_abs();
-        let listed = number_at(store, channel.table, place as usize, channel.number);
-        region_set(store, channel.target, x, y, S::from_i32(listed));
+        let count = line.len();
+        let part = columns_of(store, channel.index, x, count);
+        let colours = region_row(store, channel.table, channel.number);
+        self.look_up(colours, region_row(store, part, y), line);
+        let written = columns_of(store, channel.target, x, count);
+        set_row(store, written, y, line);
     }
 
-    /// Looks up the finished samples of row `y`.
+    /// Looks up the finished samples of row `y`. What is in `line` is written over.
     fn look_up_row<S: Sample>(
         &self,
         store: &mut [AlignedGrid<S>],
         channel: FinishedChannel,
         y: usize,
+        line: &mut [i32],
     )
         requires lies { ChannelLies self.now channel store.old }
         requires in_rows { y < channel.index.height }
         requires simple { IsSimpleRow self.now (index_in channel (store_meanings S.to_int store.old)) y }
+        requires some { 0 < length line.old }
         ensures fills { (depth : ℕ) → FillsOn S.width depth self.now channel (y * channel.index.width) ((y + 1) * channel.index.width) (store_meanings S.to_int store.old) (store_meanings S.to_int store.new) }
         ensures keeps { KeepsOutside (channel.target ∷ []) store.old store.new }
+        ensures len { length line.new ≡ length line.old }
     {
-        for x in 0..channel.index.width {
-            self.look_up_cell(store, channel, x, y);
+        let width = channel.index.width;
+        let mut x = 0;
+        while x < width {
+            let count = line.len().min(width - x);
+            self.look_up_part(store, channel, x, y, &mut line[..count]);
+            x += count;
         }
     }
 
-    /// Looks up all samples of a finished channel.
-    fn look_up_channel<S: Sample>(&self, store: &mut [AlignedGrid<S>], channel: FinishedChannel)
+    /// Looks up all samples of a finished channel. What is in `line` is written over.
+    fn look_up_channel<S: Sample>(
+        &self,
+        store: &mut [AlignedGrid<S>],
+        channel: FinishedChannel,
+        line: &mut [i32],
+    )
         requires lies { ChannelLies self.now channel store.old }
+        requires some { 0 < length line.old }
         requires simple { IsSimple self.now (index_in channel (store_meanings S.to_int store.old)) }
         ensures finished { (depth : ℕ) → grid_of (store_meanings S.to_int store.new) channel.target ≡ finished_channel S.width depth self.now (table_in channel (store_meanings S.to_int store.old)) (index_in channel (store_meanings S.to_int store.old)) channel.number }
         ensures keeps { KeepsOutside (channel.target ∷ []) store.old store.new }
+        ensures len { length line.new ≡ length line.old }
     {
         for y in 0..channel.index.height {
-            self.look_up_row(store, channel, y);
+            self.look_up_row(store, channel, y, line);
         }
     }
 }
@@ -499,9 +595,10 @@ impl Palette {
         requires simple { IsSimple self.now (grid_of (store_meanings S.to_int store.old) index) }
         ensures { (depth : ℕ) → ChannelsDone S.to_int S.width depth self.now table index finished.now 0 store.old store.new }
     {
+        let mut line = [0; LINE];
         for i in 0..finished.len() {
             let channel = FinishedChannel::from_last(table, index, finished, i);
-            self.look_up_channel(store, channel);
+            self.look_up_channel(store, channel, &mut line);
         }
     }
 

@@ -1,8 +1,8 @@
 -- How far the inverse of a palette has come: what its loops over channels, rows and columns keep.
-use Rattle.std.specs.Prelude.{◌≡◌, ℕ, ◌<◌, ◌≤◌, ◌⊎◌, List, [], length, take, get_or, ℤ, pos, negsuc, unsigned_abs}
+use Rattle.std.specs.Prelude.{◌≡◌, ℕ, ◌+◌, ◌<◌, ◌≤◌, ◌⊎◌, List, [], length, take, get_or, ℤ, pos, negsuc, unsigned_abs}
 use Rattle.std.specs.Int.{Width}
 use Rattle.jxlm_base.specs.Grid.{Grid, at}
-use Rattle.jxlm_base.specs.Regions.{Lies, AreApart, grid_of, store_meanings, with_region_cell}
+use Rattle.jxlm_base.specs.Regions.{Lies, AreApart, region, grid_of, store_meanings, with_region_cell}
 use Rattle.jxlm_base.specs.declared.subgrid.Region.{Region}
 use Rattle.jxlm_base.specs.Outside.{KeepsOutside}
 use Rattle.jxlm_tree.specs.Standing.{StandsAt, setting}
@@ -16,12 +16,20 @@ abbrev pub IsSimpleIndex : Palette → ℤ → Type 0
 IsSimpleIndex t (pos i) = (t.nb_deltas ≤ i) × (i < t.nb_colours)
 IsSimpleIndex t (negsuc k) = ⊥
 
+-- so are the first n of some numbers
+abbrev pub AreSimple : Palette → (ℕ → ℤ) → ℕ → Type 0
+AreSimple t numbers n = (x : ℕ) → x < n → IsSimpleIndex t (numbers x)
+
 -- so are the indices of a row, and of the whole grid
 abbrev pub IsSimpleRow : Palette → Grid ℤ → ℕ → Type 0
 IsSimpleRow t index y = (x : ℕ) → x < index.width → IsSimpleIndex t (at index x y)
 
 abbrev pub IsSimple : Palette → Grid ℤ → Type 0
 IsSimple t index = (y : ℕ) → y < index.height → IsSimpleRow t index y
+
+-- n columns of a region, from column x on
+abbrev pub columns_of : Region → ℕ → ℕ → Region
+columns_of r x n = region r.buffer (r.x + x) r.y n r.height
 
 -- The channel's regions lie in the store. The samples take none of the table's cells; of the indices' cells they take
 -- all, each its own, or none.

@@ -1,4 +1,4 @@
-use Rattle.std.proofs.Common.{◌≡◌, ◌*◌, [], ◌∷◌, refl, sym, ap, subst, arith}
+use Rattle.std.proofs.Common.{◌≡◌, ◌*◌, [], ◌∷◌, refl, sym, ap, ◌∙◌, subst, arith}
 use Rattle.jxlm_base.specs.Regions.{store_meanings}
 use Rattle.jxlm_base.proofs.Outside.{keeps_all, keeps_both}
 use Rattle.jxlm_transform.specs.Inner.PaletteSteps.{IsSimpleIndex, index_in, table_in}
@@ -10,6 +10,7 @@ loop-y-init g c =
     let p = c.args.channel in
     let ints = store_meanings g.S.Sealed.to_int c.args.store.now in
     record {
+      len = refl;
       keeps = keeps_all (p.target ∷ []) c.args.store.now;
       fills = λ depth. fills_between g.S.Sealed.width depth c.args.self.now p ints ints 0 0 (0 * p.index.width) (λ table index f. f) (omega arith);
     }
@@ -41,6 +42,7 @@ pub loop-y-preserved : goal.loop-y-preserved
 loop-y-preserved g c =
     let p = c.args.channel in
     record {
+      len = c.look_up_row.ensures.len ∙ c.loop-y.invariant.len;
       keeps = keeps_both (p.target ∷ []) c.args.store.now c.loop-y.store c.look_up_row.new.store c.loop-y.invariant.keeps c.look_up_row.ensures.keeps;
       fills = λ depth table index f. c.look_up_row.ensures.fills depth table index (c.loop-y.invariant.fills depth table index f);
     }

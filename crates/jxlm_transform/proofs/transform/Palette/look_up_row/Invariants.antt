@@ -1,4 +1,4 @@
-use Rattle.std.proofs.Common.{ℕ, ◌+◌, ◌*◌, [], ◌∷◌}
+use Rattle.std.proofs.Common.{◌≡◌, ℕ, ◌+◌, ◌-◌, ◌*◌, ◌≤◌, [], ◌∷◌, length}
 use Rattle.jxlm_base.specs.Regions.{store_meanings}
 use Rattle.jxlm_base.specs.Outside.{KeepsOutside}
 use Rattle.jxlm_transform.specs.Inner.PaletteSteps.{FillsOn, kept}
@@ -10,7 +10,12 @@ invariant-loop-x g l =
     let old = store_meanings g.S.Sealed.to_int l.fn.store in
     let now = store_meanings g.S.Sealed.to_int l.store in
     record {
+      within : l.x ≤ width;
+      len : length l.line ≡ length l.fn.line;
       keeps : KeepsOutside (l.channel.target ∷ []) l.fn.store l.store;
       kept : kept l.channel (l.y * width + l.x) old now;
       fills : (depth : ℕ) → FillsOn g.S.Sealed.width depth l.self l.channel (l.y * width) (l.y * width + l.x) old now;
     }
+
+abbrev pub decreases-loop-x : goal.decreases-loop-x
+decreases-loop-x g l = l.channel.index.width - l.x
