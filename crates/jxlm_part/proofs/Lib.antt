@@ -3,6 +3,9 @@ pub mod Counts
 pub mod Earlier
 pub mod Loops
 pub mod NextSample
+pub mod RowSees
+pub mod RowsOn
+pub mod RowWrites
 pub mod Progress
 pub mod Starting
 pub mod Samples

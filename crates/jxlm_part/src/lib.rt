@@ -7,3 +7,4 @@ pub mod channels;
 pub mod coding;
 pub mod decode;
 pub mod laws;
+mod rows;

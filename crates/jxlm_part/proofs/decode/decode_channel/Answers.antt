@@ -1,4 +1,5 @@
 use Rattle.std.proofs.Common.{rules, ◌+◌, ◌*◌, refl, sym, ap, ◌∙◌, ◌≡◌, arith, subst}
+use Rattle.std.proofs.lemmas.List.{length-take-le}
 use Rattle.std.proofs.lemmas.Result.{err_from_is_err_and}
 use Rattle.jxlm_base.specs.Bits.{bytes_of, position_of}
 use Rattle.jxlm_base.specs.Regions.{store_meanings}
@@ -7,7 +8,16 @@ use Rattle.jxlm_part.specs.Part.{cells_before}
 use Rattle.jxlm_part.specs.Progress.{TakesSteps, place_of}
 use Rattle.jxlm_part.specs.Reading.{StandsBehind, cost_of, part_of, region_at, regions_of}
 use Rattle.jxlm_part.proofs.Loops.{goes_further, stops_further, goes_between, stays, channel_begins, channel_done, channel_empty, takes_between, takes_further, takes_none}
+use Rattle.jxlm_part.proofs.Starting.{fits_widest}
 use Rattle.jxlm_part.proofs.decode.decode_channel.Goals as goal
+
+pub slice_bounds-row-end : goal.slice_bounds-row-end
+slice_bounds-row-end g c = let n = fits_widest c.args.coding.now c.requires.coding c.args.i c.requires.channel in omega (arith, n, c.requires.room)
+
+pub slice_bounds-row-end-2 : goal.slice_bounds-row-end-2
+slice_bounds-row-end-2 g c =
+    let n = fits_widest c.args.coding.now c.requires.coding c.args.i c.requires.channel in
+    sym (length-take-le (region_at (regions_of c.args.coding.now) c.args.i).width c.args.scratch.now (omega (arith, n, c.requires.room)))
 
 pub returns-then-region-eq0-clause-ok : goal.returns-then-region-eq0-clause-ok
 returns-then-region-eq0-clause-ok g c =
@@ -56,6 +66,7 @@ loop-y-preserved g c =
           (place_of part c.args.i 0 (c.loop-y.y + 1)) (store_meanings to_int c.decode_row.new.store) c.decode_row.new.decoder (position_of c.decode_row.new.bits) next;
       stands = c.in_ok-decode_row.ensures.stands;
       roomy = c.in_ok-decode_row.ensures.roomy;
+      long = c.decode_row.auto.row ∙ c.loop-y.invariant.long;
       work = takes_further (cost_of c.args.coding.now) (place_of part c.args.i 0 0) (place_of part c.args.i 0 c.loop-y.y) (place_of part c.args.i 0 (c.loop-y.y + 1))
           c.args.steps.now c.loop-y.steps c.decode_row.new.steps c.loop-y.invariant.work c.in_ok-decode_row.ensures.work;
       more = let before = c.loop-y.invariant.more in omega (arith, before, c.in_ok-decode_row.ensures.more);
@@ -103,6 +114,9 @@ loop-y-init g c =
           (place_of part c.args.i 0 0) (place_of part c.args.i 0 0) refl;
       stands = subst (λ n. StandsBehind c.args.coding.now to_int c.args.store.now c.args.i n c.start_channel.new.state) none (c.start_channel.ensures.stands c.args.store.now);
       roomy = c.start_channel.ensures.roomy;
+      long =
+          let n = fits_widest c.args.coding.now c.requires.coding c.args.i c.requires.channel in
+          length-take-le (region_at (regions_of c.args.coding.now) c.args.i).width c.args.scratch.now (omega (arith, n, c.requires.room));
       work = takes_none (cost_of c.args.coding.now) (place_of part c.args.i 0 0) c.args.steps.now;
       more = omega arith;
     }

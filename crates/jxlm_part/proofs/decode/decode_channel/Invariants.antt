@@ -1,8 +1,8 @@
-use Rattle.std.proofs.Common.{◌≡◌, ◌*◌, ◌≤◌}
+use Rattle.std.proofs.Common.{◌≡◌, ◌*◌, ◌≤◌, length}
 use Rattle.jxlm_base.specs.Bits.{bytes_of, position_of}
 use Rattle.jxlm_base.specs.Regions.{store_meanings}
 use Rattle.jxlm_part.specs.Progress.{GoesOn, KeepsOutside, TakesSteps, place_of}
-use Rattle.jxlm_part.specs.Reading.{IsRoomy, StandsBehind, cost_of, part_of, region_at, regions_of}
+use Rattle.jxlm_part.specs.Reading.{HasRoom, StandsBehind, cost_of, part_of, region_at, regions_of}
 use Rattle.jxlm_part.proofs.decode.decode_channel.Given as goal
 
 abbrev pub invariant-loop-y : goal.invariant-loop-y
@@ -16,7 +16,8 @@ invariant-loop-y g l =
       goes : GoesOn d g.S.Sealed.width part (bytes_of l.fn.bits) (regions_of l.coding) (place_of part l.i 0 0) (place_of part l.i 0 l.y)
           (store_meanings g.S.Sealed.to_int l.fn.store) l.fn.decoder (position_of l.fn.bits) (store_meanings g.S.Sealed.to_int l.store) l.decoder (position_of l.bits);
       stands : StandsBehind l.coding g.S.Sealed.to_int l.store l.i (l.y * (region_at (regions_of l.coding) l.i).width) l.state;
-      roomy : IsRoomy l.coding l.state;
+      roomy : HasRoom l.coding l.state;
+      long : length l.row ≡ (region_at (regions_of l.coding) l.i).width;
       work : TakesSteps (cost_of l.coding) (place_of part l.i 0 0) (place_of part l.i 0 l.y) l.fn.steps l.steps;
       more : l.fn.steps ≤ l.steps;
     }
