@@ -66,14 +66,36 @@ takes_some cost k n before after h = omega (arith, h)
 pub takes_less : (cost a b before after : ℕ) → a ≤ b → after ≤ before → TakesSteps cost a b before after
 takes_less cost a b before after h few = let m = mul-le a cost b cost h (omega arith) in omega (arith, few, m)
 
--- what an answer says for each count, it says for one; and what holds, holds where it is Ok
+-- ---- results
+
+-- what a result says for each count, it says for one, and the other way round
 pub err_at : {A E : Type 0} (r : Result A E) (P : E → ℕ → Type 0) (n : ℕ) → IfErr r (λ e. (m : ℕ) → P e m) → IfErr r (λ e. P e n)
 err_at (Ok a) P n h = h
 err_at (Err e) P n h = h n
 
+pub err_all : {A E : Type 0} (r : Result A E) (P : E → ℕ → Type 0) → ((n : ℕ) → IfErr r (λ e. P e n)) → IfErr r (λ e. (n : ℕ) → P e n)
+err_all (Ok a) P h = h 0
+err_all (Err e) P h = h
+
+-- what follows from it
+pub err_so : {A E : Type 0} (r : Result A E) (P Q : E → Type 0) → ((e : E) → P e → Q e) → IfErr r P → IfErr r Q
+err_so (Ok a) P Q so h = h
+err_so (Err e) P Q so h = so e h
+
+pub ok_so : {A E : Type 0} (r : Result A E) (P Q : Type 0) → (P → Q) → OnOk r P → OnOk r Q
+ok_so (Ok a) P Q so h = so h
+ok_so (Err e) P Q so h = h
+
+-- what holds, holds for it
+pub err_still : {A E : Type 0} (r : Result A E) (P : E → Type 0) → ((e : E) → P e) → IfErr r P
+err_still (Ok a) P h = tt
+err_still (Err e) P h = h e
+
 pub ok_still : {A E : Type 0} (r : Result A E) (P : Type 0) → P → OnOk r P
 ok_still (Ok a) P h = h
 ok_still (Err e) P h = tt
+
+-- ---- steps taken one after another
 
 pub takes_further : (cost a b c s t u : ℕ) → TakesSteps cost a b s t → TakesSteps cost b c t u → TakesSteps cost a c s u
 takes_further cost a b c s t u h k = sums_within (a * cost) (b * cost) (c * cost) s t u h k

@@ -7,11 +7,12 @@ use Rattle.std.proofs.lemmas.Bool.{cases_eq, cases_lt}
 use Rattle.std.proofs.lemmas.List.{append_assoc, append-nil, get_or-map, get_or-set_other, get_or-set_same, length-map, same_lists, set-get_or}
 use Rattle.jxlm_base.specs.Grid.{Grid, IsFull, cell, with_cell}
 use Rattle.jxlm_base.specs.Outside.{KeepsOutside, SetsRow, row_of}
-use Rattle.jxlm_base.specs.Regions.{AllLie, AreApart, HasCell, LieApart, Lies, grid_of, region, store_meanings}
+use Rattle.jxlm_base.specs.Regions.{AllLie, AreApart, HasCell, LieApart, Lies, grid_of, store_meanings}
 use Rattle.jxlm_base.specs.declared.subgrid.Region.{Region}
 use Rattle.jxlm_base.proofs.Cells.{IsFull-with_cell, cell-with_cell_other, cell-with_cell_same, grid_same}
 use Rattle.jxlm_base.proofs.Outside.{all_one, grid_kept, keeps_wider, number_of_row, number_same, region_cell_kept}
 use Rattle.jxlm_base.proofs.Regions.{IsFull-grid_of, apart_at, cell-grid_of}
+use Rattle.jxlm_part.specs.Inner.Rows.{first_columns}
 use Rattle.jxlm_part.specs.Part.{Channel, cells_before, cells_of, channel, Fits, grid as grid_at}
 use Rattle.jxlm_part.proofs.Progress.{cells_written, fits_written, stands_within, with_cell_of}
 
@@ -19,10 +20,6 @@ set_set : {X : Type 0} (xs : List X) (i : ℕ) (a b : X) → set (set xs i a) i 
 set_set [] i a b = refl
 set_set (x ∷ xs) zero a b = refl
 set_set (x ∷ xs) (suc i) a b = ap (λ ys. x ∷ ys) (set_set xs i a b)
-
--- the first n columns of a region
-abbrev pub first_columns : Region → ℕ → Region
-first_columns r n = region r.buffer r.x r.y n r.height
 
 -- ---- grids
 

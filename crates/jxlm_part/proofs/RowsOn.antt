@@ -1,12 +1,12 @@
 -- From a row that was read and written to the part that was decoded further.
 use Rattle.std.proofs.Common.{◌≡◌, ℕ, zero, suc, ◌+◌, ◌*◌, ◌<◌, ◌≤◌, List, ◌++◌, length, take, map, Some, Ok, Err, refl, sym, ap, ◌∙◌, subst, arith, ℤ, pos}
-use Rattle.std.specs.Prelude.{get_or, slice_set}
+use Rattle.std.specs.Prelude.{get_or, slice_set, Result, OnOk, IfErr}
 use Rattle.std.specs.Int.{Width}
 use Rattle.std.proofs.lemmas.List.{length-map, length-take, length-take-le, take-map, take-take, take_all}
 use Rattle.std.proofs.lemmas.Option.{get_or_from_slice_get}
 use Rattle.jxlm_base.specs.Decoding.{Meaning, Taken}
 use Rattle.jxlm_base.specs.Grid.{Grid}
-use Rattle.jxlm_base.specs.Outside.{SetsRow}
+use Rattle.jxlm_base.specs.Outside.{KeepsOutside, SetsRow}
 use Rattle.jxlm_base.specs.Regions.{AllLie, LieApart, region, store_meanings}
 use Rattle.jxlm_base.specs.declared.decoder.DecoderError.{DecoderError}
 use Rattle.jxlm_base.specs.declared.subgrid.Region.{Region}
@@ -14,12 +14,13 @@ use Rattle.jxlm_part.specs.Coded.{part_rule}
 use Rattle.jxlm_part.specs.Part.{Part, cells_of, channel}
 use Rattle.jxlm_part.specs.Progress.{GoesOn, Reached, SameSizes, Stops, TakesSteps, cells_ahead, grids_in, place_of}
 use Rattle.jxlm_part.specs.Reading.{region_at}
-use Rattle.jxlm_part.specs.Inner.Rows.{AreAlike, ReadsRow, FailsRow, rule_after}
+use Rattle.jxlm_part.specs.Inner.Rows.{AreAlike, ReadsRow, FailsRow, SetsRead, first_columns, rule_after}
 use Rattle.jxlm_part.specs.Rule.{Rule, CodedPrefix}
+use Rattle.jxlm_part.specs.declared.rows.RowError.{RowError}
 use Rattle.jxlm_part.proofs.Loops.{all_cells, goes_between, grid_in, row_done, same_count, same_size, takes_some}
 use Rattle.jxlm_part.proofs.Prefixes.{prefix_same}
 use Rattle.jxlm_part.proofs.Progress.{reached_more, stands_within, with_cell_of}
-use Rattle.jxlm_part.proofs.RowWrites.{cells_first, first_columns, none_written, one_more_written, row_grids, with_cells_of, with_first}
+use Rattle.jxlm_part.proofs.RowWrites.{cells_first, none_written, one_more_written, row_grids, row_keeps, with_cells_of, with_first}
 
 -- what one of two rules that are alike reads, the other reads
 pub alike_prefix : {S : Type 0} (a b : Rule S) (n : ℕ) (row : List ℤ) (s : S) (p : ℕ) → AreAlike a b n → (x : ℕ) (t : S) (q : ℕ) → x ≤ n → CodedPrefix a row s p x t q → CodedPrefix b row s p x t q
@@ -153,3 +154,38 @@ module _ {S : Type 0} (d : Meaning S) (w : Width) (part : Part) (bytes : List �
           let short : length (take x R) < width = let k = length-take x R in omega (arith, k, inside) in
           row_stops (take x row) x count (omega (arith, inside)) sets cost before after h.state q e inside few (prefix_same row_rule s p R (map to_int (take x row)) x h.state q same by_part)
           (ap (λ cs. row_rule.read cs h.state q) (sym is) ∙ sym ((alike (take x R) short).0 h.state q) ∙ h.error)
+
+      -- the same, for what a row function returned, once its row was written
+
+      pub row_goes : (read : Result (Unit {0}) RowError) (result : Result (Unit {0}) DecoderError) (t : S) (q : ℕ) → SetsRead (region_at regions i) y row read store new result →
+          OnOk read (ReadsRow rule (map to_int row) s p t q) →
+          OnOk result (GoesOn d w part bytes regions (place_of part i 0 y) (place_of part i 0 (y + 1)) ints s p (store_meanings to_int new) t q)
+      row_goes (Ok u) result t q sets reads = rw sets.1 (row_read t q sets.0 reads)
+      row_goes (Err e) result t q sets reads = rw sets.1 tt
+
+      pub row_stopped : (read : Result (Unit {0}) RowError) (result : Result (Unit {0}) DecoderError) (q cost before after : ℕ) → SetsRead (region_at regions i) y row read store new result →
+          IfErr read (λ r. FailsRow rule (map to_int row) s p r.column r.error q) → IfErr read (λ r. after ≤ before + (r.column + 1) * cost) →
+          IfErr result (λ e. Stops d w part bytes regions cost before after (place_of part i 0 y) ints s p (store_meanings to_int new) q e)
+      row_stopped (Ok u) result q cost before after sets fails few = rw sets.1 tt
+      row_stopped (Err e) result q cost before after sets fails few =
+          rw sets.1 (row_refused e.column e.error q sets.0 fails cost before after (let n : suc e.column ≡ e.column + 1 = omega arith in subst (λ k. after ≤ before + k * cost) (sym n) few))
+
+      pub row_keeps_rest : (read : Result (Unit {0}) RowError) (result : Result (Unit {0}) DecoderError) (q : ℕ) → SetsRead (region_at regions i) y row read store new result →
+          IfErr read (λ r. FailsRow rule (map to_int row) s p r.column r.error q) → KeepsOutside regions store new
+      row_keeps_rest (Ok u) result q sets fails =
+          row_keeps to_int store new y (region_at regions i).width row regions i (region 0 0 0 0 0) lie li qy (omega arith) sets.0
+      row_keeps_rest (Err e) result q sets fails =
+          let k = fails.inside in
+          let m = length-map row to_int in
+          row_keeps to_int store new y e.column (take e.column row) regions i (region 0 0 0 0 0) lie li qy (omega (arith, k, m, long)) sets.0
+
+-- what holds where a row was read holds where it was written
+pub ok_written : {X : Type 0} (r : Region) (y : ℕ) (row : List X) (store new : List (Grid X)) (read : Result (Unit {0}) RowError) (result : Result (Unit {0}) DecoderError) (P Q : Type 0) →
+    SetsRead r y row read store new result → OnOk read P → (SetsRow r y row store new → P → Q) → OnOk result Q
+ok_written r y row store new (Ok u) result P Q sets h so = rw sets.1 (so sets.0 h)
+ok_written r y row store new (Err e) result P Q sets h so = rw sets.1 tt
+
+pub err_written : {X : Type 0} (r : Region) (y : ℕ) (row : List X) (store new : List (Grid X)) (read : Result (Unit {0}) RowError) (result : Result (Unit {0}) DecoderError) (P : DecoderError → Type 0) →
+    SetsRead r y row read store new result → IfErr read (λ e. P e.error) → IfErr result P
+err_written r y row store new (Ok u) result P sets h = rw sets.1 tt
+err_written r y row store new (Err e) result P sets h = rw sets.1 h

@@ -159,6 +159,10 @@ module _ {D X : Type 0} (c : PartCoding D) (i : ℕ) where
   pub somewhere : (state : PredictorState X) → StandsIn c i state → Stands state
   somewhere state h = record { where_set = setting_of c i; before = h.before; stands = h.stands }
 
+  -- it was last in the channel before the next one
+  pub after_channel : (state : PredictorState X) → StandsIn c i state → IsAfterChannel c (i + 1) state
+  after_channel state h = λ last next columns. let is : i ≡ last = omega (arith, next) in subst (λ n. StandsIn c n state) is h
+
   -- none was before the first channel
   pub after_none : (state : PredictorState X) → IsAfterChannel c 0 state
   after_none state = λ last next columns. absurd (omega (arith, next))

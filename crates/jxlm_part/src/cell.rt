@@ -55,8 +55,8 @@ fn next_sample<S: Sample, D: Decoder>(
     Ok(sample_from(token, leaf, predicted))
 }
 
-/// Reads the cell in column `x` of row `y` of channel `i` into `row`; the state must be at this cell, and is at the next
-/// one afterwards.
+/// Reads the cell in column `x` of row `y` of channel `i` into `row`; the state must be at this cell, and is at the
+/// next one afterwards.
 pub(crate) fn decode_cell<S: Sample, D: Decoder>(
     bits: &mut Bitstream<'_>,
     decoder: &mut D,
@@ -78,12 +78,14 @@ pub(crate) fn decode_cell<S: Sample, D: Decoder>(
     requires clusters { FindsClusters coding.now (D.meaning.cluster_map decoder.old) }
     requires stands { StandsInRow coding.now S.to_int store.now i y (take x (map S.to_int row.old)) state.old }
     requires roomy { HasRoom coding.now state.old }
-    ensures ok { OnOk result (ReadsCell (rule_in coding.now S.to_int store.now i y D.meaning S.width (bytes_of bits.old))
+    ensures ok { OnOk result
+        (ReadsCell (rule_in coding.now S.to_int store.now i y D.meaning S.width (bytes_of bits.old))
         (map S.to_int row.old) x decoder.old (position_of bits.old)
         (map S.to_int row.new) decoder.new (position_of bits.new)) }
     ensures err { IfErr result (λ e.
-        FailsCell (rule_in coding.now S.to_int store.now i y D.meaning S.width (bytes_of bits.old)) (map S.to_int row.old)
-        x decoder.old (position_of bits.old) (map S.to_int row.new) decoder.new (position_of bits.new) e) }
+        FailsCell (rule_in coding.now S.to_int store.now i y D.meaning S.width (bytes_of bits.old))
+        (map S.to_int row.old) x decoder.old (position_of bits.old)
+        (map S.to_int row.new) decoder.new (position_of bits.new) e) }
     ensures stands { OnOk result
         (StandsInRow coding.now S.to_int store.now i y (take (x + 1) (map S.to_int row.new)) state.new) }
     ensures roomy { OnOk result (HasRoom coding.now state.new) }

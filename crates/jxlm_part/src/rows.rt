@@ -1,16 +1,17 @@
-//! Rows of a channel, cell by cell.
+//! Rows of a channel: what the read of one returns, how it is read cell by cell, and how it is written.
 
 ghost use Rattle.std.specs.Prelude.{◌≡◌, ◌+◌, ◌*◌, ◌<◌, ◌≤◌, ◌≢◌, map, length, OnOk, IfErr};
 ghost use Rattle.jxlm_base.specs.Bits.{bytes_of, position_of};
-ghost use Rattle.jxlm_base.specs.Regions.{AllLie};
-ghost use Rattle.jxlm_part.specs.Inner.Rows.{FailsRow, ReadsRow, StandsInRow, rule_in};
+ghost use Rattle.jxlm_base.specs.Regions.{AllLie, Lies};
+ghost use Rattle.jxlm_part.specs.Inner.Rows.{FailsRow, ReadsRow, SetsRead, StandsInRow, rule_in};
 ghost use Rattle.jxlm_part.specs.Reading.{FindsClusters, HasRoom, IsCodingOf, StandsBehind, cost_of, region_at, regions_of};
 
 use crate::cell::decode_cell;
 use crate::coding::PartCoding;
 use jxlm_base::bits::Bitstream;
 use jxlm_base::decoder::{Decoder, DecoderError};
-use jxlm_base::grid::AlignedGrid;
+use jxlm_base::grid::{AlignedGrid, Region};
+use jxlm_base::region::region_set_row;
 use jxlm_base::sample::Sample;
 use jxlm_tree::flat::Steps;
 use jxlm_tree::predictor::PredictorState;
@@ -46,7 +47,8 @@ pub(crate) fn read_row<S: Sample, D: Decoder>(
     requires long { length row.old ≡ (region_at (regions_of coding.now) i).width }
     requires coding { IsCodingOf coding.now }
     requires clusters { FindsClusters coding.now (D.meaning.cluster_map decoder.old) }
-    requires stands { StandsBehind coding.now S.to_int store.now i (y * (region_at (regions_of coding.now) i).width) state.old }
+    requires stands { StandsBehind coding.now S.to_int store.now i
+        (y * (region_at (regions_of coding.now) i).width) state.old }
     requires roomy { HasRoom coding.now state.old }
     ensures ok { OnOk result (ReadsRow (rule_in coding.now S.to_int store.now i y D.meaning S.width (bytes_of bits.old))
         (map S.to_int row.new) decoder.old (position_of bits.old) decoder.new (position_of bits.new)) }
@@ -70,4 +72,38 @@ pub(crate) fn read_row<S: Sample, D: Decoder>(
         }
     }
     Ok(())
+}
+
+/// Writes a row that was read into row `y` of a region: all of it, or the cells before the one whose read returned an
+/// error; and returns what the read returned.
+pub(crate) fn write_read<S: Copy>(
+    store: &mut [AlignedGrid<S>],
+    region: Region,
+    y: usize,
+    row: &[S],
+    read: Result<(), RowError>,
+) -> Result<(), DecoderError>
+    requires lies { Lies region store.old }
+    requires in_rows { y < region.height }
+    requires long { length row.now ≡ region.width }
+    requires inside { IfErr read (λ r. r.column < length row.now) }
+    ensures { SetsRead region y row.now read store.old store.new result }
+{
+    match read {
+        Ok(()) => {
+            region_set_row(store, region, y, row);
+            Ok(())
+        }
+        Err(ended) => {
+            let first = Region {
+                buffer: region.buffer,
+                x: region.x,
+                y: region.y,
+                width: ended.column,
+                height: region.height,
+            };
+            region_set_row(store, first, y, &row[..ended.column]);
+            Err(ended.error)
+        }
+    }
 }
