@@ -1,6 +1,6 @@
 //! Trees as the samples of one channel walk them, and what a leaf says.
 
-ghost use Rattle.std.specs.Prelude.{◌≡◌, ◌≤◌, ◌<◌, ◌+◌, ◌^◌, ℕ, ℤ, pos, false, length, min, IfOk, IfSome};
+ghost use Rattle.std.specs.Prelude.{◌≡◌, ◌≤◌, ◌<◌, ◌+◌, ◌^◌, ℕ, ℤ, pos, false, length, min, IfOk, IfSome, None};
 ghost use Rattle.std.specs.Int.{w32, int_wrap};
 ghost use Rattle.jxlm_base.specs.Bits.{bytes_of, position_of};
 ghost use Rattle.jxlm_tree.specs.DecodingSamples.{SampleGives};
@@ -149,7 +149,8 @@ impl FlatMaTree {
 
     /// The leaf of the tree, where it has no other.
     pub fn only_leaf(&self) -> Option<Leaf>
-        ensures { IfSome result (λ l. self.now.tree ≡ leaf l) }
+        ensures some { IfSome result (λ l. self.now.tree ≡ leaf l) }
+        ensures none { result ≡ None → 0 < depth self.now.tree }
     {
         let node: &MaTreeNode = &self.tree;
         match node {
