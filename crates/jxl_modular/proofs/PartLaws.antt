@@ -28,7 +28,7 @@ use Rattle.jxlm_part.specs.Reading.{HasFlats, IsCodingOf, IsRoomy, IsRoomyFor, r
 use Rattle.jxl_modular.specs.Inner.Samples.{DecodesSamples, FailsAtOnePlace, RefusesSamples}
 use Rattle.jxlm_transform.specs.declared.channels.ModularChannelInfo.{ModularChannelInfo}
 use Rattle.jxlm_part.specs.declared.coding.PartCoding.{PartCoding}
-use Rattle.jxlm_tree.specs.declared.state.PredictorState.{PredictorState}
+use Rattle.jxlm_part.specs.declared.coding.PartState.{PartState}
 use Rattle.jxlm_part.proofs.Starting.{roomy_for}
 use Rattle.jxlm_part.proofs.Loops.{same_count}
 use Rattle.jxl_modular.proofs.Laid.{coded_sizes, coded_fit}
@@ -64,7 +64,7 @@ module _ {S D : Type 0} (x : Image S D) (laid : IsLaidOut x) (c : PartCoding D)
   }
 
   -- where there are samples, the state has room for them
-  pub roomy_part : (state : PredictorState S) → 0 < samples_in x → IsCodingOf c → IsRoomyFor c.widest c.weights c.flats.now state → IsRoomy c state
+  pub roomy_part : (state : PartState S) → 0 < samples_in x → IsCodingOf c → IsRoomyFor c.widest c.weights c.flats.now state → IsRoomy c state
   roomy_part state some coding roomy = roomy_for c state coding roomy (let n = count_is in let m = some_channel x.channels some in omega (arith, n, m))
 
 -- the part of the channels of an image

@@ -1,30 +1,37 @@
 -- A cell of a part: what it holds, and what is read into it.
-use Rattle.std.proofs.Common.{◌≡◌, ℕ, zero, suc, ◌+◌, ◌*◌, ◌/◌, ◌<◌, ◌≤◌, ◌^◌, List, [], ◌∷◌, ◌++◌, length, take, refl, sym, ap, ◌∙◌, subst, arith, ℤ, slice_index_or}
+use Rattle.std.proofs.Common.{◌≡◌, ℕ, zero, suc, ◌+◌, ◌*◌, ◌/◌, ◌<◌, ◌≤◌, ◌^◌, List, [], ◌∷◌, ◌++◌, length, take, Some, refl, sym, ap, ◌∙◌, subst, arith, ℤ, slice_index_or}
+use Rattle.std.specs.Prelude.{slice_get, slice_set}
 use Rattle.std.specs.List.{All}
 use Rattle.std.specs.Int.{Width}
-use Rattle.std.proofs.lemmas.List.{length-take-le, take_more_set}
+use Rattle.std.proofs.lemmas.List.{append-nil, append_assoc, length-append, length-take-le, take-set, take_more_set}
 use Rattle.std.proofs.lemmas.Nat.{div-mul-add, mul-add-lt}
 use Rattle.std.proofs.lemmas.Option.{get_or_from_slice_get}
 use Rattle.std.proofs.lemmas.List.Elements.{All-nil}
 use Rattle.jxlm_base.specs.Decoding.{Meaning}
-use Rattle.jxlm_base.specs.Grid.{Grid, with_cell}
-use Rattle.jxlm_base.specs.Regions.{AllLie, Lies, grid_of, region, store_meanings, with_region_cell}
+use Rattle.jxlm_base.specs.Grid.{Grid}
+use Rattle.jxlm_base.specs.Regions.{AllLie, grid_of, region, store_meanings}
 use Rattle.jxlm_base.specs.declared.decoder.DecoderError.{DecoderError}
 use Rattle.jxlm_base.specs.declared.subgrid.Region.{Region}
-use Rattle.jxlm_base.proofs.Regions.{IsFull-grid_of, Lies-meanings, grid_of_written, with_region_cell-meanings}
+use Rattle.jxlm_base.proofs.Regions.{IsFull-grid_of}
+use Rattle.jxlm_base.proofs.Cells.{slice_get-set_same}
 use Rattle.jxlm_tree.specs.FlatTree.{ClustersStandIn, FlatTree, earlier_named}
-use Rattle.jxlm_tree.specs.Neighbours.{row}
+use Rattle.jxlm_tree.specs.Neighbours.{row as line}
 use Rattle.jxlm_tree.specs.Standing.{HasSameRoom, HoldsRow, IsReady, Setting, StandsAt}
 use Rattle.jxlm_tree.specs.Tree.{depth}
 use Rattle.jxlm_tree.specs.declared.flat.Leaf.{Leaf}
 use Rattle.jxlm_tree.specs.declared.state.PredictorState.{PredictorState}
-use Rattle.jxlm_part.specs.Coded.{next_prediction, part_rule, sample_of}
+use Rattle.jxlm_part.specs.Coded.{next_prediction, sample_of}
 use Rattle.jxlm_part.specs.Part.{channel, greatest_width, no_channel}
-use Rattle.jxlm_part.specs.Reading.{FindsClusters, IsCodingOf, IsRoomy, ReadsCell, ReadsNext, RefusesCell, RefusesNext, StandsBehind, ahead, cost_of, flat, handed, leaf_at, part_of, predicted_at, region_at, regions_of, setting_of}
+use Rattle.jxlm_part.specs.Reading.{FindsClusters, HasRoom, IsCodingOf, ReadsNext, RefusesNext, StandsBehind, cost_of, flat, handed, leaf_at, part_of, predicted_at, region_at, regions_of, setting_of}
+use Rattle.jxlm_part.specs.Progress.{cells_ahead, grids_in}
+use Rattle.jxlm_part.specs.Inner.Rows.{FailsCell, FailsRow, ReadsCell, StandsInRow, row_rule}
+use Rattle.jxlm_part.specs.Rule.{Rule, CodedPrefix}
 use Rattle.jxlm_part.specs.declared.coding.PartCoding.{PartCoding}
 use Rattle.jxlm_part.proofs.Earlier.{earlier_all, same_sides}
-use Rattle.jxlm_part.proofs.Loops.{IsPlace, is_place, same_count, same_size}
+use Rattle.jxlm_part.proofs.Loops.{same_count, same_size}
 use Rattle.jxlm_part.proofs.NextSample.{IsNext, is_next}
+use Rattle.jxlm_part.proofs.Prefixes.{prefix_more}
+use Rattle.jxlm_part.proofs.RowSees.{sees_regions}
 
 -- what is known of a state is known of the same
 pub stands_so : {X : Type 0} (s : Setting) (samples : List ℤ) (a b : PredictorState X) → b ≡ a → StandsAt a s samples → StandsAt b s samples
@@ -51,7 +58,7 @@ module _ {D : Type 0} (c : PartCoding D) (coding : IsCodingOf c) (i : ℕ) (li :
       let same = ap (λ (t : FlatTree). depth t.tree) (flat_at other) in
       omega (arith, same, h)
 
-  pub roomy_still : {X : Type 0} (old new : PredictorState X) → HasSameRoom old new → IsRoomy c old → IsRoomy c new
+  pub roomy_still : {X : Type 0} (old new : PredictorState X) → HasSameRoom old new → HasRoom c old → HasRoom c new
   roomy_still old new same h = record {
     widest = subst (λ n. c.widest ≤ n) (sym same.same_room) h.widest;
     earlier = subst (λ n. length (regions_of c) ≤ n) (sym same.same_earlier_room) h.earlier;
@@ -66,27 +73,45 @@ module _ {D : Type 0} (c : PartCoding D) (coding : IsCodingOf c) (i : ℕ) (li :
       let sides = coding.narrow i no_channel (omega (arith, count)) in
       (subst (λ n. n ≤ 2 ^ 30) (sym same.0) sides.0, subst (λ n. n ≤ 2 ^ 30) (sym same.1) sides.1)
 
-  module _ {X : Type 0} (to_int : X → ℤ) (store : List (Grid X)) (x y : ℕ) (lie : AllLie (regions_of c) store) (px : x < (region_at (regions_of c) i).width) (qy : y < (region_at (regions_of c) i).height) where
+  -- the read of the cell in column x of row y, after the cells of the row before it
+  module _ {X : Type 0} (to_int : X → ℤ) (store : List (Grid X)) (row : List ℤ) (x y : ℕ) (lie : AllLie (regions_of c) store) (px : x < (region_at (regions_of c) i).width) (qy : y < (region_at (regions_of c) i).height)
+      (long : length row ≡ (region_at (regions_of c) i).width) where
     abbrev reg : Region
     reg = region_at (regions_of c) i
 
+    abbrev ints : List (Grid ℤ)
+    ints = store_meanings to_int store
+
     abbrev cells : List ℤ
-    cells = (grid_of (store_meanings to_int store) reg).cells
+    cells = (grid_of ints reg).cells
 
-    inside : y * reg.width + x < length cells
-    inside = let full = IsFull-grid_of (store_meanings to_int store) reg in let n = mul-add-lt y reg.width x reg.height qy px in omega (arith, full, n)
+    abbrev so_far : List ℤ
+    so_far = take x row
 
-    row_is : row (take (y * reg.width + x) cells) reg.width ≡ y
-    row_is = ap (λ n. n / reg.width) (length-take-le (y * reg.width + x) cells (omega (arith, inside))) ∙ div-mul-add y reg.width x px
+    abbrev own : List ℤ
+    own = take (y * reg.width) cells ++ so_far
+
+    row_long : length so_far ≡ x
+    row_long = length-take-le x row (omega (arith, long, px))
+
+    line_is : line own reg.width ≡ y
+    line_is =
+        let full = IsFull-grid_of ints reg in
+        let n = mul-add-lt y reg.width x reg.height qy px in
+        let k : y * reg.width ≤ length cells = omega (arith, full, n) in
+        let a = length-take-le (y * reg.width) cells k in
+        let b = length-append (take (y * reg.width) cells) so_far in
+        let m : length own ≡ y * reg.width + x = b ∙ ap (λ j. j + length so_far) a ∙ ap (λ j. y * reg.width + j) row_long in
+        ap (λ j. j / reg.width) m ∙ div-mul-add y reg.width x px
 
     -- the state can give the properties of the cell
-    pub is_ready : (state : PredictorState X) → StandsBehind c to_int store i (y * reg.width + x) state → IsReady state store
+    pub is_ready : (state : PredictorState X) → StandsInRow c to_int store i y so_far state → IsReady state store
     is_ready state stands = record {
       where_set = setting_of c i;
-      before = take (y * reg.width + x) cells;
+      before = own;
       stands = stands;
-      few_rows = let n = narrow_at.1 in subst (λ k. k < 2 ^ 30) (sym row_is) (omega (arith, n, qy));
-      earlier_hold = subst (λ k. All (λ r. HoldsRow r store reg.width k) (setting_of c i).earlier) (sym row_is)
+      few_rows = let n = narrow_at.1 in subst (λ k. k < 2 ^ 30) (sym line_is) (omega (arith, n, qy));
+      earlier_hold = subst (λ k. All (λ r. HoldsRow r store reg.width k) (setting_of c i).earlier) (sym line_is)
           (all_handed (earlier_named c.config.now.tree) (λ r. HoldsRow r store reg.width y) _ (earlier_all (part_of c).channels i (λ r. HoldsRow r store reg.width y) (region_at (regions_of c)) (λ e less alike.
           let le : e < length (regions_of c) = omega (arith, less, li) in
           let here = same_size (part_of c).channels (regions_of c) i coding.sizes li in
@@ -99,60 +124,76 @@ module _ {D : Type 0} (c : PartCoding D) (coding : IsCodingOf c) (i : ℕ) (li :
           })));
     }
 
-    -- after the cell, once it is written, the cells are those before it and its sample
-    pub stands_further : (sample : X) (new : List (Grid X)) (state : PredictorState X) → new ≡ with_region_cell store reg x y sample →
-        StandsAt state (setting_of c i) (take (y * reg.width + x) cells ++ to_int sample ∷ []) → StandsBehind c to_int new i (y * reg.width + x + 1) state
+    -- after the cell, once it is in the row, the cells are those before it and its sample
+    pub stands_further : (sample : ℤ) (new : List ℤ) (state : PredictorState X) → new ≡ slice_set row x sample →
+        StandsAt state (setting_of c i) (own ++ sample ∷ []) → StandsInRow c to_int store i y (take (x + 1) new) state
     stands_further sample new state written stands =
-        let lies : Lies reg store = lie i (region 0 0 0 0 0) li in
-        let after : grid_of (store_meanings to_int new) reg ≡ with_cell (grid_of (store_meanings to_int store) reg) x y (to_int sample) =
-        ap (λ (s : List (Grid X)). grid_of (store_meanings to_int s) reg) written
-        ∙ ap (λ (s : List (Grid ℤ)). grid_of s reg) (with_region_cell-meanings to_int store reg x y sample)
-        ∙ grid_of_written (store_meanings to_int store) reg x y (to_int sample) (Lies-meanings to_int store reg lies) px qy in
-        let more : take (y * reg.width + x + 1) (grid_of (store_meanings to_int new) reg).cells ≡ take (y * reg.width + x) cells ++ to_int sample ∷ [] =
-        ap (λ (g : Grid ℤ). take (y * reg.width + x + 1) g.cells) after ∙ take_more_set cells (y * reg.width + x) (to_int sample) inside in
+        let inside : x < length row = omega (arith, long, px) in
+        let more : take (y * reg.width) cells ++ take (x + 1) new ≡ own ++ sample ∷ [] =
+        ap (λ xs. take (y * reg.width) cells ++ take (x + 1) xs) written ∙ ap (λ xs. take (y * reg.width) cells ++ xs) (take_more_set row x sample inside)
+        ∙ sym (append_assoc (take (y * reg.width) cells) so_far (sample ∷ [])) in
         subst (StandsAt state (setting_of c i)) (sym more) stands
 
     module _ (d : Meaning D) (w : Width) (bytes : List ℕ) (s : D) (p : ℕ) (other : FlatTree) where
-      abbrev own : List ℤ
-      own = take (y * reg.width + x) cells
-
       abbrev the_flat : FlatTree
       the_flat = slice_index_or c.flats.now i other
 
+      abbrev rule : Rule D
+      rule = row_rule d w (part_of c) bytes (regions_of c) ints i y
+
       abbrev here : List ℤ
-      here = ahead d w (part_of c) bytes (regions_of c) to_int i x y store s p
+      here = cells_ahead (part_of c) (grids_in (regions_of c) ints) i 0 y ++ so_far
 
-      at : IsPlace (part_of c) i x y
-      at = is_place (part_of c) (regions_of c) coding.sizes i x y li px qy
-
-      next : IsNext (part_of c) (regions_of c) (store_meanings to_int store) i x y coding.sizes li at.there at.column at.row (setting_of c i)
-      next = is_next (part_of c) (regions_of c) (store_meanings to_int store) i x y coding.sizes li at.there at.column at.row
+      next : IsNext (part_of c) (regions_of c) ints i here own (sees_regions (part_of c) (regions_of c) ints i y coding.sizes li qy so_far (omega (arith, row_long, px))) (setting_of c i)
+      next = is_next (part_of c) (regions_of c) ints i here own (sees_regions (part_of c) (regions_of c) ints i y coding.sizes li qy so_far (omega (arith, row_long, px)))
 
       -- the read of the rule is that of the leaf to which the flat tree leads
-      read_is : (part_rule d w (part_of c) bytes).read here s p ≡ d.read s bytes p (leaf_at the_flat (setting_of c i) (store_meanings to_int store) own).cluster c.widest
+      read_is : rule.read so_far s p ≡ d.read s bytes p (leaf_at the_flat (setting_of c i) ints own).cluster c.widest
       read_is =
           sym (ap (λ (l : Leaf). d.read s bytes p l.cluster (greatest_width (part_of c).channels)) next.leaf_is)
-          ∙ sym (ap (d.read s bytes p (leaf_at (flat c.config.now.tree c.stream_index i) (setting_of c i) (store_meanings to_int store) own).cluster) coding.widest)
-          ∙ sym (ap (λ (t : FlatTree). d.read s bytes p (leaf_at t (setting_of c i) (store_meanings to_int store) own).cluster c.widest) (flat_at other))
+          ∙ sym (ap (d.read s bytes p (leaf_at (flat c.config.now.tree c.stream_index i) (setting_of c i) ints own).cluster) coding.widest)
+          ∙ sym (ap (λ (t : FlatTree). d.read s bytes p (leaf_at t (setting_of c i) ints own).cluster c.widest) (flat_at other))
 
-      value_is : (token : ℕ) → (part_rule d w (part_of c) bytes).value here token
-          ≡ sample_of w (leaf_at the_flat (setting_of c i) (store_meanings to_int store) own) (predicted_at the_flat (setting_of c i) (store_meanings to_int store) own) token
+      value_is : (token : ℕ) → rule.value so_far token ≡ sample_of w (leaf_at the_flat (setting_of c i) ints own) (predicted_at the_flat (setting_of c i) ints own) token
       value_is token =
           sym (ap (λ (l : Leaf). sample_of w l (next_prediction (part_of c) here) token) next.leaf_is)
-          ∙ sym (ap (λ z. sample_of w (leaf_at (flat c.config.now.tree c.stream_index i) (setting_of c i) (store_meanings to_int store) own) z token) next.predicted_is)
-          ∙ sym (ap (λ (t : FlatTree). sample_of w (leaf_at t (setting_of c i) (store_meanings to_int store) own) (predicted_at t (setting_of c i) (store_meanings to_int store) own) token) (flat_at other))
+          ∙ sym (ap (λ z. sample_of w (leaf_at (flat c.config.now.tree c.stream_index i) (setting_of c i) ints own) z token) next.predicted_is)
+          ∙ sym (ap (λ (t : FlatTree). sample_of w (leaf_at t (setting_of c i) ints own) (predicted_at t (setting_of c i) ints own) token) (flat_at other))
 
-      pub refuses_cell : (t : D) (q : ℕ) (e : DecoderError) →
-          RefusesNext s t p q e (d.read s bytes p (leaf_at the_flat (setting_of c i) (store_meanings to_int store) own).cluster c.widest) →
-          RefusesCell d w (part_of c) bytes (regions_of c) to_int i x y store s p store t q e
-      refuses_cell t q e refuses = record { fault = read_is ∙ refuses.fault; store_is = refl; state_is = refuses.state_is; place_is = refuses.place_is }
+      pub fails_cell : (t : D) (q : ℕ) (e : DecoderError) → RefusesNext s t p q e (d.read s bytes p (leaf_at the_flat (setting_of c i) ints own).cluster c.widest) →
+          FailsCell rule row x s p row t q e
+      fails_cell t q e refuses = record { error = read_is ∙ refuses.fault; row_is = refl; state_is = refuses.state_is; place_is = refuses.place_is }
 
-      pub reads_cell : (from_int : ℤ → X) (sample : X) (new : List (Grid X)) (t : D) (q : ℕ) → new ≡ with_region_cell store reg x y sample →
-          ReadsNext w from_int (leaf_at the_flat (setting_of c i) (store_meanings to_int store) own) (predicted_at the_flat (setting_of c i) (store_meanings to_int store) own) sample t q
-          (d.read s bytes p (leaf_at the_flat (setting_of c i) (store_meanings to_int store) own).cluster c.widest) →
-          ReadsCell d w (part_of c) bytes (regions_of c) to_int i x y store s p from_int new t q
-      reads_cell from_int sample new t q written reads = record {
+      pub reads_cell : (from_int : ℤ → X) → ((n : ℤ) → to_int (from_int n) ≡ n) → (sample : X) (new : List ℤ) (t : D) (q : ℕ) → new ≡ slice_set row x (to_int sample) →
+          ReadsNext w from_int (leaf_at the_flat (setting_of c i) ints own) (predicted_at the_flat (setting_of c i) ints own) sample t q
+          (d.read s bytes p (leaf_at the_flat (setting_of c i) ints own).cluster c.widest) →
+          ReadsCell rule row x s p new t q
+      reads_cell from_int back sample new t q written reads = record {
         token = reads.token;
         read = read_is ∙ reads.read;
-        written = written ∙ ap (with_region_cell store reg x y) (reads.sample_is ∙ ap from_int (sym (value_is reads.token)));
+        written = written ∙ ap (slice_set row x) (ap to_int reads.sample_is ∙ back _ ∙ sym (value_is reads.token));
       }
+
+-- at the first cell of a row the state is after the rows above
+pub begins_row : {D X : Type 0} (c : PartCoding D) (i : ℕ) (to_int : X → ℤ) (store : List (Grid X)) (y : ℕ) (row : List ℤ) (state : PredictorState X) →
+    StandsBehind c to_int store i (y * (region_at (regions_of c) i).width) state → StandsInRow c to_int store i y (take 0 row) state
+begins_row c i to_int store y row state h = subst (StandsAt state (setting_of c i)) (sym (append-nil _)) h
+
+-- ---- cells of a row, one after another
+
+module _ {S : Type 0} (rule : Rule S) (s0 : S) (p0 : ℕ) where
+  pub cell_more : (row new : List ℤ) (x : ℕ) (s : S) (p : ℕ) (t : S) (q : ℕ) → x < length row → CodedPrefix rule row s0 p0 x s p → ReadsCell rule row x s p new t q →
+      CodedPrefix rule new s0 p0 (x + 1) t q
+  cell_more row new x s p t q inside h reads =
+      let v : ℤ = rule.value (take x row) reads.token in
+      let next : suc x ≡ x + 1 = omega arith in
+      let same : take x row ≡ take x new = sym (take-set row x v) ∙ ap (take x) (sym reads.written) in
+      subst (λ n. CodedPrefix rule new s0 p0 n t q) next
+      (prefix_more rule s0 p0 row new x s p reads.token t q same h (ap (λ r. rule.read r s p) (sym same) ∙ reads.read)
+      (ap (λ r. slice_get r x) reads.written ∙ slice_get-set_same row x v inside ∙ ap (λ r. Some (rule.value r reads.token)) same))
+
+  pub cell_fails : (row new : List ℤ) (x : ℕ) (s : S) (p : ℕ) (t : S) (q : ℕ) (e : DecoderError) → x < length row → CodedPrefix rule row s0 p0 x s p → FailsCell rule row x s p new t q e →
+      FailsRow rule new s0 p0 x e q
+  cell_fails row new x s p t q e inside h fails =
+      subst (λ r. FailsRow rule r s0 p0 x e q) (sym fails.row_is)
+      (subst (FailsRow rule row s0 p0 x e) (sym fails.place_is) (record { state = s; inside = inside; reads = h; error = fails.error }))

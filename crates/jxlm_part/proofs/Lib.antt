@@ -1,8 +1,14 @@
 pub mod CellLaws
 pub mod Counts
 pub mod Earlier
+pub mod LeafCells
+pub mod LeafRows
 pub mod Loops
 pub mod NextSample
+pub mod RowNeighbours
+pub mod RowSees
+pub mod RowsOn
+pub mod RowWrites
 pub mod Progress
 pub mod Starting
 pub mod Samples

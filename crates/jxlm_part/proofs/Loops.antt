@@ -1,22 +1,21 @@
 -- What the loops of decoding keep: one cell more, one row more, one channel more.
 use Rattle.std.proofs.Common.{◌≡◌, ℕ, zero, suc, ◌+◌, ◌*◌, ◌<◌, ◌≤◌, List, [], ◌∷◌, length, refl, sym, ap, ◌∙◌, subst, arith, ℤ}
-use Rattle.std.specs.Prelude.{slice_set}
+use Rattle.std.specs.Prelude.{Result, Ok, Err, IfErr, OnOk}
 use Rattle.std.specs.Int.{Width}
 use Rattle.std.proofs.lemmas.List.{length-append}
 use Rattle.std.proofs.Math.Seq.{take-length}
 use Rattle.std.proofs.lemmas.List.Sums.{sum_by-cons}
-use Rattle.jxlm_base.specs.Decoding.{Taken, Meaning}
-use Rattle.jxlm_base.specs.Grid.{Grid, with_cell}
-use Rattle.jxlm_base.specs.Regions.{region, grid_of, store_meanings, with_region_cell, AllLie, LieApart}
+use Rattle.std.proofs.lemmas.Nat.{mul-le}
+use Rattle.jxlm_base.specs.Decoding.{Meaning}
+use Rattle.jxlm_base.specs.Grid.{Grid}
+use Rattle.jxlm_base.specs.Regions.{grid_of}
 use Rattle.jxlm_base.specs.declared.decoder.DecoderError.{DecoderError}
 use Rattle.jxlm_base.specs.declared.subgrid.Region.{Region}
-use Rattle.jxlm_base.proofs.Regions.{grids_of_written, with_region_cell-meanings, AllLie-meanings, IsFull-grid_of}
-use Rattle.jxlm_part.specs.Coded.{part_rule}
+use Rattle.jxlm_base.proofs.Regions.{IsFull-grid_of}
 use Rattle.jxlm_part.specs.Part.{Part, Channel, size, channel, cell_count, cells_before, cells_of, Fits, grid as grid_at}
-use Rattle.jxlm_part.specs.Progress.{Reached, Stopped, SameSizes, place_of, cells_ahead, grids_in, GoesOn, Stops, TakesSteps}
-use Rattle.jxlm_part.specs.Reading.{ReadsCell, RefusesCell, region_at}
+use Rattle.jxlm_part.specs.Progress.{Reached, SameSizes, place_of, grids_in, GoesOn, Stops, TakesSteps}
+use Rattle.jxlm_part.specs.Reading.{region_at}
 use Rattle.jxlm_part.proofs.Places.{before_suc}
-use Rattle.jxlm_part.proofs.Progress.{reached_more, with_cell_of, stands_within}
 
 -- sizes of regions and channels
 pub same_count : (channels : List Channel) (regions : List Region) → SameSizes channels regions → length channels ≡ length regions
@@ -61,17 +60,48 @@ takes_none cost k before = omega arith
 pub takes_one : (cost k before after : ℕ) → after ≤ before + cost → TakesSteps cost k (suc k) before after
 takes_one cost k before after h = omega (arith, h)
 
+pub takes_some : (cost k n before after : ℕ) → after ≤ before + n * cost → TakesSteps cost k (k + n) before after
+takes_some cost k n before after h = omega (arith, h)
+
+pub takes_less : (cost a b before after : ℕ) → a ≤ b → after ≤ before → TakesSteps cost a b before after
+takes_less cost a b before after h few = let m = mul-le a cost b cost h (omega arith) in omega (arith, few, m)
+
+-- ---- results
+
+-- what a result says for each count, it says for one, and the other way round
+pub err_at : {A E : Type 0} (r : Result A E) (P : E → ℕ → Type 0) (n : ℕ) → IfErr r (λ e. (m : ℕ) → P e m) → IfErr r (λ e. P e n)
+err_at (Ok a) P n h = h
+err_at (Err e) P n h = h n
+
+pub err_all : {A E : Type 0} (r : Result A E) (P : E → ℕ → Type 0) → ((n : ℕ) → IfErr r (λ e. P e n)) → IfErr r (λ e. (n : ℕ) → P e n)
+err_all (Ok a) P h = h 0
+err_all (Err e) P h = h
+
+-- what follows from it
+pub err_so : {A E : Type 0} (r : Result A E) (P Q : E → Type 0) → ((e : E) → P e → Q e) → IfErr r P → IfErr r Q
+err_so (Ok a) P Q so h = h
+err_so (Err e) P Q so h = so e h
+
+pub ok_so : {A E : Type 0} (r : Result A E) (P Q : Type 0) → (P → Q) → OnOk r P → OnOk r Q
+ok_so (Ok a) P Q so h = so h
+ok_so (Err e) P Q so h = h
+
+-- what holds, holds for it
+pub err_still : {A E : Type 0} (r : Result A E) (P : E → Type 0) → ((e : E) → P e) → IfErr r P
+err_still (Ok a) P h = tt
+err_still (Err e) P h = h e
+
+pub ok_still : {A E : Type 0} (r : Result A E) (P : Type 0) → P → OnOk r P
+ok_still (Ok a) P h = h
+ok_still (Err e) P h = tt
+
+-- ---- steps taken one after another
+
 pub takes_further : (cost a b c s t u : ℕ) → TakesSteps cost a b s t → TakesSteps cost b c t u → TakesSteps cost a c s u
 takes_further cost a b c s t u h k = sums_within (a * cost) (b * cost) (c * cost) s t u h k
 
 pub takes_between : (cost a b c d s t : ℕ) → a ≡ c → b ≡ d → TakesSteps cost a b s t → TakesSteps cost c d s t
 takes_between cost a b c d s t p q h = rw (← p, ← q) h
-
-pub takes_next : (cost : ℕ) (part : Part) (i x y before after : ℕ) → after ≤ before + cost → TakesSteps cost (place_of part i x y) (place_of part i (x + 1) y) before after
-takes_next cost part i x y before after h =
-    let k : ℕ = place_of part i x y in
-    let next : suc k ≡ place_of part i (x + 1) y = omega arith in
-    subst (λ n. TakesSteps cost k n before after) next (takes_one cost k before after h)
 
 -- ---- cells by their number
 
@@ -147,52 +177,6 @@ module _ (part : Part) (regions : List Region) (sizes : SameSizes part.channels 
   all_done = ap (cells_before part.channels) (sym (same_count part.channels regions sizes)) ∙ ap cell_count (take-length part.channels)
 
 module _ {S : Type 0} (d : Meaning S) (w : Width) (part : Part) (bytes : List ℕ) (regions : List Region) where
-  -- a cell was read and written
-  pub cell_goes_on : {X : Type 0} (to_int : X → ℤ) (from_int : ℤ → X) → ((n : ℤ) → to_int (from_int n) ≡ n) → (i x y : ℕ) (store new : List (Grid X)) (s t : S) (p q : ℕ) →
-      SameSizes part.channels regions → LieApart regions → AllLie regions store → i < length regions → x < (region_at regions i).width → y < (region_at regions i).height →
-      ReadsCell d w part bytes regions to_int i x y store s p from_int new t q →
-      GoesOn d w part bytes regions (place_of part i x y) (place_of part i (x + 1) y) (store_meanings to_int store) s p (store_meanings to_int new) t q
-  cell_goes_on {X} to_int from_int back i x y store new s t p q sizes apart lie li px qy reads decoder p0 old r =
-      let ints : List (Grid ℤ) = store_meanings to_int store in
-      let reg : Region = region_at regions i in
-      let at = is_place part regions sizes i x y li px qy in
-      let k : ℕ = place_of part i x y in
-      let v : ℤ = (part_rule d w part bytes).value (cells_ahead part (grids_in regions ints) i x y) reads.token in
-      let taken : Taken ℕ S = record { value = reads.token; state = t; position = q } in
-      let store' : store_meanings to_int new ≡ with_region_cell ints reg x y v =
-      ap (store_meanings to_int) reads.written ∙ with_region_cell-meanings to_int store reg x y (from_int v) ∙ ap (with_region_cell ints reg x y) (back v) in
-      let grids' : grids_in regions (store_meanings to_int new) ≡ with_cell_of (grids_in regions ints) i x y v =
-      ap (grids_in regions) store' ∙ grids_of_written ints regions i x y v (region 0 0 0 0 0) apart (AllLie-meanings to_int store regions lie) li px qy
-      ∙ ap (λ (g : Grid ℤ). slice_set (grids_in regions ints) i (with_cell g x y v)) (sym (grid_in ints regions i li)) in
-      let next : suc k ≡ place_of part i (x + 1) y = omega arith in
-      let more = reached_more d w part bytes decoder p0 old k i x y (grids_in regions ints) s p taken at.there at.column at.row refl r reads.read in
-      subst (λ n. Reached d w part bytes decoder p0 old n (grids_in regions (store_meanings to_int new)) t q) next
-      (subst (λ (gs : List (Grid ℤ)). Reached d w part bytes decoder p0 old (suc k) gs t q) (sym grids') more)
-
-  -- a read returned an error, and each read up to it took at most `cost` steps
-  abbrev IsStopped : S → ℕ → List (Grid ℤ) → DecoderError → List (Grid ℤ) → ℕ → ℕ → ℕ → ℕ → ℕ → Type 0
-  IsStopped decoder p0 old e now q cost from before after = (stopped : Stopped d w part bytes decoder p0 old e now q) × TakesSteps cost from (suc stopped.count) before after
-
-  -- the read of a cell returned an error
-  pub cell_stops : {X : Type 0} (to_int : X → ℤ) (cost before after : ℕ) (i x y : ℕ) (store new : List (Grid X)) (s t : S) (p q : ℕ) (e : DecoderError) →
-      after ≤ before + cost → SameSizes part.channels regions → i < length regions → x < (region_at regions i).width → y < (region_at regions i).height →
-      RefusesCell d w part bytes regions to_int i x y store s p new t q e →
-      Stops d w part bytes regions cost before after (place_of part i x y) (store_meanings to_int store) s p (store_meanings to_int new) q e
-  cell_stops {X} to_int cost before after i x y store new s t p q e work sizes li px qy refuses decoder p0 old r =
-      let ints : List (Grid ℤ) = store_meanings to_int store in
-      let at = is_place part regions sizes i x y li px qy in
-      let stopped : Stopped d w part bytes decoder p0 old e (grids_in regions ints) p = record {
-        count = place_of part i x y;
-        state = s;
-        within = subst (λ n. place_of part i x y < n) (all_cells part.channels (grids_in regions ints) r.fits) (stands_within part.channels (grids_in regions ints) i x y r.fits at.there at.column at.row);
-        reached = r;
-        fault = refuses.fault;
-      } in
-      let place : ℕ = place_of part i x y in
-      subst (λ n. IsStopped decoder p0 old e (grids_in regions (store_meanings to_int new)) n cost place before after) (sym refuses.place_is)
-      (subst (λ (gs : List (Grid X)). IsStopped decoder p0 old e (grids_in regions (store_meanings to_int gs)) p cost place before after) (sym refuses.store_is)
-      (stopped, takes_one cost place before after work))
-
   -- ---- one after another
 
   module _ (store : List (Grid ℤ)) (s : S) (p : ℕ) where

@@ -4,7 +4,6 @@ use Rattle.std.specs.Prelude.{slice_get}
 use Rattle.std.specs.Int.{w32, int_wrap}
 use Rattle.std.proofs.lemmas.List.{length-map}
 use Rattle.std.proofs.lemmas.Simd.{map-map}
-use Rattle.std.proofs.lemmas.Nat.{mul-add-lt}
 use Rattle.jxlm_base.specs.Grid.{Grid}
 use Rattle.jxlm_base.specs.Regions.{grid_of}
 use Rattle.jxlm_base.specs.declared.subgrid.Region.{Region}
@@ -21,12 +20,9 @@ use Rattle.jxlm_tree.specs.declared.predictor.WpHeader.{WpHeader}
 use Rattle.jxlm_tree.proofs.FlatTrees.{goes_without_weights, reads_earlier_below, walks_by_properties}
 use Rattle.jxlm_tree.proofs.PropertiesLaws.{later_property}
 use Rattle.jxlm_part.specs.Coded.{next_prediction}
-use Rattle.jxlm_part.specs.Progress.{SameSizes, cells_ahead, grids_in}
 use Rattle.jxlm_part.specs.Reading.{flat, handed, leaf_at, predicted_at, region_at}
-use Rattle.jxlm_part.specs.Part.{Part, channel, earlier_alike, grid_of as grid_before, samples_of, next_leaf, surroundings, SeesBefore}
+use Rattle.jxlm_part.specs.Part.{Part, channel, earlier_alike, grid_of as grid_before, next_channel, samples_of, next_leaf, surroundings}
 use Rattle.jxlm_part.proofs.Earlier.{earlier_mapped, few_earlier}
-use Rattle.jxlm_part.proofs.Loops.{fits_in, grid_in, same_size}
-use Rattle.jxlm_part.proofs.Places.{each_sees_before}
 
 -- what properties look at, with and without weights
 abbrev with_weights : Surroundings → Option WpHeader → Surroundings
@@ -110,17 +106,16 @@ predicts_without a b samples width AvgNorthAndNorthWest h = refl
 predicts_without a b samples width AvgNorthAndNorthEast h = refl
 predicts_without a b samples width AvgAll h = refl
 
-module _ (part : Part) (regions : List Region) (ints : List (Grid ℤ)) (i x y : ℕ) (sizes : SameSizes part.channels regions) (li : i < length regions)
-    (l : i < length part.channels) (px : x < (channel part.channels i).width) (qy : y < (channel part.channels i).height) where
-  abbrev before : List ℤ
-  before = cells_ahead part (grids_in regions ints) i x y
+-- After these cells comes a cell of channel i, which sees these cells of its own channel, and the earlier regions whole.
+pub record SeesRegions (part : Part) (regions : List Region) (ints : List (Grid ℤ)) (i : ℕ) (before own : List ℤ) : Type 0 where
+  pub wide : (region_at regions i).width ≡ (channel part.channels i).width
+  pub stands : next_channel part.channels before ≡ i
+  pub own_is : samples_of part.channels before i ≡ own
+  pub earlier_is : (e : ℕ) → e < i → grid_before part.channels before e ≡ grid_of ints (region_at regions e)
 
+module _ (part : Part) (regions : List Region) (ints : List (Grid ℤ)) (i : ℕ) (before own : List ℤ) (sees : SeesRegions part regions ints i before own) where
   abbrev reg : Region
   reg = region_at regions i
-
-  -- the cells of the channel before this one
-  abbrev own : List ℤ
-  own = take (y * reg.width + x) (grid_of ints reg).cells
 
   abbrev earlier : List Region
   earlier = map (region_at regions) (earlier_alike part.channels i)
@@ -128,31 +123,20 @@ module _ (part : Part) (regions : List Region) (ints : List (Grid ℤ)) (i x y :
   abbrev seen_with : Option WpHeader → Surroundings
   seen_with weights = surroundings_of (setting reg.width weights earlier) ints own
 
-  sees : SeesBefore part.channels (grids_in regions ints) i (y * (channel part.channels i).width + x) before
-  sees = each_sees_before part.channels (grids_in regions ints) i (y * (channel part.channels i).width + x) (fits_in part.channels regions ints sizes) l
-      (mul-add-lt y (channel part.channels i).width x (channel part.channels i).height qy px)
-
-  wide : reg.width ≡ (channel part.channels i).width
-  wide = (same_size part.channels regions i sizes li).0
-
   abbrev made : ℕ → List ℤ → List (Grid ℤ) → Surroundings
   made width samples grids = record { weights = Some part.weights; width = width; samples = samples; earlier = grids }
 
-  samples_are : samples_of part.channels before i ≡ own
-  samples_are = sees.own ∙ ap (λ (g : Grid ℤ). take (y * (channel part.channels i).width + x) g.cells) (grid_in ints regions i li)
-      ∙ ap (λ n. take (y * n + x) (grid_of ints reg).cells) (sym wide)
-
   earlier_are : map (grid_before part.channels before) (earlier_alike part.channels i) ≡ map (grid_of ints) earlier
   earlier_are =
-      earlier_mapped part.channels i (grid_before part.channels before) (λ e. grid_of ints (region_at regions e)) (λ e less. sees.earlier e less ∙ grid_in ints regions e (omega arith))
+      earlier_mapped part.channels i (grid_before part.channels before) (λ e. grid_of ints (region_at regions e)) sees.earlier_is
       ∙ sym (map-map (grid_of ints) (region_at regions) (earlier_alike part.channels i))
 
   -- what the next sample sees is what the state was set for, and the cells before it
   same_seen : surroundings part before ≡ seen_with (Some part.weights)
   same_seen =
       ap (λ n. made (channel part.channels n).width (samples_of part.channels before n) (map (grid_before part.channels before) (earlier_alike part.channels n))) sees.stands
-      ∙ ap (λ n. made n (samples_of part.channels before i) (map (grid_before part.channels before) (earlier_alike part.channels i))) (sym wide)
-      ∙ ap (λ samples. made reg.width samples (map (grid_before part.channels before) (earlier_alike part.channels i))) samples_are
+      ∙ ap (λ n. made n (samples_of part.channels before i) (map (grid_before part.channels before) (earlier_alike part.channels i))) (sym sees.wide)
+      ∙ ap (λ samples. made reg.width samples (map (grid_before part.channels before) (earlier_alike part.channels i))) sees.own_is
       ∙ ap (made reg.width own) earlier_are
 
   few : length (map (grid_of ints) earlier) ≤ i

@@ -18,8 +18,9 @@ use Rattle.jxlm_tree.proofs.StandingLaws.{stands_earlier}
 use Rattle.jxlm_part.specs.Layout.{channel_of}
 use Rattle.jxlm_transform.specs.declared.channels.ModularChannelInfo.{ModularChannelInfo}
 use Rattle.jxlm_part.specs.Part.{Channel, IsNarrow, channel, no_channel, downward, earlier_alike, greatest_width, is_alike}
-use Rattle.jxlm_part.specs.Reading.{HasFlats, IsAfterChannel, IsCodingOf, IsRoomy, IsRoomyFor, StandsIn, all_alike, earlier_regions, flat, handed, part_of, region_at, regions_of, setting_of, weights_used}
+use Rattle.jxlm_part.specs.Reading.{HasFlats, IsAfterChannel, HasRoom, IsCodingOf, IsRoomy, IsRoomyFor, StandsIn, all_alike, earlier_regions, flat, handed, part_of, region_at, regions_of, setting_of, weights_used}
 use Rattle.jxlm_part.specs.declared.coding.PartCoding.{PartCoding}
+use Rattle.jxlm_part.specs.declared.coding.PartState.{PartState}
 use Rattle.jxlm_part.proofs.CellLaws.{roomy_still}
 use Rattle.jxlm_part.proofs.Earlier.{few, few_earlier, same_channel, same_sides}
 use Rattle.jxlm_part.proofs.Loops.{same_count, same_size}
@@ -73,9 +74,9 @@ module _ {D X : Type 0} (c : PartCoding D) (i : ℕ) where
   pub record IsUnderWay (e : ℕ) (old state : PredictorState X) : Type 0 where
     pub stands : (width : ℕ) (weights : Option WpHeader) (samples : List ℤ) → StandsAt old (setting width weights []) samples → StandsAt state (setting width weights (below c i e)) samples
     pub counted : earlier_count state ≡ length (below c i e)
-    pub roomy : IsRoomy c state
+    pub roomy : HasRoom c state
 
-  pub begun : (state : PredictorState X) → earlier_count state ≡ 0 → IsRoomy c state → IsUnderWay 0 state state
+  pub begun : (state : PredictorState X) → earlier_count state ≡ 0 → HasRoom c state → IsUnderWay 0 state state
   begun state none roomy = record { stands = λ width weights samples h. h; counted = none; roomy = roomy }
 
   -- there is room for one more
@@ -158,13 +159,17 @@ module _ {D X : Type 0} (c : PartCoding D) (i : ℕ) where
   pub somewhere : (state : PredictorState X) → StandsIn c i state → Stands state
   somewhere state h = record { where_set = setting_of c i; before = h.before; stands = h.stands }
 
+  -- it was last in the channel before the next one
+  pub after_channel : (state : PredictorState X) → StandsIn c i state → IsAfterChannel c (i + 1) state
+  after_channel state h = λ last next columns. let is : i ≡ last = omega (arith, next) in subst (λ n. StandsIn c n state) is h
+
   -- none was before the first channel
   pub after_none : (state : PredictorState X) → IsAfterChannel c 0 state
   after_none state = λ last next columns. absurd (omega (arith, next))
 
   module _ (asked : 0 < min i (earlier_named c.config.now.tree)) (last : ℕ) (next : i ≡ last + 1) where
     -- there is room for the channel before
-    pub room_for_last : i < length (regions_of c) → (old mid : PredictorState X) → StandsIn c last old → earlier_count mid ≡ earlier_count old → HasSameRoom old mid → IsRoomy c old → earlier_count mid < earlier_room_of mid
+    pub room_for_last : i < length (regions_of c) → (old mid : PredictorState X) → StandsIn c last old → earlier_count mid ≡ earlier_count old → HasSameRoom old mid → HasRoom c old → earlier_count mid < earlier_room_of mid
     room_for_last li old mid h count same roomy =
         let has = stands_earlier old (setting_of c last) h.before h.stands in
         let all = ap length (some_asked (earlier_named c.config.now.tree) (all_alike c last) (some c i asked)) in
@@ -175,7 +180,7 @@ module _ {D X : Type 0} (c : PartCoding D) (i : ℕ) where
         omega (arith, has, all, long, few, room, kept, count, next, li)
 
     -- with it the state has all
-    pub set_by_last : (coding : IsCodingOf c) → i < length (regions_of c) → passes c i last ≡ true → (old mid new : PredictorState X) → StandsIn c last old → IsRoomy c old →
+    pub set_by_last : (coding : IsCodingOf c) → i < length (regions_of c) → passes c i last ≡ true → (old mid new : PredictorState X) → StandsIn c last old → HasRoom c old →
         ((s : Setting) (samples : List ℤ) → StandsAt old s samples → StandsAt mid (setting s.width (weights_of old) s.earlier) []) →
         ((s : Setting) (samples : List ℤ) → StandsAt mid s samples → StandsAt new (setting s.width s.weights (region_at (regions_of c) last ∷ s.earlier)) samples) →
         StandsAt new (setting_of c i) []
@@ -213,13 +218,17 @@ flats_more t stream k flats next h is = record {
       ∙ ap Some (ap (λ n. get_or (flats ++ next ∷ []) n next) at ∙ get_or-append_seam flats next [] next ∙ is ∙ ap (flat t stream) (sym it))
 
 -- a state that has room for channels of flat trees has room for those of a part
-pub roomy_for : {D X : Type 0} (c : PartCoding D) (state : PredictorState X) → IsCodingOf c → IsRoomyFor c.widest c.weights c.flats.now state → 0 < length (regions_of c) → IsRoomy c state
+pub roomy_for : {D X : Type 0} (c : PartCoding D) (state : PartState X) → IsCodingOf c → IsRoomyFor c.widest c.weights c.flats.now state → 0 < length (regions_of c) → IsRoomy c state
 roomy_for c state coding h some =
     let wide = h.widest_is in
     let earlier = h.earlier_is in
+    let long = h.row_is in
     let count = coding.flats.count_is in
     record {
-      widest = omega (arith, wide);
-      earlier = omega (arith, earlier, count);
-      weights = h.weights_is (flat c.config.now.tree c.stream_index 0) (coding.flats.each 0 some);
+      predictor = record {
+        widest = omega (arith, wide);
+        earlier = omega (arith, earlier, count);
+        weights = h.weights_is (flat c.config.now.tree c.stream_index 0) (coding.flats.each 0 some);
+      };
+      row = omega (arith, long);
     }

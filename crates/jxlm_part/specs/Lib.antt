@@ -6,3 +6,4 @@ pub mod Layout
 pub mod Progress
 pub mod Reading
 pub mod Token
+pub mod Inner

@@ -1,10 +1,10 @@
--- How one cell of a part is read and written.
+-- How one cell of a part is read.
 use Rattle.std.specs.Prelude.{◌≡◌, ℕ, zero, suc, ◌+◌, ◌<◌, ◌≤◌, ℤ, List, [], length, map, take, slice_get, if◌then◌else◌, Option, None, Some, Result, Ok, Err, get_or}
 use Rattle.std.specs.List.{All}
 use Rattle.std.specs.Int.{Width}
-use Rattle.jxlm_base.specs.Decoding.{Meaning, Taken}
+use Rattle.jxlm_base.specs.Decoding.{Taken}
 use Rattle.jxlm_base.specs.Grid.{Grid}
-use Rattle.jxlm_base.specs.Regions.{region, grid_of, store_meanings, with_region_cell}
+use Rattle.jxlm_base.specs.Regions.{region, grid_of, store_meanings}
 use Rattle.jxlm_base.specs.declared.decoder.DecoderError.{DecoderError}
 use Rattle.jxlm_base.specs.declared.subgrid.Region.{Region}
 use Rattle.jxlm_tree.specs.FlatTree.{FlatTree, ClustersStandIn, earlier_named, leaf_reached, needs_weights}
@@ -17,11 +17,12 @@ use Rattle.jxlm_tree.specs.Tree.{Shape, depth}
 use Rattle.jxlm_tree.specs.declared.flat.Leaf.{Leaf}
 use Rattle.jxlm_tree.specs.declared.predictor.WpHeader.{WpHeader}
 use Rattle.jxlm_tree.specs.declared.state.PredictorState.{PredictorState}
-use Rattle.jxlm_part.specs.Coded.{part_rule, sample_of}
+use Rattle.jxlm_part.specs.Coded.{sample_of}
 use Rattle.jxlm_part.specs.Layout.{channels_of}
 use Rattle.jxlm_part.specs.Part.{Part, IsNarrow, earlier_alike, greatest_width}
-use Rattle.jxlm_part.specs.Progress.{SameSizes, cells_ahead, grids_in}
+use Rattle.jxlm_part.specs.Progress.{SameSizes}
 use Rattle.jxlm_part.specs.declared.coding.PartCoding.{PartCoding}
+use Rattle.jxlm_part.specs.declared.coding.PartState.{PartState}
 
 -- region i of a list
 abbrev pub region_at : List Region → ℕ → Region
@@ -41,12 +42,14 @@ pub record HasFlats (t : Shape Leaf) (stream count : ℕ) (flats : List FlatTree
   pub count_is : length flats ≡ count
   pub each : (i : ℕ) → i < count → slice_get flats i ≡ Some (flat t stream i)
 
--- the state has room for channels of these flat trees up to this width, and the weights, where the first flat tree
--- asks for them
-pub record IsRoomyFor {X : Type 0} (widest : ℕ) (weights : WpHeader) (flats : List FlatTree) (state : PredictorState X) : Type 0 where
-  pub widest_is : room_of state ≡ widest
-  pub earlier_is : earlier_room_of state ≡ length flats
-  pub weights_is : (first : FlatTree) → slice_get flats 0 ≡ Some first → weights_of state ≡ (if needs_weights first.tree then Some weights else None)
+-- the state has room for channels of these flat trees up to this width and for a row of one, and the weights, where
+-- the first flat tree asks for them
+pub record IsRoomyFor {X : Type 0} (widest : ℕ) (weights : WpHeader) (flats : List FlatTree) (state : PartState X) : Type 0 where
+  pub widest_is : room_of state.predictor ≡ widest
+  pub earlier_is : earlier_room_of state.predictor ≡ length flats
+  pub weights_is : (first : FlatTree) → slice_get flats 0 ≡ Some first →
+      weights_of state.predictor ≡ (if needs_weights first.tree then Some weights else None)
+  pub row_is : length state.row.items ≡ widest
 
 module _ {D : Type 0} where
   -- the part that is coded so
@@ -91,11 +94,16 @@ module _ {D : Type 0} where
   cost_of c = depth c.config.now.tree + 1
 
   module _ {X : Type 0} where
-    -- the state has room for each channel, and the weights that are used
-    pub record IsRoomy (c : PartCoding D) (state : PredictorState X) : Type 0 where
+    -- the predictors' state has room for each channel, and the weights that are used
+    pub record HasRoom (c : PartCoding D) (state : PredictorState X) : Type 0 where
       pub widest : c.widest ≤ room_of state
       pub earlier : length (regions_of c) ≤ earlier_room_of state
       pub weights : weights_of state ≡ weights_used c
+
+    -- so it is, and there is room for a row of each channel
+    pub record IsRoomy (c : PartCoding D) (state : PartState X) : Type 0 where
+      pub predictor : HasRoom c state.predictor
+      pub row : c.widest ≤ length state.row.items
 
     -- the state is at the cell after the first n of channel i
     abbrev pub StandsBehind : PartCoding D → (X → ℤ) → List (Grid X) → ℕ → ℕ → PredictorState X → Type 0
@@ -129,22 +137,3 @@ leaf_at flat s store samples = leaf_reached flat (place_property (surroundings s
 -- the prediction there
 abbrev pub predicted_at : FlatTree → Setting → List (Grid ℤ) → List ℤ → ℤ
 predicted_at flat s store samples = prediction s.weights samples s.width (leaf_at flat s store samples).predictor
-
-module _ {S X : Type 0} (d : Meaning S) (w : Width) (part : Part) (bytes : List ℕ) (regions : List Region) (to_int : X → ℤ) (i x y : ℕ) (store : List (Grid X)) (s : S) (p : ℕ) where
-  -- the cells before column x of row y of channel i
-  abbrev pub ahead : List ℤ
-  ahead = cells_ahead part (grids_in regions (store_meanings to_int store)) i x y
-
-  -- The part's next token was read in state s at position p, and left state t and position q; its sample was written
-  -- into column x of row y of region i.
-  pub record ReadsCell (from_int : ℤ → X) (new : List (Grid X)) (t : S) (q : ℕ) : Type 0 where
-    pub token : ℕ
-    pub read : (part_rule d w part bytes).read ahead s p ≡ Ok (record { value = token; state = t; position = q })
-    pub written : new ≡ with_region_cell store (region_at regions i) x y (from_int ((part_rule d w part bytes).value ahead token))
-
-  -- the read of the part's next token returned the error e, and nothing changed
-  pub record RefusesCell (new : List (Grid X)) (t : S) (q : ℕ) (e : DecoderError) : Type 0 where
-    pub fault : (part_rule d w part bytes).read ahead s p ≡ Err e
-    pub store_is : new ≡ store
-    pub state_is : t ≡ s
-    pub place_is : q ≡ p

@@ -1,6 +1,6 @@
 //! One cell of a part, and how it is read.
 
-ghost use Rattle.std.specs.Prelude.{◌≡◌, ℕ, ℤ, pos, ◌+ℤ◌, ◌*ℤ◌, ◌+◌, ◌*◌, ◌^◌, ◌<◌, ◌≤◌, List, IfOk, OnOk, IfErr, ◌≢◌, length};
+ghost use Rattle.std.specs.Prelude.{◌≡◌, ℕ, ℤ, pos, ◌+ℤ◌, ◌*ℤ◌, ◌+◌, ◌*◌, ◌^◌, ◌<◌, ◌≤◌, List, IfOk, OnOk, IfErr, ◌≢◌, length, map, take};
 ghost use Rattle.std.specs.Int.{int_wrap};
 ghost use Rattle.jxlm_base.specs.Bits.{bytes_of, position_of};
 ghost use Rattle.jxlm_base.specs.Regions.{AllLie, store_meanings};
@@ -9,13 +9,13 @@ ghost use Rattle.jxlm_tree.specs.FlatTree.{ClustersStandIn};
 ghost use Rattle.jxlm_tree.specs.Holding.{IsCurrent, state_of, store_of};
 ghost use Rattle.jxlm_tree.specs.Standing.{Setting, StandsAt};
 ghost use Rattle.jxlm_tree.specs.Tree.{depth};
-ghost use Rattle.jxlm_part.specs.Reading.{FindsClusters, IsCodingOf, IsRoomy, ReadsCell, ReadsNext, RefusesCell, RefusesNext, StandsBehind, cost_of, leaf_at, part_of, predicted_at, region_at, regions_of};
+ghost use Rattle.jxlm_part.specs.Inner.Rows.{FailsCell, ReadsCell, StandsInRow, rule_in};
+ghost use Rattle.jxlm_part.specs.Reading.{FindsClusters, HasRoom, IsCodingOf, ReadsNext, RefusesNext, cost_of, leaf_at, part_of, predicted_at, region_at, regions_of};
 
 use crate::coding::PartCoding;
 use jxlm_base::bits::Bitstream;
 use jxlm_base::decoder::{Decoder, DecoderError};
 use jxlm_base::grid::AlignedGrid;
-use jxlm_base::region::region_set;
 use jxlm_base::sample::{Sample, Sealed};
 use jxlm_tree::flat::{FlatMaTree, Leaf, Steps};
 use jxlm_tree::predictor::{PredictorState, Properties};
@@ -55,31 +55,40 @@ fn next_sample<S: Sample, D: Decoder>(
     Ok(sample_from(token, leaf, predicted))
 }
 
-/// Reads the cell in column `x` of row `y` of channel `i`; the state must be at this cell, and is at the next one
-/// afterwards.
+/// Reads the cell in column `x` of row `y` of channel `i` into `row`; the state must be at this cell, and is at the
+/// next one afterwards.
 pub(crate) fn decode_cell<S: Sample, D: Decoder>(
     bits: &mut Bitstream<'_>,
     decoder: &mut D,
     state: &mut PredictorState<S>,
     steps: &mut Steps,
-    store: &mut [AlignedGrid<S>],
+    store: &[AlignedGrid<S>],
     coding: &PartCoding<'_, D>,
+    row: &mut [S],
     i: usize,
     x: usize,
     y: usize,
 ) -> Result<(), DecoderError>
-    requires lie { AllLie (regions_of coding.now) store.old }
+    requires lie { AllLie (regions_of coding.now) store.now }
     requires channel { i < length (regions_of coding.now) }
     requires column { x < (region_at (regions_of coding.now) i).width }
     requires in_rows { y < (region_at (regions_of coding.now) i).height }
+    requires long { length row.old ≡ (region_at (regions_of coding.now) i).width }
     requires coding { IsCodingOf coding.now }
     requires clusters { FindsClusters coding.now (D.meaning.cluster_map decoder.old) }
-    requires stands { StandsBehind coding.now S.to_int store.old i (y * (region_at (regions_of coding.now) i).width + x) state.old }
-    requires roomy { IsRoomy coding.now state.old }
-    ensures ok { OnOk result (ReadsCell D.meaning S.width (part_of coding.now) (bytes_of bits.old) (regions_of coding.now) S.to_int i x y store.old decoder.old (position_of bits.old) S.from_int store.new decoder.new (position_of bits.new)) }
-    ensures err { IfErr result (λ e. RefusesCell D.meaning S.width (part_of coding.now) (bytes_of bits.old) (regions_of coding.now) S.to_int i x y store.old decoder.old (position_of bits.old) store.new decoder.new (position_of bits.new) e) }
-    ensures stands { OnOk result (StandsBehind coding.now S.to_int store.new i (y * (region_at (regions_of coding.now) i).width + x + 1) state.new) }
-    ensures roomy { OnOk result (IsRoomy coding.now state.new) }
+    requires stands { StandsInRow coding.now S.to_int store.now i y (take x (map S.to_int row.old)) state.old }
+    requires roomy { HasRoom coding.now state.old }
+    ensures ok { OnOk result
+        (ReadsCell (rule_in coding.now S.to_int store.now i y D.meaning S.width (bytes_of bits.old))
+        (map S.to_int row.old) x decoder.old (position_of bits.old)
+        (map S.to_int row.new) decoder.new (position_of bits.new)) }
+    ensures err { IfErr result (λ e.
+        FailsCell (rule_in coding.now S.to_int store.now i y D.meaning S.width (bytes_of bits.old))
+        (map S.to_int row.old) x decoder.old (position_of bits.old)
+        (map S.to_int row.new) decoder.new (position_of bits.new) e) }
+    ensures stands { OnOk result
+        (StandsInRow coding.now S.to_int store.now i y (take (x + 1) (map S.to_int row.new)) state.new) }
+    ensures roomy { OnOk result (HasRoom coding.now state.new) }
     ensures clusters { OnOk result (D.meaning.cluster_map decoder.new ≡ D.meaning.cluster_map decoder.old) }
     ensures memory { IfErr result (λ e. e ≢ DecoderError.OutOfMemory) }
     ensures bytes { bytes_of bits.new ≡ bytes_of bits.old }
@@ -90,6 +99,6 @@ pub(crate) fn decode_cell<S: Sample, D: Decoder>(
     let flat = &coding.flats[i];
     let sample = next_sample(bits, decoder, steps, &properties, flat, coding.widest)?;
     properties.record(sample.to_i32());
-    region_set(store, coding.regions[i], x, y, sample);
+    row[x] = sample;
     Ok(())
 }

@@ -7,7 +7,7 @@ ghost use Rattle.jxlm_tree.specs.SelfCorrecting.{IsHeader};
 ghost use Rattle.jxlm_part.specs.Layout.{channel_of};
 ghost use Rattle.jxlm_part.specs.Part.{is_alike as alike};
 ghost use Rattle.jxlm_tree.specs.Standing.{Setting, StandsAt, earlier_count, setting};
-ghost use Rattle.jxlm_part.specs.Reading.{HasFlats, IsAfterChannel, IsCodingOf, IsRoomy, IsRoomyFor, StandsBehind, all_alike, region_at, regions_of};
+ghost use Rattle.jxlm_part.specs.Reading.{HasFlats, HasRoom, IsAfterChannel, IsCodingOf, IsRoomyFor, StandsBehind, all_alike, region_at, regions_of};
 
 use jxlm_base::decoder::Decoder;
 use jxlm_base::error::Result;
@@ -38,6 +38,15 @@ pub struct PartCoding<'a, D: Decoder> {
     pub widest: u32,
 }
 
+/// The state that the samples of a part are decoded in.
+#[derive(Drop)]
+pub struct PartState<S> {
+    /// That of the predictors.
+    pub predictor: PredictorState<S>,
+    /// Room for a row of each channel.
+    pub row: Vec<S>,
+}
+
 /// What is made ready before the first bit of a part is read.
 #[derive(Drop)]
 pub struct Ready<S, D: Decoder> {
@@ -46,7 +55,7 @@ pub struct Ready<S, D: Decoder> {
     /// The tree as each channel walks it.
     pub flats: Vec<FlatMaTree>,
     /// The state, with room for each channel.
-    pub state: PredictorState<S>,
+    pub state: PartState<S>,
 }
 
 /// Whether two channels have equal sizes and shifts.
@@ -68,10 +77,10 @@ pub(crate) fn start_channel<S: Sample, D: Decoder>(
     requires channel { i < length (regions_of coding.now) }
     requires columns { 0 < (region_at (regions_of coding.now) i).width }
     requires coding { IsCodingOf coding.now }
-    requires roomy { IsRoomy coding.now state.old }
+    requires roomy { HasRoom coding.now state.old }
     requires last { IsAfterChannel coding.now i state.old }
     ensures stands { (store : List (Grid S)) → StandsBehind coding.now S.to_int store i 0 state.new }
-    ensures roomy { IsRoomy coding.now state.new }
+    ensures roomy { HasRoom coding.now state.new }
 {
     let width = coding.regions[i].width as u32;
     if coding.flats[i].max_prev_channel_depth() == 0 {
@@ -93,10 +102,10 @@ fn add_all_earlier<S: Sample, D: Decoder>(
 )
     requires channel { i < length (regions_of coding.now) }
     requires coding { IsCodingOf coding.now }
-    requires roomy { IsRoomy coding.now state.old }
+    requires roomy { HasRoom coding.now state.old }
     requires none { earlier_count state.old ≡ 0 }
     ensures stands { (s : Setting) (samples : List ℤ) → StandsAt state.old s samples → StandsAt state.new (setting s.width s.weights (all_alike coding.now i)) samples }
-    ensures roomy { IsRoomy coding.now state.new }
+    ensures roomy { HasRoom coding.now state.new }
 {
     for e in 0..i {
         if is_alike(&coding.channels[e], &coding.channels[i]) {
@@ -127,8 +136,8 @@ pub fn flat_trees<D: Decoder>(
     Ok(flats)
 }
 
-/// A state with room for channels of these flat trees and up to this width; it has the weights where the tree asks for
-/// them.
+/// A state with room for channels of these flat trees and up to this width, and for a row of one; it has the weights
+/// where the tree asks for them.
 ///
 /// # Errors
 ///
@@ -138,7 +147,7 @@ pub fn roomy_state<S: Sample>(
     flats: &[FlatMaTree],
     widest: u32,
     weights: &WpHeader,
-) -> Result<PredictorState<S>>
+) -> Result<PartState<S>>
     requires weights { IsHeader weights.now }
     requires narrow { widest ≤ 2 ^ 30 }
     ensures ok { IfOk result (λ s. IsRoomyFor widest weights.now flats.now s) }
@@ -148,5 +157,7 @@ pub fn roomy_state<S: Sample>(
         Some(flat) if flat.need_self_correcting() => Some(weights),
         _ => None,
     };
-    PredictorState::with_room(alloc, widest, flats.len(), used)
+    let predictor = PredictorState::with_room(alloc, widest, flats.len(), used)?;
+    let row = vec![in alloc; S::default(); widest as usize].map_err(|_| OutOfMemory)?;
+    Ok(PartState { predictor, row })
 }

@@ -7,3 +7,5 @@ pub mod channels;
 pub mod coding;
 pub mod decode;
 pub mod laws;
+mod leaves;
+mod rows;

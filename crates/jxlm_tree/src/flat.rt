@@ -1,12 +1,12 @@
 //! Trees as the samples of one channel walk them, and what a leaf says.
 
-ghost use Rattle.std.specs.Prelude.{◌≡◌, ◌≤◌, ◌<◌, ◌+◌, ◌^◌, ℕ, ℤ, pos, false, length, min, IfOk};
+ghost use Rattle.std.specs.Prelude.{◌≡◌, ◌≤◌, ◌<◌, ◌+◌, ◌^◌, ℕ, ℤ, pos, false, length, min, IfOk, IfSome, None};
 ghost use Rattle.std.specs.Int.{w32, int_wrap};
 ghost use Rattle.jxlm_base.specs.Bits.{bytes_of, position_of};
 ghost use Rattle.jxlm_tree.specs.DecodingSamples.{SampleGives};
 ghost use Rattle.jxlm_tree.specs.FlatTree.{AnswersAs, ClustersStandIn, FlatTree, GoesWithoutWeights, HasMultiplier, ReadsEarlierBelow, asked, earlier_named, leaf_reached, needs_weights, residual_of};
 ghost use Rattle.jxlm_tree.specs.Properties.{Surroundings, place_property, property};
-ghost use Rattle.jxlm_tree.specs.Tree.{AllLeaves, StandsAtLeaf, depth, node_count, nodes_on_way, walk};
+ghost use Rattle.jxlm_tree.specs.Tree.{AllLeaves, StandsAtLeaf, depth, leaf, node_count, nodes_on_way, walk};
 ghost use Rattle.jxlm_tree.specs.Inner.TreeShape.{shape_of};
 
 use crate::predictor::Predictor;
@@ -145,6 +145,18 @@ impl FlatMaTree {
         ensures below { ReadsEarlierBelow self.now result }
     {
         self.prev_channels.min(self.prev_channels_named) as usize
+    }
+
+    /// The leaf of the tree, where it has no other.
+    pub fn only_leaf(&self) -> Option<Leaf>
+        ensures some { IfSome result (λ l. self.now.tree ≡ leaf l) }
+        ensures none { result ≡ None → 0 < depth self.now.tree }
+    {
+        let node: &MaTreeNode = &self.tree;
+        match node {
+            MaTreeNode::Leaf(only) => Some(*only),
+            _ => None,
+        }
     }
 
     /// The leaf to which these properties lead, from the root on (ISO/IEC 18181-1, Modular:

@@ -1,16 +1,17 @@
-use Rattle.std.proofs.Common.{◌+◌, ◌*◌, take, ◌∙◌, rules, w32, FitsSigned}
+use Rattle.std.proofs.Common.{◌*◌, ◌++◌, map, take, ◌∙◌, rules, w32, FitsSigned}
 use Rattle.std.proofs.lemmas.Int.{to_z-of_z}
+use Rattle.std.proofs.lemmas.List.{length-map, map-set}
 use Rattle.std.proofs.lemmas.Result.{err_from_is_err_and}
 use Rattle.jxlm_base.specs.Bits.{bytes_of, position_of}
 use Rattle.jxlm_base.specs.Regions.{grid_of, store_meanings}
 use Rattle.jxlm_part.specs.Reading.{region_at, regions_of, setting_of}
-use Rattle.jxlm_part.proofs.CellLaws.{clusters_at, cost_at, is_ready, reads_cell, refuses_cell, has_room_so, roomy_still, stands_further, stands_so}
+use Rattle.jxlm_part.proofs.CellLaws.{clusters_at, cost_at, is_ready, reads_cell, fails_cell, stands_further, stands_so}
 use Rattle.jxlm_part.proofs.cell.decode_cell.Goals as goal
 
 pub properties-properties-requires-clause-ready : goal.properties-properties-requires-clause-ready
 properties-properties-requires-clause-ready g c =
-    is_ready c.args.coding.now c.requires.coding c.args.i c.requires.channel g.S.Sealed.to_int c.args.store.now c.args.x c.args.y c.requires.lie c.requires.column c.requires.in_rows
-    c.args.state.now c.requires.stands
+    is_ready c.args.coding.now c.requires.coding c.args.i c.requires.channel g.S.Sealed.to_int c.args.store.now (map g.S.Sealed.to_int c.args.row.now) c.args.x c.args.y c.requires.lie c.requires.column c.requires.in_rows
+    (length-map c.args.row.now g.S.Sealed.to_int ∙ c.requires.long) c.args.state.now c.requires.stands
 
 pub next_sample-requires-clause-clusters : goal.next_sample-requires-clause-clusters
 next_sample-requires-clause-clusters g c κs within = clusters_at c.args.coding.now c.requires.coding c.args.i c.requires.channel _ _ c.requires.clusters
@@ -18,12 +19,14 @@ next_sample-requires-clause-clusters g c κs within = clusters_at c.args.coding.
 pub returns-in_err-sample-clause-err : goal.returns-in_err-sample-clause-err
 returns-in_err-sample-clause-err g c =
     let p = err_from_is_err_and c.from_residual.result c.from_residual.ensures.1 in
+    let to_int = g.S.Sealed.to_int in
     let here = setting_of c.args.coding.now c.args.i in
     let reg = region_at (regions_of c.args.coding.now) c.args.i in
-    let own = take (c.args.y * reg.width + c.args.x) (grid_of (store_meanings g.S.Sealed.to_int c.args.store.now) reg).cells in
+    let own = take (c.args.y * reg.width) (grid_of (store_meanings to_int c.args.store.now) reg).cells ++ take c.args.x (map to_int c.args.row.now) in
     let refuses = rw c.properties-properties.ensures.store at (c.in_err-sample.ensures.err here own (rw c.properties-properties.ensures.unchanged c.requires.stands)) in
     rw (p.1, p.2)
-    (refuses_cell c.args.coding.now c.requires.coding c.args.i c.requires.channel g.S.Sealed.to_int c.args.store.now c.args.x c.args.y c.requires.lie c.requires.column c.requires.in_rows
+    (fails_cell c.args.coding.now c.requires.coding c.args.i c.requires.channel to_int c.args.store.now (map to_int c.args.row.now) c.args.x c.args.y c.requires.lie c.requires.column c.requires.in_rows
+    (length-map c.args.row.now to_int ∙ c.requires.long)
     g.D.Decoder.meaning g.S.Sealed.width (bytes_of c.args.bits.now) c.args.decoder.now (position_of c.args.bits.now) _ _ _ _ refuses)
 
 pub returns-in_err-sample-clause-cost : goal.returns-in_err-sample-clause-cost
@@ -31,28 +34,25 @@ returns-in_err-sample-clause-cost g c = cost_at c.args.coding.now c.requires.cod
 
 pub returns-clause-ok : goal.returns-clause-ok
 returns-clause-ok g c =
+    let to_int = g.S.Sealed.to_int in
     let here = setting_of c.args.coding.now c.args.i in
     let reg = region_at (regions_of c.args.coding.now) c.args.i in
-    let own = take (c.args.y * reg.width + c.args.x) (grid_of (store_meanings g.S.Sealed.to_int c.args.store.now) reg).cells in
+    let own = take (c.args.y * reg.width) (grid_of (store_meanings to_int c.args.store.now) reg).cells ++ take c.args.x (map to_int c.args.row.now) in
     let reads = rw c.properties-properties.ensures.store at (c.in_ok-sample.ensures.ok here own (rw c.properties-properties.ensures.unchanged c.requires.stands)) in
-    reads_cell c.args.coding.now c.requires.coding c.args.i c.requires.channel g.S.Sealed.to_int c.args.store.now c.args.x c.args.y c.requires.lie c.requires.column c.requires.in_rows
-    g.D.Decoder.meaning g.S.Sealed.width (bytes_of c.args.bits.now) c.args.decoder.now (position_of c.args.bits.now) _ g.S.Sealed.from_int c.in_ok-sample.sample _ _ _ c.region_set.ensures reads
+    reads_cell c.args.coding.now c.requires.coding c.args.i c.requires.channel to_int c.args.store.now (map to_int c.args.row.now) c.args.x c.args.y c.requires.lie c.requires.column c.requires.in_rows
+    (length-map c.args.row.now to_int ∙ c.requires.long)
+    g.D.Decoder.meaning g.S.Sealed.width (bytes_of c.args.bits.now) c.args.decoder.now (position_of c.args.bits.now) _ g.S.Sealed.from_int g.met.S.Sealed.to_int_from_int c.in_ok-sample.sample _ _ _
+    (map-set to_int c.args.row.now c.args.x c.in_ok-sample.sample) reads
 
 pub returns-clause-stands : goal.returns-clause-stands
 returns-clause-stands g c =
+    let to_int = g.S.Sealed.to_int in
     let here = setting_of c.args.coding.now c.args.i in
     let reg = region_at (regions_of c.args.coding.now) c.args.i in
-    let own = take (c.args.y * reg.width + c.args.x) (grid_of (store_meanings g.S.Sealed.to_int c.args.store.now) reg).cells in
+    let own = take (c.args.y * reg.width) (grid_of (store_meanings to_int c.args.store.now) reg).cells ++ take c.args.x (map to_int c.args.row.now) in
     let fits : FitsSigned w32 c.to_i32.result = search rules in
     let sample = to_z-of_z w32 c.to_i32.result fits ∙ c.to_i32.ensures.value in
     let behind = rw sample at (c.record.ensures.stands here own (rw c.properties-properties.ensures.unchanged c.requires.stands)) in
-    stands_further c.args.coding.now c.requires.coding c.args.i c.requires.channel g.S.Sealed.to_int c.args.store.now c.args.x c.args.y c.requires.lie c.requires.column c.requires.in_rows
-    c.in_ok-sample.sample _ _ c.region_set.ensures (stands_so _ _ _ _ (search rules) behind)
-
-pub returns-clause-roomy : goal.returns-clause-roomy
-returns-clause-roomy g c =
-    let kept = rw c.properties-properties.ensures.unchanged at c.record.ensures.room in
-    roomy_still c.args.coding.now c.requires.coding c.args.i c.requires.channel c.args.state.now _ (has_room_so _ _ _ (search rules) kept) c.requires.roomy
-
-pub returns-clause-cost : goal.returns-clause-cost
-returns-clause-cost g c = cost_at c.args.coding.now c.requires.coding c.args.i c.requires.channel _ _ _ c.in_ok-sample.ensures.cost
+    stands_further c.args.coding.now c.requires.coding c.args.i c.requires.channel to_int c.args.store.now (map to_int c.args.row.now) c.args.x c.args.y c.requires.lie c.requires.column c.requires.in_rows
+    (length-map c.args.row.now to_int ∙ c.requires.long)
+    (to_int c.in_ok-sample.sample) _ _ (map-set to_int c.args.row.now c.args.x c.in_ok-sample.sample) (stands_so _ _ _ _ (search rules) behind)

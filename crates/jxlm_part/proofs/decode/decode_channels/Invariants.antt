@@ -3,7 +3,7 @@ use Rattle.jxlm_base.specs.Bits.{bytes_of, position_of}
 use Rattle.jxlm_base.specs.Regions.{store_meanings}
 use Rattle.jxlm_part.specs.Part.{cells_before}
 use Rattle.jxlm_part.specs.Progress.{GoesOn, KeepsOutside, TakesSteps}
-use Rattle.jxlm_part.specs.Reading.{IsAfterChannel, IsRoomy, cost_of, part_of, regions_of}
+use Rattle.jxlm_part.specs.Reading.{IsAfterChannel, HasRoom, cost_of, part_of, regions_of}
 use Rattle.jxlm_part.proofs.decode.decode_channels.Given as goal
 
 abbrev pub invariant-loop-i : goal.invariant-loop-i
@@ -16,7 +16,7 @@ invariant-loop-i g l =
       keeps : KeepsOutside (regions_of l.coding) l.fn.store l.store;
       goes : GoesOn d g.S.Sealed.width part (bytes_of l.fn.bits) (regions_of l.coding) 0 (cells_before part.channels l.i)
           (store_meanings g.S.Sealed.to_int l.fn.store) l.fn.decoder (position_of l.fn.bits) (store_meanings g.S.Sealed.to_int l.store) l.decoder (position_of l.bits);
-      roomy : IsRoomy l.coding l.state;
+      roomy : HasRoom l.coding l.state;
       last : IsAfterChannel l.coding l.i l.state;
       work : TakesSteps (cost_of l.coding) 0 (cells_before part.channels l.i) l.fn.steps l.steps;
       more : l.fn.steps ≤ l.steps;

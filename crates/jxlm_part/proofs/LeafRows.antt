@@ -1,0 +1,59 @@
+-- Rows that are read at one leaf with a path are those of a part whose tree is this leaf.
+use Rattle.std.proofs.Common.{◌≡◌, ℕ, ◌<◌, List, ◌++◌, length, Some, sym, ap, ◌∙◌, ℤ}
+use Rattle.std.specs.Int.{Width}
+use Rattle.jxlm_base.specs.Decoding.{Meaning}
+use Rattle.jxlm_base.specs.Grid.{Grid}
+use Rattle.jxlm_base.specs.Regions.{grid_of}
+use Rattle.jxlm_base.specs.declared.subgrid.Region.{Region}
+use Rattle.jxlm_base.proofs.Regions.{IsFull-grid_of}
+use Rattle.jxlm_tree.specs.Predictions.{prediction}
+use Rattle.jxlm_tree.specs.Properties.{property}
+use Rattle.jxlm_tree.specs.Tree.{leaf, walk}
+use Rattle.jxlm_tree.specs.declared.flat.Leaf.{Leaf}
+use Rattle.jxlm_part.specs.Coded.{next_prediction, sample_of}
+use Rattle.jxlm_part.specs.Inner.Leaves.{HasPath, next_by, path_rule, row_above}
+use Rattle.jxlm_part.specs.Inner.Rows.{AreAlike, row_rule}
+use Rattle.jxlm_part.specs.Part.{Part, channel, greatest_width, next_channel, next_leaf, samples_of, surroundings}
+use Rattle.jxlm_part.specs.Progress.{SameSizes, cells_ahead, grids_in}
+use Rattle.jxlm_part.specs.Reading.{region_at}
+use Rattle.jxlm_part.specs.declared.leaves.LeafPath.{LeafPath}
+use Rattle.jxlm_part.proofs.NextSample.{SeesRegions}
+use Rattle.jxlm_part.proofs.RowNeighbours.{path_is, samples}
+use Rattle.jxlm_part.proofs.RowSees.{sees_regions}
+
+module _ {S : Type 0} (d : Meaning S) (w : Width) (part : Part) (bytes : List ℕ) (regions : List Region) (ints : List (Grid ℤ)) (i y : ℕ) (sizes : SameSizes part.channels regions) (li : i < length regions)
+    (qy : y < (region_at regions i).height) (l : LeafPath) (tree : part.tree ≡ leaf l.leaf) (has : HasPath l) where
+  abbrev reg : Region
+  reg = region_at regions i
+
+  abbrev own_grid : Grid ℤ
+  own_grid = grid_of ints reg
+
+  leaf_is : (before : List ℤ) → next_leaf part before ≡ l.leaf
+  leaf_is before = ap (λ t. walk t (property (next_channel part.channels before) part.stream (surroundings part before))) tree
+
+  module _ (row : List ℤ) (short : length row < reg.width) where
+    abbrev here : List ℤ
+    here = cells_ahead part (grids_in regions ints) i 0 y ++ row
+
+    abbrev own : List ℤ
+    own = samples own_grid (IsFull-grid_of ints reg) y qy row short
+
+    sees : SeesRegions part regions ints i here own
+    sees = sees_regions part regions ints i y sizes li qy row short
+
+    predicted_is : next_prediction part here ≡ next_by l.path (row_above own_grid y) row
+    predicted_is =
+        ap (λ (k : Leaf). prediction (Some part.weights) (samples_of part.channels here (next_channel part.channels here)) (channel part.channels (next_channel part.channels here)).width k.predictor) (leaf_is here)
+        ∙ ap (λ n. prediction (Some part.weights) (samples_of part.channels here n) (channel part.channels n).width l.leaf.predictor) sees.stands
+        ∙ ap (λ n. prediction (Some part.weights) (samples_of part.channels here i) n l.leaf.predictor) (sym sees.wide)
+        ∙ ap (λ xs. prediction (Some part.weights) xs reg.width l.leaf.predictor) sees.own_is
+        ∙ ap (prediction (Some part.weights) own reg.width) has.predictor
+        ∙ path_is own_grid (IsFull-grid_of ints reg) y qy row short (Some part.weights) l.path
+
+  -- a row that is read at the leaf is one of the part
+  pub leaf_rows : AreAlike (path_rule d w bytes l.leaf (greatest_width part.channels) l.path (row_above own_grid y)) (row_rule d w part bytes regions ints i y) reg.width
+  leaf_rows row short = (
+    (λ s p. ap (λ (k : Leaf). d.read s bytes p k.cluster (greatest_width part.channels)) (sym (leaf_is (here row short)))),
+    (λ token. ap (λ z. sample_of w l.leaf z token) (sym (predicted_is row short)) ∙ ap (λ (k : Leaf). sample_of w k (next_prediction part (here row short)) token) (sym (leaf_is (here row short)))),
+  )

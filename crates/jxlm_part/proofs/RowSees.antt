@@ -1,0 +1,127 @@
+-- What the next cell of a row sees: the rows before and the row so far, and the channels before.
+use Rattle.std.proofs.Common.{◌≡◌, ℕ, zero, suc, ◌+◌, ◌*◌, ◌<◌, ◌≤◌, List, [], ◌∷◌, ◌++◌, length, map, take, sym, ap, ◌∙◌, subst, arith, ℤ, pos}
+use Rattle.std.specs.Prelude.{get_or}
+use Rattle.std.proofs.Math.ListN.{set}
+use Rattle.std.proofs.Math.Seq.{take-length, take-suc, take-suc-set}
+use Rattle.std.proofs.lemmas.List.{append_assoc, append-nil, get_or-set_other, get_or-set_same, length-map, take_all}
+use Rattle.std.proofs.lemmas.Nat.{mul-add-lt}
+use Rattle.jxlm_base.specs.Grid.{Grid, IsFull}
+use Rattle.jxlm_base.specs.Outside.{SetsRow}
+use Rattle.jxlm_base.specs.Regions.{AllLie, grid_of, region, store_meanings}
+use Rattle.jxlm_base.specs.declared.subgrid.Region.{Region}
+use Rattle.jxlm_base.proofs.Regions.{IsFull-grid_of}
+use Rattle.jxlm_tree.specs.Standing.{StandsAt}
+use Rattle.jxlm_tree.specs.declared.state.PredictorState.{PredictorState}
+use Rattle.jxlm_part.specs.Part.{Fits, Part, SeesBefore, cells_before, cells_of, channel, grid as grid_at}
+use Rattle.jxlm_part.specs.Progress.{SameSizes, cells_ahead, grids_in, place_of}
+use Rattle.jxlm_part.specs.Inner.Rows.{StandsInRow}
+use Rattle.jxlm_part.specs.Reading.{StandsBehind, region_at, regions_of, setting_of}
+use Rattle.jxlm_part.specs.declared.coding.PartCoding.{PartCoding}
+use Rattle.jxlm_part.proofs.Loops.{fits_in, grid_in, same_count, same_size}
+use Rattle.jxlm_part.proofs.NextSample.{SeesRegions}
+use Rattle.jxlm_part.proofs.Places.{each_sees_before}
+use Rattle.jxlm_part.proofs.RowWrites.{cells_first, first_full, first_height, first_width, fits_count, fits_still, row_grid, with_cells_of, with_first}
+
+-- the first cells of a grid in whose row y a row was begun: the rows before, and the row so far
+pub own_first : (g : Grid ℤ) (full : IsFull g) (y : ℕ) (below : y < g.height) (row : List ℤ) (x : ℕ) → x ≤ g.width → x ≤ length row →
+    take (y * g.width + x) (with_first g y row x).cells ≡ take (y * g.width) g.cells ++ take x row
+own_first g full y below row zero px inside =
+    let none : y * g.width + zero ≡ y * g.width = omega arith in
+    ap (λ n. take n g.cells) none ∙ sym (append-nil (take (y * g.width) g.cells))
+own_first g full y below row (suc x) px inside =
+    let v : ℤ = get_or row x (pos 0) in
+    let h : Grid ℤ = with_first g y row x in
+    let w = first_width g y row x in
+    let t = first_height g y row x in
+    let e = first_full g y row full x in
+    let c : length h.cells ≡ g.width * g.height = e ∙ ap (λ n. n * h.height) w ∙ ap (λ n. g.width * n) t in
+    let m = mul-add-lt y g.width x g.height below px in
+    let there : y * g.width + x < length h.cells = omega (arith, c, m) in
+    let next : y * g.width + suc x ≡ suc (y * g.width + x) = omega arith in
+    ap (λ n. take (y * g.width + suc x) (set h.cells (y * n + x) v)) w ∙ ap (λ n. take n (set h.cells (y * g.width + x) v)) next
+    ∙ take-suc-set h.cells (y * g.width + x) v there
+    ∙ ap (λ xs. xs ++ v ∷ []) (own_first g full y below row x (omega arith) (omega arith)) ∙ append_assoc (take (y * g.width) g.cells) (take x row) (v ∷ [])
+    ∙ ap (λ xs. take (y * g.width) g.cells ++ xs) (sym (take-suc row x (pos 0) inside))
+
+module _ (part : Part) (regions : List Region) (ints : List (Grid ℤ)) (i y : ℕ) (sizes : SameSizes part.channels regions) (li : i < length regions) (qy : y < (region_at regions i).height) where
+  abbrev reg : Region
+  reg = region_at regions i
+
+  abbrev grids : List (Grid ℤ)
+  grids = grids_in regions ints
+
+  abbrev own_grid : Grid ℤ
+  own_grid = grid_of ints reg
+
+  there : i < length part.channels
+  there = let count = same_count part.channels regions sizes in omega (arith, count)
+
+  wide : reg.width ≡ (channel part.channels i).width
+  wide = (same_size part.channels regions i sizes li).0
+
+  row_there : y < (channel part.channels i).height
+  row_there = subst (λ n. y < n) (same_size part.channels regions i sizes li).1 qy
+
+  module _ (row : List ℤ) (short : length row < reg.width) where
+    abbrev x : ℕ
+    x = length row
+
+    abbrev here : List ℤ
+    here = cells_ahead part grids i 0 y ++ row
+
+    in_channel : x < (channel part.channels i).width
+    in_channel = subst (λ n. x < n) wide short
+
+    -- the cells so far are those of grids that have them
+    abbrev made : List (Grid ℤ)
+    made = with_cells_of grids i y row x
+
+    fit : Fits part.channels grids
+    fit = fits_in part.channels regions ints sizes
+
+    as_many : length grids ≡ length part.channels
+    as_many = fits_count part.channels grids fit
+
+    here_is : take (cells_before part.channels i + (y * (channel part.channels i).width + x)) (cells_of made) ≡ here
+    here_is =
+        let at_place : cells_before part.channels i + (y * (channel part.channels i).width + x) ≡ place_of part i 0 y + x = omega arith in
+        ap (λ n. take n (cells_of made)) at_place ∙ cells_first part.channels grids i y row fit there x (omega (arith, in_channel)) row_there (omega arith)
+        ∙ ap (λ xs. cells_ahead part grids i 0 y ++ xs) (take-length row)
+
+    sees : SeesBefore part.channels made i (y * (channel part.channels i).width + x) here
+    sees =
+        subst (SeesBefore part.channels made i (y * (channel part.channels i).width + x)) here_is
+        (each_sees_before part.channels made i (y * (channel part.channels i).width + x) (fits_still part.channels grids i y row fit there x) there
+        (mul-add-lt y (channel part.channels i).width x (channel part.channels i).height row_there in_channel))
+
+    pub sees_regions : SeesRegions part regions ints i here (take (y * reg.width) own_grid.cells ++ row)
+    sees_regions = record {
+      wide = wide;
+      stands = sees.stands;
+      own_is = sees.own
+          ∙ ap (λ (g : Grid ℤ). take (y * (channel part.channels i).width + x) g.cells)
+          (get_or-set_same grids i (with_first (grid_at grids i) y row x) _ (omega (arith, as_many, there)) ∙ ap (λ g. with_first g y row x) (grid_in ints regions i li))
+          ∙ ap (λ n. take (y * n + x) (with_first own_grid y row x).cells) (sym wide)
+          ∙ own_first own_grid (IsFull-grid_of ints reg) y qy row x (omega (arith, short)) (omega arith)
+          ∙ ap (λ xs. take (y * reg.width) own_grid.cells ++ xs) (take-length row);
+      earlier_is = λ e less. sees.earlier e less ∙ get_or-set_other grids i e (with_first (grid_at grids i) y row x) _ (λ h. absurd (omega (arith, less, h)))
+          ∙ grid_in ints regions e (omega (arith, less, li));
+    }
+
+-- after a row that was read and written the state is after the rows up to it
+pub stands_below : {D X : Type 0} (c : PartCoding D) (i y : ℕ) (to_int : X → ℤ) (store new : List (Grid X)) (row : List X) (state : PredictorState X) → AllLie (regions_of c) store → i < length (regions_of c) →
+    y < (region_at (regions_of c) i).height → length row ≡ (region_at (regions_of c) i).width → SetsRow (region_at (regions_of c) i) y row store new →
+    StandsInRow c to_int store i y (map to_int row) state → StandsBehind c to_int new i ((y + 1) * (region_at (regions_of c) i).width) state
+stands_below {D} {X} c i y to_int store new row state lie li qy long sets stands =
+    let r : Region = region_at (regions_of c) i in
+    let g : Grid ℤ = grid_of (store_meanings to_int store) r in
+    let R : List ℤ = map to_int row in
+    let le : r.width ≤ r.width = omega arith in
+    let m = length-map row to_int in
+    let is : grid_of (store_meanings to_int new) r ≡ with_first g y R r.width = row_grid to_int store new y r.width row r (lie i (region 0 0 0 0 0) li) qy le sets in
+    let at : (y + 1) * r.width ≡ y * r.width + r.width = omega arith in
+    let all : take ((y + 1) * r.width) (grid_of (store_meanings to_int new) r).cells ≡ take (y * r.width) g.cells ++ R =
+    ap (λ n. take n (grid_of (store_meanings to_int new) r).cells) at ∙ ap (λ (h : Grid ℤ). take (y * r.width + r.width) h.cells) is
+    ∙ own_first g (IsFull-grid_of (store_meanings to_int store) r) y qy R r.width le (omega (arith, m, long))
+    ∙ ap (λ xs. take (y * r.width) g.cells ++ xs) (take_all r.width R (omega (arith, m, long))) in
+    subst (StandsAt state (setting_of c i)) (sym all) stands

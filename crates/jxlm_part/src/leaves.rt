@@ -1,0 +1,211 @@
+//! Rows of a channel whose tree is one leaf that adds nothing but its prediction.
+//!
+//! No state of the predictors is needed for them: a row is read from the row above it.
+
+ghost use Rattle.std.specs.Prelude.{◌≡◌, ◌<◌, ◌≢◌, ℤ, List, [], map, length, OnOk, IfErr, IfSome, Contains};
+ghost use Rattle.jxlm_base.specs.Bits.{bytes_of, position_of};
+ghost use Rattle.jxlm_base.specs.Regions.{Lies, grid_of, store_meanings};
+ghost use Rattle.jxlm_tree.specs.Tree.{leaf as one_leaf};
+ghost use Rattle.jxlm_part.specs.Inner.Leaves.{HasPath, IsPlain, path_rule, predictor_of, row_above};
+ghost use Rattle.jxlm_part.specs.Inner.Rows.{FailsRow, ReadsRow};
+
+use crate::rows::RowError;
+use jxlm_base::bits::Bitstream;
+use jxlm_base::decoder::{Decoder, DecoderError};
+use jxlm_base::grid::{AlignedGrid, Region};
+use jxlm_base::region::region_row;
+use jxlm_base::sample::{Sample, Sealed};
+use jxlm_tree::flat::{FlatMaTree, Leaf};
+use jxlm_tree::predictor::Predictor;
+
+/// How the cells of a row are predicted, from the row above and the cells before.
+#[derive(Clone, Copy)]
+pub(crate) enum Path {
+    /// By 0.
+    Zero,
+    /// By the clamped gradient.
+    Gradient,
+}
+
+/// The only leaf of a tree, and how it predicts.
+#[derive(Clone, Copy)]
+pub(crate) struct LeafPath {
+    /// The leaf.
+    pub(crate) leaf: Leaf,
+    /// How it predicts.
+    pub(crate) path: Path,
+}
+
+/// The path of a predictor, where it has one.
+fn path_of(predictor: Predictor) -> Option<Path>
+    ensures { IfSome result (λ p. predictor ≡ predictor_of p) }
+{
+    match predictor {
+        Predictor::Zero => Some(Path::Zero),
+        Predictor::Gradient => Some(Path::Gradient),
+        _ => None,
+    }
+}
+
+/// The only leaf of a tree, where it has no other, adds nothing but its prediction, and has a path.
+pub(crate) fn leaf_path(flat: &FlatMaTree) -> Option<LeafPath>
+    ensures tree { IfSome result (λ l. flat.now.tree ≡ one_leaf l.leaf) }
+    ensures path { IfSome result (λ l. HasPath l) }
+{
+    let leaf = flat.only_leaf()?;
+    if leaf.offset != 0 || leaf.multiplier != 1 {
+        return None;
+    }
+    let path = path_of(leaf.predictor)?;
+    Some(LeafPath { leaf, path })
+}
+
+/// Reads a row where each cell is predicted by 0.
+fn zero_row<S: Sample, D: Decoder>(
+    bits: &mut Bitstream<'_>,
+    decoder: &mut D,
+    leaf: Leaf,
+    widest: u32,
+    row: &mut [S],
+) -> Result<(), RowError>
+    requires plain { IsPlain leaf }
+    requires cluster { Contains (D.meaning.cluster_map decoder.old) leaf.cluster }
+    ensures ok { OnOk result ((above : List ℤ) →
+        ReadsRow (path_rule D.meaning S.width (bytes_of bits.old) leaf widest Path.Zero above)
+        (map S.to_int row.new) decoder.old (position_of bits.old) decoder.new (position_of bits.new)) }
+    ensures err { IfErr result (λ r. (above : List ℤ) →
+        FailsRow (path_rule D.meaning S.width (bytes_of bits.old) leaf widest Path.Zero above)
+        (map S.to_int row.new) decoder.old (position_of bits.old) r.column r.error (position_of bits.new)) }
+    ensures clusters { OnOk result (D.meaning.cluster_map decoder.new ≡ D.meaning.cluster_map decoder.old) }
+    ensures memory { IfErr result (λ r. r.error ≢ DecoderError.OutOfMemory) }
+    ensures bytes { bytes_of bits.new ≡ bytes_of bits.old }
+{
+    for x in 0..row.len() {
+        match decoder.read_varint_with_multiplier_clustered(bits, leaf.cluster, widest) {
+            Ok(token) => row[x] = S::unpack_signed_u32(token),
+            Err(error) => return Err(RowError { column: x, error }),
+        }
+    }
+    Ok(())
+}
+
+/// Reads the first row of a channel where each cell is predicted by the clamped gradient.
+fn first_gradient_row<S: Sample, D: Decoder>(
+    bits: &mut Bitstream<'_>,
+    decoder: &mut D,
+    leaf: Leaf,
+    widest: u32,
+    row: &mut [S],
+) -> Result<(), RowError>
+    requires plain { IsPlain leaf }
+    requires cluster { Contains (D.meaning.cluster_map decoder.old) leaf.cluster }
+    ensures ok { OnOk result
+        (ReadsRow (path_rule D.meaning S.width (bytes_of bits.old) leaf widest Path.Gradient [])
+        (map S.to_int row.new) decoder.old (position_of bits.old) decoder.new (position_of bits.new)) }
+    ensures err { IfErr result (λ r.
+        FailsRow (path_rule D.meaning S.width (bytes_of bits.old) leaf widest Path.Gradient [])
+        (map S.to_int row.new) decoder.old (position_of bits.old) r.column r.error (position_of bits.new)) }
+    ensures clusters { OnOk result (D.meaning.cluster_map decoder.new ≡ D.meaning.cluster_map decoder.old) }
+    ensures memory { IfErr result (λ r. r.error ≢ DecoderError.OutOfMemory) }
+    ensures bytes { bytes_of bits.new ≡ bytes_of bits.old }
+{
+    let mut w = S::from_i32(0);
+    for x in 0..row.len() {
+        let token = match decoder.read_varint_with_multiplier_clustered(
+            bits,
+            leaf.cluster,
+            widest,
+        ) {
+            Ok(token) => token,
+            Err(error) => return Err(RowError { column: x, error }),
+        };
+        let value = S::unpack_signed_u32(token).add(S::grad_clamped(w, w, w));
+        row[x] = value;
+        w = value;
+    }
+    Ok(())
+}
+
+/// Reads a row below another where each cell is predicted by the clamped gradient.
+fn gradient_row<S: Sample, D: Decoder>(
+    bits: &mut Bitstream<'_>,
+    decoder: &mut D,
+    leaf: Leaf,
+    widest: u32,
+    above: &[S],
+    row: &mut [S],
+) -> Result<(), RowError>
+    requires plain { IsPlain leaf }
+    requires cluster { Contains (D.meaning.cluster_map decoder.old) leaf.cluster }
+    requires columns { 0 < length row.old }
+    requires above { length above.now ≡ length row.old }
+    ensures ok { OnOk result
+        (ReadsRow (path_rule D.meaning S.width (bytes_of bits.old) leaf widest Path.Gradient (map S.to_int above.now))
+        (map S.to_int row.new) decoder.old (position_of bits.old) decoder.new (position_of bits.new)) }
+    ensures err { IfErr result (λ r.
+        FailsRow (path_rule D.meaning S.width (bytes_of bits.old) leaf widest Path.Gradient (map S.to_int above.now))
+        (map S.to_int row.new) decoder.old (position_of bits.old) r.column r.error (position_of bits.new)) }
+    ensures clusters { OnOk result (D.meaning.cluster_map decoder.new ≡ D.meaning.cluster_map decoder.old) }
+    ensures memory { IfErr result (λ r. r.error ≢ DecoderError.OutOfMemory) }
+    ensures bytes { bytes_of bits.new ≡ bytes_of bits.old }
+{
+    let mut w = above[0];
+    let mut nw = w;
+    for x in 0..row.len() {
+        let n = above[x];
+        let token = match decoder.read_varint_with_multiplier_clustered(
+            bits,
+            leaf.cluster,
+            widest,
+        ) {
+            Ok(token) => token,
+            Err(error) => return Err(RowError { column: x, error }),
+        };
+        let value = S::unpack_signed_u32(token).add(S::grad_clamped(n, w, nw));
+        row[x] = value;
+        w = value;
+        nw = n;
+    }
+    Ok(())
+}
+
+/// Reads row `y` of a region into `row`, at a leaf with a path.
+///
+/// # Errors
+///
+/// That of the read of one cell; the cells before are in the row then.
+pub(crate) fn read_leaf_row<S: Sample, D: Decoder>(
+    bits: &mut Bitstream<'_>,
+    decoder: &mut D,
+    at: LeafPath,
+    widest: u32,
+    store: &[AlignedGrid<S>],
+    region: Region,
+    y: usize,
+    row: &mut [S],
+) -> Result<(), RowError>
+    requires plain { IsPlain at.leaf }
+    requires cluster { Contains (D.meaning.cluster_map decoder.old) at.leaf.cluster }
+    requires lies { Lies region store.now }
+    requires in_rows { y < region.height }
+    requires columns { 0 < region.width }
+    requires long { length row.old ≡ region.width }
+    ensures ok { OnOk result (ReadsRow (path_rule D.meaning S.width (bytes_of bits.old) at.leaf widest at.path
+        (row_above (grid_of (store_meanings S.to_int store.now) region) y))
+        (map S.to_int row.new) decoder.old (position_of bits.old) decoder.new (position_of bits.new)) }
+    ensures err { IfErr result (λ r. FailsRow (path_rule D.meaning S.width (bytes_of bits.old) at.leaf widest at.path
+        (row_above (grid_of (store_meanings S.to_int store.now) region) y))
+        (map S.to_int row.new) decoder.old (position_of bits.old) r.column r.error (position_of bits.new)) }
+    ensures clusters { OnOk result (D.meaning.cluster_map decoder.new ≡ D.meaning.cluster_map decoder.old) }
+    ensures memory { IfErr result (λ r. r.error ≢ DecoderError.OutOfMemory) }
+    ensures bytes { bytes_of bits.new ≡ bytes_of bits.old }
+{
+    match at.path {
+        Path::Zero => zero_row(bits, decoder, at.leaf, widest, row),
+        Path::Gradient if y == 0 => first_gradient_row(bits, decoder, at.leaf, widest, row),
+        Path::Gradient => {
+            let above = region_row(store, region, y - 1);
+            gradient_row(bits, decoder, at.leaf, widest, above, row)
+        }
+    }
+}
