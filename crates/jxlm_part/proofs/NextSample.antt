@@ -21,8 +21,9 @@ use Rattle.jxlm_tree.specs.declared.predictor.WpHeader.{WpHeader}
 use Rattle.jxlm_tree.proofs.FlatTrees.{goes_without_weights, reads_earlier_below, walks_by_properties}
 use Rattle.jxlm_tree.proofs.PropertiesLaws.{later_property}
 use Rattle.jxlm_part.specs.Coded.{next_prediction}
-use Rattle.jxlm_part.specs.Progress.{SameSizes, cells_ahead, grids_in}
+use Rattle.jxlm_part.specs.Progress.{cells_ahead, grids_in}
 use Rattle.jxlm_part.specs.Reading.{flat, handed, leaf_at, predicted_at, region_at}
+use Rattle.jxlm_transform.specs.Channels.{AreRegionsOf}
 use Rattle.jxlm_part.specs.Part.{Part, channel, earlier_alike, grid_of as grid_before, samples_of, next_leaf, surroundings, SeesBefore}
 use Rattle.jxlm_part.proofs.Earlier.{earlier_mapped, few_earlier}
 use Rattle.jxlm_part.proofs.Loops.{fits_in, grid_in, same_size}
@@ -110,7 +111,7 @@ predicts_without a b samples width AvgNorthAndNorthWest h = refl
 predicts_without a b samples width AvgNorthAndNorthEast h = refl
 predicts_without a b samples width AvgAll h = refl
 
-module _ (part : Part) (regions : List Region) (ints : List (Grid ℤ)) (i x y : ℕ) (sizes : SameSizes part.channels regions) (li : i < length regions)
+module _ (part : Part) (regions : List Region) (ints : List (Grid ℤ)) (i x y : ℕ) (sizes : AreRegionsOf part.channels regions) (li : i < length regions)
     (l : i < length part.channels) (px : x < (channel part.channels i).width) (qy : y < (channel part.channels i).height) where
   abbrev before : List ℤ
   before = cells_ahead part (grids_in regions ints) i x y
