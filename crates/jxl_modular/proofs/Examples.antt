@@ -21,7 +21,7 @@ use Rattle.jxlm_tree.specs.WeightsHeader.{default_weights}
 use Rattle.jxlm_tree.specs.declared.flat.Leaf.{Leaf}
 use Rattle.jxlm_tree.specs.declared.predictor.Predictor.TheVariants.{Zero, Gradient}
 use Rattle.jxlm_part.specs.Coded.{IsCodedWhole}
-use Rattle.jxlm_part.specs.Decode.{Standing, FailsToRead, FailsToEnd, DecodeAnswers}
+use Rattle.jxlm_part.specs.Decode.{Standing, FailsLater, DecodeAnswers}
 use Rattle.jxlm_header.specs.Header.{Header}
 use Rattle.jxlm_header.specs.Opening.{opening, node_limit}
 use Rattle.jxlm_part.specs.Part.{Part}
@@ -74,7 +74,7 @@ abbrev row_grids : List (Grid ℤ)
 row_grids = square_of (pos 1 ∷ pos 3 ∷ pos 0 ∷ pos 2 ∷ [])
 
 abbrev part_of : Leaf → Part
-part_of l = record { channels = record { width = 2; height = 2; hshift = pos 0; vshift = pos 0 } ∷ []; weights = default_weights; tree = (one_leaf l (three_bits Unsealed)).tree; stream = 0 }
+part_of l = record { channels = (image_list square).channels; weights = default_weights; tree = (one_leaf l (three_bits Unsealed)).tree; stream = 0 }
 
 row_samples : IsCodedWhole plain w32 (part_of gradient) row_bytes (three_bits Unsealed) 68 row_grids 80
 unfolding int_wrap count_leading_zeros plain_begin plain_read number_at token_at
@@ -95,22 +95,22 @@ cut_bytes = 0x42 ∷ 0x00 ∷ 0x04 ∷ 0x00 ∷ 0x04 ∷ 0x0E ∷ 0x05 ∷ 0xC0 
 abbrev standing : ℕ → List ℤ → Bool → Standing
 standing p cells partial = record { position = p; grids = square_of cells; partial = partial }
 
-cut_samples : FailsToRead plain w32 (part_of gradient) cut_bytes (three_bits Unsealed) (standing 68 (pos 0 ∷ pos 0 ∷ pos 0 ∷ pos 0 ∷ []) true) (standing 71 (pos 1 ∷ pos 0 ∷ pos 0 ∷ pos 0 ∷ []) true) UnexpectedEof 2
+cut_samples : FailsLater plain w32 (part_of gradient) cut_bytes (three_bits Unsealed) (standing 68 (pos 0 ∷ pos 0 ∷ pos 0 ∷ pos 0 ∷ []) true) (standing 71 (pos 1 ∷ pos 0 ∷ pos 0 ∷ pos 0 ∷ []) true) UnexpectedEof 2
 unfolding int_wrap count_leading_zeros plain_begin plain_read number_at token_at
 cut_samples = record {
   count = 1;
-  state = three_bits Unsealed;
-  within = omega arith;
-  coded = record { start = record { value = three_bits Unsealed; position = 68 }; begins = refl; joined = (three_bits Unsealed, 68, 2, (refl, refl), refl, refl) };
-  fault = refl;
+  fails = record {
+    state = three_bits Unsealed;
+    coded = record { start = record { value = three_bits Unsealed; position = 68 }; begins = refl; joined = (three_bits Unsealed, 68, 2, (refl, refl), refl, refl) };
+    fault = inl (omega arith, refl, refl);
+  };
   rest = refl;
-  fits = (refl, refl, refl, tt);
+  fits = (record { same_width = refl; same_height = refl; full = refl }, tt);
   as_partial = refl;
-  tries = refl;
 }
 
 cut_answers : DecodeAnswers plain w32 (part_of gradient) cut_bytes (three_bits Unsealed) (standing 68 (pos 0 ∷ pos 0 ∷ pos 0 ∷ pos 0 ∷ []) true) (standing 71 (pos 1 ∷ pos 0 ∷ pos 0 ∷ pos 0 ∷ []) true) false (Err (Decoder UnexpectedEof)) 2
-cut_answers = (refl, (omega arith, inr (inl cut_samples)))
+cut_answers = (refl, (omega arith, inr cut_samples))
 
 -- The same samples after their sum, which is 7, and after 8: there all four are coded, and the end is an error.
 abbrev sealed_bytes : ℕ → List ℕ
@@ -131,23 +131,26 @@ sealed_samples = record {
   accepts = refl;
 }
 
-wrongly_sealed_samples : FailsToEnd plain w32 (part_of gradient) (sealed_bytes 0x80) (sealed 0) (standing 68 (pos 0 ∷ pos 0 ∷ pos 0 ∷ pos 0 ∷ []) true) (standing 88 (pos 1 ∷ pos 3 ∷ pos 0 ∷ pos 2 ∷ []) true) (Invalid 4) 4
+wrongly_sealed_samples : FailsLater plain w32 (part_of gradient) (sealed_bytes 0x80) (sealed 0) (standing 68 (pos 0 ∷ pos 0 ∷ pos 0 ∷ pos 0 ∷ []) true) (standing 88 (pos 1 ∷ pos 3 ∷ pos 0 ∷ pos 2 ∷ []) true) (Invalid 4) 4
 unfolding int_wrap count_leading_zeros plain_begin plain_read number_at token_at
 wrongly_sealed_samples = record {
-  state = sealed 1;
-  coded = record {
-    start = record { value = sealed 8; position = 76 };
-    begins = refl;
-    joined = (sealed 1, 85, 0, (sealed 2, 82, 1, (sealed 6, 79, 4, (sealed 8, 76, 2, (refl, refl), refl, refl), refl, refl), refl, refl), refl, refl);
+  count = 4;
+  fails = record {
+    state = sealed 1;
+    coded = record {
+      start = record { value = sealed 8; position = 76 };
+      begins = refl;
+      joined = (sealed 1, 85, 0, (sealed 2, 82, 1, (sealed 6, 79, 4, (sealed 8, 76, 2, (refl, refl), refl, refl), refl, refl), refl, refl), refl, refl);
+    };
+    fault = inr (refl, refl, refl);
   };
-  fault = refl;
-  fits = (refl, refl, refl, tt);
+  rest = refl;
+  fits = (record { same_width = refl; same_height = refl; full = refl }, tt);
   as_partial = refl;
-  tries = refl;
 }
 
 wrongly_sealed_answers : DecodeAnswers plain w32 (part_of gradient) (sealed_bytes 0x80) (sealed 0) (standing 68 (pos 0 ∷ pos 0 ∷ pos 0 ∷ pos 0 ∷ []) true) (standing 88 (pos 1 ∷ pos 3 ∷ pos 0 ∷ pos 2 ∷ []) true) false (Err (Decoder (Invalid 4))) 4
-wrongly_sealed_answers = (omega arith, inr (inr wrongly_sealed_samples))
+wrongly_sealed_answers = (omega arith, inr wrongly_sealed_samples)
 
 -- The constant token 3, doubled, and 5 more: no bit is read after the tree, which ends at bit 79.
 abbrev constant_bytes : List ℕ

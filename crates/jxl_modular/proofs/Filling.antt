@@ -1,6 +1,6 @@
 -- Decoding all samples of an image that was read, and undoing its transforms: what comes of it, from what comes of
 -- the two.
-use Rattle.std.proofs.Common.{◌≡◌, ℕ, ◌+◌, ◌*◌, ◌<◌, ◌≤◌, List, map, Ok, Err, inl, inr, true, refl, subst, arith, ◌∙◌, ℤ}
+use Rattle.std.proofs.Common.{◌≡◌, ℕ, ◌+◌, ◌*◌, ◌<◌, ◌≤◌, List, Ok, Err, inl, inr, true, refl, ap, subst, arith, ◌∙◌, ℤ}
 use Rattle.std.proofs.Math.Nat.{mul-le-mul_right}
 use Rattle.std.specs.Int.{Width}
 use Rattle.std.specs.Prelude.{Result}
@@ -13,9 +13,9 @@ use Rattle.jxlm_base.specs.declared.decoder.DecoderError.TheVariants.{Unexpected
 use Rattle.jxlm_base.specs.declared.error.Error.{Error}
 use Rattle.jxlm_base.specs.declared.error.Error.TheVariants as error
 use Rattle.jxlm_chain.specs.Chain as chain
-use Rattle.jxlm_transform.specs.Channels.{channel_of}
+use Rattle.jxlm_transform.specs.Channels.{Channel}
 use Rattle.jxlm_transform.specs.ChannelSteps.{Step}
-use Rattle.jxlm_transform.specs.declared.channels.ModularChannelInfo.{ModularChannelInfo}
+use Rattle.jxlm_part.specs.Coded.{DecodingFails}
 use Rattle.jxlm_part.specs.Decode.{Standing, Fails, MovesWithin}
 use Rattle.jxl_modular.specs.Inner.Filled.{IsFilled, FillFails}
 use Rattle.jxl_modular.specs.Image.{Image, IsOnlyImage, coded_grids, cost_of, image_grids, samples_in, whole_part}
@@ -28,18 +28,26 @@ use Rattle.jxl_modular.proofs.PartLaws.{some_of, none_of}
 tried_within : {D : Type 0} (d : Meaning D) (w : Width) (part : Part) (bytes : List ℕ) (decoder : D) (old new : Standing) (e : DecoderError) (tried : ℕ) → Fails d w part bytes decoder old new e tried → tried ≤ cell_count part.channels
 tried_within d w part bytes decoder old new e tried h = elim h.1 [
   | inl begin ↦ let t = begin.tries in omega (arith, t)
-  | inr later ↦ elim later [
-    | inl read ↦ let t = read.tries in let n = read.within in omega (arith, t, n)
-    | inr end ↦ let t = end.tries in omega (arith, t)
+  | inr later ↦ elim later.fails.fault [
+    | inl read ↦ let n = read.0 in let t = read.1 in omega (arith, t, n)
+    | inr end ↦ let n = end.0 in let t = end.1 in omega (arith, t, n)
   ]
+]
+
+-- that no grid is left to be seen does not change that decoding fails
+fails_so : {D : Type 0} (d : Meaning D) (w : Width) (part : Part) (bytes : List ℕ) (decoder : D) (old new : Standing) (e : DecoderError) (tried : ℕ) → Fails d w part bytes decoder old new e tried →
+    DecodingFails d w part bytes decoder old.position e new.position tried
+fails_so d w part bytes decoder old new e tried h = elim h.1 [
+  | inl begin ↦ (h.0, inl (begin.fault, ap (λ (s : Standing). s.position) begin.unchanged, begin.tries))
+  | inr later ↦ (h.0, inr (later.count, new.grids, later.fails))
 ]
 
 -- the only image of the same steps and channels
 only_of : {S D : Type 0} (w : Width) (old new : Image S D) (grids samples : List (Grid ℤ)) → new.bit_depth ≡ old.bit_depth → new.steps ≡ old.steps → new.given ≡ old.given → IsOnlyImage w new grids samples → IsOnlyImage w old grids samples
 only_of w old new grids samples deep steps given h =
-    subst (λ (k : ℕ). chain.IsOnlyImage w k old.steps (record { channels = map channel_of old.given; nb_meta = 0 }) grids samples) deep
-    (subst (λ (ss : List Step). chain.IsOnlyImage w new.bit_depth ss (record { channels = map channel_of old.given; nb_meta = 0 }) grids samples) steps
-    (subst (λ (is : List ModularChannelInfo). chain.IsOnlyImage w new.bit_depth new.steps (record { channels = map channel_of is; nb_meta = 0 }) grids samples) given h))
+    subst (λ (k : ℕ). chain.IsOnlyImage w k old.steps (record { channels = old.given; nb_meta = 0 }) grids samples) deep
+    (subst (λ (ss : List Step). chain.IsOnlyImage w new.bit_depth ss (record { channels = old.given; nb_meta = 0 }) grids samples) steps
+    (subst (λ (cs : List Channel). chain.IsOnlyImage w new.bit_depth new.steps (record { channels = cs; nb_meta = 0 }) grids samples) given h))
 
 module _ {S D : Type 0} (d : Meaning D) (w : Width) (to_int : S → ℤ) (bytes : List ℕ) (stream : ℕ) (old : Image S D) (p : ℕ) where
   -- all samples were decoded
@@ -68,8 +76,8 @@ module _ {S D : Type 0} (d : Meaning D) (w : Width) (to_int : S → ℤ) (bytes 
     not_filled error.InvalidPaletteParams h = absurd h
     not_filled error.InvalidSqueezeParams h = absurd h
     not_filled (error.Bitstream b) h = absurd h
-    not_filled (error.Decoder UnexpectedEof) h = let f = h true some in record { error = UnexpectedEof; left = coded_grids to_int mid; tried = f.0; fails = f.1; error_is = refl; steps = f.2 }
-    not_filled (error.Decoder (Invalid k)) h = let f = h true some in record { error = Invalid k; left = coded_grids to_int mid; tried = f.0; fails = f.1; error_is = refl; steps = f.2 }
+    not_filled (error.Decoder UnexpectedEof) h = let f = h true some in record { error = UnexpectedEof; tried = f.0; fails = fails_so d w (whole_part old stream) bytes old.config.decoder _ _ UnexpectedEof f.0 f.1; error_is = refl; steps = f.2 }
+    not_filled (error.Decoder (Invalid k)) h = let f = h true some in record { error = Invalid k; tried = f.0; fails = fails_so d w (whole_part old stream) bytes old.config.decoder _ _ (Invalid k) f.0 f.1; error_is = refl; steps = f.2 }
     not_filled (error.Decoder OutOfMemory) h = tt
     not_filled (error.Buffer m) h = tt
 

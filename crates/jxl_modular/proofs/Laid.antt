@@ -1,9 +1,9 @@
 -- What an image that is laid out keeps: its coded channels lie in the store, apart, and of their sizes; so they do
 -- where only cells change.
-use Rattle.std.proofs.Common.{◌≡◌, List, length, map, refl, sym, ap, ◌∙◌, subst, ℤ}
+use Rattle.std.proofs.Common.{◌≡◌, List, length, refl, sym, ap, ◌∙◌, subst, ℤ}
 use Rattle.std.specs.Prelude.{take}
 use Rattle.std.specs.Int.{Width}
-use Rattle.std.proofs.lemmas.List.{length-map, take-map}
+use Rattle.std.proofs.lemmas.List.{take-map}
 use Rattle.jxlm_base.specs.Grid.{Grid, meanings}
 use Rattle.jxlm_base.specs.Regions.{store_meanings, AllLie, LieApart}
 use Rattle.jxlm_base.specs.declared.subgrid.Region.{Region}
@@ -13,14 +13,12 @@ use Rattle.jxlm_chain.specs.Shape.{SameShape}
 use Rattle.jxlm_chain.specs.Steps.{CanUndoAll}
 use Rattle.jxlm_chain.specs.Undo.{UndoesAll, undo_of_all}
 use Rattle.jxlm_chain.specs.Chain.{Chain}
-use Rattle.jxlm_transform.specs.Channels.{channel_of}
-use Rattle.jxlm_transform.specs.declared.channels.ModularChannelInfo.{ModularChannelInfo}
+use Rattle.jxlm_transform.specs.Channels.{AreGridsOf, AreRegionsOf, Channel}
 use Rattle.jxl_modular.specs.Image.{Image, IsLaidOut, IsOnlyImage, coded_grids, given_list, image_grids, list_coded}
-use Rattle.jxlm_part.specs.Layout.{channels_of}
-use Rattle.jxlm_part.specs.Part.{Fits}
-use Rattle.jxlm_part.specs.Progress.{SameSizes, grids_in}
+use Rattle.jxlm_part.specs.Progress.{grids_in}
 use Rattle.jxl_modular.specs.SameButSamples.{SameButCells}
-use Rattle.jxl_modular.proofs.Layouts.{buffers_meanings, given_grids, grids_fit, same_sizes}
+use Rattle.jxl_modular.proofs.Layouts.{buffers_meanings, given_grids}
+use Rattle.jxlm_part.proofs.Loops.{fits_in}
 use Rattle.jxlm_chain.proofs.CanUndo.{can_undo_all}
 use Rattle.jxlm_chain.proofs.LayoutLaws.{lie_first, lie_after_all}
 use Rattle.jxlm_chain.proofs.OneImage.{no_two_images}
@@ -43,11 +41,11 @@ module _ {S D : Type 0} (x : Image S D) (laid : IsLaidOut x) where
   pub coded_apart : LieApart x.coded
   coded_apart = subst LieApart (sym laid.regions) coded_lies.apart
 
-  pub coded_sizes : SameSizes (channels_of x.channels) x.coded
-  coded_sizes = subst (SameSizes (channels_of x.channels)) (sym laid.regions) (same_sizes x.channels (layout_after_all x.steps first).regions coded_lies.sizes)
+  pub coded_sizes : AreRegionsOf x.channels x.coded
+  coded_sizes = subst (AreRegionsOf x.channels) (sym laid.regions) coded_lies.sizes
 
-  pub coded_fit : (f : S → ℤ) → Fits (channels_of x.channels) (coded_grids f x)
-  coded_fit f = grids_fit (channels_of x.channels) x.coded (store_meanings f x.store) coded_sizes
+  pub coded_fit : (f : S → ℤ) → AreGridsOf x.channels (coded_grids f x)
+  coded_fit f = fits_in x.channels x.coded (store_meanings f x.store) coded_sizes
 
   -- what undoes its steps can be done
   pub can_undo : CanUndoAll x.store (undo_of_all x.steps first)
@@ -59,7 +57,6 @@ module _ {S D : Type 0} (x : Image S D) (laid : IsLaidOut x) where
   pub given_first : (f : S → ℤ) → grids_in first.regions (store_meanings f x.store) ≡ image_grids f x
   given_first f =
       given_grids (given_list x).channels (tables_of x.steps) (store_meanings f x.store) (buffers_meanings f _ x.store laid.buffers)
-      ∙ ap (λ n. take n (store_meanings f x.store)) (length-map x.given _)
       ∙ take-map (meanings f) (length x.given) x.store
 
 -- An image stays laid out where only cells change.
@@ -101,14 +98,14 @@ only_image to_int w x y laid laid_y same undone =
     let chain : Chain w x.bit_depth x.steps (given_list x) (grids_in first.regions (store_meanings to_int y.store)) (grids_in (layout_after_all x.steps first).regions (store_meanings to_int x.store)) =
     chain_of to_int w x.bit_depth x.steps (given_list x) (list_coded x) first x.store y.store laid.list laid.steps here.0 here.1 undone in
     let coded : grids_in (layout_after_all x.steps first).regions (store_meanings to_int x.store) ≡ coded_grids to_int x = ap (λ (rs : List Region). grids_in rs (store_meanings to_int x.store)) (sym laid.regions) in
-    let own : grids_in first.regions (store_meanings to_int y.store) ≡ image_grids to_int y = ap (λ (is : List ModularChannelInfo). grids_in (first_layout (map channel_of is)).regions (store_meanings to_int y.store)) (sym same.given) ∙ given_first y laid_y to_int in
+    let own : grids_in first.regions (store_meanings to_int y.store) ≡ image_grids to_int y = ap (λ (cs : List Channel). grids_in (first_layout cs).regions (store_meanings to_int y.store)) (sym same.given) ∙ given_first y laid_y to_int in
     let own_chain : Chain w x.bit_depth x.steps (given_list x) (image_grids to_int y) (coded_grids to_int x) =
     subst (λ gs. Chain w x.bit_depth x.steps (given_list x) gs (coded_grids to_int x)) own
     (subst (λ gs. Chain w x.bit_depth x.steps (given_list x) (grids_in first.regions (store_meanings to_int y.store)) gs) coded chain) in
     let this : Chain w y.bit_depth y.steps (given_list y) (image_grids to_int y) (coded_grids to_int x) =
     subst (λ n. Chain w n y.steps (given_list y) (image_grids to_int y) (coded_grids to_int x)) (sym same.bit_depth)
     (subst (λ ss. Chain w x.bit_depth ss (given_list y) (image_grids to_int y) (coded_grids to_int x)) (sym same.steps)
-    (subst (λ (is : List ModularChannelInfo). Chain w x.bit_depth x.steps (record { channels = map channel_of is; nb_meta = 0 }) (image_grids to_int y) (coded_grids to_int x)) (sym same.given) own_chain)) in
+    (subst (λ (cs : List Channel). Chain w x.bit_depth x.steps (record { channels = cs; nb_meta = 0 }) (image_grids to_int y) (coded_grids to_int x)) (sym same.given) own_chain)) in
     record {
       chain = this;
       only = λ other h. no_two_images w y.bit_depth y.steps (given_list y) other (image_grids to_int y) (coded_grids to_int x) h this;

@@ -1,34 +1,15 @@
 -- Where the channels of an image lie: the coded ones, and its own.
-use Rattle.std.proofs.Common.{◌≡◌, suc, ◌≤◌, List, [], ◌∷◌, ◌++◌, length, append_assoc, take, map, refl, sym, ap, ◌∙◌, subst, arith, ℤ}
-use Rattle.std.specs.List.{AllZip}
+use Rattle.std.proofs.Common.{◌≡◌, suc, ◌≤◌, List, [], ◌∷◌, ◌++◌, length, append_assoc, take, refl, sym, ap, ◌∙◌, subst, arith, ℤ}
 use Rattle.std.proofs.lemmas.List.{length-append}
 use Rattle.std.proofs.Math.Seq.{get_or-append_seam}
 use Rattle.jxlm_base.specs.Grid.{Grid, grid, IsFull}
 use Rattle.jxlm_base.specs.Regions.{region, grid_of, store_meanings, buffer_of}
 use Rattle.jxlm_base.specs.declared.subgrid.Region.{Region}
-use Rattle.jxlm_base.proofs.Regions.{grid_of_whole, IsFull-grid_of, IsFull-meanings}
+use Rattle.jxlm_base.proofs.Regions.{grid_of_whole, IsFull-meanings}
 use Rattle.jxlm_chain.specs.Layout.{HasBuffers, sides_of, whole_regions, first_layout}
 use Rattle.jxlm_transform.specs.Steps.{Sides}
-use Rattle.jxlm_transform.specs.Channels.{Channel as Full, channel_of as full}
-use Rattle.jxlm_transform.specs.declared.channels.ModularChannelInfo.{ModularChannelInfo}
-use Rattle.jxl_modular.specs.Image.{HaveSizes}
-use Rattle.jxlm_part.specs.Layout.{channels_of}
-use Rattle.jxlm_part.specs.Part.{Channel, Fits}
-use Rattle.jxlm_part.specs.Progress.{SameSizes, grids_in}
-
--- regions of the channels' sides
-pub same_sizes : (cs : List ModularChannelInfo) (rs : List Region) → AllZip (λ (c : Full) (r : Region). (r.width ≡ c.width) × (r.height ≡ c.height)) (map full cs) rs → SameSizes (channels_of cs) rs
-same_sizes [] [] h = tt
-same_sizes [] (r ∷ rs) h = absurd h
-same_sizes (c ∷ cs) [] h = absurd h
-same_sizes (c ∷ cs) (r ∷ rs) h = (h.0.0, h.0.1, same_sizes cs rs h.1)
-
--- what is in them fits the channels
-pub grids_fit : (cs : List Channel) (rs : List Region) (store : List (Grid ℤ)) → SameSizes cs rs → Fits cs (grids_in rs store)
-grids_fit [] [] store h = tt
-grids_fit [] (r ∷ rs) store h = absurd h
-grids_fit (c ∷ cs) [] store h = absurd h
-grids_fit (c ∷ cs) (r ∷ rs) store h = (h.0, h.1, IsFull-grid_of store r, grids_fit cs rs store h.2)
+use Rattle.jxlm_transform.specs.Channels.{AreGridsOf, Channel}
+use Rattle.jxlm_part.specs.Progress.{grids_in}
 
 -- numbers' grids have the sides of the samples' grids
 pub buffers_meanings : {X : Type 0} (f : X → ℤ) (sides : List Sides) (store : List (Grid X)) → HasBuffers sides store → HasBuffers sides (store_meanings f store)
@@ -39,13 +20,13 @@ buffers_meanings f (s ∷ sides) (g ∷ gs) h =
     (record { same_width = h.0.same_width; same_height = h.0.same_height; full = IsFull-meanings f g h.0.full }, buffers_meanings f sides gs h.1)
 
 -- the first buffers have the sides of the channels, in their order
-pub given_sizes : {X : Type 0} (cs : List ModularChannelInfo) (more : List Sides) (store : List (Grid X)) → HasBuffers (sides_of (map full cs) ++ more) store → HaveSizes cs (take (length cs) store)
+pub given_sizes : {X : Type 0} (cs : List Channel) (more : List Sides) (store : List (Grid X)) → HasBuffers (sides_of cs ++ more) store → AreGridsOf cs (take (length cs) store)
 given_sizes [] more store h = tt
 given_sizes (c ∷ cs) more [] h = absurd h
-given_sizes (c ∷ cs) more (g ∷ gs) h = ((h.0.same_width, h.0.same_height), given_sizes cs more gs h.1)
+given_sizes (c ∷ cs) more (g ∷ gs) h = (h.0, given_sizes cs more gs h.1)
 
 -- grids of channels that have a buffer each, from one buffer of a store on
-grids_from : (cs : List Full) (more : List Sides) (front store : List (Grid ℤ)) → HasBuffers (sides_of cs ++ more) store → grids_in (whole_regions (length front) cs) (front ++ store) ≡ take (length cs) store
+grids_from : (cs : List Channel) (more : List Sides) (front store : List (Grid ℤ)) → HasBuffers (sides_of cs ++ more) store → grids_in (whole_regions (length front) cs) (front ++ store) ≡ take (length cs) store
 grids_from [] more front store h = refl
 grids_from (c ∷ cs) more front [] h = absurd h
 grids_from (c ∷ cs) more front (g ∷ gs) h =
@@ -67,11 +48,11 @@ grids_from (c ∷ cs) more front (g ∷ gs) h =
     ap (λ (h : Grid ℤ). h ∷ grids_in (whole_regions (suc (length front)) cs) (front ++ g ∷ gs)) one ∙ ap (λ (hs : List (Grid ℤ)). g ∷ hs) others
 
 -- the image's own channels are the first grids of the store
-pub given_grids : (cs : List Full) (more : List Sides) (store : List (Grid ℤ)) → HasBuffers (sides_of cs ++ more) store → grids_in (first_layout cs).regions store ≡ take (length cs) store
+pub given_grids : (cs : List Channel) (more : List Sides) (store : List (Grid ℤ)) → HasBuffers (sides_of cs ++ more) store → grids_in (first_layout cs).regions store ≡ take (length cs) store
 given_grids cs more store h = grids_from cs more [] store h
 
 -- and there are as many of them
-pub given_within : {X : Type 0} (cs : List Full) (more : List Sides) (store : List (Grid X)) → HasBuffers (sides_of cs ++ more) store → length cs ≤ length store
+pub given_within : {X : Type 0} (cs : List Channel) (more : List Sides) (store : List (Grid X)) → HasBuffers (sides_of cs ++ more) store → length cs ≤ length store
 given_within [] more store h = omega arith
 given_within (c ∷ cs) more [] h = absurd h
 given_within (c ∷ cs) more (g ∷ gs) h = let n = given_within cs more gs h.1 in omega (arith, n)

@@ -4,7 +4,6 @@ pub mod Suits
 pub mod UndoneImage
 pub mod PartLaws
 pub mod PictureLaws
-pub mod ZeroGrids
 pub mod Filling
 pub mod FreshLaws
 pub mod ParsingLaws

@@ -6,8 +6,7 @@ use Rattle.jxlm_base.specs.Decoding.{Meaning}
 use Rattle.jxlm_base.specs.Fault.{UnlessMemory, fault_of}
 use Rattle.jxlm_base.specs.Grammar.{IsRefused}
 use Rattle.jxlm_base.specs.declared.error.Error.{Error}
-use Rattle.jxlm_transform.specs.Channels.{ChannelList, area, channel_of, image_list, list_of}
-use Rattle.jxlm_transform.specs.declared.channels.ModularChannelInfo.{ModularChannelInfo}
+use Rattle.jxlm_transform.specs.Channels.{Channel, ChannelList, area, image_list, list_of}
 use Rattle.jxlm_transform.specs.declared.channels.ModularChannels.{ModularChannels}
 use Rattle.jxlm_transform.specs.declared.param.ModularChannelParams.{ModularChannelParams}
 use Rattle.jxlm_transform.specs.declared.param.ModularParams.{ModularParams}
@@ -25,21 +24,14 @@ pub not_zero : (n : ℕ) → (n == 0) ≡ false → 0 < n
 not_zero zero h = cc
 not_zero (suc n) h = omega arith
 
-areas_same : (cs : List ModularChannelInfo) → sum_by (λ c. c.width * c.height) cs ≡ sum_by area (map channel_of cs)
-areas_same [] = refl
-areas_same (c ∷ cs) =
-    sum_by-cons (λ (i : ModularChannelInfo). i.width * i.height) c cs
-    ∙ ap (λ n. area (channel_of c) + n) (areas_same cs)
-    ∙ sym (sum_by-cons area (channel_of c) (map channel_of cs))
-
 module _ {S D : Type 0} (d : Meaning D) (zero : S) (bytes : List ℕ) (p : ℕ) (params : ModularParams D) where
   abbrev given : ChannelList
   given = image_list params.channels.items
 
   module _ (o : ModularHeader × ModularChannels) (m : ℕ) (opens : opened bytes given p ≡ Ok (record { value = opening_of o; position = m }))
-      (limit : ℕ) (counted : limit ≡ min (1024 + sum_by (λ c. c.width * c.height) o.1.info.items) (2 ^ 20)) where
+      (limit : ℕ) (counted : limit ≡ min (1024 + sum_by area o.1.info.items) (2 ^ 20)) where
     limit_same : limit ≡ node_limit (list_of o.1).channels
-    limit_same = counted ∙ ap (λ n. min (1024 + n) (2 ^ 20)) (areas_same o.1.info.items)
+    limit_same = counted
 
     -- an image of the tree that stands there
     pub image_stands : (config : Config D) (q : ℕ) (image : Image S D) → IsTreeAt d bytes limit depth_limit m config q →

@@ -1,7 +1,6 @@
 -- The part of all coded channels of an image.
 use Rattle.std.proofs.Common.{◌≡◌, ◌≢◌, ℕ, zero, suc, ◌+◌, ◌*◌, ◌<◌, ◌≤◌, List, [], ◌∷◌, ◌++◌, length, take, drop, Bool, refl, sym, ap, ◌∙◌, subst, arith, ℤ, inl, Result, Ok, Err, false}
 use Rattle.std.proofs.Math.Seq.{take-append_seam}
-use Rattle.std.proofs.lemmas.List.{length-map}
 use Rattle.std.specs.Int.{Width}
 use Rattle.jxlm_base.specs.Decoding.{Meaning}
 use Rattle.jxlm_base.specs.Grid.{Grid}
@@ -21,12 +20,11 @@ use Rattle.jxlm_base.specs.declared.error.Error.TheVariants.{InvalidMaTree, Glob
 use Rattle.jxlm_part.specs.Coded.{IfSome}
 use Rattle.jxlm_part.specs.Decode.{Standing, DecodeAnswers, MovesWithin}
 use Rattle.jxl_modular.specs.Image.{Image, IsLaidOut, coded_grids, cost_of as image_cost, whole_part, samples_in}
-use Rattle.jxlm_part.specs.Layout.{channels_of}
-use Rattle.jxlm_part.specs.Part.{Channel, Part, cell_count, greatest_width}
+use Rattle.jxlm_part.specs.Part.{Part, cell_count, greatest_width}
 use Rattle.jxlm_part.specs.Progress.{DecodesAll, DecodesSome}
 use Rattle.jxlm_part.specs.Reading.{HasFlats, IsCodingOf, IsRoomy, IsRoomyFor, regions_of}
 use Rattle.jxl_modular.specs.Inner.Samples.{DecodesSamples, FailsAtOnePlace, RefusesSamples}
-use Rattle.jxlm_transform.specs.declared.channels.ModularChannelInfo.{ModularChannelInfo}
+use Rattle.jxlm_transform.specs.Channels.{Channel}
 use Rattle.jxlm_part.specs.declared.coding.PartCoding.{PartCoding}
 use Rattle.jxlm_part.specs.declared.coding.PartState.{PartState}
 use Rattle.jxlm_part.proofs.Starting.{roomy_for}
@@ -44,7 +42,7 @@ part_with channels weights tree stream = record { channels = channels; weights =
 abbrev pub with_store : {S D : Type 0} → Image S D → List (Grid S) → Image S D
 with_store x s = record x { store = s }
 
-some_channel : (channels : List ModularChannelInfo) → 0 < cell_count (channels_of channels) → 0 < length channels
+some_channel : (channels : List Channel) → 0 < cell_count channels → 0 < length channels
 some_channel [] h = absurd (omega arith)
 some_channel (c ∷ cs) h = omega arith
 
@@ -52,9 +50,9 @@ module _ {S D : Type 0} (x : Image S D) (laid : IsLaidOut x) (c : PartCoding D)
     (channels : c.channels.now ≡ x.channels) (regions : c.regions.now ≡ x.coded) (config : c.config.now ≡ x.config) (weights : c.weights ≡ x.weights) where
   count_is : length x.channels ≡ length (regions_of c)
   count_is =
-      sym (length-map x.channels _) ∙ same_count (channels_of x.channels) x.coded (coded_sizes x laid) ∙ ap length (sym regions)
+      same_count x.channels x.coded (coded_sizes x laid) ∙ ap length (sym regions)
 
-  pub is_coding : HasFlats x.config.tree c.stream_index (length x.channels) c.flats.now → c.widest ≡ greatest_width (channels_of x.channels) → IsCodingOf c
+  pub is_coding : HasFlats x.config.tree c.stream_index (length x.channels) c.flats.now → c.widest ≡ greatest_width x.channels → IsCodingOf c
   is_coding flats widest = record {
     sizes = rw (channels, regions) (coded_sizes x laid);
     narrow = rw channels laid.narrow;
@@ -68,9 +66,9 @@ module _ {S D : Type 0} (x : Image S D) (laid : IsLaidOut x) (c : PartCoding D)
   roomy_part state some coding roomy = roomy_for c state coding roomy (let n = count_is in let m = some_channel x.channels some in omega (arith, n, m))
 
 -- the part of the channels of an image
-pub same_part : {S D : Type 0} (x : Image S D) (stream : ℕ) (channels : List ModularChannelInfo) → channels ≡ x.channels →
-    part_with (channels_of channels) x.weights x.config.tree stream ≡ whole_part x stream
-same_part x stream channels same = ap (λ cs. part_with (channels_of cs) x.weights x.config.tree stream) same
+pub same_part : {S D : Type 0} (x : Image S D) (stream : ℕ) (channels : List Channel) → channels ≡ x.channels →
+    part_with channels x.weights x.config.tree stream ≡ whole_part x stream
+same_part x stream channels same = ap (λ cs. part_with cs x.weights x.config.tree stream) same
 
 module _ {S D : Type 0} (d : Meaning D) (w : Width) (to_int : S → ℤ) (bytes : List ℕ) (stream : ℕ) (old : Image S D) (s : List (Grid S)) (p q : ℕ)
     (regions : List Region) (part : Part) (coded : regions ≡ old.coded) (is : part ≡ whole_part old stream) where

@@ -2,47 +2,27 @@
 use Rattle.std.proofs.Common.{◌≡◌, ◌≢◌, ℕ, ◌+◌, ◌*◌, ◌≤◌, List, [], ◌∷◌, map, sum_by, Some, None, Ok, Err, true, inl, inr, refl, sym, ap, ◌∙◌, subst, ℤ, pos}
 use Rattle.std.specs.Prelude.{Option}
 use Rattle.std.specs.Int.{Width}
-use Rattle.std.proofs.lemmas.List.Sums.{sum_by-cons}
 use Rattle.jxlm_base.specs.Decoding.{Meaning}
 use Rattle.jxlm_base.specs.Fault.{Fault, NoMemory, UnlessMemory, fault_of}
 use Rattle.jxlm_base.specs.Grid.{Grid}
 use Rattle.jxlm_base.specs.declared.error.Error.{Error}
-use Rattle.jxlm_chain.specs.Chain.{AreGridsOf, Chain, IsOnlyImage}
+use Rattle.jxlm_chain.specs.Chain.{Chain}
 use Rattle.jxlm_tree.proofs.Memory.{unless_so}
-use Rattle.jxlm_transform.specs.Channels.{Channel, ChannelList, area, channel_of, info_of, image_list}
+use Rattle.jxlm_transform.specs.Channels.{AreGridsOf, Channel, ChannelList, area, image_list}
 use Rattle.jxlm_transform.specs.ChannelSteps.{Step}
 use Rattle.jxlm_transform.specs.declared.param.ModularChannelParams.{ModularChannelParams}
 use Rattle.jxlm_transform.specs.declared.param.ModularParams.{ModularParams}
-use Rattle.jxlm_part.specs.Coded.{IsCodedWhole}
-use Rattle.jxlm_part.specs.Decode.{Fails, MovesWithin}
+use Rattle.jxlm_part.specs.Decode.{MovesWithin}
 use Rattle.jxl_modular.specs.Inner.Filled.{IsFilled, FillFails}
 use Rattle.jxl_modular.specs.Fresh.{fresh}
-use Rattle.jxl_modular.specs.Image.{Image, IsLaidOut, cost_of, coded_grids, image_grids, samples_in, whole_part}
-use Rattle.jxlm_part.specs.Layout.{channels_of}
+use Rattle.jxl_modular.specs.Image.{Image, cost_of, image_grids, samples_in}
 use Rattle.jxl_modular.specs.Parsing.{ParseGives, IsImageAt, image_of}
-use Rattle.jxlm_part.specs.Part as part
-use Rattle.jxl_modular.specs.Picture.{IsPicture, IsPictureRead, PictureFails, SamplesFail, StepsFor, StepsWithin, coded_channel, zero_grids}
+use Rattle.jxl_modular.specs.Picture.{IsPicture, IsPictureRead, PictureFails, SamplesFail, StepsFor, StepsWithin}
 use Rattle.jxl_modular.specs.declared.root.Modular.{Modular}
-use Rattle.jxl_modular.proofs.ZeroGrids.{fresh_zeros}
 
 -- it was out of memory
 pub no_memory : (fault : Fault) (P : Type 0) → fault ≡ NoMemory → UnlessMemory fault P
 no_memory fault P is = subst (λ (f : Fault). UnlessMemory f P) (sym is) tt
-
--- ---- channels as an image keeps them
-
-same_channels : (cs : List Channel) → map channel_of (map info_of cs) ≡ cs
-same_channels [] = refl
-same_channels (c ∷ cs) = ap (λ (rest : List Channel). c ∷ rest) (same_channels cs)
-
-same_part : (cs : List Channel) → channels_of (map info_of cs) ≡ map coded_channel cs
-same_part [] = refl
-same_part (c ∷ cs) = ap (λ (rest : List part.Channel). coded_channel c ∷ rest) (same_part cs)
-
-same_count : (cs : List Channel) → part.cell_count (channels_of (map info_of cs)) ≡ sum_by area cs
-same_count [] = refl
-same_count (c ∷ cs) =
-    sum_by-cons part.size (coded_channel c) (channels_of (map info_of cs)) ∙ ap (λ n. area c + n) (same_count cs) ∙ sym (sum_by-cons area c cs)
 
 -- an image that becomes others has its channels' sides
 chain_sides : (w : Width) (bit_depth : ℕ) (steps : List Step) (given : ChannelList) (grids samples : List (Grid ℤ)) → Chain w bit_depth steps given grids samples → AreGridsOf given.channels grids
@@ -100,13 +80,10 @@ module _ {S D : Type 0} (d : Meaning D) (w : Width) (to_int : S → ℤ) (bytes 
   abbrev begun : Image S D
   begun = fresh z given stands.head read.config params.group_dim params.bit_depth
 
-  abbrev part_with : List part.Channel → part.Part
-  part_with cs = record { channels = cs; weights = stands.head.weights; tree = read.config.tree; stream = stream }
-
   -- what holds of steps for its samples
   steps_for : (before after : ℕ) → MovesWithin before after (samples_in read * cost_of read) → StepsFor read.config.tree (sum_by area coded) before after
   steps_for before after h =
-      let same : samples_in read ≡ sum_by area coded = ap (λ (x : Image S D). samples_in x) stands.cells ∙ same_count coded in
+      let same : samples_in read ≡ sum_by area coded = ap (λ (x : Image S D). samples_in x) stands.cells in
       subst (λ n. MovesWithin before after (n * cost_of read)) same h
 
   pub steps_within : (before after : ℕ) → MovesWithin before after (samples_in read * cost_of read) → StepsWithin d bytes given p before after
@@ -121,37 +98,29 @@ module _ {S D : Type 0} (d : Meaning D) (w : Width) (to_int : S → ℤ) (bytes 
         samples_at = place;
         samples = f.samples;
         start = stands.start;
-        coded = subst (λ (cs : List part.Channel). IsCodedWhole d w (part_with cs) bytes read.config.decoder place f.samples q) (same_part coded) f.coded;
-        only = subst (λ (cs : List Channel). IsOnlyImage w params.bit_depth stands.head.coded.steps (record { channels = cs; nb_meta = 0 }) (image_grids to_int picture) f.samples) (same_channels given.channels) f.only;
+        coded = f.coded;
+        only = f.only;
       }
 
   pub picture_read : (picture : Image S D) (q before after : ℕ) → IsFilled d w to_int bytes stream read place picture q → MovesWithin before after (samples_in read * cost_of read) →
       IsPictureRead d w bytes stream given p params.bit_depth (image_grids to_int picture) q before after
   picture_read picture q before after h work = record { picture = picture_stands picture q h; steps = steps_for before after work }
 
-  module _ (nought : to_int z ≡ pos 0) (laid : IsLaidOut read) (fault : Fault) (q before after : ℕ) (more : before ≤ after) where
-    part_is : whole_part read stream ≡ part_with (map coded_channel coded)
-    part_is = ap (λ (x : Image S D). whole_part x stream) stands.cells ∙ ap part_with (same_part coded)
-
-    zeros : coded_grids to_int read ≡ zero_grids (map coded_channel coded)
-    zeros =
-        fresh_zeros to_int z nought read given stands.head read.config params.group_dim params.bit_depth stands.cells laid
-        ∙ ap (λ (x : Image S D). zero_grids (channels_of x.channels)) stands.cells ∙ ap zero_grids (same_part coded)
-
+  module _ (fault : Fault) (q before after : ℕ) (more : before ≤ after) where
     samples_fail : FillFails d w to_int bytes stream read place fault q before after → SamplesFail d w bytes stream given p fault q before after
-    samples_fail h = record {
-      head = stands.head;
-      config = read.config;
-      samples_at = place;
-      start = stands.start;
-      error = h.error;
-      left = h.left;
-      tried = h.tried;
-      fails = subst (λ (gs : List (Grid ℤ)). Fails d w (part_with (map coded_channel coded)) bytes read.config.decoder (record { position = place; grids = gs; partial = true }) (record { position = q; grids = h.left; partial = true }) h.error h.tried) zeros
-          (subst (λ (part : part.Part). Fails d w part bytes read.config.decoder (record { position = place; grids = coded_grids to_int read; partial = true }) (record { position = q; grids = h.left; partial = true }) h.error h.tried) part_is h.fails);
-      error_is = h.error_is;
-      steps = (more, h.steps);
-    }
+    samples_fail h =
+        let f : FillFails d w to_int bytes stream begun place fault q before after = subst (λ (x : Image S D). FillFails d w to_int bytes stream x place fault q before after) stands.cells h in
+        record {
+          head = stands.head;
+          config = read.config;
+          samples_at = place;
+          start = stands.start;
+          error = f.error;
+          tried = f.tried;
+          fails = f.fails;
+          error_is = f.error_is;
+          steps = (more, f.steps);
+        }
 
     -- an error of filling is one of the picture
     pub fails_filling : UnlessMemory fault (FillFails d w to_int bytes stream read place fault q before after) → PictureFails d w bytes stream given p fault q before after

@@ -4,7 +4,7 @@ use Rattle.jxlm_base.specs.Grid.{Grid, filled}
 use Rattle.jxlm_chain.specs.Layout.{buffers_of, first_layout, layout_after_all}
 use Rattle.jxlm_transform.specs.Steps.{Sides}
 use Rattle.jxlm_tree.specs.Tree.{Config}
-use Rattle.jxlm_transform.specs.Channels.{ChannelList, info_of}
+use Rattle.jxlm_transform.specs.Channels.{ChannelList}
 use Rattle.jxlm_transform.specs.Transforms.{Transform, OfRct, OfPalette, OfSqueeze}
 use Rattle.jxl_modular.specs.Image.{Image}
 use Rattle.jxlm_header.specs.Opening.{Opening}
@@ -27,8 +27,8 @@ fresh zero given ahead config group_dim bit_depth = record {
   config = config;
   group_dim = group_dim;
   bit_depth = bit_depth;
-  given = map info_of given.channels;
-  channels = map info_of ahead.coded.list.channels;
+  given = given.channels;
+  channels = ahead.coded.list.channels;
   nb_meta = ahead.coded.list.nb_meta;
   store = zeros zero (buffers_of given.channels ahead.coded.steps);
   coded = (layout_after_all ahead.coded.steps (first_layout given.channels)).regions;

@@ -1,6 +1,6 @@
 -- An image: what it was read with, and its buffers.
-use Rattle.std.specs.Prelude.{◌≡◌, ◌≤◌, ◌+◌, ℕ, List, length, map, take, ℤ, Ok, refl}
-use Rattle.std.specs.List.{All, AllZip}
+use Rattle.std.specs.Prelude.{◌≡◌, ◌≤◌, ◌+◌, ℕ, List, length, take, ℤ, Ok, refl}
+use Rattle.std.specs.List.{All}
 use Rattle.std.specs.Coded.{Coded, code_by, coded×, coded_list, coded_ℕ}
 use Rattle.std.specs.Int.{Width}
 use Rattle.jxlm_base.specs.Grid.{Grid, grid_code}
@@ -10,14 +10,12 @@ use Rattle.jxlm_chain.specs.Layout.{HasBuffers, buffers_of, first_layout, layout
 use Rattle.jxlm_chain.specs.Steps.{IsNarrowStore}
 use Rattle.jxlm_transform.specs.Steps.{HasChannels, HasWeights}
 use Rattle.jxlm_chain.specs.Chain as chain
-use Rattle.jxlm_transform.specs.Channels.{ChannelList, channel_of}
+use Rattle.jxlm_transform.specs.Channels.{Channel, ChannelList, IsNarrow}
 use Rattle.jxlm_transform.specs.ChannelSteps.{Step, list_after_all}
-use Rattle.jxlm_transform.specs.declared.channels.ModularChannelInfo.{ModularChannelInfo}
 use Rattle.jxlm_tree.specs.Tree.{Config, depth}
 use Rattle.jxlm_tree.specs.SelfCorrecting.{IsHeader}
 use Rattle.jxlm_tree.specs.declared.predictor.WpHeader.{WpHeader}
-use Rattle.jxlm_part.specs.Layout.{channels_of}
-use Rattle.jxlm_part.specs.Part.{Part, IsNarrow, cell_count}
+use Rattle.jxlm_part.specs.Part.{Part, cell_count}
 use Rattle.jxlm_part.specs.Progress.{grids_in}
 
 -- the weights of its header, the steps of its transforms, its tree with the decoder of the leaves, the side of its
@@ -29,15 +27,15 @@ pub record Image (S D : Type 0) : Type 0 where
   pub config : Config D
   pub group_dim : ℕ
   pub bit_depth : ℕ
-  pub given : List ModularChannelInfo
-  pub channels : List ModularChannelInfo
+  pub given : List Channel
+  pub channels : List Channel
   pub nb_meta : ℕ
   pub store : List (Grid S)
   pub coded : List Region
 
-abbrev pub image_code : {S D : Type 0} → Coded WpHeader → Coded Step → Coded (Config D) → Coded ModularChannelInfo → Coded Region → Coded S → Coded (Image S D)
+abbrev pub image_code : {S D : Type 0} → Coded WpHeader → Coded Step → Coded (Config D) → Coded Channel → Coded Region → Coded S → Coded (Image S D)
 image_code {S} {D} w t c i r s =
-    code_by (WpHeader × (List Step × (Config D × (ℕ × (ℕ × (List ModularChannelInfo × (List ModularChannelInfo × (ℕ × (List (Grid S) × List Region)))))))))
+    code_by (WpHeader × (List Step × (Config D × (ℕ × (ℕ × (List Channel × (List Channel × (ℕ × (List (Grid S) × List Region)))))))))
     (coded× w (coded× (coded_list t) (coded× c (coded× coded_ℕ (coded× coded_ℕ (coded× (coded_list i) (coded× (coded_list i) (coded× coded_ℕ (coded× (coded_list (grid_code s)) (coded_list r))))))))))
     (λ x. (x.weights, (x.steps, (x.config, (x.group_dim, (x.bit_depth, (x.given, (x.channels, (x.nb_meta, (x.store, x.coded))))))))))
     (λ p. record {
@@ -54,17 +52,13 @@ image_code {S} {D} w t c i r s =
     })
     (λ _. refl)
 
--- a grid for each of these channels, as wide and as high as it
-abbrev pub HaveSizes : {S : Type 0} → List ModularChannelInfo → List (Grid S) → Type 0
-HaveSizes channels grids = AllZip (λ c g. (g.width ≡ c.width) × (g.height ≡ c.height)) channels grids
-
 module _ {S D : Type 0} where
   -- the image's own channels, and its coded ones
   abbrev pub given_list : Image S D → ChannelList
-  given_list x = record { channels = map channel_of x.given; nb_meta = 0 }
+  given_list x = record { channels = x.given; nb_meta = 0 }
 
   abbrev pub list_coded : Image S D → ChannelList
-  list_coded x = record { channels = map channel_of x.channels; nb_meta = x.nb_meta }
+  list_coded x = record { channels = x.channels; nb_meta = x.nb_meta }
 
   -- The coded channels, which are narrow and at most 65536, are those that the steps leave, and lie where these put
   -- them; the buffers are those of the image's own channels, and then those of the tables.
@@ -73,7 +67,7 @@ module _ {S D : Type 0} where
     pub regions : x.coded ≡ (layout_after_all x.steps (first_layout (given_list x).channels)).regions
     pub buffers : HasBuffers (buffers_of (given_list x).channels x.steps) x.store
     pub narrow_store : IsNarrowStore x.store
-    pub narrow : All IsNarrow (channels_of x.channels)
+    pub narrow : All IsNarrow x.channels
     pub few : length x.channels ≤ 65536
     pub weights : IsHeader x.weights
     pub steps : All HasChannels x.steps
@@ -82,7 +76,7 @@ module _ {S D : Type 0} where
 
   -- the part of all channels, read with this stream index
   abbrev pub whole_part : Image S D → ℕ → Part
-  whole_part x stream = record { channels = channels_of x.channels; weights = x.weights; tree = x.config.tree; stream = stream }
+  whole_part x stream = record { channels = x.channels; weights = x.weights; tree = x.config.tree; stream = stream }
 
   -- the image's own channels: the first of its buffers
   abbrev pub grids_given : Image S D → List (Grid S)
@@ -106,4 +100,4 @@ module _ {S D : Type 0} where
 
   -- how many samples the coded channels have
   abbrev pub samples_in : Image S D → ℕ
-  samples_in x = cell_count (channels_of x.channels)
+  samples_in x = cell_count x.channels

@@ -1,34 +1,25 @@
 -- A picture of one part, described by its bits and by grids of numbers alone (ISO/IEC 18181-1, Modular: header, MA
 -- tree, samples, inverse transforms).
-use Rattle.std.specs.Prelude.{◌≡◌, ℕ, ◌+◌, ◌*◌, ◌⊎◌, ℤ, pos, List, map, sum_by, true}
+use Rattle.std.specs.Prelude.{◌≡◌, ℕ, ◌+◌, ◌*◌, ◌⊎◌, ℤ, List, sum_by}
 use Rattle.std.specs.Int.{Width}
 use Rattle.jxlm_base.specs.Decoding.{Meaning}
 use Rattle.jxlm_base.specs.Fault.{Fault, OfDecoder, UnlessMemory}
 use Rattle.jxlm_base.specs.Grammar.{IsRefused}
-use Rattle.jxlm_base.specs.Grid.{Grid, filled}
+use Rattle.jxlm_base.specs.Grid.{Grid}
 use Rattle.jxlm_base.specs.declared.decoder.DecoderError.{DecoderError}
 use Rattle.jxlm_chain.specs.Chain.{IsOnlyImage}
 use Rattle.jxlm_transform.specs.Channels.{ChannelList, area}
-use Rattle.jxlm_transform.specs.Channels as lists
 use Rattle.jxlm_tree.specs.Tree.{Config, Shape, depth}
 use Rattle.jxlm_tree.specs.declared.flat.Leaf.{Leaf}
-use Rattle.jxlm_part.specs.Coded.{IsCodedWhole}
-use Rattle.jxlm_part.specs.Decode.{Fails, MovesWithin}
+use Rattle.jxlm_part.specs.Coded.{DecodingFails, IsCodedWhole}
+use Rattle.jxlm_part.specs.Decode.{MovesWithin}
 use Rattle.jxlm_header.specs.Opening.{Opening}
 use Rattle.jxl_modular.specs.Parsing.{IsStartAt, IsTreeRefused, opened}
-use Rattle.jxlm_part.specs.Part.{Part, Channel}
-
--- a coded channel as a part sees it: its size and its shifts (Modular: channels)
-abbrev pub coded_channel : lists.Channel → Channel
-coded_channel c = record { width = c.width; height = c.height; hshift = c.hshift; vshift = c.vshift }
+use Rattle.jxlm_part.specs.Part.{Part}
 
 -- the part of all channels that the header's transforms leave (Modular: decoding of samples)
 abbrev pub coded_part : {D : Type 0} → ℕ → Opening → Config D → Part
-coded_part stream head config = record { channels = map coded_channel head.coded.list.channels; weights = head.weights; tree = config.tree; stream = stream }
-
--- for each channel a grid of zeros
-abbrev pub zero_grids : List Channel → List (Grid ℤ)
-zero_grids channels = map (λ c. filled c.width c.height (pos 0)) channels
+coded_part stream head config = record { channels = head.coded.list.channels; weights = head.weights; tree = config.tree; stream = stream }
 
 -- for each of n samples at most as many nodes were looked at as the tree is deep, and one more
 abbrev pub StepsFor : Shape Leaf → ℕ → ℕ → ℕ → Type 0
@@ -52,20 +43,16 @@ module _ {D : Type 0} (d : Meaning D) (w : Width) (bytes : List ℕ) (stream : �
     pub picture : IsPicture bit_depth grids q
     pub steps : StepsFor picture.config.tree (sum_by area picture.head.coded.list.channels) before after
 
-  -- Header and MA tree stand at bit position p. Decoding the samples of the coded channels, which are zeros before,
-  -- returns this error, and the reader is at q then; the count of steps went on by no more than the samples whose
-  -- read was tried allow.
+  -- Header and MA tree stand at bit position p, and decoding the samples after them returns this error, and the reader
+  -- is at q then; the count of steps went on by no more than the samples whose read was tried allow.
   pub record SamplesFail (fault : Fault) (q before after : ℕ) : Type 0 where
     pub head : Opening
     pub config : Config D
     pub samples_at : ℕ
     pub start : IsStartAt d bytes given p head config samples_at
     pub error : DecoderError
-    pub left : List (Grid ℤ)
     pub tried : ℕ
-    pub fails :
-        Fails d w (coded_part stream head config) bytes config.decoder (record { position = samples_at; grids = zero_grids (map coded_channel head.coded.list.channels); partial = true })
-        (record { position = q; grids = left; partial = true }) error tried
+    pub fails : DecodingFails d w (coded_part stream head config) bytes config.decoder samples_at error q tried
     pub error_is : fault ≡ OfDecoder error
     pub steps : StepsFor config.tree tried before after
 

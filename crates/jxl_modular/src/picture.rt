@@ -4,8 +4,7 @@ ghost use Rattle.std.specs.Prelude.{◌≡◌, ◌↔◌, ◌*◌, [], pos, None
 ghost use Rattle.std.specs.Option.{IfSome};
 ghost use Rattle.jxlm_base.specs.Bits.{bytes_of, position_of};
 ghost use Rattle.jxlm_base.specs.Fault.{UnlessMemory, fault_of};
-ghost use Rattle.jxlm_chain.specs.Chain.{AreGridsOf};
-ghost use Rattle.jxlm_transform.specs.Channels.{image_list};
+ghost use Rattle.jxlm_transform.specs.Channels.{AreGridsOf, image_list};
 ghost use Rattle.jxlm_transform.specs.Params.{IsValidParams};
 ghost use Rattle.jxlm_part.specs.Decode.{MovesWithin};
 ghost use Rattle.jxl_modular.specs.Inner.Filled.{IsFilled, FillFails};

@@ -9,13 +9,13 @@ use Rattle.jxlm_base.specs.Outside.{buffer_at}
 use Rattle.jxlm_base.specs.Regions.{region, Lies, AreApart}
 use Rattle.jxlm_base.specs.declared.subgrid.Region.{Region}
 use Rattle.jxlm_base.proofs.Regions.{apart_by_buffer}
-use Rattle.jxlm_transform.specs.Channels.{Channel, ChannelList}
+use Rattle.jxlm_transform.specs.Channels.{Channel, ChannelList, HasSides}
 use Rattle.jxlm_transform.specs.ChannelSteps.{Step, RctStep, PaletteStep, SqueezeStep, has_size_of, list_after, list_after_all, one_size, range}
 use Rattle.jxlm_transform.specs.Palette.{PaletteLies}
 use Rattle.jxlm_transform.specs.Recoloured.{HaveOneSize}
 use Rattle.jxlm_transform.specs.declared.transform.Palette.{Palette}
 use Rattle.jxlm_transform.specs.declared.transform.Rct.{Rct}
-use Rattle.jxlm_chain.specs.Layout.{Layout, layout_after, no_region, HasSides, HasTables, LieIn}
+use Rattle.jxlm_chain.specs.Layout.{Layout, layout_after, no_region, HasTables, LieIn}
 use Rattle.jxlm_chain.specs.Steps.{CanUndo, CanUndoAll}
 use Rattle.jxlm_transform.specs.Steps.{HasChannels}
 use Rattle.jxlm_chain.specs.Undo.{UndoRct, UndoPalette, UndoSqueeze, undo_of, undo_of_all}
@@ -74,7 +74,7 @@ module _ {S : Type 0} (store : List (Grid S)) where
       )
 
   can_undo_palette : (t : Palette) (l m : ChannelList) (places : Layout) → PaletteApplies t l m → 1 ≤ t.num_c → LieIn l.channels places store →
-      HasSides (record { width = t.nb_colours; height = t.num_c }) (buffer_at store places.buffers) → places.buffers < length store →
+      HasSides t.nb_colours t.num_c (buffer_at store places.buffers) → places.buffers < length store →
       PaletteLies t (region places.buffers 0 0 t.nb_colours t.num_c) (get_or places.regions t.begin_c no_region) (range t.begin_c t.num_c places.regions) store
   can_undo_palette t l m places applies some h sides lt =
       let rs : List Region = places.regions in

@@ -38,7 +38,7 @@ recoloured_cell samples = (samples, refl)
 -- ---- a whole chain
 
 abbrev channel : ℕ → ℤ → Channel
-channel n shift = record { width = n; height = 1; original_width = 4; original_height = 1; hshift = shift; vshift = pos 0; shift = Raw (pos 0) (pos 0) }
+channel n shift = record { width = n; height = 1; original_width = 4; original_height = 1; hshift = shift; vshift = pos 0; original_shift = Raw (pos 0) (pos 0) }
 
 abbrev ahead : ChannelList
 ahead = record { channels = channel 4 (pos 0) ∷ []; nb_meta = 0 }

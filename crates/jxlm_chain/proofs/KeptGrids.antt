@@ -10,9 +10,8 @@ use Rattle.jxlm_base.specs.declared.subgrid.Region.{Region}
 use Rattle.jxlm_base.proofs.GridLaws.{grid_by_same}
 use Rattle.jxlm_base.proofs.Outside.{number_same, region_cell_kept}
 use Rattle.jxlm_base.proofs.Regions.{HasCell_at, apart_at, IsFull-grid_of}
-use Rattle.jxlm_transform.specs.Channels.{Channel}
+use Rattle.jxlm_transform.specs.Channels.{AreGridsOf, AreRegionsOf, Channel}
 use Rattle.jxlm_transform.specs.ChannelSteps.{range}
-use Rattle.jxlm_chain.specs.Chain.{AreGridsOf}
 use Rattle.jxlm_chain.specs.Layout.{Layout, LieIn}
 use Rattle.jxlm_chain.proofs.Ranges.{range_at, range_length}
 
@@ -40,7 +39,7 @@ module _ {S : Type 0} (f : S → ℤ) where
 
 -- ---- grids of channels that lie in a store
 
-grids_of_sizes : (store : List (Grid ℤ)) (cs : List Channel) (rs : List Region) → AllZip (λ c r. (r.width ≡ c.width) × (r.height ≡ c.height)) cs rs → AreGridsOf cs (grids_in rs store)
+grids_of_sizes : (store : List (Grid ℤ)) (cs : List Channel) (rs : List Region) → AreRegionsOf cs rs → AreGridsOf cs (grids_in rs store)
 grids_of_sizes store [] [] sizes = tt
 grids_of_sizes store [] (r ∷ rs) sizes = absurd sizes
 grids_of_sizes store (c ∷ cs) [] sizes = absurd sizes

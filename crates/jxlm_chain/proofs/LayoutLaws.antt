@@ -11,12 +11,12 @@ use Rattle.jxlm_base.specs.Regions.{region, buffer_of, Lies, AllLie, AreApart, L
 use Rattle.jxlm_base.specs.Squeeze.{averages}
 use Rattle.jxlm_base.specs.declared.subgrid.Region.{Region}
 use Rattle.jxlm_base.proofs.Regions.{AreApart_sym, apart_by_buffer, apart_by_columns, apart_by_rows}
-use Rattle.jxlm_transform.specs.Channels.{Channel, ChannelList}
+use Rattle.jxlm_transform.specs.Channels.{Channel, ChannelList, HasSides}
 use Rattle.jxlm_transform.specs.ChannelSteps.{Step, RctStep, PaletteStep, SqueezeStep, list_after, list_after_all, average_channel, residual_channel}
 use Rattle.jxlm_transform.specs.declared.transform.Palette.{Palette}
 use Rattle.jxlm_transform.specs.declared.transform.SqueezeParams.{SqueezeParams}
 use Rattle.jxlm_transform.specs.SqueezedRegions.{average_region, residual_region}
-use Rattle.jxlm_chain.specs.Layout.{Layout, whole_regions, first_layout, layout_after, layout_after_all, no_region, sides_of, buffers_of, HasSides, HasBuffers, HasTables, LieIn}
+use Rattle.jxlm_chain.specs.Layout.{Layout, whole_regions, first_layout, layout_after, layout_after_all, no_region, sides_of, buffers_of, HasBuffers, HasTables, LieIn}
 use Rattle.jxlm_transform.specs.Steps.{Sides, tables_of, HasChannels}
 use Rattle.jxlm_chain.proofs.ListsApart.{pairs_cons, zip_length, zip_parts}
 use Rattle.jxlm_chain.proofs.StepFacts.{PaletteApplies, SqueezeApplies, rct_applies, palette_applies, squeeze_applies, same_ok, first_step}
@@ -29,17 +29,21 @@ HasSize c r = (r.width ≡ c.width) × (r.height ≡ c.height)
 -- ---- the tables of steps
 
 module _ {S : Type 0} where
+  -- a buffer of these sides
+  abbrev IsBuffer : Sides → Grid S → Type 0
+  IsBuffer s g = HasSides s.width s.height g
+
   -- buffers after the first b are those of the tables
-  pub tables_there : (ss : List Step) (b : ℕ) (store : List (Grid S)) → b ≤ length store → AllZip HasSides (tables_of ss) (drop b store) → HasTables ss b store
-  tables_there [] b store le z = let long = length-drop b store in let none = zip_length HasSides [] (drop b store) z in omega (arith, long, none)
+  pub tables_there : (ss : List Step) (b : ℕ) (store : List (Grid S)) → b ≤ length store → AllZip IsBuffer (tables_of ss) (drop b store) → HasTables ss b store
+  tables_there [] b store le z = let long = length-drop b store in let none = zip_length IsBuffer [] (drop b store) z in omega (arith, long, none)
   tables_there (RctStep t ∷ ss) b store le z = tables_there ss b store le z
   tables_there (PaletteStep t ∷ ss) b store le z =
       let s : Sides = record { width = t.nb_colours; height = t.num_c } in
       elim (cases_lt b (length store)) [
         | inl lt ↦
-            let z' : AllZip HasSides (s ∷ tables_of ss) (buffer_at store b ∷ drop (suc b) store) = subst (AllZip HasSides (s ∷ tables_of ss)) (drop-cons store b (grid 0 0 []) lt) z in
+            let z' : AllZip IsBuffer (s ∷ tables_of ss) (buffer_at store b ∷ drop (suc b) store) = subst (AllZip IsBuffer (s ∷ tables_of ss)) (drop-cons store b (grid 0 0 []) lt) z in
             (z'.0, tables_there ss (suc b) store lt z'.1)
-        | inr ge ↦ absurd (subst (AllZip HasSides (s ∷ tables_of ss)) (drop_all b store ge) z)
+        | inr ge ↦ absurd (subst (AllZip IsBuffer (s ∷ tables_of ss)) (drop_all b store ge) z)
       ]
   tables_there (SqueezeStep t ∷ ss) b store le z = tables_there ss b store le z
 
@@ -109,12 +113,12 @@ module _ {S : Type 0} where
         apart_by_buffer (get_or (whole_regions 0 cs) i d) (get_or (whole_regions 0 cs) j d)
         (λ e. let e' : (get_or (whole_regions 0 cs) i d).buffer ≡ (get_or (whole_regions 0 cs) j d).buffer = e in omega (arith, a, b, e', lt))
 
-    first_behind : AllZip HasSides more (drop (length cs) store) × (length cs ≤ length store)
+    first_behind : AllZip IsBuffer more (drop (length cs) store) × (length cs ≤ length store)
     first_behind =
         let n = length-map cs (λ (c : Channel). record { width = c.width; height = c.height }) in
-        let all = zip_length HasSides (sides_of cs ++ more) store has in
+        let all = zip_length IsBuffer (sides_of cs ++ more) store has in
         let both = length-append (sides_of cs) more in
-        (subst (λ k. AllZip HasSides more (drop k store)) n (zip_parts HasSides (sides_of cs) more store has), omega (arith, n, all, both))
+        (subst (λ k. AllZip IsBuffer more (drop k store)) n (zip_parts IsBuffer (sides_of cs) more store has), omega (arith, n, all, both))
 
 -- In buffers of their own the channels lie as they must, and the tables' buffers follow.
 pub lie_first : {S : Type 0} (cs : List Channel) (ss : List Step) (store : List (Grid S)) → HasBuffers (buffers_of cs ss) store → LieIn cs (first_layout cs) store × HasTables ss (length cs) store
@@ -153,7 +157,7 @@ module _ {S : Type 0} (store : List (Grid S)) where
   residual_lies false r h = let rows = h.rows in record { there = h.there; full = h.full; columns = h.columns; rows = omega arith }
 
   -- a table is a whole buffer
-  pub table_lies : (colours channels b : ℕ) → b < length store → HasSides (record { width = colours; height = channels }) (buffer_at store b) → Lies (region b 0 0 colours channels) store
+  pub table_lies : (colours channels b : ℕ) → b < length store → HasSides colours channels (buffer_at store b) → Lies (region b 0 0 colours channels) store
   table_lies colours channels b lt h = let wide = h.same_width in let high = h.same_height in record { there = lt; full = h.full; columns = omega arith; rows = omega arith }
 
 average_taken : (n : ℕ) (horizontal : Bool) (r : Region) → r.buffer < n → (average_region horizontal r).buffer < n
@@ -176,7 +180,7 @@ residual_size false c r h = let h1 = h.1 in (h.0, ap (λ n. n / 2) h1)
 
 module _ {S : Type 0} (store : List (Grid S)) where
   lie_after_palette : (t : Palette) (l m : ChannelList) (places : Layout) → PaletteApplies t l m → 1 ≤ t.num_c → LieIn l.channels places store →
-      HasSides (record { width = t.nb_colours; height = t.num_c }) (buffer_at store places.buffers) → places.buffers < length store → LieIn m.channels (layout_after (PaletteStep t) places) store
+      HasSides t.nb_colours t.num_c (buffer_at store places.buffers) → places.buffers < length store → LieIn m.channels (layout_after (PaletteStep t) places) store
   lie_after_palette t l m places applies some h sides lt =
       let rs : List Region = places.regions in
       let b : ℕ = places.buffers in

@@ -7,7 +7,7 @@ use Rattle.std.proofs.lemmas.Bool.{leb-true, and_parts}
 use Rattle.std.proofs.Math.ListN.{length-append, length-take, length-drop, length-map}
 use Rattle.jxlm_base.specs.Fault.{Fault}
 use Rattle.jxlm_base.specs.Grid.{Grid}
-use Rattle.jxlm_transform.specs.Channels.{ChannelList}
+use Rattle.jxlm_transform.specs.Channels.{Channel, ChannelList, HasSides}
 use Rattle.jxlm_transform.specs.ChannelSteps.{Step, RctStep, PaletteStep, SqueezeStep, range, with_range, has_range, one_size, list_after}
 use Rattle.jxlm_transform.specs.Palette.{finished_channels}
 use Rattle.jxlm_transform.specs.Recoloured.{recoloured}
@@ -16,7 +16,7 @@ use Rattle.jxlm_transform.specs.declared.transform.Palette.{Palette}
 use Rattle.jxlm_transform.specs.declared.transform.SqueezeParams.{SqueezeParams}
 use Rattle.jxlm_transform.proofs.PaletteLaws.{palette_has_one_image}
 use Rattle.jxlm_transform.specs.SqueezedRegions.{average_grid, residual_grid}
-use Rattle.jxlm_chain.specs.Chain.{HasSidesOf, Codes, Chain, NoTwoImages}
+use Rattle.jxlm_chain.specs.Chain.{Codes, Chain, NoTwoImages}
 use Rattle.jxlm_chain.proofs.ListLaws.{heads, tails, split_same, length-range, with_range_same, range_decides, zip_length, zip_range}
 use Rattle.jxlm_chain.proofs.SampleGrids.{sampled}
 use Rattle.jxlm_chain.proofs.SqueezedGrids.{halves_same}
@@ -47,6 +47,9 @@ halves_parts false b n us vs us' vs' xs ys l k m e =
     let two = split_same (with_range b n us xs) (with_range b n us' ys) vs vs' (long us xs ∙ ap (λ c. min b c + length us + (c - (b + n))) m ∙ ap (λ c. min b (length ys) + c + (length ys - (b + n))) l ∙ sym (long us' ys)) e in
     let parts = with_range_same b n us us' xs ys l m two.0 in
     (parts.0, parts.1, two.1, parts.2)
+
+abbrev HasSidesOf : Channel → Grid ℤ → Type 0
+HasSidesOf c g = HasSides c.width c.height g
 
 module _ (w : Width) (depth : ℕ) (l m : ChannelList) (gs hs next : Grids) (a : AllZip HasSidesOf l.channels gs) (b : AllZip HasSidesOf l.channels hs) where
   same_length : length gs ≡ length hs

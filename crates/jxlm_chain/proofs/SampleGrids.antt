@@ -5,8 +5,8 @@ use Rattle.std.specs.Int.{Width}
 use Rattle.std.proofs.lemmas.List.Elements.{All-head, All-tail}
 use Rattle.jxlm_base.specs.Grid.{Grid, IsFull}
 use Rattle.jxlm_base.specs.Squeeze.{AreGridSamples}
-use Rattle.jxlm_transform.specs.Channels.{Channel}
-use Rattle.jxlm_chain.specs.Chain.{AreGridsOf, AreSampleGrids}
+use Rattle.jxlm_transform.specs.Channels.{AreGridsOf, Channel}
+use Rattle.jxlm_chain.specs.Chain.{AreSampleGrids}
 
 -- the grid has the channel's sides, and a w-bit sample in each cell
 pub record IsGridOf (w : Width) (c : Channel) (g : Grid ℤ) : Type 0 where

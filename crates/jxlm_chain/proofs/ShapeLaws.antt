@@ -6,9 +6,9 @@ use Rattle.jxlm_base.specs.Grid.{Grid, grid}
 use Rattle.jxlm_base.specs.Outside.{KeepsOutside, buffer_at}
 use Rattle.jxlm_base.specs.Regions.{Lies, AllLie}
 use Rattle.jxlm_base.specs.declared.subgrid.Region.{Region}
-use Rattle.jxlm_transform.specs.Channels.{Channel}
+use Rattle.jxlm_transform.specs.Channels.{Channel, HasSides}
 use Rattle.jxlm_transform.specs.ChannelSteps.{Step, RctStep, PaletteStep, SqueezeStep}
-use Rattle.jxlm_chain.specs.Layout.{Layout, HasSides, HasBuffers, HasTables, LieIn}
+use Rattle.jxlm_chain.specs.Layout.{Layout, HasBuffers, HasTables, LieIn}
 use Rattle.jxlm_transform.specs.Steps.{Sides}
 use Rattle.jxlm_chain.specs.Shape.{SameShape}
 use Rattle.jxlm_chain.specs.Steps.{CanUndo, CanUndoAll, IsNarrowStore}
@@ -51,13 +51,13 @@ module _ {S : Type 0} where
     pub lie_in_kept : (cs : List Channel) (places : Layout) → LieIn cs places old → LieIn cs places new
     lie_in_kept cs places h = record { sizes = h.sizes; lie = all_lie_kept places.regions h.lie; taken = h.taken; apart = h.apart }
 
-    pub sides_kept : (s : Sides) (b : ℕ) → HasSides s (buffer_at old b) → HasSides s (buffer_at new b)
-    sides_kept s b h = record { same_width = same.width b ∙ h.same_width; same_height = same.height b ∙ h.same_height; full = same.full b h.full }
+    pub sides_kept : (width height b : ℕ) → HasSides width height (buffer_at old b) → HasSides width height (buffer_at new b)
+    sides_kept width height b h = record { same_width = same.width b ∙ h.same_width; same_height = same.height b ∙ h.same_height; full = same.full b h.full }
 
     pub tables_kept : (ss : List Step) (b : ℕ) → HasTables ss b old → HasTables ss b new
     tables_kept [] b h = same.count ∙ h
     tables_kept (RctStep t ∷ ss) b h = tables_kept ss b h
-    tables_kept (PaletteStep t ∷ ss) b h = (sides_kept (record { width = t.nb_colours; height = t.num_c }) b h.0, tables_kept ss (suc b) h.1)
+    tables_kept (PaletteStep t ∷ ss) b h = (sides_kept t.nb_colours t.num_c b h.0, tables_kept ss (suc b) h.1)
     tables_kept (SqueezeStep t ∷ ss) b h = tables_kept ss b h
 
     pub undo_kept : (u : Undo) → CanUndo old u → CanUndo new u
@@ -96,7 +96,7 @@ module _ {S : Type 0} where
   buffers_kept [] (g ∷ gs) new same has = absurd has
   buffers_kept (s ∷ sides) [] new same has = absurd has
   buffers_kept (s ∷ sides) (g ∷ gs) [] same has = let count = same.count in absurd (omega (arith, count))
-  buffers_kept (s ∷ sides) (g ∷ gs) (h ∷ hs) same has = (sides_kept (g ∷ gs) (h ∷ hs) same s 0 has.0, buffers_kept sides gs hs (shape_rest g h gs hs same) has.1)
+  buffers_kept (s ∷ sides) (g ∷ gs) (h ∷ hs) same has = (sides_kept (g ∷ gs) (h ∷ hs) same s.width s.height 0 has.0, buffers_kept sides gs hs (shape_rest g h gs hs same) has.1)
 
 -- ---- undoing
 

@@ -1,10 +1,9 @@
 -- Channels in buffers of their own, one by one.
-use Rattle.std.proofs.Common.{◌≡◌, ℕ, suc, ◌+◌, ◌<◌, List, [], ◌∷◌, ◌++◌, length, map, take, get_or, refl, ap, ◌∙◌, arith}
-use Rattle.std.proofs.lemmas.List.{take_more, map-append}
+use Rattle.std.proofs.Common.{◌≡◌, ℕ, suc, ◌+◌, ◌<◌, List, [], ◌∷◌, ◌++◌, length, take, get_or, refl, ap, ◌∙◌, arith}
+use Rattle.std.proofs.lemmas.List.{take_more}
 use Rattle.jxlm_base.specs.Regions.{region}
 use Rattle.jxlm_base.specs.declared.subgrid.Region.{Region}
-use Rattle.jxlm_transform.specs.Channels.{Channel, channel_of}
-use Rattle.jxlm_transform.specs.declared.channels.ModularChannelInfo.{ModularChannelInfo}
+use Rattle.jxlm_transform.specs.Channels.{Channel}
 use Rattle.jxlm_chain.specs.Layout.{whole_regions}
 
 -- one for each
@@ -18,10 +17,10 @@ whole-push b [] c n e = let same : b ≡ n = omega arith in ap (λ (k : ℕ). re
 whole-push b (d ∷ cs) c n e = ap (λ (rs : List Region). region b 0 0 d.width d.height ∷ rs) (whole-push (suc b) cs c n (omega arith))
 
 -- the next channel of a list that a program keeps
-pub whole-next : (xs : List ModularChannelInfo) (i : ℕ) (d : ModularChannelInfo) (rs : List Region) (n : ℕ) → i < length xs → n ≡ length rs → rs ≡ whole_regions 0 (map channel_of (take i xs)) →
-    rs ++ region n 0 0 (get_or xs i d).width (get_or xs i d).height ∷ [] ≡ whole_regions 0 (map channel_of (take (i + 1) xs))
+pub whole-next : (xs : List Channel) (i : ℕ) (d : Channel) (rs : List Region) (n : ℕ) → i < length xs → n ≡ length rs → rs ≡ whole_regions 0 (take i xs) →
+    rs ++ region n 0 0 (get_or xs i d).width (get_or xs i d).height ∷ [] ≡ whole_regions 0 (take (i + 1) xs)
 whole-next xs i d rs n h len made =
-    let x : ModularChannelInfo = get_or xs i d in
-    let cs : List Channel = map channel_of (take i xs) in
+    let x : Channel = get_or xs i d in
+    let cs : List Channel = take i xs in
     let size : n ≡ 0 + length cs = len ∙ ap length made ∙ length-whole 0 cs ∙ omega arith in
-    rw (take_more xs i d h, map-append channel_of (take i xs) (x ∷ []), whole-push 0 cs (channel_of x) n size, ← made) refl
+    rw (take_more xs i d h, whole-push 0 cs x n size, ← made) refl

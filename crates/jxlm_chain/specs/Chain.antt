@@ -1,25 +1,15 @@
 -- What transforms make of an image's samples (ISO/IEC 18181-1, Modular: inverse transforms, from the image to the
 -- coded channels).
 use Rattle.std.specs.Prelude.{◌≡◌, ℕ, List, [], ◌∷◌, map, ℤ, Ok}
-use Rattle.std.specs.List.{All, AllZip}
+use Rattle.std.specs.List.{All}
 use Rattle.std.specs.Int.{Width}
-use Rattle.jxlm_base.specs.Grid.{Grid, IsFull}
+use Rattle.jxlm_base.specs.Grid.{Grid}
 use Rattle.jxlm_base.specs.Squeeze.{AreGridSamples}
-use Rattle.jxlm_transform.specs.Channels.{Channel, ChannelList}
+use Rattle.jxlm_transform.specs.Channels.{AreGridsOf, ChannelList}
 use Rattle.jxlm_transform.specs.ChannelSteps.{Step, RctStep, PaletteStep, SqueezeStep, range, with_range, with_halves, list_after}
 use Rattle.jxlm_transform.specs.Palette.{IsPaletteOf}
 use Rattle.jxlm_transform.specs.Recoloured.{recoloured}
 use Rattle.jxlm_transform.specs.SqueezedRegions.{average_grid, residual_grid}
-
--- the grid has the channel's sides, and a number in each cell
-pub record HasSidesOf (c : Channel) (g : Grid ℤ) : Type 0 where
-  pub same_width : g.width ≡ c.width
-  pub same_height : g.height ≡ c.height
-  pub full : IsFull g
-
--- a grid for each channel
-abbrev pub AreGridsOf : List Channel → List (Grid ℤ) → Type 0
-AreGridsOf cs gs = AllZip HasSidesOf cs gs
 
 -- w bits a sample in memory
 module _ (w : Width) where

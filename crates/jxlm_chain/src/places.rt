@@ -6,7 +6,6 @@ ghost use Rattle.jxlm_base.specs.Squeeze.{averages as the_averages};
 ghost use Rattle.jxlm_transform.specs.SqueezedRegions.{average_region, residual_region};
 ghost use Rattle.jxlm_chain.specs.Inner.Ends.{HasEnds};
 ghost use Rattle.jxlm_chain.specs.Layout.{first_layout, layout_after, whole_regions};
-ghost use Rattle.jxlm_transform.specs.Channels.{channel_of};
 ghost use Rattle.jxlm_transform.specs.ChannelSteps.{PaletteStep, SqueezeStep, range, with_halves as the_halves};
 
 use jxlm_base::grid::{OutOfMemory, Region};
@@ -108,7 +107,7 @@ impl Places {
     ///
     /// `OutOfMemory`, and no other.
     pub fn new(alloc: Global, channels: &[ModularChannelInfo]) -> Result<Places, OutOfMemory>
-        ensures { IfOk result (λ p. layout_of p ≡ first_layout (map channel_of channels.now)) }
+        ensures { IfOk result (λ p. layout_of p ≡ first_layout channels.now) }
     {
         let mut regions = Vec::new(alloc);
         for channel in channels {

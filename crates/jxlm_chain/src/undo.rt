@@ -11,7 +11,6 @@ ghost use Rattle.jxlm_chain.specs.Steps.{CanUndo, CanUndoAll, IsNarrowStore};
 ghost use Rattle.jxlm_transform.specs.Steps.{steps_in};
 ghost use Rattle.jxlm_chain.specs.Undo.{UndoPalette, UndoRct, UndoSqueeze, Undoes, UndoesAll, undo_of, undo_of_all};
 ghost use Rattle.jxlm_chain.specs.Undoings.{GoesOn, undo_of_code, undos_of};
-ghost use Rattle.jxlm_transform.specs.Channels.{channel_of};
 ghost use Rattle.jxlm_transform.specs.ChannelSteps.{RctStep, PaletteStep, SqueezeStep, listed_steps, range};
 ghost use Rattle.jxlm_transform.specs.Transforms.{transform_of};
 
@@ -275,9 +274,9 @@ impl Plan {
         transforms: &[TransformInfo],
         channels: &[ModularChannelInfo],
     ) -> error::Result<Plan>
-        requires { Suit (steps_in (map transform_of transforms.now)) (map channel_of channels.now) }
-        ensures undoings { IfOk result (λ p. undos_of p.undoings.items ≡ undo_of_all (steps_in (map transform_of transforms.now)) (first_layout (map channel_of channels.now))) }
-        ensures places { IfOk result (λ p. layout_of p.places ≡ layout_after_all (steps_in (map transform_of transforms.now)) (first_layout (map channel_of channels.now))) }
+        requires { Suit (steps_in (map transform_of transforms.now)) channels.now }
+        ensures undoings { IfOk result (λ p. undos_of p.undoings.items ≡ undo_of_all (steps_in (map transform_of transforms.now)) (first_layout channels.now)) }
+        ensures places { IfOk result (λ p. layout_of p.places ≡ layout_after_all (steps_in (map transform_of transforms.now)) (first_layout channels.now)) }
         ensures err { IfErr result (λ e. fault_of e ≡ NoMemory) }
     {
         prove!(transforms.len() < usize::MAX - channels.len());

@@ -3,7 +3,8 @@ use Rattle.std.proofs.Common.{◌≡◌, ℕ, zero, suc, ◌<◌, ◌≤◌, Lis
 use Rattle.std.proofs.lemmas.List.Elements.{All-nil, All-cons}
 use Rattle.std.specs.Prelude.{filter}
 use Rattle.std.specs.List.{All}
-use Rattle.jxlm_part.specs.Part.{Channel, channel, downward, earlier_alike, is_alike}
+use Rattle.jxlm_transform.specs.Channels.{Channel}
+use Rattle.jxlm_part.specs.Part.{channel, downward, earlier_alike, is_alike}
 
 module _ (P : ℕ → Bool) where
   -- those that pass are not more than those that are looked at
@@ -42,8 +43,19 @@ module _ (channels : List Channel) (i : ℕ) where
   earlier_all Q f holds = all_pass (λ e. is_alike (channel channels e) (channel channels i)) Q f i i (omega arith) holds
 
 -- channels that are alike are the same in sizes and shifts
-pub same_channel : (a b : Channel) → is_alike a b ≡ true → a ≡ b
-same_channel a b h = search (rules, h)
+pub record SameKind (a b : Channel) : Type 0 where
+  pub width : a.width ≡ b.width
+  pub height : a.height ≡ b.height
+  pub hshift : a.hshift ≡ b.hshift
+  pub vshift : a.vshift ≡ b.vshift
+
+pub same_kind : (a b : Channel) → is_alike a b ≡ true → SameKind a b
+same_kind a b h = record { width = search (rules, h); height = search (rules, h); hshift = search (rules, h); vshift = search (rules, h) }
+
+-- so the same channels are like them
+pub same_alike : (channels : List Channel) (a b : Channel) (n : ℕ) → is_alike a b ≡ true →
+    filter (λ e. is_alike (channel channels e) a) (downward n) ≡ filter (λ e. is_alike (channel channels e) b) (downward n)
+same_alike channels a b n h = let k = same_kind a b h in rw (k.width, k.height, k.hshift, k.vshift) refl
 
 -- channels that are alike have one size
 pub same_sides : (a b : Channel) → is_alike a b ≡ true → (a.width ≡ b.width) × (a.height ≡ b.height)

@@ -13,15 +13,16 @@ use Rattle.jxlm_tree.specs.declared.flat.Leaf.{Leaf}
 use Rattle.jxlm_part.specs.Coded.{next_prediction, sample_of}
 use Rattle.jxlm_part.specs.Inner.Leaves.{HasPath, next_by, path_rule, row_above}
 use Rattle.jxlm_part.specs.Inner.Rows.{AreAlike, row_rule}
+use Rattle.jxlm_transform.specs.Channels.{AreRegionsOf}
 use Rattle.jxlm_part.specs.Part.{Part, channel, greatest_width, next_channel, next_leaf, samples_of, surroundings}
-use Rattle.jxlm_part.specs.Progress.{SameSizes, cells_ahead, grids_in}
+use Rattle.jxlm_part.specs.Progress.{cells_ahead, grids_in}
 use Rattle.jxlm_part.specs.Reading.{region_at}
 use Rattle.jxlm_part.specs.declared.leaves.LeafPath.{LeafPath}
 use Rattle.jxlm_part.proofs.NextSample.{SeesRegions}
 use Rattle.jxlm_part.proofs.RowNeighbours.{path_is, samples}
 use Rattle.jxlm_part.proofs.RowSees.{sees_regions}
 
-module _ {S : Type 0} (d : Meaning S) (w : Width) (part : Part) (bytes : List ℕ) (regions : List Region) (ints : List (Grid ℤ)) (i y : ℕ) (sizes : SameSizes part.channels regions) (li : i < length regions)
+module _ {S : Type 0} (d : Meaning S) (w : Width) (part : Part) (bytes : List ℕ) (regions : List Region) (ints : List (Grid ℤ)) (i y : ℕ) (sizes : AreRegionsOf part.channels regions) (li : i < length regions)
     (qy : y < (region_at regions i).height) (l : LeafPath) (tree : part.tree ≡ leaf l.leaf) (has : HasPath l) where
   abbrev reg : Region
   reg = region_at regions i

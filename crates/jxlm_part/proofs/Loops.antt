@@ -12,25 +12,26 @@ use Rattle.jxlm_base.specs.Regions.{grid_of}
 use Rattle.jxlm_base.specs.declared.decoder.DecoderError.{DecoderError}
 use Rattle.jxlm_base.specs.declared.subgrid.Region.{Region}
 use Rattle.jxlm_base.proofs.Regions.{IsFull-grid_of}
-use Rattle.jxlm_part.specs.Part.{Part, Channel, size, channel, cell_count, cells_before, cells_of, Fits, grid as grid_at}
-use Rattle.jxlm_part.specs.Progress.{Reached, SameSizes, place_of, grids_in, GoesOn, Stops, TakesSteps}
+use Rattle.jxlm_transform.specs.Channels.{AreGridsOf, AreRegionsOf, Channel, area}
+use Rattle.jxlm_part.specs.Part.{Part, channel, cell_count, cells_before, cells_of, grid as grid_at}
+use Rattle.jxlm_part.specs.Progress.{Reached, place_of, grids_in, GoesOn, Stops, TakesSteps}
 use Rattle.jxlm_part.specs.Reading.{region_at}
 use Rattle.jxlm_part.proofs.Places.{before_suc}
 
 -- sizes of regions and channels
-pub same_count : (channels : List Channel) (regions : List Region) → SameSizes channels regions → length channels ≡ length regions
+pub same_count : (channels : List Channel) (regions : List Region) → AreRegionsOf channels regions → length channels ≡ length regions
 same_count [] [] h = refl
 same_count [] (r ∷ rs) h = absurd h
 same_count (c ∷ cs) [] h = absurd h
-same_count (c ∷ cs) (r ∷ rs) h = let n = same_count cs rs h.2 in omega (arith, n)
+same_count (c ∷ cs) (r ∷ rs) h = let n = same_count cs rs h.1 in omega (arith, n)
 
-pub same_size : (channels : List Channel) (regions : List Region) (i : ℕ) → SameSizes channels regions → i < length regions →
+pub same_size : (channels : List Channel) (regions : List Region) (i : ℕ) → AreRegionsOf channels regions → i < length regions →
     ((region_at regions i).width ≡ (channel channels i).width) × ((region_at regions i).height ≡ (channel channels i).height)
 same_size [] [] i h l = absurd (omega arith)
 same_size [] (r ∷ rs) i h l = absurd h
 same_size (c ∷ cs) [] i h l = absurd h
-same_size (c ∷ cs) (r ∷ rs) zero h l = (h.0, h.1)
-same_size (c ∷ cs) (r ∷ rs) (suc i) h l = same_size cs rs i h.2 (omega arith)
+same_size (c ∷ cs) (r ∷ rs) zero h l = h.0
+same_size (c ∷ cs) (r ∷ rs) (suc i) h l = same_size cs rs i h.1 (omega arith)
 
 pub grid_in : (store : List (Grid ℤ)) (regions : List Region) (i : ℕ) → i < length regions → grid_at (grids_in regions store) i ≡ grid_of store (region_at regions i)
 grid_in store [] i l = absurd (omega arith)
@@ -38,14 +39,14 @@ grid_in store (r ∷ rs) zero l = refl
 grid_in store (r ∷ rs) (suc i) l = grid_in store rs i (omega arith)
 
 -- all cells of grids that fit their channels
-pub all_cells : (channels : List Channel) (grids : List (Grid ℤ)) → Fits channels grids → length (cells_of grids) ≡ cell_count channels
+pub all_cells : (channels : List Channel) (grids : List (Grid ℤ)) → AreGridsOf channels grids → length (cells_of grids) ≡ cell_count channels
 all_cells [] [] fit = refl
 all_cells [] (g ∷ gs) fit = absurd fit
 all_cells (c ∷ cs) [] fit = absurd fit
 all_cells (c ∷ cs) (g ∷ gs) fit =
-    let whole : length g.cells ≡ size c = fit.2 ∙ ap (λ w. w * g.height) fit.0 ∙ ap (λ h. c.width * h) fit.1 in
-    let rest = all_cells cs gs fit.3 in
-    let all = sum_by-cons size c cs in
+    let whole : length g.cells ≡ area c = fit.0.full ∙ ap (λ w. w * g.height) fit.0.same_width ∙ ap (λ h. c.width * h) fit.0.same_height in
+    let rest = all_cells cs gs fit.1 in
+    let all = sum_by-cons area c cs in
     let both = length-append g.cells (cells_of gs) in
     omega (arith, whole, rest, all, both)
 
@@ -111,32 +112,33 @@ row_ends part i y = omega arith
 pub channel_begins : (part : Part) (i : ℕ) → place_of part i 0 0 ≡ cells_before part.channels i
 channel_begins part i = omega arith
 
-ends_list : (channels : List Channel) (i : ℕ) → i < length channels → cells_before channels i + size (channel channels i) ≡ cells_before channels (i + 1)
+ends_list : (channels : List Channel) (i : ℕ) → i < length channels → cells_before channels i + area (channel channels i) ≡ cells_before channels (i + 1)
 ends_list [] i l = absurd (omega arith)
 ends_list (c ∷ cs) zero l =
     let b = before_suc c cs 0 in
     let one : suc 0 ≡ 0 + 1 = omega arith in
-    let m : cells_before (c ∷ cs) (0 + 1) ≡ size c + cells_before cs 0 = ap (cells_before (c ∷ cs)) (sym one) ∙ b in
+    let m : cells_before (c ∷ cs) (0 + 1) ≡ area c + cells_before cs 0 = ap (cells_before (c ∷ cs)) (sym one) ∙ b in
     omega (arith, m)
 ends_list (c ∷ cs) (suc i) l =
     let b = before_suc c cs i in let n = before_suc c cs (i + 1) in let e = ends_list cs i (omega arith) in
     let same : suc (i + 1) ≡ suc i + 1 = omega arith in
-    let m : cells_before (c ∷ cs) (suc i + 1) ≡ size c + cells_before cs (i + 1) = ap (cells_before (c ∷ cs)) (sym same) ∙ n in
+    let m : cells_before (c ∷ cs) (suc i + 1) ≡ area c + cells_before cs (i + 1) = ap (cells_before (c ∷ cs)) (sym same) ∙ n in
     omega (arith, b, m, e)
 
 pub channel_ends : (part : Part) (i : ℕ) → i < length part.channels → place_of part i 0 (channel part.channels i).height ≡ cells_before part.channels (i + 1)
 channel_ends part i l =
     let c = channel part.channels i in
     let e = ends_list part.channels i l in
-    let m : c.height * c.width + 0 ≡ size c = omega arith in
+    let m : c.height * c.width + 0 ≡ area c = omega arith in
     ap (λ n. cells_before part.channels i + n) m ∙ e
 
 -- regions that have the sizes of channels hold grids that fit them
-pub fits_in : (channels : List Channel) (regions : List Region) (store : List (Grid ℤ)) → SameSizes channels regions → Fits channels (grids_in regions store)
+pub fits_in : (channels : List Channel) (regions : List Region) (store : List (Grid ℤ)) → AreRegionsOf channels regions → AreGridsOf channels (grids_in regions store)
 fits_in [] [] store h = tt
 fits_in [] (r ∷ rs) store h = absurd h
 fits_in (c ∷ cs) [] store h = absurd h
-fits_in (c ∷ cs) (r ∷ rs) store h = (h.0, h.1, IsFull-grid_of store r, fits_in cs rs store h.2)
+fits_in (c ∷ cs) (r ∷ rs) store h =
+    (record { same_width = h.0.0; same_height = h.0.1; full = IsFull-grid_of store r }, fits_in cs rs store h.1)
 
 -- a cell of a region is one of its channel
 pub record IsPlace (part : Part) (i x y : ℕ) : Type 0 where
@@ -144,7 +146,7 @@ pub record IsPlace (part : Part) (i x y : ℕ) : Type 0 where
   pub column : x < (channel part.channels i).width
   pub row : y < (channel part.channels i).height
 
-module _ (part : Part) (regions : List Region) (sizes : SameSizes part.channels regions) where
+module _ (part : Part) (regions : List Region) (sizes : AreRegionsOf part.channels regions) where
   pub is_place : (i x y : ℕ) → i < length regions → x < (region_at regions i).width → y < (region_at regions i).height → IsPlace part i x y
   is_place i x y li px qy =
       let same = same_size part.channels regions i sizes li in
@@ -170,7 +172,7 @@ module _ (part : Part) (regions : List Region) (sizes : SameSizes part.channels 
       let count = same_count part.channels regions sizes in
       let e = ends_list part.channels i (omega (arith, count)) in
       let z : (channel part.channels i).width ≡ 0 = sym (same_size part.channels regions i sizes li).0 ∙ none in
-      let n : size (channel part.channels i) ≡ 0 = ap (λ n. n * (channel part.channels i).height) z ∙ omega arith in
+      let n : area (channel part.channels i) ≡ 0 = ap (λ n. n * (channel part.channels i).height) z ∙ omega arith in
       omega (arith, e, n)
 
   pub all_done : cells_before part.channels (length regions) ≡ cell_count part.channels

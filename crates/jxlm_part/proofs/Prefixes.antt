@@ -1,5 +1,5 @@
 -- A prefix depends on its own cells alone, it grows at its end, and there is one; so no part is both whole and failed.
-use Rattle.std.proofs.Common.{◌≡◌, ℕ, zero, suc, ◌<◌, ◌≤◌, inl, inr, List, [], ◌∷◌, Some, Result, Ok, Err, take, refl, sym, ap, ◌∙◌, arith, add-one, ℤ}
+use Rattle.std.proofs.Common.{◌≡◌, ℕ, zero, suc, ◌<◌, ◌≤◌, inl, inr, List, [], ◌∷◌, Some, Result, Ok, Err, take, refl, sym, ap, ◌∙◌, subst, arith, add-one, ℤ}
 use Rattle.std.specs.Prelude.{slice_get}
 use Rattle.std.specs.Int.{Width}
 use Rattle.std.proofs.lemmas.Bool.{cases_lt}
@@ -84,14 +84,19 @@ same_found x y r h k = cc
 pub coded_or_fails : {S : Type 0} (d : Meaning S) (w : Width) (part : Part) (bytes : List ℕ) (decoder : S) (old new : Standing) (e : DecoderError) (tried : ℕ) (grids : List (Grid ℤ)) (r : ℕ) →
     IsCodedToTheEnd d w part bytes decoder old.position grids r → Fails d w part bytes decoder old new e tried → ⊥
 coded_or_fails {S} d w part bytes decoder old new e tried grids r whole (cells, inl f) = clash (d.begin decoder bytes old.position) _ _ whole.coded.begins f.fault
-coded_or_fails {S} d w part bytes decoder old new e tried grids r whole (cells, inr (inl f)) =
+coded_or_fails {S} d w part bytes decoder old new e tried grids r whole (cells, inr later) =
+    let f = later.fails in
+    let n = later.count in
     let x = same_found _ _ (d.begin decoder bytes old.position) whole.coded.begins f.coded.begins in
     let rule = part_rule d w part bytes in
-    let shorter = prefix_part rule whole.coded.start.value whole.coded.start.position (cells_of grids) (cell_count part.channels) f.count whole.state r f.within whole.coded.joined in
-    let one = prefix_one rule whole.coded.start.value whole.coded.start.position (cells_of grids) (cells_of new.grids) f.count shorter.0 f.state shorter.1 new.position shorter.3 (rw x f.coded.joined) in
-    let read : rule.read (take f.count (cells_of new.grids)) f.state new.position ≡ Ok shorter.2 = rw (← one.state, ← one.place, ← one.cells) shorter.4 in
-    clash (rule.read (take f.count (cells_of new.grids)) f.state new.position) _ _ read f.fault
-coded_or_fails {S} d w part bytes decoder old new e tried grids r whole (cells, inr (inr f)) =
-    let x = same_found _ _ (d.begin decoder bytes old.position) whole.coded.begins f.coded.begins in
-    let one = prefix_one (part_rule d w part bytes) whole.coded.start.value whole.coded.start.position (cells_of grids) (cells_of new.grids) (cell_count part.channels) whole.state f.state r new.position whole.coded.joined (rw x f.coded.joined) in
-    clash (d.finalize f.state) _ _ (ap d.finalize (sym one.state) ∙ whole.accepts) f.fault
+    elim f.fault [
+      | inl read ↦
+          let shorter = prefix_part rule whole.coded.start.value whole.coded.start.position (cells_of grids) (cell_count part.channels) n whole.state r read.0 whole.coded.joined in
+          let one = prefix_one rule whole.coded.start.value whole.coded.start.position (cells_of grids) (cells_of new.grids) n shorter.0 f.state shorter.1 new.position shorter.3 (rw x f.coded.joined) in
+          let ok : rule.read (take n (cells_of new.grids)) f.state new.position ≡ Ok shorter.2 = rw (← one.state, ← one.place, ← one.cells) shorter.4 in
+          clash (rule.read (take n (cells_of new.grids)) f.state new.position) _ _ ok read.2
+      | inr end ↦
+          let joined = subst (λ k. CodedPrefix rule (cells_of new.grids) f.coded.start.value f.coded.start.position k f.state new.position) end.0 f.coded.joined in
+          let one = prefix_one rule whole.coded.start.value whole.coded.start.position (cells_of grids) (cells_of new.grids) (cell_count part.channels) whole.state f.state r new.position whole.coded.joined (rw x joined) in
+          clash (d.finalize f.state) _ _ (ap d.finalize (sym one.state) ∙ whole.accepts) end.2
+    ]

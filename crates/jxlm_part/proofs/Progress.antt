@@ -9,7 +9,8 @@ use Rattle.jxlm_base.specs.Decoding.{Taken, Meaning}
 use Rattle.jxlm_base.specs.Grid.{Grid, with_cell}
 use Rattle.jxlm_base.proofs.Cells.{slice_get-set_same, IsFull-with_cell, place_within}
 use Rattle.jxlm_part.specs.Coded.{part_rule}
-use Rattle.jxlm_part.specs.Part.{Part, Channel, size, channel, cells_before, cells_of, Fits, grid}
+use Rattle.jxlm_transform.specs.Channels.{AreGridsOf, Channel, area}
+use Rattle.jxlm_part.specs.Part.{Part, channel, cells_before, cells_of, grid}
 use Rattle.jxlm_part.specs.Progress.{Reached}
 use Rattle.jxlm_part.proofs.Places.{split, before_suc}
 use Rattle.jxlm_part.proofs.Prefixes.{prefix_more}
@@ -19,32 +20,33 @@ abbrev pub with_cell_of : List (Grid ℤ) → ℕ → ℕ → ℕ → ℤ → Li
 with_cell_of grids i x y v = set grids i (with_cell (grid grids i) x y v)
 
 -- the cells of all grids, after a cell of grid i was written
-pub cells_written : (channels : List Channel) (grids : List (Grid ℤ)) (i x y : ℕ) (v : ℤ) → Fits channels grids → i < length channels →
+pub cells_written : (channels : List Channel) (grids : List (Grid ℤ)) (i x y : ℕ) (v : ℤ) → AreGridsOf channels grids → i < length channels →
     x < (channel channels i).width → y < (channel channels i).height →
     cells_of (with_cell_of grids i x y v) ≡ set (cells_of grids) (cells_before channels i + (y * (channel channels i).width + x)) v
 cells_written [] grids i x y v fit l p q = absurd (omega arith)
 cells_written (c ∷ cs) [] i x y v fit l p q = absurd fit
 cells_written (c ∷ cs) (g ∷ gs) zero x y v fit l p q =
-    let px : x < g.width = rw fit.0 p in
-    let qy : y < g.height = rw fit.1 q in
-    let inside : y * g.width + x < length g.cells = place_within g x y fit.2 px qy in
-    let at : cells_before (c ∷ cs) zero + (y * c.width + x) ≡ y * g.width + x = omega arith ∙ ap (λ w. y * w + x) (sym fit.0) in
+    let px : x < g.width = rw fit.0.same_width p in
+    let qy : y < g.height = rw fit.0.same_height q in
+    let inside : y * g.width + x < length g.cells = place_within g x y fit.0.full px qy in
+    let at : cells_before (c ∷ cs) zero + (y * c.width + x) ≡ y * g.width + x = omega arith ∙ ap (λ w. y * w + x) (sym fit.0.same_width) in
     rw at (sym (set-append_left g.cells (cells_of gs) (y * g.width + x) v inside))
 cells_written (c ∷ cs) (g ∷ gs) (suc i) x y v fit l p q =
-    let whole : length g.cells ≡ size c = fit.2 ∙ ap (λ w. w * g.height) fit.0 ∙ ap (λ h. c.width * h) fit.1 in
+    let whole : length g.cells ≡ area c = fit.0.full ∙ ap (λ w. w * g.height) fit.0.same_width ∙ ap (λ h. c.width * h) fit.0.same_height in
     let j : ℕ = y * (channel cs i).width + x in
     let behind : cells_before (c ∷ cs) (suc i) + j ≡ length g.cells + (cells_before cs i + j) = let b = before_suc c cs i in omega (arith, b, whole) in
     let less : length g.cells + (cells_before cs i + j) - length g.cells ≡ cells_before cs i + j = omega arith in
     let le : length g.cells ≤ length g.cells + (cells_before cs i + j) = omega arith in
-    ap (λ zs. g.cells ++ zs) (cells_written cs gs i x y v fit.3 (omega arith) p q) ∙ sym (rw behind (set-append_right g.cells (cells_of gs) (length g.cells) (length g.cells + (cells_before cs i + j)) v refl le ∙ ap (λ n. g.cells ++ set (cells_of gs) n v) less))
+    ap (λ zs. g.cells ++ zs) (cells_written cs gs i x y v fit.1 (omega arith) p q) ∙ sym (rw behind (set-append_right g.cells (cells_of gs) (length g.cells) (length g.cells + (cells_before cs i + j)) v refl le ∙ ap (λ n. g.cells ++ set (cells_of gs) n v) less))
 
 -- grids still fit their channels after a cell was written
-pub fits_written : (channels : List Channel) (grids : List (Grid ℤ)) (i x y : ℕ) (v : ℤ) → Fits channels grids → Fits channels (with_cell_of grids i x y v)
+pub fits_written : (channels : List Channel) (grids : List (Grid ℤ)) (i x y : ℕ) (v : ℤ) → AreGridsOf channels grids → AreGridsOf channels (with_cell_of grids i x y v)
 fits_written [] [] i x y v fit = fit
 fits_written [] (g ∷ gs) i x y v fit = absurd fit
 fits_written (c ∷ cs) [] i x y v fit = absurd fit
-fits_written (c ∷ cs) (g ∷ gs) zero x y v fit = (fit.0, fit.1, IsFull-with_cell g x y v fit.2, fit.3)
-fits_written (c ∷ cs) (g ∷ gs) (suc i) x y v fit = (fit.0, fit.1, fit.2, fits_written cs gs i x y v fit.3)
+fits_written (c ∷ cs) (g ∷ gs) zero x y v fit =
+    (record { same_width = fit.0.same_width; same_height = fit.0.same_height; full = IsFull-with_cell g x y v fit.0.full }, fit.1)
+fits_written (c ∷ cs) (g ∷ gs) (suc i) x y v fit = (fit.0, fits_written cs gs i x y v fit.1)
 
 rest_more : (new old : List ℤ) (k : ℕ) (v : ℤ) → drop k new ≡ drop k old → drop (suc k) (set new k v) ≡ drop (suc k) old
 rest_more new old k v h =
@@ -53,7 +55,7 @@ rest_more new old k v h =
     drop-set-lt (suc k) new k v l ∙ rw one (sym (drop-drop 1 k new) ∙ ap (drop 1) h ∙ drop-drop 1 k old)
 
 -- where a cell is among all cells, and that it is
-pub stands_within : (channels : List Channel) (grids : List (Grid ℤ)) (i x y : ℕ) → Fits channels grids → i < length channels →
+pub stands_within : (channels : List Channel) (grids : List (Grid ℤ)) (i x y : ℕ) → AreGridsOf channels grids → i < length channels →
     x < (channel channels i).width → y < (channel channels i).height → cells_before channels i + (y * (channel channels i).width + x) < length (cells_of grids)
 stands_within channels grids i x y fit l p q =
     let s = (split channels grids i fit l).all in

@@ -12,8 +12,9 @@ use Rattle.jxlm_base.specs.declared.subgrid.Region.{Region}
 use Rattle.jxlm_base.proofs.Regions.{IsFull-grid_of}
 use Rattle.jxlm_tree.specs.Standing.{StandsAt}
 use Rattle.jxlm_tree.specs.declared.state.PredictorState.{PredictorState}
-use Rattle.jxlm_part.specs.Part.{Fits, Part, SeesBefore, cells_before, cells_of, channel, grid as grid_at}
-use Rattle.jxlm_part.specs.Progress.{SameSizes, cells_ahead, grids_in, place_of}
+use Rattle.jxlm_transform.specs.Channels.{AreGridsOf, AreRegionsOf}
+use Rattle.jxlm_part.specs.Part.{Part, SeesBefore, cells_before, cells_of, channel, grid as grid_at}
+use Rattle.jxlm_part.specs.Progress.{cells_ahead, grids_in, place_of}
 use Rattle.jxlm_part.specs.Inner.Rows.{StandsInRow}
 use Rattle.jxlm_part.specs.Reading.{StandsBehind, region_at, regions_of, setting_of}
 use Rattle.jxlm_part.specs.declared.coding.PartCoding.{PartCoding}
@@ -43,7 +44,7 @@ own_first g full y below row (suc x) px inside =
     ∙ ap (λ xs. xs ++ v ∷ []) (own_first g full y below row x (omega arith) (omega arith)) ∙ append_assoc (take (y * g.width) g.cells) (take x row) (v ∷ [])
     ∙ ap (λ xs. take (y * g.width) g.cells ++ xs) (sym (take-suc row x (pos 0) inside))
 
-module _ (part : Part) (regions : List Region) (ints : List (Grid ℤ)) (i y : ℕ) (sizes : SameSizes part.channels regions) (li : i < length regions) (qy : y < (region_at regions i).height) where
+module _ (part : Part) (regions : List Region) (ints : List (Grid ℤ)) (i y : ℕ) (sizes : AreRegionsOf part.channels regions) (li : i < length regions) (qy : y < (region_at regions i).height) where
   abbrev reg : Region
   reg = region_at regions i
 
@@ -76,7 +77,7 @@ module _ (part : Part) (regions : List Region) (ints : List (Grid ℤ)) (i y : �
     abbrev made : List (Grid ℤ)
     made = with_cells_of grids i y row x
 
-    fit : Fits part.channels grids
+    fit : AreGridsOf part.channels grids
     fit = fits_in part.channels regions ints sizes
 
     as_many : length grids ≡ length part.channels

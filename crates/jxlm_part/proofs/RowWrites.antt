@@ -13,7 +13,8 @@ use Rattle.jxlm_base.proofs.Cells.{IsFull-with_cell, cell-with_cell_other, cell-
 use Rattle.jxlm_base.proofs.Outside.{all_one, grid_kept, keeps_wider, number_of_row, number_same, region_cell_kept}
 use Rattle.jxlm_base.proofs.Regions.{IsFull-grid_of, apart_at, cell-grid_of}
 use Rattle.jxlm_part.specs.Inner.Rows.{first_columns}
-use Rattle.jxlm_part.specs.Part.{Channel, cells_before, cells_of, channel, Fits, grid as grid_at}
+use Rattle.jxlm_transform.specs.Channels.{AreGridsOf, Channel}
+use Rattle.jxlm_part.specs.Part.{cells_before, cells_of, channel, grid as grid_at}
 use Rattle.jxlm_part.proofs.Progress.{cells_written, fits_written, stands_within, with_cell_of}
 
 set_set : {X : Type 0} (xs : List X) (i : ℕ) (a b : X) → set (set xs i a) i b ≡ set xs i b
@@ -132,17 +133,17 @@ module _ {X : Type 0} (f : X → ℤ) (store new : List (Grid X)) (y n : ℕ) (v
 
 -- ---- the cells of a part
 
-pub fits_count : {X : Type 0} (channels : List Channel) (grids : List (Grid X)) → Fits channels grids → length grids ≡ length channels
+pub fits_count : {X : Type 0} (channels : List Channel) (grids : List (Grid X)) → AreGridsOf channels grids → length grids ≡ length channels
 fits_count [] [] fit = refl
 fits_count [] (g ∷ gs) fit = absurd fit
 fits_count (c ∷ cs) [] fit = absurd fit
-fits_count (c ∷ cs) (g ∷ gs) fit = let n = fits_count cs gs fit.3 in omega (arith, n)
+fits_count (c ∷ cs) (g ∷ gs) fit = let n = fits_count cs gs fit.1 in omega (arith, n)
 
 -- grid i with the first x numbers of a row in row y
 abbrev pub with_cells_of : List (Grid ℤ) → ℕ → ℕ → List ℤ → ℕ → List (Grid ℤ)
 with_cells_of grids i y row x = set grids i (with_first (grid_at grids i) y row x)
 
-module _ (channels : List Channel) (grids : List (Grid ℤ)) (i y : ℕ) (row : List ℤ) (fit : Fits channels grids) (l : i < length channels) where
+module _ (channels : List Channel) (grids : List (Grid ℤ)) (i y : ℕ) (row : List ℤ) (fit : AreGridsOf channels grids) (l : i < length channels) where
   pub none_written : with_cells_of grids i y row zero ≡ grids
   none_written = set-get_or grids i _
 
@@ -152,9 +153,9 @@ module _ (channels : List Channel) (grids : List (Grid ℤ)) (i y : ℕ) (row : 
       let same : grid_at (set grids i g) i ≡ g = get_or-set_same grids i g _ (let n = fits_count channels grids fit in omega (arith, n)) in
       sym (set_set grids i g (with_cell g x y (get_or row x (pos 0)))) ∙ ap (λ h. set (set grids i g) i (with_cell h x y (get_or row x (pos 0)))) (sym same)
 
-  pub fits_still : (x : ℕ) → Fits channels (with_cells_of grids i y row x)
-  fits_still zero = subst (Fits channels) (sym none_written) fit
-  fits_still (suc x) = subst (Fits channels) (sym (one_more_written x)) (fits_written channels (with_cells_of grids i y row x) i x y (get_or row x (pos 0)) (fits_still x))
+  pub fits_still : (x : ℕ) → AreGridsOf channels (with_cells_of grids i y row x)
+  fits_still zero = subst (AreGridsOf channels) (sym none_written) fit
+  fits_still (suc x) = subst (AreGridsOf channels) (sym (one_more_written x)) (fits_written channels (with_cells_of grids i y row x) i x y (get_or row x (pos 0)) (fits_still x))
 
   -- where the row begins
   abbrev start : ℕ

@@ -11,8 +11,9 @@ use Rattle.jxlm_base.specs.Regions.{AllLie, LieApart, region, store_meanings}
 use Rattle.jxlm_base.specs.declared.decoder.DecoderError.{DecoderError}
 use Rattle.jxlm_base.specs.declared.subgrid.Region.{Region}
 use Rattle.jxlm_part.specs.Coded.{part_rule}
+use Rattle.jxlm_transform.specs.Channels.{AreRegionsOf}
 use Rattle.jxlm_part.specs.Part.{Part, cells_of, channel}
-use Rattle.jxlm_part.specs.Progress.{GoesOn, Reached, SameSizes, Stops, TakesSteps, cells_ahead, grids_in, place_of}
+use Rattle.jxlm_part.specs.Progress.{GoesOn, Reached, Stops, TakesSteps, cells_ahead, grids_in, place_of}
 use Rattle.jxlm_part.specs.Reading.{region_at}
 use Rattle.jxlm_part.specs.Inner.Rows.{AreAlike, ReadsRow, FailsRow, SetsRead, first_columns, rule_after}
 use Rattle.jxlm_part.specs.Rule.{Rule, CodedPrefix}
@@ -67,7 +68,7 @@ module _ {S : Type 0} (d : Meaning S) (w : Width) (part : Part) (bytes : List �
         (subst (λ gs. Reached d w part bytes decoder p0 old (suc (here + n)) gs t u) is more)
 
   module _ (regions : List Region) {X : Type 0} (to_int : X → ℤ) (i y : ℕ) (store new : List (Grid X)) (s : S) (p : ℕ)
-      (sizes : SameSizes part.channels regions) (apart : LieApart regions) (lie : AllLie regions store) (li : i < length regions) (qy : y < (region_at regions i).height) where
+      (sizes : AreRegionsOf part.channels regions) (apart : LieApart regions) (lie : AllLie regions store) (li : i < length regions) (qy : y < (region_at regions i).height) where
     abbrev ints : List (Grid ℤ)
     ints = store_meanings to_int store
 

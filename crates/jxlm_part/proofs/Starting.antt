@@ -4,7 +4,7 @@ use Rattle.std.specs.Prelude.{filter, slice_get}
 use Rattle.std.specs.List.{All}
 use Rattle.std.proofs.lemmas.Bool.{cases_lt}
 use Rattle.std.proofs.lemmas.List.Elements.{All-head, All-tail}
-use Rattle.std.proofs.lemmas.List.{length-append, length-map, get_or-map, get_or_append_left}
+use Rattle.std.proofs.lemmas.List.{length-append, length-map, get_or_default, get_or_append_left}
 use Rattle.std.proofs.lemmas.Option.{slice_get-get_or, get_or_from_slice_get}
 use Rattle.std.proofs.Math.Seq.{get_or-append_seam}
 use Rattle.jxlm_base.specs.declared.subgrid.Region.{Region}
@@ -15,14 +15,14 @@ use Rattle.jxlm_tree.specs.declared.flat.Leaf.{Leaf}
 use Rattle.jxlm_tree.specs.declared.predictor.WpHeader.{WpHeader}
 use Rattle.jxlm_tree.specs.declared.state.PredictorState.{PredictorState}
 use Rattle.jxlm_tree.proofs.StandingLaws.{stands_earlier}
-use Rattle.jxlm_part.specs.Layout.{channel_of}
 use Rattle.jxlm_transform.specs.declared.channels.ModularChannelInfo.{ModularChannelInfo}
-use Rattle.jxlm_part.specs.Part.{Channel, IsNarrow, channel, no_channel, downward, earlier_alike, greatest_width, is_alike}
+use Rattle.jxlm_transform.specs.Channels.{Channel, IsNarrow}
+use Rattle.jxlm_part.specs.Part.{channel, no_channel, downward, earlier_alike, greatest_width, is_alike}
 use Rattle.jxlm_part.specs.Reading.{HasFlats, IsAfterChannel, HasRoom, IsCodingOf, IsRoomy, IsRoomyFor, StandsIn, all_alike, earlier_regions, flat, handed, part_of, region_at, regions_of, setting_of, weights_used}
 use Rattle.jxlm_part.specs.declared.coding.PartCoding.{PartCoding}
 use Rattle.jxlm_part.specs.declared.coding.PartState.{PartState}
 use Rattle.jxlm_part.proofs.CellLaws.{roomy_still}
-use Rattle.jxlm_part.proofs.Earlier.{few, few_earlier, same_channel, same_sides}
+use Rattle.jxlm_part.proofs.Earlier.{few, few_earlier, same_alike, same_sides}
 use Rattle.jxlm_part.proofs.Loops.{same_count, same_size}
 
 -- no channel is wider than the widest
@@ -67,7 +67,7 @@ module _ {D : Type 0} (c : PartCoding D) (i : ℕ) where
   pub next_alike : (last : ℕ) → i ≡ last + 1 → passes last ≡ true → all_alike c i ≡ region_at (regions_of c) last ∷ all_alike c last
   next_alike last next is =
       ap below next ∙ one_more last true is
-      ∙ ap (λ it. region_at (regions_of c) last ∷ map (region_at (regions_of c)) (filter (λ e. is_alike (channel (part_of c).channels e) it) (downward last))) (sym (same_channel (channel (part_of c).channels last) (channel (part_of c).channels i) is))
+      ∙ ap (λ before. region_at (regions_of c) last ∷ map (region_at (regions_of c)) before) (sym (same_alike (part_of c).channels (channel (part_of c).channels last) (channel (part_of c).channels i) last is))
 
 module _ {D X : Type 0} (c : PartCoding D) (i : ℕ) where
   -- The channels below e were looked at: a state is given the regions of those that are like channel i.
@@ -105,17 +105,17 @@ module _ {D X : Type 0} (c : PartCoding D) (i : ℕ) where
   }
 
 -- a channel, as it is kept
-pub channel_at : {D : Type 0} (c : PartCoding D) (k : ℕ) (d : ModularChannelInfo) → k < length c.channels.now → channel (part_of c).channels k ≡ channel_of (get_or c.channels.now k d)
-channel_at c k d l = get_or-map channel_of c.channels.now k d no_channel l
+pub channel_at : {D : Type 0} (c : PartCoding D) (k : ℕ) (d : Channel) → k < length c.channels.now → channel (part_of c).channels k ≡ get_or c.channels.now k d
+channel_at c k d l = get_or_default c.channels.now k no_channel d l
 
-pub passes_is : {D : Type 0} (c : PartCoding D) (i e : ℕ) (a b : ModularChannelInfo) (r : Bool) → e < length c.channels.now → i < length c.channels.now →
-    r ≡ is_alike (channel_of (get_or c.channels.now e a)) (channel_of (get_or c.channels.now i b)) → passes c i e ≡ r
-passes_is c i e a b r le li is = ap (λ x. is_alike x (channel (part_of c).channels i)) (channel_at c e a le) ∙ ap (is_alike (channel_of (get_or c.channels.now e a))) (channel_at c i b li) ∙ sym is
+pub passes_is : {D : Type 0} (c : PartCoding D) (i e : ℕ) (a b : Channel) (r : Bool) → e < length c.channels.now → i < length c.channels.now →
+    r ≡ is_alike (get_or c.channels.now e a) (get_or c.channels.now i b) → passes c i e ≡ r
+passes_is c i e a b r le li is = ap (λ x. is_alike x (channel (part_of c).channels i)) (channel_at c e a le) ∙ ap (is_alike (get_or c.channels.now e a)) (channel_at c i b li) ∙ sym is
 
 module _ {D : Type 0} (c : PartCoding D) (coding : IsCodingOf c) where
   -- there is a channel for each region
   pub as_many_channels : length c.channels.now ≡ length (regions_of c)
-  as_many_channels = sym (length-map c.channels.now _) ∙ same_count (part_of c).channels (regions_of c) coding.sizes
+  as_many_channels = same_count (part_of c).channels (regions_of c) coding.sizes
 
   pub fits_widest : (i : ℕ) → i < length (regions_of c) → (region_at (regions_of c) i).width ≤ c.widest
   fits_widest i li =

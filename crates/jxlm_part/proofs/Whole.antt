@@ -5,8 +5,9 @@ use Rattle.jxlm_base.specs.Decoding.{Found, Meaning}
 use Rattle.jxlm_base.specs.Grid.{Grid}
 use Rattle.jxlm_base.specs.declared.decoder.DecoderError.{DecoderError}
 use Rattle.jxlm_base.specs.declared.subgrid.Region.{Region}
+use Rattle.jxlm_transform.specs.Channels.{AreRegionsOf}
 use Rattle.jxlm_part.specs.Part.{Part, cell_count}
-use Rattle.jxlm_part.specs.Progress.{Reached, SameSizes, grids_in, GoesOn, Stops, TakesSteps, DecodesAll, DecodesSome}
+use Rattle.jxlm_part.specs.Progress.{Reached, grids_in, GoesOn, Stops, TakesSteps, DecodesAll, DecodesSome}
 use Rattle.jxlm_part.proofs.Loops.{fits_in}
 
 pub steps_from : (cost to before after : ℕ) → TakesSteps cost 0 to before after → after ≤ before + to * cost
@@ -16,7 +17,7 @@ module _ {S : Type 0} (d : Meaning S) (w : Width) (part : Part) (bytes : List �
   pub refused_at_begin : (cost before : ℕ) (e : DecoderError) → d.begin decoder bytes p ≡ Err e → DecodesSome d w part bytes regions decoder old p old p cost before before e
   refused_at_begin cost before e fault partial some = (0, (some, inl (record { fault = fault; unchanged = refl; tries = refl })), omega arith)
 
-  module _ (sizes : SameSizes part.channels regions) (start : Found S) (begins : d.begin decoder bytes p ≡ Ok start) (new : List (Grid ℤ)) where
+  module _ (sizes : AreRegionsOf part.channels regions) (start : Found S) (begins : d.begin decoder bytes p ≡ Ok start) (new : List (Grid ℤ)) where
     -- no cell is read yet
     begun : Reached d w part bytes decoder p (grids_in regions old) 0 (grids_in regions old) start.value start.position
     begun = record { coded = record { start = start; begins = begins; joined = (refl, refl) }; rest = refl; fits = fits_in part.channels regions old sizes }
@@ -28,17 +29,13 @@ module _ {S : Type 0} (d : Meaning S) (w : Width) (part : Part) (bytes : List �
           suc r.count,
           (
             some,
-            inr (inl (record {
+            inr (record {
               count = r.count;
-              state = r.state;
-              within = r.within;
-              coded = r.reached.coded;
-              fault = r.fault;
+              fails = record { state = r.state; coded = r.reached.coded; fault = inl (r.within, refl, r.fault) };
               rest = r.reached.rest;
               fits = r.reached.fits;
               as_partial = refl;
-              tries = refl;
-            })),
+            }),
           ),
           steps_from cost (suc r.count) before after at.1,
         )
@@ -55,14 +52,13 @@ module _ {S : Type 0} (d : Meaning S) (w : Width) (part : Part) (bytes : List �
             cell_count part.channels,
             (
               some,
-              inr (inr (record {
-                state = state;
-                coded = r.coded;
-                fault = fault;
+              inr (record {
+                count = cell_count part.channels;
+                fails = record { state = state; coded = r.coded; fault = inr (refl, refl, fault) };
+                rest = r.rest;
                 fits = r.fits;
                 as_partial = refl;
-                tries = refl;
-              })),
+              }),
             ),
             steps_from cost (cell_count part.channels) before after work,
           )

@@ -1,9 +1,10 @@
 -- The samples of a part, as they are coded (ISO/IEC 18181-1, Modular: decoding of samples).
-use Rattle.std.specs.Prelude.{◌≡◌, ℕ, zero, suc, ℤ, pos, ◌+ℤ◌, ◌*ℤ◌, List, Ok}
+use Rattle.std.specs.Prelude.{◌≡◌, ℕ, zero, suc, ◌<◌, ◌⊎◌, ℤ, pos, ◌+ℤ◌, ◌*ℤ◌, List, take, Ok, Err}
 use Rattle.std.specs.Int.{Width, int_wrap}
 use Rattle.jxlm_base.specs.Decoding.{Found, Meaning}
 use Rattle.jxlm_base.specs.Grid.{Grid}
 use Rattle.jxlm_base.specs.Numbers.{unpack}
+use Rattle.jxlm_base.specs.declared.decoder.DecoderError.{DecoderError}
 use Rattle.jxlm_tree.specs.Predictions.{prediction}
 use Rattle.jxlm_tree.specs.declared.flat.Leaf.{Leaf}
 use Rattle.jxlm_part.specs.Part.{Part, surroundings, next_leaf, cell_count, greatest_width, cells_of}
@@ -44,6 +45,22 @@ module _ {S : Type 0} (d : Meaning S) (w : Width) (part : Part) (bytes : List �
     pub state : S
     pub coded : IsCoded decoder p (cell_count part.channels) grids state q
     pub accepts : d.finalize state ≡ Ok tt
+
+  -- The first n cells are coded from position p up to position q, and there the next call returns the error e: the read
+  -- of the next cell, or finalize where there is none. So many reads were tried.
+  pub record FailsAfter (decoder : S) (p n : ℕ) (grids : List (Grid ℤ)) (q : ℕ) (e : DecoderError) (tried : ℕ) : Type 0 where
+    pub state : S
+    pub coded : IsCoded decoder p n grids state q
+    pub fault :
+        ((n < cell_count part.channels) × (tried ≡ suc n) × (part_rule.read (take n (cells_of grids)) state q ≡ Err e))
+        ⊎ ((n ≡ cell_count part.channels) × (tried ≡ n) × (d.finalize state ≡ Err e))
+
+  -- Some cells cannot be decoded from position p: begin returns the error e, or a call after it, which leaves the reader
+  -- at q.
+  abbrev pub DecodingFails : S → ℕ → DecoderError → ℕ → ℕ → Type 0
+  DecodingFails decoder p e q tried =
+      (0 < cell_count part.channels) × (((d.begin decoder bytes p ≡ Err e) × (q ≡ p) × (tried ≡ 0))
+      ⊎ ((n : ℕ) × (grids : List (Grid ℤ)) × FailsAfter decoder p n grids q e tried))
 
   -- the part is coded whole: where it has no cells, from p to p
   abbrev pub IsCodedWhole : S → ℕ → List (Grid ℤ) → ℕ → Type 0

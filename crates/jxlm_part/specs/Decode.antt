@@ -1,5 +1,5 @@
 -- What decoding a part returns, and what it leaves.
-use Rattle.std.specs.Prelude.{◌≡◌, ℕ, suc, ◌+◌, ◌<◌, ◌≤◌, ◌⊎◌, ℤ, List, take, drop, Bool, true, false, Result, Ok, Err}
+use Rattle.std.specs.Prelude.{◌≡◌, ℕ, ◌+◌, ◌<◌, ◌≤◌, ◌⊎◌, ℤ, List, drop, Bool, true, false, Result, Ok, Err}
 use Rattle.std.specs.Int.{Width}
 use Rattle.jxlm_base.specs.Decoding.{Meaning}
 use Rattle.jxlm_base.specs.Grid.{Grid}
@@ -7,8 +7,9 @@ use Rattle.jxlm_base.specs.declared.decoder.DecoderError.{DecoderError}
 use Rattle.jxlm_base.specs.declared.decoder.DecoderError.TheVariants.{UnexpectedEof, Invalid, OutOfMemory}
 use Rattle.jxlm_base.specs.declared.error.Error.{Error}
 use Rattle.jxlm_base.specs.declared.error.Error.TheVariants.{Decoder, Buffer}
-use Rattle.jxlm_part.specs.Coded.{part_rule, IsCoded, IsCodedWhole}
-use Rattle.jxlm_part.specs.Part.{Part, cell_count, cells_of, Fits}
+use Rattle.jxlm_transform.specs.Channels.{AreGridsOf}
+use Rattle.jxlm_part.specs.Coded.{FailsAfter, IsCodedWhole}
+use Rattle.jxlm_part.specs.Part.{Part, cell_count, cells_of}
 
 -- what decoding changes: the reader's position, the part's grids, and whether it is partial
 pub record Standing : Type 0 where
@@ -23,36 +24,23 @@ module _ {S : Type 0} (d : Meaning S) (w : Width) (part : Part) (bytes : List �
     pub unchanged : new ≡ old
     pub tries : tried ≡ 0
 
-  -- the read of cell `count` returns the error: the cells before are coded, that one and the others are as before,
-  -- and the reader is where that read began
-  pub record FailsToRead (e : DecoderError) (tried : ℕ) : Type 0 where
+  -- a later call returns the error: the cells before it are coded, the others as before, and the reader is where that
+  -- call began
+  pub record FailsLater (e : DecoderError) (tried : ℕ) : Type 0 where
     pub count : ℕ
-    pub state : S
-    pub within : count < cell_count part.channels
-    pub coded : IsCoded d w part bytes decoder old.position count new.grids state new.position
-    pub fault : (part_rule d w part bytes).read (take count (cells_of new.grids)) state new.position ≡ Err e
+    pub fails : FailsAfter d w part bytes decoder old.position count new.grids new.position e tried
     pub rest : drop count (cells_of new.grids) ≡ drop count (cells_of old.grids)
-    pub fits : Fits part.channels new.grids
+    pub fits : AreGridsOf part.channels new.grids
     pub as_partial : new.partial ≡ old.partial
-    pub tries : tried ≡ suc count
 
-  -- finalize returns the error: all cells are coded, and the reader is after them
-  pub record FailsToEnd (e : DecoderError) (tried : ℕ) : Type 0 where
-    pub state : S
-    pub coded : IsCoded d w part bytes decoder old.position (cell_count part.channels) new.grids state new.position
-    pub fault : d.finalize state ≡ Err e
-    pub fits : Fits part.channels new.grids
-    pub as_partial : new.partial ≡ old.partial
-    pub tries : tried ≡ cell_count part.channels
-
-  -- a part with cells fails with e at one of the three
+  -- a part with cells fails with e at one of the two
   abbrev pub Fails : DecoderError → ℕ → Type 0
-  Fails e tried = (0 < cell_count part.channels) × (FailsToBegin e tried ⊎ (FailsToRead e tried ⊎ FailsToEnd e tried))
+  Fails e tried = (0 < cell_count part.channels) × (FailsToBegin e tried ⊎ FailsLater e tried)
 
   -- all cells are coded, and the part is not partial any more
   pub record IsWhole (tried : ℕ) : Type 0 where
     pub coded : IsCodedWhole d w part bytes decoder old.position new.grids new.position
-    pub fits : Fits part.channels new.grids
+    pub fits : AreGridsOf part.channels new.grids
     pub whole : new.partial ≡ false
     pub tries : tried ≡ cell_count part.channels
 

@@ -2,7 +2,6 @@ pub mod Part
 pub mod Rule
 pub mod Coded
 pub mod Decode
-pub mod Layout
 pub mod Progress
 pub mod Reading
 pub mod Token

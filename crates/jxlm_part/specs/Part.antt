@@ -1,18 +1,13 @@
 -- A part: channels whose samples are coded one after another (ISO/IEC 18181-1, Modular: channels, order of samples).
-use Rattle.std.specs.Prelude.{◌≡◌, ℕ, zero, suc, ◌+◌, ◌-◌, ◌*◌, ◌^◌, ◌<◌, ◌≤◌, max, ℤ, pos, List, [], ◌∷◌, ◌++◌, length, take, drop, map, filter, sum_by, slice_index_or, nat_lt, ◌==◌, ◌&&◌, Bool, if◌then◌else◌, Some}
+use Rattle.std.specs.Prelude.{◌≡◌, ℕ, zero, suc, ◌+◌, ◌-◌, ◌<◌, max, ℤ, List, [], ◌∷◌, ◌++◌, length, take, drop, map, filter, sum_by, slice_index_or, nat_lt, ◌==◌, ◌&&◌, Bool, if◌then◌else◌, Some}
 use Rattle.std.specs.Ordering.{int_eq}
-use Rattle.jxlm_base.specs.Grid.{Grid, IsFull}
+use Rattle.jxlm_base.specs.Grid.{Grid}
+use Rattle.jxlm_transform.specs.Channels.{AreGridsOf, Channel, area}
+use Rattle.jxlm_transform.specs.ChannelSteps.{table_channel}
 use Rattle.jxlm_tree.specs.Properties.{Surroundings, property}
 use Rattle.jxlm_tree.specs.Tree.{Shape, walk}
 use Rattle.jxlm_tree.specs.declared.flat.Leaf.{Leaf}
 use Rattle.jxlm_tree.specs.declared.predictor.WpHeader.{WpHeader}
-
--- a channel of a part: its size, and its shifts against the image
-pub record Channel : Type 0 where
-  pub width : ℕ
-  pub height : ℕ
-  pub hshift : ℤ
-  pub vshift : ℤ
 
 -- a part: its channels in order, the weights of its header, its tree, and its stream index
 pub record Part : Type 0 where
@@ -21,17 +16,9 @@ pub record Part : Type 0 where
   pub tree : Shape Leaf
   pub stream : ℕ
 
--- both sides are at most 2 ^ 30
-abbrev pub IsNarrow : Channel → Type 0
-IsNarrow c = (c.width ≤ 2 ^ 30) × (c.height ≤ 2 ^ 30)
-
--- how many cells a channel has
-abbrev pub size : Channel → ℕ
-size c = c.width * c.height
-
 -- the channel that is given where there is none
 abbrev pub no_channel : Channel
-no_channel = record { width = 0; height = 0; hshift = pos 0; vshift = pos 0 }
+no_channel = table_channel 0 0
 
 -- channel i
 abbrev pub channel : List Channel → ℕ → Channel
@@ -39,7 +26,7 @@ channel channels i = slice_index_or channels i no_channel
 
 -- how many cells there are
 abbrev pub cell_count : List Channel → ℕ
-cell_count channels = sum_by size channels
+cell_count channels = sum_by area channels
 
 -- how many cells are before channel i
 abbrev pub cells_before : List Channel → ℕ → ℕ
@@ -48,7 +35,7 @@ cells_before channels i = cell_count (take i channels)
 -- the channel that cell k is in: cells go channel by channel, and in each row by row
 abbrev pub channel_of : List Channel → ℕ → ℕ
 channel_of [] k = 0
-channel_of (c ∷ channels) k = if nat_lt k (size c) then 0 else suc (channel_of channels (k - size c))
+channel_of (c ∷ channels) k = if nat_lt k (area c) then 0 else suc (channel_of channels (k - area c))
 
 -- the maximum width, of channels without cells too
 abbrev pub greatest_width : List Channel → ℕ
@@ -76,7 +63,7 @@ module _ (channels : List Channel) (before : List ℤ) where
 
   -- the samples of channel i
   abbrev pub samples_of : ℕ → List ℤ
-  samples_of i = take (size (channel channels i)) (drop (cells_before channels i) before)
+  samples_of i = take (area (channel channels i)) (drop (cells_before channels i) before)
 
   -- the grid of channel i, where it is whole
   abbrev pub grid_of : ℕ → Grid ℤ
@@ -102,13 +89,6 @@ abbrev pub cells_of : List (Grid ℤ) → List ℤ
 cells_of [] = []
 cells_of (g ∷ grids) = g.cells ++ cells_of grids
 
--- whole grids of the sizes of the channels
-abbrev pub Fits : {X : Type 0} → List Channel → List (Grid X) → Type 0
-Fits [] [] = Unit {0}
-Fits [] (g ∷ grids) = ⊥
-Fits (c ∷ channels) [] = ⊥
-Fits (c ∷ channels) (g ∷ grids) = (g.width ≡ c.width) × (g.height ≡ c.height) × IsFull g × Fits channels grids
-
 -- grid i
 abbrev pub grid : List (Grid ℤ) → ℕ → Grid ℤ
 grid grids i = slice_index_or grids i (record { width = 0; height = 0; cells = [] })
@@ -123,5 +103,5 @@ pub record SeesBefore (channels : List Channel) (grids : List (Grid ℤ)) (i j :
 
 -- So it is at each cell of each channel.
 abbrev pub EachSeesBefore : Type 0
-EachSeesBefore = (channels : List Channel) (grids : List (Grid ℤ)) (i j : ℕ) → Fits channels grids → i < length channels → j < size (channel channels i) →
+EachSeesBefore = (channels : List Channel) (grids : List (Grid ℤ)) (i j : ℕ) → AreGridsOf channels grids → i < length channels → j < area (channel channels i) →
     SeesBefore channels grids i j (take (cells_before channels i + j) (cells_of grids))

@@ -1,5 +1,5 @@
 -- How far the decoding of a part has come: what its loops over channels, rows and columns keep.
-use Rattle.std.specs.Prelude.{◌≡◌, ℕ, suc, ◌+◌, ◌*◌, ◌<◌, ◌≤◌, ℤ, List, [], ◌∷◌, take, drop, Bool, Err}
+use Rattle.std.specs.Prelude.{◌≡◌, ℕ, suc, ◌+◌, ◌*◌, ◌<◌, ◌≤◌, ℤ, List, take, drop, Bool, Err}
 use Rattle.std.specs.Int.{Width}
 use Rattle.jxlm_base.specs.Decoding.{Meaning}
 use Rattle.jxlm_base.specs.Grid.{Grid}
@@ -7,16 +7,17 @@ pub use Rattle.jxlm_base.specs.Outside.{KeepsOutside, buffer_at}
 pub use Rattle.jxlm_base.specs.Regions.{grids_in}
 use Rattle.jxlm_base.specs.declared.decoder.DecoderError.{DecoderError}
 use Rattle.jxlm_base.specs.declared.subgrid.Region.{Region}
+use Rattle.jxlm_transform.specs.Channels.{AreGridsOf}
 use Rattle.jxlm_part.specs.Coded.{part_rule, IsCoded, IsCodedToTheEnd}
 use Rattle.jxlm_part.specs.Decode.{Fails}
-use Rattle.jxlm_part.specs.Part.{Part, Channel, channel, cell_count, cells_before, cells_of, Fits}
+use Rattle.jxlm_part.specs.Part.{Part, channel, cell_count, cells_before, cells_of}
 
 module _ {S : Type 0} (d : Meaning S) (w : Width) (part : Part) (bytes : List ℕ) (decoder : S) (p0 : ℕ) (old : List (Grid ℤ)) where
   -- the first k cells are coded, and the others are as before
   pub record Reached (k : ℕ) (now : List (Grid ℤ)) (state : S) (q : ℕ) : Type 0 where
     pub coded : IsCoded d w part bytes decoder p0 k now state q
     pub rest : drop k (cells_of now) ≡ drop k (cells_of old)
-    pub fits : Fits part.channels now
+    pub fits : AreGridsOf part.channels now
 
   -- the read of the next cell returned the error e there
   pub record Stopped (e : DecoderError) (now : List (Grid ℤ)) (q : ℕ) : Type 0 where
@@ -25,13 +26,6 @@ module _ {S : Type 0} (d : Meaning S) (w : Width) (part : Part) (bytes : List �
     pub within : count < cell_count part.channels
     pub reached : Reached count now state q
     pub fault : (part_rule d w part bytes).read (take count (cells_of now)) state q ≡ Err e
-
--- the regions have the sizes of the channels
-abbrev pub SameSizes : List Channel → List Region → Type 0
-SameSizes [] [] = Unit {0}
-SameSizes [] (r ∷ regions) = ⊥
-SameSizes (c ∷ channels) [] = ⊥
-SameSizes (c ∷ channels) (r ∷ regions) = (r.width ≡ c.width) × (r.height ≡ c.height) × SameSizes channels regions
 
 -- how many cells of a part are before column x of row y of channel i
 abbrev pub place_of : Part → ℕ → ℕ → ℕ → ℕ
@@ -61,7 +55,7 @@ module _ {S : Type 0} (d : Meaning S) (w : Width) (part : Part) (bytes : List �
   module _ (decoder : S) (old : List (Grid ℤ)) (p : ℕ) (new : List (Grid ℤ)) (q : ℕ) where
     -- the part is coded to the end
     abbrev pub DecodesAll : Type 0
-    DecodesAll = IsCodedToTheEnd d w part bytes decoder p (grids_in regions new) q × Fits part.channels (grids_in regions new)
+    DecodesAll = IsCodedToTheEnd d w part bytes decoder p (grids_in regions new) q × AreGridsOf part.channels (grids_in regions new)
 
     -- the part, where it has cells, fails with e, and stays as partial as it was; each read that was tried took at
     -- most `cost` steps

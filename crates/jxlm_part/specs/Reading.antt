@@ -17,10 +17,9 @@ use Rattle.jxlm_tree.specs.Tree.{Shape, depth}
 use Rattle.jxlm_tree.specs.declared.flat.Leaf.{Leaf}
 use Rattle.jxlm_tree.specs.declared.predictor.WpHeader.{WpHeader}
 use Rattle.jxlm_tree.specs.declared.state.PredictorState.{PredictorState}
+use Rattle.jxlm_transform.specs.Channels.{AreRegionsOf, IsNarrow}
 use Rattle.jxlm_part.specs.Coded.{sample_of}
-use Rattle.jxlm_part.specs.Layout.{channels_of}
-use Rattle.jxlm_part.specs.Part.{Part, IsNarrow, earlier_alike, greatest_width}
-use Rattle.jxlm_part.specs.Progress.{SameSizes}
+use Rattle.jxlm_part.specs.Part.{Part, earlier_alike, greatest_width}
 use Rattle.jxlm_part.specs.declared.coding.PartCoding.{PartCoding}
 use Rattle.jxlm_part.specs.declared.coding.PartState.{PartState}
 
@@ -54,7 +53,7 @@ pub record IsRoomyFor {X : Type 0} (widest : ℕ) (weights : WpHeader) (flats : 
 module _ {D : Type 0} where
   -- the part that is coded so
   abbrev pub part_of : PartCoding D → Part
-  part_of c = record { channels = channels_of c.channels.now; weights = c.weights; tree = c.config.now.tree; stream = c.stream_index }
+  part_of c = record { channels = c.channels.now; weights = c.weights; tree = c.config.now.tree; stream = c.stream_index }
 
   -- the regions of its channels
   abbrev pub regions_of : PartCoding D → List Region
@@ -63,7 +62,7 @@ module _ {D : Type 0} where
   -- The regions have the sizes of the channels, which are narrow; the maximum width is theirs; each channel has its
   -- flat tree; the weights are those of a header.
   pub record IsCodingOf (c : PartCoding D) : Type 0 where
-    pub sizes : SameSizes (part_of c).channels (regions_of c)
+    pub sizes : AreRegionsOf (part_of c).channels (regions_of c)
     pub narrow : All IsNarrow (part_of c).channels
     pub widest : c.widest ≡ greatest_width (part_of c).channels
     pub flats : HasFlats c.config.now.tree c.stream_index (length (regions_of c)) c.flats.now

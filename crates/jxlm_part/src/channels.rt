@@ -1,14 +1,13 @@
 //! The channels of an image.
 
 ghost use Rattle.std.specs.Prelude.{◌≡◌, ◌<◌, ◌↔◌, IsTrue};
-ghost use Rattle.jxlm_part.specs.Layout.{channels_of};
 ghost use Rattle.jxlm_part.specs.Part.{cell_count, greatest_width as the_greatest_width};
 
 use jxlm_transform::channels::ModularChannelInfo;
 
 /// The maximum width of the channels, also of those without samples; 0 where there are none.
 pub fn greatest_width(channels: &[ModularChannelInfo]) -> u32
-    ensures { result ≡ the_greatest_width (channels_of channels.now) }
+    ensures { result ≡ the_greatest_width channels.now }
 {
     let mut widest = 0;
     for channel in channels {
@@ -21,7 +20,7 @@ pub fn greatest_width(channels: &[ModularChannelInfo]) -> u32
 
 /// Whether some of the channels has samples.
 pub fn have_samples(channels: &[ModularChannelInfo]) -> bool
-    ensures { IsTrue result ↔ (0 < cell_count (channels_of channels.now)) }
+    ensures { IsTrue result ↔ (0 < cell_count channels.now) }
 {
     for channel in channels {
         if channel.width > 0 && channel.height > 0 {

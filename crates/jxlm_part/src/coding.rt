@@ -4,7 +4,6 @@ ghost use Rattle.std.specs.Prelude.{◌≡◌, ℤ, ◌^◌, ◌<◌, ◌≤◌,
 ghost use Rattle.jxlm_base.specs.Fault.{NoMemory, fault_of};
 ghost use Rattle.jxlm_base.specs.Grid.{Grid};
 ghost use Rattle.jxlm_tree.specs.SelfCorrecting.{IsHeader};
-ghost use Rattle.jxlm_part.specs.Layout.{channel_of};
 ghost use Rattle.jxlm_part.specs.Part.{is_alike as alike};
 ghost use Rattle.jxlm_tree.specs.Standing.{Setting, StandsAt, earlier_count, setting};
 ghost use Rattle.jxlm_part.specs.Reading.{HasFlats, HasRoom, IsAfterChannel, IsCodingOf, IsRoomyFor, StandsBehind, all_alike, region_at, regions_of};
@@ -60,7 +59,7 @@ pub struct Ready<S, D: Decoder> {
 
 /// Whether two channels have equal sizes and shifts.
 fn is_alike(a: &ModularChannelInfo, b: &ModularChannelInfo) -> bool
-    ensures { result ≡ alike (channel_of a.now) (channel_of b.now) }
+    ensures { result ≡ alike a.now b.now }
 {
     a.width == b.width && a.height == b.height && a.hshift == b.hshift && a.vshift == b.vshift
 }

@@ -1,21 +1,19 @@
 -- The steps of the default squeeze.
-use Rattle.std.proofs.Common.{◌≡◌, ℕ, suc, ◌+◌, ◌-◌, List, [], ◌∷◌, ◌++◌, length, map, take, drop, Ok, refl, sym, ◌∙◌, arith}
-use Rattle.std.proofs.lemmas.List.{drop-map, length-map}
-use Rattle.jxlm_transform.proofs.Views.{rest}
-use Rattle.jxlm_transform.specs.Channels.{channel_of, list_of}
+use Rattle.std.proofs.Common.{◌≡◌, ℕ, suc, ◌+◌, ◌-◌, List, [], ◌∷◌, ◌++◌, length, take, drop, Ok, refl, sym, ◌∙◌, arith}
+use Rattle.jxlm_transform.proofs.Lists.{rest}
+use Rattle.jxlm_transform.specs.Channels.{Channel, list_of}
 use Rattle.jxlm_transform.specs.ChannelSteps.{default_of_all, default_of_chroma, steps_of_squeeze}
-use Rattle.jxlm_transform.specs.declared.channels.ModularChannelInfo.{ModularChannelInfo}
 use Rattle.jxlm_transform.specs.declared.channels.ModularChannels.{ModularChannels}
 use Rattle.jxlm_transform.specs.declared.transform.SqueezeParams.{SqueezeParams}
 
 -- the squeezes of chroma, and after them those of all channels, are the default squeeze
-pub default_listed : (l : ModularChannels) (leader : ModularChannelInfo) (others : List ModularChannelInfo) (xs ys zs : List SqueezeParams) → xs ≡ [] →
+pub default_listed : (l : ModularChannels) (leader : Channel) (others : List Channel) (xs ys zs : List SqueezeParams) → xs ≡ [] →
     take (length l.info.items - l.nb_meta_channels) (drop l.nb_meta_channels l.info.items) ≡ leader ∷ others →
-    ys ≡ xs ++ default_of_chroma l.nb_meta_channels (map channel_of (leader ∷ others)) →
+    ys ≡ xs ++ default_of_chroma l.nb_meta_channels (leader ∷ others) →
     zs ≡ ys ++ default_of_all l.nb_meta_channels (length others + 1) leader.width leader.height →
     steps_of_squeeze xs (list_of l) ≡ Ok zs
 default_listed l leader others xs ys zs none there chroma all =
     let f : ℕ = l.nb_meta_channels in
     let behind : drop f l.info.items ≡ leader ∷ others = sym (rest f l.info.items) ∙ there in
-    let count : length others + 1 ≡ suc (length (map channel_of others)) = omega (arith, length-map others channel_of) in
-    rw (none, drop-map channel_of f l.info.items, behind, all, chroma, none, count) refl
+    let count : length others + 1 ≡ suc (length others) = omega arith in
+    rw (none, behind, all, chroma, none, count) refl

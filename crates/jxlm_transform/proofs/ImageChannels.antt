@@ -19,9 +19,9 @@ pub record IsWithinLimits (c : Channel) : Type 0 where
 
 pub IsWithinLimits-image_channel : (p : ModularChannelParams) → IsValidChannel p → IsWithinLimits (image_channel p)
 IsWithinLimits-image_channel p valid =
-    let sides = IsSide-shift_size p.shift p.width p.height valid.width valid.height in
-    let shifts = IsShift-hshift p.shift valid.shift in
-    record { width = sides.0; height = sides.1; original_width = valid.width; original_height = valid.height; hshift = shifts.0; vshift = shifts.1 }
+    let sides = IsSide-shift_size p.shift p.width p.height valid.0 valid.1 in
+    let shifts = IsShift-hshift p.shift valid.2 in
+    record { width = sides.0; height = sides.1; original_width = valid.0; original_height = valid.1; hshift = shifts.0; vshift = shifts.1 }
 
 -- Every channel of an image without transforms is within the limits.
 pub All-image_list : (ps : List ModularChannelParams) → All IsValidChannel ps → All IsWithinLimits (image_list ps).channels

@@ -5,6 +5,7 @@ pub mod DefaultSteps
 pub mod FieldRanges
 pub mod Halvings
 pub mod ImageChannels
+pub mod Lists
 pub mod PaletteChannels
 pub mod PaletteColours
 mod PaletteExamples
@@ -20,6 +21,5 @@ pub mod SmallSides
 pub mod SqueezedRegions
 mod TransformExamples
 pub mod TransformLaws
-pub mod Views
 pub mod ValidParams
 pub mod StepLaws

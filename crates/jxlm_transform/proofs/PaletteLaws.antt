@@ -8,7 +8,8 @@ use Rattle.std.proofs.lemmas.List.FromFn.{fill_by_all, length-map-range_with_len
 use Rattle.std.proofs.lemmas.Nat.{div-add-mod', div_below, mod_below, mul-add-lt}
 use Rattle.jxlm_base.specs.Grid.{Grid, grid, at, place, below}
 use Rattle.jxlm_transform.specs.declared.transform.Palette.{Palette}
-use Rattle.jxlm_transform.specs.Palette.{HasSidesOf, IsPaletteOf, finished_sample, finished_samples, finished_channel, finished_channels, PaletteHasOneImage}
+use Rattle.jxlm_transform.specs.Channels.{HasSides}
+use Rattle.jxlm_transform.specs.Palette.{IsPaletteOf, finished_sample, finished_samples, finished_channel, finished_channels, PaletteHasOneImage}
 
 positive : (w h n : ℕ) → n < w * h → 0 < w
 positive zero h n p = absurd (omega arith)
@@ -68,13 +69,13 @@ module _ (w : Width) (depth : ℕ) (t : Palette) (table index : Grid ℤ) (c : �
       ]
 
   -- a grid whose samples are those is the finished channel
-  pub is_finished : (g : Grid ℤ) → HasSidesOf index g → take (index.width * index.height) g.cells ≡ up_to (index.width * index.height) → g ≡ finished_channel w depth t table index c
+  pub is_finished : (g : Grid ℤ) → HasSides index.width index.height g → take (index.width * index.height) g.cells ≡ up_to (index.width * index.height) → g ≡ finished_channel w depth t table index c
   is_finished g of same =
       let full : length g.cells ≡ index.width * index.height = of.full ∙ ap (λ n. n * g.height) of.same_width ∙ ap (λ n. index.width * n) of.same_height in
       let all : take (index.width * index.height) g.cells ≡ g.cells = take_all (index.width * index.height) g.cells (omega arith) in
       ap (λ n. grid n g.height g.cells) of.same_width ∙ ap (λ n. grid index.width n g.cells) of.same_height ∙ ap (grid index.width index.height) (sym all ∙ same)
 
-  one_channel : (g : Grid ℤ) → HasSidesOf index g →
+  one_channel : (g : Grid ℤ) → HasSides index.width index.height g →
       ((x y : ℕ) → x < index.width → y < index.height → at g x y ≡ finished_sample w depth t table (at index x y) c (take (place g x y) g.cells) index.width) → g ≡ finished_channel w depth t table index c
   unfolding AreSamples
   one_channel g of samples =
@@ -99,7 +100,7 @@ module _ (w : Width) (depth : ℕ) (t : Palette) (table index : Grid ℤ) where
         sides = λ c d h.
             let l : c < t.num_c = omega (arith, count, h) in
             let same : get_or finished c d ≡ finished_channel w depth t table index c = get_or_default finished c d none h ∙ each c l in
-            subst (HasSidesOf index) (sym same) (record { same_width = refl; same_height = refl; full = length-samples w depth t table index c (index.width * index.height) });
+            subst (HasSides index.width index.height) (sym same) (record { same_width = refl; same_height = refl; full = length-samples w depth t table index c (index.width * index.height) });
         samples = λ c x y p q r.
             let k : ℕ = y * index.width + x in
             let inside : k < index.width * index.height = mul-add-lt y index.width x index.height r q in

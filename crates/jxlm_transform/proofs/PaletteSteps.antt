@@ -17,7 +17,8 @@ use Rattle.jxlm_tree.specs.declared.state.PredictorState.{PredictorState}
 use Rattle.jxlm_transform.specs.declared.transform.Palette.{Palette}
 use Rattle.jxlm_transform.specs.declared.palette.FinishedChannel.{FinishedChannel}
 use Rattle.jxlm_transform.proofs.PaletteLaws.{is_finished}
-use Rattle.jxlm_transform.specs.Palette.{finished_channel, finished_sample, finished_samples, is_delta, colour_of, predicted}
+use Rattle.jxlm_tree.specs.Predictions.{prediction}
+use Rattle.jxlm_transform.specs.Palette.{finished_channel, finished_sample, finished_samples, is_delta, colour_of}
 use Rattle.jxlm_transform.specs.Inner.PaletteSteps.{ChannelLies, SetsSample, Ahead, Filled, FillsOn, FillsOnBy, IsSimpleIndex, StandsBefore, kept, looked_up, table_in, index_in}
 
 -- ---- indices of the table that are no deltas
@@ -235,6 +236,6 @@ is_ready t width height x y state store stands px py few =
 
 -- the finished sample of an index of this colour
 pub finished_is : (w : Width) (depth : ℕ) (t : Palette) (table : Grid ℤ) (i : ℤ) (c : ℕ) (before : List ℤ) (width : ℕ) (colour : ℤ) → colour ≡ colour_of depth t table i c →
-    int_wrap w (if is_delta t i then colour +ℤ predicted t before width else colour) ≡ finished_sample w depth t table i c before width
+    int_wrap w (if is_delta t i then colour +ℤ prediction t.wp_header before width t.d_pred else colour) ≡ finished_sample w depth t table i c before width
 unfolding finished_sample
-finished_is w depth t table i c before width colour e = ap (λ z. int_wrap w (if is_delta t i then z +ℤ predicted t before width else z)) e
+finished_is w depth t table i c before width colour e = ap (λ z. int_wrap w (if is_delta t i then z +ℤ prediction t.wp_header before width t.d_pred else z)) e

@@ -9,7 +9,7 @@ use Rattle.jxlm_transform.specs.declared.param.ChannelShift.TheVariants.{Shifts}
 use Rattle.jxlm_transform.specs.declared.param.ModularChannelParams.{ModularChannelParams}
 
 pub one_size_is_valid : OneSizeIsValid
-one_size_is_valid n width height wide high = All-replicate IsValidChannel n (sized width height (Shifts 0)) (record { width = wide; height = high; shift = omega arith })
+one_size_is_valid n width height wide high = All-replicate IsValidChannel n (sized width height (Shifts 0)) (wide, high, omega arith)
 
 pub one_size_of_image_is_valid : (D : Type 0) → OneSizeOfImageIsValid D
 one_size_of_image_is_valid D p n width height channels few wide high group_dim deep =
@@ -22,4 +22,4 @@ one_size_of_image_is_valid D p n width height channels few wide high group_dim d
 
 pub powers_are_group_dims : PowersAreGroupDims
 powers_are_group_dims k low high =
-    record { least = pow-le-pow_right {n = 2} (omega arith) {i = 1} {j = k} low; greatest = pow-le-pow_right {n = 2} (omega arith) {i = k} {j = 20} high; power = (k, refl) }
+    (pow-le-pow_right {n = 2} (omega arith) {i = 1} {j = k} low, pow-le-pow_right {n = 2} (omega arith) {i = k} {j = 20} high, (k, refl))

@@ -1,5 +1,4 @@
--- What transforms do to a list of channels (ISO/IEC 18181-1, Modular: the channels after each transform, the default
--- squeeze).
+-- What transforms do to a list of channels (ISO/IEC 18181-1, Modular: channels after each transform, default squeeze).
 use Rattle.std.specs.Prelude.{◌≡◌, ℕ, zero, suc, ◌+◌, ◌-◌, ◌/◌, List, [], ◌∷◌, ◌++◌, length, map, take, drop, slice_range, Bool, true, false, not, ◌&&◌, ◌||◌, nat_lt, nat_le, ◌==◌, if◌then◌else◌, ℤ, pos, negsuc, int_le, Result, Ok, Err}
 use Rattle.std.specs.List.{list_all}
 use Rattle.std.specs.Int.{div_ceil}
@@ -61,11 +60,10 @@ table_channel colours channels = record {
   original_height = channels;
   hshift = negsuc 0;
   vshift = negsuc 0;
-  shift = Raw (negsuc 0) (negsuc 0);
+  original_shift = Raw (negsuc 0) (negsuc 0);
 }
 
--- A palette needs channels of one size, all meta or none. Its table comes first, and the first channel of the range
--- is that of the indices; the table is a meta channel, and so are the indices of meta channels.
+-- channels of one size, all meta or none, become a table, which comes first and is meta, and a channel of indices
 abbrev pub palette_step : Palette → ChannelList → Result ChannelList Fault
 palette_step t l =
     let cs : List Channel = l.channels in
@@ -81,35 +79,28 @@ abbrev pub grown : ℤ → ℤ
 grown (pos s) = pos (s + 1)
 grown (negsuc s) = negsuc s
 
--- the channel whose squeezed side is n
-abbrev pub half : Bool → ℕ → Channel → Channel
-half true n c = record c { width = n; hshift = grown c.hshift }
-half false n c = record c { height = n; vshift = grown c.vshift }
+-- a channel that is squeezed across, or down, to what f makes of that side
+abbrev pub squeezed : Bool → (ℕ → ℕ) → Channel → Channel
+squeezed true f c = record c { width = f c.width; hshift = grown c.hshift }
+squeezed false f c = record c { height = f c.height; vshift = grown c.vshift }
 
--- the side that is squeezed
-abbrev pub squeezed_side : Bool → Channel → ℕ
-squeezed_side true c = c.width
-squeezed_side false c = c.height
-
--- the averages of a channel that is squeezed, across or down
+-- the averages of a channel that is squeezed
 abbrev pub average_channel : Bool → Channel → Channel
-average_channel horizontal c = half horizontal (div_ceil (squeezed_side horizontal c) 2) c
+average_channel horizontal c = squeezed horizontal (λ n. div_ceil n 2) c
 
 -- its residuals
 abbrev pub residual_channel : Bool → Channel → Channel
-residual_channel horizontal c = half horizontal (squeezed_side horizontal c / 2) c
+residual_channel horizontal c = squeezed horizontal (λ n. n / 2) c
 
 -- it has samples, and is not squeezed too often already
 abbrev pub can_be_squeezed : Channel → Bool
 can_be_squeezed c = nat_lt 0 c.width && nat_lt 0 c.height && int_le c.hshift (pos 30) && int_le c.vshift (pos 30)
 
--- the range of a squeeze step is there, and where it begins among the meta channels it is squeezed in place and ends
--- there
+-- the range of a squeeze step is there; one that begins among the meta channels ends there and is squeezed in place
 abbrev pub squeeze_range : SqueezeParams → ChannelList → Bool
 squeeze_range t l = has_range t.begin_c t.num_c l.channels && (not (nat_lt t.begin_c l.nb_meta) || t.in_place && nat_le (t.begin_c + t.num_c) l.nb_meta)
 
--- A squeeze step needs such a range, of channels that can be squeezed; what becomes of meta channels is a meta
--- channel.
+-- channels of such a range that can be squeezed become averages and residuals; those of meta channels are meta
 abbrev pub squeeze_step : SqueezeParams → ChannelList → Result ChannelList Fault
 squeeze_step t l =
     let cs : List Channel = range t.begin_c t.num_c l.channels in
@@ -139,8 +130,7 @@ in_turn (suc a) (suc b) step = step true ∷ step false ∷ in_turn a b step
 abbrev pub step_of_all : ℕ → ℕ → Bool → SqueezeParams
 step_of_all f n horizontal = record { horizontal = horizontal; in_place = true; begin_c = f; num_c = n }
 
--- The default squeeze of the n channels from f on, the first of sides w and h: both ways in turn, the longer side
--- first, until no side is above 8.
+-- the default squeeze of the n channels from f on, the first w by h: both ways in turn, the longer side first
 abbrev pub default_of_all : ℕ → ℕ → ℕ → ℕ → List SqueezeParams
 default_of_all f n w h =
     if nat_le w h && nat_lt 8 h then step_of_all f n false ∷ in_turn (halvings w) (halvings (div_ceil h 2)) (step_of_all f n) else in_turn (halvings w) (halvings h) (step_of_all f n)
@@ -149,8 +139,7 @@ default_of_all f n w h =
 abbrev pub step_of_chroma : ℕ → Bool → SqueezeParams
 step_of_chroma f horizontal = record { horizontal = horizontal; in_place = false; begin_c = f + 1; num_c = 2 }
 
--- before it, the two channels after the first are squeezed once both ways, where there are three or more and the first
--- two have one size
+-- before it the two channels after the first are squeezed both ways, if there are three, the first two of one size
 abbrev pub default_of_chroma : ℕ → List Channel → List SqueezeParams
 default_of_chroma f cs = if nat_le 3 (length cs) && one_size (take 2 cs) then step_of_chroma f true ∷ step_of_chroma f false ∷ [] else []
 

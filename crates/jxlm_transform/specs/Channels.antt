@@ -1,22 +1,17 @@
 -- Channels and their lists (ISO/IEC 18181-1, Modular: channel list).
-use Rattle.std.specs.Prelude.{ℕ, ◌*◌, ◌≤◌, List, length, map, ℤ}
+use Rattle.std.specs.Prelude.{◌≡◌, ℕ, ◌*◌, ◌≤◌, List, length, map}
+use Rattle.std.specs.List.{AllZip}
+use Rattle.jxlm_base.specs.Grid.{Grid, IsFull}
+use Rattle.jxlm_base.specs.declared.subgrid.Region.{Region}
 use Rattle.jxlm_transform.specs.declared.channels.ModularChannelInfo.{ModularChannelInfo}
 use Rattle.jxlm_transform.specs.declared.channels.ModularChannels.{ModularChannels}
-use Rattle.jxlm_transform.specs.declared.param.ChannelShift.{ChannelShift}
 use Rattle.jxlm_transform.specs.declared.param.ModularChannelParams.{ModularChannelParams}
 use Rattle.jxlm_transform.specs.Params.{IsSide}
 use Rattle.jxlm_transform.specs.Shifts as shifts
 
--- A channel as it is coded: its sides, the sides of its picture, its shifts (those of a table are -1), and the shift
--- that it was given with.
-pub record Channel : Type 0 where
-  pub width : ℕ
-  pub height : ℕ
-  pub original_width : ℕ
-  pub original_height : ℕ
-  pub hshift : ℤ
-  pub vshift : ℤ
-  pub shift : ChannelShift
+-- a channel as it is coded: its sides, those of its picture, its shifts (a table's are -1), and the shift it came with
+abbrev pub Channel : Type 0
+Channel = ModularChannelInfo
 
 -- a channel of an image, before any transform
 abbrev pub image_channel : ModularChannelParams → Channel
@@ -29,7 +24,7 @@ image_channel p =
       original_height = p.height;
       hshift = shifts.hshift p.shift;
       vshift = shifts.vshift p.shift;
-      shift = p.shift;
+      original_shift = p.shift;
     }
 
 -- no side of it is above 2 ^ 30
@@ -39,6 +34,20 @@ IsNarrow c = IsSide c.width × IsSide c.height
 -- how many samples it has
 abbrev pub area : Channel → ℕ
 area c = c.width * c.height
+
+-- a grid of these sides, with a value in each cell
+pub record HasSides {S : Type 0} (width height : ℕ) (g : Grid S) : Type 0 where
+  pub same_width : g.width ≡ width
+  pub same_height : g.height ≡ height
+  pub full : IsFull g
+
+-- a grid for each channel, of its sides
+abbrev pub AreGridsOf : {S : Type 0} → List Channel → List (Grid S) → Type 0
+AreGridsOf channels grids = AllZip (λ c g. HasSides c.width c.height g) channels grids
+
+-- a region for each channel, of its sides
+abbrev pub AreRegionsOf : List Channel → List Region → Type 0
+AreRegionsOf channels regions = AllZip (λ c r. (r.width ≡ c.width) × (r.height ≡ c.height)) channels regions
 
 -- channels, the first nb_meta of which hold tables and what became of them
 pub record ChannelList : Type 0 where
@@ -53,30 +62,6 @@ image_list channels = record { channels = map image_channel channels; nb_meta = 
 abbrev pub HasItsMeta : ChannelList → Type 0
 HasItsMeta l = l.nb_meta ≤ length l.channels
 
--- a channel as a program keeps it
-abbrev pub info_of : Channel → ModularChannelInfo
-info_of c = record {
-  width = c.width;
-  height = c.height;
-  original_width = c.original_width;
-  original_height = c.original_height;
-  hshift = c.hshift;
-  vshift = c.vshift;
-  original_shift = c.shift;
-}
-
--- the channel that a program keeps
-abbrev pub channel_of : ModularChannelInfo → Channel
-channel_of c = record {
-  width = c.width;
-  height = c.height;
-  original_width = c.original_width;
-  original_height = c.original_height;
-  hshift = c.hshift;
-  vshift = c.vshift;
-  shift = c.original_shift;
-}
-
 -- the list that a program keeps
 abbrev pub list_of : ModularChannels → ChannelList
-list_of l = record { channels = map channel_of l.info.items; nb_meta = l.nb_meta_channels }
+list_of l = record { channels = l.info.items; nb_meta = l.nb_meta_channels }

@@ -2,10 +2,11 @@
 use Rattle.std.specs.Prelude.{◌≡◌, ◌⊎◌, ℕ, zero, suc, ◌+◌, ◌-◌, ◌*◌, ◌/◌, ◌%◌, ◌^◌, ◌<◌, List, [], ◌∷◌, ◌++◌, length, take, map, get_or, Bool, nat_lt, min, ◌==◌, if◌then◌else◌, ℤ, pos, negsuc, ◌+ℤ◌, ◌*ℤ◌, neg_ℤ, int_lt}
 use Rattle.std.specs.List.{All}
 use Rattle.std.specs.Int.{Width, int_wrap}
-use Rattle.jxlm_base.specs.Grid.{Grid, grid, at, place, below, IsFull}
+use Rattle.jxlm_base.specs.Grid.{Grid, grid, at, place, below}
 use Rattle.jxlm_base.specs.Regions.{Lies, AllLie, AreApart, LieApart}
 use Rattle.jxlm_base.specs.declared.subgrid.Region.{Region}
 use Rattle.jxlm_tree.specs.Predictions.{prediction}
+use Rattle.jxlm_transform.specs.Channels.{HasSides}
 use Rattle.jxlm_transform.specs.declared.transform.Palette.{Palette}
 
 -- minus n
@@ -65,28 +66,18 @@ colour_of depth t table (negsuc k) c = difference depth k c
 abbrev pub is_delta : Palette → ℤ → Bool
 is_delta t i = int_lt i (pos t.nb_deltas)
 
--- What the palette's predictor makes of the samples before a cell of its channel, whose width this is, with the
--- weights that the palette keeps.
-abbrev pub predicted : Palette → List ℤ → ℕ → ℤ
-predicted t before width = prediction t.wp_header before width t.d_pred
-
--- a full grid of the index channel's sides
-pub record HasSidesOf (index g : Grid ℤ) : Type 0 where
-  pub same_width : g.width ≡ index.width
-  pub same_height : g.height ≡ index.height
-  pub full : IsFull g
-
 -- w bits a sample in memory, depth bits in the picture
 module _ (w : Width) (depth : ℕ) (t : Palette) (table : Grid ℤ) where
-  -- the finished sample of index i in channel c, after these samples of the channel
+  -- the finished sample of index i in channel c, after these samples of the channel, which is so wide
   unfoldable pub finished_sample : ℤ → ℕ → List ℤ → ℕ → ℤ
-  finished_sample i c before width = int_wrap w (if is_delta t i then colour_of depth t table i c +ℤ predicted t before width else colour_of depth t table i c)
+  finished_sample i c before width =
+      let colour : ℤ = colour_of depth t table i c in
+      int_wrap w (if is_delta t i then colour +ℤ prediction t.wp_header before width t.d_pred else colour)
 
-  -- The finished channels are of the index channel's sides, and each cell of each of them holds the finished sample
-  -- of the cell's index, after the samples before it, row by row.
+  -- the finished channels have the index channel's sides, and each cell the finished sample of its index, row by row
   pub record IsPaletteOf (index : Grid ℤ) (finished : List (Grid ℤ)) : Type 0 where
     pub count : length finished ≡ t.num_c
-    pub sides : All (HasSidesOf index) finished
+    pub sides : All (HasSides index.width index.height) finished
     pub samples : (c x y : ℕ) → c < t.num_c → x < index.width → y < index.height →
         let g : Grid ℤ = get_or finished c (grid 0 0 []) in
         at g x y ≡ finished_sample (at index x y) c (take (place g x y) g.cells) index.width

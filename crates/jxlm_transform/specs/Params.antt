@@ -13,16 +13,12 @@ abbrev pub IsSide : ℕ → Type 0
 IsSide n = n ≤ 2 ^ 30
 
 -- a channel that may be given
-pub record IsValidChannel (c : ModularChannelParams) : Type 0 where
-  pub width : IsSide c.width
-  pub height : IsSide c.height
-  pub shift : IsValidShift c.shift
+abbrev pub IsValidChannel : ModularChannelParams → Type 0
+IsValidChannel c = IsSide c.width × IsSide c.height × IsValidShift c.shift
 
 -- a side that the groups of an image may have
-pub record IsGroupDim (n : ℕ) : Type 0 where
-  pub least : 2 ≤ n
-  pub greatest : n ≤ 2 ^ 20
-  pub power : IsPowerOfTwo n
+abbrev pub IsGroupDim : ℕ → Type 0
+IsGroupDim n = (2 ≤ n) × (n ≤ 2 ^ 20) × IsPowerOfTwo n
 
 -- parameters that an image may be read by
 pub record IsValidParams {D : Type 0} (p : ModularParams D) : Type 0 where

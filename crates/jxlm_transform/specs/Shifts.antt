@@ -1,5 +1,4 @@
--- How a channel is smaller than its picture
--- (ISO/IEC 18181-1, Modular: channel list; frame: upsampling of channels).
+-- How a channel is smaller than its picture (ISO/IEC 18181-1, Modular: channel list; frame: upsampling of channels).
 use Rattle.std.specs.Prelude.{ℕ, ◌*◌, ◌^◌, ◌≤◌, List, slice_index, Bool, true, false, ◌&&◌, ◌||◌, ◌==◌, if◌then◌else◌, IsTrue, ℤ, pos, ◌≤ℤ◌, unsigned_abs}
 use Rattle.std.specs.Int.{w32, div_ceil, cast_signed}
 use Rattle.std.specs.List.{list_any}

@@ -1,5 +1,4 @@
--- The transforms of a header, as they stand in the input
--- (ISO/IEC 18181-1, Modular: the bundles TransformInfo and SqueezeParams).
+-- The transforms of a header, as they stand in the input (ISO/IEC 18181-1, Modular: TransformInfo and SqueezeParams).
 use Rattle.std.specs.Prelude.{◌≡◌, ◌⊎◌, ℕ, ◌+◌, ◌-◌, ◌^◌, ◌≤◌, min, max, List, length, slice_get, ◌==◌, codes, Option, Some, None, Result, Ok, Err}
 use Rattle.std.specs.List.{All}
 use Rattle.jxlm_base.specs.Decoding.{Found}
@@ -76,14 +75,10 @@ squeeze_params = do
   channels ← u32 (Const 1) (Const 2) (Const 3) (Offset 4 4)
   give (record { horizontal = horizontal; in_place = in_place; begin_c = begin; num_c = channels })
 
--- how many steps a squeeze lists
-abbrev pub step_count : Grammar ℕ
-step_count = u32 (Const 0) (Offset 1 4) (Offset 9 6) (Offset 41 8)
-
 -- at most 296 steps; none stands for the default squeeze
 abbrev pub squeeze : Grammar (List SqueezeParams)
 squeeze = do
-  count ← step_count
+  count ← u32 (Const 0) (Offset 1 4) (Offset 9 6) (Offset 41 8)
   repeated count squeeze_params
 
 -- a field, seen by view

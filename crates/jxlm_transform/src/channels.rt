@@ -4,7 +4,7 @@ ghost use Rattle.std.specs.Prelude.{◌≡◌, ◌≤ℤ◌, pos, IsTrue, IfOk, 
 ghost use Rattle.std.specs.List.{All};
 ghost use Rattle.jxlm_base.specs.Fault.{NoMemory, fault_of};
 ghost use Rattle.jxlm_transform.specs.ChannelSteps.{has_size_of, table_channel, average_channel, residual_channel, can_be_squeezed, grown as the_grown};
-ghost use Rattle.jxlm_transform.specs.Channels.{image_channel, image_list, channel_of, info_of, list_of};
+ghost use Rattle.jxlm_transform.specs.Channels.{image_channel, image_list, list_of};
 ghost use Rattle.jxlm_transform.specs.Params.{IsValidChannel};
 
 use crate::param::{ChannelShift, ModularChannelParams};
@@ -35,7 +35,7 @@ impl ModularChannelInfo {
     /// A channel as it is given, before any transform.
     pub fn new(params: &ModularChannelParams) -> ModularChannelInfo
         requires { IsValidChannel params.now }
-        ensures { result ≡ info_of (image_channel params.now) }
+        ensures { result ≡ image_channel params.now }
     {
         let (width, height) = params.shift.shift_size((params.width, params.height));
         ModularChannelInfo {
@@ -51,7 +51,7 @@ impl ModularChannelInfo {
 
     /// The table of a palette: a column for each colour, and a row for each channel.
     pub(crate) fn table(nb_colours: u32, num_c: u32) -> ModularChannelInfo
-        ensures { channel_of result ≡ table_channel nb_colours num_c }
+        ensures { result ≡ table_channel nb_colours num_c }
     {
         ModularChannelInfo {
             width: nb_colours,
@@ -80,22 +80,22 @@ impl ModularChannelInfo {
 
     /// Whether another channel has the size of this one.
     pub(crate) fn is_of_size(&self, other: &ModularChannelInfo) -> bool
-        ensures { result ≡ has_size_of (channel_of self.now) (channel_of other.now) }
+        ensures { result ≡ has_size_of self.now other.now }
     {
         other.width == self.width && other.height == self.height
     }
 
     /// Whether it may be squeezed: it has samples, and its shifts are at most 30.
     pub(crate) fn can_be_squeezed(&self) -> bool
-        ensures { result ≡ can_be_squeezed (channel_of self.now) }
+        ensures { result ≡ can_be_squeezed self.now }
     {
         self.width > 0 && self.height > 0 && self.hshift <= 30 && self.vshift <= 30
     }
 
     /// The averages of the channel, where it is squeezed across or down.
     pub(crate) fn average(&self, horizontal: bool) -> ModularChannelInfo
-        requires { IsTrue (can_be_squeezed (channel_of self.now)) }
-        ensures { channel_of result ≡ average_channel horizontal (channel_of self.now) }
+        requires { IsTrue (can_be_squeezed self.now) }
+        ensures { result ≡ average_channel horizontal self.now }
     {
         if horizontal {
             ModularChannelInfo {
@@ -114,8 +114,8 @@ impl ModularChannelInfo {
 
     /// The residuals of the channel, where it is squeezed across or down.
     pub(crate) fn residual(&self, horizontal: bool) -> ModularChannelInfo
-        requires { IsTrue (can_be_squeezed (channel_of self.now)) }
-        ensures { channel_of result ≡ residual_channel horizontal (channel_of self.now) }
+        requires { IsTrue (can_be_squeezed self.now) }
+        ensures { result ≡ residual_channel horizontal self.now }
     {
         if horizontal {
             ModularChannelInfo {

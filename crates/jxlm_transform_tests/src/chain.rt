@@ -2,10 +2,10 @@
 
 ghost use Rattle.std.specs.Prelude.{◌≡◌, ◌^◌, ◌≤◌, length, map, IfOk};
 ghost use Rattle.std.specs.List.{All};
-ghost use Rattle.jxlm_chain.specs.Layout.{HasBuffers, HasSides, buffers_of};
+ghost use Rattle.jxlm_chain.specs.Layout.{HasBuffers, buffers_of};
+ghost use Rattle.jxlm_transform.specs.Channels.{HasSides};
 ghost use Rattle.jxlm_chain.specs.Places.{Suit};
 ghost use Rattle.jxlm_transform.specs.Steps.{HasWeights, steps_in};
-ghost use Rattle.jxlm_transform.specs.Channels.{channel_of};
 ghost use Rattle.jxlm_transform.specs.Transforms.{transform_of};
 ghost use Rattle.jxlm_tree.specs.declared.predictor.WpHeader.{WpHeader};
 
@@ -82,7 +82,7 @@ const FOUR: Palette = Palette {
 
 /// A grid of one row of these samples.
 fn row<S: Sample>(alloc: Global, samples: &[i32]) -> Result<AlignedGrid<S>, OutOfMemory>
-    ensures { IfOk result (λ g. HasSides (record { width = length samples.now; height = 1 }) g) }
+    ensures { IfOk result (λ g. HasSides (length samples.now) 1 g) }
 {
     let mut grid = AlignedGrid::new(alloc, samples.len(), 1)?;
     for x in 0..samples.len() {
@@ -107,9 +107,9 @@ fn undo<S: Sample>(
     channels: &[ModularChannelInfo],
     store: &mut [AlignedGrid<S>],
 ) -> Result<(), Error>
-    requires suit { Suit (steps_in (map transform_of transforms.now)) (map channel_of channels.now) }
-    requires buffers { HasBuffers (buffers_of (map channel_of channels.now) (steps_in (map transform_of transforms.now))) store.old }
-    requires small { All (λ s. (s.width ≤ 2 ^ 30) × (s.height ≤ 2 ^ 30)) (buffers_of (map channel_of channels.now) (steps_in (map transform_of transforms.now))) }
+    requires suit { Suit (steps_in (map transform_of transforms.now)) channels.now }
+    requires buffers { HasBuffers (buffers_of channels.now (steps_in (map transform_of transforms.now))) store.old }
+    requires small { All (λ s. (s.width ≤ 2 ^ 30) × (s.height ≤ 2 ^ 30)) (buffers_of channels.now (steps_in (map transform_of transforms.now))) }
     requires weights { (weights : WpHeader) → All (HasWeights weights) (steps_in (map transform_of transforms.now)) }
 {
     let plan = Plan::new(alloc, transforms, channels)?;
@@ -234,7 +234,7 @@ const NEXT_TWO: Palette = Palette {
 
 /// A grid of two rows of two samples.
 fn table<S: Sample>(alloc: Global, samples: [i32; 4]) -> Result<AlignedGrid<S>, OutOfMemory>
-    ensures { IfOk result (λ g. HasSides (record { width = 2; height = 2 }) g) }
+    ensures { IfOk result (λ g. HasSides 2 2 g) }
 {
     let mut grid = AlignedGrid::new(alloc, 2, 2)?;
     *grid.get_mut(0, 0) = S::from_i32(samples[0]);

@@ -23,7 +23,7 @@ pub valid_params : {D : Type 0} (width height channels bit_depth : ℕ) (p : Mod
     p.channels.items ≡ replicate channels (sized width height (Shifts 0)) → channels ≤ 2 ^ 20 → bit_depth ≤ 32 → IsSide width → IsSide height → IsValidParams p
 valid_params width height channels bit_depth p g b is many deep wide high =
     let flat : 0 ≤ 30 = omega arith in
-    let one : IsValidChannel (sized width height (Shifts 0)) = record { width = wide; height = high; shift = flat } in
+    let one : IsValidChannel (sized width height (Shifts 0)) = (wide, high, flat) in
     let count : length p.channels.items ≡ channels = ap length is ∙ length-replicate channels (sized width height (Shifts 0)) in
     record {
       group_dim = rw g (record { least = omega arith; greatest = omega arith; power = (8, refl) });
@@ -37,10 +37,10 @@ valid_params width height channels bit_depth p g b is many deep wide high =
 size_same : (n : ℕ) → div_ceil n (2 ^ 0) ≡ n
 size_same n = let one = div-one n in let rest : n % 1 ≡ 0 = omega arith in rw (one, rest) (omega arith)
 
-each_asked : (width height : ℕ) → image_channel (sized width height (Shifts 0)) ≡ record { width = width; height = height; original_width = width; original_height = height; hshift = pos 0; vshift = pos 0; shift = Shifts 0 }
+each_asked : (width height : ℕ) → image_channel (sized width height (Shifts 0)) ≡ record { width = width; height = height; original_width = width; original_height = height; hshift = pos 0; vshift = pos 0; original_shift = Shifts 0 }
 each_asked width height =
-    ap (λ n. record { width = n; height = div_ceil height (2 ^ 0); original_width = width; original_height = height; hshift = pos 0; vshift = pos 0; shift = Shifts 0 }) (size_same width)
-    ∙ ap (λ n. record { width = width; height = n; original_width = width; original_height = height; hshift = pos 0; vshift = pos 0; shift = Shifts 0 }) (size_same height)
+    ap (λ n. record { width = n; height = div_ceil height (2 ^ 0); original_width = width; original_height = height; hshift = pos 0; vshift = pos 0; original_shift = Shifts 0 }) (size_same width)
+    ∙ ap (λ n. record { width = width; height = n; original_width = width; original_height = height; hshift = pos 0; vshift = pos 0; original_shift = Shifts 0 }) (size_same height)
 
 replicated : (n : ℕ) (c : ModularChannelParams) (d : Channel) → image_channel c ≡ d → map image_channel (replicate n c) ≡ replicate n d
 replicated zero c d same = refl

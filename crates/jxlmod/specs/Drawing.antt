@@ -22,7 +22,7 @@ width_of I32 = w32
 -- n channels of one size and of shift 0
 abbrev pub channels_asked : ℕ → ℕ → ℕ → ChannelList
 channels_asked width height n = record {
-  channels = replicate n (record { width = width; height = height; original_width = width; original_height = height; hshift = pos 0; vshift = pos 0; shift = Shifts 0 });
+  channels = replicate n (record { width = width; height = height; original_width = width; original_height = height; hshift = pos 0; vshift = pos 0; original_shift = Shifts 0 });
   nb_meta = 0;
 }
 

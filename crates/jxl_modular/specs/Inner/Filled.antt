@@ -1,13 +1,12 @@
 -- What decoding all samples of an image that was read, and undoing its transforms, gives.
-use Rattle.std.specs.Prelude.{◌≡◌, ℕ, ◌+◌, ◌*◌, ◌≤◌, ℤ, List, true}
+use Rattle.std.specs.Prelude.{◌≡◌, ℕ, ◌+◌, ◌*◌, ◌≤◌, ℤ, List}
 use Rattle.std.specs.Int.{Width}
 use Rattle.jxlm_base.specs.Decoding.{Meaning}
 use Rattle.jxlm_base.specs.Fault.{Fault, OfDecoder}
 use Rattle.jxlm_base.specs.Grid.{Grid}
 use Rattle.jxlm_base.specs.declared.decoder.DecoderError.{DecoderError}
-use Rattle.jxlm_part.specs.Coded.{IsCodedWhole}
-use Rattle.jxlm_part.specs.Decode.{Fails}
-use Rattle.jxl_modular.specs.Image.{Image, IsOnlyImage, coded_grids, cost_of, image_grids, whole_part}
+use Rattle.jxlm_part.specs.Coded.{DecodingFails, IsCodedWhole}
+use Rattle.jxl_modular.specs.Image.{Image, IsOnlyImage, cost_of, image_grids, whole_part}
 
 module _ {S D : Type 0} (d : Meaning D) (w : Width) (to_int : S → ℤ) (bytes : List ℕ) (stream : ℕ) (old : Image S D) (p : ℕ) where
   -- Some samples are coded whole from position p up to position q, and the new image's channels are the only ones
@@ -20,8 +19,7 @@ module _ {S D : Type 0} (d : Meaning D) (w : Width) (to_int : S → ℤ) (bytes 
   -- decoding the samples from position p is this error, which leaves the reader at position q
   pub record FillFails (fault : Fault) (q before after : ℕ) : Type 0 where
     pub error : DecoderError
-    pub left : List (Grid ℤ)
     pub tried : ℕ
-    pub fails : Fails d w (whole_part old stream) bytes old.config.decoder (record { position = p; grids = coded_grids to_int old; partial = true }) (record { position = q; grids = left; partial = true }) error tried
+    pub fails : DecodingFails d w (whole_part old stream) bytes old.config.decoder p error q tried
     pub error_is : fault ≡ OfDecoder error
     pub steps : after ≤ before + tried * cost_of old

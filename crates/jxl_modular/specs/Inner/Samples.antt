@@ -9,15 +9,15 @@ use Rattle.jxlm_base.specs.declared.error.Error.TheVariants.{Decoder, Buffer}
 use Rattle.jxlm_part.specs.Coded.{IsCodedToTheEnd}
 use Rattle.jxlm_part.specs.Decode.{Fails}
 use Rattle.jxl_modular.specs.Image.{Image, coded_grids, cost_of, whole_part, samples_in}
-use Rattle.jxlm_part.specs.Layout.{channels_of}
-use Rattle.jxlm_part.specs.Part.{Fits, greatest_width}
+use Rattle.jxlm_transform.specs.Channels.{AreGridsOf}
+use Rattle.jxlm_part.specs.Part.{greatest_width}
 use Rattle.jxlm_part.specs.Reading.{HasFlats, IsRoomyFor}
 use Rattle.jxlm_part.specs.declared.coding.Ready.{Ready}
 
 module _ {S D : Type 0} (d : Meaning D) (w : Width) (to_int : S → ℤ) (bytes : List ℕ) (stream : ℕ) (old : Image S D) (p : ℕ) (new : Image S D) (q : ℕ) where
   -- the samples are coded to the end
   abbrev pub DecodesSamples : Type 0
-  DecodesSamples = IsCodedToTheEnd d w (whole_part old stream) bytes old.config.decoder p (coded_grids to_int new) q × Fits (channels_of old.channels) (coded_grids to_int new)
+  DecodesSamples = IsCodedToTheEnd d w (whole_part old stream) bytes old.config.decoder p (coded_grids to_int new) q × AreGridsOf old.channels (coded_grids to_int new)
 
   -- The decoder returns an error at one of begin, a read, or the end; each read that was tried took at most as many
   -- steps as the tree's depth and one more.
@@ -42,4 +42,4 @@ module _ {S D : Type 0} (d : Meaning D) (w : Width) (to_int : S → ℤ) (bytes 
 pub record IsReadyFor {S D : Type 0} (image : Image S D) (stream : ℕ) (r : Ready S D) : Type 0 where
   pub decoder_is : r.decoder ≡ image.config.decoder
   pub flats_are : HasFlats image.config.tree stream (length image.channels) r.flats.items
-  pub roomy : IsRoomyFor (greatest_width (channels_of image.channels)) image.weights r.flats.items r.state
+  pub roomy : IsRoomyFor (greatest_width image.channels) image.weights r.flats.items r.state

@@ -4,7 +4,6 @@ ghost use Rattle.std.specs.Prelude.{◌≡◌, ◌++◌, pos, map, IfOk, IfErr, 
 ghost use Rattle.jxlm_base.specs.Fault.{NoMemory, fault_of};
 ghost use Rattle.jxlm_chain.specs.Layout.{sides_of};
 ghost use Rattle.jxlm_transform.specs.Steps.{tables_of, steps_in};
-ghost use Rattle.jxlm_transform.specs.Channels.{channel_of};
 ghost use Rattle.jxlm_transform.specs.Transforms.{transform_of};
 ghost use Rattle.jxl_modular.specs.Fresh.{fresh, tables_for, zeros};
 
@@ -25,7 +24,7 @@ fn zero_grids<S: Sample>(
     alloc: Global,
     channels: &[ModularChannelInfo],
 ) -> Result<Vec<AlignedGrid<S>>>
-    ensures ok { IfOk result (λ v. v.items ≡ zeros (S.from_int (pos 0)) (sides_of (map channel_of channels.now))) }
+    ensures ok { IfOk result (λ v. v.items ≡ zeros (S.from_int (pos 0)) (sides_of channels.now)) }
     ensures err { IfErr result (λ e. fault_of e ≡ NoMemory) }
 {
     let mut grids = Vec::new(alloc);

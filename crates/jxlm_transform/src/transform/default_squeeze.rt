@@ -1,8 +1,8 @@
 //! The squeeze of a header that lists no steps (ISO/IEC 18181-1, Modular: default squeeze).
 
-ghost use Rattle.std.specs.Prelude.{◌≡◌, ◌+◌, ◌^◌, ◌<◌, ◌&&◌, ◌++◌, ◌∷◌, [], nat_le, nat_lt, length, map, take, if◌then◌else◌, IfOk};
+ghost use Rattle.std.specs.Prelude.{◌≡◌, ◌+◌, ◌^◌, ◌<◌, ◌&&◌, ◌++◌, ◌∷◌, [], nat_le, nat_lt, length, take, if◌then◌else◌, IfOk};
 ghost use Rattle.std.specs.Int.{div_ceil};
-ghost use Rattle.jxlm_transform.specs.Channels.{HasItsMeta, channel_of, list_of};
+ghost use Rattle.jxlm_transform.specs.Channels.{HasItsMeta, list_of};
 ghost use Rattle.jxlm_transform.specs.ChannelSteps.{StepsGive, default_of_all, default_of_chroma, halvings, in_turn, one_size, step_of_all as the_step_of_all, step_of_chroma as the_step_of_chroma, steps_of_squeeze};
 
 use super::steps::are_of_size;
@@ -91,7 +91,7 @@ fn add_all(
 
 /// Whether three channels or more are there, and the second has the size of the first.
 fn has_chroma(leader: &ModularChannelInfo, others: &[ModularChannelInfo]) -> bool
-    ensures { result ≡ (nat_le 3 (length (map channel_of (leader.now ∷ others.now))) && one_size (take 2 (map channel_of (leader.now ∷ others.now)))) }
+    ensures { result ≡ (nat_le 3 (length (leader.now ∷ others.now)) && one_size (take 2 (leader.now ∷ others.now))) }
 {
     others.len() >= 2 && are_of_size(leader, &others[..1])
 }
@@ -105,7 +105,7 @@ fn add_chroma(
     others: &[ModularChannelInfo],
 ) -> std::result::Result<(), OutOfMemory>
     requires { first < 2 ^ 63 }
-    ensures { IfOk result (λ _. steps.new.items ≡ steps.old.items ++ default_of_chroma first (map channel_of (leader.now ∷ others.now))) }
+    ensures { IfOk result (λ _. steps.new.items ≡ steps.old.items ++ default_of_chroma first (leader.now ∷ others.now)) }
 {
     if has_chroma(leader, others) {
         steps

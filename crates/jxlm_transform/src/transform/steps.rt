@@ -3,7 +3,7 @@
 
 ghost use Rattle.std.specs.Prelude.{◌≡◌, ◌≤◌, ◌+◌, ◌++◌, ◌&&◌, nat_le, length, map, IsTrue, IfOk, IfErr};
 ghost use Rattle.std.specs.List.{All, list_all};
-ghost use Rattle.jxlm_transform.specs.Channels.{HasItsMeta, channel_of, list_of};
+ghost use Rattle.jxlm_transform.specs.Channels.{HasItsMeta, list_of};
 ghost use Rattle.jxlm_transform.specs.Transforms.{HasChannels, transform_of};
 ghost use Rattle.jxlm_transform.specs.ChannelSteps.{ListIs, ListGives, TransformGives, SqueezeStep, list_after_all, range, has_range as the_has_range, has_size_of, one_size as the_one_size, keeps_meta as the_keeps_meta, rct_step, palette_step, can_be_squeezed, squeeze_range, squeeze_step, average_channel, residual_channel, with_halves as the_halves};
 
@@ -22,14 +22,14 @@ fn has_range(begin: usize, count: usize, len: usize) -> bool
 
 /// Whether the others have the size of the first.
 pub(super) fn are_of_size(first: &ModularChannelInfo, others: &[ModularChannelInfo]) -> bool
-    ensures { result ≡ list_all (λ c. has_size_of (channel_of first.now) (channel_of c)) others.now }
+    ensures { result ≡ list_all (has_size_of first.now) others.now }
 {
     others.iter().all(|channel| first.is_of_size(channel))
 }
 
 /// Whether the channels have one size.
 fn one_size(channels: &[ModularChannelInfo]) -> bool
-    ensures { result ≡ the_one_size (map channel_of channels.now) }
+    ensures { result ≡ the_one_size channels.now }
 {
     match channels.split_first() {
         Some((first, others)) => are_of_size(first, others),
@@ -39,7 +39,7 @@ fn one_size(channels: &[ModularChannelInfo]) -> bool
 
 /// Whether the list has `count` channels from `begin` on, and they have one size.
 fn has_one_size(channels: &[ModularChannelInfo], begin: usize, count: usize) -> bool
-    ensures { result ≡ (the_has_range begin count (map channel_of channels.now) && the_one_size (range begin count (map channel_of channels.now))) }
+    ensures { result ≡ (the_has_range begin count channels.now && the_one_size (range begin count channels.now)) }
 {
     has_range(begin, count, channels.len()) && one_size(&channels[begin..begin + count])
 }
@@ -112,8 +112,8 @@ fn averages(
     channels: &[ModularChannelInfo],
     horizontal: bool,
 ) -> std::result::Result<Vec<ModularChannelInfo>, OutOfMemory>
-    requires { All (λ c. IsTrue (can_be_squeezed (channel_of c))) channels.now }
-    ensures { IfOk result (λ v. map channel_of v.items ≡ map (average_channel horizontal) (map channel_of channels.now)) }
+    requires { All (λ c. IsTrue (can_be_squeezed c)) channels.now }
+    ensures { IfOk result (λ v. v.items ≡ map (average_channel horizontal) channels.now) }
 {
     let mut halves = Vec::new(alloc);
     for channel in channels {
@@ -130,8 +130,8 @@ fn residuals(
     channels: &[ModularChannelInfo],
     horizontal: bool,
 ) -> std::result::Result<Vec<ModularChannelInfo>, OutOfMemory>
-    requires { All (λ c. IsTrue (can_be_squeezed (channel_of c))) channels.now }
-    ensures { IfOk result (λ v. map channel_of v.items ≡ map (residual_channel horizontal) (map channel_of channels.now)) }
+    requires { All (λ c. IsTrue (can_be_squeezed c)) channels.now }
+    ensures { IfOk result (λ v. v.items ≡ map (residual_channel horizontal) channels.now) }
 {
     let mut halves = Vec::new(alloc);
     for channel in channels {
@@ -144,7 +144,7 @@ fn residuals(
 
 /// Whether each channel can be squeezed.
 fn can_all_be_squeezed(channels: &[ModularChannelInfo]) -> bool
-    ensures { result ≡ list_all (λ c. can_be_squeezed (channel_of c)) channels.now }
+    ensures { result ≡ list_all can_be_squeezed channels.now }
 {
     channels.iter().all(|channel| channel.can_be_squeezed())
 }
@@ -176,8 +176,8 @@ impl SqueezeParams {
         channels: &mut Vec<ModularChannelInfo>,
     ) -> std::result::Result<(), OutOfMemory>
         requires range { self.now.begin_c + self.now.num_c ≤ length channels.old.items }
-        requires each { All (λ c. IsTrue (can_be_squeezed (channel_of c))) (range self.now.begin_c self.now.num_c channels.old.items) }
-        ensures gives { IfOk result (λ _. map channel_of channels.new.items ≡ the_halves self.now (map (average_channel self.now.horizontal) (range self.now.begin_c self.now.num_c (map channel_of channels.old.items))) (map (residual_channel self.now.horizontal) (range self.now.begin_c self.now.num_c (map channel_of channels.old.items))) (map channel_of channels.old.items)) }
+        requires each { All (λ c. IsTrue (can_be_squeezed c)) (range self.now.begin_c self.now.num_c channels.old.items) }
+        ensures gives { IfOk result (λ _. channels.new.items ≡ the_halves self.now (map (average_channel self.now.horizontal) (range self.now.begin_c self.now.num_c channels.old.items)) (map (residual_channel self.now.horizontal) (range self.now.begin_c self.now.num_c channels.old.items)) channels.old.items) }
         ensures unchanged { IfErr result (λ _. channels.new.items ≡ channels.old.items) }
     {
         let range = &channels[self.begin_c..self.begin_c + self.num_c];

@@ -20,7 +20,7 @@ returns-in_err-fill-clause-err g c =
     let fails = rw c.in_ok-modular.ensures.bytes at c.in_err-fill.ensures.err in
     rw (e.1, e.2)
     (fails_filling g.D.Decoder.meaning g.S.Sealed.width g.S.Sealed.to_int (bytes_of c.args.bits.now) c.args.stream_index (g.S.Sealed.from_int (pos 0)) (position_of c.args.bits.now) c.args.params
-    c.in-Some.image (position_of c.parse.new.bits) read.1 (g.met.S.Sealed.to_int_from_int (pos 0)) c.in_err-fill.ensures.laid _ (position_of c.fill.new.bits) c.args.steps.now c.fill.new.steps c.in_err-fill.ensures.work.0 fails)
+    c.in-Some.image (position_of c.parse.new.bits) read.1 _ (position_of c.fill.new.bits) c.args.steps.now c.fill.new.steps c.in_err-fill.ensures.work.0 fails)
 
 pub returns-in_err-fill-clause-work : goal.returns-in_err-fill-clause-work
 returns-in_err-fill-clause-work g c =

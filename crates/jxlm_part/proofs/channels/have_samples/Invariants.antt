@@ -1,7 +1,6 @@
 use Rattle.std.proofs.Common.{◌≡◌, take}
-use Rattle.jxlm_part.specs.Layout.{channels_of}
 use Rattle.jxlm_part.specs.Part.{cell_count}
 use Rattle.jxlm_part.proofs.channels.have_samples.Given as goal
 
 abbrev pub invariant-loop-channel : goal.invariant-loop-channel
-invariant-loop-channel l = cell_count (channels_of (take l.channel-index l.channels)) ≡ 0
+invariant-loop-channel l = cell_count (take l.channel-index l.channels) ≡ 0

@@ -5,6 +5,6 @@ use Rattle.jxlm_transform.proofs.param.is_group_dim.Goals as goal
 pub returns-then-contains : goal.returns-then-contains
 returns-then-contains c =
     let power = IsTrue-is_power_of_two c.args.group_dim in (
-      λ t. record { least = search rules; greatest = search rules; power = power.0 (sym c.is_power_of_two.ensures ∙ t) },
-      λ d. c.is_power_of_two.ensures ∙ power.1 d.power,
+      λ t. (search rules, search rules, power.0 (sym c.is_power_of_two.ensures ∙ t)),
+      λ d. c.is_power_of_two.ensures ∙ power.1 d.2,
     )

@@ -1,6 +1,6 @@
 use Rattle.std.proofs.Common.{length}
-use Rattle.jxlm_chain.specs.Layout.{HasSides}
+use Rattle.jxlm_transform.specs.Channels.{HasSides}
 use Rattle.jxlm_transform_tests.proofs.chain.row.Given as goal
 
 abbrev pub invariant-loop-x : goal.invariant-loop-x
-invariant-loop-x g l = HasSides (record { width = length l.samples; height = 1 }) l.grid
+invariant-loop-x g l = HasSides (length l.samples) 1 l.grid

@@ -1,11 +1,10 @@
 use Rattle.std.proofs.Common.{◌∙◌, ap, arith}
-use Rattle.jxlm_part.specs.Layout.{channels_of}
 use Rattle.jxlm_part.specs.Part.{greatest_width}
 use Rattle.jxlm_part.proofs.Starting.{narrow_widest}
 use Rattle.jxl_modular.proofs.image.ModularImageDestination.ready.Goals as goal
 
 pub roomy_state-requires-clause-narrow : goal.roomy_state-requires-clause-narrow
 roomy_state-requires-clause-narrow g c κs within =
-    let widest = c.greatest_width-widest.ensures ∙ ap (λ cs. greatest_width (channels_of cs)) c.deref.ensures.value in
-    let narrow = narrow_widest (channels_of c.self.inside.channels.items) c.self.invariant.narrow in
+    let widest = c.greatest_width-widest.ensures ∙ ap greatest_width c.deref.ensures.value in
+    let narrow = narrow_widest c.self.inside.channels.items c.self.invariant.narrow in
     omega (arith, widest, narrow)

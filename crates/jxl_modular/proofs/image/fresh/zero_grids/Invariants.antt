@@ -1,8 +1,7 @@
-use Rattle.std.proofs.Common.{◌≡◌, take, pos, map}
+use Rattle.std.proofs.Common.{◌≡◌, take, pos}
 use Rattle.jxlm_chain.specs.Layout.{sides_of}
-use Rattle.jxlm_transform.specs.Channels.{channel_of}
 use Rattle.jxl_modular.specs.Fresh.{zeros}
 use Rattle.jxl_modular.proofs.image.fresh.zero_grids.Given as goal
 
 abbrev pub invariant-loop-channel : goal.invariant-loop-channel
-invariant-loop-channel g l = l.grids.items ≡ zeros (g.S.Sealed.from_int (pos 0)) (sides_of (map channel_of (take l.channel-index l.channels)))
+invariant-loop-channel g l = l.grids.items ≡ zeros (g.S.Sealed.from_int (pos 0)) (sides_of (take l.channel-index l.channels))

@@ -1,6 +1,5 @@
 use Rattle.std.proofs.Common.{arith, sym, ◌≡◌, ◌+◌, ◌*◌, ◌^◌, ◌<◌, min, pos, List, length, sum_by, false, rules, Err, Ok, ap, ◌∙◌, subst}
 use Rattle.jxlm_base.specs.Bits.{bytes_of, position_of}
-use Rattle.jxlm_transform.specs.declared.channels.ModularChannelInfo.{ModularChannelInfo}
 use Rattle.jxlm_transform.specs.declared.channels.ModularChannels.{ModularChannels}
 use Rattle.jxlm_tree.specs.TreeReading.{TreeGives, IsTreeAt}
 use Rattle.jxlm_header.specs.Opening.{depth_limit, opening_of}
@@ -9,7 +8,7 @@ use Rattle.jxlm_header.specs.declared.header.ModularHeader.{ModularHeader}
 use Rattle.jxl_modular.proofs.ParsingLaws.{image_stands, tree_refused, not_zero, gives_image, gives_fault}
 use Rattle.jxl_modular.proofs.root.Modular.parse.Goals as goal
 use Rattle.jxlm_base.specs.Fault.{fault_of}
-use Rattle.jxlm_transform.specs.Channels.{IsNarrow, image_list, list_of}
+use Rattle.jxlm_transform.specs.Channels.{Channel, IsNarrow, area, image_list, list_of}
 use Rattle.jxlm_transform.specs.declared.param.ModularChannelParams.{ModularChannelParams}
 use Rattle.jxlm_transform.proofs.SideBounds.{narrow_image}
 use Rattle.jxl_modular.specs.Fresh.{fresh}
@@ -51,7 +50,7 @@ returns-in_err-ma_ctx-clause-gives g c =
     let counted_some : 0 < params.channels.len = not_zero params.channels.len (sym c.is_empty.ensures ∙ c.if-is_empty.false) in
     let some : 0 < length ps = omega (arith, counted_some, params.channels.ok.0) in
     let opens : opened bytes (image_list ps) p ≡ Ok (record { value = opening_of o; position = m }) = rw (no_global, c.deref.ensures.value) at c.in_ok-header.ensures.gives in
-    let counted : limit ≡ min (1024 + sum_by (λ c. c.width * c.height) o.1.info.items) (2 ^ 20) = c.node_limit.ensures ∙ ap (λ (xs : List ModularChannelInfo). min (1024 + sum_by (λ c. c.width * c.height) xs) (2 ^ 20)) c.deref-2.ensures.value in
+    let counted : limit ≡ min (1024 + sum_by area o.1.info.items) (2 ^ 20) = c.node_limit.ensures ∙ ap (λ (xs : List Channel). min (1024 + sum_by area xs) (2 ^ 20)) c.deref-2.ensures.value in
     let e = c.in_err-ma_ctx.field-0.0 in
     let q = position_of c.parse.new.bits in
     let gives : TreeGives d bytes limit depth_limit m (Err e) q = rw c.in_ok-header.ensures.bytes at c.in_err-ma_ctx.ensures.gives in
@@ -73,7 +72,7 @@ returns-clause-gives g c =
     let counted_some : 0 < params.channels.len = not_zero params.channels.len (sym c.is_empty.ensures ∙ c.if-is_empty.false) in
     let some : 0 < length ps = omega (arith, counted_some, params.channels.ok.0) in
     let opens : opened bytes (image_list ps) p ≡ Ok (record { value = opening_of o; position = m }) = rw (no_global, c.deref.ensures.value) at c.in_ok-header.ensures.gives in
-    let counted : limit ≡ min (1024 + sum_by (λ c. c.width * c.height) o.1.info.items) (2 ^ 20) = c.node_limit.ensures ∙ ap (λ (xs : List ModularChannelInfo). min (1024 + sum_by (λ c. c.width * c.height) xs) (2 ^ 20)) c.deref-2.ensures.value in
+    let counted : limit ≡ min (1024 + sum_by area o.1.info.items) (2 ^ 20) = c.node_limit.ensures ∙ ap (λ (xs : List Channel). min (1024 + sum_by area xs) (2 ^ 20)) c.deref-2.ensures.value in
     let q = position_of c.parse.new.bits in
     let tree : IsTreeAt d bytes limit depth_limit m c.in_ok-ma_ctx.ma_ctx q = rw c.in_ok-header.ensures.bytes at c.in_ok-ma_ctx.ensures.gives in
     let given : list_of c.in_ok-given.given ≡ image_list ps = c.in_ok-given.ensures.ok ∙ ap (λ (cs : List ModularChannelParams). image_list cs) c.deref-3.ensures.value in

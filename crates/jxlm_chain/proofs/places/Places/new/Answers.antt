@@ -1,9 +1,8 @@
-use Rattle.std.proofs.Common.{◌≡◌, ℕ, List, ◌≤◌, length, map, take, refl, sym, subst, ap, ◌∙◌, arith}
+use Rattle.std.proofs.Common.{◌≡◌, ℕ, List, ◌≤◌, length, take, refl, sym, subst, ap, ◌∙◌, arith}
 use Rattle.std.specs.List.{All}
 use Rattle.std.proofs.lemmas.List.{take_all}
 use Rattle.jxlm_base.specs.declared.subgrid.Region.{Region}
-use Rattle.jxlm_transform.specs.Channels.{channel_of}
-use Rattle.jxlm_transform.specs.declared.channels.ModularChannelInfo.{ModularChannelInfo}
+use Rattle.jxlm_transform.specs.Channels.{Channel}
 use Rattle.jxlm_chain.specs.Inner.Ends.{HasEnds}
 use Rattle.jxlm_chain.specs.Layout.{Layout, whole_regions, first_layout}
 use Rattle.jxlm_chain.proofs.Ends.{ends_push}
@@ -21,11 +20,11 @@ loop-channel-preserved c = record {
 pub invariant_of-result : goal.invariant_of-result
 invariant_of-result c = record { ends = c.loop-channel.invariant.ends }
 
-whole : (xs : List ModularChannelInfo) (rs : List Region) (i n : ℕ) → length xs ≤ i → rs ≡ whole_regions 0 (map channel_of (take i xs)) → n ≡ length rs →
-    ◌≡◌ {A = Layout} (record { regions = rs; buffers = n }) (first_layout (map channel_of xs))
+whole : (xs : List Channel) (rs : List Region) (i n : ℕ) → length xs ≤ i → rs ≡ whole_regions 0 (take i xs) → n ≡ length rs →
+    ◌≡◌ {A = Layout} (record { regions = rs; buffers = n }) (first_layout xs)
 whole xs rs i n h made len =
-    let all : rs ≡ whole_regions 0 (map channel_of xs) = made ∙ ap (λ (ys : List ModularChannelInfo). whole_regions 0 (map channel_of ys)) (take_all i xs h) in
-    let count : n ≡ length (map channel_of xs) = len ∙ ap length all ∙ length-whole 0 (map channel_of xs) in
+    let all : rs ≡ whole_regions 0 xs = made ∙ ap (λ (ys : List Channel). whole_regions 0 ys) (take_all i xs h) in
+    let count : n ≡ length xs = len ∙ ap length all ∙ length-whole 0 xs in
     rw (all, count) refl
 
 pub returns : goal.returns

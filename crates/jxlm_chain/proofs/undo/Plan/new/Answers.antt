@@ -1,6 +1,5 @@
 use Rattle.std.proofs.Common.{◌+◌, ◌<◌, ◌^◌, length, map, sym, subst, arith}
 use Rattle.std.proofs.lemmas.List.{length-map}
-use Rattle.jxlm_transform.specs.Channels.{channel_of}
 use Rattle.jxlm_transform.specs.Transforms.{transform_of}
 use Rattle.jxlm_chain.specs.Layout.{Layout}
 use Rattle.jxlm_chain.specs.Places.{CanTakeAll}
@@ -13,6 +12,5 @@ add_all-requires c =
     let ts = c.args.transforms.now in
     let cs = c.args.channels.now in
     let m = length-map ts transform_of in
-    let n = length-map cs channel_of in
-    let few : length (map channel_of cs) + length (map transform_of ts) < 2 ^ 64 = omega (arith, m, n) in
-    subst (λ (l : Layout). CanTakeAll (steps_in (map transform_of ts)) l) (sym c.in_ok-places.ensures) (can_take_all (map transform_of ts) (map channel_of cs) c.requires few)
+    let few : length cs + length (map transform_of ts) < 2 ^ 64 = omega (arith, m) in
+    subst (λ (l : Layout). CanTakeAll (steps_in (map transform_of ts)) l) (sym c.in_ok-places.ensures) (can_take_all (map transform_of ts) cs c.requires few)

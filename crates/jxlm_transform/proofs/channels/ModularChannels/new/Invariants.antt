@@ -1,6 +1,6 @@
 use Rattle.std.proofs.Common.{◌≡◌, map, take}
-use Rattle.jxlm_transform.specs.Channels.{channel_of, image_channel}
+use Rattle.jxlm_transform.specs.Channels.{image_channel}
 use Rattle.jxlm_transform.proofs.channels.ModularChannels.new.Given as goal
 
 abbrev pub invariant-loop-channel : goal.invariant-loop-channel
-invariant-loop-channel l = map channel_of l.info.items ≡ map image_channel (take l.channel-index l.params)
+invariant-loop-channel l = l.info.items ≡ map image_channel (take l.channel-index l.params)

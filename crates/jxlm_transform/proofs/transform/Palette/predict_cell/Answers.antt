@@ -4,7 +4,8 @@ use Rattle.std.specs.Int.{int_wrap}
 use Rattle.std.proofs.lemmas.Int.{to_z-of_z, fits_signed_from_abs}
 use Rattle.jxlm_base.specs.Regions.{store_meanings}
 use Rattle.jxlm_tree.specs.Standing.{StandsAt, setting}
-use Rattle.jxlm_transform.specs.Palette.{colour_of, finished_sample, is_delta, predicted}
+use Rattle.jxlm_tree.specs.Predictions.{prediction}
+use Rattle.jxlm_transform.specs.Palette.{colour_of, finished_sample, is_delta}
 use Rattle.jxlm_transform.specs.Inner.PaletteSteps.{table_in}
 use Rattle.jxlm_transform.proofs.PaletteSteps.{finished_is, is_ready}
 use Rattle.jxlm_transform.proofs.transform.Palette.predict_cell.Goals as goal
@@ -23,7 +24,7 @@ returns-clause-sets g c = λ before stands.
     let bound = c.colour-colour.ensures.bound in
     let narrow : FitsSigned w32 i = search rules in
     let wide : FitsSigned w64 c.colour-colour.result = fits_signed_from_abs w64 c.colour-colour.result (omega arith) in
-    let value : to_int c.next_sample-sample.result ≡ int_wrap w (if is_delta t i then c.colour-colour.result +ℤ predicted t before p.index.width else c.colour-colour.result) =
+    let value : to_int c.next_sample-sample.result ≡ int_wrap w (if is_delta t i then c.colour-colour.result +ℤ prediction t.wp_header before p.index.width t.d_pred else c.colour-colour.result) =
     cc (c.next_sample-sample.ensures.value (setting p.index.width t.wp_header []) before stands, to_z-of_z w32 i narrow, to_z-of_z w64 c.colour-colour.result wide) in
     let colour : c.colour-colour.result ≡ colour_of c.args.bit_depth t (table_in p ints) i p.number = cc (c.colour-colour.ensures.value, to_z-of_z w32 i narrow) in
     record {

@@ -1,4 +1,4 @@
-use Rattle.jxlm_transform.proofs.Views.{call_halves}
+use Rattle.jxlm_transform.proofs.Lists.{call_halves}
 use Rattle.jxlm_transform.proofs.transform.SqueezeParams.halve.Goals as goal
 
 pub returns-clause-gives : goal.returns-clause-gives
