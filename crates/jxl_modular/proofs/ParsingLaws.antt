@@ -32,6 +32,12 @@ areas_same (c ∷ cs) =
     ∙ ap (λ n. area (channel_of c) + n) (areas_same cs)
     ∙ sym (sum_by-cons area (channel_of c) (map channel_of cs))
 
+-- a copy of a list of given channels is that list
+pub same_list : (copied : List ModularChannelInfo) (l : ModularChannels) (ps : List ModularChannelParams) → copied ≡ l.info.items → list_of l ≡ image_list ps →
+    ◌≡◌ {A = ChannelList} (record { channels = map channel_of copied; nb_meta = 0 }) (image_list ps)
+same_list copied l ps same is =
+    ap (λ (cs : List ModularChannelInfo). record { channels = map channel_of cs; nb_meta = 0 }) same ∙ ap (λ (m : ChannelList). record { channels = m.channels; nb_meta = 0 }) is
+
 module _ {S D : Type 0} (d : Meaning D) (zero : S) (bytes : List ℕ) (p : ℕ) (params : ModularParams D) where
   abbrev given : ChannelList
   given = image_list params.channels.items
