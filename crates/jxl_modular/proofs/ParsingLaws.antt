@@ -24,6 +24,12 @@ pub not_zero : (n : ℕ) → (n == 0) ≡ false → 0 < n
 not_zero zero h = cc
 not_zero (suc n) h = omega arith
 
+-- a copy of a list of given channels is that list
+pub same_list : (copied : List Channel) (l : ModularChannels) (ps : List ModularChannelParams) → copied ≡ l.info.items → list_of l ≡ image_list ps →
+    ◌≡◌ {A = ChannelList} (record { channels = copied; nb_meta = 0 }) (image_list ps)
+same_list copied l ps same is =
+    ap (λ (cs : List Channel). record { channels = cs; nb_meta = 0 }) same ∙ ap (λ (m : ChannelList). record { channels = m.channels; nb_meta = 0 }) is
+
 module _ {S D : Type 0} (d : Meaning D) (zero : S) (bytes : List ℕ) (p : ℕ) (params : ModularParams D) where
   abbrev given : ChannelList
   given = image_list params.channels.items

@@ -1,3 +1,4 @@
 pub mod Filled
+pub mod Kept
 pub mod Samples
 pub mod StepCode

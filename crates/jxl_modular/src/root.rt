@@ -1,9 +1,11 @@
 //! Modular images as they are read.
 
-ghost use Rattle.std.specs.Prelude.{◌≡◌, pos, None, Ok};
+ghost use Rattle.std.specs.Prelude.{◌≡◌, pos, map, None, Ok, IfOk, IfErr};
 ghost use Rattle.std.specs.List.{All};
 ghost use Rattle.std.specs.Option.{option_copied, option_copied_mut};
 ghost use Rattle.jxlm_base.specs.Bits.{bytes_of, position_of};
+ghost use Rattle.jxlm_base.specs.Fault.{NoMemory, fault_of};
+ghost use Rattle.jxlm_transform.specs.Channels.{list_of};
 ghost use Rattle.jxlm_transform.specs.Params.{IsValidParams};
 ghost use Rattle.jxl_modular.specs.Parsing.{ParseGives, image_of};
 
@@ -13,7 +15,7 @@ use jxlm_base::decoder::Decoder;
 use jxlm_base::error::Result;
 use jxlm_base::sample::Sample;
 use jxlm_header::opening::{DEPTH_LIMIT, node_limit, open};
-use jxlm_transform::channels::ModularChannels;
+use jxlm_transform::channels::{ModularChannelInfo, ModularChannels};
 use jxlm_transform::param::ModularParams;
 use jxlm_tree::ma::{MaConfig, MaConfigParams};
 use std::alloc::Global;
@@ -22,6 +24,17 @@ use std::alloc::Global;
 #[derive(Drop)]
 pub struct Modular<S, D: Decoder> {
     inner: Option<ModularImageDestination<S, D>>,
+}
+
+/// The list of these channels, none of which is a meta channel. Out of memory is its only error.
+fn copied(alloc: Global, channels: &[ModularChannelInfo]) -> Result<ModularChannels>
+    ensures ok { IfOk result (λ l. list_of l ≡ record { channels = channels.now; nb_meta = 0 }) }
+    ensures err { IfErr result (λ e. fault_of e ≡ NoMemory) }
+{
+    Ok(ModularChannels {
+        info: Vec::from_slice(alloc, channels)?,
+        nb_meta_channels: 0,
+    })
 }
 
 impl<S: Sample, D: Decoder> Modular<S, D> {
@@ -74,13 +87,14 @@ impl<S: Sample, D: Decoder> Modular<S, D> {
             return Ok(Modular::empty());
         }
         let has_global = params.ma_config.is_some();
-        let (header, channels) = open(alloc, bits, &params.channels, has_global)?;
+        let given = ModularChannels::new(alloc, &params.channels)?;
+        let list = copied(alloc, &given.info)?;
+        let (header, channels) = open(alloc, bits, list, has_global)?;
         let limits = MaConfigParams {
             node_limit: node_limit(&channels.info),
             depth_limit: DEPTH_LIMIT,
         };
         let ma_ctx = MaConfig::parse(alloc, bits, limits)?;
-        let given = ModularChannels::new(alloc, &params.channels)?;
         let image = ModularImageDestination::new(
             alloc,
             header,

@@ -3,9 +3,8 @@
 ghost use Rattle.std.specs.Prelude.{◌≡◌, ◌+◌, ◌*◌, ◌^◌, ◌≤◌, length, min, sum_by, Ok, IfOk};
 ghost use Rattle.std.specs.List.{All};
 ghost use Rattle.jxlm_base.specs.Bits.{bytes_of, position_of};
-ghost use Rattle.jxlm_transform.specs.Channels.{IsNarrow, image_list, list_of};
+ghost use Rattle.jxlm_transform.specs.Channels.{HasItsMeta, IsNarrow, list_of};
 ghost use Rattle.jxlm_transform.specs.ChannelSteps.{list_after_all};
-ghost use Rattle.jxlm_transform.specs.Params.{IsValidChannel};
 ghost use Rattle.jxlm_transform.specs.Steps.{HasChannels, HasNarrowTables, HasWeights, steps_in};
 ghost use Rattle.jxlm_transform.specs.Transforms.{Parses};
 ghost use Rattle.jxlm_tree.specs.SelfCorrecting.{IsHeader};
@@ -16,7 +15,6 @@ use crate::header::{ModularHeader, prepare_transforms};
 use jxlm_base::bits::{Bitstream, BitstreamError};
 use jxlm_base::error::{Error, Result};
 use jxlm_transform::channels::{ModularChannelInfo, ModularChannels};
-use jxlm_transform::param::ModularChannelParams;
 use std::alloc::Global;
 
 /// The maximum number of coded channels.
@@ -55,8 +53,8 @@ fn check(header: &ModularHeader, channels: &ModularChannels, has_global: bool) -
     Ok(())
 }
 
-/// Reads what comes before a tree: the header, whose transforms are applied to the channels of the
-/// image, and whose conditions come after them.
+/// Reads what comes before a tree: the header, whose transforms are applied to these channels, none of which has a side
+/// above 2^30, and whose conditions come after them.
 ///
 /// # Errors
 ///
@@ -65,22 +63,22 @@ fn check(header: &ModularHeader, channels: &ModularChannels, has_global: bool) -
 pub fn open(
     alloc: Global,
     bits: &mut Bitstream<'_>,
-    params: &[ModularChannelParams],
+    mut channels: ModularChannels,
     has_global: bool,
 ) -> Result<(ModularHeader, ModularChannels)>
-    requires { All IsValidChannel params.now }
-    ensures gives { Parses opening_of result (position_of bits.new) ((opening has_global (image_list params.now)).read (bytes_of bits.old) (position_of bits.old)) }
+    requires narrow { All IsNarrow (list_of channels).channels }
+    requires meta { HasItsMeta (list_of channels) }
+    ensures gives { Parses opening_of result (position_of bits.new) ((opening has_global (list_of channels)).read (bytes_of bits.old) (position_of bits.old)) }
     ensures narrow { IfOk result (λ o. All IsNarrow (list_of o.1).channels) }
     ensures few { IfOk result (λ o. length o.1.info.items ≤ 65536) }
     ensures weights { IfOk result (λ o. IsHeader o.0.wp_params) }
-    ensures list { IfOk result (λ o. list_after_all (steps_in (header_of o.0).transform) (image_list params.now) ≡ Ok (list_of o.1)) }
+    ensures list { IfOk result (λ o. list_after_all (steps_in (header_of o.0).transform) (list_of channels) ≡ Ok (list_of o.1)) }
     ensures steps { IfOk result (λ o. All HasChannels (steps_in (header_of o.0).transform)) }
     ensures palettes { IfOk result (λ o. All (HasWeights o.0.wp_params) (steps_in (header_of o.0).transform)) }
     ensures tables { IfOk result (λ o. HasNarrowTables (steps_in (header_of o.0).transform)) }
     ensures bytes { bytes_of bits.new ≡ bytes_of bits.old }
 {
     let mut header = ModularHeader::parse(alloc, bits)?;
-    let mut channels = ModularChannels::new(alloc, params)?;
     prepare_transforms(alloc, &mut header.transform, &mut channels)?;
     check(&header, &channels, has_global)?;
     Ok((header, channels))

@@ -79,7 +79,7 @@ impl<S: Sample, D: Decoder> ModularImageDestination<S, D> {
     ghost use Rattle.jxlm_header.specs.Opening.{opening_of};
 
     /// An image of these channels, whose coded channels are those that the transforms of its header
-    /// leave, each in its region. All cells are 0. No side is above 2^30, at most 65536 channels are
+    /// leave, each in its region. It keeps what undoes the transforms. All cells are 0. No side is above 2^30, at most 65536 channels are
     /// coded, and weights and palettes are those of a header that was read. Out of memory is its only
     /// error.
     pub(crate) fn new(
@@ -121,6 +121,7 @@ impl<S: Sample, D: Decoder> ModularImageDestination<S, D> {
             nb_meta_channels,
             store,
             coded: plan.places.regions,
+            undoings: plan.undoings,
         })
     }
 }

@@ -3,8 +3,8 @@ use Rattle.std.proofs.lemmas.Result.{err_from_is_err_and}
 use Rattle.jxlm_base.specs.Bits.{bytes_of, position_of}
 use Rattle.jxlm_base.specs.Fault.{fault_of}
 use Rattle.jxlm_transform.proofs.Refusals.{unless_no_memory}
-use Rattle.jxlm_transform.proofs.SideBounds.{narrow_coded, narrow_image}
-use Rattle.jxlm_transform.specs.Channels.{image_list, list_of}
+use Rattle.jxlm_transform.proofs.SideBounds.{narrow_coded}
+use Rattle.jxlm_transform.specs.Channels.{list_of}
 use Rattle.jxlm_transform.specs.ChannelSteps.{CodedList, coded_list}
 use Rattle.jxlm_transform.specs.Transforms.{transform_of}
 use Rattle.jxlm_transform.proofs.StepLaws.{narrow_tables, steps_channels, steps_list, steps_weights}
@@ -17,7 +17,7 @@ pub returns-in_err-header-clause-gives : goal.returns-in_err-header-clause-gives
 returns-in_err-header-clause-gives c =
     let p = err_from_is_err_and c.from_residual.result c.from_residual.ensures.1 in
     rw (p.1, p.2)
-    (header_refused c.args.has_global (image_list c.args.params.now) (bytes_of c.args.bits.now) (position_of c.args.bits.now) (fault_of c.in_err-header.field-0.0) (position_of c.parse.new.bits) c.in_err-header.ensures.gives)
+    (header_refused c.args.has_global (list_of c.args.channels) (bytes_of c.args.bits.now) (position_of c.args.bits.now) (fault_of c.in_err-header.field-0.0) (position_of c.parse.new.bits) c.in_err-header.ensures.gives)
 
 pub returns-in_err-check-clause-gives : goal.returns-in_err-check-clause-gives
 returns-in_err-check-clause-gives c =
@@ -26,9 +26,9 @@ returns-in_err-check-clause-gives c =
     let ts = c.prepare_transforms.new.transforms.items in
     let k = record h { transform = map transform_of ts } in
     let coded : CodedList = record { steps = steps_in (map transform_of ts); list = list_of c.prepare_transforms.new.channels } in
-    let found : coded_list h.transform (image_list c.args.params.now) ≡ Ok coded = rw c.in_ok-channels.ensures.ok at c.in_ok-prepare_transforms.ensures.gives in
+    let found : coded_list h.transform (list_of c.args.channels) ≡ Ok coded = c.in_ok-prepare_transforms.ensures.gives in
     let fault = fault_of c.in_err-check.field-0.0 in
-    let refused = condition_fails c.args.has_global (image_list c.args.params.now) (bytes_of c.args.bits.now) (position_of c.args.bits.now) h (position_of c.parse.new.bits) c.in_ok-header.ensures.gives coded found k fault refl
+    let refused = condition_fails c.args.has_global (list_of c.args.channels) (bytes_of c.args.bits.now) (position_of c.args.bits.now) h (position_of c.parse.new.bits) c.in_ok-header.ensures.gives coded found k fault refl
     c.in_err-check.ensures in
     rw (p.1, p.2) (unless_no_memory fault _ refused)
 
@@ -38,45 +38,45 @@ returns-clause-gives c =
     let ts = c.prepare_transforms.new.transforms.items in
     let k = record h { transform = map transform_of ts } in
     let coded : CodedList = record { steps = steps_in (map transform_of ts); list = list_of c.prepare_transforms.new.channels } in
-    let found : coded_list h.transform (image_list c.args.params.now) ≡ Ok coded = rw c.in_ok-channels.ensures.ok at c.in_ok-prepare_transforms.ensures.gives in
-    is_opened c.args.has_global (image_list c.args.params.now) (bytes_of c.args.bits.now) (position_of c.args.bits.now) h (position_of c.parse.new.bits) c.in_ok-header.ensures.gives coded found k refl c.in_ok-check.ensures
+    let found : coded_list h.transform (list_of c.args.channels) ≡ Ok coded = c.in_ok-prepare_transforms.ensures.gives in
+    is_opened c.args.has_global (list_of c.args.channels) (bytes_of c.args.bits.now) (position_of c.args.bits.now) h (position_of c.parse.new.bits) c.in_ok-header.ensures.gives coded found k refl c.in_ok-check.ensures
 
 pub returns-clause-narrow : goal.returns-clause-narrow
 returns-clause-narrow c =
     let h = header_of c.in_ok-header.header in
     let ts = c.prepare_transforms.new.transforms.items in
     let coded : CodedList = record { steps = steps_in (map transform_of ts); list = list_of c.prepare_transforms.new.channels } in
-    let found : coded_list h.transform (image_list c.args.params.now) ≡ Ok coded = rw c.in_ok-channels.ensures.ok at c.in_ok-prepare_transforms.ensures.gives in
-    narrow_coded h.transform (image_list c.args.params.now) coded c.in_ok-header.ensures.ranges.transforms (narrow_image c.args.params.now c.requires) found
+    let found : coded_list h.transform (list_of c.args.channels) ≡ Ok coded = c.in_ok-prepare_transforms.ensures.gives in
+    narrow_coded h.transform (list_of c.args.channels) coded c.in_ok-header.ensures.ranges.transforms c.requires.narrow found
 
 pub returns-clause-list : goal.returns-clause-list
 returns-clause-list c =
     let h = header_of c.in_ok-header.header in
     let ts = c.prepare_transforms.new.transforms.items in
     let coded : CodedList = record { steps = steps_in (map transform_of ts); list = list_of c.prepare_transforms.new.channels } in
-    let found : coded_list h.transform (image_list c.args.params.now) ≡ Ok coded = rw c.in_ok-channels.ensures.ok at c.in_ok-prepare_transforms.ensures.gives in
-    steps_list h.transform (image_list c.args.params.now) coded found
+    let found : coded_list h.transform (list_of c.args.channels) ≡ Ok coded = c.in_ok-prepare_transforms.ensures.gives in
+    steps_list h.transform (list_of c.args.channels) coded found
 
 pub returns-clause-steps : goal.returns-clause-steps
 returns-clause-steps c =
     let h = header_of c.in_ok-header.header in
     let ts = c.prepare_transforms.new.transforms.items in
     let coded : CodedList = record { steps = steps_in (map transform_of ts); list = list_of c.prepare_transforms.new.channels } in
-    let found : coded_list h.transform (image_list c.args.params.now) ≡ Ok coded = rw c.in_ok-channels.ensures.ok at c.in_ok-prepare_transforms.ensures.gives in
-    steps_channels h.transform (image_list c.args.params.now) coded c.in_ok-header.ensures.ranges.transforms found
+    let found : coded_list h.transform (list_of c.args.channels) ≡ Ok coded = c.in_ok-prepare_transforms.ensures.gives in
+    steps_channels h.transform (list_of c.args.channels) coded c.in_ok-header.ensures.ranges.transforms found
 
 pub returns-clause-palettes : goal.returns-clause-palettes
 returns-clause-palettes c =
     let h = header_of c.in_ok-header.header in
     let ts = c.prepare_transforms.new.transforms.items in
     let coded : CodedList = record { steps = steps_in (map transform_of ts); list = list_of c.prepare_transforms.new.channels } in
-    let found : coded_list h.transform (image_list c.args.params.now) ≡ Ok coded = rw c.in_ok-channels.ensures.ok at c.in_ok-prepare_transforms.ensures.gives in
-    steps_weights h.wp_params h.transform (image_list c.args.params.now) coded c.in_ok-header.ensures.ranges.palettes found
+    let found : coded_list h.transform (list_of c.args.channels) ≡ Ok coded = c.in_ok-prepare_transforms.ensures.gives in
+    steps_weights h.wp_params h.transform (list_of c.args.channels) coded c.in_ok-header.ensures.ranges.palettes found
 
 pub returns-clause-tables : goal.returns-clause-tables
 returns-clause-tables c =
     let h = header_of c.in_ok-header.header in
     let ts = c.prepare_transforms.new.transforms.items in
     let coded : CodedList = record { steps = steps_in (map transform_of ts); list = list_of c.prepare_transforms.new.channels } in
-    let found : coded_list h.transform (image_list c.args.params.now) ≡ Ok coded = rw c.in_ok-channels.ensures.ok at c.in_ok-prepare_transforms.ensures.gives in
-    narrow_tables h.transform (image_list c.args.params.now) coded c.in_ok-header.ensures.ranges.transforms found
+    let found : coded_list h.transform (list_of c.args.channels) ≡ Ok coded = c.in_ok-prepare_transforms.ensures.gives in
+    narrow_tables h.transform (list_of c.args.channels) coded c.in_ok-header.ensures.ranges.transforms found

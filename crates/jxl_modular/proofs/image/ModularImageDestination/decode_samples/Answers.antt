@@ -12,16 +12,16 @@ use Rattle.jxlm_transform.specs.Steps.{steps_in}
 use Rattle.jxl_modular.proofs.image.ModularImageDestination.decode_samples.Goals as goal
 
 pub decode_part-requires-clause-lie : goal.decode_part-requires-clause-lie
-decode_part-requires-clause-lie g c κs within = rw (c.deref-2.ensures.value, c.deref_mut.ensures.value) (coded_lie _ c.self.invariant)
+decode_part-requires-clause-lie g c κs within = rw (c.deref-2.ensures.value, c.deref_mut.ensures.value) (coded_lie _ c.self.invariant.laid)
 
 pub decode_part-requires-clause-apart : goal.decode_part-requires-clause-apart
-decode_part-requires-clause-apart g c κs within = rw c.deref-2.ensures.value (coded_apart _ c.self.invariant)
+decode_part-requires-clause-apart g c κs within = rw c.deref-2.ensures.value (coded_apart _ c.self.invariant.laid)
 
 pub decode_part-requires-clause-coding : goal.decode_part-requires-clause-coding
 decode_part-requires-clause-coding g c κs within =
     let ready = rw (← c.self.view_is) at c.in_ok-decoder.ensures.ok in
     let widest = c.greatest_width.ensures ∙ ap greatest_width c.deref-4.ensures.value in
-    is_coding _ c.self.invariant _ c.deref.ensures.value c.deref-2.ensures.value refl refl (rw c.deref-3.ensures.value ready.flats_are) widest
+    is_coding _ c.self.invariant.laid _ c.deref.ensures.value c.deref-2.ensures.value refl refl (rw c.deref-3.ensures.value ready.flats_are) widest
 
 pub decode_part-requires-clause-clusters : goal.decode_part-requires-clause-clusters
 decode_part-requires-clause-clusters g c κs within = rw (← c.self.view_is) at c.in_ok-decoder.ensures.clusters
@@ -30,15 +30,18 @@ pub decode_part-requires-clause-roomy : goal.decode_part-requires-clause-roomy
 decode_part-requires-clause-roomy g c κs within =
     let ready = rw (← c.self.view_is) at c.in_ok-decoder.ensures.ok in
     let widest = c.greatest_width.ensures ∙ ap greatest_width c.deref-4.ensures.value in
-    roomy_part _ c.self.invariant _ c.deref.ensures.value c.deref-2.ensures.value refl refl _ (rw (← c.self.view_is) at c.requires.some)
-    (is_coding _ c.self.invariant _ c.deref.ensures.value c.deref-2.ensures.value refl refl (rw c.deref-3.ensures.value ready.flats_are) widest) (rw (widest, c.deref-3.ensures.value) ready.roomy)
+    roomy_part _ c.self.invariant.laid _ c.deref.ensures.value c.deref-2.ensures.value refl refl _ (rw (← c.self.view_is) at c.requires.some)
+    (is_coding _ c.self.invariant.laid _ c.deref.ensures.value c.deref-2.ensures.value refl refl (rw c.deref-3.ensures.value ready.flats_are) widest) (rw (widest, c.deref-3.ensures.value) ready.roomy)
 
 pub invariant_of-self : goal.invariant_of-self
 invariant_of-self g c =
     let keeps = rw (c.deref-2.ensures.value, c.deref_mut.ensures.value) at c.in_err-decode_part.ensures.keeps in
     let whole : take c.self.inside.store.len (c.decode_part.new.store ++ drop (length c.decode_part.new.store) c.self.inside.store.items) ≡ c.decode_part.new.store =
     refilled c.self.inside.store.len c.decode_part.new.store c.self.inside.store.items c.self.inside.store.ok.0 keeps.count in
-    still_laid _ _ c.self.invariant (same_but_store _ _ (rw whole (shape_kept c.self.inside.coded.items c.self.inside.store.items c.decode_part.new.store keeps)))
+    record {
+      laid = still_laid _ _ c.self.invariant.laid (same_but_store _ _ (rw whole (shape_kept c.self.inside.coded.items c.self.inside.store.items c.decode_part.new.store keeps)));
+      undos = c.self.invariant.undos;
+    }
 
 pub returns-in_err-decode_part-clause-err : goal.returns-in_err-decode_part-clause-err
 returns-in_err-decode_part-clause-err g c =
@@ -84,7 +87,10 @@ invariant_of-self-2 g c =
     let keeps = rw (c.deref-2.ensures.value, c.deref_mut.ensures.value) at c.in_ok-decode_part.ensures.keeps in
     let whole : take c.self.inside.store.len (c.decode_part.new.store ++ drop (length c.decode_part.new.store) c.self.inside.store.items) ≡ c.decode_part.new.store =
     refilled c.self.inside.store.len c.decode_part.new.store c.self.inside.store.items c.self.inside.store.ok.0 keeps.count in
-    still_laid _ _ c.self.invariant (same_but_store _ _ (rw whole (shape_kept c.self.inside.coded.items c.self.inside.store.items c.decode_part.new.store keeps)))
+    record {
+      laid = still_laid _ _ c.self.invariant.laid (same_but_store _ _ (rw whole (shape_kept c.self.inside.coded.items c.self.inside.store.items c.decode_part.new.store keeps)));
+      undos = c.self.invariant.undos;
+    }
 
 pub returns-clause-same : goal.returns-clause-same
 returns-clause-same g c =

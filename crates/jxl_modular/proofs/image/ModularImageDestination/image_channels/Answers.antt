@@ -9,7 +9,7 @@ use Rattle.jxl_modular.proofs.image.ModularImageDestination.image_channels.Goals
 pub slice_bounds-result-end : goal.slice_bounds-result-end
 slice_bounds-result-end g c =
     let given = c.self.inside.given.items in
-    let within = given_within given (tables_of (steps_in (header_of c.self.inside.header).transform)) c.self.inside.store.items c.self.invariant.buffers in
+    let within = given_within given (tables_of (steps_in (header_of c.self.inside.header).transform)) c.self.inside.store.items c.self.invariant.laid.buffers in
     let is = c.len.ensures in
     let there = c.self.inside.given.ok.0 in
     rw c.deref.ensures.value (sym (length-take-le c.len.result c.self.inside.store.items (omega (arith, is, there, within))))
@@ -17,7 +17,7 @@ slice_bounds-result-end g c =
 pub returns-clause-sizes : goal.returns-clause-sizes
 returns-clause-sizes g c =
     let given = c.self.inside.given.items in
-    let sizes = given_sizes given (tables_of (steps_in (header_of c.self.inside.header).transform)) c.self.inside.store.items c.self.invariant.buffers in
+    let sizes = given_sizes given (tables_of (steps_in (header_of c.self.inside.header).transform)) c.self.inside.store.items c.self.invariant.laid.buffers in
     let is = c.len.ensures in
     let there = c.self.inside.given.ok.0 in
     let count : length given ≡ c.len.result = omega (arith, is, there) in

@@ -37,16 +37,19 @@ invariant_of-result g c =
     let places = rw (c.deref-3.ensures.value, c.deref-4.ensures.value) at c.in_ok-plan.ensures.places in
     let coded : c.in_ok-plan.plan.places.regions.items ≡ (layout_after_all ss (first_layout cs)).regions = ap (λ (l : Layout). l.regions) places in
     record {
-      list = subst (λ n. list_after_all ss (record { channels = cs; nb_meta = n }) ≡ Ok (list_of c.args.channels)) c.requires.image c.requires.list;
-      regions = coded;
-      buffers = subst (HasBuffers (buffers_of cs ss)) (sym store) (zeros_fit zero (buffers_of cs ss));
-      narrow_store = subst IsNarrowStore (sym store) (zeros_narrow zero cs ss c.requires.narrow_given c.requires.narrow_tables);
-      narrow = c.requires.narrow;
-      few = c.requires.few;
-      weights = c.requires.weights;
-      steps = c.requires.steps;
-      palettes = c.requires.palettes;
-      deep = c.requires.deep;
+      laid = record {
+        list = subst (λ n. list_after_all ss (record { channels = cs; nb_meta = n }) ≡ Ok (list_of c.args.channels)) c.requires.image c.requires.list;
+        regions = coded;
+        buffers = subst (HasBuffers (buffers_of cs ss)) (sym store) (zeros_fit zero (buffers_of cs ss));
+        narrow_store = subst IsNarrowStore (sym store) (zeros_narrow zero cs ss c.requires.narrow_given c.requires.narrow_tables);
+        narrow = narrow_channels c.args.channels.info.items c.requires.narrow;
+        few = c.requires.few;
+        weights = c.requires.weights;
+        steps = c.requires.steps;
+        palettes = c.requires.palettes;
+        deep = c.requires.deep;
+      };
+      undos = rw (c.deref-3.ensures.value, c.deref-4.ensures.value) at c.in_ok-plan.ensures.undoings;
     }
 
 pub returns-clause-ok : goal.returns-clause-ok

@@ -6,5 +6,5 @@ use Rattle.jxl_modular.proofs.image.ModularImageDestination.ready.Goals as goal
 pub roomy_state-requires-clause-narrow : goal.roomy_state-requires-clause-narrow
 roomy_state-requires-clause-narrow g c κs within =
     let widest = c.greatest_width-widest.ensures ∙ ap greatest_width c.deref.ensures.value in
-    let narrow = narrow_widest c.self.inside.channels.items c.self.invariant.narrow in
+    let narrow = narrow_widest c.self.inside.channels.items c.self.invariant.laid.narrow in
     omega (arith, widest, narrow)

@@ -5,7 +5,7 @@ use Rattle.jxlm_tree.specs.TreeReading.{TreeGives, IsTreeAt}
 use Rattle.jxlm_header.specs.Opening.{depth_limit, opening_of}
 use Rattle.jxl_modular.specs.Parsing.{ParseGives, opened}
 use Rattle.jxlm_header.specs.declared.header.ModularHeader.{ModularHeader}
-use Rattle.jxl_modular.proofs.ParsingLaws.{image_stands, tree_refused, not_zero, gives_image, gives_fault}
+use Rattle.jxl_modular.proofs.ParsingLaws.{image_stands, same_list, tree_refused, not_zero, gives_image, gives_fault}
 use Rattle.jxl_modular.proofs.root.Modular.parse.Goals as goal
 use Rattle.jxlm_base.specs.Fault.{fault_of}
 use Rattle.jxlm_transform.specs.Channels.{Channel, IsNarrow, area, image_list, list_of}
@@ -15,9 +15,23 @@ use Rattle.jxl_modular.specs.Fresh.{fresh}
 use Rattle.jxl_modular.proofs.PictureLaws.{no_memory}
 use Rattle.std.specs.List.{All}
 
+pub open-requires-clause-narrow : goal.open-requires-clause-narrow
+open-requires-clause-narrow g c =
+    let ps = c.args.params.channels.items in
+    let given : list_of c.in_ok-given.given ≡ image_list ps = c.in_ok-given.ensures.ok ∙ ap (λ (cs : List ModularChannelParams). image_list cs) c.deref.ensures.value in
+    let list : list_of c.in_ok-list.list ≡ image_list ps = c.in_ok-list.ensures.ok ∙ same_list c.deref-2.result.now c.in_ok-given.given ps c.deref-2.ensures.value given in
+    subst (λ l. All IsNarrow l.channels) (sym list) (narrow_image ps c.requires.valid.channels)
+
+pub new-requires-2-clause-list : goal.new-requires-2-clause-list
+new-requires-2-clause-list g c κs within =
+    let ps = c.args.params.channels.items in
+    let given : list_of c.in_ok-given.given ≡ image_list ps = c.in_ok-given.ensures.ok ∙ ap (λ (cs : List ModularChannelParams). image_list cs) c.deref.ensures.value in
+    let list : list_of c.in_ok-list.list ≡ image_list ps = c.in_ok-list.ensures.ok ∙ same_list c.deref-2.result.now c.in_ok-given.given ps c.deref-2.ensures.value given in
+    rw (list ∙ sym given) at c.in_ok-header.ensures.list
+
 pub new-requires-2-clause-narrow_given : goal.new-requires-2-clause-narrow_given
 new-requires-2-clause-narrow_given g c κs within =
-    let given : list_of c.in_ok-given.given ≡ image_list c.args.params.channels.items = c.in_ok-given.ensures.ok ∙ ap (λ (cs : List ModularChannelParams). image_list cs) c.deref-3.ensures.value in
+    let given : list_of c.in_ok-given.given ≡ image_list c.args.params.channels.items = c.in_ok-given.ensures.ok ∙ ap (λ (cs : List ModularChannelParams). image_list cs) c.deref.ensures.value in
     subst (λ l. All IsNarrow l.channels) (sym given) (narrow_image c.args.params.channels.items c.requires.valid.channels)
 
 pub returns-in_err-image-clause-gives : goal.returns-in_err-image-clause-gives
@@ -49,8 +63,10 @@ returns-in_err-ma_ctx-clause-gives g c =
     let no_global : c.is_some-has_global.result ≡ false = search rules in
     let counted_some : 0 < params.channels.len = not_zero params.channels.len (sym c.is_empty.ensures ∙ c.if-is_empty.false) in
     let some : 0 < length ps = omega (arith, counted_some, params.channels.ok.0) in
-    let opens : opened bytes (image_list ps) p ≡ Ok (record { value = opening_of o; position = m }) = rw (no_global, c.deref.ensures.value) at c.in_ok-header.ensures.gives in
-    let counted : limit ≡ min (1024 + sum_by area o.1.info.items) (2 ^ 20) = c.node_limit.ensures ∙ ap (λ (xs : List Channel). min (1024 + sum_by area xs) (2 ^ 20)) c.deref-2.ensures.value in
+    let given : list_of c.in_ok-given.given ≡ image_list ps = c.in_ok-given.ensures.ok ∙ ap (λ (cs : List ModularChannelParams). image_list cs) c.deref.ensures.value in
+    let list : list_of c.in_ok-list.list ≡ image_list ps = c.in_ok-list.ensures.ok ∙ same_list c.deref-2.result.now c.in_ok-given.given ps c.deref-2.ensures.value given in
+    let opens : opened bytes (image_list ps) p ≡ Ok (record { value = opening_of o; position = m }) = rw (no_global, list) at c.in_ok-header.ensures.gives in
+    let counted : limit ≡ min (1024 + sum_by (λ c. c.width * c.height) o.1.info.items) (2 ^ 20) = c.node_limit.ensures ∙ ap (λ (xs : List ModularChannelInfo). min (1024 + sum_by (λ c. c.width * c.height) xs) (2 ^ 20)) c.deref-3.ensures.value in
     let e = c.in_err-ma_ctx.field-0.0 in
     let q = position_of c.parse.new.bits in
     let gives : TreeGives d bytes limit depth_limit m (Err e) q = rw c.in_ok-header.ensures.bytes at c.in_err-ma_ctx.ensures.gives in
@@ -71,11 +87,12 @@ returns-clause-gives g c =
     let no_global : c.is_some-has_global.result ≡ false = search rules in
     let counted_some : 0 < params.channels.len = not_zero params.channels.len (sym c.is_empty.ensures ∙ c.if-is_empty.false) in
     let some : 0 < length ps = omega (arith, counted_some, params.channels.ok.0) in
-    let opens : opened bytes (image_list ps) p ≡ Ok (record { value = opening_of o; position = m }) = rw (no_global, c.deref.ensures.value) at c.in_ok-header.ensures.gives in
-    let counted : limit ≡ min (1024 + sum_by area o.1.info.items) (2 ^ 20) = c.node_limit.ensures ∙ ap (λ (xs : List Channel). min (1024 + sum_by area xs) (2 ^ 20)) c.deref-2.ensures.value in
+    let given : list_of c.in_ok-given.given ≡ image_list ps = c.in_ok-given.ensures.ok ∙ ap (λ (cs : List ModularChannelParams). image_list cs) c.deref.ensures.value in
+    let list : list_of c.in_ok-list.list ≡ image_list ps = c.in_ok-list.ensures.ok ∙ same_list c.deref-2.result.now c.in_ok-given.given ps c.deref-2.ensures.value given in
+    let opens : opened bytes (image_list ps) p ≡ Ok (record { value = opening_of o; position = m }) = rw (no_global, list) at c.in_ok-header.ensures.gives in
+    let counted : limit ≡ min (1024 + sum_by (λ c. c.width * c.height) o.1.info.items) (2 ^ 20) = c.node_limit.ensures ∙ ap (λ (xs : List ModularChannelInfo). min (1024 + sum_by (λ c. c.width * c.height) xs) (2 ^ 20)) c.deref-3.ensures.value in
     let q = position_of c.parse.new.bits in
     let tree : IsTreeAt d bytes limit depth_limit m c.in_ok-ma_ctx.ma_ctx q = rw c.in_ok-header.ensures.bytes at c.in_ok-ma_ctx.ensures.gives in
-    let given : list_of c.in_ok-given.given ≡ image_list ps = c.in_ok-given.ensures.ok ∙ ap (λ (cs : List ModularChannelParams). image_list cs) c.deref-3.ensures.value in
     let is = subst (λ l. c.in_ok-image.image ≡ fresh zero l (opening_of o) c.in_ok-ma_ctx.ma_ctx params.group_dim params.bit_depth) given c.in_ok-image.ensures.ok in
     let stands = image_stands d zero bytes p params o m opens limit counted c.in_ok-ma_ctx.ma_ctx q c.in_ok-image.image tree is in
     gives_image d zero bytes p params ps c.in_ok-image.image q some stands
