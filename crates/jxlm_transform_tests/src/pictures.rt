@@ -1,23 +1,23 @@
-//! Pictures whose headers have transforms, as `jxlm_tests` reads them. A row has the sides of the channels, after a slash
-//! the bit depth, where it is not 8; the bytes; and the samples, channel by channel and row by row, with the reader's
-//! position, or an error, or both where samples come before an error.
+//! Pictures whose headers have transforms, as `jxlm_tests` reads them. A row has the sides of the channels, after a
+//! slash the bit depth, where it is not 8; the bytes; and the samples, channel by channel and row by row, with the
+//! reader's position, or an error, or both where samples come before an error.
 //!
-//! The generated sets were made by a model of the definitions in Python, with seed 1. It picks header, tree and tokens of
-//! small pictures, changes some of the bytes of one in four, and keeps a picture that shows something that fewer than two
-//! before it show: each kind and order of colour; palettes of one channel and several, with each predictor of deltas, and
-//! at several depths; squeezes by default and listed, across and down, in place and appended, of even and odd sides; each
-//! transform after each other one, over tables, indices, averages and residuals; each error. The samples are the model's,
-//! by coordinates: the only image that the transforms turn into what is coded.
+//! The generated sets were made by a model of the definitions in Python, with seed 1. It picks header, tree and tokens
+//! of small pictures, changes some of the bytes of one in four, and keeps a picture that shows something that fewer
+//! than two before it show: each kind and order of colour; palettes of one channel and several, with each predictor of
+//! deltas, and at several depths; squeezes by default and listed, across and down, in place and appended, of even and
+//! odd sides; each transform after each other one, over tables, indices, averages and residuals; each error. The
+//! samples are the model's, by coordinates: the only image that the transforms turn into what is coded.
 
-/// Worked by hand, the same at both widths: a palette of one channel; one and then colour of its indices and two channels;
-/// and a palette of two channels and then one of its indices and a third channel.
+/// Worked by hand, the same at both widths: a palette of one channel; one and then colour of its indices and two
+/// channels; and a palette of two channels and then one of its indices and a third channel.
 pub const WORKED: &str = "\
 3x1|16800100000000080000a140e121001000|30 10 20 @131
 1x1 1x1 1x1|0a01200020160000001000004281c20325406000|40 1 2 @156
 1x1 1x1 1x1|0a8103000240e4008000000000000400800008308252a058a80800|20 21 80 @210";
 
-/// Palettes of three channels worked by hand, at 32 bits: no colours, but implicit ones of both cubes and differences; one
-/// delta of two colours, from the left; and indices of the table alone, of cells and of none.
+/// Palettes of three channels worked by hand, at 32 bits: no colours, but implicit ones of both cubes and differences;
+/// one delta of two colours, from the left; and indices of the table alone, of cells and of none.
 pub const WORKED_WIDE: &str = "\
 5x1 5x1 5x1|16080000000000080000140000007004000008000000180000002800000000|95 127 0 4 -4 32 63 0 4 -4 32 0 0 4 -4 @243
 3x1 3x1 3x1|160881000200000008000054000000400600005000000040060000500000004006000010000000000000000000000000|100 105 \
@@ -35,7 +35,7 @@ pub const WORKED_NARROW: &str = "\
 0x3 0x3 0x3|1608010c00000008000074000000780000000017110090000000a0000000b000000000|@275
 3x0 3x0 3x0|1608010c00000008000074000000780000000017110090000000a0000000b000000000|@275";
 
-/// Generated, the same at both widths; the last has as many transforms as a header can list.
+/// Generated, the same at both widths.
 pub const GENERATED: &str = "\
 1x0|1600040400000030a00012411080cc00000050000000c8010000c0030000c000000040070000000000000002000000|@376
 5x3|16008c568c080800501c0c26003c2510c0e01008200842013128100646ee691d3e9a0b71357604|-10 25 -9 9 9 -43 -48 64 80 57 \
@@ -187,7 +187,7 @@ pub const GENERATED: &str = "\
     50d4008a1a405103282a400000000000000000000006607103459a0c|95 95 95 32 95 32 @1092
 3x2 3x2 3x2|0a810100030114442a0202000086006a400006668b08|4 15 15 15 15 15 -3 -6 -9 -6 -9 -12 0 0 0 0 0 0 @172";
 
-/// Generated, those that are others at 16 bits.
+/// Generated, those that are others at 16 bits; the last has as many transforms as a header can list.
 pub const GENERATED_WIDE: &str = "\
 5x3/1|662120820000002008100004871d4ac200|-1426091242 -1833545885 -1519608121 627875528 1145540611 -203727321 \
     -1426091243 925119724 1442784809 -704698840 -1629818564 1850239450 1035330168 220420886 -594488396 @129
@@ -295,6 +295,18 @@ pub const GENERATED_NARROW: &str = "\
     00000000000280000000000000000000000000a00000000000000000100000000e4b3b7404449002000d0d2cbd409|-14124 -22203 \
     27933 28061 1857 7052 @5308";
 
+/// Generated larger pictures, the same at both widths: one for each list of kinds of transforms. After a # is the checksum
+/// of the samples: each times a power of 31, the last times 1, added up modulo 2^32.
+pub const GENERATED_LARGE: &str = "\
+8x13 8x13/9|0a81030002480444e268000000c080020840423d52fe4b7b17|#2451793253 @197
+6x19 6x19 6x19/0|261e840cd54103404000e00b6137141400000004a09012241800200431e0408150405b8e500718c6806c|#1000501202 @336
+11x4 11x4 11x4 11x4|482e0c50b6983a885741c850f9180805012080000000004007042400000020e7f85d7a80223080010450c003000020220\
+    0|#3849981076 @388
+8x13 8x13|48b57d61cd7759301014380010000a0000000603180000027c6fc51365d151783d5868dce2b649b880d3a601|#2578127282 @345
+13x3 13x3 13x3 13x3 13x3|163800400171103254be40c10020008c6404a01010c23102322ac0eb96cb33e25b|#790350846 @263
+15x15 15x15/5|0a62004c000000080008501800|#800532544 @101
+11x5 11x5 11x5/7|1a162246194c0ee92064a8400000000004021308501800|#991703136 @181";
+
 /// Generated, with an error.
 pub const GENERATED_ERRORS: &str = "\
 0x4 0x4 0x4 0x4 0x4|fcffc107ff1fde003d0aec988390a182040c0140008168af0ca0426180101810019001800810|invalid Squeeze \
@@ -359,8 +371,8 @@ pub const GENERATED_ERRORS: &str = "\
 5x8|0a6230000000000001009800b87a02000000f881208c1c000041100650800042801202a2c76956a81e8559ee697301|bitstream error: \
     invalid enum value 38 for MaProperty";
 
-/// Generated palettes of three channels of 3 by 3 samples at 32 bits, one for each predictor of deltas: up to four colours
-/// and five deltas, any weights, depths from 1 to 32, and indices near the table and far from it.
+/// Generated palettes of three channels of 3 by 3 samples at 32 bits, one for each predictor of deltas: up to four
+/// colours and five deltas, any weights, depths from 1 to 32, and indices near the table and far from it.
 pub const PALETTES_WIDE: &str = "\
 3x3 3x3 3x3/25|160881000000000008000034010000f8fffffff7ffffffffffffffffffffffdf8043b0b20b0000080300000000000020000000\
     28000000f800000088020000300800000000000000|8388607 2097152 19 4194304 -262144 -1179648 2949120 0 19 33554431 0 \
