@@ -5,9 +5,11 @@ pub mod bytewise;
 #[cfg(test)]
 mod calls;
 #[cfg(test)]
-mod drawn;
-#[cfg(test)]
 mod earlier;
+#[cfg(test)]
+mod generated;
+#[cfg(test)]
+mod long_header;
 #[cfg(test)]
 mod outcome;
 #[cfg(test)]

@@ -1,6 +1,6 @@
-// Tables of pictures: each picture has the sizes of its channels, its bytes, and what is expected of it, with a bar
-// between; after the sizes may come a slash and the bit depth, which is else 8. A line has several pictures, with a
-// semicolon between.
+// Tables of pictures, a picture a line: the sizes of its channels, its bytes, and what is expected of it, with a bar
+// between; after the sizes may come a slash and the bit depth, which is else 8. Expected are the samples, channel by
+// channel and row by row, or after a # their checksum, with the reader's position; or an error; or both.
 use crate::outcome::{Outcome, at_once, by_calls};
 use jxl_modular::decoder::Decoder;
 use jxl_modular::error::Error;
@@ -21,9 +21,6 @@ fn channels(alloc: Global, sizes: &str) -> Result<Vec<ModularChannelParams>, Fai
     Ok(channels)
 }
 
-// How many samples are printed one by one.
-const FEW: usize = 12;
-
 // Each sample, times a power of 31, the last times 1, added up modulo 2^32.
 fn checksum(samples: &[i32]) -> u32 {
     let mut sum: u32 = 0;
@@ -33,10 +30,10 @@ fn checksum(samples: &[i32]) -> u32 {
     sum
 }
 
-// The samples where they are few, and else their checksum.
-fn numbers(alloc: Global, samples: &[i32]) -> Result<String, Fail> {
+// The samples, or after a # their checksum.
+fn numbers(alloc: Global, samples: &[i32], summed: bool) -> Result<String, Fail> {
     let mut text = String::new(alloc);
-    if samples.len() > FEW {
+    if summed {
         write!(text, "#{} ", checksum(samples))?;
         return Ok(text);
     }
@@ -48,8 +45,8 @@ fn numbers(alloc: Global, samples: &[i32]) -> Result<String, Fail> {
 
 // The samples, or their checksum, and the reader's position, with the error of the samples, if there is one; or the
 // error of what comes before them.
-fn told(alloc: Global, outcome: &Outcome) -> Result<String, Fail> {
-    let samples = numbers(alloc, &outcome.samples)?;
+fn told(alloc: Global, outcome: &Outcome, summed: bool) -> Result<String, Fail> {
+    let samples = numbers(alloc, &outcome.samples, summed)?;
     let position = outcome.position;
     Ok(match outcome.fault {
         None => format!(in alloc; "{samples}@{position}")?,
@@ -71,7 +68,7 @@ fn check_picture<S: Sample, D: Decoder>(
     let channels = channels(alloc, sizes)?;
     let bytes = bytes(alloc, digits)?;
     let outcome = by_calls::<S, D>(rt, alloc, &bytes, depth, &channels)?;
-    let seen = told(alloc, &outcome)?;
+    let seen = told(alloc, &outcome, expected.starts_with('#'))?;
     assert_eq!(rt; seen.as_str(), expected, "{picture}");
     assert_eq!(rt; outcome.whole, outcome.fault.is_none(), "{picture}");
     let again = at_once::<S, D>(rt, alloc, &bytes, depth, &channels)?;
@@ -87,17 +84,6 @@ fn check_picture<S: Sample, D: Decoder>(
     Ok(())
 }
 
-fn check_line<S: Sample, D: Decoder>(
-    rt: &impl Abort,
-    alloc: Global,
-    line: &str,
-) -> Result<(), Fail> {
-    for picture in line.split(';') {
-        check_picture::<S, D>(rt, alloc, picture)?;
-    }
-    Ok(())
-}
-
 /// Reads each picture of a table call by call, and once more by one call, and compares what is expected of it.
 pub fn check<S: Sample, D: Decoder>(
     rt: &impl Abort,
@@ -105,7 +91,7 @@ pub fn check<S: Sample, D: Decoder>(
     table: &str,
 ) -> Result<(), Fail> {
     for line in table.lines() {
-        check_line::<S, D>(rt, alloc, line)?;
+        check_picture::<S, D>(rt, alloc, line)?;
     }
     Ok(())
 }

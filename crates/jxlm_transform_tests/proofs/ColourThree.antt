@@ -1,7 +1,8 @@
 -- A store of three channels, each a buffer of its own.
-use Rattle.std.proofs.Common.{◌≡◌, ℕ, ◌<◌, List, [], ◌∷◌, refl, sym, ap, ◌∙◌, subst, arith}
+use Rattle.std.proofs.Common.{◌≡◌, ℕ, ◌<◌, zero, suc, List, [], ◌∷◌, refl, sym, ap, ◌∙◌, subst, arith}
+use Rattle.std.specs.List.{AllPairs}
 use Rattle.std.specs.Prelude.{get_or}
-use Rattle.jxlm_base.specs.Grid.{Grid, grid, IsFull}
+use Rattle.jxlm_base.specs.Grid.{Grid, grid, filled, IsFull}
 use Rattle.jxlm_base.specs.Outside.{KeepsOutside}
 use Rattle.jxlm_base.specs.Regions.{region, Lies, AllLie, AreApart, LieApart}
 use Rattle.jxlm_base.specs.declared.subgrid.Region.{Region}
@@ -10,7 +11,26 @@ use Rattle.jxlm_base.proofs.Regions.{apart_by_buffer}
 use Rattle.jxlm_transform.specs.ColourRows.{AreThree}
 use Rattle.jxlm_transform.specs.Recoloured.{HaveOneSize}
 use Rattle.jxlm_transform.proofs.ColourRegions.{three_still}
-use Rattle.jxlm_transform_tests.proofs.PaletteThree.{IsOfSides, pairs_of_three}
+
+pairs_of_three : {Y : Type 0} (R : Y → Y → Type 0) (a b c : Y) → R a b → R a c → R b c → AllPairs R (a ∷ b ∷ c ∷ [])
+pairs_of_three R a b c h k l zero zero d p q = absurd (omega arith)
+pairs_of_three R a b c h k l zero (suc zero) d p q = h
+pairs_of_three R a b c h k l zero (suc (suc zero)) d p q = k
+pairs_of_three R a b c h k l zero (suc (suc (suc j))) d p q = absurd (omega arith)
+pairs_of_three R a b c h k l (suc zero) zero d p q = absurd (omega arith)
+pairs_of_three R a b c h k l (suc zero) (suc zero) d p q = absurd (omega arith)
+pairs_of_three R a b c h k l (suc zero) (suc (suc zero)) d p q = l
+pairs_of_three R a b c h k l (suc zero) (suc (suc (suc j))) d p q = absurd (omega arith)
+pairs_of_three R a b c h k l (suc (suc i)) j d p q = absurd (omega arith)
+
+-- a full grid of these sides
+pub record IsOfSides {S : Type 0} (g : Grid S) (w h : ℕ) : Type 0 where
+  pub full : IsFull g
+  pub columns : g.width ≡ w
+  pub rows : g.height ≡ h
+
+pub sides_of : {S : Type 0} (g : Grid S) (w h : ℕ) (v : S) → g ≡ filled w h v → IsFull g → IsOfSides g w h
+sides_of {S} g w h v is full = record { full = full; columns = ap (λ (k : Grid S). k.width) is; rows = ap (λ (k : Grid S). k.height) is }
 
 module _ {S : Type 0} (g0 g1 g2 : Grid S) (w h : ℕ) where
   abbrev store : List (Grid S)

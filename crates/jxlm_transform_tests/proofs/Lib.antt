@@ -1,2 +1,1 @@
 mod ColourThree
-mod PaletteThree

@@ -1,29 +1,22 @@
-//! Transforms undone in stores of few samples, and what a plan of undoing lists.
+// A squeeze undone in a store of few samples, and what a plan of undoing lists.
 
-ghost use Rattle.std.specs.Prelude.{◌≡◌, ◌^◌, ◌≤◌, length, map, IfOk};
-ghost use Rattle.std.specs.List.{All};
-ghost use Rattle.jxlm_chain.specs.Layout.{HasBuffers, buffers_of};
+ghost use Rattle.std.specs.Prelude.{length, IfOk};
 ghost use Rattle.jxlm_transform.specs.Channels.{HasSides};
-ghost use Rattle.jxlm_chain.specs.Places.{Suit};
-ghost use Rattle.jxlm_transform.specs.Steps.{HasWeights, steps_in};
-ghost use Rattle.jxlm_transform.specs.Transforms.{transform_of};
-ghost use Rattle.jxlm_tree.specs.declared.predictor.WpHeader.{WpHeader};
 
 use jxlm_base::error::Error;
 use jxlm_base::grid::{AlignedGrid, OutOfMemory, Region};
 use jxlm_base::sample::Sample;
 use jxlm_chain::grid::TransformedGrid;
-use jxlm_chain::laws::no_two_images;
 use jxlm_chain::scratch::Scratch;
 use jxlm_chain::undo::{Plan, Undoing, undo_all};
 use jxlm_transform::channels::ModularChannelInfo;
 use jxlm_transform::param::ChannelShift;
-use jxlm_transform::transform::{Palette, Rct, TransformInfo};
+use jxlm_transform::transform::{Palette, TransformInfo};
 use jxlm_tree::predictor::{Predictor, WpHeader};
 use std::alloc::Global;
 use std::test::Fail;
 
-/// A channel of one sample.
+// A channel of one sample.
 const POINT: ModularChannelInfo = ModularChannelInfo {
     width: 1,
     height: 1,
@@ -34,53 +27,7 @@ const POINT: ModularChannelInfo = ModularChannelInfo {
     original_shift: ChannelShift::Shifts(0),
 };
 
-/// A channel of three samples side by side.
-const ROW: ModularChannelInfo = ModularChannelInfo {
-    width: 3,
-    height: 1,
-    original_width: 3,
-    original_height: 1,
-    hshift: 0,
-    vshift: 0,
-    original_shift: ChannelShift::Shifts(0),
-};
-
-const WEIGHTS: WpHeader = WpHeader {
-    default_wp: true,
-    wp_p1: 16,
-    wp_p2: 10,
-    wp_p3a: 7,
-    wp_p3b: 7,
-    wp_p3c: 7,
-    wp_p3d: 0,
-    wp_p3e: 0,
-    wp_w0: 13,
-    wp_w1: 12,
-    wp_w2: 12,
-    wp_w3: 12,
-};
-
-/// A palette of the first channel, with a table of three colours.
-const THREE: Palette = Palette {
-    begin_c: 0,
-    num_c: 1,
-    nb_colours: 3,
-    nb_deltas: 0,
-    d_pred: Predictor::Zero,
-    wp_header: None,
-};
-
-/// A palette of the first channel, with a table of four colours.
-const FOUR: Palette = Palette {
-    begin_c: 0,
-    num_c: 1,
-    nb_colours: 4,
-    nb_deltas: 0,
-    d_pred: Predictor::Zero,
-    wp_header: None,
-};
-
-/// A grid of one row of these samples.
+// A grid of one row of these samples.
 fn row<S: Sample>(alloc: Global, samples: &[i32]) -> Result<AlignedGrid<S>, OutOfMemory>
     ensures { IfOk result (λ g. HasSides (length samples.now) 1 g) }
 {
@@ -91,7 +38,7 @@ fn row<S: Sample>(alloc: Global, samples: &[i32]) -> Result<AlignedGrid<S>, OutO
     Ok(grid)
 }
 
-/// The sample in column `x` of the first row, or -1 where there is none.
+// The sample in column `x` of the first row, or -1 where there is none.
 fn read<S: Sample>(grid: &AlignedGrid<S>, x: usize) -> i32 {
     if x < grid.width() && 0 < grid.height() {
         grid.get(x, 0).to_i32()
@@ -100,91 +47,7 @@ fn read<S: Sample>(grid: &AlignedGrid<S>, x: usize) -> i32 {
     }
 }
 
-/// Plans the transforms, and undoes them in the store.
-fn undo<S: Sample>(
-    alloc: Global,
-    transforms: &[TransformInfo],
-    channels: &[ModularChannelInfo],
-    store: &mut [AlignedGrid<S>],
-) -> Result<(), Error>
-    requires suit { Suit (steps_in (map transform_of transforms.now)) channels.now }
-    requires buffers { HasBuffers (buffers_of channels.now (steps_in (map transform_of transforms.now))) store.old }
-    requires small { All (λ s. (s.width ≤ 2 ^ 30) × (s.height ≤ 2 ^ 30)) (buffers_of channels.now (steps_in (map transform_of transforms.now))) }
-    requires weights { (weights : WpHeader) → All (HasWeights weights) (steps_in (map transform_of transforms.now)) }
-{
-    let plan = Plan::new(alloc, transforms, channels)?;
-    let mut scratch = Scratch::new(alloc, &plan.undoings, &WEIGHTS)?;
-    undo_all(&plan.undoings, store, 8, &mut scratch);
-    Ok(())
-}
-
-/// Three samples of which the colour of type 6 is undone.
-fn recoloured<S: Sample>(alloc: Global) -> Result<[i32; 3], Error> {
-    let first = row::<S>(alloc, &[100])?;
-    let second = row(alloc, &[10])?;
-    let third = row(alloc, &[6])?;
-    let mut store = [first, second, third];
-    let colour = TransformInfo::Rct(Rct {
-        begin_c: 0,
-        rct_type: 6,
-    });
-    undo(alloc, &[colour], &[POINT, POINT, POINT], &mut store)?;
-    Ok([read(&store[0], 0), read(&store[1], 0), read(&store[2], 0)])
-}
-
-#[test]
-fn colour_of_one_sample(rt: HostRuntime) -> Result<(), Fail> {
-    assert_eq!(rt; recoloured::<i32>(rt.alloc())?, [102, 103, 92]);
-    assert_eq!(rt; recoloured::<i16>(rt.alloc())?, [102, 103, 92]);
-    Ok(())
-}
-
-/// Three indices become colours of a table of three.
-fn looked_up<S: Sample>(alloc: Global) -> Result<[i32; 3], Error> {
-    let indices = row::<S>(alloc, &[2, 0, 1])?;
-    let table = row(alloc, &[10, 20, 30])?;
-    let mut store = [indices, table];
-    let palette = TransformInfo::Palette(THREE);
-    undo(alloc, &[palette], &[ROW], &mut store)?;
-    Ok([read(&store[0], 0), read(&store[0], 1), read(&store[0], 2)])
-}
-
-#[test]
-fn a_palette_of_one_channel(rt: HostRuntime) -> Result<(), Fail> {
-    assert_eq!(rt; looked_up::<i32>(rt.alloc())?, [30, 10, 20]);
-    assert_eq!(rt; looked_up::<i16>(rt.alloc())?, [30, 10, 20]);
-    Ok(())
-}
-
-/// A palette of the first channel, and then the colour of type 7 of its indices and the other two channels.
-fn both<S: Sample>(alloc: Global) -> Result<[i32; 3], Error> {
-    let first = row::<S>(alloc, &[1])?;
-    let second = row(alloc, &[2])?;
-    let third = row(alloc, &[3])?;
-    let table = row(alloc, &[10, 20, 30, 40])?;
-    let mut store = [first, second, third, table];
-    let palette = TransformInfo::Palette(FOUR);
-    let colour = TransformInfo::Rct(Rct {
-        begin_c: 1,
-        rct_type: 7,
-    });
-    undo(
-        alloc,
-        &[palette, colour],
-        &[POINT, POINT, POINT],
-        &mut store,
-    )?;
-    Ok([read(&store[0], 0), read(&store[1], 0), read(&store[2], 0)])
-}
-
-#[test]
-fn a_palette_and_then_colour(rt: HostRuntime) -> Result<(), Fail> {
-    assert_eq!(rt; both::<i32>(rt.alloc())?, [40, 1, 2]);
-    assert_eq!(rt; both::<i16>(rt.alloc())?, [40, 1, 2]);
-    Ok(())
-}
-
-/// A row of four samples, of two averages and two residuals.
+// A row of four samples, of two averages and two residuals.
 fn unsqueezed<S: Sample>(alloc: Global) -> Result<[i32; 4], Error> {
     let halves = row::<S>(alloc, &[10, 20, 0, 0])?;
     let mut store = [halves];
@@ -199,7 +62,7 @@ fn unsqueezed<S: Sample>(alloc: Global) -> Result<[i32; 4], Error> {
         horizontal: true,
         region,
     }];
-    let mut scratch = Scratch::new(alloc, &undoings, &WEIGHTS)?;
+    let mut scratch = Scratch::new(alloc, &undoings, &WpHeader::default())?;
     undo_all(&undoings, &mut store, 8, &mut scratch);
     let row = &store[0];
     Ok([read(row, 0), read(row, 1), read(row, 2), read(row, 3)])
@@ -212,7 +75,7 @@ fn a_squeezed_row(rt: HostRuntime) -> Result<(), Fail> {
     Ok(())
 }
 
-/// A palette of the first two channels, with a table of two colours.
+// A palette of the first two channels, with a table of two colours.
 const TWO: Palette = Palette {
     begin_c: 0,
     num_c: 2,
@@ -222,7 +85,7 @@ const TWO: Palette = Palette {
     wp_header: None,
 };
 
-/// A palette of the second and the third channel, with a table of two colours.
+// A palette of the second and the third channel, with a table of two colours.
 const NEXT_TWO: Palette = Palette {
     begin_c: 1,
     num_c: 2,
@@ -232,46 +95,7 @@ const NEXT_TWO: Palette = Palette {
     wp_header: None,
 };
 
-/// A grid of two rows of two samples.
-fn table<S: Sample>(alloc: Global, samples: [i32; 4]) -> Result<AlignedGrid<S>, OutOfMemory>
-    ensures { IfOk result (λ g. HasSides 2 2 g) }
-{
-    let mut grid = AlignedGrid::new(alloc, 2, 2)?;
-    *grid.get_mut(0, 0) = S::from_i32(samples[0]);
-    *grid.get_mut(1, 0) = S::from_i32(samples[1]);
-    *grid.get_mut(0, 1) = S::from_i32(samples[2]);
-    *grid.get_mut(1, 1) = S::from_i32(samples[3]);
-    Ok(grid)
-}
-
-/// A palette of two channels, and then one of its indices and a third channel.
-fn palette_of_indices<S: Sample>(alloc: Global) -> Result<[i32; 3], Error> {
-    let first = row::<S>(alloc, &[1])?;
-    let second = row(alloc, &[0])?;
-    let third = row(alloc, &[0])?;
-    let colours = table(alloc, [10, 20, 11, 21])?;
-    let indices = table(alloc, [0, 1, 70, 80])?;
-    let mut store = [first, second, third, colours, indices];
-    undo(
-        alloc,
-        &[
-            TransformInfo::Palette(TWO),
-            TransformInfo::Palette(NEXT_TWO),
-        ],
-        &[POINT, POINT, POINT],
-        &mut store,
-    )?;
-    Ok([read(&store[0], 0), read(&store[1], 0), read(&store[2], 0)])
-}
-
-#[test]
-fn a_palette_of_indices(rt: HostRuntime) -> Result<(), Fail> {
-    assert_eq!(rt; palette_of_indices::<i32>(rt.alloc())?, [20, 21, 80]);
-    assert_eq!(rt; palette_of_indices::<i16>(rt.alloc())?, [20, 21, 80]);
-    Ok(())
-}
-
-/// Writes a channel as its buffer, and one of indices as its own with those that it stands for.
+// Writes a channel as its buffer, and one of indices as its own with those that it stands for.
 fn show(grid: &TransformedGrid, text: &mut String) -> Result<(), Fail> {
     match grid {
         TransformedGrid::Single(region) => write!(text, "{}", region.buffer)?,
@@ -287,7 +111,7 @@ fn show(grid: &TransformedGrid, text: &mut String) -> Result<(), Fail> {
     Ok(())
 }
 
-/// The channels of a plan's palettes, as text.
+// The channels of a plan's palettes, as text.
 fn palettes(alloc: Global, plan: &Plan) -> Result<String, Fail> {
     let mut text = String::new(alloc);
     for undoing in &plan.undoings {
@@ -336,9 +160,4 @@ fn leaders_and_clones(rt: HostRuntime) -> Result<(), Fail> {
     show(&clone, &mut text)?;
     assert_eq!(rt; text.as_str(), "3(3(3;4;);5;)");
     Ok(())
-}
-
-#[test]
-fn laws_can_be_called() {
-    no_two_images();
 }

@@ -7,7 +7,7 @@ ghost use Rattle.jxlm_transform.specs.ColourRows.{AreThree};
 ghost use Rattle.jxlm_transform.specs.Recoloured.{HaveOneSize};
 
 use crate::cells::{read, write};
-use crate::colour_rows::{NARROW, WIDE};
+use crate::colour_rows::{NARROW, WIDE, WORKED};
 use jxlm_base::error::Error;
 use jxlm_base::grid::{AlignedGrid, Region};
 use jxlm_base::sample::Sample;
@@ -100,88 +100,42 @@ fn undone<S: Sample>(
     Ok(numbers)
 }
 
-// Compares what one triple becomes: a row has it, and then what is expected.
-fn check_triple<S: Sample>(
-    rt: &impl Abort,
-    alloc: Global,
-    kind: u32,
-    row: &str,
-) -> Result<(), Fail> {
-    let numbers = signed(alloc, row)?;
-    let [a, b, c, expected @ ..] = numbers.as_slice() else {
-        return Err(Fail::new("fewer than three numbers"));
-    };
-    let found = undone::<S>(alloc, kind, 1, 1, [&[*a], &[*b], &[*c]])?;
-    assert_eq!(rt; found.as_slice(), expected, "{kind}: {row}");
-    Ok(())
-}
-
-// The type, one triple, and what it becomes.
-const WORKED: &str = "6:100 10 6 102 103 92
-4:10 1 5 10 8 5
-7:1 2 3 3 1 2
-14:1 2 3 2 3 1
-42:1 2 3 1 2 3";
-
-#[test]
-fn worked_triples(rt: HostRuntime) -> Result<(), Fail> {
-    for line in WORKED.lines() {
-        let (kind, row) = pair(line, ':')?;
-        let kind = kind.parse::<u32>()?;
-        check_triple::<i16>(&rt, rt.alloc(), kind, row)?;
-        check_triple::<i32>(&rt, rt.alloc(), kind, row)?;
-    }
-    Ok(())
-}
-
-#[test]
-fn each_type(rt: HostRuntime) -> Result<(), Fail> {
-    assert_eq!(rt; (NARROW.lines().count(), WIDE.lines().count()), (74, 74));
-    for (kind, (narrow, wide)) in (0..74).zip(NARROW.lines().zip(WIDE.lines())) {
-        check_triple::<i16>(&rt, rt.alloc(), kind, narrow)?;
-        check_triple::<i32>(&rt, rt.alloc(), kind, wide)?;
-    }
-    Ok(())
-}
-
-// The type, columns and rows, three channels, and what they become.
-const ROWS: &str =
-    "20 3 2|32767 15807 -32768 -10906 2365 -32768|7 -14 -7 -9418 -32768 8|0 10 15 0 32767 -8|32767 15812 -32760 -10906 18749 32764 32764 15809 32765 -6197 2366 -32768 -32765 15795 32758 -15615 -30402 -32760
-6 0 2||||
-6 2 0||||";
-
-const WIDE_ROWS: &str =
-    "33 2 3|14 -1841335580 0 -772832539 0 -2147483648|1855549980 7 6 1345722353 -267047961 147183154|-2147483648 2147483647 -2147483648 -3 325029047 -2147483648|781808170 -767593750 -1073741818 572889812 -104533438 -926558670 14 -1841335580 0 -772832539 0 -2147483648 -2147483634 306148067 -2147483648 -772832542 325029047 0
-6 0 2||||
-6 2 0||||";
-
 // Compares what three channels become.
-fn check_rows<S: Sample>(rt: &impl Abort, alloc: Global, line: &str) -> Result<(), Fail> {
-    let (kind, rest) = pair(line, '|')?;
-    let (kind, sides) = pair(kind, ' ')?;
-    let (width, height) = pair(sides, ' ')?;
-    let (a, rest) = pair(rest, '|')?;
-    let (b, rest) = pair(rest, '|')?;
-    let (c, expected) = pair(rest, '|')?;
-    let (a, b, c) = (signed(alloc, a)?, signed(alloc, b)?, signed(alloc, c)?);
-    let kind = kind.parse::<u32>()?;
-    let (width, height) = (width.parse::<usize>()?, height.parse::<usize>()?);
-    let found = undone::<S>(alloc, kind, width, height, [&a, &b, &c])?;
-    assert_eq!(rt;
-        found.as_slice(),
-        signed(alloc, expected)?.as_slice(),
-        "{line}"
+fn check_row<S: Sample>(rt: &impl Abort, alloc: Global, line: &str) -> Result<(), Fail> {
+    let (head, rest) = pair(line, '|')?;
+    let (coded, expected) = pair(rest, '|')?;
+    let (head, coded, expected) = (
+        signed(alloc, head)?,
+        signed(alloc, coded)?,
+        signed(alloc, expected)?,
     );
+    let [kind, width, height] = head.as_slice() else {
+        return Err(Fail::new("not three numbers"));
+    };
+    let (kind, width, height) = (
+        kind.cast_unsigned(),
+        width.cast_unsigned() as usize,
+        height.cast_unsigned() as usize,
+    );
+    let (first, rest) = coded.split_at(coded.len() / 3);
+    let (second, third) = rest.split_at(rest.len() / 2);
+    let found = undone::<S>(alloc, kind, width, height, [first, second, third])?;
+    assert_eq!(rt; found.as_slice(), expected.as_slice(), "{line}");
+    Ok(())
+}
+
+// Undoes the transform of each line.
+fn check<S: Sample>(rt: &impl Abort, alloc: Global, table: &str) -> Result<(), Fail> {
+    for line in table.lines() {
+        check_row::<S>(rt, alloc, line)?;
+    }
     Ok(())
 }
 
 #[test]
-fn rows_of_columns(rt: HostRuntime) -> Result<(), Fail> {
-    for line in ROWS.lines() {
-        check_rows::<i16>(&rt, rt.alloc(), line)?;
-    }
-    for line in WIDE_ROWS.lines() {
-        check_rows::<i32>(&rt, rt.alloc(), line)?;
-    }
-    Ok(())
+fn colours_of_both_widths(rt: HostRuntime) -> Result<(), Fail> {
+    check::<i16>(&rt, rt.alloc(), WORKED)?;
+    check::<i32>(&rt, rt.alloc(), WORKED)?;
+    check::<i16>(&rt, rt.alloc(), NARROW)?;
+    check::<i32>(&rt, rt.alloc(), WIDE)
 }

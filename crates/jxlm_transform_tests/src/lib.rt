@@ -14,13 +14,11 @@ mod colour_rows;
 #[cfg(test)]
 mod fields;
 #[cfg(test)]
-mod long_header;
-#[cfg(test)]
-mod palette_rows;
-#[cfg(test)]
-mod palettes;
+mod laws;
 #[cfg(test)]
 mod params;
+pub mod pictures;
 #[cfg(test)]
 mod squeezes;
-pub mod valid;
+#[cfg(test)]
+mod valid;

@@ -43,24 +43,24 @@ fn channel_text(alloc: Global, channel: &ModularChannelParams) -> Result<String,
     Ok(format!(in alloc; "{width}x{height} {hshift} {vshift}")?)
 }
 
+// A channel by the sides of a picture and a shift.
+fn channel(text: &str) -> Result<ModularChannelParams, Fail> {
+    let (sides, words) = pair(text, ' ')?;
+    let (width, height) = pair(sides, 'x')?;
+    let (width, height) = (width.parse::<u32>()?, height.parse::<u32>()?);
+    Ok(ModularChannelParams::with_shift(width, height, shift(words)?))
+}
+
 // Compares the sides and shifts of a channel, and whether an image of it alone is valid.
 fn check_channel(rt: &impl Abort, alloc: Global, row: &str) -> Result<(), Fail> {
     let (given, expected) = pair(row, '|')?;
-    let (sides, words) = pair(given, ' ')?;
-    let (width, height) = pair(sides, 'x')?;
-    let shift = shift(words)?;
-    let (width, height) = (width.parse::<u32>()?, height.parse::<u32>()?);
-    let channel = ModularChannelParams::with_shift(width, height, shift);
+    let channel = channel(given)?;
     let found = channel_text(alloc, &channel)?;
     assert_eq!(rt; found.as_str(), expected, "{row}");
     let valid = expected != "invalid";
-    assert!(rt; shift.is_valid() || !valid, "{row}");
-    let params = ModularParams::<PlainDecoder>::with_channels(
-        256,
-        8,
-        vec![in alloc; channel]?,
-        None,
-    );
+    assert!(rt; channel.shift.is_valid() || !valid, "{row}");
+    let channels = vec![in alloc; channel]?;
+    let params = ModularParams::<PlainDecoder>::with_channels(256, 8, channels, None);
     assert_eq!(rt; params.is_valid(), valid, "{row}");
     Ok(())
 }
@@ -117,18 +117,25 @@ fn channels_of_jpeg_pictures(rt: HostRuntime) {
     assert_eq!(rt; (second.hshift(), second.vshift()), (0, 1));
 }
 
+// Numbers with spaces between.
+fn numbers(alloc: Global, text: &str) -> Result<Vec<u32>, Fail> {
+    let mut numbers = Vec::new(alloc);
+    for word in text.split(' ') {
+        numbers.push(word.parse::<u32>()?)?;
+    }
+    Ok(numbers)
+}
+
 // Compares whether an image of n channels of one sample is valid.
 fn check_image(rt: &impl Abort, alloc: Global, row: &str) -> Result<(), Fail> {
-    let (group_dim, rest) = pair(row, ' ')?;
-    let (bit_depth, rest) = pair(rest, ' ')?;
-    let (count, expected) = pair(rest, '|')?;
-    let channel = ModularChannelParams::new(1, 1);
-    let channels = vec![in alloc; channel; count.parse::<usize>()?]?;
+    let (given, expected) = pair(row, '|')?;
+    let given = numbers(alloc, given)?;
+    let [group_dim, bit_depth, count] = given.as_slice() else {
+        return Err(Fail::new("not three numbers"));
+    };
+    let channels = vec![in alloc; ModularChannelParams::new(1, 1); *count as usize]?;
     let params = ModularParams::<PlainDecoder>::with_channels(
-        group_dim.parse::<u32>()?,
-        bit_depth.parse::<u32>()?,
-        channels,
-        None,
+        *group_dim, *bit_depth, channels, None,
     );
     assert_eq!(rt; params.is_valid(), expected == "valid", "{row}");
     Ok(())

@@ -1,4 +1,4 @@
-//! Parameters of channels of one size, valid by their contract.
+// Parameters of channels of one size, valid by their contract.
 
 ghost use Rattle.std.specs.Prelude.{◌≡◌, ◌≤◌, ◌^◌, None, IfOk};
 ghost use Rattle.jxlm_transform.specs.Params.{IsSide, IsValidParams};
@@ -8,13 +8,10 @@ use jxlm_base::grid::OutOfMemory;
 use jxlm_base::plain::PlainDecoder;
 use jxlm_transform::param::{ModularChannelParams, ModularParams, channels_of_one_size_are_valid};
 use std::alloc::Global;
+use std::test::Fail;
 
-/// An image of `count` channels of these sides, of 8 bits a sample, in groups of 256.
-///
-/// # Errors
-///
-/// `Buffer` if it is out of memory, and no other.
-pub fn channels_of_one_size(
+// An image of `count` channels of these sides, of 8 bits a sample, in groups of 256.
+fn channels_of_one_size(
     alloc: Global,
     width: u32,
     height: u32,
@@ -30,4 +27,12 @@ pub fn channels_of_one_size(
     let channel = ModularChannelParams::new(width, height);
     let channels = vec![in alloc; channel; count].map_err(|_| OutOfMemory)?;
     Ok(ModularParams::with_channels(256, 8, channels, None))
+}
+
+#[test]
+fn channels_of_one_size_need_no_check(rt: HostRuntime) -> std::result::Result<(), Fail> {
+    let params = channels_of_one_size(rt.alloc(), 5, 3, 2)?;
+    assert_eq!(rt; params.channels.len(), 2);
+    assert!(rt; params.is_valid());
+    Ok(())
 }

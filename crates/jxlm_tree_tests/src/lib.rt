@@ -1,6 +1,7 @@
 //! Tests of trees, predictors and properties, and what other tests read their tables by.
 #![tactic(auto)]
 
+pub mod pictures;
 #[cfg(test)]
 mod place_rows;
 #[cfg(test)]

@@ -16,10 +16,12 @@ use std::test::Fail;
 // the multipliers 2^30 and 2^31 - 1, each then one more, and 2^31; in a tree whose only token is a decision; of
 // predictor 14. Then three nodes under several limits, once truncated in the third; and seven nodes: property 3, then
 // 17 and 1.
-const TREES: &str =
-    "4 0 0|42000400040e05c02006|1 nodes, depth 0 @68|0 0 0:=0 Gradient 0 1 1 @71;0 0 0:=0 Gradient 0 1 2 @74;0 0 0:=0 Gradient 0 1 -1 @77;0 0 0:=0 Gradient 0 1 0 @80
+const TREES: &str = "\
+4 0 0|42000400040e05c02006|1 nodes, depth 0 @68|0 0 0:=0 Gradient 0 1 1 @71;0 0 0:=0 Gradient 0 1 2 @74;0 0 0:=0 \
+    Gradient 0 1 -1 @77;0 0 0:=0 Gradient 0 1 0 @80
 4 0 0|8200408004123a084061|1 nodes, depth 0 @79|0 0 0:=0 Zero 5 2 1 @79
-0 0 0|14840c154280002a14e2ffffff7f10220806b701000000|1 nodes, depth 0 @143|0 0 0:=1 West -2147483648 40 -2147483528 @146
+0 0 0|14840c154280002a14e2ffffff7f10220806b701000000|1 nodes, depth 0 @143|0 0 0:=1 West -2147483648 40 -2147483528 \
+    @146
 0 0 0|14840c154280002a14|entropy decoder error: unexpected end of input @72
 0 0 0|14840c154280002a14e2ffffff|entropy decoder error: unexpected end of input @77
 0 0 0||entropy decoder error: unexpected end of input @0
@@ -36,7 +38,13 @@ const TREES: &str =
 4 0 1|82400800040c02221010868315|bitstream error: MA tree limit exceeded @58
 4 2 0|82400800040c02221010868315|bitstream error: decoded MA tree is too deep @97
 4 2 0|82400800040c0222|entropy decoder error: unexpected end of input @62
-0 6 2|14840c15438160100c449183000038095801000303f409118108c8c186260f00ff550f81|7 nodes, depth 2 @231|0 0 1:99 6 99 99 99 99 99 99 99 99 99 99 99 99 99 -1=2 Zero 7 6 -11 @234;0 0 1:99 6 99 99 99 99 99 99 99 99 99 99 99 99 99 -2=0 SelfCorrecting -3 1 -104 @242;0 0 1:99 6 99 99 99 99 99 99 99 99 99 99 99 99 99 -3=0 SelfCorrecting -3 1 -5 @250;0 0 0:99 6 99 99 99 99 99 99 99 99 99 99 99 99 99 -3=2 Zero 7 6 7 @253;0 0 1:99 5 99 99 99 99 99 99 99 99 99 99 99 99 99 0=1 AvgAll -20 5 -5 @253;0 1 1:99 5 99 99 99 99 99 99 99 99 99 99 99 99 99 0=1 AvgNorthAndNorthEast 0 8 24 @253;9 2147483648 1:99 -7 99 99 99 99 99 99 99 99 99 99 99 99 99 0=1 AvgAll -20 5 -5 @253";
+0 6 2|14840c15438160100c449183000038095801000303f409118108c8c186260f00ff550f81|7 nodes, depth 2 @231|0 0 1:99 6 99 \
+    99 99 99 99 99 99 99 99 99 99 99 99 -1=2 Zero 7 6 -11 @234;0 0 1:99 6 99 99 99 99 99 99 99 99 99 99 99 99 99 \
+    -2=0 SelfCorrecting -3 1 -104 @242;0 0 1:99 6 99 99 99 99 99 99 99 99 99 99 99 99 99 -3=0 SelfCorrecting -3 1 -5 \
+    @250;0 0 0:99 6 99 99 99 99 99 99 99 99 99 99 99 99 99 -3=2 Zero 7 6 7 @253;0 0 1:99 5 99 99 99 99 99 99 99 99 \
+    99 99 99 99 99 0=1 AvgAll -20 5 -5 @253;0 1 1:99 5 99 99 99 99 99 99 99 99 99 99 99 99 99 0=1 \
+    AvgNorthAndNorthEast 0 8 24 @253;9 2147483648 1:99 -7 99 99 99 99 99 99 99 99 99 99 99 99 99 0=1 AvgAll -20 5 -5 \
+    @253";
 
 #[test]
 fn small_trees(rt: HostRuntime) -> Result<(), Fail> {

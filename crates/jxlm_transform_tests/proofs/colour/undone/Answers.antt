@@ -1,5 +1,4 @@
-use Rattle.jxlm_transform_tests.proofs.ColourThree.{are_three}
-use Rattle.jxlm_transform_tests.proofs.PaletteThree.{sides_of}
+use Rattle.jxlm_transform_tests.proofs.ColourThree.{are_three, sides_of}
 use Rattle.jxlm_transform_tests.proofs.colour.undone.Goals as goal
 
 pub run-requires-after_bounds : goal.run-requires-after_bounds

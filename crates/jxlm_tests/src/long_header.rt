@@ -1,11 +1,11 @@
 // A header of 64 KB that appends residuals again and again: each step costs what it appends, and not what the list
 // has.
 
-use crate::valid::channels_of_one_size;
-use jxl_modular::Modular;
-use jxlm_base::bits::{Bitstream, BitstreamError};
-use jxlm_base::error::Error;
-use jxlm_base::plain::PlainDecoder;
+use crate::outcome::at_once;
+use jxl_modular::ModularChannelParams;
+use jxl_modular::bits::BitstreamError;
+use jxl_modular::error::Error;
+use jxl_modular::plain::PlainDecoder;
 use std::alloc::{AllocError, Global};
 use std::result::Result;
 use std::test::Fail;
@@ -88,24 +88,16 @@ fn header(alloc: Global, squeezes: u32) -> Result<Vec<u8>, AllocError> {
     Ok(bits.bytes)
 }
 
-// The header's error, and the position of the reader then.
-fn outcome(alloc: Global, bytes: &[u8]) -> Result<(Option<Error>, u64), Fail> {
-    let params = channels_of_one_size(alloc, 1, 1, GIVEN)?;
-    let mut bits = Bitstream::new(bytes);
-    let modular = Modular::<i16, PlainDecoder>::parse(alloc, &mut bits, params);
-    Ok((modular.err(), bits.position()))
-}
-
 // 76 squeezes of 296 steps append 427424 channels, in a few hundredths of a second. A list that is made anew at each
 // step takes more than the minute that a test has.
 #[test]
 fn many_appended_steps(rt: HostRuntime) -> Result<(), Fail> {
     let bytes = header(rt.alloc(), 76)?;
     assert_eq!(rt; bytes.len(), 64792);
+    let channels = vec![in rt.alloc(); ModularChannelParams::new(1, 1); GIVEN]?;
+    let outcome = at_once::<i16, PlainDecoder>(&rt, rt.alloc(), &bytes, 8, &channels)?;
     let too_many = BitstreamError::ProfileConformance("nb_channels_tr too large");
-    assert_eq!(rt;
-        outcome(rt.alloc(), &bytes)?,
-        (Some(Error::Bitstream(too_many)), 518332)
-    );
+    assert_eq!(rt; outcome.fault, Some(Error::Bitstream(too_many)));
+    assert_eq!(rt; outcome.position, 518332);
     Ok(())
 }
