@@ -1,4 +1,4 @@
--- Fields in the input: how each is read, and where a value stands (ISO/IEC 18181-1, notation of bundles and field types).
+-- Fields in the input: how each is read, and where a value stands (ISO/IEC 18181-1, notation of bundles and fields).
 use Rattle.std.specs.Prelude.{◌≡◌, ℕ, zero, suc, ◌+◌, ◌*◌, ◌^◌, ◌≤◌, List, [], ◌∷◌, length, Bool, nat_lt, ◌==◌, if◌then◌else◌, MatchBool, Option, Some, IfSome, Result, Ok, Err}
 use Rattle.jxlm_base.specs.Bits.{bits_at}
 use Rattle.jxlm_base.specs.Decoding.{Found}

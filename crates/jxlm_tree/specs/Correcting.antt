@@ -59,7 +59,8 @@ header_of (Some c) = Some c.header
 pub record IsMadeBy (r : PredictionResult) (header : WpHeader) (width : ℕ) (samples : List ℤ) : Type 0 where
   pub prediction_is : r.prediction ≡ self_corrected header samples width
   pub max_error_is : r.max_error ≡ greatest_error header samples width
-  pub subpred_is : predicted_by r.subpred ≡ sub_predictions header (neighbours samples width) (near header samples width)
+  pub subpred_is : predicted_by r.subpred ≡
+      sub_predictions header (neighbours samples width) (near header samples width)
 
 -- it is made where there are weights
 abbrev pub IsMade : Option PredictionResult → Option WpHeader → ℕ → List ℤ → Type 0

@@ -54,23 +54,25 @@ module _ (errors : List Errors) (width : ℕ) where
   errors_left zero y = no_errors
   errors_left (suc x) y = errors_at x y
 
-  -- the sum of one sub-prediction's errors around (x, y), reduced; in the last column north and west make north east
-  abbrev pub error_sum : (Four ℕ → ℕ) → ℕ → ℕ → ℕ
-  error_sum sub x y =
+  -- the sum of one sub-prediction's errors around (x, y); in the last column north plus west stands for north east
+  abbrev pub error_sum : ℕ → ℕ → (Four ℕ → ℕ) → ℕ
+  error_sum x y sub =
       let n = sub (errors_above x y).sub_errors in
       let w = sub (errors_left x y).sub_errors in
       let ne = if nat_lt (x + 1) width then sub (errors_above (x + 1) y).sub_errors else n + w in
       (sub (errors_above (x - 1) y).sub_errors + sub (errors_left (x - 1) y).sub_errors + n + w + ne) % 2 ^ 32
 
-  -- the errors around (x, y); in column 0 north is north west, and in the last column north east
+  -- the errors around (x, y); north stands for north west in column 0, and for north east in the last column
   abbrev pub errors_near : ℕ → ℕ → ErrorsNear
-  errors_near x y = record {
-    w = (errors_left x y).true_error;
-    n = (errors_above x y).true_error;
-    nw = (errors_above (x - 1) y).true_error;
-    ne = (if nat_lt (x + 1) width then errors_above (x + 1) y else errors_above x y).true_error;
-    sums = record { s0 = error_sum (λ f. f.s0) x y; s1 = error_sum (λ f. f.s1) x y; s2 = error_sum (λ f. f.s2) x y; s3 = error_sum (λ f. f.s3) x y };
-  }
+  errors_near x y =
+      let sum = error_sum x y in
+      record {
+        w = (errors_left x y).true_error;
+        n = (errors_above x y).true_error;
+        nw = (errors_above (x - 1) y).true_error;
+        ne = (if nat_lt (x + 1) width then errors_above (x + 1) y else errors_above x y).true_error;
+        sums = record { s0 = sum (λ f. f.s0); s1 = sum (λ f. f.s1); s2 = sum (λ f. f.s2); s3 = sum (λ f. f.s3) };
+      }
 
 -- the maximum error: of the true errors at west, north, north west and north east the first that is furthest from 0
 abbrev pub greatest : ErrorsNear → ℤ
@@ -143,7 +145,7 @@ module _ (header : WpHeader) (a : Neighbours) (e : ErrorsNear) where
       let z = unclamped sub_predictions (weights header e.sums) in
       if is_clamped e then clamped (int_min (int_min n w) ne) (int_max (int_max n w) ne) z else z
 
--- what is known of the cell after the samples once it has this sample, where these are the errors before it
+-- what is known of the cell after the samples once it has this sample; errors are those of the cells before it
 abbrev pub errors_behind : WpHeader → List ℤ → ℕ → List Errors → ℤ → Errors
 errors_behind header samples width errors sample =
     let a = neighbours samples width in

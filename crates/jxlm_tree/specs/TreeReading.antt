@@ -73,8 +73,8 @@ module _ {S : Type 0} (d : Meaning S) (bytes : List ℕ) where
   unfoldable pub predictor_at : S → ℕ → Result (Taken Predictor S) Refused
   predictor_at s p = do
     number ← read_context 2 s p
-    let unknown : Refused = record { fault = BadEnum (codes "MaProperty") number.value; position = Some number.position }
-    predictor ← ok_or (slice_get predictors number.value) unknown
+    let error : Refused = record { fault = BadEnum (codes "MaProperty") number.value; position = Some number.position }
+    predictor ← ok_or (slice_get predictors number.value) error
     Ok (record { value = predictor; state = number.state; position = number.position })
 
   -- the multiplier of a leaf: (factor + 1) * 2 ^ log, below 2 ^ 31
@@ -92,8 +92,8 @@ module _ {S : Type 0} (d : Meaning S) (bytes : List ℕ) where
     predictor ← predictor_at s p
     offset ← read_context 3 predictor.state predictor.position
     multiplier ← multiplier_at offset.state offset.position
-    let draft : Draft = record { predictor = predictor.value; offset = unpack offset.value; multiplier = multiplier.value }
-    Ok (record { value = draft; state = multiplier.state; position = multiplier.position })
+    let l : Draft = record { predictor = predictor.value; offset = unpack offset.value; multiplier = multiplier.value }
+    Ok (record { value = l; state = multiplier.state; position = multiplier.position })
 
   -- a node: 0 comes before a leaf, and k + 1 before a decision on property k, which its value follows
   unfoldable pub node_at : S → ℕ → Result (Taken (Node Draft) S) Refused
@@ -118,13 +118,15 @@ module _ {S : Type 0} (d : Meaning S) (bytes : List ℕ) where
     others ← nodes_at limit room (missing + children first.value) first.state first.position
     Ok (record { value = first.value ∷ others.value; state = others.state; position = others.position })
 
-  -- the nodes of a tree by a decoder before its tokens; a single token before each node, other than 0, makes no leaf
+  -- the nodes of a tree by a decoder before its tokens; if nodes begin with a single token, not 0, none is a leaf
   unfoldable pub drafts_at : ℕ → S → ℕ → Result (Found (List (Node Draft))) Refused
-  drafts_at node_limit s p = if nat_lt 0 (unwrap_or (d.single_token s (slice_index (d.cluster_map s) 1)) 0) then refused_at p BadTree else (do
-    start ← through (Some p) (d.begin s bytes p)
-    nodes ← nodes_at (limit_fault node_limit) (most_nodes node_limit) 1 start.value start.position
-    ended ← through (Some nodes.position) (d.finalize nodes.state)
-    Ok (record { value = nodes.value; position = nodes.position }))
+  drafts_at node_limit s p =
+      let single = d.single_token s (slice_index (d.cluster_map s) 1) in
+      if nat_lt 0 (unwrap_or single 0) then refused_at p BadTree else (do
+        start ← through (Some p) (d.begin s bytes p)
+        nodes ← nodes_at (limit_fault node_limit) (most_nodes node_limit) 1 start.value start.position
+        ended ← through (Some nodes.position) (d.finalize nodes.state)
+        Ok (record { value = nodes.value; position = nodes.position }))
 
   -- at a position: a decoder of six contexts, the nodes level by level, and a decoder with a context for each leaf
   unfoldable pub listing_at : ℕ → ℕ → Result (Taken (List (Node Leaf)) S) Refused
@@ -143,7 +145,8 @@ module _ {S : Type 0} (d : Meaning S) (bytes : List ℕ) where
   module _ (node_limit depth_limit : ℕ) (p : ℕ) where
     -- from position p to q stand the nodes of this tree, level by level, and the decoder of its leaves' clusters
     abbrev pub IsListedAt : Config S → ℕ → Type 0
-    IsListedAt config q = listing_at node_limit p ≡ Ok (record { value = levels config.tree; state = config.decoder; position = q })
+    IsListedAt config q =
+        listing_at node_limit p ≡ Ok (record { value = levels config.tree; state = config.decoder; position = q })
 
     -- that is the tree at position p, with its decoder, and q is the position after both
     pub record IsTreeAt (config : Config S) (q : ℕ) : Type 0 where

@@ -203,7 +203,8 @@ fn count_leaves(nodes: &[DraftNode]) -> u32
 
 /// What is read as the nodes of a tree is the listing of a tree.
 pub fn each_listing_is_of_a_tree<D: Decoder>()
-    ensures { (bytes : List ℕ) (node_limit p : ℕ) (x : Taken (List (Node Leaf)) D) → listing_at D.meaning bytes node_limit p ≡ Ok x → (t : Shape Leaf) × (levels t ≡ x.value) }
+    ensures { (bytes : List ℕ) (node_limit p : ℕ) (x : Taken (List (Node Leaf)) D) →
+        listing_at D.meaning bytes node_limit p ≡ Ok x → (t : Shape Leaf) × (levels t ≡ x.value) }
 {}
 
 /// No two trees have one listing.

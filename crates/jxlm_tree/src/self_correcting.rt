@@ -220,7 +220,8 @@ impl ErrorsAround {
     /// The prediction: clamped where the errors say so.
     fn settled(&self, around: &Around, unclamped: i64) -> i64
         requires { unsigned_abs unclamped < 2 ^ 40 }
-        ensures value { result ≡ if is_clamped (near_of self.now) then clamped_around (seen around.now) unclamped else unclamped }
+        ensures value { result ≡
+            if is_clamped (near_of self.now) then clamped_around (seen around.now) unclamped else unclamped }
         ensures bound { unsigned_abs result < 2 ^ 40 }
     {
         if self.is_clamped() {
@@ -367,7 +368,8 @@ impl PredictionResult {
         requires { IsHeader header.now }
         ensures prediction { result.prediction ≡ predicted header.now (seen around.now) (near_of errors.now) }
         ensures max_error { result.max_error ≡ greatest (near_of errors.now) }
-        ensures subpred { predicted_by result.subpred ≡ sub_predictions header.now (seen around.now) (near_of errors.now) }
+        ensures subpred { predicted_by result.subpred ≡
+            sub_predictions header.now (seen around.now) (near_of errors.now) }
     {
         let subpred = SubPredictions::of_place(header, around, errors);
         let unclamped = subpred.weighted(&errors.sums.weights(header));
@@ -509,7 +511,8 @@ impl Corrector {
     fn errors_around<const EDGE: bool>(&self, x: usize, y: usize) -> ErrorsAround
         requires in_row { x < self.now.width }
         requires inner { EDGE ≡ false → (2 ≤ y) × (2 ≤ x) × (x + 2 < self.now.width) }
-        ensures { (header : WpHeader) (width : ℕ) (samples : List ℤ) → CorrectsBy self.now header width x y samples → near_of result ≡ errors_near (errors_of header samples width (length samples)) width x y }
+        ensures { (header : WpHeader) (width : ℕ) (samples : List ℤ) → CorrectsBy self.now header width x y samples →
+            near_of result ≡ errors_near (errors_of header samples width (length samples)) width x y }
     {
         let n = self.above::<EDGE>(x, y);
         let nw = self.above_left::<EDGE>(x, y);
