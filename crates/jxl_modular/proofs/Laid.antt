@@ -1,7 +1,6 @@
 -- What an image that is laid out keeps: its coded channels lie in the store, apart, and of their sizes; so they do
 -- where only cells change.
 use Rattle.std.proofs.Common.{◌≡◌, List, length, refl, sym, ap, ◌∙◌, subst, ℤ}
-use Rattle.std.specs.Prelude.{take}
 use Rattle.std.specs.Int.{Width}
 use Rattle.std.proofs.lemmas.List.{take-map}
 use Rattle.jxlm_base.specs.Grid.{Grid, meanings}

@@ -1,5 +1,5 @@
 -- A picture from its bits: reading and filling put together.
-use Rattle.std.proofs.Common.{◌≡◌, ◌≢◌, ℕ, ◌+◌, ◌*◌, ◌≤◌, List, [], ◌∷◌, map, sum_by, Some, None, Ok, Err, true, inl, inr, refl, sym, ap, ◌∙◌, subst, ℤ, pos}
+use Rattle.std.proofs.Common.{◌≡◌, ◌≢◌, ℕ, ◌*◌, ◌≤◌, List, [], ◌∷◌, sum_by, Some, None, Ok, Err, inl, inr, refl, sym, ap, subst, ℤ}
 use Rattle.std.specs.Prelude.{Option}
 use Rattle.std.specs.Int.{Width}
 use Rattle.jxlm_base.specs.Decoding.{Meaning}

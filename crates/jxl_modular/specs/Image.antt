@@ -18,9 +18,8 @@ use Rattle.jxlm_tree.specs.declared.predictor.WpHeader.{WpHeader}
 use Rattle.jxlm_part.specs.Part.{Part, cell_count}
 use Rattle.jxlm_part.specs.Progress.{grids_in}
 
--- the weights of its header, the steps of its transforms, its tree with the decoder of the leaves, the side of its
--- groups, the bit depth of its samples, its own channels, its coded channels, the first nb_meta of which hold tables
--- and what became of them, its buffers, and the regions of the coded channels in them
+-- the weights of its header, the steps of its transforms, its tree, the side of its groups, its bit depth, its own
+-- channels, its coded ones, the first nb_meta of them meta channels, its buffers, and the coded channels' regions there
 pub record Image (S D : Type 0) : Type 0 where
   pub weights : WpHeader
   pub steps : List Step

@@ -23,15 +23,13 @@ abbrev pub opened : List ℕ → ChannelList → ℕ → Result (Found Opening) 
 opened bytes given p = (opening false given).read bytes p
 
 module _ {D : Type 0} (d : Meaning D) (bytes : List ℕ) (given : ChannelList) (p : ℕ) where
-  -- At bit position p, up to q, stand a header, which comes to this head for the given channels, and after it this MA
-  -- tree with its decoder.
+  -- at p, up to q, stand a header, which comes to this head for the given channels, and after it this MA tree
   pub record IsStartAt (head : Opening) (config : Config D) (q : ℕ) : Type 0 where
     pub tree_at : ℕ
     pub header : opened bytes given p ≡ Ok (record { value = head; position = tree_at })
     pub tree : IsTreeAt d bytes (node_limit head.coded.list.channels) depth_limit tree_at config q
 
-  -- At bit position p stands a header, and reading the MA tree after it returns this error, and the reader is at q
-  -- then.
+  -- at p stands a header, and reading the MA tree after it returns this error, and the reader is at q then
   pub record IsTreeRefused (fault : Fault) (q : ℕ) : Type 0 where
     pub head : Opening
     pub tree_at : ℕ

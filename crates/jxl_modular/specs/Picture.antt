@@ -1,5 +1,4 @@
--- A picture of one part, described by its bits and by grids of numbers alone (ISO/IEC 18181-1, Modular: header, MA
--- tree, samples, inverse transforms).
+-- A picture of one part, by its bits and by grids alone (ISO/IEC 18181-1, Modular: header to inverse transforms).
 use Rattle.std.specs.Prelude.{◌≡◌, ℕ, ◌+◌, ◌*◌, ◌⊎◌, ℤ, List, sum_by}
 use Rattle.std.specs.Int.{Width}
 use Rattle.jxlm_base.specs.Decoding.{Meaning}
@@ -26,9 +25,8 @@ abbrev pub StepsFor : Shape Leaf → ℕ → ℕ → ℕ → Type 0
 StepsFor tree n before after = MovesWithin before after (n * (depth tree + 1))
 
 module _ {D : Type 0} (d : Meaning D) (w : Width) (bytes : List ℕ) (stream : ℕ) (given : ChannelList) (p : ℕ) where
-  -- At bit position p, up to q, stands a picture of the given channels: its header and MA tree, and then the samples
-  -- of the coded channels. Its grids are the only ones that the header's transforms turn into these samples (Modular:
-  -- inverse transforms).
+  -- At bit position p, up to q, stands a picture of the given channels: header, MA tree, and the samples of the coded
+  -- channels. Its grids are the only ones that the header's transforms turn into these samples.
   pub record IsPicture (bit_depth : ℕ) (grids : List (Grid ℤ)) (q : ℕ) : Type 0 where
     pub head : Opening
     pub config : Config D
@@ -43,8 +41,8 @@ module _ {D : Type 0} (d : Meaning D) (w : Width) (bytes : List ℕ) (stream : �
     pub picture : IsPicture bit_depth grids q
     pub steps : StepsFor picture.config.tree (sum_by area picture.head.coded.list.channels) before after
 
-  -- Header and MA tree stand at bit position p, and decoding the samples after them returns this error, and the reader
-  -- is at q then; the count of steps went on by no more than the samples whose read was tried allow.
+  -- Header and MA tree stand at bit position p; decoding the samples after them returns this error, and the reader is at
+  -- q then. The count of steps went on by no more than the samples whose read was tried allow.
   pub record SamplesFail (fault : Fault) (q before after : ℕ) : Type 0 where
     pub head : Opening
     pub config : Config D
@@ -56,14 +54,12 @@ module _ {D : Type 0} (d : Meaning D) (w : Width) (bytes : List ℕ) (stream : �
     pub error_is : fault ≡ OfDecoder error
     pub steps : StepsFor config.tree tried before after
 
-  -- There is no picture, by the first error: of the header, of the tree, or of the samples. It may be out of memory
-  -- at any time.
+  -- there is no picture, by the first error of header, tree or samples; it may be out of memory at any time
   abbrev pub PictureFails : Fault → ℕ → ℕ → ℕ → Type 0
   PictureFails fault q before after =
       UnlessMemory fault (((IsRefused (opened bytes given p) fault q ⊎ IsTreeRefused d bytes given p fault q) × (after ≡ before)) ⊎ SamplesFail fault q before after)
 
--- Also where it was out of memory: no step was taken, or header and tree stand there, and the steps are within those
--- for all coded samples.
+-- whatever is returned, no step was taken, or header and tree stand there, and steps are within those for all samples
 abbrev pub StepsWithin : {D : Type 0} → Meaning D → List ℕ → ChannelList → ℕ → ℕ → ℕ → Type 0
 StepsWithin {D} d bytes given p before after =
     (after ≡ before) ⊎ ((head : Opening) × (config : Config D) × (q : ℕ) × IsStartAt d bytes given p head config q × StepsFor config.tree (sum_by area head.coded.list.channels) before after)

@@ -6,7 +6,8 @@ use Rattle.jxlm_base.specs.Squeeze.{AreGridSamples}
 use Rattle.jxlm_transform.specs.Channels.{Channel, ChannelList}
 use Rattle.jxlm_transform.specs.ChannelSteps.{RctStep, SqueezeStep, Step, list_after}
 use Rattle.jxlm_transform.specs.declared.param.ChannelShift.TheVariants.{Raw}
-use Rattle.jxlm_chain.specs.Chain.{AreSampleGrids, Codes, Chain}
+use Rattle.jxlm_chain.specs.Chain.{Codes, Chain}
+use Rattle.jxlm_chain.proofs.SampleGrids.{AreSampleGrids}
 
 abbrev line : List ℤ → Grid ℤ
 line cs = grid 4 1 cs

@@ -1,7 +1,7 @@
 -- The grids of regions that an undoing leaves.
 use Rattle.std.proofs.Common.{◌≡◌, ℕ, ◌+◌, ◌<◌, ◌≤◌, List, [], ◌∷◌, length, ℤ, sym, subst, arith}
 use Rattle.std.specs.Prelude.{get_or}
-use Rattle.std.specs.List.{All, AllZip}
+use Rattle.std.specs.List.{All}
 use Rattle.std.proofs.lemmas.List.{get_or_default}
 use Rattle.jxlm_base.specs.Grid.{Grid, at}
 use Rattle.jxlm_base.specs.Outside.{KeepsOutside}

@@ -1,12 +1,15 @@
 -- Grids of samples that have the sides of channels.
 use Rattle.std.proofs.Common.{◌≡◌, List, [], ◌∷◌, ℤ}
-use Rattle.std.specs.List.{AllZip}
+use Rattle.std.specs.List.{All, AllZip}
 use Rattle.std.specs.Int.{Width}
 use Rattle.std.proofs.lemmas.List.Elements.{All-head, All-tail}
 use Rattle.jxlm_base.specs.Grid.{Grid, IsFull}
 use Rattle.jxlm_base.specs.Squeeze.{AreGridSamples}
 use Rattle.jxlm_transform.specs.Channels.{AreGridsOf, Channel}
-use Rattle.jxlm_chain.specs.Chain.{AreSampleGrids}
+
+-- each number is a w-bit sample
+abbrev pub AreSampleGrids : Width → List (Grid ℤ) → Type 0
+AreSampleGrids w gs = All (AreGridSamples w) gs
 
 -- the grid has the channel's sides, and a w-bit sample in each cell
 pub record IsGridOf (w : Width) (c : Channel) (g : Grid ℤ) : Type 0 where

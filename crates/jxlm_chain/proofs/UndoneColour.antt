@@ -10,7 +10,8 @@ use Rattle.jxlm_transform.specs.Channels.{Channel}
 use Rattle.jxlm_transform.specs.ChannelSteps.{RctStep, range, with_range}
 use Rattle.jxlm_transform.specs.Recoloured.{recoloured, UndoesColour}
 use Rattle.jxlm_transform.specs.declared.transform.Rct.{Rct}
-use Rattle.jxlm_chain.specs.Chain.{AreSampleGrids, Codes}
+use Rattle.jxlm_chain.specs.Chain.{Codes}
+use Rattle.jxlm_chain.proofs.SampleGrids.{AreSampleGrids}
 use Rattle.jxlm_chain.specs.Layout.{Layout, LieIn, layout_after}
 use Rattle.jxlm_chain.specs.Undo.{UndoRct, Undoes, UndoesAll, undo_of}
 use Rattle.jxlm_chain.proofs.KeptGrids.{grid_out_of_range}

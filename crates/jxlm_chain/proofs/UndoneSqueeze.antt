@@ -16,7 +16,8 @@ use Rattle.jxlm_transform.specs.ChannelSteps.{SqueezeStep, range, with_halves}
 use Rattle.jxlm_transform.specs.declared.transform.SqueezeParams.{SqueezeParams}
 use Rattle.jxlm_transform.specs.SqueezedRegions.{average_region, residual_region, average_grid, residual_grid, squeezed_grid, UndoesSqueeze}
 use Rattle.jxlm_transform.proofs.SqueezedRegions.{averages_stood, residuals_stood}
-use Rattle.jxlm_chain.specs.Chain.{AreSampleGrids, Codes}
+use Rattle.jxlm_chain.specs.Chain.{Codes}
+use Rattle.jxlm_chain.proofs.SampleGrids.{AreSampleGrids}
 use Rattle.jxlm_chain.specs.Layout.{Layout, LieIn, layout_after}
 use Rattle.jxlm_chain.specs.Undo.{UndoSqueeze, UndoesAll, undo_of}
 use Rattle.jxlm_chain.proofs.KeptGrids.{grid_apart, grid_out_of_range}

@@ -1,5 +1,4 @@
--- What transforms make of an image's samples (ISO/IEC 18181-1, Modular: inverse transforms, from the image to the
--- coded channels).
+-- What transforms make of an image's samples, up to the coded channels (ISO/IEC 18181-1, Modular: inverse transforms).
 use Rattle.std.specs.Prelude.{◌≡◌, ℕ, List, [], ◌∷◌, map, ℤ, Ok}
 use Rattle.std.specs.List.{All}
 use Rattle.std.specs.Int.{Width}
@@ -11,23 +10,17 @@ use Rattle.jxlm_transform.specs.Palette.{IsPaletteOf}
 use Rattle.jxlm_transform.specs.Recoloured.{recoloured}
 use Rattle.jxlm_transform.specs.SqueezedRegions.{average_grid, residual_grid}
 
--- w bits a sample in memory
-module _ (w : Width) where
-  -- each number is a w-bit sample
-  abbrev pub AreSampleGrids : List (Grid ℤ) → Type 0
-  AreSampleGrids gs = All (AreGridSamples w) gs
-
--- and depth bits in the picture
+-- w bits a sample in memory, depth bits in the picture
 module _ (w : Width) (depth : ℕ) where
   -- One step codes the grids before it as those after it. What it codes by colour or squeeze are w-bit samples; what
   -- a palette stands for is made of them. Grids out of its range stay.
   abbrev pub Codes : Step → List (Grid ℤ) → List (Grid ℤ) → Type 0
   Codes (RctStep t) ahead behind =
-      AreSampleGrids w (range t.begin_c 3 ahead) × (behind ≡ with_range t.begin_c 3 (recoloured w t.rct_type (range t.begin_c 3 ahead)) ahead)
+      All (AreGridSamples w) (range t.begin_c 3 ahead) × (behind ≡ with_range t.begin_c 3 (recoloured w t.rct_type (range t.begin_c 3 ahead)) ahead)
   Codes (PaletteStep t) ahead behind =
       (table : Grid ℤ) × (index : Grid ℤ) × IsPaletteOf w depth t table index (range t.begin_c t.num_c ahead) × (behind ≡ table ∷ with_range t.begin_c t.num_c (index ∷ []) ahead)
   Codes (SqueezeStep t) ahead behind =
-      AreSampleGrids w (range t.begin_c t.num_c ahead) ×
+      All (AreGridSamples w) (range t.begin_c t.num_c ahead) ×
       (behind ≡ with_halves t (map (average_grid w t.horizontal) (range t.begin_c t.num_c ahead)) (map (residual_grid w t.horizontal) (range t.begin_c t.num_c ahead)) ahead)
 
   -- The image, of the channels of a list, becomes the coded grids: between each two steps there are grids, for the

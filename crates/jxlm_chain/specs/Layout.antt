@@ -1,9 +1,9 @@
 -- Where samples lie in a store: the regions of an image's channels, before each step and after it.
-use Rattle.std.specs.Prelude.{◌≡◌, ℕ, suc, ◌^◌, ◌<◌, ◌≤◌, List, [], ◌∷◌, ◌++◌, length, map, get_or, ℤ}
+use Rattle.std.specs.Prelude.{◌≡◌, ℕ, suc, ◌<◌, List, [], ◌∷◌, ◌++◌, length, map, get_or}
 use Rattle.std.specs.List.{All, AllZip}
 use Rattle.jxlm_base.specs.Grid.{Grid}
 use Rattle.jxlm_base.specs.Outside.{buffer_at}
-use Rattle.jxlm_base.specs.Regions.{region, AllLie, LieApart, grid_of}
+use Rattle.jxlm_base.specs.Regions.{region, AllLie, LieApart}
 use Rattle.jxlm_base.specs.declared.subgrid.Region.{Region}
 use Rattle.jxlm_transform.specs.Channels.{AreRegionsOf, Channel, HasSides}
 use Rattle.jxlm_transform.specs.ChannelSteps.{Step, RctStep, PaletteStep, SqueezeStep, range, with_range, with_halves}

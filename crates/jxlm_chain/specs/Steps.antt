@@ -1,13 +1,10 @@
 -- The steps of an image's transforms, and what they ask of a store in which they are undone.
-use Rattle.std.specs.Prelude.{◌≡◌, ◌≤◌, ◌^◌, ◌⊎◌, List, [], ◌∷◌, ◌++◌, length, Some, None}
+use Rattle.std.specs.Prelude.{◌≡◌, ◌≤◌, ◌^◌, List, length}
 use Rattle.std.specs.List.{All}
 use Rattle.jxlm_base.specs.Grid.{Grid}
 use Rattle.jxlm_base.specs.Regions.{Lies, AllLie, LieApart}
-use Rattle.jxlm_tree.specs.declared.predictor.WpHeader.{WpHeader}
-use Rattle.jxlm_transform.specs.ChannelSteps.{Step, RctStep, PaletteStep, SqueezeStep, listed_steps}
 use Rattle.jxlm_transform.specs.Palette.{PaletteLies}
 use Rattle.jxlm_transform.specs.Recoloured.{HaveOneSize}
-use Rattle.jxlm_transform.specs.Transforms.{Transform}
 use Rattle.jxlm_chain.specs.Undo.{Undo, UndoRct, UndoPalette, UndoSqueeze}
 
 module _ {S : Type 0} where

@@ -2,7 +2,7 @@
 use Rattle.std.proofs.Common.{◌≡◌, ℕ, List, Bool, Result, Ok, Err, refl, ap, ◌∙◌}
 use Rattle.jxlm_base.specs.Fault as reading
 use Rattle.jxlm_base.specs.Fault.{Fault, UnlessNoMemory}
-use Rattle.jxlm_base.specs.Grammar.{Grammar, IsExact, IsRefused, flag, repeated, ◌>>=◌}
+use Rattle.jxlm_base.specs.Grammar.{Grammar, IsExact, IsRefused, flag, repeated, u32, ◌>>=◌}
 use Rattle.jxlm_base.specs.declared.bits.U32Spec.TheVariants.{Const, Offset}
 use Rattle.jxlm_base.proofs.GrammarLaws.{exact-give, exact-refuse, exact-bind, exact-repeated, exact-flag, exact-u32}
 use Rattle.jxlm_transform.specs.Channels.{ChannelList}
@@ -12,7 +12,7 @@ use Rattle.jxlm_tree.proofs.WeightsLaws.{exact-wp_header}
 use Rattle.jxlm_transform.proofs.Refusals.{unless_so}
 use Rattle.jxlm_tree.specs.WeightsHeader.{wp_header}
 use Rattle.jxlm_tree.specs.declared.predictor.WpHeader.{WpHeader}
-use Rattle.jxlm_header.specs.Header.{header, transform_count}
+use Rattle.jxlm_header.specs.Header.{header}
 use Rattle.jxlm_header.specs.Opening.{checked, resolved, opening}
 
 bind : {X Y : Type 0} {field : Grammar X} {next : X → Grammar Y} → IsExact field → ((x : X) → IsExact (next x)) → IsExact (field >>= next)
@@ -36,7 +36,7 @@ exact-opening has_global list = bind exact-header λ h. exact-checked (resolved 
 
 -- where one of the transforms gives an error, so does the header
 pub listed_refused : (bytes : List ℕ) (p : ℕ) (global : Bool) (a : ℕ) (weights : WpHeader) (b n m : ℕ) (fault : Fault) (q : ℕ) → flag.read bytes p ≡ Ok (record { value = global; position = a }) →
-    wp_header.read bytes a ≡ Ok (record { value = weights; position = b }) → transform_count.read bytes b ≡ Ok (record { value = n; position = m }) →
+    wp_header.read bytes a ≡ Ok (record { value = weights; position = b }) → (u32 (Const 0) (Const 1) (Offset 2 4) (Offset 18 8)).read bytes b ≡ Ok (record { value = n; position = m }) →
     UnlessNoMemory fault (IsRefused ((repeated n (transform weights)).read bytes m) fault q) → UnlessNoMemory fault (IsRefused (header.read bytes p) fault q)
 listed_refused bytes p global a weights b n m fault q first second third refused =
     let rest : header.read bytes p ≡ reading.◌>>=◌ ((repeated n (transform weights)).read bytes m) (λ found. Ok (record { value = record { use_global_tree = global; wp_params = weights; transform = found.value }; position = found.position })) =

@@ -1,5 +1,5 @@
 -- The header of an image (ISO/IEC 18181-1, Modular: Modular header).
-use Rattle.std.specs.Prelude.{ℕ, List, map, Bool}
+use Rattle.std.specs.Prelude.{List, map, Bool}
 use Rattle.std.specs.List.{All}
 use Rattle.jxlm_base.specs.Grammar.{Grammar, flag, u32, give, repeated, ◌>>=◌}
 use Rattle.jxlm_base.specs.declared.bits.U32Spec.TheVariants.{Const, Offset}
@@ -9,23 +9,18 @@ use Rattle.jxlm_tree.specs.WeightsHeader.{wp_header}
 use Rattle.jxlm_tree.specs.declared.predictor.WpHeader.{WpHeader}
 use Rattle.jxlm_header.specs.declared.header.ModularHeader.{ModularHeader}
 
--- whether the global tree is used, the weights of the weighted (self-correcting) predictor, and the transforms in
--- order
+-- whether the global tree is used, the weights of the weighted (self-correcting) predictor, and the transforms
 pub record Header : Type 0 where
   pub use_global_tree : Bool
   pub wp_params : WpHeader
   pub transform : List Transform
 
--- how many transforms are listed, at most 273
-abbrev pub transform_count : Grammar ℕ
-transform_count = u32 (Const 0) (Const 1) (Offset 2 4) (Offset 18 8)
-
--- the flag of the global tree, the weights, and the transforms after their count
+-- the flag of the global tree, the weights, and the transforms after their count, which is at most 273
 abbrev pub header : Grammar Header
 header = do
   use_global_tree ← flag
   weights ← wp_header
-  count ← transform_count
+  count ← u32 (Const 0) (Const 1) (Offset 2 4) (Offset 18 8)
   transforms ← repeated count (transform weights)
   give (record { use_global_tree = use_global_tree; wp_params = weights; transform = transforms })
 

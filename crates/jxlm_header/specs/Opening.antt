@@ -1,5 +1,4 @@
--- What comes before an image's tree, and in which order it is checked (ISO/IEC 18181-1, Modular: Modular header and
--- its conditions).
+-- What comes before an image's tree, and the order of its checks (ISO/IEC 18181-1, Modular: header and conditions).
 use Rattle.std.specs.Prelude.{◌≡◌, ◌+◌, ◌^◌, nat_lt, min, sum_by, List, length, codes, Bool, ℕ, not, ◌&&◌, if◌then◌else◌, Result, Ok, Err}
 use Rattle.jxlm_base.specs.Fault.{Fault, BadProfile, NoGlobalTree, UnlessNoMemory, fault_of}
 use Rattle.jxlm_base.specs.Grammar.{Grammar, IsExact, give, refuse}
@@ -24,8 +23,7 @@ abbrev pub checked : {X : Type 0} → Result X Fault → Grammar X
 checked (Ok x) = give x
 checked (Err e) = refuse e
 
--- The conditions on a header and its coded channels, in order: at most 65536 channels are coded, and a global tree
--- that it asks for was given.
+-- the conditions, in order: at most 65536 channels are coded, and a global tree that the header asks for was given
 abbrev pub conditions : Bool → Header → ChannelList → Result (Unit {0}) Fault
 conditions has_global header list =
     if nat_lt 65536 (length list.channels) then Err (BadProfile (codes "nb_channels_tr too large")) else

@@ -15,7 +15,6 @@ use Rattle.jxlm_tree.specs.declared.flat.Leaf.{Leaf}
 use Rattle.jxlm_tree.specs.declared.predictor.WpHeader.{WpHeader}
 use Rattle.jxlm_tree.specs.declared.state.PredictorState.{PredictorState}
 use Rattle.jxlm_tree.proofs.StandingLaws.{stands_earlier}
-use Rattle.jxlm_transform.specs.declared.channels.ModularChannelInfo.{ModularChannelInfo}
 use Rattle.jxlm_transform.specs.Channels.{Channel, IsNarrow}
 use Rattle.jxlm_part.specs.Part.{channel, no_channel, downward, earlier_alike, greatest_width, is_alike}
 use Rattle.jxlm_part.specs.Reading.{HasFlats, IsAfterChannel, HasRoom, IsCodingOf, IsRoomy, IsRoomyFor, StandsIn, all_alike, earlier_regions, flat, handed, part_of, region_at, regions_of, setting_of, weights_used}

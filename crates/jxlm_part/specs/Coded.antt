@@ -26,8 +26,7 @@ IfSome zero P Q = Q
 IfSome (suc n) P Q = P
 
 module _ {S : Type 0} (d : Meaning S) (w : Width) (part : Part) (bytes : List ℕ) where
-  -- The next sample of a part: its token is read from the cluster of its leaf, and the maximum width goes with each
-  -- read.
+  -- the next sample of a part: its token is read from the cluster of its leaf, under the maximum width
   abbrev pub part_rule : Rule S
   part_rule = record {
     read = λ before s p. d.read s bytes p (next_leaf part before).cluster (greatest_width part.channels);
@@ -47,7 +46,7 @@ module _ {S : Type 0} (d : Meaning S) (w : Width) (part : Part) (bytes : List �
     pub accepts : d.finalize state ≡ Ok tt
 
   -- The first n cells are coded from position p up to position q, and there the next call returns the error e: the read
-  -- of the next cell, or finalize where there is none. So many reads were tried.
+  -- of the next cell, or finalize after the last. That is the number of reads that were tried.
   pub record FailsAfter (decoder : S) (p n : ℕ) (grids : List (Grid ℤ)) (q : ℕ) (e : DecoderError) (tried : ℕ) : Type 0 where
     pub state : S
     pub coded : IsCoded decoder p n grids state q
@@ -55,8 +54,7 @@ module _ {S : Type 0} (d : Meaning S) (w : Width) (part : Part) (bytes : List �
         ((n < cell_count part.channels) × (tried ≡ suc n) × (part_rule.read (take n (cells_of grids)) state q ≡ Err e))
         ⊎ ((n ≡ cell_count part.channels) × (tried ≡ n) × (d.finalize state ≡ Err e))
 
-  -- Some cells cannot be decoded from position p: begin returns the error e, or a call after it, which leaves the reader
-  -- at q.
+  -- decoding cells from position p returns the error e, of begin or of a call after it, and leaves the reader at q
   abbrev pub DecodingFails : S → ℕ → DecoderError → ℕ → ℕ → Type 0
   DecodingFails decoder p e q tried =
       (0 < cell_count part.channels) × (((d.begin decoder bytes p ≡ Err e) × (q ≡ p) × (tried ≡ 0))

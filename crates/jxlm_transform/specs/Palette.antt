@@ -38,8 +38,7 @@ deltas =
     of_three (pos 64) (down 64) (down 64) ∷ of_three (pos 96) (pos 0) (pos 96) ∷ of_three (pos 45) (down 45) (pos 24) ∷ of_three (pos 24) (pos 45) (down 45) ∷
     of_three (pos 64) (pos 64) (down 64) ∷ of_three (pos 128) (pos 128) (pos 0) ∷ of_three (pos 0) (pos 0) (down 128) ∷ of_three (down 24) (pos 45) (down 45) ∷ []
 
--- The difference that index -k - 1 names in channel c at 8 bits a sample: the table repeats after 143, every other
--- index has the opposite sign, and from the fourth channel on it is 0.
+-- the difference of index -k - 1 in channel c at 8 bits a sample: repeated after 143, with either sign in turn
 unfoldable pub listed_difference : ℕ → ℕ → ℤ
 listed_difference k c =
     let i : ℕ = k % 143 in

@@ -5,8 +5,7 @@ use Rattle.std.specs.List.{list_any}
 use Rattle.jxlm_transform.specs.declared.param.ChannelShift.{ChannelShift}
 use Rattle.jxlm_transform.specs.declared.param.ChannelShift.TheVariants.{JpegUpsampling, Shifts, Raw}
 
--- a side along which some channel has two samples for one of another: half of it rounded up, and twice that where a
--- channel isn't halved
+-- a side along which some channel has two samples for one of another: half of it, rounded up, or else twice that
 abbrev pub upsampled_side : Bool → Bool → ℕ → ℕ
 upsampled_side false halved n = n
 upsampled_side true halved n = if halved then div_ceil n 2 else 2 * div_ceil n 2

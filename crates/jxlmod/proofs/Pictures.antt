@@ -26,7 +26,7 @@ valid_params width height channels bit_depth p g b is many deep wide high =
     let one : IsValidChannel (sized width height (Shifts 0)) = (wide, high, flat) in
     let count : length p.channels.items ≡ channels = ap length is ∙ length-replicate channels (sized width height (Shifts 0)) in
     record {
-      group_dim = rw g (record { least = omega arith; greatest = omega arith; power = (8, refl) });
+      group_dim = rw g (omega arith, omega arith, (8, refl));
       bit_depth = omega (arith, b, deep);
       count = omega (arith, count, many);
       channels = subst (All IsValidChannel) (sym is) (All-replicate IsValidChannel channels (sized width height (Shifts 0)) one);

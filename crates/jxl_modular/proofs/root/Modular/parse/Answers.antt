@@ -1,4 +1,4 @@
-use Rattle.std.proofs.Common.{arith, sym, ◌≡◌, ◌+◌, ◌*◌, ◌^◌, ◌<◌, min, pos, List, length, sum_by, false, rules, Err, Ok, ap, ◌∙◌, subst}
+use Rattle.std.proofs.Common.{arith, sym, ◌≡◌, ◌+◌, ◌^◌, ◌<◌, min, pos, List, length, sum_by, false, rules, Err, Ok, ap, ◌∙◌, subst}
 use Rattle.jxlm_base.specs.Bits.{bytes_of, position_of}
 use Rattle.jxlm_transform.specs.declared.channels.ModularChannels.{ModularChannels}
 use Rattle.jxlm_tree.specs.TreeReading.{TreeGives, IsTreeAt}
