@@ -410,7 +410,7 @@ impl Palette {
         ensures len { length line.new ≡ length line.old }
         ensures fit { (j : ℕ) → j < length indices.now → FitsSigned w32 (get_or line.new j (pos 0)) }
         ensures looked_up { (j : ℕ) → j < length indices.now → get_or line.new j (pos 0)
-            ≡ number_at S.to_int colours.now (unsigned_abs (number_at S.to_int indices.now j)) }
+            ≡ number_in S.to_int colours.now (unsigned_abs (number_in S.to_int indices.now j)) }
     {
         for j in 0..line.len() {
             let place = indices[j].to_i32() as usize;
