@@ -1,7 +1,7 @@
 //! The checksum of an image's samples: FNV-1a of 64 bits.
 ghost use Rattle.std.specs.Prelude.{◌≡◌, ◌∷◌, [], map};
 ghost use Rattle.jxlm_base.specs.Grid.{meanings};
-ghost use Rattle.jxlbench.specs.Checksum.{channel_samples, checksum, with_byte, with_samples};
+ghost use Rattle.jxlbench.specs.Checksum.{channel_samples, checksum, with_samples};
 
 use jxl_modular::grid::AlignedGrid;
 use jxl_modular::sample::Sample;

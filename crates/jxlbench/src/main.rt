@@ -14,8 +14,11 @@ use std::{env, io};
 fn main(rt: HostRuntime) -> ExitCode {
     let alloc = rt.alloc();
     let words = words_of(alloc, env::args(&rt)).unwrap_or(Vec::new(alloc));
-    let done = run::run(alloc, &rt, &words, &mut rt.stdin(), &mut rt.stdout());
-    ExitCode::from(run::report(&mut rt.stderr(), done))
+    let status = match run::run(alloc, &rt, &words, &mut rt.stdin(), &mut rt.stdout()) {
+        Ok(()) => 0,
+        Err(failure) => run::report(&mut rt.stderr(), failure),
+    };
+    ExitCode::from(status)
 }
 
 /// The words of the arguments: all but the first, which is the program's name.

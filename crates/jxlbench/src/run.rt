@@ -62,13 +62,14 @@ pub fn run<R: Read, W: Write, C: Clock>(
 }
 
 /// Writes the line of a failure, as far as it can be written, and returns the status to end with.
-pub fn report<E: Write>(faults: &mut E, done: Result<(), Failure>) -> u8 {
-    let (written, status) = match done {
-        Ok(()) => (Ok(()), 0),
-        Err(Failure::WrongArguments) => (writeln!(faults, "{USAGE}"), 2),
-        Err(Failure::Unusable) => (writeln!(faults, "error: cannot read, time or write"), 1),
-        Err(Failure::Refused(error)) => (writeln!(faults, "error: {error}"), 1),
+pub fn report<E: Write>(faults: &mut E, failure: Failure) -> u8 {
+    let _ = match failure {
+        Failure::WrongArguments => writeln!(faults, "{USAGE}"),
+        Failure::Unusable => writeln!(faults, "error: cannot read, time or write"),
+        Failure::Refused(error) => writeln!(faults, "error: {error}"),
     };
-    let _ = written;
-    status
+    match failure {
+        Failure::WrongArguments => 2,
+        _ => 1,
+    }
 }
