@@ -1,5 +1,5 @@
 //! Rows and columns unsqueezed.
-ghost use Rattle.std.specs.Prelude.{◌≡◌, ℕ, suc, ℤ, ◌+◌, ◌-◌, ◌*◌, ◌/◌, ◌^◌, ◌<◌, ◌≤◌, ◌⊎◌, FitsSigned, length, min, slice_get, IfOk, IfErr, IsOk};
+ghost use Rattle.std.specs.Prelude.{◌≡◌, ℕ, suc, ℤ, ◌+◌, ◌-◌, ◌*◌, ◌/◌, ◌<◌, ◌≤◌, ◌⊎◌, FitsSigned, length, min, slice_get, IfOk, IfErr, IsOk};
 ghost use Rattle.std.specs.Int.{Width, w16, w32};
 ghost use Rattle.jxlm_base.specs.Grid.{cell};
 ghost use Rattle.jxlm_base.specs.Squeeze.{slope, tendency, averages, AreSamples, AreGridSamples, squeezed_rows, squeezed_columns};
@@ -30,30 +30,23 @@ pub(crate) trait Pairs: Copy {
         ensures fits { FitsSigned Self.width (Self.to_int self) };
 }
 
-/// The slope of a fall by `p` and then by `q`, by sums that saturate: it is exact where the whole fall fits.
-#[inline(always)]
-fn narrow_slope(p: u16, q: u16) -> u16
-    ensures { p + q < 2 ^ 16 → result ≡ slope p q }
+/// The slope of a fall by `p` and then by `q`.
+fn narrow_slope(p: u16, q: u16) -> u32
+    ensures { result ≡ slope p q }
 {
-    let next = q.saturating_add(1);
-    let third = p.saturating_add(next - next / 4) / 3;
-    let within_p = third.min(p.saturating_add(p).saturating_add(1));
-    within_p.min(q.saturating_add(q))
+    let (p, q) = (u32::from(p), u32::from(q));
+    ((4 * p + 3 * q + 6) / 12).min(2 * p + 1).min(2 * q)
 }
 
-/// The slope of a fall by `p` and then by `q`, by sums that saturate: it is exact where the whole fall fits.
-#[inline(always)]
-fn wide_slope(p: u32, q: u32) -> u32
-    ensures { p + q < 2 ^ 32 → result ≡ slope p q }
+/// The slope of a fall by `p` and then by `q`.
+fn wide_slope(p: u32, q: u32) -> u64
+    ensures { result ≡ slope p q }
 {
-    let next = q.saturating_add(1);
-    let third = p.saturating_add(next - next / 4) / 3;
-    let within_p = third.min(p.saturating_add(p).saturating_add(1));
-    within_p.min(q.saturating_add(q))
+    let (p, q) = (u64::from(p), u64::from(q));
+    ((4 * p + 3 * q + 6) / 12).min(2 * p + 1).min(2 * q)
 }
 
 /// The tendency of three samples of 16 bits.
-#[inline(always)]
 fn narrow_tendency(a: i16, b: i16, c: i16) -> i16
     ensures { result ≡ tendency a b c }
 {
@@ -68,7 +61,6 @@ fn narrow_tendency(a: i16, b: i16, c: i16) -> i16
 }
 
 /// The tendency of three samples of 32 bits.
-#[inline(always)]
 fn wide_tendency(a: i32, b: i32, c: i32) -> i32
     ensures { result ≡ tendency a b c }
 {
@@ -87,14 +79,12 @@ impl Pairs for i16 {
 
     ghost width = { w16 };
 
-    #[inline(always)]
     fn pair(before: i16, average: i16, next: i16, residual: i16) -> (i16, i16) {
         let difference = residual.wrapping_add(narrow_tendency(before, average, next));
         let first = average.wrapping_add(difference / 2);
         (first, first.wrapping_sub(difference))
     }
 
-    #[inline(always)]
     fn single(self) -> i16 {
         self
     }
@@ -105,21 +95,18 @@ impl Pairs for i32 {
 
     ghost width = { w32 };
 
-    #[inline(always)]
     fn pair(before: i32, average: i32, next: i32, residual: i32) -> (i32, i32) {
         let gap = residual.wrapping_add(wide_tendency(before, average, next));
         let first = average.wrapping_add(gap / 2);
         (first, first.wrapping_sub(gap))
     }
 
-    #[inline(always)]
     fn single(self) -> i32 {
         self
     }
 }
 
 /// The average after that of pair `k` of a coded row, and the pair's own where there is none.
-#[inline(always)]
 fn next_average<S: Pairs>(coded: &[S], k: usize) -> S
     requires { k < length coded.now / 2 }
     ensures { S.to_int result ≡ next_in (length coded.now) (number_at S.to_int coded.now) k }
@@ -132,7 +119,6 @@ fn next_average<S: Pairs>(coded: &[S], k: usize) -> S
 }
 
 /// The samples of pair `k` of a coded row, from the sample before them.
-#[inline(always)]
 fn pair_at<S: Pairs>(coded: &[S], k: usize, before: S) -> (S, S)
     requires pair { k < length coded.now / 2 }
     requires stands_before { S.to_int before ≡ before_in S.width (length coded.now) (number_at S.to_int coded.now) k }
@@ -243,7 +229,6 @@ fn single_line<S: Pairs>(line: &[S], strip: &mut [S], at: usize)
 }
 
 /// Where the average after that of pair `k` is, of `len` samples; that of the pair's own where there is none.
-#[inline(always)]
 fn place_of_next(len: usize, k: usize) -> usize
     requires { k < len / 2 }
     ensures within { result < averages len }

@@ -9,6 +9,7 @@ use Rattle.std.proofs.lemmas.List.{append_assoc, get_or-map, get_or-set_same, ge
 use Rattle.std.proofs.lemmas.Nat.{mul-le, div-add-mod', div_below, mod_below}
 use Rattle.std.proofs.Math.Nat.{mul_comm}
 use Rattle.jxlm_base.specs.Grid.{Grid, at}
+use Rattle.jxlm_transform.specs.Inner.PaletteSteps.{number_of}
 use Rattle.jxlm_base.specs.Outside.{KeepsOutside, SetsRow, row_of}
 use Rattle.jxlm_base.specs.Regions.{AreApart, HasCell, Lies, buffer_of, grid_of, region_cell, store_meanings}
 use Rattle.jxlm_base.specs.declared.subgrid.Region.{Region}
@@ -17,7 +18,7 @@ use Rattle.jxlm_base.proofs.Regions.{IsFull-grid_of, at-grid_of}
 use Rattle.jxlm_transform.specs.declared.transform.Palette.{Palette}
 use Rattle.jxlm_transform.specs.declared.palette.FinishedChannel.{FinishedChannel}
 use Rattle.jxlm_transform.specs.Palette.{finished_sample, finished_samples}
-use Rattle.jxlm_transform.specs.Inner.PaletteSteps.{Ahead, AreSimple, ChannelLies, Filled, FillsOn, IsSimpleIndex, columns_of, index_in, looked_up, number_in}
+use Rattle.jxlm_transform.specs.Inner.PaletteSteps.{Ahead, AreSimple, ChannelLies, Filled, FillsOn, IsSimpleIndex, columns_of, index_in, looked_up}
 use Rattle.jxlm_transform.proofs.PaletteSteps.{simple_place, simple_sample}
 
 -- the first n elements of two lists that have the same ones there
@@ -56,7 +57,7 @@ simple_more t numbers n false b i e so_far here = (λ h. never h, λ all. so_far
 -- ---- samples looked up
 
 -- the number of an element that was read
-pub number_read : {S : Type 0} (f : S → ℤ) (xs : List S) (i : ℕ) (v : S) → i < length xs → v ≡ get_or xs i v → number_in f xs i ≡ f v
+pub number_read : {S : Type 0} (f : S → ℤ) (xs : List S) (i : ℕ) (v : S) → i < length xs → v ≡ get_or xs i v → number_of f xs i ≡ f v
 number_read f xs i v h e = get_or-map f xs i v (pos 0) h ∙ ap f (sym e)
 
 -- one more number of a line
@@ -116,7 +117,7 @@ part_lies store r part x n is lies fits =
 module _ {S : Type 0} (f : S → ℤ) where
   -- the number in a region, where its cell is an element of a row of some of its columns
   pub part_number : (store : List (Grid S)) (r : Region) (x n y j : ℕ) (vs : List S) → j < n → x + n ≤ r.width → y < r.height → region_cell store (columns_of r x n) j y ≡ slice_get vs j →
-      at (grid_of (store_meanings f store) r) (x + j) y ≡ number_in f vs j
+      at (grid_of (store_meanings f store) r) (x + j) y ≡ number_of f vs j
   part_number store r x n y j vs h fits below is =
       let same : r.x + (x + j) ≡ r.x + x + j = omega arith in
       at-grid_of (store_meanings f store) r (x + j) y (omega arith) below
@@ -124,7 +125,7 @@ module _ {S : Type 0} (f : S → ℤ) where
 
   -- and where it is an element of a whole row
   pub row_number : (store : List (Grid S)) (r : Region) (x y : ℕ) (vs : List S) → x < r.width → y < r.height → region_cell store r x y ≡ slice_get vs x →
-      at (grid_of (store_meanings f store) r) x y ≡ number_in f vs x
+      at (grid_of (store_meanings f store) r) x y ≡ number_of f vs x
   row_number store r x y vs h below is = at-grid_of (store_meanings f store) r x y h below ∙ number_of_row f store r x y vs is
 
   -- a cell of a region that was not written
@@ -213,7 +214,7 @@ module _ {S : Type 0} (to_int : S → ℤ) (t : Palette) (p : FinishedChannel) (
   }
 
   -- a cell that was written
-  written_cell : (j : ℕ) → j < n → get_or (cells_of new p.target) (start + j) (pos 0) ≡ number_in to_int vs j
+  written_cell : (j : ℕ) → j < n → get_or (cells_of new p.target) (start + j) (pos 0) ≡ number_of to_int vs j
   written_cell j h =
       let place : y * p.target.width + (x + j) ≡ start + j = ap (λ w. y * w + (x + j)) lies.same_width ∙ omega arith in
       ap (λ k. get_or (cells_of new p.target) k (pos 0)) (sym place) ∙ part_number to_int new p.target x n y j vs h inside below (sets.cells j h)
@@ -233,7 +234,7 @@ module _ {S : Type 0} (to_int : S → ℤ) (t : Palette) (p : FinishedChannel) (
 
     -- with the first m of the part
     filled_until : (m : ℕ) → m ≤ n →
-        ((j : ℕ) → j < n → number_in to_int vs j ≡ finished_sample w depth t table (get_or index.cells (start + j) (pos 0)) p.number (up_to (start + j)) index.width) →
+        ((j : ℕ) → j < n → number_of to_int vs j ≡ finished_sample w depth t table (get_or index.cells (start + j) (pos 0)) p.number (up_to (start + j)) index.width) →
         take (start + m) (cells_of new p.target) ≡ up_to (start + m)
     filled_until zero l each =
         let none : start + 0 ≡ start = omega arith in
@@ -251,7 +252,7 @@ module _ {S : Type 0} (to_int : S → ℤ) (t : Palette) (p : FinishedChannel) (
         ∙ ap (λ z. up_to (start + m) ++ z ∷ []) (written_cell m (omega arith) ∙ each m (omega arith))
         ∙ ap up_to next
 
-    pub part_filled : ((j : ℕ) → j < n → number_in to_int vs j ≡ finished_sample w depth t table (get_or index.cells (start + j) (pos 0)) p.number (up_to (start + j)) index.width) →
+    pub part_filled : ((j : ℕ) → j < n → number_of to_int vs j ≡ finished_sample w depth t table (get_or index.cells (start + j) (pos 0)) p.number (up_to (start + j)) index.width) →
         Filled w depth t p table index (start + n) (store_meanings to_int new)
     part_filled each = record { samples = filled_until n (omega arith) each; ahead = part_ahead table index f.ahead; as_wide = f.as_wide }
 
@@ -259,7 +260,7 @@ module _ {S : Type 0} (to_int : S → ℤ) (t : Palette) (p : FinishedChannel) (
 
 -- the number of a sample that a number became
 pub became : {S : Type 0} (f : S → ℤ) (to : ℤ → S) (w : Width) → ((z : ℤ) → f (to z) ≡ z) → (numbers : List ℤ) (j : ℕ) → j < length numbers →
-    number_in f (map (λ n. to (int_wrap w n)) numbers) j ≡ int_wrap w (get_or numbers j (pos 0))
+    number_of f (map (λ n. to (int_wrap w n)) numbers) j ≡ int_wrap w (get_or numbers j (pos 0))
 became f to w back numbers j h =
     let many = length-map numbers (λ n. to (int_wrap w n)) in
     get_or-map f (map (λ n. to (int_wrap w n)) numbers) j (to (int_wrap w (pos 0))) (pos 0) (omega (arith, many, h))
@@ -269,16 +270,16 @@ module _ {S : Type 0} (to_int : S → ℤ) (t : Palette) (p : FinishedChannel) (
     (is_colours : (i : ℕ) → i < p.table.width → region_cell old p.table i p.number ≡ slice_get colours i)
     (is_indices : (j : ℕ) → j < n → region_cell old (columns_of p.index x n) j y ≡ slice_get indices j) where
   -- what is in the indices that were read
-  pub read_index : (j : ℕ) → j < n → at (index_in p (store_meanings to_int old)) (x + j) y ≡ number_in to_int indices j
+  pub read_index : (j : ℕ) → j < n → at (index_in p (store_meanings to_int old)) (x + j) y ≡ number_of to_int indices j
   read_index j h = part_number to_int old p.index x n y j indices h fits py (is_indices j h)
 
-  module _ (w : Width) (simple : (j : ℕ) → j < n → IsSimpleIndex t (number_in to_int indices j)) (found : (j : ℕ) → j < n → number_in to_int vs j ≡ int_wrap w (number_in to_int colours (unsigned_abs (number_in to_int indices j))))
+  module _ (w : Width) (simple : (j : ℕ) → j < n → IsSimpleIndex t (number_of to_int indices j)) (found : (j : ℕ) → j < n → number_of to_int vs j ≡ int_wrap w (number_of to_int colours (unsigned_abs (number_of to_int indices j))))
       (sets : SetsRow (columns_of p.target x n) y vs old new) where
     pub part_fills : (depth : ℕ) → FillsOn w depth t p (y * p.index.width + x) (y * p.index.width + x + n) (store_meanings to_int old) (store_meanings to_int new)
     part_fills depth table index f =
         part_filled to_int t p old new x n y vs lies fits py sets w depth table index f (λ j h.
         let k : ℕ = y * p.index.width + x in
-        let i : ℤ = number_in to_int indices j in
+        let i : ℤ = number_of to_int indices j in
         let columns = lies.columns in
         let within : unsigned_abs i < p.table.width = omega (arith, columns, simple_place t i (simple j h)) in
         let before : List ℤ = finished_samples w depth t table index p.number (k + j) in

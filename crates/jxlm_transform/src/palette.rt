@@ -12,7 +12,7 @@ ghost use Rattle.jxlm_base.specs.Outside.{KeepsOutside, SetsRow};
 ghost use Rattle.jxlm_tree.specs.Predictions.{prediction};
 ghost use Rattle.jxlm_tree.specs.Standing.{Setting, StandsAt, IsReady, HasSameRoom, room_of, setting, weights_of};
 ghost use Rattle.jxlm_transform.specs.Palette.{colour_of, deltas, difference, implicit_colour, is_delta, listed_difference, finished_channel, finished_sample, IsPaletteOf, PaletteHasOneImage, PaletteLies};
-ghost use Rattle.jxlm_transform.specs.Inner.PaletteSteps.{AreSimple, ChannelLies, ChannelsDone, FillsOn, FillsOnBy, IsSimple, IsSimpleIndex, IsSimpleRow, SetsSample, StandsBefore, channel_at, columns_of, index_in, kept, number_in, table_in};
+ghost use Rattle.jxlm_transform.specs.Inner.PaletteSteps.{ChannelLies, ChannelsDone, channel_at, columns_of, FillsOn, FillsOnBy, AreSimple, IsSimple, IsSimpleIndex, IsSimpleRow, SetsSample, StandsBefore, index_in, kept, number_of, table_in};
 
 use crate::transform::Palette;
 use jxlm_base::error::Result;
@@ -370,7 +370,7 @@ impl Palette {
     /// Whether all indices of a row do.
     #[inline(always)]
     fn are_simple<S: Sample>(&self, indices: &[S]) -> bool
-        ensures { IsTrue result ↔ AreSimple self.now (number_in S.to_int indices.now) (length indices.now) }
+        ensures { IsTrue result ↔ AreSimple self.now (number_of S.to_int indices.now) (length indices.now) }
     {
         let mut simple = true;
         for j in 0..indices.len() {
@@ -406,11 +406,11 @@ impl Palette {
     fn look_up<S: Sample>(&self, colours: &[S], indices: &[S], line: &mut [i32])
         requires columns { length colours.now ≡ self.now.nb_colours }
         requires as_many { length line.old ≡ length indices.now }
-        requires simple { AreSimple self.now (number_in S.to_int indices.now) (length indices.now) }
+        requires simple { AreSimple self.now (number_of S.to_int indices.now) (length indices.now) }
         ensures len { length line.new ≡ length line.old }
         ensures fit { (j : ℕ) → j < length indices.now → FitsSigned w32 (get_or line.new j (pos 0)) }
         ensures looked_up { (j : ℕ) → j < length indices.now → get_or line.new j (pos 0)
-            ≡ number_in S.to_int colours.now (unsigned_abs (number_in S.to_int indices.now j)) }
+            ≡ number_of S.to_int colours.now (unsigned_abs (number_of S.to_int indices.now j)) }
     {
         for j in 0..line.len() {
             let place = indices[j].to_i32() as usize;

@@ -1,5 +1,5 @@
 -- How far the inverse of a palette has come: what its loops over channels, rows and columns keep.
-use Rattle.std.specs.Prelude.{◌≡◌, ℕ, ◌+◌, ◌<◌, ◌≤◌, ◌⊎◌, List, [], length, take, get_or, map, ℤ, pos, negsuc, unsigned_abs}
+use Rattle.std.specs.Prelude.{◌≡◌, ℕ, ◌+◌, ◌<◌, ◌≤◌, ◌⊎◌, List, [], length, map, take, get_or, ℤ, pos, negsuc, unsigned_abs}
 use Rattle.std.specs.Int.{Width}
 use Rattle.jxlm_base.specs.Grid.{Grid, at}
 use Rattle.jxlm_base.specs.Regions.{Lies, AreApart, region, grid_of, store_meanings, with_region_cell}
@@ -10,10 +10,6 @@ use Rattle.jxlm_tree.specs.declared.state.PredictorState.{PredictorState}
 use Rattle.jxlm_transform.specs.declared.transform.Palette.{Palette}
 use Rattle.jxlm_transform.specs.declared.palette.FinishedChannel.{FinishedChannel}
 use Rattle.jxlm_transform.specs.Palette.{finished_channel, finished_samples}
-
--- the number that element i of a list stands for, and 0 where there is none
-abbrev pub number_in : {S : Type 0} → (S → ℤ) → List S → ℕ → ℤ
-number_in f xs i = get_or (map f xs) i (pos 0)
 
 -- an index of the table that is no delta
 abbrev pub IsSimpleIndex : Palette → ℤ → Type 0
@@ -30,6 +26,10 @@ IsSimpleRow t index y = (x : ℕ) → x < index.width → IsSimpleIndex t (at in
 
 abbrev pub IsSimple : Palette → Grid ℤ → Type 0
 IsSimple t index = (y : ℕ) → y < index.height → IsSimpleRow t index y
+
+-- the number that element i of a row stands for, and 0 where there is none
+abbrev pub number_of : {S : Type 0} → (S → ℤ) → List S → ℕ → ℤ
+number_of f xs i = get_or (map f xs) i (pos 0)
 
 -- n columns of a region, from column x on
 abbrev pub columns_of : Region → ℕ → ℕ → Region

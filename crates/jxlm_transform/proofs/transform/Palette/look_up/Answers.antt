@@ -3,7 +3,8 @@ use Rattle.std.specs.Prelude.{unsigned_abs}
 use Rattle.std.specs.Int.Signed.{yes_non_neg}
 use Rattle.std.proofs.Math.ListN.{length-set}
 use Rattle.std.proofs.lemmas.Int.{to_z-of_z}
-use Rattle.jxlm_transform.specs.Inner.PaletteSteps.{IsSimpleIndex, number_in}
+use Rattle.jxlm_transform.specs.Inner.PaletteSteps.{number_of}
+use Rattle.jxlm_transform.specs.Inner.PaletteSteps.{IsSimpleIndex}
 use Rattle.jxlm_transform.proofs.PaletteRows.{fits_more, line_more, number_read, simple_positive}
 use Rattle.jxlm_transform.proofs.PaletteSteps.{simple_place}
 use Rattle.jxlm_transform.proofs.transform.Palette.look_up.Goals as goal
@@ -20,7 +21,7 @@ overflow_cast-place g c =
     let many = c.requires.as_many in
     let end = c.loop-j.auto.j-end in
     let within : j < length xs = omega (arith, end, len, many, c.loop-j-test.true) in
-    let is : to_z w32 (of_z w32 r) ≡ number_in to_int xs j =
+    let is : to_z w32 (of_z w32 r) ≡ number_of to_int xs j =
     to_z-of_z w32 r fits ∙ c.to_i32-place.ensures.value ∙ sym (number_read to_int xs j c.index-indices-j.result within c.index-indices-j.is) in
     let simple : IsSimpleIndex t (to_z w32 (of_z w32 r)) = subst (IsSimpleIndex t) (sym is) (c.requires.simple j within) in
     (yes_non_neg (simple_positive t (to_z w32 (of_z w32 r)) simple), search rules)
@@ -37,7 +38,7 @@ bounds-colours-place g c =
     let many = c.requires.as_many in
     let end = c.loop-j.auto.j-end in
     let within : j < length xs = omega (arith, end, len, many, c.loop-j-test.true) in
-    let is : to_z w32 (of_z w32 r) ≡ number_in to_int xs j =
+    let is : to_z w32 (of_z w32 r) ≡ number_of to_int xs j =
     to_z-of_z w32 r fits ∙ c.to_i32-place.ensures.value ∙ sym (number_read to_int xs j c.index-indices-j.result within c.index-indices-j.is) in
     let simple : IsSimpleIndex t (to_z w32 (of_z w32 r)) = subst (IsSimpleIndex t) (sym is) (c.requires.simple j within) in
     let columns = c.requires.columns in
@@ -63,16 +64,16 @@ loop-j-preserved g c =
     let end = c.loop-j.auto.j-end in
     let within : j < length xs = omega (arith, end, len, many, c.loop-j-test.true) in
     let z = to_z w32 (of_z w32 r) in
-    let is : z ≡ number_in to_int xs j =
+    let is : z ≡ number_of to_int xs j =
     to_z-of_z w32 r fits ∙ c.to_i32-place.ensures.value ∙ sym (number_read to_int xs j c.index-indices-j.result within c.index-indices-j.is) in
     let simple : IsSimpleIndex t z = subst (IsSimpleIndex t) (sym is) (c.requires.simple j within) in
     let columns = c.requires.columns in
     let place : unsigned_abs z < length colours = omega (arith, columns, simple_place t z simple) in
-    let colour : to_z w32 (of_z w32 c.to_i32.result) ≡ number_in to_int colours (unsigned_abs (number_in to_int xs j)) =
+    let colour : to_z w32 (of_z w32 c.to_i32.result) ≡ number_of to_int colours (unsigned_abs (number_of to_int xs j)) =
     to_z-of_z w32 c.to_i32.result narrow ∙ c.to_i32.ensures.value ∙ sym (number_read to_int colours (unsigned_abs z) c.index-colours-place.result place c.index-colours-place.is)
-    ∙ ap (λ n. number_in to_int colours (unsigned_abs n)) is in
+    ∙ ap (λ n. number_of to_int colours (unsigned_abs n)) is in
     record {
       len = length-set c.loop-j.line j _ ∙ len;
       fit = fits_more c.loop-j.line j _ (omega (arith, len, many, within)) (search rules) c.loop-j.invariant.fit;
-      looked_up = line_more (λ i. number_in to_int colours (unsigned_abs (number_in to_int xs i))) c.loop-j.line j _ (omega (arith, len, many, within)) colour c.loop-j.invariant.looked_up;
+      looked_up = line_more (λ i. number_of to_int colours (unsigned_abs (number_of to_int xs i))) c.loop-j.line j _ (omega (arith, len, many, within)) colour c.loop-j.invariant.looked_up;
     }

@@ -1,6 +1,6 @@
 use Rattle.std.proofs.Common.{◌≡◌, ℕ, ◌<◌, length, w32, FitsSigned}
 use Rattle.std.specs.Prelude.{get_or, pos, unsigned_abs}
-use Rattle.jxlm_transform.specs.Inner.PaletteSteps.{number_in}
+use Rattle.jxlm_transform.specs.Inner.PaletteSteps.{number_of}
 use Rattle.jxlm_transform.proofs.transform.Palette.look_up.Given as goal
 
 abbrev pub invariant-loop-j : goal.invariant-loop-j
@@ -9,5 +9,5 @@ invariant-loop-j g l =
     record {
       len : length l.line ≡ length l.fn.line;
       fit : (i : ℕ) → i < l.j → FitsSigned w32 (get_or l.line i (pos 0));
-      looked_up : (i : ℕ) → i < l.j → get_or l.line i (pos 0) ≡ number_in to_int l.colours (unsigned_abs (number_in to_int l.indices i));
+      looked_up : (i : ℕ) → i < l.j → get_or l.line i (pos 0) ≡ number_of to_int l.colours (unsigned_abs (number_of to_int l.indices i));
     }
