@@ -9,7 +9,7 @@ ghost use Rattle.jxlm_tree.specs.FlatTree.{ClustersStandIn};
 ghost use Rattle.jxlm_tree.specs.Holding.{IsCurrent, state_of, store_of};
 ghost use Rattle.jxlm_tree.specs.Standing.{Setting, StandsAt};
 ghost use Rattle.jxlm_tree.specs.Tree.{depth};
-ghost use Rattle.jxlm_part.specs.Inner.Rows.{FailsCell, ReadsCell, StandsInRow, rule_in};
+ghost use Rattle.jxlm_part.specs.Inner.Rows.{FailsCell, IsDecoding, ReadsCell, StandsInRow, rule_in};
 ghost use Rattle.jxlm_part.specs.Reading.{FindsClusters, HasRoom, IsCodingOf, ReadsNext, RefusesNext, cost_of, leaf_at, part_of, predicted_at, region_at, regions_of};
 
 use crate::coding::PartCoding;
@@ -69,13 +69,10 @@ pub(crate) fn decode_cell<S: Sample, D: Decoder>(
     x: usize,
     y: usize,
 ) -> Result<(), DecoderError>
-    requires lie { AllLie (regions_of coding.now) store.now }
-    requires channel { i < length (regions_of coding.now) }
+    requires here { IsDecoding coding.now i store.now (D.meaning.cluster_map decoder.old) }
     requires column { x < (region_at (regions_of coding.now) i).width }
     requires in_rows { y < (region_at (regions_of coding.now) i).height }
     requires long { length row.old ≡ (region_at (regions_of coding.now) i).width }
-    requires coding { IsCodingOf coding.now }
-    requires clusters { FindsClusters coding.now (D.meaning.cluster_map decoder.old) }
     requires stands { StandsInRow coding.now S.to_int store.now i y (take x (map S.to_int row.old)) state.old }
     requires roomy { HasRoom coding.now state.old }
     ensures ok { OnOk result

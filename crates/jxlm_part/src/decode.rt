@@ -7,7 +7,7 @@ ghost use Rattle.jxlm_tree.specs.Tree.{leaf as one_leaf};
 ghost use Rattle.jxlm_part.specs.Part.{cells_before, cell_count};
 ghost use Rattle.jxlm_part.specs.Progress.{GoesOn, Stops, TakesSteps, DecodesAll, DecodesSome, KeepsOutside, place_of};
 ghost use Rattle.jxlm_part.specs.Inner.Leaves.{HasPath};
-ghost use Rattle.jxlm_part.specs.Inner.Rows.{ReadsRows, StopsInRows};
+ghost use Rattle.jxlm_part.specs.Inner.Rows.{IsDecoding, ReadsRows, StopsInRows};
 ghost use Rattle.jxlm_part.specs.Reading.{FindsClusters, HasRoom, IsAfterChannel, IsCodingOf, IsRoomy, StandsBehind, cost_of, part_of, region_at, regions_of, StandsIn};
 
 use crate::coding::{PartCoding, PartState, start_channel};
@@ -32,14 +32,9 @@ fn decode_row<S: Sample, D: Decoder>(
     i: usize,
     y: usize,
 ) -> Result<(), DecoderError>
-    requires lie { AllLie (regions_of coding.now) store.old }
-    requires apart { LieApart (regions_of coding.now) }
-    requires channel { i < length (regions_of coding.now) }
+    requires here { IsDecoding coding.now i store.old (D.meaning.cluster_map decoder.old) }
     requires in_rows { y < (region_at (regions_of coding.now) i).height }
-    requires columns { 0 < (region_at (regions_of coding.now) i).width }
     requires long { length row.old ≡ (region_at (regions_of coding.now) i).width }
-    requires coding { IsCodingOf coding.now }
-    requires clusters { FindsClusters coding.now (D.meaning.cluster_map decoder.old) }
     requires stands { StandsBehind coding.now S.to_int store.old i
         (y * (region_at (regions_of coding.now) i).width) state.old }
     requires roomy { HasRoom coding.now state.old }
@@ -73,13 +68,8 @@ fn decode_rows<S: Sample, D: Decoder>(
     row: &mut [S],
     i: usize,
 ) -> Result<(), DecoderError>
-    requires lie { AllLie (regions_of coding.now) store.old }
-    requires apart { LieApart (regions_of coding.now) }
-    requires channel { i < length (regions_of coding.now) }
-    requires columns { 0 < (region_at (regions_of coding.now) i).width }
+    requires here { IsDecoding coding.now i store.old (D.meaning.cluster_map decoder.old) }
     requires long { length row.old ≡ (region_at (regions_of coding.now) i).width }
-    requires coding { IsCodingOf coding.now }
-    requires clusters { FindsClusters coding.now (D.meaning.cluster_map decoder.old) }
     requires stands { StandsBehind coding.now S.to_int store.old i 0 state.old }
     requires roomy { HasRoom coding.now state.old }
     ensures ok { OnOk result (ReadsRows coding.now D.meaning S.width S.to_int (bytes_of bits.old) i 0
@@ -115,14 +105,9 @@ fn decode_leaf_row<S: Sample, D: Decoder>(
     i: usize,
     y: usize,
 ) -> Result<(), DecoderError>
-    requires lie { AllLie (regions_of coding.now) store.old }
-    requires apart { LieApart (regions_of coding.now) }
-    requires channel { i < length (regions_of coding.now) }
+    requires here { IsDecoding coding.now i store.old (D.meaning.cluster_map decoder.old) }
     requires in_rows { y < (region_at (regions_of coding.now) i).height }
-    requires columns { 0 < (region_at (regions_of coding.now) i).width }
     requires long { length row.old ≡ (region_at (regions_of coding.now) i).width }
-    requires coding { IsCodingOf coding.now }
-    requires clusters { FindsClusters coding.now (D.meaning.cluster_map decoder.old) }
     requires tree { (part_of coding.now).tree ≡ one_leaf at.leaf }
     requires path { HasPath at }
     ensures ok { OnOk result (ReadsRows coding.now D.meaning S.width S.to_int (bytes_of bits.old) i y
@@ -149,13 +134,8 @@ fn decode_leaf_rows<S: Sample, D: Decoder>(
     row: &mut [S],
     i: usize,
 ) -> Result<(), DecoderError>
-    requires lie { AllLie (regions_of coding.now) store.old }
-    requires apart { LieApart (regions_of coding.now) }
-    requires channel { i < length (regions_of coding.now) }
-    requires columns { 0 < (region_at (regions_of coding.now) i).width }
+    requires here { IsDecoding coding.now i store.old (D.meaning.cluster_map decoder.old) }
     requires long { length row.old ≡ (region_at (regions_of coding.now) i).width }
-    requires coding { IsCodingOf coding.now }
-    requires clusters { FindsClusters coding.now (D.meaning.cluster_map decoder.old) }
     requires tree { (part_of coding.now).tree ≡ one_leaf at.leaf }
     requires path { HasPath at }
     ensures ok { OnOk result (ReadsRows coding.now D.meaning S.width S.to_int (bytes_of bits.old) i 0

@@ -3,7 +3,7 @@
 ghost use Rattle.std.specs.Prelude.{◌≡◌, ◌+◌, ◌*◌, ◌<◌, ◌≤◌, ◌≢◌, map, length, OnOk, IfErr};
 ghost use Rattle.jxlm_base.specs.Bits.{bytes_of, position_of};
 ghost use Rattle.jxlm_base.specs.Regions.{AllLie, Lies};
-ghost use Rattle.jxlm_part.specs.Inner.Rows.{FailsRow, ReadsRow, SetsRead, StandsInRow, rule_in};
+ghost use Rattle.jxlm_part.specs.Inner.Rows.{FailsRow, IsDecoding, ReadsRow, SetsRead, StandsInRow, rule_in};
 ghost use Rattle.jxlm_part.specs.Reading.{FindsClusters, HasRoom, IsCodingOf, StandsBehind, cost_of, region_at, regions_of};
 
 use crate::cell::decode_cell;
@@ -41,12 +41,9 @@ pub(crate) fn read_row<S: Sample, D: Decoder>(
     i: usize,
     y: usize,
 ) -> Result<(), RowError>
-    requires lie { AllLie (regions_of coding.now) store.now }
-    requires channel { i < length (regions_of coding.now) }
+    requires here { IsDecoding coding.now i store.now (D.meaning.cluster_map decoder.old) }
     requires in_rows { y < (region_at (regions_of coding.now) i).height }
     requires long { length row.old ≡ (region_at (regions_of coding.now) i).width }
-    requires coding { IsCodingOf coding.now }
-    requires clusters { FindsClusters coding.now (D.meaning.cluster_map decoder.old) }
     requires stands { StandsBehind coding.now S.to_int store.now i
         (y * (region_at (regions_of coding.now) i).width) state.old }
     requires roomy { HasRoom coding.now state.old }

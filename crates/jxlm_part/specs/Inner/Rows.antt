@@ -4,7 +4,7 @@ use Rattle.std.specs.Int.{Width}
 use Rattle.jxlm_base.specs.Decoding.{Meaning}
 use Rattle.jxlm_base.specs.Grid.{Grid}
 use Rattle.jxlm_base.specs.Outside.{SetsRow}
-use Rattle.jxlm_base.specs.Regions.{grid_of, region, store_meanings}
+use Rattle.jxlm_base.specs.Regions.{AllLie, LieApart, grid_of, region, store_meanings}
 use Rattle.jxlm_base.specs.declared.decoder.DecoderError.{DecoderError}
 use Rattle.jxlm_base.specs.declared.subgrid.Region.{Region}
 use Rattle.jxlm_tree.specs.Standing.{StandsAt}
@@ -12,7 +12,7 @@ use Rattle.jxlm_tree.specs.declared.state.PredictorState.{PredictorState}
 use Rattle.jxlm_part.specs.Coded.{part_rule}
 use Rattle.jxlm_part.specs.Part.{Part}
 use Rattle.jxlm_part.specs.Progress.{GoesOn, Stops, cells_ahead, grids_in, place_of}
-use Rattle.jxlm_part.specs.Reading.{cost_of, part_of, region_at, regions_of, setting_of}
+use Rattle.jxlm_part.specs.Reading.{FindsClusters, IsCodingOf, cost_of, part_of, region_at, regions_of, setting_of}
 use Rattle.jxlm_part.specs.Rule.{Rule, CodedPrefix}
 use Rattle.jxlm_part.specs.declared.coding.PartCoding.{PartCoding}
 use Rattle.jxlm_part.specs.declared.rows.RowError.{RowError}
@@ -66,6 +66,17 @@ SetsRead r y row (Err e) old new result =
 abbrev pub AreAlike : {S : Type 0} → Rule S → Rule S → ℕ → Type 0
 AreAlike {S} a b n = (row : List ℤ) → length row < n →
     ((s : S) (p : ℕ) → a.read row s p ≡ b.read row s p) × ((token : ℕ) → a.value row token ≡ b.value row token)
+
+-- What holds while channel i of a part is decoded, which has columns: the regions lie in the store, no two of them
+-- share a cell, and the decoder has the clusters that the tree asks for.
+pub record IsDecoding {D X : Type 0} (c : PartCoding D) (i : ℕ) (store : List (Grid X)) (clusters : List ℕ) : Type 0
+  where
+    pub coding : IsCodingOf c
+    pub lie : AllLie (regions_of c) store
+    pub apart : LieApart (regions_of c)
+    pub channel : i < length (regions_of c)
+    pub columns : 0 < (region_at (regions_of c) i).width
+    pub clusters_found : FindsClusters c clusters
 
 -- how the cells of row y of channel i are read
 abbrev pub row_rule : {S : Type 0} → Meaning S → Width → Part → List ℕ → List Region → List (Grid ℤ) → ℕ → ℕ → Rule S

@@ -19,6 +19,16 @@ slice_bounds-row-end-2 g c =
     let n = fits_widest c.args.coding.now c.requires.coding c.args.i c.requires.channel in
     sym (length-take-le (region_at (regions_of c.args.coding.now) c.args.i).width c.args.scratch.now (omega (arith, n, c.requires.room)))
 
+pub decode_leaf_rows-requires-clause-here : goal.decode_leaf_rows-requires-clause-here
+decode_leaf_rows-requires-clause-here g c κs within =
+    let q = c.requires in
+    record { coding = q.coding; lie = q.lie; apart = q.apart; channel = q.channel; columns = omega (arith, c.if-region-eq0.false); clusters_found = q.clusters }
+
+pub decode_rows-requires-clause-here : goal.decode_rows-requires-clause-here
+decode_rows-requires-clause-here g c κs within =
+    let q = c.requires in
+    record { coding = q.coding; lie = q.lie; apart = q.apart; channel = q.channel; columns = omega (arith, c.if-region-eq0.false); clusters_found = q.clusters }
+
 pub decode_leaf_rows-requires-clause-long : goal.decode_leaf_rows-requires-clause-long
 decode_leaf_rows-requires-clause-long g c κs within =
     let n = fits_widest c.args.coding.now c.requires.coding c.args.i c.requires.channel in

@@ -18,7 +18,7 @@ returns-clause-ok g c =
     let regions = regions_of c.args.coding.now in
     let q = c.requires in
     row_goes d w part bytes regions to_int c.args.i c.args.y c.args.store.now c.write_read.new.store c.args.decoder.now (position_of c.args.bits.now)
-    q.coding.sizes q.apart q.lie q.channel q.in_rows (rule_in c.args.coding.now to_int c.args.store.now c.args.i c.args.y d w bytes) c.read_row-read.new.row (c.read_row-read.auto.row ∙ q.long) (alike_self _ _)
+    q.here.coding.sizes q.here.apart q.here.lie q.here.channel q.in_rows (rule_in c.args.coding.now to_int c.args.store.now c.args.i c.args.y d w bytes) c.read_row-read.new.row (c.read_row-read.auto.row ∙ q.long) (alike_self _ _)
     c.read_row-read.result _ c.read_row-read.new.decoder (position_of c.read_row-read.new.bits) c.write_read.ensures c.read_row-read.ensures.ok
 
 pub returns-clause-err : goal.returns-clause-err
@@ -31,7 +31,7 @@ returns-clause-err g c =
     let regions = regions_of c.args.coding.now in
     let q = c.requires in
     row_stopped d w part bytes regions to_int c.args.i c.args.y c.args.store.now c.write_read.new.store c.args.decoder.now (position_of c.args.bits.now)
-    q.coding.sizes q.apart q.lie q.channel q.in_rows (rule_in c.args.coding.now to_int c.args.store.now c.args.i c.args.y d w bytes) c.read_row-read.new.row (c.read_row-read.auto.row ∙ q.long) (alike_self _ _)
+    q.here.coding.sizes q.here.apart q.here.lie q.here.channel q.in_rows (rule_in c.args.coding.now to_int c.args.store.now c.args.i c.args.y d w bytes) c.read_row-read.new.row (c.read_row-read.auto.row ∙ q.long) (alike_self _ _)
     c.read_row-read.result _ (position_of c.read_row-read.new.bits) (cost_of c.args.coding.now) c.args.steps.now c.read_row-read.new.steps c.write_read.ensures c.read_row-read.ensures.err c.read_row-read.ensures.cost_so_far
 
 pub returns-clause-keeps : goal.returns-clause-keeps
@@ -44,7 +44,7 @@ returns-clause-keeps g c =
     let regions = regions_of c.args.coding.now in
     let q = c.requires in
     row_keeps_rest d w part bytes regions to_int c.args.i c.args.y c.args.store.now c.write_read.new.store c.args.decoder.now (position_of c.args.bits.now)
-    q.coding.sizes q.apart q.lie q.channel q.in_rows (rule_in c.args.coding.now to_int c.args.store.now c.args.i c.args.y d w bytes) c.read_row-read.new.row (c.read_row-read.auto.row ∙ q.long) (alike_self _ _)
+    q.here.coding.sizes q.here.apart q.here.lie q.here.channel q.in_rows (rule_in c.args.coding.now to_int c.args.store.now c.args.i c.args.y d w bytes) c.read_row-read.new.row (c.read_row-read.auto.row ∙ q.long) (alike_self _ _)
     c.read_row-read.result _ (position_of c.read_row-read.new.bits) c.write_read.ensures c.read_row-read.ensures.err
 
 pub returns-clause-stands : goal.returns-clause-stands
@@ -57,7 +57,7 @@ returns-clause-stands g c =
     ok_written region c.args.y row c.args.store.now c.write_read.new.store c.read_row-read.result _
     (StandsInRow c.args.coding.now to_int c.args.store.now c.args.i c.args.y (map to_int row) state)
     (StandsBehind c.args.coding.now to_int c.write_read.new.store c.args.i ((c.args.y + 1) * region.width) state) c.write_read.ensures c.read_row-read.ensures.stands
-    (λ sets stands. stands_below c.args.coding.now c.args.i c.args.y to_int c.args.store.now c.write_read.new.store row state q.lie q.channel q.in_rows
+    (λ sets stands. stands_below c.args.coding.now c.args.i c.args.y to_int c.args.store.now c.write_read.new.store row state q.here.lie q.here.channel q.in_rows
     (c.read_row-read.auto.row ∙ q.long) sets stands)
 
 pub returns-clause-roomy : goal.returns-clause-roomy
@@ -81,7 +81,7 @@ returns-clause-work g c =
     ok_written _ c.args.y c.read_row-read.new.row c.args.store.now c.write_read.new.store c.read_row-read.result _ (c.read_row-read.new.steps ≤ c.args.steps.now + width * cost)
     (TakesSteps cost from (place_of part c.args.i 0 (c.args.y + 1)) c.args.steps.now c.read_row-read.new.steps) c.write_read.ensures c.read_row-read.ensures.cost
     (λ sets few. subst (λ n. TakesSteps cost from n c.args.steps.now c.read_row-read.new.steps)
-    (at ∙ row_done part (regions_of c.args.coding.now) c.requires.coding.sizes c.args.i c.args.y c.requires.channel)
+    (at ∙ row_done part (regions_of c.args.coding.now) c.requires.here.coding.sizes c.args.i c.args.y c.requires.here.channel)
     (takes_some cost from width c.args.steps.now c.read_row-read.new.steps few))
 
 pub returns-clause-memory : goal.returns-clause-memory

@@ -1,13 +1,27 @@
-use Rattle.std.proofs.Common.{rules, ◌+◌, ◌*◌, refl, ◌∙◌, ◌≡◌, arith, subst}
+use Rattle.std.proofs.Common.{rules, ◌+◌, ◌*◌, refl, ◌∙◌, ◌≡◌, arith, subst, sym}
 use Rattle.std.proofs.lemmas.Result.{err_from_is_err_and}
 use Rattle.jxlm_base.specs.Bits.{bytes_of, position_of}
 use Rattle.jxlm_base.specs.Regions.{store_meanings}
-use Rattle.jxlm_base.proofs.Outside.{keeps_all, keeps_both}
+use Rattle.jxlm_base.proofs.Outside.{all_lie_still, keeps_all, keeps_both}
 use Rattle.jxlm_part.specs.Inner.Rows.{ReadsRows}
 use Rattle.jxlm_part.specs.Progress.{TakesSteps, place_of}
-use Rattle.jxlm_part.specs.Reading.{StandsBehind, cost_of, part_of, region_at, regions_of}
+use Rattle.jxlm_part.specs.Reading.{FindsClusters, StandsBehind, cost_of, part_of, region_at, regions_of}
 use Rattle.jxlm_part.proofs.Loops.{goes_further, stays, stops_further, takes_further, takes_none}
 use Rattle.jxlm_part.proofs.decode.decode_rows.Goals as goal
+
+pub decode_row-requires-clause-here : goal.decode_row-requires-clause-here
+decode_row-requires-clause-here g c κs within =
+    let regions = regions_of c.args.coding.now in
+    let h = c.requires.here in
+    let found = subst (FindsClusters c.args.coding.now) (sym c.loop-y.invariant.clusters) h.clusters_found in
+    record {
+      coding = h.coding;
+      lie = all_lie_still regions regions c.args.store.now c.loop-y.store c.loop-y.invariant.keeps h.lie;
+      apart = h.apart;
+      channel = h.channel;
+      columns = h.columns;
+      clusters_found = found;
+    }
 
 pub loop-y-init : goal.loop-y-init
 loop-y-init g c =

@@ -7,6 +7,9 @@ use Rattle.jxlm_part.specs.Rule.{CodedPrefix}
 use Rattle.jxlm_part.proofs.CellLaws.{begins_row, cell_more, cell_fails}
 use Rattle.jxlm_part.proofs.rows.read_row.Goals as goal
 
+pub decode_cell-requires-clause-here : goal.decode_cell-requires-clause-here
+decode_cell-requires-clause-here g c κs within = rw c.loop-x.invariant.clusters c.requires.here
+
 pub loop-x-init : goal.loop-x-init
 loop-x-init g c = record {
   bytes = search rules;
