@@ -78,15 +78,18 @@ part_of l = record { channels = (image_list square).channels; weights = default_
 
 row_samples : IsCodedWhole plain w32 (part_of gradient) row_bytes (three_bits Unsealed) 68 row_grids 80
 unfolding int_wrap count_leading_zeros plain_begin plain_read number_at token_at
-row_samples = record {
-  state = three_bits Unsealed;
-  coded = record {
-    start = record { value = three_bits Unsealed; position = 68 };
-    begins = refl;
-    joined = (three_bits Unsealed, 77, 0, (three_bits Unsealed, 74, 1, (three_bits Unsealed, 71, 4, (three_bits Unsealed, 68, 2, (refl, refl), refl, refl), refl, refl), refl, refl), refl, refl);
-  };
-  accepts = refl;
-}
+row_samples = inl (
+  omega arith,
+  record {
+    state = three_bits Unsealed;
+    coded = record {
+      start = record { value = three_bits Unsealed; position = 68 };
+      begins = refl;
+      joined = (three_bits Unsealed, 77, 0, (three_bits Unsealed, 74, 1, (three_bits Unsealed, 71, 4, (three_bits Unsealed, 68, 2, (refl, refl), refl, refl), refl, refl), refl, refl), refl, refl);
+    };
+    accepts = refl;
+  },
+)
 
 -- Without its last byte the read of the second sample is an error: one is decoded, and the reader is after it.
 abbrev cut_bytes : List ℕ
@@ -121,15 +124,18 @@ sealed sum = three_bits (Sealed sum)
 
 sealed_samples : IsCodedWhole plain w32 (part_of gradient) (sealed_bytes 0x70) (sealed 0) 68 row_grids 88
 unfolding int_wrap count_leading_zeros plain_begin plain_read number_at token_at
-sealed_samples = record {
-  state = sealed 0;
-  coded = record {
-    start = record { value = sealed 7; position = 76 };
-    begins = refl;
-    joined = (sealed 0, 85, 0, (sealed 1, 82, 1, (sealed 5, 79, 4, (sealed 7, 76, 2, (refl, refl), refl, refl), refl, refl), refl, refl), refl, refl);
-  };
-  accepts = refl;
-}
+sealed_samples = inl (
+  omega arith,
+  record {
+    state = sealed 0;
+    coded = record {
+      start = record { value = sealed 7; position = 76 };
+      begins = refl;
+      joined = (sealed 0, 85, 0, (sealed 1, 82, 1, (sealed 5, 79, 4, (sealed 7, 76, 2, (refl, refl), refl, refl), refl, refl), refl, refl), refl, refl);
+    };
+    accepts = refl;
+  },
+)
 
 wrongly_sealed_samples : FailsLater plain w32 (part_of gradient) (sealed_bytes 0x80) (sealed 0) (standing 68 (pos 0 ∷ pos 0 ∷ pos 0 ∷ pos 0 ∷ []) true) (standing 88 (pos 1 ∷ pos 3 ∷ pos 0 ∷ pos 2 ∷ []) true) (Invalid 4) 4
 unfolding int_wrap count_leading_zeros plain_begin plain_read number_at token_at
@@ -168,15 +174,18 @@ constant_listing = refl
 
 constant_samples : IsCodedWhole plain w32 (part_of doubled) constant_bytes constant_decoder 79 (square_of (pos 1 ∷ pos 1 ∷ pos 1 ∷ pos 1 ∷ [])) 79
 unfolding int_wrap count_leading_zeros plain_begin plain_read number_at token_at
-constant_samples = record {
-  state = constant_decoder;
-  coded = record {
-    start = record { value = constant_decoder; position = 79 };
-    begins = refl;
-    joined = (constant_decoder, 79, 3, (constant_decoder, 79, 3, (constant_decoder, 79, 3, (constant_decoder, 79, 3, (refl, refl), refl, refl), refl, refl), refl, refl), refl, refl);
-  };
-  accepts = refl;
-}
+constant_samples = inl (
+  omega arith,
+  record {
+    state = constant_decoder;
+    coded = record {
+      start = record { value = constant_decoder; position = 79 };
+      begins = refl;
+      joined = (constant_decoder, 79, 3, (constant_decoder, 79, 3, (constant_decoder, 79, 3, (constant_decoder, 79, 3, (refl, refl), refl, refl), refl, refl), refl, refl), refl, refl);
+    };
+    accepts = refl;
+  },
+)
 
 -- A token of 2, and 200 more of it, of which three are read.
 abbrev run_bytes : List ℕ
@@ -187,15 +196,18 @@ run_of last left = three_bits (Runs last left)
 
 run_samples : IsCodedWhole plain w32 (part_of gradient) run_bytes (run_of 0 0) 68 (square_of (pos 1 ∷ pos 2 ∷ pos 2 ∷ pos 3 ∷ [])) 81
 unfolding int_wrap count_leading_zeros plain_begin plain_read number_at token_at run_at
-run_samples = record {
-  state = run_of 2 197;
-  coded = record {
-    start = record { value = run_of 0 0; position = 68 };
-    begins = refl;
-    joined = (run_of 2 198, 81, 2, (run_of 2 199, 81, 2, (run_of 2 0, 72, 2, (run_of 0 0, 68, 2, (refl, refl), refl, refl), refl, refl), refl, refl), refl, refl);
-  };
-  accepts = refl;
-}
+run_samples = inl (
+  omega arith,
+  record {
+    state = run_of 2 197;
+    coded = record {
+      start = record { value = run_of 0 0; position = 68 };
+      begins = refl;
+      joined = (run_of 2 198, 81, 2, (run_of 2 199, 81, 2, (run_of 2 0, 72, 2, (run_of 0 0, 68, 2, (refl, refl), refl, refl), refl, refl), refl, refl), refl, refl);
+    };
+    accepts = refl;
+  },
+)
 
 -- A picture stands at the start of those bytes: header, tree and samples, up to bit 80, whatever the bit depth.
 row_picture : (bit_depth : ℕ) → IsPicture plain w32 row_bytes 0 (image_list square) 0 bit_depth row_grids 80

@@ -22,7 +22,7 @@ use Rattle.jxl_modular.specs.Image.{Image, IsOnlyImage, coded_grids, cost_of, im
 use Rattle.jxlm_part.specs.Part.{Part, cell_count}
 use Rattle.jxl_modular.specs.SameButSamples.{SameButCells, SameButSamples}
 use Rattle.jxl_modular.specs.Inner.Samples.{DecodesSamples, FailsAtOnePlace, RefusesSamples}
-use Rattle.jxl_modular.proofs.PartLaws.{some_of, none_of}
+use Rattle.jxl_modular.proofs.PartLaws.{none_is}
 
 -- no more reads are tried than there are samples
 tried_within : {D : Type 0} (d : Meaning D) (w : Width) (part : Part) (bytes : List ℕ) (decoder : D) (old new : Standing) (e : DecoderError) (tried : ℕ) → Fails d w part bytes decoder old new e tried → tried ≤ cell_count part.channels
@@ -55,7 +55,7 @@ module _ {S D : Type 0} (d : Meaning D) (w : Width) (to_int : S → ℤ) (bytes 
       IsFilled d w to_int bytes stream old p new q
   filled mid new q some decodes kept only same = record {
     samples = coded_grids to_int mid;
-    coded = some_of (samples_in old) _ (q ≡ p) some decodes.0;
+    coded = inl (some, decodes.0);
     only = only_of w old new (image_grids to_int new) (coded_grids to_int mid) (same.bit_depth ∙ kept.cells.bit_depth) (same.steps ∙ kept.cells.steps) (same.given ∙ kept.cells.given) only;
   }
 
@@ -63,7 +63,7 @@ module _ {S D : Type 0} (d : Meaning D) (w : Width) (to_int : S → ℤ) (bytes 
   pub filled_empty : (new : Image S D) → (0 < samples_in old → ⊥) → IsOnlyImage w new (image_grids to_int new) (coded_grids to_int old) → SameButCells old new → IsFilled d w to_int bytes stream old p new p
   filled_empty new none only same = record {
     samples = coded_grids to_int old;
-    coded = none_of (samples_in old) _ (p ≡ p) none refl;
+    coded = inr (none_is (samples_in old) none, refl);
     only = only_of w old new (image_grids to_int new) (coded_grids to_int old) same.bit_depth same.steps same.given only;
   }
 

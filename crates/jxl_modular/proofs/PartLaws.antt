@@ -1,5 +1,5 @@
 -- The part of all coded channels of an image.
-use Rattle.std.proofs.Common.{◌≡◌, ◌≢◌, ℕ, zero, suc, ◌+◌, ◌*◌, ◌<◌, ◌≤◌, List, [], ◌∷◌, ◌++◌, length, take, drop, Bool, refl, sym, ap, ◌∙◌, subst, arith, ℤ, inl, Result, Ok, Err, false}
+use Rattle.std.proofs.Common.{◌≡◌, ◌≢◌, ℕ, zero, suc, ◌+◌, ◌*◌, ◌<◌, ◌≤◌, List, [], ◌∷◌, ◌++◌, length, take, drop, Bool, refl, sym, ap, ◌∙◌, subst, arith, ℤ, inl, inr, Result, Ok, Err, false}
 use Rattle.std.proofs.Math.Seq.{take-append_seam}
 use Rattle.std.specs.Int.{Width}
 use Rattle.jxlm_base.specs.Decoding.{Meaning}
@@ -17,7 +17,6 @@ use Rattle.jxlm_base.specs.declared.bits.BitstreamError.{BitstreamError}
 use Rattle.jxlm_base.specs.declared.bits.BitstreamError.TheVariants as bit_errors
 use Rattle.jxlm_base.specs.declared.error.Error.{Error}
 use Rattle.jxlm_base.specs.declared.error.Error.TheVariants.{InvalidMaTree, GlobalMaTreeNotAvailable, InvalidRctParams, InvalidPaletteParams, InvalidSqueezeParams, Bitstream, Decoder, Buffer}
-use Rattle.jxlm_part.specs.Coded.{IfSome}
 use Rattle.jxlm_part.specs.Decode.{Standing, DecodeAnswers, MovesWithin}
 use Rattle.jxl_modular.specs.Image.{Image, IsLaidOut, coded_grids, cost_of as image_cost, whole_part, samples_in}
 use Rattle.jxlm_part.specs.Part.{Part, cell_count, greatest_width}
@@ -115,13 +114,9 @@ refuses_memory d w to_int bytes stream old p before (Bitstream b) h = absurd (me
 
 -- ---- what decoding a part returns
 
-pub some_of : (n : ℕ) (P Q : Type 0) → 0 < n → P → IfSome n P Q
-some_of zero P Q h p = absurd (omega arith)
-some_of (suc n) P Q h p = p
-
-pub none_of : (n : ℕ) (P Q : Type 0) → (0 < n → ⊥) → Q → IfSome n P Q
-none_of zero P Q h q = q
-none_of (suc n) P Q h q = absurd (h (omega arith))
+pub none_is : (n : ℕ) → (0 < n → ⊥) → n ≡ 0
+none_is zero h = refl
+none_is (suc n) h = absurd (h (omega arith))
 
 abbrev pub stands : {S D : Type 0} → (S → ℤ) → Image S D → ℕ → Bool → Standing
 stands to_int x p partial = record { position = p; grids = coded_grids to_int x; partial = partial }
@@ -138,7 +133,7 @@ module _ {S D : Type 0} (d : Meaning D) (w : Width) (to_int : S → ℤ) (bytes 
   answers_whole allow new q before after cells all more work = (
     samples_in old,
     inl (record {
-      coded = some_of (samples_in old) _ (q ≡ p) cells all.0;
+      coded = inl (cells, all.0);
       fits = all.1;
       whole = refl;
       tries = refl;
@@ -151,7 +146,7 @@ module _ {S D : Type 0} (d : Meaning D) (w : Width) (to_int : S → ℤ) (bytes 
   answers_empty allow before laid none = (
     samples_in old,
     inl (record {
-      coded = none_of (samples_in old) _ (p ≡ p) none refl;
+      coded = inr (none_is (samples_in old) none, refl);
       fits = coded_fit old laid to_int;
       whole = refl;
       tries = refl;

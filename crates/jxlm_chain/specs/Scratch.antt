@@ -1,10 +1,11 @@
 -- Room for undoing.
-use Rattle.std.specs.Prelude.{◌≡◌, ℕ, ◌+◌, ◌≤◌, ◌^◌, List, Option, Some, None, get_or, length, max, vec_len}
+use Rattle.std.specs.Prelude.{◌≡◌, ℕ, ◌+◌, ◌≤◌, List, Option, Some, None, get_or, length, max, vec_len}
 use Rattle.std.specs.List.{All}
 use Rattle.jxlm_base.specs.declared.subgrid.Region.{Region}
 use Rattle.jxlm_tree.specs.Standing.{HasSameRoom, room_of, weights_of}
 use Rattle.jxlm_tree.specs.declared.predictor.WpHeader.{WpHeader}
 use Rattle.jxlm_tree.specs.declared.state.PredictorState.{PredictorState}
+use Rattle.jxlm_transform.specs.Params.{IsSide}
 use Rattle.jxlm_transform.specs.ColourRows.{HasRoom, KeepsRoom}
 use Rattle.jxlm_chain.specs.Layout.{no_region}
 use Rattle.jxlm_chain.specs.Undo.{Undo, UndoRct, UndoPalette, UndoSqueeze}
@@ -13,7 +14,7 @@ use Rattle.jxlm_chain.specs.declared.scratch.Needs.{Needs}
 
 -- no side of the region is above 2 ^ 30
 abbrev pub IsNarrow : Region → Type 0
-IsNarrow r = (r.width ≤ 2 ^ 30) × (r.height ≤ 2 ^ 30)
+IsNarrow r = IsSide r.width × IsSide r.height
 
 -- a palette's indices and a squeezed region are narrow
 abbrev pub IsNarrowUndo : Undo → Type 0
@@ -34,7 +35,7 @@ Covers needs (UndoSqueeze horizontal r) = max r.width (r.height + 1) ≤ needs.l
 
 -- palettes of no more than 2 ^ 30 columns
 abbrev pub AreNarrow : Needs → Type 0
-AreNarrow needs = (needs.plain ≤ 2 ^ 30) × (needs.weighted ≤ 2 ^ 30)
+AreNarrow needs = IsSide needs.plain × IsSide needs.weighted
 
 -- the larger need of each kind
 abbrev pub larger_needs : Needs → Needs → Needs

@@ -3,6 +3,7 @@ use Rattle.std.specs.Prelude.{◌≡◌, ◌≤◌, ◌^◌, List, length}
 use Rattle.std.specs.List.{All}
 use Rattle.jxlm_base.specs.Grid.{Grid}
 use Rattle.jxlm_base.specs.Regions.{Lies, AllLie, LieApart}
+use Rattle.jxlm_transform.specs.Params.{IsSide}
 use Rattle.jxlm_transform.specs.Palette.{PaletteLies}
 use Rattle.jxlm_transform.specs.Recoloured.{HaveOneSize}
 use Rattle.jxlm_chain.specs.Undo.{Undo, UndoRct, UndoPalette, UndoSqueeze}
@@ -20,4 +21,4 @@ module _ {S : Type 0} where
 
   -- no side of a buffer is above 2 ^ 30
   abbrev pub IsNarrowStore : List (Grid S) → Type 0
-  IsNarrowStore store = All (λ g. (g.width ≤ 2 ^ 30) × (g.height ≤ 2 ^ 30)) store
+  IsNarrowStore store = All (λ g. IsSide g.width × IsSide g.height) store

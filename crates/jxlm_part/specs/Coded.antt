@@ -1,5 +1,5 @@
 -- The samples of a part, as they are coded (ISO/IEC 18181-1, Modular: decoding of samples).
-use Rattle.std.specs.Prelude.{◌≡◌, ℕ, zero, suc, ◌<◌, ◌⊎◌, ℤ, pos, ◌+ℤ◌, ◌*ℤ◌, List, take, Ok, Err}
+use Rattle.std.specs.Prelude.{◌≡◌, ℕ, suc, ◌<◌, ◌⊎◌, ℤ, pos, ◌+ℤ◌, ◌*ℤ◌, List, take, Ok, Err}
 use Rattle.std.specs.Int.{Width, int_wrap}
 use Rattle.jxlm_base.specs.Decoding.{Found, Meaning}
 use Rattle.jxlm_base.specs.Grid.{Grid}
@@ -19,11 +19,6 @@ abbrev pub next_prediction : Part → List ℤ → ℤ
 next_prediction part before =
     let s = surroundings part before in
     prediction s.weights s.samples s.width (next_leaf part before).predictor
-
--- the first fact where there are some, else the second
-abbrev pub IfSome : ℕ → Type 0 → Type 0 → Type 0
-IfSome zero P Q = Q
-IfSome (suc n) P Q = P
 
 module _ {S : Type 0} (d : Meaning S) (w : Width) (part : Part) (bytes : List ℕ) where
   -- the next sample of a part: its token is read from the cluster of its leaf, under the maximum width
@@ -60,6 +55,7 @@ module _ {S : Type 0} (d : Meaning S) (w : Width) (part : Part) (bytes : List �
       (0 < cell_count part.channels) × (((d.begin decoder bytes p ≡ Err e) × (q ≡ p) × (tried ≡ 0))
       ⊎ ((n : ℕ) × (grids : List (Grid ℤ)) × FailsAfter decoder p n grids q e tried))
 
-  -- the part is coded whole: where it has no cells, from p to p
+  -- the part is coded whole: its cells to the end, or none from p to p
   abbrev pub IsCodedWhole : S → ℕ → List (Grid ℤ) → ℕ → Type 0
-  IsCodedWhole decoder p grids q = IfSome (cell_count part.channels) (IsCodedToTheEnd decoder p grids q) (q ≡ p)
+  IsCodedWhole decoder p grids q =
+      ((0 < cell_count part.channels) × IsCodedToTheEnd decoder p grids q) ⊎ ((cell_count part.channels ≡ 0) × (q ≡ p))

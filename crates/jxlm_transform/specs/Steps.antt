@@ -3,6 +3,7 @@ use Rattle.std.specs.Prelude.{◌≡◌, ◌≤◌, ◌^◌, ◌⊎◌, ℕ, Lis
 use Rattle.std.specs.List.{All}
 use Rattle.jxlm_tree.specs.declared.predictor.WpHeader.{WpHeader}
 use Rattle.jxlm_transform.specs.ChannelSteps.{Step, RctStep, PaletteStep, SqueezeStep, listed_steps}
+use Rattle.jxlm_transform.specs.Params.{IsSide}
 use Rattle.jxlm_transform.specs.Transforms.{Transform}
 
 -- the steps that transforms list
@@ -36,4 +37,4 @@ tables_of (SqueezeStep t ∷ ss) = tables_of ss
 
 -- no side of a table is above 2 ^ 30
 abbrev pub HasNarrowTables : List Step → Type 0
-HasNarrowTables ss = All (λ s. (s.width ≤ 2 ^ 30) × (s.height ≤ 2 ^ 30)) (tables_of ss)
+HasNarrowTables ss = All (λ s. IsSide s.width × IsSide s.height) (tables_of ss)
