@@ -1,2 +1,3 @@
 mod ColourThree
+mod Listed
 mod PaletteThree

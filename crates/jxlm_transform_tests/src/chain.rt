@@ -1,12 +1,13 @@
-//! Transforms undone in stores of few samples, and what a plan of undoing lists.
+//! Transforms undone in stores of few samples, and what undoes them.
 
-ghost use Rattle.std.specs.Prelude.{◌≡◌, ◌^◌, ◌≤◌, length, map, IfOk};
+ghost use Rattle.std.specs.Prelude.{◌≡◌, ◌^◌, ◌≤◌, length, map, Ok, IfOk};
 ghost use Rattle.std.specs.List.{All};
 ghost use Rattle.jxlm_chain.specs.Layout.{HasBuffers, HasSides, buffers_of};
 ghost use Rattle.jxlm_chain.specs.Places.{Suit};
 ghost use Rattle.jxlm_transform.specs.Steps.{HasWeights, steps_in};
-ghost use Rattle.jxlm_transform.specs.Channels.{channel_of};
-ghost use Rattle.jxlm_transform.specs.Transforms.{transform_of};
+ghost use Rattle.jxlm_transform.specs.Channels.{ChannelList, channel_of};
+ghost use Rattle.jxlm_transform.specs.ChannelSteps.{coded_list};
+ghost use Rattle.jxlm_transform.specs.Transforms.{HasChannels, transform_of};
 ghost use Rattle.jxlm_tree.specs.declared.predictor.WpHeader.{WpHeader};
 
 use jxlm_base::error::Error;
@@ -14,8 +15,9 @@ use jxlm_base::grid::{AlignedGrid, OutOfMemory, Region};
 use jxlm_base::sample::Sample;
 use jxlm_chain::grid::TransformedGrid;
 use jxlm_chain::laws::no_two_images;
+use jxlm_chain::placed::PlacedChannels;
 use jxlm_chain::scratch::Scratch;
-use jxlm_chain::undo::{Plan, Undoing, undo_all};
+use jxlm_chain::undo::{Undoing, undo_all};
 use jxlm_transform::channels::ModularChannelInfo;
 use jxlm_transform::param::ChannelShift;
 use jxlm_transform::transform::{Palette, Rct, TransformInfo};
@@ -100,21 +102,27 @@ fn read<S: Sample>(grid: &AlignedGrid<S>, x: usize) -> i32 {
     }
 }
 
-/// Plans the transforms, and undoes them in the store.
-fn undo<S: Sample>(
+/// Applies the transforms, which list their steps, and undoes them in the store.
+fn undo<S: Sample, const N: usize>(
     alloc: Global,
-    transforms: &[TransformInfo],
+    transforms: [TransformInfo; N],
     channels: &[ModularChannelInfo],
     store: &mut [AlignedGrid<S>],
 ) -> Result<(), Error>
-    requires suit { Suit (steps_in (map transform_of transforms.now)) (map channel_of channels.now) }
-    requires buffers { HasBuffers (buffers_of (map channel_of channels.now) (steps_in (map transform_of transforms.now))) store.old }
-    requires small { All (λ s. (s.width ≤ 2 ^ 30) × (s.height ≤ 2 ^ 30)) (buffers_of (map channel_of channels.now) (steps_in (map transform_of transforms.now))) }
-    requires weights { (weights : WpHeader) → All (HasWeights weights) (steps_in (map transform_of transforms.now)) }
+    requires some_channels { All HasChannels (map transform_of transforms) }
+    requires listed { (m : ChannelList) × (coded_list (map transform_of transforms)
+        (record { channels = map channel_of channels.now; nb_meta = 0 })
+        ≡ Ok (record { steps = steps_in (map transform_of transforms); list = m })) }
+    requires suit { Suit (steps_in (map transform_of transforms)) (map channel_of channels.now) }
+    requires buffers { HasBuffers (buffers_of (map channel_of channels.now) (steps_in (map transform_of transforms))) store.old }
+    requires small { All (λ s. (s.width ≤ 2 ^ 30) × (s.height ≤ 2 ^ 30)) (buffers_of (map channel_of channels.now) (steps_in (map transform_of transforms))) }
+    requires weights { (weights : WpHeader) → All (HasWeights weights) (steps_in (map transform_of transforms)) }
 {
-    let plan = Plan::new(alloc, transforms, channels)?;
-    let mut scratch = Scratch::new(alloc, &plan.undoings, &WEIGHTS)?;
-    undo_all(&plan.undoings, store, 8, &mut scratch);
+    let mut listed = Vec::from_array(alloc, transforms).map_err(|_| OutOfMemory)?;
+    let mut placed = PlacedChannels::whole(alloc, channels)?;
+    placed.apply(alloc, &mut listed)?;
+    let mut scratch = Scratch::new(alloc, &placed.undoings, &WEIGHTS)?;
+    undo_all(&placed.undoings, store, 8, &mut scratch);
     Ok(())
 }
 
@@ -128,7 +136,7 @@ fn recoloured<S: Sample>(alloc: Global) -> Result<[i32; 3], Error> {
         begin_c: 0,
         rct_type: 6,
     });
-    undo(alloc, &[colour], &[POINT, POINT, POINT], &mut store)?;
+    undo(alloc, [colour], &[POINT, POINT, POINT], &mut store)?;
     Ok([read(&store[0], 0), read(&store[1], 0), read(&store[2], 0)])
 }
 
@@ -145,7 +153,7 @@ fn looked_up<S: Sample>(alloc: Global) -> Result<[i32; 3], Error> {
     let table = row(alloc, &[10, 20, 30])?;
     let mut store = [indices, table];
     let palette = TransformInfo::Palette(THREE);
-    undo(alloc, &[palette], &[ROW], &mut store)?;
+    undo(alloc, [palette], &[ROW], &mut store)?;
     Ok([read(&store[0], 0), read(&store[0], 1), read(&store[0], 2)])
 }
 
@@ -168,12 +176,7 @@ fn both<S: Sample>(alloc: Global) -> Result<[i32; 3], Error> {
         begin_c: 1,
         rct_type: 7,
     });
-    undo(
-        alloc,
-        &[palette, colour],
-        &[POINT, POINT, POINT],
-        &mut store,
-    )?;
+    undo(alloc, [palette, colour], &[POINT, POINT, POINT], &mut store)?;
     Ok([read(&store[0], 0), read(&store[1], 0), read(&store[2], 0)])
 }
 
@@ -254,7 +257,7 @@ fn palette_of_indices<S: Sample>(alloc: Global) -> Result<[i32; 3], Error> {
     let mut store = [first, second, third, colours, indices];
     undo(
         alloc,
-        &[
+        [
             TransformInfo::Palette(TWO),
             TransformInfo::Palette(NEXT_TWO),
         ],
@@ -287,10 +290,10 @@ fn show(grid: &TransformedGrid, text: &mut String) -> Result<(), Fail> {
     Ok(())
 }
 
-/// The channels of a plan's palettes, as text.
-fn palettes(alloc: Global, plan: &Plan) -> Result<String, Fail> {
+/// The channels of palettes, as text.
+fn palettes(alloc: Global, undoings: &[Undoing]) -> Result<String, Fail> {
     let mut text = String::new(alloc);
-    for undoing in &plan.undoings {
+    for undoing in undoings {
         if let Undoing::Palette { index, .. } = undoing {
             show(index, &mut text)?;
             text.push(' ')?;
@@ -300,13 +303,14 @@ fn palettes(alloc: Global, plan: &Plan) -> Result<String, Fail> {
 }
 
 #[test]
-fn a_plan_holds_merged_channels(rt: HostRuntime) -> Result<(), Fail> {
-    let transforms = [
+fn undoings_hold_merged_channels(rt: HostRuntime) -> Result<(), Fail> {
+    let mut listed = vec![in rt.alloc();
         TransformInfo::Palette(TWO),
         TransformInfo::Palette(NEXT_TWO),
-    ];
-    let plan = Plan::new(rt.alloc(), &transforms, &[POINT, POINT, POINT])?;
-    let text = palettes(rt.alloc(), &plan)?;
+    ]?;
+    let mut placed = PlacedChannels::whole(rt.alloc(), &[POINT, POINT, POINT])?;
+    placed.apply(rt.alloc(), &mut listed)?;
+    let text = palettes(rt.alloc(), &placed.undoings)?;
     assert_eq!(rt; text.as_str(), "0(0;1;) 0(0(0;1;);2;) ");
     Ok(())
 }
