@@ -1,4 +1,5 @@
 pub mod Filled
 pub mod Kept
+pub mod Opened
 pub mod Samples
 pub mod StepCode

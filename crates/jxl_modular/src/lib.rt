@@ -3,6 +3,7 @@
 
 pub mod image;
 pub mod laws;
+mod opening;
 mod picture;
 mod root;
 

@@ -1,21 +1,21 @@
 //! Modular images as they are read.
 
-ghost use Rattle.std.specs.Prelude.{◌≡◌, pos, map, None, Ok, IfOk, IfErr};
+ghost use Rattle.std.specs.Prelude.{◌≡◌, pos, None, Ok};
 ghost use Rattle.std.specs.List.{All};
 ghost use Rattle.std.specs.Option.{option_copied, option_copied_mut};
 ghost use Rattle.jxlm_base.specs.Bits.{bytes_of, position_of};
-ghost use Rattle.jxlm_base.specs.Fault.{NoMemory, fault_of};
-ghost use Rattle.jxlm_transform.specs.Channels.{list_of};
 ghost use Rattle.jxlm_transform.specs.Params.{IsValidParams};
 ghost use Rattle.jxl_modular.specs.Parsing.{ParseGives, image_of};
 
 use crate::image::ModularImageDestination;
+use crate::opening::open;
 use jxlm_base::bits::Bitstream;
 use jxlm_base::decoder::Decoder;
 use jxlm_base::error::Result;
 use jxlm_base::sample::Sample;
-use jxlm_header::opening::{DEPTH_LIMIT, node_limit, open};
-use jxlm_transform::channels::{ModularChannelInfo, ModularChannels};
+use jxlm_chain::placed::PlacedChannels;
+use jxlm_header::opening::{DEPTH_LIMIT, node_limit};
+use jxlm_transform::channels::ModularChannels;
 use jxlm_transform::param::ModularParams;
 use jxlm_tree::ma::{MaConfig, MaConfigParams};
 use std::alloc::Global;
@@ -24,17 +24,6 @@ use std::alloc::Global;
 #[derive(Drop)]
 pub struct Modular<S, D: Decoder> {
     inner: Option<ModularImageDestination<S, D>>,
-}
-
-/// The list of these channels, none of which is a meta channel. Out of memory is its only error.
-fn copied(alloc: Global, channels: &[ModularChannelInfo]) -> Result<ModularChannels>
-    ensures ok { IfOk result (λ l. list_of l ≡ record { channels = channels.now; nb_meta = 0 }) }
-    ensures err { IfErr result (λ e. fault_of e ≡ NoMemory) }
-{
-    Ok(ModularChannels {
-        info: Vec::from_slice(alloc, channels)?,
-        nb_meta_channels: 0,
-    })
 }
 
 impl<S: Sample, D: Decoder> Modular<S, D> {
@@ -60,7 +49,8 @@ impl<S: Sample, D: Decoder> Modular<S, D> {
     /// each palette of the header a table with one row for each channel that it stands for, of at most 70911 samples.
     /// So nine bytes can take 4 GB, by one channel of 2^15 by 2^15 samples of 32 bits. A caller that does not trust
     /// its input bounds it before the call: by `is_valid`, and by the sum of the areas of the given channels times
-    /// the bytes of a sample. There are at most 273 palettes. The tree takes some dozens of bytes for each node.
+    /// the bytes of a sample. There are at most 273 palettes. The list of what undoes the transforms is made here too:
+    /// it takes some dozens of bytes for each element, as do the list of coded channels and the tree.
     ///
     /// # Errors
     ///
@@ -88,10 +78,10 @@ impl<S: Sample, D: Decoder> Modular<S, D> {
         }
         let has_global = params.ma_config.is_some();
         let given = ModularChannels::new(alloc, &params.channels)?;
-        let list = copied(alloc, &given.info)?;
-        let (header, channels) = open(alloc, bits, list, has_global)?;
+        let start = PlacedChannels::whole(alloc, &given.info)?;
+        let (header, placed) = open(alloc, bits, start, has_global)?;
         let limits = MaConfigParams {
-            node_limit: node_limit(&channels.info),
+            node_limit: node_limit(&placed.channels.info),
             depth_limit: DEPTH_LIMIT,
         };
         let ma_ctx = MaConfig::parse(alloc, bits, limits)?;
@@ -102,7 +92,7 @@ impl<S: Sample, D: Decoder> Modular<S, D> {
             params.group_dim,
             params.bit_depth,
             given,
-            channels,
+            placed,
         )?;
         Ok(Modular { inner: Some(image) })
     }

@@ -7,7 +7,8 @@ pub mod LayoutLaws
 pub mod ListLaws
 pub mod ListsApart
 pub mod OneImage
-pub mod PlanSteps
+pub mod PlacedSteps
+pub mod Preparing
 pub mod Ranges
 pub mod Ready
 pub mod Rooms

@@ -1,6 +1,7 @@
 pub mod Chain
 pub mod Grids
 pub mod Layout
+pub mod Placed
 pub mod Places
 pub mod Scratch
 pub mod Shape

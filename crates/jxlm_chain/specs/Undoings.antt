@@ -1,12 +1,8 @@
 -- Undoings as a program keeps them.
-use Rattle.std.specs.Prelude.{◌≡◌, ◌⊎◌, List, ◌++◌, map, Option, None}
+use Rattle.std.specs.Prelude.{◌≡◌, ◌⊎◌, List, map, Option, None}
 use Rattle.jxlm_tree.specs.declared.predictor.WpHeader.{WpHeader}
-use Rattle.jxlm_transform.specs.ChannelSteps.{Step}
 use Rattle.jxlm_chain.specs.Grids.{leader_of, members_of}
-use Rattle.jxlm_chain.specs.Layout.{layout_after_all}
-use Rattle.jxlm_chain.specs.Places.{layout_of}
-use Rattle.jxlm_chain.specs.Undo.{Undo, UndoRct, UndoPalette, UndoSqueeze, undo_of_all}
-use Rattle.jxlm_chain.specs.declared.undo.Plan.{Plan}
+use Rattle.jxlm_chain.specs.Undo.{Undo, UndoRct, UndoPalette, UndoSqueeze}
 use Rattle.jxlm_chain.specs.declared.undo.Undoing.{Undoing}
 use Rattle.jxlm_chain.specs.declared.undo.Undoing.TheVariants.{Colour, Palette, Squeeze}
 
@@ -25,8 +21,3 @@ abbrev pub SuitsWeights : Option WpHeader → Undo → Type 0
 SuitsWeights weights (UndoRct kind regions) = Unit {0}
 SuitsWeights weights (UndoPalette t table index regions) = (t.wp_header ≡ None) ⊎ (t.wp_header ≡ weights)
 SuitsWeights weights (UndoSqueeze horizontal r) = Unit {0}
-
--- a plan goes on by these steps
-pub record GoesOn (steps : List Step) (old new : Plan) : Type 0 where
-  pub undoings : undos_of new.undoings.items ≡ undos_of old.undoings.items ++ undo_of_all steps (layout_of old.places)
-  pub places : layout_of new.places ≡ layout_after_all steps (layout_of old.places)

@@ -3,6 +3,7 @@
 
 pub mod grid;
 pub mod laws;
+pub mod placed;
 pub mod places;
 pub mod scratch;
 pub mod undo;

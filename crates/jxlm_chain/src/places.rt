@@ -99,6 +99,7 @@ fn residual_parts(
 }
 
 impl Places {
+    ghost use Rattle.jxlm_base.specs.Regions.{region};
     ghost use Rattle.jxlm_chain.specs.Places.{layout_of};
 
     /// The places before all transforms: each channel is the whole of a buffer of its own.
@@ -124,6 +125,19 @@ impl Places {
         Ok(Places { regions, buffers })
     }
 
+    /// Where the table of a palette lies: it is the whole of the next buffer.
+    pub(crate) fn table(&self, palette: &Palette) -> Region
+        ensures { result ≡ region self.now.buffers 0 0 palette.now.nb_colours palette.now.num_c }
+    {
+        Region {
+            buffer: self.buffers,
+            x: 0,
+            y: 0,
+            width: palette.nb_colours as usize,
+            height: palette.num_c as usize,
+        }
+    }
+
     /// What becomes of the places by a palette: its table has the next buffer and comes first, and its indices lie
     /// where the first channel of the range lay.
     ///
@@ -139,13 +153,7 @@ impl Places {
         ensures gives { IfOk result (λ _. layout_of self.new ≡ layout_after (PaletteStep palette.now) (layout_of self.old)) }
         ensures unchanged { IfErr result (λ _. layout_of self.new ≡ layout_of self.old) }
     {
-        let table = Region {
-            buffer: self.buffers,
-            x: 0,
-            y: 0,
-            width: palette.nb_colours as usize,
-            height: palette.num_c as usize,
-        };
+        let table = self.table(palette);
         palette.put_table(&mut self.regions, table)?;
         self.buffers += 1;
         Ok(())

@@ -2,28 +2,23 @@
 
 ghost use Rattle.std.specs.Prelude.{◌≡◌, ℕ, ◌+◌, ◌^◌, ◌<◌, ◌≤◌, [], ◌∷◌, ◌++◌, ◌⊎◌, length, get_or, map, IfOk, IfErr};
 ghost use Rattle.std.specs.List.{All};
-ghost use Rattle.jxlm_base.specs.Fault.{NoMemory, fault_of};
 ghost use Rattle.jxlm_chain.specs.Grids.{leader_of, members_of};
-ghost use Rattle.jxlm_chain.specs.Layout.{Layout, first_layout, layout_after, layout_after_all, no_region};
-ghost use Rattle.jxlm_chain.specs.Places.{CanTake, CanTakeAll, Suit, layout_of};
+ghost use Rattle.jxlm_chain.specs.Layout.{no_region};
+ghost use Rattle.jxlm_chain.specs.Places.{layout_of};
 ghost use Rattle.jxlm_chain.specs.Scratch.{HasRoomFor, HasRoomToUndo, KeepsScratch};
 ghost use Rattle.jxlm_chain.specs.Steps.{CanUndo, CanUndoAll, IsNarrowStore};
-ghost use Rattle.jxlm_transform.specs.Steps.{steps_in};
-ghost use Rattle.jxlm_chain.specs.Undo.{UndoPalette, UndoRct, UndoSqueeze, Undoes, UndoesAll, undo_of, undo_of_all};
-ghost use Rattle.jxlm_chain.specs.Undoings.{GoesOn, undo_of_code, undos_of};
-ghost use Rattle.jxlm_transform.specs.ChannelSteps.{RctStep, PaletteStep, SqueezeStep, listed_steps, range};
-ghost use Rattle.jxlm_transform.specs.Transforms.{transform_of};
+ghost use Rattle.jxlm_chain.specs.Undo.{UndoPalette, UndoRct, UndoSqueeze, Undoes, UndoesAll, undo_of};
+ghost use Rattle.jxlm_chain.specs.Undoings.{undo_of_code, undos_of};
+ghost use Rattle.jxlm_transform.specs.ChannelSteps.{RctStep, PaletteStep, SqueezeStep, range};
 
 use crate::grid::TransformedGrid;
 use crate::places::Places;
 use crate::scratch::Scratch;
-use jxlm_base::error;
 use jxlm_base::grid::{AlignedGrid, OutOfMemory, Region};
 use jxlm_base::sample::Sample;
-use jxlm_transform::channels::ModularChannelInfo;
 use jxlm_transform::rct::inverse_rct_within;
 use jxlm_transform::squeeze::unsqueeze;
-use jxlm_transform::transform::{Palette, Rct, SqueezeParams, TransformInfo};
+use jxlm_transform::transform::{Palette, Rct, SqueezeParams};
 use std::alloc::Global;
 
 /// What undoes a transform, or a part of one, in a store.
@@ -105,7 +100,7 @@ fn merged(leader: Region, members: Vec<TransformedGrid>) -> TransformedGrid
 
 impl Places {
     /// What undoes a colour transform after these places.
-    fn undo_colour(&self, step: &Rct) -> Undoing
+    pub(crate) fn undo_colour(&self, step: &Rct) -> Undoing
         requires { step.now.begin_c + 3 ≤ length self.now.regions.items }
         ensures { undo_of_code result ∷ [] ≡ undo_of (RctStep step.now) (layout_of self.now) }
     {
@@ -121,7 +116,7 @@ impl Places {
     }
 
     /// What undoes a palette after these undoings, of which the ones with the indices `palettes` undo palettes.
-    fn undo_palette(
+    pub(crate) fn undo_palette(
         &self,
         alloc: Global,
         undoings: &[Undoing],
@@ -139,13 +134,7 @@ impl Places {
         let index = merged(range[0], members);
         Ok(Undoing::Palette {
             palette: *palette,
-            table: Region {
-                buffer: self.buffers,
-                x: 0,
-                y: 0,
-                width: palette.nb_colours as usize,
-                height: count,
-            },
+            table: self.table(palette),
             index,
         })
     }
@@ -170,7 +159,7 @@ fn undo_halves(
 
 impl Places {
     /// Adds what undoes a squeeze step.
-    fn undo_squeeze(
+    pub(crate) fn undo_squeeze(
         &self,
         undoings: &mut Vec<Undoing>,
         step: &SqueezeParams,
@@ -180,114 +169,6 @@ impl Places {
     {
         let range = &self.regions[step.begin_c..step.begin_c + step.num_c];
         undo_halves(undoings, step.horizontal, range)
-    }
-}
-
-/// What undoes the transforms of an image, and where its coded channels lie.
-#[derive(Drop)]
-pub struct Plan {
-    /// What undoes the transforms, in their order: the last is run first.
-    pub undoings: Vec<Undoing>,
-    /// The indices in that list of what undoes a palette.
-    palettes: Vec<usize>,
-    /// Where the channels lie after all transforms.
-    pub places: Places,
-}
-
-impl Plan {
-    /// Goes on by a colour transform.
-    fn add_colour(&mut self, step: &Rct) -> Result<(), OutOfMemory>
-        requires { CanTake (RctStep step.now) (layout_of self.old.places) }
-        ensures { IfOk result (λ _. GoesOn (RctStep step.now ∷ []) self.old self.new) }
-    {
-        let undoing = self.places.undo_colour(step);
-        self.undoings.push(undoing)?;
-        Ok(())
-    }
-
-    /// Goes on by a palette.
-    fn add_palette(&mut self, alloc: Global, palette: &Palette) -> Result<(), OutOfMemory>
-        requires { CanTake (PaletteStep palette.now) (layout_of self.old.places) }
-        ensures { IfOk result (λ _. GoesOn (PaletteStep palette.now ∷ []) self.old self.new) }
-    {
-        let undoing = self
-            .places
-            .undo_palette(alloc, &self.undoings, &self.palettes, palette)?;
-        self.palettes.push(self.undoings.len())?;
-        self.undoings.push(undoing)?;
-        self.places.index(alloc, palette)
-    }
-
-    /// Goes on by a squeeze step.
-    fn add_halves(&mut self, alloc: Global, step: &SqueezeParams) -> Result<(), OutOfMemory>
-        requires { CanTake (SqueezeStep step.now) (layout_of self.old.places) }
-        ensures { IfOk result (λ _. GoesOn (SqueezeStep step.now ∷ []) self.old self.new) }
-    {
-        self.places.undo_squeeze(&mut self.undoings, step)?;
-        self.places.halve(alloc, step)
-    }
-
-    /// Goes on by the steps of a squeeze.
-    fn add_steps(&mut self, alloc: Global, steps: &[SqueezeParams]) -> Result<(), OutOfMemory>
-        requires { CanTakeAll (map SqueezeStep steps.now) (layout_of self.old.places) }
-        ensures { IfOk result (λ _. GoesOn (map SqueezeStep steps.now) self.old self.new) }
-    {
-        for step in steps {
-            self.add_halves(alloc, step)?;
-        }
-        Ok(())
-    }
-
-    /// Goes on by a transform.
-    fn add(&mut self, alloc: Global, transform: &TransformInfo) -> Result<(), OutOfMemory>
-        requires { CanTakeAll (listed_steps (transform_of transform.now)) (layout_of self.old.places) }
-        ensures { IfOk result (λ _. GoesOn (listed_steps (transform_of transform.now)) self.old self.new) }
-    {
-        match transform {
-            TransformInfo::Rct(rct) => self.add_colour(rct),
-            TransformInfo::Palette(palette) => self.add_palette(alloc, palette),
-            TransformInfo::Squeeze(squeeze) => self.add_steps(alloc, &squeeze.sp),
-        }
-    }
-
-    /// Goes on by transforms in order.
-    fn add_all(&mut self, alloc: Global, transforms: &[TransformInfo]) -> Result<(), OutOfMemory>
-        requires { CanTakeAll (steps_in (map transform_of transforms.now)) (layout_of self.old.places) }
-        ensures { IfOk result (λ _. GoesOn (steps_in (map transform_of transforms.now)) self.old self.new) }
-    {
-        for transform in transforms {
-            self.add(alloc, transform)?;
-        }
-        Ok(())
-    }
-
-    /// What undoes these transforms of an image of these channels, each of which is the whole of a buffer of its own;
-    /// after those come the tables of palettes, in their order.
-    ///
-    /// The transforms suit the channels, and list their steps.
-    ///
-    /// # Errors
-    ///
-    /// `Buffer` if it is out of memory, and no other.
-    pub fn new(
-        alloc: Global,
-        transforms: &[TransformInfo],
-        channels: &[ModularChannelInfo],
-    ) -> error::Result<Plan>
-        requires { Suit (steps_in (map transform_of transforms.now)) channels.now }
-        ensures undoings { IfOk result (λ p. undos_of p.undoings.items ≡ undo_of_all (steps_in (map transform_of transforms.now)) (first_layout channels.now)) }
-        ensures places { IfOk result (λ p. layout_of p.places ≡ layout_after_all (steps_in (map transform_of transforms.now)) (first_layout channels.now)) }
-        ensures err { IfErr result (λ e. fault_of e ≡ NoMemory) }
-    {
-        prove!(transforms.len() < usize::MAX - channels.len());
-        let places = Places::new(alloc, channels)?;
-        let mut plan = Plan {
-            undoings: Vec::new(alloc),
-            palettes: Vec::new(alloc),
-            places,
-        };
-        plan.add_all(alloc, transforms)?;
-        Ok(plan)
     }
 }
 

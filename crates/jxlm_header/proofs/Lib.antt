@@ -1,4 +1,3 @@
 pub mod HeaderLaws
 pub mod OpeningLaws
-pub mod Preparing
 mod OpeningExamples

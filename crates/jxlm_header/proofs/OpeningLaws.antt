@@ -1,22 +1,26 @@
 -- What is returned before a tree, from what its steps return.
-use Rattle.std.proofs.Common.{◌≡◌, ℕ, ◌≤◌, Bool, true, false, List, [], ◌∷◌, ◌++◌, length, Some, Result, Ok, Err, refl, sym, ap, ◌∙◌, append_assoc}
+use Rattle.std.proofs.Common.{◌≡◌, ℕ, ◌≤◌, Bool, true, false, List, length, Some, Result, Ok, Err, refl, sym, ap, ◌∙◌}
 use Rattle.std.specs.Prelude.{codes, nat_lt, not, ◌&&◌, if◌then◌else◌}
-use Rattle.jxlm_transform.specs.Steps.{steps_in}
 use Rattle.std.proofs.lemmas.Bool.{ltb-false}
-use Rattle.std.proofs.lemmas.List.{append-nil}
 use Rattle.jxlm_base.specs.Fault.{Fault, BadProfile, NoGlobalTree, UnlessNoMemory}
 use Rattle.jxlm_base.specs.Grammar.{IsRefused}
 use Rattle.jxlm_transform.specs.Channels.{ChannelList}
-use Rattle.jxlm_transform.specs.ChannelSteps.{CodedList, Step, coded_list, listed_steps}
-use Rattle.jxlm_transform.specs.Transforms.{Transform}
+use Rattle.jxlm_transform.specs.ChannelSteps.{CodedList, coded_list}
+use Rattle.jxlm_transform.specs.Transforms.{Transform, OfRct, OfPalette, OfSqueeze, HasChannels, IsTransform}
+use Rattle.std.specs.List.{All}
+use Rattle.std.proofs.lemmas.List.Elements.{All-weaker}
 use Rattle.jxlm_transform.proofs.Refusals.{unless_so}
 use Rattle.jxlm_header.specs.Header.{Header, header}
 use Rattle.jxlm_header.specs.Opening.{Opening, checked, conditions, resolved, opening}
 
--- the steps of one transform more
-pub steps_further : (ts : List Transform) (t : Transform) → steps_in (ts ++ t ∷ []) ≡ steps_in ts ++ listed_steps t
-steps_further [] t = append-nil (listed_steps t)
-steps_further (u ∷ ts) t = ap (λ (ss : List Step). listed_steps u ++ ss) (steps_further ts t) ∙ sym (append_assoc (listed_steps u) (steps_in ts) (listed_steps t))
+-- palettes that were read have channels
+has_channels : (t : Transform) → IsTransform t → HasChannels t
+has_channels (OfRct t) is = tt
+has_channels (OfPalette t) is = is.some_channels
+has_channels (OfSqueeze steps) is = tt
+
+pub have_channels : (ts : List Transform) → All IsTransform ts → All HasChannels ts
+have_channels ts are = All-weaker IsTransform HasChannels has_channels ts are
 
 abbrev first_of_two : Bool → Bool → Fault → Fault → Result (Unit {0}) Fault
 first_of_two a b e f = if a then Err e else if b then Err f else Ok tt

@@ -1,6 +1,6 @@
 -- What comes before an image's tree, and the order of its checks (ISO/IEC 18181-1, Modular: header and conditions).
 use Rattle.std.specs.Prelude.{◌≡◌, ◌+◌, ◌^◌, nat_lt, min, sum_by, List, length, codes, Bool, ℕ, not, ◌&&◌, if◌then◌else◌, Result, Ok, Err}
-use Rattle.jxlm_base.specs.Fault.{Fault, BadProfile, NoGlobalTree, UnlessNoMemory, fault_of}
+use Rattle.jxlm_base.specs.Fault.{Fault, BadProfile, NoGlobalTree, fault_of}
 use Rattle.jxlm_base.specs.Grammar.{Grammar, IsExact, give, refuse}
 use Rattle.jxlm_base.specs.Grammar as fields
 use Rattle.jxlm_base.specs.declared.error.Error.{Error}
@@ -8,7 +8,6 @@ use Rattle.jxlm_transform.specs.Steps.{steps_in}
 use Rattle.jxlm_tree.specs.declared.predictor.WpHeader.{WpHeader}
 use Rattle.jxlm_transform.specs.Channels.{Channel, ChannelList, area, list_of}
 use Rattle.jxlm_transform.specs.ChannelSteps.{CodedList, coded_list, ◌>>=◌}
-use Rattle.jxlm_transform.specs.Transforms.{Transform}
 use Rattle.jxlm_transform.specs.declared.channels.ModularChannels.{ModularChannels}
 use Rattle.jxlm_header.specs.Header.{Header, header, header_of}
 use Rattle.jxlm_header.specs.declared.header.ModularHeader.{ModularHeader}
@@ -39,12 +38,6 @@ resolved has_global list header =
 -- the whole header, and then what it comes to
 abbrev pub opening : Bool → ChannelList → Grammar Opening
 opening has_global list = fields.◌>>=◌ header λ header. checked (resolved has_global list header)
-
--- What a call that applies transforms in order returned, the transforms after it, which then list their steps, and
--- the list after it.
-abbrev pub PrepareGives : List Transform → ChannelList → Result (Unit {0}) Error → List Transform → ChannelList → Type 0
-PrepareGives ts l (Ok u) listed m = coded_list ts l ≡ Ok (record { steps = steps_in listed; list = m })
-PrepareGives ts l (Err e) listed m = UnlessNoMemory (fault_of e) (coded_list ts l ≡ Err (fault_of e))
 
 -- what a call that checks the conditions returned
 abbrev pub CheckGives : Result (Unit {0}) Fault → Result (Unit {0}) Error → Type 0

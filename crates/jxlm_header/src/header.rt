@@ -1,17 +1,14 @@
 //! The header of a Modular image (ISO/IEC 18181-1, Modular: Modular header).
 
-ghost use Rattle.std.specs.Prelude.{◌≡◌, IfOk, length, map};
+ghost use Rattle.std.specs.Prelude.{◌≡◌, IfOk, map};
 ghost use Rattle.std.specs.List.{All};
 ghost use Rattle.jxlm_base.specs.Bits.{bytes_of, position_of};
 ghost use Rattle.jxlm_base.specs.Grammar.{repeated};
-ghost use Rattle.jxlm_transform.specs.Channels.{HasItsMeta, list_of};
 ghost use Rattle.jxlm_transform.specs.Transforms.{IsTransform, KeepsWeights, Parses, transform, transform_of};
-ghost use Rattle.jxlm_header.specs.Opening.{PrepareGives};
 
 use jxlm_base::bits::{Bitstream, U32Spec};
 use jxlm_base::error::Result;
 use jxlm_base::grid::OutOfMemory;
-use jxlm_transform::channels::ModularChannels;
 use jxlm_transform::transform::TransformInfo;
 use jxlm_tree::predictor::WpHeader;
 use std::alloc::Global;
@@ -76,27 +73,4 @@ impl ModularHeader {
             transform,
         })
     }
-}
-
-/// Applies transforms that were read to the channels of an image, in order, up to the first that has
-/// an error. Each then lists its steps.
-///
-/// # Errors
-///
-/// That of the first transform that has one, or out of memory, at any time. After an error nothing is
-/// promised of the transforms and the list.
-pub fn prepare_transforms(
-    alloc: Global,
-    transforms: &mut Vec<TransformInfo>,
-    channels: &mut ModularChannels,
-) -> Result<()>
-    requires ranges { All IsTransform (map transform_of transforms.old.items) }
-    requires meta { HasItsMeta (list_of channels.old) }
-    ensures gives { PrepareGives (map transform_of transforms.old.items) (list_of channels.old) result (map transform_of transforms.new.items) (list_of channels.new) }
-    ensures count { IfOk result (λ _. length transforms.new.items ≡ length transforms.old.items) }
-{
-    for transform in transforms.iter_mut() {
-        transform.prepare_transform_info(alloc, channels)?;
-    }
-    Ok(())
 }

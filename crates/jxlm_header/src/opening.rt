@@ -1,21 +1,14 @@
-//! What comes before an image's tree: the header, applied to the channels, and its conditions.
+//! The conditions on a header and the channels that it leaves, and the limits of the tree after it.
 
-ghost use Rattle.std.specs.Prelude.{◌≡◌, ◌+◌, ◌*◌, ◌^◌, ◌≤◌, length, min, sum_by, Ok, IfOk};
-ghost use Rattle.std.specs.List.{All};
-ghost use Rattle.jxlm_base.specs.Bits.{bytes_of, position_of};
-ghost use Rattle.jxlm_transform.specs.Channels.{HasItsMeta, IsNarrow, list_of};
-ghost use Rattle.jxlm_transform.specs.ChannelSteps.{list_after_all};
-ghost use Rattle.jxlm_transform.specs.Steps.{HasChannels, HasNarrowTables, HasWeights, steps_in};
-ghost use Rattle.jxlm_transform.specs.Transforms.{Parses};
-ghost use Rattle.jxlm_tree.specs.SelfCorrecting.{IsHeader};
+ghost use Rattle.std.specs.Prelude.{◌≡◌, ◌+◌, ◌*◌, ◌^◌, min, sum_by};
+ghost use Rattle.jxlm_transform.specs.Channels.{list_of};
 ghost use Rattle.jxlm_header.specs.Header.{header_of};
-ghost use Rattle.jxlm_header.specs.Opening.{CheckGives, conditions, opening, opening_of};
+ghost use Rattle.jxlm_header.specs.Opening.{CheckGives, conditions};
 
-use crate::header::{ModularHeader, prepare_transforms};
-use jxlm_base::bits::{Bitstream, BitstreamError};
+use crate::header::ModularHeader;
+use jxlm_base::bits::BitstreamError;
 use jxlm_base::error::{Error, Result};
 use jxlm_transform::channels::{ModularChannelInfo, ModularChannels};
-use std::alloc::Global;
 
 /// The maximum number of coded channels.
 const MAX_CODED_CHANNELS: usize = 65536;
@@ -40,7 +33,11 @@ pub fn node_limit(channels: &[ModularChannelInfo]) -> usize
 
 /// The conditions on a header and its coded channels, in order: at most 65536 channels are coded, and
 /// a global tree that is asked for is there.
-fn check(header: &ModularHeader, channels: &ModularChannels, has_global: bool) -> Result<()>
+///
+/// # Errors
+///
+/// `ProfileConformance` for more channels; `GlobalMaTreeNotAvailable` where there is no such tree.
+pub fn check(header: &ModularHeader, channels: &ModularChannels, has_global: bool) -> Result<()>
     ensures { CheckGives (conditions has_global (header_of header.now) (list_of channels.now)) result }
 {
     if channels.info.len() > MAX_CODED_CHANNELS {
@@ -51,35 +48,4 @@ fn check(header: &ModularHeader, channels: &ModularChannels, has_global: bool) -
         return Err(Error::GlobalMaTreeNotAvailable);
     }
     Ok(())
-}
-
-/// Reads what comes before a tree: the header, whose transforms are applied to these channels, none of which has a side
-/// above 2^30, and whose conditions come after them.
-///
-/// # Errors
-///
-/// That of the header, of the first transform that does not suit the channels, or of the first
-/// condition that does not hold; out of memory may come at any time.
-pub fn open(
-    alloc: Global,
-    bits: &mut Bitstream<'_>,
-    mut channels: ModularChannels,
-    has_global: bool,
-) -> Result<(ModularHeader, ModularChannels)>
-    requires narrow { All IsNarrow (list_of channels).channels }
-    requires meta { HasItsMeta (list_of channels) }
-    ensures gives { Parses opening_of result (position_of bits.new) ((opening has_global (list_of channels)).read (bytes_of bits.old) (position_of bits.old)) }
-    ensures narrow { IfOk result (λ o. All IsNarrow (list_of o.1).channels) }
-    ensures few { IfOk result (λ o. length o.1.info.items ≤ 65536) }
-    ensures weights { IfOk result (λ o. IsHeader o.0.wp_params) }
-    ensures list { IfOk result (λ o. list_after_all (steps_in (header_of o.0).transform) (list_of channels) ≡ Ok (list_of o.1)) }
-    ensures steps { IfOk result (λ o. All HasChannels (steps_in (header_of o.0).transform)) }
-    ensures palettes { IfOk result (λ o. All (HasWeights o.0.wp_params) (steps_in (header_of o.0).transform)) }
-    ensures tables { IfOk result (λ o. HasNarrowTables (steps_in (header_of o.0).transform)) }
-    ensures bytes { bytes_of bits.new ≡ bytes_of bits.old }
-{
-    let mut header = ModularHeader::parse(alloc, bits)?;
-    prepare_transforms(alloc, &mut header.transform, &mut channels)?;
-    check(&header, &channels, has_global)?;
-    Ok((header, channels))
 }

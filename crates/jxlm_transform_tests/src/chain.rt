@@ -7,8 +7,9 @@ use jxlm_base::error::Error;
 use jxlm_base::grid::{AlignedGrid, OutOfMemory, Region};
 use jxlm_base::sample::Sample;
 use jxlm_chain::grid::TransformedGrid;
+use jxlm_chain::placed::PlacedChannels;
 use jxlm_chain::scratch::Scratch;
-use jxlm_chain::undo::{Plan, Undoing, undo_all};
+use jxlm_chain::undo::{Undoing, undo_all};
 use jxlm_transform::channels::ModularChannelInfo;
 use jxlm_transform::param::ChannelShift;
 use jxlm_transform::transform::{Palette, TransformInfo};
@@ -111,10 +112,10 @@ fn show(grid: &TransformedGrid, text: &mut String) -> Result<(), Fail> {
     Ok(())
 }
 
-// The channels of a plan's palettes, as text.
-fn palettes(alloc: Global, plan: &Plan) -> Result<String, Fail> {
+// The channels of palettes, as text.
+fn palettes(alloc: Global, undoings: &[Undoing]) -> Result<String, Fail> {
     let mut text = String::new(alloc);
-    for undoing in &plan.undoings {
+    for undoing in undoings {
         if let Undoing::Palette { index, .. } = undoing {
             show(index, &mut text)?;
             text.push(' ')?;
@@ -124,13 +125,14 @@ fn palettes(alloc: Global, plan: &Plan) -> Result<String, Fail> {
 }
 
 #[test]
-fn a_plan_holds_merged_channels(rt: HostRuntime) -> Result<(), Fail> {
-    let transforms = [
+fn undoings_hold_merged_channels(rt: HostRuntime) -> Result<(), Fail> {
+    let mut listed = vec![in rt.alloc();
         TransformInfo::Palette(TWO),
         TransformInfo::Palette(NEXT_TWO),
-    ];
-    let plan = Plan::new(rt.alloc(), &transforms, &[POINT, POINT, POINT])?;
-    let text = palettes(rt.alloc(), &plan)?;
+    ]?;
+    let mut placed = PlacedChannels::whole(rt.alloc(), &[POINT, POINT, POINT])?;
+    placed.apply(rt.alloc(), &mut listed)?;
+    let text = palettes(rt.alloc(), &placed.undoings)?;
     assert_eq!(rt; text.as_str(), "0(0;1;) 0(0(0;1;);2;) ");
     Ok(())
 }

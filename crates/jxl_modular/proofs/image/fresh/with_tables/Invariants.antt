@@ -1,7 +1,7 @@
-use Rattle.std.proofs.Common.{◌≡◌, ◌++◌, pos}
+use Rattle.std.proofs.Common.{◌≡◌, ◌++◌, take, pos}
+use Rattle.jxlm_chain.specs.Placed.{sides_in}
 use Rattle.jxl_modular.specs.Fresh.{zeros}
-use Rattle.jxl_modular.proofs.FreshLaws.{tables_until}
 use Rattle.jxl_modular.proofs.image.fresh.with_tables.Given as goal
 
-abbrev pub invariant-loop-transform : goal.invariant-loop-transform
-invariant-loop-transform g l = l.grids.items ≡ l.fn.grids.items ++ zeros (g.S.Sealed.from_int (pos 0)) (tables_until l.transform-index l.transforms)
+abbrev pub invariant-loop-table : goal.invariant-loop-table
+invariant-loop-table g l = l.grids.items ≡ l.fn.grids.items ++ zeros (g.S.Sealed.from_int (pos 0)) (sides_in (take l.table-index l.tables))

@@ -1,4 +1,4 @@
-use Rattle.std.proofs.Common.{arith, sym, ◌≡◌, ◌+◌, ◌^◌, ◌<◌, min, pos, List, length, sum_by, false, rules, Err, Ok, ap, ◌∙◌, subst}
+use Rattle.std.proofs.Common.{arith, sym, ◌≡◌, ◌+◌, ◌^◌, ◌<◌, min, pos, List, [], length, map, sum_by, false, rules, Err, Ok, ap, ◌∙◌, subst}
 use Rattle.jxlm_base.specs.Bits.{bytes_of, position_of}
 use Rattle.jxlm_transform.specs.declared.channels.ModularChannels.{ModularChannels}
 use Rattle.jxlm_tree.specs.TreeReading.{TreeGives, IsTreeAt}
@@ -9,6 +9,9 @@ use Rattle.jxl_modular.proofs.ParsingLaws.{image_stands, same_list, tree_refused
 use Rattle.jxl_modular.proofs.root.Modular.parse.Goals as goal
 use Rattle.jxlm_base.specs.Fault.{fault_of}
 use Rattle.jxlm_transform.specs.Channels.{Channel, IsNarrow, area, image_list, list_of}
+use Rattle.jxlm_chain.specs.Layout.{first_layout}
+use Rattle.jxlm_chain.specs.Placed.{IsPlacedBy}
+use Rattle.jxlm_chain.proofs.PlacedSteps.{placed_by}
 use Rattle.jxlm_transform.specs.declared.param.ModularChannelParams.{ModularChannelParams}
 use Rattle.jxlm_transform.proofs.SideBounds.{narrow_image}
 use Rattle.jxl_modular.specs.Fresh.{fresh}
@@ -19,15 +22,20 @@ pub open-requires-clause-narrow : goal.open-requires-clause-narrow
 open-requires-clause-narrow g c =
     let ps = c.args.params.channels.items in
     let given : list_of c.in_ok-given.given ≡ image_list ps = c.in_ok-given.ensures.ok ∙ ap (λ (cs : List ModularChannelParams). image_list cs) c.deref.ensures.value in
-    let list : list_of c.in_ok-list.list ≡ image_list ps = c.in_ok-list.ensures.ok ∙ same_list c.deref-2.result.now c.in_ok-given.given ps c.deref-2.ensures.value given in
+    let list : list_of c.in_ok-start.start.channels ≡ image_list ps = c.in_ok-start.ensures.list ∙ same_list c.deref-2.result.now c.in_ok-given.given ps c.deref-2.ensures.value given in
     subst (λ l. All IsNarrow l.channels) (sym list) (narrow_image ps c.requires.valid.channels)
 
 pub new-requires-2-clause-list : goal.new-requires-2-clause-list
 new-requires-2-clause-list g c κs within =
     let ps = c.args.params.channels.items in
     let given : list_of c.in_ok-given.given ≡ image_list ps = c.in_ok-given.ensures.ok ∙ ap (λ (cs : List ModularChannelParams). image_list cs) c.deref.ensures.value in
-    let list : list_of c.in_ok-list.list ≡ image_list ps = c.in_ok-list.ensures.ok ∙ same_list c.deref-2.result.now c.in_ok-given.given ps c.deref-2.ensures.value given in
+    let list : list_of c.in_ok-start.start.channels ≡ image_list ps = c.in_ok-start.ensures.list ∙ same_list c.deref-2.result.now c.in_ok-given.given ps c.deref-2.ensures.value given in
     rw (list ∙ sym given) at c.in_ok-header.ensures.list
+
+pub new-requires-2-clause-placed : goal.new-requires-2-clause-placed
+new-requires-2-clause-placed g c κs within =
+    let by = subst (λ (is : List Channel). IsPlacedBy [] (first_layout is) c.in_ok-start.start) c.deref-2.ensures.value c.in_ok-start.ensures.by in
+    placed_by _ _ c.in_ok-start.start c.in_ok-header.placed by c.in_ok-header.ensures.goes
 
 pub new-requires-2-clause-narrow_given : goal.new-requires-2-clause-narrow_given
 new-requires-2-clause-narrow_given g c κs within =
@@ -57,14 +65,14 @@ returns-in_err-ma_ctx-clause-gives g c =
     let p = position_of c.args.bits.now in
     let params = c.args.params in
     let ps = params.channels.items in
-    let o : ModularHeader × ModularChannels = (c.in_ok-header.header, c.in_ok-header.channels) in
+    let o : ModularHeader × ModularChannels = (c.in_ok-header.header, c.in_ok-header.placed.channels) in
     let m = position_of c.open.new.bits in
     let limit = c.node_limit.result in
     let no_global : c.is_some-has_global.result ≡ false = search rules in
     let counted_some : 0 < params.channels.len = not_zero params.channels.len (sym c.is_empty.ensures ∙ c.if-is_empty.false) in
     let some : 0 < length ps = omega (arith, counted_some, params.channels.ok.0) in
     let given : list_of c.in_ok-given.given ≡ image_list ps = c.in_ok-given.ensures.ok ∙ ap (λ (cs : List ModularChannelParams). image_list cs) c.deref.ensures.value in
-    let list : list_of c.in_ok-list.list ≡ image_list ps = c.in_ok-list.ensures.ok ∙ same_list c.deref-2.result.now c.in_ok-given.given ps c.deref-2.ensures.value given in
+    let list : list_of c.in_ok-start.start.channels ≡ image_list ps = c.in_ok-start.ensures.list ∙ same_list c.deref-2.result.now c.in_ok-given.given ps c.deref-2.ensures.value given in
     let opens : opened bytes (image_list ps) p ≡ Ok (record { value = opening_of o; position = m }) = rw (no_global, list) at c.in_ok-header.ensures.gives in
     let counted : limit ≡ min (1024 + sum_by (λ c. c.width * c.height) o.1.info.items) (2 ^ 20) = c.node_limit.ensures ∙ ap (λ (xs : List ModularChannelInfo). min (1024 + sum_by (λ c. c.width * c.height) xs) (2 ^ 20)) c.deref-3.ensures.value in
     let e = c.in_err-ma_ctx.field-0.0 in
@@ -81,14 +89,14 @@ returns-clause-gives g c =
     let p = position_of c.args.bits.now in
     let params = c.args.params in
     let ps = params.channels.items in
-    let o : ModularHeader × ModularChannels = (c.in_ok-header.header, c.in_ok-header.channels) in
+    let o : ModularHeader × ModularChannels = (c.in_ok-header.header, c.in_ok-header.placed.channels) in
     let m = position_of c.open.new.bits in
     let limit = c.node_limit.result in
     let no_global : c.is_some-has_global.result ≡ false = search rules in
     let counted_some : 0 < params.channels.len = not_zero params.channels.len (sym c.is_empty.ensures ∙ c.if-is_empty.false) in
     let some : 0 < length ps = omega (arith, counted_some, params.channels.ok.0) in
     let given : list_of c.in_ok-given.given ≡ image_list ps = c.in_ok-given.ensures.ok ∙ ap (λ (cs : List ModularChannelParams). image_list cs) c.deref.ensures.value in
-    let list : list_of c.in_ok-list.list ≡ image_list ps = c.in_ok-list.ensures.ok ∙ same_list c.deref-2.result.now c.in_ok-given.given ps c.deref-2.ensures.value given in
+    let list : list_of c.in_ok-start.start.channels ≡ image_list ps = c.in_ok-start.ensures.list ∙ same_list c.deref-2.result.now c.in_ok-given.given ps c.deref-2.ensures.value given in
     let opens : opened bytes (image_list ps) p ≡ Ok (record { value = opening_of o; position = m }) = rw (no_global, list) at c.in_ok-header.ensures.gives in
     let counted : limit ≡ min (1024 + sum_by (λ c. c.width * c.height) o.1.info.items) (2 ^ 20) = c.node_limit.ensures ∙ ap (λ (xs : List ModularChannelInfo). min (1024 + sum_by (λ c. c.width * c.height) xs) (2 ^ 20)) c.deref-3.ensures.value in
     let q = position_of c.parse.new.bits in

@@ -1,24 +1,25 @@
 -- Transforms that are applied one after another, as a loop does that writes them.
-use Rattle.std.proofs.Common.{◌≡◌, ℕ, ◌+◌, ◌<◌, ◌≤◌, List, [], ◌∷◌, ◌++◌, length, map, take, drop, get_or, set, Result, Ok, Err, refl, sym, ap, ◌∙◌, arith}
+use Rattle.std.proofs.Common.{◌≡◌, ℕ, ◌+◌, ◌<◌, ◌≤◌, List, [], ◌∷◌, ◌++◌, length, map, take, drop, get_or, set, Result, Ok, Err, refl, sym, ap, ◌∙◌, append_assoc, subst, arith}
 use Rattle.std.specs.List.{All}
 use Rattle.std.proofs.lemmas.List.{append-nil, drop_all, drop_more, map_push, take_all, take_more_set}
 use Rattle.std.proofs.lemmas.List.Elements.{All-head, All-tail}
 use lib.Seq.{drop-set-lt}
 use Rattle.jxlm_base.specs.Fault.{Fault, UnlessNoMemory}
 use Rattle.jxlm_transform.specs.Channels.{ChannelList}
-use Rattle.jxlm_transform.specs.ChannelSteps.{CodedList, coded_list, list_after_all, listed_steps, steps_of, ◌>>=◌}
-use Rattle.jxlm_transform.specs.Transforms.{Transform, OfRct, OfPalette, OfSqueeze, HasChannels, IsTransform, transform_of}
+use Rattle.jxlm_transform.specs.ChannelSteps.{CodedList, Step, coded_list, list_after_all, listed_steps, steps_of, ◌>>=◌}
+use Rattle.jxlm_transform.specs.Transforms.{Transform, HasChannels, transform_of}
 use Rattle.jxlm_transform.specs.declared.transform.TransformInfo.{TransformInfo}
 use Rattle.jxlm_transform.proofs.CodedLists.{with_steps, all_applied, transform_applied, transform_refused}
 use Rattle.jxlm_transform.proofs.Refusals.{unless_so}
 use Rattle.jxlm_transform.specs.Steps.{steps_in}
-use Rattle.jxlm_header.proofs.OpeningLaws.{steps_further}
+use Rattle.jxlm_chain.specs.Placed.{GoesOn}
+use Rattle.jxlm_chain.specs.declared.placed.PlacedChannels.{PlacedChannels}
+use Rattle.jxlm_chain.proofs.PlacedSteps.{goes_both}
 
--- a palette that was read has a channel
-pub has_channels : (t : Transform) → IsTransform t → HasChannels t
-has_channels (OfRct t) is = tt
-has_channels (OfPalette t) is = is.some_channels
-has_channels (OfSqueeze steps) is = tt
+-- the steps of one transform more
+pub steps_further : (ts : List Transform) (t : Transform) → steps_in (ts ++ t ∷ []) ≡ steps_in ts ++ listed_steps t
+steps_further [] t = append-nil (listed_steps t)
+steps_further (u ∷ ts) t = ap (λ (ss : List Step). listed_steps u ++ ss) (steps_further ts t) ∙ sym (append_assoc (listed_steps u) (steps_in ts) (listed_steps t))
 
 -- the transforms after the first i
 abbrev pub left : ℕ → List TransformInfo → List Transform
@@ -37,12 +38,12 @@ left_behind ts i u = ap (map transform_of) (drop-set-lt (i + 1) ts i u (omega ar
 pub one_done : (ts : List TransformInfo) (i : ℕ) (u : TransformInfo) → i < length ts → done (i + 1) (set ts i u) ≡ done i ts ++ transform_of u ∷ []
 one_done ts i u lt = ap (map transform_of) (take_more_set ts i u lt) ∙ map_push transform_of (take i ts) u
 
--- those that are left have the ranges of a header
-pub first_is : (ts : List TransformInfo) (i : ℕ) (d : TransformInfo) → i < length ts → All IsTransform (left i ts) → IsTransform (transform_of (get_or ts i d))
-first_is ts i d lt are = All-head IsTransform (transform_of (get_or ts i d)) (left (i + 1) ts) (rw (first_left ts i d lt) at are)
+-- the palettes among those that are left have channels
+pub first_is : (ts : List TransformInfo) (i : ℕ) (d : TransformInfo) → i < length ts → All HasChannels (left i ts) → HasChannels (transform_of (get_or ts i d))
+first_is ts i d lt are = All-head HasChannels (transform_of (get_or ts i d)) (left (i + 1) ts) (rw (first_left ts i d lt) at are)
 
-pub others_are : (ts : List TransformInfo) (i : ℕ) (d u : TransformInfo) → i < length ts → All IsTransform (left i ts) → All IsTransform (left (i + 1) (set ts i u))
-others_are ts i d u lt are = rw (left_behind ts i u) (All-tail IsTransform (transform_of (get_or ts i d)) (left (i + 1) ts) (rw (first_left ts i d lt) at are))
+pub others_are : (ts : List TransformInfo) (i : ℕ) (d u : TransformInfo) → i < length ts → All HasChannels (left i ts) → All HasChannels (left (i + 1) (set ts i u))
+others_are ts i d u lt are = rw (left_behind ts i u) (All-tail HasChannels (transform_of (get_or ts i d)) (left (i + 1) ts) (rw (first_left ts i d lt) at are))
 
 -- what the transforms that are done and those that are left come to
 abbrev pub come_to : ℕ → List TransformInfo → ChannelList → Result CodedList Fault
@@ -83,3 +84,13 @@ pub written_back : {X : Type 0} (xs ys : List X) (n : ℕ) → length xs ≡ len
 written_back xs ys n same long =
     let none : drop (length xs) ys ≡ [] = drop_all (length xs) ys (omega (arith, same)) in
     ap (λ rest. take n (xs ++ rest)) none ∙ ap (take n) (append-nil xs) ∙ take_all n xs (omega (arith, same, long))
+
+-- and what they go on by
+pub goes_further : (ts : List TransformInfo) (i : ℕ) (u : TransformInfo) (p q r : PlacedChannels) → i < length ts → GoesOn (steps_in (done i ts)) p q → GoesOn (listed_steps (transform_of u)) q r →
+    GoesOn (steps_in (done (i + 1) (set ts i u))) p r
+goes_further ts i u p q r lt h k =
+    let e : steps_in (done (i + 1) (set ts i u)) ≡ steps_in (done i ts) ++ listed_steps (transform_of u) = ap steps_in (one_done ts i u lt) ∙ steps_further (done i ts) (transform_of u) in
+    subst (λ (ss : List Step). GoesOn ss p r) (sym e) (goes_both (steps_in (done i ts)) (listed_steps (transform_of u)) p q r h k)
+
+pub all_gone : (ts us : List TransformInfo) (i : ℕ) (p q : PlacedChannels) → length ts ≤ i → us ≡ ts → GoesOn (steps_in (done i ts)) p q → GoesOn (steps_in (map transform_of us)) p q
+all_gone ts us i p q le same h = subst (λ (xs : List TransformInfo). GoesOn (steps_in (map transform_of xs)) p q) (take_all i ts le ∙ sym same) h

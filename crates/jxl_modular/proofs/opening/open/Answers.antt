@@ -1,0 +1,85 @@
+use Rattle.std.proofs.Common.{◌≡◌, map, refl, Ok}
+use Rattle.std.proofs.lemmas.Result.{err_from_is_err_and}
+use Rattle.jxlm_base.specs.Bits.{bytes_of, position_of}
+use Rattle.jxlm_base.specs.Fault.{fault_of}
+use Rattle.jxlm_transform.proofs.Refusals.{unless_no_memory}
+use Rattle.jxlm_transform.proofs.SideBounds.{narrow_coded}
+use Rattle.jxlm_transform.specs.Channels.{list_of}
+use Rattle.jxlm_transform.specs.ChannelSteps.{CodedList, coded_list}
+use Rattle.jxlm_transform.specs.Transforms.{transform_of}
+use Rattle.jxlm_transform.proofs.StepLaws.{narrow_tables, steps_channels, steps_list, steps_weights}
+use Rattle.jxlm_header.specs.Header.{header_of}
+use Rattle.jxlm_transform.specs.Steps.{steps_in}
+use Rattle.jxlm_header.proofs.OpeningLaws.{condition_fails, have_channels, header_refused, is_opened}
+use Rattle.jxl_modular.proofs.opening.open.Goals as goal
+
+pub apply-requires-clause-some_channels : goal.apply-requires-clause-some_channels
+apply-requires-clause-some_channels c = have_channels _ c.in_ok-header.ensures.ranges.transforms
+
+pub returns-in_err-header-clause-gives : goal.returns-in_err-header-clause-gives
+returns-in_err-header-clause-gives c =
+    let p = err_from_is_err_and c.from_residual.result c.from_residual.ensures.1 in
+    rw (p.1, p.2)
+    (header_refused c.args.has_global (list_of c.args.placed.channels) (bytes_of c.args.bits.now) (position_of c.args.bits.now) (fault_of c.in_err-header.field-0.0) (position_of c.parse.new.bits) c.in_err-header.ensures.gives)
+
+pub returns-in_err-check-clause-gives : goal.returns-in_err-check-clause-gives
+returns-in_err-check-clause-gives c =
+    let p = err_from_is_err_and c.from_residual-in_err-check.result c.from_residual-in_err-check.ensures.1 in
+    let h = header_of c.in_ok-header.header in
+    let ts = c.apply.new.transforms.items in
+    let k = record h { transform = map transform_of ts } in
+    let coded : CodedList = record { steps = steps_in (map transform_of ts); list = list_of c.apply.new.self.channels } in
+    let found : coded_list h.transform (list_of c.args.placed.channels) ≡ Ok coded = c.in_ok-apply.ensures.gives in
+    let fault = fault_of c.in_err-check.field-0.0 in
+    let refused = condition_fails c.args.has_global (list_of c.args.placed.channels) (bytes_of c.args.bits.now) (position_of c.args.bits.now) h (position_of c.parse.new.bits) c.in_ok-header.ensures.gives coded found k fault refl
+    c.in_err-check.ensures in
+    rw (p.1, p.2) (unless_no_memory fault _ refused)
+
+pub returns-clause-gives : goal.returns-clause-gives
+returns-clause-gives c =
+    let h = header_of c.in_ok-header.header in
+    let ts = c.apply.new.transforms.items in
+    let k = record h { transform = map transform_of ts } in
+    let coded : CodedList = record { steps = steps_in (map transform_of ts); list = list_of c.apply.new.self.channels } in
+    let found : coded_list h.transform (list_of c.args.placed.channels) ≡ Ok coded = c.in_ok-apply.ensures.gives in
+    is_opened c.args.has_global (list_of c.args.placed.channels) (bytes_of c.args.bits.now) (position_of c.args.bits.now) h (position_of c.parse.new.bits) c.in_ok-header.ensures.gives coded found k refl c.in_ok-check.ensures
+
+pub returns-clause-narrow : goal.returns-clause-narrow
+returns-clause-narrow c =
+    let h = header_of c.in_ok-header.header in
+    let ts = c.apply.new.transforms.items in
+    let coded : CodedList = record { steps = steps_in (map transform_of ts); list = list_of c.apply.new.self.channels } in
+    let found : coded_list h.transform (list_of c.args.placed.channels) ≡ Ok coded = c.in_ok-apply.ensures.gives in
+    narrow_coded h.transform (list_of c.args.placed.channels) coded c.in_ok-header.ensures.ranges.transforms c.requires.narrow found
+
+pub returns-clause-list : goal.returns-clause-list
+returns-clause-list c =
+    let h = header_of c.in_ok-header.header in
+    let ts = c.apply.new.transforms.items in
+    let coded : CodedList = record { steps = steps_in (map transform_of ts); list = list_of c.apply.new.self.channels } in
+    let found : coded_list h.transform (list_of c.args.placed.channels) ≡ Ok coded = c.in_ok-apply.ensures.gives in
+    steps_list h.transform (list_of c.args.placed.channels) coded found
+
+pub returns-clause-steps : goal.returns-clause-steps
+returns-clause-steps c =
+    let h = header_of c.in_ok-header.header in
+    let ts = c.apply.new.transforms.items in
+    let coded : CodedList = record { steps = steps_in (map transform_of ts); list = list_of c.apply.new.self.channels } in
+    let found : coded_list h.transform (list_of c.args.placed.channels) ≡ Ok coded = c.in_ok-apply.ensures.gives in
+    steps_channels h.transform (list_of c.args.placed.channels) coded c.in_ok-header.ensures.ranges.transforms found
+
+pub returns-clause-palettes : goal.returns-clause-palettes
+returns-clause-palettes c =
+    let h = header_of c.in_ok-header.header in
+    let ts = c.apply.new.transforms.items in
+    let coded : CodedList = record { steps = steps_in (map transform_of ts); list = list_of c.apply.new.self.channels } in
+    let found : coded_list h.transform (list_of c.args.placed.channels) ≡ Ok coded = c.in_ok-apply.ensures.gives in
+    steps_weights h.wp_params h.transform (list_of c.args.placed.channels) coded c.in_ok-header.ensures.ranges.palettes found
+
+pub returns-clause-tables : goal.returns-clause-tables
+returns-clause-tables c =
+    let h = header_of c.in_ok-header.header in
+    let ts = c.apply.new.transforms.items in
+    let coded : CodedList = record { steps = steps_in (map transform_of ts); list = list_of c.apply.new.self.channels } in
+    let found : coded_list h.transform (list_of c.args.placed.channels) ≡ Ok coded = c.in_ok-apply.ensures.gives in
+    narrow_tables h.transform (list_of c.args.placed.channels) coded c.in_ok-header.ensures.ranges.transforms found
