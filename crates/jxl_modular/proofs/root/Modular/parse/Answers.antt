@@ -74,7 +74,7 @@ returns-in_err-ma_ctx-clause-gives g c =
     let given : list_of c.in_ok-given.given ≡ image_list ps = c.in_ok-given.ensures.ok ∙ ap (λ (cs : List ModularChannelParams). image_list cs) c.deref.ensures.value in
     let list : list_of c.in_ok-start.start.channels ≡ image_list ps = c.in_ok-start.ensures.list ∙ same_list c.deref-2.result.now c.in_ok-given.given ps c.deref-2.ensures.value given in
     let opens : opened bytes (image_list ps) p ≡ Ok (record { value = opening_of o; position = m }) = rw (no_global, list) at c.in_ok-header.ensures.gives in
-    let counted : limit ≡ min (1024 + sum_by (λ c. c.width * c.height) o.1.info.items) (2 ^ 20) = c.node_limit.ensures ∙ ap (λ (xs : List ModularChannelInfo). min (1024 + sum_by (λ c. c.width * c.height) xs) (2 ^ 20)) c.deref-3.ensures.value in
+    let counted : limit ≡ min (1024 + sum_by area o.1.info.items) (2 ^ 20) = c.node_limit.ensures ∙ ap (λ (xs : List Channel). min (1024 + sum_by area xs) (2 ^ 20)) c.deref-3.ensures.value in
     let e = c.in_err-ma_ctx.field-0.0 in
     let q = position_of c.parse.new.bits in
     let gives : TreeGives d bytes limit depth_limit m (Err e) q = rw c.in_ok-header.ensures.bytes at c.in_err-ma_ctx.ensures.gives in
@@ -98,7 +98,7 @@ returns-clause-gives g c =
     let given : list_of c.in_ok-given.given ≡ image_list ps = c.in_ok-given.ensures.ok ∙ ap (λ (cs : List ModularChannelParams). image_list cs) c.deref.ensures.value in
     let list : list_of c.in_ok-start.start.channels ≡ image_list ps = c.in_ok-start.ensures.list ∙ same_list c.deref-2.result.now c.in_ok-given.given ps c.deref-2.ensures.value given in
     let opens : opened bytes (image_list ps) p ≡ Ok (record { value = opening_of o; position = m }) = rw (no_global, list) at c.in_ok-header.ensures.gives in
-    let counted : limit ≡ min (1024 + sum_by (λ c. c.width * c.height) o.1.info.items) (2 ^ 20) = c.node_limit.ensures ∙ ap (λ (xs : List ModularChannelInfo). min (1024 + sum_by (λ c. c.width * c.height) xs) (2 ^ 20)) c.deref-3.ensures.value in
+    let counted : limit ≡ min (1024 + sum_by area o.1.info.items) (2 ^ 20) = c.node_limit.ensures ∙ ap (λ (xs : List Channel). min (1024 + sum_by area xs) (2 ^ 20)) c.deref-3.ensures.value in
     let q = position_of c.parse.new.bits in
     let tree : IsTreeAt d bytes limit depth_limit m c.in_ok-ma_ctx.ma_ctx q = rw c.in_ok-header.ensures.bytes at c.in_ok-ma_ctx.ensures.gives in
     let is = subst (λ l. c.in_ok-image.image ≡ fresh zero l (opening_of o) c.in_ok-ma_ctx.ma_ctx params.group_dim params.bit_depth) given c.in_ok-image.ensures.ok in
