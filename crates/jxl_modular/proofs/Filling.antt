@@ -11,7 +11,7 @@ use Rattle.jxlm_base.specs.Grid.{Grid}
 use Rattle.jxlm_base.specs.declared.decoder.DecoderError.{DecoderError}
 use Rattle.jxlm_base.specs.declared.decoder.DecoderError.TheVariants.{UnexpectedEof, Invalid, OutOfMemory}
 use Rattle.jxlm_base.specs.declared.error.Error.{Error}
-use Rattle.jxlm_base.specs.declared.error.Error.TheVariants as error
+use Rattle.jxlm_base.specs.declared.error.Error.TheVariants as errors
 use Rattle.jxlm_chain.specs.Chain as chain
 use Rattle.jxlm_transform.specs.Channels.{Channel}
 use Rattle.jxlm_transform.specs.ChannelSteps.{Step}
@@ -70,16 +70,16 @@ module _ {S D : Type 0} (d : Meaning D) (w : Width) (to_int : S → ℤ) (bytes 
   module _ (mid : Image S D) (q before after : ℕ) (some : 0 < samples_in old) where
     -- decoding fails
     pub not_filled : (e : Error) → RefusesSamples d w to_int bytes stream old p mid q before after e → UnlessMemory (fault_of e) (FillFails d w to_int bytes stream old p (fault_of e) q before after)
-    not_filled error.InvalidMaTree h = absurd h
-    not_filled error.GlobalMaTreeNotAvailable h = absurd h
-    not_filled error.InvalidRctParams h = absurd h
-    not_filled error.InvalidPaletteParams h = absurd h
-    not_filled error.InvalidSqueezeParams h = absurd h
-    not_filled (error.Bitstream b) h = absurd h
-    not_filled (error.Decoder UnexpectedEof) h = let f = h true some in record { error = UnexpectedEof; tried = f.0; fails = fails_so d w (whole_part old stream) bytes old.config.decoder _ _ UnexpectedEof f.0 f.1; error_is = refl; steps = f.2 }
-    not_filled (error.Decoder (Invalid k)) h = let f = h true some in record { error = Invalid k; tried = f.0; fails = fails_so d w (whole_part old stream) bytes old.config.decoder _ _ (Invalid k) f.0 f.1; error_is = refl; steps = f.2 }
-    not_filled (error.Decoder OutOfMemory) h = tt
-    not_filled (error.Buffer m) h = tt
+    not_filled errors.InvalidMaTree h = absurd h
+    not_filled errors.GlobalMaTreeNotAvailable h = absurd h
+    not_filled errors.InvalidRctParams h = absurd h
+    not_filled errors.InvalidPaletteParams h = absurd h
+    not_filled errors.InvalidSqueezeParams h = absurd h
+    not_filled (errors.Bitstream b) h = absurd h
+    not_filled (errors.Decoder UnexpectedEof) h = let f = h true some in record { cause = UnexpectedEof; tried = f.0; fails = fails_so d w (whole_part old stream) bytes old.config.decoder _ _ UnexpectedEof f.0 f.1; cause_is = refl; steps = f.2 }
+    not_filled (errors.Decoder (Invalid k)) h = let f = h true some in record { cause = Invalid k; tried = f.0; fails = fails_so d w (whole_part old stream) bytes old.config.decoder _ _ (Invalid k) f.0 f.1; cause_is = refl; steps = f.2 }
+    not_filled (errors.Decoder OutOfMemory) h = tt
+    not_filled (errors.Buffer m) h = tt
 
     within : (e : DecoderError) → FailsAtOnePlace d w to_int bytes stream old p mid q before after e → after ≤ before + samples_in old * cost_of old
     within e h =
@@ -91,16 +91,16 @@ module _ {S D : Type 0} (d : Meaning D) (w : Width) (to_int : S → ℤ) (bytes 
 
     -- and no more steps were taken than for all samples
     pub work_within : (e : Error) → before ≤ after → RefusesSamples d w to_int bytes stream old p mid q before after e → MovesWithin before after (samples_in old * cost_of old)
-    work_within error.InvalidMaTree more h = absurd h
-    work_within error.GlobalMaTreeNotAvailable more h = absurd h
-    work_within error.InvalidRctParams more h = absurd h
-    work_within error.InvalidPaletteParams more h = absurd h
-    work_within error.InvalidSqueezeParams more h = absurd h
-    work_within (error.Bitstream b) more h = absurd h
-    work_within (error.Decoder UnexpectedEof) more h = (more, within UnexpectedEof h)
-    work_within (error.Decoder (Invalid k)) more h = (more, within (Invalid k) h)
-    work_within (error.Decoder OutOfMemory) more h = (more, let s = h.2 in omega (arith, s))
-    work_within (error.Buffer m) more h = (more, let s = h.2 in omega (arith, s))
+    work_within errors.InvalidMaTree more h = absurd h
+    work_within errors.GlobalMaTreeNotAvailable more h = absurd h
+    work_within errors.InvalidRctParams more h = absurd h
+    work_within errors.InvalidPaletteParams more h = absurd h
+    work_within errors.InvalidSqueezeParams more h = absurd h
+    work_within (errors.Bitstream b) more h = absurd h
+    work_within (errors.Decoder UnexpectedEof) more h = (more, within UnexpectedEof h)
+    work_within (errors.Decoder (Invalid k)) more h = (more, within (Invalid k) h)
+    work_within (errors.Decoder OutOfMemory) more h = (more, let s = h.2 in omega (arith, s))
+    work_within (errors.Buffer m) more h = (more, let s = h.2 in omega (arith, s))
 
 -- ---- the two calls
 

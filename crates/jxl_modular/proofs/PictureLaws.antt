@@ -115,10 +115,10 @@ module _ {S D : Type 0} (d : Meaning D) (w : Width) (to_int : S → ℤ) (bytes 
           config = read.config;
           samples_at = place;
           start = stands.start;
-          error = f.error;
+          cause = f.cause;
           tried = f.tried;
           fails = f.fails;
-          error_is = f.error_is;
+          cause_is = f.cause_is;
           steps = (more, f.steps);
         }
 

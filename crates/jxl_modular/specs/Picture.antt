@@ -48,10 +48,10 @@ module _ {D : Type 0} (d : Meaning D) (w : Width) (bytes : List ℕ) (stream : �
     pub config : Config D
     pub samples_at : ℕ
     pub start : IsStartAt d bytes given p head config samples_at
-    pub error : DecoderError
+    pub cause : DecoderError
     pub tried : ℕ
-    pub fails : DecodingFails d w (coded_part stream head config) bytes config.decoder samples_at error q tried
-    pub error_is : fault ≡ OfDecoder error
+    pub fails : DecodingFails d w (coded_part stream head config) bytes config.decoder samples_at cause q tried
+    pub cause_is : fault ≡ OfDecoder cause
     pub steps : StepsFor config.tree tried before after
 
   -- there is no picture, by the first error of header, tree or samples; it may be out of memory at any time

@@ -18,8 +18,8 @@ module _ {S D : Type 0} (d : Meaning D) (w : Width) (to_int : S → ℤ) (bytes 
 
   -- decoding the samples from position p is this error, which leaves the reader at position q
   pub record FillFails (fault : Fault) (q before after : ℕ) : Type 0 where
-    pub error : DecoderError
+    pub cause : DecoderError
     pub tried : ℕ
-    pub fails : DecodingFails d w (whole_part old stream) bytes old.config.decoder p error q tried
-    pub error_is : fault ≡ OfDecoder error
+    pub fails : DecodingFails d w (whole_part old stream) bytes old.config.decoder p cause q tried
+    pub cause_is : fault ≡ OfDecoder cause
     pub steps : after ≤ before + tried * cost_of old
