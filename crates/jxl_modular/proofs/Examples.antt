@@ -105,7 +105,7 @@ cut_samples = record {
   fails = record {
     state = three_bits Unsealed;
     coded = record { start = record { value = three_bits Unsealed; position = 68 }; begins = refl; joined = (three_bits Unsealed, 68, 2, (refl, refl), refl, refl) };
-    fault = inl (omega arith, refl, refl);
+    error = inl (omega arith, refl, refl);
   };
   rest = refl;
   fits = (record { same_width = refl; same_height = refl; full = refl }, tt);
@@ -148,7 +148,7 @@ wrongly_sealed_samples = record {
       begins = refl;
       joined = (sealed 1, 85, 0, (sealed 2, 82, 1, (sealed 6, 79, 4, (sealed 8, 76, 2, (refl, refl), refl, refl), refl, refl), refl, refl), refl, refl);
     };
-    fault = inr (refl, refl, refl);
+    error = inr (refl, refl, refl);
   };
   rest = refl;
   fits = (record { same_width = refl; same_height = refl; full = refl }, tt);

@@ -6,7 +6,7 @@ use Rattle.std.specs.Int.{Width}
 use Rattle.std.specs.Prelude.{Result}
 use Rattle.std.specs.Result.{OnOk}
 use Rattle.jxlm_base.specs.Decoding.{Meaning}
-use Rattle.jxlm_base.specs.Fault.{UnlessMemory, fault_of}
+use Rattle.jxlm_base.specs.ErrorKind.{UnlessMemory, kind_of}
 use Rattle.jxlm_base.specs.Grid.{Grid}
 use Rattle.jxlm_base.specs.declared.decoder.DecoderError.{DecoderError}
 use Rattle.jxlm_base.specs.declared.decoder.DecoderError.TheVariants.{UnexpectedEof, Invalid, OutOfMemory}
@@ -21,14 +21,14 @@ use Rattle.jxl_modular.specs.Inner.Filled.{IsFilled, FillFails}
 use Rattle.jxl_modular.specs.Image.{Image, IsOnlyImage, coded_grids, cost_of, image_grids, samples_in, whole_part}
 use Rattle.jxlm_part.specs.Part.{Part, cell_count}
 use Rattle.jxl_modular.specs.SameButSamples.{SameButCells, SameButSamples}
-use Rattle.jxl_modular.specs.Inner.Samples.{DecodesSamples, FailsAtOnePlace, RefusesSamples}
+use Rattle.jxl_modular.specs.Inner.Samples.{DecodesSamples, FailsAtOnePlace, FailsSamples}
 use Rattle.jxl_modular.proofs.PartLaws.{none_is}
 
 -- no more reads are tried than there are samples
 tried_within : {D : Type 0} (d : Meaning D) (w : Width) (part : Part) (bytes : List ℕ) (decoder : D) (old new : Standing) (e : DecoderError) (tried : ℕ) → Fails d w part bytes decoder old new e tried → tried ≤ cell_count part.channels
 tried_within d w part bytes decoder old new e tried h = elim h.1 [
   | inl begin ↦ let t = begin.tries in omega (arith, t)
-  | inr later ↦ elim later.fails.fault [
+  | inr later ↦ elim later.fails.error [
     | inl read ↦ let n = read.0 in let t = read.1 in omega (arith, t, n)
     | inr end ↦ let n = end.0 in let t = end.1 in omega (arith, t, n)
   ]
@@ -38,7 +38,7 @@ tried_within d w part bytes decoder old new e tried h = elim h.1 [
 fails_so : {D : Type 0} (d : Meaning D) (w : Width) (part : Part) (bytes : List ℕ) (decoder : D) (old new : Standing) (e : DecoderError) (tried : ℕ) → Fails d w part bytes decoder old new e tried →
     DecodingFails d w part bytes decoder old.position e new.position tried
 fails_so d w part bytes decoder old new e tried h = elim h.1 [
-  | inl begin ↦ (h.0, inl (begin.fault, ap (λ (s : Standing). s.position) begin.unchanged, begin.tries))
+  | inl begin ↦ (h.0, inl (begin.error, ap (λ (s : Standing). s.position) begin.unchanged, begin.tries))
   | inr later ↦ (h.0, inr (later.count, new.grids, later.fails))
 ]
 
@@ -69,7 +69,7 @@ module _ {S D : Type 0} (d : Meaning D) (w : Width) (to_int : S → ℤ) (bytes 
 
   module _ (mid : Image S D) (q before after : ℕ) (some : 0 < samples_in old) where
     -- decoding fails
-    pub not_filled : (e : Error) → RefusesSamples d w to_int bytes stream old p mid q before after e → UnlessMemory (fault_of e) (FillFails d w to_int bytes stream old p (fault_of e) q before after)
+    pub not_filled : (e : Error) → FailsSamples d w to_int bytes stream old p mid q before after e → UnlessMemory (kind_of e) (FillFails d w to_int bytes stream old p (kind_of e) q before after)
     not_filled errors.InvalidMaTree h = absurd h
     not_filled errors.GlobalMaTreeNotAvailable h = absurd h
     not_filled errors.InvalidRctParams h = absurd h
@@ -90,7 +90,7 @@ module _ {S D : Type 0} (d : Meaning D) (w : Width) (to_int : S → ℤ) (bytes 
         omega (arith, cost, most)
 
     -- and no more steps were taken than for all samples
-    pub work_within : (e : Error) → before ≤ after → RefusesSamples d w to_int bytes stream old p mid q before after e → MovesWithin before after (samples_in old * cost_of old)
+    pub work_within : (e : Error) → before ≤ after → FailsSamples d w to_int bytes stream old p mid q before after e → MovesWithin before after (samples_in old * cost_of old)
     work_within errors.InvalidMaTree more h = absurd h
     work_within errors.GlobalMaTreeNotAvailable more h = absurd h
     work_within errors.InvalidRctParams more h = absurd h

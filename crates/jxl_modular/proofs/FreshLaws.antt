@@ -22,4 +22,3 @@ zeros_narrow zero cs ss narrow tables =
     All-map (λ g. (g.width ≤ 2 ^ 30) × (g.height ≤ 2 ^ 30)) (λ (s : Sides). filled s.width s.height zero) (buffers_of cs ss)
     (All-append (λ (s : Sides). (s.width ≤ 2 ^ 30) × (s.height ≤ 2 ^ 30)) (sides_of cs) (tables_of ss)
     (All-map (λ (s : Sides). (s.width ≤ 2 ^ 30) × (s.height ≤ 2 ^ 30)) (λ (c : Channel). record { width = c.width; height = c.height }) cs narrow) tables)
-

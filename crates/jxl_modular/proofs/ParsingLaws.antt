@@ -2,8 +2,8 @@
 use Rattle.std.proofs.Common.{◌≡◌, ℕ, zero, suc, false, ◌+◌, ◌^◌, ◌<◌, min, List, [], ◌∷◌, length, sum_by, Ok, Err, inr, refl, arith}
 use Rattle.std.specs.Prelude.{◌⊎◌, ◌==◌, Some}
 use Rattle.jxlm_base.specs.Decoding.{Meaning}
-use Rattle.jxlm_base.specs.Fault.{UnlessMemory, fault_of}
-use Rattle.jxlm_base.specs.Grammar.{IsRefused}
+use Rattle.jxlm_base.specs.ErrorKind.{UnlessMemory, kind_of}
+use Rattle.jxlm_base.specs.Grammar.{IsErrorAt}
 use Rattle.jxlm_base.specs.declared.error.Error.{Error}
 use Rattle.jxlm_transform.specs.Channels.{ChannelList, area, image_list, list_of}
 use Rattle.jxlm_transform.specs.declared.channels.ModularChannels.{ModularChannels}
@@ -15,7 +15,7 @@ use Rattle.jxlm_tree.specs.TreeReading.{IsTreeAt, IsTooDeep, TreeGives, listing_
 use Rattle.jxl_modular.specs.Fresh.{fresh}
 use Rattle.jxl_modular.specs.Image.{Image}
 use Rattle.jxlm_header.specs.Opening.{node_limit, depth_limit, opening_of}
-use Rattle.jxl_modular.specs.Parsing.{IsImageAt, IsTreeRefused, ParseGives, opened}
+use Rattle.jxl_modular.specs.Parsing.{IsImageAt, IsTreeErrorAt, ParseGives, opened}
 use Rattle.jxlm_header.specs.declared.header.ModularHeader.{ModularHeader}
 
 -- a number that is not 0
@@ -49,10 +49,10 @@ module _ {S D : Type 0} (d : Meaning D) (zero : S) (bytes : List ℕ) (p : ℕ) 
 
     -- where a tree gives an error, so does the image
     pub tree_refused : (e : Error) (q : ℕ) → TreeGives d bytes limit depth_limit m (Err e) q →
-        UnlessMemory (fault_of e) (IsRefused (opened bytes given p) (fault_of e) q ⊎ IsTreeRefused d bytes given p (fault_of e) q)
+        UnlessMemory (kind_of e) (IsErrorAt (opened bytes given p) (kind_of e) q ⊎ IsTreeErrorAt d bytes given p (kind_of e) q)
     tree_refused e q gives =
-        unless_so (fault_of e) {P = IsRefused (listing_at d bytes limit m) (fault_of e) q ⊎ IsTooDeep d bytes limit depth_limit m (fault_of e) q}
-        {Q = IsRefused (opened bytes given p) (fault_of e) q ⊎ IsTreeRefused d bytes given p (fault_of e) q}
+        unless_so (kind_of e) {P = IsErrorAt (listing_at d bytes limit m) (kind_of e) q ⊎ IsTooDeep d bytes limit depth_limit m (kind_of e) q}
+        {Q = IsErrorAt (opened bytes given p) (kind_of e) q ⊎ IsTreeErrorAt d bytes given p (kind_of e) q}
         (λ tree. inr (record {
           head = opening_of o;
           tree_at = m;
@@ -64,7 +64,7 @@ module _ {S D : Type 0} (d : Meaning D) (zero : S) (bytes : List ℕ) (p : ℕ) 
   gives_image [] image q some stands = absurd (omega (arith, some))
   gives_image (c ∷ cs) image q some stands = (image, refl, stands)
 
-  pub gives_fault : (cs : List ModularChannelParams) (e : Error) (q : ℕ) → 0 < length cs →
-      UnlessMemory (fault_of e) (IsRefused (opened bytes given p) (fault_of e) q ⊎ IsTreeRefused d bytes given p (fault_of e) q) → ParseGives d zero bytes p params cs (Err e) q
-  gives_fault [] e q some refused = absurd (omega (arith, some))
-  gives_fault (c ∷ cs) e q some refused = refused
+  pub gives_error : (cs : List ModularChannelParams) (e : Error) (q : ℕ) → 0 < length cs →
+      UnlessMemory (kind_of e) (IsErrorAt (opened bytes given p) (kind_of e) q ⊎ IsTreeErrorAt d bytes given p (kind_of e) q) → ParseGives d zero bytes p params cs (Err e) q
+  gives_error [] e q some refused = absurd (omega (arith, some))
+  gives_error (c ∷ cs) e q some refused = refused

@@ -8,9 +8,9 @@ use Rattle.jxlm_base.specs.Regions.{store_meanings}
 use Rattle.jxlm_base.specs.declared.decoder.DecoderError.{DecoderError}
 use Rattle.jxlm_base.specs.declared.decoder.DecoderError.TheVariants.{UnexpectedEof, Invalid, OutOfMemory}
 use Rattle.jxlm_base.specs.declared.subgrid.Region.{Region}
-use Rattle.jxlm_base.specs.Fault.{UnlessMemory, bitstream_fault, fault_of}
+use Rattle.jxlm_base.specs.ErrorKind.{UnlessMemory, bitstream_kind, kind_of}
 use Rattle.jxlm_tree.specs.Tree.{Shape}
-use Rattle.jxlm_tree.specs.TreeReading.{IsWantOfMemory}
+use Rattle.jxlm_tree.specs.TreeReading.{IsOutOfMemory}
 use Rattle.jxlm_tree.specs.declared.flat.Leaf.{Leaf}
 use Rattle.jxlm_tree.specs.declared.predictor.WpHeader.{WpHeader}
 use Rattle.jxlm_base.specs.declared.bits.BitstreamError.{BitstreamError}
@@ -19,10 +19,10 @@ use Rattle.jxlm_base.specs.declared.error.Error.{Error}
 use Rattle.jxlm_base.specs.declared.error.Error.TheVariants.{InvalidMaTree, GlobalMaTreeNotAvailable, InvalidRctParams, InvalidPaletteParams, InvalidSqueezeParams, Bitstream, Decoder, Buffer}
 use Rattle.jxlm_part.specs.Decode.{Standing, DecodeAnswers, MovesWithin}
 use Rattle.jxl_modular.specs.Image.{Image, IsLaidOut, coded_grids, cost_of as image_cost, whole_part, samples_in}
-use Rattle.jxlm_part.specs.Part.{Part, cell_count, greatest_width}
+use Rattle.jxlm_part.specs.Part.{Part, cell_count, max_width}
 use Rattle.jxlm_part.specs.Progress.{DecodesAll, DecodesSome}
 use Rattle.jxlm_part.specs.Reading.{HasFlats, IsCodingOf, IsRoomy, IsRoomyFor, regions_of}
-use Rattle.jxl_modular.specs.Inner.Samples.{DecodesSamples, FailsAtOnePlace, RefusesSamples}
+use Rattle.jxl_modular.specs.Inner.Samples.{DecodesSamples, FailsAtOnePlace, FailsSamples}
 use Rattle.jxlm_transform.specs.Channels.{Channel}
 use Rattle.jxlm_part.specs.declared.coding.PartCoding.{PartCoding}
 use Rattle.jxlm_part.specs.declared.coding.PartState.{PartState}
@@ -51,7 +51,7 @@ module _ {S D : Type 0} (x : Image S D) (laid : IsLaidOut x) (c : PartCoding D)
   count_is =
       same_count x.channels x.coded (coded_sizes x laid) ∙ ap length (sym regions)
 
-  pub is_coding : HasFlats x.config.tree c.stream_index (length x.channels) c.flats.now → c.widest ≡ greatest_width x.channels → IsCodingOf c
+  pub is_coding : HasFlats x.config.tree c.stream_index (length x.channels) c.flats.now → c.widest ≡ max_width x.channels → IsCodingOf c
   is_coding flats widest = record {
     sizes = rw (channels, regions) (coded_sizes x laid);
     narrow = rw channels laid.narrow;
@@ -83,24 +83,24 @@ module _ {S D : Type 0} (d : Meaning D) (w : Width) (to_int : S → ℤ) (bytes 
         (subst (λ rs. DecodesSome d w part bytes rs old.config.decoder (store_meanings to_int old.store) p (store_meanings to_int s) q (image_cost old) before after e) coded some)
 
     pub refuses_samples : (e : DecoderError) → e ≢ OutOfMemory → DecodesSome d w part bytes regions old.config.decoder (store_meanings to_int old.store) p (store_meanings to_int s) q (image_cost old) before after e →
-        RefusesSamples d w to_int bytes stream old p (with_store old s) q before after (Decoder e)
+        FailsSamples d w to_int bytes stream old p (with_store old s) q before after (Decoder e)
     refuses_samples UnexpectedEof ne some = fails_samples UnexpectedEof some
     refuses_samples (Invalid k) ne some = fails_samples (Invalid k) some
     refuses_samples OutOfMemory ne some = absurd (ne refl)
 
 -- an error in the samples of an image is one in those of the same
 pub refuses_so : {S D : Type 0} (d : Meaning D) (w : Width) (to_int : S → ℤ) (bytes : List ℕ) (stream : ℕ) (x old new : Image S D) (p q before after : ℕ) (e : Error) → x ≡ old →
-    RefusesSamples d w to_int bytes stream x p new q before after e → RefusesSamples d w to_int bytes stream old p new q before after e
-refuses_so d w to_int bytes stream x old new p q before after e same h = subst (λ im. RefusesSamples d w to_int bytes stream im p new q before after e) same h
+    FailsSamples d w to_int bytes stream x p new q before after e → FailsSamples d w to_int bytes stream old p new q before after e
+refuses_so d w to_int bytes stream x old new p q before after e same h = subst (λ im. FailsSamples d w to_int bytes stream im p new q before after e) same h
 
-memory_of_bits : (b : BitstreamError) → UnlessMemory (bitstream_fault b) ⊥ → ⊥
+memory_of_bits : (b : BitstreamError) → UnlessMemory (bitstream_kind b) ⊥ → ⊥
 memory_of_bits bit_errors.UnexpectedEof h = h
 memory_of_bits (bit_errors.InvalidEnum name value) h = h
 memory_of_bits (bit_errors.ProfileConformance text) h = h
 
 -- where it is out of memory, all is as before
-pub refuses_memory : {S D : Type 0} (d : Meaning D) (w : Width) (to_int : S → ℤ) (bytes : List ℕ) (stream : ℕ) (old : Image S D) (p before : ℕ) (e : Error) → IsWantOfMemory (fault_of e) →
-    RefusesSamples d w to_int bytes stream old p old p before before e
+pub refuses_memory : {S D : Type 0} (d : Meaning D) (w : Width) (to_int : S → ℤ) (bytes : List ℕ) (stream : ℕ) (old : Image S D) (p before : ℕ) (e : Error) → IsOutOfMemory (kind_of e) →
+    FailsSamples d w to_int bytes stream old p old p before before e
 refuses_memory d w to_int bytes stream old p before (Decoder UnexpectedEof) h = absurd h
 refuses_memory d w to_int bytes stream old p before (Decoder (Invalid k)) h = absurd h
 refuses_memory d w to_int bytes stream old p before (Decoder OutOfMemory) h = (refl, refl, refl)
@@ -155,15 +155,15 @@ module _ {S D : Type 0} (d : Meaning D) (w : Width) (to_int : S → ℤ) (bytes 
   )
 
   -- the decoder returns an error, or it is out of memory
-  pub answers_fault : (allow : Bool) (e : Error) (new : Image S D) (q before after : ℕ) → allow ≡ false → 0 < samples_in old → before ≤ after → RefusesSamples d w to_int bytes stream old p new q before after e →
+  pub answers_error : (allow : Bool) (e : Error) (new : Image S D) (q before after : ℕ) → allow ≡ false → 0 < samples_in old → before ≤ after → FailsSamples d w to_int bytes stream old p new q before after e →
       Answers allow new q partial (Err e) before after
-  answers_fault allow (Decoder UnexpectedEof) new q before after denied cells more fails = let f = fails partial cells in (f.0, (denied, f.1), (more, f.2))
-  answers_fault allow (Decoder (Invalid k)) new q before after denied cells more fails = let f = fails partial cells in (f.0, f.1, (more, f.2))
-  answers_fault allow (Decoder OutOfMemory) new q before after denied cells more same = (0, record { unchanged = rw (same.0, same.1) refl; tries = refl }, (more, let s = same.2 in omega (arith, s)))
-  answers_fault allow (Buffer m) new q before after denied cells more same = (0, record { unchanged = rw (same.0, same.1) refl; tries = refl }, (more, let s = same.2 in omega (arith, s)))
-  answers_fault allow InvalidMaTree new q before after denied cells more same = absurd same
-  answers_fault allow GlobalMaTreeNotAvailable new q before after denied cells more same = absurd same
-  answers_fault allow InvalidRctParams new q before after denied cells more same = absurd same
-  answers_fault allow InvalidPaletteParams new q before after denied cells more same = absurd same
-  answers_fault allow InvalidSqueezeParams new q before after denied cells more same = absurd same
-  answers_fault allow (Bitstream b) new q before after denied cells more same = absurd same
+  answers_error allow (Decoder UnexpectedEof) new q before after denied cells more fails = let f = fails partial cells in (f.0, (denied, f.1), (more, f.2))
+  answers_error allow (Decoder (Invalid k)) new q before after denied cells more fails = let f = fails partial cells in (f.0, f.1, (more, f.2))
+  answers_error allow (Decoder OutOfMemory) new q before after denied cells more same = (0, record { unchanged = rw (same.0, same.1) refl; tries = refl }, (more, let s = same.2 in omega (arith, s)))
+  answers_error allow (Buffer m) new q before after denied cells more same = (0, record { unchanged = rw (same.0, same.1) refl; tries = refl }, (more, let s = same.2 in omega (arith, s)))
+  answers_error allow InvalidMaTree new q before after denied cells more same = absurd same
+  answers_error allow GlobalMaTreeNotAvailable new q before after denied cells more same = absurd same
+  answers_error allow InvalidRctParams new q before after denied cells more same = absurd same
+  answers_error allow InvalidPaletteParams new q before after denied cells more same = absurd same
+  answers_error allow InvalidSqueezeParams new q before after denied cells more same = absurd same
+  answers_error allow (Bitstream b) new q before after denied cells more same = absurd same

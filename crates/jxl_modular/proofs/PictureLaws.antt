@@ -3,7 +3,7 @@ use Rattle.std.proofs.Common.{◌≡◌, ◌≢◌, ℕ, ◌*◌, ◌≤◌, Lis
 use Rattle.std.specs.Prelude.{Option}
 use Rattle.std.specs.Int.{Width}
 use Rattle.jxlm_base.specs.Decoding.{Meaning}
-use Rattle.jxlm_base.specs.Fault.{Fault, NoMemory, UnlessMemory, fault_of}
+use Rattle.jxlm_base.specs.ErrorKind.{ErrorKind, NoMemory, UnlessMemory, kind_of}
 use Rattle.jxlm_base.specs.Grid.{Grid}
 use Rattle.jxlm_base.specs.declared.error.Error.{Error}
 use Rattle.jxlm_chain.specs.Chain.{Chain}
@@ -21,8 +21,8 @@ use Rattle.jxl_modular.specs.Picture.{IsPicture, IsPictureRead, PictureFails, Sa
 use Rattle.jxl_modular.specs.declared.root.Modular.{Modular}
 
 -- it was out of memory
-pub no_memory : (fault : Fault) (P : Type 0) → fault ≡ NoMemory → UnlessMemory fault P
-no_memory fault P is = subst (λ (f : Fault). UnlessMemory f P) (sym is) tt
+pub no_memory : (error : ErrorKind) (P : Type 0) → error ≡ NoMemory → UnlessMemory error P
+no_memory error P is = subst (λ (f : ErrorKind). UnlessMemory f P) (sym is) tt
 
 -- an image that becomes others has its channels' sides
 chain_sides : (w : Width) (bit_depth : ℕ) (steps : List Step) (given : ChannelList) (grids samples : List (Grid ℤ)) → Chain w bit_depth steps given grids samples → AreGridsOf given.channels grids
@@ -62,9 +62,9 @@ module _ {S D : Type 0} (d : Meaning D) (z : S) (bytes : List ℕ) (p : ℕ) (pa
 
   -- an error of reading is one of the picture
   pub fails_read : (w : Width) (stream : ℕ) (list : List ModularChannelParams) (e : Error) (q before : ℕ) → ParseGives d z bytes p params list (Err e) q →
-      PictureFails d w bytes stream (image_list params.channels.items) p (fault_of e) q before before
+      PictureFails d w bytes stream (image_list params.channels.items) p (kind_of e) q before before
   fails_read w stream [] e q before h = absurd h
-  fails_read w stream (c ∷ cs) e q before h = unless_so (fault_of e) (λ either. inl (either, refl)) h
+  fails_read w stream (c ∷ cs) e q before h = unless_so (kind_of e) (λ either. inl (either, refl)) h
 
 -- ---- an image that was read, and then filled
 
@@ -106,10 +106,10 @@ module _ {S D : Type 0} (d : Meaning D) (w : Width) (to_int : S → ℤ) (bytes 
       IsPictureRead d w bytes stream given p params.bit_depth (image_grids to_int picture) q before after
   picture_read picture q before after h work = record { picture = picture_stands picture q h; steps = steps_for before after work }
 
-  module _ (fault : Fault) (q before after : ℕ) (more : before ≤ after) where
-    samples_fail : FillFails d w to_int bytes stream read place fault q before after → SamplesFail d w bytes stream given p fault q before after
+  module _ (error : ErrorKind) (q before after : ℕ) (more : before ≤ after) where
+    samples_fail : FillFails d w to_int bytes stream read place error q before after → SamplesFail d w bytes stream given p error q before after
     samples_fail h =
-        let f : FillFails d w to_int bytes stream begun place fault q before after = subst (λ (x : Image S D). FillFails d w to_int bytes stream x place fault q before after) stands.cells h in
+        let f : FillFails d w to_int bytes stream begun place error q before after = subst (λ (x : Image S D). FillFails d w to_int bytes stream x place error q before after) stands.cells h in
         record {
           head = stands.head;
           config = read.config;
@@ -123,5 +123,5 @@ module _ {S D : Type 0} (d : Meaning D) (w : Width) (to_int : S → ℤ) (bytes 
         }
 
     -- an error of filling is one of the picture
-    pub fails_filling : UnlessMemory fault (FillFails d w to_int bytes stream read place fault q before after) → PictureFails d w bytes stream given p fault q before after
-    fails_filling h = unless_so fault (λ f. inr (samples_fail f)) h
+    pub fails_filling : UnlessMemory error (FillFails d w to_int bytes stream read place error q before after) → PictureFails d w bytes stream given p error q before after
+    fails_filling h = unless_so error (λ f. inr (samples_fail f)) h

@@ -14,15 +14,15 @@ zeros zero sides = map (λ s. filled s.width s.height zero) sides
 
 -- the image of these channels, as its opening says, whose cells are all 0
 abbrev pub fresh : {S D : Type 0} → S → ChannelList → Opening → Config D → ℕ → ℕ → Image S D
-fresh zero given ahead config group_dim bit_depth = record {
-  weights = ahead.weights;
-  steps = ahead.coded.steps;
+fresh zero given head config group_dim bit_depth = record {
+  weights = head.weights;
+  steps = head.coded.steps;
   config = config;
   group_dim = group_dim;
   bit_depth = bit_depth;
   given = given.channels;
-  channels = ahead.coded.list.channels;
-  nb_meta = ahead.coded.list.nb_meta;
-  store = zeros zero (buffers_of given.channels ahead.coded.steps);
-  coded = (layout_after_all ahead.coded.steps (first_layout given.channels)).regions;
+  channels = head.coded.list.channels;
+  nb_meta = head.coded.list.nb_meta;
+  store = zeros zero (buffers_of given.channels head.coded.steps);
+  coded = (layout_after_all head.coded.steps (first_layout given.channels)).regions;
 }

@@ -11,7 +11,7 @@ pub mod Types
 pub use Rattle.jxlm_base.specs.Bits
 pub use Rattle.jxlm_base.specs.Colour
 pub use Rattle.jxlm_base.specs.Decoding
-pub use Rattle.jxlm_base.specs.Fault
+pub use Rattle.jxlm_base.specs.ErrorKind
 pub use Rattle.jxlm_base.specs.Grammar
 pub use Rattle.jxlm_base.specs.Grid
 pub use Rattle.jxlm_base.specs.GridLends

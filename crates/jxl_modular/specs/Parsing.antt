@@ -1,8 +1,8 @@
 -- What reading an image gives: its header and its tree (ISO/IEC 18181-1, Modular: Modular header, MA tree).
 use Rattle.std.specs.Prelude.{◌≡◌, ℕ, List, [], ◌∷◌, false, ◌⊎◌, Option, None, Some, Result, Ok, Err}
 use Rattle.jxlm_base.specs.Decoding.{Found, Meaning}
-use Rattle.jxlm_base.specs.Fault.{Fault, Refused, UnlessMemory, fault_of}
-use Rattle.jxlm_base.specs.Grammar.{IsRefused}
+use Rattle.jxlm_base.specs.ErrorKind.{ErrorKind, ErrorAt, UnlessMemory, kind_of}
+use Rattle.jxlm_base.specs.Grammar.{IsErrorAt}
 use Rattle.jxlm_base.specs.declared.error.Error.{Error}
 use Rattle.jxlm_transform.specs.Channels.{ChannelList, image_list}
 use Rattle.jxlm_transform.specs.declared.param.ModularChannelParams.{ModularChannelParams}
@@ -19,7 +19,7 @@ abbrev pub image_of : {S D : Type 0} → Modular S D → Option (Image S D)
 image_of m = m.inner
 
 -- the header at bit position p, and what it comes to for the given channels; no global tree is given
-abbrev pub opened : List ℕ → ChannelList → ℕ → Result (Found Opening) Refused
+abbrev pub opened : List ℕ → ChannelList → ℕ → Result (Found Opening) ErrorAt
 opened bytes given p = (opening false given).read bytes p
 
 module _ {D : Type 0} (d : Meaning D) (bytes : List ℕ) (given : ChannelList) (p : ℕ) where
@@ -30,11 +30,11 @@ module _ {D : Type 0} (d : Meaning D) (bytes : List ℕ) (given : ChannelList) (
     pub tree : IsTreeAt d bytes (node_limit head.coded.list.channels) depth_limit tree_at config q
 
   -- at p stands a header, and reading the MA tree after it returns this error, and the reader is at q then
-  pub record IsTreeRefused (fault : Fault) (q : ℕ) : Type 0 where
+  pub record IsTreeErrorAt (error : ErrorKind) (q : ℕ) : Type 0 where
     pub head : Opening
     pub tree_at : ℕ
     pub header : opened bytes given p ≡ Ok (record { value = head; position = tree_at })
-    pub tree : IsRefused (listing_at d bytes (node_limit head.coded.list.channels) tree_at) fault q ⊎ IsTooDeep d bytes (node_limit head.coded.list.channels) depth_limit tree_at fault q
+    pub tree : IsErrorAt (listing_at d bytes (node_limit head.coded.list.channels) tree_at) error q ⊎ IsTooDeep d bytes (node_limit head.coded.list.channels) depth_limit tree_at error q
 
 module _ {S D : Type 0} (d : Meaning D) (zero : S) (bytes : List ℕ) (p : ℕ) (params : ModularParams D) where
   -- an image stands at position p up to position q: its header and its tree; its cells are 0
@@ -51,4 +51,4 @@ module _ {S D : Type 0} (d : Meaning D) (zero : S) (bytes : List ℕ) (p : ℕ) 
   ParseGives [] (Err e) q = ⊥
   ParseGives (c ∷ cs) (Ok m) q = (image : Image S D) × (image_of m ≡ Some image) × IsImageAt image q
   ParseGives (c ∷ cs) (Err e) q =
-      UnlessMemory (fault_of e) (IsRefused (opened bytes (image_list params.channels.items) p) (fault_of e) q ⊎ IsTreeRefused d bytes (image_list params.channels.items) p (fault_of e) q)
+      UnlessMemory (kind_of e) (IsErrorAt (opened bytes (image_list params.channels.items) p) (kind_of e) q ⊎ IsTreeErrorAt d bytes (image_list params.channels.items) p (kind_of e) q)

@@ -2,8 +2,8 @@
 use Rattle.std.specs.Prelude.{◌≡◌, ℕ, ◌+◌, ◌*◌, ◌⊎◌, ℤ, List, sum_by}
 use Rattle.std.specs.Int.{Width}
 use Rattle.jxlm_base.specs.Decoding.{Meaning}
-use Rattle.jxlm_base.specs.Fault.{Fault, OfDecoder, UnlessMemory}
-use Rattle.jxlm_base.specs.Grammar.{IsRefused}
+use Rattle.jxlm_base.specs.ErrorKind.{ErrorKind, OfDecoder, UnlessMemory}
+use Rattle.jxlm_base.specs.Grammar.{IsErrorAt}
 use Rattle.jxlm_base.specs.Grid.{Grid}
 use Rattle.jxlm_base.specs.declared.decoder.DecoderError.{DecoderError}
 use Rattle.jxlm_chain.specs.Chain.{IsOnlyImage}
@@ -13,7 +13,7 @@ use Rattle.jxlm_tree.specs.declared.flat.Leaf.{Leaf}
 use Rattle.jxlm_part.specs.Coded.{DecodingFails, IsCodedWhole}
 use Rattle.jxlm_part.specs.Decode.{MovesWithin}
 use Rattle.jxlm_header.specs.Opening.{Opening}
-use Rattle.jxl_modular.specs.Parsing.{IsStartAt, IsTreeRefused, opened}
+use Rattle.jxl_modular.specs.Parsing.{IsStartAt, IsTreeErrorAt, opened}
 use Rattle.jxlm_part.specs.Part.{Part}
 
 -- the part of all channels that the header's transforms leave (Modular: decoding of samples)
@@ -43,7 +43,7 @@ module _ {D : Type 0} (d : Meaning D) (w : Width) (bytes : List ℕ) (stream : �
 
   -- Header and MA tree stand at bit position p; decoding the samples after them returns this error, and the reader is at
   -- q then. The count of steps went on by no more than the samples whose read was tried allow.
-  pub record SamplesFail (fault : Fault) (q before after : ℕ) : Type 0 where
+  pub record SamplesFail (error : ErrorKind) (q before after : ℕ) : Type 0 where
     pub head : Opening
     pub config : Config D
     pub samples_at : ℕ
@@ -51,13 +51,13 @@ module _ {D : Type 0} (d : Meaning D) (w : Width) (bytes : List ℕ) (stream : �
     pub cause : DecoderError
     pub tried : ℕ
     pub fails : DecodingFails d w (coded_part stream head config) bytes config.decoder samples_at cause q tried
-    pub cause_is : fault ≡ OfDecoder cause
+    pub cause_is : error ≡ OfDecoder cause
     pub steps : StepsFor config.tree tried before after
 
   -- there is no picture, by the first error of header, tree or samples; it may be out of memory at any time
-  abbrev pub PictureFails : Fault → ℕ → ℕ → ℕ → Type 0
-  PictureFails fault q before after =
-      UnlessMemory fault (((IsRefused (opened bytes given p) fault q ⊎ IsTreeRefused d bytes given p fault q) × (after ≡ before)) ⊎ SamplesFail fault q before after)
+  abbrev pub PictureFails : ErrorKind → ℕ → ℕ → ℕ → Type 0
+  PictureFails error q before after =
+      UnlessMemory error (((IsErrorAt (opened bytes given p) error q ⊎ IsTreeErrorAt d bytes given p error q) × (after ≡ before)) ⊎ SamplesFail error q before after)
 
 -- whatever is returned, no step was taken, or header and tree stand there, and steps are within those for all samples
 abbrev pub StepsWithin : {D : Type 0} → Meaning D → List ℕ → ChannelList → ℕ → ℕ → ℕ → Type 0

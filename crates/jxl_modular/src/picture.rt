@@ -3,7 +3,7 @@
 ghost use Rattle.std.specs.Prelude.{◌≡◌, ◌↔◌, ◌*◌, [], pos, None, IfOk, IfErr, IsOk, OnOk};
 ghost use Rattle.std.specs.Option.{IfSome};
 ghost use Rattle.jxlm_base.specs.Bits.{bytes_of, position_of};
-ghost use Rattle.jxlm_base.specs.Fault.{UnlessMemory, fault_of};
+ghost use Rattle.jxlm_base.specs.ErrorKind.{UnlessMemory, kind_of};
 ghost use Rattle.jxlm_transform.specs.Channels.{AreGridsOf, image_list};
 ghost use Rattle.jxlm_transform.specs.Params.{IsValidParams};
 ghost use Rattle.jxlm_part.specs.Decode.{MovesWithin};
@@ -31,8 +31,8 @@ fn fill<S: Sample, D: Decoder>(
 ) -> Result<()>
     ensures ok { OnOk result (IsFilled D.meaning S.width S.to_int (bytes_of bits.old) stream_index image.old
         (position_of bits.old) image.new (position_of bits.new)) }
-    ensures err { IfErr result (λ e. UnlessMemory (fault_of e) (FillFails D.meaning S.width S.to_int
-        (bytes_of bits.old) stream_index image.old (position_of bits.old) (fault_of e) (position_of bits.new)
+    ensures err { IfErr result (λ e. UnlessMemory (kind_of e) (FillFails D.meaning S.width S.to_int
+        (bytes_of bits.old) stream_index image.old (position_of bits.old) (kind_of e) (position_of bits.new)
         steps.old steps.new)) }
     ensures work { MovesWithin steps.old steps.new (samples_in image.old * cost_of image.old) }
     ensures laid { IsLaidOut image.old }
@@ -82,7 +82,7 @@ pub fn decode_picture<S: Sample, D: Decoder>(
 
     // .. or the first error.
     ensures err { IfErr result (λ e. PictureFails D.meaning S.width (bytes_of bits.old) stream_index
-        (image_list params.entry.channels.items) (position_of bits.old) (fault_of e) (position_of bits.new)
+        (image_list params.entry.channels.items) (position_of bits.old) (kind_of e) (position_of bits.new)
         steps.old steps.new) }
     ensures work { StepsWithin D.meaning (bytes_of bits.old) (image_list params.entry.channels.items)
         (position_of bits.old) steps.old steps.new }

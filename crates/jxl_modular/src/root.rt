@@ -70,7 +70,8 @@ impl<S: Sample, D: Decoder> Modular<S, D> {
     ) -> Result<Self>
         requires valid { IsValidParams params }
         requires alone { params.ma_config ≡ None }
-        ensures gives { ParseGives D.meaning (S.from_int (pos 0)) (bytes_of bits.old) (position_of bits.old) params.entry params.entry.channels.items result (position_of bits.new) }
+        ensures gives { ParseGives D.meaning (S.from_int (pos 0)) (bytes_of bits.old)
+            (position_of bits.old) params.entry params.entry.channels.items result (position_of bits.new) }
         ensures bytes { bytes_of bits.new ≡ bytes_of bits.old }
     {
         if params.channels.is_empty() {
@@ -168,7 +169,7 @@ mod tests {
     }
 
     /// The error of an image of n channels of 1 by 1 sample, and the reader's position then.
-    fn refusal(rt: &HostRuntime, bytes: &[u8], count: usize) -> Result<(Option<Error>, u64), Fail> {
+    fn failure(rt: &HostRuntime, bytes: &[u8], count: usize) -> Result<(Option<Error>, u64), Fail> {
         let channels = vec![in rt.alloc(); ModularChannelParams::new(1, 1); count]?;
         let (modular, position) = read::<i32>(rt.alloc(), bytes, channels)?;
         Ok((modular.err(), position))
@@ -248,41 +249,41 @@ mod tests {
 
     #[test]
     fn cut_headers_are_refused(rt: HostRuntime) -> Result<(), Fail> {
-        assert_eq!(rt; refusal(&rt, &[], 1)?, (Some(EOF), 0));
-        assert_eq!(rt; refusal(&rt, &[0x00], 1)?, (Some(EOF), 7));
-        assert_eq!(rt; refusal(&rt, &[0x0E], 1)?, (Some(EOF), 2));
-        assert_eq!(rt; refusal(&rt, &[0x16, 0x00, 0x00], 1)?, (Some(EOF), 23));
+        assert_eq!(rt; failure(&rt, &[], 1)?, (Some(EOF), 0));
+        assert_eq!(rt; failure(&rt, &[0x00], 1)?, (Some(EOF), 7));
+        assert_eq!(rt; failure(&rt, &[0x0E], 1)?, (Some(EOF), 2));
+        assert_eq!(rt; failure(&rt, &[0x16, 0x00, 0x00], 1)?, (Some(EOF), 23));
         Ok(())
     }
 
     // All bits of the header come before any transform, and that before the count of channels.
     #[test]
-    fn what_stands_ahead_of_the_tree_is_refused_in_order(rt: HostRuntime) -> Result<(), Fail> {
+    fn errors_before_the_tree_come_in_order(rt: HostRuntime) -> Result<(), Fail> {
         let kind = unknown("TransformId", 3);
-        assert_eq!(rt; refusal(&rt, &[0x36], 1)?, (kind, 6));
-        assert_eq!(rt; refusal(&rt, &[0x37], 65537)?, (kind, 6));
+        assert_eq!(rt; failure(&rt, &[0x36], 1)?, (kind, 6));
+        assert_eq!(rt; failure(&rt, &[0x37], 65537)?, (kind, 6));
         let predictor = (unknown("MaProperty", 14), 29);
-        assert_eq!(rt; refusal(&rt, &[0x16, 0x00, 0x00, 0x1C], 1)?, predictor);
+        assert_eq!(rt; failure(&rt, &[0x16, 0x00, 0x00, 0x1C], 1)?, predictor);
 
         let colour = Some(Error::InvalidRctParams);
-        assert_eq!(rt; refusal(&rt, &[0x06, 0x00], 2)?, (colour, 13));
-        assert_eq!(rt; refusal(&rt, &[0x07, 0x00], 2)?, (colour, 13));
+        assert_eq!(rt; failure(&rt, &[0x06, 0x00], 2)?, (colour, 13));
+        assert_eq!(rt; failure(&rt, &[0x07, 0x00], 2)?, (colour, 13));
         let palette = Some(Error::InvalidPaletteParams);
-        assert_eq!(rt; refusal(&rt, &[0x16, 0x81, 0x01, 0x00], 1)?, (palette, 29));
-        let squeeze_then_colour = refusal(&rt, &[0x0A, 0x06, 0x40, 0x00, 0x00], 1)?;
+        assert_eq!(rt; failure(&rt, &[0x16, 0x81, 0x01, 0x00], 1)?, (palette, 29));
+        let squeeze_then_colour = failure(&rt, &[0x0A, 0x06, 0x40, 0x00, 0x00], 1)?;
         assert_eq!(rt;
             squeeze_then_colour,
             (Some(Error::InvalidSqueezeParams), 34)
         );
-        let colour_then_squeeze = refusal(&rt, &[0x0A, 0x00, 0x0C, 0x80, 0x00], 1)?;
+        let colour_then_squeeze = failure(&rt, &[0x0A, 0x00, 0x0C, 0x80, 0x00], 1)?;
         assert_eq!(rt; colour_then_squeeze, (colour, 34));
 
         let no_global = Some(Error::GlobalMaTreeNotAvailable);
-        assert_eq!(rt; refusal(&rt, &[0x06, 0x00], 3)?.0, Some(CUT_TREE));
-        assert_eq!(rt; refusal(&rt, &[0x07, 0x00], 3)?, (no_global, 13));
-        assert_eq!(rt; refusal(&rt, &[0x26], 1)?.0, Some(CUT_TREE));
+        assert_eq!(rt; failure(&rt, &[0x06, 0x00], 3)?.0, Some(CUT_TREE));
+        assert_eq!(rt; failure(&rt, &[0x07, 0x00], 3)?, (no_global, 13));
+        assert_eq!(rt; failure(&rt, &[0x26], 1)?.0, Some(CUT_TREE));
         assert_eq!(rt;
-            refusal(&rt, &[0x03], 1)?,
+            failure(&rt, &[0x03], 1)?,
             (Some(Error::GlobalMaTreeNotAvailable), 4)
         );
         Ok(())
@@ -290,17 +291,17 @@ mod tests {
 
     // Palettes of one and of three channels; the second leaves one channel less.
     #[test]
-    fn coded_channels_are_counted_behind_the_transforms(rt: HostRuntime) -> Result<(), Fail> {
+    fn coded_channels_are_counted_after_the_transforms(rt: HostRuntime) -> Result<(), Fail> {
         let too_many = beyond(TOO_MANY);
         let no_global = Some(Error::GlobalMaTreeNotAvailable);
-        assert_eq!(rt; refusal(&rt, &[0x03], 65537)?, (too_many, 4));
-        assert_eq!(rt; refusal(&rt, &[0x03], 65536)?, (no_global, 4));
+        assert_eq!(rt; failure(&rt, &[0x03], 65537)?, (too_many, 4));
+        assert_eq!(rt; failure(&rt, &[0x03], 65536)?, (no_global, 4));
         let one = [0x16, 0x00, 0x00, 0x00];
-        assert_eq!(rt; refusal(&rt, &one, 65536)?, (too_many, 29));
-        assert_eq!(rt; refusal(&rt, &one, 65535)?.0, Some(CUT_TREE));
+        assert_eq!(rt; failure(&rt, &one, 65536)?, (too_many, 29));
+        assert_eq!(rt; failure(&rt, &one, 65535)?.0, Some(CUT_TREE));
         let three = [0x16, 0x08, 0x00, 0x00];
-        assert_eq!(rt; refusal(&rt, &three, 65538)?, (too_many, 29));
-        assert_eq!(rt; refusal(&rt, &three, 65537)?.0, Some(CUT_TREE));
+        assert_eq!(rt; failure(&rt, &three, 65538)?, (too_many, 29));
+        assert_eq!(rt; failure(&rt, &three, 65537)?.0, Some(CUT_TREE));
         Ok(())
     }
 
@@ -311,30 +312,30 @@ mod tests {
         for _ in 0..307 {
             bytes.push(0)?;
         }
-        assert_eq!(rt; refusal(&rt, &bytes, 3)?.0, Some(CUT_TREE));
+        assert_eq!(rt; failure(&rt, &bytes, 3)?.0, Some(CUT_TREE));
         assert_eq!(rt;
-            refusal(&rt, &bytes, 2)?,
+            failure(&rt, &bytes, 2)?,
             (Some(Error::InvalidRctParams), 2469)
         );
         bytes.pop();
-        assert_eq!(rt; refusal(&rt, &bytes, 3)?, (Some(EOF), 2462));
+        assert_eq!(rt; failure(&rt, &bytes, 3)?, (Some(EOF), 2462));
         Ok(())
     }
 
     // A table whose height is squeezed 296 times: eight steps are nine bytes. The shifts of a table stay.
     #[test]
     fn as_many_squeeze_steps_as_can_be_listed(rt: HostRuntime) -> Result<(), Fail> {
-        let ahead = [0, 0, 0, 0, 0, 0, 0x40, 0x08, 0x40, 0x01, 0xE0, 0xFF];
-        let mut bytes = Vec::from_slice(rt.alloc(), &ahead)?;
+        let before_it = [0, 0, 0, 0, 0, 0, 0x40, 0x08, 0x40, 0x01, 0xE0, 0xFF];
+        let mut bytes = Vec::from_slice(rt.alloc(), &before_it)?;
         for _ in 0..37 {
             bytes.extend_from_slice(&[2, 4, 8, 16, 32, 64, 128, 0, 1])?;
         }
-        assert_eq!(rt; refusal(&rt, &bytes, 1)?.0, Some(CUT_TREE));
+        assert_eq!(rt; failure(&rt, &bytes, 1)?.0, Some(CUT_TREE));
         bytes.pop();
-        assert_eq!(rt; refusal(&rt, &bytes, 1)?, (Some(EOF), 2752));
+        assert_eq!(rt; failure(&rt, &bytes, 1)?, (Some(EOF), 2752));
         bytes.push(0)?;
         assert_eq!(rt;
-            refusal(&rt, &bytes, 1)?,
+            failure(&rt, &bytes, 1)?,
             (Some(Error::InvalidSqueezeParams), 2760)
         );
         Ok(())
@@ -349,7 +350,7 @@ mod tests {
             bytes.extend_from_slice(&steps)?;
         }
         bytes.extend_from_slice(&[1, 2, 4, 8, 16, 0])?;
-        assert_eq!(rt; refusal(&rt, &bytes, 1)?.0, Some(CUT_TREE));
+        assert_eq!(rt; failure(&rt, &bytes, 1)?.0, Some(CUT_TREE));
 
         let mut bytes = vec![in rt.alloc(); 0xA6, 0x57, 0x80, 0]?;
         for _ in 0..3 {
@@ -357,7 +358,7 @@ mod tests {
         }
         bytes.extend_from_slice(&[1, 2, 4, 8, 16, 32, 0])?;
         assert_eq!(rt;
-            refusal(&rt, &bytes, 1)?,
+            failure(&rt, &bytes, 1)?,
             (Some(Error::InvalidSqueezeParams), 302)
         );
         Ok(())
@@ -366,9 +367,9 @@ mod tests {
     #[test]
     fn a_cut_tree_is_refused(rt: HostRuntime) -> Result<(), Fail> {
         for n in 1..9 {
-            assert_eq!(rt; refusal(&rt, &ONE_LEAF[..n], 1)?.0, Some(CUT_TREE), "{n}");
+            assert_eq!(rt; failure(&rt, &ONE_LEAF[..n], 1)?.0, Some(CUT_TREE), "{n}");
         }
-        assert_eq!(rt; refusal(&rt, &ONE_LEAF[..9], 1)?, (None, 68));
+        assert_eq!(rt; failure(&rt, &ONE_LEAF[..9], 1)?, (None, 68));
         Ok(())
     }
 }

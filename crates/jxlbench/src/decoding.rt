@@ -71,7 +71,7 @@ fn image_again<S: Sample>(
 ///
 /// # Errors
 ///
-/// `WrongArguments` if the library takes no such channels, `Refused` if the image has an error, `Unusable` if the clock
+/// `WrongArguments` if the library takes no such channels, `ErrorAt` if the image has an error, `Unusable` if the clock
 /// cannot be read.
 pub fn measure<S: Sample, C: Clock>(
     alloc: Global,

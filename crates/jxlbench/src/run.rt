@@ -19,12 +19,12 @@ pub enum Failure {
     /// The input or the clock cannot be read, the output cannot be written, or it is out of memory for the input.
     Unusable,
     /// The image gives this error.
-    Refused(Error),
+    ErrorAt(Error),
 }
 
 impl From<Error> for Failure {
     fn from(error: Error) -> Failure {
-        Failure::Refused(error)
+        Failure::ErrorAt(error)
     }
 }
 
@@ -62,11 +62,11 @@ pub fn run<R: Read, W: Write, C: Clock>(
 }
 
 /// Writes the line of a failure, as far as it can be written, and returns the status to end with.
-pub fn report<E: Write>(faults: &mut E, failure: Failure) -> u8 {
+pub fn report<E: Write>(errors: &mut E, failure: Failure) -> u8 {
     let _ = match failure {
-        Failure::WrongArguments => writeln!(faults, "{USAGE}"),
-        Failure::Unusable => writeln!(faults, "error: cannot read, time or write"),
-        Failure::Refused(error) => writeln!(faults, "error: {error}"),
+        Failure::WrongArguments => writeln!(errors, "{USAGE}"),
+        Failure::Unusable => writeln!(errors, "error: cannot read, time or write"),
+        Failure::ErrorAt(error) => writeln!(errors, "error: {error}"),
     };
     match failure {
         Failure::WrongArguments => 2,

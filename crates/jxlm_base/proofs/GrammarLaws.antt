@@ -4,16 +4,16 @@ use Rattle.std.specs.Prelude.{nat_lt, ◌==◌, if◌then◌else◌}
 use Rattle.std.proofs.lemmas.Bool.{ltb-false, le-ltb}
 use Rattle.jxlm_base.specs.Bits.{bits_at}
 use Rattle.jxlm_base.specs.Decoding.{Found}
-use Rattle.jxlm_base.specs.Fault as reading
-use Rattle.jxlm_base.specs.Fault.{Fault, Eof, Refused}
-use Rattle.jxlm_base.specs.Grammar.{Grammar, IsExact, undone, number, give, refuse, either, whole, repeated, flag, part, u32, ◌>>=◌}
+use Rattle.jxlm_base.specs.ErrorKind as reading
+use Rattle.jxlm_base.specs.ErrorKind.{ErrorKind, Eof, ErrorAt}
+use Rattle.jxlm_base.specs.Grammar.{Grammar, IsExact, undone, number, give, fail, either, whole, repeated, flag, part, u32, ◌>>=◌}
 use Rattle.jxlm_base.specs.declared.bits.U32Spec.{U32Spec}
 use Rattle.jxlm_base.specs.declared.bits.U32Spec.TheVariants.{Const, Offset}
 
-found_same : {X : Type 0} (a b : Found X) → ◌≡◌ {A = Result (Found X) Refused} (Ok a) (Ok b) → a ≡ b
+found_same : {X : Type 0} (a b : Found X) → ◌≡◌ {A = Result (Found X) ErrorAt} (Ok a) (Ok b) → a ≡ b
 found_same a b e = cc
 
-none_found : {X : Type 0} (e : Refused) (found : Found X) → ◌≡◌ {A = Result (Found X) Refused} (Err e) (Ok found) → ⊥
+none_found : {X : Type 0} (e : ErrorAt) (found : Found X) → ◌≡◌ {A = Result (Found X) ErrorAt} (Err e) (Ok found) → ⊥
 none_found e found same = cc
 
 pub exact-give : {X : Type 0} (x : X) → IsExact (give x)
@@ -22,16 +22,16 @@ exact-give x = record {
   stands_read = λ bytes p y q s. rw (s.0, s.1) refl;
 }
 
-pub exact-refuse : {X : Type 0} (fault : Fault) → IsExact (refuse {X = X} fault)
-exact-refuse fault = record {
-  read_stands = λ bytes p found e. none_found (record { fault = fault; position = Some p }) found e;
+pub exact-fail : {X : Type 0} (error : ErrorKind) → IsExact (fail {X = X} error)
+exact-fail error = record {
+  read_stands = λ bytes p found e. none_found (record { error = error; position = Some p }) found e;
   stands_read = λ bytes p y q s. absurd s;
 }
 
 number_read : (bytes : List ℕ) (p n : ℕ) (found : Found ℕ) (b : Bool) → nat_lt (8 * length bytes) (p + n) ≡ b →
-    if◌then◌else◌ {A = Result (Found ℕ) Refused} b (Err (record { fault = Eof; position = Some p })) (Ok (record { value = bits_at bytes p n; position = p + n })) ≡ Ok found →
+    if◌then◌else◌ {A = Result (Found ℕ) ErrorAt} b (Err (record { error = Eof; position = Some p })) (Ok (record { value = bits_at bytes p n; position = p + n })) ≡ Ok found →
     (number n).Stands bytes p found.value found.position
-number_read bytes p n found true t e = absurd (none_found (record { fault = Eof; position = Some p }) found e)
+number_read bytes p n found true t e = absurd (none_found (record { error = Eof; position = Some p }) found e)
 number_read bytes p n found false t e =
     let same = found_same (record { value = bits_at bytes p n; position = p + n }) found e in
     (ltb-false (8 * length bytes) (p + n) t, ap (λ f. f.value) (sym same), ap (λ f. f.position) (sym same))
@@ -42,15 +42,15 @@ exact-number n = record {
   stands_read = λ bytes p v q s. rw (le-ltb (8 * length bytes) (p + n) s.0, s.1, s.2) refl;
 }
 
-behind_found : {X Y : Type 0} (r : Result (Found X) Refused) (next : Found X → Result (Found Y) Refused) (found : Found Y) →
+then_found : {X Y : Type 0} (r : Result (Found X) ErrorAt) (next : Found X → Result (Found Y) ErrorAt) (found : Found Y) →
     reading.◌>>=◌ r next ≡ Ok found → (first : Found X) × (r ≡ Ok first) × (next first ≡ Ok found)
-behind_found (Ok first) next found e = (first, refl, e)
-behind_found (Err fault) next found e = absurd (none_found fault found e)
+then_found (Ok first) next found e = (first, refl, e)
+then_found (Err error) next found e = absurd (none_found error found e)
 
 pub exact-bind : {X Y : Type 0} (field : Grammar X) (next : X → Grammar Y) → IsExact field → ((x : X) → IsExact (next x)) → IsExact (field >>= next)
 exact-bind field next first rest = record {
   read_stands = λ bytes p found e.
-      let (m, r, s) = behind_found (field.read bytes p) (λ f. (next f.value).read bytes f.position) found e in
+      let (m, r, s) = then_found (field.read bytes p) (λ f. (next f.value).read bytes f.position) found e in
       (m.value, m.position, first.read_stands bytes p m r, (rest m.value).read_stands bytes m.position found s);
   stands_read = λ bytes p y q s.
       rw (first.stands_read bytes p s.0 s.1 s.2) ((rest s.0).stands_read bytes s.1 y q s.3);
@@ -60,9 +60,9 @@ pub exact-either : {X : Type 0} (b : Bool) (f g : Grammar X) → IsExact f → I
 exact-either true f g x y = record { read_stands = x.read_stands; stands_read = x.stands_read }
 exact-either false f g x y = record { read_stands = y.read_stands; stands_read = y.stands_read }
 
-undone_found : {X : Type 0} (p : ℕ) (r : Result (Found X) Refused) (found : Found X) → undone p r ≡ Ok found → r ≡ Ok found
+undone_found : {X : Type 0} (p : ℕ) (r : Result (Found X) ErrorAt) (found : Found X) → undone p r ≡ Ok found → r ≡ Ok found
 undone_found p (Ok first) found e = e
-undone_found p (Err fault) found e = absurd (none_found (record { fault = fault.fault; position = Some p }) found e)
+undone_found p (Err error) found e = absurd (none_found (record { error = error.error; position = Some p }) found e)
 
 pub exact-whole : {X : Type 0} (f : Grammar X) → IsExact f → IsExact (whole f)
 exact-whole f x = record {

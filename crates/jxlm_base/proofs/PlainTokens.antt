@@ -3,7 +3,7 @@ use Rattle.std.proofs.Common.{◌≡◌, ℕ, zero, suc, ◌+◌, ◌-◌, ◌*�
 use Rattle.std.proofs.lemmas.Bool.Decides.{nat_tests}
 use Rattle.jxlm_base.specs.Bits.{bits_at}
 use Rattle.jxlm_base.specs.Decoding.{Found, Taken, Asked, reads}
-use Rattle.jxlm_base.specs.Fault.{◌>>=◌}
+use Rattle.jxlm_base.specs.ErrorKind.{◌>>=◌}
 use Rattle.jxlm_base.specs.Plain.{PlainState, Read, number_at, code_of, is_runs, owed_in, last_in, begin_mode, token_at, run_at, plain_begin, plain_read, plain}
 use Rattle.jxlm_base.specs.Inner.PlainLaws.{bind_ok, ok_same}
 use Rattle.jxlm_base.specs.PlainTokens.{FixedTokensAreNumbers, SealsAreSums, RunsRepeat, is_sealed, counted, fixed_sum}

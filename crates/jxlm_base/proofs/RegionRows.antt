@@ -49,15 +49,15 @@ module _ {S : Type 0} where
 -- ---- a list with others written over it
 
 module _ {S : Type 0} (xs : List S) (i : ℕ) (vs : List S) (fits : i + length vs ≤ length xs) where
-  abbrev behind : List S
-  behind = drop (length vs) (drop i xs)
+  abbrev after_it : List S
+  after_it = drop (length vs) (drop i xs)
 
   abbrev pasted : List S
-  pasted = take i xs ++ (vs ++ behind)
+  pasted = take i xs ++ (vs ++ after_it)
 
   length-pasted : length pasted ≡ length xs
   length-pasted =
-      omega (arith, length-append (take i xs) (vs ++ behind), length-append vs behind, length-take-le i xs (omega arith), length-drop i xs, length-drop (length vs) (drop i xs))
+      omega (arith, length-append (take i xs) (vs ++ after_it), length-append vs after_it, length-take-le i xs (omega arith), length-drop i xs, length-drop (length vs) (drop i xs))
 
   get_pasted : (j : ℕ) → j < length xs → slice_get (written xs i vs) j ≡ slice_get pasted j
   get_pasted j h =
@@ -76,20 +76,20 @@ module _ {S : Type 0} (xs : List S) (i : ℕ) (vs : List S) (fits : i + length v
 
   pub written_inside : (j k : ℕ) → j ≡ i + k → k < length vs → slice_get (written xs i vs) j ≡ slice_get vs k
   written_inside j k e h =
-      get_pasted j (omega arith) ∙ get_append_right (take i xs) (vs ++ behind) j k (omega (arith, length-take-le i xs (omega arith)))
-      ∙ get_append_left vs behind k h
+      get_pasted j (omega arith) ∙ get_append_right (take i xs) (vs ++ after_it) j k (omega (arith, length-take-le i xs (omega arith)))
+      ∙ get_append_left vs after_it k h
 
   pub written_outside : (j : ℕ) → j < length xs → (i ≤ j → j < i + length vs → ⊥) → slice_get (written xs i vs) j ≡ slice_get xs j
   written_outside j h out =
       let front : length (take i xs) ≡ i = length-take-le i xs (omega arith) in
       elim (cases_lt j i) [
-        | inl lt ↦ get_pasted j h ∙ get_append_left (take i xs) (vs ++ behind) j (omega (arith, front)) ∙ get_take i xs j lt
+        | inl lt ↦ get_pasted j h ∙ get_append_left (take i xs) (vs ++ after_it) j (omega (arith, front)) ∙ get_take i xs j lt
         | inr ge ↦
             elim (cases_lt j (i + length vs)) [
               | inl lt ↦ absurd (out ge lt)
               | inr past ↦
-                  get_pasted j h ∙ get_append_right (take i xs) (vs ++ behind) j (j - i) (omega (arith, front))
-                  ∙ get_append_right vs behind (j - i) (j - i - length vs) (omega arith)
+                  get_pasted j h ∙ get_append_right (take i xs) (vs ++ after_it) j (j - i) (omega (arith, front))
+                  ∙ get_append_right vs after_it (j - i) (j - i - length vs) (omega arith)
                   ∙ get_drop (length vs) (drop i xs) (j - i - length vs) (j - i) (omega arith) ∙ get_drop i xs (j - i) j (omega arith)
             ]
       ]

@@ -2,8 +2,8 @@
 use Rattle.std.specs.Prelude.{◌≡◌, ℕ, zero, suc, ◌+◌, ◌*◌, ◌^◌, ◌≤◌, List, [], ◌∷◌, length, Bool, nat_lt, ◌==◌, if◌then◌else◌, MatchBool, Option, Some, IfSome, Result, Ok, Err}
 use Rattle.jxlm_base.specs.Bits.{bits_at}
 use Rattle.jxlm_base.specs.Decoding.{Found}
-use Rattle.jxlm_base.specs.Fault as reading
-use Rattle.jxlm_base.specs.Fault.{Fault, Eof, Refused, bitstream_fault, fault_of, UnlessMemory}
+use Rattle.jxlm_base.specs.ErrorKind as reading
+use Rattle.jxlm_base.specs.ErrorKind.{ErrorKind, Eof, ErrorAt, bitstream_kind, kind_of, UnlessMemory}
 use Rattle.jxlm_base.specs.declared.bits.BitstreamError.{BitstreamError}
 use Rattle.jxlm_base.specs.declared.bits.U32Spec.{U32Spec}
 use Rattle.jxlm_base.specs.declared.bits.U32Spec.TheVariants.{Const, Offset}
@@ -12,7 +12,7 @@ use Rattle.jxlm_base.specs.declared.error.Error.{Error}
 -- A kind of field, over bytes and bit positions.
 pub record Grammar (X : Type 0) : Type 1 where
   -- what is read at a position: the value and the position after it, or the first error and the reader's position then
-  pub read : List ℕ → ℕ → Result (Found X) Refused
+  pub read : List ℕ → ℕ → Result (Found X) ErrorAt
   -- the value stands from the first position to the second, in any of its spellings
   pub Stands : List ℕ → ℕ → X → ℕ → Type 0
 
@@ -22,14 +22,14 @@ pub record IsExact {X : Type 0} (field : Grammar X) : Type 0 where
   pub stands_read : (bytes : List ℕ) (p : ℕ) (x : X) (q : ℕ) → field.Stands bytes p x q → field.read bytes p ≡ Ok (record { value = x; position = q })
 
 -- a reading whose error leaves the reader at p
-abbrev pub undone : {X : Type 0} → ℕ → Result (Found X) Refused → Result (Found X) Refused
+abbrev pub undone : {X : Type 0} → ℕ → Result (Found X) ErrorAt → Result (Found X) ErrorAt
 undone p (Ok found) = Ok found
-undone p (Err e) = Err (record { fault = e.fault; position = Some p })
+undone p (Err e) = Err (record { error = e.error; position = Some p })
 
 -- u(n): the number of n bits, which must all be there
 abbrev pub number : ℕ → Grammar ℕ
 number n = record {
-  read = λ bytes p. if nat_lt (8 * length bytes) (p + n) then Err (record { fault = Eof; position = Some p }) else Ok (record { value = bits_at bytes p n; position = p + n });
+  read = λ bytes p. if nat_lt (8 * length bytes) (p + n) then Err (record { error = Eof; position = Some p }) else Ok (record { value = bits_at bytes p n; position = p + n });
   Stands = λ bytes p v q. (p + n ≤ 8 * length bytes) × (v ≡ bits_at bytes p n) × (q ≡ p + n);
 }
 
@@ -38,8 +38,8 @@ abbrev pub give : {X : Type 0} → X → Grammar X
 give x = record { read = λ bytes p. Ok (record { value = x; position = p }); Stands = λ bytes p y q. (y ≡ x) × (q ≡ p) }
 
 -- a field without values: reading it returns this error
-abbrev pub refuse : {X : Type 0} → Fault → Grammar X
-refuse fault = record { read = λ bytes p. Err (record { fault = fault; position = Some p }); Stands = λ bytes p y q. ⊥ }
+abbrev pub fail : {X : Type 0} → ErrorKind → Grammar X
+fail error = record { read = λ bytes p. Err (record { error = error; position = Some p }); Stands = λ bytes p y q. ⊥ }
 
 -- one field, and after it one that may depend on its value
 infixl 10 ◌>>=◌
@@ -89,12 +89,12 @@ FitsU32 (Const n) = Unit {0}
 FitsU32 (Offset least n) = (n ≤ 32) × (least + 2 ^ n ≤ 2 ^ 32)
 
 -- What a read returned, seen by view, and where it left the reader, are what reading gives.
-abbrev pub Reads : {X Y : Type 0} → (X → Y) → Result X BitstreamError → ℕ → Result (Found Y) Refused → Type 0
+abbrev pub Reads : {X Y : Type 0} → (X → Y) → Result X BitstreamError → ℕ → Result (Found Y) ErrorAt → Type 0
 Reads view (Ok x) q reading = reading ≡ Ok (record { value = view x; position = q })
-Reads view (Err e) q reading = reading ≡ Err (record { fault = bitstream_fault e; position = Some q })
+Reads view (Err e) q reading = reading ≡ Err (record { error = bitstream_kind e; position = Some q })
 
 -- the reading returns this error, and the reader is at q, unless that is the decoder's own matter
-pub record IsRefused {Y : Type 0} (reading : Result Y Refused) (fault : Fault) (q : ℕ) : Type 0 where
+pub record IsErrorAt {Y : Type 0} (reading : Result Y ErrorAt) (error : ErrorKind) (q : ℕ) : Type 0 where
   pub place : Option ℕ
-  pub refuses : reading ≡ Err (record { fault = fault; position = place })
+  pub refuses : reading ≡ Err (record { error = error; position = place })
   pub stands : IfSome place (λ p. q ≡ p)

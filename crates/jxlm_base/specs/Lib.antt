@@ -1,7 +1,7 @@
 pub mod Bits
 pub mod Colour
 pub mod Decoding
-pub mod Fault
+pub mod ErrorKind
 pub mod Grammar
 pub mod Grid
 pub mod GridLends

@@ -11,8 +11,10 @@ ghost use Rattle.jxlm_base.specs.declared.bits.U32Spec.{U32Spec};
 pub fn numbers_of_bits()
     ensures below { (bytes : List ℕ) (p n : ℕ) → bits_at bytes p n < 2 ^ n }
     ensures digits { (bytes : List ℕ) (p n j : ℕ) → j < n → bits_at bytes p n / 2 ^ j % 2 ≡ bit_at bytes (p + j) }
-    ensures joined { (bytes : List ℕ) (p n m : ℕ) → bits_at bytes p (n + m) ≡ bits_at bytes p n + bits_at bytes (p + n) m * 2 ^ n }
-    ensures byte { (bytes : List ℕ) (i : ℕ) → slice_index bytes i < 2 ^ 8 → bits_at bytes (8 * i) 8 ≡ slice_index bytes i }
+    ensures joined { (bytes : List ℕ) (p n m : ℕ) → bits_at bytes p (n + m) ≡ bits_at bytes p n + bits_at bytes
+        (p + n) m * 2 ^ n }
+    ensures byte { (bytes : List ℕ) (i : ℕ) → slice_index bytes i < 2 ^ 8 → bits_at bytes (8 * i) 8
+        ≡ slice_index bytes i }
 {}
 
 /// What is read as a number of n bits, a `Bool` or a `U32` stands there, and what stands there is read.

@@ -172,9 +172,9 @@ impl<'a> Bitstream<'a> {
     {
         if self.bytes.len() - self.byte < 8 {
             // a copy, so that a reader in a local variable may stay in registers
-            let mut ahead = *self;
-            let value = ahead.read_near_end(n)?;
-            *self = ahead;
+            let mut before_it = *self;
+            let value = before_it.read_near_end(n)?;
+            *self = before_it;
             return Ok(value);
         }
         let end = self.bit + n;
@@ -188,7 +188,8 @@ impl<'a> Bitstream<'a> {
     ///
     /// `UnexpectedEof` at the end of the input: the reader is then unchanged.
     pub fn read_bool(&mut self) -> Result<bool, BitstreamError>
-        ensures gives { Reads (λ v. v) result (position_of self.new) (flag.read (bytes_of self.old) (position_of self.old)) }
+        ensures gives { Reads (λ v. v) result (position_of self.new)
+            (flag.read (bytes_of self.old) (position_of self.old)) }
         ensures bytes { bytes_of self.new ≡ bytes_of self.old }
     {
         Ok(self.read_bits(1)? == 1)
@@ -196,7 +197,8 @@ impl<'a> Bitstream<'a> {
 
     fn read_part(&mut self, d: U32Spec) -> Result<u32, BitstreamError>
         requires fits { FitsU32 d }
-        ensures gives { Reads (λ v. v) result (position_of self.new) ((part d).read (bytes_of self.old) (position_of self.old)) }
+        ensures gives { Reads (λ v. v) result (position_of self.new)
+            ((part d).read (bytes_of self.old) (position_of self.old)) }
         ensures bytes { bytes_of self.new ≡ bytes_of self.old }
     {
         match d {
@@ -216,7 +218,8 @@ impl<'a> Bitstream<'a> {
         d3: U32Spec,
     ) -> Result<u32, BitstreamError>
         requires fits { FitsU32 d0 × FitsU32 d1 × FitsU32 d2 × FitsU32 d3 }
-        ensures gives { Reads (λ v. v) result (position_of self.new) ((selected d0 d1 d2 d3).read (bytes_of self.old) (position_of self.old)) }
+        ensures gives { Reads (λ v. v) result (position_of self.new)
+            ((selected d0 d1 d2 d3).read (bytes_of self.old) (position_of self.old)) }
         ensures bytes { bytes_of self.new ≡ bytes_of self.old }
     {
         let selector = self.read_bits(2)?;
@@ -244,12 +247,13 @@ impl<'a> Bitstream<'a> {
         d3: U32Spec,
     ) -> Result<u32, BitstreamError>
         requires fits { FitsU32 d0 × FitsU32 d1 × FitsU32 d2 × FitsU32 d3 }
-        ensures gives { Reads (λ v. v) result (position_of self.new) ((the_u32 d0 d1 d2 d3).read (bytes_of self.old) (position_of self.old)) }
+        ensures gives { Reads (λ v. v) result (position_of self.new)
+            ((the_u32 d0 d1 d2 d3).read (bytes_of self.old) (position_of self.old)) }
         ensures bytes { bytes_of self.new ≡ bytes_of self.old }
     {
-        let mut ahead = *self;
-        let value = ahead.read_selected(d0, d1, d2, d3)?;
-        *self = ahead;
+        let mut before_it = *self;
+        let value = before_it.read_selected(d0, d1, d2, d3)?;
+        *self = before_it;
         Ok(value)
     }
 }

@@ -77,7 +77,8 @@ impl Arithmetic for i16 {
 
 /// The finished samples of luma and two differences.
 fn from_luma<S: Arithmetic>(a: S, b: S, c: S) -> (S, S, S)
-    ensures { triple (S.to_int result.0) (S.to_int result.1) (S.to_int result.2) ≡ the_luma_undone S.width (triple (S.to_int a) (S.to_int b) (S.to_int c)) }
+    ensures { triple (S.to_int result.0) (S.to_int result.1) (S.to_int result.2) ≡ the_luma_undone S.width
+        (triple (S.to_int a) (S.to_int b) (S.to_int c)) }
 {
     let middle = a.difference(c.half());
     let e = c.sum(middle);
@@ -87,7 +88,8 @@ fn from_luma<S: Arithmetic>(a: S, b: S, c: S) -> (S, S, S)
 
 /// The finished samples of a sample and what the others lost of it.
 fn from_differences<S: Arithmetic>(ty: u32, a: S, b: S, c: S) -> (S, S, S)
-    ensures { triple (S.to_int result.0) (S.to_int result.1) (S.to_int result.2) ≡ the_differences_undone S.width ty (triple (S.to_int a) (S.to_int b) (S.to_int c)) }
+    ensures { triple (S.to_int result.0) (S.to_int result.1) (S.to_int result.2) ≡ the_differences_undone S.width ty
+        (triple (S.to_int a) (S.to_int b) (S.to_int c)) }
 {
     let f = if ty % 2 == 1 { c.sum(a) } else { c };
     let e = match ty / 2 {
@@ -100,7 +102,8 @@ fn from_differences<S: Arithmetic>(ty: u32, a: S, b: S, c: S) -> (S, S, S)
 
 /// The finished samples of three coded ones, in the order of those.
 fn finished<S: Arithmetic>(ty: u32, a: S, b: S, c: S) -> (S, S, S)
-    ensures { triple (S.to_int result.0) (S.to_int result.1) (S.to_int result.2) ≡ finished_by S.width ty (triple (S.to_int a) (S.to_int b) (S.to_int c)) }
+    ensures { triple (S.to_int result.0) (S.to_int result.1) (S.to_int result.2) ≡ finished_by S.width ty
+        (triple (S.to_int a) (S.to_int b) (S.to_int c)) }
 {
     if ty == 6 {
         from_luma(a, b, c)
@@ -113,7 +116,8 @@ fn finished<S: Arithmetic>(ty: u32, a: S, b: S, c: S) -> (S, S, S)
 pub(crate) fn finish_rows<S: Arithmetic>(ty: u32, a: &mut [S], b: &mut [S], c: &mut [S])
     requires second { length b.old ≡ length a.old }
     requires third { length c.old ≡ length a.old }
-    ensures { FinishesRows S.width ty (map S.to_int a.old) (map S.to_int b.old) (map S.to_int c.old) (map S.to_int a.new) (map S.to_int b.new) (map S.to_int c.new) }
+    ensures { FinishesRows S.width ty (map S.to_int a.old) (map S.to_int b.old) (map S.to_int c.old)
+        (map S.to_int a.new) (map S.to_int b.new) (map S.to_int c.new) }
 {
     for i in 0..a.len() {
         let (d, e, f) = finished(ty, a[i].known(), b[i].known(), c[i].known());

@@ -76,7 +76,8 @@ pub trait Decoder: Sized + Drop {
     /// Any error may come; after one the reader's position is this decoder's own matter. Out of memory is
     /// `OutOfMemory`.
     fn parse(alloc: Global, bits: &mut Bitstream<'_>, contexts: u32) -> Result<Self, DecoderError>
-        ensures gives { Gives (λ d. d) result (position_of bits.new) (meaning.parse (bytes_of bits.old) (position_of bits.old) contexts) }
+        ensures gives { Gives (λ d. d) result (position_of bits.new)
+            (meaning.parse (bytes_of bits.old) (position_of bits.old) contexts) }
         ensures bytes { bytes_of bits.new ≡ bytes_of bits.old };
 
     /// The same decoder once more, in the same state.
@@ -92,7 +93,8 @@ pub trait Decoder: Sized + Drop {
     /// and there is no token before; clusters, single tokens and `as_rle` are as they were. An error, which is never
     /// `OutOfMemory`, leaves the reader's position, and of the decoder what `parse` settled.
     fn begin(&mut self, bits: &mut Bitstream<'_>) -> Result<(), DecoderError>
-        ensures gives { BeginGives result self.old self.new (position_of bits.old) (position_of bits.new) (meaning.begin self.old (bytes_of bits.old) (position_of bits.old)) }
+        ensures gives { BeginGives result self.old self.new (position_of bits.old) (position_of bits.new)
+            (meaning.begin self.old (bytes_of bits.old) (position_of bits.old)) }
         ensures keeps { Keeps meaning self.old self.new }
         ensures bytes { bytes_of bits.new ≡ bytes_of bits.old };
 
@@ -102,7 +104,9 @@ pub trait Decoder: Sized + Drop {
     /// and reader as they were.
     fn read_varint(&mut self, bits: &mut Bitstream<'_>, context: u32) -> Result<u32, DecoderError>
         requires { context < length (meaning.cluster_map self.old) }
-        ensures gives { ReadGives result self.old self.new (position_of bits.old) (position_of bits.new) (meaning.read self.old (bytes_of bits.old) (position_of bits.old) (slice_index (meaning.cluster_map self.old) context) 0) }
+        ensures gives { ReadGives result self.old self.new (position_of bits.old) (position_of bits.new)
+            (meaning.read self.old (bytes_of bits.old) (position_of bits.old)
+            (slice_index (meaning.cluster_map self.old) context) 0) }
         ensures bytes { bytes_of bits.new ≡ bytes_of bits.old }
     {
         let cluster = self.cluster_map()[context as usize];
@@ -122,7 +126,8 @@ pub trait Decoder: Sized + Drop {
         multiplier: u32,
     ) -> Result<u32, DecoderError>
         requires { Contains (meaning.cluster_map self.old) cluster }
-        ensures gives { ReadGives result self.old self.new (position_of bits.old) (position_of bits.new) (meaning.read self.old (bytes_of bits.old) (position_of bits.old) cluster multiplier) }
+        ensures gives { ReadGives result self.old self.new (position_of bits.old) (position_of bits.new)
+            (meaning.read self.old (bytes_of bits.old) (position_of bits.old) cluster multiplier) }
         ensures bytes { bytes_of bits.new ≡ bytes_of bits.old };
 
     /// Reads a token of a cluster, or a whole run, where `as_rle` is true and no run is open.
@@ -139,7 +144,8 @@ pub trait Decoder: Sized + Drop {
         requires cluster { Contains (meaning.cluster_map self.old) cluster }
         requires rle { meaning.as_rle self.old ≡ true }
         requires between { meaning.owed self.old ≡ 0 }
-        ensures gives { (m : ℕ) → RunGives meaning result self.old self.new (position_of bits.old) (position_of bits.new) (meaning.read self.old (bytes_of bits.old) (position_of bits.old) cluster m) }
+        ensures gives { (m : ℕ) → RunGives meaning result self.old self.new (position_of bits.old)
+            (position_of bits.new) (meaning.read self.old (bytes_of bits.old) (position_of bits.old) cluster m) }
         ensures bytes { bytes_of bits.new ≡ bytes_of bits.old };
 
     /// The only token of a cluster, if it has one: then each read of the cluster gives it, and changes nothing.
@@ -181,13 +187,13 @@ mod tests {
     use std::test::Fail;
 
     #[test]
-    fn faults(rt: HostRuntime) -> Result<(), Fail> {
-        for (fault, is_eof, text) in [
+    fn errors(rt: HostRuntime) -> Result<(), Fail> {
+        for (error, is_eof, text) in [
             (DecoderError::UnexpectedEof, true, "unexpected end of input"),
             (DecoderError::Invalid(4), false, "invalid code 4"),
             (DecoderError::OutOfMemory, false, "out of memory"),
         ] {
-            assert_eq!(rt; fault.unexpected_eof(), is_eof, "{text}");
+            assert_eq!(rt; error.unexpected_eof(), is_eof, "{text}");
             let shown = format!(in rt.alloc(); "{fault}")?;
             assert_eq!(rt; shown.as_str(), text);
         }

@@ -40,13 +40,13 @@ pub enum Error {
 pub type Result<T> = std::result::Result<T, Error>;
 
 impl Error {
-    ghost use Rattle.jxlm_base.specs.Fault.{Fault, Eof, OfDecoder, fault_of};
+    ghost use Rattle.jxlm_base.specs.ErrorKind.{ErrorKind, Eof, OfDecoder, kind_of};
     ghost use Rattle.jxlm_base.specs.declared.decoder.DecoderError.TheVariants.{UnexpectedEof};
 
     /// Whether the input ended too early, in a field or in the entropy decoder: true for `UnexpectedEof` in
     /// `Bitstream` or in `Decoder`, and for nothing else.
     pub fn unexpected_eof(&self) -> bool
-        ensures { IsTrue result ↔ ((fault_of self.now ≡ Eof) ⊎ (fault_of self.now ≡ OfDecoder UnexpectedEof)) }
+        ensures { IsTrue result ↔ ((kind_of self.now ≡ Eof) ⊎ (kind_of self.now ≡ OfDecoder UnexpectedEof)) }
     {
         match self {
             Error::Bitstream(e) => e.unexpected_eof(),

@@ -11,12 +11,14 @@ ghost use Rattle.jxlm_base.specs.Squeeze.{SqueezeLosesNothing};
 pub fn narrow_samples_are_wide_ones_reduced()
     ensures unpacked { (token : ℕ) → int_wrap w16 (int_wrap w32 (unpack token)) ≡ int_wrap w16 (unpack token) }
     ensures added { (a b : ℤ) → int_wrap w16 (int_wrap w32 (a +ℤ b)) ≡ int_wrap w16 (int_wrap w16 a +ℤ int_wrap w16 b) }
-    ensures multiplied { (a m d : ℤ) → int_wrap w16 (int_wrap w32 (a *ℤ m +ℤ d)) ≡ int_wrap w16 (int_wrap w16 a *ℤ m +ℤ d) }
+    ensures multiplied { (a m d : ℤ) → int_wrap w16 (int_wrap w32 (a *ℤ m +ℤ d)) ≡ int_wrap w16
+        (int_wrap w16 a *ℤ m +ℤ d) }
 {}
 
 /// A gradient of samples of a width is one, whatever the sample above and to the left.
 pub fn gradients_fit()
-    ensures { (w : Width) (n west nw : ℤ) → FitsSigned w n → FitsSigned w west → FitsSigned w (clamped_gradient n west nw) }
+    ensures { (w : Width) (n west nw : ℤ) → FitsSigned w n → FitsSigned w west → FitsSigned w
+        (clamped_gradient n west nw) }
 {}
 
 /// Each whole number is that of exactly one token, and the tokens of 32 bits have the numbers of 32 bits.
@@ -30,7 +32,8 @@ pub fn each_number_has_one_token()
 pub fn grids_are_their_cells<S>()
     ensures full { (w h : ℕ) (f : ℕ → ℕ → S) → IsFull (grid_by w h f) }
     ensures each { (w h : ℕ) (f : ℕ → ℕ → S) (x y : ℕ) → x < w → y < h → cell (grid_by w h f) x y ≡ Some (f x y) }
-    ensures one { (g h : Grid S) → IsFull g → IsFull h → g.width ≡ h.width → g.height ≡ h.height → ((x y : ℕ) → x < g.width → y < g.height → cell g x y ≡ cell h x y) → g ≡ h }
+    ensures one { (g h : Grid S) → IsFull g → IsFull h → g.width ≡ h.width → g.height ≡ h.height
+        → ((x y : ℕ) → x < g.width → y < g.height → cell g x y ≡ cell h x y) → g ≡ h }
 {}
 
 /// Where no two regions share a cell, a write to a cell of one changes that cell of its grid, and no other grid.

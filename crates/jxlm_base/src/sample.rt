@@ -59,7 +59,8 @@ pub trait Sealed: Copy + Default {
         requires kind { ty ≤ 6 }
         requires second { length b.old ≡ length a.old }
         requires third { length c.old ≡ length a.old }
-        ensures { FinishesRows Self.width ty (map Self.to_int a.old) (map Self.to_int b.old) (map Self.to_int c.old) (map Self.to_int a.new) (map Self.to_int b.new) (map Self.to_int c.new) };
+        ensures { FinishesRows Self.width ty (map Self.to_int a.old) (map Self.to_int b.old) (map Self.to_int c.old)
+            (map Self.to_int a.new) (map Self.to_int b.new) (map Self.to_int c.new) };
 
     /// Undoes a horizontal squeeze in place (ISO/IEC 18181-1, Modular: squeeze): each row of the rectangle is
     /// averages and then residuals, and afterwards the row that becomes them when it is squeezed. Nothing outside
@@ -72,7 +73,8 @@ pub trait Sealed: Copy + Default {
         subgrid: &mut MutableSubgrid<'_, Self>,
     ) -> Result<(), OutOfMemory>
         ensures kept { KeepsOutside subgrid.old subgrid.new }
-        ensures undone { IfOk result (λ _. squeezed_rows Self.width (numbers_in Self.to_int subgrid.new) ≡ numbers_in Self.to_int subgrid.old) }
+        ensures undone { IfOk result (λ _. squeezed_rows Self.width (numbers_in Self.to_int subgrid.new)
+            ≡ numbers_in Self.to_int subgrid.old) }
         ensures samples { IfOk result (λ _. AreGridSamples Self.width (numbers_in Self.to_int subgrid.new)) }
         ensures unchanged { IfErr result (λ _. whole subgrid.new ≡ whole subgrid.old) }
         ensures no_cells { (subgrid.old.width ≡ 0) ⊎ (subgrid.old.height ≡ 0) → IsOk result };
@@ -87,7 +89,8 @@ pub trait Sealed: Copy + Default {
         subgrid: &mut MutableSubgrid<'_, Self>,
     ) -> Result<(), OutOfMemory>
         ensures kept { KeepsOutside subgrid.old subgrid.new }
-        ensures undone { IfOk result (λ _. squeezed_columns Self.width (numbers_in Self.to_int subgrid.new) ≡ numbers_in Self.to_int subgrid.old) }
+        ensures undone { IfOk result (λ _. squeezed_columns Self.width (numbers_in Self.to_int subgrid.new)
+            ≡ numbers_in Self.to_int subgrid.old) }
         ensures samples { IfOk result (λ _. AreGridSamples Self.width (numbers_in Self.to_int subgrid.new)) }
         ensures unchanged { IfErr result (λ _. whole subgrid.new ≡ whole subgrid.old) }
         ensures no_cells { (subgrid.old.width ≡ 0) ⊎ (subgrid.old.height ≡ 0) → IsOk result };
@@ -97,7 +100,8 @@ pub trait Sealed: Copy + Default {
         requires room { subgrid.old.width ≤ length scratch.old }
         ensures len { length scratch.new ≡ length scratch.old }
         ensures kept { KeepsOutside subgrid.old subgrid.new }
-        ensures undone { squeezed_rows Self.width (numbers_in Self.to_int subgrid.new) ≡ numbers_in Self.to_int subgrid.old }
+        ensures undone { squeezed_rows Self.width (numbers_in Self.to_int subgrid.new)
+            ≡ numbers_in Self.to_int subgrid.old }
         ensures samples { AreGridSamples Self.width (numbers_in Self.to_int subgrid.new) };
 
     /// As `squeeze_columns`, with `scratch`, which has room for a column and a cell more. The more columns it has
@@ -106,7 +110,8 @@ pub trait Sealed: Copy + Default {
         requires room { subgrid.old.height + 1 ≤ length scratch.old }
         ensures len { length scratch.new ≡ length scratch.old }
         ensures kept { KeepsOutside subgrid.old subgrid.new }
-        ensures undone { squeezed_columns Self.width (numbers_in Self.to_int subgrid.new) ≡ numbers_in Self.to_int subgrid.old }
+        ensures undone { squeezed_columns Self.width (numbers_in Self.to_int subgrid.new)
+            ≡ numbers_in Self.to_int subgrid.old }
         ensures samples { AreGridSamples Self.width (numbers_in Self.to_int subgrid.new) };
 
     ghost to_int_from_int: { (n : ℤ) → to_int (from_int n) ≡ n };

@@ -19,8 +19,10 @@ pub(crate) trait Pairs: Copy {
 
     /// The samples of a pair, from the sample before it, its average, the next average and its residual.
     fn pair(before: Self, average: Self, next: Self, residual: Self) -> (Self, Self)
-        ensures first { Self.to_int result.0 ≡ first_of Self.width (Self.to_int before) (Self.to_int average) (Self.to_int next) (Self.to_int residual) }
-        ensures second { Self.to_int result.1 ≡ second_of Self.width (Self.to_int before) (Self.to_int average) (Self.to_int next) (Self.to_int residual) }
+        ensures first { Self.to_int result.0 ≡ first_of Self.width (Self.to_int before) (Self.to_int average)
+            (Self.to_int next) (Self.to_int residual) }
+        ensures second { Self.to_int result.1 ≡ second_of Self.width (Self.to_int before) (Self.to_int average)
+            (Self.to_int next) (Self.to_int residual) }
         ensures average_fits { FitsSigned Self.width (Self.to_int average) }
         ensures residual_fits { FitsSigned Self.width (Self.to_int residual) };
 
@@ -135,7 +137,8 @@ fn pair_at<S: Pairs>(coded: &[S], k: usize, before: S) -> (S, S)
 fn unsqueeze_row<S: Pairs>(coded: &[S], row: &mut [S])
     requires { length row.old ≡ length coded.now }
     ensures len { length row.new ≡ length row.old }
-    ensures undone { IsUnsqueezed S.width (length coded.now) (number_at S.to_int coded.now) (number_at S.to_int row.new) }
+    ensures undone { IsUnsqueezed S.width (length coded.now) (number_at S.to_int coded.now)
+        (number_at S.to_int row.new) }
     ensures samples { AreSamples S.width (length coded.now) (number_at S.to_int coded.now) }
 {
     if coded.is_empty() {
@@ -160,8 +163,10 @@ fn undo_row<S: Pairs>(subgrid: &mut MutableSubgrid<'_, S>, y: usize, scratch: &m
     requires room { subgrid.old.width ≤ length scratch.old }
     ensures len { length scratch.new ≡ length scratch.old }
     ensures place { IsSamePlace subgrid.old subgrid.new }
-    ensures cells { IsSameOutside subgrid.old.x (subgrid.old.y + y) subgrid.old.width 1 (whole subgrid.old) (whole subgrid.new) }
-    ensures undone { IsUnsqueezed S.width subgrid.old.width (row_in S.to_int subgrid.old (whole subgrid.old) y) (row_in S.to_int subgrid.old (whole subgrid.new) y) }
+    ensures cells { IsSameOutside subgrid.old.x (subgrid.old.y + y) subgrid.old.width 1 (whole subgrid.old)
+        (whole subgrid.new) }
+    ensures undone { IsUnsqueezed S.width subgrid.old.width (row_in S.to_int subgrid.old (whole subgrid.old) y)
+        (row_in S.to_int subgrid.old (whole subgrid.new) y) }
     ensures samples { AreSamples S.width subgrid.old.width (row_in S.to_int subgrid.old (whole subgrid.old) y) }
 {
     let width = subgrid.width();
@@ -200,11 +205,17 @@ fn unsqueeze_lines<S: Pairs>(
     requires residuals_len { length residuals.now ≡ length averages.now }
     requires room { at + 3 * length averages.now ≤ length strip.old }
     ensures len { length strip.new ≡ length strip.old }
-    ensures kept { (i : ℕ) → i < at + length averages.now → number_at S.to_int strip.new i ≡ number_at S.to_int strip.old i }
-    ensures first { (j : ℕ) → j < length averages.now → number_at S.to_int strip.new (at + length averages.now + j) ≡ first_of S.width (number_at S.to_int strip.old (at + j)) (number_at S.to_int averages.now j) (number_at S.to_int next.now j) (number_at S.to_int residuals.now j) }
-    ensures second { (j : ℕ) → j < length averages.now → number_at S.to_int strip.new (at + 2 * length averages.now + j) ≡ second_of S.width (number_at S.to_int strip.old (at + j)) (number_at S.to_int averages.now j) (number_at S.to_int next.now j) (number_at S.to_int residuals.now j) }
+    ensures kept { (i : ℕ) → i < at + length averages.now → number_at S.to_int strip.new i
+        ≡ number_at S.to_int strip.old i }
+    ensures first { (j : ℕ) → j < length averages.now → number_at S.to_int strip.new (at + length averages.now + j)
+        ≡ first_of S.width (number_at S.to_int strip.old (at + j)) (number_at S.to_int averages.now j)
+        (number_at S.to_int next.now j) (number_at S.to_int residuals.now j) }
+    ensures second { (j : ℕ) → j < length averages.now → number_at S.to_int strip.new
+        (at + 2 * length averages.now + j) ≡ second_of S.width (number_at S.to_int strip.old (at + j))
+        (number_at S.to_int averages.now j) (number_at S.to_int next.now j) (number_at S.to_int residuals.now j) }
     ensures averages_fit { (j : ℕ) → j < length averages.now → FitsSigned S.width (number_at S.to_int averages.now j) }
-    ensures residuals_fit { (j : ℕ) → j < length averages.now → FitsSigned S.width (number_at S.to_int residuals.now j) }
+    ensures residuals_fit { (j : ℕ) → j < length averages.now → FitsSigned S.width
+        (number_at S.to_int residuals.now j) }
 {
     let columns = averages.len();
     for j in 0..columns {
@@ -219,7 +230,8 @@ fn single_line<S: Pairs>(line: &[S], strip: &mut [S], at: usize)
     requires room { at + length line.now ≤ length strip.old }
     ensures len { length strip.new ≡ length strip.old }
     ensures kept { (i : ℕ) → i < at → number_at S.to_int strip.new i ≡ number_at S.to_int strip.old i }
-    ensures copied { (j : ℕ) → j < length line.now → number_at S.to_int strip.new (at + j) ≡ number_at S.to_int line.now j }
+    ensures copied { (j : ℕ) → j < length line.now → number_at S.to_int strip.new (at + j)
+        ≡ number_at S.to_int line.now j }
     ensures fit { (j : ℕ) → j < length line.now → FitsSigned S.width (number_at S.to_int line.now j) }
 {
     for j in 0..line.len() {
@@ -250,13 +262,19 @@ fn strip_pair<S: Pairs>(
     requires columns_inside { x + columns ≤ subgrid.now.width }
     requires pair { k < subgrid.now.height / 2 }
     requires room { (subgrid.now.height + 1) * columns ≤ length strip.old }
-    requires stands_before { (j : ℕ) → j < columns → number_at S.to_int strip.old (2 * k * columns + j) ≡ before_in S.width subgrid.now.height (column_in S.to_int subgrid.now (whole subgrid.now) (x + j)) k }
+    requires stands_before { (j : ℕ) → j < columns → number_at S.to_int strip.old (2 * k * columns + j)
+        ≡ before_in S.width subgrid.now.height (column_in S.to_int subgrid.now (whole subgrid.now) (x + j)) k }
     ensures len { length strip.new ≡ length strip.old }
-    ensures kept { (i : ℕ) → i < 2 * k * columns + columns → number_at S.to_int strip.new i ≡ number_at S.to_int strip.old i }
-    ensures first { (j : ℕ) → j < columns → number_at S.to_int strip.new (2 * k * columns + columns + j) ≡ first_in S.width subgrid.now.height (column_in S.to_int subgrid.now (whole subgrid.now) (x + j)) k }
-    ensures second { (j : ℕ) → j < columns → number_at S.to_int strip.new (2 * k * columns + 2 * columns + j) ≡ before_in S.width subgrid.now.height (column_in S.to_int subgrid.now (whole subgrid.now) (x + j)) (suc k) }
-    ensures averages_fit { (j : ℕ) → j < columns → FitsSigned S.width (column_in S.to_int subgrid.now (whole subgrid.now) (x + j) k) }
-    ensures residuals_fit { (j : ℕ) → j < columns → FitsSigned S.width (column_in S.to_int subgrid.now (whole subgrid.now) (x + j) (averages subgrid.now.height + k)) }
+    ensures kept { (i : ℕ) → i < 2 * k * columns + columns → number_at S.to_int strip.new i
+        ≡ number_at S.to_int strip.old i }
+    ensures first { (j : ℕ) → j < columns → number_at S.to_int strip.new (2 * k * columns + columns + j)
+        ≡ first_in S.width subgrid.now.height (column_in S.to_int subgrid.now (whole subgrid.now) (x + j)) k }
+    ensures second { (j : ℕ) → j < columns → number_at S.to_int strip.new (2 * k * columns + 2 * columns + j)
+        ≡ before_in S.width subgrid.now.height (column_in S.to_int subgrid.now (whole subgrid.now) (x + j)) (suc k) }
+    ensures averages_fit { (j : ℕ) → j < columns → FitsSigned S.width
+        (column_in S.to_int subgrid.now (whole subgrid.now) (x + j) k) }
+    ensures residuals_fit { (j : ℕ) → j < columns → FitsSigned S.width
+        (column_in S.to_int subgrid.now (whole subgrid.now) (x + j) (averages subgrid.now.height + k)) }
 {
     let height = subgrid.height();
     let averages = subgrid.cells(x, k, columns);
@@ -276,8 +294,11 @@ fn unsqueeze_strip<S: Pairs>(
     requires some_rows { 0 < subgrid.now.height }
     requires room { (subgrid.now.height + 1) * columns ≤ length strip.old }
     ensures len { length strip.new ≡ length strip.old }
-    ensures undone { (j : ℕ) → j < columns → IsUnsqueezed S.width subgrid.now.height (column_in S.to_int subgrid.now (whole subgrid.now) (x + j)) (λ i. number_at S.to_int strip.new (i * columns + columns + j)) }
-    ensures samples { (j : ℕ) → j < columns → AreSamples S.width subgrid.now.height (column_in S.to_int subgrid.now (whole subgrid.now) (x + j)) }
+    ensures undone { (j : ℕ) → j < columns → IsUnsqueezed S.width subgrid.now.height
+        (column_in S.to_int subgrid.now (whole subgrid.now) (x + j))
+        (λ i. number_at S.to_int strip.new (i * columns + columns + j)) }
+    ensures samples { (j : ℕ) → j < columns → AreSamples S.width subgrid.now.height
+        (column_in S.to_int subgrid.now (whole subgrid.now) (x + j)) }
 {
     let height = subgrid.height();
     single_line(subgrid.cells(x, 0, columns), strip, 0);
@@ -296,8 +317,10 @@ fn write_strip<S: Copy>(subgrid: &mut MutableSubgrid<'_, S>, x: usize, columns: 
     requires columns_inside { x + columns ≤ subgrid.old.width }
     requires room { (subgrid.old.height + 1) * columns ≤ length strip.now }
     ensures place { IsSamePlace subgrid.old subgrid.new }
-    ensures cells { IsSameOutside (subgrid.old.x + x) subgrid.old.y columns subgrid.old.height (whole subgrid.old) (whole subgrid.new) }
-    ensures written { (i j : ℕ) → i < subgrid.old.height → j < columns → cell (whole subgrid.new) (subgrid.old.x + x + j) (subgrid.old.y + i) ≡ slice_get strip.now (i * columns + columns + j) }
+    ensures cells { IsSameOutside (subgrid.old.x + x) subgrid.old.y columns subgrid.old.height (whole subgrid.old)
+        (whole subgrid.new) }
+    ensures written { (i j : ℕ) → i < subgrid.old.height → j < columns → cell (whole subgrid.new)
+        (subgrid.old.x + x + j) (subgrid.old.y + i) ≡ slice_get strip.now (i * columns + columns + j) }
 {
     for i in 0..subgrid.height() {
         let start = i * columns + columns;
@@ -318,9 +341,13 @@ fn undo_strip<S: Pairs>(
     requires room { (subgrid.old.height + 1) * columns ≤ length strip.old }
     ensures len { length strip.new ≡ length strip.old }
     ensures place { IsSamePlace subgrid.old subgrid.new }
-    ensures cells { IsSameOutside (subgrid.old.x + x) subgrid.old.y columns subgrid.old.height (whole subgrid.old) (whole subgrid.new) }
-    ensures undone { (j : ℕ) → j < columns → IsUnsqueezed S.width subgrid.old.height (column_in S.to_int subgrid.old (whole subgrid.old) (x + j)) (column_in S.to_int subgrid.old (whole subgrid.new) (x + j)) }
-    ensures samples { (j : ℕ) → j < columns → AreSamples S.width subgrid.old.height (column_in S.to_int subgrid.old (whole subgrid.old) (x + j)) }
+    ensures cells { IsSameOutside (subgrid.old.x + x) subgrid.old.y columns subgrid.old.height (whole subgrid.old)
+        (whole subgrid.new) }
+    ensures undone { (j : ℕ) → j < columns → IsUnsqueezed S.width subgrid.old.height
+        (column_in S.to_int subgrid.old (whole subgrid.old) (x + j))
+        (column_in S.to_int subgrid.old (whole subgrid.new) (x + j)) }
+    ensures samples { (j : ℕ) → j < columns → AreSamples S.width subgrid.old.height
+        (column_in S.to_int subgrid.old (whole subgrid.old) (x + j)) }
 {
     unsqueeze_strip(subgrid, x, columns, strip);
     write_strip(subgrid, x, columns, strip);
@@ -358,7 +385,8 @@ pub(crate) fn rows<S: Pairs>(
     subgrid: &mut MutableSubgrid<'_, S>,
 ) -> Result<(), OutOfMemory>
     ensures kept { KeepsOutside subgrid.old subgrid.new }
-    ensures undone { IfOk result (λ _. squeezed_rows S.width (numbers_in S.to_int subgrid.new) ≡ numbers_in S.to_int subgrid.old) }
+    ensures undone { IfOk result (λ _. squeezed_rows S.width (numbers_in S.to_int subgrid.new)
+        ≡ numbers_in S.to_int subgrid.old) }
     ensures samples { IfOk result (λ _. AreGridSamples S.width (numbers_in S.to_int subgrid.new)) }
     ensures unchanged { IfErr result (λ _. whole subgrid.new ≡ whole subgrid.old) }
     ensures no_cells { (subgrid.old.width ≡ 0) ⊎ (subgrid.old.height ≡ 0) → IsOk result }
@@ -390,7 +418,8 @@ pub(crate) fn columns<S: Pairs>(
     subgrid: &mut MutableSubgrid<'_, S>,
 ) -> Result<(), OutOfMemory>
     ensures kept { KeepsOutside subgrid.old subgrid.new }
-    ensures undone { IfOk result (λ _. squeezed_columns S.width (numbers_in S.to_int subgrid.new) ≡ numbers_in S.to_int subgrid.old) }
+    ensures undone { IfOk result (λ _. squeezed_columns S.width (numbers_in S.to_int subgrid.new)
+        ≡ numbers_in S.to_int subgrid.old) }
     ensures samples { IfOk result (λ _. AreGridSamples S.width (numbers_in S.to_int subgrid.new)) }
     ensures unchanged { IfErr result (λ _. whole subgrid.new ≡ whole subgrid.old) }
     ensures no_cells { (subgrid.old.width ≡ 0) ⊎ (subgrid.old.height ≡ 0) → IsOk result }

@@ -89,7 +89,8 @@ impl<'a, S: Copy> MutableSubgrid<'a, S> {
     pub(crate) fn cells(&self, x: usize, y: usize, count: usize) -> &[S]
         requires columns { x + count ≤ self.now.width }
         requires in_rows { y < self.now.height }
-        ensures value { result.now ≡ slice_range (row (whole self.now) (self.now.y + y)) (self.now.x + x) (self.now.x + x + count) }
+        ensures value { result.now ≡ slice_range (row (whole self.now) (self.now.y + y)) (self.now.x + x)
+            (self.now.x + x + count) }
         ensures len { length result.now ≡ count }
     {
         let start = self.x + x;
@@ -101,7 +102,8 @@ impl<'a, S: Copy> MutableSubgrid<'a, S> {
         requires columns { x + length cells.now ≤ self.old.width }
         requires in_rows { y < self.old.height }
         ensures place { IsSamePlace self.old self.new }
-        ensures written { whole self.new ≡ with_row (whole self.old) (self.old.y + y) (written (row (whole self.old) (self.old.y + y)) (self.old.x + x) cells.now) }
+        ensures written { whole self.new ≡ with_row (whole self.old) (self.old.y + y)
+            (written (row (whole self.old) (self.old.y + y)) (self.old.x + x) cells.now) }
     {
         self.grid.write_cells(self.x + x, self.y + y, cells);
     }

@@ -119,6 +119,6 @@ can_undo_all [] l m places store e some h tables = All-nil (CanUndo store)
 can_undo_all (s ∷ ss) l m places store e some h tables =
     let (n, first, rest) = first_step s ss l m e in
     let here = All-head HasChannels s ss some in
-    let behind = lie_after s l n places ss store first here h tables in
+    let after_it = lie_after s l n places ss store first here h tables in
     All-append (CanUndo store) (undo_of s places) (undo_of_all ss (layout_after s places)) (can_undo s l n places ss store first here h tables)
-    (can_undo_all ss n m (layout_after s places) store rest (All-tail HasChannels s ss some) behind.0 behind.1)
+    (can_undo_all ss n m (layout_after s places) store rest (All-tail HasChannels s ss some) after_it.0 after_it.1)

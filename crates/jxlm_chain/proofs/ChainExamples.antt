@@ -41,14 +41,14 @@ recoloured_cell samples = (samples, refl)
 abbrev channel : ℕ → ℤ → Channel
 channel n shift = record { width = n; height = 1; original_width = 4; original_height = 1; hshift = shift; vshift = pos 0; original_shift = Raw (pos 0) (pos 0) }
 
-abbrev ahead : ChannelList
-ahead = record { channels = channel 4 (pos 0) ∷ []; nb_meta = 0 }
+abbrev before : ChannelList
+before = record { channels = channel 4 (pos 0) ∷ []; nb_meta = 0 }
 
-abbrev behind : ChannelList
-behind = record { channels = channel 2 (pos 1) ∷ channel 2 (pos 1) ∷ []; nb_meta = 0 }
+abbrev after : ChannelList
+after = record { channels = channel 2 (pos 1) ∷ channel 2 (pos 1) ∷ []; nb_meta = 0 }
 
-list_behind : list_after across ahead ≡ Ok behind
-list_behind = refl
+list_after_it : list_after across before ≡ Ok after
+list_after_it = refl
 
 line_samples : AreGridSamples w16 (line (pos 10 ∷ pos 11 ∷ pos 20 ∷ pos 20 ∷ []))
 line_samples zero zero p q = search rules
@@ -62,14 +62,14 @@ one_sampled : AreSampleGrids w16 (line (pos 10 ∷ pos 11 ∷ pos 20 ∷ pos 20 
 one_sampled zero d l = line_samples
 one_sampled (suc k) d l = absurd (omega arith)
 
-chain : Chain w16 8 (across ∷ []) ahead (line (pos 10 ∷ pos 11 ∷ pos 20 ∷ pos 20 ∷ []) ∷ []) (half (pos 10 ∷ pos 20 ∷ []) ∷ half (pos 0 ∷ pos 0 ∷ []) ∷ [])
+chain : Chain w16 8 (across ∷ []) before (line (pos 10 ∷ pos 11 ∷ pos 20 ∷ pos 20 ∷ []) ∷ []) (half (pos 10 ∷ pos 20 ∷ []) ∷ half (pos 0 ∷ pos 0 ∷ []) ∷ [])
 chain =
     let averages : Grid ℤ = half (pos 10 ∷ pos 20 ∷ []) in
     let residuals : Grid ℤ = half (pos 0 ∷ pos 0 ∷ []) in (
       (record { same_width = refl; same_height = refl; full = refl }, tt),
-      behind,
+      after,
       (averages ∷ residuals ∷ []),
-      list_behind,
+      list_after_it,
       squeezed_row one_sampled,
       ((record { same_width = refl; same_height = refl; full = refl }, (record { same_width = refl; same_height = refl; full = refl }, tt)), refl),
     )

@@ -113,8 +113,8 @@ module _ {S : Type 0} where
         apart_by_buffer (get_or (whole_regions 0 cs) i d) (get_or (whole_regions 0 cs) j d)
         (λ e. let e' : (get_or (whole_regions 0 cs) i d).buffer ≡ (get_or (whole_regions 0 cs) j d).buffer = e in omega (arith, a, b, e', lt))
 
-    first_behind : AllZip IsBuffer more (drop (length cs) store) × (length cs ≤ length store)
-    first_behind =
+    first_after : AllZip IsBuffer more (drop (length cs) store) × (length cs ≤ length store)
+    first_after =
         let n = length-map cs (λ (c : Channel). record { width = c.width; height = c.height }) in
         let all = zip_length IsBuffer (sides_of cs ++ more) store has in
         let both = length-append (sides_of cs) more in
@@ -124,7 +124,7 @@ module _ {S : Type 0} where
 pub lie_first : {S : Type 0} (cs : List Channel) (ss : List Step) (store : List (Grid S)) → HasBuffers (buffers_of cs ss) store → LieIn cs (first_layout cs) store × HasTables ss (length cs) store
 lie_first cs ss store has = (
   record { sizes = whole_sizes cs 0; lie = first_lies cs (tables_of ss) store has; taken = first_taken cs (tables_of ss) store has; apart = first_apart cs (tables_of ss) store has },
-  tables_there ss (length cs) store (first_behind cs (tables_of ss) store has).1 (first_behind cs (tables_of ss) store has).0,
+  tables_there ss (length cs) store (first_after cs (tables_of ss) store has).1 (first_after cs (tables_of ss) store has).0,
 )
 
 -- ---- parts of a squeezed region
@@ -190,7 +190,7 @@ module _ {S : Type 0} (store : List (Grid S)) where
       let long = zip_length HasSize l.channels rs h.sizes in
       let taken : All (λ r. r.buffer < b) kept = all_first (λ r. r.buffer < b) t.begin_c t.num_c rs h.taken in
       let lie : LieIn m.channels (record { regions = table ∷ kept; buffers = suc b }) store = record {
-        sizes = subst (λ cs. AllZip HasSize cs (table ∷ kept)) applies.behind ((refl, refl), zip_first HasSize t.begin_c t.num_c l.channels rs h.sizes);
+        sizes = subst (λ cs. AllZip HasSize cs (table ∷ kept)) applies.after_it ((refl, refl), zip_first HasSize t.begin_c t.num_c l.channels rs h.sizes);
         lie = All-cons (λ r. Lies r store) table kept (table_lies store t.nb_colours t.num_c b lt sides) (all_first (λ r. Lies r store) t.begin_c t.num_c rs h.lie);
         taken = All-cons (λ r. r.buffer < suc b) table kept (omega arith) (All-weaker (λ r. r.buffer < b) (λ r. r.buffer < suc b) (λ r k. omega (arith, k)) kept taken);
         apart = pairs_cons AreApart table kept (All-weaker (λ r. r.buffer < b) (AreApart table) (λ r k. apart_by_buffer table r (λ e. let e' : b ≡ r.buffer = e in omega (arith, k, e'))) kept taken)
@@ -205,7 +205,7 @@ module _ {S : Type 0} (store : List (Grid S)) where
       let f : Region → Region = average_region t.horizontal in
       let g : Region → Region = residual_region t.horizontal in
       record {
-        sizes = subst (λ cs. AllZip HasSize cs (layout_after (SqueezeStep t) places).regions) applies.behind
+        sizes = subst (λ cs. AllZip HasSize cs (layout_after (SqueezeStep t) places).regions) applies.after_it
             (zip_halves HasSize t (average_channel t.horizontal) (residual_channel t.horizontal) f g l.channels rs (average_size t.horizontal) (residual_size t.horizontal) h.sizes);
         lie = all_halves (λ r. Lies r store) t f g rs (average_lies store t.horizontal) (residual_lies store t.horizontal) h.lie;
         taken = all_halves (λ r. r.buffer < b) t f g rs (average_taken b t.horizontal) (residual_taken b t.horizontal) h.taken;
@@ -215,7 +215,7 @@ module _ {S : Type 0} (store : List (Grid S)) where
 -- After a step the channels lie as they must, and the tables of later steps follow.
 pub lie_after : {S : Type 0} (s : Step) (l m : ChannelList) (places : Layout) (ss : List Step) (store : List (Grid S)) → list_after s l ≡ Ok m → HasChannels s → LieIn l.channels places store → HasTables (s ∷ ss) places.buffers store →
     LieIn m.channels (layout_after s places) store × HasTables ss (layout_after s places).buffers store
-lie_after (RctStep t) l m places ss store e some h tables = (subst (λ cs. LieIn cs places store) (rct_applies t l m e).behind h, tables)
+lie_after (RctStep t) l m places ss store e some h tables = (subst (λ cs. LieIn cs places store) (rct_applies t l m e).after_it h, tables)
 lie_after (PaletteStep t) l m places ss store e some h tables =
     (lie_after_palette store t l m places (palette_applies t l m e) some h tables.0 (tables_fit ss (suc places.buffers) store tables.1), tables.1)
 lie_after (SqueezeStep t) l m places ss store e some h tables = (lie_after_squeeze store t l m places (squeeze_applies t l m e) h, tables)
@@ -226,8 +226,8 @@ pub lie_after_all : {S : Type 0} (ss : List Step) (l m : ChannelList) (places : 
 lie_after_all [] l m places store e some h tables = (subst (λ (x : ChannelList). LieIn x.channels places store) (same_ok l m e) h, tables)
 lie_after_all (s ∷ ss) l m places store e some h tables =
     let (n, first, rest) = first_step s ss l m e in
-    let behind = lie_after s l n places ss store first (All-head HasChannels s ss some) h tables in
-    lie_after_all ss n m (layout_after s places) store rest (All-tail HasChannels s ss some) behind.0 behind.1
+    let after_it = lie_after s l n places ss store first (All-head HasChannels s ss some) h tables in
+    lie_after_all ss n m (layout_after s places) store rest (All-tail HasChannels s ss some) after_it.0 after_it.1
 
 -- ---- how many regions there are
 
@@ -241,18 +241,18 @@ beside_same (c ∷ cs) [] e = absurd (omega arith)
 beside_same (c ∷ cs) (r ∷ rs) e = (tt, beside_same cs rs (omega arith))
 
 beside_after : (s : Step) (l m : ChannelList) (places : Layout) → list_after s l ≡ Ok m → HasChannels s → AllZip Beside l.channels places.regions → AllZip Beside m.channels (layout_after s places).regions
-beside_after (RctStep t) l m places e some z = subst (λ cs. AllZip Beside cs places.regions) (rct_applies t l m e).behind z
+beside_after (RctStep t) l m places e some z = subst (λ cs. AllZip Beside cs places.regions) (rct_applies t l m e).after_it z
 beside_after (PaletteStep t) l m places e some z =
     let rs : List Region = places.regions in
     let applies = palette_applies t l m e in
     let there = applies.there in
     let long = zip_length Beside l.channels rs z in
     let table : Region = region places.buffers 0 0 t.nb_colours t.num_c in
-    let behind : AllZip Beside m.channels (table ∷ (take (t.begin_c + 1) rs ++ drop (t.begin_c + t.num_c) rs)) =
-    subst (λ cs. AllZip Beside cs (table ∷ (take (t.begin_c + 1) rs ++ drop (t.begin_c + t.num_c) rs))) applies.behind (tt, zip_first Beside t.begin_c t.num_c l.channels rs z) in
-    subst (λ ks. AllZip Beside m.channels (table ∷ ks)) (sym (with_first t.begin_c t.num_c rs no_region (omega (arith, there, long, some)))) behind
+    let after_it : AllZip Beside m.channels (table ∷ (take (t.begin_c + 1) rs ++ drop (t.begin_c + t.num_c) rs)) =
+    subst (λ cs. AllZip Beside cs (table ∷ (take (t.begin_c + 1) rs ++ drop (t.begin_c + t.num_c) rs))) applies.after_it (tt, zip_first Beside t.begin_c t.num_c l.channels rs z) in
+    subst (λ ks. AllZip Beside m.channels (table ∷ ks)) (sym (with_first t.begin_c t.num_c rs no_region (omega (arith, there, long, some)))) after_it
 beside_after (SqueezeStep t) l m places e some z =
-    subst (λ cs. AllZip Beside cs (layout_after (SqueezeStep t) places).regions) (squeeze_applies t l m e).behind
+    subst (λ cs. AllZip Beside cs (layout_after (SqueezeStep t) places).regions) (squeeze_applies t l m e).after_it
     (zip_halves Beside t (average_channel t.horizontal) (residual_channel t.horizontal) (average_region t.horizontal) (residual_region t.horizontal) l.channels places.regions (λ c r h. tt) (λ c r h. tt) z)
 
 -- a region for each channel, before all steps

@@ -37,9 +37,9 @@ module _ {X : Type 0} where
   pub with_range_same : (b n : ℕ) (us vs xs ys : List X) → length us ≡ length vs → length xs ≡ length ys → with_range b n us xs ≡ with_range b n vs ys →
       (take b xs ≡ take b ys) × (us ≡ vs) × (drop (b + n) xs ≡ drop (b + n) ys)
   with_range_same b n us vs xs ys l m e =
-      let ahead : length (take b xs) ≡ length (take b ys) = length-take b xs ∙ ap (min b) m ∙ sym (length-take b ys) in
+      let before_it : length (take b xs) ≡ length (take b ys) = length-take b xs ∙ ap (min b) m ∙ sym (length-take b ys) in
       let one = split_same (take b xs ++ us) (take b ys ++ vs) (drop (b + n) xs) (drop (b + n) ys) (length-append (take b xs) us ∙ (omega (arith, length-append (take b ys) vs))) e in
-      let two = split_same (take b xs) (take b ys) us vs ahead one.0 in
+      let two = split_same (take b xs) (take b ys) us vs before_it one.0 in
       (two.0, two.1, one.1)
 
   -- lists with the same parts are the same

@@ -5,7 +5,7 @@ use Rattle.std.specs.List.{AllZip}
 use Rattle.std.specs.Int.{Width}
 use Rattle.std.proofs.lemmas.Bool.{leb-true, and_parts}
 use Rattle.std.proofs.Math.ListN.{length-append, length-take, length-drop, length-map}
-use Rattle.jxlm_base.specs.Fault.{Fault}
+use Rattle.jxlm_base.specs.ErrorKind.{ErrorKind}
 use Rattle.jxlm_base.specs.Grid.{Grid}
 use Rattle.jxlm_transform.specs.Channels.{Channel, ChannelList, HasSides}
 use Rattle.jxlm_transform.specs.ChannelSteps.{Step, RctStep, PaletteStep, SqueezeStep, range, with_range, has_range, one_size, list_after}
@@ -27,7 +27,7 @@ passed : {X E : Type 0} (b : Bool) (x y : X) (e : E) → if◌then◌else◌ {A 
 passed true x y e h = refl
 passed false x y e h = absurd (let k : ◌≡◌ {A = Result _ _} (Err e) (Ok y) = h in cc)
 
-after_same : (x y : ChannelList) → ◌≡◌ {A = Result ChannelList Fault} (Ok x) (Ok y) → x ≡ y
+after_same : (x y : ChannelList) → ◌≡◌ {A = Result ChannelList ErrorKind} (Ok x) (Ok y) → x ≡ y
 after_same x y e = cc
 
 abbrev Grids : Type 0

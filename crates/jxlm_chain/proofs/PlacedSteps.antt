@@ -1,7 +1,7 @@
 -- Channels that go on by steps, one after another.
 use Rattle.std.proofs.Common.{◌≡◌, ℕ, ◌+◌, ◌<◌, ◌≤◌, List, [], ◌∷◌, ◌++◌, length, map, take, drop, get_or, Result, Ok, refl, sym, ap, ◌∙◌, subst, append_assoc, arith}
 use Rattle.std.proofs.lemmas.List.{append-nil, take_more, drop_more, length-append, length-map}
-use Rattle.jxlm_base.specs.Fault.{Fault}
+use Rattle.jxlm_base.specs.ErrorKind.{ErrorKind}
 use Rattle.jxlm_transform.specs.Channels.{ChannelList, HasItsMeta, list_of}
 use Rattle.jxlm_transform.specs.ChannelSteps.{Step, RctStep, PaletteStep, SqueezeStep, list_after, list_after_all}
 use Rattle.jxlm_transform.specs.declared.transform.SqueezeParams.{SqueezeParams}
@@ -109,7 +109,7 @@ module _ {X : Type 0} (steps : List X → List Step) (one : X → List Step) (no
       subst (λ (ss : List Step). GoesOn ss p r) (sym e) (goes_both (steps (take i xs)) (one (get_or xs i d)) p q r h k)
 
 -- the next squeeze step was taken
-pub rest_next : (xs : List SqueezeParams) (i : ℕ) (d : SqueezeParams) (l m : ChannelList) (total : Result ChannelList Fault) → i < length xs → list_after (SqueezeStep (get_or xs i d)) l ≡ Ok m →
+pub rest_next : (xs : List SqueezeParams) (i : ℕ) (d : SqueezeParams) (l m : ChannelList) (total : Result ChannelList ErrorKind) → i < length xs → list_after (SqueezeStep (get_or xs i d)) l ≡ Ok m →
     list_after_all (map SqueezeStep (drop i xs)) l ≡ total → list_after_all (map SqueezeStep (drop (i + 1) xs)) m ≡ total
 rest_next xs i d l m total lt one so_far =
     let cut = ap (λ (ys : List SqueezeParams). list_after_all (map SqueezeStep ys) l) (drop_more xs i d lt) in

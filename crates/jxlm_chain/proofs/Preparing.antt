@@ -4,13 +4,13 @@ use Rattle.std.specs.List.{All}
 use Rattle.std.proofs.lemmas.List.{append-nil, drop_all, drop_more, map_push, take_all, take_more_set}
 use Rattle.std.proofs.lemmas.List.Elements.{All-head, All-tail}
 use lib.Seq.{drop-set-lt}
-use Rattle.jxlm_base.specs.Fault.{Fault, UnlessNoMemory}
+use Rattle.jxlm_base.specs.ErrorKind.{ErrorKind, UnlessNoMemory}
 use Rattle.jxlm_transform.specs.Channels.{ChannelList}
 use Rattle.jxlm_transform.specs.ChannelSteps.{CodedList, Step, coded_list, list_after_all, listed_steps, steps_of, ◌>>=◌}
 use Rattle.jxlm_transform.specs.Transforms.{Transform, HasChannels, transform_of}
 use Rattle.jxlm_transform.specs.declared.transform.TransformInfo.{TransformInfo}
 use Rattle.jxlm_transform.proofs.CodedLists.{with_steps, all_applied, transform_applied, transform_refused}
-use Rattle.jxlm_transform.proofs.Refusals.{unless_so}
+use Rattle.jxlm_transform.proofs.Failures.{unless_so}
 use Rattle.jxlm_transform.specs.Steps.{steps_in}
 use Rattle.jxlm_chain.specs.Placed.{GoesOn}
 use Rattle.jxlm_chain.specs.declared.placed.PlacedChannels.{PlacedChannels}
@@ -32,8 +32,8 @@ done i ts = map transform_of (take i ts)
 pub first_left : (ts : List TransformInfo) (i : ℕ) (d : TransformInfo) → i < length ts → left i ts ≡ transform_of (get_or ts i d) ∷ left (i + 1) ts
 first_left ts i d lt = ap (map transform_of) (drop_more ts i d lt)
 
-pub left_behind : (ts : List TransformInfo) (i : ℕ) (u : TransformInfo) → left (i + 1) (set ts i u) ≡ left (i + 1) ts
-left_behind ts i u = ap (map transform_of) (drop-set-lt (i + 1) ts i u (omega arith))
+pub left_after : (ts : List TransformInfo) (i : ℕ) (u : TransformInfo) → left (i + 1) (set ts i u) ≡ left (i + 1) ts
+left_after ts i u = ap (map transform_of) (drop-set-lt (i + 1) ts i u (omega arith))
 
 pub one_done : (ts : List TransformInfo) (i : ℕ) (u : TransformInfo) → i < length ts → done (i + 1) (set ts i u) ≡ done i ts ++ transform_of u ∷ []
 one_done ts i u lt = ap (map transform_of) (take_more_set ts i u lt) ∙ map_push transform_of (take i ts) u
@@ -43,37 +43,37 @@ pub first_is : (ts : List TransformInfo) (i : ℕ) (d : TransformInfo) → i < l
 first_is ts i d lt are = All-head HasChannels (transform_of (get_or ts i d)) (left (i + 1) ts) (rw (first_left ts i d lt) at are)
 
 pub others_are : (ts : List TransformInfo) (i : ℕ) (d u : TransformInfo) → i < length ts → All HasChannels (left i ts) → All HasChannels (left (i + 1) (set ts i u))
-others_are ts i d u lt are = rw (left_behind ts i u) (All-tail HasChannels (transform_of (get_or ts i d)) (left (i + 1) ts) (rw (first_left ts i d lt) at are))
+others_are ts i d u lt are = rw (left_after ts i u) (All-tail HasChannels (transform_of (get_or ts i d)) (left (i + 1) ts) (rw (first_left ts i d lt) at are))
 
 -- what the transforms that are done and those that are left come to
-abbrev pub come_to : ℕ → List TransformInfo → ChannelList → Result CodedList Fault
+abbrev pub come_to : ℕ → List TransformInfo → ChannelList → Result CodedList ErrorKind
 come_to i ts l = with_steps (steps_in (done i ts)) (coded_list (left i ts) l)
 
 pub nothing_done : (ts : List TransformInfo) (l : ChannelList) → come_to 0 ts l ≡ coded_list (map transform_of ts) l
 nothing_done ts l = same (coded_list (map transform_of ts) l) where
-  same : (r : Result CodedList Fault) → with_steps [] r ≡ r
+  same : (r : Result CodedList ErrorKind) → with_steps [] r ≡ r
   same (Ok coded) = refl
   same (Err e) = refl
 
 -- one more was applied
-pub prepared_more : (ts : List TransformInfo) (i : ℕ) (d u : TransformInfo) (l m : ChannelList) (total : Result CodedList Fault) → i < length ts →
+pub prepared_more : (ts : List TransformInfo) (i : ℕ) (d u : TransformInfo) (l m : ChannelList) (total : Result CodedList ErrorKind) → i < length ts →
     steps_of (transform_of (get_or ts i d)) l ≡ Ok (listed_steps (transform_of u)) → list_after_all (listed_steps (transform_of u)) l ≡ Ok m → come_to i ts l ≡ total → come_to (i + 1) (set ts i u) m ≡ total
 prepared_more ts i d u l m total lt steps list so_far =
     let before : with_steps (steps_in (done i ts)) (coded_list (transform_of (get_or ts i d) ∷ left (i + 1) ts) l) ≡ total =
     sym (ap (λ (us : List Transform). with_steps (steps_in (done i ts)) (coded_list us l)) (first_left ts i d lt)) ∙ so_far in
-    rw (left_behind ts i u, one_done ts i u lt, steps_further (done i ts) (transform_of u))
+    rw (left_after ts i u, one_done ts i u lt, steps_further (done i ts) (transform_of u))
     (transform_applied (steps_in (done i ts)) (transform_of (get_or ts i d)) (transform_of u) (left (i + 1) ts) l m total steps list before)
 
 -- the next one gave an error
-pub prepared_refused : (ts : List TransformInfo) (i : ℕ) (d : TransformInfo) (l : ChannelList) (fault : Fault) (total : Result CodedList Fault) → i < length ts →
-    UnlessNoMemory fault ((steps_of (transform_of (get_or ts i d)) l >>= λ steps. list_after_all steps l) ≡ Err fault) → come_to i ts l ≡ total → UnlessNoMemory fault (total ≡ Err fault)
-prepared_refused ts i d l fault total lt refused so_far =
+pub prepared_refused : (ts : List TransformInfo) (i : ℕ) (d : TransformInfo) (l : ChannelList) (error : ErrorKind) (total : Result CodedList ErrorKind) → i < length ts →
+    UnlessNoMemory error ((steps_of (transform_of (get_or ts i d)) l >>= λ steps. list_after_all steps l) ≡ Err error) → come_to i ts l ≡ total → UnlessNoMemory error (total ≡ Err error)
+prepared_refused ts i d l error total lt refused so_far =
     let before : with_steps (steps_in (done i ts)) (coded_list (transform_of (get_or ts i d) ∷ left (i + 1) ts) l) ≡ total =
     sym (ap (λ (us : List Transform). with_steps (steps_in (done i ts)) (coded_list us l)) (first_left ts i d lt)) ∙ so_far in
-    unless_so fault _ (total ≡ Err fault) (λ r. transform_refused (steps_in (done i ts)) (transform_of (get_or ts i d)) (left (i + 1) ts) l fault total r before) refused
+    unless_so error _ (total ≡ Err error) (λ r. transform_refused (steps_in (done i ts)) (transform_of (get_or ts i d)) (left (i + 1) ts) l error total r before) refused
 
 -- all were applied
-pub all_prepared : (ts : List TransformInfo) (i : ℕ) (l : ChannelList) (total : Result CodedList Fault) → length ts ≤ i → come_to i ts l ≡ total → total ≡ Ok (record { steps = steps_in (map transform_of ts); list = l })
+pub all_prepared : (ts : List TransformInfo) (i : ℕ) (l : ChannelList) (total : Result CodedList ErrorKind) → length ts ≤ i → come_to i ts l ≡ total → total ≡ Ok (record { steps = steps_in (map transform_of ts); list = l })
 all_prepared ts i l total le so_far =
     all_applied (steps_in (map transform_of ts)) l total
     (ap (λ (us : List TransformInfo). with_steps (steps_in (map transform_of us)) (coded_list [] l)) (sym (take_all i ts le))

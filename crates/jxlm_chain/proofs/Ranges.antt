@@ -62,8 +62,8 @@ module _ {X Y : Type 0} (f g : X → Y) where
         ap f e ∙ same k d (omega arith) (λ le lt. absurd (omega arith)) ∙ sym (ap g e))
         ∙ sym (take-map g begin xs)
 
-    same_behind : drop (begin + n) (map f xs) ≡ drop (begin + n) (map g xs)
-    same_behind =
+    same_after : drop (begin + n) (map f xs) ≡ drop (begin + n) (map g xs)
+    same_after =
         drop-map f (begin + n) xs
         ∙ map_same (drop (begin + n) xs)
         (λ k d h.
@@ -73,7 +73,7 @@ module _ {X Y : Type 0} (f g : X → Y) where
         ∙ sym (drop-map g (begin + n) xs)
 
     pub with_range_same : (others : List Y) → with_range begin n others (map f xs) ≡ with_range begin n others (map g xs)
-    with_range_same others = ap (λ ys. ys ++ others ++ drop (begin + n) (map f xs)) same_ahead ∙ ap (λ ys. take begin (map g xs) ++ others ++ ys) same_behind
+    with_range_same others = ap (λ ys. ys ++ others ++ drop (begin + n) (map f xs)) same_ahead ∙ ap (λ ys. take begin (map g xs) ++ others ++ ys) same_after
 
 pub map_map_same : {X Y Z V : Type 0} (f : Y → Z) (g : X → Y) (p : V → Z) (q : X → V) (xs : List X) → ((k : ℕ) (d : X) → k < length xs → f (g (get_or xs k d)) ≡ p (q (get_or xs k d))) →
     map f (map g xs) ≡ map p (map q xs)

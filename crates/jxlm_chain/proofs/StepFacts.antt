@@ -1,7 +1,7 @@
 -- What a step without an error says of the list before it, and of the one after it.
 use Rattle.std.proofs.Common.{◌≡◌, ℕ, ◌+◌, ◌≤◌, Bool, true, false, ◌-◌, not, ◌&&◌, ◌||◌, nat_lt, nat_le, if◌then◌else◌, List, [], ◌∷◌, ◌++◌, length, map, take, drop, Result, Ok, Err, refl, leb-true}
 use Rattle.std.specs.List.{list_all}
-use Rattle.jxlm_base.specs.Fault.{Fault, BadRct, BadPalette, BadSqueeze}
+use Rattle.jxlm_base.specs.ErrorKind.{ErrorKind, BadRct, BadPalette, BadSqueeze}
 use Rattle.jxlm_transform.specs.Channels.{Channel, ChannelList}
 use Rattle.jxlm_transform.specs.ChannelSteps.{Step, RctStep, PaletteStep, SqueezeStep, average_channel, can_be_squeezed, has_range, keeps_meta, list_after, list_after_all, one_size, range, residual_channel, squeeze_range, table_channel, with_halves, ◌>>=◌}
 use Rattle.jxlm_transform.specs.declared.transform.Rct.{Rct}
@@ -13,9 +13,9 @@ both_of true b e = (refl, e)
 both_of false b e = cc
 
 -- a list that is there where a test holds
-chosen : (b : Bool) (l m : ChannelList) (fault : Fault) → if◌then◌else◌ {A = Result ChannelList Fault} b (Ok l) (Err fault) ≡ Ok m → (b ≡ true) × (l ≡ m)
-chosen true l m fault e = (refl, cc)
-chosen false l m fault e = cc
+chosen : (b : Bool) (l m : ChannelList) (error : ErrorKind) → if◌then◌else◌ {A = Result ChannelList ErrorKind} b (Ok l) (Err error) ≡ Ok m → (b ≡ true) × (l ≡ m)
+chosen true l m error e = (refl, cc)
+chosen false l m error e = cc
 
 in_range : (begin n : ℕ) (cs : List Channel) → has_range begin n cs ≡ true → begin + n ≤ length cs
 in_range begin n cs e = leb-true (begin + n) (length cs) e
@@ -24,19 +24,19 @@ in_range begin n cs e = leb-true (begin + n) (length cs) e
 pub record RctApplies (t : Rct) (l m : ChannelList) : Type 0 where
   pub there : t.begin_c + 3 ≤ length l.channels
   pub one_sized : one_size (range t.begin_c 3 l.channels) ≡ true
-  pub behind : l.channels ≡ m.channels
+  pub after_it : l.channels ≡ m.channels
 
 pub rct_applies : (t : Rct) (l m : ChannelList) → list_after (RctStep t) l ≡ Ok m → RctApplies t l m
 rct_applies t l m e =
     let (test, same) = chosen (has_range t.begin_c 3 l.channels && one_size (range t.begin_c 3 l.channels)) l m BadRct e in
     let (a, b) = both_of (has_range t.begin_c 3 l.channels) (one_size (range t.begin_c 3 l.channels)) test in
-    record { there = in_range t.begin_c 3 l.channels a; one_sized = b; behind = λ i. (same i).channels }
+    record { there = in_range t.begin_c 3 l.channels a; one_sized = b; after_it = λ i. (same i).channels }
 
 -- a palette
 pub record PaletteApplies (t : Palette) (l m : ChannelList) : Type 0 where
   pub there : t.begin_c + t.num_c ≤ length l.channels
   pub one_sized : one_size (range t.begin_c t.num_c l.channels) ≡ true
-  pub behind : table_channel t.nb_colours t.num_c ∷ (take (t.begin_c + 1) l.channels ++ drop (t.begin_c + t.num_c) l.channels) ≡ m.channels
+  pub after_it : table_channel t.nb_colours t.num_c ∷ (take (t.begin_c + 1) l.channels ++ drop (t.begin_c + t.num_c) l.channels) ≡ m.channels
 
 pub palette_applies : (t : Palette) (l m : ChannelList) → list_after (PaletteStep t) l ≡ Ok m → PaletteApplies t l m
 palette_applies t l m e =
@@ -48,13 +48,13 @@ palette_applies t l m e =
       nb_meta = if nat_lt t.begin_c l.nb_meta then l.nb_meta + 2 - t.num_c else l.nb_meta + 1;
     }) m BadPalette e in
     let (a, b) = both_of here sized (both_of (here && sized) meta test).0 in
-    record { there = in_range t.begin_c t.num_c l.channels a; one_sized = b; behind = λ i. (same i).channels }
+    record { there = in_range t.begin_c t.num_c l.channels a; one_sized = b; after_it = λ i. (same i).channels }
 
 -- a squeeze
 pub record SqueezeApplies (t : SqueezeParams) (l m : ChannelList) : Type 0 where
   pub there : t.begin_c + t.num_c ≤ length l.channels
   pub can : list_all can_be_squeezed (range t.begin_c t.num_c l.channels) ≡ true
-  pub behind : with_halves t (map (average_channel t.horizontal) (range t.begin_c t.num_c l.channels)) (map (residual_channel t.horizontal) (range t.begin_c t.num_c l.channels)) l.channels ≡ m.channels
+  pub after_it : with_halves t (map (average_channel t.horizontal) (range t.begin_c t.num_c l.channels)) (map (residual_channel t.horizontal) (range t.begin_c t.num_c l.channels)) l.channels ≡ m.channels
 
 pub squeeze_applies : (t : SqueezeParams) (l m : ChannelList) → list_after (SqueezeStep t) l ≡ Ok m → SqueezeApplies t l m
 squeeze_applies t l m e =
@@ -66,15 +66,15 @@ squeeze_applies t l m e =
       nb_meta = if nat_lt t.begin_c l.nb_meta then l.nb_meta + t.num_c else l.nb_meta;
     }) m BadSqueeze e in
     let (a, b) = both_of (here && meta) (list_all can_be_squeezed cs) test in
-    record { there = in_range t.begin_c t.num_c l.channels (both_of here meta a).0; can = b; behind = λ i. (same i).channels }
+    record { there = in_range t.begin_c t.num_c l.channels (both_of here meta a).0; can = b; after_it = λ i. (same i).channels }
 
 -- ---- steps one after another
 
 -- what a result that is Ok came from
-pub came : {X Y : Type 0} (r : Result X Fault) (next : X → Result Y Fault) (y : Y) → r >>= next ≡ Ok y → (x : X) × (r ≡ Ok x) × (next x ≡ Ok y)
+pub came : {X Y : Type 0} (r : Result X ErrorKind) (next : X → Result Y ErrorKind) (y : Y) → r >>= next ≡ Ok y → (x : X) × (r ≡ Ok x) × (next x ≡ Ok y)
 came (Ok x) next y e = (x, refl, e)
 came {Y} (Err f) next y e = absurd (not_both f y e) where
-  not_both : {Z : Type 0} (g : Fault) (z : Z) → ◌≡◌ {A = Result Z Fault} (Err g) (Ok z) → ⊥
+  not_both : {Z : Type 0} (g : ErrorKind) (z : Z) → ◌≡◌ {A = Result Z ErrorKind} (Err g) (Ok z) → ⊥
   not_both g z h = cc
 
 pub same_ok : (l m : ChannelList) → list_after_all [] l ≡ Ok m → l ≡ m

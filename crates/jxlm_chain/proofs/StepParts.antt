@@ -13,12 +13,12 @@ with_first begin n xs d lt = ap (λ ys. ys ++ drop (begin + n) xs) (sym (take_mo
 
 -- two lists, both between others, or the second of them at the end
 abbrev pub placed : {X : Type 0} → Bool → List X → List X → List X → List X → List X
-placed inside ahead fs gs behind = if inside then ahead ++ (fs ++ gs) ++ behind else ahead ++ fs ++ behind ++ gs
+placed inside before_it fs gs after_it = if inside then before_it ++ (fs ++ gs) ++ after_it else before_it ++ fs ++ after_it ++ gs
 
 module _ {X : Type 0} (P : X → Type 0) where
-  all_placed : (inside : Bool) (ahead fs gs behind : List X) → All P ahead → All P fs → All P gs → All P behind → All P (placed inside ahead fs gs behind)
-  all_placed true ahead fs gs behind a f g b = All-append P (ahead ++ (fs ++ gs)) behind (All-append P ahead (fs ++ gs) a (All-append P fs gs f g)) b
-  all_placed false ahead fs gs behind a f g b = All-append P (ahead ++ fs ++ behind) gs (All-append P (ahead ++ fs) behind (All-append P ahead fs a f) b) g
+  all_placed : (inside : Bool) (before_it fs gs after_it : List X) → All P before_it → All P fs → All P gs → All P after_it → All P (placed inside before_it fs gs after_it)
+  all_placed true before_it fs gs after_it a f g b = All-append P (before_it ++ (fs ++ gs)) after_it (All-append P before_it (fs ++ gs) a (All-append P fs gs f g)) b
+  all_placed false before_it fs gs after_it a f g b = All-append P (before_it ++ fs ++ after_it) gs (All-append P (before_it ++ fs) after_it (All-append P before_it fs a f) b) g
 
   pub all_range : (begin n : ℕ) (xs : List X) → All P xs → All P (range begin n xs)
   all_range begin n xs all = All-take P (begin + n - begin) (drop begin xs) (All-drop P begin xs all)
@@ -46,43 +46,43 @@ module _ {X : Type 0} (R : X → X → Type 0) where
   cross_ahead : (begin n : ℕ) (xs : List X) → AllPairs R xs → AllCross R (take begin xs) (range begin n xs)
   cross_ahead begin n xs pairs = cross_take_right R (begin + n - begin) (take begin xs) (drop begin xs) (cross_take_drop R begin begin xs (omega arith) pairs)
 
-  cross_behind : (begin n : ℕ) (xs : List X) → AllPairs R xs → AllCross R (range begin n xs) (drop (begin + n) xs)
-  cross_behind begin n xs pairs = subst (AllCross R (range begin n xs)) (drop-drop n begin xs) (cross_take_drop R (begin + n - begin) n (drop begin xs) (omega arith) (pairs_drop R begin xs pairs))
+  cross_after : (begin n : ℕ) (xs : List X) → AllPairs R xs → AllCross R (range begin n xs) (drop (begin + n) xs)
+  cross_after begin n xs pairs = subst (AllCross R (range begin n xs)) (drop-drop n begin xs) (cross_take_drop R (begin + n - begin) n (drop begin xs) (omega arith) (pairs_drop R begin xs pairs))
 
   module _ (turn : (x y : X) → R x y → R y x) where
-    pairs_placed : (inside : Bool) (ahead fs gs behind : List X) → AllPairs R ahead → AllPairs R fs → AllPairs R gs → AllPairs R behind → AllCross R ahead fs → AllCross R ahead gs → AllCross R ahead behind →
-        AllCross R fs gs → AllCross R fs behind → AllCross R gs behind → AllPairs R (placed inside ahead fs gs behind)
-    pairs_placed true ahead fs gs behind a f g b af ag ab fg fb gb =
-        pairs_append R (ahead ++ (fs ++ gs)) behind (pairs_append R ahead (fs ++ gs) a (pairs_append R fs gs f g fg) (cross_append_right R ahead fs gs af ag)) b
-        (cross_append_left R ahead (fs ++ gs) behind ab (cross_append_left R fs gs behind fb gb))
-    pairs_placed false ahead fs gs behind a f g b af ag ab fg fb gb =
-        pairs_append R (ahead ++ fs ++ behind) gs (pairs_append R (ahead ++ fs) behind (pairs_append R ahead fs a f af) b (cross_append_left R ahead fs behind ab fb)) g
-        (cross_append_left R (ahead ++ fs) behind gs (cross_append_left R ahead fs gs ag fg) (cross_turned R gs behind turn gb))
+    pairs_placed : (inside : Bool) (before_it fs gs after_it : List X) → AllPairs R before_it → AllPairs R fs → AllPairs R gs → AllPairs R after_it → AllCross R before_it fs → AllCross R before_it gs → AllCross R before_it after_it →
+        AllCross R fs gs → AllCross R fs after_it → AllCross R gs after_it → AllPairs R (placed inside before_it fs gs after_it)
+    pairs_placed true before_it fs gs after_it a f g b af ag ab fg fb gb =
+        pairs_append R (before_it ++ (fs ++ gs)) after_it (pairs_append R before_it (fs ++ gs) a (pairs_append R fs gs f g fg) (cross_append_right R before_it fs gs af ag)) b
+        (cross_append_left R before_it (fs ++ gs) after_it ab (cross_append_left R fs gs after_it fb gb))
+    pairs_placed false before_it fs gs after_it a f g b af ag ab fg fb gb =
+        pairs_append R (before_it ++ fs ++ after_it) gs (pairs_append R (before_it ++ fs) after_it (pairs_append R before_it fs a f af) b (cross_append_left R before_it fs after_it ab fb)) g
+        (cross_append_left R (before_it ++ fs) after_it gs (cross_append_left R before_it fs gs ag fg) (cross_turned R gs after_it turn gb))
 
     -- the elements of a range give way to two parts each
     pub pairs_halves : (t : SqueezeParams) (f g : X → X) (xs : List X) → ((x y : X) → R x y → R (f x) y) → ((x y : X) → R x y → R (g x) y) → ((x : X) → R (f x) (g x)) → AllPairs R xs →
         AllPairs R (with_halves t (map f (range t.begin_c t.num_c xs)) (map g (range t.begin_c t.num_c xs)) xs)
     pairs_halves t f g xs pf pg own pairs =
         let ys : List X = range t.begin_c t.num_c xs in
-        let ahead : List X = take t.begin_c xs in
-        let behind : List X = drop (t.begin_c + t.num_c) xs in
+        let before_it : List X = take t.begin_c xs in
+        let after_it : List X = drop (t.begin_c + t.num_c) xs in
         let here : AllPairs R ys = pairs_range t.begin_c t.num_c xs pairs in
-        let a : AllCross R ahead ys = cross_ahead t.begin_c t.num_c xs pairs in
-        let b : AllCross R ys behind = cross_behind t.begin_c t.num_c xs pairs in
+        let a : AllCross R before_it ys = cross_ahead t.begin_c t.num_c xs pairs in
+        let b : AllCross R ys after_it = cross_after t.begin_c t.num_c xs pairs in
         let qf : (x y : X) → R x y → R x (f y) = λ x y r. turn (f y) x (pf y x (turn x y r)) in
         let qg : (x y : X) → R x y → R x (g y) = λ x y r. turn (g y) x (pg y x (turn x y r)) in
-        pairs_placed t.in_place ahead (map f ys) (map g ys) behind (pairs_take R t.begin_c xs pairs)
+        pairs_placed t.in_place before_it (map f ys) (map g ys) after_it (pairs_take R t.begin_c xs pairs)
         (pairs_map R f ys (λ x y r. pf x (f y) (qf x y r)) here) (pairs_map R g ys (λ x y r. pg x (g y) (qg x y r)) here) (pairs_drop R (t.begin_c + t.num_c) xs pairs)
-        (cross_map_right R f ahead ys qf a) (cross_map_right R g ahead ys qg a) (cross_take_drop R t.begin_c (t.begin_c + t.num_c) xs (omega arith) pairs)
-        (cross_maps R f g ys turn (λ x y r. pf x (g y) (qg x y r)) own here) (cross_map_left R f ys behind pf b) (cross_map_left R g ys behind pg b)
+        (cross_map_right R f before_it ys qf a) (cross_map_right R g before_it ys qg a) (cross_take_drop R t.begin_c (t.begin_c + t.num_c) xs (omega arith) pairs)
+        (cross_maps R f g ys turn (λ x y r. pf x (g y) (qg x y r)) own here) (cross_map_left R f ys after_it pf b) (cross_map_left R g ys after_it pg b)
 
 module _ {X Y : Type 0} (R : X → Y → Type 0) where
-  zip_placed : (inside : Bool) (ahead fs gs behind : List X) (before us vs after : List Y) → AllZip R ahead before → AllZip R fs us → AllZip R gs vs → AllZip R behind after →
-      AllZip R (placed inside ahead fs gs behind) (placed inside before us vs after)
-  zip_placed true ahead fs gs behind before us vs after a f g b =
-      zip_append R (ahead ++ (fs ++ gs)) behind (before ++ (us ++ vs)) after (zip_append R ahead (fs ++ gs) before (us ++ vs) a (zip_append R fs gs us vs f g)) b
-  zip_placed false ahead fs gs behind before us vs after a f g b =
-      zip_append R (ahead ++ fs ++ behind) gs (before ++ us ++ after) vs (zip_append R (ahead ++ fs) behind (before ++ us) after (zip_append R ahead fs before us a f) b) g
+  zip_placed : (inside : Bool) (before_it fs gs after_it : List X) (before us vs after : List Y) → AllZip R before_it before → AllZip R fs us → AllZip R gs vs → AllZip R after_it after →
+      AllZip R (placed inside before_it fs gs after_it) (placed inside before us vs after)
+  zip_placed true before_it fs gs after_it before us vs after a f g b =
+      zip_append R (before_it ++ (fs ++ gs)) after_it (before ++ (us ++ vs)) after (zip_append R before_it (fs ++ gs) before (us ++ vs) a (zip_append R fs gs us vs f g)) b
+  zip_placed false before_it fs gs after_it before us vs after a f g b =
+      zip_append R (before_it ++ fs ++ after_it) gs (before ++ us ++ after) vs (zip_append R (before_it ++ fs) after_it (before ++ us) after (zip_append R before_it fs before us a f) b) g
 
   pub zip_range : (begin n : ℕ) (xs : List X) (ys : List Y) → AllZip R xs ys → AllZip R (range begin n xs) (range begin n ys)
   zip_range begin n xs ys z = zip_take R (begin + n - begin) (drop begin xs) (drop begin ys) (zip_drop R begin xs ys z)

@@ -15,13 +15,13 @@ module _ (w : Width) (depth : ℕ) where
   -- One step codes the grids before it as those after it. What it codes by colour or squeeze are w-bit samples; what
   -- a palette stands for is made of them. Grids out of its range stay.
   abbrev pub Codes : Step → List (Grid ℤ) → List (Grid ℤ) → Type 0
-  Codes (RctStep t) ahead behind =
-      All (AreGridSamples w) (range t.begin_c 3 ahead) × (behind ≡ with_range t.begin_c 3 (recoloured w t.rct_type (range t.begin_c 3 ahead)) ahead)
-  Codes (PaletteStep t) ahead behind =
-      (table : Grid ℤ) × (index : Grid ℤ) × IsPaletteOf w depth t table index (range t.begin_c t.num_c ahead) × (behind ≡ table ∷ with_range t.begin_c t.num_c (index ∷ []) ahead)
-  Codes (SqueezeStep t) ahead behind =
-      All (AreGridSamples w) (range t.begin_c t.num_c ahead) ×
-      (behind ≡ with_halves t (map (average_grid w t.horizontal) (range t.begin_c t.num_c ahead)) (map (residual_grid w t.horizontal) (range t.begin_c t.num_c ahead)) ahead)
+  Codes (RctStep t) before after =
+      All (AreGridSamples w) (range t.begin_c 3 before) × (after ≡ with_range t.begin_c 3 (recoloured w t.rct_type (range t.begin_c 3 before)) before)
+  Codes (PaletteStep t) before after =
+      (table : Grid ℤ) × (index : Grid ℤ) × IsPaletteOf w depth t table index (range t.begin_c t.num_c before) × (after ≡ table ∷ with_range t.begin_c t.num_c (index ∷ []) before)
+  Codes (SqueezeStep t) before after =
+      All (AreGridSamples w) (range t.begin_c t.num_c before) ×
+      (after ≡ with_halves t (map (average_grid w t.horizontal) (range t.begin_c t.num_c before)) (map (residual_grid w t.horizontal) (range t.begin_c t.num_c before)) before)
 
   -- The image, of the channels of a list, becomes the coded grids: between each two steps there are grids, for the
   -- channels that the steps give.

@@ -1,6 +1,6 @@
 -- Channels with their places, as a program keeps them, and what applying transforms to them gives.
 use Rattle.std.specs.Prelude.{◌≡◌, ◌+◌, ◌^◌, ◌<◌, List, ◌++◌, length, map, Result, Ok, Err}
-use Rattle.jxlm_base.specs.Fault.{UnlessNoMemory, fault_of}
+use Rattle.jxlm_base.specs.ErrorKind.{UnlessNoMemory, kind_of}
 use Rattle.jxlm_base.specs.declared.error.Error.{Error}
 use Rattle.jxlm_base.specs.declared.subgrid.Region.{Region}
 use Rattle.jxlm_transform.specs.Channels.{ChannelList, HasItsMeta, list_of}
@@ -44,4 +44,4 @@ pub record GoesOn (steps : List Step) (old new : PlacedChannels) : Type 0 where
 -- the list after it.
 abbrev pub PrepareGives : List Transform → ChannelList → Result (Unit {0}) Error → List Transform → ChannelList → Type 0
 PrepareGives ts l (Ok u) listed m = coded_list ts l ≡ Ok (record { steps = steps_in listed; list = m })
-PrepareGives ts l (Err e) listed m = UnlessNoMemory (fault_of e) (coded_list ts l ≡ Err (fault_of e))
+PrepareGives ts l (Err e) listed m = UnlessNoMemory (kind_of e) (coded_list ts l ≡ Err (kind_of e))

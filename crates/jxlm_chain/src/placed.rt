@@ -3,7 +3,7 @@
 
 ghost use Rattle.std.specs.Prelude.{◌≡◌, ◌<◌, ◌≤◌, ◌^◌, [], ◌∷◌, length, map, IfOk, IfErr};
 ghost use Rattle.std.specs.List.{All};
-ghost use Rattle.jxlm_base.specs.Fault.{NoMemory, fault_of};
+ghost use Rattle.jxlm_base.specs.ErrorKind.{NoMemory, kind_of};
 ghost use Rattle.jxlm_chain.specs.Layout.{first_layout};
 ghost use Rattle.jxlm_chain.specs.Placed.{GoesOn, IsPlaced, IsPlacedBy, PrepareGives};
 ghost use Rattle.jxlm_chain.specs.Places.{layout_of};
@@ -66,7 +66,7 @@ impl PlacedChannels {
             list_of p.channels ≡ record { channels = given.now; nb_meta = 0 }) }
         ensures placed { IfOk result (λ p. IsPlaced p) }
         ensures by { IfOk result (λ p. IsPlacedBy [] (first_layout given.now) p) }
-        ensures err { IfErr result (λ e. fault_of e ≡ NoMemory) }
+        ensures err { IfErr result (λ e. kind_of e ≡ NoMemory) }
     {
         let places = Places::new(alloc, given)?;
         let channels = ModularChannels {

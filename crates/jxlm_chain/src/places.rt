@@ -150,7 +150,8 @@ impl Places {
         requires some_channels { 1 ≤ palette.now.num_c }
         requires range { palette.now.begin_c + palette.now.num_c ≤ length self.old.regions.items }
         requires room { self.old.buffers + 1 < 2 ^ 64 }
-        ensures gives { IfOk result (λ _. layout_of self.new ≡ layout_after (PaletteStep palette.now) (layout_of self.old)) }
+        ensures gives { IfOk result (λ _. layout_of self.new ≡ layout_after (PaletteStep palette.now)
+            (layout_of self.old)) }
         ensures unchanged { IfErr result (λ _. layout_of self.new ≡ layout_of self.old) }
     {
         let table = self.table(palette);
@@ -168,7 +169,8 @@ impl Places {
     /// `OutOfMemory`, and no other; the places are as before then.
     pub fn halve(&mut self, alloc: Global, step: &SqueezeParams) -> Result<(), OutOfMemory>
         requires { step.now.begin_c + step.now.num_c ≤ length self.old.regions.items }
-        ensures gives { IfOk result (λ _. layout_of self.new ≡ layout_after (SqueezeStep step.now) (layout_of self.old)) }
+        ensures gives { IfOk result (λ _. layout_of self.new ≡ layout_after (SqueezeStep step.now)
+            (layout_of self.old)) }
         ensures unchanged { IfErr result (λ _. layout_of self.new ≡ layout_of self.old) }
     {
         let range = &self.regions[step.begin_c..step.begin_c + step.num_c];

@@ -2,7 +2,7 @@
 
 ghost use Rattle.std.specs.Prelude.{◌≡◌, ◌+◌, ◌^◌, ◌<◌, ◌≤◌, Some, max, IfOk, IfErr, vec_len};
 ghost use Rattle.std.specs.List.{All};
-ghost use Rattle.jxlm_base.specs.Fault.{NoMemory, fault_of};
+ghost use Rattle.jxlm_base.specs.ErrorKind.{NoMemory, kind_of};
 ghost use Rattle.jxlm_chain.specs.Scratch.{AreNarrow, Covers, HasRoomFor, IsNarrow, IsNarrowUndo, larger_needs};
 ghost use Rattle.jxlm_chain.specs.Undoings.{SuitsWeights, undo_of_code, undos_of};
 ghost use Rattle.jxlm_tree.specs.SelfCorrecting.{IsHeader};
@@ -168,7 +168,7 @@ impl<S: Sample> Scratch<S> {
         requires suits { All (SuitsWeights (Some weights.now)) (undos_of undoings.now) }
         requires weights { IsHeader weights.now }
         ensures room { IfOk result (λ s. HasRoomFor (undos_of undoings.now) s) }
-        ensures err { IfErr result (λ e. fault_of e ≡ NoMemory) }
+        ensures err { IfErr result (λ e. kind_of e ≡ NoMemory) }
     {
         let needs = needs_of_all(undoings);
         Ok(Scratch {

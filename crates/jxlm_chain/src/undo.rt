@@ -146,7 +146,8 @@ fn undo_halves(
     horizontal: bool,
     regions: &[Region],
 ) -> Result<(), OutOfMemory>
-    ensures { IfOk result (λ _. undos_of undoings.new.items ≡ undos_of undoings.old.items ++ map (UndoSqueeze horizontal) regions.now) }
+    ensures { IfOk result (λ _. undos_of undoings.new.items ≡ undos_of undoings.old.items ++ map
+        (UndoSqueeze horizontal) regions.now) }
 {
     for region in regions {
         undoings.push(Undoing::Squeeze {
@@ -165,7 +166,8 @@ impl Places {
         step: &SqueezeParams,
     ) -> Result<(), OutOfMemory>
         requires { step.now.begin_c + step.now.num_c ≤ length self.now.regions.items }
-        ensures { IfOk result (λ _. undos_of undoings.new.items ≡ undos_of undoings.old.items ++ undo_of (SqueezeStep step.now) (layout_of self.now)) }
+        ensures { IfOk result (λ _. undos_of undoings.new.items ≡ undos_of undoings.old.items ++ undo_of
+            (SqueezeStep step.now) (layout_of self.now)) }
     {
         let range = &self.regions[step.begin_c..step.begin_c + step.num_c];
         undo_halves(undoings, step.horizontal, range)
@@ -199,8 +201,10 @@ fn run_palette<S: Sample>(
     requires can { CanUndo store.old (UndoPalette palette.now table (leader_of index.now) (members_of index.now)) }
     requires narrow { IsNarrowStore store.old }
     requires deep { bit_depth ≤ 32 }
-    requires room { HasRoomToUndo scratch.old (UndoPalette palette.now table (leader_of index.now) (members_of index.now)) }
-    ensures undoes { Undoes S.to_int S.width bit_depth (UndoPalette palette.now table (leader_of index.now) (members_of index.now)) store.old store.new }
+    requires room { HasRoomToUndo scratch.old (UndoPalette palette.now table (leader_of index.now)
+        (members_of index.now)) }
+    ensures undoes { Undoes S.to_int S.width bit_depth (UndoPalette palette.now table (leader_of index.now)
+        (members_of index.now)) store.old store.new }
     ensures room { KeepsScratch scratch.old scratch.new }
 {
     let leader = index.leader();

@@ -1,15 +1,15 @@
 -- The laws of the fields that come before an image's tree.
 use Rattle.std.proofs.Common.{◌≡◌, ℕ, List, Bool, Result, Ok, Err, refl, ap, ◌∙◌}
-use Rattle.jxlm_base.specs.Fault as reading
-use Rattle.jxlm_base.specs.Fault.{Fault, UnlessNoMemory}
-use Rattle.jxlm_base.specs.Grammar.{Grammar, IsExact, IsRefused, flag, repeated, u32, ◌>>=◌}
+use Rattle.jxlm_base.specs.ErrorKind as reading
+use Rattle.jxlm_base.specs.ErrorKind.{ErrorKind, UnlessNoMemory}
+use Rattle.jxlm_base.specs.Grammar.{Grammar, IsExact, IsErrorAt, flag, repeated, u32, ◌>>=◌}
 use Rattle.jxlm_base.specs.declared.bits.U32Spec.TheVariants.{Const, Offset}
-use Rattle.jxlm_base.proofs.GrammarLaws.{exact-give, exact-refuse, exact-bind, exact-repeated, exact-flag, exact-u32}
+use Rattle.jxlm_base.proofs.GrammarLaws.{exact-give, exact-fail, exact-bind, exact-repeated, exact-flag, exact-u32}
 use Rattle.jxlm_transform.specs.Channels.{ChannelList}
 use Rattle.jxlm_transform.specs.Transforms.{transform}
 use Rattle.jxlm_transform.proofs.TransformLaws.{exact-transform}
 use Rattle.jxlm_tree.proofs.WeightsLaws.{exact-wp_header}
-use Rattle.jxlm_transform.proofs.Refusals.{unless_so}
+use Rattle.jxlm_transform.proofs.Failures.{unless_so}
 use Rattle.jxlm_tree.specs.WeightsHeader.{wp_header}
 use Rattle.jxlm_tree.specs.declared.predictor.WpHeader.{WpHeader}
 use Rattle.jxlm_header.specs.Header.{header}
@@ -26,22 +26,22 @@ exact-header =
     bind (exact-repeated count (transform weights) (exact-transform weights)) λ transforms.
     exact-give (record { use_global_tree = use_global_tree; wp_params = weights; transform = transforms })
 
-exact-checked : {X : Type 0} (r : Result X Fault) → IsExact (checked r)
+exact-checked : {X : Type 0} (r : Result X ErrorKind) → IsExact (checked r)
 exact-checked (Ok x) = exact-give x
-exact-checked (Err e) = exact-refuse e
+exact-checked (Err e) = exact-fail e
 
 -- and so is all that comes before the tree
 pub exact-opening : (has_global : Bool) (list : ChannelList) → IsExact (opening has_global list)
 exact-opening has_global list = bind exact-header λ h. exact-checked (resolved has_global list h)
 
 -- where one of the transforms gives an error, so does the header
-pub listed_refused : (bytes : List ℕ) (p : ℕ) (global : Bool) (a : ℕ) (weights : WpHeader) (b n m : ℕ) (fault : Fault) (q : ℕ) → flag.read bytes p ≡ Ok (record { value = global; position = a }) →
+pub listed_refused : (bytes : List ℕ) (p : ℕ) (global : Bool) (a : ℕ) (weights : WpHeader) (b n m : ℕ) (error : ErrorKind) (q : ℕ) → flag.read bytes p ≡ Ok (record { value = global; position = a }) →
     wp_header.read bytes a ≡ Ok (record { value = weights; position = b }) → (u32 (Const 0) (Const 1) (Offset 2 4) (Offset 18 8)).read bytes b ≡ Ok (record { value = n; position = m }) →
-    UnlessNoMemory fault (IsRefused ((repeated n (transform weights)).read bytes m) fault q) → UnlessNoMemory fault (IsRefused (header.read bytes p) fault q)
-listed_refused bytes p global a weights b n m fault q first second third refused =
+    UnlessNoMemory error (IsErrorAt ((repeated n (transform weights)).read bytes m) error q) → UnlessNoMemory error (IsErrorAt (header.read bytes p) error q)
+listed_refused bytes p global a weights b n m error q first second third refused =
     let rest : header.read bytes p ≡ reading.◌>>=◌ ((repeated n (transform weights)).read bytes m) (λ found. Ok (record { value = record { use_global_tree = global; wp_params = weights; transform = found.value }; position = found.position })) =
     rw (first, second, third) refl in
-    unless_so fault (IsRefused ((repeated n (transform weights)).read bytes m) fault q) (IsRefused (header.read bytes p) fault q)
+    unless_so error (IsErrorAt ((repeated n (transform weights)).read bytes m) error q) (IsErrorAt (header.read bytes p) error q)
     (λ r. record {
       place = r.place;
       refuses = rest ∙ ap (λ all. reading.◌>>=◌ all (λ found. Ok (record { value = record { use_global_tree = global; wp_params = weights; transform = found.value }; position = found.position }))) r.refuses;

@@ -2,14 +2,14 @@
 use Rattle.std.proofs.Common.{◌≡◌, ℕ, ◌≤◌, Bool, true, false, List, length, Some, Result, Ok, Err, refl, sym, ap, ◌∙◌}
 use Rattle.std.specs.Prelude.{codes, nat_lt, not, ◌&&◌, if◌then◌else◌}
 use Rattle.std.proofs.lemmas.Bool.{ltb-false}
-use Rattle.jxlm_base.specs.Fault.{Fault, BadProfile, NoGlobalTree, UnlessNoMemory}
-use Rattle.jxlm_base.specs.Grammar.{IsRefused}
+use Rattle.jxlm_base.specs.ErrorKind.{ErrorKind, BadProfile, NoGlobalTree, UnlessNoMemory}
+use Rattle.jxlm_base.specs.Grammar.{IsErrorAt}
 use Rattle.jxlm_transform.specs.Channels.{ChannelList}
 use Rattle.jxlm_transform.specs.ChannelSteps.{CodedList, coded_list}
 use Rattle.jxlm_transform.specs.Transforms.{Transform, OfRct, OfPalette, OfSqueeze, HasChannels, IsTransform}
 use Rattle.std.specs.List.{All}
 use Rattle.std.proofs.lemmas.List.Elements.{All-weaker}
-use Rattle.jxlm_transform.proofs.Refusals.{unless_so}
+use Rattle.jxlm_transform.proofs.Failures.{unless_so}
 use Rattle.jxlm_header.specs.Header.{Header, header}
 use Rattle.jxlm_header.specs.Opening.{Opening, checked, conditions, resolved, opening}
 
@@ -22,10 +22,10 @@ has_channels (OfSqueeze steps) is = tt
 pub have_channels : (ts : List Transform) → All IsTransform ts → All HasChannels ts
 have_channels ts are = All-weaker IsTransform HasChannels has_channels ts are
 
-abbrev first_of_two : Bool → Bool → Fault → Fault → Result (Unit {0}) Fault
+abbrev first_of_two : Bool → Bool → ErrorKind → ErrorKind → Result (Unit {0}) ErrorKind
 first_of_two a b e f = if a then Err e else if b then Err f else Ok tt
 
-first_not : (a b : Bool) (e f : Fault) → first_of_two a b e f ≡ Ok tt → a ≡ false
+first_not : (a b : Bool) (e f : ErrorKind) → first_of_two a b e f ≡ Ok tt → a ≡ false
 first_not true b e f h = cc
 first_not false b e f h = refl
 
@@ -41,31 +41,31 @@ module _ (has_global : Bool) (list : ChannelList) where
 
 module _ (has_global : Bool) (list : ChannelList) (bytes : List ℕ) (p : ℕ) where
   -- where the header gives an error, so does all
-  pub header_refused : (fault : Fault) (q : ℕ) → UnlessNoMemory fault (IsRefused (header.read bytes p) fault q) → UnlessNoMemory fault (IsRefused ((opening has_global list).read bytes p) fault q)
-  header_refused fault q refused =
-      unless_so fault (IsRefused (header.read bytes p) fault q) (IsRefused ((opening has_global list).read bytes p) fault q)
+  pub header_refused : (error : ErrorKind) (q : ℕ) → UnlessNoMemory error (IsErrorAt (header.read bytes p) error q) → UnlessNoMemory error (IsErrorAt ((opening has_global list).read bytes p) error q)
+  header_refused error q refused =
+      unless_so error (IsErrorAt (header.read bytes p) error q) (IsErrorAt ((opening has_global list).read bytes p) error q)
       (λ r. record { place = r.place; refuses = rw r.refuses refl; stands = r.stands }) refused
 
   module _ (h : Header) (m : ℕ) (reads : header.read bytes p ≡ Ok (record { value = h; position = m })) where
     reads_on : (opening has_global list).read bytes p ≡ (checked (resolved has_global list h)).read bytes m
     reads_on = rw reads refl
 
-    refused_behind : (fault : Fault) → resolved has_global list h ≡ Err fault → IsRefused ((opening has_global list).read bytes p) fault m
-    refused_behind fault e = record { place = Some m; refuses = reads_on ∙ ap (λ (r : Result Opening Fault). (checked r).read bytes m) e; stands = refl }
+    refused_after : (error : ErrorKind) → resolved has_global list h ≡ Err error → IsErrorAt ((opening has_global list).read bytes p) error m
+    refused_after error e = record { place = Some m; refuses = reads_on ∙ ap (λ (r : Result Opening ErrorKind). (checked r).read bytes m) e; stands = refl }
 
     -- so it is where a transform does
-    pub transforms_refused : (fault : Fault) → UnlessNoMemory fault (coded_list h.transform list ≡ Err fault) → UnlessNoMemory fault (IsRefused ((opening has_global list).read bytes p) fault m)
-    transforms_refused fault refused =
-        unless_so fault (coded_list h.transform list ≡ Err fault) (IsRefused ((opening has_global list).read bytes p) fault m)
-        (λ e. refused_behind fault (rw e refl)) refused
+    pub transforms_refused : (error : ErrorKind) → UnlessNoMemory error (coded_list h.transform list ≡ Err error) → UnlessNoMemory error (IsErrorAt ((opening has_global list).read bytes p) error m)
+    transforms_refused error refused =
+        unless_so error (coded_list h.transform list ≡ Err error) (IsErrorAt ((opening has_global list).read bytes p) error m)
+        (λ e. refused_after error (rw e refl)) refused
 
     module _ (coded : CodedList) (found : coded_list h.transform list ≡ Ok coded) where
       -- and where a condition fails, by the header as its transforms list their steps
-      pub condition_fails : (k : Header) (fault : Fault) → k.use_global_tree ≡ h.use_global_tree → conditions has_global k coded.list ≡ Err fault →
-          IsRefused ((opening has_global list).read bytes p) fault m
-      condition_fails k fault flags fails =
-          let here : conditions has_global h coded.list ≡ Err fault = sym (conditions_alike has_global coded.list k h flags) ∙ fails in
-          refused_behind fault (rw (found, here) refl)
+      pub condition_fails : (k : Header) (error : ErrorKind) → k.use_global_tree ≡ h.use_global_tree → conditions has_global k coded.list ≡ Err error →
+          IsErrorAt ((opening has_global list).read bytes p) error m
+      condition_fails k error flags fails =
+          let here : conditions has_global h coded.list ≡ Err error = sym (conditions_alike has_global coded.list k h flags) ∙ fails in
+          refused_after error (rw (found, here) refl)
 
       -- where all hold, it is opened
       pub is_opened : (k : Header) → k.use_global_tree ≡ h.use_global_tree → conditions has_global k coded.list ≡ Ok tt →
@@ -73,4 +73,4 @@ module _ (has_global : Bool) (list : ChannelList) (bytes : List ℕ) (p : ℕ) w
       is_opened k flags holds =
           let here : conditions has_global h coded.list ≡ Ok tt = sym (conditions_alike has_global coded.list k h flags) ∙ holds in
           let all : resolved has_global list h ≡ Ok (record { weights = h.wp_params; coded = coded }) = rw (found, here) refl in
-          reads_on ∙ ap (λ (r : Result Opening Fault). (checked r).read bytes m) all
+          reads_on ∙ ap (λ (r : Result Opening ErrorKind). (checked r).read bytes m) all

@@ -1,7 +1,7 @@
 -- What comes before an image's tree, and the order of its checks (ISO/IEC 18181-1, Modular: header and conditions).
 use Rattle.std.specs.Prelude.{◌≡◌, ◌+◌, ◌^◌, nat_lt, min, sum_by, List, length, codes, Bool, ℕ, not, ◌&&◌, if◌then◌else◌, Result, Ok, Err}
-use Rattle.jxlm_base.specs.Fault.{Fault, BadProfile, NoGlobalTree, fault_of}
-use Rattle.jxlm_base.specs.Grammar.{Grammar, IsExact, give, refuse}
+use Rattle.jxlm_base.specs.ErrorKind.{ErrorKind, BadProfile, NoGlobalTree, kind_of}
+use Rattle.jxlm_base.specs.Grammar.{Grammar, IsExact, give, fail}
 use Rattle.jxlm_base.specs.Grammar as fields
 use Rattle.jxlm_base.specs.declared.error.Error.{Error}
 use Rattle.jxlm_transform.specs.Steps.{steps_in}
@@ -18,18 +18,18 @@ pub record Opening : Type 0 where
   pub coded : CodedList
 
 -- a value that is found without bits, or its error
-abbrev pub checked : {X : Type 0} → Result X Fault → Grammar X
+abbrev pub checked : {X : Type 0} → Result X ErrorKind → Grammar X
 checked (Ok x) = give x
-checked (Err e) = refuse e
+checked (Err e) = fail e
 
 -- the conditions, in order: at most 65536 channels are coded, and a global tree that the header asks for was given
-abbrev pub conditions : Bool → Header → ChannelList → Result (Unit {0}) Fault
+abbrev pub conditions : Bool → Header → ChannelList → Result (Unit {0}) ErrorKind
 conditions has_global header list =
     if nat_lt 65536 (length list.channels) then Err (BadProfile (codes "nb_channels_tr too large")) else
     if header.use_global_tree && not has_global then Err NoGlobalTree else Ok tt
 
 -- each transform in turn against the channels that the ones before it leave, and then the conditions
-abbrev pub resolved : Bool → ChannelList → Header → Result Opening Fault
+abbrev pub resolved : Bool → ChannelList → Header → Result Opening ErrorKind
 resolved has_global list header =
     coded_list header.transform list >>= λ coded.
     conditions has_global header coded.list >>= λ _.
@@ -40,9 +40,9 @@ abbrev pub opening : Bool → ChannelList → Grammar Opening
 opening has_global list = fields.◌>>=◌ header λ header. checked (resolved has_global list header)
 
 -- what a call that checks the conditions returned
-abbrev pub CheckGives : Result (Unit {0}) Fault → Result (Unit {0}) Error → Type 0
+abbrev pub CheckGives : Result (Unit {0}) ErrorKind → Result (Unit {0}) Error → Type 0
 CheckGives check (Ok u) = check ≡ Ok tt
-CheckGives check (Err e) = check ≡ Err (fault_of e)
+CheckGives check (Err e) = check ≡ Err (kind_of e)
 
 -- a header and its coded channels, as a program keeps them
 abbrev pub opening_of : ModularHeader × ModularChannels → Opening

@@ -28,7 +28,8 @@ fn read_transforms(
     count: u32,
     wp_params: &WpHeader,
 ) -> Result<Vec<TransformInfo>>
-    ensures gives { Parses (λ v. map transform_of v.items) result (position_of bits.new) ((repeated count (transform wp_params.now)).read (bytes_of bits.old) (position_of bits.old)) }
+    ensures gives { Parses (λ v. map transform_of v.items) result (position_of bits.new)
+        ((repeated count (transform wp_params.now)).read (bytes_of bits.old) (position_of bits.old)) }
     ensures each { IfOk result (λ v. All IsTransform (map transform_of v.items)) }
     ensures weights { IfOk result (λ v. All (KeepsWeights wp_params.now) (map transform_of v.items)) }
     ensures bytes { bytes_of bits.new ≡ bytes_of bits.old }
@@ -54,7 +55,8 @@ impl ModularHeader {
     /// number of a predictor that is none. The reader is then after the last field that was read whole.
     /// `Buffer` if it is out of memory, at any transform; no error of a decoder comes.
     pub fn parse(alloc: Global, bits: &mut Bitstream<'_>) -> Result<ModularHeader>
-        ensures gives { Parses header_of result (position_of bits.new) (header.read (bytes_of bits.old) (position_of bits.old)) }
+        ensures gives { Parses header_of result (position_of bits.new)
+            (header.read (bytes_of bits.old) (position_of bits.old)) }
         ensures ranges { IfOk result (λ h. IsReadHeader (header_of h)) }
         ensures bytes { bytes_of bits.new ≡ bytes_of bits.old }
     {

@@ -41,8 +41,8 @@ pub fn check(header: &ModularHeader, channels: &ModularChannels, has_global: boo
     ensures { CheckGives (conditions has_global (header_of header.now) (list_of channels.now)) result }
 {
     if channels.info.len() > MAX_CODED_CHANNELS {
-        let refusal = BitstreamError::ProfileConformance("nb_channels_tr too large");
-        return Err(Error::Bitstream(refusal));
+        let failure = BitstreamError::ProfileConformance("nb_channels_tr too large");
+        return Err(Error::Bitstream(failure));
     }
     if header.use_global_tree && !has_global {
         return Err(Error::GlobalMaTreeNotAvailable);

@@ -21,9 +21,9 @@ use Rattle.jxlm_tree.specs.Tree.{depth}
 use Rattle.jxlm_tree.specs.declared.flat.Leaf.{Leaf}
 use Rattle.jxlm_tree.specs.declared.state.PredictorState.{PredictorState}
 use Rattle.jxlm_part.specs.Coded.{next_prediction, sample_of}
-use Rattle.jxlm_part.specs.Part.{channel, greatest_width, no_channel}
-use Rattle.jxlm_part.specs.Reading.{FindsClusters, HasRoom, IsCodingOf, ReadsNext, RefusesNext, StandsBehind, cost_of, flat, handed, leaf_at, part_of, predicted_at, region_at, regions_of, setting_of}
-use Rattle.jxlm_part.specs.Progress.{cells_ahead, grids_in}
+use Rattle.jxlm_part.specs.Part.{channel, max_width, no_channel}
+use Rattle.jxlm_part.specs.Reading.{FindsClusters, HasRoom, IsCodingOf, ReadsNext, FailsNext, StandsAfter, cost_of, flat, handed, leaf_at, part_of, predicted_at, region_at, regions_of, setting_of}
+use Rattle.jxlm_part.specs.Progress.{preceding_cells, grids_in}
 use Rattle.jxlm_part.specs.Inner.Rows.{FailsCell, FailsRow, ReadsCell, StandsInRow, row_rule}
 use Rattle.jxlm_part.specs.Rule.{Rule, CodedPrefix}
 use Rattle.jxlm_part.specs.declared.coding.PartCoding.{PartCoding}
@@ -142,7 +142,7 @@ module _ {D : Type 0} (c : PartCoding D) (coding : IsCodingOf c) (i : ℕ) (li :
       rule = row_rule d w (part_of c) bytes (regions_of c) ints i y
 
       abbrev here : List ℤ
-      here = cells_ahead (part_of c) (grids_in (regions_of c) ints) i 0 y ++ so_far
+      here = preceding_cells (part_of c) (grids_in (regions_of c) ints) i 0 y ++ so_far
 
       next : IsNext (part_of c) (regions_of c) ints i here own (sees_regions (part_of c) (regions_of c) ints i y coding.sizes li qy so_far (omega (arith, row_long, px))) (setting_of c i)
       next = is_next (part_of c) (regions_of c) ints i here own (sees_regions (part_of c) (regions_of c) ints i y coding.sizes li qy so_far (omega (arith, row_long, px)))
@@ -150,7 +150,7 @@ module _ {D : Type 0} (c : PartCoding D) (coding : IsCodingOf c) (i : ℕ) (li :
       -- the read of the rule is that of the leaf to which the flat tree leads
       read_is : rule.read so_far s p ≡ d.read s bytes p (leaf_at the_flat (setting_of c i) ints own).cluster c.widest
       read_is =
-          sym (ap (λ (l : Leaf). d.read s bytes p l.cluster (greatest_width (part_of c).channels)) next.leaf_is)
+          sym (ap (λ (l : Leaf). d.read s bytes p l.cluster (max_width (part_of c).channels)) next.leaf_is)
           ∙ sym (ap (d.read s bytes p (leaf_at (flat c.config.now.tree c.stream_index i) (setting_of c i) ints own).cluster) coding.widest)
           ∙ sym (ap (λ (t : FlatTree). d.read s bytes p (leaf_at t (setting_of c i) ints own).cluster c.widest) (flat_at other))
 
@@ -160,9 +160,9 @@ module _ {D : Type 0} (c : PartCoding D) (coding : IsCodingOf c) (i : ℕ) (li :
           ∙ sym (ap (λ z. sample_of w (leaf_at (flat c.config.now.tree c.stream_index i) (setting_of c i) ints own) z token) next.predicted_is)
           ∙ sym (ap (λ (t : FlatTree). sample_of w (leaf_at t (setting_of c i) ints own) (predicted_at t (setting_of c i) ints own) token) (flat_at other))
 
-      pub fails_cell : (t : D) (q : ℕ) (e : DecoderError) → RefusesNext s t p q e (d.read s bytes p (leaf_at the_flat (setting_of c i) ints own).cluster c.widest) →
+      pub fails_cell : (t : D) (q : ℕ) (e : DecoderError) → FailsNext s t p q e (d.read s bytes p (leaf_at the_flat (setting_of c i) ints own).cluster c.widest) →
           FailsCell rule row x s p row t q e
-      fails_cell t q e refuses = record { error = read_is ∙ refuses.fault; row_is = refl; state_is = refuses.state_is; place_is = refuses.place_is }
+      fails_cell t q e refuses = record { error = read_is ∙ refuses.error; row_is = refl; state_is = refuses.state_is; place_is = refuses.place_is }
 
       pub reads_cell : (from_int : ℤ → X) → ((n : ℤ) → to_int (from_int n) ≡ n) → (sample : X) (new : List ℤ) (t : D) (q : ℕ) → new ≡ slice_set row x (to_int sample) →
           ReadsNext w from_int (leaf_at the_flat (setting_of c i) ints own) (predicted_at the_flat (setting_of c i) ints own) sample t q
@@ -176,7 +176,7 @@ module _ {D : Type 0} (c : PartCoding D) (coding : IsCodingOf c) (i : ℕ) (li :
 
 -- at the first cell of a row the state is after the rows above
 pub begins_row : {D X : Type 0} (c : PartCoding D) (i : ℕ) (to_int : X → ℤ) (store : List (Grid X)) (y : ℕ) (row : List ℤ) (state : PredictorState X) →
-    StandsBehind c to_int store i (y * (region_at (regions_of c) i).width) state → StandsInRow c to_int store i y (take 0 row) state
+    StandsAfter c to_int store i (y * (region_at (regions_of c) i).width) state → StandsInRow c to_int store i y (take 0 row) state
 begins_row c i to_int store y row state h = subst (StandsAt state (setting_of c i)) (sym (append-nil _)) h
 
 -- ---- cells of a row, one after another

@@ -14,8 +14,8 @@ use Rattle.jxlm_part.specs.Coded.{next_prediction, sample_of}
 use Rattle.jxlm_part.specs.Inner.Leaves.{HasPath, next_by, path_rule, row_above}
 use Rattle.jxlm_part.specs.Inner.Rows.{AreAlike, row_rule}
 use Rattle.jxlm_transform.specs.Channels.{AreRegionsOf}
-use Rattle.jxlm_part.specs.Part.{Part, channel, greatest_width, next_channel, next_leaf, samples_of, surroundings}
-use Rattle.jxlm_part.specs.Progress.{cells_ahead, grids_in}
+use Rattle.jxlm_part.specs.Part.{Part, channel, max_width, next_channel, next_leaf, samples_of, surroundings}
+use Rattle.jxlm_part.specs.Progress.{preceding_cells, grids_in}
 use Rattle.jxlm_part.specs.Reading.{region_at}
 use Rattle.jxlm_part.specs.declared.leaves.LeafPath.{LeafPath}
 use Rattle.jxlm_part.proofs.NextSample.{SeesRegions}
@@ -35,7 +35,7 @@ module _ {S : Type 0} (d : Meaning S) (w : Width) (part : Part) (bytes : List �
 
   module _ (row : List ℤ) (short : length row < reg.width) where
     abbrev here : List ℤ
-    here = cells_ahead part (grids_in regions ints) i 0 y ++ row
+    here = preceding_cells part (grids_in regions ints) i 0 y ++ row
 
     abbrev own : List ℤ
     own = samples own_grid (IsFull-grid_of ints reg) y qy row short
@@ -53,8 +53,8 @@ module _ {S : Type 0} (d : Meaning S) (w : Width) (part : Part) (bytes : List �
         ∙ path_is own_grid (IsFull-grid_of ints reg) y qy row short (Some part.weights) l.path
 
   -- a row that is read at the leaf is one of the part
-  pub leaf_rows : AreAlike (path_rule d w bytes l.leaf (greatest_width part.channels) l.path (row_above own_grid y)) (row_rule d w part bytes regions ints i y) reg.width
+  pub leaf_rows : AreAlike (path_rule d w bytes l.leaf (max_width part.channels) l.path (row_above own_grid y)) (row_rule d w part bytes regions ints i y) reg.width
   leaf_rows row short = (
-    (λ s p. ap (λ (k : Leaf). d.read s bytes p k.cluster (greatest_width part.channels)) (sym (leaf_is (here row short)))),
+    (λ s p. ap (λ (k : Leaf). d.read s bytes p k.cluster (max_width part.channels)) (sym (leaf_is (here row short)))),
     (λ token. ap (λ z. sample_of w l.leaf z token) (sym (predicted_is row short)) ∙ ap (λ (k : Leaf). sample_of w k (next_prediction part (here row short)) token) (sym (leaf_is (here row short)))),
   )

@@ -40,14 +40,14 @@ split (c ∷ cs) (g ∷ gs) (suc i) fit l =
     let whole = full c g fit.0.same_width fit.0.same_height fit.0.full in
     let s = split cs gs i fit.1 (omega arith) in
     let start : cells_before (c ∷ cs) (suc i) ≡ length g.cells + cells_before cs i = omega (arith, before_suc c cs i, whole) in
-    let behind = s.all in
+    let after_it = s.all in
     record {
       rest = s.rest;
       from = rw start (drop-append-add g.cells (cells_of gs) (cells_before cs i) ∙ s.from);
       long = s.long;
       wide = s.wide;
       high = s.high;
-      all = omega (arith, start, behind, length-append g.cells (cells_of gs));
+      all = omega (arith, start, after_it, length-append g.cells (cells_of gs));
     }
 
 channel_at : (channels : List Channel) (i j : ℕ) → i < length channels → j < area (channel channels i) → channel_of channels (cells_before channels i + j) ≡ i
@@ -102,7 +102,7 @@ each_sees_before channels grids i j fit l h =
     let all = s.all in
     let count : length (take (b + j) (cells_of grids)) ≡ b + j = length-take-le (b + j) (cells_of grids) (omega (arith, all, h)) in
     record {
-      behind = refl;
+      after_it = refl;
       stands = ap (channel_of channels) count ∙ channel_at channels i j l h;
       own = first_samples channels grids i j s h;
       earlier = λ e before.

@@ -83,13 +83,13 @@ same_found x y r h k = cc
 -- Where some grids are coded to the end, decoding returns no error: begin, each read and finalize have one result.
 pub coded_or_fails : {S : Type 0} (d : Meaning S) (w : Width) (part : Part) (bytes : List ℕ) (decoder : S) (old new : Standing) (e : DecoderError) (tried : ℕ) (grids : List (Grid ℤ)) (r : ℕ) →
     IsCodedToTheEnd d w part bytes decoder old.position grids r → Fails d w part bytes decoder old new e tried → ⊥
-coded_or_fails {S} d w part bytes decoder old new e tried grids r whole (cells, inl f) = clash (d.begin decoder bytes old.position) _ _ whole.coded.begins f.fault
+coded_or_fails {S} d w part bytes decoder old new e tried grids r whole (cells, inl f) = clash (d.begin decoder bytes old.position) _ _ whole.coded.begins f.error
 coded_or_fails {S} d w part bytes decoder old new e tried grids r whole (cells, inr later) =
     let f = later.fails in
     let n = later.count in
     let x = same_found _ _ (d.begin decoder bytes old.position) whole.coded.begins f.coded.begins in
     let rule = part_rule d w part bytes in
-    elim f.fault [
+    elim f.error [
       | inl read ↦
           let shorter = prefix_part rule whole.coded.start.value whole.coded.start.position (cells_of grids) (cell_count part.channels) n whole.state r read.0 whole.coded.joined in
           let one = prefix_one rule whole.coded.start.value whole.coded.start.position (cells_of grids) (cells_of new.grids) n shorter.0 f.state shorter.1 new.position shorter.3 (rw x f.coded.joined) in

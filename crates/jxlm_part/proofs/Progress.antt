@@ -34,10 +34,10 @@ cells_written (c ∷ cs) (g ∷ gs) zero x y v fit l p q =
 cells_written (c ∷ cs) (g ∷ gs) (suc i) x y v fit l p q =
     let whole : length g.cells ≡ area c = fit.0.full ∙ ap (λ w. w * g.height) fit.0.same_width ∙ ap (λ h. c.width * h) fit.0.same_height in
     let j : ℕ = y * (channel cs i).width + x in
-    let behind : cells_before (c ∷ cs) (suc i) + j ≡ length g.cells + (cells_before cs i + j) = let b = before_suc c cs i in omega (arith, b, whole) in
+    let after_it : cells_before (c ∷ cs) (suc i) + j ≡ length g.cells + (cells_before cs i + j) = let b = before_suc c cs i in omega (arith, b, whole) in
     let less : length g.cells + (cells_before cs i + j) - length g.cells ≡ cells_before cs i + j = omega arith in
     let le : length g.cells ≤ length g.cells + (cells_before cs i + j) = omega arith in
-    ap (λ zs. g.cells ++ zs) (cells_written cs gs i x y v fit.1 (omega arith) p q) ∙ sym (rw behind (set-append_right g.cells (cells_of gs) (length g.cells) (length g.cells + (cells_before cs i + j)) v refl le ∙ ap (λ n. g.cells ++ set (cells_of gs) n v) less))
+    ap (λ zs. g.cells ++ zs) (cells_written cs gs i x y v fit.1 (omega arith) p q) ∙ sym (rw after_it (set-append_right g.cells (cells_of gs) (length g.cells) (length g.cells + (cells_before cs i + j)) v refl le ∙ ap (λ n. g.cells ++ set (cells_of gs) n v) less))
 
 -- grids still fit their channels after a cell was written
 pub fits_written : (channels : List Channel) (grids : List (Grid ℤ)) (i x y : ℕ) (v : ℤ) → AreGridsOf channels grids → AreGridsOf channels (with_cell_of grids i x y v)

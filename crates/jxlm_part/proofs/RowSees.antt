@@ -14,9 +14,9 @@ use Rattle.jxlm_tree.specs.Standing.{StandsAt}
 use Rattle.jxlm_tree.specs.declared.state.PredictorState.{PredictorState}
 use Rattle.jxlm_transform.specs.Channels.{AreGridsOf, AreRegionsOf}
 use Rattle.jxlm_part.specs.Part.{Part, SeesBefore, cells_before, cells_of, channel, grid as grid_at}
-use Rattle.jxlm_part.specs.Progress.{cells_ahead, grids_in, place_of}
+use Rattle.jxlm_part.specs.Progress.{preceding_cells, grids_in, place_of}
 use Rattle.jxlm_part.specs.Inner.Rows.{StandsInRow}
-use Rattle.jxlm_part.specs.Reading.{StandsBehind, region_at, regions_of, setting_of}
+use Rattle.jxlm_part.specs.Reading.{StandsAfter, region_at, regions_of, setting_of}
 use Rattle.jxlm_part.specs.declared.coding.PartCoding.{PartCoding}
 use Rattle.jxlm_part.proofs.Loops.{fits_in, grid_in, same_count, same_size}
 use Rattle.jxlm_part.proofs.NextSample.{SeesRegions}
@@ -68,7 +68,7 @@ module _ (part : Part) (regions : List Region) (ints : List (Grid ℤ)) (i y : �
     x = length row
 
     abbrev here : List ℤ
-    here = cells_ahead part grids i 0 y ++ row
+    here = preceding_cells part grids i 0 y ++ row
 
     in_channel : x < (channel part.channels i).width
     in_channel = subst (λ n. x < n) wide short
@@ -87,7 +87,7 @@ module _ (part : Part) (regions : List Region) (ints : List (Grid ℤ)) (i y : �
     here_is =
         let at_place : cells_before part.channels i + (y * (channel part.channels i).width + x) ≡ place_of part i 0 y + x = omega arith in
         ap (λ n. take n (cells_of made)) at_place ∙ cells_first part.channels grids i y row fit there x (omega (arith, in_channel)) row_there (omega arith)
-        ∙ ap (λ xs. cells_ahead part grids i 0 y ++ xs) (take-length row)
+        ∙ ap (λ xs. preceding_cells part grids i 0 y ++ xs) (take-length row)
 
     sees : SeesBefore part.channels made i (y * (channel part.channels i).width + x) here
     sees =
@@ -112,7 +112,7 @@ module _ (part : Part) (regions : List Region) (ints : List (Grid ℤ)) (i y : �
 -- after a row that was read and written the state is after the rows up to it
 pub stands_below : {D X : Type 0} (c : PartCoding D) (i y : ℕ) (to_int : X → ℤ) (store new : List (Grid X)) (row : List X) (state : PredictorState X) → AllLie (regions_of c) store → i < length (regions_of c) →
     y < (region_at (regions_of c) i).height → length row ≡ (region_at (regions_of c) i).width → SetsRow (region_at (regions_of c) i) y row store new →
-    StandsInRow c to_int store i y (map to_int row) state → StandsBehind c to_int new i ((y + 1) * (region_at (regions_of c) i).width) state
+    StandsInRow c to_int store i y (map to_int row) state → StandsAfter c to_int new i ((y + 1) * (region_at (regions_of c) i).width) state
 stands_below {D} {X} c i y to_int store new row state lie li qy long sets stands =
     let r : Region = region_at (regions_of c) i in
     let g : Grid ℤ = grid_of (store_meanings to_int store) r in

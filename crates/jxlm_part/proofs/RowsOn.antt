@@ -13,7 +13,7 @@ use Rattle.jxlm_base.specs.declared.subgrid.Region.{Region}
 use Rattle.jxlm_part.specs.Coded.{part_rule}
 use Rattle.jxlm_transform.specs.Channels.{AreRegionsOf}
 use Rattle.jxlm_part.specs.Part.{Part, cells_of, channel}
-use Rattle.jxlm_part.specs.Progress.{GoesOn, Reached, Stops, TakesSteps, cells_ahead, grids_in, place_of}
+use Rattle.jxlm_part.specs.Progress.{GoesOn, Reached, Stops, TakesSteps, preceding_cells, grids_in, place_of}
 use Rattle.jxlm_part.specs.Reading.{region_at}
 use Rattle.jxlm_part.specs.Inner.Rows.{AreAlike, ReadsRow, FailsRow, SetsRead, first_columns, rule_after}
 use Rattle.jxlm_part.specs.Rule.{Rule, CodedPrefix}
@@ -74,7 +74,7 @@ module _ {S : Type 0} (d : Meaning S) (w : Width) (part : Part) (bytes : List �
 
     -- how the next cells of the row are read
     abbrev pub row_rule : Rule S
-    row_rule = rule_after (part_rule d w part bytes) (cells_ahead part (grids_in regions ints) i 0 y)
+    row_rule = rule_after (part_rule d w part bytes) (preceding_cells part (grids_in regions ints) i 0 y)
 
     there : i < length part.channels
     there = let count = same_count part.channels regions sizes in omega (arith, count)
@@ -105,23 +105,23 @@ module _ {S : Type 0} (d : Meaning S) (w : Width) (part : Part) (bytes : List �
       pub row_stops : (cost before after : ℕ) (t : S) (q : ℕ) (e : DecoderError) → n < (region_at regions i).width → after ≤ before + suc n * cost → CodedPrefix row_rule (map to_int vs) s p n t q →
           row_rule.read (map to_int vs) t q ≡ Err e →
           Stops d w part bytes regions cost before after (place_of part i 0 y) ints s p (store_meanings to_int new) q e
-      row_stops cost before after t q e short few reads fault decoder p0 old r =
+      row_stops cost before after t q e short few reads error decoder p0 old r =
           let grids : List (Grid ℤ) = grids_in regions (store_meanings to_int new) in
           let reached = row_goes_on t q reads decoder p0 old r in
           let at : place_of part i 0 y + n ≡ place_of part i n y = omega arith in
           let next : place_of part i 0 y + suc n ≡ suc (place_of part i n y) = omega arith in
           let m = length-map vs to_int in
           let in_row : n < (channel part.channels i).width = subst (λ k. n < k) (same_size part.channels regions i sizes li).0 short in
-          let same : take (place_of part i n y) (cells_of grids) ≡ cells_ahead part (grids_in regions ints) i 0 y ++ map to_int vs =
+          let same : take (place_of part i n y) (cells_of grids) ≡ preceding_cells part (grids_in regions ints) i 0 y ++ map to_int vs =
           ap (λ k. take k (cells_of grids)) (sym at) ∙ ap (λ gs. take (place_of part i 0 y + n) (cells_of gs)) grids_are
           ∙ cells_first part.channels (grids_in regions ints) i y (map to_int vs) r.fits there n width_there row_there (omega (arith, m, long))
-          ∙ ap (λ xs. cells_ahead part (grids_in regions ints) i 0 y ++ xs) (take_all n (map to_int vs) (omega (arith, m, long))) in (
+          ∙ ap (λ xs. preceding_cells part (grids_in regions ints) i 0 y ++ xs) (take_all n (map to_int vs) (omega (arith, m, long))) in (
             record {
               count = place_of part i n y;
               state = t;
               within = subst (λ k. place_of part i n y < k) (all_cells part.channels grids reached.fits) (stands_within part.channels grids i n y reached.fits there in_row row_there);
               reached = reached;
-              fault = ap (λ cs. (part_rule d w part bytes).read cs t q) same ∙ fault;
+              error = ap (λ cs. (part_rule d w part bytes).read cs t q) same ∙ error;
             },
             subst (λ k. TakesSteps cost (place_of part i 0 y) k before after) next (takes_some cost (place_of part i 0 y) (suc n) before after few),
           )

@@ -16,7 +16,7 @@ use Rattle.jxlm_tree.specs.declared.predictor.WpHeader.{WpHeader}
 use Rattle.jxlm_tree.specs.declared.state.PredictorState.{PredictorState}
 use Rattle.jxlm_tree.proofs.StandingLaws.{stands_earlier}
 use Rattle.jxlm_transform.specs.Channels.{Channel, IsNarrow}
-use Rattle.jxlm_part.specs.Part.{channel, no_channel, downward, earlier_alike, greatest_width, is_alike}
+use Rattle.jxlm_part.specs.Part.{channel, no_channel, downward, earlier_alike, max_width, is_alike}
 use Rattle.jxlm_part.specs.Reading.{HasFlats, IsAfterChannel, HasRoom, IsCodingOf, IsRoomy, IsRoomyFor, StandsIn, all_alike, earlier_regions, flat, handed, part_of, region_at, regions_of, setting_of, weights_used}
 use Rattle.jxlm_part.specs.declared.coding.PartCoding.{PartCoding}
 use Rattle.jxlm_part.specs.declared.coding.PartState.{PartState}
@@ -25,13 +25,13 @@ use Rattle.jxlm_part.proofs.Earlier.{few, few_earlier, same_alike, same_sides}
 use Rattle.jxlm_part.proofs.Loops.{same_count, same_size}
 
 -- no channel is wider than the widest
-pub within_widest : (channels : List Channel) (i : ℕ) → i < length channels → (channel channels i).width ≤ greatest_width channels
+pub within_widest : (channels : List Channel) (i : ℕ) → i < length channels → (channel channels i).width ≤ max_width channels
 within_widest [] i l = absurd (omega arith)
 within_widest (c ∷ cs) zero l = omega arith
 within_widest (c ∷ cs) (suc i) l = let h = within_widest cs i (omega arith) in omega (arith, h)
 
 -- where all channels are narrow, so is the widest
-pub narrow_widest : (channels : List Channel) → All IsNarrow channels → greatest_width channels ≤ 2 ^ 30
+pub narrow_widest : (channels : List Channel) → All IsNarrow channels → max_width channels ≤ 2 ^ 30
 narrow_widest [] h = omega arith
 narrow_widest (c ∷ cs) h =
     let first = (All-head IsNarrow c cs h).0 in

@@ -15,7 +15,7 @@ steps_from cost to before after h = omega (arith, h)
 
 module _ {S : Type 0} (d : Meaning S) (w : Width) (part : Part) (bytes : List ℕ) (regions : List Region) (decoder : S) (old : List (Grid ℤ)) (p : ℕ) where
   pub refused_at_begin : (cost before : ℕ) (e : DecoderError) → d.begin decoder bytes p ≡ Err e → DecodesSome d w part bytes regions decoder old p old p cost before before e
-  refused_at_begin cost before e fault partial some = (0, (some, inl (record { fault = fault; unchanged = refl; tries = refl })), omega arith)
+  refused_at_begin cost before e error partial some = (0, (some, inl (record { error = error; unchanged = refl; tries = refl })), omega arith)
 
   module _ (sizes : AreRegionsOf part.channels regions) (start : Found S) (begins : d.begin decoder bytes p ≡ Ok start) (new : List (Grid ℤ)) where
     -- no cell is read yet
@@ -31,7 +31,7 @@ module _ {S : Type 0} (d : Meaning S) (w : Width) (part : Part) (bytes : List �
             some,
             inr (record {
               count = r.count;
-              fails = record { state = r.state; coded = r.reached.coded; fault = inl (r.within, refl, r.fault) };
+              fails = record { state = r.state; coded = r.reached.coded; error = inl (r.within, refl, r.error) };
               rest = r.reached.rest;
               fits = r.reached.fits;
               as_partial = refl;
@@ -47,14 +47,14 @@ module _ {S : Type 0} (d : Meaning S) (w : Width) (part : Part) (bytes : List �
           (record { state = state; coded = r.coded; accepts = accepts }, r.fits)
 
       pub refused_at_end : (cost before after : ℕ) (e : DecoderError) → TakesSteps cost 0 (cell_count part.channels) before after → d.finalize state ≡ Err e → DecodesSome d w part bytes regions decoder old p new q cost before after e
-      refused_at_end cost before after e work fault partial some =
+      refused_at_end cost before after e work error partial some =
           let r = goes decoder p (grids_in regions old) begun in (
             cell_count part.channels,
             (
               some,
               inr (record {
                 count = cell_count part.channels;
-                fails = record { state = state; coded = r.coded; fault = inr (refl, refl, fault) };
+                fails = record { state = state; coded = r.coded; error = inr (refl, refl, error) };
                 rest = r.rest;
                 fits = r.fits;
                 as_partial = refl;

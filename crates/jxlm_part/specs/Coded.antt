@@ -7,7 +7,7 @@ use Rattle.jxlm_base.specs.Numbers.{unpack}
 use Rattle.jxlm_base.specs.declared.decoder.DecoderError.{DecoderError}
 use Rattle.jxlm_tree.specs.Predictions.{prediction}
 use Rattle.jxlm_tree.specs.declared.flat.Leaf.{Leaf}
-use Rattle.jxlm_part.specs.Part.{Part, surroundings, next_leaf, cell_count, greatest_width, cells_of}
+use Rattle.jxlm_part.specs.Part.{Part, surroundings, next_leaf, cell_count, max_width, cells_of}
 use Rattle.jxlm_part.specs.Rule.{Rule, CodedPrefix}
 
 -- the sample that a token stands for, at a leaf and over a prediction, reduced to the width of the samples
@@ -24,7 +24,7 @@ module _ {S : Type 0} (d : Meaning S) (w : Width) (part : Part) (bytes : List �
   -- the next sample of a part: its token is read from the cluster of its leaf, under the maximum width
   abbrev pub part_rule : Rule S
   part_rule = record {
-    read = λ before s p. d.read s bytes p (next_leaf part before).cluster (greatest_width part.channels);
+    read = λ before s p. d.read s bytes p (next_leaf part before).cluster (max_width part.channels);
     value = λ before token. sample_of w (next_leaf part before) (next_prediction part before) token;
   }
 
@@ -45,7 +45,7 @@ module _ {S : Type 0} (d : Meaning S) (w : Width) (part : Part) (bytes : List �
   pub record FailsAfter (decoder : S) (p n : ℕ) (grids : List (Grid ℤ)) (q : ℕ) (e : DecoderError) (tried : ℕ) : Type 0 where
     pub state : S
     pub coded : IsCoded decoder p n grids state q
-    pub fault :
+    pub error :
         ((n < cell_count part.channels) × (tried ≡ suc n) × (part_rule.read (take n (cells_of grids)) state q ≡ Err e))
         ⊎ ((n ≡ cell_count part.channels) × (tried ≡ n) × (d.finalize state ≡ Err e))
 

@@ -20,7 +20,7 @@ pub record Standing : Type 0 where
 module _ {S : Type 0} (d : Meaning S) (w : Width) (part : Part) (bytes : List ℕ) (decoder : S) (old new : Standing) where
   -- begin returns the error: nothing changed, and no read was tried
   pub record FailsToBegin (e : DecoderError) (tried : ℕ) : Type 0 where
-    pub fault : d.begin decoder bytes old.position ≡ Err e
+    pub error : d.begin decoder bytes old.position ≡ Err e
     pub unchanged : new ≡ old
     pub tries : tried ≡ 0
 

@@ -38,9 +38,9 @@ channel_of [] k = 0
 channel_of (c ∷ channels) k = if nat_lt k (area c) then 0 else suc (channel_of channels (k - area c))
 
 -- the maximum width, of channels without cells too
-abbrev pub greatest_width : List Channel → ℕ
-greatest_width [] = 0
-greatest_width (c ∷ channels) = max c.width (greatest_width channels)
+abbrev pub max_width : List Channel → ℕ
+max_width [] = 0
+max_width (c ∷ channels) = max c.width (max_width channels)
 
 -- equal sizes and shifts
 abbrev pub is_alike : Channel → Channel → Bool
@@ -96,7 +96,7 @@ grid grids i = slice_index_or grids i (record { width = 0; height = 0; cells = [
 -- After the first cells of some grids, up to cell j of channel i, the next sample sees the first j samples of its own
 -- grid, and the earlier grids whole.
 pub record SeesBefore (channels : List Channel) (grids : List (Grid ℤ)) (i j : ℕ) (before : List ℤ) : Type 0 where
-  pub behind : before ≡ take (cells_before channels i + j) (cells_of grids)
+  pub after_it : before ≡ take (cells_before channels i + j) (cells_of grids)
   pub stands : next_channel channels before ≡ i
   pub own : samples_of channels before i ≡ take j (grid grids i).cells
   pub earlier : (e : ℕ) → e < i → grid_of channels before e ≡ grid grids e

@@ -25,15 +25,15 @@ module _ {S : Type 0} (d : Meaning S) (w : Width) (part : Part) (bytes : List �
     pub state : S
     pub within : count < cell_count part.channels
     pub reached : Reached count now state q
-    pub fault : (part_rule d w part bytes).read (take count (cells_of now)) state q ≡ Err e
+    pub error : (part_rule d w part bytes).read (take count (cells_of now)) state q ≡ Err e
 
 -- how many cells of a part are before column x of row y of channel i
 abbrev pub place_of : Part → ℕ → ℕ → ℕ → ℕ
 place_of part i x y = cells_before part.channels i + (y * (channel part.channels i).width + x)
 
 -- the cells before column x of row y of grid i
-abbrev pub cells_ahead : Part → List (Grid ℤ) → ℕ → ℕ → ℕ → List ℤ
-cells_ahead part grids i x y = take (place_of part i x y) (cells_of grids)
+abbrev pub preceding_cells : Part → List (Grid ℤ) → ℕ → ℕ → ℕ → List ℤ
+preceding_cells part grids i x y = take (place_of part i x y) (cells_of grids)
 
 -- from one cell up to another, each took at most `cost` steps
 abbrev pub TakesSteps : ℕ → ℕ → ℕ → ℕ → ℕ → Type 0

@@ -19,7 +19,7 @@ use Rattle.jxlm_tree.specs.declared.predictor.WpHeader.{WpHeader}
 use Rattle.jxlm_tree.specs.declared.state.PredictorState.{PredictorState}
 use Rattle.jxlm_transform.specs.Channels.{AreRegionsOf, IsNarrow}
 use Rattle.jxlm_part.specs.Coded.{sample_of}
-use Rattle.jxlm_part.specs.Part.{Part, earlier_alike, greatest_width}
+use Rattle.jxlm_part.specs.Part.{Part, earlier_alike, max_width}
 use Rattle.jxlm_part.specs.declared.coding.PartCoding.{PartCoding}
 use Rattle.jxlm_part.specs.declared.coding.PartState.{PartState}
 
@@ -64,7 +64,7 @@ module _ {D : Type 0} where
   pub record IsCodingOf (c : PartCoding D) : Type 0 where
     pub sizes : AreRegionsOf (part_of c).channels (regions_of c)
     pub narrow : All IsNarrow (part_of c).channels
-    pub widest : c.widest ≡ greatest_width (part_of c).channels
+    pub widest : c.widest ≡ max_width (part_of c).channels
     pub flats : HasFlats c.config.now.tree c.stream_index (length (regions_of c)) c.flats.now
     pub weights : IsHeader c.weights
 
@@ -105,8 +105,8 @@ module _ {D : Type 0} where
       pub row : c.widest ≤ length state.row.items
 
     -- the state is at the cell after the first n of channel i
-    abbrev pub StandsBehind : PartCoding D → (X → ℤ) → List (Grid X) → ℕ → ℕ → PredictorState X → Type 0
-    StandsBehind c to_int store i n state = StandsAt state (setting_of c i) (take n (grid_of (store_meanings to_int store) (region_at (regions_of c) i)).cells)
+    abbrev pub StandsAfter : PartCoding D → (X → ℤ) → List (Grid X) → ℕ → ℕ → PredictorState X → Type 0
+    StandsAfter c to_int store i n state = StandsAt state (setting_of c i) (take n (grid_of (store_meanings to_int store) (region_at (regions_of c) i)).cells)
 
     -- the state is at some cell of channel i
     pub record StandsIn (c : PartCoding D) (i : ℕ) (state : PredictorState X) : Type 0 where
@@ -124,8 +124,8 @@ pub record ReadsNext {S X : Type 0} (w : Width) (from_int : ℤ → X) (l : Leaf
   pub sample_is : sample ≡ from_int (sample_of w l predicted token)
 
 -- the read returned the error e, and state and position stay
-pub record RefusesNext {S : Type 0} (s t : S) (p q : ℕ) (e : DecoderError) (reading : Result (Taken ℕ S) DecoderError) : Type 0 where
-  pub fault : reading ≡ Err e
+pub record FailsNext {S : Type 0} (s t : S) (p q : ℕ) (e : DecoderError) (reading : Result (Taken ℕ S) DecoderError) : Type 0 where
+  pub error : reading ≡ Err e
   pub state_is : t ≡ s
   pub place_is : q ≡ p
 

@@ -10,7 +10,7 @@ ghost use Rattle.jxlm_tree.specs.Holding.{IsCurrent, state_of, store_of};
 ghost use Rattle.jxlm_tree.specs.Standing.{Setting, StandsAt};
 ghost use Rattle.jxlm_tree.specs.Tree.{depth};
 ghost use Rattle.jxlm_part.specs.Inner.Rows.{FailsCell, IsDecoding, ReadsCell, StandsInRow, rule_in};
-ghost use Rattle.jxlm_part.specs.Reading.{FindsClusters, HasRoom, IsCodingOf, ReadsNext, RefusesNext, cost_of, leaf_at, part_of, predicted_at, region_at, regions_of};
+ghost use Rattle.jxlm_part.specs.Reading.{FindsClusters, HasRoom, IsCodingOf, ReadsNext, FailsNext, cost_of, leaf_at, part_of, predicted_at, region_at, regions_of};
 
 use crate::coding::PartCoding;
 use jxlm_base::bits::Bitstream;
@@ -41,8 +41,15 @@ fn next_sample<S: Sample, D: Decoder>(
 ) -> Result<S, DecoderError>
     requires current { IsCurrent properties.now }
     requires clusters { ClustersStandIn (D.meaning.cluster_map decoder.old) flat.now.tree }
-    ensures ok { IfOk result (λ v. (s : Setting) (samples : List ℤ) → StandsAt (state_of properties.now) s samples → ReadsNext S.width S.from_int (leaf_at flat.now s (store_meanings S.to_int (store_of properties.now)) samples) (predicted_at flat.now s (store_meanings S.to_int (store_of properties.now)) samples) v decoder.new (position_of bits.new) (D.meaning.read decoder.old (bytes_of bits.old) (position_of bits.old) (leaf_at flat.now s (store_meanings S.to_int (store_of properties.now)) samples).cluster widest)) }
-    ensures err { IfErr result (λ e. (s : Setting) (samples : List ℤ) → StandsAt (state_of properties.now) s samples → RefusesNext decoder.old decoder.new (position_of bits.old) (position_of bits.new) e (D.meaning.read decoder.old (bytes_of bits.old) (position_of bits.old) (leaf_at flat.now s (store_meanings S.to_int (store_of properties.now)) samples).cluster widest)) }
+    ensures ok { IfOk result (λ v. (s : Setting) (samples : List ℤ) → StandsAt (state_of properties.now) s samples
+        → ReadsNext S.width S.from_int (leaf_at flat.now s (store_meanings S.to_int (store_of properties.now))
+        samples) (predicted_at flat.now s (store_meanings S.to_int (store_of properties.now)) samples) v decoder.new
+        (position_of bits.new) (D.meaning.read decoder.old (bytes_of bits.old) (position_of bits.old)
+        (leaf_at flat.now s (store_meanings S.to_int (store_of properties.now)) samples).cluster widest)) }
+    ensures err { IfErr result (λ e. (s : Setting) (samples : List ℤ) → StandsAt (state_of properties.now) s samples
+        → FailsNext decoder.old decoder.new (position_of bits.old) (position_of bits.new) e
+        (D.meaning.read decoder.old (bytes_of bits.old) (position_of bits.old)
+        (leaf_at flat.now s (store_meanings S.to_int (store_of properties.now)) samples).cluster widest)) }
     ensures clusters { OnOk result (D.meaning.cluster_map decoder.new ≡ D.meaning.cluster_map decoder.old) }
     ensures memory { IfErr result (λ e. e ≢ DecoderError.OutOfMemory) }
     ensures bytes { bytes_of bits.new ≡ bytes_of bits.old }

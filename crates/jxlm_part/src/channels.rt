@@ -1,13 +1,13 @@
 //! The channels of an image.
 
 ghost use Rattle.std.specs.Prelude.{◌≡◌, ◌<◌, ◌↔◌, IsTrue};
-ghost use Rattle.jxlm_part.specs.Part.{cell_count, greatest_width as the_greatest_width};
+ghost use Rattle.jxlm_part.specs.Part.{cell_count, max_width as the_maximum_width};
 
 use jxlm_transform::channels::ModularChannelInfo;
 
 /// The maximum width of the channels, also of those without samples; 0 where there are none.
-pub fn greatest_width(channels: &[ModularChannelInfo]) -> u32
-    ensures { result ≡ the_greatest_width channels.now }
+pub fn max_width(channels: &[ModularChannelInfo]) -> u32
+    ensures { result ≡ the_maximum_width channels.now }
 {
     let mut widest = 0;
     for channel in channels {

@@ -1,12 +1,12 @@
 //! Everything a part is decoded with, and what is made ready before its first bit is read.
 
 ghost use Rattle.std.specs.Prelude.{◌≡◌, ℤ, ◌^◌, ◌<◌, ◌≤◌, List, IfOk, IfErr, length};
-ghost use Rattle.jxlm_base.specs.Fault.{NoMemory, fault_of};
+ghost use Rattle.jxlm_base.specs.ErrorKind.{NoMemory, kind_of};
 ghost use Rattle.jxlm_base.specs.Grid.{Grid};
 ghost use Rattle.jxlm_tree.specs.SelfCorrecting.{IsHeader};
 ghost use Rattle.jxlm_part.specs.Part.{is_alike as alike};
 ghost use Rattle.jxlm_tree.specs.Standing.{Setting, StandsAt, earlier_count, setting};
-ghost use Rattle.jxlm_part.specs.Reading.{HasFlats, HasRoom, IsAfterChannel, IsCodingOf, IsRoomyFor, StandsBehind, all_alike, region_at, regions_of};
+ghost use Rattle.jxlm_part.specs.Reading.{HasFlats, HasRoom, IsAfterChannel, IsCodingOf, IsRoomyFor, StandsAfter, all_alike, region_at, regions_of};
 
 use jxlm_base::decoder::Decoder;
 use jxlm_base::error::Result;
@@ -78,7 +78,7 @@ pub(crate) fn start_channel<S: Sample, D: Decoder>(
     requires coding { IsCodingOf coding.now }
     requires roomy { HasRoom coding.now state.old }
     requires last { IsAfterChannel coding.now i state.old }
-    ensures stands { (store : List (Grid S)) → StandsBehind coding.now S.to_int store i 0 state.new }
+    ensures stands { (store : List (Grid S)) → StandsAfter coding.now S.to_int store i 0 state.new }
     ensures roomy { HasRoom coding.now state.new }
 {
     let width = coding.regions[i].width as u32;
@@ -103,7 +103,8 @@ fn add_all_earlier<S: Sample, D: Decoder>(
     requires coding { IsCodingOf coding.now }
     requires roomy { HasRoom coding.now state.old }
     requires none { earlier_count state.old ≡ 0 }
-    ensures stands { (s : Setting) (samples : List ℤ) → StandsAt state.old s samples → StandsAt state.new (setting s.width s.weights (all_alike coding.now i)) samples }
+    ensures stands { (s : Setting) (samples : List ℤ) → StandsAt state.old s samples → StandsAt state.new
+        (setting s.width s.weights (all_alike coding.now i)) samples }
     ensures roomy { HasRoom coding.now state.new }
 {
     for e in 0..i {
@@ -125,7 +126,7 @@ pub fn flat_trees<D: Decoder>(
     channels: u32,
 ) -> Result<Vec<FlatMaTree>>
     ensures ok { IfOk result (λ v. HasFlats config.now.tree stream_index channels v.items) }
-    ensures err { IfErr result (λ e. fault_of e ≡ NoMemory) }
+    ensures err { IfErr result (λ e. kind_of e ≡ NoMemory) }
 {
     let mut flats = Vec::new(alloc);
     for channel in 0..channels {
@@ -150,7 +151,7 @@ pub fn roomy_state<S: Sample>(
     requires weights { IsHeader weights.now }
     requires narrow { widest ≤ 2 ^ 30 }
     ensures ok { IfOk result (λ s. IsRoomyFor widest weights.now flats.now s) }
-    ensures err { IfErr result (λ e. fault_of e ≡ NoMemory) }
+    ensures err { IfErr result (λ e. kind_of e ≡ NoMemory) }
 {
     let used = match flats.first() {
         Some(flat) if flat.need_self_correcting() => Some(weights),

@@ -8,7 +8,7 @@ ghost use Rattle.jxlm_part.specs.Part.{cells_before, cell_count};
 ghost use Rattle.jxlm_part.specs.Progress.{GoesOn, Stops, TakesSteps, DecodesAll, DecodesSome, KeepsOutside, place_of};
 ghost use Rattle.jxlm_part.specs.Inner.Leaves.{HasPath};
 ghost use Rattle.jxlm_part.specs.Inner.Rows.{IsDecoding, ReadsRows, StopsInRows};
-ghost use Rattle.jxlm_part.specs.Reading.{FindsClusters, HasRoom, IsAfterChannel, IsCodingOf, IsRoomy, StandsBehind, cost_of, part_of, region_at, regions_of, StandsIn};
+ghost use Rattle.jxlm_part.specs.Reading.{FindsClusters, HasRoom, IsAfterChannel, IsCodingOf, IsRoomy, StandsAfter, cost_of, part_of, region_at, regions_of, StandsIn};
 
 use crate::coding::{PartCoding, PartState, start_channel};
 use crate::leaves::{LeafPath, leaf_path, read_leaf_row};
@@ -35,14 +35,14 @@ fn decode_row<S: Sample, D: Decoder>(
     requires here { IsDecoding coding.now i store.old (D.meaning.cluster_map decoder.old) }
     requires in_rows { y < (region_at (regions_of coding.now) i).height }
     requires long { length row.old ≡ (region_at (regions_of coding.now) i).width }
-    requires stands { StandsBehind coding.now S.to_int store.old i
+    requires stands { StandsAfter coding.now S.to_int store.old i
         (y * (region_at (regions_of coding.now) i).width) state.old }
     requires roomy { HasRoom coding.now state.old }
     ensures ok { OnOk result (ReadsRows coding.now D.meaning S.width S.to_int (bytes_of bits.old) i y
         store.old decoder.old (position_of bits.old) (y + 1) store.new decoder.new (position_of bits.new)) }
     ensures err { IfErr result (λ e. StopsInRows coding.now D.meaning S.width S.to_int (bytes_of bits.old) i y
         store.old decoder.old (position_of bits.old) steps.old steps.new store.new (position_of bits.new) e) }
-    ensures stands { OnOk result (StandsBehind coding.now S.to_int store.new i
+    ensures stands { OnOk result (StandsAfter coding.now S.to_int store.new i
         ((y + 1) * (region_at (regions_of coding.now) i).width) state.new) }
     ensures roomy { OnOk result (HasRoom coding.now state.new) }
     ensures work { OnOk result (TakesSteps (cost_of coding.now)
@@ -70,7 +70,7 @@ fn decode_rows<S: Sample, D: Decoder>(
 ) -> Result<(), DecoderError>
     requires here { IsDecoding coding.now i store.old (D.meaning.cluster_map decoder.old) }
     requires long { length row.old ≡ (region_at (regions_of coding.now) i).width }
-    requires stands { StandsBehind coding.now S.to_int store.old i 0 state.old }
+    requires stands { StandsAfter coding.now S.to_int store.old i 0 state.old }
     requires roomy { HasRoom coding.now state.old }
     ensures ok { OnOk result (ReadsRows coding.now D.meaning S.width S.to_int (bytes_of bits.old) i 0
         store.old decoder.old (position_of bits.old) (region_at (regions_of coding.now) i).height
@@ -174,11 +174,18 @@ fn decode_channel<S: Sample, D: Decoder>(
     requires roomy { HasRoom coding.now state.old }
     requires room { coding.now.widest ≤ length scratch.old }
     requires last { IsAfterChannel coding.now i state.old }
-    ensures ok { OnOk result (GoesOn D.meaning S.width (part_of coding.now) (bytes_of bits.old) (regions_of coding.now) (cells_before (part_of coding.now).channels i) (cells_before (part_of coding.now).channels (i + 1)) (store_meanings S.to_int store.old) decoder.old (position_of bits.old) (store_meanings S.to_int store.new) decoder.new (position_of bits.new)) }
-    ensures err { IfErr result (λ e. Stops D.meaning S.width (part_of coding.now) (bytes_of bits.old) (regions_of coding.now) (cost_of coding.now) steps.old steps.new (cells_before (part_of coding.now).channels i) (store_meanings S.to_int store.old) decoder.old (position_of bits.old) (store_meanings S.to_int store.new) (position_of bits.new) e) }
+    ensures ok { OnOk result (GoesOn D.meaning S.width (part_of coding.now) (bytes_of bits.old)
+        (regions_of coding.now) (cells_before (part_of coding.now).channels i)
+        (cells_before (part_of coding.now).channels (i + 1)) (store_meanings S.to_int store.old) decoder.old
+        (position_of bits.old) (store_meanings S.to_int store.new) decoder.new (position_of bits.new)) }
+    ensures err { IfErr result (λ e. Stops D.meaning S.width (part_of coding.now) (bytes_of bits.old)
+        (regions_of coding.now) (cost_of coding.now) steps.old steps.new
+        (cells_before (part_of coding.now).channels i) (store_meanings S.to_int store.old) decoder.old
+        (position_of bits.old) (store_meanings S.to_int store.new) (position_of bits.new) e) }
     ensures roomy { OnOk result (HasRoom coding.now state.new) }
     ensures last { OnOk result (IsAfterChannel coding.now (i + 1) state.new) }
-    ensures work { OnOk result (TakesSteps (cost_of coding.now) (cells_before (part_of coding.now).channels i) (cells_before (part_of coding.now).channels (i + 1)) steps.old steps.new) }
+    ensures work { OnOk result (TakesSteps (cost_of coding.now) (cells_before (part_of coding.now).channels i)
+        (cells_before (part_of coding.now).channels (i + 1)) steps.old steps.new) }
     ensures more { steps.old ≤ steps.new }
     ensures keeps { KeepsOutside (regions_of coding.now) store.old store.new }
     ensures clusters { OnOk result (D.meaning.cluster_map decoder.new ≡ D.meaning.cluster_map decoder.old) }
@@ -213,9 +220,14 @@ fn decode_channels<S: Sample, D: Decoder>(
     requires clusters { FindsClusters coding.now (D.meaning.cluster_map decoder.old) }
     requires roomy { HasRoom coding.now state.old }
     requires room { coding.now.widest ≤ length scratch.old }
-    ensures ok { OnOk result (GoesOn D.meaning S.width (part_of coding.now) (bytes_of bits.old) (regions_of coding.now) 0 (cell_count (part_of coding.now).channels) (store_meanings S.to_int store.old) decoder.old (position_of bits.old) (store_meanings S.to_int store.new) decoder.new (position_of bits.new)) }
-    ensures err { IfErr result (λ e. Stops D.meaning S.width (part_of coding.now) (bytes_of bits.old) (regions_of coding.now) (cost_of coding.now) steps.old steps.new 0 (store_meanings S.to_int store.old) decoder.old (position_of bits.old) (store_meanings S.to_int store.new) (position_of bits.new) e) }
-    ensures work { OnOk result (TakesSteps (cost_of coding.now) 0 (cell_count (part_of coding.now).channels) steps.old steps.new) }
+    ensures ok { OnOk result (GoesOn D.meaning S.width (part_of coding.now) (bytes_of bits.old)
+        (regions_of coding.now) 0 (cell_count (part_of coding.now).channels) (store_meanings S.to_int store.old)
+        decoder.old (position_of bits.old) (store_meanings S.to_int store.new) decoder.new (position_of bits.new)) }
+    ensures err { IfErr result (λ e. Stops D.meaning S.width (part_of coding.now) (bytes_of bits.old)
+        (regions_of coding.now) (cost_of coding.now) steps.old steps.new 0 (store_meanings S.to_int store.old)
+        decoder.old (position_of bits.old) (store_meanings S.to_int store.new) (position_of bits.new) e) }
+    ensures work { OnOk result (TakesSteps (cost_of coding.now) 0 (cell_count (part_of coding.now).channels) steps.old
+        steps.new) }
     ensures more { steps.old ≤ steps.new }
     ensures keeps { KeepsOutside (regions_of coding.now) store.old store.new }
     ensures memory { IfErr result (λ e. e ≢ DecoderError.OutOfMemory) }
@@ -247,8 +259,12 @@ pub fn decode_part<S: Sample, D: Decoder>(
     requires coding { IsCodingOf coding.now }
     requires clusters { FindsClusters coding.now (D.meaning.cluster_map decoder.old) }
     requires roomy { IsRoomy coding.now state.old }
-    ensures ok { OnOk result (DecodesAll D.meaning S.width (part_of coding.now) (bytes_of bits.old) (regions_of coding.now) decoder.old (store_meanings S.to_int store.old) (position_of bits.old) (store_meanings S.to_int store.new) (position_of bits.new)) }
-    ensures err { IfErr result (λ e. DecodesSome D.meaning S.width (part_of coding.now) (bytes_of bits.old) (regions_of coding.now) decoder.old (store_meanings S.to_int store.old) (position_of bits.old) (store_meanings S.to_int store.new) (position_of bits.new) (cost_of coding.now) steps.old steps.new e) }
+    ensures ok { OnOk result (DecodesAll D.meaning S.width (part_of coding.now) (bytes_of bits.old)
+        (regions_of coding.now) decoder.old (store_meanings S.to_int store.old) (position_of bits.old)
+        (store_meanings S.to_int store.new) (position_of bits.new)) }
+    ensures err { IfErr result (λ e. DecodesSome D.meaning S.width (part_of coding.now) (bytes_of bits.old)
+        (regions_of coding.now) decoder.old (store_meanings S.to_int store.old) (position_of bits.old)
+        (store_meanings S.to_int store.new) (position_of bits.new) (cost_of coding.now) steps.old steps.new e) }
     ensures work { OnOk result (steps.new ≤ steps.old + cell_count (part_of coding.now).channels * cost_of coding.now) }
     ensures more { steps.old ≤ steps.new }
     ensures keeps { KeepsOutside (regions_of coding.now) store.old store.new }

@@ -18,7 +18,9 @@ pub fn each_sample_sees_what_is_before()
 
 /// Where some samples are coded to the end, decoding returns no error of the decoder.
 pub fn what_is_coded_is_not_refused<D: Decoder>()
-    ensures { (w : Width) (p : part.Part) (bytes : List ℕ) (decoder : D) (old new : Standing) (e : DecoderError) (tried : ℕ) (grids : List (Grid ℤ)) (q : ℕ) → IsCodedToTheEnd D.meaning w p bytes decoder old.position grids q → Fails D.meaning w p bytes decoder old new e tried → ⊥ }
+    ensures { (w : Width) (p : part.Part) (bytes : List ℕ) (decoder : D) (old new : Standing) (e : DecoderError)
+        (tried : ℕ) (grids : List (Grid ℤ)) (q : ℕ) → IsCodedToTheEnd D.meaning w p bytes decoder old.position grids q
+        → Fails D.meaning w p bytes decoder old new e tried → ⊥ }
 {}
 
 /// Where the multiplier is odd, each sample of 32 bits has one token.

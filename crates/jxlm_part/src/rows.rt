@@ -4,7 +4,7 @@ ghost use Rattle.std.specs.Prelude.{◌≡◌, ◌+◌, ◌*◌, ◌<◌, ◌≤
 ghost use Rattle.jxlm_base.specs.Bits.{bytes_of, position_of};
 ghost use Rattle.jxlm_base.specs.Regions.{AllLie, Lies};
 ghost use Rattle.jxlm_part.specs.Inner.Rows.{FailsRow, IsDecoding, ReadsRow, SetsRead, StandsInRow, rule_in};
-ghost use Rattle.jxlm_part.specs.Reading.{FindsClusters, HasRoom, IsCodingOf, StandsBehind, cost_of, region_at, regions_of};
+ghost use Rattle.jxlm_part.specs.Reading.{FindsClusters, HasRoom, IsCodingOf, StandsAfter, cost_of, region_at, regions_of};
 
 use crate::cell::decode_cell;
 use crate::coding::PartCoding;
@@ -44,7 +44,7 @@ pub(crate) fn read_row<S: Sample, D: Decoder>(
     requires here { IsDecoding coding.now i store.now (D.meaning.cluster_map decoder.old) }
     requires in_rows { y < (region_at (regions_of coding.now) i).height }
     requires long { length row.old ≡ (region_at (regions_of coding.now) i).width }
-    requires stands { StandsBehind coding.now S.to_int store.now i
+    requires stands { StandsAfter coding.now S.to_int store.now i
         (y * (region_at (regions_of coding.now) i).width) state.old }
     requires roomy { HasRoom coding.now state.old }
     ensures ok { OnOk result (ReadsRow (rule_in coding.now S.to_int store.now i y D.meaning S.width (bytes_of bits.old))

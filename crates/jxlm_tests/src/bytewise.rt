@@ -61,7 +61,8 @@ impl Decoder for Bytewise {
         cluster: u8,
     ) -> Result<RleToken, DecoderError>
         requires { Contains (bytewise.cluster_map self.old) cluster }
-        ensures gives { (m : ℕ) → RunGives bytewise result self.old self.new (position_of bits.old) (position_of bits.new) (bytewise.read self.old (bytes_of bits.old) (position_of bits.old) cluster m) }
+        ensures gives { (m : ℕ) → RunGives bytewise result self.old self.new (position_of bits.old)
+            (position_of bits.new) (bytewise.read self.old (bytes_of bits.old) (position_of bits.old) cluster m) }
         ensures bytes { bytes_of bits.new ≡ bytes_of bits.old }
     {
         match self.read_varint_with_multiplier_clustered(bits, cluster, 0) {

@@ -28,7 +28,7 @@ fn an_earlier_channel_far_before(rt: HostRuntime) -> Result<(), Fail> {
     let channels = vec![in rt.alloc(); ModularChannelParams::new(1, 1); 65536]?;
     let bytes = bytes(rt.alloc(), FAR)?;
     let outcome = at_once::<i32, PlainDecoder>(&rt, rt.alloc(), &bytes, 8, &channels)?;
-    assert_eq!(rt; outcome.fault, None);
+    assert_eq!(rt; outcome.error, None);
     assert_eq!(rt; outcome.position, 278);
     assert_eq!(rt; outcome.samples.len(), 65536);
     for (i, sample) in outcome.samples.iter().enumerate() {

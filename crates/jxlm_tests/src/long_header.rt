@@ -97,7 +97,7 @@ fn many_appended_steps(rt: HostRuntime) -> Result<(), Fail> {
     let channels = vec![in rt.alloc(); ModularChannelParams::new(1, 1); GIVEN]?;
     let outcome = at_once::<i16, PlainDecoder>(&rt, rt.alloc(), &bytes, 8, &channels)?;
     let too_many = BitstreamError::ProfileConformance("nb_channels_tr too large");
-    assert_eq!(rt; outcome.fault, Some(Error::Bitstream(too_many)));
+    assert_eq!(rt; outcome.error, Some(Error::Bitstream(too_many)));
     assert_eq!(rt; outcome.position, 518332);
     Ok(())
 }

@@ -15,7 +15,7 @@ use std::test::Fail;
 // part was returned as whole.
 #[derive(Drop)]
 pub struct Outcome {
-    pub fault: Option<Error>,
+    pub error: Option<Error>,
     pub samples: Vec<i32>,
     pub position: u64,
     pub whole: bool,
@@ -61,8 +61,8 @@ pub fn by_calls<S: Sample, D: Decoder>(
     let mut bits = Bitstream::new(bytes);
     let mut modular = match Modular::<S, D>::parse(alloc, &mut bits, params) {
         Ok(modular) => modular,
-        Err(fault) => return Ok(Outcome {
-            fault: Some(fault),
+        Err(error) => return Ok(Outcome {
+            error: Some(error),
             samples: Vec::new(alloc),
             position: bits.position(),
             whole: false,
@@ -70,7 +70,7 @@ pub fn by_calls<S: Sample, D: Decoder>(
     };
     let Some(image) = modular.image_mut() else {
         return Ok(Outcome {
-            fault: None,
+            error: None,
             samples: Vec::new(alloc),
             position: bits.position(),
             whole: true,
@@ -88,7 +88,7 @@ pub fn by_calls<S: Sample, D: Decoder>(
     let whole = part.finish(alloc)?;
     assert_eq!(rt; whole, !is_partial);
     Ok(Outcome {
-        fault: answer.err(),
+        error: answer.err(),
         samples: samples(alloc, image)?,
         position: bits.position(),
         whole,
@@ -109,13 +109,13 @@ pub fn at_once<S: Sample, D: Decoder>(
     let answer = decode_picture::<S, D>(alloc, &mut bits, params, 0, &mut Steps::new());
     let position = bits.position();
     let whole = answer.is_ok();
-    let (fault, samples) = match answer {
+    let (error, samples) = match answer {
         Ok(Some(image)) => (None, samples(alloc, &image)?),
         Ok(None) => (None, Vec::new(alloc)),
-        Err(fault) => (Some(fault), Vec::new(alloc)),
+        Err(error) => (Some(error), Vec::new(alloc)),
     };
     Ok(Outcome {
-        fault,
+        error,
         samples,
         position,
         whole,

@@ -141,7 +141,7 @@ const EARLIER: &str = "\
 
 // After a first sample of 1 the maximum error is -8: a sample is its token above -8, the weighted prediction and its
 // token above -9, and else 15 less than its token.
-const GREATEST_ERROR: &str = "\
+const MAX_ERROR: &str = "\
 3x1|0200000028e00300000023300000003a000000280428|1 1 -3 @176
 3x1|0200000028e00300000023300000003a0000002804|1 0 0 @166 entropy decoder error: unexpected end of input
 3x1|0200000028e00300000023300000003a00000028|entropy decoder error: unexpected end of input
@@ -228,7 +228,7 @@ const ROWS: [&str; 12] = [
     WRONG_SEAL,
     TWO_LEAVES,
     EARLIER,
-    GREATEST_ERROR,
+    MAX_ERROR,
     SELF_CORRECTING,
     COLOUR,
     SQUEEZED,

@@ -48,10 +48,10 @@ fn numbers(alloc: Global, samples: &[i32], summed: bool) -> Result<String, Fail>
 fn told(alloc: Global, outcome: &Outcome, summed: bool) -> Result<String, Fail> {
     let samples = numbers(alloc, &outcome.samples, summed)?;
     let position = outcome.position;
-    Ok(match outcome.fault {
+    Ok(match outcome.error {
         None => format!(in alloc; "{samples}@{position}")?,
-        Some(fault) if samples.is_empty() => format!(in alloc; "{fault}")?,
-        Some(fault) => format!(in alloc; "{samples}@{position} {fault}")?,
+        Some(error) if samples.is_empty() => format!(in alloc; "{fault}")?,
+        Some(error) => format!(in alloc; "{samples}@{position} {fault}")?,
     })
 }
 
@@ -70,9 +70,9 @@ fn check_picture<S: Sample, D: Decoder>(
     let outcome = by_calls::<S, D>(rt, alloc, &bytes, depth, &channels)?;
     let seen = told(alloc, &outcome, expected.starts_with('#'))?;
     assert_eq!(rt; seen.as_str(), expected, "{picture}");
-    assert_eq!(rt; outcome.whole, outcome.fault.is_none(), "{picture}");
+    assert_eq!(rt; outcome.whole, outcome.error.is_none(), "{picture}");
     let again = at_once::<S, D>(rt, alloc, &bytes, depth, &channels)?;
-    assert_eq!(rt; again.fault, outcome.fault, "{picture}");
+    assert_eq!(rt; again.error, outcome.error, "{picture}");
     assert_eq!(rt; again.position, outcome.position, "{picture}");
     if again.whole {
         assert_eq!(rt;

@@ -1,6 +1,6 @@
 -- Channel lists of small images.
 use Rattle.std.specs.Prelude.{◌≡◌, refl, true, false, ℕ, List, [], ◌∷◌, map, None, Result, Ok, Err}
-use Rattle.jxlm_base.specs.Fault.{Fault, BadRct, BadPalette, BadSqueeze}
+use Rattle.jxlm_base.specs.ErrorKind.{ErrorKind, BadRct, BadPalette, BadSqueeze}
 use Rattle.jxlm_tree.specs.declared.predictor.Predictor.TheVariants.{Zero}
 use Rattle.jxlm_transform.specs.Channels.{Channel, image_channel}
 use Rattle.jxlm_transform.specs.ChannelSteps.{coded_list, default_squeeze, step_of_all, ◌>>=◌}
@@ -9,11 +9,11 @@ use Rattle.jxlm_transform.specs.Transforms.{Transform, OfRct, OfPalette, OfSquee
 use Rattle.jxlm_transform.specs.declared.param.ChannelShift.TheVariants.{Shifts}
 
 -- the sides of the coded channels
-abbrev coded_sizes : List Transform → List Channel → Result (List (ℕ × ℕ)) Fault
+abbrev coded_sizes : List Transform → List Channel → Result (List (ℕ × ℕ)) ErrorKind
 coded_sizes ts cs = coded_list ts (record { channels = cs; nb_meta = 0 }) >>= λ coded. Ok (map (λ c. (c.width, c.height)) coded.list.channels)
 
 -- how many of them are meta channels
-abbrev coded_meta : List Transform → List Channel → Result ℕ Fault
+abbrev coded_meta : List Transform → List Channel → Result ℕ ErrorKind
 coded_meta ts cs = coded_list ts (record { channels = cs; nb_meta = 0 }) >>= λ coded. Ok coded.list.nb_meta
 
 abbrev square : Channel

@@ -14,6 +14,6 @@ pub default_listed : (l : ModularChannels) (leader : Channel) (others : List Cha
     steps_of_squeeze xs (list_of l) ≡ Ok zs
 default_listed l leader others xs ys zs none there chroma all =
     let f : ℕ = l.nb_meta_channels in
-    let behind : drop f l.info.items ≡ leader ∷ others = sym (rest f l.info.items) ∙ there in
+    let after_it : drop f l.info.items ≡ leader ∷ others = sym (rest f l.info.items) ∙ there in
     let count : length others + 1 ≡ suc (length others) = omega arith in
-    rw (none, behind, all, chroma, none, count) refl
+    rw (none, after_it, all, chroma, none, count) refl

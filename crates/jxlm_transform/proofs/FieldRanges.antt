@@ -8,9 +8,9 @@ use Rattle.jxlm_base.specs.Grammar.{Grammar, Reads, either, part, u32}
 use Rattle.jxlm_base.specs.declared.bits.BitstreamError.{BitstreamError}
 use Rattle.jxlm_base.specs.declared.bits.U32Spec.{U32Spec}
 use Rattle.jxlm_base.specs.declared.bits.U32Spec.TheVariants.{Const, Offset}
-use Rattle.jxlm_transform.specs.Transforms.{least_value, greatest_value, least_of, greatest_of}
+use Rattle.jxlm_transform.specs.Transforms.{least_value, max_value, least_of, max_of}
 
-part-between : (d : U32Spec) (bytes : List ℕ) (p v q : ℕ) → (part d).Stands bytes p v q → (least_value d ≤ v) × (v ≤ greatest_value d)
+part-between : (d : U32Spec) (bytes : List ℕ) (p v q : ℕ) → (part d).Stands bytes p v q → (least_value d ≤ v) × (v ≤ max_value d)
 part-between (Const n) bytes p v q s = (omega (arith, s.0), omega (arith, s.0))
 part-between (Offset least n) bytes p v q s =
     let below : s.0 < 2 ^ n = rw s.2.1 (bits_at-bound bytes p n) in
@@ -23,12 +23,12 @@ either-between false f g bytes p v q low high one two s = two s
 
 -- A U32 that is read lies between the minimum and the maximum of its parts.
 pub u32-between : (d0 d1 d2 d3 : U32Spec) (bytes : List ℕ) (p : ℕ) (found : Found ℕ) → (u32 d0 d1 d2 d3).read bytes p ≡ Ok found →
-    (least_of d0 d1 d2 d3 ≤ found.value) × (found.value ≤ greatest_of d0 d1 d2 d3)
+    (least_of d0 d1 d2 d3 ≤ found.value) × (found.value ≤ max_of d0 d1 d2 d3)
 u32-between d0 d1 d2 d3 bytes p found e =
     let stands = (exact-u32 d0 d1 d2 d3).read_stands bytes p found e in
     let (s, m, number, chosen) = stands in
     let low : ℕ = least_of d0 d1 d2 d3 in
-    let high : ℕ = greatest_of d0 d1 d2 d3 in
+    let high : ℕ = max_of d0 d1 d2 d3 in
     let v : ℕ = found.value in
     let q : ℕ = found.position in
     either-between (s == 0) (part d0) (either (s == 1) (part d1) (either (s == 2) (part d2) (part d3))) bytes m v q low high
@@ -44,6 +44,6 @@ pub at_least : (d0 d1 d2 d3 : U32Spec) (bytes : List ℕ) (p q : ℕ) (r : Resul
 at_least d0 d1 d2 d3 bytes p q (Ok v) reads = (u32-between d0 d1 d2 d3 bytes p (record { value = v; position = q }) reads).0
 at_least d0 d1 d2 d3 bytes p q (Err e) reads = tt
 
-pub at_most : (d0 d1 d2 d3 : U32Spec) (bytes : List ℕ) (p q : ℕ) (r : Result ℕ BitstreamError) → Reads (λ (v : ℕ). v) r q ((u32 d0 d1 d2 d3).read bytes p) → IfOk r (λ v. v ≤ greatest_of d0 d1 d2 d3)
+pub at_most : (d0 d1 d2 d3 : U32Spec) (bytes : List ℕ) (p q : ℕ) (r : Result ℕ BitstreamError) → Reads (λ (v : ℕ). v) r q ((u32 d0 d1 d2 d3).read bytes p) → IfOk r (λ v. v ≤ max_of d0 d1 d2 d3)
 at_most d0 d1 d2 d3 bytes p q (Ok v) reads = (u32-between d0 d1 d2 d3 bytes p (record { value = v; position = q }) reads).1
 at_most d0 d1 d2 d3 bytes p q (Err e) reads = tt

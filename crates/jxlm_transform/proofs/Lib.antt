@@ -13,7 +13,7 @@ pub mod PaletteLaws
 pub mod PaletteRows
 pub mod PaletteSteps
 pub mod Powers
-pub mod Refusals
+pub mod Failures
 pub mod RepeatedLoop
 pub mod ShiftBounds
 pub mod SideBounds

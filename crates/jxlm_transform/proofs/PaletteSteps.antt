@@ -19,7 +19,7 @@ use Rattle.jxlm_transform.specs.declared.palette.FinishedChannel.{FinishedChanne
 use Rattle.jxlm_transform.proofs.PaletteLaws.{is_finished}
 use Rattle.jxlm_tree.specs.Predictions.{prediction}
 use Rattle.jxlm_transform.specs.Palette.{finished_channel, finished_sample, finished_samples, is_delta, colour_of}
-use Rattle.jxlm_transform.specs.Inner.PaletteSteps.{ChannelLies, SetsSample, Ahead, Filled, FillsOn, FillsOnBy, IsSimpleIndex, StandsBefore, kept, looked_up, table_in, index_in}
+use Rattle.jxlm_transform.specs.Inner.PaletteSteps.{ChannelLies, SetsSample, StillToCome, Filled, FillsOn, FillsOnBy, IsSimpleIndex, StandsBefore, kept, looked_up, table_in, index_in}
 
 -- ---- indices of the table that are no deltas
 
@@ -79,7 +79,7 @@ module _ {S : Type 0} (to_int : S → ℤ) (t : Palette) (p : FinishedChannel) (
             ap (λ (g : Grid ℤ). get_or g.cells i (pos 0)) (grid_of_set_apart to_int old p.target p.index x y s lies.target_lies lies.index_lies apart column in_rows)
       ]
 
-  ahead_set : (table index : Grid ℤ) → Ahead p k table index (store_meanings to_int old) → Ahead p (k + 1) table index (store_meanings to_int after)
+  ahead_set : (table index : Grid ℤ) → StillToCome p k table index (store_meanings to_int old) → StillToCome p (k + 1) table index (store_meanings to_int after)
   ahead_set table index a = record {
     table_is = table_kept ∙ a.table_is;
     indices = λ i l. indices_kept i (omega arith) ∙ a.indices i (omega arith);
@@ -94,7 +94,7 @@ module _ {S : Type 0} (to_int : S → ℤ) (t : Palette) (p : FinishedChannel) (
       record {
         samples = ap (take (k + 1)) cells_set ∙ take_more_set (cells_of old p.target) k (to_int s) within
             ∙ ap (λ xs. xs ++ to_int s ∷ []) f.samples ∙ ap (λ z. fs k ++ z ∷ []) e ∙ ap fs more;
-        ahead = ahead_set table index f.ahead;
+        before_it = ahead_set table index f.before_it;
         as_wide = f.as_wide;
       }
 
@@ -129,16 +129,16 @@ module _ {S : Type 0} (to_int : S → ℤ) (t : Palette) (p : FinishedChannel) w
         (filled_set to_int t p old lies x y k px py is sets.sample w depth table index f (sets.sample_is ∙ e)))
 
   -- what is in a cell of the table and of the indices, where they are as they were
-  pub index_at : (ints : List (Grid ℤ)) (k x y : ℕ) (table index : Grid ℤ) → Ahead p k table index ints → k ≡ y * p.index.width + x → at (index_in p ints) x y ≡ get_or index.cells k (pos 0)
+  pub index_at : (ints : List (Grid ℤ)) (k x y : ℕ) (table index : Grid ℤ) → StillToCome p k table index ints → k ≡ y * p.index.width + x → at (index_in p ints) x y ≡ get_or index.cells k (pos 0)
   index_at ints k x y table index a is = ap (λ n. get_or (index_in p ints).cells n (pos 0)) (sym is) ∙ a.indices k (omega arith)
 
   -- one index of a row later than another is as before
-  pub later_index : (ints : List (Grid ℤ)) (k x y : ℕ) (table index : Grid ℤ) → Ahead p k table index ints → index.width ≡ p.index.width → k ≤ y * p.index.width + x → at (index_in p ints) x y ≡ at index x y
+  pub later_index : (ints : List (Grid ℤ)) (k x y : ℕ) (table index : Grid ℤ) → StillToCome p k table index ints → index.width ≡ p.index.width → k ≤ y * p.index.width + x → at (index_in p ints) x y ≡ at index x y
   later_index ints k x y table index a wide l = a.indices (y * p.index.width + x) l ∙ ap (λ n. get_or index.cells (y * n + x) (pos 0)) (sym wide)
 
   -- nothing is finished at first
   pub nothing_filled : (w : Width) (depth : ℕ) (ints : List (Grid ℤ)) → Filled w depth t p (table_in p ints) (index_in p ints) 0 ints
-  nothing_filled w depth ints = record { samples = refl; ahead = record { table_is = refl; indices = λ i l. refl }; as_wide = refl }
+  nothing_filled w depth ints = record { samples = refl; before_it = record { table_is = refl; indices = λ i l. refl }; as_wide = refl }
 
   pub ahead_both : (a b c : List (Grid ℤ)) (k k' : ℕ) → k ≤ k' → kept p k a b → kept p k' b c → kept p k' a c
   ahead_both a b c k k' l f g = record {
@@ -152,8 +152,8 @@ module _ {S : Type 0} (to_int : S → ℤ) (t : Palette) (p : FinishedChannel) (
   abbrev ints : List (Grid ℤ)
   ints = store_meanings to_int old
 
-  abbrev sample_behind : List ℤ → ℤ
-  sample_behind before = finished_sample w depth t (table_in p ints) (at (index_in p ints) x y) p.number before p.index.width
+  abbrev sample_after : List ℤ → ℤ
+  sample_after before = finished_sample w depth t (table_in p ints) (at (index_in p ints) x y) p.number before p.index.width
 
   pub predicted_fills : (k k' : ℕ) → k ≡ y * p.index.width + x → k' ≡ k + 1 →
       ((before : List ℤ) → StandsAt state (setting p.index.width t.wp_header []) before →
@@ -162,9 +162,9 @@ module _ {S : Type 0} (to_int : S → ℤ) (t : Palette) (p : FinishedChannel) (
       FillsOnBy w depth t p k k' (store_meanings to_int old) state (store_meanings to_int new) state'
   predicted_fills k k' is next step table index f stands =
       let fs : ℕ → List ℤ = finished_samples w depth t table index p.number in
-      let there : at (index_in p ints) x y ≡ get_or index.cells k (pos 0) = index_at to_int t p ints k x y table index f.ahead is in
-      let value : sample_behind (fs k) ≡ finished_sample w depth t table (get_or index.cells k (pos 0)) p.number (fs k) index.width =
-      ap (λ (g : Grid ℤ). finished_sample w depth t g (at (index_in p ints) x y) p.number (fs k) p.index.width) f.ahead.table_is
+      let there : at (index_in p ints) x y ≡ get_or index.cells k (pos 0) = index_at to_int t p ints k x y table index f.before_it is in
+      let value : sample_after (fs k) ≡ finished_sample w depth t table (get_or index.cells k (pos 0)) p.number (fs k) index.width =
+      ap (λ (g : Grid ℤ). finished_sample w depth t g (at (index_in p ints) x y) p.number (fs k) p.index.width) f.before_it.table_is
       ∙ ap (λ j. finished_sample w depth t table j p.number (fs k) p.index.width) there
       ∙ ap (λ n. finished_sample w depth t table (get_or index.cells k (pos 0)) p.number (fs k) n) (sym f.as_wide) in
       let done = step (fs k) stands in

@@ -2,7 +2,7 @@
 use Rattle.std.proofs.Common.{◌≡◌, ℕ, ◌+◌, ◌-◌, Bool, true, false, if◌then◌else◌, List, [], ◌∷◌, ◌++◌, map, take, drop, Result, Ok, Err, refl, subst, arith}
 use Rattle.std.proofs.lemmas.List.Elements.{All-nil, All-cons, All-head, All-tail, All-append, All-take, All-drop, All-map, All-weaker}
 use Rattle.std.specs.List.{All}
-use Rattle.jxlm_base.specs.Fault.{Fault, BadRct, BadPalette, BadSqueeze}
+use Rattle.jxlm_base.specs.ErrorKind.{ErrorKind, BadRct, BadPalette, BadSqueeze}
 use Rattle.jxlm_transform.proofs.ImageChannels.{IsWithinLimits, All-image_list}
 use Rattle.jxlm_transform.specs.Channels.{Channel, ChannelList, IsNarrow, image_list}
 use Rattle.jxlm_transform.specs.ChannelSteps.{CodedList, Step, RctStep, PaletteStep, SqueezeStep, average_channel, coded_list, list_after, list_after_all, range, residual_channel, steps_of, steps_of_squeeze, table_channel, with_halves, with_range, ◌>>=◌}
@@ -40,9 +40,9 @@ narrow_halves t averages residuals cs a r k = by_place t.in_place where
   by_place false = All-append IsNarrow (with_range t.begin_c t.num_c averages cs) residuals (narrow_with t.begin_c t.num_c averages cs a k) r
 
 -- a list that is there where a test holds
-chosen : (b : Bool) (l m : ChannelList) (fault : Fault) → if◌then◌else◌ {A = Result ChannelList Fault} b (Ok l) (Err fault) ≡ Ok m → l ≡ m
-chosen true l m fault e = cc
-chosen false l m fault e = cc
+chosen : (b : Bool) (l m : ChannelList) (error : ErrorKind) → if◌then◌else◌ {A = Result ChannelList ErrorKind} b (Ok l) (Err error) ≡ Ok m → l ≡ m
+chosen true l m error e = cc
+chosen false l m error e = cc
 
 -- the ranges of a step that widths come from
 abbrev StepFits : Step → Type 0
@@ -64,15 +64,15 @@ narrow_step (SqueezeStep t) l m fits k e =
     (All-map IsNarrow (residual_channel t.horizontal) cs (All-weaker IsNarrow (λ c. IsNarrow (residual_channel t.horizontal c)) (narrow_residual t.horizontal) cs narrow)) k)
 
 -- what a result that is Ok came from
-pub came : {X Y : Type 0} (r : Result X Fault) (next : X → Result Y Fault) (y : Y) → r >>= next ≡ Ok y → (x : X) × (r ≡ Ok x) × (next x ≡ Ok y)
+pub came : {X Y : Type 0} (r : Result X ErrorKind) (next : X → Result Y ErrorKind) (y : Y) → r >>= next ≡ Ok y → (x : X) × (r ≡ Ok x) × (next x ≡ Ok y)
 came (Ok x) next y e = (x, refl, e)
 came (Err f) next y e = absurd (search_none f y e) where
-  search_none : {Z : Type 0} (g : Fault) (z : Z) → ◌≡◌ {A = Result Z Fault} (Err g) (Ok z) → ⊥
+  search_none : {Z : Type 0} (g : ErrorKind) (z : Z) → ◌≡◌ {A = Result Z ErrorKind} (Err g) (Ok z) → ⊥
   search_none g z h = cc
 
 narrow_steps : (ss : List Step) (l m : ChannelList) → All StepFits ss → AreNarrow l.channels → list_after_all ss l ≡ Ok m → AreNarrow m.channels
 narrow_steps [] l m fits k e = subst (λ (x : ChannelList). AreNarrow x.channels) (same l m e) k where
-  same : (x y : ChannelList) → ◌≡◌ {A = Result ChannelList Fault} (Ok x) (Ok y) → x ≡ y
+  same : (x y : ChannelList) → ◌≡◌ {A = Result ChannelList ErrorKind} (Ok x) (Ok y) → x ≡ y
   same x y h = cc
 narrow_steps (s ∷ ss) l m fits k e =
     let (n, first, rest) = came (list_after s l) (list_after_all ss) m e in
@@ -82,7 +82,7 @@ squeezes_fit : (steps : List SqueezeParams) → All StepFits (map SqueezeStep st
 squeezes_fit [] = All-nil StepFits
 squeezes_fit (s ∷ ss) = All-cons StepFits (SqueezeStep s) (map SqueezeStep ss) tt (squeezes_fit ss)
 
-same_steps : (ss us : List Step) → ◌≡◌ {A = Result (List Step) Fault} (Ok ss) (Ok us) → ss ≡ us
+same_steps : (ss us : List Step) → ◌≡◌ {A = Result (List Step) ErrorKind} (Ok ss) (Ok us) → ss ≡ us
 same_steps ss us e = cc
 
 steps_fit : (t : Transform) (l : ChannelList) (ss : List Step) → IsTransform t → steps_of t l ≡ Ok ss → All StepFits ss
@@ -95,15 +95,15 @@ steps_fit (OfSqueeze steps) l ss is e =
 -- where no side is above 2 ^ 30 before transforms that a header can have, none is after them
 pub narrow_coded : (ts : List Transform) (l : ChannelList) (coded : CodedList) → All IsTransform ts → All IsNarrow l.channels → coded_list ts l ≡ Ok coded → All IsNarrow coded.list.channels
 narrow_coded [] l coded are k e = subst (λ (x : CodedList). AreNarrow x.list.channels) (same _ coded e) k where
-  same : (x y : CodedList) → ◌≡◌ {A = Result CodedList Fault} (Ok x) (Ok y) → x ≡ y
+  same : (x y : CodedList) → ◌≡◌ {A = Result CodedList ErrorKind} (Ok x) (Ok y) → x ≡ y
   same x y h = cc
 narrow_coded (t ∷ ts) l coded are k e =
-    let (ss, steps, behind) = came (steps_of t l) _ coded e in
-    let (m, list, rest) = came (list_after_all ss l) _ coded behind in
+    let (ss, steps, after_it) = came (steps_of t l) _ coded e in
+    let (m, list, rest) = came (list_after_all ss l) _ coded after_it in
     let (others, all, last) = came (coded_list ts m) _ coded rest in
     let narrow = narrow_steps ss l m (steps_fit t l ss (All-head IsTransform t ts are) steps) k list in
     subst (λ (x : CodedList). AreNarrow x.list.channels) (same _ coded last) (narrow_coded ts m others (All-tail IsTransform t ts are) narrow all) where
-      same : (x y : CodedList) → ◌≡◌ {A = Result CodedList Fault} (Ok x) (Ok y) → x ≡ y
+      same : (x y : CodedList) → ◌≡◌ {A = Result CodedList ErrorKind} (Ok x) (Ok y) → x ≡ y
       same x y h = cc
 
 -- none is above it in an image of valid parameters

@@ -8,7 +8,7 @@ use Rattle.std.proofs.lemmas.Grind.{div_ceil_times}
 use Rattle.std.proofs.lemmas.List.Elements.{All-nil, All-cons, All-head, All-tail}
 use Rattle.std.proofs.lemmas.List.Sums.{sum_by-cons}
 use borrow.Author.Tests.{ltb-true, ltb-false}
-use Rattle.jxlm_base.specs.Fault.{Fault, BadSqueeze}
+use Rattle.jxlm_base.specs.ErrorKind.{ErrorKind, BadSqueeze}
 use Rattle.jxlm_transform.proofs.Halvings.{more, none}
 use Rattle.jxlm_transform.proofs.SideBounds.{came}
 use Rattle.jxlm_transform.specs.Channels.{Channel, ChannelList}
@@ -144,9 +144,9 @@ takes_fewest_steps f c cs =
 -- ---- the first channel
 
 -- a list that is there where a test holds
-chosen : (b : Bool) (l m : ChannelList) (fault : Fault) → if◌then◌else◌ {A = Result ChannelList Fault} b (Ok l) (Err fault) ≡ Ok m → l ≡ m
-chosen true l m fault e = cc
-chosen false l m fault e = cc
+chosen : (b : Bool) (l m : ChannelList) (error : ErrorKind) → if◌then◌else◌ {A = Result ChannelList ErrorKind} b (Ok l) (Err error) ≡ Ok m → l ≡ m
+chosen true l m error e = cc
+chosen false l m error e = cc
 
 module _ {X : Type 0} where
   -- what stands in a list stands there in a longer one
@@ -226,7 +226,7 @@ first_after : (f n : ℕ) (steps : List SqueezeParams) (l m : ChannelList) (c : 
     list_after_all (map SqueezeStep steps) l ≡ Ok m → (d : Channel) × (slice_get m.channels f ≡ Some d) × IsHalvedOf (across steps) (down steps) c d
 first_after f n [] l m c all there e =
     (c, subst (λ (k : ChannelList). slice_get k.channels f ≡ Some c) (same l m e) there, (sym (halved_none c.width), sym (halved_none c.height))) where
-      same : (l m : ChannelList) → ◌≡◌ {A = Result ChannelList Fault} (Ok l) (Ok m) → l ≡ m
+      same : (l m : ChannelList) → ◌≡◌ {A = Result ChannelList ErrorKind} (Ok l) (Ok m) → l ≡ m
       same l m e = cc
 first_after f n (s ∷ ss) l m c all there e =
     let is : s ≡ step_of_all f (suc n) s.horizontal = All-head (λ s. s ≡ step_of_all f (suc n) s.horizontal) s ss all in
@@ -261,7 +261,7 @@ small_after l m (c ∷ cs) steps are listed e =
     (subst (λ (ts : List SqueezeParams). list_after_all (map SqueezeStep ts) l ≡ Ok m) same e) in
     let (d, ends, halves) = first_after f (length cs) ss k m c halve.each there rest in
     (d, ends, rw halves.0 halve.across.0, rw halves.1 halve.down.0) where
-      same_steps : (xs ys : List SqueezeParams) → ◌≡◌ {A = Result (List SqueezeParams) Fault} (Ok xs) (Ok ys) → xs ≡ ys
+      same_steps : (xs ys : List SqueezeParams) → ◌≡◌ {A = Result (List SqueezeParams) ErrorKind} (Ok xs) (Ok ys) → xs ≡ ys
       same_steps xs ys e = cc
 
 pub leaves_small_sides : LeavesSmallSides
@@ -269,5 +269,5 @@ leaves_small_sides l m steps listed e =
     let (ss, found, mapped) = came (default_squeeze l.nb_meta (drop l.nb_meta l.channels)) (λ (ss : List SqueezeParams). Ok (map SqueezeStep ss)) steps listed in
     let same : map SqueezeStep ss ≡ steps = same_steps _ _ mapped in
     small_after l m (drop l.nb_meta l.channels) ss refl found (subst (λ (ts : List Step). list_after_all ts l ≡ Ok m) (sym same) e) where
-      same_steps : (xs ys : List Step) → ◌≡◌ {A = Result (List Step) Fault} (Ok xs) (Ok ys) → xs ≡ ys
+      same_steps : (xs ys : List Step) → ◌≡◌ {A = Result (List Step) ErrorKind} (Ok xs) (Ok ys) → xs ≡ ys
       same_steps xs ys e = cc

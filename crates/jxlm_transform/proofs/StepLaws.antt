@@ -2,7 +2,7 @@
 use Rattle.std.proofs.Common.{◌≡◌, ◌≤◌, ◌^◌, List, [], ◌∷◌, ◌++◌, map, Result, Ok, refl, ap, ◌∙◌, subst, arith}
 use Rattle.std.specs.List.{All}
 use Rattle.std.proofs.lemmas.List.Elements.{All-nil, All-cons, All-head, All-tail, All-append}
-use Rattle.jxlm_base.specs.Fault.{Fault}
+use Rattle.jxlm_base.specs.ErrorKind.{ErrorKind}
 use Rattle.jxlm_tree.specs.declared.predictor.WpHeader.{WpHeader}
 use Rattle.jxlm_transform.proofs.SideBounds.{came}
 use Rattle.jxlm_transform.specs.Channels.{ChannelList}
@@ -13,7 +13,7 @@ use Rattle.jxlm_transform.specs.declared.transform.Palette.{Palette}
 use Rattle.jxlm_transform.specs.declared.transform.SqueezeParams.{SqueezeParams}
 use Rattle.jxlm_transform.specs.Steps.{Sides, tables_of, HasChannels, HasWeights}
 
-same_ok : {X : Type 0} (x y : X) → ◌≡◌ {A = Result X Fault} (Ok x) (Ok y) → x ≡ y
+same_ok : {X : Type 0} (x y : X) → ◌≡◌ {A = Result X ErrorKind} (Ok x) (Ok y) → x ≡ y
 same_ok x y e = cc
 
 -- what holds of each palette that is listed holds of each palette among the steps
@@ -32,8 +32,8 @@ module _ (P : Transform → Type 0) (Q : Step → Type 0) (colour : (t : Rct) �
   of_all : (ts : List Transform) (l : ChannelList) (c : CodedList) → All P ts → coded_list ts l ≡ Ok c → All Q c.steps
   of_all [] l c p e = subst (λ (x : CodedList). All Q x.steps) (same_ok _ c e) (All-nil Q)
   of_all (t ∷ ts) l c p e =
-      let (ss, steps, behind) = came (steps_of t l) _ c e in
-      let (m, list, rest) = came (list_after_all ss l) _ c behind in
+      let (ss, steps, after_it) = came (steps_of t l) _ c e in
+      let (m, list, rest) = came (list_after_all ss l) _ c after_it in
       let (others, all, last) = came (coded_list ts m) _ c rest in
       subst (λ (x : CodedList). All Q x.steps) (same_ok _ c last)
       (All-append Q ss others.steps (of_one t l ss (All-head P t ts p) steps) (of_all ts m others (All-tail P t ts p) all))
@@ -57,8 +57,8 @@ after_both (s ∷ ss) us l m e =
 pub steps_list : (ts : List Transform) (l : ChannelList) (c : CodedList) → coded_list ts l ≡ Ok c → list_after_all c.steps l ≡ Ok c.list
 steps_list [] l c e = subst (λ (x : CodedList). list_after_all x.steps l ≡ Ok x.list) (same_ok _ c e) refl
 steps_list (t ∷ ts) l c e =
-    let (ss, steps, behind) = came (steps_of t l) _ c e in
-    let (m, list, rest) = came (list_after_all ss l) _ c behind in
+    let (ss, steps, after_it) = came (steps_of t l) _ c e in
+    let (m, list, rest) = came (list_after_all ss l) _ c after_it in
     let (others, all, last) = came (coded_list ts m) _ c rest in
     subst (λ (x : CodedList). list_after_all x.steps l ≡ Ok x.list) (same_ok _ c last) (after_both ss others.steps l m list ∙ steps_list ts m others all)
 

@@ -1,6 +1,6 @@
 -- Transforms in small inputs.
 use Rattle.std.specs.Prelude.{◌≡◌, refl, true, [], ◌∷◌, Some, Ok, Err, codes}
-use Rattle.jxlm_base.specs.Fault.{Eof, BadEnum}
+use Rattle.jxlm_base.specs.ErrorKind.{Eof, BadEnum}
 use Rattle.jxlm_tree.specs.WeightsHeader.{default_weights}
 use Rattle.jxlm_transform.specs.Transforms.{OfRct, OfSqueeze, transform}
 
@@ -16,12 +16,12 @@ default_row : (transform default_weights).read (0x26 ∷ []) 4 ≡ Ok (record { 
 default_row = refl
 
 -- a kind that there is not, and a predictor that there is not
-kind_row : (transform default_weights).read (0x36 ∷ []) 4 ≡ Err (record { fault = BadEnum (codes "TransformId") 3; position = Some 6 })
+kind_row : (transform default_weights).read (0x36 ∷ []) 4 ≡ Err (record { error = BadEnum (codes "TransformId") 3; position = Some 6 })
 kind_row = refl
 
-predictor_row : (transform default_weights).read (0x16 ∷ 0x00 ∷ 0x00 ∷ 0x1C ∷ []) 4 ≡ Err (record { fault = BadEnum (codes "MaProperty") 14; position = Some 29 })
+predictor_row : (transform default_weights).read (0x16 ∷ 0x00 ∷ 0x00 ∷ 0x1C ∷ []) 4 ≡ Err (record { error = BadEnum (codes "MaProperty") 14; position = Some 29 })
 predictor_row = refl
 
 -- truncated in a U32: the reader is before it
-cut_row : (transform default_weights).read (0x16 ∷ 0x00 ∷ 0x00 ∷ []) 4 ≡ Err (record { fault = Eof; position = Some 23 })
+cut_row : (transform default_weights).read (0x16 ∷ 0x00 ∷ 0x00 ∷ []) 4 ≡ Err (record { error = Eof; position = Some 23 })
 cut_row = refl

@@ -1,9 +1,9 @@
 -- Transforms are read exactly.
 use Rattle.std.specs.Prelude.{Option, Some, None, slice_get, codes}
-use Rattle.jxlm_base.specs.Fault.{Fault, BadEnum}
+use Rattle.jxlm_base.specs.ErrorKind.{ErrorKind, BadEnum}
 use Rattle.jxlm_base.specs.Grammar.{Grammar, IsExact, ◌>>=◌}
 use Rattle.jxlm_base.specs.declared.bits.U32Spec.TheVariants.{Const, Offset}
-use Rattle.jxlm_base.proofs.GrammarLaws.{exact-give, exact-refuse, exact-number, exact-bind, exact-either, exact-repeated, exact-flag, exact-u32}
+use Rattle.jxlm_base.proofs.GrammarLaws.{exact-give, exact-fail, exact-number, exact-bind, exact-either, exact-repeated, exact-flag, exact-u32}
 use Rattle.jxlm_tree.specs.Predictions.{predictors}
 use Rattle.jxlm_tree.specs.declared.predictor.WpHeader.{WpHeader}
 use Rattle.jxlm_transform.specs.Transforms.{OfRct, OfPalette, OfSqueeze, begin_channel, rct, present, predictor, weights_for, palette, squeeze_params, squeeze, transform}
@@ -17,9 +17,9 @@ exact-begin = exact-u32 (Offset 0 3) (Offset 8 6) (Offset 72 10) (Offset 1096 13
 pub exact-rct : IsExact rct
 exact-rct = bind exact-begin λ begin. bind (exact-u32 (Const 6) (Offset 0 2) (Offset 2 4) (Offset 10 6)) λ kind. exact-give (record { begin_c = begin; rct_type = kind })
 
-exact-present : {X : Type 0} (fault : Fault) (found : Option X) → IsExact (present fault found)
-exact-present fault (Some x) = exact-give x
-exact-present fault None = exact-refuse fault
+exact-present : {X : Type 0} (error : ErrorKind) (found : Option X) → IsExact (present error found)
+exact-present error (Some x) = exact-give x
+exact-present error None = exact-fail error
 
 exact-predictor : IsExact predictor
 exact-predictor = bind (exact-number 4) λ n. exact-present (BadEnum (codes "MaProperty") n) (slice_get predictors n)
@@ -47,4 +47,4 @@ exact-transform weights =
     bind (exact-number 2) λ kind.
     exact-either _ _ _ (bind exact-rct λ t. exact-give (OfRct t))
     (exact-either _ _ _ (bind (exact-palette weights) λ t. exact-give (OfPalette t))
-    (exact-either _ _ _ (bind exact-squeeze λ t. exact-give (OfSqueeze t)) (exact-refuse (BadEnum (codes "TransformId") kind))))
+    (exact-either _ _ _ (bind exact-squeeze λ t. exact-give (OfSqueeze t)) (exact-fail (BadEnum (codes "TransformId") kind))))

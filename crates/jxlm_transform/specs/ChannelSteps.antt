@@ -2,7 +2,7 @@
 use Rattle.std.specs.Prelude.{◌≡◌, ℕ, zero, suc, ◌+◌, ◌-◌, ◌/◌, List, [], ◌∷◌, ◌++◌, length, map, take, drop, slice_range, Bool, true, false, not, ◌&&◌, ◌||◌, nat_lt, nat_le, ◌==◌, if◌then◌else◌, ℤ, pos, negsuc, int_le, Result, Ok, Err}
 use Rattle.std.specs.List.{list_all}
 use Rattle.std.specs.Int.{div_ceil}
-use Rattle.jxlm_base.specs.Fault.{Fault, BadRct, BadPalette, BadSqueeze, UnlessNoMemory, fault_of}
+use Rattle.jxlm_base.specs.ErrorKind.{ErrorKind, BadRct, BadPalette, BadSqueeze, UnlessNoMemory, kind_of}
 use Rattle.jxlm_base.specs.declared.error.Error.{Error}
 use Rattle.jxlm_transform.specs.Channels.{Channel, ChannelList}
 use Rattle.jxlm_transform.specs.Transforms.{Transform, OfRct, OfPalette, OfSqueeze}
@@ -13,7 +13,7 @@ use Rattle.jxlm_transform.specs.declared.transform.SqueezeParams.{SqueezeParams}
 
 -- what follows a step without an error
 infixl 10 ◌>>=◌
-abbrev pub ◌>>=◌ : {X Y : Type 0} → Result X Fault → (X → Result Y Fault) → Result Y Fault
+abbrev pub ◌>>=◌ : {X Y : Type 0} → Result X ErrorKind → (X → Result Y ErrorKind) → Result Y ErrorKind
 (Ok x) >>= next = next x
 (Err e) >>= next = Err e
 
@@ -48,7 +48,7 @@ abbrev pub keeps_meta : ℕ → ℕ → ℕ → Bool
 keeps_meta begin n nb_meta = not (nat_lt begin nb_meta) || nat_le (begin + n) nb_meta
 
 -- a colour transform needs three channels of one size, and changes no channel's size
-abbrev pub rct_step : Rct → ChannelList → Result ChannelList Fault
+abbrev pub rct_step : Rct → ChannelList → Result ChannelList ErrorKind
 rct_step t l = if has_range t.begin_c 3 l.channels && one_size (range t.begin_c 3 l.channels) then Ok l else Err BadRct
 
 -- a table: a column for each colour, a row for each channel; its shifts are -1
@@ -64,7 +64,7 @@ table_channel colours channels = record {
 }
 
 -- channels of one size, all meta or none, become a table, which comes first and is meta, and a channel of indices
-abbrev pub palette_step : Palette → ChannelList → Result ChannelList Fault
+abbrev pub palette_step : Palette → ChannelList → Result ChannelList ErrorKind
 palette_step t l =
     let cs : List Channel = l.channels in
     if has_range t.begin_c t.num_c cs && one_size (range t.begin_c t.num_c cs) && keeps_meta t.begin_c t.num_c l.nb_meta then
@@ -101,7 +101,7 @@ abbrev pub squeeze_range : SqueezeParams → ChannelList → Bool
 squeeze_range t l = has_range t.begin_c t.num_c l.channels && (not (nat_lt t.begin_c l.nb_meta) || t.in_place && nat_le (t.begin_c + t.num_c) l.nb_meta)
 
 -- channels of such a range that can be squeezed become averages and residuals; those of meta channels are meta
-abbrev pub squeeze_step : SqueezeParams → ChannelList → Result ChannelList Fault
+abbrev pub squeeze_step : SqueezeParams → ChannelList → Result ChannelList ErrorKind
 squeeze_step t l =
     let cs : List Channel = range t.begin_c t.num_c l.channels in
     if squeeze_range t l && list_all can_be_squeezed cs then
@@ -144,12 +144,12 @@ abbrev pub default_of_chroma : ℕ → List Channel → List SqueezeParams
 default_of_chroma f cs = if nat_le 3 (length cs) && one_size (take 2 cs) then step_of_chroma f true ∷ step_of_chroma f false ∷ [] else []
 
 -- the default squeeze of the channels that aren't meta
-abbrev pub default_squeeze : ℕ → List Channel → Result (List SqueezeParams) Fault
+abbrev pub default_squeeze : ℕ → List Channel → Result (List SqueezeParams) ErrorKind
 default_squeeze f [] = Err BadSqueeze
 default_squeeze f (c ∷ cs) = Ok (default_of_chroma f (c ∷ cs) ++ default_of_all f (length (c ∷ cs)) c.width c.height)
 
 -- the steps of a squeeze: those that it lists, or else the default ones
-abbrev pub steps_of_squeeze : List SqueezeParams → ChannelList → Result (List SqueezeParams) Fault
+abbrev pub steps_of_squeeze : List SqueezeParams → ChannelList → Result (List SqueezeParams) ErrorKind
 steps_of_squeeze [] l = default_squeeze l.nb_meta (drop l.nb_meta l.channels)
 steps_of_squeeze (s ∷ ss) l = Ok (s ∷ ss)
 
@@ -160,19 +160,19 @@ pub data Step : Type 0 where
   SqueezeStep : SqueezeParams → Step
 
 -- the steps of a transform at a list of channels
-abbrev pub steps_of : Transform → ChannelList → Result (List Step) Fault
+abbrev pub steps_of : Transform → ChannelList → Result (List Step) ErrorKind
 steps_of (OfRct t) l = Ok (RctStep t ∷ [])
 steps_of (OfPalette t) l = Ok (PaletteStep t ∷ [])
 steps_of (OfSqueeze steps) l = steps_of_squeeze steps l >>= λ steps. Ok (map SqueezeStep steps)
 
 -- the list after a step, or its one error
-abbrev pub list_after : Step → ChannelList → Result ChannelList Fault
+abbrev pub list_after : Step → ChannelList → Result ChannelList ErrorKind
 list_after (RctStep t) l = rct_step t l
 list_after (PaletteStep t) l = palette_step t l
 list_after (SqueezeStep t) l = squeeze_step t l
 
 -- the list after steps in order
-abbrev pub list_after_all : List Step → ChannelList → Result ChannelList Fault
+abbrev pub list_after_all : List Step → ChannelList → Result ChannelList ErrorKind
 list_after_all [] l = Ok l
 list_after_all (s ∷ ss) l = list_after s l >>= list_after_all ss
 
@@ -182,7 +182,7 @@ pub record CodedList : Type 0 where
   pub list : ChannelList
 
 -- all transforms in order, each on the list that the ones before it leave
-abbrev pub coded_list : List Transform → ChannelList → Result CodedList Fault
+abbrev pub coded_list : List Transform → ChannelList → Result CodedList ErrorKind
 coded_list [] l = Ok (record { steps = []; list = l })
 coded_list (t ∷ ts) l =
     steps_of t l >>= λ steps.
@@ -198,21 +198,21 @@ listed_steps (OfSqueeze steps) = map SqueezeStep steps
 
 -- What a call that changes a list returned, and the list after it, are what the definition gives. After an error
 -- nothing is said of the list.
-abbrev pub ListIs : Result ChannelList Fault → Result (Unit {0}) Error → ChannelList → Type 0
+abbrev pub ListIs : Result ChannelList ErrorKind → Result (Unit {0}) Error → ChannelList → Type 0
 ListIs step (Ok u) l = step ≡ Ok l
-ListIs step (Err e) l = step ≡ Err (fault_of e)
+ListIs step (Err e) l = step ≡ Err (kind_of e)
 
 -- the same of a call that takes memory, which may be out of it at any time
-abbrev pub ListGives : Result ChannelList Fault → Result (Unit {0}) Error → ChannelList → Type 0
+abbrev pub ListGives : Result ChannelList ErrorKind → Result (Unit {0}) Error → ChannelList → Type 0
 ListGives step (Ok u) l = step ≡ Ok l
-ListGives step (Err e) l = UnlessNoMemory (fault_of e) (step ≡ Err (fault_of e))
+ListGives step (Err e) l = UnlessNoMemory (kind_of e) (step ≡ Err (kind_of e))
 
 -- what a call that lists the steps of a squeeze returned, and the steps after it
-abbrev pub StepsGive : Result (List SqueezeParams) Fault → Result (Unit {0}) Error → List SqueezeParams → Type 0
+abbrev pub StepsGive : Result (List SqueezeParams) ErrorKind → Result (Unit {0}) Error → List SqueezeParams → Type 0
 StepsGive steps (Ok u) listed = steps ≡ Ok listed
-StepsGive steps (Err e) listed = UnlessNoMemory (fault_of e) (steps ≡ Err (fault_of e))
+StepsGive steps (Err e) listed = UnlessNoMemory (kind_of e) (steps ≡ Err (kind_of e))
 
 -- what a call that applies a transform returned, the transform after it, which then lists its steps, and the list
 abbrev pub TransformGives : Transform → ChannelList → Result (Unit {0}) Error → Transform → ChannelList → Type 0
 TransformGives t l (Ok u) listed m = (steps_of t l ≡ Ok (listed_steps listed)) × (list_after_all (listed_steps listed) l ≡ Ok m)
-TransformGives t l (Err e) listed m = UnlessNoMemory (fault_of e) ((steps_of t l >>= λ steps. list_after_all steps l) ≡ Err (fault_of e))
+TransformGives t l (Err e) listed m = UnlessNoMemory (kind_of e) ((steps_of t l >>= λ steps. list_after_all steps l) ≡ Err (kind_of e))

@@ -2,8 +2,8 @@
 use Rattle.std.specs.Prelude.{◌≡◌, ◌⊎◌, ℕ, ◌+◌, ◌-◌, ◌^◌, ◌≤◌, min, max, List, length, slice_get, ◌==◌, codes, Option, Some, None, Result, Ok, Err}
 use Rattle.std.specs.List.{All}
 use Rattle.jxlm_base.specs.Decoding.{Found}
-use Rattle.jxlm_base.specs.Fault.{Fault, BadEnum, Refused, UnlessNoMemory, fault_of}
-use Rattle.jxlm_base.specs.Grammar.{Grammar, IsRefused, number, flag, u32, give, refuse, either, repeated, ◌>>=◌}
+use Rattle.jxlm_base.specs.ErrorKind.{ErrorKind, BadEnum, ErrorAt, UnlessNoMemory, kind_of}
+use Rattle.jxlm_base.specs.Grammar.{Grammar, IsErrorAt, number, flag, u32, give, fail, either, repeated, ◌>>=◌}
 use Rattle.jxlm_base.specs.declared.bits.U32Spec.{U32Spec}
 use Rattle.jxlm_base.specs.declared.bits.U32Spec.TheVariants.{Const, Offset}
 use Rattle.jxlm_base.specs.declared.error.Error.{Error}
@@ -41,9 +41,9 @@ rct = do
   give (record { begin_c = begin; rct_type = kind })
 
 -- what is there, or this error where nothing is
-abbrev pub present : {X : Type 0} → Fault → Option X → Grammar X
-present fault (Some x) = give x
-present fault None = refuse fault
+abbrev pub present : {X : Type 0} → ErrorKind → Option X → Grammar X
+present error (Some x) = give x
+present error None = fail error
 
 -- a predictor's number; 14 and 15 name none
 abbrev pub predictor : Grammar Predictor
@@ -91,23 +91,23 @@ seen view field = do
 abbrev pub transform : WpHeader → Grammar Transform
 transform weights = do
   kind ← number 2
-  either (kind == 0) (seen OfRct rct) (either (kind == 1) (seen OfPalette (palette weights)) (either (kind == 2) (seen OfSqueeze squeeze) (refuse (BadEnum (codes "TransformId") kind))))
+  either (kind == 0) (seen OfRct rct) (either (kind == 1) (seen OfPalette (palette weights)) (either (kind == 2) (seen OfSqueeze squeeze) (fail (BadEnum (codes "TransformId") kind))))
 
 -- the minimum and the maximum of a part
 abbrev pub least_value : U32Spec → ℕ
 least_value (Const n) = n
 least_value (Offset least n) = least
 
-abbrev pub greatest_value : U32Spec → ℕ
-greatest_value (Const n) = n
-greatest_value (Offset least n) = least + 2 ^ n - 1
+abbrev pub max_value : U32Spec → ℕ
+max_value (Const n) = n
+max_value (Offset least n) = least + 2 ^ n - 1
 
 -- the minimum of a U32, and its maximum
 abbrev pub least_of : U32Spec → U32Spec → U32Spec → U32Spec → ℕ
 least_of d0 d1 d2 d3 = min (min (least_value d0) (least_value d1)) (min (least_value d2) (least_value d3))
 
-abbrev pub greatest_of : U32Spec → U32Spec → U32Spec → U32Spec → ℕ
-greatest_of d0 d1 d2 d3 = max (max (greatest_value d0) (greatest_value d1)) (max (greatest_value d2) (greatest_value d3))
+abbrev pub max_of : U32Spec → U32Spec → U32Spec → U32Spec → ℕ
+max_of d0 d1 d2 d3 = max (max (max_value d0) (max_value d1)) (max (max_value d2) (max_value d3))
 
 -- the ranges of a colour transform that was read
 pub record IsRct (t : Rct) : Type 0 where
@@ -160,6 +160,6 @@ KeepsWeights weights other = Unit {0}
 
 -- What a call that reads fields and takes memory returned, seen by view, and where it left the reader, are what
 -- reading gives, unless it is out of memory.
-abbrev pub Parses : {X Y : Type 0} → (X → Y) → Result X Error → ℕ → Result (Found Y) Refused → Type 0
+abbrev pub Parses : {X Y : Type 0} → (X → Y) → Result X Error → ℕ → Result (Found Y) ErrorAt → Type 0
 Parses view (Ok x) q reading = reading ≡ Ok (record { value = view x; position = q })
-Parses view (Err e) q reading = UnlessNoMemory (fault_of e) (IsRefused reading (fault_of e) q)
+Parses view (Err e) q reading = UnlessNoMemory (kind_of e) (IsErrorAt reading (kind_of e) q)

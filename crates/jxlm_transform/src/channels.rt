@@ -2,7 +2,7 @@
 
 ghost use Rattle.std.specs.Prelude.{◌≡◌, ◌≤ℤ◌, pos, IsTrue, IfOk, IfErr};
 ghost use Rattle.std.specs.List.{All};
-ghost use Rattle.jxlm_base.specs.Fault.{NoMemory, fault_of};
+ghost use Rattle.jxlm_base.specs.ErrorKind.{NoMemory, kind_of};
 ghost use Rattle.jxlm_transform.specs.ChannelSteps.{has_size_of, table_channel, average_channel, residual_channel, can_be_squeezed, grown as the_grown};
 ghost use Rattle.jxlm_transform.specs.Channels.{image_channel, image_list, list_of};
 ghost use Rattle.jxlm_transform.specs.Params.{IsValidChannel};
@@ -159,7 +159,7 @@ impl ModularChannels {
     pub fn new(alloc: Global, params: &[ModularChannelParams]) -> Result<ModularChannels>
         requires { All IsValidChannel params.now }
         ensures ok { IfOk result (λ l. list_of l ≡ image_list params.now) }
-        ensures err { IfErr result (λ e. fault_of e ≡ NoMemory) }
+        ensures err { IfErr result (λ e. kind_of e ≡ NoMemory) }
     {
         let mut info = Vec::new(alloc);
         for channel in params {

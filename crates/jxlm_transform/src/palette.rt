@@ -2,7 +2,7 @@
 
 ghost use Rattle.std.specs.Prelude.{◌≡◌, ◌+◌, ◌-◌, ◌*◌, ◌/◌, ◌%◌, ◌^◌, ◌<◌, ◌≤◌, ◌↔◌, IsTrue, ℕ, ℤ, pos, ◌+ℤ◌, if◌then◌else◌, unsigned_abs, List, [], ◌∷◌, ◌++◌, get_or, length, take, drop, map, min, FitsSigned, IfOk, IfErr};
 ghost use Rattle.std.specs.Option.{ForSome};
-ghost use Rattle.jxlm_base.specs.Fault.{NoMemory, fault_of};
+ghost use Rattle.jxlm_base.specs.ErrorKind.{NoMemory, kind_of};
 ghost use Rattle.jxlm_tree.specs.Holding.{IsCurrent};
 ghost use Rattle.jxlm_tree.specs.SelfCorrecting.{IsHeader};
 ghost use Rattle.std.specs.Int.{int_wrap, w32};
@@ -126,7 +126,7 @@ fn digit_of_five(j: u32, c: usize) -> u32
 
 /// The maximum sample of a depth.
 #[tactic(auto, using(crate::proofs::PaletteColours::depth_power, std::proofs::lemmas::Nat::pow_pos))]
-fn greatest_sample(depth: u32) -> u64
+fn max_sample(depth: u32) -> u64
     requires { depth ≤ 32 }
     ensures value { result ≡ 2 ^ depth - 1 }
     ensures bound { result < 2 ^ 32 }
@@ -141,7 +141,7 @@ fn quarters(depth: u32, digit: u32) -> u64
     ensures value { result ≡ digit * (2 ^ depth - 1) / 4 }
     ensures bound { result < 2 ^ 33 }
 {
-    let product = digit as u64 * greatest_sample(depth);
+    let product = digit as u64 * max_sample(depth);
     product / 4
 }
 
@@ -296,7 +296,8 @@ impl Palette {
         requires columns { table.width ≡ self.now.nb_colours }
         requires row { c < table.height }
         requires deep { bit_depth ≤ 32 }
-        ensures value { result ≡ colour_of bit_depth self.now (grid_of (store_meanings S.to_int store.now) table) index c }
+        ensures value { result ≡ colour_of bit_depth self.now (grid_of (store_meanings S.to_int store.now) table)
+            index c }
         ensures bound { unsigned_abs result < 2 ^ 34 }
     {
         let place = index.unsigned_abs();
@@ -326,8 +327,11 @@ impl Palette {
     fn sampled<S: Sample>(&self, properties: Properties<'_, S>, index: i32, colour: i64) -> S
         requires current { IsCurrent properties }
         requires small { unsigned_abs colour < 2 ^ 34 }
-        ensures value { (s : Setting) (samples : List ℤ) → StandsAt properties.entry.state.now s samples → S.to_int result ≡ int_wrap S.width (if is_delta self.now index then colour +ℤ prediction s.weights samples s.width self.now.d_pred else colour) }
-        ensures stands { (s : Setting) (samples : List ℤ) → StandsAt properties.entry.state.now s samples → StandsAt properties.exit.0.now s (samples ++ S.to_int result ∷ []) }
+        ensures value { (s : Setting) (samples : List ℤ) → StandsAt properties.entry.state.now s samples
+            → S.to_int result ≡ int_wrap S.width (if is_delta self.now index then colour
+            +ℤ prediction s.weights samples s.width self.now.d_pred else colour) }
+        ensures stands { (s : Setting) (samples : List ℤ) → StandsAt properties.entry.state.now s samples
+            → StandsAt properties.exit.0.now s (samples ++ S.to_int result ∷ []) }
         ensures room { HasSameRoom properties.entry.state.now properties.exit.0.now }
     {
         let predicted = self.d_pred.predict(&properties);
@@ -346,8 +350,11 @@ impl Palette {
     ) -> S
         requires ready { IsReady state.old store.now }
         requires small { unsigned_abs colour < 2 ^ 34 }
-        ensures value { (s : Setting) (samples : List ℤ) → StandsAt state.old s samples → S.to_int result ≡ int_wrap S.width (if is_delta self.now index then colour +ℤ prediction s.weights samples s.width self.now.d_pred else colour) }
-        ensures stands { (s : Setting) (samples : List ℤ) → StandsAt state.old s samples → StandsAt state.new s (samples ++ S.to_int result ∷ []) }
+        ensures value { (s : Setting) (samples : List ℤ) → StandsAt state.old s samples → S.to_int result
+            ≡ int_wrap S.width (if is_delta self.now index then colour +ℤ prediction s.weights samples s.width
+            self.now.d_pred else colour) }
+        ensures stands { (s : Setting) (samples : List ℤ) → StandsAt state.old s samples → StandsAt state.new s
+            (samples ++ S.to_int result ∷ []) }
         ensures room { HasSameRoom state.old state.new }
     {
         let properties = state.properties::<true>(store);
@@ -459,7 +466,8 @@ impl Palette {
         requires in_rows { y < channel.index.height }
         requires simple { IsSimpleRow self.now (index_in channel (store_meanings S.to_int store.old)) y }
         requires some { 0 < length line.old }
-        ensures fills { (depth : ℕ) → FillsOn S.width depth self.now channel (y * channel.index.width) ((y + 1) * channel.index.width) (store_meanings S.to_int store.old) (store_meanings S.to_int store.new) }
+        ensures fills { (depth : ℕ) → FillsOn S.width depth self.now channel (y * channel.index.width)
+            ((y + 1) * channel.index.width) (store_meanings S.to_int store.old) (store_meanings S.to_int store.new) }
         ensures keeps { KeepsOutside (channel.target ∷ []) store.old store.new }
         ensures len { length line.new ≡ length line.old }
     {
@@ -482,7 +490,9 @@ impl Palette {
         requires lies { ChannelLies self.now channel store.old }
         requires some { 0 < length line.old }
         requires simple { IsSimple self.now (index_in channel (store_meanings S.to_int store.old)) }
-        ensures finished { (depth : ℕ) → grid_of (store_meanings S.to_int store.new) channel.target ≡ finished_channel S.width depth self.now (table_in channel (store_meanings S.to_int store.old)) (index_in channel (store_meanings S.to_int store.old)) channel.number }
+        ensures finished { (depth : ℕ) → grid_of (store_meanings S.to_int store.new) channel.target
+            ≡ finished_channel S.width depth self.now (table_in channel (store_meanings S.to_int store.old))
+            (index_in channel (store_meanings S.to_int store.old)) channel.number }
         ensures keeps { KeepsOutside (channel.target ∷ []) store.old store.new }
         ensures len { length line.new ≡ length line.old }
     {
@@ -509,8 +519,17 @@ impl Palette {
         requires few_rows { channel.index.height ≤ 2 ^ 30 }
         requires deep { bit_depth ≤ 32 }
         requires stands { StandsBefore self.now channel.index.width (y * channel.index.width + x) state.old }
-        ensures sets { (before : List ℤ) → StandsAt state.old (setting channel.index.width self.now.wp_header []) before → SetsSample S.to_int channel x y (finished_sample S.width bit_depth self.now (table_in channel (store_meanings S.to_int store.old)) (at (index_in channel (store_meanings S.to_int store.old)) x y) channel.number before channel.index.width) store.old store.new }
-        ensures stands { (before : List ℤ) → StandsAt state.old (setting channel.index.width self.now.wp_header []) before → StandsAt state.new (setting channel.index.width self.now.wp_header []) (before ++ finished_sample S.width bit_depth self.now (table_in channel (store_meanings S.to_int store.old)) (at (index_in channel (store_meanings S.to_int store.old)) x y) channel.number before channel.index.width ∷ []) }
+        ensures sets { (before : List ℤ) → StandsAt state.old (setting channel.index.width self.now.wp_header [])
+            before → SetsSample S.to_int channel x y (finished_sample S.width bit_depth self.now
+            (table_in channel (store_meanings S.to_int store.old))
+            (at (index_in channel (store_meanings S.to_int store.old)) x y) channel.number before channel.index.width)
+            store.old store.new }
+        ensures stands { (before : List ℤ) → StandsAt state.old (setting channel.index.width self.now.wp_header [])
+            before → StandsAt state.new (setting channel.index.width self.now.wp_header [])
+            (before ++ finished_sample S.width bit_depth self.now
+            (table_in channel (store_meanings S.to_int store.old))
+            (at (index_in channel (store_meanings S.to_int store.old)) x y) channel.number before channel.index.width
+            ∷ []) }
         ensures room { HasSameRoom state.old state.new }
     {
         let index = number_at(store, channel.index, x, y);
@@ -533,7 +552,9 @@ impl Palette {
         requires few_rows { channel.index.height ≤ 2 ^ 30 }
         requires deep { bit_depth ≤ 32 }
         requires stands { StandsBefore self.now channel.index.width (y * channel.index.width) state.old }
-        ensures fills { FillsOnBy S.width bit_depth self.now channel (y * channel.index.width) ((y + 1) * channel.index.width) (store_meanings S.to_int store.old) state.old (store_meanings S.to_int store.new) state.new }
+        ensures fills { FillsOnBy S.width bit_depth self.now channel (y * channel.index.width)
+            ((y + 1) * channel.index.width) (store_meanings S.to_int store.old) state.old
+            (store_meanings S.to_int store.new) state.new }
         ensures stands { StandsBefore self.now channel.index.width ((y + 1) * channel.index.width) state.new }
         ensures keeps { KeepsOutside (channel.target ∷ []) store.old store.new }
         ensures room { HasSameRoom state.old state.new }
@@ -555,7 +576,9 @@ impl Palette {
         requires few_rows { channel.index.height ≤ 2 ^ 30 }
         requires deep { bit_depth ≤ 32 }
         requires stands { StandsAt state.old (setting channel.index.width self.now.wp_header []) [] }
-        ensures finished { grid_of (store_meanings S.to_int store.new) channel.target ≡ finished_channel S.width bit_depth self.now (table_in channel (store_meanings S.to_int store.old)) (index_in channel (store_meanings S.to_int store.old)) channel.number }
+        ensures finished { grid_of (store_meanings S.to_int store.new) channel.target
+            ≡ finished_channel S.width bit_depth self.now (table_in channel (store_meanings S.to_int store.old))
+            (index_in channel (store_meanings S.to_int store.old)) channel.number }
         ensures keeps { KeepsOutside (channel.target ∷ []) store.old store.new }
         ensures room { HasSameRoom state.old state.new }
     {
@@ -592,7 +615,8 @@ impl Palette {
     )
         requires lies { PaletteLies self.now table index finished.now store.old }
         requires simple { IsSimple self.now (grid_of (store_meanings S.to_int store.old) index) }
-        ensures { (depth : ℕ) → ChannelsDone S.to_int S.width depth self.now table index finished.now 0 store.old store.new }
+        ensures { (depth : ℕ) → ChannelsDone S.to_int S.width depth self.now table index finished.now 0 store.old
+            store.new }
     {
         let mut line = [0; LINE];
         for i in 0..finished.len() {
@@ -652,7 +676,9 @@ impl Palette {
         requires deep { bit_depth ≤ 32 }
         requires roomy { index.width ≤ room_of state.old }
         requires weights { weights_of state.old ≡ self.now.wp_header }
-        ensures finished { IsPaletteOf S.width bit_depth self.now (grid_of (store_meanings S.to_int store.old) table) (grid_of (store_meanings S.to_int store.old) index) (map (grid_of (store_meanings S.to_int store.new)) finished.now) }
+        ensures finished { IsPaletteOf S.width bit_depth self.now (grid_of (store_meanings S.to_int store.old) table)
+            (grid_of (store_meanings S.to_int store.old) index)
+            (map (grid_of (store_meanings S.to_int store.new)) finished.now) }
         ensures keeps { KeepsOutside finished.now store.old store.new }
         ensures room { HasSameRoom state.old state.new }
     {
@@ -675,7 +701,7 @@ impl Palette {
         requires weights { ForSome self.now.wp_header IsHeader }
         ensures room { IfOk result (λ s. room_of s ≡ width) }
         ensures weights { IfOk result (λ s. weights_of s ≡ self.now.wp_header) }
-        ensures err { IfErr result (λ e. fault_of e ≡ NoMemory) }
+        ensures err { IfErr result (λ e. kind_of e ≡ NoMemory) }
     {
         PredictorState::with_room(alloc, width, 0, self.wp_header.as_ref())
     }

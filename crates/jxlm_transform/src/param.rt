@@ -5,7 +5,7 @@ ghost use Rattle.std.specs.Int.{div_ceil};
 ghost use Rattle.std.specs.List.{All, list_any};
 ghost use Rattle.jxlm_transform.specs.Shifts.{IsValidShift, shift_size, jpeg_shift, hshift, vshift, IsShift, upsampled_side as the_upsampled_side};
 ghost use Rattle.jxlm_transform.specs.Params.{IsSide, IsValidChannel, IsGroupDim, IsValidParams, OneSizeIsValid, OneSizeOfImageIsValid, PowersAreGroupDims, sized};
-ghost use Rattle.jxlm_base.specs.Fault.{NoMemory, fault_of};
+ghost use Rattle.jxlm_base.specs.ErrorKind.{NoMemory, kind_of};
 
 use jxlm_base::decoder::Decoder;
 use jxlm_base::error::Result;
@@ -274,7 +274,7 @@ impl<'a, D: Decoder> ModularParams<'a, D> {
         ensures bit_depth { IfOk result (λ p. p.bit_depth ≡ bit_depth) }
         ensures channels { IfOk result (λ p. p.channels.items ≡ map (sized width height) channel_shifts.items) }
         ensures ma_config { IfOk result (λ p. p.ma_config ≡ ma_config.entry) }
-        ensures err { IfErr result (λ e. fault_of e ≡ NoMemory) }
+        ensures err { IfErr result (λ e. kind_of e ≡ NoMemory) }
     {
         let channels = channel_shifts
             .into_iter()

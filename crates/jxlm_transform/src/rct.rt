@@ -2,7 +2,7 @@
 
 ghost use Rattle.std.specs.Prelude.{◌≡◌, ◌+◌, ◌*◌, ◌<◌, ◌≤◌, length, map, get_or, IfOk, IfErr, OnOk, OnErr};
 ghost use Rattle.jxlm_base.specs.Colour.{permuted, triple_at};
-ghost use Rattle.jxlm_base.specs.Fault.{NoMemory, fault_of};
+ghost use Rattle.jxlm_base.specs.ErrorKind.{NoMemory, kind_of};
 ghost use Rattle.jxlm_base.specs.Outside.{KeepsOutside};
 ghost use Rattle.jxlm_base.specs.Regions.{AllLie, LieApart, region, store_meanings};
 ghost use Rattle.jxlm_transform.specs.ColourRows.{HasRoom, KeepsRoom, AreThree, PutsRow, FinishesRow, FinishedUntil};
@@ -51,7 +51,8 @@ fn write_rows<S: Sample>(
     requires first_length { length a.now ≡ first.width }
     requires second_length { length b.now ≡ first.width }
     requires third_length { length c.now ≡ first.width }
-    ensures { PutsRow first second third S.to_int y (triple_at (map S.to_int a.now) (map S.to_int b.now) (map S.to_int c.now)) store.old store.new }
+    ensures { PutsRow first second third S.to_int y (triple_at (map S.to_int a.now) (map S.to_int b.now)
+        (map S.to_int c.now)) store.old store.new }
 {
     region_set_row(store, first, y, a);
     region_set_row(store, second, y, b);
@@ -75,7 +76,8 @@ fn write_permuted<S: Sample>(
     requires first_length { length a.now ≡ first.width }
     requires second_length { length b.now ≡ first.width }
     requires third_length { length c.now ≡ first.width }
-    ensures { PutsRow first second third S.to_int y (λ x. permuted permutation (triple_at (map S.to_int a.now) (map S.to_int b.now) (map S.to_int c.now) x)) store.old store.new }
+    ensures { PutsRow first second third S.to_int y (λ x. permuted permutation
+        (triple_at (map S.to_int a.now) (map S.to_int b.now) (map S.to_int c.now) x)) store.old store.new }
 {
     match permutation {
         1 => write_rows(store, first, second, third, y, c, a, b),
@@ -157,7 +159,8 @@ pub fn inverse_rct_within<S: Sample>(
     requires apart { LieApart regions }
     requires sizes { HaveOneSize regions }
     requires room { HasRoom scratch.old (get_or regions 0 (region 0 0 0 0 0)).width }
-    ensures colour { UndoesColour S.width (permutation * 7 + ty) regions (store_meanings S.to_int store.old) (store_meanings S.to_int store.new) }
+    ensures colour { UndoesColour S.width (permutation * 7 + ty) regions (store_meanings S.to_int store.old)
+        (store_meanings S.to_int store.new) }
     ensures keeps { KeepsOutside regions store.old store.new }
     ensures room { KeepsRoom scratch.old scratch.new }
 {
@@ -188,9 +191,10 @@ pub fn inverse_rct<S: Sample, const TYPE: u32>(
     requires lie { AllLie regions store.old }
     requires apart { LieApart regions }
     requires sizes { HaveOneSize regions }
-    ensures colour { OnOk result (UndoesColour S.width (permutation * 7 + TYPE) regions (store_meanings S.to_int store.old) (store_meanings S.to_int store.new)) }
+    ensures colour { OnOk result (UndoesColour S.width (permutation * 7 + TYPE) regions
+        (store_meanings S.to_int store.old) (store_meanings S.to_int store.new)) }
     ensures keeps { OnOk result (KeepsOutside regions store.old store.new) }
-    ensures memory { IfErr result (λ e. fault_of e ≡ NoMemory) }
+    ensures memory { IfErr result (λ e. kind_of e ≡ NoMemory) }
     ensures unchanged { OnErr result (store.new ≡ store.old) }
 {
     let mut scratch = RctScratch::new(alloc, regions[0].width)?;

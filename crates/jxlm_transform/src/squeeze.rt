@@ -1,7 +1,7 @@
 //! Squeeze steps, inverse-transformed (ISO/IEC 18181-1, Modular: squeeze).
 
 ghost use Rattle.std.specs.Prelude.{◌≡◌, ◌+◌, ◌≤◌, [], ◌∷◌, length, max, IfOk, IfErr};
-ghost use Rattle.jxlm_base.specs.Fault.{NoMemory, fault_of};
+ghost use Rattle.jxlm_base.specs.ErrorKind.{NoMemory, kind_of};
 ghost use Rattle.jxlm_base.specs.Outside.{KeepsOutside as KeepsOutsideRegions};
 ghost use Rattle.jxlm_base.specs.Regions.{Lies, store_meanings};
 ghost use Rattle.jxlm_base.specs.Squeeze.{AreGridSamples, squeezed_rows, squeezed_columns};
@@ -22,9 +22,10 @@ use std::alloc::Global;
 /// `Buffer` if it is out of memory, and no other; then no cell has changed.
 pub fn inverse_h<S: Sample>(alloc: Global, subgrid: &mut MutableSubgrid<'_, S>) -> Result<()>
     ensures kept { KeepsOutside subgrid.old subgrid.new }
-    ensures undone { IfOk result (λ _. squeezed_rows S.width (numbers_in S.to_int subgrid.new) ≡ numbers_in S.to_int subgrid.old) }
+    ensures undone { IfOk result (λ _. squeezed_rows S.width (numbers_in S.to_int subgrid.new)
+        ≡ numbers_in S.to_int subgrid.old) }
     ensures samples { IfOk result (λ _. AreGridSamples S.width (numbers_in S.to_int subgrid.new)) }
-    ensures refused { IfErr result (λ e. fault_of e ≡ NoMemory) }
+    ensures refused { IfErr result (λ e. kind_of e ≡ NoMemory) }
     ensures unchanged { IfErr result (λ _. whole subgrid.new ≡ whole subgrid.old) }
 {
     S::squeeze_rows(alloc, subgrid)?;
@@ -40,9 +41,10 @@ pub fn inverse_h<S: Sample>(alloc: Global, subgrid: &mut MutableSubgrid<'_, S>) 
 /// `Buffer` if it is out of memory, and no other; then no cell has changed.
 pub fn inverse_v<S: Sample>(alloc: Global, subgrid: &mut MutableSubgrid<'_, S>) -> Result<()>
     ensures kept { KeepsOutside subgrid.old subgrid.new }
-    ensures undone { IfOk result (λ _. squeezed_columns S.width (numbers_in S.to_int subgrid.new) ≡ numbers_in S.to_int subgrid.old) }
+    ensures undone { IfOk result (λ _. squeezed_columns S.width (numbers_in S.to_int subgrid.new)
+        ≡ numbers_in S.to_int subgrid.old) }
     ensures samples { IfOk result (λ _. AreGridSamples S.width (numbers_in S.to_int subgrid.new)) }
-    ensures refused { IfErr result (λ e. fault_of e ≡ NoMemory) }
+    ensures refused { IfErr result (λ e. kind_of e ≡ NoMemory) }
     ensures unchanged { IfErr result (λ _. whole subgrid.new ≡ whole subgrid.old) }
 {
     S::squeeze_columns(alloc, subgrid)?;
@@ -63,7 +65,8 @@ pub fn unsqueeze<S: Sample>(
     requires lies { Lies region store.old }
     requires room { max region.width (region.height + 1) ≤ length scratch.old }
     ensures len { length scratch.new ≡ length scratch.old }
-    ensures undone { UndoesSqueeze S.width horizontal region (store_meanings S.to_int store.old) (store_meanings S.to_int store.new) }
+    ensures undone { UndoesSqueeze S.width horizontal region (store_meanings S.to_int store.old)
+        (store_meanings S.to_int store.new) }
     ensures keeps { KeepsOutsideRegions (region ∷ []) store.old store.new }
 {
     let grid = &mut store[region.buffer];

@@ -6,7 +6,7 @@ ghost use Rattle.jxlm_base.specs.Bits.{bytes_of, position_of};
 ghost use Rattle.jxlm_base.specs.Grammar.{FitsU32, IsExact, Reads, number, repeated, u32 as the_u32};
 ghost use Rattle.jxlm_tree.specs.WeightsHeader.{AnswersExactly};
 ghost use Rattle.jxlm_transform.specs.DefaultSqueeze.{LeavesSmallSides, TakesFewestSteps};
-ghost use Rattle.jxlm_transform.specs.Transforms.{OfPalette, transform_of, begin_channel as the_begin_channel, rct, predictor, weights_for, palette, squeeze_params, squeeze, transform, least_of, greatest_of, IsRct, IsPalette, IsSqueezeParams, IsSqueeze, IsTransform, HasChannels, KeepsWeights, IsPaletteTransform, IsSqueezeTransform, Parses};
+ghost use Rattle.jxlm_transform.specs.Transforms.{OfPalette, transform_of, begin_channel as the_begin_channel, rct, predictor, weights_for, palette, squeeze_params, squeeze, transform, least_of, max_of, IsRct, IsPalette, IsSqueezeParams, IsSqueeze, IsTransform, HasChannels, KeepsWeights, IsPaletteTransform, IsSqueezeTransform, Parses};
 
 mod default_squeeze;
 mod lists;
@@ -84,9 +84,10 @@ fn field(
     d3: U32Spec,
 ) -> std::result::Result<u32, BitstreamError>
     requires fits { FitsU32 d0 × FitsU32 d1 × FitsU32 d2 × FitsU32 d3 }
-    ensures gives { Reads (λ v. v) result (position_of bits.new) ((the_u32 d0 d1 d2 d3).read (bytes_of bits.old) (position_of bits.old)) }
+    ensures gives { Reads (λ v. v) result (position_of bits.new)
+        ((the_u32 d0 d1 d2 d3).read (bytes_of bits.old) (position_of bits.old)) }
     ensures least { IfOk result (λ v. least_of d0 d1 d2 d3 ≤ v) }
-    ensures greatest { IfOk result (λ v. v ≤ greatest_of d0 d1 d2 d3) }
+    ensures greatest { IfOk result (λ v. v ≤ max_of d0 d1 d2 d3) }
     ensures bytes { bytes_of bits.new ≡ bytes_of bits.old }
 {
     bits.read_u32(d0, d1, d2, d3)
@@ -94,7 +95,8 @@ fn field(
 
 /// The first channel of a transform.
 fn begin_channel(bits: &mut Bitstream<'_>) -> std::result::Result<u32, BitstreamError>
-    ensures gives { Reads (λ v. v) result (position_of bits.new) (the_begin_channel.read (bytes_of bits.old) (position_of bits.old)) }
+    ensures gives { Reads (λ v. v) result (position_of bits.new)
+        (the_begin_channel.read (bytes_of bits.old) (position_of bits.old)) }
     ensures range { IfOk result (λ v. v ≤ 9287) }
     ensures bytes { bytes_of bits.new ≡ bytes_of bits.old }
 {
@@ -115,7 +117,8 @@ impl Rct {
     /// `UnexpectedEof` if the input is truncated; the reader is then after the last field that was read
     /// whole.
     pub fn parse(bits: &mut Bitstream<'_>) -> Result<Rct>
-        ensures gives { AnswersExactly result (position_of bits.new) (rct.read (bytes_of bits.old) (position_of bits.old)) }
+        ensures gives { AnswersExactly result (position_of bits.new)
+            (rct.read (bytes_of bits.old) (position_of bits.old)) }
         ensures ranges { IfOk result (λ t. IsRct t) }
         ensures bytes { bytes_of bits.new ≡ bytes_of bits.old }
     {
@@ -133,7 +136,8 @@ impl Rct {
 
 /// A predictor by its number of 4 bits.
 fn read_predictor(bits: &mut Bitstream<'_>) -> std::result::Result<Predictor, BitstreamError>
-    ensures gives { Reads (λ v. v) result (position_of bits.new) (predictor.read (bytes_of bits.old) (position_of bits.old)) }
+    ensures gives { Reads (λ v. v) result (position_of bits.new)
+        (predictor.read (bytes_of bits.old) (position_of bits.old)) }
     ensures bytes { bytes_of bits.new ≡ bytes_of bits.old }
 {
     let number = bits.read_bits(4)?;
@@ -149,7 +153,8 @@ impl Palette {
     /// `UnexpectedEof` if the input is truncated, and `InvalidEnum` for the number of a predictor that
     /// is none. The reader is then after the last field that was read whole.
     pub fn parse(bits: &mut Bitstream<'_>, wp_header: &WpHeader) -> Result<Palette>
-        ensures gives { AnswersExactly result (position_of bits.new) ((palette wp_header.now).read (bytes_of bits.old) (position_of bits.old)) }
+        ensures gives { AnswersExactly result (position_of bits.new)
+            ((palette wp_header.now).read (bytes_of bits.old) (position_of bits.old)) }
         ensures ranges { IfOk result (λ t. IsPalette t) }
         ensures weights { IfOk result (λ t. t.wp_header ≡ weights_for t.d_pred wp_header.now) }
         ensures keeps { IfOk result (λ t. KeepsWeights wp_header.now (OfPalette t)) }
@@ -202,7 +207,8 @@ fn kept_weights(d_pred: Predictor, wp_header: &WpHeader) -> Option<WpHeader>
 
 impl SqueezeParams {
     fn parse(bits: &mut Bitstream<'_>) -> std::result::Result<SqueezeParams, BitstreamError>
-        ensures gives { Reads (λ v. v) result (position_of bits.new) (squeeze_params.read (bytes_of bits.old) (position_of bits.old)) }
+        ensures gives { Reads (λ v. v) result (position_of bits.new)
+            (squeeze_params.read (bytes_of bits.old) (position_of bits.old)) }
         ensures ranges { IfOk result (λ t. IsSqueezeParams t) }
         ensures bytes { bytes_of bits.new ≡ bytes_of bits.old }
     {
@@ -233,7 +239,8 @@ impl Squeeze {
     /// `UnexpectedEof` if the input is truncated; the reader is then after the last field that was
     /// read whole. `Buffer` if it is out of memory, at any step.
     pub fn parse(alloc: Global, bits: &mut Bitstream<'_>) -> Result<Squeeze>
-        ensures gives { Parses (λ s. s.sp.items) result (position_of bits.new) (squeeze.read (bytes_of bits.old) (position_of bits.old)) }
+        ensures gives { Parses (λ s. s.sp.items) result (position_of bits.new)
+            (squeeze.read (bytes_of bits.old) (position_of bits.old)) }
         ensures ranges { IfOk result (λ s. IsSqueeze s.sp.items) }
         ensures bytes { bytes_of bits.new ≡ bytes_of bits.old }
     {
@@ -251,7 +258,8 @@ impl Squeeze {
 
 /// The `count` steps of a squeeze.
 fn read_steps(alloc: Global, bits: &mut Bitstream<'_>, count: u32) -> Result<Vec<SqueezeParams>>
-    ensures gives { Parses (λ v. v.items) result (position_of bits.new) ((repeated count squeeze_params).read (bytes_of bits.old) (position_of bits.old)) }
+    ensures gives { Parses (λ v. v.items) result (position_of bits.new)
+        ((repeated count squeeze_params).read (bytes_of bits.old) (position_of bits.old)) }
     ensures count { IfOk result (λ v. length v.items ≡ count) }
     ensures each { IfOk result (λ v. All IsSqueezeParams v.items) }
     ensures bytes { bytes_of bits.new ≡ bytes_of bits.old }
@@ -266,7 +274,8 @@ fn read_steps(alloc: Global, bits: &mut Bitstream<'_>, count: u32) -> Result<Vec
 
 /// The kind of a transform.
 fn read_kind(bits: &mut Bitstream<'_>) -> std::result::Result<u32, BitstreamError>
-    ensures gives { Reads (λ v. v) result (position_of bits.new) ((number 2).read (bytes_of bits.old) (position_of bits.old)) }
+    ensures gives { Reads (λ v. v) result (position_of bits.new)
+        ((number 2).read (bytes_of bits.old) (position_of bits.old)) }
     ensures bytes { bytes_of bits.new ≡ bytes_of bits.old }
 {
     bits.read_bits(2)
@@ -286,7 +295,8 @@ impl TransformInfo {
         bits: &mut Bitstream<'_>,
         wp_header: &WpHeader,
     ) -> Result<TransformInfo>
-        ensures gives { Parses transform_of result (position_of bits.new) ((transform wp_header.now).read (bytes_of bits.old) (position_of bits.old)) }
+        ensures gives { Parses transform_of result (position_of bits.new)
+            ((transform wp_header.now).read (bytes_of bits.old) (position_of bits.old)) }
         ensures ranges { IfOk result (λ t. IsTransform (transform_of t)) }
         ensures some_channels { IfOk result (λ t. HasChannels (transform_of t)) }
         ensures weights { IfOk result (λ t. KeepsWeights wp_header.now (transform_of t)) }

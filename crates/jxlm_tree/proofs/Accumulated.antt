@@ -2,27 +2,27 @@
 use Rattle.std.proofs.Common.{◌≡◌, ℕ, zero, suc, ◌+◌, ◌-◌, ◌<◌, ◌≤◌, List, [], ◌∷◌, ◌++◌, Some, Result, Ok, Err, refl, sym, ap, ◌∙◌, arith, append_assoc, append-nil}
 use Rattle.jxlm_base.specs.Decoding.{Meaning}
 use Rattle.jxlm_base.specs.Decoding.{Taken}
-use Rattle.jxlm_base.specs.Fault.{Fault, Refused, ◌>>=◌}
+use Rattle.jxlm_base.specs.ErrorKind.{ErrorKind, ErrorAt, ◌>>=◌}
 use Rattle.jxlm_tree.specs.Inner.DraftReading.{AllDrafts, IsDraftNode}
 use Rattle.jxlm_tree.specs.Tree.{Node, leaf_node, decision_node}
 use Rattle.jxlm_tree.specs.TreeReading.{Draft, children, node_at, nodes_at}
 
 module _ {S : Type 0} where
-  abbrev pub with_front : List (Node Draft) → Result (Taken (List (Node Draft)) S) Refused → Result (Taken (List (Node Draft)) S) Refused
+  abbrev pub with_front : List (Node Draft) → Result (Taken (List (Node Draft)) S) ErrorAt → Result (Taken (List (Node Draft)) S) ErrorAt
   with_front front (Ok x) = Ok (record { value = front ++ x.value; state = x.state; position = x.position })
   with_front front (Err e) = Err e
 
-  pub with_front-nil : (r : Result (Taken (List (Node Draft)) S) Refused) → with_front [] r ≡ r
+  pub with_front-nil : (r : Result (Taken (List (Node Draft)) S) ErrorAt) → with_front [] r ≡ r
   with_front-nil (Ok x) = refl
   with_front-nil (Err e) = refl
 
   -- one node more before the others
-  with_front-more : (front : List (Node Draft)) (n : Node Draft) (r : Result (Taken (List (Node Draft)) S) Refused) → with_front front (with_front (n ∷ []) r) ≡ with_front (front ++ n ∷ []) r
+  with_front-more : (front : List (Node Draft)) (n : Node Draft) (r : Result (Taken (List (Node Draft)) S) ErrorAt) → with_front front (with_front (n ∷ []) r) ≡ with_front (front ++ n ∷ []) r
   with_front-more front n (Ok x) = ap (λ (v : List (Node Draft)). Ok (record { value = v; state = x.state; position = x.position })) (sym (append_assoc front (n ∷ []) x.value))
   with_front-more front n (Err e) = refl
 
-  module _ (d : Meaning S) (bytes : List ℕ) (limit : Fault) where
-    placed_first : (n : Node Draft) (r : Result (Taken (List (Node Draft)) S) Refused) →
+  module _ (d : Meaning S) (bytes : List ℕ) (limit : ErrorKind) where
+    placed_first : (n : Node Draft) (r : Result (Taken (List (Node Draft)) S) ErrorAt) →
         (r >>= (λ others. Ok (record { value = n ∷ others.value; state = others.state; position = others.position }))) ≡ with_front (n ∷ []) r
     placed_first n (Ok x) = refl
     placed_first n (Err e) = refl
@@ -44,14 +44,14 @@ module _ {S : Type 0} where
         rw (left, now) (ap (with_front front) (node_first room missing s t p q n e) ∙ with_front-more front n (nodes_at d bytes limit room (missing + children n) t q))
 
     -- a node gives an error
-    pub node_refused : (front : List (Node Draft)) (room missing : ℕ) (s : S) (p : ℕ) (e : Refused) → 0 < room → 0 < missing → node_at d bytes s p ≡ Err e → with_front front (nodes_at d bytes limit room missing s p) ≡ Err e
+    pub node_refused : (front : List (Node Draft)) (room missing : ℕ) (s : S) (p : ℕ) (e : ErrorAt) → 0 < room → 0 < missing → node_at d bytes s p ≡ Err e → with_front front (nodes_at d bytes limit room missing s p) ≡ Err e
     unfolding nodes_at
     node_refused front zero missing s p e h k r = absurd (omega (arith, h))
     node_refused front (suc room) zero s p e h k r = absurd (omega (arith, k))
     node_refused front (suc room) (suc missing) s p e h k r = rw r refl
 
     -- there is no room
-    pub no_room : (front : List (Node Draft)) (room missing : ℕ) (s : S) (p : ℕ) → room ≡ 0 → 0 < missing → with_front front (nodes_at d bytes limit room missing s p) ≡ Err (record { fault = limit; position = Some p })
+    pub no_room : (front : List (Node Draft)) (room missing : ℕ) (s : S) (p : ℕ) → room ≡ 0 → 0 < missing → with_front front (nodes_at d bytes limit room missing s p) ≡ Err (record { error = limit; position = Some p })
     unfolding nodes_at
     no_room front room zero s p h k = absurd (omega (arith, k))
     no_room front zero (suc missing) s p h k = refl

@@ -7,7 +7,7 @@ use Rattle.std.proofs.lemmas.Bool.{cases_lt, lt-ltb, le-ltb}
 use Rattle.jxlm_tree.specs.Neighbours.{neighbours, column, row}
 use Rattle.jxlm_tree.specs.Correcting.{KeepsErrors}
 use Rattle.jxlm_tree.specs.Inner.CorrectingSteps.{errors_from, sums_from, errors_above_left, errors_above_right}
-use Rattle.jxlm_tree.specs.SelfCorrecting.{Four, Errors, ErrorsNear, no_errors, errors_at, errors_above, errors_left, errors_near, near, sub_predictions, predicted, errors_of, errors_behind}
+use Rattle.jxlm_tree.specs.SelfCorrecting.{Four, Errors, ErrorsNear, no_errors, errors_at, errors_above, errors_left, errors_near, near, sub_predictions, predicted, errors_of, errors_after}
 use Rattle.jxlm_tree.specs.declared.predictor.WpHeader.{WpHeader}
 use Rattle.jxlm_tree.proofs.Causal.{errors_same}
 
@@ -89,11 +89,11 @@ module _ (width x y : ℕ) (w ww e : Errors) (previous current errors : List Err
 
 pub length-errors_of : (header : WpHeader) (samples : List ℤ) (width i : ℕ) → length (errors_of header samples width i) ≡ i
 length-errors_of header samples width zero = refl
-length-errors_of header samples width (suc i) = let n = length-errors_of header samples width i in omega (arith, length-append (errors_of header samples width i) (errors_behind header (take i samples) width (errors_of header samples width i) (get_or samples i (pos 0)) ∷ []))
+length-errors_of header samples width (suc i) = let n = length-errors_of header samples width i in omega (arith, length-append (errors_of header samples width i) (errors_after header (take i samples) width (errors_of header samples width i) (get_or samples i (pos 0)) ∷ []))
 
 -- those of a sample more are the errors before and its own
 pub errors_of-push : (header : WpHeader) (samples : List ℤ) (width : ℕ) (s : ℤ) →
-    errors_of header (samples ++ s ∷ []) width (length (samples ++ s ∷ [])) ≡ errors_of header samples width (length samples) ++ errors_behind header samples width (errors_of header samples width (length samples)) s ∷ []
+    errors_of header (samples ++ s ∷ []) width (length (samples ++ s ∷ [])) ≡ errors_of header samples width (length samples) ++ errors_after header samples width (errors_of header samples width (length samples)) s ∷ []
 errors_of-push header samples width s =
     let n : length (samples ++ s ∷ []) ≡ suc (length samples) = omega (arith, length-append samples (s ∷ [])) in
     let before : take (length samples) (samples ++ s ∷ []) ≡ samples = take-append-le (length samples) samples (s ∷ []) (omega arith) ∙ take-length samples in
@@ -101,9 +101,9 @@ errors_of-push header samples width s =
     let last : get_or (samples ++ s ∷ []) (length samples) (pos 0) ≡ s = get_or_push samples s (pos 0) (length samples) refl in
     rw n (rw (same, before, last) refl)
 
-pub behind_is : (header : WpHeader) (samples : List ℤ) (width : ℕ) (errors : List Errors) (p : ℤ) (f : Four ℤ) (s : ℤ) → p ≡ predicted header (neighbours samples width) (errors_near errors width (column samples width) (row samples width)) →
-    f ≡ sub_predictions header (neighbours samples width) (errors_near errors width (column samples width) (row samples width)) → errors_from p f s ≡ errors_behind header samples width errors s
-behind_is header samples width errors p f s a b = rw (a, b) refl
+pub then_is : (header : WpHeader) (samples : List ℤ) (width : ℕ) (errors : List Errors) (p : ℤ) (f : Four ℤ) (s : ℤ) → p ≡ predicted header (neighbours samples width) (errors_near errors width (column samples width) (row samples width)) →
+    f ≡ sub_predictions header (neighbours samples width) (errors_near errors width (column samples width) (row samples width)) → errors_from p f s ≡ errors_after header samples width errors s
+then_is header samples width errors p f s a b = rw (a, b) refl
 
 pub map-set : {X Y : Type 0} (f : X → Y) (xs : List X) (i : ℕ) (v : X) → map f (set xs i v) ≡ set (map f xs) i (f v)
 map-set f [] i v = refl

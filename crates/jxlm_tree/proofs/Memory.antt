@@ -1,10 +1,10 @@
 -- What holds also holds unless it is out of memory.
 use Rattle.std.proofs.Common.{◌≡◌, ◌⊎◌, inl, inr, sym, subst}
-use Rattle.jxlm_base.specs.Fault.{Fault, Eof, BadEnum, BadProfile, BadTree, NoGlobalTree, BadRct, BadPalette, BadSqueeze, OfDecoder, NoMemory, UnlessMemory}
+use Rattle.jxlm_base.specs.ErrorKind.{ErrorKind, Eof, BadEnum, BadProfile, BadTree, NoGlobalTree, BadRct, BadPalette, BadSqueeze, OfDecoder, NoMemory, UnlessMemory}
 use Rattle.jxlm_base.specs.declared.decoder.DecoderError.TheVariants.{UnexpectedEof, Invalid, OutOfMemory}
 
 -- a fact leads to another one
-pub unless_so : (fault : Fault) {P Q : Type 0} → (P → Q) → UnlessMemory fault P → UnlessMemory fault Q
+pub unless_so : (error : ErrorKind) {P Q : Type 0} → (P → Q) → UnlessMemory error P → UnlessMemory error Q
 unless_so Eof f h = f h
 unless_so (BadEnum name value) f h = f h
 unless_so (BadProfile text) f h = f h
@@ -18,7 +18,7 @@ unless_so (OfDecoder (Invalid k)) f h = f h
 unless_so (OfDecoder OutOfMemory) f h = tt
 unless_so NoMemory f h = tt
 
-pub always_so : (fault : Fault) {P : Type 0} → P → UnlessMemory fault P
+pub always_so : (error : ErrorKind) {P : Type 0} → P → UnlessMemory error P
 always_so Eof h = h
 always_so (BadEnum name value) h = h
 always_so (BadProfile text) h = h
@@ -38,6 +38,6 @@ or_so f (inl m) = inl m
 or_so f (inr h) = inr (f h)
 
 -- out of memory by this crate's own lists and nodes is out of memory
-pub own_so : (fault : Fault) {P Q : Type 0} → (P → Q) → (fault ≡ NoMemory) ⊎ P → UnlessMemory fault Q
-own_so fault {Q = Q} f (inl m) = subst (λ (e : Fault). UnlessMemory e Q) (sym m) tt
-own_so fault f (inr h) = always_so fault (f h)
+pub own_so : (error : ErrorKind) {P Q : Type 0} → (P → Q) → (error ≡ NoMemory) ⊎ P → UnlessMemory error Q
+own_so error {Q = Q} f (inl m) = subst (λ (e : ErrorKind). UnlessMemory e Q) (sym m) tt
+own_so error f (inr h) = always_so error (f h)

@@ -7,14 +7,14 @@ module _ (log : ℕ) (small : log ≤ 30) where
   pub least_power : 2 ≤ 2 ^ (31 - log)
   least_power = pow_mono {i = 1} {j = 31 - log} (omega (arith, small))
 
-  greatest_power : 2 ^ (31 - log) ≤ 2147483648
-  greatest_power = pow_mono {i = 31 - log} {j = 31} (omega (arith, small))
+  max_power : 2 ^ (31 - log) ≤ 2147483648
+  max_power = pow_mono {i = 31 - log} {j = 31} (omega (arith, small))
 
   -- it is not shifted out of a 32-bit number
   pub power_is : 1 * 2 ^ (31 - log) % 4294967296 ≡ 2 ^ (31 - log)
   power_is =
       let e : 1 * 2 ^ (31 - log) ≡ 2 ^ (31 - log) = omega arith in
-      rw e (mod-eq_of_lt (omega (arith, greatest_power)))
+      rw e (mod-eq_of_lt (omega (arith, max_power)))
 
   module _ (factor : ℕ) (within : factor ≤ 2 ^ (31 - log) - 2) where
     pub multiplier_below : (factor + 1) * 2 ^ log < 2147483648

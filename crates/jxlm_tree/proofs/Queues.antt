@@ -1,8 +1,8 @@
 -- A queue of trees: what is in it, and how deep that is.
 use Rattle.std.proofs.Common.{◌≡◌, ℕ, ◌<◌, ◌≤◌, max, ℤ, List, [], ◌∷◌, ◌++◌, Option, None, Some, refl, subst, arith, map}
 use Rattle.std.specs.Option.{option_and_then}
-use Rattle.jxlm_base.specs.Fault.{Fault}
-use Rattle.jxlm_tree.specs.Inner.Queue.{HasTooDeep, IsRefusedAsTooDeep, IsRefusedInQueue, deepest, taken_up, too_deep}
+use Rattle.jxlm_base.specs.ErrorKind.{ErrorKind}
+use Rattle.jxlm_tree.specs.Inner.Queue.{HasTooDeep, IsTooDeepAt, IsErrorInQueue, deepest, taken_up, too_deep}
 use Rattle.jxlm_tree.specs.Tree.{Shape, leaf, decision, Node, leaf_node, decision_node, depth}
 use Rattle.jxlm_tree.proofs.Listing.{queue_of}
 use Rattle.jxlm_tree.proofs.Memory.{or_so}
@@ -15,27 +15,27 @@ module _ {L : Type 0} where
   deepest_last : (ts : List (Shape L)) (t : Shape L) → depth t ≤ deepest (ts ++ t ∷ [])
   deepest_last ts t = omega (arith, deepest-append ts (t ∷ []))
 
-  has_too_deep : (limit property : ℕ) (value : ℤ) (right left : Shape L) (rest : List (Shape L)) (fault : Fault) → (fault ≡ too_deep) × (limit < depth (decision property value left right)) →
-      HasTooDeep limit (taken_up (decision_node property value) (right ∷ (left ∷ rest))) fault
-  has_too_deep limit property value right left rest fault h = record {
-    refusal = h.0;
+  has_too_deep : (limit property : ℕ) (value : ℤ) (right left : Shape L) (rest : List (Shape L)) (error : ErrorKind) → (error ≡ too_deep) × (limit < depth (decision property value left right)) →
+      HasTooDeep limit (taken_up (decision_node property value) (right ∷ (left ∷ rest))) error
+  has_too_deep limit property value right left rest error h = record {
+    failure = h.0;
     trees = rest ++ decision property value left right ∷ [];
     are = refl;
     beyond = omega (arith, h.1, deepest_last rest (decision property value left right));
   }
 
   -- a decision that is too deep would be in the queue
-  pub refused_in_queue : (limit property : ℕ) (value : ℤ) (right left : Shape L) (rest : List (Shape L)) (fault : Fault) → IsRefusedAsTooDeep limit (decision property value left right) fault →
-      IsRefusedInQueue limit (taken_up (decision_node property value) (right ∷ (left ∷ rest))) fault
-  refused_in_queue limit property value right left rest fault h = or_so (has_too_deep limit property value right left rest fault) h
+  pub refused_in_queue : (limit property : ℕ) (value : ℤ) (right left : Shape L) (rest : List (Shape L)) (error : ErrorKind) → IsTooDeepAt limit (decision property value left right) error →
+      IsErrorInQueue limit (taken_up (decision_node property value) (right ∷ (left ∷ rest))) error
+  refused_in_queue limit property value right left rest error h = or_so (has_too_deep limit property value right left rest error) h
 
   -- a tree that is not too deep joins those that are not
   pub still_shallow : (limit : ℕ) (ts : List (Shape L)) (t : Shape L) → deepest ts ≤ limit → depth t ≤ limit → deepest (ts ++ t ∷ []) ≤ limit
   still_shallow limit ts t h k = omega (arith, deepest-append ts (t ∷ []))
 
   -- what is after two trees is no deeper
-  pub deepest_behind : {X : Type 0} (f : X → Shape L) (limit : ℕ) (xs : List X) (a b : X) (rest : List X) → xs ≡ a ∷ (b ∷ rest) → deepest (map f xs) ≤ limit → deepest (map f rest) ≤ limit
-  deepest_behind f limit xs a b rest e h = let whole = rw e at h in omega (arith, whole)
+  pub deepest_after : {X : Type 0} (f : X → Shape L) (limit : ℕ) (xs : List X) (a b : X) (rest : List X) → xs ≡ a ∷ (b ∷ rest) → deepest (map f xs) ≤ limit → deepest (map f rest) ≤ limit
+  deepest_after f limit xs a b rest e h = let whole = rw e at h in omega (arith, whole)
 
   -- ---- a queue that comes from another one is no less deep
 
@@ -54,9 +54,9 @@ module _ {L : Type 0} where
   before n (Some queue) new e = (queue, refl, e)
 
   -- the queue after the last nodes, where all have one
-  pub queue_behind : (front ns : List (Node L)) (whole : List (Shape L)) → queue_of (front ++ ns) ≡ Some whole → (queue : List (Shape L)) × (queue_of ns ≡ Some queue) × (deepest queue ≤ deepest whole)
-  queue_behind [] ns whole e = (whole, e, omega arith)
-  queue_behind (n ∷ front) ns whole e =
+  pub queue_after : (front ns : List (Node L)) (whole : List (Shape L)) → queue_of (front ++ ns) ≡ Some whole → (queue : List (Shape L)) × (queue_of ns ≡ Some queue) × (deepest queue ≤ deepest whole)
+  queue_after [] ns whole e = (whole, e, omega arith)
+  queue_after (n ∷ front) ns whole e =
       let last = before n (queue_of (front ++ ns)) whole e in
-      let rest = queue_behind front ns last.0 last.1 in
+      let rest = queue_after front ns last.0 last.1 in
       (rest.0, rest.1, omega (arith, rest.2, deeper_taken n last.0 whole last.2))

@@ -3,24 +3,24 @@ use Rattle.std.proofs.Common.{◌≡◌, ℕ, zero, suc, ◌+◌, List, [], ◌�
 use Rattle.std.specs.Prelude.{slice_index}
 use Rattle.std.proofs.lemmas.List.{take-append-drop, length-take-le, length-append}
 use Rattle.jxlm_base.specs.Decoding.{Found, Meaning, Taken}
-use Rattle.jxlm_base.specs.Fault.{Fault, Refused, UnlessMemory, ◌>>=◌}
-use Rattle.jxlm_base.specs.Grammar.{IsRefused}
+use Rattle.jxlm_base.specs.ErrorKind.{ErrorKind, ErrorAt, UnlessMemory, ◌>>=◌}
+use Rattle.jxlm_base.specs.Grammar.{IsErrorAt}
 use Rattle.jxlm_tree.specs.Inner.DraftReading.{ListsTrees, is_endless}
 use Rattle.jxlm_tree.specs.Tree.{Shape, leaf, decision, Node, Config, leaf_node, decision_node, config_of, levels}
 use Rattle.jxlm_tree.specs.Inner.Queue.{IsTooDeepListing, ListsTooDeep}
-use Rattle.jxlm_tree.specs.TreeReading.{Draft, with_clusters, leaf_count, children, through, node_at, nodes_at, drafts_at, listing_at, limit_fault, most_nodes, IsTooDeep, IsTreeAt}
+use Rattle.jxlm_tree.specs.TreeReading.{Draft, with_clusters, leaf_count, children, through, node_at, nodes_at, drafts_at, listing_at, limit_error, most_nodes, IsTooDeep, IsTreeAt}
 use Rattle.jxlm_tree.specs.declared.flat.Leaf.{Leaf}
 use Rattle.jxlm_tree.proofs.Memory.{own_so}
 use Rattle.jxlm_tree.proofs.Listing.{Lists, lists-levels, levels-injective}
 
-bind_ok : {A B : Type 0} (r : Result A Refused) (f : A → Result B Refused) (y : B) → (r >>= f) ≡ Ok y → (x : A) × (r ≡ Ok x) × (f x ≡ Ok y)
+bind_ok : {A B : Type 0} (r : Result A ErrorAt) (f : A → Result B ErrorAt) (y : B) → (r >>= f) ≡ Ok y → (x : A) × (r ≡ Ok x) × (f x ≡ Ok y)
 bind_ok (Ok x) f y h = (x, refl, h)
 bind_ok (Err e) f y h = cc
 
-pub same : {A : Type 0} (x y : A) (r : Result A Refused) → r ≡ Ok x → r ≡ Ok y → y ≡ x
+pub same : {A : Type 0} (x y : A) (r : Result A ErrorAt) → r ≡ Ok x → r ≡ Ok y → y ≡ x
 same x y r h k = cc
 
-pub passed : {A : Type 0} (b : Bool) (e : Refused) (r : Result A Refused) (x : A) → cond b (Err e) r ≡ Ok x → r ≡ Ok x
+pub passed : {A : Type 0} (b : Bool) (e : ErrorAt) (r : Result A ErrorAt) (x : A) → cond b (Err e) r ≡ Ok x → r ≡ Ok x
 passed true e r x h = cc
 passed false e r x h = h
 
@@ -83,7 +83,7 @@ children_close (leaf_node l) ns m h = let e : m + 0 ≡ m = omega arith in rw e 
 children_close (decision_node k v) ns m h = h
 
 module _ {S : Type 0} (d : Meaning S) (bytes : List ℕ) where
-  nodes_close : (limit : Fault) (room missing : ℕ) (s : S) (p : ℕ) (x : Taken (List (Node Draft)) S) → nodes_at d bytes limit room missing s p ≡ Ok x → ListsTrees missing x.value
+  nodes_close : (limit : ErrorKind) (room missing : ℕ) (s : S) (p : ℕ) (x : Taken (List (Node Draft)) S) → nodes_at d bytes limit room missing s p ≡ Ok x → ListsTrees missing x.value
   unfolding nodes_at
   nodes_close limit zero zero s p x h = rw (same _ _ _ refl h) tt
   nodes_close limit zero (suc missing) s p x h = cc
@@ -98,9 +98,9 @@ module _ {S : Type 0} (d : Meaning S) (bytes : List ℕ) where
   drafts_close node_limit s p x h =
       let rest = passed (is_endless (d.single_token s (slice_index (d.cluster_map s) 1))) _ _ x h in
       let b = bind_ok (through (Some p) (d.begin s bytes p)) _ x rest in
-      let c = bind_ok (nodes_at d bytes (limit_fault node_limit) (most_nodes node_limit) 1 b.0.value b.0.position) _ x b.2 in
+      let c = bind_ok (nodes_at d bytes (limit_error node_limit) (most_nodes node_limit) 1 b.0.value b.0.position) _ x b.2 in
       let e = bind_ok (through (Some c.0.position) (d.finalize c.0.state)) _ x c.2 in
-      rw (same _ _ _ refl e.2) (nodes_close (limit_fault node_limit) (most_nodes node_limit) 1 b.0.value b.0.position c.0 c.1)
+      rw (same _ _ _ refl e.2) (nodes_close (limit_error node_limit) (most_nodes node_limit) 1 b.0.value b.0.position c.0 c.1)
 
   -- each listing that is read is that of a tree
   pub listing_of_tree : (node_limit p : ℕ) (x : Taken (List (Node Leaf)) S) → listing_at d bytes node_limit p ≡ Ok x → (t : Shape Leaf) × (levels t ≡ x.value)
@@ -119,7 +119,7 @@ module _ {S : Type 0} (d : Meaning S) (bytes : List ℕ) where
   one_tree node_limit depth_limit p x y q z h i = levels-injective x.tree y.tree (ap (λ (found : Taken (List (Node Leaf)) S). found.value) (same _ _ (listing_at d bytes node_limit p) i.reads h.reads))
 
   -- a tree that is read whole and is too deep
-  pub too_deep_is_refused : (node_limit depth_limit p : ℕ) (ns : List (Node Leaf)) (decoder : S) (q : ℕ) (fault : Fault) → listing_at d bytes node_limit p ≡ Ok (record { value = ns; state = decoder; position = q }) →
-      IsTooDeepListing depth_limit ns fault → UnlessMemory fault (IsRefused (listing_at d bytes node_limit p) fault q ⊎ IsTooDeep d bytes node_limit depth_limit p fault q)
-  too_deep_is_refused node_limit depth_limit p ns decoder q fault reads refused =
-      own_so fault (λ (deep : ListsTooDeep depth_limit ns fault). inr (record { config = config_of deep.tree decoder; reads = rw deep.lists reads; beyond = deep.beyond; refusal = deep.refusal })) refused
+  pub too_deep_is_refused : (node_limit depth_limit p : ℕ) (ns : List (Node Leaf)) (decoder : S) (q : ℕ) (error : ErrorKind) → listing_at d bytes node_limit p ≡ Ok (record { value = ns; state = decoder; position = q }) →
+      IsTooDeepListing depth_limit ns error → UnlessMemory error (IsErrorAt (listing_at d bytes node_limit p) error q ⊎ IsTooDeep d bytes node_limit depth_limit p error q)
+  too_deep_is_refused node_limit depth_limit p ns decoder q error reads refused =
+      own_so error (λ (deep : ListsTooDeep depth_limit ns error). inr (record { config = config_of deep.tree decoder; reads = rw deep.lists reads; beyond = deep.beyond; failure = deep.failure })) refused

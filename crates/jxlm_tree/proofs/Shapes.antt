@@ -3,16 +3,16 @@ use Rattle.std.proofs.Common.{false, true, append_assoc, ◌≡◌, ℕ, suc, �
 use Rattle.std.specs.Prelude.{slice_index}
 use Rattle.std.specs.Option.{option_and_then}
 use Rattle.std.proofs.lemmas.List.Elements.{Contains-get_or}
-use Rattle.jxlm_base.specs.Fault.{Fault}
+use Rattle.jxlm_base.specs.ErrorKind.{ErrorKind}
 use Rattle.jxlm_tree.specs.Inner.Building.{leaves_in}
 use Rattle.jxlm_tree.specs.Inner.DraftReading.{AllDrafts, IsDraft}
-use Rattle.jxlm_tree.specs.Inner.Queue.{HasTooDeep, IsRefusedInQueue, IsTooDeepListing, ListsTooDeep, deepest, taken_up}
+use Rattle.jxlm_tree.specs.Inner.Queue.{HasTooDeep, IsErrorInQueue, IsTooDeepListing, ListsTooDeep, deepest, taken_up}
 use Rattle.jxlm_tree.specs.Tree.{AllLeaves, Shape, leaf, decision, Node, leaf_node, decision_node, depth, levels, node_count}
 use Rattle.jxlm_tree.specs.TreeReading.{Draft, IsLeafOf, leaf_count, with_clusters}
 use Rattle.jxlm_tree.specs.declared.flat.Leaf.{Leaf}
 use Rattle.jxlm_tree.proofs.Listing.{Lists, queue_of, queue_of-levels, queue_of-lists}
 use Rattle.jxlm_tree.proofs.Memory.{or_so}
-use Rattle.jxlm_tree.proofs.Queues.{queue_behind}
+use Rattle.jxlm_tree.proofs.Queues.{queue_after}
 
 -- ---- counts and leaves
 
@@ -111,19 +111,19 @@ module _ (clusters : List ℕ) where
       let from_zero : leaf_count front ≡ 0 + leaf_count front = omega arith in
       let whole : queue_of (with_clusters clusters 0 front ++ with_clusters clusters (leaf_count front) (n ∷ rest)) ≡ Some (t ∷ []) =
       ap queue_of (ap (λ i. with_clusters clusters 0 front ++ with_clusters clusters i (n ∷ rest)) from_zero ∙ sym (with_clusters-append 0 front (n ∷ rest)) ∙ ap (with_clusters clusters 0) (sym split) ∙ sym e) ∙ queue_of-levels t in
-      let behind = queue_behind (with_clusters clusters 0 front) (with_clusters clusters (leaf_count front) (n ∷ rest)) (t ∷ []) whole in
+      let after_it = queue_after (with_clusters clusters 0 front) (with_clusters clusters (leaf_count front) (n ∷ rest)) (t ∷ []) whole in
       let one : queue_of (with_clusters clusters (leaf_count front) (n ∷ rest)) ≡ taken_up listed_node trees = ap queue_of numbered ∙ ap (option_and_then (taken_up listed_node)) stands in
-      record { queue = behind.0; taken = sym one ∙ behind.1; stands = behind.1; shallow = omega (arith, behind.2) }
+      record { queue = after_it.0; taken = sym one ∙ after_it.1; stands = after_it.1; shallow = omega (arith, after_it.2) }
 
-  too_deep_whole : (limit : ℕ) (t : Shape Leaf) (ns : List (Node Leaf)) (queue : List (Shape Leaf)) (fault : Fault) → levels t ≡ ns → deepest queue ≤ depth t → HasTooDeep limit (Some queue) fault → ListsTooDeep limit ns fault
-  too_deep_whole limit t ns queue fault e h deep =
+  too_deep_whole : (limit : ℕ) (t : Shape Leaf) (ns : List (Node Leaf)) (queue : List (Shape Leaf)) (error : ErrorKind) → levels t ≡ ns → deepest queue ≤ depth t → HasTooDeep limit (Some queue) error → ListsTooDeep limit ns error
+  too_deep_whole limit t ns queue error e h deep =
       let is : queue ≡ deep.trees = cc (deep.are) in
-      record { refusal = deep.refusal; tree = t; lists = e; beyond = omega (arith, deep.beyond, ap deepest is) }
+      record { failure = deep.failure; tree = t; lists = e; beyond = omega (arith, deep.beyond, ap deepest is) }
 
   -- what is too deep in the queue is so in the tree
-  pub too_deep_in_tree : (limit : ℕ) (t : Shape Leaf) (ns : List (Node Leaf)) (queue : Option (List (Shape Leaf))) (q : List (Shape Leaf)) (fault : Fault) → levels t ≡ ns → queue ≡ Some q → deepest q ≤ depth t →
-      IsRefusedInQueue limit queue fault → IsTooDeepListing limit ns fault
-  too_deep_in_tree limit t ns queue q fault e is h refused = let now = rw is at refused in or_so (too_deep_whole limit t ns q fault e h) now
+  pub too_deep_in_tree : (limit : ℕ) (t : Shape Leaf) (ns : List (Node Leaf)) (queue : Option (List (Shape Leaf))) (q : List (Shape Leaf)) (error : ErrorKind) → levels t ≡ ns → queue ≡ Some q → deepest q ≤ depth t →
+      IsErrorInQueue limit queue error → IsTooDeepListing limit ns error
+  too_deep_in_tree limit t ns queue q error e is h refused = let now = rw is at refused in or_so (too_deep_whole limit t ns q error e h) now
 
 leaf_count-append : (xs ys : List (Node Draft)) → leaf_count (xs ++ ys) ≡ leaf_count xs + leaf_count ys
 leaf_count-append [] ys = omega arith

@@ -5,7 +5,7 @@ use Rattle.std.proofs.lemmas.Bool.{cases_lt}
 use Rattle.std.proofs.lemmas.List.{get_or-reverse, length-reverse, reverse-reverse}
 use Rattle.std.proofs.lemmas.Option.{slice_get-get_or}
 use Rattle.jxlm_tree.specs.Correcting.{Corrects, CorrectsBy, IsMade, IsMadeBy}
-use Rattle.jxlm_tree.specs.Inner.CorrectingSteps.{CorrectsBehind, CorrectsNext, HoldsColumn}
+use Rattle.jxlm_tree.specs.Inner.CorrectingSteps.{CorrectsAfter, CorrectsNext, HoldsColumn}
 use Rattle.jxlm_tree.specs.Neighbours.{column, row}
 use Rattle.jxlm_tree.specs.Standing.{Setting, StandsAt, column_of, row_of, width_of, earlier_count}
 use Rattle.jxlm_tree.specs.declared.predictor.WpHeader.{WpHeader}
@@ -15,10 +15,10 @@ use Rattle.jxlm_tree.specs.declared.state.PredictorState.{PredictorState}
 use Rattle.jxlm_tree.proofs.Rolling.{column_is, row_is}
 
 -- the next cell is in the row, or at the start of the next row
-pub corrects_next : (o p : Option Corrector) (weights : Option WpHeader) (width x y i j : ℕ) (samples : List ℤ) → p ≡ o → CorrectsBehind o weights width x y samples →
+pub corrects_next : (o p : Option Corrector) (weights : Option WpHeader) (width x y i j : ℕ) (samples : List ℤ) → p ≡ o → CorrectsAfter o weights width x y samples →
     (x + 1 < width → (i ≡ x + 1) × (j ≡ y)) → (width ≤ x + 1 → (i ≡ 0) × (j ≡ y + 1)) → Corrects p weights width i j samples
-corrects_next o p weights width x y i j samples same behind inside ends =
-    elim (cases_lt (x + 1) width) [ inl lt ↦ rw (same, (inside lt).0, (inside lt).1) (behind.0 lt) | inr ge ↦ rw (same, (ends ge).0, (ends ge).1) (behind.1 ge) ]
+corrects_next o p weights width x y i j samples same after_it inside ends =
+    elim (cases_lt (x + 1) width) [ inl lt ↦ rw (same, (inside lt).0, (inside lt).1) (after_it.0 lt) | inr ge ↦ rw (same, (ends ge).0, (ends ge).1) (after_it.1 ge) ]
 
 -- a corrector that keeps errors at (x, y) has column x
 pub holds_column : (o : Option Corrector) (weights : Option WpHeader) (width x y : ℕ) (samples : List ℤ) → Corrects o weights width x y samples → x < width → HoldsColumn o x
@@ -28,7 +28,7 @@ holds_column (Some c) (Some w) width x y samples h lt = rw h.same_width lt
 
 -- what a record of the errors gives, where there are weights
 pub recorded : (c d : Corrector) (r : PredictionResult) (weights : Option WpHeader) (width x y : ℕ) (samples more : List ℤ) → Corrects (Some c) weights width x y samples → IsMade (Some r) weights width samples →
-    ((header : WpHeader) → CorrectsBy c header width x y samples → IsMadeBy r header width samples → CorrectsNext d header width x y more) → CorrectsBehind (Some d) weights width x y more
+    ((header : WpHeader) → CorrectsBy c header width x y samples → IsMadeBy r header width samples → CorrectsNext d header width x y more) → CorrectsAfter (Some d) weights width x y more
 recorded c d r None width x y samples more h made step = absurd h
 recorded c d r (Some w) width x y samples more h made step = step w h made
 

@@ -8,12 +8,12 @@ use Rattle.std.proofs.Math.ListN.{drop_of_length-le}
 use Rattle.std.proofs.Math.Nat.{lt_of_mul-lt-mul_right}
 use Rattle.std.proofs.Math.Seq.{drop-cons}
 use Rattle.jxlm_base.specs.Decoding.{Found, IsLawful, Keeps, Meaning, Taken}
-use Rattle.jxlm_base.specs.Fault.{Fault, BadEnum, Refused, ◌>>=◌}
+use Rattle.jxlm_base.specs.ErrorKind.{ErrorKind, BadEnum, ErrorAt, ◌>>=◌}
 use Rattle.jxlm_base.specs.declared.decoder.DecoderError.{DecoderError}
 use Rattle.jxlm_tree.specs.Inner.DraftReading.{ListsTrees, is_endless}
 use Rattle.jxlm_tree.specs.Predictions.{predictors}
 use Rattle.jxlm_tree.specs.Tree.{Shape, leaf, decision, Node, Config, config_of, leaf_node, decision_node, levels, node_count}
-use Rattle.jxlm_tree.specs.TreeReading.{Draft, IsTreeAt, children, drafts_at, leaf_at, leaf_count, limit_fault, listing_at, most_nodes, multiplier_at, node_at, nodes_at, predictor_at, read_context, through, with_clusters}
+use Rattle.jxlm_tree.specs.TreeReading.{Draft, IsTreeAt, children, drafts_at, leaf_at, leaf_count, limit_error, listing_at, most_nodes, multiplier_at, node_at, nodes_at, predictor_at, read_context, through, with_clusters}
 use Rattle.jxlm_tree.specs.TreeStands.{LeafStands, NodeStands, NodesStand, TokenStands, OneTreeStands, TreeStands, TreesAreReadExactly, leaf_clusters}
 use Rattle.jxlm_tree.specs.declared.flat.Leaf.{Leaf}
 use Rattle.jxlm_tree.specs.declared.predictor.Predictor.{Predictor}
@@ -22,11 +22,11 @@ use Rattle.jxlm_tree.proofs.Multipliers.{multiplier_below}
 use Rattle.jxlm_tree.proofs.Reading.{passed, same}
 use Rattle.jxlm_tree.proofs.Shapes.{count_is, levels-count}
 
-refused_test : {A : Type 0} (b : Bool) (e : Refused) (r : Result A Refused) (x : A) → cond b (Err e) r ≡ Ok x → b ≡ false
+refused_test : {A : Type 0} (b : Bool) (e : ErrorAt) (r : Result A ErrorAt) (x : A) → cond b (Err e) r ≡ Ok x → b ≡ false
 refused_test true e r x h = cc
 refused_test false e r x h = refl
 
-bind_then : {A B : Type 0} {G : Type 0} (r : Result A Refused) (f : A → Result B Refused) (y : B) → (r >>= f) ≡ Ok y → ((x : A) → r ≡ Ok x → f x ≡ Ok y → G) → G
+bind_then : {A B : Type 0} {G : Type 0} (r : Result A ErrorAt) (f : A → Result B ErrorAt) (y : B) → (r >>= f) ≡ Ok y → ((x : A) → r ≡ Ok x → f x ≡ Ok y → G) → G
 bind_then (Ok x) f y h go = go x refl h
 bind_then (Err e) f y h go = cc
 
@@ -38,8 +38,8 @@ abbrev in_cluster : ℕ → Draft → Leaf
 in_cluster c l = record { cluster = c; predictor = l.predictor; offset = l.offset; multiplier = l.multiplier }
 
 -- the predictor of a number, or the error of a number that names none
-abbrev predictor_of : ℕ → ℕ → Result Predictor Refused
-predictor_of number p = ok_or (slice_get predictors number) (record { fault = BadEnum (codes "MaProperty") number; position = Some p })
+abbrev predictor_of : ℕ → ℕ → Result Predictor ErrorAt
+predictor_of number p = ok_or (slice_get predictors number) (record { error = BadEnum (codes "MaProperty") number; position = Some p })
 
 predictor_is : (number p : ℕ) (x : Predictor) → predictor_of number p ≡ Ok x → slice_get predictors number ≡ Some x
 predictor_is number p x h = of (slice_get predictors number) refl where
@@ -63,7 +63,7 @@ through_ok : {X : Type 0} (at : Option ℕ) (r : Result X DecoderError) (x : X) 
 through_ok at (Ok y) x h = cc
 through_ok at (Err e) x h = cc
 
-bind_to : {A B : Type 0} (r : Result A Refused) (f : A → Result B Refused) (x : A) (y : Result B Refused) → r ≡ Ok x → f x ≡ y → (r >>= f) ≡ y
+bind_to : {A B : Type 0} (r : Result A ErrorAt) (f : A → Result B ErrorAt) (x : A) (y : Result B ErrorAt) → r ≡ Ok x → f x ≡ y → (r >>= f) ≡ y
 bind_to (Ok z) f x y h k = cc
 bind_to (Err e) f x y h k = cc
 
@@ -130,7 +130,7 @@ module _ {S : Type 0} (d : Meaning S) (bytes : List ℕ) where
   token_there context s p x h = of (d.read s bytes p (slice_index (d.cluster_map s) context) 0) refl where
     of : (r : Result (Taken ℕ S) DecoderError) → d.read s bytes p (slice_index (d.cluster_map s) context) 0 ≡ r → r ≡ Ok (record { value = x.value; state = x.state; position = x.position })
     of (Ok taken) e = let k = rw e at h in rw (same _ _ _ refl k) refl
-    of (Err fault) e = let k = rw e at h in cc
+    of (Err error) e = let k = rw e at h in cc
 
   -- the tokens of a leaf's predictor
   record PredictorStands (a : Found S) (predictor : Predictor) (b : Found S) : Type 0 where
@@ -225,7 +225,7 @@ module _ {S : Type 0} (d : Meaning S) (bytes : List ℕ) where
   prepended clusters (leaf_node l) ns a m b first rest k = (m, first (slice_index clusters k), rest (suc k))
   prepended clusters (decision_node property value) ns a m b first rest k = (m, first, rest k)
 
-  nodes_there : (clusters : List ℕ) (limit : Fault) (room missing : ℕ) (s : S) (p : ℕ) (x : Taken (List (Node Draft)) S) → nodes_at d bytes limit room missing s p ≡ Ok x →
+  nodes_there : (clusters : List ℕ) (limit : ErrorKind) (room missing : ℕ) (s : S) (p : ℕ) (x : Taken (List (Node Draft)) S) → nodes_at d bytes limit room missing s p ≡ Ok x →
       (k : ℕ) → NodesStand d bytes (cursor s p) (with_clusters clusters k x.value) (cursor x.state x.position)
   unfolding nodes_at
   nodes_there clusters limit zero zero s p x h = rw (same _ _ _ refl h) (λ k. refl)
@@ -238,7 +238,7 @@ module _ {S : Type 0} (d : Meaning S) (bytes : List ℕ) where
       (prepended clusters n.value ns.value (cursor s p) (cursor n.state n.position) (cursor ns.state ns.position) (node_there s p n is) (nodes_there clusters limit room (missing + children n.value) n.state n.position ns are))))
 
   -- no more than there is room for
-  nodes_few : (limit : Fault) (room missing : ℕ) (s : S) (p : ℕ) (x : Taken (List (Node Draft)) S) → nodes_at d bytes limit room missing s p ≡ Ok x → length x.value ≤ room
+  nodes_few : (limit : ErrorKind) (room missing : ℕ) (s : S) (p : ℕ) (x : Taken (List (Node Draft)) S) → nodes_at d bytes limit room missing s p ≡ Ok x → length x.value ≤ room
   unfolding nodes_at
   nodes_few limit zero zero s p x h = rw (same _ _ _ refl h) (omega arith)
   nodes_few limit zero (suc missing) s p x h = cc
@@ -260,7 +260,7 @@ module _ {S : Type 0} (d : Meaning S) (bytes : List ℕ) where
   drafts_there : (node_limit : ℕ) (s : S) (p : ℕ) (x : Found (List (Node Draft))) → drafts_at d bytes node_limit s p ≡ Ok x → DraftsStand node_limit (cursor s p) x.value x.position
   unfolding drafts_at
   drafts_there node_limit s p x h =
-      let limit = limit_fault node_limit in
+      let limit = limit_error node_limit in
       let room = most_nodes node_limit in
       bind_then (through (Some p) (d.begin s bytes p)) _ x (passed (is_endless (d.single_token s (slice_index (d.cluster_map s) 1))) _ _ x h) (λ first begins rest.
       bind_then (nodes_at d bytes limit room 1 first.value first.position) _ x rest (λ ns are more.
@@ -337,7 +337,7 @@ module _ {S : Type 0} (d : Meaning S) (bytes : List ℕ) where
       bind_to (read_context d bytes 1 a.value a.position) _ _ _ (token_read 1 (suc property) a h.0 h.2)
       (bind_to (read_context d bytes 0 h.0.value h.0.position) _ _ _ (token_read 0 h.1 h.0 b h.3) (rw h.4 refl))
 
-  nodes_read : (limit : Fault) (ns : List (Node Leaf)) (room missing : ℕ) (a b : Found S) → ListsTrees missing ns → length ns ≤ room → NodesStand d bytes a ns b →
+  nodes_read : (limit : ErrorKind) (ns : List (Node Leaf)) (room missing : ℕ) (a b : Found S) → ListsTrees missing ns → length ns ≤ room → NodesStand d bytes a ns b →
       nodes_at d bytes limit room missing a.value a.position ≡ Ok (record { value = drafts_of ns; state = b.value; position = b.position })
   unfolding nodes_at
   nodes_read limit [] zero zero a b trees few h = rw h refl
@@ -399,7 +399,7 @@ module _ {S : Type 0} (d : Meaning S) (bytes : List ℕ) where
     stands_read node_limit depth_limit p config q h =
         let t = config.tree in
         let s = h.decoder.value in
-        let limit = limit_fault node_limit in
+        let limit = limit_error node_limit in
         let room = most_nodes node_limit in
         let contexts = lawful.parse_clusters bytes p 6 h.decoder h.decoder_stands in
         let trees = listed_trees (levels t) (t ∷ []) (queue_of-lists (levels t) (t ∷ []) (queue_of-levels t)) in

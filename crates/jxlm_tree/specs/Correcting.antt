@@ -3,7 +3,7 @@ use Rattle.std.specs.Prelude.{◌≡◌, ℕ, zero, suc, ◌+◌, ◌*◌, ◌/�
 use Rattle.std.specs.Int.{w32, int_wrap}
 use Rattle.std.specs.Option.{ForSome}
 use Rattle.jxlm_tree.specs.Neighbours.{Neighbours, neighbours}
-use Rattle.jxlm_tree.specs.SelfCorrecting.{each, Four, Errors, ErrorsNear, no_errors, errors_at, errors_above, errors_of, near, self_corrected, greatest_error, sub_predictions}
+use Rattle.jxlm_tree.specs.SelfCorrecting.{each, Four, Errors, ErrorsNear, no_errors, errors_at, errors_above, errors_of, near, self_corrected, maximum_error, sub_predictions}
 use Rattle.jxlm_tree.specs.declared.predictor.WpHeader.{WpHeader}
 use Rattle.jxlm_tree.specs.declared.self_correcting.CellErrors.{CellErrors}
 use Rattle.jxlm_tree.specs.declared.self_correcting.Corrector.{Corrector}
@@ -58,7 +58,7 @@ header_of (Some c) = Some c.header
 -- what was made is what the predictor makes of the cell after the samples
 pub record IsMadeBy (r : PredictionResult) (header : WpHeader) (width : ℕ) (samples : List ℤ) : Type 0 where
   pub prediction_is : r.prediction ≡ self_corrected header samples width
-  pub max_error_is : r.max_error ≡ greatest_error header samples width
+  pub max_error_is : r.max_error ≡ maximum_error header samples width
   pub subpred_is : predicted_by r.subpred ≡
       sub_predictions header (neighbours samples width) (near header samples width)
 

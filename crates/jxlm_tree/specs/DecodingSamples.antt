@@ -16,7 +16,7 @@ pub record ReadsSample {S : Type 0} (l : Leaf) (residual : ℤ) (predictor : Pre
   pub predictor_is : predictor ≡ l.predictor
 
 -- reading returns an error, and state and position stay
-pub record RefusesSample {S : Type 0} (e : Error) (s t : S) (p q : ℕ) (reading : Result (Taken ℕ S) DecoderError) : Type 0 where
+pub record FailsSample {S : Type 0} (e : Error) (s t : S) (p q : ℕ) (reading : Result (Taken ℕ S) DecoderError) : Type 0 where
   pub cause : DecoderError
   pub error : e ≡ Decoder cause
   pub refuses : reading ≡ Err cause
@@ -26,4 +26,4 @@ pub record RefusesSample {S : Type 0} (e : Error) (s t : S) (p q : ℕ) (reading
 -- reading at this leaf, from state s at position p, returned this
 abbrev pub SampleGives : {S : Type 0} → Leaf → Result (ℤ × Predictor) Error → S → S → ℕ → ℕ → Result (Taken ℕ S) DecoderError → Type 0
 SampleGives l (Ok x) s t p q reading = ReadsSample l x.0 x.1 t q reading
-SampleGives l (Err e) s t p q reading = RefusesSample e s t p q reading
+SampleGives l (Err e) s t p q reading = FailsSample e s t p q reading

@@ -2,7 +2,7 @@
 use Rattle.std.specs.Prelude.{ℕ, nat_lt, if◌then◌else◌, ℤ, pos, ◌+ℤ◌, ◌-ℤ◌, ◌*ℤ◌, unsigned_abs, int_div, List, [], ◌∷◌, slice_get, Option, Some, None, Result, Ok, Err, codes, ◌≡◌}
 use Rattle.std.specs.Int.{w32, int_wrap, int_shr}
 use Rattle.std.specs.Option.{option_map_or}
-use Rattle.jxlm_base.specs.Fault.{BadEnum, bitstream_fault}
+use Rattle.jxlm_base.specs.ErrorKind.{BadEnum, bitstream_kind}
 use Rattle.jxlm_base.specs.Numbers.{clamped_gradient}
 use Rattle.jxlm_base.specs.declared.bits.BitstreamError.{BitstreamError}
 use Rattle.jxlm_tree.specs.Neighbours.{Neighbours, neighbours}
@@ -18,7 +18,7 @@ predictors = Zero ∷ West ∷ North ∷ AvgWestAndNorth ∷ Select ∷ Gradient
 -- what a number gives as a predictor: the one at its index of the list, or the error of a number that names none
 abbrev pub IsPredictorOf : ℕ → Result Predictor BitstreamError → Type 0
 IsPredictorOf number (Ok predictor) = slice_get predictors number ≡ Some predictor
-IsPredictorOf number (Err e) = (slice_get predictors number ≡ None) × (bitstream_fault e ≡ BadEnum (codes "MaProperty") number)
+IsPredictorOf number (Err e) = (slice_get predictors number ≡ None) × (bitstream_kind e ≡ BadEnum (codes "MaProperty") number)
 
 -- what a predictor makes of the neighbours, p being the weighted prediction times 8; division is toward zero
 abbrev pub prediction_from : Neighbours → ℤ → Predictor → ℤ

@@ -5,7 +5,7 @@ use Rattle.std.specs.Option.{option_map_or}
 use Rattle.jxlm_base.specs.Grid.{Grid}
 use Rattle.jxlm_base.specs.Numbers.{absolute, clamped_gradient}
 use Rattle.jxlm_tree.specs.Neighbours.{neighbours, at, west, north, north_west, column, row}
-use Rattle.jxlm_tree.specs.SelfCorrecting.{greatest_error}
+use Rattle.jxlm_tree.specs.SelfCorrecting.{maximum_error}
 use Rattle.jxlm_tree.specs.declared.predictor.WpHeader.{WpHeader}
 
 -- What the properties of a cell look at: the weights, if there are any; the width; the samples before the cell, in row
@@ -27,7 +27,7 @@ west_change samples width (suc x) y = west samples width (suc x) y -ℤ gradient
 
 -- property 15: the maximum error, or 0 without weights
 abbrev pub error_property : Option WpHeader → List ℤ → ℕ → ℤ
-error_property weights samples width = option_map_or (λ h. greatest_error h samples width) weights (pos 0)
+error_property weights samples width = option_map_or (λ h. maximum_error h samples width) weights (pos 0)
 
 -- properties 2 to 15, at the cell after the samples, before they are reduced
 abbrev pub own_properties : Surroundings → List ℤ

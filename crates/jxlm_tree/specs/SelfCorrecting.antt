@@ -146,8 +146,8 @@ module _ (header : WpHeader) (a : Neighbours) (e : ErrorsNear) where
       if is_clamped e then clamped (int_min (int_min n w) ne) (int_max (int_max n w) ne) z else z
 
 -- what is known of the cell after the samples once it has this sample; errors are those of the cells before it
-abbrev pub errors_behind : WpHeader → List ℤ → ℕ → List Errors → ℤ → Errors
-errors_behind header samples width errors sample =
+abbrev pub errors_after : WpHeader → List ℤ → ℕ → List Errors → ℤ → Errors
+errors_after header samples width errors sample =
     let a = neighbours samples width in
     let e = errors_near errors width (column samples width) (row samples width) in
     record {
@@ -160,7 +160,7 @@ abbrev pub errors_of : WpHeader → List ℤ → ℕ → ℕ → List Errors
 errors_of header samples width zero = []
 errors_of header samples width (suc i) =
     let errors = errors_of header samples width i in
-    errors ++ errors_behind header (take i samples) width errors (slice_index_or samples i (pos 0)) ∷ []
+    errors ++ errors_after header (take i samples) width errors (slice_index_or samples i (pos 0)) ∷ []
 
 -- at the cell after the samples: the errors around it,
 abbrev pub near : WpHeader → List ℤ → ℕ → ErrorsNear
@@ -178,8 +178,8 @@ self_unclamped header samples width =
     unclamped (sub_predictions header (neighbours samples width) e) (weights header e.sums)
 
 -- and the maximum error
-abbrev pub greatest_error : WpHeader → List ℤ → ℕ → ℤ
-greatest_error header samples width = greatest (near header samples width)
+abbrev pub maximum_error : WpHeader → List ℤ → ℕ → ℤ
+maximum_error header samples width = greatest (near header samples width)
 
 -- the weights of a header that was read are in these ranges
 pub record IsHeader (header : WpHeader) : Type 0 where

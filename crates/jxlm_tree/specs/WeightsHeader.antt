@@ -1,8 +1,8 @@
 -- The weights of the weighted predictor, as they stand in the input (ISO/IEC 18181-1, Modular: the bundle WPHeader).
 use Rattle.std.specs.Prelude.{◌≡◌, ℕ, true, false, Result, Ok, Err}
 use Rattle.jxlm_base.specs.Decoding.{Found}
-use Rattle.jxlm_base.specs.Fault.{Refused, fault_of}
-use Rattle.jxlm_base.specs.Grammar.{Grammar, IsRefused, number, flag, give, either, ◌>>=◌}
+use Rattle.jxlm_base.specs.ErrorKind.{ErrorAt, kind_of}
+use Rattle.jxlm_base.specs.Grammar.{Grammar, IsErrorAt, number, flag, give, either, ◌>>=◌}
 use Rattle.jxlm_base.specs.declared.error.Error.{Error}
 use Rattle.jxlm_tree.specs.declared.predictor.WpHeader.{WpHeader}
 
@@ -23,6 +23,6 @@ abbrev pub wp_header : Grammar WpHeader
 wp_header = flag >>= λ is_default. either is_default (give default_weights) listed_weights
 
 -- What a call that takes no memory returned, and where it left the reader, are what reading gives.
-abbrev pub AnswersExactly : {X : Type 0} → Result X Error → ℕ → Result (Found X) Refused → Type 0
+abbrev pub AnswersExactly : {X : Type 0} → Result X Error → ℕ → Result (Found X) ErrorAt → Type 0
 AnswersExactly (Ok x) q reading = reading ≡ Ok (record { value = x; position = q })
-AnswersExactly (Err e) q reading = IsRefused reading (fault_of e) q
+AnswersExactly (Err e) q reading = IsErrorAt reading (kind_of e) q

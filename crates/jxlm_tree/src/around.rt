@@ -37,7 +37,8 @@ fn average(a: i32, b: i32) -> i64
 
 impl Around {
     fn select(&self) -> i32
-        ensures { result ≡ if nat_lt (unsigned_abs (self.now.n -ℤ self.now.nw)) (unsigned_abs (self.now.w -ℤ self.now.nw)) then self.now.w else self.now.n }
+        ensures { result ≡ if nat_lt (unsigned_abs (self.now.n -ℤ self.now.nw))
+            (unsigned_abs (self.now.w -ℤ self.now.nw)) then self.now.w else self.now.n }
     {
         if self.n.abs_diff(self.nw) < self.w.abs_diff(self.nw) {
             self.w

@@ -1,10 +1,10 @@
 //! How a tree is put together from the end of its listing.
 
 ghost use Rattle.std.specs.Prelude.{◌≡◌, ◌+◌, ◌≤◌, ℕ, ◌∷◌, List, length, map, IfOk, IfErr, IsSome, Some};
-ghost use Rattle.jxlm_base.specs.Fault.{fault_of};
+ghost use Rattle.jxlm_base.specs.ErrorKind.{kind_of};
 ghost use Rattle.jxlm_tree.specs.Inner.Building.{leaves_in, listed_of, trees_in};
 ghost use Rattle.jxlm_tree.specs.Inner.DraftReading.{AllDrafts, ListsTrees, draft_of, node_of};
-ghost use Rattle.jxlm_tree.specs.Inner.Queue.{IsRefusedInQueue, IsTooDeepListing, deepest, taken_up};
+ghost use Rattle.jxlm_tree.specs.Inner.Queue.{IsErrorInQueue, IsTooDeepListing, deepest, taken_up};
 ghost use Rattle.jxlm_tree.specs.Tree.{AllLeaves, Node, levels, node_count};
 ghost use Rattle.jxlm_tree.specs.TreeReading.{Draft as DraftLeaf, IsLeafOf, leaf_count, with_clusters};
 ghost use Rattle.jxlm_tree.specs.Inner.TreeShape.{shape_of};
@@ -28,7 +28,8 @@ pub enum ListedNode {
 fn numbered(node: DraftNode, clusters: &[u8], unnumbered: &mut usize) -> ListedNode
     requires some { leaves_in (node_of node) ≤ unnumbered.old }
     requires within { unnumbered.old ≤ length clusters.now }
-    ensures node { (ns : List (Node DraftLeaf)) → with_clusters clusters.now unnumbered.new (node_of node ∷ ns) ≡ listed_of result ∷ with_clusters clusters.now unnumbered.old ns }
+    ensures node { (ns : List (Node DraftLeaf)) → with_clusters clusters.now unnumbered.new (node_of node ∷ ns)
+        ≡ listed_of result ∷ with_clusters clusters.now unnumbered.old ns }
     ensures left { unnumbered.old ≡ unnumbered.new + leaves_in (node_of node) }
 {
     match node {
@@ -50,9 +51,11 @@ fn take_up(
 ) -> Result<()>
     requires enough { IsSome (taken_up (listed_of node) (trees_in queue.old.items)) }
     requires shallow { deepest (trees_in queue.old.items) ≤ depth_limit }
-    ensures queue { IfOk result (λ _. taken_up (listed_of node) (trees_in queue.old.items) ≡ Some (trees_in queue.new.items)) }
+    ensures queue { IfOk result (λ _. taken_up (listed_of node) (trees_in queue.old.items) ≡ Some
+        (trees_in queue.new.items)) }
     ensures shallow { IfOk result (λ _. deepest (trees_in queue.new.items) ≤ depth_limit) }
-    ensures err { IfErr result (λ e. IsRefusedInQueue depth_limit (taken_up (listed_of node) (trees_in queue.old.items)) (fault_of e)) }
+    ensures err { IfErr result (λ e. IsErrorInQueue depth_limit (taken_up (listed_of node) (trees_in queue.old.items))
+        (kind_of e)) }
 {
     let subtree = match node {
         ListedNode::Leaf(leaf) => Subtree::leaf(leaf),
@@ -80,11 +83,13 @@ pub fn build(
     requires listing { ListsTrees 1 (map node_of nodes.items) }
     requires clusters { length clusters.now ≡ leaf_count (map node_of nodes.items) }
     requires drafts { AllDrafts (map node_of nodes.items) }
-    ensures levels { IfOk result (λ t. levels (shape_of t.tree) ≡ with_clusters clusters.now 0 (map node_of nodes.items)) }
+    ensures levels { IfOk result (λ t. levels (shape_of t.tree) ≡ with_clusters clusters.now 0
+        (map node_of nodes.items)) }
     ensures depth { IfOk result (λ t. t.depth ≤ depth_limit) }
     ensures count { IfOk result (λ t. node_count (shape_of t.tree) ≡ length nodes.items) }
     ensures leaves { IfOk result (λ t. AllLeaves (IsLeafOf clusters.now) (shape_of t.tree)) }
-    ensures err { IfErr result (λ e. IsTooDeepListing depth_limit (with_clusters clusters.now 0 (map node_of nodes.items)) (fault_of e)) }
+    ensures err { IfErr result (λ e. IsTooDeepListing depth_limit
+        (with_clusters clusters.now 0 (map node_of nodes.items)) (kind_of e)) }
 {
     let mut queue: VecDeque<Subtree> = VecDeque::new(alloc);
     let mut unnumbered = clusters.len();

@@ -87,9 +87,17 @@ impl Model for FlatMaTree {
 
     ghost coded = { coded_flat leaves.the_row.coded };
 
-    ghost view = { λ t. record { tree = shape_of t.tree.value; channel = t.channel; stream_idx = t.stream_idx; prev_channels = t.prev_channels } };
+    ghost view = { λ t. record {
+      tree = shape_of t.tree.value;
+      channel = t.channel;
+      stream_idx = t.stream_idx;
+      prev_channels = t.prev_channels;
+    } };
 
-    ghost invariant = { λ t. AllLeaves HasMultiplier (shape_of t.tree.value) × (t.num_nodes ≡ node_count (shape_of t.tree.value)) × (t.need_self_correcting ≡ needs_weights (shape_of t.tree.value)) × (t.prev_channels_named ≡ earlier_named (shape_of t.tree.value)) };
+    ghost invariant = { λ t. AllLeaves HasMultiplier (shape_of t.tree.value)
+        × (t.num_nodes ≡ node_count (shape_of t.tree.value))
+        × (t.need_self_correcting ≡ needs_weights (shape_of t.tree.value))
+        × (t.prev_channels_named ≡ earlier_named (shape_of t.tree.value)) };
 }
 
 impl FlatMaTree {
@@ -107,7 +115,12 @@ impl FlatMaTree {
         requires nodes { num_nodes ≡ node_count (shape_of tree.value) }
         requires need { need_self_correcting ≡ needs_weights (shape_of tree.value) }
         requires named { prev_channels_named ≡ earlier_named (shape_of tree.value) }
-        ensures { result ≡ record { tree = shape_of tree.value; channel = channel; stream_idx = stream_idx; prev_channels = prev_channels } }
+        ensures { result ≡ record {
+          tree = shape_of tree.value;
+          channel = channel;
+          stream_idx = stream_idx;
+          prev_channels = prev_channels;
+        } }
     {
         FlatMaTree {
             tree,
@@ -170,7 +183,8 @@ impl FlatMaTree {
         ensures leaf { (f : ℕ → ℤ) → AnswersAs P.gives properties.now f → result.now ≡ leaf_reached self.now f }
         ensures stands { StandsAtLeaf self.now.tree result.now }
         ensures multiplier { HasMultiplier result.now }
-        ensures steps { (f : ℕ → ℤ) → AnswersAs P.gives properties.now f → steps.new ≡ steps.old + nodes_on_way self.now.tree (asked self.now f) }
+        ensures steps { (f : ℕ → ℤ) → AnswersAs P.gives properties.now f → steps.new ≡ steps.old
+            + nodes_on_way self.now.tree (asked self.now f) }
         ensures cost { steps.new ≤ steps.old + depth self.now.tree + 1 }
         ensures more { steps.old ≤ steps.new }
     {
@@ -225,7 +239,10 @@ impl FlatMaTree {
     ) -> Result<(i32, Predictor)>
         requires clusters { ClustersStandIn (D.meaning.cluster_map decoder.old) self.now.tree }
         requires current { P.IsCurrent properties.now }
-        ensures gives { (f : ℕ → ℤ) → AnswersAs P.gives properties.now f → SampleGives (leaf_reached self.now f) result decoder.old decoder.new (position_of bits.old) (position_of bits.new) (D.meaning.read decoder.old (bytes_of bits.old) (position_of bits.old) (leaf_reached self.now f).cluster dist_multiplier) }
+        ensures gives { (f : ℕ → ℤ) → AnswersAs P.gives properties.now f → SampleGives
+            (leaf_reached self.now f) result decoder.old decoder.new (position_of bits.old) (position_of bits.new)
+            (D.meaning.read decoder.old (bytes_of bits.old) (position_of bits.old) (leaf_reached self.now f).cluster
+            dist_multiplier) }
         ensures clusters { IfOk result (λ _. D.meaning.cluster_map decoder.new ≡ D.meaning.cluster_map decoder.old) }
         ensures bytes { bytes_of bits.new ≡ bytes_of bits.old }
     {
@@ -249,5 +266,6 @@ fn read_as_signed(number: u32) -> i32
 /// The walk of a flat tree is that of the whole tree by the properties of the cell, where the
 /// earlier channels are not more than those that it may ask for.
 pub fn a_flat_tree_walks_by_properties()
-    ensures { (t : FlatTree) (s : Surroundings) → length s.earlier ≤ t.prev_channels → leaf_reached t (place_property s) ≡ walk t.tree (property t.channel t.stream_idx s) }
+    ensures { (t : FlatTree) (s : Surroundings) → length s.earlier ≤ t.prev_channels → leaf_reached t
+        (place_property s) ≡ walk t.tree (property t.channel t.stream_idx s) }
 {}

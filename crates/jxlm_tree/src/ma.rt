@@ -3,11 +3,11 @@
 ghost use Rattle.std.specs.Prelude.{◌≡◌, ◌≢◌, ◌≤◌, ◌^◌, ℕ, List, length, map, IfOk, IfErr};
 ghost use Rattle.jxlm_base.specs.Bits.{bytes_of, position_of};
 ghost use Rattle.jxlm_base.specs.Decoding.{Taken};
-ghost use Rattle.jxlm_base.specs.Fault.{NoMemory, fault_of};
+ghost use Rattle.jxlm_base.specs.ErrorKind.{NoMemory, kind_of};
 ghost use Rattle.jxlm_tree.specs.Inner.DraftReading.{Answers, ListsTrees, node_of};
 ghost use Rattle.jxlm_tree.specs.FlatTree.{ClustersStandIn};
 ghost use Rattle.jxlm_tree.specs.Tree.{AllLeaves, Node, Shape, levels, node_count, depth};
-ghost use Rattle.jxlm_tree.specs.TreeReading.{IsLeafOf, IsWantOfMemory, MemoryGives, TreeGives, leaf_count, listing_at, through};
+ghost use Rattle.jxlm_tree.specs.TreeReading.{IsLeafOf, IsOutOfMemory, MemoryGives, TreeGives, leaf_count, listing_at, through};
 ghost use Rattle.jxlm_tree.specs.TreeStands.{OneTreeStands, TreesAreReadExactly};
 ghost use Rattle.jxlm_tree.specs.declared.flat.Leaf.{Leaf};
 
@@ -60,7 +60,11 @@ impl<D: Decoder> Model for MaConfig<D> {
 
     ghost view = { λ c. config_of (shape_of c.tree.value) c.decoder };
 
-    ghost invariant = { λ c. AllLeaves (IsLeafOf (D.meaning.cluster_map c.decoder)) (shape_of c.tree.value) × (c.num_tree_nodes ≡ node_count (shape_of c.tree.value)) × (c.tree_depth ≡ depth (shape_of c.tree.value)) × (c.num_tree_nodes ≤ 2 ^ 26) × (c.tree_depth ≤ 2048) × (c.need_self_correcting ≡ needs_weights (shape_of c.tree.value)) × (c.prev_channels_named ≡ earlier_named (shape_of c.tree.value)) };
+    ghost invariant = { λ c. AllLeaves (IsLeafOf (D.meaning.cluster_map c.decoder)) (shape_of c.tree.value)
+        × (c.num_tree_nodes ≡ node_count (shape_of c.tree.value)) × (c.tree_depth ≡ depth (shape_of c.tree.value))
+        × (c.num_tree_nodes ≤ 2 ^ 26) × (c.tree_depth ≤ 2048)
+        × (c.need_self_correcting ≡ needs_weights (shape_of c.tree.value))
+        × (c.prev_channels_named ≡ earlier_named (shape_of c.tree.value)) };
 }
 
 impl<D: Decoder> MaConfig<D> {
@@ -81,7 +85,8 @@ impl<D: Decoder> MaConfig<D> {
     pub fn parse(alloc: Global, bits: &mut Bitstream<'_>, params: MaConfigParams) -> Result<Self>
         requires nodes { params.node_limit ≤ 2 ^ 26 }
         requires depth { params.depth_limit ≤ 2048 }
-        ensures gives { TreeGives D.meaning (bytes_of bits.old) params.node_limit params.depth_limit (position_of bits.old) result (position_of bits.new) }
+        ensures gives { TreeGives D.meaning (bytes_of bits.old) params.node_limit params.depth_limit
+            (position_of bits.old) result (position_of bits.new) }
         ensures memory { MemoryGives D.meaning (bytes_of bits.old) (position_of bits.old) result }
         ensures bytes { bytes_of bits.new ≡ bytes_of bits.old }
     {
@@ -111,7 +116,7 @@ impl<D: Decoder> MaConfig<D> {
     /// Out of memory alone: `Decoder(OutOfMemory)` from the decoder, or `Buffer`.
     pub fn try_clone(&self, alloc: Global) -> Result<Self>
         ensures ok { IfOk result (λ c. c ≡ self.now) }
-        ensures err { IfErr result (λ e. IsWantOfMemory (fault_of e)) }
+        ensures err { IfErr result (λ e. IsOutOfMemory (kind_of e)) }
     {
         let decoder = self.decoder.try_clone(alloc)?;
         let tree = self.tree.clone().map_err(|_| OutOfMemory)?;
@@ -140,10 +145,16 @@ impl<D: Decoder> MaConfig<D> {
         stream_idx: u32,
         prev_channels: u32,
     ) -> Result<FlatMaTree>
-        ensures tree { IfOk result (λ t. t ≡ record { tree = self.now.tree; channel = channel; stream_idx = stream_idx; prev_channels = prev_channels }) }
+        ensures tree { IfOk result (λ t. t ≡ record {
+          tree = self.now.tree;
+          channel = channel;
+          stream_idx =
+              stream_idx;
+          prev_channels = prev_channels;
+        }) }
         ensures leaves { IfOk result (λ t. AllLeaves (IsLeafOf (D.meaning.cluster_map self.now.decoder)) t.tree) }
         ensures clusters { IfOk result (λ t. ClustersStandIn (D.meaning.cluster_map self.now.decoder) t.tree) }
-        ensures err { IfErr result (λ e. fault_of e ≡ NoMemory) }
+        ensures err { IfErr result (λ e. kind_of e ≡ NoMemory) }
     {
         let tree = self.tree.clone().map_err(|_| OutOfMemory)?;
         Ok(FlatMaTree::new(
@@ -183,9 +194,10 @@ impl<D: Decoder> MaConfig<D> {
 }
 
 fn parse_decoder<D: Decoder>(alloc: Global, bits: &mut Bitstream<'_>, contexts: u32) -> Result<D>
-    ensures gives { Answers (λ d. d) result (position_of bits.new) (through None (D.meaning.parse (bytes_of bits.old) (position_of bits.old) contexts)) }
+    ensures gives { Answers (λ d. d) result (position_of bits.new)
+        (through None (D.meaning.parse (bytes_of bits.old) (position_of bits.old) contexts)) }
     ensures contexts { IfOk result (λ d. length (D.meaning.cluster_map d) ≡ contexts) }
-    ensures memory { IfErr result (λ e. fault_of e ≢ NoMemory) }
+    ensures memory { IfErr result (λ e. kind_of e ≢ NoMemory) }
     ensures bytes { bytes_of bits.new ≡ bytes_of bits.old }
 {
     let decoder = D::parse(alloc, bits, contexts)?;

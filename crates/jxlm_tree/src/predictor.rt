@@ -90,7 +90,8 @@ impl Predictor {
     /// What the predictor makes of the cell of these properties, reduced to 32 bits.
     pub fn predict<S>(self, properties: &Properties<'_, S>) -> i32
         requires { IsCurrent properties.now }
-        ensures { (s : Setting) (samples : List ℤ) → StandsAt (state_of properties.now) s samples → result ≡ prediction s.weights samples s.width self }
+        ensures { (s : Setting) (samples : List ℤ) → StandsAt (state_of properties.now) s samples → result
+            ≡ prediction s.weights samples s.width self }
     {
         let corrected = PredictionResult::eightfold(&properties.correction);
         reduced(properties.around.prediction(corrected, self))
@@ -161,7 +162,8 @@ impl WpHeader {
     ///
     /// `UnexpectedEof` if the input is truncated: the reader is then after the last whole field.
     pub fn parse(bits: &mut Bitstream<'_>) -> Result<WpHeader>
-        ensures gives { AnswersExactly result (position_of bits.new) (wp_header.read (bytes_of bits.old) (position_of bits.old)) }
+        ensures gives { AnswersExactly result (position_of bits.new)
+            (wp_header.read (bytes_of bits.old) (position_of bits.old)) }
         ensures ranges { IfOk result (λ h. IsHeader h) }
         ensures bytes { bytes_of bits.new ≡ bytes_of bits.old }
     {
@@ -174,7 +176,8 @@ impl WpHeader {
 
     fn field(bits: &mut Bitstream<'_>, n: u32) -> std::result::Result<u32, BitstreamError>
         requires { n ≤ 32 }
-        ensures gives { Reads (λ v. v) result (position_of bits.new) ((number n).read (bytes_of bits.old) (position_of bits.old)) }
+        ensures gives { Reads (λ v. v) result (position_of bits.new)
+            ((number n).read (bytes_of bits.old) (position_of bits.old)) }
         ensures below { IfOk result (λ v. v < 2 ^ n) }
         ensures bytes { bytes_of bits.new ≡ bytes_of bits.old }
     {
@@ -182,7 +185,8 @@ impl WpHeader {
     }
 
     fn listed(bits: &mut Bitstream<'_>) -> std::result::Result<WpHeader, BitstreamError>
-        ensures gives { Reads (λ h. h) result (position_of bits.new) (listed_weights.read (bytes_of bits.old) (position_of bits.old)) }
+        ensures gives { Reads (λ h. h) result (position_of bits.new)
+            (listed_weights.read (bytes_of bits.old) (position_of bits.old)) }
         ensures ranges { IfOk result (λ h. IsHeader h) }
         ensures bytes { bytes_of bits.new ≡ bytes_of bits.old }
     {

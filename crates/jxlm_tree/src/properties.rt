@@ -71,7 +71,7 @@ impl<S> PredictorState<S> {
     {
         let around = self.around::<EDGE>();
         let correction = self.correction::<EDGE>(&around);
-        let max_error = PredictionResult::greatest_error(&correction);
+        let max_error = PredictionResult::maximum_error(&correction);
         let own = own_properties(self.x, self.y, &around, self.gradient, max_error);
         Properties {
             state: self,
@@ -87,7 +87,8 @@ impl<S: Sample> Properties<'_, S> {
     /// A property by its number.
     pub fn get(&self, property: usize) -> i32
         requires { IsCurrent self.now }
-        ensures { (s : Setting) (samples : List ℤ) → StandsAt (state_of self.now) s samples → result ≡ place_property (surroundings s (store_meanings S.to_int (store_of self.now)) samples) property }
+        ensures { (s : Setting) (samples : List ℤ) → StandsAt (state_of self.now) s samples → result ≡ place_property
+            (surroundings s (store_meanings S.to_int (store_of self.now)) samples) property }
     {
         if property < 16 {
             self.own[property]
@@ -98,7 +99,8 @@ impl<S: Sample> Properties<'_, S> {
 
     fn of_earlier(&self, number: usize) -> i32
         requires { IsCurrent self.now }
-        ensures { (s : Setting) (samples : List ℤ) → StandsAt (state_of self.now) s samples → result ≡ int_wrap w32 (earlier_property (surroundings s (store_meanings S.to_int (store_of self.now)) samples) number) }
+        ensures { (s : Setting) (samples : List ℤ) → StandsAt (state_of self.now) s samples → result ≡ int_wrap w32
+            (earlier_property (surroundings s (store_meanings S.to_int (store_of self.now)) samples) number) }
     {
         let earlier = &self.state.earlier;
         let nearer = number / 4;
@@ -114,7 +116,9 @@ impl<S: Sample> Properties<'_, S> {
         requires column { self.now.state.now.x < region.width }
         requires in_rows { self.now.state.now.y < region.height }
         requires few { which < 4 }
-        ensures { result ≡ int_wrap w32 (slice_index_or (earlier_properties (grid_of (store_meanings S.to_int self.now.store.now) region) self.now.state.now.x self.now.state.now.y) which (pos 0)) }
+        ensures { result ≡ int_wrap w32 (slice_index_or (earlier_properties
+            (grid_of (store_meanings S.to_int self.now.store.now) region) self.now.state.now.x self.now.state.now.y)
+            which (pos 0)) }
     {
         let cell = self.cell(region, self.state.x as usize, self.state.y as usize);
         match which {
@@ -138,7 +142,8 @@ impl<S: Sample> Properties<'_, S> {
         requires lies { Lies region self.now.store.now }
         requires column { self.now.state.now.x < region.width }
         requires in_rows { self.now.state.now.y < region.height }
-        ensures { result ≡ expected (grid_of (store_meanings S.to_int self.now.store.now) region).cells region.width self.now.state.now.x self.now.state.now.y }
+        ensures { result ≡ expected (grid_of (store_meanings S.to_int self.now.store.now) region).cells region.width
+            self.now.state.now.x self.now.state.now.y }
     {
         let (x, y) = (self.state.x as usize, self.state.y as usize);
         if x > 0 && y > 0 {
@@ -166,7 +171,8 @@ impl<S: Sample> PlaceProperties for Properties<'_, S> {
 
     ghost IsCurrent = { λ p. IsCurrent p };
 
-    ghost gives = { λ p k v. (s : Setting) (samples : List ℤ) → StandsAt (state_of p) s samples → v ≡ place_property (surroundings s (store_meanings S.to_int (store_of p)) samples) k };
+    ghost gives = { λ p k v. (s : Setting) (samples : List ℤ) → StandsAt (state_of p) s samples → v ≡ place_property
+        (surroundings s (store_meanings S.to_int (store_of p)) samples) k };
 
     fn property(&self, number: usize) -> i32 {
         self.get(number)
@@ -179,7 +185,8 @@ impl<S> Properties<'_, S> {
     /// The state is then after the samples before and this one, at the next cell, and has the room that it had.
     pub fn record(self, sample: i32)
         requires { IsCurrent self }
-        ensures stands { (s : Setting) (samples : List ℤ) → StandsAt self.entry.state.now s samples → StandsAt self.exit.0.now s (samples ++ sample ∷ []) }
+        ensures stands { (s : Setting) (samples : List ℤ) → StandsAt self.entry.state.now s samples
+            → StandsAt self.exit.0.now s (samples ++ sample ∷ []) }
         ensures room { HasSameRoom self.entry.state.now self.exit.0.now }
     {
         let Properties {

@@ -233,7 +233,8 @@ impl ErrorsAround {
 
     fn weighed(&self, header: &WpHeader) -> i64
         requires { IsHeader header.now }
-        ensures value { result ≡ self.now.nw *ℤ pos header.now.wp_p3a +ℤ self.now.n *ℤ pos header.now.wp_p3b +ℤ self.now.ne *ℤ pos header.now.wp_p3c }
+        ensures value { result ≡ self.now.nw *ℤ pos header.now.wp_p3a +ℤ self.now.n *ℤ pos header.now.wp_p3b
+            +ℤ self.now.ne *ℤ pos header.now.wp_p3c }
         ensures bound { unsigned_abs result ≤ 93 * 2 ^ 31 }
     {
         scaled(self.nw as i64, header.wp_p3a)
@@ -344,8 +345,9 @@ impl PredictionResult {
     ghost use Rattle.jxlm_tree.specs.declared.predictor.WpHeader.{WpHeader};
 
     /// Property 15: the maximum error, or 0 where nothing was made.
-    pub(crate) fn greatest_error(made: &Option<PredictionResult>) -> i32
-        ensures { (weights : Option WpHeader) (width : ℕ) (samples : List ℤ) → IsMade made.now weights width samples → result ≡ error_property weights samples width }
+    pub(crate) fn maximum_error(made: &Option<PredictionResult>) -> i32
+        ensures { (weights : Option WpHeader) (width : ℕ) (samples : List ℤ) → IsMade made.now weights width samples
+            → result ≡ error_property weights samples width }
     {
         match made {
             Some(made) => made.max_error,
@@ -355,7 +357,8 @@ impl PredictionResult {
 
     /// The prediction times 8, or 0 where nothing was made.
     pub(crate) fn eightfold(made: &Option<PredictionResult>) -> i64
-        ensures value { (weights : Option WpHeader) (width : ℕ) (samples : List ℤ) → IsMade made.now weights width samples → result ≡ corrected weights samples width }
+        ensures value { (weights : Option WpHeader) (width : ℕ) (samples : List ℤ) → IsMade made.now weights width
+            samples → result ≡ corrected weights samples width }
         ensures bound { unsigned_abs result < 2 ^ 62 }
     {
         match made {
@@ -380,7 +383,7 @@ impl PredictionResult {
         }
     }
 
-    fn errors_behind(&self, sample: i32) -> CellErrors
+    fn errors_after(&self, sample: i32) -> CellErrors
         ensures { cell_errors result ≡ errors_from self.now.prediction (predicted_by self.now.subpred) sample }
     {
         CellErrors {
@@ -398,7 +401,7 @@ impl PredictionResult {
 impl Corrector {
     ghost use Rattle.jxlm_tree.specs.Around.{seen};
     ghost use Rattle.jxlm_tree.specs.Correcting.{Corrects, CorrectsBy, HasRows, IsMade, IsMadeBy, cell_errors, header_of, counted};
-    ghost use Rattle.jxlm_tree.specs.Inner.CorrectingSteps.{AtPlace, CorrectsBehind, CorrectsNext, HoldsColumn, errors_above_left, errors_above_right, near_of, sums_from};
+    ghost use Rattle.jxlm_tree.specs.Inner.CorrectingSteps.{AtPlace, CorrectsAfter, CorrectsNext, HoldsColumn, errors_above_left, errors_above_right, near_of, sums_from};
     ghost use Rattle.jxlm_tree.specs.declared.predictor.WpHeader.{WpHeader};
 
     /// Rows for channels up to this width.
@@ -466,7 +469,8 @@ impl Corrector {
     fn above<const EDGE: bool>(&self, x: usize, y: usize) -> CellErrors
         requires in_row { x < self.now.width }
         requires inner { EDGE ≡ false → 2 ≤ y }
-        ensures { (header : WpHeader) (width place : ℕ) (samples : List ℤ) → CorrectsBy self.now header width place y samples → cell_errors result ≡ errors_above (errors_of header samples width (length samples)) width x y }
+        ensures { (header : WpHeader) (width place : ℕ) (samples : List ℤ) → CorrectsBy self.now header width place y
+            samples → cell_errors result ≡ errors_above (errors_of header samples width (length samples)) width x y }
     {
         if EDGE && y == 0 {
             NO_ERRORS
@@ -478,7 +482,9 @@ impl Corrector {
     fn above_left<const EDGE: bool>(&self, x: usize, y: usize) -> CellErrors
         requires in_row { x < self.now.width }
         requires inner { EDGE ≡ false → (2 ≤ y) × (2 ≤ x) × (x + 2 < self.now.width) }
-        ensures { (header : WpHeader) (width place : ℕ) (samples : List ℤ) → CorrectsBy self.now header width place y samples → cell_errors result ≡ errors_above_left (errors_of header samples width (length samples)) width x y }
+        ensures { (header : WpHeader) (width place : ℕ) (samples : List ℤ) → CorrectsBy self.now header width place y
+            samples → cell_errors result ≡ errors_above_left (errors_of header samples width (length samples)) width x
+            y }
     {
         if EDGE && x == 0 {
             self.above::<EDGE>(x, y)
@@ -499,7 +505,9 @@ impl Corrector {
         requires in_row { x < self.now.width }
         requires inner { EDGE ≡ false → 2 ≤ y }
         requires last { last ≡ not (nat_lt (x + 1) self.now.width) }
-        ensures { (header : WpHeader) (width place : ℕ) (samples : List ℤ) → CorrectsBy self.now header width place y samples → cell_errors result ≡ errors_above_right (errors_of header samples width (length samples)) width x y }
+        ensures { (header : WpHeader) (width place : ℕ) (samples : List ℤ) → CorrectsBy self.now header width place y
+            samples → cell_errors result ≡ errors_above_right (errors_of header samples width (length samples)) width
+            x y }
     {
         if last {
             self.above::<EDGE>(x, y)
@@ -528,7 +536,8 @@ impl Corrector {
     }
 
     fn sums(&self, nw: &Counts, n: &Counts, ne: &Counts, last: bool) -> Counts
-        ensures { counted result ≡ sums_from (counted nw.now) (counted self.now.west_west.sub_errors) (counted n.now) (counted self.now.west.sub_errors) (counted ne.now) last }
+        ensures { counted result ≡ sums_from (counted nw.now) (counted self.now.west_west.sub_errors) (counted n.now)
+            (counted self.now.west.sub_errors) (counted ne.now) last }
     {
         let (w, ww) = (self.west.sub_errors, self.west_west.sub_errors);
         Counts {
@@ -547,7 +556,10 @@ impl Corrector {
         sample: i32,
     )
         requires { HoldsColumn corrector.old x }
-        ensures behind { (weights : Option WpHeader) (width y : ℕ) (samples : List ℤ) → Corrects corrector.old weights width x y samples → length samples ≡ y * width + x → IsMade made weights width samples → CorrectsBehind corrector.new weights width x y (samples ++ sample ∷ []) }
+        ensures after_it { (weights : Option WpHeader) (width y : ℕ) (samples : List ℤ)
+            → Corrects corrector.old weights width x y samples → length samples ≡ y * width + x
+            → IsMade made weights width samples → CorrectsAfter corrector.new weights width x y
+            (samples ++ sample ∷ []) }
         ensures header { header_of corrector.new ≡ header_of corrector.old }
         ensures rows { (room : ℕ) → HasRows corrector.old room → HasRows corrector.new room }
     {
@@ -563,11 +575,13 @@ impl Corrector {
     /// Goes on to the cell after the sample in column `x`, of which `made` was made.
     pub(crate) fn record(&mut self, x: usize, made: &PredictionResult, sample: i32)
         requires { x < self.old.width }
-        ensures next { (header : WpHeader) (width y : ℕ) (samples : List ℤ) → CorrectsBy self.old header width x y samples → length samples ≡ y * width + x → IsMadeBy made.now header width samples → CorrectsNext self.new header width x y (samples ++ sample ∷ []) }
+        ensures next { (header : WpHeader) (width y : ℕ) (samples : List ℤ) → CorrectsBy self.old header width x y
+            samples → length samples ≡ y * width + x → IsMadeBy made.now header width samples
+            → CorrectsNext self.new header width x y (samples ++ sample ∷ []) }
         ensures header { self.new.header ≡ self.old.header }
         ensures rows { (room : ℕ) → HasRows (Some self.old) room → HasRows (Some self.new) room }
     {
-        let errors = made.errors_behind(sample);
+        let errors = made.errors_after(sample);
         self.current[x] = errors;
         if x + 1 < self.width as usize {
             self.west_west = self.west;

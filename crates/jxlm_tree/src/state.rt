@@ -2,7 +2,7 @@
 
 ghost use Rattle.std.specs.Prelude.{◌≡◌, ◌+◌, ◌*◌, ◌<◌, ◌≤◌, ◌^◌, ℕ, ℤ, List, [], ◌∷◌, ◌++◌, false, None, IfOk, IfErr, OnErr, vec_len};
 ghost use Rattle.std.specs.Option.{option_copied, ForSome};
-ghost use Rattle.jxlm_base.specs.Fault.{NoMemory, fault_of};
+ghost use Rattle.jxlm_base.specs.ErrorKind.{NoMemory, kind_of};
 ghost use Rattle.jxlm_tree.specs.Correcting.{HasRows};
 ghost use Rattle.jxlm_tree.specs.SelfCorrecting.{IsHeader};
 
@@ -92,9 +92,10 @@ impl<S> PredictorState<S> {
         requires some { 0 < width }
         requires narrow { width ≤ 2 ^ 30 }
         requires weights { ForSome (option_copied wp_header) IsHeader }
-        ensures ok { IfOk result (λ _. StandsAt self.new (setting width (option_copied wp_header.entry) earlier.now) []) }
+        ensures ok { IfOk result (λ _. StandsAt self.new (setting width (option_copied wp_header.entry) earlier.now)
+            []) }
         ensures err { OnErr result (self.new ≡ self.old) }
-        ensures memory { IfErr result (λ e. fault_of e ≡ NoMemory) }
+        ensures memory { IfErr result (λ e. kind_of e ≡ NoMemory) }
     {
         *self = PredictorState::standing(self.alloc, width, earlier, wp_header)?;
         Ok(())
@@ -138,7 +139,7 @@ impl<S> PredictorState<S> {
         ensures room { IfOk result (λ s. room_of s ≡ widest) }
         ensures earlier_room { IfOk result (λ s. earlier_room_of s ≡ earlier) }
         ensures weights { IfOk result (λ s. weights_of s ≡ option_copied wp_header.entry) }
-        ensures err { IfErr result (λ e. fault_of e ≡ NoMemory) }
+        ensures err { IfErr result (λ e. kind_of e ≡ NoMemory) }
     {
         let state = PredictorState::roomy(alloc, widest, earlier, wp_header)?;
         Ok(state)
@@ -195,7 +196,8 @@ impl<S> PredictorState<S> {
     /// they are.
     pub fn restart_alike(&mut self)
         requires stands { Stands self.old }
-        ensures stands { (s : Setting) (samples : List ℤ) → StandsAt self.old s samples → StandsAt self.new (setting s.width (weights_of self.old) s.earlier) [] }
+        ensures stands { (s : Setting) (samples : List ℤ) → StandsAt self.old s samples → StandsAt self.new
+            (setting s.width (weights_of self.old) s.earlier) [] }
         ensures same { earlier_count self.new ≡ earlier_count self.old }
         ensures room { HasSameRoom self.old self.new }
     {
@@ -206,7 +208,8 @@ impl<S> PredictorState<S> {
     fn begin(&mut self, width: u32)
         requires some { 0 < width }
         requires roomy { width ≤ room_of self.old }
-        ensures stands { (earlier : List Region) → HasEarlier self.old earlier → StandsAt self.new (setting width (weights_of self.old) earlier) [] }
+        ensures stands { (earlier : List Region) → HasEarlier self.old earlier → StandsAt self.new
+            (setting width (weights_of self.old) earlier) [] }
         ensures same { earlier_count self.new ≡ earlier_count self.old }
         ensures room { HasSameRoom self.old self.new }
     {
@@ -225,7 +228,8 @@ impl<S> PredictorState<S> {
     /// There is room for it.
     pub fn add_earlier(&mut self, region: Region)
         requires { earlier_count self.old < earlier_room_of self.old }
-        ensures stands { (s : Setting) (samples : List ℤ) → StandsAt self.old s samples → StandsAt self.new (setting s.width s.weights (region ∷ s.earlier)) samples }
+        ensures stands { (s : Setting) (samples : List ℤ) → StandsAt self.old s samples → StandsAt self.new
+            (setting s.width s.weights (region ∷ s.earlier)) samples }
         ensures more { earlier_count self.new ≡ earlier_count self.old + 1 }
         ensures room { HasSameRoom self.old self.new }
     {
@@ -235,7 +239,8 @@ impl<S> PredictorState<S> {
     fn north_east<const EDGE: bool>(&self) -> i32
         requires in_row { self.now.x < self.now.width }
         requires inner { EDGE ≡ false → IsInner self.now }
-        ensures { (s : Setting) (samples : List ℤ) → StandsAt self.now s samples → result ≡ north_east samples s.width self.now.x self.now.y }
+        ensures { (s : Setting) (samples : List ℤ) → StandsAt self.now s samples → result ≡ north_east samples s.width
+            self.now.x self.now.y }
     {
         if EDGE && (self.y == 0 || self.x + 1 >= self.width) {
             self.n
@@ -247,7 +252,8 @@ impl<S> PredictorState<S> {
     fn north_east_east<const EDGE: bool>(&self) -> i32
         requires in_row { self.now.x < self.now.width }
         requires inner { EDGE ≡ false → IsInner self.now }
-        ensures { (s : Setting) (samples : List ℤ) → StandsAt self.now s samples → result ≡ north_east_east samples s.width self.now.x self.now.y }
+        ensures { (s : Setting) (samples : List ℤ) → StandsAt self.now s samples → result
+            ≡ north_east_east samples s.width self.now.x self.now.y }
     {
         if EDGE && (self.y == 0 || self.x + 2 >= self.width) {
             self.north_east::<EDGE>()
@@ -259,7 +265,8 @@ impl<S> PredictorState<S> {
     fn north_north<const EDGE: bool>(&self) -> i32
         requires in_row { self.now.x < self.now.width }
         requires inner { EDGE ≡ false → IsInner self.now }
-        ensures { (s : Setting) (samples : List ℤ) → StandsAt self.now s samples → result ≡ north_north samples s.width self.now.x self.now.y }
+        ensures { (s : Setting) (samples : List ℤ) → StandsAt self.now s samples → result
+            ≡ north_north samples s.width self.now.x self.now.y }
     {
         if EDGE && self.y < 2 {
             self.n
@@ -271,7 +278,8 @@ impl<S> PredictorState<S> {
     fn west_west<const EDGE: bool>(&self) -> i32
         requires in_row { self.now.x < self.now.width }
         requires inner { EDGE ≡ false → IsInner self.now }
-        ensures { (s : Setting) (samples : List ℤ) → StandsAt self.now s samples → result ≡ west_west samples s.width self.now.x self.now.y }
+        ensures { (s : Setting) (samples : List ℤ) → StandsAt self.now s samples → result ≡ west_west samples s.width
+            self.now.x self.now.y }
     {
         if EDGE && self.x < 2 {
             self.w
@@ -284,7 +292,8 @@ impl<S> PredictorState<S> {
     pub(crate) fn around<const EDGE: bool>(&self) -> Around
         requires in_row { self.now.x < self.now.width }
         requires inner { EDGE ≡ false → IsInner self.now }
-        ensures { (s : Setting) (samples : List ℤ) → StandsAt self.now s samples → seen result ≡ neighbours samples s.width }
+        ensures { (s : Setting) (samples : List ℤ) → StandsAt self.now s samples → seen result
+            ≡ neighbours samples s.width }
     {
         Around {
             w: self.w,
@@ -301,7 +310,8 @@ impl<S> PredictorState<S> {
     pub(crate) fn correction<const EDGE: bool>(&self, around: &Around) -> Option<PredictionResult>
         requires stands { Stands self.now }
         requires inner { EDGE ≡ false → IsInner self.now }
-        ensures { (s : Setting) (samples : List ℤ) → StandsAt self.now s samples → seen around.now ≡ neighbours samples s.width → IsMade result s.weights s.width samples }
+        ensures { (s : Setting) (samples : List ℤ) → StandsAt self.now s samples → seen around.now
+            ≡ neighbours samples s.width → IsMade result s.weights s.width samples }
     {
         match &self.corrector {
             Some(corrector) => {
@@ -315,7 +325,8 @@ impl<S> PredictorState<S> {
     pub(crate) fn advance(&mut self, sample: i32, correction: Option<PredictionResult>)
         requires stands { Stands self.old }
         requires few_rows { self.old.y < 2 ^ 30 }
-        ensures stands { (s : Setting) (samples : List ℤ) → StandsAt self.old s samples → IsMade correction s.weights s.width samples → StandsAt self.new s (samples ++ sample ∷ []) }
+        ensures stands { (s : Setting) (samples : List ℤ) → StandsAt self.old s samples → IsMade correction s.weights
+            s.width samples → StandsAt self.new s (samples ++ sample ∷ []) }
         ensures room { HasSameRoom self.old self.new }
     {
         Corrector::record_where_made(&mut self.corrector, self.x as usize, correction, sample);

@@ -1,9 +1,9 @@
 //! The nodes of a tree.
 
 ghost use Rattle.std.specs.Prelude.{◌≡◌, ◌≤◌, IfOk, IfErr};
-ghost use Rattle.jxlm_base.specs.Fault.{fault_of};
+ghost use Rattle.jxlm_base.specs.ErrorKind.{kind_of};
 ghost use Rattle.jxlm_tree.specs.FlatTree.{earlier_named, earlier_of, needs_weights};
-ghost use Rattle.jxlm_tree.specs.Inner.Queue.{IsRefusedAsTooDeep};
+ghost use Rattle.jxlm_tree.specs.Inner.Queue.{IsTooDeepAt};
 ghost use Rattle.jxlm_tree.specs.Tree.{decision, depth as depth_of, leaf as leaf_shape};
 ghost use Rattle.jxlm_tree.specs.Inner.TreeShape.{shape_of};
 
@@ -105,14 +105,16 @@ impl Subtree {
         right: Subtree,
         depth_limit: usize,
     ) -> Result<Subtree>
-        ensures tree { IfOk result (λ t. shape_of t.tree ≡ decision property value (shape_of left.tree) (shape_of right.tree)) }
+        ensures tree { IfOk result (λ t. shape_of t.tree ≡ decision property value (shape_of left.tree)
+            (shape_of right.tree)) }
         ensures depth { IfOk result (λ t. t.depth ≤ depth_limit) }
-        ensures err { IfErr result (λ e. IsRefusedAsTooDeep depth_limit (decision property value (shape_of left.tree) (shape_of right.tree)) (fault_of e)) }
+        ensures err { IfErr result (λ e. IsTooDeepAt depth_limit
+            (decision property value (shape_of left.tree) (shape_of right.tree)) (kind_of e)) }
     {
         let below = left.depth.max(right.depth);
         if below >= depth_limit {
-            let refusal = BitstreamError::ProfileConformance("decoded MA tree is too deep");
-            return Err(Error::Bitstream(refusal));
+            let failure = BitstreamError::ProfileConformance("decoded MA tree is too deep");
+            return Err(Error::Bitstream(failure));
         }
         let left = Box::new(alloc, left.tree).map_err(|_| OutOfMemory)?;
         let right = Box::new(alloc, right.tree).map_err(|_| OutOfMemory)?;

@@ -2,7 +2,7 @@
 
 ghost use Rattle.std.specs.Prelude.{◌≡◌, ◌+◌, ◌<◌, ◌≤◌, ◌^◌, ◌/◌, ◌%◌, All, IfOk, true, vec_len};
 ghost use Rattle.std.specs.Option.{ForSome};
-ghost use Rattle.jxlm_tree_tests.specs.Inner.Places.{StandsBehind};
+ghost use Rattle.jxlm_tree_tests.specs.Inner.Places.{StandsAfter};
 ghost use Rattle.jxlm_tree.specs.Holding.{IsCurrent};
 ghost use Rattle.jxlm_tree.specs.SelfCorrecting.{IsHeader};
 ghost use Rattle.jxlm_tree.specs.Standing.{HoldsRow, setting};
@@ -85,7 +85,9 @@ impl Place {
 
     // Whether the cell is two or more columns and rows away from every edge but the last row.
     fn is_inner(&self) -> bool
-        ensures { result ≡ true → (2 ≤ vec_len self.now.before / self.now.width) × (2 ≤ vec_len self.now.before % self.now.width) × (vec_len self.now.before % self.now.width + 2 < self.now.width) }
+        ensures { result ≡ true → (2 ≤ vec_len self.now.before / self.now.width)
+            × (2 ≤ vec_len self.now.before % self.now.width)
+            × (vec_len self.now.before % self.now.width + 2 < self.now.width) }
     {
         self.row() >= 2 && self.column() >= 2 && self.column() + 2 < self.width as usize
     }
@@ -128,8 +130,10 @@ impl Place {
         store: &[AlignedGrid<S>],
         regions: &[Region],
     ) -> Result<(), Error>
-        requires { All (λ r. HoldsRow r store.now self.now.width (vec_len self.now.before / self.now.width)) regions.now }
-        ensures { IfOk result (λ _. StandsBehind state.new (setting self.now.width self.now.weights regions.now) (vec_len self.now.before)) }
+        requires { All (λ r. HoldsRow r store.now self.now.width (vec_len self.now.before / self.now.width))
+            regions.now }
+        ensures { IfOk result (λ _. StandsAfter state.new (setting self.now.width self.now.weights regions.now)
+            (vec_len self.now.before)) }
     {
         state.reset(self.width, regions, self.weights.as_ref())?;
         for sample in &self.before {
@@ -190,7 +194,8 @@ impl Place {
         below: usize,
         corrects: bool,
     ) -> Result<String, Fail>
-        requires { All (λ r. HoldsRow r store.now self.now.width (vec_len self.now.before / self.now.width)) regions.now }
+        requires { All (λ r. HoldsRow r store.now self.now.width (vec_len self.now.before / self.now.width))
+            regions.now }
     {
         self.stand(state, store, regions)?;
         told(alloc, &state.properties::<true>(store), below, corrects)
@@ -206,7 +211,8 @@ impl Place {
         below: usize,
         corrects: bool,
     ) -> Result<String, Fail>
-        requires hold { All (λ r. HoldsRow r store.now self.now.width (vec_len self.now.before / self.now.width)) regions.now }
+        requires hold { All (λ r. HoldsRow r store.now self.now.width (vec_len self.now.before / self.now.width))
+            regions.now }
         requires rows { 2 ≤ vec_len self.now.before / self.now.width }
         requires left { 2 ≤ vec_len self.now.before % self.now.width }
         requires right { vec_len self.now.before % self.now.width + 2 < self.now.width }

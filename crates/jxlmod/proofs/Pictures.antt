@@ -12,7 +12,7 @@ use Rattle.jxlm_transform.specs.declared.param.ModularChannelParams.{ModularChan
 use Rattle.jxlm_transform.specs.declared.param.ModularParams.{ModularParams}
 use Rattle.jxlm_transform.specs.Channels.{Channel, ChannelList, image_channel, image_list}
 use Rattle.jxlmod.specs.Drawing.{IsPictureError, channels_asked}
-use Rattle.jxlm_base.specs.Fault.{NoMemory, fault_of}
+use Rattle.jxlm_base.specs.ErrorKind.{NoMemory, kind_of}
 use Rattle.jxlm_base.specs.Grid.{Grid}
 use Rattle.jxlm_base.specs.Plain.{plain}
 use Rattle.jxlm_base.specs.declared.error.Error.{Error}
@@ -60,16 +60,16 @@ module _ (w : Width) (width height channels : ℕ) (bytes bytes' : List ℕ) (p 
       (subst (λ (n : ℕ). IsPicture plain w bytes 0 given n bit_depth grids q) start (subst (λ (b : List ℕ). IsPicture plain w b 0 given p bit_depth grids q) same
       (subst (λ (n : ℕ). IsPicture plain w bytes' 0 given p n grids q) depth h)))
 
-  pub error_at_start : (error : Error) (q before after : ℕ) → before ≡ 0 → PictureFails plain w bytes' 0 given p (fault_of error) q before after → IsPictureError w width height channels bytes error
+  pub error_at_start : (error : Error) (q before after : ℕ) → before ≡ 0 → PictureFails plain w bytes' 0 given p (kind_of error) q before after → IsPictureError w width height channels bytes error
   error_at_start error q before after nought h = record {
     place = q;
     steps = after;
-    fails = subst (λ (l : ChannelList). PictureFails plain w bytes 0 l 0 (fault_of error) q 0 after) are
-        (subst (λ (n : ℕ). PictureFails plain w bytes 0 given n (fault_of error) q 0 after) start
-        (subst (λ (b : List ℕ). PictureFails plain w b 0 given p (fault_of error) q 0 after) same
-        (subst (λ (n : ℕ). PictureFails plain w bytes' 0 given p (fault_of error) q n after) nought h)));
+    fails = subst (λ (l : ChannelList). PictureFails plain w bytes 0 l 0 (kind_of error) q 0 after) are
+        (subst (λ (n : ℕ). PictureFails plain w bytes 0 given n (kind_of error) q 0 after) start
+        (subst (λ (b : List ℕ). PictureFails plain w b 0 given p (kind_of error) q 0 after) same
+        (subst (λ (n : ℕ). PictureFails plain w bytes' 0 given p (kind_of error) q n after) nought h)));
   }
 
 -- it was out of memory
-pub out_of_memory : (w : Width) (width height channels : ℕ) (bytes : List ℕ) (error : Error) → fault_of error ≡ NoMemory → IsPictureError w width height channels bytes error
-out_of_memory w width height channels bytes error is = record { place = 0; steps = 0; fails = no_memory (fault_of error) _ is }
+pub out_of_memory : (w : Width) (width height channels : ℕ) (bytes : List ℕ) (error : Error) → kind_of error ≡ NoMemory → IsPictureError w width height channels bytes error
+out_of_memory w width height channels bytes error is = record { place = 0; steps = 0; fails = no_memory (kind_of error) _ is }

@@ -1,7 +1,7 @@
 -- What the program prints for the bytes of its input.
 use Rattle.std.specs.Prelude.{ℕ, ◌≡◌, ℤ, pos, List, replicate, Result, Ok, Err}
 use Rattle.std.specs.Int.{Width, w16, w32}
-use Rattle.jxlm_base.specs.Fault.{fault_of}
+use Rattle.jxlm_base.specs.ErrorKind.{kind_of}
 use Rattle.jxlm_base.specs.Grid.{Grid}
 use Rattle.jxlm_base.specs.Plain.{plain}
 use Rattle.jxlm_base.specs.declared.error.Error.{Error}
@@ -38,7 +38,7 @@ module _ (w : Width) (width height channels : ℕ) (bytes : List ℕ) where
   pub record IsPictureError (error : Error) : Type 0 where
     pub place : ℕ
     pub steps : ℕ
-    pub fails : PictureFails plain w bytes 0 (channels_asked width height channels) 0 (fault_of error) place 0 steps
+    pub fails : PictureFails plain w bytes 0 (channels_asked width height channels) 0 (kind_of error) place 0 steps
 
 -- the text for the bytes and a command
 abbrev pub Draws : List ℕ → Command → List ℕ → Type 0

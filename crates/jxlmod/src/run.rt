@@ -25,18 +25,18 @@ pub enum Failure {
     /// The input cannot be read, or it is out of memory for it.
     Unreadable,
     /// The image gives this error.
-    Refused(Error),
+    ErrorAt(Error),
     /// The output cannot be written.
     Unwritable,
 }
 
 impl From<Error> for Failure {
-    ghost use Rattle.jxlmod.specs.declared.run.Failure.TheVariants.{Refused};
+    ghost use Rattle.jxlmod.specs.declared.run.Failure.TheVariants.{ErrorAt};
 
-    ghost from_gives = { λ fault failure. failure ≡ Refused fault };
+    ghost from_gives = { λ error failure. failure ≡ ErrorAt error };
 
-    fn from(fault: Error) -> Failure {
-        Failure::Refused(fault)
+    fn from(error: Error) -> Failure {
+        Failure::ErrorAt(error)
     }
 }
 
@@ -51,7 +51,7 @@ pub trait Draw {
         requires some { 0 < channels_of command }
         ensures { MatchResult result
             (λ text. answers bytes.now command (Ok (string_bytes text)))
-            (λ fault. answers bytes.now command (Err fault)) };
+            (λ error. answers bytes.now command (Err error)) };
 }
 
 /// Carries out what the words ask for, which are the arguments without the program's name, and
@@ -64,7 +64,7 @@ pub fn run_with<R: Read, W: Write, E: Write, D: Draw>(
     words: &[String],
     input: &mut R,
     output: &mut W,
-    faults: &mut E,
+    errors: &mut E,
     drawer: &D,
 ) -> u8
     ensures status { result ≤ 2 }
@@ -75,23 +75,23 @@ pub fn run_with<R: Read, W: Write, E: Write, D: Draw>(
 
     // No channels: nothing is done.
     ensures nothing { (c : Command) → AreFor (map string_bytes words.now) c → channels_of c ≡ 0
-        → (result ≡ 0) × (input.new ≡ input.old) × (output.new ≡ output.old) × (faults.new ≡ faults.old) }
+        → (result ≡ 0) × (input.new ≡ input.old) × (output.new ≡ output.old) × (errors.new ≡ errors.old) }
 
     // Done: the output has the text that was made of all the input, and no error is printed.
     ensures done { result ≡ 0 → (c : Command) → AreFor (map string_bytes words.now) c → 0 < channels_of c
         → IsDrawn (λ bytes text. D.answers bytes c (Ok text))
         (R.remaining input.old) (R.remaining input.new) (W.contents output.old) (W.contents output.new) }
-    ensures quiet { result ≡ 0 → faults.new ≡ faults.old }
+    ensures quiet { result ≡ 0 → errors.new ≡ errors.old }
 
     // An error, for a command with channels alone: it is printed, and the output stays; or the output cannot be
     // written, and nothing is printed. Of the input nothing is lost.
-    ensures failed { result ≡ 1 → (output.new ≡ output.old) ⊎ (faults.new ≡ faults.old) }
+    ensures failed { result ≡ 1 → (output.new ≡ output.old) ⊎ (errors.new ≡ errors.old) }
     ensures asked { result ≡ 1
         → IsPartlyRead (AreFor (map string_bytes words.now)) (R.remaining input.old) (R.remaining input.new) }
 {
     match carry_out(alloc, words, input, output, drawer) {
         Ok(()) => 0,
-        Err(failure) => report(faults, failure),
+        Err(failure) => report(errors, failure),
     }
 }
 
@@ -103,22 +103,22 @@ pub fn run<R: Read, W: Write, E: Write>(
     words: &[String],
     input: &mut R,
     output: &mut W,
-    faults: &mut E,
+    errors: &mut E,
 ) -> u8
     ensures status { result ≤ 2 }
     ensures wrong { (result ≡ 2) ↔ AreWrong (map string_bytes words.now) }
     ensures unread { result ≡ 2 → (input.new ≡ input.old) × (output.new ≡ output.old) }
     ensures nothing { (c : Command) → AreFor (map string_bytes words.now) c → channels_of c ≡ 0
-        → (result ≡ 0) × (input.new ≡ input.old) × (output.new ≡ output.old) × (faults.new ≡ faults.old) }
+        → (result ≡ 0) × (input.new ≡ input.old) × (output.new ≡ output.old) × (errors.new ≡ errors.old) }
     ensures done { result ≡ 0 → (c : Command) → AreFor (map string_bytes words.now) c → 0 < channels_of c
         → IsDrawn (λ bytes text. Draws bytes c text)
         (R.remaining input.old) (R.remaining input.new) (W.contents output.old) (W.contents output.new) }
-    ensures quiet { result ≡ 0 → faults.new ≡ faults.old }
-    ensures failed { result ≡ 1 → (output.new ≡ output.old) ⊎ (faults.new ≡ faults.old) }
+    ensures quiet { result ≡ 0 → errors.new ≡ errors.old }
+    ensures failed { result ≡ 1 → (output.new ≡ output.old) ⊎ (errors.new ≡ errors.old) }
     ensures asked { result ≡ 1
         → IsPartlyRead (AreFor (map string_bytes words.now)) (R.remaining input.old) (R.remaining input.new) }
 {
-    run_with(alloc, words, input, output, faults, &PartDrawer)
+    run_with(alloc, words, input, output, errors, &PartDrawer)
 }
 
 /// Carries out what the words ask for, as `run_with` does, and returns why it was not done.
@@ -126,7 +126,7 @@ pub fn run<R: Read, W: Write, E: Write>(
 /// # Errors
 ///
 /// `WrongArguments` comes before the input is read. `Unreadable` shows only for a command with
-/// channels. `Refused` is the error that the drawer returns for all the bytes of the input, and the
+/// channels. `ErrorAt` is the error that the drawer returns for all the bytes of the input, and the
 /// output stays then; `Unwritable` shows only when a text was made.
 pub fn carry_out<R: Read, W: Write, D: Draw>(
     alloc: Global,
@@ -145,7 +145,7 @@ pub fn carry_out<R: Read, W: Write, D: Draw>(
     ensures done { OnOk result ((c : Command) → AreFor (map string_bytes words.now) c → 0 < channels_of c
         → IsDrawn (λ bytes text. D.answers bytes c (Ok text))
         (R.remaining input.old) (R.remaining input.new) (W.contents output.old) (W.contents output.new)) }
-    ensures refused { IfErr result (λ failure. (e : Error) → failure ≡ Failure.Refused e
+    ensures refused { IfErr result (λ failure. (e : Error) → failure ≡ Failure.ErrorAt e
         → IsAnswered (λ c bytes. AreFor (map string_bytes words.now) c × D.answers bytes c (Err e))
         (R.remaining input.old) (R.remaining input.new)) }
     ensures unwritten { IfErr result (λ failure. failure ≡ Failure.Unwritable
@@ -178,14 +178,14 @@ fn write_text<W: Write>(output: &mut W, text: &str) -> Result<(), Failure>
 
 /// Writes the line of a failure, as far as it can be written, and returns the status to end with.
 /// Of output that cannot be written nothing is said.
-pub fn report<E: Write>(faults: &mut E, failure: Failure) -> u8
+pub fn report<E: Write>(errors: &mut E, failure: Failure) -> u8
     ensures status { result ≡ status_of failure }
-    ensures silent { failure ≡ Failure.Unwritable → faults.new ≡ faults.old }
+    ensures silent { failure ≡ Failure.Unwritable → errors.new ≡ errors.old }
 {
     let _ = match failure {
-        Failure::WrongArguments => writeln!(faults, "{USAGE}"),
-        Failure::Unreadable => writeln!(faults, "error: cannot read standard input"),
-        Failure::Refused(fault) => writeln!(faults, "error: {fault}"),
+        Failure::WrongArguments => writeln!(errors, "{USAGE}"),
+        Failure::Unreadable => writeln!(errors, "error: cannot read standard input"),
+        Failure::ErrorAt(error) => writeln!(errors, "error: {fault}"),
         Failure::Unwritable => Ok(()),
     };
     match failure {
@@ -198,7 +198,8 @@ pub fn report<E: Write>(faults: &mut E, failure: Failure) -> u8
 /// not text are wrong ones; where it is out of memory for them, the input cannot be read either.
 pub fn words_of(alloc: Global, arguments: io::Result<Args>) -> Result<Vec<String>, Failure>
     ensures ok { IfOk result (λ words. IsOkAnd arguments (λ all. words.items ≡ drop 1 (into_iter_items all))) }
-    ensures wrong { IsErrOf result Failure.WrongArguments ↔ IsErrAnd arguments (λ e. error_kind e ≢ ErrorKind.OutOfMemory) }
+    ensures wrong { IsErrOf result Failure.WrongArguments ↔ IsErrAnd arguments
+        (λ e. error_kind e ≢ ErrorKind.OutOfMemory) }
     ensures err { IfErr result (λ failure. (failure ≡ Failure.WrongArguments) ⊎ (failure ≡ Failure.Unreadable)) }
 {
     match arguments {

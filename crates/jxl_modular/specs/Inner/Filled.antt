@@ -2,7 +2,7 @@
 use Rattle.std.specs.Prelude.{◌≡◌, ℕ, ◌+◌, ◌*◌, ◌≤◌, ℤ, List}
 use Rattle.std.specs.Int.{Width}
 use Rattle.jxlm_base.specs.Decoding.{Meaning}
-use Rattle.jxlm_base.specs.Fault.{Fault, OfDecoder}
+use Rattle.jxlm_base.specs.ErrorKind.{ErrorKind, OfDecoder}
 use Rattle.jxlm_base.specs.Grid.{Grid}
 use Rattle.jxlm_base.specs.declared.decoder.DecoderError.{DecoderError}
 use Rattle.jxlm_part.specs.Coded.{DecodingFails, IsCodedWhole}
@@ -17,9 +17,9 @@ module _ {S D : Type 0} (d : Meaning D) (w : Width) (to_int : S → ℤ) (bytes 
     pub only : IsOnlyImage w old (image_grids to_int new) samples
 
   -- decoding the samples from position p is this error, which leaves the reader at position q
-  pub record FillFails (fault : Fault) (q before after : ℕ) : Type 0 where
+  pub record FillFails (error : ErrorKind) (q before after : ℕ) : Type 0 where
     pub cause : DecoderError
     pub tried : ℕ
     pub fails : DecodingFails d w (whole_part old stream) bytes old.config.decoder p cause q tried
-    pub cause_is : fault ≡ OfDecoder cause
+    pub cause_is : error ≡ OfDecoder cause
     pub steps : after ≤ before + tried * cost_of old

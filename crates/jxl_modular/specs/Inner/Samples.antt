@@ -10,7 +10,7 @@ use Rattle.jxlm_part.specs.Coded.{IsCodedToTheEnd}
 use Rattle.jxlm_part.specs.Decode.{Fails}
 use Rattle.jxl_modular.specs.Image.{Image, coded_grids, cost_of, whole_part, samples_in}
 use Rattle.jxlm_transform.specs.Channels.{AreGridsOf}
-use Rattle.jxlm_part.specs.Part.{greatest_width}
+use Rattle.jxlm_part.specs.Part.{max_width}
 use Rattle.jxlm_part.specs.Reading.{HasFlats, IsRoomyFor}
 use Rattle.jxlm_part.specs.declared.coding.Ready.{Ready}
 
@@ -30,16 +30,16 @@ module _ {S D : Type 0} (d : Meaning D) (w : Width) (to_int : S → ℤ) (bytes 
   StaysAsBefore before after = (new ≡ old) × (q ≡ p) × (after ≡ before)
 
   -- The decoder returns an error, or it is out of memory.
-  abbrev pub RefusesSamples : ℕ → ℕ → Error → Type 0
-  RefusesSamples before after (Decoder UnexpectedEof) = FailsAtOnePlace before after UnexpectedEof
-  RefusesSamples before after (Decoder (Invalid k)) = FailsAtOnePlace before after (Invalid k)
-  RefusesSamples before after (Decoder OutOfMemory) = StaysAsBefore before after
-  RefusesSamples before after (Buffer m) = StaysAsBefore before after
-  RefusesSamples before after e = ⊥
+  abbrev pub FailsSamples : ℕ → ℕ → Error → Type 0
+  FailsSamples before after (Decoder UnexpectedEof) = FailsAtOnePlace before after UnexpectedEof
+  FailsSamples before after (Decoder (Invalid k)) = FailsAtOnePlace before after (Invalid k)
+  FailsSamples before after (Decoder OutOfMemory) = StaysAsBefore before after
+  FailsSamples before after (Buffer m) = StaysAsBefore before after
+  FailsSamples before after e = ⊥
 
 -- What is made ready for the samples of an image: its decoder, its tree for each channel, and a state with room for
 -- them.
 pub record IsReadyFor {S D : Type 0} (image : Image S D) (stream : ℕ) (r : Ready S D) : Type 0 where
   pub decoder_is : r.decoder ≡ image.config.decoder
   pub flats_are : HasFlats image.config.tree stream (length image.channels) r.flats.items
-  pub roomy : IsRoomyFor (greatest_width image.channels) image.weights r.flats.items r.state
+  pub roomy : IsRoomyFor (max_width image.channels) image.weights r.flats.items r.state

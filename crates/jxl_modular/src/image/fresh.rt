@@ -1,7 +1,7 @@
 //! Images before any of their samples is decoded.
 
 ghost use Rattle.std.specs.Prelude.{◌≡◌, ◌++◌, pos, map, IfOk, IfErr, OnOk};
-ghost use Rattle.jxlm_base.specs.Fault.{NoMemory, fault_of};
+ghost use Rattle.jxlm_base.specs.ErrorKind.{NoMemory, kind_of};
 ghost use Rattle.jxlm_chain.specs.Layout.{sides_of};
 ghost use Rattle.jxlm_chain.specs.Placed.{sides_in};
 ghost use Rattle.jxl_modular.specs.Fresh.{fresh, zeros};
@@ -23,7 +23,7 @@ fn zero_grids<S: Sample>(
     channels: &[ModularChannelInfo],
 ) -> Result<Vec<AlignedGrid<S>>>
     ensures ok { IfOk result (λ v. v.items ≡ zeros (S.from_int (pos 0)) (sides_of channels.now)) }
-    ensures err { IfErr result (λ e. fault_of e ≡ NoMemory) }
+    ensures err { IfErr result (λ e. kind_of e ≡ NoMemory) }
 {
     let mut grids = Vec::new(alloc);
     for channel in channels {
@@ -40,7 +40,7 @@ fn with_tables<S: Sample>(
     tables: &[Region],
 ) -> Result<Vec<AlignedGrid<S>>>
     ensures ok { IfOk result (λ v. v.items ≡ grids.items ++ zeros (S.from_int (pos 0)) (sides_in tables.now)) }
-    ensures err { IfErr result (λ e. fault_of e ≡ NoMemory) }
+    ensures err { IfErr result (λ e. kind_of e ≡ NoMemory) }
 {
     for table in tables {
         let grid = AlignedGrid::new(alloc, table.width, table.height)?;
@@ -87,8 +87,9 @@ impl<S: Sample, D: Decoder> ModularImageDestination<S, D> {
         requires few { length placed.channels.info.items ≤ 65536 }
         requires weights { IsHeader header.wp_params }
         requires deep { bit_depth ≤ 32 }
-        ensures ok { IfOk result (λ image. image ≡ fresh (S.from_int (pos 0)) (list_of given) (opening_of (header, placed.channels)) ma_ctx group_dim bit_depth) }
-        ensures err { IfErr result (λ e. fault_of e ≡ NoMemory) }
+        ensures ok { IfOk result (λ image. image ≡ fresh (S.from_int (pos 0)) (list_of given)
+            (opening_of (header, placed.channels)) ma_ctx group_dim bit_depth) }
+        ensures err { IfErr result (λ e. kind_of e ≡ NoMemory) }
     {
         let grids = zero_grids(alloc, &given.info)?;
         let store = with_tables(alloc, grids, &placed.tables)?;

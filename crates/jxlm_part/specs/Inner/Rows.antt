@@ -11,7 +11,7 @@ use Rattle.jxlm_tree.specs.Standing.{StandsAt}
 use Rattle.jxlm_tree.specs.declared.state.PredictorState.{PredictorState}
 use Rattle.jxlm_part.specs.Coded.{part_rule}
 use Rattle.jxlm_part.specs.Part.{Part}
-use Rattle.jxlm_part.specs.Progress.{GoesOn, Stops, cells_ahead, grids_in, place_of}
+use Rattle.jxlm_part.specs.Progress.{GoesOn, Stops, preceding_cells, grids_in, place_of}
 use Rattle.jxlm_part.specs.Reading.{FindsClusters, IsCodingOf, cost_of, part_of, region_at, regions_of, setting_of}
 use Rattle.jxlm_part.specs.Rule.{Rule, CodedPrefix}
 use Rattle.jxlm_part.specs.declared.coding.PartCoding.{PartCoding}
@@ -81,7 +81,7 @@ pub record IsDecoding {D X : Type 0} (c : PartCoding D) (i : ℕ) (store : List 
 -- how the cells of row y of channel i are read
 abbrev pub row_rule : {S : Type 0} → Meaning S → Width → Part → List ℕ → List Region → List (Grid ℤ) → ℕ → ℕ → Rule S
 row_rule d w part bytes regions ints i y =
-    rule_after (part_rule d w part bytes) (cells_ahead part (grids_in regions ints) i 0 y)
+    rule_after (part_rule d w part bytes) (preceding_cells part (grids_in regions ints) i 0 y)
 
 module _ {D X : Type 0} (c : PartCoding D) (to_int : X → ℤ) (store : List (Grid X)) (i y : ℕ) where
   -- the same, in a store

@@ -55,7 +55,7 @@ pub record SetsSample {S : Type 0} (to_int : S → ℤ) (p : FinishedChannel) (x
   pub written : new ≡ with_region_cell old p.target x y sample
 
 -- the table is as it was, and so are the indices from cell k on
-pub record Ahead (p : FinishedChannel) (k : ℕ) (table index : Grid ℤ) (ints : List (Grid ℤ)) : Type 0 where
+pub record StillToCome (p : FinishedChannel) (k : ℕ) (table index : Grid ℤ) (ints : List (Grid ℤ)) : Type 0 where
   pub table_is : grid_of ints p.table ≡ table
   pub indices : (i : ℕ) → k ≤ i → get_or (grid_of ints p.index).cells i (pos 0) ≡ get_or index.cells i (pos 0)
 
@@ -68,13 +68,13 @@ index_in p ints = grid_of ints p.index
 
 -- the same of two stores
 abbrev pub kept : FinishedChannel → ℕ → List (Grid ℤ) → List (Grid ℤ) → Type 0
-kept p k old new = Ahead p k (table_in p old) (index_in p old) new
+kept p k old new = StillToCome p k (table_in p old) (index_in p old) new
 
 module _ (w : Width) (depth : ℕ) (t : Palette) (p : FinishedChannel) where
   -- the first k samples are finished
   pub record Filled (table index : Grid ℤ) (k : ℕ) (ints : List (Grid ℤ)) : Type 0 where
     pub samples : take k (grid_of ints p.target).cells ≡ finished_samples w depth t table index p.number k
-    pub ahead : Ahead p k table index ints
+    pub before_it : StillToCome p k table index ints
     pub as_wide : index.width ≡ p.index.width
 
   -- Whatever the table and the indices were: where the first `from` samples were finished, the first `to` are now.

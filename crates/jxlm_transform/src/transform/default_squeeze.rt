@@ -63,7 +63,8 @@ fn add_in_turn(
     mut width: u32,
     mut height: u32,
 ) -> std::result::Result<(), OutOfMemory>
-    ensures { IfOk result (λ _. steps.new.items ≡ steps.old.items ++ in_turn (halvings width) (halvings height) (the_step_of_all first count)) }
+    ensures { IfOk result (λ _. steps.new.items ≡ steps.old.items ++ in_turn (halvings width) (halvings height)
+        (the_step_of_all first count)) }
 {
     while width > SMALL_SIDE || height > SMALL_SIDE {
         width = add_halving(steps, step_of_all(first, count, true), width)?;
@@ -105,7 +106,8 @@ fn add_chroma(
     others: &[ModularChannelInfo],
 ) -> std::result::Result<(), OutOfMemory>
     requires { first < 2 ^ 63 }
-    ensures { IfOk result (λ _. steps.new.items ≡ steps.old.items ++ default_of_chroma first (leader.now ∷ others.now)) }
+    ensures { IfOk result (λ _. steps.new.items ≡ steps.old.items ++ default_of_chroma first
+        (leader.now ∷ others.now)) }
 {
     if has_chroma(leader, others) {
         steps

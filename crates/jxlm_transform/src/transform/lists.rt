@@ -9,7 +9,8 @@ use jxlm_base::grid::OutOfMemory;
 /// Writes others over the elements from `begin` on.
 fn overwrite<T: Copy>(list: &mut Vec<T>, begin: usize, others: &[T])
     requires { begin + length others.now ≤ length list.old.items }
-    ensures { list.new.items ≡ take begin list.old.items ++ others.now ++ drop (begin + length others.now) list.old.items }
+    ensures { list.new.items ≡ take begin list.old.items ++ others.now ++ drop (begin + length others.now)
+        list.old.items }
 {
     list[begin..begin + others.len()].copy_from_slice(others);
 }
@@ -22,8 +23,11 @@ impl SqueezeParams {
         mut residuals: Vec<T>,
     ) -> Result<(), OutOfMemory>
         requires { self.now.begin_c + self.now.num_c ≤ length list.old.items }
-        ensures inside { IsTrue self.now.in_place → IfOk result (λ _. list.new.items ≡ take (self.now.begin_c + self.now.num_c) list.old.items ++ residuals.items ++ drop (self.now.begin_c + self.now.num_c) list.old.items) }
-        ensures at_end { IsFalse self.now.in_place → IfOk result (λ _. list.new.items ≡ list.old.items ++ residuals.items) }
+        ensures inside { IsTrue self.now.in_place → IfOk result
+            (λ _. list.new.items ≡ take (self.now.begin_c + self.now.num_c) list.old.items ++ residuals.items ++ drop
+            (self.now.begin_c + self.now.num_c) list.old.items) }
+        ensures at_end { IsFalse self.now.in_place → IfOk result
+            (λ _. list.new.items ≡ list.old.items ++ residuals.items) }
         ensures unchanged { IfErr result (λ _. list.new.items ≡ list.old.items) }
     {
         if self.in_place {
@@ -51,7 +55,8 @@ impl SqueezeParams {
     ) -> Result<(), OutOfMemory>
         requires range { self.now.begin_c + self.now.num_c ≤ length list.old.items }
         requires averages { length averages.now ≡ self.now.num_c }
-        ensures gives { IfOk result (λ _. list.new.items ≡ with_halves self.now averages.now residuals.items list.old.items) }
+        ensures gives { IfOk result (λ _. list.new.items ≡ with_halves self.now averages.now residuals.items
+            list.old.items) }
         ensures unchanged { IfErr result (λ _. list.new.items ≡ list.old.items) }
     {
         self.put_residuals(list, residuals)?;
@@ -71,7 +76,8 @@ impl Palette {
     pub fn put_table<T: Copy + Drop>(&self, list: &mut Vec<T>, table: T) -> Result<(), OutOfMemory>
         requires some_channels { 1 ≤ self.now.num_c }
         requires range { self.now.begin_c + self.now.num_c ≤ length list.old.items }
-        ensures gives { IfOk result (λ _. list.new.items ≡ table ∷ (take (self.now.begin_c + 1) list.old.items ++ drop (self.now.begin_c + self.now.num_c) list.old.items)) }
+        ensures gives { IfOk result (λ _. list.new.items ≡ table
+            ∷ (take (self.now.begin_c + 1) list.old.items ++ drop (self.now.begin_c + self.now.num_c) list.old.items)) }
         ensures unchanged { IfErr result (λ _. list.new.items ≡ list.old.items) }
     {
         let begin = self.begin_c as usize;

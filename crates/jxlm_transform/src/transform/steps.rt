@@ -163,7 +163,8 @@ impl SqueezeParams {
 
     /// Whether the step suits the channels.
     fn suits(&self, channels: &ModularChannels) -> bool
-        ensures { result ≡ (squeeze_range self.now (list_of channels.now) && list_all can_be_squeezed (range self.now.begin_c self.now.num_c (list_of channels.now).channels)) }
+        ensures { result ≡ (squeeze_range self.now (list_of channels.now) && list_all can_be_squeezed
+            (range self.now.begin_c self.now.num_c (list_of channels.now).channels)) }
     {
         self.has_its_range(channels)
             && can_all_be_squeezed(&channels.info[self.begin_c..self.begin_c + self.num_c])
@@ -176,8 +177,12 @@ impl SqueezeParams {
         channels: &mut Vec<ModularChannelInfo>,
     ) -> std::result::Result<(), OutOfMemory>
         requires range { self.now.begin_c + self.now.num_c ≤ length channels.old.items }
-        requires each { All (λ c. IsTrue (can_be_squeezed c)) (range self.now.begin_c self.now.num_c channels.old.items) }
-        ensures gives { IfOk result (λ _. channels.new.items ≡ the_halves self.now (map (average_channel self.now.horizontal) (range self.now.begin_c self.now.num_c channels.old.items)) (map (residual_channel self.now.horizontal) (range self.now.begin_c self.now.num_c channels.old.items)) channels.old.items) }
+        requires each { All (λ c. IsTrue (can_be_squeezed c))
+            (range self.now.begin_c self.now.num_c channels.old.items) }
+        ensures gives { IfOk result (λ _. channels.new.items ≡ the_halves self.now
+            (map (average_channel self.now.horizontal) (range self.now.begin_c self.now.num_c channels.old.items))
+            (map (residual_channel self.now.horizontal) (range self.now.begin_c self.now.num_c channels.old.items))
+            channels.old.items) }
         ensures unchanged { IfErr result (λ _. channels.new.items ≡ channels.old.items) }
     {
         let range = &channels[self.begin_c..self.begin_c + self.num_c];
@@ -230,7 +235,8 @@ impl Squeeze {
         channels: &mut ModularChannels,
     ) -> Result<()>
         requires { HasItsMeta (list_of channels.old) }
-        ensures gives { ListGives (list_after_all (map SqueezeStep self.now.sp.items) (list_of channels.old)) result (list_of channels.new) }
+        ensures gives { ListGives (list_after_all (map SqueezeStep self.now.sp.items) (list_of channels.old)) result
+            (list_of channels.new) }
         ensures meta { IfOk result (λ _. HasItsMeta (list_of channels.new)) }
     {
         for step in &self.sp {
@@ -258,7 +264,8 @@ impl TransformInfo {
     ) -> Result<()>
         requires some_channels { HasChannels (transform_of self.old) }
         requires meta { HasItsMeta (list_of channels.old) }
-        ensures gives { TransformGives (transform_of self.old) (list_of channels.old) result (transform_of self.new) (list_of channels.new) }
+        ensures gives { TransformGives (transform_of self.old) (list_of channels.old) result (transform_of self.new)
+            (list_of channels.new) }
         ensures meta { IfOk result (λ _. HasItsMeta (list_of channels.new)) }
     {
         match self {

@@ -49,8 +49,8 @@ abbrev pub CorrectsNext : Corrector → WpHeader → ℕ → ℕ → ℕ → Lis
 CorrectsNext c header width x y samples = (x + 1 < width → CorrectsBy c header width (x + 1) y samples) × (width ≤ x + 1 → CorrectsBy c header width 0 (y + 1) samples)
 
 -- at the cell after (x, y) errors are kept where there are weights
-abbrev pub CorrectsBehind : Option Corrector → Option WpHeader → ℕ → ℕ → ℕ → List ℤ → Type 0
-CorrectsBehind o weights width x y samples = (x + 1 < width → Corrects o weights width (x + 1) y samples) × (width ≤ x + 1 → Corrects o weights width 0 (y + 1) samples)
+abbrev pub CorrectsAfter : Option Corrector → Option WpHeader → ℕ → ℕ → ℕ → List ℤ → Type 0
+CorrectsAfter o weights width x y samples = (x + 1 < width → Corrects o weights width (x + 1) y samples) × (width ≤ x + 1 → Corrects o weights width 0 (y + 1) samples)
 
 -- a corrector's rows hold column x
 abbrev pub HoldsColumn : Option Corrector → ℕ → Type 0

@@ -2,8 +2,8 @@
 use Rattle.std.specs.Prelude.{◌≡◌, ◌⊎◌, ℕ, zero, suc, ◌+◌, ◌<◌, ◌≤◌, ◌^◌, FitsSigned, List, [], ◌∷◌, Bool, nat_lt, Option, Some, unwrap_or, Result, Ok, Err}
 use Rattle.std.specs.Int.{w32}
 use Rattle.jxlm_base.specs.Decoding.{Found, Taken}
-use Rattle.jxlm_base.specs.Fault.{NoMemory, Refused, UnlessMemory, fault_of}
-use Rattle.jxlm_base.specs.Grammar.{IsRefused}
+use Rattle.jxlm_base.specs.ErrorKind.{NoMemory, ErrorAt, UnlessMemory, kind_of}
+use Rattle.jxlm_base.specs.Grammar.{IsErrorAt}
 use Rattle.jxlm_base.specs.declared.error.Error.{Error}
 use Rattle.jxlm_tree.specs.Tree.{Node, leaf_node, decision_node}
 use Rattle.jxlm_tree.specs.TreeReading as reading
@@ -49,22 +49,22 @@ ListsTrees (suc m) (leaf_node l ∷ ns) = ListsTrees m ns
 ListsTrees (suc m) (decision_node property value ∷ ns) = ListsTrees (m + 2) ns
 
 -- what was returned, seen by view, with the decoder's state t and the reader at q, is what reading gives
-abbrev pub DrawnGives : {X Y S : Type 0} → (X → Y) → Result X Error → S → ℕ → Result (Taken Y S) Refused → Type 0
+abbrev pub DrawnGives : {X Y S : Type 0} → (X → Y) → Result X Error → S → ℕ → Result (Taken Y S) ErrorAt → Type 0
 DrawnGives view (Ok x) t q reading = reading ≡ Ok (record { value = view x; state = t; position = q })
-DrawnGives view (Err e) t q reading = reading ≡ Err (record { fault = fault_of e; position = Some q })
+DrawnGives view (Err e) t q reading = reading ≡ Err (record { error = kind_of e; position = Some q })
 
 -- the same, where the list of nodes may be out of memory at any time
-abbrev pub DrawnAnswers : {X Y S : Type 0} → (X → Y) → Result X Error → S → ℕ → Result (Taken Y S) Refused → Type 0
+abbrev pub DrawnAnswers : {X Y S : Type 0} → (X → Y) → Result X Error → S → ℕ → Result (Taken Y S) ErrorAt → Type 0
 DrawnAnswers view (Ok x) t q reading = reading ≡ Ok (record { value = view x; state = t; position = q })
-DrawnAnswers view (Err e) t q reading = (fault_of e ≡ NoMemory) ⊎ (reading ≡ Err (record { fault = fault_of e; position = Some q }))
+DrawnAnswers view (Err e) t q reading = (kind_of e ≡ NoMemory) ⊎ (reading ≡ Err (record { error = kind_of e; position = Some q }))
 
 -- the same of a whole list, after which no decoder is left
-abbrev pub ListAnswers : {X Y : Type 0} → (X → Y) → Result X Error → ℕ → Result (Found Y) Refused → Type 0
+abbrev pub ListAnswers : {X Y : Type 0} → (X → Y) → Result X Error → ℕ → Result (Found Y) ErrorAt → Type 0
 ListAnswers view (Ok x) q reading = reading ≡ Ok (record { value = view x; position = q })
-ListAnswers view (Err e) q reading = (fault_of e ≡ NoMemory) ⊎ IsRefused reading (fault_of e) q
+ListAnswers view (Err e) q reading = (kind_of e ≡ NoMemory) ⊎ IsErrorAt reading (kind_of e) q
 
 -- What a call returned, seen by view, and where it left the reader, are what reading gives; out of memory may come at
 -- any time.
-abbrev pub Answers : {X Y : Type 0} → (X → Y) → Result X Error → ℕ → Result (Found Y) Refused → Type 0
+abbrev pub Answers : {X Y : Type 0} → (X → Y) → Result X Error → ℕ → Result (Found Y) ErrorAt → Type 0
 Answers view (Ok x) q reading = reading ≡ Ok (record { value = view x; position = q })
-Answers view (Err e) q reading = UnlessMemory (fault_of e) (IsRefused reading (fault_of e) q)
+Answers view (Err e) q reading = UnlessMemory (kind_of e) (IsErrorAt reading (kind_of e) q)

@@ -1,7 +1,7 @@
 -- How a tree comes from the end of its listing by a queue: a leaf goes to the back, and a decision takes its right and
 -- then its left tree from the front.
 use Rattle.std.specs.Prelude.{◌≡◌, ◌⊎◌, ℕ, ◌<◌, max, List, [], ◌∷◌, ◌++◌, Option, None, Some, codes}
-use Rattle.jxlm_base.specs.Fault.{Fault, BadProfile, NoMemory}
+use Rattle.jxlm_base.specs.ErrorKind.{ErrorKind, BadProfile, NoMemory}
 use Rattle.jxlm_tree.specs.Tree.{Shape, leaf, decision, Node, leaf_node, decision_node, depth, levels}
 
 module _ {L : Type 0} where
@@ -18,29 +18,29 @@ module _ {L : Type 0} where
   deepest (t ∷ ts) = max (depth t) (deepest ts)
 
 -- the error of a tree that is too deep
-abbrev pub too_deep : Fault
+abbrev pub too_deep : ErrorKind
 too_deep = BadProfile (codes "decoded MA tree is too deep")
 
 -- this tree is too deep, or out of memory
-abbrev pub IsRefusedAsTooDeep : {L : Type 0} → ℕ → Shape L → Fault → Type 0
-IsRefusedAsTooDeep limit t fault = (fault ≡ NoMemory) ⊎ ((fault ≡ too_deep) × (limit < depth t))
+abbrev pub IsTooDeepAt : {L : Type 0} → ℕ → Shape L → ErrorKind → Type 0
+IsTooDeepAt limit t error = (error ≡ NoMemory) ⊎ ((error ≡ too_deep) × (limit < depth t))
 
 -- a tree of the queue is too deep
-pub record HasTooDeep {L : Type 0} (limit : ℕ) (queue : Option (List (Shape L))) (fault : Fault) : Type 0 where
-  pub refusal : fault ≡ too_deep
+pub record HasTooDeep {L : Type 0} (limit : ℕ) (queue : Option (List (Shape L))) (error : ErrorKind) : Type 0 where
+  pub failure : error ≡ too_deep
   pub trees : List (Shape L)
   pub are : queue ≡ Some trees
   pub beyond : limit < deepest trees
 
-abbrev pub IsRefusedInQueue : {L : Type 0} → ℕ → Option (List (Shape L)) → Fault → Type 0
-IsRefusedInQueue limit queue fault = (fault ≡ NoMemory) ⊎ HasTooDeep limit queue fault
+abbrev pub IsErrorInQueue : {L : Type 0} → ℕ → Option (List (Shape L)) → ErrorKind → Type 0
+IsErrorInQueue limit queue error = (error ≡ NoMemory) ⊎ HasTooDeep limit queue error
 
 -- the tree of this listing is too deep
-pub record ListsTooDeep {L : Type 0} (limit : ℕ) (listing : List (Node L)) (fault : Fault) : Type 0 where
-  pub refusal : fault ≡ too_deep
+pub record ListsTooDeep {L : Type 0} (limit : ℕ) (listing : List (Node L)) (error : ErrorKind) : Type 0 where
+  pub failure : error ≡ too_deep
   pub tree : Shape L
   pub lists : levels tree ≡ listing
   pub beyond : limit < depth tree
 
-abbrev pub IsTooDeepListing : {L : Type 0} → ℕ → List (Node L) → Fault → Type 0
-IsTooDeepListing limit listing fault = (fault ≡ NoMemory) ⊎ ListsTooDeep limit listing fault
+abbrev pub IsTooDeepListing : {L : Type 0} → ℕ → List (Node L) → ErrorKind → Type 0
+IsTooDeepListing limit listing error = (error ≡ NoMemory) ⊎ ListsTooDeep limit listing error

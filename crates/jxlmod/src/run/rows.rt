@@ -42,7 +42,7 @@ const SQUEEZED: &[u8] = &[
 struct Ended {
     status: u8,
     output: Vec<u8>,
-    faults: Vec<u8>,
+    errors: Vec<u8>,
 }
 
 fn run_on(alloc: Global, line: &str, bytes: &[u8]) -> Result<Ended, Fail> {
@@ -52,12 +52,12 @@ fn run_on(alloc: Global, line: &str, bytes: &[u8]) -> Result<Ended, Fail> {
     }
     let mut input = bytes;
     let mut output = Vec::new(alloc);
-    let mut faults = Vec::new(alloc);
-    let status = run(alloc, &words, &mut input, &mut output, &mut faults);
+    let mut errors = Vec::new(alloc);
+    let status = run(alloc, &words, &mut input, &mut output, &mut errors);
     Ok(Ended {
         status,
         output,
-        faults,
+        errors,
     })
 }
 
@@ -92,7 +92,7 @@ fn pictures_are_printed(rt: HostRuntime) -> Result<(), Fail> {
     ] {
         let ended = run_on(rt.alloc(), line, bytes)?;
         assert_eq!(rt; ended.output.as_slice(), text.as_bytes(), "{line}");
-        assert_eq!(rt; (ended.status, ended.faults.len()), (0, 0), "{line}");
+        assert_eq!(rt; (ended.status, ended.errors.len()), (0, 0), "{line}");
     }
     Ok(())
 }
@@ -102,7 +102,7 @@ fn a_wrong_sum_is_refused(rt: HostRuntime) -> Result<(), Fail> {
     let ended = run_on(rt.alloc(), "decode 2 2 1 8 i32", MISSUMMED)?;
     assert_eq!(rt; (ended.status, ended.output.len()), (1, 0));
     assert_eq!(rt;
-        ended.faults.as_slice(),
+        ended.errors.as_slice(),
         b"error: entropy decoder error: invalid code 4\n".as_slice()
     );
     Ok(())
@@ -134,7 +134,7 @@ fn headers_are_refused(rt: HostRuntime) -> Result<(), Fail> {
         ),
     ] {
         let ended = run_on(rt.alloc(), line, bytes)?;
-        assert_eq!(rt; ended.faults.as_slice(), text.as_bytes(), "{line}");
+        assert_eq!(rt; ended.errors.as_slice(), text.as_bytes(), "{line}");
         assert_eq!(rt; (ended.status, ended.output.len()), (1, 0), "{line}");
     }
     Ok(())
@@ -147,7 +147,7 @@ fn input_cut_short_is_an_unexpected_end(rt: HostRuntime) -> Result<(), Fail> {
         for n in 0..whole.len() {
             let ended = run_on(rt.alloc(), "decode 2 2 1 8 i32", &whole[..n])?;
             let line = if n == 0 { EOF_OF_HEADER } else { EOF_OF_TOKENS };
-            assert_eq!(rt; ended.faults.as_slice(), line.as_bytes(), "{n}");
+            assert_eq!(rt; ended.errors.as_slice(), line.as_bytes(), "{n}");
             assert_eq!(rt; (ended.status, ended.output.len()), (1, 0), "{n}");
         }
     }

@@ -97,15 +97,15 @@ impl Draw for Echo {
 
 // Every image gives an error.
 #[derive(Drop)]
-struct Refuses {
-    fault: Error,
+struct Fails {
+    error: Error,
 }
 
-impl Draw for Refuses {
+impl Draw for Fails {
     ghost answers = { λ bytes command answer. IsErr answer };
 
     fn draw(&self, _alloc: Global, _bytes: &[u8], _command: Command) -> Result<String, Error> {
-        Err(self.fault)
+        Err(self.error)
     }
 }
 
@@ -115,11 +115,11 @@ fn writes_what_is_drawn(rt: HostRuntime) -> Result<(), Fail> {
     let words = words(alloc, "decode 2 2 1 8 i32")?;
     let mut input = b"channel 0 1x1\n5\n".as_slice();
     let mut output = Vec::new(alloc);
-    let mut faults = Vec::new(alloc);
-    let status = run_with(alloc, &words, &mut input, &mut output, &mut faults, &Echo);
+    let mut errors = Vec::new(alloc);
+    let status = run_with(alloc, &words, &mut input, &mut output, &mut errors, &Echo);
     assert_eq!(rt; status, 0);
     assert_eq!(rt; output.as_slice(), b"channel 0 1x1\n5\n".as_slice());
-    assert_eq!(rt; faults.len(), 0);
+    assert_eq!(rt; errors.len(), 0);
     Ok(())
 }
 
@@ -132,9 +132,9 @@ fn reads_nothing_for_no_channels(rt: HostRuntime) -> Result<(), Fail> {
         has_failed: false,
     };
     let mut output = Vec::new(alloc);
-    let mut faults = Vec::new(alloc);
-    let status = run_with(alloc, &words, &mut input, &mut output, &mut faults, &Echo);
-    assert_eq!(rt; (status, output.len(), faults.len()), (0, 0, 0));
+    let mut errors = Vec::new(alloc);
+    let status = run_with(alloc, &words, &mut input, &mut output, &mut errors, &Echo);
+    assert_eq!(rt; (status, output.len(), errors.len()), (0, 0, 0));
     Ok(())
 }
 
@@ -148,10 +148,10 @@ fn wrong_words_are_answered_first(rt: HostRuntime) -> Result<(), Fail> {
             has_failed: false,
         };
         let mut output = Vec::new(alloc);
-        let mut faults = Vec::new(alloc);
-        let status = run_with(alloc, &words, &mut input, &mut output, &mut faults, &Echo);
+        let mut errors = Vec::new(alloc);
+        let status = run_with(alloc, &words, &mut input, &mut output, &mut errors, &Echo);
         assert_eq!(rt; (status, output.len()), (2, 0), "{line}");
-        assert_eq!(rt; faults.as_slice(), USAGE_LINE.as_bytes(), "{line}");
+        assert_eq!(rt; errors.as_slice(), USAGE_LINE.as_bytes(), "{line}");
     }
     Ok(())
 }
@@ -166,12 +166,12 @@ fn input_that_is_cut_off_is_told(rt: HostRuntime) -> Result<(), Fail> {
             has_failed: false,
         };
         let mut output = Vec::new(alloc);
-        let mut faults = Vec::new(alloc);
-        let status = run_with(alloc, &words, &mut input, &mut output, &mut faults, &Echo);
+        let mut errors = Vec::new(alloc);
+        let status = run_with(alloc, &words, &mut input, &mut output, &mut errors, &Echo);
         assert_eq!(rt; (status, output.len()), (1, 0));
         assert_eq!(rt; (input.bytes.len(), input.has_failed), (0, true));
         assert_eq!(rt;
-            faults.as_slice(),
+            errors.as_slice(),
             b"error: cannot read standard input\n".as_slice()
         );
     }
@@ -186,10 +186,10 @@ fn output_that_is_full_is_an_error(rt: HostRuntime) -> Result<(), Fail> {
         let mut input = b"1 2\n".as_slice();
         let taken = Vec::new(alloc);
         let mut output = SmallWriter { taken, room };
-        let mut faults = Vec::new(alloc);
-        let ended = run_with(alloc, &words, &mut input, &mut output, &mut faults, &Echo);
+        let mut errors = Vec::new(alloc);
+        let ended = run_with(alloc, &words, &mut input, &mut output, &mut errors, &Echo);
         assert_eq!(rt; (ended, output.taken.len()), (status, room));
-        assert_eq!(rt; faults.len(), 0);
+        assert_eq!(rt; errors.len(), 0);
     }
     Ok(())
 }
@@ -201,22 +201,22 @@ fn output_that_cannot_be_flushed_is_an_error(rt: HostRuntime) -> Result<(), Fail
     let mut input = b"1 2\n".as_slice();
     let taken = Vec::new(alloc);
     let mut output = StuckWriter { taken };
-    let mut faults = Vec::new(alloc);
-    let status = run_with(alloc, &words, &mut input, &mut output, &mut faults, &Echo);
-    assert_eq!(rt; (status, faults.len()), (1, 0));
+    let mut errors = Vec::new(alloc);
+    let status = run_with(alloc, &words, &mut input, &mut output, &mut errors, &Echo);
+    assert_eq!(rt; (status, errors.len()), (1, 0));
     assert_eq!(rt; output.taken.as_slice(), b"1 2\n".as_slice());
     Ok(())
 }
 
 #[test]
-fn each_fault_is_one_line(rt: HostRuntime) -> Result<(), Fail> {
+fn each_error_is_one_line(rt: HostRuntime) -> Result<(), Fail> {
     let alloc = rt.alloc();
     let words = words(alloc, "decode 2 2 1 8 i32")?;
     let bad_enum = BitstreamError::InvalidEnum {
         name: "TransformId",
         value: 3,
     };
-    for (fault, line) in [
+    for (error, line) in [
         (
             Error::InvalidRctParams,
             "error: invalid Rct transform parameters\n",
@@ -241,24 +241,24 @@ fn each_fault_is_one_line(rt: HostRuntime) -> Result<(), Fail> {
     ] {
         let mut input = b"".as_slice();
         let mut output = Vec::new(alloc);
-        let mut faults = Vec::new(alloc);
-        let drawer = Refuses { fault };
-        let status = run_with(alloc, &words, &mut input, &mut output, &mut faults, &drawer);
+        let mut errors = Vec::new(alloc);
+        let drawer = Fails { error };
+        let status = run_with(alloc, &words, &mut input, &mut output, &mut errors, &drawer);
         assert_eq!(rt; (status, output.len()), (1, 0), "{line}");
-        assert_eq!(rt; faults.as_slice(), line.as_bytes(), "{line}");
+        assert_eq!(rt; errors.as_slice(), line.as_bytes(), "{line}");
     }
     Ok(())
 }
 
 #[test]
-fn faults_that_cannot_be_told_keep_their_status(rt: HostRuntime) -> Result<(), Fail> {
+fn errors_that_cannot_be_printed_keep_their_status(rt: HostRuntime) -> Result<(), Fail> {
     let alloc = rt.alloc();
     let taken = Vec::new(alloc);
-    let mut faults = SmallWriter { taken, room: 5 };
-    assert_eq!(rt; report(&mut faults, Failure::WrongArguments), 2);
-    assert_eq!(rt; faults.taken.as_slice(), b"usage".as_slice());
-    assert_eq!(rt; report(&mut faults, Failure::Unreadable), 1);
-    assert_eq!(rt; faults.taken.len(), 5);
+    let mut errors = SmallWriter { taken, room: 5 };
+    assert_eq!(rt; report(&mut errors, Failure::WrongArguments), 2);
+    assert_eq!(rt; errors.taken.as_slice(), b"usage".as_slice());
+    assert_eq!(rt; report(&mut errors, Failure::Unreadable), 1);
+    assert_eq!(rt; errors.taken.len(), 5);
     Ok(())
 }
 

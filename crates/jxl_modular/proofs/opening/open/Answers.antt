@@ -1,8 +1,8 @@
 use Rattle.std.proofs.Common.{◌≡◌, map, refl, Ok}
 use Rattle.std.proofs.lemmas.Result.{err_from_is_err_and}
 use Rattle.jxlm_base.specs.Bits.{bytes_of, position_of}
-use Rattle.jxlm_base.specs.Fault.{fault_of}
-use Rattle.jxlm_transform.proofs.Refusals.{unless_no_memory}
+use Rattle.jxlm_base.specs.ErrorKind.{kind_of}
+use Rattle.jxlm_transform.proofs.Failures.{unless_no_memory}
 use Rattle.jxlm_transform.proofs.SideBounds.{narrow_coded}
 use Rattle.jxlm_transform.specs.Channels.{list_of}
 use Rattle.jxlm_transform.specs.ChannelSteps.{CodedList, coded_list}
@@ -20,7 +20,7 @@ pub returns-in_err-header-clause-gives : goal.returns-in_err-header-clause-gives
 returns-in_err-header-clause-gives c =
     let p = err_from_is_err_and c.from_residual.result c.from_residual.ensures.1 in
     rw (p.1, p.2)
-    (header_refused c.args.has_global (list_of c.args.placed.channels) (bytes_of c.args.bits.now) (position_of c.args.bits.now) (fault_of c.in_err-header.field-0.0) (position_of c.parse.new.bits) c.in_err-header.ensures.gives)
+    (header_refused c.args.has_global (list_of c.args.placed.channels) (bytes_of c.args.bits.now) (position_of c.args.bits.now) (kind_of c.in_err-header.field-0.0) (position_of c.parse.new.bits) c.in_err-header.ensures.gives)
 
 pub returns-in_err-check-clause-gives : goal.returns-in_err-check-clause-gives
 returns-in_err-check-clause-gives c =
@@ -30,10 +30,10 @@ returns-in_err-check-clause-gives c =
     let k = record h { transform = map transform_of ts } in
     let coded : CodedList = record { steps = steps_in (map transform_of ts); list = list_of c.apply.new.self.channels } in
     let found : coded_list h.transform (list_of c.args.placed.channels) ≡ Ok coded = c.in_ok-apply.ensures.gives in
-    let fault = fault_of c.in_err-check.field-0.0 in
-    let refused = condition_fails c.args.has_global (list_of c.args.placed.channels) (bytes_of c.args.bits.now) (position_of c.args.bits.now) h (position_of c.parse.new.bits) c.in_ok-header.ensures.gives coded found k fault refl
+    let error = kind_of c.in_err-check.field-0.0 in
+    let refused = condition_fails c.args.has_global (list_of c.args.placed.channels) (bytes_of c.args.bits.now) (position_of c.args.bits.now) h (position_of c.parse.new.bits) c.in_ok-header.ensures.gives coded found k error refl
     c.in_err-check.ensures in
-    rw (p.1, p.2) (unless_no_memory fault _ refused)
+    rw (p.1, p.2) (unless_no_memory error _ refused)
 
 pub returns-clause-gives : goal.returns-clause-gives
 returns-clause-gives c =

@@ -3,9 +3,9 @@ use Rattle.std.proofs.lemmas.List.{map_push}
 use Rattle.std.proofs.lemmas.List.Elements.{All-push}
 use Rattle.std.proofs.lemmas.Result.{err_from_is_err_and}
 use Rattle.jxlm_base.specs.Bits.{bytes_of, position_of}
-use Rattle.jxlm_base.specs.Fault.{fault_of, UnlessNoMemory}
-use Rattle.jxlm_base.specs.Grammar.{IsRefused, repeated}
-use Rattle.jxlm_transform.proofs.Refusals.{unless_so}
+use Rattle.jxlm_base.specs.ErrorKind.{kind_of, UnlessNoMemory}
+use Rattle.jxlm_base.specs.Grammar.{IsErrorAt, repeated}
+use Rattle.jxlm_transform.proofs.Failures.{unless_so}
 use Rattle.jxlm_transform.proofs.RepeatedLoop.{goes_on, stops}
 use Rattle.jxlm_transform.specs.Transforms.{IsTransform, KeepsWeights, transform, transform_of}
 use Rattle.jxlm_transform.specs.declared.transform.TransformInfo.{TransformInfo}
@@ -14,17 +14,17 @@ use Rattle.jxlm_header.proofs.header.read_transforms.Goals as goal
 pub returns-in_err-transform-clause-gives : goal.returns-in_err-transform-clause-gives
 returns-in_err-transform-clause-gives c =
     let p = err_from_is_err_and c.from_residual.result c.from_residual.ensures.1 in
-    let fault = fault_of c.in_err-transform.field-0.0 in
+    let error = kind_of c.in_err-transform.field-0.0 in
     let field = transform c.args.wp_params.now in
     let bytes = bytes_of c.args.bits.now in
     let q = position_of c.parse.new.bits in
     let all = (repeated c.args.count field).read bytes (position_of c.args.bits.now) in
-    let gives : UnlessNoMemory fault (IsRefused (field.read bytes (position_of c.loop.bits)) fault q) = rw c.loop.invariant.bytes at c.in_err-transform.ensures.gives in
-    let refused : UnlessNoMemory fault (IsRefused all fault q) =
-    unless_so fault (IsRefused (field.read bytes (position_of c.loop.bits)) fault q) (IsRefused all fault q)
+    let gives : UnlessNoMemory error (IsErrorAt (field.read bytes (position_of c.loop.bits)) error q) = rw c.loop.invariant.bytes at c.in_err-transform.ensures.gives in
+    let refused : UnlessNoMemory error (IsErrorAt all error q) =
+    unless_so error (IsErrorAt (field.read bytes (position_of c.loop.bits)) error q) (IsErrorAt all error q)
     (λ r. record {
       place = r.place;
-      refuses = stops field bytes (map transform_of c.loop.transforms.items) c.args.count c.loop.counter (position_of c.loop.bits) (record { fault = fault; position = r.place }) all c.loop-test.true r.refuses c.loop.invariant.read;
+      refuses = stops field bytes (map transform_of c.loop.transforms.items) c.args.count c.loop.counter (position_of c.loop.bits) (record { error = error; position = r.place }) all c.loop-test.true r.refuses c.loop.invariant.read;
       stands = r.stands;
     }) gives in
     rw (p.1, p.2) refused

@@ -52,7 +52,7 @@ returns-clause-stands g c =
     let own = take (c.args.y * reg.width) (grid_of (store_meanings to_int c.args.store.now) reg).cells ++ take c.args.x (map to_int c.args.row.now) in
     let fits : FitsSigned w32 c.to_i32.result = search rules in
     let sample = to_z-of_z w32 c.to_i32.result fits ∙ c.to_i32.ensures.value in
-    let behind = rw sample at (c.record.ensures.stands here own (rw c.properties-properties.ensures.unchanged c.requires.stands)) in
+    let after_it = rw sample at (c.record.ensures.stands here own (rw c.properties-properties.ensures.unchanged c.requires.stands)) in
     stands_further c.args.coding.now c.requires.here.coding c.args.i c.requires.here.channel to_int c.args.store.now (map to_int c.args.row.now) c.args.x c.args.y c.requires.here.lie c.requires.column c.requires.in_rows
     (length-map c.args.row.now to_int ∙ c.requires.long)
-    (to_int c.in_ok-sample.sample) _ _ (map-set to_int c.args.row.now c.args.x c.in_ok-sample.sample) (stands_so _ _ _ _ (search rules) behind)
+    (to_int c.in_ok-sample.sample) _ _ (map-set to_int c.args.row.now c.args.x c.in_ok-sample.sample) (stands_so _ _ _ _ (search rules) after_it)

@@ -2,7 +2,7 @@ use Rattle.std.proofs.Common.{◌≡◌, ◌+◌, ◌*◌, ◌≤◌, map, ◌�
 use Rattle.jxlm_base.specs.Bits.{bytes_of, position_of}
 use Rattle.jxlm_part.specs.Inner.Rows.{StandsInRow, rule_in}
 use Rattle.jxlm_part.specs.Progress.{TakesSteps, place_of}
-use Rattle.jxlm_part.specs.Reading.{HasRoom, StandsBehind, cost_of, part_of, region_at, regions_of}
+use Rattle.jxlm_part.specs.Reading.{HasRoom, StandsAfter, cost_of, part_of, region_at, regions_of}
 use Rattle.jxlm_part.proofs.Loops.{row_done, takes_some}
 use Rattle.jxlm_part.proofs.RowSees.{stands_below}
 use Rattle.jxlm_part.proofs.RowsOn.{alike_self, err_written, ok_written, row_goes, row_keeps_rest, row_stopped}
@@ -56,7 +56,7 @@ returns-clause-stands g c =
     let region = region_at (regions_of c.args.coding.now) c.args.i in
     ok_written region c.args.y row c.args.store.now c.write_read.new.store c.read_row-read.result _
     (StandsInRow c.args.coding.now to_int c.args.store.now c.args.i c.args.y (map to_int row) state)
-    (StandsBehind c.args.coding.now to_int c.write_read.new.store c.args.i ((c.args.y + 1) * region.width) state) c.write_read.ensures c.read_row-read.ensures.stands
+    (StandsAfter c.args.coding.now to_int c.write_read.new.store c.args.i ((c.args.y + 1) * region.width) state) c.write_read.ensures c.read_row-read.ensures.stands
     (λ sets stands. stands_below c.args.coding.now c.args.i c.args.y to_int c.args.store.now c.write_read.new.store row state q.here.lie q.here.channel q.in_rows
     (c.read_row-read.auto.row ∙ q.long) sets stands)
 

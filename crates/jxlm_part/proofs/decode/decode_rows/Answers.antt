@@ -5,7 +5,7 @@ use Rattle.jxlm_base.specs.Regions.{store_meanings}
 use Rattle.jxlm_base.proofs.Outside.{all_lie_still, keeps_all, keeps_both}
 use Rattle.jxlm_part.specs.Inner.Rows.{ReadsRows}
 use Rattle.jxlm_part.specs.Progress.{TakesSteps, place_of}
-use Rattle.jxlm_part.specs.Reading.{FindsClusters, StandsBehind, cost_of, part_of, region_at, regions_of}
+use Rattle.jxlm_part.specs.Reading.{FindsClusters, StandsAfter, cost_of, part_of, region_at, regions_of}
 use Rattle.jxlm_part.proofs.Loops.{goes_further, stays, stops_further, takes_further, takes_none}
 use Rattle.jxlm_part.proofs.decode.decode_rows.Goals as goal
 
@@ -34,7 +34,7 @@ loop-y-init g c =
       keeps = keeps_all (regions_of c.args.coding.now) c.args.store.now;
       goes = stays g.D.Decoder.meaning g.S.Sealed.width part (bytes_of c.args.bits.now) (regions_of c.args.coding.now) (store_meanings to_int c.args.store.now) c.args.decoder.now (position_of c.args.bits.now)
           (place_of part c.args.i 0 0) (place_of part c.args.i 0 0) refl;
-      stands = subst (λ n. StandsBehind c.args.coding.now to_int c.args.store.now c.args.i n c.args.state.now) none c.requires.stands;
+      stands = subst (λ n. StandsAfter c.args.coding.now to_int c.args.store.now c.args.i n c.args.state.now) none c.requires.stands;
       roomy = c.requires.roomy;
       long = c.requires.long;
       work = takes_none (cost_of c.args.coding.now) (place_of part c.args.i 0 0) c.args.steps.now;

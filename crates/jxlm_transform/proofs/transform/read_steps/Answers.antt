@@ -2,8 +2,8 @@ use Rattle.std.proofs.Common.{◌≡◌, ◌++◌, ◌∷◌, [], refl, rules, S
 use Rattle.std.proofs.lemmas.List.Elements.{All-push}
 use Rattle.std.proofs.lemmas.Result.{err_from_is_err_and}
 use Rattle.jxlm_base.specs.Bits.{bytes_of, position_of}
-use Rattle.jxlm_base.specs.Fault.{bitstream_fault}
-use Rattle.jxlm_transform.proofs.Refusals.{unless_no_memory}
+use Rattle.jxlm_base.specs.ErrorKind.{bitstream_kind}
+use Rattle.jxlm_transform.proofs.Failures.{unless_no_memory}
 use Rattle.jxlm_transform.proofs.RepeatedLoop.{goes_on, stops}
 use Rattle.jxlm_transform.specs.Transforms.{squeeze_params, IsSqueezeParams}
 use Rattle.jxlm_transform.proofs.transform.read_steps.Goals as goal
@@ -12,9 +12,9 @@ pub returns-in_err-step-clause-gives : goal.returns-in_err-step-clause-gives
 returns-in_err-step-clause-gives c =
     let p = err_from_is_err_and c.from_residual.result c.from_residual.ensures.1 in
     let refused = stops squeeze_params (bytes_of c.args.bits.now) c.loop.steps.items c.args.count c.loop.counter (position_of c.loop.bits)
-    (record { fault = bitstream_fault c.in_err-step.field-0.0; position = Some (position_of c.parse.new.bits) }) _ c.loop-test.true
+    (record { error = bitstream_kind c.in_err-step.field-0.0; position = Some (position_of c.parse.new.bits) }) _ c.loop-test.true
     (rw c.loop.invariant.bytes at c.in_err-step.ensures.gives) c.loop.invariant.read in
-    rw (p.1, p.2) (unless_no_memory (bitstream_fault c.in_err-step.field-0.0) _ (record { place = Some (position_of c.parse.new.bits); refuses = refused; stands = refl }))
+    rw (p.1, p.2) (unless_no_memory (bitstream_kind c.in_err-step.field-0.0) _ (record { place = Some (position_of c.parse.new.bits); refuses = refused; stands = refl }))
 
 pub loop-preserved : goal.loop-preserved
 loop-preserved c =

@@ -1,6 +1,6 @@
 use Rattle.std.proofs.Common.{◌≡◌, ◌∷◌, [], map, sym, ap, ◌∙◌, arith, rules}
 use Rattle.std.proofs.lemmas.List.{length-map, map-append}
-use Rattle.jxlm_base.specs.Fault.{fault_of}
+use Rattle.jxlm_base.specs.ErrorKind.{kind_of}
 use Rattle.jxlm_tree.specs.Inner.Building.{listed_of, trees_in}
 use Rattle.jxlm_tree.specs.Inner.DraftReading.{node_of}
 use Rattle.jxlm_tree.specs.Tree.{levels, node_count}
@@ -62,7 +62,7 @@ returns-in_err-take_up-clause-err c =
     let split = split_at (map node_of c.args.nodes.items) (map node_of c.loop-node.nodes.items) front i.rest n i.whole last in
     let step = is_taken_up c.args.clusters.now t.0 (map node_of c.args.nodes.items) front i.rest n (listed_of c.numbered-node.result) c.loop-node.unnumbered (trees_in c.loop-node.queue.items) t.1
     split (rw (← place) (c.numbered-node.ensures.node i.rest)) i.taken in
-    let fact = too_deep_in_tree c.args.clusters.now c.args.depth_limit t.0 (with_clusters c.args.clusters.now 0 (map node_of c.args.nodes.items)) _ step.queue (fault_of c.in_err-take_up.field-0.0) t.1 step.taken step.shallow
+    let fact = too_deep_in_tree c.args.clusters.now c.args.depth_limit t.0 (with_clusters c.args.clusters.now 0 (map node_of c.args.nodes.items)) _ step.queue (kind_of c.in_err-take_up.field-0.0) t.1 step.taken step.shallow
     c.in_err-take_up.ensures.err in
     search rules
 

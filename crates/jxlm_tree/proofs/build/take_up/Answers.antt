@@ -1,18 +1,18 @@
 use Rattle.std.proofs.Common.{◌≡◌, ◌≤◌, ◌∷◌, ◌++◌, [], ap, ◌∙◌, arith, rules}
 use Rattle.std.proofs.lemmas.List.{map-append}
-use Rattle.jxlm_base.specs.Fault.{fault_of}
+use Rattle.jxlm_base.specs.ErrorKind.{kind_of}
 use Rattle.jxlm_tree.specs.Inner.Building.{listed_of, trees_in}
-use Rattle.jxlm_tree.specs.Inner.Queue.{IsRefusedInQueue, deepest, taken_up}
+use Rattle.jxlm_tree.specs.Inner.Queue.{IsErrorInQueue, deepest, taken_up}
 use Rattle.jxlm_tree.specs.Tree.{depth}
 use Rattle.jxlm_tree.specs.Inner.TreeShape.{shape_of}
-use Rattle.jxlm_tree.proofs.Queues.{deepest_behind, refused_in_queue, still_shallow}
+use Rattle.jxlm_tree.proofs.Queues.{deepest_after, refused_in_queue, still_shallow}
 use Rattle.jxlm_tree.proofs.build.take_up.Goals as goal
 use Rattle.jxlm_tree.proofs.build.take_up.Goals.{in-Leaf, in-Decision+in-Some+in-Some-pop_front+in_ok-subtree-in-Decision}
 
 pub returns-in_err-subtree-in-Decision-clause-err : goal.returns-in_err-subtree-in-Decision-clause-err
 returns-in_err-subtree-in-Decision-clause-err c =
     let items = c.in-Some.ensures.items ∙ ap (λ q. c.in-Some.right ∷ q) c.in-Some-pop_front.ensures.items in
-    let fact : IsRefusedInQueue c.args.depth_limit (taken_up (listed_of c.args.node) (trees_in c.args.queue.now.items)) (fault_of c.in_err-subtree-in-Decision.field-0.0) =
+    let fact : IsErrorInQueue c.args.depth_limit (taken_up (listed_of c.args.node) (trees_in c.args.queue.now.items)) (kind_of c.in_err-subtree-in-Decision.field-0.0) =
     rw (c.in-Decision.is, items)
     (refused_in_queue c.args.depth_limit _ _ (shape_of c.in-Some.right.tree) (shape_of c.in-Some-pop_front.left.tree) (trees_in c.pop_front-in-Decision.new.self.items) _ c.in_err-subtree-in-Decision.ensures.err) in
     search rules
@@ -23,7 +23,7 @@ returns-clause-shallow c =
     elim c.match-node.branch [
       | in-Leaf w ↦ rw w.queue-is c.requires.shallow
       | in-Decision+in-Some+in-Some-pop_front+in_ok-subtree-in-Decision w ↦
-          rw w.queue-is (deepest_behind (λ x. shape_of x.tree) c.args.depth_limit c.args.queue.now.items _ _ _ (w.in-Some.ensures.items ∙ ap (λ q. w.in-Some.right ∷ q) w.in-Some-pop_front.ensures.items) c.requires.shallow)
+          rw w.queue-is (deepest_after (λ x. shape_of x.tree) c.args.depth_limit c.args.queue.now.items _ _ _ (w.in-Some.ensures.items ∙ ap (λ q. w.in-Some.right ∷ q) w.in-Some-pop_front.ensures.items) c.requires.shallow)
     ] in
     let subtree : c.match-node.subtree.depth ≤ c.args.depth_limit =
     elim c.match-node.branch [

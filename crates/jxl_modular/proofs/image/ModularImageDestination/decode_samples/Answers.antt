@@ -4,7 +4,7 @@ use Rattle.jxlm_base.specs.Bits.{bytes_of, position_of}
 use Rattle.jxlm_base.specs.declared.error.Error.TheVariants.{Decoder}
 use Rattle.jxlm_header.specs.Header.{header_of}
 use Rattle.jxl_modular.specs.Image.{Image}
-use Rattle.jxlm_part.specs.Part.{greatest_width}
+use Rattle.jxlm_part.specs.Part.{max_width}
 use Rattle.jxl_modular.proofs.PartLaws.{refilled, is_coding, roomy_part, same_part, refuses_samples, refuses_so, with_store}
 use Rattle.jxl_modular.proofs.Laid.{coded_apart, coded_lie, same_but_store, still_laid}
 use Rattle.jxlm_chain.proofs.ShapeLaws.{shape_kept}
@@ -20,7 +20,7 @@ decode_part-requires-clause-apart g c κs within = rw c.deref-2.ensures.value (c
 pub decode_part-requires-clause-coding : goal.decode_part-requires-clause-coding
 decode_part-requires-clause-coding g c κs within =
     let ready = rw (← c.self.view_is) at c.in_ok-decoder.ensures.ok in
-    let widest = c.greatest_width.ensures ∙ ap greatest_width c.deref-4.ensures.value in
+    let widest = c.max_width.ensures ∙ ap max_width c.deref-4.ensures.value in
     is_coding _ c.self.invariant.laid _ c.deref.ensures.value c.deref-2.ensures.value refl refl (rw c.deref-3.ensures.value ready.flats_are) widest
 
 pub decode_part-requires-clause-clusters : goal.decode_part-requires-clause-clusters
@@ -29,7 +29,7 @@ decode_part-requires-clause-clusters g c κs within = rw (← c.self.view_is) at
 pub decode_part-requires-clause-roomy : goal.decode_part-requires-clause-roomy
 decode_part-requires-clause-roomy g c κs within =
     let ready = rw (← c.self.view_is) at c.in_ok-decoder.ensures.ok in
-    let widest = c.greatest_width.ensures ∙ ap greatest_width c.deref-4.ensures.value in
+    let widest = c.max_width.ensures ∙ ap max_width c.deref-4.ensures.value in
     roomy_part _ c.self.invariant.laid _ c.deref.ensures.value c.deref-2.ensures.value refl refl _ (rw (← c.self.view_is) at c.requires.some)
     (is_coding _ c.self.invariant.laid _ c.deref.ensures.value c.deref-2.ensures.value refl refl (rw c.deref-3.ensures.value ready.flats_are) widest) (rw (widest, c.deref-3.ensures.value) ready.roomy)
 

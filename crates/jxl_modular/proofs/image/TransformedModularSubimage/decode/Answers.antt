@@ -1,7 +1,7 @@
 use Rattle.std.proofs.Common.{refl}
 use Rattle.std.proofs.lemmas.Result.{err_from_is_err_and}
 use Rattle.jxlm_base.specs.Bits.{bytes_of, position_of}
-use Rattle.jxl_modular.proofs.PartLaws.{answers_whole, answers_empty, answers_fault}
+use Rattle.jxl_modular.proofs.PartLaws.{answers_whole, answers_empty, answers_error}
 use Rattle.jxl_modular.proofs.image.TransformedModularSubimage.decode.Goals as goal
 
 pub returns-then-not-has_samples-clause-answers : goal.returns-then-not-has_samples-clause-answers
@@ -13,7 +13,7 @@ pub returns-in_err-decode_samples-clause-answers : goal.returns-in_err-decode_sa
 returns-in_err-decode_samples-clause-answers g c =
     let p = err_from_is_err_and c.from_residual.result c.from_residual.ensures.1 in
     rw (p.1, p.2)
-    (answers_fault g.D.Decoder.meaning g.S.Sealed.width g.S.Sealed.to_int (bytes_of c.args.bits.now) c.args.self.now.image.now (position_of c.args.bits.now) c.args.self.now.partial c.args.stream_index
+    (answers_error g.D.Decoder.meaning g.S.Sealed.width g.S.Sealed.to_int (bytes_of c.args.bits.now) c.args.self.now.image.now (position_of c.args.bits.now) c.args.self.now.partial c.args.stream_index
     c.args.allow_partial _ c.decode_samples.new.self (position_of c.decode_samples.new.bits) c.args.self.now.steps c.decode_samples.new.steps c.requires.whole (c.if-not-has_samples.ensures.samples.0 refl)
     c.in_err-decode_samples.ensures.more c.in_err-decode_samples.ensures.err)
 

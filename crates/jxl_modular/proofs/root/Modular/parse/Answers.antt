@@ -5,9 +5,9 @@ use Rattle.jxlm_tree.specs.TreeReading.{TreeGives, IsTreeAt}
 use Rattle.jxlm_header.specs.Opening.{depth_limit, opening_of}
 use Rattle.jxl_modular.specs.Parsing.{ParseGives, opened}
 use Rattle.jxlm_header.specs.declared.header.ModularHeader.{ModularHeader}
-use Rattle.jxl_modular.proofs.ParsingLaws.{image_stands, same_list, tree_refused, not_zero, gives_image, gives_fault}
+use Rattle.jxl_modular.proofs.ParsingLaws.{image_stands, same_list, tree_refused, not_zero, gives_image, gives_error}
 use Rattle.jxl_modular.proofs.root.Modular.parse.Goals as goal
-use Rattle.jxlm_base.specs.Fault.{fault_of}
+use Rattle.jxlm_base.specs.ErrorKind.{kind_of}
 use Rattle.jxlm_transform.specs.Channels.{Channel, IsNarrow, area, image_list, list_of}
 use Rattle.jxlm_chain.specs.Layout.{first_layout}
 use Rattle.jxlm_chain.specs.Placed.{IsPlacedBy}
@@ -54,7 +54,7 @@ returns-in_err-image-clause-gives g c =
     let some : 0 < length ps = omega (arith, counted_some, params.channels.ok.0) in
     let e = c.in_err-image.field-0.0 in
     let q = position_of c.parse.new.bits in
-    let answer : ParseGives d zero bytes p params ps (Err e) q = gives_fault d zero bytes p params ps e q some (no_memory (fault_of e) _ c.in_err-image.ensures.err) in
+    let answer : ParseGives d zero bytes p params ps (Err e) q = gives_error d zero bytes p params ps e q some (no_memory (kind_of e) _ c.in_err-image.ensures.err) in
     search rules
 
 pub returns-in_err-ma_ctx-clause-gives : goal.returns-in_err-ma_ctx-clause-gives
@@ -78,7 +78,7 @@ returns-in_err-ma_ctx-clause-gives g c =
     let e = c.in_err-ma_ctx.field-0.0 in
     let q = position_of c.parse.new.bits in
     let gives : TreeGives d bytes limit depth_limit m (Err e) q = rw c.in_ok-header.ensures.bytes at c.in_err-ma_ctx.ensures.gives in
-    let answer : ParseGives d zero bytes p params ps (Err e) q = gives_fault d zero bytes p params ps e q some (tree_refused d zero bytes p params o m opens limit counted e q gives) in
+    let answer : ParseGives d zero bytes p params ps (Err e) q = gives_error d zero bytes p params ps e q some (tree_refused d zero bytes p params o m opens limit counted e q gives) in
     search rules
 
 pub returns-clause-gives : goal.returns-clause-gives

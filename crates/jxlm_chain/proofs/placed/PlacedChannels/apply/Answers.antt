@@ -1,7 +1,7 @@
 use Rattle.std.proofs.Common.{List, ◌≡◌, ◌<◌, ◌∙◌, ap, length, map, sym, subst, arith, Ok}
 use Rattle.std.proofs.lemmas.Result.{err_from_is_err_and}
 use Rattle.std.specs.List.{All}
-use Rattle.jxlm_base.specs.Fault.{fault_of}
+use Rattle.jxlm_base.specs.ErrorKind.{kind_of}
 use Rattle.jxlm_transform.specs.Channels.{list_of}
 use Rattle.jxlm_transform.specs.ChannelSteps.{coded_list}
 use Rattle.jxlm_transform.specs.Transforms.{HasChannels, transform_of}
@@ -36,7 +36,7 @@ returns-in_err-add-clause-gives c =
     let ts = c.loop-transform.transform-items in
     let i = c.loop-transform.transform-index in
     let there : i < length ts = omega (arith, c.loop-transform-test.true, c.loop-transform.auto.transform-items) in
-    let refused = prepared_refused ts i c.transform-item.result (list_of c.loop-transform.self.channels) (fault_of c.in_err-add.field-0.0) _ there c.in_err-add.ensures.gives c.loop-transform.invariant.so_far in
+    let refused = prepared_refused ts i c.transform-item.result (list_of c.loop-transform.self.channels) (kind_of c.in_err-add.field-0.0) _ there c.in_err-add.ensures.gives c.loop-transform.invariant.so_far in
     rw (p.1, p.2) refused
 
 pub loop-transform-preserved : goal.loop-transform-preserved

@@ -1,8 +1,8 @@
 use Rattle.std.proofs.Common.{◌≡◌, ◌∙◌, Ok}
 use Rattle.std.proofs.lemmas.Result.{err_from_is_err_and}
 use Rattle.jxlm_base.specs.Bits.{bytes_of, position_of}
-use Rattle.jxlm_base.specs.Fault.{fault_of, UnlessNoMemory}
-use Rattle.jxlm_base.specs.Grammar.{IsRefused, repeated, u32}
+use Rattle.jxlm_base.specs.ErrorKind.{kind_of, UnlessNoMemory}
+use Rattle.jxlm_base.specs.Grammar.{IsErrorAt, repeated, u32}
 use Rattle.jxlm_base.specs.declared.bits.U32Spec.TheVariants.{Const, Offset}
 use Rattle.jxlm_transform.specs.Transforms.{transform}
 use Rattle.jxlm_tree.specs.WeightsHeader.{wp_header}
@@ -12,7 +12,7 @@ use Rattle.jxlm_header.proofs.header.ModularHeader.parse.Goals as goal
 pub returns-in_err-transform-clause-gives : goal.returns-in_err-transform-clause-gives
 returns-in_err-transform-clause-gives c =
     let p = err_from_is_err_and c.from_residual-in_err-transform.result c.from_residual-in_err-transform.ensures.1 in
-    let fault = fault_of c.in_err-transform.field-0.0 in
+    let error = kind_of c.in_err-transform.field-0.0 in
     let bytes = bytes_of c.args.bits.now in
     let a = position_of c.read_bool.new.self in
     let b = position_of c.parse.new.bits in
@@ -23,5 +23,5 @@ returns-in_err-transform-clause-gives c =
     let to_weights = c.parse.ensures.bytes ∙ c.read_bool.ensures.bytes in
     let second : wp_header.read bytes a ≡ Ok (record { value = weights; position = b }) = rw c.read_bool.ensures.bytes at c.in_ok-wp_params.ensures.gives in
     let third : (u32 (Const 0) (Const 1) (Offset 2 4) (Offset 18 8)).read bytes b ≡ Ok (record { value = n; position = m }) = rw to_weights at c.in_ok-nb_transforms.ensures.gives in
-    let gives : UnlessNoMemory fault (IsRefused ((repeated n (transform weights)).read bytes m) fault q) = rw (c.read_u32.ensures.bytes ∙ to_weights) at c.in_err-transform.ensures.gives in
-    rw (p.1, p.2) (listed_refused bytes (position_of c.args.bits.now) c.in_ok-use_global_tree.use_global_tree a weights b n m fault q c.in_ok-use_global_tree.ensures.gives second third gives)
+    let gives : UnlessNoMemory error (IsErrorAt ((repeated n (transform weights)).read bytes m) error q) = rw (c.read_u32.ensures.bytes ∙ to_weights) at c.in_err-transform.ensures.gives in
+    rw (p.1, p.2) (listed_refused bytes (position_of c.args.bits.now) c.in_ok-use_global_tree.use_global_tree a weights b n m error q c.in_ok-use_global_tree.ensures.gives second third gives)

@@ -14,7 +14,7 @@ returns-clause-current g c = record {
   correction_is = λ s samples stands. c.correction-correction.ensures s samples stands (c.around-around.ensures s samples stands);
   own_is = λ s samples stands.
       let state = c.args.self.now in
-      let e : FitsSigned w32 c.greatest_error-max_error.result = search rules in
+      let e : FitsSigned w32 c.maximum_error-max_error.result = search rules in
       let made = c.correction-correction.ensures s samples stands (c.around-around.ensures s samples stands) in
       let a = c.around-around.result in
       let fw : FitsSigned w32 c.around-around.result.w = search rules in
@@ -28,7 +28,7 @@ returns-clause-current g c = record {
       let here = row_is _ _ _ _ _ _ _ _ _ _ at in
       let in_row = at.in_row in
       let wide = c.requires.ready.stands.same_width in
-      let error : c.greatest_error-max_error.result ≡ error_property s.weights samples s.width = c.greatest_error-max_error.ensures s.weights s.width samples made in
-      c.own_properties-own.ensures ∙ rw (to_z-of_z w32 c.args.self.now.gradient fg, to_z-of_z w32 c.greatest_error-max_error.result e)
-      (own_kept s state.x state.y state.w state.n state.nw state.gradient c.greatest_error-max_error.result state.previous.items state.current.items samples (seen a) stands.rolls (omega arith) (omega arith) (c.around-around.ensures s samples stands) fw fn e error);
+      let error : c.maximum_error-max_error.result ≡ error_property s.weights samples s.width = c.maximum_error-max_error.ensures s.weights s.width samples made in
+      c.own_properties-own.ensures ∙ rw (to_z-of_z w32 c.args.self.now.gradient fg, to_z-of_z w32 c.maximum_error-max_error.result e)
+      (own_kept s state.x state.y state.w state.n state.nw state.gradient c.maximum_error-max_error.result state.previous.items state.current.items samples (seen a) stands.rolls (omega arith) (omega arith) (c.around-around.ensures s samples stands) fw fn e error);
 }

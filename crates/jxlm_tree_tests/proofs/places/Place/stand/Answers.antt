@@ -15,13 +15,13 @@ pub loop-sample-preserved : goal.loop-sample-preserved
 loop-sample-preserved g c =
     let here = c.args.self.now in
     let s = setting here.width here.weights c.args.regions.now in
-    let behind = c.loop-sample.invariant in
+    let after_it = c.loop-sample.invariant in
     let unchanged = c.properties.ensures.unchanged in
-    let moved = c.record.ensures.stands s behind.before (rw unchanged behind.stands) in
+    let moved = c.record.ensures.stands s after_it.before (rw unchanged after_it.stands) in
     let sample = to_z w32 (of_z w32 (get_or c.deref-sample-items.result.now c.loop-sample.sample-index (pos 0))) in
-    let samples = behind.before ++ sample ∷ [] in
+    let samples = after_it.before ++ sample ∷ [] in
     record {
       before = samples;
       stands = subst (λ state. StandsAt state s samples) (search rules) moved;
-      count_is = length_push behind.before sample ∙ ap (λ n. n + 1) behind.count_is;
+      count_is = length_push after_it.before sample ∙ ap (λ n. n + 1) after_it.count_is;
     }

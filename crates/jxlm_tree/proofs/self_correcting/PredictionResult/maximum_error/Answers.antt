@@ -2,7 +2,7 @@ use Rattle.std.proofs.Common.{FitsSigned, ◌∙◌, rules}
 use Rattle.std.specs.Int.{w32}
 use Rattle.std.proofs.lemmas.Int.{to_z-of_z}
 use Rattle.jxlm_tree.proofs.PropertiesLaws.{error-some, error-none}
-use Rattle.jxlm_tree.proofs.self_correcting.PredictionResult.greatest_error.Goals as goal
+use Rattle.jxlm_tree.proofs.self_correcting.PredictionResult.maximum_error.Goals as goal
 
 pub returns-in-Some : goal.returns-in-Some
 returns-in-Some c = λ weights width samples made.

@@ -1,7 +1,7 @@
 use Rattle.std.proofs.Common.{pos, ◌-ℤ◌, ◌*ℤ◌, FitsSigned, refl, arith, rules}
 use Rattle.std.specs.Int.{w32, w64}
 use Rattle.std.proofs.lemmas.Int.{to_z-of_z, ints}
-use Rattle.jxlm_tree.proofs.self_correcting.PredictionResult.errors_behind.Goals as goal
+use Rattle.jxlm_tree.proofs.self_correcting.PredictionResult.errors_after.Goals as goal
 
 pub returns : goal.returns
 returns c =

@@ -1,14 +1,14 @@
 -- Facts of errors other than out of memory.
 use Rattle.std.proofs.Common.{◌≡◌, ℕ, List, Ok, Some, refl, false}
 use Rattle.std.specs.Prelude.{codes, ◌==◌}
-use Rattle.jxlm_base.specs.Fault.{Fault, Eof, BadEnum, BadProfile, BadTree, NoGlobalTree, BadRct, BadPalette, BadSqueeze, OfDecoder, NoMemory, UnlessMemory, UnlessNoMemory}
-use Rattle.jxlm_base.specs.Grammar.{IsRefused, number}
+use Rattle.jxlm_base.specs.ErrorKind.{ErrorKind, Eof, BadEnum, BadProfile, BadTree, NoGlobalTree, BadRct, BadPalette, BadSqueeze, OfDecoder, NoMemory, UnlessMemory, UnlessNoMemory}
+use Rattle.jxlm_base.specs.Grammar.{IsErrorAt, number}
 use Rattle.jxlm_base.specs.declared.decoder.DecoderError.TheVariants as decoder
 use Rattle.jxlm_transform.specs.Transforms.{squeeze, transform}
 use Rattle.jxlm_tree.specs.declared.predictor.WpHeader.{WpHeader}
 
 -- a fact holds also where it is asked for unless it is out of memory
-pub unless_no_memory : (fault : Fault) (P : Type 0) → P → UnlessNoMemory fault P
+pub unless_no_memory : (error : ErrorKind) (P : Type 0) → P → UnlessNoMemory error P
 unless_no_memory NoMemory P holds = tt
 unless_no_memory Eof P holds = holds
 unless_no_memory (BadEnum name value) P holds = holds
@@ -21,7 +21,7 @@ unless_no_memory BadSqueeze P holds = holds
 unless_no_memory (OfDecoder e) P holds = holds
 
 -- and so does a fact that follows from one
-pub unless_so : (fault : Fault) (P Q : Type 0) → (P → Q) → UnlessNoMemory fault P → UnlessNoMemory fault Q
+pub unless_so : (error : ErrorKind) (P Q : Type 0) → (P → Q) → UnlessNoMemory error P → UnlessNoMemory error Q
 unless_so NoMemory P Q step holds = tt
 unless_so Eof P Q step holds = step holds
 unless_so (BadEnum name value) P Q step holds = step holds
@@ -34,7 +34,7 @@ unless_so BadSqueeze P Q step holds = step holds
 unless_so (OfDecoder e) P Q step holds = step holds
 
 -- and where a decoder may be out of memory too
-pub unless_memory : (fault : Fault) (P : Type 0) → UnlessNoMemory fault P → UnlessMemory fault P
+pub unless_memory : (error : ErrorKind) (P : Type 0) → UnlessNoMemory error P → UnlessMemory error P
 unless_memory NoMemory P holds = tt
 unless_memory Eof P holds = holds
 unless_memory (BadEnum name value) P holds = holds
@@ -49,11 +49,11 @@ unless_memory (OfDecoder (decoder.Invalid code)) P holds = holds
 unless_memory (OfDecoder decoder.OutOfMemory) P holds = tt
 
 -- where a squeeze gives an error after its kind, so does the transform
-pub squeeze_refused : (weights : WpHeader) (bytes : List ℕ) (p m q : ℕ) (fault : Fault) → (number 2).read bytes p ≡ Ok (record { value = 2; position = m }) →
-    IsRefused (squeeze.read bytes m) fault q → IsRefused ((transform weights).read bytes p) fault q
-squeeze_refused weights bytes p m q fault kind refused = record { place = refused.place; refuses = rw (kind, refused.refuses) refl; stands = refused.stands }
+pub squeeze_refused : (weights : WpHeader) (bytes : List ℕ) (p m q : ℕ) (error : ErrorKind) → (number 2).read bytes p ≡ Ok (record { value = 2; position = m }) →
+    IsErrorAt (squeeze.read bytes m) error q → IsErrorAt ((transform weights).read bytes p) error q
+squeeze_refused weights bytes p m q error kind refused = record { place = refused.place; refuses = rw (kind, refused.refuses) refl; stands = refused.stands }
 
 -- a kind above 2 has no meaning
 pub kind_refused : (weights : WpHeader) (bytes : List ℕ) (p m k : ℕ) → (number 2).read bytes p ≡ Ok (record { value = k; position = m }) → (k == 0) ≡ false → (k == 1) ≡ false → (k == 2) ≡ false →
-    IsRefused ((transform weights).read bytes p) (BadEnum (codes "TransformId") k) m
+    IsErrorAt ((transform weights).read bytes p) (BadEnum (codes "TransformId") k) m
 kind_refused weights bytes p m k kind not0 not1 not2 = record { place = Some m; refuses = rw (kind, not0, not1, not2) refl; stands = refl }

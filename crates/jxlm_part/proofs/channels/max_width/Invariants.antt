@@ -1,0 +1,6 @@
+use Rattle.std.proofs.Common.{◌≡◌, drop, max}
+use Rattle.jxlm_part.specs.Part.{max_width}
+use Rattle.jxlm_part.proofs.channels.max_width.Given as goal
+
+abbrev pub invariant-loop-channel : goal.invariant-loop-channel
+invariant-loop-channel l = max l.widest (max_width (drop l.channel-index l.channels)) ≡ max_width l.channels
