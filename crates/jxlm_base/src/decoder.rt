@@ -194,7 +194,7 @@ mod tests {
             (DecoderError::OutOfMemory, false, "out of memory"),
         ] {
             assert_eq!(rt; error.unexpected_eof(), is_eof, "{text}");
-            let shown = format!(in rt.alloc(); "{fault}")?;
+            let shown = format!(in rt.alloc(); "{error}")?;
             assert_eq!(rt; shown.as_str(), text);
         }
         Ok(())

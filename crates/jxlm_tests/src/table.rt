@@ -50,8 +50,8 @@ fn told(alloc: Global, outcome: &Outcome, summed: bool) -> Result<String, Fail> 
     let position = outcome.position;
     Ok(match outcome.error {
         None => format!(in alloc; "{samples}@{position}")?,
-        Some(error) if samples.is_empty() => format!(in alloc; "{fault}")?,
-        Some(error) => format!(in alloc; "{samples}@{position} {fault}")?,
+        Some(error) if samples.is_empty() => format!(in alloc; "{error}")?,
+        Some(error) => format!(in alloc; "{samples}@{position} {error}")?,
     })
 }
 

@@ -69,7 +69,7 @@ pub fn read_tree<D: Decoder>(
             let (nodes, depth) = (config.num_tree_nodes(), config.tree_depth());
             format!(in alloc; "{nodes} nodes, depth {depth} @{position}")?
         }
-        Err(error) => format!(in alloc; "{fault} @{position}")?,
+        Err(error) => format!(in alloc; "{error} @{position}")?,
     };
     assert_eq!(rt; seen.as_str(), expected, "{place}");
     Ok(parsed.ok())

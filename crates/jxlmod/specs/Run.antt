@@ -4,13 +4,13 @@ use Rattle.std.specs.Io.KnownBytes.{Appends, Consumes, IsAtEnd}
 use Rattle.jxlmod.specs.Arguments.{channels_of}
 use Rattle.jxlmod.specs.declared.arguments.Command.{Command}
 use Rattle.jxlmod.specs.declared.run.Failure.{Failure}
-use Rattle.jxlmod.specs.declared.run.Failure.TheVariants.{WrongArguments, Unreadable, ErrorAt, Unwritable}
+use Rattle.jxlmod.specs.declared.run.Failure.TheVariants.{WrongArguments, Unreadable, Image, Unwritable}
 
 -- the status with which the program ends after a failure
 abbrev pub status_of : Failure → ℕ
 status_of WrongArguments = 2
 status_of Unreadable = 1
-status_of (ErrorAt e) = 1
+status_of (Image e) = 1
 status_of Unwritable = 1
 
 -- the input was read to its end, from left to rest; a text was made of its bytes; the output, which held `held`,

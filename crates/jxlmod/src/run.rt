@@ -25,18 +25,18 @@ pub enum Failure {
     /// The input cannot be read, or it is out of memory for it.
     Unreadable,
     /// The image gives this error.
-    ErrorAt(Error),
+    Image(Error),
     /// The output cannot be written.
     Unwritable,
 }
 
 impl From<Error> for Failure {
-    ghost use Rattle.jxlmod.specs.declared.run.Failure.TheVariants.{ErrorAt};
+    ghost use Rattle.jxlmod.specs.declared.run.Failure.TheVariants.{Image};
 
-    ghost from_gives = { λ error failure. failure ≡ ErrorAt error };
+    ghost from_gives = { λ error failure. failure ≡ Image error };
 
     fn from(error: Error) -> Failure {
-        Failure::ErrorAt(error)
+        Failure::Image(error)
     }
 }
 
@@ -126,7 +126,7 @@ pub fn run<R: Read, W: Write, E: Write>(
 /// # Errors
 ///
 /// `WrongArguments` comes before the input is read. `Unreadable` shows only for a command with
-/// channels. `ErrorAt` is the error that the drawer returns for all the bytes of the input, and the
+/// channels. `Image` is the error that the drawer returns for all the bytes of the input, and the
 /// output stays then; `Unwritable` shows only when a text was made.
 pub fn carry_out<R: Read, W: Write, D: Draw>(
     alloc: Global,
@@ -145,7 +145,7 @@ pub fn carry_out<R: Read, W: Write, D: Draw>(
     ensures done { OnOk result ((c : Command) → AreFor (map string_bytes words.now) c → 0 < channels_of c
         → IsDrawn (λ bytes text. D.answers bytes c (Ok text))
         (R.remaining input.old) (R.remaining input.new) (W.contents output.old) (W.contents output.new)) }
-    ensures refused { IfErr result (λ failure. (e : Error) → failure ≡ Failure.ErrorAt e
+    ensures refused { IfErr result (λ failure. (e : Error) → failure ≡ Failure.Image e
         → IsAnswered (λ c bytes. AreFor (map string_bytes words.now) c × D.answers bytes c (Err e))
         (R.remaining input.old) (R.remaining input.new)) }
     ensures unwritten { IfErr result (λ failure. failure ≡ Failure.Unwritable
@@ -185,7 +185,7 @@ pub fn report<E: Write>(errors: &mut E, failure: Failure) -> u8
     let _ = match failure {
         Failure::WrongArguments => writeln!(errors, "{USAGE}"),
         Failure::Unreadable => writeln!(errors, "error: cannot read standard input"),
-        Failure::ErrorAt(error) => writeln!(errors, "error: {fault}"),
+        Failure::Image(error) => writeln!(errors, "error: {error}"),
         Failure::Unwritable => Ok(()),
     };
     match failure {
