@@ -325,8 +325,8 @@ mod tests {
     // A table whose height is squeezed 296 times: eight steps are nine bytes. The shifts of a table stay.
     #[test]
     fn as_many_squeeze_steps_as_can_be_listed(rt: HostRuntime) -> Result<(), Fail> {
-        let before_it = [0, 0, 0, 0, 0, 0, 0x40, 0x08, 0x40, 0x01, 0xE0, 0xFF];
-        let mut bytes = Vec::from_slice(rt.alloc(), &before_it)?;
+        let start = [0, 0, 0, 0, 0, 0, 0x40, 0x08, 0x40, 0x01, 0xE0, 0xFF];
+        let mut bytes = Vec::from_slice(rt.alloc(), &start)?;
         for _ in 0..37 {
             bytes.extend_from_slice(&[2, 4, 8, 16, 32, 64, 128, 0, 1])?;
         }

@@ -172,9 +172,9 @@ impl<'a> Bitstream<'a> {
     {
         if self.bytes.len() - self.byte < 8 {
             // a copy, so that a reader in a local variable may stay in registers
-            let mut before_it = *self;
-            let value = before_it.read_near_end(n)?;
-            *self = before_it;
+            let mut after = *self;
+            let value = after.read_near_end(n)?;
+            *self = after;
             return Ok(value);
         }
         let end = self.bit + n;
@@ -251,9 +251,9 @@ impl<'a> Bitstream<'a> {
             ((the_u32 d0 d1 d2 d3).read (bytes_of self.old) (position_of self.old)) }
         ensures bytes { bytes_of self.new ≡ bytes_of self.old }
     {
-        let mut before_it = *self;
-        let value = before_it.read_selected(d0, d1, d2, d3)?;
-        *self = before_it;
+        let mut after = *self;
+        let value = after.read_selected(d0, d1, d2, d3)?;
+        *self = after;
         Ok(value)
     }
 }

@@ -102,7 +102,7 @@ each_sees_before channels grids i j fit l h =
     let all = s.all in
     let count : length (take (b + j) (cells_of grids)) ≡ b + j = length-take-le (b + j) (cells_of grids) (omega (arith, all, h)) in
     record {
-      after_it = refl;
+      is_prefix = refl;
       stands = ap (channel_of channels) count ∙ channel_at channels i j l h;
       own = first_samples channels grids i j s h;
       earlier = λ e before.

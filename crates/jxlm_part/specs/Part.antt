@@ -96,7 +96,7 @@ grid grids i = slice_index_or grids i (record { width = 0; height = 0; cells = [
 -- After the first cells of some grids, up to cell j of channel i, the next sample sees the first j samples of its own
 -- grid, and the earlier grids whole.
 pub record SeesBefore (channels : List Channel) (grids : List (Grid ℤ)) (i j : ℕ) (before : List ℤ) : Type 0 where
-  pub after_it : before ≡ take (cells_before channels i + j) (cells_of grids)
+  pub is_prefix : before ≡ take (cells_before channels i + j) (cells_of grids)
   pub stands : next_channel channels before ≡ i
   pub own : samples_of channels before i ≡ take j (grid grids i).cells
   pub earlier : (e : ℕ) → e < i → grid_of channels before e ≡ grid grids e

@@ -254,7 +254,7 @@ module _ {S : Type 0} (to_int : S → ℤ) (t : Palette) (p : FinishedChannel) (
 
     pub part_filled : ((j : ℕ) → j < n → number_of to_int vs j ≡ finished_sample w depth t table (get_or index.cells (start + j) (pos 0)) p.number (up_to (start + j)) index.width) →
         Filled w depth t p table index (start + n) (store_meanings to_int new)
-    part_filled each = record { samples = filled_until n (omega arith) each; before_it = part_ahead table index f.before_it; as_wide = f.as_wide }
+    part_filled each = record { samples = filled_until n (omega arith) each; later_cells = part_ahead table index f.later_cells; as_wide = f.as_wide }
 
 -- ---- a part of a row looked up
 
@@ -284,8 +284,8 @@ module _ {S : Type 0} (to_int : S → ℤ) (t : Palette) (p : FinishedChannel) (
         let within : unsigned_abs i < p.table.width = omega (arith, columns, simple_place t i (simple j h)) in
         let before : List ℤ = finished_samples w depth t table index p.number (k + j) in
         let place : y * p.index.width + (x + j) ≡ k + j = omega arith in
-        let there : i ≡ get_or index.cells (k + j) (pos 0) = sym (read_index j h) ∙ ap (λ m. get_or (index_in p (store_meanings to_int old)).cells m (pos 0)) place ∙ f.before_it.indices (k + j) (omega arith) in
+        let there : i ≡ get_or index.cells (k + j) (pos 0) = sym (read_index j h) ∙ ap (λ m. get_or (index_in p (store_meanings to_int old)).cells m (pos 0)) place ∙ f.later_cells.indices (k + j) (omega arith) in
         found j h
-        ∙ ap (int_wrap w) (sym (row_number to_int old p.table (unsigned_abs i) p.number colours within lies.row (is_colours (unsigned_abs i) within)) ∙ ap (λ (g : Grid ℤ). looked_up g i p.number) f.before_it.table_is)
+        ∙ ap (int_wrap w) (sym (row_number to_int old p.table (unsigned_abs i) p.number colours within lies.row (is_colours (unsigned_abs i) within)) ∙ ap (λ (g : Grid ℤ). looked_up g i p.number) f.later_cells.table_is)
         ∙ sym (simple_sample w depth t table i p.number before index.width (simple j h))
         ∙ ap (λ z. finished_sample w depth t table z p.number before index.width) there)

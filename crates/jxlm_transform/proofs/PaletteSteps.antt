@@ -94,7 +94,7 @@ module _ {S : Type 0} (to_int : S → ℤ) (t : Palette) (p : FinishedChannel) (
       record {
         samples = ap (take (k + 1)) cells_set ∙ take_more_set (cells_of old p.target) k (to_int s) within
             ∙ ap (λ xs. xs ++ to_int s ∷ []) f.samples ∙ ap (λ z. fs k ++ z ∷ []) e ∙ ap fs more;
-        before_it = ahead_set table index f.before_it;
+        later_cells = ahead_set table index f.later_cells;
         as_wide = f.as_wide;
       }
 
@@ -138,7 +138,7 @@ module _ {S : Type 0} (to_int : S → ℤ) (t : Palette) (p : FinishedChannel) w
 
   -- nothing is finished at first
   pub nothing_filled : (w : Width) (depth : ℕ) (ints : List (Grid ℤ)) → Filled w depth t p (table_in p ints) (index_in p ints) 0 ints
-  nothing_filled w depth ints = record { samples = refl; before_it = record { table_is = refl; indices = λ i l. refl }; as_wide = refl }
+  nothing_filled w depth ints = record { samples = refl; later_cells = record { table_is = refl; indices = λ i l. refl }; as_wide = refl }
 
   pub ahead_both : (a b c : List (Grid ℤ)) (k k' : ℕ) → k ≤ k' → kept p k a b → kept p k' b c → kept p k' a c
   ahead_both a b c k k' l f g = record {
@@ -162,9 +162,9 @@ module _ {S : Type 0} (to_int : S → ℤ) (t : Palette) (p : FinishedChannel) (
       FillsOnBy w depth t p k k' (store_meanings to_int old) state (store_meanings to_int new) state'
   predicted_fills k k' is next step table index f stands =
       let fs : ℕ → List ℤ = finished_samples w depth t table index p.number in
-      let there : at (index_in p ints) x y ≡ get_or index.cells k (pos 0) = index_at to_int t p ints k x y table index f.before_it is in
+      let there : at (index_in p ints) x y ≡ get_or index.cells k (pos 0) = index_at to_int t p ints k x y table index f.later_cells is in
       let value : sample_after (fs k) ≡ finished_sample w depth t table (get_or index.cells k (pos 0)) p.number (fs k) index.width =
-      ap (λ (g : Grid ℤ). finished_sample w depth t g (at (index_in p ints) x y) p.number (fs k) p.index.width) f.before_it.table_is
+      ap (λ (g : Grid ℤ). finished_sample w depth t g (at (index_in p ints) x y) p.number (fs k) p.index.width) f.later_cells.table_is
       ∙ ap (λ j. finished_sample w depth t table j p.number (fs k) p.index.width) there
       ∙ ap (λ n. finished_sample w depth t table (get_or index.cells k (pos 0)) p.number (fs k) n) (sym f.as_wide) in
       let done = step (fs k) stands in

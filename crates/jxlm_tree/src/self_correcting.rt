@@ -556,7 +556,7 @@ impl Corrector {
         sample: i32,
     )
         requires { HoldsColumn corrector.old x }
-        ensures after_it { (weights : Option WpHeader) (width y : ℕ) (samples : List ℤ)
+        ensures corrects { (weights : Option WpHeader) (width y : ℕ) (samples : List ℤ)
             → Corrects corrector.old weights width x y samples → length samples ≡ y * width + x
             → IsMade made weights width samples → CorrectsAfter corrector.new weights width x y
             (samples ++ sample ∷ []) }

@@ -74,7 +74,7 @@ module _ (w : Width) (depth : ℕ) (t : Palette) (p : FinishedChannel) where
   -- the first k samples are finished
   pub record Filled (table index : Grid ℤ) (k : ℕ) (ints : List (Grid ℤ)) : Type 0 where
     pub samples : take k (grid_of ints p.target).cells ≡ finished_samples w depth t table index p.number k
-    pub before_it : StillToCome p k table index ints
+    pub later_cells : StillToCome p k table index ints
     pub as_wide : index.width ≡ p.index.width
 
   -- Whatever the table and the indices were: where the first `from` samples were finished, the first `to` are now.

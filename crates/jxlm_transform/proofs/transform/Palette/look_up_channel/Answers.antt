@@ -36,7 +36,7 @@ look_up_row-requires-clause-simple g c κs within =
     let now = store_meanings to_int c.loop-y.store in
     let filled = c.loop-y.invariant.fills 0 (table_in p old) (index_in p old) (nothing_filled to_int t p g.S.Sealed.width 0 old) in
     λ x h.
-    subst (IsSimpleIndex t) (sym (later_index to_int t p now (y * p.index.width) x y (table_in p old) (index_in p old) filled.before_it refl (omega arith))) (c.requires.simple y c.loop-y-test.true x h)
+    subst (IsSimpleIndex t) (sym (later_index to_int t p now (y * p.index.width) x y (table_in p old) (index_in p old) filled.later_cells refl (omega arith))) (c.requires.simple y c.loop-y-test.true x h)
 
 pub loop-y-preserved : goal.loop-y-preserved
 loop-y-preserved g c =

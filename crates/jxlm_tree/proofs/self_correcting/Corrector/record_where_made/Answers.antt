@@ -3,8 +3,8 @@ use Rattle.std.proofs.lemmas.Int.{to_z-of_z}
 use Rattle.jxlm_tree.proofs.StandingLaws.{recorded}
 use Rattle.jxlm_tree.proofs.self_correcting.Corrector.record_where_made.Goals as goal
 
-pub returns-in-Some-made-clause-after_it : goal.returns-in-Some-made-clause-after_it
-returns-in-Some-made-clause-after_it c = λ weights width y samples corrects place made.
+pub returns-in-Some-made-clause-corrects : goal.returns-in-Some-made-clause-corrects
+returns-in-Some-made-clause-corrects c = λ weights width y samples corrects place made.
     recorded c.in-Some.corrector c.record.new.self c.in-Some-made.made weights width c.args.x y samples (samples ++ c.args.sample ∷ []) (rw c.in-Some.is at corrects) (rw c.in-Some-made.is at made)
     (λ header by makes. rw (to_z-of_z w32 c.args.sample c.ranges.sample) at (c.record.ensures.next header width y samples by place makes))
 

@@ -11,7 +11,7 @@ returns-clause-stands g c = λ s samples stands made.
     let kept = c.roll.ensures.kept in
     let wide = stands.same_width in
     let rolls = rw (to_z-of_z w32 c.args.sample c.ranges.sample) at (c.roll.ensures.rolls samples (subst (λ (w : ℕ). Rolls w old.x old.y old.w old.n old.nw old.gradient old.previous.items old.current.items samples) (sym wide) stands.rolls)) in
-    let after_it = rw (to_z-of_z w32 c.args.sample c.ranges.sample) at (c.record_where_made.ensures.after_it s.weights s.width old.y samples stands.corrects stands.rolls.place made) in
+    let after_it = rw (to_z-of_z w32 c.args.sample c.ranges.sample) at (c.record_where_made.ensures.corrects s.weights s.width old.y samples stands.corrects stands.rolls.place made) in
     record {
       same_width = kept.same_width ∙ wide;
       same_earlier = ap (λ (v : _). v.items) kept.same_earlier ∙ stands.same_earlier;
