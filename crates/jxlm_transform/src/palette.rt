@@ -444,7 +444,8 @@ impl Palette {
         ensures kept { kept channel (y * channel.index.width + x + length line.old)
             (store_meanings S.to_int store.old) (store_meanings S.to_int store.new) }
         ensures fills { (depth : ℕ) → FillsOn S.width depth self.now channel (y * channel.index.width + x)
-            (y * channel.index.width + x + length line.old) (store_meanings S.to_int store.old) (store_meanings S.to_int store.new) }
+            (y * channel.index.width + x + length line.old) (store_meanings S.to_int store.old)
+            (store_meanings S.to_int store.new) }
     {
         let count = line.len();
         let part = columns_of(store, channel.index, x, count);

@@ -57,7 +57,7 @@ pub trait Draw {
 /// Carries out what the words ask for, which are the arguments without the program's name, and
 /// returns the status to end with: 0 where it is done, 1 where it fails, and 2 where the words are
 /// wrong, and then nothing is read. The drawer makes the text of the image from the bytes of the
-/// input. The output gets that text alone and `faults` a line on what failed, each as far as it can
+/// input. The output gets that text alone and `errors` a line on what failed, each as far as it can
 /// be written. An image of no channels is nothing: no stream is touched.
 pub fn run_with<R: Read, W: Write, E: Write, D: Draw>(
     alloc: Global,
@@ -149,7 +149,8 @@ pub fn carry_out<R: Read, W: Write, D: Draw>(
         → IsAnswered (λ c bytes. AreFor (map string_bytes words.now) c × D.answers bytes c (Err e))
         (R.remaining input.old) (R.remaining input.new)) }
     ensures unwritten { IfErr result (λ failure. failure ≡ Failure.Unwritable
-        → IsAnswered (λ c bytes. AreFor (map string_bytes words.now) c × ((text : List ℕ) × D.answers bytes c (Ok text)))
+        → IsAnswered (λ c bytes. AreFor (map string_bytes words.now) c
+        × ((text : List ℕ) × D.answers bytes c (Ok text)))
         (R.remaining input.old) (R.remaining input.new)) }
 {
     let Some(command) = Command::parse(words) else {
