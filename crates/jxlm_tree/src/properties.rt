@@ -1,16 +1,14 @@
 //! The properties of a cell, which hold the state until the cell's sample is recorded.
 
-ghost use Rattle.std.specs.Prelude.{◌≡◌, ◌+◌, ◌-◌, ◌<◌, ◌≤◌, ◌^◌, ℕ, ℤ, pos, List, [], ◌∷◌, ◌++◌, true, false, slice_index_or};
+ghost use Rattle.std.specs.Prelude.{◌≡◌, ◌+◌, ◌-◌, ◌<◌, ◌≤◌, ◌^◌, ℕ, ℤ, pos, List, [], ◌∷◌, ◌++◌, false, slice_index_or};
 ghost use Rattle.std.specs.Int.{w32, int_wrap};
 ghost use Rattle.jxlm_base.specs.Grid.{at};
 ghost use Rattle.jxlm_base.specs.Regions.{Lies, grid_of, store_meanings};
 ghost use Rattle.jxlm_tree.specs.Around.{seen};
-ghost use Rattle.jxlm_tree.specs.Correcting.{IsMade};
 ghost use Rattle.jxlm_tree.specs.Inner.OwnProperties.{own_list};
 ghost use Rattle.jxlm_tree.specs.Holding.{IsCurrent, surroundings, state_of, store_of};
-ghost use Rattle.jxlm_tree.specs.Neighbours.{neighbours};
 ghost use Rattle.jxlm_tree.specs.Properties.{place_property, earlier_properties, earlier_property, expected};
-ghost use Rattle.jxlm_tree.specs.Standing.{Setting, StandsAt, Stands, IsReady, IsInner, HasSameRoom};
+ghost use Rattle.jxlm_tree.specs.Standing.{Setting, StandsAt, IsReady, IsInner, HasSameRoom};
 
 use crate::around::Around;
 use crate::flat::PlaceProperties;
@@ -67,47 +65,8 @@ fn own_property(
 }
 
 impl<S> PredictorState<S> {
-    // Whether the cell is away from the edges that neighbours are looked up by.
-    fn is_inner(&self) -> bool
-        requires { self.now.x < self.now.width }
-        ensures { result ≡ true → IsInner self.now }
-    {
-        self.y >= 2 && self.x >= 2 && self.x + 2 < self.width
-    }
-
-    // The neighbours of the cell, and what the weighted predictor makes of it.
-    #[inline(always)]
-    fn surroundings<const EDGE: bool>(&self) -> (Around, Option<PredictionResult>)
-        requires stands { Stands self.now }
-        requires inner { EDGE ≡ false → IsInner self.now }
-        ensures around { (s : Setting) (samples : List ℤ) → StandsAt self.now s samples → seen result.0
-            ≡ neighbours samples s.width }
-        ensures correction { (s : Setting) (samples : List ℤ) → StandsAt self.now s samples
-            → IsMade result.1 s.weights s.width samples }
-    {
-        let around = self.around::<EDGE>();
-        let correction = self.correction::<EDGE>(&around);
-        (around, correction)
-    }
-
-    // The same; edges are looked for once, and not at each neighbour.
-    #[inline(always)]
-    fn surroundings_anywhere<const EDGE: bool>(&self) -> (Around, Option<PredictionResult>)
-        requires stands { Stands self.now }
-        requires inner { EDGE ≡ false → IsInner self.now }
-        ensures around { (s : Setting) (samples : List ℤ) → StandsAt self.now s samples → seen result.0
-            ≡ neighbours samples s.width }
-        ensures correction { (s : Setting) (samples : List ℤ) → StandsAt self.now s samples
-            → IsMade result.1 s.weights s.width samples }
-    {
-        if EDGE && !self.is_inner() {
-            self.surroundings::<true>()
-        } else {
-            self.surroundings::<false>()
-        }
-    }
-
     /// The properties of the cell that the state is at.
+    #[inline(always)]
     pub fn properties<'p, const EDGE: bool>(
         &'p mut self,
         store: &'p [AlignedGrid<S>],
@@ -119,7 +78,8 @@ impl<S> PredictorState<S> {
         ensures store { store_of result ≡ store.now }
         ensures current { IsCurrent result }
     {
-        let (around, correction) = self.surroundings_anywhere::<EDGE>();
+        let around = self.around::<EDGE>();
+        let correction = self.correction::<EDGE>(&around);
         Properties {
             state: self,
             store,

@@ -3,7 +3,7 @@
 ghost use Rattle.jxlm_base.specs.Numbers.{floor_log2};
 ghost use Rattle.jxlm_tree.specs.SelfCorrecting.{IsHeader, errors_above, errors_near, errors_of, greatest, is_clamped, predicted, reciprocal, self_unclamped, shifted, sub_predictions, total, unclamped, weight_of, weighted_sum, weights};
 ghost use Rattle.std.specs.Int.{int_shr};
-ghost use Rattle.std.specs.Prelude.{◌≡◌, ◌+◌, ◌*◌, ◌<◌, ◌≤◌, ◌^◌, ◌+ℤ◌, ◌-ℤ◌, ◌*ℤ◌, pos, ℕ, ℤ, List, [], ◌∷◌, ◌++◌, length, Option, Some, ◌/◌, ◌%◌, nat_lt, if◌then◌else◌, not, IfOk, false, vec_len, unsigned_abs};
+ghost use Rattle.std.specs.Prelude.{◌≡◌, ◌+◌, ◌*◌, ◌<◌, ◌≤◌, ◌^◌, ◌+ℤ◌, ◌-ℤ◌, ◌*ℤ◌, pos, ℕ, ℤ, List, [], ◌∷◌, ◌++◌, length, Option, Some, ◌/◌, ◌%◌, nat_lt, if◌then◌else◌, not, IfOk, true, false, vec_len, unsigned_abs};
 
 use crate::around::Around;
 use crate::predictor::WpHeader;
@@ -442,6 +442,7 @@ impl Corrector {
     }
 
     /// What is made of the cell in column `x` of row `y`, with these neighbours.
+    #[inline(always)]
     pub(crate) fn predict<const EDGE: bool>(
         &self,
         x: usize,
@@ -516,7 +517,29 @@ impl Corrector {
         }
     }
 
+    fn is_inner(&self, x: usize, y: usize) -> bool
+        requires { x < self.now.width }
+        ensures { result ≡ true → (2 ≤ y) × (2 ≤ x) × (x + 2 < self.now.width) }
+    {
+        y >= 2 && x >= 2 && x + 2 < self.width as usize
+    }
+
+    #[inline(always)]
     fn errors_around<const EDGE: bool>(&self, x: usize, y: usize) -> ErrorsAround
+        requires in_row { x < self.now.width }
+        requires inner { EDGE ≡ false → (2 ≤ y) × (2 ≤ x) × (x + 2 < self.now.width) }
+        ensures { (header : WpHeader) (width : ℕ) (samples : List ℤ) → CorrectsBy self.now header width x y samples →
+            near_of result ≡ errors_near (errors_of header samples width (length samples)) width x y }
+    {
+        if EDGE && !self.is_inner(x, y) {
+            self.look_up_errors::<true>(x, y)
+        } else {
+            self.look_up_errors::<false>(x, y)
+        }
+    }
+
+    #[inline(always)]
+    fn look_up_errors<const EDGE: bool>(&self, x: usize, y: usize) -> ErrorsAround
         requires in_row { x < self.now.width }
         requires inner { EDGE ≡ false → (2 ≤ y) × (2 ≤ x) × (x + 2 < self.now.width) }
         ensures { (header : WpHeader) (width : ℕ) (samples : List ℤ) → CorrectsBy self.now header width x y samples →

@@ -1,6 +1,6 @@
 //! The state between two samples of a channel.
 
-ghost use Rattle.std.specs.Prelude.{◌≡◌, ◌+◌, ◌*◌, ◌<◌, ◌≤◌, ◌^◌, ℕ, ℤ, List, [], ◌∷◌, ◌++◌, false, None, IfOk, IfErr, OnErr, vec_len};
+ghost use Rattle.std.specs.Prelude.{◌≡◌, ◌+◌, ◌*◌, ◌<◌, ◌≤◌, ◌^◌, ℕ, ℤ, List, [], ◌∷◌, ◌++◌, true, false, None, IfOk, IfErr, OnErr, vec_len};
 ghost use Rattle.std.specs.Option.{option_copied, ForSome};
 ghost use Rattle.jxlm_base.specs.ErrorKind.{NoMemory, kind_of};
 ghost use Rattle.jxlm_tree.specs.Correcting.{HasRows};
@@ -288,8 +288,31 @@ impl<S> PredictorState<S> {
         }
     }
 
-    /// The neighbours of the cell.
+    /// The neighbours of the cell; edges are looked for once, and not at each neighbour.
+    #[inline(always)]
     pub(crate) fn around<const EDGE: bool>(&self) -> Around
+        requires in_row { self.now.x < self.now.width }
+        requires inner { EDGE ≡ false → IsInner self.now }
+        ensures { (s : Setting) (samples : List ℤ) → StandsAt self.now s samples → seen result
+            ≡ neighbours samples s.width }
+    {
+        if EDGE && !self.is_inner() {
+            self.look_around::<true>()
+        } else {
+            self.look_around::<false>()
+        }
+    }
+
+    // Whether the cell is two or more columns from both sides, and below the first two rows.
+    fn is_inner(&self) -> bool
+        requires { self.now.x < self.now.width }
+        ensures { result ≡ true → IsInner self.now }
+    {
+        self.y >= 2 && self.x >= 2 && self.x + 2 < self.width
+    }
+
+    #[inline(always)]
+    fn look_around<const EDGE: bool>(&self) -> Around
         requires in_row { self.now.x < self.now.width }
         requires inner { EDGE ≡ false → IsInner self.now }
         ensures { (s : Setting) (samples : List ℤ) → StandsAt self.now s samples → seen result

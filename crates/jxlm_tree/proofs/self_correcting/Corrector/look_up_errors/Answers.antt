@@ -5,7 +5,7 @@ use Rattle.std.proofs.lemmas.Int.{to_z-of_z}
 use Rattle.jxlm_tree.specs.Correcting.{cell_errors}
 use Rattle.jxlm_tree.specs.SelfCorrecting.{Four, ErrorsNear, errors_of}
 use Rattle.jxlm_tree.proofs.Correcting.{near_is}
-use Rattle.jxlm_tree.proofs.self_correcting.Corrector.errors_around.Goals as goal
+use Rattle.jxlm_tree.proofs.self_correcting.Corrector.look_up_errors.Goals as goal
 
 abbrev near_with : ℤ → ℤ → ℤ → ℤ → Four ℕ → ErrorsNear
 near_with w n nw ne sums = record { w = w; n = n; nw = nw; ne = ne; sums = sums }

@@ -2,7 +2,7 @@ use Rattle.std.proofs.Common.{FitsSigned, rules, refl}
 use Rattle.std.specs.Int.{w32}
 use Rattle.std.proofs.lemmas.Int.{to_z-of_z}
 use Rattle.jxlm_tree.proofs.Rolling.{column_is, row_is}
-use Rattle.jxlm_tree.proofs.state.PredictorState.around.Goals as goal
+use Rattle.jxlm_tree.proofs.state.PredictorState.look_around.Goals as goal
 
 pub returns : goal.returns
 returns g c = λ s samples stands.
