@@ -5,6 +5,7 @@ pub mod LeafCells
 pub mod LeafRows
 pub mod Loops
 pub mod NextSample
+pub mod PartAnswers
 pub mod RowNeighbours
 pub mod RowSees
 pub mod RowsOn

@@ -2,6 +2,7 @@ pub mod Part
 pub mod Rule
 pub mod Coded
 pub mod Decode
+pub mod Placed
 pub mod Progress
 pub mod Reading
 pub mod Token

@@ -8,4 +8,5 @@ pub mod coding;
 pub mod decode;
 pub mod laws;
 mod leaves;
+pub mod part;
 mod rows;

@@ -1,0 +1,107 @@
+-- What decoding a part that lies in a store returns.
+use Rattle.std.proofs.Common.{◌≡◌, ◌≢◌, ℕ, zero, suc, ◌+◌, ◌*◌, ◌<◌, ◌≤◌, List, [], ◌∷◌, length, Bool, true, false, refl, ap, ◌∙◌, sym, subst, arith, ℤ, inl, inr, Result, Ok, Err}
+use Rattle.std.specs.Int.{Width}
+use Rattle.jxlm_base.specs.Decoding.{Meaning}
+use Rattle.jxlm_base.specs.Grid.{Grid}
+use Rattle.jxlm_base.specs.Regions.{grids_in, store_meanings}
+use Rattle.jxlm_base.specs.declared.decoder.DecoderError.{DecoderError}
+use Rattle.jxlm_base.specs.declared.decoder.DecoderError.TheVariants.{UnexpectedEof, Invalid, OutOfMemory}
+use Rattle.jxlm_base.specs.declared.error.Error.{Error}
+use Rattle.jxlm_base.specs.declared.error.Error.TheVariants.{Decoder}
+use Rattle.jxlm_base.specs.declared.subgrid.Region.{Region}
+use Rattle.jxlm_transform.specs.Channels.{AreRegionsOf, Channel}
+use Rattle.jxlm_tree.specs.Tree.{depth}
+use Rattle.jxlm_part.specs.Decode.{DecodeAnswers, MovesWithin, Standing}
+use Rattle.jxlm_part.specs.Inner.Ready.{IsReadyFor}
+use Rattle.jxlm_part.specs.Part.{Part, cell_count, max_width}
+use Rattle.jxlm_part.specs.Placed.{PartLies, standing_in}
+use Rattle.jxlm_part.specs.Progress.{DecodesAll, DecodesSome}
+use Rattle.jxlm_part.specs.Reading.{IsCodingOf, IsRoomy, regions_of}
+use Rattle.jxlm_part.specs.declared.coding.PartCoding.{PartCoding}
+use Rattle.jxlm_part.specs.declared.coding.Ready.{Ready}
+use Rattle.jxlm_part.specs.declared.part.PlacedPart.{PlacedPart}
+use Rattle.jxlm_part.proofs.Loops.{fits_in, same_count}
+use Rattle.jxlm_part.proofs.Starting.{roomy_for}
+
+some_channel : (channels : List Channel) → 0 < cell_count channels → 0 < length channels
+some_channel [] h = absurd (omega arith)
+some_channel (c ∷ cs) h = omega arith
+
+-- a part that lies in a store, made ready, can be decoded
+module _ {D S : Type 0} (p : PlacedPart D) (store : List (Grid S)) (lies : PartLies p store) (r : Ready S D) (ready : IsReadyFor p r) (c : PartCoding D)
+    (channels : c.channels.now ≡ p.channels.now) (regions : c.regions.now ≡ p.regions.now) (config : c.config.now ≡ p.config.now)
+    (flats : c.flats.now ≡ r.flats.items) (weights : c.weights ≡ p.weights) (stream : c.stream_index ≡ p.stream_index) (widest : c.widest ≡ max_width p.channels.now) where
+  count_is : length p.channels.now ≡ length (regions_of c)
+  count_is = same_count p.channels.now p.regions.now lies.sizes ∙ ap length (sym regions)
+
+  pub placed_coding : IsCodingOf c
+  placed_coding = record {
+    sizes = rw (channels, regions) lies.sizes;
+    narrow = rw channels lies.narrow;
+    widest = rw channels widest;
+    flats = rw (config, stream, flats, ← count_is) ready.flats_are;
+    weights = rw weights lies.weights;
+  }
+
+  -- where there are samples, the state has room for them
+  pub placed_roomy : 0 < cell_count p.channels.now → IsRoomy c r.state
+  placed_roomy some =
+      roomy_for c r.state placed_coding (rw (widest, weights, flats) ready.roomy)
+      (let n = count_is in let m = some_channel p.channels.now some in omega (arith, n, m))
+
+none_is : (n : ℕ) → (0 < n → ⊥) → n ≡ 0
+none_is zero h = refl
+none_is (suc n) h = absurd (h (omega arith))
+
+module _ {S D : Type 0} (d : Meaning D) (w : Width) (to_int : S → ℤ) (bytes : List ℕ) (part : Part) (regions : List Region) (decoder : D)
+    (old : List (Grid S)) (p : ℕ) (partial : Bool) where
+  abbrev cost : ℕ
+  cost = depth part.tree + 1
+
+  -- what is returned, and how many steps were taken
+  abbrev Answers : Bool → List (Grid S) → ℕ → Bool → Result (Unit {0}) Error → ℕ → ℕ → Type 0
+  Answers allow new q still result before after =
+      (tried : ℕ) × DecodeAnswers d w part bytes decoder (standing_in to_int regions old p partial) (standing_in to_int regions new q still) allow result tried
+      × MovesWithin before after (tried * cost)
+
+  -- the samples are coded to the end
+  pub answers_whole : (allow : Bool) (new : List (Grid S)) (q before after : ℕ) → 0 < cell_count part.channels →
+      DecodesAll d w part bytes regions decoder (store_meanings to_int old) p (store_meanings to_int new) q →
+      before ≤ after → after ≤ before + cell_count part.channels * cost → Answers allow new q false (Ok tt) before after
+  answers_whole allow new q before after cells all more work = (
+    cell_count part.channels,
+    inl (record {
+      coded = inl (cells, all.0);
+      fits = all.1;
+      whole = refl;
+      tries = refl;
+    }),
+    (more, work),
+  )
+
+  -- there are no samples
+  pub answers_empty : (allow : Bool) (before : ℕ) → AreRegionsOf part.channels regions → (0 < cell_count part.channels → ⊥) → Answers allow old p false (Ok tt) before before
+  answers_empty allow before sizes none = (
+    cell_count part.channels,
+    inl (record {
+      coded = inr (none_is (cell_count part.channels) none, refl);
+      fits = fits_in part.channels regions (store_meanings to_int old) sizes;
+      whole = refl;
+      tries = refl;
+    }),
+    (omega arith, omega arith),
+  )
+
+  module _ (new : List (Grid S)) (q before after : ℕ) (cells : 0 < cell_count part.channels) (more : before ≤ after) where
+    -- the input ends, and that is allowed
+    pub answers_partial : DecodesSome d w part bytes regions decoder (store_meanings to_int old) p (store_meanings to_int new) q cost before after UnexpectedEof →
+        Answers true new q partial (Ok tt) before after
+    answers_partial some = let f = some partial cells in (f.0, inr (refl, f.1), (more, f.2))
+
+    -- the decoder returns an error
+    pub answers_error : (allow : Bool) (e : DecoderError) → e ≢ OutOfMemory → (e ≡ UnexpectedEof → allow ≡ false) →
+        DecodesSome d w part bytes regions decoder (store_meanings to_int old) p (store_meanings to_int new) q cost before after e →
+        Answers allow new q partial (Err (Decoder e)) before after
+    answers_error allow UnexpectedEof ne denied some = let f = some partial cells in (f.0, (denied refl, f.1), (more, f.2))
+    answers_error allow (Invalid k) ne denied some = let f = some partial cells in (f.0, f.1, (more, f.2))
+    answers_error allow OutOfMemory ne denied some = absurd (ne refl)

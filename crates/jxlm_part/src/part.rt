@@ -1,0 +1,125 @@
+//! A part decoded whole: from what is made ready for it to the decoder's last word.
+
+ghost use Rattle.std.specs.Prelude.{◌≡◌, ◌↔◌, ◌<◌, ◌≤◌, ◌^◌, ◌*◌, ℕ, IfErr, IfOk, IsOk, IsTrue, length};
+ghost use Rattle.jxlm_tree.specs.FlatTree.{ClustersStandIn};
+ghost use Rattle.jxlm_tree.specs.SelfCorrecting.{IsHeader};
+ghost use Rattle.jxlm_base.specs.Bits.{bytes_of, position_of};
+ghost use Rattle.jxlm_tree.specs.TreeReading.{IsOutOfMemory};
+ghost use Rattle.jxlm_base.specs.ErrorKind.{kind_of};
+ghost use Rattle.jxlm_part.specs.Decode.{DecodeAnswers, MovesWithin};
+ghost use Rattle.jxlm_part.specs.Part.{cell_count, max_width as the_maximum_width};
+ghost use Rattle.jxlm_part.specs.Placed.{PartLies, most_steps, part_placed, standing_in};
+ghost use Rattle.jxlm_part.specs.Progress.{KeepsOutside};
+ghost use Rattle.jxlm_part.specs.Inner.Ready.{IsReadyFor};
+
+use crate::channels::{have_samples, max_width};
+use crate::coding::{PartCoding, Ready, flat_trees, roomy_state};
+use crate::decode::decode_part;
+use jxlm_base::bits::Bitstream;
+use jxlm_base::decoder::Decoder;
+use jxlm_base::error::{Error, Result};
+use jxlm_base::grid::{AlignedGrid, Region};
+use jxlm_base::sample::Sample;
+use jxlm_transform::channels::ModularChannelInfo;
+use jxlm_tree::flat::Steps;
+use jxlm_tree::ma::MaConfig;
+use jxlm_tree::predictor::WpHeader;
+use std::alloc::Global;
+
+/// A part of an image: some channels, which lie in a store of grids, and the tree that their samples are read with.
+#[derive(Drop)]
+pub struct PlacedPart<'a, D: Decoder> {
+    /// Its channels, in order.
+    pub channels: &'a [ModularChannelInfo],
+    /// Their regions in the store.
+    pub regions: &'a [Region],
+    /// Its tree.
+    pub config: &'a MaConfig<D>,
+    /// The weights of the weighted (self-correcting) predictor.
+    pub weights: WpHeader,
+    /// The index of its stream.
+    pub stream_index: u32,
+}
+
+impl<'a, D: Decoder> PlacedPart<'a, D> {
+    /// Whether the part has samples.
+    pub fn has_samples(&self) -> bool
+        ensures { IsTrue result ↔ (0 < cell_count self.now.channels.now) }
+    {
+        have_samples(self.channels)
+    }
+
+    /// What is made ready before the first bit of the samples is read. Out of memory is its only error.
+    fn ready<S: Sample>(&self, alloc: Global) -> Result<Ready<S, D>>
+        requires widest { the_maximum_width self.now.channels.now ≤ 2 ^ 30 }
+        requires weights { IsHeader self.now.weights }
+        requires few { length self.now.channels.now ≤ 65536 }
+        ensures ok { IfOk result (λ r. IsReadyFor self.now r) }
+        ensures clusters { IfOk result (λ r. ClustersStandIn (D.meaning.cluster_map r.decoder)
+            self.now.config.now.tree) }
+        ensures err { IfErr result (λ e. IsOutOfMemory (kind_of e)) }
+    {
+        let decoder = self.config.decoder().try_clone(alloc)?;
+        let flats = flat_trees(alloc, self.config, self.stream_index, self.channels.len() as u32)?;
+        let widest = max_width(self.channels);
+        let state = roomy_state(alloc, &flats, widest, &self.weights)?;
+        Ok(Ready {
+            decoder,
+            flats,
+            state,
+        })
+    }
+
+    /// Decodes all samples of the part, into its regions of the store (ISO/IEC 18181-1, Modular: decoding of samples).
+    /// All memory is taken before the first bit is read. `partial` becomes false where the part is decoded whole.
+    ///
+    /// # Errors
+    ///
+    /// The decoder's error: of its `begin`, of the read of one sample, or of its `finalize`; with `allow_partial` it is
+    /// Ok where the input ends, and `partial` stays. The samples before are then decoded and the others as before, and
+    /// the reader is where that call began. Out of memory, `Buffer` or `Decoder(OutOfMemory)`, changes nothing.
+    pub fn decode<S: Sample>(
+        &self,
+        alloc: Global,
+        bits: &mut Bitstream<'_>,
+        store: &mut [AlignedGrid<S>],
+        allow_partial: bool,
+        partial: &mut bool,
+        steps: &mut Steps,
+    ) -> Result<()>
+        requires lies { PartLies self.now store.old }
+        ensures answers { (tried : ℕ) × DecodeAnswers D.meaning S.width (part_placed self.now) (bytes_of bits.old)
+            self.now.config.now.decoder
+            (standing_in S.to_int self.now.regions.now store.old (position_of bits.old) partial.old)
+            (standing_in S.to_int self.now.regions.now store.new (position_of bits.new) partial.new)
+            allow_partial result tried × MovesWithin steps.old steps.new (tried * most_steps self.now) }
+        ensures empty { cell_count self.now.channels.now ≡ 0 → IsOk result }
+        ensures keeps { KeepsOutside self.now.regions.now store.old store.new }
+        ensures bytes { bytes_of bits.new ≡ bytes_of bits.old }
+    {
+        if !self.has_samples() {
+            *partial = false;
+            return Ok(());
+        }
+        let Ready {
+            mut decoder,
+            flats,
+            mut state,
+        } = self.ready(alloc)?;
+        let coding = PartCoding {
+            channels: self.channels,
+            regions: self.regions,
+            config: self.config,
+            flats: &flats,
+            weights: self.weights,
+            stream_index: self.stream_index,
+            widest: max_width(self.channels),
+        };
+        match decode_part(bits, &mut decoder, &mut state, steps, store, &coding) {
+            Ok(()) => *partial = false,
+            Err(e) if allow_partial && e.unexpected_eof() => {}
+            Err(e) => return Err(Error::Decoder(e)),
+        }
+        Ok(())
+    }
+}
