@@ -22,8 +22,11 @@ use Rattle.jxlm_tree.specs.declared.flat.Leaf.{Leaf}
 use Rattle.jxlm_tree.specs.declared.state.PredictorState.{PredictorState}
 use Rattle.jxlm_part.specs.Coded.{next_prediction, sample_of}
 use Rattle.jxlm_part.specs.Part.{channel, max_width, no_channel}
-use Rattle.jxlm_part.specs.Reading.{FindsClusters, HasRoom, IsCodingOf, ReadsNext, FailsNext, StandsAfter, cost_of, flat, handed, leaf_at, part_of, predicted_at, region_at, regions_of, setting_of}
-use Rattle.jxlm_part.specs.Progress.{preceding_cells, grids_in}
+use Rattle.jxlm_part.specs.Reading.{FindsClusters, HasRoom, IsCodingOf, cost_of, flat, part_of, regions_of}
+use Rattle.jxlm_part.specs.Inner.Cells.{ReadsNext, FailsNext, leaf_at, predicted_at}
+use Rattle.jxlm_part.specs.Inner.Channels.{StandsAfter, handed, region_at, setting_of}
+use Rattle.jxlm_part.specs.Progress.{grids_in}
+use Rattle.jxlm_part.specs.Inner.Progress.{preceding_cells}
 use Rattle.jxlm_part.specs.Inner.Rows.{FailsCell, FailsRow, ReadsCell, StandsInRow, row_rule}
 use Rattle.jxlm_part.specs.Rule.{Rule, CodedPrefix}
 use Rattle.jxlm_part.specs.declared.coding.PartCoding.{PartCoding}

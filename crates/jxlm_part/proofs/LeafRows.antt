@@ -15,8 +15,9 @@ use Rattle.jxlm_part.specs.Inner.Leaves.{HasPath, next_by, path_rule, row_above}
 use Rattle.jxlm_part.specs.Inner.Rows.{AreAlike, row_rule}
 use Rattle.jxlm_transform.specs.Channels.{AreRegionsOf}
 use Rattle.jxlm_part.specs.Part.{Part, channel, max_width, next_channel, next_leaf, samples_of, surroundings}
-use Rattle.jxlm_part.specs.Progress.{preceding_cells, grids_in}
-use Rattle.jxlm_part.specs.Reading.{region_at}
+use Rattle.jxlm_part.specs.Progress.{grids_in}
+use Rattle.jxlm_part.specs.Inner.Progress.{preceding_cells}
+use Rattle.jxlm_part.specs.Inner.Channels.{region_at}
 use Rattle.jxlm_part.specs.declared.leaves.LeafPath.{LeafPath}
 use Rattle.jxlm_part.proofs.NextSample.{SeesRegions}
 use Rattle.jxlm_part.proofs.RowNeighbours.{path_is, samples}

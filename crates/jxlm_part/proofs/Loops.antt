@@ -14,8 +14,9 @@ use Rattle.jxlm_base.specs.declared.subgrid.Region.{Region}
 use Rattle.jxlm_base.proofs.Regions.{IsFull-grid_of}
 use Rattle.jxlm_transform.specs.Channels.{AreGridsOf, AreRegionsOf, Channel, area}
 use Rattle.jxlm_part.specs.Part.{Part, channel, cell_count, cells_before, cells_of, grid as grid_at}
-use Rattle.jxlm_part.specs.Progress.{Reached, place_of, grids_in, GoesOn, Stops, TakesSteps}
-use Rattle.jxlm_part.specs.Reading.{region_at}
+use Rattle.jxlm_part.specs.Progress.{grids_in}
+use Rattle.jxlm_part.specs.Inner.Progress.{Reached, place_of, GoesOn, Stops, TakesSteps}
+use Rattle.jxlm_part.specs.Inner.Channels.{region_at}
 use Rattle.jxlm_part.proofs.Places.{before_suc}
 
 -- sizes of regions and channels

@@ -20,7 +20,9 @@ use Rattle.jxlm_tree.specs.declared.predictor.WpHeader.{WpHeader}
 use Rattle.jxlm_tree.proofs.FlatTrees.{goes_without_weights, reads_earlier_below, walks_by_properties}
 use Rattle.jxlm_tree.proofs.PropertiesLaws.{later_property}
 use Rattle.jxlm_part.specs.Coded.{next_prediction}
-use Rattle.jxlm_part.specs.Reading.{flat, handed, leaf_at, predicted_at, region_at}
+use Rattle.jxlm_part.specs.Reading.{flat}
+use Rattle.jxlm_part.specs.Inner.Cells.{leaf_at, predicted_at}
+use Rattle.jxlm_part.specs.Inner.Channels.{handed, region_at}
 use Rattle.jxlm_part.specs.Part.{Part, channel, earlier_alike, grid_of as grid_before, next_channel, samples_of, next_leaf, surroundings}
 use Rattle.jxlm_part.proofs.Earlier.{earlier_mapped, few_earlier}
 

@@ -11,7 +11,7 @@ use Rattle.jxlm_base.proofs.Cells.{slice_get-set_same, IsFull-with_cell, place_w
 use Rattle.jxlm_part.specs.Coded.{part_rule}
 use Rattle.jxlm_transform.specs.Channels.{AreGridsOf, Channel, area}
 use Rattle.jxlm_part.specs.Part.{Part, channel, cells_before, cells_of, grid}
-use Rattle.jxlm_part.specs.Progress.{Reached}
+use Rattle.jxlm_part.specs.Inner.Progress.{Reached}
 use Rattle.jxlm_part.proofs.Places.{split, before_suc}
 use Rattle.jxlm_part.proofs.Prefixes.{prefix_more}
 

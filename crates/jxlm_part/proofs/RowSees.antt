@@ -14,9 +14,11 @@ use Rattle.jxlm_tree.specs.Standing.{StandsAt}
 use Rattle.jxlm_tree.specs.declared.state.PredictorState.{PredictorState}
 use Rattle.jxlm_transform.specs.Channels.{AreGridsOf, AreRegionsOf}
 use Rattle.jxlm_part.specs.Part.{Part, SeesBefore, cells_before, cells_of, channel, grid as grid_at}
-use Rattle.jxlm_part.specs.Progress.{preceding_cells, grids_in, place_of}
+use Rattle.jxlm_part.specs.Progress.{grids_in}
+use Rattle.jxlm_part.specs.Inner.Progress.{preceding_cells, place_of}
 use Rattle.jxlm_part.specs.Inner.Rows.{StandsInRow}
-use Rattle.jxlm_part.specs.Reading.{StandsAfter, region_at, regions_of, setting_of}
+use Rattle.jxlm_part.specs.Reading.{regions_of}
+use Rattle.jxlm_part.specs.Inner.Channels.{StandsAfter, region_at, setting_of}
 use Rattle.jxlm_part.specs.declared.coding.PartCoding.{PartCoding}
 use Rattle.jxlm_part.proofs.Loops.{fits_in, grid_in, same_count, same_size}
 use Rattle.jxlm_part.proofs.NextSample.{SeesRegions}

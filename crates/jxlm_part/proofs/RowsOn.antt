@@ -13,8 +13,9 @@ use Rattle.jxlm_base.specs.declared.subgrid.Region.{Region}
 use Rattle.jxlm_part.specs.Coded.{part_rule}
 use Rattle.jxlm_transform.specs.Channels.{AreRegionsOf}
 use Rattle.jxlm_part.specs.Part.{Part, cells_of, channel}
-use Rattle.jxlm_part.specs.Progress.{GoesOn, Reached, Stops, TakesSteps, preceding_cells, grids_in, place_of}
-use Rattle.jxlm_part.specs.Reading.{region_at}
+use Rattle.jxlm_part.specs.Progress.{grids_in}
+use Rattle.jxlm_part.specs.Inner.Progress.{GoesOn, Reached, Stops, TakesSteps, preceding_cells, place_of}
+use Rattle.jxlm_part.specs.Inner.Channels.{region_at}
 use Rattle.jxlm_part.specs.Inner.Rows.{AreAlike, ReadsRow, FailsRow, SetsRead, first_columns, rule_after}
 use Rattle.jxlm_part.specs.Rule.{Rule, CodedPrefix}
 use Rattle.jxlm_part.specs.declared.rows.RowError.{RowError}

@@ -17,7 +17,8 @@ use Rattle.jxlm_tree.specs.declared.state.PredictorState.{PredictorState}
 use Rattle.jxlm_tree.proofs.StandingLaws.{stands_earlier}
 use Rattle.jxlm_transform.specs.Channels.{Channel, IsNarrow}
 use Rattle.jxlm_part.specs.Part.{channel, no_channel, downward, earlier_alike, max_width, is_alike}
-use Rattle.jxlm_part.specs.Reading.{HasFlats, IsAfterChannel, HasRoom, IsCodingOf, IsRoomy, IsRoomyFor, StandsIn, all_alike, earlier_regions, flat, handed, part_of, region_at, regions_of, setting_of, weights_used}
+use Rattle.jxlm_part.specs.Reading.{HasFlats, HasRoom, IsCodingOf, IsRoomy, IsRoomyFor, flat, part_of, regions_of, weights_used}
+use Rattle.jxlm_part.specs.Inner.Channels.{IsAfterChannel, StandsIn, all_alike, earlier_regions, handed, region_at, setting_of}
 use Rattle.jxlm_part.specs.declared.coding.PartCoding.{PartCoding}
 use Rattle.jxlm_part.specs.declared.coding.PartState.{PartState}
 use Rattle.jxlm_part.proofs.CellLaws.{roomy_still}

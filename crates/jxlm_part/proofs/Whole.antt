@@ -7,7 +7,8 @@ use Rattle.jxlm_base.specs.declared.decoder.DecoderError.{DecoderError}
 use Rattle.jxlm_base.specs.declared.subgrid.Region.{Region}
 use Rattle.jxlm_transform.specs.Channels.{AreRegionsOf}
 use Rattle.jxlm_part.specs.Part.{Part, cell_count}
-use Rattle.jxlm_part.specs.Progress.{Reached, grids_in, GoesOn, Stops, TakesSteps, DecodesAll, DecodesSome}
+use Rattle.jxlm_part.specs.Progress.{grids_in, DecodesAll, DecodesSome}
+use Rattle.jxlm_part.specs.Inner.Progress.{Reached, GoesOn, Stops, TakesSteps}
 use Rattle.jxlm_part.proofs.Loops.{fits_in}
 
 pub steps_from : (cost to before after : ℕ) → TakesSteps cost 0 to before after → after ≤ before + to * cost

@@ -10,7 +10,9 @@ ghost use Rattle.jxlm_tree.specs.Holding.{IsCurrent, state_of, store_of};
 ghost use Rattle.jxlm_tree.specs.Standing.{Setting, StandsAt};
 ghost use Rattle.jxlm_tree.specs.Tree.{depth};
 ghost use Rattle.jxlm_part.specs.Inner.Rows.{FailsCell, IsDecoding, ReadsCell, StandsInRow, rule_in};
-ghost use Rattle.jxlm_part.specs.Reading.{FindsClusters, HasRoom, IsCodingOf, ReadsNext, FailsNext, cost_of, leaf_at, part_of, predicted_at, region_at, regions_of};
+ghost use Rattle.jxlm_part.specs.Reading.{FindsClusters, HasRoom, IsCodingOf, cost_of, part_of, regions_of};
+ghost use Rattle.jxlm_part.specs.Inner.Cells.{ReadsNext, FailsNext, leaf_at, predicted_at};
+ghost use Rattle.jxlm_part.specs.Inner.Channels.{region_at};
 
 use crate::coding::PartCoding;
 use jxlm_base::bits::Bitstream;

@@ -5,10 +5,12 @@ ghost use Rattle.jxlm_base.specs.Bits.{bytes_of, position_of};
 ghost use Rattle.jxlm_base.specs.Regions.{AllLie, LieApart, store_meanings};
 ghost use Rattle.jxlm_tree.specs.Tree.{leaf as one_leaf};
 ghost use Rattle.jxlm_part.specs.Part.{cells_before, cell_count};
-ghost use Rattle.jxlm_part.specs.Progress.{GoesOn, Stops, TakesSteps, DecodesAll, DecodesSome, KeepsOutside, place_of};
+ghost use Rattle.jxlm_part.specs.Progress.{DecodesAll, DecodesSome, KeepsOutside};
+ghost use Rattle.jxlm_part.specs.Inner.Progress.{GoesOn, Stops, TakesSteps, place_of};
 ghost use Rattle.jxlm_part.specs.Inner.Leaves.{HasPath};
 ghost use Rattle.jxlm_part.specs.Inner.Rows.{IsDecoding, ReadsRows, StopsInRows};
-ghost use Rattle.jxlm_part.specs.Reading.{FindsClusters, HasRoom, IsAfterChannel, IsCodingOf, IsRoomy, StandsAfter, cost_of, part_of, region_at, regions_of, StandsIn};
+ghost use Rattle.jxlm_part.specs.Reading.{FindsClusters, HasRoom, IsCodingOf, IsRoomy, cost_of, part_of, regions_of};
+ghost use Rattle.jxlm_part.specs.Inner.Channels.{IsAfterChannel, StandsAfter, region_at, StandsIn};
 
 use crate::coding::{PartCoding, PartState, start_channel};
 use crate::leaves::{LeafPath, leaf_path, read_leaf_row};

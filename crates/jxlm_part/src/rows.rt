@@ -4,7 +4,8 @@ ghost use Rattle.std.specs.Prelude.{◌≡◌, ◌+◌, ◌*◌, ◌<◌, ◌≤
 ghost use Rattle.jxlm_base.specs.Bits.{bytes_of, position_of};
 ghost use Rattle.jxlm_base.specs.Regions.{AllLie, Lies};
 ghost use Rattle.jxlm_part.specs.Inner.Rows.{FailsRow, IsDecoding, ReadsRow, SetsRead, StandsInRow, rule_in};
-ghost use Rattle.jxlm_part.specs.Reading.{FindsClusters, HasRoom, IsCodingOf, StandsAfter, cost_of, region_at, regions_of};
+ghost use Rattle.jxlm_part.specs.Reading.{FindsClusters, HasRoom, IsCodingOf, cost_of, regions_of};
+ghost use Rattle.jxlm_part.specs.Inner.Channels.{StandsAfter, region_at};
 
 use crate::cell::decode_cell;
 use crate::coding::PartCoding;

@@ -11,8 +11,10 @@ use Rattle.jxlm_tree.specs.Standing.{StandsAt}
 use Rattle.jxlm_tree.specs.declared.state.PredictorState.{PredictorState}
 use Rattle.jxlm_part.specs.Coded.{part_rule}
 use Rattle.jxlm_part.specs.Part.{Part}
-use Rattle.jxlm_part.specs.Progress.{GoesOn, Stops, preceding_cells, grids_in, place_of}
-use Rattle.jxlm_part.specs.Reading.{FindsClusters, IsCodingOf, cost_of, part_of, region_at, regions_of, setting_of}
+use Rattle.jxlm_part.specs.Progress.{grids_in}
+use Rattle.jxlm_part.specs.Inner.Progress.{GoesOn, Stops, preceding_cells, place_of}
+use Rattle.jxlm_part.specs.Reading.{FindsClusters, IsCodingOf, cost_of, part_of, regions_of}
+use Rattle.jxlm_part.specs.Inner.Channels.{region_at, setting_of}
 use Rattle.jxlm_part.specs.Rule.{Rule, CodedPrefix}
 use Rattle.jxlm_part.specs.declared.coding.PartCoding.{PartCoding}
 use Rattle.jxlm_part.specs.declared.rows.RowError.{RowError}

@@ -4,7 +4,8 @@ use Rattle.std.proofs.lemmas.List.{length-map, map-set}
 use Rattle.std.proofs.lemmas.Result.{err_from_is_err_and}
 use Rattle.jxlm_base.specs.Bits.{bytes_of, position_of}
 use Rattle.jxlm_base.specs.Regions.{grid_of, store_meanings}
-use Rattle.jxlm_part.specs.Reading.{region_at, regions_of, setting_of}
+use Rattle.jxlm_part.specs.Reading.{regions_of}
+use Rattle.jxlm_part.specs.Inner.Channels.{region_at, setting_of}
 use Rattle.jxlm_part.proofs.CellLaws.{clusters_at, cost_at, is_ready, reads_cell, fails_cell, stands_further, stands_so}
 use Rattle.jxlm_part.proofs.cell.decode_cell.Goals as goal
 

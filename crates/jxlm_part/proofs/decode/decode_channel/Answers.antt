@@ -3,8 +3,9 @@ use Rattle.std.proofs.lemmas.List.{length-take-le}
 use Rattle.jxlm_base.specs.Bits.{bytes_of, position_of}
 use Rattle.jxlm_base.specs.Regions.{store_meanings}
 use Rattle.jxlm_part.specs.Part.{cells_before}
-use Rattle.jxlm_part.specs.Progress.{Stops, TakesSteps, place_of}
-use Rattle.jxlm_part.specs.Reading.{IsAfterChannel, StandsIn, cost_of, part_of, region_at, regions_of}
+use Rattle.jxlm_part.specs.Inner.Progress.{Stops, TakesSteps, place_of}
+use Rattle.jxlm_part.specs.Reading.{cost_of, part_of, regions_of}
+use Rattle.jxlm_part.specs.Inner.Channels.{IsAfterChannel, StandsIn, region_at}
 use Rattle.jxlm_tree.specs.FlatTree.{FlatTree}
 use Rattle.jxlm_part.proofs.CellLaws.{flat_at}
 use Rattle.jxlm_part.proofs.Loops.{channel_begins, channel_done, channel_empty, err_so, goes_between, ok_so, ok_still, stays, takes_between, takes_less, takes_none}

@@ -2,8 +2,10 @@ use Rattle.std.proofs.Common.{◌≡◌, ◌≤◌}
 use Rattle.jxlm_base.specs.Bits.{bytes_of, position_of}
 use Rattle.jxlm_base.specs.Regions.{store_meanings}
 use Rattle.jxlm_part.specs.Part.{cells_before}
-use Rattle.jxlm_part.specs.Progress.{GoesOn, KeepsOutside, TakesSteps}
-use Rattle.jxlm_part.specs.Reading.{IsAfterChannel, HasRoom, cost_of, part_of, regions_of}
+use Rattle.jxlm_part.specs.Progress.{KeepsOutside}
+use Rattle.jxlm_part.specs.Inner.Progress.{GoesOn, TakesSteps}
+use Rattle.jxlm_part.specs.Reading.{HasRoom, cost_of, part_of, regions_of}
+use Rattle.jxlm_part.specs.Inner.Channels.{IsAfterChannel}
 use Rattle.jxlm_part.proofs.decode.decode_channels.Given as goal
 
 abbrev pub invariant-loop-i : goal.invariant-loop-i

@@ -4,7 +4,8 @@ use Rattle.jxlm_base.specs.Regions.{grid_of, store_meanings}
 use Rattle.jxlm_part.specs.Inner.Leaves.{path_rule, row_above}
 use Rattle.jxlm_part.specs.Inner.Rows.{StopsInRows}
 use Rattle.jxlm_part.specs.Part.{max_width}
-use Rattle.jxlm_part.specs.Reading.{cost_of, part_of, region_at, regions_of}
+use Rattle.jxlm_part.specs.Reading.{cost_of, part_of, regions_of}
+use Rattle.jxlm_part.specs.Inner.Channels.{region_at}
 use Rattle.jxlm_part.proofs.LeafRows.{leaf_rows}
 use Rattle.jxlm_part.proofs.Loops.{err_all, err_still}
 use Rattle.jxlm_part.proofs.RowsOn.{err_written, ok_written, row_goes, row_keeps_rest, row_stopped}

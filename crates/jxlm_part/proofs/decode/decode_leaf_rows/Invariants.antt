@@ -2,7 +2,8 @@ use Rattle.std.proofs.Common.{◌≡◌, length}
 use Rattle.jxlm_base.specs.Bits.{bytes_of, position_of}
 use Rattle.jxlm_part.specs.Inner.Rows.{ReadsRows}
 use Rattle.jxlm_part.specs.Progress.{KeepsOutside}
-use Rattle.jxlm_part.specs.Reading.{region_at, regions_of}
+use Rattle.jxlm_part.specs.Reading.{regions_of}
+use Rattle.jxlm_part.specs.Inner.Channels.{region_at}
 use Rattle.jxlm_part.proofs.decode.decode_leaf_rows.Given as goal
 
 abbrev pub invariant-loop-y : goal.invariant-loop-y

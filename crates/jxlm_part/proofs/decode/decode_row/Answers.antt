@@ -1,8 +1,9 @@
 use Rattle.std.proofs.Common.{◌≡◌, ◌+◌, ◌*◌, ◌≤◌, map, ◌∙◌, arith, subst}
 use Rattle.jxlm_base.specs.Bits.{bytes_of, position_of}
 use Rattle.jxlm_part.specs.Inner.Rows.{StandsInRow, rule_in}
-use Rattle.jxlm_part.specs.Progress.{TakesSteps, place_of}
-use Rattle.jxlm_part.specs.Reading.{HasRoom, StandsAfter, cost_of, part_of, region_at, regions_of}
+use Rattle.jxlm_part.specs.Inner.Progress.{TakesSteps, place_of}
+use Rattle.jxlm_part.specs.Reading.{HasRoom, cost_of, part_of, regions_of}
+use Rattle.jxlm_part.specs.Inner.Channels.{StandsAfter, region_at}
 use Rattle.jxlm_part.proofs.Loops.{row_done, takes_some}
 use Rattle.jxlm_part.proofs.RowSees.{stands_below}
 use Rattle.jxlm_part.proofs.RowsOn.{alike_self, err_written, ok_written, row_goes, row_keeps_rest, row_stopped}

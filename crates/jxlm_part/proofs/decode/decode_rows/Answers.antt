@@ -4,8 +4,9 @@ use Rattle.jxlm_base.specs.Bits.{bytes_of, position_of}
 use Rattle.jxlm_base.specs.Regions.{store_meanings}
 use Rattle.jxlm_base.proofs.Outside.{all_lie_still, keeps_all, keeps_both}
 use Rattle.jxlm_part.specs.Inner.Rows.{ReadsRows}
-use Rattle.jxlm_part.specs.Progress.{TakesSteps, place_of}
-use Rattle.jxlm_part.specs.Reading.{FindsClusters, StandsAfter, cost_of, part_of, region_at, regions_of}
+use Rattle.jxlm_part.specs.Inner.Progress.{TakesSteps, place_of}
+use Rattle.jxlm_part.specs.Reading.{FindsClusters, cost_of, part_of, regions_of}
+use Rattle.jxlm_part.specs.Inner.Channels.{StandsAfter, region_at}
 use Rattle.jxlm_part.proofs.Loops.{goes_further, stays, stops_further, takes_further, takes_none}
 use Rattle.jxlm_part.proofs.decode.decode_rows.Goals as goal
 

@@ -1,8 +1,10 @@
 use Rattle.std.proofs.Common.{◌≡◌, ◌*◌, ◌≤◌, length}
 use Rattle.jxlm_base.specs.Bits.{bytes_of, position_of}
 use Rattle.jxlm_part.specs.Inner.Rows.{ReadsRows}
-use Rattle.jxlm_part.specs.Progress.{KeepsOutside, TakesSteps, place_of}
-use Rattle.jxlm_part.specs.Reading.{HasRoom, StandsAfter, cost_of, part_of, region_at, regions_of}
+use Rattle.jxlm_part.specs.Progress.{KeepsOutside}
+use Rattle.jxlm_part.specs.Inner.Progress.{TakesSteps, place_of}
+use Rattle.jxlm_part.specs.Reading.{HasRoom, cost_of, part_of, regions_of}
+use Rattle.jxlm_part.specs.Inner.Channels.{StandsAfter, region_at}
 use Rattle.jxlm_part.proofs.decode.decode_rows.Given as goal
 
 abbrev pub invariant-loop-y : goal.invariant-loop-y

@@ -1,7 +1,8 @@
 use Rattle.std.proofs.Common.{rules, ◌≡◌, ◌<◌, map, length, arith, ◌∙◌, subst}
 use Rattle.std.proofs.lemmas.List.{length-map, take_all}
 use Rattle.jxlm_base.specs.Bits.{bytes_of, position_of}
-use Rattle.jxlm_part.specs.Reading.{region_at, regions_of}
+use Rattle.jxlm_part.specs.Reading.{regions_of}
+use Rattle.jxlm_part.specs.Inner.Channels.{region_at}
 use Rattle.jxlm_part.specs.Inner.Rows.{StandsInRow, rule_in}
 use Rattle.jxlm_part.specs.Rule.{CodedPrefix}
 use Rattle.jxlm_part.proofs.CellLaws.{begins_row, cell_more, cell_fails}
