@@ -92,15 +92,15 @@ row_samples = inl (
 )
 
 -- Without its last byte the read of the second sample is an error: one is decoded, and the reader is after it.
-abbrev cut_bytes : List ℕ
-cut_bytes = 0x42 ∷ 0x00 ∷ 0x04 ∷ 0x00 ∷ 0x04 ∷ 0x0E ∷ 0x05 ∷ 0xC0 ∷ 0x20 ∷ []
+abbrev truncated_bytes : List ℕ
+truncated_bytes = 0x42 ∷ 0x00 ∷ 0x04 ∷ 0x00 ∷ 0x04 ∷ 0x0E ∷ 0x05 ∷ 0xC0 ∷ 0x20 ∷ []
 
 abbrev standing : ℕ → List ℤ → Bool → Standing
 standing p cells partial = record { position = p; grids = square_of cells; partial = partial }
 
-cut_samples : FailsLater plain w32 (part_of gradient) cut_bytes (three_bits Unsealed) (standing 68 (pos 0 ∷ pos 0 ∷ pos 0 ∷ pos 0 ∷ []) true) (standing 71 (pos 1 ∷ pos 0 ∷ pos 0 ∷ pos 0 ∷ []) true) UnexpectedEof 2
+truncated_samples : FailsLater plain w32 (part_of gradient) truncated_bytes (three_bits Unsealed) (standing 68 (pos 0 ∷ pos 0 ∷ pos 0 ∷ pos 0 ∷ []) true) (standing 71 (pos 1 ∷ pos 0 ∷ pos 0 ∷ pos 0 ∷ []) true) UnexpectedEof 2
 unfolding int_wrap count_leading_zeros plain_begin plain_read number_at token_at
-cut_samples = record {
+truncated_samples = record {
   count = 1;
   fails = record {
     state = three_bits Unsealed;
@@ -112,8 +112,8 @@ cut_samples = record {
   as_partial = refl;
 }
 
-cut_answers : DecodeAnswers plain w32 (part_of gradient) cut_bytes (three_bits Unsealed) (standing 68 (pos 0 ∷ pos 0 ∷ pos 0 ∷ pos 0 ∷ []) true) (standing 71 (pos 1 ∷ pos 0 ∷ pos 0 ∷ pos 0 ∷ []) true) false (Err (Decoder UnexpectedEof)) 2
-cut_answers = (refl, (omega arith, inr cut_samples))
+truncated_gives : DecodeAnswers plain w32 (part_of gradient) truncated_bytes (three_bits Unsealed) (standing 68 (pos 0 ∷ pos 0 ∷ pos 0 ∷ pos 0 ∷ []) true) (standing 71 (pos 1 ∷ pos 0 ∷ pos 0 ∷ pos 0 ∷ []) true) false (Err (Decoder UnexpectedEof)) 2
+truncated_gives = (refl, (omega arith, inr truncated_samples))
 
 -- The same samples after their sum, which is 7, and after 8: there all four are coded, and the end is an error.
 abbrev sealed_bytes : ℕ → List ℕ
@@ -155,8 +155,8 @@ wrongly_sealed_samples = record {
   as_partial = refl;
 }
 
-wrongly_sealed_answers : DecodeAnswers plain w32 (part_of gradient) (sealed_bytes 0x80) (sealed 0) (standing 68 (pos 0 ∷ pos 0 ∷ pos 0 ∷ pos 0 ∷ []) true) (standing 88 (pos 1 ∷ pos 3 ∷ pos 0 ∷ pos 2 ∷ []) true) false (Err (Decoder (Invalid 4))) 4
-wrongly_sealed_answers = (omega arith, inr wrongly_sealed_samples)
+wrongly_sealed_gives : DecodeAnswers plain w32 (part_of gradient) (sealed_bytes 0x80) (sealed 0) (standing 68 (pos 0 ∷ pos 0 ∷ pos 0 ∷ pos 0 ∷ []) true) (standing 88 (pos 1 ∷ pos 3 ∷ pos 0 ∷ pos 2 ∷ []) true) false (Err (Decoder (Invalid 4))) 4
+wrongly_sealed_gives = (omega arith, inr wrongly_sealed_samples)
 
 -- The constant token 3, doubled, and 5 more: no bit is read after the tree, which ends at bit 79.
 abbrev constant_bytes : List ℕ

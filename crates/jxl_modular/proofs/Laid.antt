@@ -6,14 +6,15 @@ use Rattle.std.proofs.lemmas.List.{take-map}
 use Rattle.jxlm_base.specs.Grid.{Grid, meanings}
 use Rattle.jxlm_base.specs.Regions.{store_meanings, AllLie, LieApart}
 use Rattle.jxlm_base.specs.declared.subgrid.Region.{Region}
-use Rattle.jxlm_chain.specs.Layout.{LieIn, Layout, first_layout, layout_after_all}
+use Rattle.jxlm_chain.specs.Layout.{Layout, first_layout, layout_after_all}
 use Rattle.jxlm_transform.specs.Steps.{tables_of}
 use Rattle.jxlm_chain.specs.Shape.{SameShape}
 use Rattle.jxlm_chain.specs.Steps.{CanUndoAll}
 use Rattle.jxlm_chain.specs.Undo.{UndoesAll, undo_of_all}
 use Rattle.jxlm_chain.specs.Chain.{Chain}
 use Rattle.jxlm_transform.specs.Channels.{AreGridsOf, AreRegionsOf, Channel}
-use Rattle.jxl_modular.specs.Image.{Image, IsLaidOut, IsOnlyImage, coded_grids, given_list, image_grids, list_coded}
+use Rattle.jxl_modular.specs.Image.{Image, IsOnlyImage, coded_grids, given_list, image_grids}
+use Rattle.jxl_modular.specs.Inner.Laid.{IsLaidOut, list_coded}
 use Rattle.jxlm_part.specs.Progress.{grids_in}
 use Rattle.jxl_modular.specs.SameButSamples.{SameButCells}
 use Rattle.jxl_modular.proofs.Layouts.{buffers_meanings, given_grids}
@@ -29,19 +30,23 @@ module _ {S D : Type 0} (x : Image S D) (laid : IsLaidOut x) where
   abbrev first : Layout
   first = first_layout (given_list x).channels
 
-  coded_lies : LieIn (list_coded x).channels (layout_after_all x.steps first) x.store
+  abbrev after : List Region
+  after = (layout_after_all x.steps first).regions
+
+  coded_lies : AllLie after x.store × LieApart after × AreRegionsOf x.channels after
   coded_lies =
       let here = lie_first (given_list x).channels x.steps x.store laid.buffers in
-      (lie_after_all x.steps (given_list x) (list_coded x) first x.store laid.list laid.steps here.0 here.1).0
+      let there = (lie_after_all x.steps (given_list x) (list_coded x) first x.store laid.list laid.steps here.0 here.1).0 in
+      (there.lie, there.apart, there.sizes)
 
   pub coded_lie : AllLie x.coded x.store
-  coded_lie = subst (λ (rs : List Region). AllLie rs x.store) (sym laid.regions) coded_lies.lie
+  coded_lie = subst (λ (rs : List Region). AllLie rs x.store) (sym laid.regions) coded_lies.0
 
   pub coded_apart : LieApart x.coded
-  coded_apart = subst LieApart (sym laid.regions) coded_lies.apart
+  coded_apart = subst LieApart (sym laid.regions) coded_lies.1
 
   pub coded_sizes : AreRegionsOf x.channels x.coded
-  coded_sizes = subst (AreRegionsOf x.channels) (sym laid.regions) coded_lies.sizes
+  coded_sizes = subst (AreRegionsOf x.channels) (sym laid.regions) coded_lies.2
 
   pub coded_fit : (f : S → ℤ) → AreGridsOf x.channels (coded_grids f x)
   coded_fit f = fits_in x.channels x.coded (store_meanings f x.store) coded_sizes

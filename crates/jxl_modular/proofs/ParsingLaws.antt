@@ -14,7 +14,9 @@ use Rattle.jxlm_tree.specs.Tree.{Config}
 use Rattle.jxlm_tree.specs.TreeReading.{IsTreeAt, IsTooDeep, TreeGives, listing_at}
 use Rattle.jxl_modular.specs.Fresh.{fresh}
 use Rattle.jxl_modular.specs.Image.{Image}
-use Rattle.jxlm_header.specs.Opening.{node_limit, depth_limit, opening_of}
+use Rattle.jxlm_header.specs.Opening.{node_limit, depth_limit}
+use Rattle.jxl_modular.specs.Inner.Opened.{opened_of}
+use Rattle.jxlm_chain.specs.declared.placed.PlacedChannels.{PlacedChannels}
 use Rattle.jxl_modular.specs.Parsing.{IsImageAt, IsTreeErrorAt, ParseGives, opened}
 use Rattle.jxlm_header.specs.declared.header.ModularHeader.{ModularHeader}
 
@@ -33,28 +35,28 @@ module _ {S D : Type 0} (d : Meaning D) (zero : S) (bytes : List ℕ) (p : ℕ) 
   abbrev given : ChannelList
   given = image_list params.channels.items
 
-  module _ (o : ModularHeader × ModularChannels) (m : ℕ) (opens : opened bytes given p ≡ Ok (record { value = opening_of o; position = m }))
-      (limit : ℕ) (counted : limit ≡ min (1024 + sum_by area o.1.info.items) (2 ^ 20)) where
-    limit_same : limit ≡ node_limit (list_of o.1).channels
+  module _ (o : ModularHeader × PlacedChannels) (m : ℕ) (opens : opened bytes given p ≡ Ok (record { value = opened_of o; position = m }))
+      (limit : ℕ) (counted : limit ≡ min (1024 + sum_by area o.1.channels.info.items) (2 ^ 20)) where
+    limit_same : limit ≡ node_limit (list_of o.1.channels).channels
     limit_same = counted
 
     -- an image of the tree that stands there
     pub image_stands : (config : Config D) (q : ℕ) (image : Image S D) → IsTreeAt d bytes limit depth_limit m config q →
-        image ≡ fresh zero given (opening_of o) config params.group_dim params.bit_depth → IsImageAt d zero bytes p params image q
+        image ≡ fresh zero given (opened_of o) config params.group_dim params.bit_depth → IsImageAt d zero bytes p params image q
     image_stands config q image tree same = rw same (record {
-      head = opening_of o;
+      head = opened_of o;
       start = record { tree_at = m; header = opens; tree = rw limit_same at tree };
       cells = refl;
     })
 
     -- where a tree gives an error, so does the image
-    pub tree_refused : (e : Error) (q : ℕ) → TreeGives d bytes limit depth_limit m (Err e) q →
+    pub tree_fails : (e : Error) (q : ℕ) → TreeGives d bytes limit depth_limit m (Err e) q →
         UnlessMemory (kind_of e) (IsErrorAt (opened bytes given p) (kind_of e) q ⊎ IsTreeErrorAt d bytes given p (kind_of e) q)
-    tree_refused e q gives =
+    tree_fails e q gives =
         unless_so (kind_of e) {P = IsErrorAt (listing_at d bytes limit m) (kind_of e) q ⊎ IsTooDeep d bytes limit depth_limit m (kind_of e) q}
         {Q = IsErrorAt (opened bytes given p) (kind_of e) q ⊎ IsTreeErrorAt d bytes given p (kind_of e) q}
         (λ tree. inr (record {
-          head = opening_of o;
+          head = opened_of o;
           tree_at = m;
           header = opens;
           tree = rw limit_same at tree;

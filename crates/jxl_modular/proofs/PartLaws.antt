@@ -18,7 +18,8 @@ use Rattle.jxlm_base.specs.declared.bits.BitstreamError.TheVariants as bit_error
 use Rattle.jxlm_base.specs.declared.error.Error.{Error}
 use Rattle.jxlm_base.specs.declared.error.Error.TheVariants.{InvalidMaTree, GlobalMaTreeNotAvailable, InvalidRctParams, InvalidPaletteParams, InvalidSqueezeParams, Bitstream, Decoder, Buffer}
 use Rattle.jxlm_part.specs.Decode.{Standing, DecodeAnswers, MovesWithin}
-use Rattle.jxl_modular.specs.Image.{Image, IsLaidOut, coded_grids, cost_of as image_cost, whole_part, samples_in}
+use Rattle.jxl_modular.specs.Image.{Image, coded_grids, cost_of as image_cost, whole_part, samples_in}
+use Rattle.jxl_modular.specs.Inner.Laid.{IsLaidOut}
 use Rattle.jxlm_part.specs.Part.{Part, cell_count, max_width}
 use Rattle.jxlm_part.specs.Progress.{DecodesAll, DecodesSome}
 use Rattle.jxlm_part.specs.Reading.{HasFlats, IsCodingOf, IsRoomy, IsRoomyFor, regions_of}
@@ -82,16 +83,16 @@ module _ {S D : Type 0} (d : Meaning D) (w : Width) (to_int : S → ℤ) (bytes 
         subst (λ (part : Part). DecodesSome d w part bytes old.coded old.config.decoder (store_meanings to_int old.store) p (store_meanings to_int s) q (image_cost old) before after e) is
         (subst (λ rs. DecodesSome d w part bytes rs old.config.decoder (store_meanings to_int old.store) p (store_meanings to_int s) q (image_cost old) before after e) coded some)
 
-    pub refuses_samples : (e : DecoderError) → e ≢ OutOfMemory → DecodesSome d w part bytes regions old.config.decoder (store_meanings to_int old.store) p (store_meanings to_int s) q (image_cost old) before after e →
+    pub samples_fail : (e : DecoderError) → e ≢ OutOfMemory → DecodesSome d w part bytes regions old.config.decoder (store_meanings to_int old.store) p (store_meanings to_int s) q (image_cost old) before after e →
         FailsSamples d w to_int bytes stream old p (with_store old s) q before after (Decoder e)
-    refuses_samples UnexpectedEof ne some = fails_samples UnexpectedEof some
-    refuses_samples (Invalid k) ne some = fails_samples (Invalid k) some
-    refuses_samples OutOfMemory ne some = absurd (ne refl)
+    samples_fail UnexpectedEof ne some = fails_samples UnexpectedEof some
+    samples_fail (Invalid k) ne some = fails_samples (Invalid k) some
+    samples_fail OutOfMemory ne some = absurd (ne refl)
 
 -- an error in the samples of an image is one in those of the same
-pub refuses_so : {S D : Type 0} (d : Meaning D) (w : Width) (to_int : S → ℤ) (bytes : List ℕ) (stream : ℕ) (x old new : Image S D) (p q before after : ℕ) (e : Error) → x ≡ old →
+pub fails_so_too : {S D : Type 0} (d : Meaning D) (w : Width) (to_int : S → ℤ) (bytes : List ℕ) (stream : ℕ) (x old new : Image S D) (p q before after : ℕ) (e : Error) → x ≡ old →
     FailsSamples d w to_int bytes stream x p new q before after e → FailsSamples d w to_int bytes stream old p new q before after e
-refuses_so d w to_int bytes stream x old new p q before after e same h = subst (λ im. FailsSamples d w to_int bytes stream im p new q before after e) same h
+fails_so_too d w to_int bytes stream x old new p q before after e same h = subst (λ im. FailsSamples d w to_int bytes stream im p new q before after e) same h
 
 memory_of_bits : (b : BitstreamError) → UnlessMemory (bitstream_kind b) ⊥ → ⊥
 memory_of_bits bit_errors.UnexpectedEof h = h
@@ -99,18 +100,18 @@ memory_of_bits (bit_errors.InvalidEnum name value) h = h
 memory_of_bits (bit_errors.ProfileConformance text) h = h
 
 -- where it is out of memory, all is as before
-pub refuses_memory : {S D : Type 0} (d : Meaning D) (w : Width) (to_int : S → ℤ) (bytes : List ℕ) (stream : ℕ) (old : Image S D) (p before : ℕ) (e : Error) → IsOutOfMemory (kind_of e) →
+pub fails_by_memory : {S D : Type 0} (d : Meaning D) (w : Width) (to_int : S → ℤ) (bytes : List ℕ) (stream : ℕ) (old : Image S D) (p before : ℕ) (e : Error) → IsOutOfMemory (kind_of e) →
     FailsSamples d w to_int bytes stream old p old p before before e
-refuses_memory d w to_int bytes stream old p before (Decoder UnexpectedEof) h = absurd h
-refuses_memory d w to_int bytes stream old p before (Decoder (Invalid k)) h = absurd h
-refuses_memory d w to_int bytes stream old p before (Decoder OutOfMemory) h = (refl, refl, refl)
-refuses_memory d w to_int bytes stream old p before (Buffer m) h = (refl, refl, refl)
-refuses_memory d w to_int bytes stream old p before InvalidMaTree h = absurd h
-refuses_memory d w to_int bytes stream old p before GlobalMaTreeNotAvailable h = absurd h
-refuses_memory d w to_int bytes stream old p before InvalidRctParams h = absurd h
-refuses_memory d w to_int bytes stream old p before InvalidPaletteParams h = absurd h
-refuses_memory d w to_int bytes stream old p before InvalidSqueezeParams h = absurd h
-refuses_memory d w to_int bytes stream old p before (Bitstream b) h = absurd (memory_of_bits b h)
+fails_by_memory d w to_int bytes stream old p before (Decoder UnexpectedEof) h = absurd h
+fails_by_memory d w to_int bytes stream old p before (Decoder (Invalid k)) h = absurd h
+fails_by_memory d w to_int bytes stream old p before (Decoder OutOfMemory) h = (refl, refl, refl)
+fails_by_memory d w to_int bytes stream old p before (Buffer m) h = (refl, refl, refl)
+fails_by_memory d w to_int bytes stream old p before InvalidMaTree h = absurd h
+fails_by_memory d w to_int bytes stream old p before GlobalMaTreeNotAvailable h = absurd h
+fails_by_memory d w to_int bytes stream old p before InvalidRctParams h = absurd h
+fails_by_memory d w to_int bytes stream old p before InvalidPaletteParams h = absurd h
+fails_by_memory d w to_int bytes stream old p before InvalidSqueezeParams h = absurd h
+fails_by_memory d w to_int bytes stream old p before (Bitstream b) h = absurd (memory_of_bits b h)
 
 -- ---- what decoding a part returns
 
@@ -123,14 +124,14 @@ stands to_int x p partial = record { position = p; grids = coded_grids to_int x;
 
 module _ {S D : Type 0} (d : Meaning D) (w : Width) (to_int : S → ℤ) (bytes : List ℕ) (old : Image S D) (p : ℕ) (partial : Bool) (stream : ℕ) where
   -- what is returned, and how many steps were taken
-  abbrev Answers : Bool → Image S D → ℕ → Bool → Result (Unit {0}) Error → ℕ → ℕ → Type 0
-  Answers allow new q still result before after =
+  abbrev Gives : Bool → Image S D → ℕ → Bool → Result (Unit {0}) Error → ℕ → ℕ → Type 0
+  Gives allow new q still result before after =
       (tried : ℕ) × DecodeAnswers d w (whole_part old stream) bytes old.config.decoder (stands to_int old p partial) (stands to_int new q still) allow result tried × MovesWithin before after (tried * image_cost old)
 
   -- the samples are coded to the end
-  pub answers_whole : (allow : Bool) (new : Image S D) (q before after : ℕ) → 0 < samples_in old → DecodesSamples d w to_int bytes stream old p new q → before ≤ after → after ≤ before + samples_in old * image_cost old →
-      Answers allow new q false (Ok tt) before after
-  answers_whole allow new q before after cells all more work = (
+  pub part_whole : (allow : Bool) (new : Image S D) (q before after : ℕ) → 0 < samples_in old → DecodesSamples d w to_int bytes stream old p new q → before ≤ after → after ≤ before + samples_in old * image_cost old →
+      Gives allow new q false (Ok tt) before after
+  part_whole allow new q before after cells all more work = (
     samples_in old,
     inl (record {
       coded = inl (cells, all.0);
@@ -142,8 +143,8 @@ module _ {S D : Type 0} (d : Meaning D) (w : Width) (to_int : S → ℤ) (bytes 
   )
 
   -- there are no samples
-  pub answers_empty : (allow : Bool) (before : ℕ) → IsLaidOut old → (0 < samples_in old → ⊥) → Answers allow old p false (Ok tt) before before
-  answers_empty allow before laid none = (
+  pub part_empty : (allow : Bool) (before : ℕ) → IsLaidOut old → (0 < samples_in old → ⊥) → Gives allow old p false (Ok tt) before before
+  part_empty allow before laid none = (
     samples_in old,
     inl (record {
       coded = inr (none_is (samples_in old) none, refl);
@@ -155,15 +156,15 @@ module _ {S D : Type 0} (d : Meaning D) (w : Width) (to_int : S → ℤ) (bytes 
   )
 
   -- the decoder returns an error, or it is out of memory
-  pub answers_error : (allow : Bool) (e : Error) (new : Image S D) (q before after : ℕ) → allow ≡ false → 0 < samples_in old → before ≤ after → FailsSamples d w to_int bytes stream old p new q before after e →
-      Answers allow new q partial (Err e) before after
-  answers_error allow (Decoder UnexpectedEof) new q before after denied cells more fails = let f = fails partial cells in (f.0, (denied, f.1), (more, f.2))
-  answers_error allow (Decoder (Invalid k)) new q before after denied cells more fails = let f = fails partial cells in (f.0, f.1, (more, f.2))
-  answers_error allow (Decoder OutOfMemory) new q before after denied cells more same = (0, record { unchanged = rw (same.0, same.1) refl; tries = refl }, (more, let s = same.2 in omega (arith, s)))
-  answers_error allow (Buffer m) new q before after denied cells more same = (0, record { unchanged = rw (same.0, same.1) refl; tries = refl }, (more, let s = same.2 in omega (arith, s)))
-  answers_error allow InvalidMaTree new q before after denied cells more same = absurd same
-  answers_error allow GlobalMaTreeNotAvailable new q before after denied cells more same = absurd same
-  answers_error allow InvalidRctParams new q before after denied cells more same = absurd same
-  answers_error allow InvalidPaletteParams new q before after denied cells more same = absurd same
-  answers_error allow InvalidSqueezeParams new q before after denied cells more same = absurd same
-  answers_error allow (Bitstream b) new q before after denied cells more same = absurd same
+  pub part_error : (allow : Bool) (e : Error) (new : Image S D) (q before after : ℕ) → allow ≡ false → 0 < samples_in old → before ≤ after → FailsSamples d w to_int bytes stream old p new q before after e →
+      Gives allow new q partial (Err e) before after
+  part_error allow (Decoder UnexpectedEof) new q before after denied cells more fails = let f = fails partial cells in (f.0, (denied, f.1), (more, f.2))
+  part_error allow (Decoder (Invalid k)) new q before after denied cells more fails = let f = fails partial cells in (f.0, f.1, (more, f.2))
+  part_error allow (Decoder OutOfMemory) new q before after denied cells more same = (0, record { unchanged = rw (same.0, same.1) refl; tries = refl }, (more, let s = same.2 in omega (arith, s)))
+  part_error allow (Buffer m) new q before after denied cells more same = (0, record { unchanged = rw (same.0, same.1) refl; tries = refl }, (more, let s = same.2 in omega (arith, s)))
+  part_error allow InvalidMaTree new q before after denied cells more same = absurd same
+  part_error allow GlobalMaTreeNotAvailable new q before after denied cells more same = absurd same
+  part_error allow InvalidRctParams new q before after denied cells more same = absurd same
+  part_error allow InvalidPaletteParams new q before after denied cells more same = absurd same
+  part_error allow InvalidSqueezeParams new q before after denied cells more same = absurd same
+  part_error allow (Bitstream b) new q before after denied cells more same = absurd same

@@ -1,5 +1,7 @@
 pub mod Filled
+pub mod ImageCode
 pub mod Kept
+pub mod Laid
 pub mod Opened
 pub mod Samples
 pub mod StepCode

@@ -1,17 +1,13 @@
 //! What comes before an image's tree: the header, applied to the channels, and its conditions.
 
-ghost use Rattle.std.specs.Prelude.{◌≡◌, ◌≤◌, length, Ok, IfOk};
+ghost use Rattle.std.specs.Prelude.{◌≡◌, IfOk};
 ghost use Rattle.std.specs.List.{All};
 ghost use Rattle.jxlm_base.specs.Bits.{bytes_of, position_of};
 ghost use Rattle.jxlm_chain.specs.Placed.{GoesOn, IsPlaced};
-ghost use Rattle.jxlm_header.specs.Header.{header_of};
 ghost use Rattle.jxlm_header.specs.Opening.{opening};
 ghost use Rattle.jxlm_transform.specs.Channels.{IsNarrow, list_of};
-ghost use Rattle.jxlm_transform.specs.ChannelSteps.{list_after_all};
-ghost use Rattle.jxlm_transform.specs.Steps.{HasChannels, HasNarrowTables, HasWeights, steps_in};
 ghost use Rattle.jxlm_transform.specs.Transforms.{Parses};
-ghost use Rattle.jxlm_tree.specs.SelfCorrecting.{IsHeader};
-ghost use Rattle.jxl_modular.specs.Inner.Opened.{opened_of};
+ghost use Rattle.jxl_modular.specs.Inner.Opened.{IsOpened, opened_of, steps_of_header};
 
 use jxlm_base::bits::Bitstream;
 use jxlm_base::error::Result;
@@ -37,15 +33,8 @@ pub(crate) fn open(
     requires placed { IsPlaced placed }
     ensures gives { Parses opened_of result (position_of bits.new)
         ((opening has_global (list_of placed.channels)).read (bytes_of bits.old) (position_of bits.old)) }
-    ensures goes { IfOk result (λ o. GoesOn (steps_in (header_of o.0).transform) placed o.1) }
-    ensures narrow { IfOk result (λ o. All IsNarrow (list_of o.1.channels).channels) }
-    ensures few { IfOk result (λ o. length o.1.channels.info.items ≤ 65536) }
-    ensures weights { IfOk result (λ o. IsHeader o.0.wp_params) }
-    ensures list { IfOk result (λ o. list_after_all (steps_in (header_of o.0).transform) (list_of placed.channels)
-        ≡ Ok (list_of o.1.channels)) }
-    ensures steps { IfOk result (λ o. All HasChannels (steps_in (header_of o.0).transform)) }
-    ensures palettes { IfOk result (λ o. All (HasWeights o.0.wp_params) (steps_in (header_of o.0).transform)) }
-    ensures tables { IfOk result (λ o. HasNarrowTables (steps_in (header_of o.0).transform)) }
+    ensures goes { IfOk result (λ o. GoesOn (steps_of_header o.0) placed o.1) }
+    ensures opened { IfOk result (λ o. IsOpened (list_of placed.channels) o) }
     ensures bytes { bytes_of bits.new ≡ bytes_of bits.old }
 {
     let mut header = ModularHeader::parse(alloc, bits)?;

@@ -8,7 +8,8 @@ ghost use Rattle.jxlm_transform.specs.Channels.{AreGridsOf, image_list};
 ghost use Rattle.jxlm_transform.specs.Params.{IsValidParams};
 ghost use Rattle.jxlm_part.specs.Decode.{MovesWithin};
 ghost use Rattle.jxl_modular.specs.Inner.Filled.{IsFilled, FillFails};
-ghost use Rattle.jxl_modular.specs.Image.{IsLaidOut, cost_of, image_grids, samples_in};
+ghost use Rattle.jxl_modular.specs.Image.{cost_of, image_grids, samples_in};
+ghost use Rattle.jxl_modular.specs.Inner.Laid.{IsLaidOut};
 ghost use Rattle.jxl_modular.specs.Picture.{IsPictureRead, PictureFails, StepsWithin};
 
 use crate::image::ModularImageDestination;
@@ -73,10 +74,9 @@ pub fn decode_picture<S: Sample, D: Decoder>(
         → (position_of bits.new ≡ position_of bits.old) × (steps.new ≡ steps.old) }
 
     // Else it is the picture at the reader's position, whose grids have the sides of the channels ..
-    ensures picture { IfOk result (λ made. IfSome made (λ picture.
-        IsPictureRead D.meaning S.width (bytes_of bits.old) stream_index (image_list params.entry.channels.items)
-        (position_of bits.old) params.entry.bit_depth (image_grids S.to_int picture) (position_of bits.new)
-        steps.old steps.new)) }
+    ensures picture { IfOk result (λ made. IfSome made (λ picture. IsPictureRead D.meaning S.width (bytes_of bits.old)
+        stream_index (image_list params.entry.channels.items) (position_of bits.old) params.entry.bit_depth
+        (image_grids S.to_int picture) (position_of bits.new) steps.old steps.new)) }
     ensures sides { IfOk result (λ made. IfSome made (λ picture.
         AreGridsOf (image_list params.entry.channels.items).channels (image_grids S.to_int picture))) }
 

@@ -243,12 +243,12 @@ mod tests {
     const EOF: Error = Error::Bitstream(BitstreamError::UnexpectedEof);
 
     // A header that is accepted, after which the tree is truncated.
-    const CUT_TREE: Error = Error::Decoder(DecoderError::UnexpectedEof);
+    const TRUNCATED_TREE: Error = Error::Decoder(DecoderError::UnexpectedEof);
 
     const TOO_MANY: &str = "nb_channels_tr too large";
 
     #[test]
-    fn cut_headers_are_refused(rt: HostRuntime) -> Result<(), Fail> {
+    fn truncated_headers_are_errors(rt: HostRuntime) -> Result<(), Fail> {
         assert_eq!(rt; failure(&rt, &[], 1)?, (Some(EOF), 0));
         assert_eq!(rt; failure(&rt, &[0x00], 1)?, (Some(EOF), 7));
         assert_eq!(rt; failure(&rt, &[0x0E], 1)?, (Some(EOF), 2));
@@ -279,9 +279,9 @@ mod tests {
         assert_eq!(rt; colour_then_squeeze, (colour, 34));
 
         let no_global = Some(Error::GlobalMaTreeNotAvailable);
-        assert_eq!(rt; failure(&rt, &[0x06, 0x00], 3)?.0, Some(CUT_TREE));
+        assert_eq!(rt; failure(&rt, &[0x06, 0x00], 3)?.0, Some(TRUNCATED_TREE));
         assert_eq!(rt; failure(&rt, &[0x07, 0x00], 3)?, (no_global, 13));
-        assert_eq!(rt; failure(&rt, &[0x26], 1)?.0, Some(CUT_TREE));
+        assert_eq!(rt; failure(&rt, &[0x26], 1)?.0, Some(TRUNCATED_TREE));
         assert_eq!(rt;
             failure(&rt, &[0x03], 1)?,
             (Some(Error::GlobalMaTreeNotAvailable), 4)
@@ -298,10 +298,10 @@ mod tests {
         assert_eq!(rt; failure(&rt, &[0x03], 65536)?, (no_global, 4));
         let one = [0x16, 0x00, 0x00, 0x00];
         assert_eq!(rt; failure(&rt, &one, 65536)?, (too_many, 29));
-        assert_eq!(rt; failure(&rt, &one, 65535)?.0, Some(CUT_TREE));
+        assert_eq!(rt; failure(&rt, &one, 65535)?.0, Some(TRUNCATED_TREE));
         let three = [0x16, 0x08, 0x00, 0x00];
         assert_eq!(rt; failure(&rt, &three, 65538)?, (too_many, 29));
-        assert_eq!(rt; failure(&rt, &three, 65537)?.0, Some(CUT_TREE));
+        assert_eq!(rt; failure(&rt, &three, 65537)?.0, Some(TRUNCATED_TREE));
         Ok(())
     }
 
@@ -312,7 +312,7 @@ mod tests {
         for _ in 0..307 {
             bytes.push(0)?;
         }
-        assert_eq!(rt; failure(&rt, &bytes, 3)?.0, Some(CUT_TREE));
+        assert_eq!(rt; failure(&rt, &bytes, 3)?.0, Some(TRUNCATED_TREE));
         assert_eq!(rt;
             failure(&rt, &bytes, 2)?,
             (Some(Error::InvalidRctParams), 2469)
@@ -330,7 +330,7 @@ mod tests {
         for _ in 0..37 {
             bytes.extend_from_slice(&[2, 4, 8, 16, 32, 64, 128, 0, 1])?;
         }
-        assert_eq!(rt; failure(&rt, &bytes, 1)?.0, Some(CUT_TREE));
+        assert_eq!(rt; failure(&rt, &bytes, 1)?.0, Some(TRUNCATED_TREE));
         bytes.pop();
         assert_eq!(rt; failure(&rt, &bytes, 1)?, (Some(EOF), 2752));
         bytes.push(0)?;
@@ -350,7 +350,7 @@ mod tests {
             bytes.extend_from_slice(&steps)?;
         }
         bytes.extend_from_slice(&[1, 2, 4, 8, 16, 0])?;
-        assert_eq!(rt; failure(&rt, &bytes, 1)?.0, Some(CUT_TREE));
+        assert_eq!(rt; failure(&rt, &bytes, 1)?.0, Some(TRUNCATED_TREE));
 
         let mut bytes = vec![in rt.alloc(); 0xA6, 0x57, 0x80, 0]?;
         for _ in 0..3 {
@@ -365,9 +365,9 @@ mod tests {
     }
 
     #[test]
-    fn a_cut_tree_is_refused(rt: HostRuntime) -> Result<(), Fail> {
+    fn a_truncated_tree_is_an_error(rt: HostRuntime) -> Result<(), Fail> {
         for n in 1..9 {
-            assert_eq!(rt; failure(&rt, &ONE_LEAF[..n], 1)?.0, Some(CUT_TREE), "{n}");
+            assert_eq!(rt; failure(&rt, &ONE_LEAF[..n], 1)?.0, Some(TRUNCATED_TREE), "{n}");
         }
         assert_eq!(rt; failure(&rt, &ONE_LEAF[..9], 1)?, (None, 68));
         Ok(())

@@ -10,7 +10,6 @@ pub mod OneImage
 pub mod PlacedSteps
 pub mod Preparing
 pub mod Ranges
-pub mod Ready
 pub mod Rooms
 pub mod SampleGrids
 pub mod ShapeLaws

@@ -65,9 +65,9 @@ prepared_more ts i d u l m total lt steps list so_far =
     (transform_applied (steps_in (done i ts)) (transform_of (get_or ts i d)) (transform_of u) (left (i + 1) ts) l m total steps list before)
 
 -- the next one gave an error
-pub prepared_refused : (ts : List TransformInfo) (i : ℕ) (d : TransformInfo) (l : ChannelList) (error : ErrorKind) (total : Result CodedList ErrorKind) → i < length ts →
+pub prepared_fails : (ts : List TransformInfo) (i : ℕ) (d : TransformInfo) (l : ChannelList) (error : ErrorKind) (total : Result CodedList ErrorKind) → i < length ts →
     UnlessNoMemory error ((steps_of (transform_of (get_or ts i d)) l >>= λ steps. list_after_all steps l) ≡ Err error) → come_to i ts l ≡ total → UnlessNoMemory error (total ≡ Err error)
-prepared_refused ts i d l error total lt refused so_far =
+prepared_fails ts i d l error total lt refused so_far =
     let before : with_steps (steps_in (done i ts)) (coded_list (transform_of (get_or ts i d) ∷ left (i + 1) ts) l) ≡ total =
     sym (ap (λ (us : List Transform). with_steps (steps_in (done i ts)) (coded_list us l)) (first_left ts i d lt)) ∙ so_far in
     unless_so error _ (total ≡ Err error) (λ r. transform_refused (steps_in (done i ts)) (transform_of (get_or ts i d)) (left (i + 1) ts) l error total r before) refused

@@ -52,8 +52,8 @@ module _ {X Y : Type 0} (f g : X → Y) where
 
   -- two maps that agree outside a range
   module _ (begin n : ℕ) (xs : List X) (same : (k : ℕ) (d : X) → k < length xs → (begin ≤ k → k < begin + n → ⊥) → f (get_or xs k d) ≡ g (get_or xs k d)) where
-    same_ahead : take begin (map f xs) ≡ take begin (map g xs)
-    same_ahead =
+    same_before : take begin (map f xs) ≡ take begin (map g xs)
+    same_before =
         take-map f begin xs
         ∙ map_same (take begin xs)
         (λ k d h.
@@ -73,7 +73,7 @@ module _ {X Y : Type 0} (f g : X → Y) where
         ∙ sym (drop-map g (begin + n) xs)
 
     pub with_range_same : (others : List Y) → with_range begin n others (map f xs) ≡ with_range begin n others (map g xs)
-    with_range_same others = ap (λ ys. ys ++ others ++ drop (begin + n) (map f xs)) same_ahead ∙ ap (λ ys. take begin (map g xs) ++ others ++ ys) same_after
+    with_range_same others = ap (λ ys. ys ++ others ++ drop (begin + n) (map f xs)) same_before ∙ ap (λ ys. take begin (map g xs) ++ others ++ ys) same_after
 
 pub map_map_same : {X Y Z V : Type 0} (f : Y → Z) (g : X → Y) (p : V → Z) (q : X → V) (xs : List X) → ((k : ℕ) (d : X) → k < length xs → f (g (get_or xs k d)) ≡ p (q (get_or xs k d))) →
     map f (map g xs) ≡ map p (map q xs)

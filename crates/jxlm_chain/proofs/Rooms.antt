@@ -8,7 +8,8 @@ use Rattle.jxlm_base.specs.Regions.{Lies}
 use Rattle.jxlm_base.specs.declared.subgrid.Region.{Region}
 use Rattle.jxlm_tree.specs.Standing.{HasSameRoom}
 use Rattle.jxlm_tree.specs.declared.predictor.WpHeader.{WpHeader}
-use Rattle.jxlm_chain.specs.Scratch.{AreNarrow, Covers, HasRoomFor, HasRoomToUndo, IsNarrow, IsNarrowUndo, KeepsScratch, columns_for, larger_needs, state_for}
+use Rattle.jxlm_chain.specs.Scratch.{HasRoomFor, HasRoomToUndo, IsNarrow, IsNarrowUndo, KeepsScratch, state_for}
+use Rattle.jxlm_chain.specs.Inner.Needs.{AreNarrow, Covers, columns_for, larger_needs}
 use Rattle.jxlm_chain.specs.Steps.{CanUndo, CanUndoAll, IsNarrowStore}
 use Rattle.jxlm_chain.specs.Undo.{Undo, UndoRct, UndoPalette, UndoSqueeze}
 use Rattle.jxlm_chain.specs.declared.scratch.Needs.{Needs}

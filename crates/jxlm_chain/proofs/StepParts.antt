@@ -43,8 +43,8 @@ module _ {X : Type 0} (R : X → X → Type 0) where
       pairs_append R (take (begin + 1) xs) (drop (begin + n) xs) (pairs_take R (begin + 1) xs pairs) (pairs_drop R (begin + n) xs pairs) (cross_take_drop R (begin + 1) (begin + n) xs (omega arith) pairs)
 
   -- a range, and what is before it and after it
-  cross_ahead : (begin n : ℕ) (xs : List X) → AllPairs R xs → AllCross R (take begin xs) (range begin n xs)
-  cross_ahead begin n xs pairs = cross_take_right R (begin + n - begin) (take begin xs) (drop begin xs) (cross_take_drop R begin begin xs (omega arith) pairs)
+  cross_before : (begin n : ℕ) (xs : List X) → AllPairs R xs → AllCross R (take begin xs) (range begin n xs)
+  cross_before begin n xs pairs = cross_take_right R (begin + n - begin) (take begin xs) (drop begin xs) (cross_take_drop R begin begin xs (omega arith) pairs)
 
   cross_after : (begin n : ℕ) (xs : List X) → AllPairs R xs → AllCross R (range begin n xs) (drop (begin + n) xs)
   cross_after begin n xs pairs = subst (AllCross R (range begin n xs)) (drop-drop n begin xs) (cross_take_drop R (begin + n - begin) n (drop begin xs) (omega arith) (pairs_drop R begin xs pairs))
@@ -67,7 +67,7 @@ module _ {X : Type 0} (R : X → X → Type 0) where
         let before_it : List X = take t.begin_c xs in
         let after_it : List X = drop (t.begin_c + t.num_c) xs in
         let here : AllPairs R ys = pairs_range t.begin_c t.num_c xs pairs in
-        let a : AllCross R before_it ys = cross_ahead t.begin_c t.num_c xs pairs in
+        let a : AllCross R before_it ys = cross_before t.begin_c t.num_c xs pairs in
         let b : AllCross R ys after_it = cross_after t.begin_c t.num_c xs pairs in
         let qf : (x y : X) → R x y → R x (f y) = λ x y r. turn (f y) x (pf y x (turn x y r)) in
         let qg : (x y : X) → R x y → R x (g y) = λ x y r. turn (g y) x (pg y x (turn x y r)) in

@@ -1,1 +1,3 @@
 pub mod Ends
+pub mod Lying
+pub mod Needs

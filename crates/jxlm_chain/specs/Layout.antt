@@ -1,11 +1,10 @@
 -- Where samples lie in a store: the regions of an image's channels, before each step and after it.
-use Rattle.std.specs.Prelude.{◌≡◌, ℕ, suc, ◌<◌, List, [], ◌∷◌, ◌++◌, length, map, get_or}
-use Rattle.std.specs.List.{All, AllZip}
+use Rattle.std.specs.Prelude.{ℕ, suc, List, [], ◌∷◌, ◌++◌, length, map, get_or}
+use Rattle.std.specs.List.{AllZip}
 use Rattle.jxlm_base.specs.Grid.{Grid}
-use Rattle.jxlm_base.specs.Outside.{buffer_at}
-use Rattle.jxlm_base.specs.Regions.{region, AllLie, LieApart}
+use Rattle.jxlm_base.specs.Regions.{region}
 use Rattle.jxlm_base.specs.declared.subgrid.Region.{Region}
-use Rattle.jxlm_transform.specs.Channels.{AreRegionsOf, Channel, HasSides}
+use Rattle.jxlm_transform.specs.Channels.{Channel, HasSides}
 use Rattle.jxlm_transform.specs.ChannelSteps.{Step, RctStep, PaletteStep, SqueezeStep, range, with_range, with_halves}
 use Rattle.jxlm_transform.specs.SqueezedRegions.{average_region, residual_region}
 use Rattle.jxlm_transform.specs.Steps.{Sides, tables_of}
@@ -54,21 +53,6 @@ sides_of cs = map (λ c. record { width = c.width; height = c.height }) cs
 abbrev pub buffers_of : List Channel → List Step → List Sides
 buffers_of cs ss = sides_of cs ++ tables_of ss
 
-module _ {S : Type 0} where
-  -- the store's buffers are of these sides
-  abbrev pub HasBuffers : List Sides → List (Grid S) → Type 0
-  HasBuffers sides store = AllZip (λ s g. HasSides s.width s.height g) sides store
-
-  -- from buffer b on the store has the tables of these steps, and nothing else
-  abbrev pub HasTables : List Step → ℕ → List (Grid S) → Type 0
-  HasTables [] b store = length store ≡ b
-  HasTables (RctStep t ∷ ss) b store = HasTables ss b store
-  HasTables (PaletteStep t ∷ ss) b store = HasSides t.nb_colours t.num_c (buffer_at store b) × HasTables ss (suc b) store
-  HasTables (SqueezeStep t ∷ ss) b store = HasTables ss b store
-
-  -- the channels lie in buffers of the store that are taken, in regions of their sides, no two of which share a cell
-  pub record LieIn (cs : List Channel) (l : Layout) (store : List (Grid S)) : Type 0 where
-    pub sizes : AreRegionsOf cs l.regions
-    pub lie : AllLie l.regions store
-    pub taken : All (λ r. r.buffer < l.buffers) l.regions
-    pub apart : LieApart l.regions
+-- the store's buffers are of these sides
+abbrev pub HasBuffers : {S : Type 0} → List Sides → List (Grid S) → Type 0
+HasBuffers sides store = AllZip (λ s g. HasSides s.width s.height g) sides store

@@ -1,5 +1,5 @@
 -- Room for undoing.
-use Rattle.std.specs.Prelude.{◌≡◌, ℕ, ◌+◌, ◌≤◌, List, Option, Some, None, get_or, length, max, vec_len}
+use Rattle.std.specs.Prelude.{◌≡◌, ◌+◌, ◌≤◌, List, Option, Some, None, get_or, length, max, vec_len}
 use Rattle.std.specs.List.{All}
 use Rattle.jxlm_base.specs.declared.subgrid.Region.{Region}
 use Rattle.jxlm_tree.specs.Standing.{HasSameRoom, room_of, weights_of}
@@ -10,7 +10,6 @@ use Rattle.jxlm_transform.specs.ColourRows.{HasRoom, KeepsRoom}
 use Rattle.jxlm_chain.specs.Layout.{no_region}
 use Rattle.jxlm_chain.specs.Undo.{Undo, UndoRct, UndoPalette, UndoSqueeze}
 use Rattle.jxlm_chain.specs.declared.scratch.Scratch.{Scratch}
-use Rattle.jxlm_chain.specs.declared.scratch.Needs.{Needs}
 
 -- no side of the region is above 2 ^ 30
 abbrev pub IsNarrow : Region → Type 0
@@ -21,25 +20,6 @@ abbrev pub IsNarrowUndo : Undo → Type 0
 IsNarrowUndo (UndoRct kind regions) = Unit {0}
 IsNarrowUndo (UndoPalette t table index regions) = IsNarrow index
 IsNarrowUndo (UndoSqueeze horizontal r) = IsNarrow r
-
--- how many columns a palette of these weights may have
-abbrev pub columns_for : Option WpHeader → Needs → ℕ
-columns_for None needs = needs.plain
-columns_for (Some weights) needs = needs.weighted
-
--- the needs of an undoing are among these
-abbrev pub Covers : Needs → Undo → Type 0
-Covers needs (UndoRct kind regions) = (get_or regions 0 no_region).width ≤ needs.rows
-Covers needs (UndoPalette t table index regions) = (index.width ≤ columns_for t.wp_header needs) × (length regions ≤ needs.members)
-Covers needs (UndoSqueeze horizontal r) = max r.width (r.height + 1) ≤ needs.line
-
--- palettes of no more than 2 ^ 30 columns
-abbrev pub AreNarrow : Needs → Type 0
-AreNarrow needs = IsSide needs.plain × IsSide needs.weighted
-
--- the larger need of each kind
-abbrev pub larger_needs : Needs → Needs → Needs
-larger_needs a b = record { rows = max a.rows b.rows; line = max a.line b.line; plain = max a.plain b.plain; weighted = max a.weighted b.weighted; members = max a.members b.members }
 
 module _ {S : Type 0} where
   -- the state that predicts for palettes of these weights

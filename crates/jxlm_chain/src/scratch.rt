@@ -3,7 +3,8 @@
 ghost use Rattle.std.specs.Prelude.{◌≡◌, ◌+◌, ◌^◌, ◌<◌, ◌≤◌, Some, max, IfOk, IfErr, vec_len};
 ghost use Rattle.std.specs.List.{All};
 ghost use Rattle.jxlm_base.specs.ErrorKind.{NoMemory, kind_of};
-ghost use Rattle.jxlm_chain.specs.Scratch.{AreNarrow, Covers, HasRoomFor, IsNarrow, IsNarrowUndo, larger_needs};
+ghost use Rattle.jxlm_chain.specs.Scratch.{HasRoomFor, IsNarrow, IsNarrowUndo};
+ghost use Rattle.jxlm_chain.specs.Inner.Needs.{AreNarrow, Covers, larger_needs};
 ghost use Rattle.jxlm_chain.specs.Undoings.{SuitsWeights, undo_of_code, undos_of};
 ghost use Rattle.jxlm_tree.specs.SelfCorrecting.{IsHeader};
 

@@ -35,10 +35,10 @@ pub exact-opening : (has_global : Bool) (list : ChannelList) → IsExact (openin
 exact-opening has_global list = bind exact-header λ h. exact-checked (resolved has_global list h)
 
 -- where one of the transforms gives an error, so does the header
-pub listed_refused : (bytes : List ℕ) (p : ℕ) (global : Bool) (a : ℕ) (weights : WpHeader) (b n m : ℕ) (error : ErrorKind) (q : ℕ) → flag.read bytes p ≡ Ok (record { value = global; position = a }) →
+pub listed_fails : (bytes : List ℕ) (p : ℕ) (global : Bool) (a : ℕ) (weights : WpHeader) (b n m : ℕ) (error : ErrorKind) (q : ℕ) → flag.read bytes p ≡ Ok (record { value = global; position = a }) →
     wp_header.read bytes a ≡ Ok (record { value = weights; position = b }) → (u32 (Const 0) (Const 1) (Offset 2 4) (Offset 18 8)).read bytes b ≡ Ok (record { value = n; position = m }) →
     UnlessNoMemory error (IsErrorAt ((repeated n (transform weights)).read bytes m) error q) → UnlessNoMemory error (IsErrorAt (header.read bytes p) error q)
-listed_refused bytes p global a weights b n m error q first second third refused =
+listed_fails bytes p global a weights b n m error q first second third refused =
     let rest : header.read bytes p ≡ reading.◌>>=◌ ((repeated n (transform weights)).read bytes m) (λ found. Ok (record { value = record { use_global_tree = global; wp_params = weights; transform = found.value }; position = found.position })) =
     rw (first, second, third) refl in
     unless_so error (IsErrorAt ((repeated n (transform weights)).read bytes m) error q) (IsErrorAt (header.read bytes p) error q)

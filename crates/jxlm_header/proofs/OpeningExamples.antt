@@ -19,8 +19,8 @@ square = squares 1
 nothing_there : (opening false (image_list square)).read [] 0 ≡ Err (record { error = Eof; position = Some 0 })
 nothing_there = refl
 
-cut_header : (opening false (image_list square)).read (0x0E ∷ []) 0 ≡ Err (record { error = Eof; position = Some 2 })
-cut_header = refl
+truncated_header : (opening false (image_list square)).read (0x0E ∷ []) 0 ≡ Err (record { error = Eof; position = Some 2 })
+truncated_header = refl
 
 no_global_tree : (opening false (image_list square)).read (0x03 ∷ []) 0 ≡ Err (record { error = NoGlobalTree; position = Some 4 })
 no_global_tree = refl
@@ -32,8 +32,8 @@ a_kind = refl
 a_predictor : (opening false (image_list square)).read (0x16 ∷ 0x00 ∷ 0x00 ∷ 0x1C ∷ []) 0 ≡ Err (record { error = BadEnum (codes "MaProperty") 14; position = Some 29 })
 a_predictor = refl
 
-cut_palette : (opening false (image_list square)).read (0x16 ∷ 0x00 ∷ 0x00 ∷ []) 0 ≡ Err (record { error = Eof; position = Some 23 })
-cut_palette = refl
+truncated_palette : (opening false (image_list square)).read (0x16 ∷ 0x00 ∷ 0x00 ∷ []) 0 ≡ Err (record { error = Eof; position = Some 23 })
+truncated_palette = refl
 
 -- A colour transform of two channels, and one of three, after which the global tree is missing.
 two_channels : (opening false (image_list (squares 2))).read (0x06 ∷ 0x00 ∷ []) 0 ≡ Err (record { error = BadRct; position = Some 13 })

@@ -41,8 +41,8 @@ module _ (has_global : Bool) (list : ChannelList) where
 
 module _ (has_global : Bool) (list : ChannelList) (bytes : List ℕ) (p : ℕ) where
   -- where the header gives an error, so does all
-  pub header_refused : (error : ErrorKind) (q : ℕ) → UnlessNoMemory error (IsErrorAt (header.read bytes p) error q) → UnlessNoMemory error (IsErrorAt ((opening has_global list).read bytes p) error q)
-  header_refused error q refused =
+  pub header_fails : (error : ErrorKind) (q : ℕ) → UnlessNoMemory error (IsErrorAt (header.read bytes p) error q) → UnlessNoMemory error (IsErrorAt ((opening has_global list).read bytes p) error q)
+  header_fails error q refused =
       unless_so error (IsErrorAt (header.read bytes p) error q) (IsErrorAt ((opening has_global list).read bytes p) error q)
       (λ r. record { place = r.place; refuses = rw r.refuses refl; stands = r.stands }) refused
 
@@ -50,14 +50,14 @@ module _ (has_global : Bool) (list : ChannelList) (bytes : List ℕ) (p : ℕ) w
     reads_on : (opening has_global list).read bytes p ≡ (checked (resolved has_global list h)).read bytes m
     reads_on = rw reads refl
 
-    refused_after : (error : ErrorKind) → resolved has_global list h ≡ Err error → IsErrorAt ((opening has_global list).read bytes p) error m
-    refused_after error e = record { place = Some m; refuses = reads_on ∙ ap (λ (r : Result Opening ErrorKind). (checked r).read bytes m) e; stands = refl }
+    fails_after : (error : ErrorKind) → resolved has_global list h ≡ Err error → IsErrorAt ((opening has_global list).read bytes p) error m
+    fails_after error e = record { place = Some m; refuses = reads_on ∙ ap (λ (r : Result Opening ErrorKind). (checked r).read bytes m) e; stands = refl }
 
     -- so it is where a transform does
-    pub transforms_refused : (error : ErrorKind) → UnlessNoMemory error (coded_list h.transform list ≡ Err error) → UnlessNoMemory error (IsErrorAt ((opening has_global list).read bytes p) error m)
-    transforms_refused error refused =
+    pub transforms_fail : (error : ErrorKind) → UnlessNoMemory error (coded_list h.transform list ≡ Err error) → UnlessNoMemory error (IsErrorAt ((opening has_global list).read bytes p) error m)
+    transforms_fail error refused =
         unless_so error (coded_list h.transform list ≡ Err error) (IsErrorAt ((opening has_global list).read bytes p) error m)
-        (λ e. refused_after error (rw e refl)) refused
+        (λ e. fails_after error (rw e refl)) refused
 
     module _ (coded : CodedList) (found : coded_list h.transform list ≡ Ok coded) where
       -- and where a condition fails, by the header as its transforms list their steps
@@ -65,7 +65,7 @@ module _ (has_global : Bool) (list : ChannelList) (bytes : List ℕ) (p : ℕ) w
           IsErrorAt ((opening has_global list).read bytes p) error m
       condition_fails k error flags fails =
           let here : conditions has_global h coded.list ≡ Err error = sym (conditions_alike has_global coded.list k h flags) ∙ fails in
-          refused_after error (rw (found, here) refl)
+          fails_after error (rw (found, here) refl)
 
       -- where all hold, it is opened
       pub is_opened : (k : Header) → k.use_global_tree ≡ h.use_global_tree → conditions has_global k coded.list ≡ Ok tt →

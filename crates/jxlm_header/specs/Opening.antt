@@ -4,13 +4,10 @@ use Rattle.jxlm_base.specs.ErrorKind.{ErrorKind, BadProfile, NoGlobalTree, kind_
 use Rattle.jxlm_base.specs.Grammar.{Grammar, IsExact, give, fail}
 use Rattle.jxlm_base.specs.Grammar as fields
 use Rattle.jxlm_base.specs.declared.error.Error.{Error}
-use Rattle.jxlm_transform.specs.Steps.{steps_in}
 use Rattle.jxlm_tree.specs.declared.predictor.WpHeader.{WpHeader}
-use Rattle.jxlm_transform.specs.Channels.{Channel, ChannelList, area, list_of}
+use Rattle.jxlm_transform.specs.Channels.{Channel, ChannelList, area}
 use Rattle.jxlm_transform.specs.ChannelSteps.{CodedList, coded_list, ◌>>=◌}
-use Rattle.jxlm_transform.specs.declared.channels.ModularChannels.{ModularChannels}
-use Rattle.jxlm_header.specs.Header.{Header, header, header_of}
-use Rattle.jxlm_header.specs.declared.header.ModularHeader.{ModularHeader}
+use Rattle.jxlm_header.specs.Header.{Header, header}
 
 -- the weights of the header, and what its transforms come to: their steps, and the channels that are coded
 pub record Opening : Type 0 where
@@ -43,10 +40,6 @@ opening has_global list = fields.◌>>=◌ header λ header. checked (resolved h
 abbrev pub CheckGives : Result (Unit {0}) ErrorKind → Result (Unit {0}) Error → Type 0
 CheckGives check (Ok u) = check ≡ Ok tt
 CheckGives check (Err e) = check ≡ Err (kind_of e)
-
--- a header and its coded channels, as a program keeps them
-abbrev pub opening_of : ModularHeader × ModularChannels → Opening
-opening_of o = record { weights = (header_of o.0).wp_params; coded = record { steps = steps_in (header_of o.0).transform; list = list_of o.1 } }
 
 -- what is read before a tree stands there, and what stands there is read
 abbrev pub OpeningIsExact : Type 0

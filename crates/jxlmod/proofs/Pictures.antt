@@ -11,7 +11,8 @@ use Rattle.jxlm_transform.specs.declared.param.ChannelShift.TheVariants.{Shifts}
 use Rattle.jxlm_transform.specs.declared.param.ModularChannelParams.{ModularChannelParams}
 use Rattle.jxlm_transform.specs.declared.param.ModularParams.{ModularParams}
 use Rattle.jxlm_transform.specs.Channels.{Channel, ChannelList, image_channel, image_list}
-use Rattle.jxlmod.specs.Drawing.{IsPictureError, channels_asked}
+use Rattle.jxlmod.specs.PictureText.{channels_asked}
+use Rattle.jxlmod.specs.Inner.Printed.{IsPictureError}
 use Rattle.jxlm_base.specs.ErrorKind.{NoMemory, kind_of}
 use Rattle.jxlm_base.specs.Grid.{Grid}
 use Rattle.jxlm_base.specs.Plain.{plain}

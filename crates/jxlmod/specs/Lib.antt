@@ -2,4 +2,5 @@ pub mod Arguments
 pub mod Decimals
 pub mod Printing
 pub mod Run
-pub mod Drawing
+pub mod PictureText
+pub mod Inner

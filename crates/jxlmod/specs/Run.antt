@@ -15,21 +15,13 @@ status_of Unwritable = 1
 
 -- the input was read to its end, from left to rest; a text was made of its bytes; the output, which held `held`,
 -- holds that text after it
-pub record IsDrawn (draws : List ℕ → List ℕ → Type 0) (left rest held holds : Option (List ℕ)) : Type 0 where
+pub record IsPrinted (prints : List ℕ → List ℕ → Type 0) (left rest held holds : Option (List ℕ)) : Type 0 where
   pub bytes : List ℕ
   pub text : List ℕ
   pub read : Consumes left rest bytes
   pub ended : IsAtEnd rest
-  pub drawn : draws bytes text
+  pub printed : prints bytes text
   pub written : Appends held holds text
-
--- the input was read to its end, from left to rest; for a command, this was returned for its bytes
-pub record IsAnswered (answers : Command → List ℕ → Type 0) (left rest : Option (List ℕ)) : Type 0 where
-  pub command : Command
-  pub bytes : List ℕ
-  pub read : Consumes left rest bytes
-  pub ended : IsAtEnd rest
-  pub answered : answers command bytes
 
 -- a command with channels is asked for; of the input, which was left, these bytes were read, and rest comes after them
 pub record IsPartlyRead (asks : Command → Type 0) (left rest : Option (List ℕ)) : Type 0 where

@@ -2,7 +2,7 @@
 #![tactic(auto)]
 
 mod arguments;
-mod drawing;
+mod picture;
 mod printing;
 mod run;
 

@@ -6,11 +6,12 @@ ghost use Rattle.std.specs.Vec.Iter.{into_iter_items};
 ghost use Rattle.jxlm_base.specs.declared.error.Error.{Error};
 ghost use Rattle.jxlmod.specs.declared.arguments.Command.{Command};
 ghost use Rattle.jxlmod.specs.Arguments.{AreFor, AreWrong, IsWithinLimits, channels_of};
-ghost use Rattle.jxlmod.specs.Drawing.{Draws};
-ghost use Rattle.jxlmod.specs.Run.{IsDrawn, IsAnswered, IsPartlyRead, status_of};
+ghost use Rattle.jxlmod.specs.PictureText.{Prints};
+ghost use Rattle.jxlmod.specs.Run.{IsPrinted, IsPartlyRead, status_of};
+ghost use Rattle.jxlmod.specs.Inner.Reading.{IsReadWhole};
 
 use crate::arguments::{Command, USAGE};
-use crate::drawing::PartDrawer;
+use crate::picture::PartPrinter;
 use jxlm_base::error::Error;
 use std::alloc::{AllocError, Global};
 use std::env::Args;
@@ -41,31 +42,31 @@ impl From<Error> for Failure {
 }
 
 /// What makes the text of an image from the bytes of the input.
-pub trait Draw {
+pub trait Print {
     // what may be returned for the bytes and the command: a text or an error
-    ghost answers: { List ℕ → Command → Result (List ℕ) Error → Type 0 };
+    ghost may_return: { List ℕ → Command → Result (List ℕ) Error → Type 0 };
 
     /// The text of the image that the command asks for, which has a channel.
-    fn draw(&self, alloc: Global, bytes: &[u8], command: Command) -> Result<String, Error>
+    fn print(&self, alloc: Global, bytes: &[u8], command: Command) -> Result<String, Error>
         requires within { IsWithinLimits command }
         requires some { 0 < channels_of command }
         ensures { MatchResult result
-            (λ text. answers bytes.now command (Ok (string_bytes text)))
-            (λ error. answers bytes.now command (Err error)) };
+            (λ text. may_return bytes.now command (Ok (string_bytes text)))
+            (λ error. may_return bytes.now command (Err error)) };
 }
 
 /// Carries out what the words ask for, which are the arguments without the program's name, and
 /// returns the status to end with: 0 where it is done, 1 where it fails, and 2 where the words are
-/// wrong, and then nothing is read. The drawer makes the text of the image from the bytes of the
+/// wrong, and then nothing is read. The printer makes the text of the image from the bytes of the
 /// input. The output gets that text alone and `errors` a line on what failed, each as far as it can
 /// be written. An image of no channels is nothing: no stream is touched.
-pub fn run_with<R: Read, W: Write, E: Write, D: Draw>(
+pub fn run_with<R: Read, W: Write, E: Write, P: Print>(
     alloc: Global,
     words: &[String],
     input: &mut R,
     output: &mut W,
     errors: &mut E,
-    drawer: &D,
+    printer: &P,
 ) -> u8
     ensures status { result ≤ 2 }
 
@@ -79,7 +80,7 @@ pub fn run_with<R: Read, W: Write, E: Write, D: Draw>(
 
     // Done: the output has the text that was made of all the input, and no error is printed.
     ensures done { result ≡ 0 → (c : Command) → AreFor (map string_bytes words.now) c → 0 < channels_of c
-        → IsDrawn (λ bytes text. D.answers bytes c (Ok text))
+        → IsPrinted (λ bytes text. P.may_return bytes c (Ok text))
         (R.remaining input.old) (R.remaining input.new) (W.contents output.old) (W.contents output.new) }
     ensures quiet { result ≡ 0 → errors.new ≡ errors.old }
 
@@ -89,7 +90,7 @@ pub fn run_with<R: Read, W: Write, E: Write, D: Draw>(
     ensures asked { result ≡ 1
         → IsPartlyRead (AreFor (map string_bytes words.now)) (R.remaining input.old) (R.remaining input.new) }
 {
-    match carry_out(alloc, words, input, output, drawer) {
+    match carry_out(alloc, words, input, output, printer) {
         Ok(()) => 0,
         Err(failure) => report(errors, failure),
     }
@@ -111,14 +112,14 @@ pub fn run<R: Read, W: Write, E: Write>(
     ensures nothing { (c : Command) → AreFor (map string_bytes words.now) c → channels_of c ≡ 0
         → (result ≡ 0) × (input.new ≡ input.old) × (output.new ≡ output.old) × (errors.new ≡ errors.old) }
     ensures done { result ≡ 0 → (c : Command) → AreFor (map string_bytes words.now) c → 0 < channels_of c
-        → IsDrawn (λ bytes text. Draws bytes c text)
+        → IsPrinted (λ bytes text. Prints bytes c text)
         (R.remaining input.old) (R.remaining input.new) (W.contents output.old) (W.contents output.new) }
     ensures quiet { result ≡ 0 → errors.new ≡ errors.old }
     ensures failed { result ≡ 1 → (output.new ≡ output.old) ⊎ (errors.new ≡ errors.old) }
     ensures asked { result ≡ 1
         → IsPartlyRead (AreFor (map string_bytes words.now)) (R.remaining input.old) (R.remaining input.new) }
 {
-    run_with(alloc, words, input, output, errors, &PartDrawer)
+    run_with(alloc, words, input, output, errors, &PartPrinter)
 }
 
 /// Carries out what the words ask for, as `run_with` does, and returns why it was not done.
@@ -126,14 +127,14 @@ pub fn run<R: Read, W: Write, E: Write>(
 /// # Errors
 ///
 /// `WrongArguments` comes before the input is read. `Unreadable` shows only for a command with
-/// channels. `Image` is the error that the drawer returns for all the bytes of the input, and the
+/// channels. `Image` is the error that the printer returns for all the bytes of the input, and the
 /// output stays then; `Unwritable` shows only when a text was made.
-pub fn carry_out<R: Read, W: Write, D: Draw>(
+pub fn carry_out<R: Read, W: Write, P: Print>(
     alloc: Global,
     words: &[String],
     input: &mut R,
     output: &mut W,
-    drawer: &D,
+    printer: &P,
 ) -> Result<(), Failure>
     ensures wrong { IsErrOf result Failure.WrongArguments ↔ AreWrong (map string_bytes words.now) }
     ensures unread { IsErrOf result Failure.WrongArguments → input.new ≡ input.old }
@@ -143,14 +144,13 @@ pub fn carry_out<R: Read, W: Write, D: Draw>(
     ensures nothing { (c : Command) → AreFor (map string_bytes words.now) c → channels_of c ≡ 0
         → IsOk result × (input.new ≡ input.old) × (output.new ≡ output.old) }
     ensures done { OnOk result ((c : Command) → AreFor (map string_bytes words.now) c → 0 < channels_of c
-        → IsDrawn (λ bytes text. D.answers bytes c (Ok text))
+        → IsPrinted (λ bytes text. P.may_return bytes c (Ok text))
         (R.remaining input.old) (R.remaining input.new) (W.contents output.old) (W.contents output.new)) }
-    ensures refused { IfErr result (λ failure. (e : Error) → failure ≡ Failure.Image e
-        → IsAnswered (λ c bytes. AreFor (map string_bytes words.now) c × D.answers bytes c (Err e))
+    ensures failed { IfErr result (λ failure. (e : Error) → failure ≡ Failure.Image e
+        → IsReadWhole (λ c bytes. AreFor (map string_bytes words.now) c × P.may_return bytes c (Err e))
         (R.remaining input.old) (R.remaining input.new)) }
-    ensures unwritten { IfErr result (λ failure. failure ≡ Failure.Unwritable
-        → IsAnswered (λ c bytes. AreFor (map string_bytes words.now) c
-        × ((text : List ℕ) × D.answers bytes c (Ok text)))
+    ensures unwritten { IfErr result (λ failure. failure ≡ Failure.Unwritable → IsReadWhole (λ c bytes.
+        AreFor (map string_bytes words.now) c × ((text : List ℕ) × P.may_return bytes c (Ok text)))
         (R.remaining input.old) (R.remaining input.new)) }
 {
     let Some(command) = Command::parse(words) else {
@@ -163,7 +163,7 @@ pub fn carry_out<R: Read, W: Write, D: Draw>(
     if input.read_to_end(&mut bytes).is_err() {
         return Err(Failure::Unreadable);
     }
-    let text = drawer.draw(alloc, &bytes, command)?;
+    let text = printer.print(alloc, &bytes, command)?;
     write_text(output, text.as_str())
 }
 

@@ -1,4 +1,4 @@
--- A code for steps, by which a proof tells them apart.
+-- A code for steps, by which a proof distinguishes them.
 use Rattle.std.specs.Prelude.{◌≡◌, ◌⊎◌, refl}
 use Rattle.std.proofs.Common.{inl, inr}
 use Rattle.std.specs.Coded.{Coded, code_by, coded⊎}

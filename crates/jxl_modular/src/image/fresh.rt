@@ -50,16 +50,12 @@ fn with_tables<S: Sample>(
 }
 
 impl<S: Sample, D: Decoder> ModularImageDestination<S, D> {
-    ghost use Rattle.std.specs.Prelude.{◌≤◌, length, Ok};
+    ghost use Rattle.std.specs.Prelude.{◌≤◌};
     ghost use Rattle.std.specs.List.{All};
-    ghost use Rattle.jxlm_transform.specs.Steps.{HasChannels, HasNarrowTables, HasWeights, steps_in};
     ghost use Rattle.jxlm_transform.specs.Channels.{IsNarrow, list_of};
-    ghost use Rattle.jxlm_transform.specs.ChannelSteps.{list_after_all};
     ghost use Rattle.jxlm_chain.specs.Layout.{first_layout};
     ghost use Rattle.jxlm_chain.specs.Placed.{IsPlacedBy};
-    ghost use Rattle.jxlm_tree.specs.SelfCorrecting.{IsHeader};
-    ghost use Rattle.jxlm_header.specs.Header.{header_of};
-    ghost use Rattle.jxlm_header.specs.Opening.{opening_of};
+    ghost use Rattle.jxl_modular.specs.Inner.Opened.{IsOpened, opened_of, steps_of_header};
 
     /// An image of these channels, each in a buffer of its own, whose coded channels are those that the transforms of
     /// its header leave, each in its region. It keeps what undoes the transforms. All cells are 0. No side is above
@@ -74,21 +70,13 @@ impl<S: Sample, D: Decoder> ModularImageDestination<S, D> {
         given: ModularChannels,
         placed: PlacedChannels,
     ) -> Result<Self>
-        requires list { list_after_all (steps_in (header_of header).transform) (list_of given)
-            ≡ Ok (list_of placed.channels) }
-        requires placed { IsPlacedBy (steps_in (header_of header).transform)
-            (first_layout (list_of given).channels) placed }
+        requires opened { IsOpened (list_of given) (header, placed) }
+        requires placed { IsPlacedBy (steps_of_header header) (first_layout (list_of given).channels) placed }
         requires image { given.nb_meta_channels ≡ 0 }
-        requires steps { All HasChannels (steps_in (header_of header).transform) }
-        requires palettes { All (HasWeights header.wp_params) (steps_in (header_of header).transform) }
         requires narrow_given { All IsNarrow (list_of given).channels }
-        requires narrow_tables { HasNarrowTables (steps_in (header_of header).transform) }
-        requires narrow { All IsNarrow (list_of placed.channels).channels }
-        requires few { length placed.channels.info.items ≤ 65536 }
-        requires weights { IsHeader header.wp_params }
         requires deep { bit_depth ≤ 32 }
         ensures ok { IfOk result (λ image. image ≡ fresh (S.from_int (pos 0)) (list_of given)
-            (opening_of (header, placed.channels)) ma_ctx group_dim bit_depth) }
+            (opened_of (header, placed)) ma_ctx group_dim bit_depth) }
         ensures err { IfErr result (λ e. kind_of e ≡ NoMemory) }
     {
         let grids = zero_grids(alloc, &given.info)?;

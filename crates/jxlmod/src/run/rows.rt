@@ -98,7 +98,7 @@ fn pictures_are_printed(rt: HostRuntime) -> Result<(), Fail> {
 }
 
 #[test]
-fn a_wrong_sum_is_refused(rt: HostRuntime) -> Result<(), Fail> {
+fn a_wrong_sum_is_an_error(rt: HostRuntime) -> Result<(), Fail> {
     let ended = run_on(rt.alloc(), "decode 2 2 1 8 i32", MISSUMMED)?;
     assert_eq!(rt; (ended.status, ended.output.len()), (1, 0));
     assert_eq!(rt;
@@ -110,7 +110,7 @@ fn a_wrong_sum_is_refused(rt: HostRuntime) -> Result<(), Fail> {
 
 // Headers whose transforms have no meaning, are truncated, or do not suit the channels.
 #[test]
-fn headers_are_refused(rt: HostRuntime) -> Result<(), Fail> {
+fn headers_with_errors(rt: HostRuntime) -> Result<(), Fail> {
     for (line, bytes, text) in [
         (
             "decode 2 2 2 8 i32",
@@ -142,7 +142,7 @@ fn headers_are_refused(rt: HostRuntime) -> Result<(), Fail> {
 
 // The first byte holds the whole header; whatever follows is the decoder's to read.
 #[test]
-fn input_cut_short_is_an_unexpected_end(rt: HostRuntime) -> Result<(), Fail> {
+fn truncated_input_is_an_unexpected_end(rt: HostRuntime) -> Result<(), Fail> {
     for whole in [GRADIENT, CONSTANT, RUN, RUN_OF_ZERO, SEALED, MISSUMMED] {
         for n in 0..whole.len() {
             let ended = run_on(rt.alloc(), "decode 2 2 1 8 i32", &whole[..n])?;

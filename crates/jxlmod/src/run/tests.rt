@@ -81,10 +81,10 @@ fn words(alloc: Global, line: &str) -> Result<Vec<String>, Fail> {
 #[derive(Drop)]
 struct Echo;
 
-impl Draw for Echo {
-    ghost answers = { λ bytes command answer. IfOk answer (λ text. text ≡ bytes) };
+impl Print for Echo {
+    ghost may_return = { λ bytes command returned. IfOk returned (λ text. text ≡ bytes) };
 
-    fn draw(&self, alloc: Global, bytes: &[u8], _command: Command) -> Result<String, Error> {
+    fn print(&self, alloc: Global, bytes: &[u8], _command: Command) -> Result<String, Error> {
         match std::str::from_utf8(bytes) {
             Ok(text) => match String::from_str(alloc, text) {
                 Ok(text) => Ok(text),
@@ -101,16 +101,16 @@ struct Fails {
     error: Error,
 }
 
-impl Draw for Fails {
-    ghost answers = { λ bytes command answer. IsErr answer };
+impl Print for Fails {
+    ghost may_return = { λ bytes command returned. IsErr returned };
 
-    fn draw(&self, _alloc: Global, _bytes: &[u8], _command: Command) -> Result<String, Error> {
+    fn print(&self, _alloc: Global, _bytes: &[u8], _command: Command) -> Result<String, Error> {
         Err(self.error)
     }
 }
 
 #[test]
-fn writes_what_is_drawn(rt: HostRuntime) -> Result<(), Fail> {
+fn writes_the_text(rt: HostRuntime) -> Result<(), Fail> {
     let alloc = rt.alloc();
     let words = words(alloc, "decode 2 2 1 8 i32")?;
     let mut input = b"channel 0 1x1\n5\n".as_slice();
@@ -139,7 +139,7 @@ fn reads_nothing_for_no_channels(rt: HostRuntime) -> Result<(), Fail> {
 }
 
 #[test]
-fn wrong_words_are_answered_first(rt: HostRuntime) -> Result<(), Fail> {
+fn wrong_words_come_first(rt: HostRuntime) -> Result<(), Fail> {
     let alloc = rt.alloc();
     for line in ["", "decode", "decode 2 2 1 8 i64", "sections 3 1 1 8 i32 2"] {
         let words = words(alloc, line)?;
@@ -157,7 +157,7 @@ fn wrong_words_are_answered_first(rt: HostRuntime) -> Result<(), Fail> {
 }
 
 #[test]
-fn input_that_is_cut_off_is_told(rt: HostRuntime) -> Result<(), Fail> {
+fn input_that_breaks_off_is_an_error(rt: HostRuntime) -> Result<(), Fail> {
     let alloc = rt.alloc();
     let words = words(alloc, "decode 2 2 1 8 i32")?;
     for bytes in [b"".as_slice(), b"channel".as_slice()] {
@@ -242,8 +242,8 @@ fn each_error_is_one_line(rt: HostRuntime) -> Result<(), Fail> {
         let mut input = b"".as_slice();
         let mut output = Vec::new(alloc);
         let mut errors = Vec::new(alloc);
-        let drawer = Fails { error };
-        let status = run_with(alloc, &words, &mut input, &mut output, &mut errors, &drawer);
+        let printer = Fails { error };
+        let status = run_with(alloc, &words, &mut input, &mut output, &mut errors, &printer);
         assert_eq!(rt; (status, output.len()), (1, 0), "{line}");
         assert_eq!(rt; errors.as_slice(), line.as_bytes(), "{line}");
     }
@@ -279,7 +279,7 @@ fn the_first_argument_is_left_out(rt: HostRuntime) -> Result<(), Fail> {
 }
 
 #[test]
-fn arguments_that_fail_are_told_apart(rt: HostRuntime) {
+fn arguments_that_fail_have_a_kind(rt: HostRuntime) {
     let alloc = rt.alloc();
     let not_text = words_of(alloc, Err(io::Error::from(ErrorKind::InvalidData)));
     assert!(rt; not_text.is_err_and(|failure| failure == Failure::WrongArguments));

@@ -10,7 +10,7 @@ use Rattle.jxlm_transform.specs.Transforms.{transform_of}
 use Rattle.jxlm_transform.proofs.StepLaws.{narrow_tables, steps_channels, steps_list, steps_weights}
 use Rattle.jxlm_header.specs.Header.{header_of}
 use Rattle.jxlm_transform.specs.Steps.{steps_in}
-use Rattle.jxlm_header.proofs.OpeningLaws.{condition_fails, have_channels, header_refused, is_opened}
+use Rattle.jxlm_header.proofs.OpeningLaws.{condition_fails, few_channels, have_channels, header_fails, is_opened}
 use Rattle.jxl_modular.proofs.opening.open.Goals as goal
 
 pub apply-requires-clause-some_channels : goal.apply-requires-clause-some_channels
@@ -20,7 +20,7 @@ pub returns-in_err-header-clause-gives : goal.returns-in_err-header-clause-gives
 returns-in_err-header-clause-gives c =
     let p = err_from_is_err_and c.from_residual.result c.from_residual.ensures.1 in
     rw (p.1, p.2)
-    (header_refused c.args.has_global (list_of c.args.placed.channels) (bytes_of c.args.bits.now) (position_of c.args.bits.now) (kind_of c.in_err-header.field-0.0) (position_of c.parse.new.bits) c.in_err-header.ensures.gives)
+    (header_fails c.args.has_global (list_of c.args.placed.channels) (bytes_of c.args.bits.now) (position_of c.args.bits.now) (kind_of c.in_err-header.field-0.0) (position_of c.parse.new.bits) c.in_err-header.ensures.gives)
 
 pub returns-in_err-check-clause-gives : goal.returns-in_err-check-clause-gives
 returns-in_err-check-clause-gives c =
@@ -44,42 +44,20 @@ returns-clause-gives c =
     let found : coded_list h.transform (list_of c.args.placed.channels) ≡ Ok coded = c.in_ok-apply.ensures.gives in
     is_opened c.args.has_global (list_of c.args.placed.channels) (bytes_of c.args.bits.now) (position_of c.args.bits.now) h (position_of c.parse.new.bits) c.in_ok-header.ensures.gives coded found k refl c.in_ok-check.ensures
 
-pub returns-clause-narrow : goal.returns-clause-narrow
-returns-clause-narrow c =
+pub returns-clause-opened : goal.returns-clause-opened
+returns-clause-opened c =
     let h = header_of c.in_ok-header.header in
-    let ts = c.apply.new.transforms.items in
-    let coded : CodedList = record { steps = steps_in (map transform_of ts); list = list_of c.apply.new.self.channels } in
-    let found : coded_list h.transform (list_of c.args.placed.channels) ≡ Ok coded = c.in_ok-apply.ensures.gives in
-    narrow_coded h.transform (list_of c.args.placed.channels) coded c.in_ok-header.ensures.ranges.transforms c.requires.narrow found
-
-pub returns-clause-list : goal.returns-clause-list
-returns-clause-list c =
-    let h = header_of c.in_ok-header.header in
-    let ts = c.apply.new.transforms.items in
-    let coded : CodedList = record { steps = steps_in (map transform_of ts); list = list_of c.apply.new.self.channels } in
-    let found : coded_list h.transform (list_of c.args.placed.channels) ≡ Ok coded = c.in_ok-apply.ensures.gives in
-    steps_list h.transform (list_of c.args.placed.channels) coded found
-
-pub returns-clause-steps : goal.returns-clause-steps
-returns-clause-steps c =
-    let h = header_of c.in_ok-header.header in
-    let ts = c.apply.new.transforms.items in
-    let coded : CodedList = record { steps = steps_in (map transform_of ts); list = list_of c.apply.new.self.channels } in
-    let found : coded_list h.transform (list_of c.args.placed.channels) ≡ Ok coded = c.in_ok-apply.ensures.gives in
-    steps_channels h.transform (list_of c.args.placed.channels) coded c.in_ok-header.ensures.ranges.transforms found
-
-pub returns-clause-palettes : goal.returns-clause-palettes
-returns-clause-palettes c =
-    let h = header_of c.in_ok-header.header in
-    let ts = c.apply.new.transforms.items in
-    let coded : CodedList = record { steps = steps_in (map transform_of ts); list = list_of c.apply.new.self.channels } in
-    let found : coded_list h.transform (list_of c.args.placed.channels) ≡ Ok coded = c.in_ok-apply.ensures.gives in
-    steps_weights h.wp_params h.transform (list_of c.args.placed.channels) coded c.in_ok-header.ensures.ranges.palettes found
-
-pub returns-clause-tables : goal.returns-clause-tables
-returns-clause-tables c =
-    let h = header_of c.in_ok-header.header in
-    let ts = c.apply.new.transforms.items in
-    let coded : CodedList = record { steps = steps_in (map transform_of ts); list = list_of c.apply.new.self.channels } in
-    let found : coded_list h.transform (list_of c.args.placed.channels) ≡ Ok coded = c.in_ok-apply.ensures.gives in
-    narrow_tables h.transform (list_of c.args.placed.channels) coded c.in_ok-header.ensures.ranges.transforms found
+    let l = list_of c.args.placed.channels in
+    let coded : CodedList = record { steps = steps_in (map transform_of c.apply.new.transforms.items); list = list_of c.apply.new.self.channels } in
+    let found : coded_list h.transform l ≡ Ok coded = c.in_ok-apply.ensures.gives in
+    let k = record h { transform = map transform_of c.apply.new.transforms.items } in
+    let read = c.in_ok-header.ensures.ranges in
+    record {
+      leaves = steps_list h.transform l coded found;
+      narrow = narrow_coded h.transform l coded read.transforms c.requires.narrow found;
+      few = few_channels c.args.has_global coded.list k c.in_ok-check.ensures;
+      weights = read.weights;
+      steps = steps_channels h.transform l coded read.transforms found;
+      palettes = steps_weights h.wp_params h.transform l coded read.palettes found;
+      tables = narrow_tables h.transform l coded read.transforms found;
+    }

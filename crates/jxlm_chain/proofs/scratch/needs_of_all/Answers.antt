@@ -1,6 +1,7 @@
 use Rattle.std.proofs.Common.{arith, subst, sym}
 use Rattle.std.proofs.lemmas.List.{length-map}
-use Rattle.jxlm_chain.specs.Scratch.{AreNarrow, IsNarrowUndo}
+use Rattle.jxlm_chain.specs.Scratch.{IsNarrowUndo}
+use Rattle.jxlm_chain.specs.Inner.Needs.{AreNarrow}
 use Rattle.jxlm_chain.specs.Undoings.{undo_of_code, undos_of}
 use Rattle.jxlm_chain.proofs.Rooms.{covers_more, narrow_larger}
 use Rattle.jxlm_chain.proofs.UndoLoop.{holds_at, undo_at}

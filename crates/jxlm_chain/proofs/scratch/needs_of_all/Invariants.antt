@@ -1,5 +1,5 @@
 use Rattle.std.proofs.Common.{ℕ, ◌<◌, get_or}
-use Rattle.jxlm_chain.specs.Scratch.{AreNarrow, Covers}
+use Rattle.jxlm_chain.specs.Inner.Needs.{AreNarrow, Covers}
 use Rattle.jxlm_chain.specs.Undo.{Undo}
 use Rattle.jxlm_chain.specs.Undoings.{undos_of}
 use Rattle.jxlm_chain.proofs.scratch.needs_of_all.Given as goal

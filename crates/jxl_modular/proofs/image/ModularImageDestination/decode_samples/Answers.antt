@@ -5,7 +5,7 @@ use Rattle.jxlm_base.specs.declared.error.Error.TheVariants.{Decoder}
 use Rattle.jxlm_header.specs.Header.{header_of}
 use Rattle.jxl_modular.specs.Image.{Image}
 use Rattle.jxlm_part.specs.Part.{max_width}
-use Rattle.jxl_modular.proofs.PartLaws.{refilled, is_coding, roomy_part, same_part, refuses_samples, refuses_so, with_store}
+use Rattle.jxl_modular.proofs.PartLaws.{refilled, is_coding, roomy_part, same_part, samples_fail, fails_so_too, with_store}
 use Rattle.jxl_modular.proofs.Laid.{coded_apart, coded_lie, same_but_store, still_laid}
 use Rattle.jxlm_chain.proofs.ShapeLaws.{shape_kept}
 use Rattle.jxlm_transform.specs.Steps.{steps_in}
@@ -65,9 +65,9 @@ returns-in_err-decode_part-clause-err g c =
     } in
     let store = take c.self.inside.store.len (c.decode_part.new.store ++ drop (length c.decode_part.new.store) c.self.inside.store.items) in
     rw (p.1, p.2)
-    (refuses_so g.D.Decoder.meaning g.S.Sealed.width g.S.Sealed.to_int (bytes_of c.args.bits.now) c.args.stream_index image c.args.self.now (with_store image store)
+    (fails_so_too g.D.Decoder.meaning g.S.Sealed.width g.S.Sealed.to_int (bytes_of c.args.bits.now) c.args.stream_index image c.args.self.now (with_store image store)
     (position_of c.args.bits.now) (position_of c.decode_part.new.bits) c.args.steps.now c.decode_part.new.steps (Decoder c.in_err-decode_part.field-0.0) c.self.view_is
-    (refuses_samples g.D.Decoder.meaning g.S.Sealed.width g.S.Sealed.to_int (bytes_of c.args.bits.now) c.args.stream_index image store (position_of c.args.bits.now) (position_of c.decode_part.new.bits)
+    (samples_fail g.D.Decoder.meaning g.S.Sealed.width g.S.Sealed.to_int (bytes_of c.args.bits.now) c.args.stream_index image store (position_of c.args.bits.now) (position_of c.decode_part.new.bits)
     _ _ c.deref-2.ensures.value (same_part image c.args.stream_index _ c.deref.ensures.value) c.args.steps.now c.decode_part.new.steps c.in_err-decode_part.field-0.0 c.in_err-decode_part.ensures.memory
     (rw (← whole) at some)))
 

@@ -1,11 +1,12 @@
 use Rattle.std.proofs.Common.{arith, sym, ◌≡◌, ◌+◌, ◌^◌, ◌<◌, min, pos, List, [], length, map, sum_by, false, rules, Err, Ok, ap, ◌∙◌, subst}
 use Rattle.jxlm_base.specs.Bits.{bytes_of, position_of}
-use Rattle.jxlm_transform.specs.declared.channels.ModularChannels.{ModularChannels}
+use Rattle.jxlm_chain.specs.declared.placed.PlacedChannels.{PlacedChannels}
 use Rattle.jxlm_tree.specs.TreeReading.{TreeGives, IsTreeAt}
-use Rattle.jxlm_header.specs.Opening.{depth_limit, opening_of}
+use Rattle.jxlm_header.specs.Opening.{depth_limit}
+use Rattle.jxl_modular.specs.Inner.Opened.{IsOpened, opened_of}
 use Rattle.jxl_modular.specs.Parsing.{ParseGives, opened}
 use Rattle.jxlm_header.specs.declared.header.ModularHeader.{ModularHeader}
-use Rattle.jxl_modular.proofs.ParsingLaws.{image_stands, same_list, tree_refused, not_zero, gives_image, gives_error}
+use Rattle.jxl_modular.proofs.ParsingLaws.{image_stands, same_list, tree_fails, not_zero, gives_image, gives_error}
 use Rattle.jxl_modular.proofs.root.Modular.parse.Goals as goal
 use Rattle.jxlm_base.specs.ErrorKind.{kind_of}
 use Rattle.jxlm_transform.specs.Channels.{Channel, IsNarrow, area, image_list, list_of}
@@ -25,12 +26,12 @@ open-requires-clause-narrow g c =
     let list : list_of c.in_ok-start.start.channels ≡ image_list ps = c.in_ok-start.ensures.list ∙ same_list c.deref-2.result.now c.in_ok-given.given ps c.deref-2.ensures.value given in
     subst (λ l. All IsNarrow l.channels) (sym list) (narrow_image ps c.requires.valid.channels)
 
-pub new-requires-2-clause-list : goal.new-requires-2-clause-list
-new-requires-2-clause-list g c κs within =
+pub new-requires-2-clause-opened : goal.new-requires-2-clause-opened
+new-requires-2-clause-opened g c κs within =
     let ps = c.args.params.channels.items in
     let given : list_of c.in_ok-given.given ≡ image_list ps = c.in_ok-given.ensures.ok ∙ ap (λ (cs : List ModularChannelParams). image_list cs) c.deref.ensures.value in
     let list : list_of c.in_ok-start.start.channels ≡ image_list ps = c.in_ok-start.ensures.list ∙ same_list c.deref-2.result.now c.in_ok-given.given ps c.deref-2.ensures.value given in
-    rw (list ∙ sym given) at c.in_ok-header.ensures.list
+    subst (λ l. IsOpened l (c.in_ok-header.header, c.in_ok-header.placed)) (list ∙ sym given) c.in_ok-header.ensures.opened
 
 pub new-requires-2-clause-placed : goal.new-requires-2-clause-placed
 new-requires-2-clause-placed g c κs within =
@@ -65,7 +66,7 @@ returns-in_err-ma_ctx-clause-gives g c =
     let p = position_of c.args.bits.now in
     let params = c.args.params in
     let ps = params.channels.items in
-    let o : ModularHeader × ModularChannels = (c.in_ok-header.header, c.in_ok-header.placed.channels) in
+    let o : ModularHeader × PlacedChannels = (c.in_ok-header.header, c.in_ok-header.placed) in
     let m = position_of c.open.new.bits in
     let limit = c.node_limit.result in
     let no_global : c.is_some-has_global.result ≡ false = search rules in
@@ -73,12 +74,12 @@ returns-in_err-ma_ctx-clause-gives g c =
     let some : 0 < length ps = omega (arith, counted_some, params.channels.ok.0) in
     let given : list_of c.in_ok-given.given ≡ image_list ps = c.in_ok-given.ensures.ok ∙ ap (λ (cs : List ModularChannelParams). image_list cs) c.deref.ensures.value in
     let list : list_of c.in_ok-start.start.channels ≡ image_list ps = c.in_ok-start.ensures.list ∙ same_list c.deref-2.result.now c.in_ok-given.given ps c.deref-2.ensures.value given in
-    let opens : opened bytes (image_list ps) p ≡ Ok (record { value = opening_of o; position = m }) = rw (no_global, list) at c.in_ok-header.ensures.gives in
-    let counted : limit ≡ min (1024 + sum_by area o.1.info.items) (2 ^ 20) = c.node_limit.ensures ∙ ap (λ (xs : List Channel). min (1024 + sum_by area xs) (2 ^ 20)) c.deref-3.ensures.value in
+    let opens : opened bytes (image_list ps) p ≡ Ok (record { value = opened_of o; position = m }) = rw (no_global, list) at c.in_ok-header.ensures.gives in
+    let counted : limit ≡ min (1024 + sum_by area o.1.channels.info.items) (2 ^ 20) = c.node_limit.ensures ∙ ap (λ (xs : List Channel). min (1024 + sum_by area xs) (2 ^ 20)) c.deref-3.ensures.value in
     let e = c.in_err-ma_ctx.field-0.0 in
     let q = position_of c.parse.new.bits in
     let gives : TreeGives d bytes limit depth_limit m (Err e) q = rw c.in_ok-header.ensures.bytes at c.in_err-ma_ctx.ensures.gives in
-    let answer : ParseGives d zero bytes p params ps (Err e) q = gives_error d zero bytes p params ps e q some (tree_refused d zero bytes p params o m opens limit counted e q gives) in
+    let answer : ParseGives d zero bytes p params ps (Err e) q = gives_error d zero bytes p params ps e q some (tree_fails d zero bytes p params o m opens limit counted e q gives) in
     search rules
 
 pub returns-clause-gives : goal.returns-clause-gives
@@ -89,7 +90,7 @@ returns-clause-gives g c =
     let p = position_of c.args.bits.now in
     let params = c.args.params in
     let ps = params.channels.items in
-    let o : ModularHeader × ModularChannels = (c.in_ok-header.header, c.in_ok-header.placed.channels) in
+    let o : ModularHeader × PlacedChannels = (c.in_ok-header.header, c.in_ok-header.placed) in
     let m = position_of c.open.new.bits in
     let limit = c.node_limit.result in
     let no_global : c.is_some-has_global.result ≡ false = search rules in
@@ -97,10 +98,10 @@ returns-clause-gives g c =
     let some : 0 < length ps = omega (arith, counted_some, params.channels.ok.0) in
     let given : list_of c.in_ok-given.given ≡ image_list ps = c.in_ok-given.ensures.ok ∙ ap (λ (cs : List ModularChannelParams). image_list cs) c.deref.ensures.value in
     let list : list_of c.in_ok-start.start.channels ≡ image_list ps = c.in_ok-start.ensures.list ∙ same_list c.deref-2.result.now c.in_ok-given.given ps c.deref-2.ensures.value given in
-    let opens : opened bytes (image_list ps) p ≡ Ok (record { value = opening_of o; position = m }) = rw (no_global, list) at c.in_ok-header.ensures.gives in
-    let counted : limit ≡ min (1024 + sum_by area o.1.info.items) (2 ^ 20) = c.node_limit.ensures ∙ ap (λ (xs : List Channel). min (1024 + sum_by area xs) (2 ^ 20)) c.deref-3.ensures.value in
+    let opens : opened bytes (image_list ps) p ≡ Ok (record { value = opened_of o; position = m }) = rw (no_global, list) at c.in_ok-header.ensures.gives in
+    let counted : limit ≡ min (1024 + sum_by area o.1.channels.info.items) (2 ^ 20) = c.node_limit.ensures ∙ ap (λ (xs : List Channel). min (1024 + sum_by area xs) (2 ^ 20)) c.deref-3.ensures.value in
     let q = position_of c.parse.new.bits in
     let tree : IsTreeAt d bytes limit depth_limit m c.in_ok-ma_ctx.ma_ctx q = rw c.in_ok-header.ensures.bytes at c.in_ok-ma_ctx.ensures.gives in
-    let is = subst (λ l. c.in_ok-image.image ≡ fresh zero l (opening_of o) c.in_ok-ma_ctx.ma_ctx params.group_dim params.bit_depth) given c.in_ok-image.ensures.ok in
+    let is = subst (λ l. c.in_ok-image.image ≡ fresh zero l (opened_of o) c.in_ok-ma_ctx.ma_ctx params.group_dim params.bit_depth) given c.in_ok-image.ensures.ok in
     let stands = image_stands d zero bytes p params o m opens limit counted c.in_ok-ma_ctx.ma_ctx q c.in_ok-image.image tree is in
     gives_image d zero bytes p params ps c.in_ok-image.image q some stands

@@ -8,7 +8,7 @@ use Rattle.jxlm_transform.specs.Transforms.{HasChannels, transform_of}
 use Rattle.jxlm_transform.specs.declared.transform.TransformInfo.{TransformInfo}
 use Rattle.jxlm_transform.specs.Steps.{steps_in}
 use Rattle.jxlm_chain.proofs.PlacedSteps.{goes_nowhere}
-use Rattle.jxlm_chain.proofs.Preparing.{all_gone, all_prepared, first_is, goes_further, nothing_done, others_are, prepared_more, prepared_refused, written_back}
+use Rattle.jxlm_chain.proofs.Preparing.{all_gone, all_prepared, first_is, goes_further, nothing_done, others_are, prepared_more, prepared_fails, written_back}
 use Rattle.jxlm_chain.proofs.placed.PlacedChannels.apply.Goals as goal
 
 pub loop-transform-init : goal.loop-transform-init
@@ -36,7 +36,7 @@ returns-in_err-add-clause-gives c =
     let ts = c.loop-transform.transform-items in
     let i = c.loop-transform.transform-index in
     let there : i < length ts = omega (arith, c.loop-transform-test.true, c.loop-transform.auto.transform-items) in
-    let refused = prepared_refused ts i c.transform-item.result (list_of c.loop-transform.self.channels) (kind_of c.in_err-add.field-0.0) _ there c.in_err-add.ensures.gives c.loop-transform.invariant.so_far in
+    let refused = prepared_fails ts i c.transform-item.result (list_of c.loop-transform.self.channels) (kind_of c.in_err-add.field-0.0) _ there c.in_err-add.ensures.gives c.loop-transform.invariant.so_far in
     rw (p.1, p.2) refused
 
 pub loop-transform-preserved : goal.loop-transform-preserved

@@ -6,7 +6,7 @@ use Rattle.jxlm_transform.specs.Channels.{image_list}
 use Rattle.jxl_modular.specs.Image.{image_grids}
 use Rattle.jxlmod.specs.Printing.{image_text}
 use Rattle.jxlmod.proofs.Pictures.{valid_params, asked, at_start, error_at_start, out_of_memory}
-use Rattle.jxlmod.proofs.drawing.picture.Goals as goal
+use Rattle.jxlmod.proofs.picture.picture_text.Goals as goal
 
 pub returns-in_err-channels : goal.returns-in_err-channels
 returns-in_err-channels g c =

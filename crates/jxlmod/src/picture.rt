@@ -2,11 +2,12 @@
 ghost use Rattle.std.specs.Prelude.{◌≡◌, ◌≤◌, ◌<◌, ◌^◌, MatchResult, IfOk, replicate, string_bytes};
 ghost use Rattle.jxlm_transform.specs.Params.{sized};
 ghost use Rattle.jxlm_transform.specs.declared.param.ChannelShift.TheVariants.{Shifts};
-ghost use Rattle.jxlmod.specs.Drawing.{Answers, IsPictureText, IsPictureError};
+ghost use Rattle.jxlmod.specs.PictureText.{IsPictureText};
+ghost use Rattle.jxlmod.specs.Inner.Printed.{IsPictureError, PrintGives};
 
 use crate::arguments::{Command, Samples};
 use crate::printing::print_image;
-use crate::run::Draw;
+use crate::run::Print;
 use jxl_modular::decode_picture;
 use jxlm_base::bits::Bitstream;
 use jxlm_base::error::Error;
@@ -23,12 +24,12 @@ const GROUP_DIM: u32 = 256;
 /// Makes the text of the picture that stands at the start of the bytes: a header and the samples of
 /// one part, in the format of the plain decoder.
 #[derive(Clone, Copy)]
-pub struct PartDrawer;
+pub struct PartPrinter;
 
-impl Draw for PartDrawer {
-    ghost answers = { Answers };
+impl Print for PartPrinter {
+    ghost may_return = { PrintGives };
 
-    fn draw(&self, alloc: Global, bytes: &[u8], command: Command) -> Result<String, Error> {
+    fn print(&self, alloc: Global, bytes: &[u8], command: Command) -> Result<String, Error> {
         let Command::Decode {
             width,
             height,
@@ -37,8 +38,8 @@ impl Draw for PartDrawer {
             samples,
         } = command;
         match samples {
-            Samples::I16 => picture::<i16>(alloc, bytes, width, height, channels, bit_depth),
-            Samples::I32 => picture::<i32>(alloc, bytes, width, height, channels, bit_depth),
+            Samples::I16 => picture_text::<i16>(alloc, bytes, width, height, channels, bit_depth),
+            Samples::I32 => picture_text::<i32>(alloc, bytes, width, height, channels, bit_depth),
         }
     }
 }
@@ -57,7 +58,7 @@ fn channel_list(
 }
 
 /// The text of the picture of `channels` channels of these sides.
-fn picture<S: Sample>(
+fn picture_text<S: Sample>(
     alloc: Global,
     bytes: &[u8],
     width: u32,

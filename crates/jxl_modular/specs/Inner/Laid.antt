@@ -1,0 +1,28 @@
+-- What is known of each image, from its reading.
+use Rattle.std.specs.Prelude.{◌≡◌, ◌≤◌, length, Ok}
+use Rattle.std.specs.List.{All}
+use Rattle.jxlm_chain.specs.Layout.{HasBuffers, buffers_of, first_layout, layout_after_all}
+use Rattle.jxlm_chain.specs.Steps.{IsNarrowStore}
+use Rattle.jxlm_transform.specs.Channels.{ChannelList, IsNarrow}
+use Rattle.jxlm_transform.specs.ChannelSteps.{list_after_all}
+use Rattle.jxlm_transform.specs.Steps.{HasChannels, HasWeights}
+use Rattle.jxlm_tree.specs.SelfCorrecting.{IsHeader}
+use Rattle.jxl_modular.specs.Image.{Image, given_list}
+
+-- the coded channels of an image
+abbrev pub list_coded : {S D : Type 0} → Image S D → ChannelList
+list_coded x = record { channels = x.channels; nb_meta = x.nb_meta }
+
+-- The coded channels, which are narrow and at most 65536, are those that the steps leave, and lie where these put
+-- them; the buffers are those of the image's own channels, and then those of the tables.
+pub record IsLaidOut {S D : Type 0} (x : Image S D) : Type 0 where
+  pub list : list_after_all x.steps (given_list x) ≡ Ok (list_coded x)
+  pub regions : x.coded ≡ (layout_after_all x.steps (first_layout (given_list x).channels)).regions
+  pub buffers : HasBuffers (buffers_of (given_list x).channels x.steps) x.store
+  pub narrow_store : IsNarrowStore x.store
+  pub narrow : All IsNarrow x.channels
+  pub few : length x.channels ≤ 65536
+  pub weights : IsHeader x.weights
+  pub steps : All HasChannels x.steps
+  pub palettes : All (HasWeights x.weights) x.steps
+  pub deep : x.bit_depth ≤ 32

@@ -1,0 +1,36 @@
+-- What the program prints for the bytes of its input.
+use Rattle.std.specs.Prelude.{ℕ, ◌≡◌, ℤ, pos, List, replicate}
+use Rattle.std.specs.Int.{Width, w16, w32}
+use Rattle.jxlm_base.specs.Grid.{Grid}
+use Rattle.jxlm_base.specs.Plain.{plain}
+use Rattle.jxlm_transform.specs.Channels.{ChannelList}
+use Rattle.jxlm_transform.specs.declared.param.ChannelShift.TheVariants.{Shifts}
+use Rattle.jxl_modular.specs.Picture.{IsPicture}
+use Rattle.jxlmod.specs.Printing.{image_text}
+use Rattle.jxlmod.specs.declared.arguments.Command.{Command}
+use Rattle.jxlmod.specs.declared.arguments.Command.TheVariants.{Decode}
+use Rattle.jxlmod.specs.declared.arguments.Samples.{Samples}
+use Rattle.jxlmod.specs.declared.arguments.Samples.TheVariants.{I16, I32}
+
+-- how wide the samples are
+abbrev pub width_of : Samples → Width
+width_of I16 = w16
+width_of I32 = w32
+
+-- n channels of one size and of shift 0
+abbrev pub channels_asked : ℕ → ℕ → ℕ → ChannelList
+channels_asked width height n = record {
+  channels = replicate n (record { width = width; height = height; original_width = width; original_height = height; hshift = pos 0; vshift = pos 0; original_shift = Shifts 0 });
+  nb_meta = 0;
+}
+
+-- the text is that of the picture at the start of the bytes, in the format of the plain decoder, at stream index 0
+pub record IsPictureText (w : Width) (width height channels : ℕ) (bytes : List ℕ) (bit_depth : ℕ) (text : List ℕ) : Type 0 where
+  pub grids : List (Grid ℤ)
+  pub place : ℕ
+  pub picture : IsPicture plain w bytes 0 (channels_asked width height channels) 0 bit_depth grids place
+  pub printed : text ≡ image_text grids
+
+-- the text for the bytes and a command
+abbrev pub Prints : List ℕ → Command → List ℕ → Type 0
+Prints bytes (Decode width height channels bit_depth samples) text = IsPictureText (width_of samples) width height channels bytes bit_depth text
