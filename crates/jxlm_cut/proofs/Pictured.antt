@@ -33,6 +33,10 @@ pub record IsOfPicture (w h : ℕ) (c : Channel) : Type 0 where
   pub across : IsHalved c.original_width c.width c.hshift
   pub down : IsHalved c.original_height c.height c.vshift
 
+-- a channel of a picture of its own original size, halved as often as its shifts say
+abbrev pub IsOwn : Channel → Type 0
+IsOwn c = IsOfPicture c.original_width c.original_height c
+
 -- ---- a squeeze
 
 half_more : (original n m : ℕ) (s : ℤ) → m ≤ (n + 1) / 2 → IsHalved original n s → IsHalved original m (grown s)
