@@ -1,0 +1,10 @@
+pub mod Cover
+pub mod Pieces
+pub mod Pictured
+pub mod Steps
+pub mod Parts
+pub mod Apart
+pub mod Outside
+pub mod PieceFacts
+pub mod Others
+mod Examples

@@ -1,0 +1,5 @@
+pub mod Passes
+pub mod Cutting
+pub mod Pieces
+pub mod Counts
+pub mod Parts
