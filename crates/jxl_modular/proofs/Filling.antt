@@ -1,6 +1,6 @@
 -- Decoding all samples of an image that was read, and undoing its transforms: what comes of it, from what comes of
 -- the two.
-use Rattle.std.proofs.Common.{◌≡◌, ℕ, ◌+◌, ◌*◌, ◌<◌, ◌≤◌, List, Ok, Err, inl, inr, true, refl, ap, subst, arith, ◌∙◌, ℤ}
+use Rattle.std.proofs.Common.{◌≡◌, ℕ, ◌+◌, ◌*◌, ◌<◌, ◌≤◌, List, Ok, Err, inl, inr, Bool, true, false, refl, sym, ap, subst, arith, ◌∙◌, ℤ}
 use Rattle.std.proofs.Math.Nat.{mul-le-mul_right}
 use Rattle.std.specs.Int.{Width}
 use Rattle.std.specs.Prelude.{Result}
@@ -15,14 +15,13 @@ use Rattle.jxlm_base.specs.declared.error.Error.TheVariants as errors
 use Rattle.jxlm_chain.specs.Chain as chain
 use Rattle.jxlm_transform.specs.Channels.{Channel}
 use Rattle.jxlm_transform.specs.ChannelSteps.{Step}
-use Rattle.jxlm_part.specs.Coded.{DecodingFails}
-use Rattle.jxlm_part.specs.Decode.{Standing, Fails, MovesWithin}
-use Rattle.jxl_modular.specs.Inner.Filled.{IsFilled, FillFails}
-use Rattle.jxl_modular.specs.Image.{Image, IsOnlyImage, coded_grids, cost_of, image_grids, samples_in, whole_part}
+use Rattle.jxlm_part.specs.Coded.{DecodingFails, IsCodedWhole}
+use Rattle.jxlm_part.specs.Decode.{DecodeAnswers, Standing, Fails, MovesWithin}
+use Rattle.jxl_modular.specs.Inner.Filled.{IsFilled, FillFails, samples_in, whole_part}
+use Rattle.jxl_modular.specs.Image.{Image, IsOnlyImage, coded_grids, cost_of, image_grids}
 use Rattle.jxlm_part.specs.Part.{Part, cell_count}
-use Rattle.jxl_modular.specs.SameButSamples.{SameButCells, SameButSamples}
-use Rattle.jxl_modular.specs.Inner.Samples.{DecodesSamples, FailsAtOnePlace, FailsSamples}
-use Rattle.jxl_modular.proofs.PartLaws.{none_is}
+use Rattle.jxl_modular.specs.SameButCells.{SameButCells}
+use Rattle.jxl_modular.proofs.PartLaws.{WholeGives}
 
 -- no more reads are tried than there are samples
 tried_within : {D : Type 0} (d : Meaning D) (w : Width) (part : Part) (bytes : List ℕ) (decoder : D) (old new : Standing) (e : DecoderError) (tried : ℕ) → Fails d w part bytes decoder old new e tried → tried ≤ cell_count part.channels
@@ -49,70 +48,71 @@ only_of w old new grids samples deep steps given h =
     (subst (λ (ss : List Step). chain.IsOnlyImage w new.bit_depth ss (record { channels = old.given; nb_meta = 0 }) grids samples) steps
     (subst (λ (cs : List Channel). chain.IsOnlyImage w new.bit_depth new.steps (record { channels = cs; nb_meta = 0 }) grids samples) given h))
 
-module _ {S D : Type 0} (d : Meaning D) (w : Width) (to_int : S → ℤ) (bytes : List ℕ) (stream : ℕ) (old : Image S D) (p : ℕ) where
-  -- all samples were decoded
-  pub filled : (mid new : Image S D) (q : ℕ) → 0 < samples_in old → DecodesSamples d w to_int bytes stream old p mid q → SameButSamples old mid → IsOnlyImage w new (image_grids to_int new) (coded_grids to_int mid) → SameButCells mid new →
-      IsFilled d w to_int bytes stream old p new q
-  filled mid new q some decodes kept only same = record {
-    samples = coded_grids to_int mid;
-    coded = inl (some, decodes.0);
-    only = only_of w old new (image_grids to_int new) (coded_grids to_int mid) (same.bit_depth ∙ kept.cells.bit_depth) (same.steps ∙ kept.cells.steps) (same.given ∙ kept.cells.given) only;
-  }
-
-  -- there were none
-  pub filled_empty : (new : Image S D) → (0 < samples_in old → ⊥) → IsOnlyImage w new (image_grids to_int new) (coded_grids to_int old) → SameButCells old new → IsFilled d w to_int bytes stream old p new p
-  filled_empty new none only same = record {
-    samples = coded_grids to_int old;
-    coded = inr (none_is (samples_in old) none, refl);
-    only = only_of w old new (image_grids to_int new) (coded_grids to_int old) same.bit_depth same.steps same.given only;
-  }
-
-  module _ (mid : Image S D) (q before after : ℕ) (some : 0 < samples_in old) where
-    -- decoding fails
-    pub not_filled : (e : Error) → FailsSamples d w to_int bytes stream old p mid q before after e → UnlessMemory (kind_of e) (FillFails d w to_int bytes stream old p (kind_of e) q before after)
-    not_filled errors.InvalidMaTree h = absurd h
-    not_filled errors.GlobalMaTreeNotAvailable h = absurd h
-    not_filled errors.InvalidRctParams h = absurd h
-    not_filled errors.InvalidPaletteParams h = absurd h
-    not_filled errors.InvalidSqueezeParams h = absurd h
-    not_filled (errors.Bitstream b) h = absurd h
-    not_filled (errors.Decoder UnexpectedEof) h = let f = h true some in record { cause = UnexpectedEof; tried = f.0; fails = fails_so d w (whole_part old stream) bytes old.config.decoder _ _ UnexpectedEof f.0 f.1; cause_is = refl; steps = f.2 }
-    not_filled (errors.Decoder (Invalid k)) h = let f = h true some in record { cause = Invalid k; tried = f.0; fails = fails_so d w (whole_part old stream) bytes old.config.decoder _ _ (Invalid k) f.0 f.1; cause_is = refl; steps = f.2 }
-    not_filled (errors.Decoder OutOfMemory) h = tt
-    not_filled (errors.Buffer m) h = tt
-
-    within : (e : DecoderError) → FailsAtOnePlace d w to_int bytes stream old p mid q before after e → after ≤ before + samples_in old * cost_of old
-    within e h =
-        let f = h true some in
-        let tried = tried_within d w (whole_part old stream) bytes old.config.decoder _ _ e f.0 f.1 in
-        let cost = f.2 in
-        let most = mul-le-mul_right (cost_of old) tried in
-        omega (arith, cost, most)
-
-    -- and no more steps were taken than for all samples
-    pub work_within : (e : Error) → before ≤ after → FailsSamples d w to_int bytes stream old p mid q before after e → MovesWithin before after (samples_in old * cost_of old)
-    work_within errors.InvalidMaTree more h = absurd h
-    work_within errors.GlobalMaTreeNotAvailable more h = absurd h
-    work_within errors.InvalidRctParams more h = absurd h
-    work_within errors.InvalidPaletteParams more h = absurd h
-    work_within errors.InvalidSqueezeParams more h = absurd h
-    work_within (errors.Bitstream b) more h = absurd h
-    work_within (errors.Decoder UnexpectedEof) more h = (more, within UnexpectedEof h)
-    work_within (errors.Decoder (Invalid k)) more h = (more, within (Invalid k) h)
-    work_within (errors.Decoder OutOfMemory) more h = (more, let s = h.2 in omega (arith, s))
-    work_within (errors.Buffer m) more h = (more, let s = h.2 in omega (arith, s))
-
--- ---- the two calls
-
 -- what follows from two facts of an Ok
 both_ok : {T E : Type 0} (r : Result T E) (P Q R : Type 0) → OnOk r P → OnOk r Q → (P → Q → R) → OnOk r R
 both_ok (Ok x) P Q R p q f = f p q
 both_ok (Err e) P Q R p q f = tt
 
-module _ {S D : Type 0} (d : Meaning D) (w : Width) (to_int : S → ℤ) (bytes : List ℕ) (stream : ℕ) (old : Image S D) (p : ℕ) {T E : Type 0} (r : Result T E) (new : Image S D) where
-  pub filled_then : (mid : Image S D) (q : ℕ) → 0 < samples_in old → DecodesSamples d w to_int bytes stream old p mid q → SameButSamples old mid →
-      OnOk r (IsOnlyImage w new (image_grids to_int new) (coded_grids to_int mid)) → OnOk r (SameButCells mid new) → OnOk r (IsFilled d w to_int bytes stream old p new q)
-  filled_then mid q some decodes kept only same = both_ok r _ _ _ only same (λ o s. filled d w to_int bytes stream old p mid new q some decodes kept o s)
+-- nor where decoding returns anything else
+answers_within : {D : Type 0} (d : Meaning D) (w : Width) (part : Part) (bytes : List ℕ) (decoder : D) (old new : Standing) (allow : Bool) (result : Result (Unit {0}) Error) (tried : ℕ) →
+    DecodeAnswers d w part bytes decoder old new allow result tried → tried ≤ cell_count part.channels
+answers_within d w part bytes decoder old new allow (Ok u) tried h = elim h [
+  | inl whole ↦ let t = whole.tries in omega (arith, t)
+  | inr cut ↦ tried_within d w part bytes decoder old new UnexpectedEof tried cut.1
+]
+answers_within d w part bytes decoder old new allow (Err (errors.Decoder UnexpectedEof)) tried h = tried_within d w part bytes decoder old new UnexpectedEof tried h.1
+answers_within d w part bytes decoder old new allow (Err (errors.Decoder (Invalid k))) tried h = tried_within d w part bytes decoder old new (Invalid k) tried h
+answers_within d w part bytes decoder old new allow (Err (errors.Decoder OutOfMemory)) tried h = let t = h.tries in omega (arith, t)
+answers_within d w part bytes decoder old new allow (Err (errors.Buffer m)) tried h = let t = h.tries in omega (arith, t)
+answers_within d w part bytes decoder old new allow (Err errors.InvalidMaTree) tried h = absurd h
+answers_within d w part bytes decoder old new allow (Err errors.GlobalMaTreeNotAvailable) tried h = absurd h
+answers_within d w part bytes decoder old new allow (Err errors.InvalidRctParams) tried h = absurd h
+answers_within d w part bytes decoder old new allow (Err errors.InvalidPaletteParams) tried h = absurd h
+answers_within d w part bytes decoder old new allow (Err errors.InvalidSqueezeParams) tried h = absurd h
+answers_within d w part bytes decoder old new allow (Err (errors.Bitstream b)) tried h = absurd h
 
-  pub filled_empty_then : (0 < samples_in old → ⊥) → OnOk r (IsOnlyImage w new (image_grids to_int new) (coded_grids to_int old)) → OnOk r (SameButCells old new) → OnOk r (IsFilled d w to_int bytes stream old p new p)
-  filled_empty_then none only same = both_ok r _ _ _ only same (λ o s. filled_empty d w to_int bytes stream old p new none o s)
+module _ {S D : Type 0} (d : Meaning D) (w : Width) (to_int : S → ℤ) (bytes : List ℕ) (stream : ℕ) (old : Image S D) (p : ℕ) (partial : Bool) (before : ℕ)
+    (mid : Image S D) (q : ℕ) (still : Bool) (after : ℕ) where
+  abbrev Gives : Result (Unit {0}) Error → Type 0
+  Gives r = WholeGives d w to_int bytes stream old p partial before mid q still after false r
+
+  -- no more steps were taken than for all samples
+  pub work_within : (r : Result (Unit {0}) Error) → Gives r → MovesWithin before after (samples_in old * cost_of old)
+  work_within r h =
+      let tried = answers_within d w (whole_part old stream) bytes old.config.decoder _ _ false r h.0 h.1 in
+      let most = mul-le-mul_right (cost_of old) tried in
+      let cost = h.2.1 in
+      (h.2.0, omega (arith, cost, most))
+
+  -- decoding fails
+  pub not_filled : (e : Error) → Gives (Err e) → UnlessMemory (kind_of e) (FillFails d w to_int bytes stream old p (kind_of e) q before after)
+  not_filled errors.InvalidMaTree h = absurd h.1
+  not_filled errors.GlobalMaTreeNotAvailable h = absurd h.1
+  not_filled errors.InvalidRctParams h = absurd h.1
+  not_filled errors.InvalidPaletteParams h = absurd h.1
+  not_filled errors.InvalidSqueezeParams h = absurd h.1
+  not_filled (errors.Bitstream b) h = absurd h.1
+  not_filled (errors.Decoder UnexpectedEof) h = record { cause = UnexpectedEof; tried = h.0; fails = fails_so d w (whole_part old stream) bytes old.config.decoder _ _ UnexpectedEof h.0 h.1.1; cause_is = refl; steps = h.2.1 }
+  not_filled (errors.Decoder (Invalid k)) h = record { cause = Invalid k; tried = h.0; fails = fails_so d w (whole_part old stream) bytes old.config.decoder _ _ (Invalid k) h.0 h.1; cause_is = refl; steps = h.2.1 }
+  not_filled (errors.Decoder OutOfMemory) h = tt
+  not_filled (errors.Buffer m) h = tt
+
+  -- all samples were decoded
+  coded_whole : Gives (Ok tt) → SameButCells old mid → IsCodedWhole d w (whole_part old stream) bytes old.config.decoder p (coded_grids to_int mid) q
+  coded_whole h kept = elim h.1 [
+    | inl whole ↦ rw kept.coded whole.coded
+    | inr cut ↦ (let no = cut.0 in cc)
+  ]
+
+  filled : (new : Image S D) → Gives (Ok tt) → SameButCells old mid → IsOnlyImage w new (image_grids to_int new) (coded_grids to_int mid) → SameButCells mid new →
+      IsFilled d w to_int bytes stream old p new q
+  filled new h kept only same = record {
+    samples = coded_grids to_int mid;
+    coded = coded_whole h kept;
+    only = only_of w old new (image_grids to_int new) (coded_grids to_int mid) (same.bit_depth ∙ kept.bit_depth) (same.steps ∙ kept.steps) (same.given ∙ kept.given) only;
+  }
+
+  -- and their transforms are undone
+  pub filled_then : {T E : Type 0} (r : Result T E) (new : Image S D) → Gives (Ok tt) → SameButCells old mid → OnOk r (IsOnlyImage w new (image_grids to_int new) (coded_grids to_int mid)) →
+      OnOk r (SameButCells mid new) → OnOk r (IsFilled d w to_int bytes stream old p new q)
+  filled_then r new h kept only same = both_ok r _ _ _ only same (λ o s. filled new h kept o s)

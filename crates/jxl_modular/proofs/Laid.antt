@@ -16,7 +16,7 @@ use Rattle.jxlm_transform.specs.Channels.{AreGridsOf, AreRegionsOf, Channel}
 use Rattle.jxl_modular.specs.Image.{Image, IsOnlyImage, coded_grids, given_list, image_grids}
 use Rattle.jxl_modular.specs.Inner.Laid.{IsLaidOut, list_coded}
 use Rattle.jxlm_part.specs.Progress.{grids_in}
-use Rattle.jxl_modular.specs.SameButSamples.{SameButCells}
+use Rattle.jxl_modular.specs.SameButCells.{SameButCells}
 use Rattle.jxl_modular.proofs.Layouts.{buffers_meanings, given_grids}
 use Rattle.jxlm_part.proofs.Loops.{fits_in}
 use Rattle.jxlm_chain.proofs.CanUndo.{can_undo_all}

@@ -8,7 +8,7 @@ use Rattle.jxlm_chain.specs.Undo.{Undo, UndoesAll, undo_of_all}
 use Rattle.jxlm_chain.proofs.ShapeLaws.{shape_all_undone}
 use Rattle.jxl_modular.specs.Image.{Image, IsOnlyImage, coded_grids, given_list, image_grids}
 use Rattle.jxl_modular.specs.Inner.Laid.{IsLaidOut}
-use Rattle.jxl_modular.specs.SameButSamples.{SameButCells}
+use Rattle.jxl_modular.specs.SameButCells.{SameButCells}
 use Rattle.jxl_modular.proofs.Laid.{only_image, same_but_store, still_laid}
 use Rattle.jxl_modular.proofs.PartLaws.{refilled}
 

@@ -9,7 +9,7 @@ use Rattle.jxlm_transform.specs.Channels.{Channel, ChannelList}
 use Rattle.jxlm_transform.specs.ChannelSteps.{Step}
 use Rattle.jxlm_tree.specs.Tree.{Config, depth}
 use Rattle.jxlm_tree.specs.declared.predictor.WpHeader.{WpHeader}
-use Rattle.jxlm_part.specs.Part.{Part, cell_count}
+use Rattle.jxlm_part.specs.Part.{Part}
 use Rattle.jxlm_part.specs.Progress.{grids_in}
 
 -- the weights of its header, the steps of its transforms, its tree, the side of its groups, its bit depth, its own
@@ -31,9 +31,17 @@ module _ {S D : Type 0} where
   abbrev pub given_list : Image S D → ChannelList
   given_list x = record { channels = x.given; nb_meta = 0 }
 
-  -- the part of all channels, read with this stream index
-  abbrev pub whole_part : Image S D → ℕ → Part
-  whole_part x stream = record { channels = x.channels; weights = x.weights; tree = x.config.tree; stream = stream }
+  -- the first n of its coded channels
+  abbrev pub front_channels : ℕ → Image S D → List Channel
+  front_channels n x = take n x.channels
+
+  -- their regions
+  abbrev pub front_regions : ℕ → Image S D → List Region
+  front_regions n x = take n x.coded
+
+  -- the part of these, read with this stream index
+  abbrev pub front_part : ℕ → Image S D → ℕ → Part
+  front_part n x stream = record { channels = front_channels n x; weights = x.weights; tree = x.config.tree; stream = stream }
 
   -- the image's own channels: the first of its buffers
   abbrev pub grids_given : Image S D → List (Grid S)
@@ -54,7 +62,3 @@ module _ {S D : Type 0} where
   -- how many nodes of the tree a walk may look at
   abbrev pub cost_of : Image S D → ℕ
   cost_of x = depth x.config.tree + 1
-
-  -- how many samples the coded channels have
-  abbrev pub samples_in : Image S D → ℕ
-  samples_in x = cell_count x.channels

@@ -3,5 +3,4 @@ pub mod ImageCode
 pub mod Kept
 pub mod Laid
 pub mod Opened
-pub mod Samples
 pub mod StepCode

@@ -1,6 +1,6 @@
 pub mod Image
 pub mod Parts
-pub mod SameButSamples
+pub mod SameButCells
 pub mod Picture
 pub mod PartRests
 pub mod Fresh

@@ -1,12 +1,25 @@
--- A part of an image, and what a call on it leaves.
-use Rattle.std.specs.Prelude.{ℕ, ◌*◌, ℤ, List, Bool, Result}
+-- A part of an image: the first of its coded channels; and what a call on it leaves.
+use Rattle.std.specs.Prelude.{◌≡◌, ◌↔◌, ◌<◌, ◌≤◌, ℕ, ◌*◌, ℤ, List, length, Bool, IsTrue, Result}
 use Rattle.std.specs.Borrow.{GName}
 use Rattle.std.specs.Int.{Width}
 use Rattle.jxlm_base.specs.Decoding.{Meaning}
 use Rattle.jxlm_base.specs.declared.error.Error.{Error}
-use Rattle.jxlm_part.specs.Decode.{DecodeAnswers, MovesWithin, Standing}
-use Rattle.jxl_modular.specs.Image.{Image, coded_grids, cost_of, whole_part}
+use Rattle.jxlm_base.specs.declared.subgrid.Region.{Region}
+use Rattle.jxlm_transform.specs.Channels.{Channel}
+use Rattle.jxlm_part.specs.Decode.{DecodeAnswers, MovesWithin}
+use Rattle.jxlm_part.specs.Part.{cell_count}
+use Rattle.jxlm_part.specs.Placed.{standing_in}
+use Rattle.jxl_modular.specs.Image.{Image, cost_of, front_channels, front_part, front_regions}
 use Rattle.jxl_modular.specs.declared.image.TransformedModularSubimage.{TransformedModularSubimage}
+
+-- What decoding the first n coded channels returns, with what is before and after: the image, the reader's position,
+-- whether samples are still to be decoded, and the steps. For each sample whose read was tried, at most as many nodes
+-- were looked at as the tree is deep, and one more.
+abbrev pub FrontGives : {S D : Type 0} → Meaning D → Width → (S → ℤ) → List ℕ → ℕ → ℕ → Image S D → ℕ → Bool → ℕ → Image S D → ℕ → Bool → ℕ → Bool → Result (Unit {0}) Error → Type 0
+FrontGives d w to_int bytes stream n old p partial before new q still after allow result =
+    (tried : ℕ) × DecodeAnswers d w (front_part n old stream) bytes old.config.decoder
+        (standing_in to_int (front_regions n old) old.store p partial) (standing_in to_int (front_regions n old) new.store q still) allow result tried
+    × MovesWithin before after (tried * cost_of old)
 
 module _ {S D : Type 0} where
   -- the image that the part is of, as it is now, and the name of its borrow
@@ -16,6 +29,16 @@ module _ {S D : Type 0} where
   abbrev pub loan : TransformedModularSubimage S D → GName
   loan part = part.image.ghost_name
 
+  -- how many of the coded channels it holds, and which, and their regions: the first ones
+  abbrev pub count_of : TransformedModularSubimage S D → ℕ
+  count_of part = part.count
+
+  abbrev pub channels_of : TransformedModularSubimage S D → List Channel
+  channels_of part = front_channels (count_of part) (image_of part)
+
+  abbrev pub regions_of : TransformedModularSubimage S D → List Region
+  regions_of part = front_regions (count_of part) (image_of part)
+
   -- whether samples of the part are still to be decoded
   abbrev pub is_partial : TransformedModularSubimage S D → Bool
   is_partial part = part.partial
@@ -24,12 +47,17 @@ module _ {S D : Type 0} where
   abbrev pub steps_of : TransformedModularSubimage S D → ℕ
   steps_of part = part.steps
 
-  -- what decoding changes, with the reader's position
-  abbrev pub standing : (S → ℤ) → TransformedModularSubimage S D → ℕ → Standing
-  standing to_int part p = record { position = p; grids = coded_grids to_int (image_of part); partial = is_partial part }
+  -- it holds all coded channels of its image
+  abbrev pub HoldsAll : TransformedModularSubimage S D → Type 0
+  HoldsAll part = length (image_of part).channels ≤ count_of part
 
--- What decoding a part returns, with the reader's positions before and after; for each sample whose read was tried, at
--- most as many nodes were looked at as the tree is deep, and one more.
-abbrev pub PartGives : {S D : Type 0} → Meaning D → Width → (S → ℤ) → List ℕ → ℕ → TransformedModularSubimage S D → ℕ → TransformedModularSubimage S D → ℕ → Bool → Result (Unit {0}) Error → Type 0
-PartGives d w to_int bytes stream old p new q allow result =
-    (tried : ℕ) × DecodeAnswers d w (whole_part (image_of old) stream) bytes (image_of old).config.decoder (standing to_int old p) (standing to_int new q) allow result tried × MovesWithin (steps_of old) (steps_of new) (tried * cost_of (image_of old))
+  -- a new part of the first n coded channels: partial where some of them has samples, and without a step
+  pub record HoldsFirst (n : ℕ) (part : TransformedModularSubimage S D) : Type 0 where
+    pub count : count_of part ≡ n
+    pub partial : IsTrue (is_partial part) ↔ (0 < cell_count (channels_of part))
+    pub steps : steps_of part ≡ 0
+
+  -- what decoding a part returns, with the reader's positions before and after
+  abbrev pub PartGives : Meaning D → Width → (S → ℤ) → List ℕ → ℕ → TransformedModularSubimage S D → ℕ → TransformedModularSubimage S D → ℕ → Bool → Result (Unit {0}) Error → Type 0
+  PartGives d w to_int bytes stream old p new q allow result =
+      FrontGives d w to_int bytes stream (count_of old) (image_of old) p (is_partial old) (steps_of old) (image_of new) q (is_partial new) (steps_of new) allow result

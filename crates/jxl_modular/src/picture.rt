@@ -7,8 +7,8 @@ ghost use Rattle.jxlm_base.specs.ErrorKind.{UnlessMemory, kind_of};
 ghost use Rattle.jxlm_transform.specs.Channels.{AreGridsOf, image_list};
 ghost use Rattle.jxlm_transform.specs.Params.{IsValidParams};
 ghost use Rattle.jxlm_part.specs.Decode.{MovesWithin};
-ghost use Rattle.jxl_modular.specs.Inner.Filled.{IsFilled, FillFails};
-ghost use Rattle.jxl_modular.specs.Image.{cost_of, image_grids, samples_in};
+ghost use Rattle.jxl_modular.specs.Inner.Filled.{IsFilled, FillFails, samples_in};
+ghost use Rattle.jxl_modular.specs.Image.{cost_of, image_grids};
 ghost use Rattle.jxl_modular.specs.Inner.Laid.{IsLaidOut};
 ghost use Rattle.jxl_modular.specs.Picture.{IsPictureRead, PictureFails, StepsWithin};
 
@@ -39,9 +39,17 @@ fn fill<S: Sample, D: Decoder>(
     ensures laid { IsLaidOut image.old }
     ensures bytes { bytes_of bits.new ≡ bytes_of bits.old }
 {
-    if image.has_samples() {
-        image.decode_samples(alloc, bits, stream_index, steps)?;
-    }
+    let count = image.channel_count();
+    let mut partial = image.has_samples(count);
+    image.decode_front(
+        alloc,
+        bits,
+        count,
+        stream_index,
+        false,
+        &mut partial,
+        steps,
+    )?;
     image.undo_transforms(alloc)
 }
 

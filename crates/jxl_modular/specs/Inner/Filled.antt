@@ -6,7 +6,17 @@ use Rattle.jxlm_base.specs.ErrorKind.{ErrorKind, OfDecoder}
 use Rattle.jxlm_base.specs.Grid.{Grid}
 use Rattle.jxlm_base.specs.declared.decoder.DecoderError.{DecoderError}
 use Rattle.jxlm_part.specs.Coded.{DecodingFails, IsCodedWhole}
-use Rattle.jxl_modular.specs.Image.{Image, IsOnlyImage, cost_of, image_grids, whole_part}
+use Rattle.jxl_modular.specs.Image.{Image, IsOnlyImage, cost_of, image_grids}
+use Rattle.jxlm_part.specs.Part.{Part, cell_count}
+
+module _ {S D : Type 0} where
+  -- the part of all coded channels of an image, read with this stream index
+  abbrev pub whole_part : Image S D → ℕ → Part
+  whole_part x stream = record { channels = x.channels; weights = x.weights; tree = x.config.tree; stream = stream }
+
+  -- how many samples the coded channels have
+  abbrev pub samples_in : Image S D → ℕ
+  samples_in x = cell_count x.channels
 
 module _ {S D : Type 0} (d : Meaning D) (w : Width) (to_int : S → ℤ) (bytes : List ℕ) (stream : ℕ) (old : Image S D) (p : ℕ) where
   -- Some samples are coded whole from position p up to position q, and the new image's channels are the only ones

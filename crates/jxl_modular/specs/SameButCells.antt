@@ -1,5 +1,6 @@
 -- What decoding and finishing change of an image.
-use Rattle.std.specs.Prelude.{◌≡◌}
+use Rattle.std.specs.Prelude.{◌≡◌, List}
+use Rattle.jxlm_base.specs.declared.subgrid.Region.{Region}
 use Rattle.jxlm_chain.specs.Shape.{SameShape}
 use Rattle.jxl_modular.specs.Image.{Image}
 use Rattle.jxlm_part.specs.Progress.{KeepsOutside}
@@ -19,7 +20,7 @@ module _ {S D : Type 0} where
     pub coded : new.coded ≡ old.coded
     pub shape : SameShape old.store new.store
 
-  -- Only samples of the coded channels may differ: all else is as before, and so are all cells outside their regions.
-  pub record SameButSamples (old new : Image S D) : Type 0 where
+  -- Only cells of these regions may differ: all else is as before.
+  pub record SameButIn (regions : List Region) (old new : Image S D) : Type 0 where
     pub cells : SameButCells old new
-    pub outside : KeepsOutside old.coded old.store new.store
+    pub outside : KeepsOutside regions old.store new.store
