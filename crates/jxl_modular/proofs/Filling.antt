@@ -1,6 +1,6 @@
 -- Decoding all samples of an image that was read, and undoing its transforms: what comes of it, from what comes of
 -- the two.
-use Rattle.std.proofs.Common.{◌≡◌, ℕ, ◌+◌, ◌*◌, ◌<◌, ◌≤◌, List, Ok, Err, inl, inr, Bool, true, false, refl, sym, ap, subst, arith, ◌∙◌, ℤ}
+use Rattle.std.proofs.Common.{◌≡◌, ℕ, ◌+◌, ◌*◌, ◌<◌, ◌≤◌, List, length, Ok, Err, inl, inr, Bool, true, false, refl, sym, ap, subst, arith, ◌∙◌, ℤ}
 use Rattle.std.proofs.Math.Nat.{mul-le-mul_right}
 use Rattle.std.specs.Int.{Width}
 use Rattle.std.specs.Prelude.{Result}
@@ -21,7 +21,9 @@ use Rattle.jxl_modular.specs.Inner.Filled.{IsFilled, FillFails, samples_in, whol
 use Rattle.jxl_modular.specs.Image.{Image, IsOnlyImage, coded_grids, cost_of, image_grids}
 use Rattle.jxlm_part.specs.Part.{Part, cell_count}
 use Rattle.jxl_modular.specs.SameButCells.{SameButCells}
-use Rattle.jxl_modular.proofs.PartLaws.{WholeGives}
+use Rattle.jxl_modular.specs.Inner.Laid.{IsLaidOut}
+use Rattle.jxl_modular.specs.Parts.{FrontGives}
+use Rattle.jxl_modular.proofs.PartLaws.{WholeGives, whole_gives}
 
 -- no more reads are tried than there are samples
 tried_within : {D : Type 0} (d : Meaning D) (w : Width) (part : Part) (bytes : List ℕ) (decoder : D) (old new : Standing) (e : DecoderError) (tried : ℕ) → Fails d w part bytes decoder old new e tried → tried ≤ cell_count part.channels
@@ -72,35 +74,42 @@ answers_within d w part bytes decoder old new allow (Err errors.InvalidSqueezePa
 answers_within d w part bytes decoder old new allow (Err (errors.Bitstream b)) tried h = absurd h
 
 module _ {S D : Type 0} (d : Meaning D) (w : Width) (to_int : S → ℤ) (bytes : List ℕ) (stream : ℕ) (old : Image S D) (p : ℕ) (partial : Bool) (before : ℕ)
-    (mid : Image S D) (q : ℕ) (still : Bool) (after : ℕ) where
+    (mid : Image S D) (q : ℕ) (still : Bool) (after n : ℕ) (is : n ≡ length old.channels) (laid : IsLaidOut old) where
   abbrev Gives : Result (Unit {0}) Error → Type 0
-  Gives r = WholeGives d w to_int bytes stream old p partial before mid q still after false r
+  Gives r = FrontGives d w to_int bytes stream n old p partial before mid q still after false r
+
+  whole : (r : Result (Unit {0}) Error) → Gives r → WholeGives d w to_int bytes stream old p partial before mid q still after false r
+  whole r h = whole_gives d w to_int bytes stream old p partial before mid q still after false r n is laid h
 
   -- no more steps were taken than for all samples
   pub work_within : (r : Result (Unit {0}) Error) → Gives r → MovesWithin before after (samples_in old * cost_of old)
-  work_within r h =
+  work_within r g =
+      let h = whole r g in
       let tried = answers_within d w (whole_part old stream) bytes old.config.decoder _ _ false r h.0 h.1 in
       let most = mul-le-mul_right (cost_of old) tried in
       let cost = h.2.1 in
       (h.2.0, omega (arith, cost, most))
 
   -- decoding fails
+  not_filled_so : (e : Error) → WholeGives d w to_int bytes stream old p partial before mid q still after false (Err e) → UnlessMemory (kind_of e) (FillFails d w to_int bytes stream old p (kind_of e) q before after)
+  not_filled_so errors.InvalidMaTree h = absurd h.1
+  not_filled_so errors.GlobalMaTreeNotAvailable h = absurd h.1
+  not_filled_so errors.InvalidRctParams h = absurd h.1
+  not_filled_so errors.InvalidPaletteParams h = absurd h.1
+  not_filled_so errors.InvalidSqueezeParams h = absurd h.1
+  not_filled_so (errors.Bitstream b) h = absurd h.1
+  not_filled_so (errors.Decoder UnexpectedEof) h = record { cause = UnexpectedEof; tried = h.0; fails = fails_so d w (whole_part old stream) bytes old.config.decoder _ _ UnexpectedEof h.0 h.1.1; cause_is = refl; steps = h.2.1 }
+  not_filled_so (errors.Decoder (Invalid k)) h = record { cause = Invalid k; tried = h.0; fails = fails_so d w (whole_part old stream) bytes old.config.decoder _ _ (Invalid k) h.0 h.1; cause_is = refl; steps = h.2.1 }
+  not_filled_so (errors.Decoder OutOfMemory) h = tt
+  not_filled_so (errors.Buffer m) h = tt
+
   pub not_filled : (e : Error) → Gives (Err e) → UnlessMemory (kind_of e) (FillFails d w to_int bytes stream old p (kind_of e) q before after)
-  not_filled errors.InvalidMaTree h = absurd h.1
-  not_filled errors.GlobalMaTreeNotAvailable h = absurd h.1
-  not_filled errors.InvalidRctParams h = absurd h.1
-  not_filled errors.InvalidPaletteParams h = absurd h.1
-  not_filled errors.InvalidSqueezeParams h = absurd h.1
-  not_filled (errors.Bitstream b) h = absurd h.1
-  not_filled (errors.Decoder UnexpectedEof) h = record { cause = UnexpectedEof; tried = h.0; fails = fails_so d w (whole_part old stream) bytes old.config.decoder _ _ UnexpectedEof h.0 h.1.1; cause_is = refl; steps = h.2.1 }
-  not_filled (errors.Decoder (Invalid k)) h = record { cause = Invalid k; tried = h.0; fails = fails_so d w (whole_part old stream) bytes old.config.decoder _ _ (Invalid k) h.0 h.1; cause_is = refl; steps = h.2.1 }
-  not_filled (errors.Decoder OutOfMemory) h = tt
-  not_filled (errors.Buffer m) h = tt
+  not_filled e g = not_filled_so e (whole (Err e) g)
 
   -- all samples were decoded
   coded_whole : Gives (Ok tt) → SameButCells old mid → IsCodedWhole d w (whole_part old stream) bytes old.config.decoder p (coded_grids to_int mid) q
-  coded_whole h kept = elim h.1 [
-    | inl whole ↦ rw kept.coded whole.coded
+  coded_whole h kept = elim (whole (Ok tt) h).1 [
+    | inl all ↦ rw kept.coded all.coded
     | inr cut ↦ (let no = cut.0 in cc)
   ]
 

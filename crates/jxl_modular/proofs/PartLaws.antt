@@ -1,5 +1,5 @@
 -- The first coded channels of an image, as a part.
-use Rattle.std.proofs.Common.{◌≡◌, ℕ, ◌≤◌, List, ◌++◌, length, take, drop, Bool, Result, refl, sym, ap, ◌∙◌, subst, arith, ℤ}
+use Rattle.std.proofs.Common.{◌≡◌, ℕ, ◌*◌, ◌≤◌, List, ◌++◌, length, take, drop, Bool, Result, refl, sym, ap, ◌∙◌, subst, arith, ℤ}
 use Rattle.std.proofs.Math.Seq.{take-append_seam}
 use Rattle.std.proofs.lemmas.List.{length-take, take_all}
 use Rattle.std.proofs.lemmas.List.Elements.{All-take}
@@ -11,6 +11,9 @@ use Rattle.jxlm_base.specs.declared.error.Error.{Error}
 use Rattle.jxlm_base.specs.declared.subgrid.Region.{Region}
 use Rattle.jxlm_chain.proofs.ListsApart.{pairs_take, zip_take}
 use Rattle.jxlm_transform.specs.Channels.{Channel, IsNarrow}
+use Rattle.jxlm_tree.specs.Tree.{Shape}
+use Rattle.jxlm_tree.specs.declared.flat.Leaf.{Leaf}
+use Rattle.jxlm_tree.specs.declared.predictor.WpHeader.{WpHeader}
 use Rattle.jxlm_part.specs.Decode.{DecodeAnswers, MovesWithin}
 use Rattle.jxlm_part.specs.Part.{Part}
 use Rattle.jxlm_part.specs.Placed.{PartLies, standing_in}
@@ -27,8 +30,8 @@ pub refilled : {X : Type 0} (n : ℕ) (xs ys : List X) → n ≡ length ys → l
 refilled n xs ys a b =
     ap (λ k. take k (xs ++ drop (length xs) ys)) (a ∙ sym b) ∙ take-append_seam xs (drop (length xs) ys)
 
-abbrev pub with_store : {S D : Type 0} → Image S D → List (Grid S) → Image S D
-with_store x s = record x { store = s }
+abbrev part_with : List Channel → WpHeader → Shape Leaf → ℕ → Part
+part_with channels weights tree stream = record { channels = channels; weights = weights; tree = tree; stream = stream }
 
 module _ {S D : Type 0} (x : Image S D) (laid : IsLaidOut x) where
   -- the first coded channels lie in the image's store
@@ -50,7 +53,7 @@ module _ {S D : Type 0} (x : Image S D) (laid : IsLaidOut x) where
   all_regions = let n = same_count x.channels x.coded (coded_sizes x laid) in take_all (length x.channels) x.coded (omega (arith, n))
 
   pub all_is_whole : (stream : ℕ) → front_part (length x.channels) x stream ≡ whole_part x stream
-  all_is_whole stream = ap (λ (cs : List Channel). the Part (record { channels = cs; weights = x.weights; tree = x.config.tree; stream = stream })) all_channels
+  all_is_whole stream = ap (λ cs. part_with cs x.weights x.config.tree stream) all_channels
 
 -- What decoding all coded channels of an image returns.
 module _ {S D : Type 0} (d : Meaning D) (w : Width) (to_int : S → ℤ) (bytes : List ℕ) (stream : ℕ) (old : Image S D) (p : ℕ) (partial : Bool) (before : ℕ)

@@ -13,9 +13,9 @@ use Rattle.jxlm_transform.specs.ChannelSteps.{Step}
 use Rattle.jxlm_transform.specs.declared.param.ModularChannelParams.{ModularChannelParams}
 use Rattle.jxlm_transform.specs.declared.param.ModularParams.{ModularParams}
 use Rattle.jxlm_part.specs.Decode.{MovesWithin}
-use Rattle.jxl_modular.specs.Inner.Filled.{IsFilled, FillFails}
+use Rattle.jxl_modular.specs.Inner.Filled.{IsFilled, FillFails, samples_in}
 use Rattle.jxl_modular.specs.Fresh.{fresh}
-use Rattle.jxl_modular.specs.Image.{Image, cost_of, image_grids, samples_in}
+use Rattle.jxl_modular.specs.Image.{Image, cost_of, image_grids}
 use Rattle.jxl_modular.specs.Parsing.{ParseGives, IsImageAt, image_of}
 use Rattle.jxl_modular.specs.Picture.{IsPicture, IsPictureRead, PictureFails, SamplesFail, StepsFor, StepsWithin}
 use Rattle.jxl_modular.specs.declared.root.Modular.{Modular}
