@@ -8,6 +8,10 @@ use Rattle.jxlm_cut.specs.Passes.{Pass, holds}
 pub use Rattle.jxlm_cut.specs.declared.part.Kind.{Kind}
 use Rattle.jxlm_cut.specs.declared.part.Kind.TheVariants as kinds
 
+-- the list of these channels, the first of which are meta channels
+abbrev pub list_with : List Channel → ℕ → ChannelList
+list_with channels nb_meta = record { channels = channels; nb_meta = nb_meta }
+
 -- no side of a channel is above that of a group
 abbrev pub fits_group : ℕ → Channel → Bool
 fits_group dim c = nat_le c.width dim && nat_le c.height dim
