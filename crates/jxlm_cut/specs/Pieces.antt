@@ -29,7 +29,8 @@ where_some here r = if here && nat_lt 0 r.width && nat_lt 0 r.height then Some r
 abbrev pub piece_in : ℕ → Kind → PartName → ℕ → Channel → Option Region
 piece_in dim kinds.Global parts.Global n c = Some (region n 0 0 c.width c.height)
 piece_in dim kinds.Lf (parts.Lf k) n c = where_some (nat_lt k (columns dim c * rows dim c)) (piece_of_group dim k n c)
-piece_in dim (kinds.Pass q) (parts.Pass p k) n c = where_some ((p == q) && nat_lt k (columns dim c * rows dim c)) (piece_of_group dim k n c)
+piece_in dim (kinds.Pass q) (parts.Pass p k) n c =
+    where_some ((p == q) && nat_lt k (columns dim c * rows dim c)) (piece_of_group dim k n c)
 piece_in dim other name n c = None
 
 -- the same of a channel with its number
@@ -48,8 +49,8 @@ within r p = region r.buffer (r.x + p.x) (r.y + p.y) p.width p.height
 abbrev pub in_store : List Region → List Region → List Region
 in_store coded pieces = map (λ p. within (get_or coded p.buffer no_region) p) pieces
 
--- The channel that a group has of a region of channel c: of the region's sides, and of a picture of these, shifted back;
--- its shifts stay (Modular: channels of a group).
+-- The channel that a group has of a region of channel c: of the region's sides, and of a picture of these, shifted
+-- back; its shifts stay (Modular: channels of a group).
 abbrev pub piece_channel : Channel → Region → Channel
 piece_channel c r = record c {
   width = r.width;
@@ -65,7 +66,8 @@ channel_in name c r = piece_channel c r
 
 -- the channels of a part, one for each of its regions
 abbrev pub part_channels : ℕ → List Pass → ChannelList → PartName → List Channel
-part_channels dim passes l name = map (λ r. channel_in name (get_or l.channels r.buffer (table_channel 0 0)) r) (pieces dim passes l name)
+part_channels dim passes l name =
+    map (λ r. channel_in name (get_or l.channels r.buffer (table_channel 0 0)) r) (pieces dim passes l name)
 
 -- the region's end can be counted in 64 bits, as that of each region of a buffer can
 abbrev pub HasRoom : Region → Type 0

@@ -18,7 +18,7 @@ fn fits_group(channel: &ModularChannelInfo, group_dim: u32) -> bool
     channel.width <= group_dim && channel.height <= group_dim
 }
 
-/// How many channels the global part has: the longest front of channels that are meta or fit a group.
+/// How many channels the global part has: the longest prefix of channels that are meta or fit a group.
 pub fn global_count(channels: &[ModularChannelInfo], nb_meta: usize, group_dim: u32) -> usize
     ensures { result ≡ the_global_count group_dim (list_with channels.now nb_meta) }
 {
