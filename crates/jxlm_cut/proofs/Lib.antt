@@ -1,5 +1,6 @@
 pub mod Cover
-pub mod Pieces
+pub mod Fitting
+pub mod HeldCells
 pub mod Pictured
 pub mod Steps
 pub mod Parts

@@ -12,7 +12,7 @@ use Rattle.jxlm_transform.specs.Params.{IsGroupDim}
 use Rattle.jxlm_transform.specs.Steps.{HasChannels}
 use Rattle.jxlm_cut.proofs.Cover.{IsCut}
 use Rattle.jxlm_cut.proofs.Pictured.{IsOfPicture, IsOwn, image_of_picture, is_cut}
-use Rattle.jxlm_cut.proofs.Pieces.{hold_each}
+use Rattle.jxlm_cut.proofs.HeldCells.{hold_each}
 use Rattle.jxlm_cut.proofs.Steps.{IsPictured, pictured_after_all}
 use Rattle.jxlm_cut.specs.Passes.{Pass, can_group, hold_shifts, is_of_picture_of, one_picture}
 use Rattle.jxlm_cut.specs.Cutting.{can_cut, cell_width, cell_height, global_count}

@@ -60,7 +60,7 @@ residual_halved false w h c p = record { width = p.width; height = p.height; acr
 -- ---- before all transforms
 
 -- a part, rounded up, of what is no more than so many times
-ceil_within : (a b q : ℕ) → 0 < b → a ≤ q * b → div_ceil a b ≤ q
+pub ceil_within : (a b q : ℕ) → 0 < b → a ≤ q * b → div_ceil a b ≤ q
 ceil_within a b q h le =
     let t = (div_ceil_times a b h).1 in
     let k : div_ceil a b < q + 1 = lt_of_mul-lt-mul_right b (omega (arith, t, le)) in

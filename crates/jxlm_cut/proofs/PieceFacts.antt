@@ -16,7 +16,7 @@ use Rattle.jxlm_cut.proofs.Apart.{IsInside, outer_cell}
 use Rattle.jxlm_cut.proofs.Cover.{HasIn, some_in}
 use Rattle.jxlm_cut.proofs.Parts.{get_of}
 use Rattle.jxlm_cut.proofs.Pictured.{IsOfPicture}
-use Rattle.jxlm_cut.proofs.Pieces.{into, own_piece, same_some, none_some}
+use Rattle.jxlm_cut.proofs.HeldCells.{into, own_piece, same_some, none_some}
 use Rattle.jxlm_cut.specs.Passes.{Pass}
 use Rattle.jxlm_cut.specs.Cutting.{Kind, columns, rows, is_low_frequency, span, cell_width, cell_height, global_count, kind_of}
 use Rattle.jxlm_cut.specs.Pieces.{PartName, piece, piece_in, piece_of_group, pieces, where_some, channel_in, part_channels, within, in_store}

@@ -22,11 +22,13 @@ maximum (n ∷ ns) = max n (maximum ns)
 
 -- into how many groups a channel with its number is cut, where it is of this kind
 abbrev pub groups_of : ℕ → List Pass → ℕ → Kind → ℕ × Channel → ℕ
-groups_of dim passes count kind p = if is_kind kind (kind_of passes count p.0 p.1) then columns dim p.1 * rows dim p.1 else 0
+groups_of dim passes count kind p =
+    if is_kind kind (kind_of passes count p.0 p.1) then columns dim p.1 * rows dim p.1 else 0
 
--- how many groups the channels of a kind are cut into: 0 where there is none (channels of one picture have as many each)
+-- how many groups the channels of a kind are cut into: 0 where there is none; channels of one picture have as many each
 abbrev pub group_count : ℕ → List Pass → ChannelList → Kind → ℕ
-group_count dim passes l kind = maximum (map (groups_of dim passes (global_count dim l) kind) (enumerate_from 0 l.channels))
+group_count dim passes l kind =
+    maximum (map (groups_of dim passes (global_count dim l) kind) (enumerate_from 0 l.channels))
 
 -- there is such a part: the global part is always there
 abbrev pub exists : ℕ → List Pass → ChannelList → PartName → Bool

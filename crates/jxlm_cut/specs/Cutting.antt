@@ -8,11 +8,16 @@ use Rattle.jxlm_cut.specs.Passes.{Pass, holds}
 pub use Rattle.jxlm_cut.specs.declared.part.Kind.{Kind}
 use Rattle.jxlm_cut.specs.declared.part.Kind.TheVariants as kinds
 
+-- the list of these channels, the first of which are meta channels
+abbrev pub list_with : List Channel → ℕ → ChannelList
+list_with channels nb_meta = record { channels = channels; nb_meta = nb_meta }
+
 -- no side of a channel is above that of a group
 abbrev pub fits_group : ℕ → Channel → Bool
 fits_group dim c = nat_le c.width dim && nat_le c.height dim
 
--- how many channels the global part has: the longest front of channels that are meta or fit a group (Modular: global part)
+-- how many channels the global part has: the longest prefix of channels that are meta or fit a group
+-- (Modular: global part)
 abbrev pub global_count : ℕ → ChannelList → ℕ
 global_count dim l = l.nb_meta + prefix_len (fits_group dim) (drop l.nb_meta l.channels)
 
@@ -35,9 +40,11 @@ pass_of passes c = number_of (find (holds (least_shift c)) passes)
 
 -- how channel n, of which the global part has the first count, is held: whole, by LF groups, or by the groups of a pass
 abbrev pub kind_of : List Pass → ℕ → ℕ → Channel → Kind
-kind_of passes count n c = if nat_lt n count then kinds.Global else if is_low_frequency c then kinds.Lf else kinds.Pass (pass_of passes c)
+kind_of passes count n c =
+    if nat_lt n count then kinds.Global else if is_low_frequency c then kinds.Lf else kinds.Pass (pass_of passes c)
 
--- how many samples of the picture a group is wide and high: an LF group has eight times a group's side (frame: LF groups)
+-- how many samples of the picture a group is wide and high: an LF group has eight times a group's side
+-- (frame: LF groups)
 abbrev pub span : ℕ → Channel → ℕ
 span dim c = if is_low_frequency c then 8 * dim else dim
 

@@ -3,3 +3,4 @@ pub mod Cutting
 pub mod Pieces
 pub mod Counts
 pub mod Parts
+pub mod Inner

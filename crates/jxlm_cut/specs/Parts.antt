@@ -45,15 +45,19 @@ pub record IsCell (l : ChannelList) (n x y : ℕ) (c : Channel) : Type 0 where
 -- Each coded cell lies in the regions of its own part, and in those of no other; parts hold coded cells alone; and no
 -- two regions of a part are of one channel.
 pub record HoldEachCellOnce (dim : ℕ) (passes : List Pass) (l : ChannelList) : Type 0 where
-  pub once : (name : PartName) (n x y : ℕ) (c : Channel) → IsCell l n x y c → HaveCell (pieces dim passes l name) n x y ↔ (name ≡ part_of dim passes l n c x y)
-  pub inside : (name : PartName) (n x y : ℕ) → HaveCell (pieces dim passes l name) n x y → (c : Channel) × IsCell l n x y c
+  pub once : (name : PartName) (n x y : ℕ) (c : Channel) → IsCell l n x y c →
+      HaveCell (pieces dim passes l name) n x y ↔ (name ≡ part_of dim passes l n c x y)
+  pub inside : (name : PartName) (n x y : ℕ) → HaveCell (pieces dim passes l name) n x y →
+      (c : Channel) × IsCell l n x y c
   pub apart : (name : PartName) → AllPairs (λ a b. a.buffer ≢ b.buffer) (pieces dim passes l name)
 
 -- Where an image within the limits can be cut, its parts hold each coded cell once.
 abbrev pub PartsHoldEachCellOnce : Type 0
-PartsHoldEachCellOnce = (dim : ℕ) (passes : List Pass) (given : List ModularChannelParams) (steps : List Step) (l : ChannelList) →
-    IsGroupDim dim → All IsValidChannel given → All HasChannels steps → IsTrue (can_group passes (image_list given).channels) →
-    list_after_all steps (image_list given) ≡ Ok l → IsTrue (can_cut dim l) → HoldEachCellOnce dim passes l
+PartsHoldEachCellOnce =
+    (dim : ℕ) (passes : List Pass) (given : List ModularChannelParams) (steps : List Step) (l : ChannelList) →
+    IsGroupDim dim → All IsValidChannel given → All HasChannels steps →
+    IsTrue (can_group passes (image_list given).channels) → list_after_all steps (image_list given) ≡ Ok l →
+    IsTrue (can_cut dim l) → HoldEachCellOnce dim passes l
 
 -- no region of the one list shares a cell with one of the other
 abbrev pub AreAllApart : List Region → List Region → Type 0
@@ -72,9 +76,11 @@ module _ (dim : ℕ) (passes : List Pass) (l : ChannelList) where
 
   -- cells of the coded channels that the part does not hold are as before
   pub record KeepsOthers (name : PartName) (old new : List (Grid ℤ)) : Type 0 where
-    pub cells : (n x y : ℕ) → (HaveCell (pieces dim passes l name) n x y → ⊥) → at (buffer_at new n) x y ≡ at (buffer_at old n) x y
+    pub cells : (n x y : ℕ) → (HaveCell (pieces dim passes l name) n x y → ⊥) →
+        at (buffer_at new n) x y ≡ at (buffer_at old n) x y
 
 -- Where each coded cell is held once, what changes the cells of one part alone keeps the grids of each other part.
 abbrev pub OtherPartsStay : Type 0
 OtherPartsStay = (dim : ℕ) (passes : List Pass) (l : ChannelList) (one other : PartName) (old new : List (Grid ℤ)) →
-    HoldEachCellOnce dim passes l → one ≢ other → KeepsOthers dim passes l one old new → grids_of dim passes l other new ≡ grids_of dim passes l other old
+    HoldEachCellOnce dim passes l → one ≢ other → KeepsOthers dim passes l one old new →
+    grids_of dim passes l other new ≡ grids_of dim passes l other old

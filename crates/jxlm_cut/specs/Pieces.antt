@@ -1,6 +1,6 @@
 -- What each part holds of the coded channels: regions and channels
 -- (ISO/IEC 18181-1, Modular: global and group sub-bitstreams).
-use Rattle.std.specs.Prelude.{ℕ, ◌+◌, ◌*◌, ◌/◌, ◌%◌, ◌-◌, ◌^◌, min, List, map, get_or, Bool, ◌&&◌, nat_lt, ◌==◌, if◌then◌else◌, unsigned_abs, filter_map, Option, Some, None}
+use Rattle.std.specs.Prelude.{◌≡◌, ℕ, ◌<◌, ◌+◌, ◌*◌, ◌/◌, ◌%◌, ◌-◌, ◌^◌, min, List, map, get_or, Bool, ◌&&◌, nat_lt, ◌==◌, if◌then◌else◌, unsigned_abs, filter_map, Option, Some, None}
 use Rattle.std.specs.List.{enumerate_from}
 use Rattle.jxlm_base.specs.Regions.{region}
 use Rattle.jxlm_base.specs.declared.subgrid.Region.{Region}
@@ -11,6 +11,7 @@ use Rattle.jxlm_cut.specs.Passes.{Pass}
 use Rattle.jxlm_cut.specs.Cutting.{Kind, cell_width, cell_height, columns, rows, global_count, kind_of}
 use Rattle.jxlm_cut.specs.declared.part.Kind.TheVariants as kinds
 pub use Rattle.jxlm_cut.specs.declared.part.PartName.{PartName}
+use Rattle.jxlm_cut.specs.declared.pieces.Pieces.{Pieces}
 use Rattle.jxlm_cut.specs.declared.part.PartName.TheVariants as parts
 
 -- Group k's cells of channel n. Groups are numbered by rows, left to right; the last column or row may be narrow.
@@ -28,7 +29,8 @@ where_some here r = if here && nat_lt 0 r.width && nat_lt 0 r.height then Some r
 abbrev pub piece_in : ℕ → Kind → PartName → ℕ → Channel → Option Region
 piece_in dim kinds.Global parts.Global n c = Some (region n 0 0 c.width c.height)
 piece_in dim kinds.Lf (parts.Lf k) n c = where_some (nat_lt k (columns dim c * rows dim c)) (piece_of_group dim k n c)
-piece_in dim (kinds.Pass q) (parts.Pass p k) n c = where_some ((p == q) && nat_lt k (columns dim c * rows dim c)) (piece_of_group dim k n c)
+piece_in dim (kinds.Pass q) (parts.Pass p k) n c =
+    where_some ((p == q) && nat_lt k (columns dim c * rows dim c)) (piece_of_group dim k n c)
 piece_in dim other name n c = None
 
 -- the same of a channel with its number
@@ -47,8 +49,8 @@ within r p = region r.buffer (r.x + p.x) (r.y + p.y) p.width p.height
 abbrev pub in_store : List Region → List Region → List Region
 in_store coded pieces = map (λ p. within (get_or coded p.buffer no_region) p) pieces
 
--- The channel that a group has of a region of channel c: of the region's sides, and of a picture of these, shifted back;
--- its shifts stay (Modular: channels of a group).
+-- The channel that a group has of a region of channel c: of the region's sides, and of a picture of these, shifted
+-- back; its shifts stay (Modular: channels of a group).
 abbrev pub piece_channel : Channel → Region → Channel
 piece_channel c r = record c {
   width = r.width;
@@ -64,4 +66,14 @@ channel_in name c r = piece_channel c r
 
 -- the channels of a part, one for each of its regions
 abbrev pub part_channels : ℕ → List Pass → ChannelList → PartName → List Channel
-part_channels dim passes l name = map (λ r. channel_in name (get_or l.channels r.buffer (table_channel 0 0)) r) (pieces dim passes l name)
+part_channels dim passes l name =
+    map (λ r. channel_in name (get_or l.channels r.buffer (table_channel 0 0)) r) (pieces dim passes l name)
+
+-- the region's end can be counted in 64 bits, as that of each region of a buffer can
+abbrev pub HasRoom : Region → Type 0
+HasRoom r = (r.x + r.width < 2 ^ 64) × (r.y + r.height < 2 ^ 64)
+
+-- the channels of a part, and where each lies in the store, where the coded channels lie in these regions
+pub record ArePiecesOf (dim : ℕ) (passes : List Pass) (l : ChannelList) (coded : List Region) (name : PartName) (p : Pieces) : Type 0 where
+  pub channels : p.infos.items ≡ part_channels dim passes l name
+  pub regions : p.regions.items ≡ in_store coded (pieces dim passes l name)

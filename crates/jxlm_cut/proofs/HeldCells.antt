@@ -100,7 +100,7 @@ within : (w a m x : ℕ) → a ≤ x → x < a + min m (w - a) → x < w
 within w a m x h k = omega arith
 
 module _ (dim : ℕ) (passes : List Pass) (l : ChannelList) where
-  own_piece_in : (kind : Kind) (part : PartName) (n : ℕ) (c : Channel) (r : Region) → piece_in dim kind part n c ≡ Some r → r.buffer ≡ n
+  pub own_piece_in : (kind : Kind) (part : PartName) (n : ℕ) (c : Channel) (r : Region) → piece_in dim kind part n c ≡ Some r → r.buffer ≡ n
   own_piece_in kinds.Global parts.Global n c r e = ap (λ s. s.buffer) (sym (same_some e))
   own_piece_in kinds.Lf (parts.Lf k) n c r e = ap (λ s. s.buffer) (sym (own_some (nat_lt k (columns dim c * rows dim c)) (piece_of_group dim k n c) r e))
   own_piece_in (kinds.Pass q) (parts.Pass p k) n c r e = ap (λ s. s.buffer) (sym (own_some ((p == q) && nat_lt k (columns dim c * rows dim c)) (piece_of_group dim k n c) r e))
