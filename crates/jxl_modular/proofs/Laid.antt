@@ -13,8 +13,8 @@ use Rattle.jxlm_chain.specs.Steps.{CanUndoAll}
 use Rattle.jxlm_chain.specs.Undo.{UndoesAll, undo_of_all}
 use Rattle.jxlm_chain.specs.Chain.{Chain}
 use Rattle.jxlm_transform.specs.Channels.{AreGridsOf, AreRegionsOf, Channel}
-use Rattle.jxl_modular.specs.Image.{Image, IsOnlyImage, coded_grids, given_list, image_grids}
-use Rattle.jxl_modular.specs.Inner.Laid.{IsLaidOut, list_coded}
+use Rattle.jxl_modular.specs.Image.{Image, IsOnlyImage, coded_grids, given_list, image_grids, coded_list}
+use Rattle.jxl_modular.specs.Inner.Laid.{IsLaidOut}
 use Rattle.jxlm_part.specs.Progress.{grids_in}
 use Rattle.jxl_modular.specs.SameButCells.{SameButCells}
 use Rattle.jxl_modular.proofs.Layouts.{buffers_meanings, given_grids}
@@ -36,7 +36,7 @@ module _ {S D : Type 0} (x : Image S D) (laid : IsLaidOut x) where
   coded_lies : AllLie after x.store × LieApart after × AreRegionsOf x.channels after
   coded_lies =
       let here = lie_first (given_list x).channels x.steps x.store laid.buffers in
-      let there = (lie_after_all x.steps (given_list x) (list_coded x) first x.store laid.list laid.steps here.0 here.1).0 in
+      let there = (lie_after_all x.steps (given_list x) (coded_list x) first x.store laid.list laid.steps here.0 here.1).0 in
       (there.lie, there.apart, there.sizes)
 
   pub coded_lie : AllLie x.coded x.store
@@ -55,7 +55,7 @@ module _ {S D : Type 0} (x : Image S D) (laid : IsLaidOut x) where
   pub can_undo : CanUndoAll x.store (undo_of_all x.steps first)
   can_undo =
       let here = lie_first (given_list x).channels x.steps x.store laid.buffers in
-      can_undo_all x.steps (given_list x) (list_coded x) first x.store laid.list laid.steps here.0 here.1
+      can_undo_all x.steps (given_list x) (coded_list x) first x.store laid.list laid.steps here.0 here.1
 
   -- the grids of its own channels are those that lie first
   pub given_first : (f : S → ℤ) → grids_in first.regions (store_meanings f x.store) ≡ image_grids f x
@@ -100,7 +100,7 @@ only_image to_int w x y laid laid_y same undone =
     let here = lie_first (given_list x).channels x.steps x.store laid.buffers in
     let first = first_layout (given_list x).channels in
     let chain : Chain w x.bit_depth x.steps (given_list x) (grids_in first.regions (store_meanings to_int y.store)) (grids_in (layout_after_all x.steps first).regions (store_meanings to_int x.store)) =
-    chain_of to_int w x.bit_depth x.steps (given_list x) (list_coded x) first x.store y.store laid.list laid.steps here.0 here.1 undone in
+    chain_of to_int w x.bit_depth x.steps (given_list x) (coded_list x) first x.store y.store laid.list laid.steps here.0 here.1 undone in
     let coded : grids_in (layout_after_all x.steps first).regions (store_meanings to_int x.store) ≡ coded_grids to_int x = ap (λ (rs : List Region). grids_in rs (store_meanings to_int x.store)) (sym laid.regions) in
     let own : grids_in first.regions (store_meanings to_int y.store) ≡ image_grids to_int y = ap (λ (cs : List Channel). grids_in (first_layout cs).regions (store_meanings to_int y.store)) (sym same.given) ∙ given_first y laid_y to_int in
     let own_chain : Chain w x.bit_depth x.steps (given_list x) (image_grids to_int y) (coded_grids to_int x) =

@@ -31,6 +31,10 @@ module _ {S D : Type 0} where
   abbrev pub given_list : Image S D → ChannelList
   given_list x = record { channels = x.given; nb_meta = 0 }
 
+  -- its coded channels, the first of which are meta channels
+  abbrev pub coded_list : Image S D → ChannelList
+  coded_list x = record { channels = x.channels; nb_meta = x.nb_meta }
+
   -- the first n of its coded channels
   abbrev pub front_channels : ℕ → Image S D → List Channel
   front_channels n x = take n x.channels

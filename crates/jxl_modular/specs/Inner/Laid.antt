@@ -7,16 +7,12 @@ use Rattle.jxlm_transform.specs.Channels.{ChannelList, IsNarrow}
 use Rattle.jxlm_transform.specs.ChannelSteps.{list_after_all}
 use Rattle.jxlm_transform.specs.Steps.{HasChannels, HasWeights}
 use Rattle.jxlm_tree.specs.SelfCorrecting.{IsHeader}
-use Rattle.jxl_modular.specs.Image.{Image, given_list}
-
--- the coded channels of an image
-abbrev pub list_coded : {S D : Type 0} → Image S D → ChannelList
-list_coded x = record { channels = x.channels; nb_meta = x.nb_meta }
+use Rattle.jxl_modular.specs.Image.{Image, coded_list, given_list}
 
 -- The coded channels, which are narrow and at most 65536, are those that the steps leave, and lie where these put
 -- them; the buffers are those of the image's own channels, and then those of the tables.
 pub record IsLaidOut {S D : Type 0} (x : Image S D) : Type 0 where
-  pub list : list_after_all x.steps (given_list x) ≡ Ok (list_coded x)
+  pub list : list_after_all x.steps (given_list x) ≡ Ok (coded_list x)
   pub regions : x.coded ≡ (layout_after_all x.steps (first_layout (given_list x).channels)).regions
   pub buffers : HasBuffers (buffers_of (given_list x).channels x.steps) x.store
   pub narrow_store : IsNarrowStore x.store
