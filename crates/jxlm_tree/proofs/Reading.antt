@@ -1,6 +1,5 @@
 -- What is read as a listing is the listing of exactly one tree.
 use Rattle.std.proofs.Common.{◌≡◌, ℕ, zero, suc, ◌+◌, List, [], ◌∷◌, ◌++◌, None, Some, Result, Ok, Err, Bool, true, false, cond, refl, sym, ap, ◌∙◌, subst, arith, length, take, drop, ◌⊎◌, inr}
-use Rattle.std.specs.Prelude.{slice_index}
 use Rattle.std.proofs.lemmas.List.{take-append-drop, length-take-le, length-append}
 use Rattle.jxlm_base.specs.Decoding.{Found, Meaning, Taken}
 use Rattle.jxlm_base.specs.ErrorKind.{ErrorKind, ErrorAt, UnlessMemory, ◌>>=◌}
@@ -96,7 +95,7 @@ module _ {S : Type 0} (d : Meaning S) (bytes : List ℕ) where
   pub drafts_close : (node_limit : ℕ) (s : S) (p : ℕ) (x : Found (List (Node Draft))) → drafts_at d bytes node_limit s p ≡ Ok x → ListsTrees 1 x.value
   unfolding drafts_at
   drafts_close node_limit s p x h =
-      let rest = passed (is_endless (d.single_token s (slice_index (d.cluster_map s) 1))) _ _ x h in
+      let rest = passed (is_endless d s) _ _ x h in
       let b = bind_ok (through (Some p) (d.begin s bytes p)) _ x rest in
       let c = bind_ok (nodes_at d bytes (limit_error node_limit) (most_nodes node_limit) 1 b.0.value b.0.position) _ x b.2 in
       let e = bind_ok (through (Some c.0.position) (d.finalize c.0.state)) _ x c.2 in

@@ -14,6 +14,9 @@ pub record FlatTree : Type 0 where
   pub stream_idx : ℕ
   pub prev_channels : ℕ
 
+abbrev pub flat_tree : Shape Leaf → ℕ → ℕ → ℕ → FlatTree
+flat_tree t c s n = record { tree = t; channel = c; stream_idx = s; prev_channels = n }
+
 -- property k as a decision asks for it: 0 and 1 are the channel and the stream, read as 32-bit numbers; those of
 -- earlier channels that there are none of are 0; each other one is that of the cell
 abbrev pub asked : FlatTree → (ℕ → ℤ) → ℕ → ℤ

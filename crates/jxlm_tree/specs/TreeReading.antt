@@ -27,12 +27,15 @@ pub record Draft : Type 0 where
   pub offset : ℤ
   pub multiplier : ℕ
 
+-- the leaf with its cluster
+abbrev pub in_cluster : Draft → ℕ → Leaf
+in_cluster l cluster = record { cluster = cluster; predictor = l.predictor; offset = l.offset; multiplier = l.multiplier }
+
 -- The leaves, numbered from k on in their order, have the clusters of their numbers.
 abbrev pub with_clusters : List ℕ → ℕ → List (Node Draft) → List (Node Leaf)
 with_clusters clusters k [] = []
 with_clusters clusters k (decision_node property value ∷ rest) = decision_node property value ∷ with_clusters clusters k rest
-with_clusters clusters k (leaf_node l ∷ rest) =
-    leaf_node (record { cluster = slice_index clusters k; predictor = l.predictor; offset = l.offset; multiplier = l.multiplier }) ∷ with_clusters clusters (suc k) rest
+with_clusters clusters k (leaf_node l ∷ rest) = leaf_node (in_cluster l (slice_index clusters k)) ∷ with_clusters clusters (suc k) rest
 
 -- how many leaves there are
 abbrev pub leaf_count : List (Node Draft) → ℕ

@@ -1,12 +1,12 @@
 -- The program's nodes and trees while a tree is put together, as the definitions have them.
-use Rattle.std.specs.Prelude.{ℕ, List, map}
-use Rattle.jxlm_tree.specs.Tree.{Shape, Node, leaf_node, decision_node}
+use Rattle.std.specs.Prelude.{ℕ, ℤ, List, map}
+use Rattle.jxlm_tree.specs.Tree.{Shape, decision, Node, leaf_node, decision_node}
 use Rattle.jxlm_tree.specs.TreeReading.{Draft}
 use Rattle.jxlm_tree.specs.Inner.TreeShape.{shape_of}
 use Rattle.jxlm_tree.specs.declared.build.ListedNode.{ListedNode}
 use Rattle.jxlm_tree.specs.declared.build.ListedNode.TheVariants as node
 use Rattle.jxlm_tree.specs.declared.flat.Leaf.{Leaf}
-use Rattle.jxlm_tree.specs.declared.tree.Subtree.{Subtree}
+use Rattle.jxlm_tree.specs.declared.tree.MaTree.{MaTree}
 
 -- the node of a listing
 abbrev pub listed_of : ListedNode → Node Leaf
@@ -18,6 +18,10 @@ abbrev pub leaves_in : Node Draft → ℕ
 leaves_in (leaf_node l) = 1
 leaves_in (decision_node property value) = 0
 
--- depths left out
-abbrev pub trees_in : List Subtree → List (Shape Leaf)
-trees_in subtrees = map (λ (x : Subtree). shape_of x.tree) subtrees
+-- what is known of their nodes left out
+abbrev pub trees_in : List MaTree → List (Shape Leaf)
+trees_in trees = map (λ (x : MaTree). shape_of x.root) trees
+
+-- a decision over two trees
+abbrev pub decision_over : ℕ → ℤ → MaTree → MaTree → Shape Leaf
+decision_over property value left right = decision property value (shape_of left.root) (shape_of right.root)
