@@ -1,6 +1,6 @@
 -- A tree is read where it stands, and stands where it is read.
 use Rattle.std.proofs.Common.{◌≡◌, ℕ, zero, suc, ◌+◌, ◌-◌, ◌*◌, ◌^◌, ◌<◌, ◌≤◌, List, [], ◌∷◌, ◌++◌, ◌⊎◌, inl, inr, None, Some, Option, Result, Ok, Err, Bool, true, false, cond, nat_lt, refl, sym, ap, ◌∙◌, subst, arith, length, drop, pow_mono, pow-add}
-use Rattle.std.specs.Prelude.{slice_get, slice_index, Contains, codes, ok_or}
+use Rattle.std.specs.Prelude.{slice_get, slice_index, Contains, codes, ok_or, unwrap_or}
 use Rattle.std.proofs.lemmas.Bool.{cases_lt, le-ltb, ltb-false}
 use Rattle.std.proofs.lemmas.List.{length-append}
 use Rattle.std.proofs.lemmas.List.Elements.{Contains-get_or}
@@ -262,7 +262,7 @@ module _ {S : Type 0} (d : Meaning S) (bytes : List ℕ) where
   drafts_there node_limit s p x h =
       let limit = limit_error node_limit in
       let room = most_nodes node_limit in
-      bind_then (through (Some p) (d.begin s bytes p)) _ x (passed (is_endless (d.single_token s (slice_index (d.cluster_map s) 1))) _ _ x h) (λ first begins rest.
+      bind_then (through (Some p) (d.begin s bytes p)) _ x (passed (is_endless d s) _ _ x h) (λ first begins rest.
       bind_then (nodes_at d bytes limit room 1 first.value first.position) _ x rest (λ ns are more.
       bind_then (through (Some ns.position) (d.finalize ns.state)) _ x more (λ ended ends last.
       rw (same _ _ _ refl last) (record {
@@ -387,9 +387,9 @@ module _ {S : Type 0} (d : Meaning S) (bytes : List ℕ) where
         never_ends ns (missing + 1) h.0 b (subst (λ m. ListsTrees m ns) more trees) h.2 (endless_after 0 h.1.1 h.1.0 h.0 (omega arith) h.1.3 first)
 
     not_endless : (s : S) (p : ℕ) (ns : List (Node Leaf)) (a b : Found S) → length (d.cluster_map s) ≡ 6 → d.begin s bytes p ≡ Ok a → ListsTrees 1 ns → NodesStand d bytes a ns b →
-        is_endless (d.single_token s (slice_index (d.cluster_map s) 1)) ≡ false
+        is_endless d s ≡ false
     not_endless s p ns a b contexts begins trees h = of (d.single_token s (slice_index (d.cluster_map s) 1)) refl where
-      of : (o : Option ℕ) → d.single_token s (slice_index (d.cluster_map s) 1) ≡ o → is_endless o ≡ false
+      of : (o : Option ℕ) → d.single_token s (slice_index (d.cluster_map s) 1) ≡ o → nat_lt 0 (unwrap_or o 0) ≡ false
       of None is = refl
       of (Some zero) is = refl
       of (Some (suc k)) is = absurd (never_ends ns 0 a b trees h (endless_kept s a.value (lawful.begin_keeps s bytes p a begins) (record { contexts = contexts; token = k; single = is })))
@@ -403,7 +403,7 @@ module _ {S : Type 0} (d : Meaning S) (bytes : List ℕ) where
         let room = most_nodes node_limit in
         let contexts = lawful.parse_clusters bytes p 6 h.decoder h.decoder_stands in
         let trees = listed_trees (levels t) (t ∷ []) (queue_of-lists (levels t) (t ∷ []) (queue_of-levels t)) in
-        let ends : is_endless (d.single_token s (slice_index (d.cluster_map s) 1)) ≡ false = not_endless s h.decoder.position (levels t) h.first h.last contexts h.begins trees h.nodes in
+        let ends : is_endless d s ≡ false = not_endless s h.decoder.position (levels t) h.first h.last contexts h.begins trees h.nodes in
         let most = h.most in
         let few_limit = h.limit in
         let few : length (levels t) ≤ room = omega (arith, most, few_limit, levels-count t) in

@@ -30,9 +30,9 @@ asked t of_place k =
 abbrev pub leaf_reached : FlatTree → (ℕ → ℤ) → Leaf
 leaf_reached t of_place = walk t.tree (asked t of_place)
 
--- f is what a cell returns for its properties
-abbrev pub AnswersAs : {P : Type 0} → (P → ℕ → ℤ → Type 0) → P → (ℕ → ℤ) → Type 0
-AnswersAs gives place f = (k : ℕ) (v : ℤ) → gives place k v → v ≡ f k
+-- the properties that a cell gives are those of f
+abbrev pub PropertiesAre : {P : Type 0} → (P → ℕ → ℤ → Type 0) → P → (ℕ → ℤ) → Type 0
+PropertiesAre gives place f = (k : ℕ) (v : ℤ) → gives place k v → v ≡ f k
 
 -- what the sample of a token is before its prediction, in 32 bits
 abbrev pub residual_of : Leaf → ℕ → ℤ

@@ -4,7 +4,7 @@ ghost use Rattle.std.specs.Prelude.{◌≡◌, ◌≤◌, ◌<◌, ◌+◌, ◌^
 ghost use Rattle.std.specs.Int.{w32, int_wrap};
 ghost use Rattle.jxlm_base.specs.Bits.{bytes_of, position_of};
 ghost use Rattle.jxlm_tree.specs.DecodingSamples.{SampleGives};
-ghost use Rattle.jxlm_tree.specs.FlatTree.{AnswersAs, ClustersStandIn, FlatTree, GoesWithoutWeights, HasMultiplier, ReadsEarlierBelow, asked, earlier_named, leaf_reached, needs_weights, residual_of};
+ghost use Rattle.jxlm_tree.specs.FlatTree.{PropertiesAre, ClustersStandIn, FlatTree, GoesWithoutWeights, HasMultiplier, ReadsEarlierBelow, asked, earlier_named, leaf_reached, needs_weights, residual_of};
 ghost use Rattle.jxlm_tree.specs.Properties.{Surroundings, place_property, property};
 ghost use Rattle.jxlm_tree.specs.Tree.{AllLeaves, StandsAtLeaf, depth, leaf, node_count, nodes_on_way, walk};
 ghost use Rattle.jxlm_tree.specs.Inner.TreeShape.{shape_of};
@@ -138,10 +138,10 @@ impl FlatMaTree {
     /// step: at most as many as the tree's depth and one more.
     pub fn leaf<P: PlaceProperties>(&self, properties: &P, steps: &mut Steps) -> &Leaf
         requires { P.IsCurrent properties.now }
-        ensures leaf { (f : ℕ → ℤ) → AnswersAs P.gives properties.now f → result.now ≡ leaf_reached self.now f }
+        ensures leaf { (f : ℕ → ℤ) → PropertiesAre P.gives properties.now f → result.now ≡ leaf_reached self.now f }
         ensures stands { StandsAtLeaf self.now.tree result.now }
         ensures multiplier { HasMultiplier result.now }
-        ensures steps { (f : ℕ → ℤ) → AnswersAs P.gives properties.now f → steps.new ≡ steps.old
+        ensures steps { (f : ℕ → ℤ) → PropertiesAre P.gives properties.now f → steps.new ≡ steps.old
             + nodes_on_way self.now.tree (asked self.now f) }
         ensures cost { steps.new ≤ steps.old + depth self.now.tree + 1 }
         ensures more { steps.old ≤ steps.new }
@@ -167,7 +167,7 @@ impl FlatMaTree {
     // The property of this number, as a decision asks for it.
     fn asked<P: PlaceProperties>(&self, properties: &P, property: u32) -> i32
         requires { P.IsCurrent properties.now }
-        ensures { (f : ℕ → ℤ) → AnswersAs P.gives properties.now f → result ≡ asked self.now f property }
+        ensures { (f : ℕ → ℤ) → PropertiesAre P.gives properties.now f → result ≡ asked self.now f property }
     {
         match property {
             0 => read_as_signed(self.channel),
@@ -197,10 +197,8 @@ impl FlatMaTree {
     ) -> Result<(i32, Predictor)>
         requires clusters { ClustersStandIn (D.meaning.cluster_map decoder.old) self.now.tree }
         requires current { P.IsCurrent properties.now }
-        ensures gives { (f : ℕ → ℤ) → AnswersAs P.gives properties.now f → SampleGives
-            (leaf_reached self.now f) result decoder.old decoder.new (position_of bits.old) (position_of bits.new)
-            (D.meaning.read decoder.old (bytes_of bits.old) (position_of bits.old) (leaf_reached self.now f).cluster
-            dist_multiplier) }
+        ensures gives { (f : ℕ → ℤ) → PropertiesAre P.gives properties.now f → SampleGives D.meaning dist_multiplier
+            (leaf_reached self.now f) result decoder.old decoder.new bits.old bits.new }
         ensures clusters { IfOk result (λ _. D.meaning.cluster_map decoder.new ≡ D.meaning.cluster_map decoder.old) }
         ensures bytes { bytes_of bits.new ≡ bytes_of bits.old }
     {

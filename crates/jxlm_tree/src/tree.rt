@@ -55,7 +55,7 @@ pub struct MaTree {
 }
 
 impl MaTree {
-    ghost use Rattle.jxlm_tree.specs.Inner.Building.{decision_over};
+    ghost use Rattle.jxlm_tree.specs.Inner.Building.{decision_of};
 
     /// A tree of one leaf.
     pub fn leaf(leaf: Leaf) -> MaTree
@@ -79,9 +79,9 @@ impl MaTree {
         right: MaTree,
         depth_limit: usize,
     ) -> Result<MaTree>
-        ensures tree { IfOk result (λ t. shape_of t.root ≡ decision_over property value left right) }
+        ensures tree { IfOk result (λ t. shape_of t.root ≡ decision_of property value left right) }
         ensures depth { IfOk result (λ t. t.depth ≤ depth_limit) }
-        ensures err { IfErr result (λ e. IsTooDeepAt depth_limit (decision_over property value left right) (kind_of e)) }
+        ensures err { IfErr result (λ e. IsTooDeepAt depth_limit (decision_of property value left right) (kind_of e)) }
     {
         let below = left.depth.max(right.depth);
         if below >= depth_limit {

@@ -1,10 +1,9 @@
-use Rattle.std.proofs.Common.{◌≡◌, ◌∙◌, ap, rules}
+use Rattle.std.proofs.Common.{◌≡◌, rules}
 use Rattle.std.specs.Prelude.{Contains}
-use Rattle.jxlm_tree.specs.FlatTree.{FlatTree, HasMultiplier}
+use Rattle.jxlm_tree.specs.FlatTree.{HasMultiplier}
 use Rattle.jxlm_tree.specs.TreeReading.{IsLeafOf}
 use Rattle.jxlm_tree.specs.Inner.TreeShape.{shape_of}
 use Rattle.jxlm_tree.specs.declared.flat.Leaf.{Leaf}
-use Rattle.jxlm_tree.specs.declared.tree.MaTree.{MaTree}
 use Rattle.jxlm_tree.proofs.FlatTrees.{each_leaf}
 use Rattle.jxlm_tree.proofs.ma.MaConfig.make_flat_tree.Goals as goal
 
