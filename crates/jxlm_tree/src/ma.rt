@@ -173,8 +173,7 @@ fn parse_decoder<D: Decoder>(alloc: Global, bits: &mut Bitstream<'_>, contexts: 
     ensures memory { IfErr result (λ e. kind_of e ≢ NoMemory) }
     ensures bytes { bytes_of bits.new ≡ bytes_of bits.old }
 {
-    let decoder = D::parse(alloc, bits, contexts)?;
-    Ok(decoder)
+    Ok(D::parse(alloc, bits, contexts)?)
 }
 
 // There is one leaf more than there are decisions.

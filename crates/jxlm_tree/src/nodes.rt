@@ -64,10 +64,7 @@ fn is_endless<D: Decoder>(decoder: &D) -> bool
     ensures { result ≡ has_no_end D.meaning decoder.now }
 {
     let cluster = decoder.cluster_map()[1];
-    match decoder.single_token(cluster) {
-        None | Some(0) => false,
-        Some(_) => true,
-    }
+    decoder.single_token(cluster).unwrap_or(0) > 0
 }
 
 #[tactic(auto, unfolding(crate::specs::TreeReading::drafts_at))]
@@ -181,8 +178,7 @@ fn read_predictor<D: Decoder>(decoder: &mut D, bits: &mut Bitstream<'_>) -> Resu
     ensures bytes { bytes_of bits.new ≡ bytes_of bits.old }
 {
     let number = read_context(decoder, bits, 2)?;
-    let predictor = Predictor::try_from(number)?;
-    Ok(predictor)
+    Ok(Predictor::try_from(number)?)
 }
 
 #[tactic(auto, unfolding(crate::specs::TreeReading::multiplier_at))]
@@ -211,6 +207,5 @@ fn read_context<D: Decoder>(decoder: &mut D, bits: &mut Bitstream<'_>, context: 
     ensures clusters { IfOk result (λ _. D.meaning.cluster_map decoder.new ≡ D.meaning.cluster_map decoder.old) }
     ensures bytes { bytes_of bits.new ≡ bytes_of bits.old }
 {
-    let token = decoder.read_varint(bits, context)?;
-    Ok(token)
+    Ok(decoder.read_varint(bits, context)?)
 }

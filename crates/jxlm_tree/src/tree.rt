@@ -28,15 +28,11 @@ pub enum MaTreeNode {
     },
 }
 
-// Of which earlier channel a property is, from 1 on; 0 where it is of none.
+// Of which earlier channel a property is, from 1 on, each with four from property 16 on; 0 where it is of none.
 fn earlier_of(property: u32) -> u32
     ensures { result ≡ earlier_of property }
 {
-    if property < 16 {
-        0
-    } else {
-        (property - 16) / 4 + 1
-    }
+    property.saturating_sub(12) / 4
 }
 
 /// A tree, whole or a part of one, with what is known of all its nodes.
