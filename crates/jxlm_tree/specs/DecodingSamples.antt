@@ -21,7 +21,7 @@ pub record ReadsSample {S : Type 0} (l : Leaf) (residual : ℤ) (predictor : Pre
 pub record FailsSample {S : Type 0} (e : Error) (s t : S) (p q : ℕ) (reading : Result (Taken ℕ S) DecoderError) : Type 0 where
   pub cause : DecoderError
   pub error : e ≡ Decoder cause
-  pub refuses : reading ≡ Err cause
+  pub fails : reading ≡ Err cause
   pub state : t ≡ s
   pub place : q ≡ p
 

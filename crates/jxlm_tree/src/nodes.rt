@@ -4,7 +4,7 @@ ghost use Rattle.std.specs.Prelude.{◌≡◌, ◌≤◌, ◌<◌, ◌^◌, ℕ,
 ghost use Rattle.jxlm_base.specs.Bits.{bytes_of, position_of};
 ghost use Rattle.jxlm_base.specs.ErrorKind.{kind_of};
 ghost use Rattle.jxlm_tree.specs.Inner.DraftReading.{AllDrafts, IsDraft, IsDraftNode, ListGives, ListsTrees, StepGives, StepsGive, draft_of, is_endless as has_no_end, node_of};
-ghost use Rattle.jxlm_tree.specs.TreeReading.{children as children_of, drafts_at, in_cluster, leaf_at, limit_error, most_nodes, multiplier_at, node_at, nodes_at, predictor_at, read_context as token_of};
+ghost use Rattle.jxlm_tree.specs.TreeReading.{children as children_of, drafts_at, in_cluster, leaf_at, limit_error, max_nodes, multiplier_at, node_at, nodes_at, predictor_at, read_context as token_of};
 
 use crate::flat::Leaf;
 use crate::predictor::Predictor;
@@ -16,7 +16,7 @@ use jxlm_base::sample::Sealed;
 use std::alloc::Global;
 
 // No tree has more nodes.
-const MOST_NODES: usize = 1 << 26;
+const MAX_NODES: usize = 1 << 26;
 
 // A leaf without its cluster, which comes from the leaves' decoder.
 #[derive(Clone, Copy)]
@@ -101,7 +101,7 @@ fn read_nodes<D: Decoder>(
     requires contexts { length (D.meaning.cluster_map decoder.old) ≡ 6 }
     requires nodes { node_limit ≤ 2 ^ 26 }
     ensures gives { StepsGive (λ x. map node_of x.items) result decoder.old decoder.new bits.old bits.new
-        (λ bytes. nodes_at D.meaning bytes (limit_error node_limit) (most_nodes node_limit) 1) }
+        (λ bytes. nodes_at D.meaning bytes (limit_error node_limit) (max_nodes node_limit) 1) }
     ensures within { IfOk result (λ x. AllDrafts (map node_of x.items)) }
     ensures count { IfOk result (λ x. length x.items ≤ 2 ^ 26) }
     ensures bytes { bytes_of bits.new ≡ bytes_of bits.old }
@@ -118,11 +118,11 @@ fn read_nodes<D: Decoder>(
 }
 
 fn check_room(read: usize, node_limit: usize) -> Result<()>
-    requires { read ≤ most_nodes node_limit }
-    ensures ok { IfOk result (λ _. read < most_nodes node_limit) }
-    ensures err { IfErr result (λ e. (read ≡ most_nodes node_limit) × (kind_of e ≡ limit_error node_limit)) }
+    requires { read ≤ max_nodes node_limit }
+    ensures ok { IfOk result (λ _. read < max_nodes node_limit) }
+    ensures err { IfErr result (λ e. (read ≡ max_nodes node_limit) × (kind_of e ≡ limit_error node_limit)) }
 {
-    if read >= MOST_NODES {
+    if read >= MAX_NODES {
         return Err(Error::InvalidMaTree);
     }
     if read > node_limit {

@@ -5,7 +5,7 @@ use Rattle.jxlm_tree.specs.Inner.Building.{listed_of, trees_in}
 use Rattle.jxlm_tree.specs.Inner.Queue.{IsErrorInQueue, deepest, taken_up}
 use Rattle.jxlm_tree.specs.Tree.{depth}
 use Rattle.jxlm_tree.specs.Inner.TreeShape.{shape_of}
-use Rattle.jxlm_tree.proofs.Queues.{deepest_after, refused_in_queue, still_shallow}
+use Rattle.jxlm_tree.proofs.Queues.{deepest_after, too_deep_in_queue, still_shallow}
 use Rattle.jxlm_tree.proofs.build.take_up.Goals as goal
 use Rattle.jxlm_tree.proofs.build.take_up.Goals.{in-Leaf, in-Decision+in_ok-tree-in-Decision}
 
@@ -16,7 +16,7 @@ returns-in_err-tree-in-Decision-clause-err c =
     let items = first ∙ ap (λ q. c.unwrap-right.result ∷ q) second in
     let fact : IsErrorInQueue c.args.depth_limit (taken_up (listed_of c.args.node) (trees_in c.args.queue.now.items)) (kind_of c.in_err-tree-in-Decision.field-0.0) =
     rw (c.in-Decision.is, items)
-    (refused_in_queue c.args.depth_limit _ _ (shape_of c.unwrap-right.result.root) (shape_of c.unwrap-left.result.root) (trees_in c.pop_front-in-Decision.new.self.items) _ c.in_err-tree-in-Decision.ensures.err) in
+    (too_deep_in_queue c.args.depth_limit _ _ (shape_of c.unwrap-right.result.root) (shape_of c.unwrap-left.result.root) (trees_in c.pop_front-in-Decision.new.self.items) _ c.in_err-tree-in-Decision.ensures.err) in
     search rules
 
 pub returns-clause-shallow : goal.returns-clause-shallow
