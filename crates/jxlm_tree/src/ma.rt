@@ -8,7 +8,7 @@ ghost use Rattle.jxlm_tree.specs.Inner.DraftReading.{DecoderGives, ListsTrees, n
 ghost use Rattle.jxlm_tree.specs.FlatTree.{ClustersStandIn, flat_tree};
 ghost use Rattle.jxlm_tree.specs.Tree.{AllLeaves, Node, Shape, levels, node_count, depth};
 ghost use Rattle.jxlm_tree.specs.TreeReading.{IsLeafOf, IsOutOfMemory, MemoryGives, TreeGives, leaf_count, listing_at, through};
-ghost use Rattle.jxlm_tree.specs.TreeStands.{OneTreeStands, TreesAreReadExactly};
+ghost use Rattle.jxlm_tree.specs.TreeStands.{EachListingIsOfATree, OneTreeStands, TreesAreReadExactly};
 ghost use Rattle.jxlm_tree.specs.declared.flat.Leaf.{Leaf};
 
 use crate::build::build;
@@ -187,8 +187,7 @@ fn count_leaves(nodes: &[DraftNode]) -> u32
 
 /// What is read as the nodes of a tree is the listing of a tree.
 pub fn each_listing_is_of_a_tree<D: Decoder>()
-    ensures { (bytes : List ℕ) (node_limit p : ℕ) (x : Taken (List (Node Leaf)) D) →
-        listing_at D.meaning bytes node_limit p ≡ Ok x → (t : Shape Leaf) × (levels t ≡ x.value) }
+    ensures { EachListingIsOfATree D.meaning }
 {}
 
 /// No two trees have one listing.

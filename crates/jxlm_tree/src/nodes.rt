@@ -126,8 +126,7 @@ fn check_room(read: usize, node_limit: usize) -> Result<()>
         return Err(Error::InvalidMaTree);
     }
     if read > node_limit {
-        let failure = BitstreamError::ProfileConformance("MA tree limit exceeded");
-        return Err(Error::Bitstream(failure));
+        return Err(BitstreamError::ProfileConformance("MA tree limit exceeded").into());
     }
     Ok(())
 }

@@ -168,8 +168,7 @@ impl WpHeader {
         if bits.read_bool()? {
             return Ok(WpHeader::default());
         }
-        let listed = WpHeader::listed(bits)?;
-        Ok(listed)
+        Ok(WpHeader::listed(bits)?)
     }
 
     fn field(bits: &mut Bitstream<'_>, n: u32) -> std::result::Result<u32, BitstreamError>

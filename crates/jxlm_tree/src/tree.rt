@@ -10,7 +10,7 @@ ghost use Rattle.jxlm_tree.specs.Inner.TreeShape.{shape_of};
 use crate::flat::Leaf;
 use crate::predictor::Predictor;
 use jxlm_base::bits::BitstreamError;
-use jxlm_base::error::{Error, Result};
+use jxlm_base::error::Result;
 use jxlm_base::grid::OutOfMemory;
 use std::alloc::Global;
 
@@ -81,8 +81,7 @@ impl MaTree {
     {
         let below = left.depth.max(right.depth);
         if below >= depth_limit {
-            let failure = BitstreamError::ProfileConformance("decoded MA tree is too deep");
-            return Err(Error::Bitstream(failure));
+            return Err(BitstreamError::ProfileConformance("decoded MA tree is too deep").into());
         }
         let need = property == 15 || left.need_self_correcting || right.need_self_correcting;
         let named = left.prev_channels_named.max(right.prev_channels_named);
