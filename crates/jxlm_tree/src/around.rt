@@ -1,6 +1,6 @@
 //! The samples around a cell.
 
-ghost use Rattle.std.specs.Prelude.{◌≡◌, ◌+ℤ◌, ◌-ℤ◌, ◌*ℤ◌, pos, int_div, unsigned_abs, nat_lt, if◌then◌else◌, ◌<◌, ◌≤◌, ◌^◌};
+ghost use Rattle.std.specs.Prelude.{◌≡◌, ◌+ℤ◌, ◌-ℤ◌, ◌*ℤ◌, pos, int_div, unsigned_abs, ◌<◌, ◌^◌};
 ghost use Rattle.jxlm_tree.specs.declared.predictor.Predictor.TheVariants.{AvgAll, Select};
 ghost use Rattle.jxlm_tree.specs.Predictions.{prediction_from};
 ghost use Rattle.jxlm_tree.specs.Around.{seen};

@@ -1,9 +1,9 @@
 //! How a tree is put together from the end of its listing.
 
-ghost use Rattle.std.specs.Prelude.{◌≡◌, ◌+◌, ◌≤◌, ℕ, ◌∷◌, List, length, map, IfOk, IfErr, IsSome, Some};
+ghost use Rattle.std.specs.Prelude.{◌≡◌, ◌+◌, ◌≤◌, ◌∷◌, List, length, map, IfOk, IfErr, IsSome, Some};
 ghost use Rattle.jxlm_base.specs.ErrorKind.{kind_of};
 ghost use Rattle.jxlm_tree.specs.Inner.Building.{leaves_in, listed_of, listing_with, queue_with, trees_in};
-ghost use Rattle.jxlm_tree.specs.Inner.DraftReading.{AllDrafts, ListsTrees, draft_of, node_of};
+ghost use Rattle.jxlm_tree.specs.Inner.DraftReading.{AllDrafts, ListsTrees, node_of};
 ghost use Rattle.jxlm_tree.specs.Inner.Queue.{IsErrorInQueue, IsTooDeepListing, deepest};
 ghost use Rattle.jxlm_tree.specs.Tree.{AllLeaves, Node, levels, node_count};
 ghost use Rattle.jxlm_tree.specs.TreeReading.{Draft as DraftLeaf, IsLeafOf, leaf_count, with_clusters};

@@ -1,13 +1,12 @@
 //! Meta-adaptive trees: how a tree is read, and what it is kept with.
 
-ghost use Rattle.std.specs.Prelude.{◌≡◌, ◌≢◌, ◌≤◌, ◌^◌, ℕ, List, length, map, IfOk, IfErr};
+ghost use Rattle.std.specs.Prelude.{◌≡◌, ◌≢◌, ◌≤◌, ◌^◌, length, map, IfOk, IfErr};
 ghost use Rattle.jxlm_base.specs.Bits.{bytes_of, position_of};
-ghost use Rattle.jxlm_base.specs.Decoding.{Taken};
 ghost use Rattle.jxlm_base.specs.ErrorKind.{NoMemory, kind_of};
 ghost use Rattle.jxlm_tree.specs.Inner.DraftReading.{DecoderGives, ListsTrees, node_of};
 ghost use Rattle.jxlm_tree.specs.FlatTree.{ClustersStandIn, flat_tree};
-ghost use Rattle.jxlm_tree.specs.Tree.{AllLeaves, Node, Shape, levels, node_count, depth};
-ghost use Rattle.jxlm_tree.specs.TreeReading.{IsLeafOf, IsOutOfMemory, MemoryGives, TreeGives, leaf_count, listing_at, through};
+ghost use Rattle.jxlm_tree.specs.Tree.{AllLeaves, Shape, levels, node_count, depth};
+ghost use Rattle.jxlm_tree.specs.TreeReading.{IsLeafOf, IsOutOfMemory, MemoryGives, TreeGives, leaf_count, listing_at};
 ghost use Rattle.jxlm_tree.specs.TreeStands.{EachListingIsOfATree, OneTreeStands, TreesAreReadExactly};
 ghost use Rattle.jxlm_tree.specs.declared.flat.Leaf.{Leaf};
 

@@ -1,7 +1,7 @@
 //! How the nodes of a tree are read, level by level.
 
-ghost use Rattle.std.specs.Prelude.{◌≡◌, ◌≤◌, ◌<◌, ◌^◌, ℕ, length, map, slice_index, IfOk, IfErr};
-ghost use Rattle.jxlm_base.specs.Bits.{bytes_of, position_of};
+ghost use Rattle.std.specs.Prelude.{◌≡◌, ◌≤◌, ◌<◌, ◌^◌, length, map, IfOk, IfErr};
+ghost use Rattle.jxlm_base.specs.Bits.{bytes_of};
 ghost use Rattle.jxlm_base.specs.ErrorKind.{kind_of};
 ghost use Rattle.jxlm_tree.specs.Inner.DraftReading.{AllDrafts, IsDraft, IsDraftNode, ListGives, ListsTrees, StepGives, StepsGive, draft_of, is_endless as has_no_end, node_of};
 ghost use Rattle.jxlm_tree.specs.TreeReading.{children as children_of, drafts_at, in_cluster, leaf_at, limit_error, max_nodes, multiplier_at, node_at, nodes_at, predictor_at, read_context as token_of};
