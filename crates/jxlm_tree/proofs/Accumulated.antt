@@ -44,11 +44,11 @@ module _ {S : Type 0} where
         rw (left, now) (ap (with_front front) (node_first room missing s t p q n e) ∙ with_front-more front n (nodes_at d bytes limit room (missing + children n) t q))
 
     -- a node gives an error
-    pub node_refused : (front : List (Node Draft)) (room missing : ℕ) (s : S) (p : ℕ) (e : ErrorAt) → 0 < room → 0 < missing → node_at d bytes s p ≡ Err e → with_front front (nodes_at d bytes limit room missing s p) ≡ Err e
+    pub node_fails : (front : List (Node Draft)) (room missing : ℕ) (s : S) (p : ℕ) (e : ErrorAt) → 0 < room → 0 < missing → node_at d bytes s p ≡ Err e → with_front front (nodes_at d bytes limit room missing s p) ≡ Err e
     unfolding nodes_at
-    node_refused front zero missing s p e h k r = absurd (omega (arith, h))
-    node_refused front (suc room) zero s p e h k r = absurd (omega (arith, k))
-    node_refused front (suc room) (suc missing) s p e h k r = rw r refl
+    node_fails front zero missing s p e h k r = absurd (omega (arith, h))
+    node_fails front (suc room) zero s p e h k r = absurd (omega (arith, k))
+    node_fails front (suc room) (suc missing) s p e h k r = rw r refl
 
     -- there is no room
     pub no_room : (front : List (Node Draft)) (room missing : ℕ) (s : S) (p : ℕ) → room ≡ 0 → 0 < missing → with_front front (nodes_at d bytes limit room missing s p) ≡ Err (record { error = limit; position = Some p })

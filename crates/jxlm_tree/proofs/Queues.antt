@@ -25,9 +25,9 @@ module _ {L : Type 0} where
   }
 
   -- a decision that is too deep would be in the queue
-  pub refused_in_queue : (limit property : ℕ) (value : ℤ) (right left : Shape L) (rest : List (Shape L)) (error : ErrorKind) → IsTooDeepAt limit (decision property value left right) error →
+  pub too_deep_in_queue : (limit property : ℕ) (value : ℤ) (right left : Shape L) (rest : List (Shape L)) (error : ErrorKind) → IsTooDeepAt limit (decision property value left right) error →
       IsErrorInQueue limit (taken_up (decision_node property value) (right ∷ (left ∷ rest))) error
-  refused_in_queue limit property value right left rest error h = or_so (has_too_deep limit property value right left rest error) h
+  too_deep_in_queue limit property value right left rest error h = or_so (has_too_deep limit property value right left rest error) h
 
   -- a tree that is not too deep joins those that are not
   pub still_shallow : (limit : ℕ) (ts : List (Shape L)) (t : Shape L) → deepest ts ≤ limit → depth t ≤ limit → deepest (ts ++ t ∷ []) ≤ limit

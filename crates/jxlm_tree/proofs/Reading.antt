@@ -1,6 +1,5 @@
 -- What is read as a listing is the listing of exactly one tree.
 use Rattle.std.proofs.Common.{◌≡◌, ℕ, zero, suc, ◌+◌, List, [], ◌∷◌, ◌++◌, None, Some, Result, Ok, Err, Bool, true, false, cond, refl, sym, ap, ◌∙◌, subst, arith, length, take, drop, ◌⊎◌, inr}
-use Rattle.std.specs.Prelude.{slice_index}
 use Rattle.std.proofs.lemmas.List.{take-append-drop, length-take-le, length-append}
 use Rattle.jxlm_base.specs.Decoding.{Found, Meaning, Taken}
 use Rattle.jxlm_base.specs.ErrorKind.{ErrorKind, ErrorAt, UnlessMemory, ◌>>=◌}
@@ -8,7 +7,7 @@ use Rattle.jxlm_base.specs.Grammar.{IsErrorAt}
 use Rattle.jxlm_tree.specs.Inner.DraftReading.{ListsTrees, is_endless}
 use Rattle.jxlm_tree.specs.Tree.{Shape, leaf, decision, Node, Config, leaf_node, decision_node, config_of, levels}
 use Rattle.jxlm_tree.specs.Inner.Queue.{IsTooDeepListing, ListsTooDeep}
-use Rattle.jxlm_tree.specs.TreeReading.{Draft, with_clusters, leaf_count, children, through, node_at, nodes_at, drafts_at, listing_at, limit_error, most_nodes, IsTooDeep, IsTreeAt}
+use Rattle.jxlm_tree.specs.TreeReading.{Draft, with_clusters, leaf_count, children, through, node_at, nodes_at, drafts_at, listing_at, limit_error, max_nodes, IsTooDeep, IsTreeAt}
 use Rattle.jxlm_tree.specs.declared.flat.Leaf.{Leaf}
 use Rattle.jxlm_tree.proofs.Memory.{own_so}
 use Rattle.jxlm_tree.proofs.Listing.{Lists, lists-levels, levels-injective}
@@ -96,11 +95,11 @@ module _ {S : Type 0} (d : Meaning S) (bytes : List ℕ) where
   pub drafts_close : (node_limit : ℕ) (s : S) (p : ℕ) (x : Found (List (Node Draft))) → drafts_at d bytes node_limit s p ≡ Ok x → ListsTrees 1 x.value
   unfolding drafts_at
   drafts_close node_limit s p x h =
-      let rest = passed (is_endless (d.single_token s (slice_index (d.cluster_map s) 1))) _ _ x h in
+      let rest = passed (is_endless d s) _ _ x h in
       let b = bind_ok (through (Some p) (d.begin s bytes p)) _ x rest in
-      let c = bind_ok (nodes_at d bytes (limit_error node_limit) (most_nodes node_limit) 1 b.0.value b.0.position) _ x b.2 in
+      let c = bind_ok (nodes_at d bytes (limit_error node_limit) (max_nodes node_limit) 1 b.0.value b.0.position) _ x b.2 in
       let e = bind_ok (through (Some c.0.position) (d.finalize c.0.state)) _ x c.2 in
-      rw (same _ _ _ refl e.2) (nodes_close (limit_error node_limit) (most_nodes node_limit) 1 b.0.value b.0.position c.0 c.1)
+      rw (same _ _ _ refl e.2) (nodes_close (limit_error node_limit) (max_nodes node_limit) 1 b.0.value b.0.position c.0 c.1)
 
   -- each listing that is read is that of a tree
   pub listing_of_tree : (node_limit p : ℕ) (x : Taken (List (Node Leaf)) S) → listing_at d bytes node_limit p ≡ Ok x → (t : Shape Leaf) × (levels t ≡ x.value)
@@ -119,7 +118,7 @@ module _ {S : Type 0} (d : Meaning S) (bytes : List ℕ) where
   one_tree node_limit depth_limit p x y q z h i = levels-injective x.tree y.tree (ap (λ (found : Taken (List (Node Leaf)) S). found.value) (same _ _ (listing_at d bytes node_limit p) i.reads h.reads))
 
   -- a tree that is read whole and is too deep
-  pub too_deep_is_refused : (node_limit depth_limit p : ℕ) (ns : List (Node Leaf)) (decoder : S) (q : ℕ) (error : ErrorKind) → listing_at d bytes node_limit p ≡ Ok (record { value = ns; state = decoder; position = q }) →
+  pub too_deep_is_error : (node_limit depth_limit p : ℕ) (ns : List (Node Leaf)) (decoder : S) (q : ℕ) (error : ErrorKind) → listing_at d bytes node_limit p ≡ Ok (record { value = ns; state = decoder; position = q }) →
       IsTooDeepListing depth_limit ns error → UnlessMemory error (IsErrorAt (listing_at d bytes node_limit p) error q ⊎ IsTooDeep d bytes node_limit depth_limit p error q)
-  too_deep_is_refused node_limit depth_limit p ns decoder q error reads refused =
-      own_so error (λ (deep : ListsTooDeep depth_limit ns error). inr (record { config = config_of deep.tree decoder; reads = rw deep.lists reads; beyond = deep.beyond; failure = deep.failure })) refused
+  too_deep_is_error node_limit depth_limit p ns decoder q error reads failed =
+      own_so error (λ (deep : ListsTooDeep depth_limit ns error). inr (record { config = config_of deep.tree decoder; reads = rw deep.lists reads; beyond = deep.beyond; failure = deep.failure })) failed

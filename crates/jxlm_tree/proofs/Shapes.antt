@@ -123,7 +123,7 @@ module _ (clusters : List ℕ) where
   -- what is too deep in the queue is so in the tree
   pub too_deep_in_tree : (limit : ℕ) (t : Shape Leaf) (ns : List (Node Leaf)) (queue : Option (List (Shape Leaf))) (q : List (Shape Leaf)) (error : ErrorKind) → levels t ≡ ns → queue ≡ Some q → deepest q ≤ depth t →
       IsErrorInQueue limit queue error → IsTooDeepListing limit ns error
-  too_deep_in_tree limit t ns queue q error e is h refused = let now = rw is at refused in or_so (too_deep_whole limit t ns q error e h) now
+  too_deep_in_tree limit t ns queue q error e is h failed = let now = rw is at failed in or_so (too_deep_whole limit t ns q error e h) now
 
 leaf_count-append : (xs ys : List (Node Draft)) → leaf_count (xs ++ ys) ≡ leaf_count xs + leaf_count ys
 leaf_count-append [] ys = omega arith

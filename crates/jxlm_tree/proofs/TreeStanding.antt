@@ -1,6 +1,6 @@
 -- A tree is read where it stands, and stands where it is read.
 use Rattle.std.proofs.Common.{◌≡◌, ℕ, zero, suc, ◌+◌, ◌-◌, ◌*◌, ◌^◌, ◌<◌, ◌≤◌, List, [], ◌∷◌, ◌++◌, ◌⊎◌, inl, inr, None, Some, Option, Result, Ok, Err, Bool, true, false, cond, nat_lt, refl, sym, ap, ◌∙◌, subst, arith, length, drop, pow_mono, pow-add}
-use Rattle.std.specs.Prelude.{slice_get, slice_index, Contains, codes, ok_or}
+use Rattle.std.specs.Prelude.{slice_get, slice_index, Contains, codes, ok_or, unwrap_or}
 use Rattle.std.proofs.lemmas.Bool.{cases_lt, le-ltb, ltb-false}
 use Rattle.std.proofs.lemmas.List.{length-append}
 use Rattle.std.proofs.lemmas.List.Elements.{Contains-get_or}
@@ -13,7 +13,7 @@ use Rattle.jxlm_base.specs.declared.decoder.DecoderError.{DecoderError}
 use Rattle.jxlm_tree.specs.Inner.DraftReading.{ListsTrees, is_endless}
 use Rattle.jxlm_tree.specs.Predictions.{predictors}
 use Rattle.jxlm_tree.specs.Tree.{Shape, leaf, decision, Node, Config, config_of, leaf_node, decision_node, levels, node_count}
-use Rattle.jxlm_tree.specs.TreeReading.{Draft, IsTreeAt, children, drafts_at, leaf_at, leaf_count, limit_error, listing_at, most_nodes, multiplier_at, node_at, nodes_at, predictor_at, read_context, through, with_clusters}
+use Rattle.jxlm_tree.specs.TreeReading.{Draft, IsTreeAt, children, drafts_at, leaf_at, leaf_count, limit_error, listing_at, max_nodes, multiplier_at, node_at, nodes_at, predictor_at, read_context, through, with_clusters}
 use Rattle.jxlm_tree.specs.TreeStands.{LeafStands, NodeStands, NodesStand, TokenStands, OneTreeStands, TreeStands, TreesAreReadExactly, leaf_clusters}
 use Rattle.jxlm_tree.specs.declared.flat.Leaf.{Leaf}
 use Rattle.jxlm_tree.specs.declared.predictor.Predictor.{Predictor}
@@ -22,9 +22,9 @@ use Rattle.jxlm_tree.proofs.Multipliers.{multiplier_below}
 use Rattle.jxlm_tree.proofs.Reading.{passed, same}
 use Rattle.jxlm_tree.proofs.Shapes.{count_is, levels-count}
 
-refused_test : {A : Type 0} (b : Bool) (e : ErrorAt) (r : Result A ErrorAt) (x : A) → cond b (Err e) r ≡ Ok x → b ≡ false
-refused_test true e r x h = cc
-refused_test false e r x h = refl
+failed_test : {A : Type 0} (b : Bool) (e : ErrorAt) (r : Result A ErrorAt) (x : A) → cond b (Err e) r ≡ Ok x → b ≡ false
+failed_test true e r x h = cc
+failed_test false e r x h = refl
 
 bind_then : {A B : Type 0} {G : Type 0} (r : Result A ErrorAt) (f : A → Result B ErrorAt) (y : B) → (r >>= f) ≡ Ok y → ((x : A) → r ≡ Ok x → f x ≡ Ok y → G) → G
 bind_then (Ok x) f y h go = go x refl h
@@ -159,9 +159,9 @@ module _ {S : Type 0} (d : Meaning S) (bytes : List ℕ) where
   unfolding multiplier_at
   multiplier_there s p x h =
       bind_then (read_context d bytes 4 s p) _ x h (λ log log_read rest.
-      let small : log.value ≤ 30 = ltb-false 30 log.value (refused_test (nat_lt 30 log.value) _ _ x rest) in
+      let small : log.value ≤ 30 = ltb-false 30 log.value (failed_test (nat_lt 30 log.value) _ _ x rest) in
       bind_then (read_context d bytes 5 log.state log.position) _ x (passed (nat_lt 30 log.value) _ _ x rest) (λ factor factor_read tested.
-      let within : factor.value ≤ 2 ^ (31 - log.value) - 2 = ltb-false (2 ^ (31 - log.value) - 2) factor.value (refused_test (nat_lt (2 ^ (31 - log.value) - 2) factor.value) _ _ x tested) in
+      let within : factor.value ≤ 2 ^ (31 - log.value) - 2 = ltb-false (2 ^ (31 - log.value) - 2) factor.value (failed_test (nat_lt (2 ^ (31 - log.value) - 2) factor.value) _ _ x tested) in
       rw (same _ _ _ refl (passed (nat_lt (2 ^ (31 - log.value) - 2) factor.value) _ _ x tested)) (record {
         log = log.value;
         after = cursor log.state log.position;
@@ -255,14 +255,14 @@ module _ {S : Type 0} (d : Meaning S) (bytes : List ℕ) where
     last : S
     nodes : (clusters : List ℕ) → NodesStand d bytes first (with_clusters clusters 0 ns) (cursor last q)
     ends : d.finalize last ≡ Ok tt
-    few : length ns ≤ most_nodes node_limit
+    few : length ns ≤ max_nodes node_limit
 
   drafts_there : (node_limit : ℕ) (s : S) (p : ℕ) (x : Found (List (Node Draft))) → drafts_at d bytes node_limit s p ≡ Ok x → DraftsStand node_limit (cursor s p) x.value x.position
   unfolding drafts_at
   drafts_there node_limit s p x h =
       let limit = limit_error node_limit in
-      let room = most_nodes node_limit in
-      bind_then (through (Some p) (d.begin s bytes p)) _ x (passed (is_endless (d.single_token s (slice_index (d.cluster_map s) 1))) _ _ x h) (λ first begins rest.
+      let room = max_nodes node_limit in
+      bind_then (through (Some p) (d.begin s bytes p)) _ x (passed (is_endless d s) _ _ x h) (λ first begins rest.
       bind_then (nodes_at d bytes limit room 1 first.value first.position) _ x rest (λ ns are more.
       bind_then (through (Some ns.position) (d.finalize ns.state)) _ x more (λ ended ends last.
       rw (same _ _ _ refl last) (record {
@@ -279,9 +279,9 @@ module _ {S : Type 0} (d : Meaning S) (bytes : List ℕ) where
   read_stands lawful node_limit depth_limit p config q h =
       let x : Taken (List (Node Leaf)) S = record { value = levels config.tree; state = config.decoder; position = q } in
       bind_then (through None (d.parse bytes p 6)) _ x h.reads (λ decoder parsed rest.
-      bind_then (drafts_at d bytes node_limit decoder.value decoder.position) _ x rest (λ drafts drawn more.
+      bind_then (drafts_at d bytes node_limit decoder.value decoder.position) _ x rest (λ drafts reads more.
       bind_then (through None (d.parse bytes drafts.position (leaf_count drafts.value))) _ x more (λ leaves read ends.
-      let stand = drafts_there node_limit decoder.value decoder.position drafts drawn in
+      let stand = drafts_there node_limit decoder.value decoder.position drafts reads in
       let clusters = d.cluster_map leaves.value in
       let leaves_read : d.parse bytes drafts.position (leaf_count drafts.value) ≡ Ok leaves = through_ok None _ leaves read in
       let count : length clusters ≡ leaf_count drafts.value = lawful.parse_clusters bytes drafts.position (leaf_count drafts.value) leaves leaves_read in
@@ -387,9 +387,9 @@ module _ {S : Type 0} (d : Meaning S) (bytes : List ℕ) where
         never_ends ns (missing + 1) h.0 b (subst (λ m. ListsTrees m ns) more trees) h.2 (endless_after 0 h.1.1 h.1.0 h.0 (omega arith) h.1.3 first)
 
     not_endless : (s : S) (p : ℕ) (ns : List (Node Leaf)) (a b : Found S) → length (d.cluster_map s) ≡ 6 → d.begin s bytes p ≡ Ok a → ListsTrees 1 ns → NodesStand d bytes a ns b →
-        is_endless (d.single_token s (slice_index (d.cluster_map s) 1)) ≡ false
+        is_endless d s ≡ false
     not_endless s p ns a b contexts begins trees h = of (d.single_token s (slice_index (d.cluster_map s) 1)) refl where
-      of : (o : Option ℕ) → d.single_token s (slice_index (d.cluster_map s) 1) ≡ o → is_endless o ≡ false
+      of : (o : Option ℕ) → d.single_token s (slice_index (d.cluster_map s) 1) ≡ o → nat_lt 0 (unwrap_or o 0) ≡ false
       of None is = refl
       of (Some zero) is = refl
       of (Some (suc k)) is = absurd (never_ends ns 0 a b trees h (endless_kept s a.value (lawful.begin_keeps s bytes p a begins) (record { contexts = contexts; token = k; single = is })))
@@ -400,10 +400,10 @@ module _ {S : Type 0} (d : Meaning S) (bytes : List ℕ) where
         let t = config.tree in
         let s = h.decoder.value in
         let limit = limit_error node_limit in
-        let room = most_nodes node_limit in
+        let room = max_nodes node_limit in
         let contexts = lawful.parse_clusters bytes p 6 h.decoder h.decoder_stands in
         let trees = listed_trees (levels t) (t ∷ []) (queue_of-lists (levels t) (t ∷ []) (queue_of-levels t)) in
-        let ends : is_endless (d.single_token s (slice_index (d.cluster_map s) 1)) ≡ false = not_endless s h.decoder.position (levels t) h.first h.last contexts h.begins trees h.nodes in
+        let ends : is_endless d s ≡ false = not_endless s h.decoder.position (levels t) h.first h.last contexts h.begins trees h.nodes in
         let most = h.most in
         let few_limit = h.limit in
         let few : length (levels t) ≤ room = omega (arith, most, few_limit, levels-count t) in

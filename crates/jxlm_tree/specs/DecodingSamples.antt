@@ -1,6 +1,8 @@
 -- What reading a sample by a tree returns.
 use Rattle.std.specs.Prelude.{◌≡◌, ℕ, ℤ, Result, Ok, Err}
-use Rattle.jxlm_base.specs.Decoding.{Taken}
+use Rattle.jxlm_base.specs.Bits.{bytes_of, position_of}
+use Rattle.jxlm_base.specs.Decoding.{Meaning, Taken}
+use Rattle.jxlm_base.specs.declared.bits.Bitstream.{Bitstream}
 use Rattle.jxlm_base.specs.declared.decoder.DecoderError.{DecoderError}
 use Rattle.jxlm_base.specs.declared.error.Error.{Error}
 use Rattle.jxlm_base.specs.declared.error.Error.TheVariants.{Decoder}
@@ -19,11 +21,14 @@ pub record ReadsSample {S : Type 0} (l : Leaf) (residual : ℤ) (predictor : Pre
 pub record FailsSample {S : Type 0} (e : Error) (s t : S) (p q : ℕ) (reading : Result (Taken ℕ S) DecoderError) : Type 0 where
   pub cause : DecoderError
   pub error : e ≡ Decoder cause
-  pub refuses : reading ≡ Err cause
+  pub fails : reading ≡ Err cause
   pub state : t ≡ s
   pub place : q ≡ p
 
--- reading at this leaf, from state s at position p, returned this
-abbrev pub SampleGives : {S : Type 0} → Leaf → Result (ℤ × Predictor) Error → S → S → ℕ → ℕ → Result (Taken ℕ S) DecoderError → Type 0
-SampleGives l (Ok x) s t p q reading = ReadsSample l x.0 x.1 t q reading
-SampleGives l (Err e) s t p q reading = FailsSample e s t p q reading
+-- What reading a sample at this leaf returned, with this multiplier of distances, and the decoder's state t and the
+-- reader b after it, are what its token gives from state s and the reader a.
+abbrev pub SampleGives : {S : Type 0} → Meaning S → ℕ → Leaf → Result (ℤ × Predictor) Error → S → S → Bitstream → Bitstream → Type 0
+SampleGives d distances l (Ok x) s t a b =
+    ReadsSample l x.0 x.1 t (position_of b) (d.read s (bytes_of a) (position_of a) l.cluster distances)
+SampleGives d distances l (Err e) s t a b =
+    FailsSample e s t (position_of a) (position_of b) (d.read s (bytes_of a) (position_of a) l.cluster distances)

@@ -14,6 +14,9 @@ pub record FlatTree : Type 0 where
   pub stream_idx : ℕ
   pub prev_channels : ℕ
 
+abbrev pub flat_tree : Shape Leaf → ℕ → ℕ → ℕ → FlatTree
+flat_tree t c s n = record { tree = t; channel = c; stream_idx = s; prev_channels = n }
+
 -- property k as a decision asks for it: 0 and 1 are the channel and the stream, read as 32-bit numbers; those of
 -- earlier channels that there are none of are 0; each other one is that of the cell
 abbrev pub asked : FlatTree → (ℕ → ℤ) → ℕ → ℤ
@@ -27,9 +30,9 @@ asked t of_place k =
 abbrev pub leaf_reached : FlatTree → (ℕ → ℤ) → Leaf
 leaf_reached t of_place = walk t.tree (asked t of_place)
 
--- f is what a cell returns for its properties
-abbrev pub AnswersAs : {P : Type 0} → (P → ℕ → ℤ → Type 0) → P → (ℕ → ℤ) → Type 0
-AnswersAs gives place f = (k : ℕ) (v : ℤ) → gives place k v → v ≡ f k
+-- the properties that a cell gives are those of f
+abbrev pub PropertiesAre : {P : Type 0} → (P → ℕ → ℤ → Type 0) → P → (ℕ → ℤ) → Type 0
+PropertiesAre gives place f = (k : ℕ) (v : ℤ) → gives place k v → v ≡ f k
 
 -- what the sample of a token is before its prediction, in 32 bits
 abbrev pub residual_of : Leaf → ℕ → ℤ

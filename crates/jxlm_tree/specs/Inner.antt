@@ -1,6 +1,7 @@
 pub mod Building
 pub mod CorrectingSteps
 pub mod DraftReading
+pub mod Kept
 pub mod OwnProperties
 pub mod Queue
 pub mod StateSteps

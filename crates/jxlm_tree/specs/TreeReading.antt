@@ -27,12 +27,15 @@ pub record Draft : Type 0 where
   pub offset : ℤ
   pub multiplier : ℕ
 
+-- the leaf with its cluster
+abbrev pub in_cluster : Draft → ℕ → Leaf
+in_cluster l cluster = record { cluster = cluster; predictor = l.predictor; offset = l.offset; multiplier = l.multiplier }
+
 -- The leaves, numbered from k on in their order, have the clusters of their numbers.
 abbrev pub with_clusters : List ℕ → ℕ → List (Node Draft) → List (Node Leaf)
 with_clusters clusters k [] = []
 with_clusters clusters k (decision_node property value ∷ rest) = decision_node property value ∷ with_clusters clusters k rest
-with_clusters clusters k (leaf_node l ∷ rest) =
-    leaf_node (record { cluster = slice_index clusters k; predictor = l.predictor; offset = l.offset; multiplier = l.multiplier }) ∷ with_clusters clusters (suc k) rest
+with_clusters clusters k (leaf_node l ∷ rest) = leaf_node (in_cluster l (slice_index clusters k)) ∷ with_clusters clusters (suc k) rest
 
 -- how many leaves there are
 abbrev pub leaf_count : List (Node Draft) → ℕ
@@ -46,8 +49,8 @@ children (leaf_node l) = 0
 children (decision_node k value) = 2
 
 -- A tree has at most node_limit + 1 nodes, and at most 2 ^ 26.
-abbrev pub most_nodes : ℕ → ℕ
-most_nodes node_limit = min (2 ^ 26) (node_limit + 1)
+abbrev pub max_nodes : ℕ → ℕ
+max_nodes node_limit = min (2 ^ 26) (node_limit + 1)
 
 -- the error of a tree with more nodes
 abbrev pub limit_error : ℕ → ErrorKind
@@ -124,7 +127,7 @@ module _ {S : Type 0} (d : Meaning S) (bytes : List ℕ) where
       let single = d.single_token s (slice_index (d.cluster_map s) 1) in
       if nat_lt 0 (unwrap_or single 0) then error_at_bit p BadTree else (do
         start ← through (Some p) (d.begin s bytes p)
-        nodes ← nodes_at (limit_error node_limit) (most_nodes node_limit) 1 start.value start.position
+        nodes ← nodes_at (limit_error node_limit) (max_nodes node_limit) 1 start.value start.position
         ended ← through (Some nodes.position) (d.finalize nodes.state)
         Ok (record { value = nodes.value; position = nodes.position }))
 

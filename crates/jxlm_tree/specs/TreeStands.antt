@@ -1,10 +1,10 @@
 -- How a tree stands in the bits (ISO/IEC 18181-1, Modular: decoding of meta-adaptive trees): token after token, level by level.
 use Rattle.std.specs.Prelude.{◌≡◌, ℕ, suc, ◌+◌, ◌*◌, ◌^◌, ◌<◌, ◌≤◌, ◌↔◌, List, [], ◌∷◌, length, slice_get, slice_index, Some, Ok}
-use Rattle.jxlm_base.specs.Decoding.{Found, Meaning}
+use Rattle.jxlm_base.specs.Decoding.{Found, Meaning, Taken}
 use Rattle.jxlm_base.specs.Numbers.{unpack}
 use Rattle.jxlm_tree.specs.Predictions.{predictors}
-use Rattle.jxlm_tree.specs.Tree.{Config, Node, leaf_node, decision_node, depth, levels, node_count}
-use Rattle.jxlm_tree.specs.TreeReading.{IsTreeAt}
+use Rattle.jxlm_tree.specs.Tree.{Config, Node, Shape, leaf_node, decision_node, depth, levels, node_count}
+use Rattle.jxlm_tree.specs.TreeReading.{IsTreeAt, listing_at}
 use Rattle.jxlm_tree.specs.declared.flat.Leaf.{Leaf}
 
 -- the clusters of the leaves, in their order
@@ -63,6 +63,11 @@ module _ {S : Type 0} (d : Meaning S) (bytes : List ℕ) where
     pub most : node_count config.tree ≤ 2 ^ 26
     pub limit : node_count config.tree ≤ node_limit + 1
     pub within : depth config.tree ≤ depth_limit
+
+-- What is read as the nodes of a tree is the listing of a tree.
+abbrev pub EachListingIsOfATree : {S : Type 0} → Meaning S → Type 0
+EachListingIsOfATree {S} d = (bytes : List ℕ) (node_limit p : ℕ) (x : Taken (List (Node Leaf)) S) →
+    listing_at d bytes node_limit p ≡ Ok x → (t : Shape Leaf) × (levels t ≡ x.value)
 
 -- The two laws of a tree: what is read stands there, and what stands there is read.
 abbrev pub TreesAreReadExactly : {S : Type 0} → Meaning S → Type 0

@@ -1,7 +1,7 @@
 //! The samples around a cell.
 
-ghost use Rattle.std.specs.Prelude.{◌≡◌, ◌+ℤ◌, ◌-ℤ◌, ◌*ℤ◌, pos, int_div, unsigned_abs, nat_lt, if◌then◌else◌, ◌<◌, ◌≤◌, ◌^◌};
-ghost use Rattle.jxlm_tree.specs.declared.predictor.Predictor.TheVariants.{AvgAll};
+ghost use Rattle.std.specs.Prelude.{◌≡◌, ◌+ℤ◌, ◌-ℤ◌, ◌*ℤ◌, pos, int_div, unsigned_abs, ◌<◌, ◌^◌};
+ghost use Rattle.jxlm_tree.specs.declared.predictor.Predictor.TheVariants.{AvgAll, Select};
 ghost use Rattle.jxlm_tree.specs.Predictions.{prediction_from};
 ghost use Rattle.jxlm_tree.specs.Around.{seen};
 ghost use Rattle.jxlm_tree.specs.Inner.CorrectingSteps.{clamped_around};
@@ -37,8 +37,7 @@ fn average(a: i32, b: i32) -> i64
 
 impl Around {
     fn select(&self) -> i32
-        ensures { result ≡ if nat_lt (unsigned_abs (self.now.n -ℤ self.now.nw))
-            (unsigned_abs (self.now.w -ℤ self.now.nw)) then self.now.w else self.now.n }
+        ensures { result ≡ prediction_from (seen self.now) (pos 0) Select }
     {
         if self.n.abs_diff(self.nw) < self.w.abs_diff(self.nw) {
             self.w

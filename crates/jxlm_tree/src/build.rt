@@ -1,17 +1,17 @@
 //! How a tree is put together from the end of its listing.
 
-ghost use Rattle.std.specs.Prelude.{◌≡◌, ◌+◌, ◌≤◌, ℕ, ◌∷◌, List, length, map, IfOk, IfErr, IsSome, Some};
+ghost use Rattle.std.specs.Prelude.{◌≡◌, ◌+◌, ◌≤◌, ◌∷◌, List, length, map, IfOk, IfErr, IsSome, Some};
 ghost use Rattle.jxlm_base.specs.ErrorKind.{kind_of};
-ghost use Rattle.jxlm_tree.specs.Inner.Building.{leaves_in, listed_of, trees_in};
-ghost use Rattle.jxlm_tree.specs.Inner.DraftReading.{AllDrafts, ListsTrees, draft_of, node_of};
-ghost use Rattle.jxlm_tree.specs.Inner.Queue.{IsErrorInQueue, IsTooDeepListing, deepest, taken_up};
+ghost use Rattle.jxlm_tree.specs.Inner.Building.{leaves_in, listed_of, listing_with, queue_with, trees_in};
+ghost use Rattle.jxlm_tree.specs.Inner.DraftReading.{AllDrafts, ListsTrees, node_of};
+ghost use Rattle.jxlm_tree.specs.Inner.Queue.{IsErrorInQueue, IsTooDeepListing, deepest};
 ghost use Rattle.jxlm_tree.specs.Tree.{AllLeaves, Node, levels, node_count};
 ghost use Rattle.jxlm_tree.specs.TreeReading.{Draft as DraftLeaf, IsLeafOf, leaf_count, with_clusters};
 ghost use Rattle.jxlm_tree.specs.Inner.TreeShape.{shape_of};
 
 use crate::flat::Leaf;
 use crate::nodes::DraftNode;
-use crate::tree::Subtree;
+use crate::tree::MaTree;
 use jxlm_base::error::Result;
 use jxlm_base::grid::OutOfMemory;
 use std::alloc::Global;
@@ -45,31 +45,25 @@ fn numbered(node: DraftNode, clusters: &[u8], unnumbered: &mut usize) -> ListedN
 // front, and goes to the back.
 fn take_up(
     alloc: Global,
-    queue: &mut VecDeque<Subtree>,
+    queue: &mut VecDeque<MaTree>,
     node: ListedNode,
     depth_limit: usize,
 ) -> Result<()>
-    requires enough { IsSome (taken_up (listed_of node) (trees_in queue.old.items)) }
+    requires enough { IsSome (queue_with node queue.old.items) }
     requires shallow { deepest (trees_in queue.old.items) ≤ depth_limit }
-    ensures queue { IfOk result (λ _. taken_up (listed_of node) (trees_in queue.old.items) ≡ Some
-        (trees_in queue.new.items)) }
+    ensures queue { IfOk result (λ _. queue_with node queue.old.items ≡ Some (trees_in queue.new.items)) }
     ensures shallow { IfOk result (λ _. deepest (trees_in queue.new.items) ≤ depth_limit) }
-    ensures err { IfErr result (λ e. IsErrorInQueue depth_limit (taken_up (listed_of node) (trees_in queue.old.items))
-        (kind_of e)) }
+    ensures err { IfErr result (λ e. IsErrorInQueue depth_limit (queue_with node queue.old.items) (kind_of e)) }
 {
-    let subtree = match node {
-        ListedNode::Leaf(leaf) => Subtree::leaf(leaf),
+    let tree = match node {
+        ListedNode::Leaf(leaf) => MaTree::leaf(leaf),
         ListedNode::Decision { property, value } => {
-            let Some(right) = queue.pop_front() else {
-                unreachable!()
-            };
-            let Some(left) = queue.pop_front() else {
-                unreachable!()
-            };
-            Subtree::decision(alloc, property, value, left, right, depth_limit)?
+            let right = queue.pop_front().unwrap();
+            let left = queue.pop_front().unwrap();
+            MaTree::decision(alloc, property, value, left, right, depth_limit)?
         }
     };
-    queue.push_back(subtree).map_err(|_| OutOfMemory)?;
+    queue.push_back(tree).map_err(|_| OutOfMemory)?;
     Ok(())
 }
 
@@ -79,26 +73,21 @@ pub fn build(
     mut nodes: Vec<DraftNode>,
     clusters: &[u8],
     depth_limit: usize,
-) -> Result<Subtree>
+) -> Result<MaTree>
     requires listing { ListsTrees 1 (map node_of nodes.items) }
     requires clusters { length clusters.now ≡ leaf_count (map node_of nodes.items) }
     requires drafts { AllDrafts (map node_of nodes.items) }
-    ensures levels { IfOk result (λ t. levels (shape_of t.tree) ≡ with_clusters clusters.now 0
-        (map node_of nodes.items)) }
+    ensures levels { IfOk result (λ t. levels (shape_of t.root) ≡ listing_with clusters.now nodes.items) }
     ensures depth { IfOk result (λ t. t.depth ≤ depth_limit) }
-    ensures count { IfOk result (λ t. node_count (shape_of t.tree) ≡ length nodes.items) }
-    ensures leaves { IfOk result (λ t. AllLeaves (IsLeafOf clusters.now) (shape_of t.tree)) }
-    ensures err { IfErr result (λ e. IsTooDeepListing depth_limit
-        (with_clusters clusters.now 0 (map node_of nodes.items)) (kind_of e)) }
+    ensures count { IfOk result (λ t. node_count (shape_of t.root) ≡ length nodes.items) }
+    ensures leaves { IfOk result (λ t. AllLeaves (IsLeafOf clusters.now) (shape_of t.root)) }
+    ensures err { IfErr result (λ e. IsTooDeepListing depth_limit (listing_with clusters.now nodes.items) (kind_of e)) }
 {
-    let mut queue: VecDeque<Subtree> = VecDeque::new(alloc);
+    let mut queue: VecDeque<MaTree> = VecDeque::new(alloc);
     let mut unnumbered = clusters.len();
     while let Some(node) = nodes.pop() {
         let node = numbered(node, clusters, &mut unnumbered);
         take_up(alloc, &mut queue, node, depth_limit)?;
     }
-    match queue.pop_front() {
-        Some(root) => Ok(root),
-        None => unreachable!(),
-    }
+    Ok(queue.pop_front().unwrap())
 }

@@ -2,16 +2,16 @@
 
 ghost use Rattle.std.specs.Prelude.{◌≡◌, ◌≤◌, ◌<◌, ◌+◌, ◌^◌, ℕ, ℤ, pos, false, length, min, IfOk, IfSome, None};
 ghost use Rattle.std.specs.Int.{w32, int_wrap};
-ghost use Rattle.jxlm_base.specs.Bits.{bytes_of, position_of};
+ghost use Rattle.jxlm_base.specs.Bits.{bytes_of};
 ghost use Rattle.jxlm_tree.specs.DecodingSamples.{SampleGives};
-ghost use Rattle.jxlm_tree.specs.FlatTree.{AnswersAs, ClustersStandIn, FlatTree, GoesWithoutWeights, HasMultiplier, ReadsEarlierBelow, asked, earlier_named, leaf_reached, needs_weights, residual_of};
+ghost use Rattle.jxlm_tree.specs.FlatTree.{PropertiesAre, ClustersStandIn, FlatTree, GoesWithoutWeights, HasMultiplier, ReadsEarlierBelow, asked, earlier_named, leaf_reached, needs_weights, residual_of};
 ghost use Rattle.jxlm_tree.specs.Properties.{Surroundings, place_property, property};
 ghost use Rattle.jxlm_tree.specs.Tree.{AllLeaves, StandsAtLeaf, depth, leaf, node_count, nodes_on_way, walk};
 ghost use Rattle.jxlm_tree.specs.Inner.TreeShape.{shape_of};
 
 use crate::predictor::Predictor;
 pub use crate::steps::Steps;
-use crate::tree::MaTreeNode;
+use crate::tree::{MaTree, MaTreeNode};
 use jxlm_base::bits::Bitstream;
 use jxlm_base::decoder::Decoder;
 use jxlm_base::error::Result;
@@ -66,18 +66,16 @@ pub trait PlaceProperties {
 /// stream's index, and the number of earlier channels.
 #[derive(Drop)]
 pub struct FlatMaTree {
-    tree: Rc<MaTreeNode>,
-    channel: u32,
-    stream_idx: u32,
-    prev_channels: u32,
-    num_nodes: usize,
-    need_self_correcting: bool,
-    prev_channels_named: u32,
+    pub(crate) tree: Rc<MaTree>,
+    pub(crate) num_nodes: usize,
+    pub(crate) channel: u32,
+    pub(crate) stream_idx: u32,
+    pub(crate) prev_channels: u32,
 }
 
 impl Model for FlatMaTree {
     ghost use Rattle.std.specs.Prelude.{◌≡◌};
-    ghost use Rattle.jxlm_tree.specs.FlatTree.{AnswersAs, ClustersStandIn, FlatTree, HasMultiplier, earlier_named, needs_weights};
+    ghost use Rattle.jxlm_tree.specs.FlatTree.{FlatTree, HasMultiplier, flat_tree};
     ghost use Rattle.jxlm_tree.specs.Tree.{AllLeaves, node_count};
     ghost use Rattle.jxlm_tree.specs.TreeCode.{coded_flat};
     ghost use Rattle.jxlm_tree.specs.Inner.TreeShape.{shape_of};
@@ -87,52 +85,13 @@ impl Model for FlatMaTree {
 
     ghost coded = { coded_flat leaves.the_row.coded };
 
-    ghost view = { λ t. record {
-      tree = shape_of t.tree.value;
-      channel = t.channel;
-      stream_idx = t.stream_idx;
-      prev_channels = t.prev_channels;
-    } };
+    ghost view = { λ t. flat_tree (shape_of t.tree.value.root) t.channel t.stream_idx t.prev_channels };
 
-    ghost invariant = { λ t. AllLeaves HasMultiplier (shape_of t.tree.value)
-        × (t.num_nodes ≡ node_count (shape_of t.tree.value))
-        × (t.need_self_correcting ≡ needs_weights (shape_of t.tree.value))
-        × (t.prev_channels_named ≡ earlier_named (shape_of t.tree.value)) };
+    ghost invariant = { λ t. AllLeaves HasMultiplier (shape_of t.tree.value.root)
+        × (t.num_nodes ≡ node_count (shape_of t.tree.value.root)) };
 }
 
 impl FlatMaTree {
-    // The tree of `num_nodes` nodes, which needs weights or not and names `prev_channels_named` earlier channels.
-    pub(crate) fn new(
-        tree: Rc<MaTreeNode>,
-        num_nodes: usize,
-        need_self_correcting: bool,
-        prev_channels_named: u32,
-        channel: u32,
-        stream_idx: u32,
-        prev_channels: u32,
-    ) -> FlatMaTree
-        requires leaves { AllLeaves HasMultiplier (shape_of tree.value) }
-        requires nodes { num_nodes ≡ node_count (shape_of tree.value) }
-        requires need { need_self_correcting ≡ needs_weights (shape_of tree.value) }
-        requires named { prev_channels_named ≡ earlier_named (shape_of tree.value) }
-        ensures { result ≡ record {
-          tree = shape_of tree.value;
-          channel = channel;
-          stream_idx = stream_idx;
-          prev_channels = prev_channels;
-        } }
-    {
-        FlatMaTree {
-            tree,
-            channel,
-            stream_idx,
-            prev_channels,
-            num_nodes,
-            need_self_correcting,
-            prev_channels_named,
-        }
-    }
-
     /// How many nodes a walk can come to, leaves and decisions together.
     pub fn num_nodes(&self) -> usize
         ensures { result ≡ node_count self.now.tree }
@@ -148,7 +107,7 @@ impl FlatMaTree {
         ensures need { result ≡ needs_weights self.now.tree }
         ensures without { result ≡ false → GoesWithoutWeights self.now }
     {
-        self.need_self_correcting
+        self.tree.need_self_correcting
     }
 
     /// How many of the earlier channels a walk may ask for, the nearest first: those that are there, up
@@ -157,7 +116,7 @@ impl FlatMaTree {
         ensures depth { result ≡ min self.now.prev_channels (earlier_named self.now.tree) }
         ensures below { ReadsEarlierBelow self.now result }
     {
-        self.prev_channels.min(self.prev_channels_named) as usize
+        self.prev_channels.min(self.tree.prev_channels_named) as usize
     }
 
     /// The leaf of the tree, where it has no other.
@@ -165,8 +124,7 @@ impl FlatMaTree {
         ensures some { IfSome result (λ l. self.now.tree ≡ leaf l) }
         ensures none { result ≡ None → 0 < depth self.now.tree }
     {
-        let node: &MaTreeNode = &self.tree;
-        match node {
+        match &self.tree.root {
             MaTreeNode::Leaf(only) => Some(*only),
             _ => None,
         }
@@ -180,15 +138,15 @@ impl FlatMaTree {
     /// step: at most as many as the tree's depth and one more.
     pub fn leaf<P: PlaceProperties>(&self, properties: &P, steps: &mut Steps) -> &Leaf
         requires { P.IsCurrent properties.now }
-        ensures leaf { (f : ℕ → ℤ) → AnswersAs P.gives properties.now f → result.now ≡ leaf_reached self.now f }
+        ensures leaf { (f : ℕ → ℤ) → PropertiesAre P.gives properties.now f → result.now ≡ leaf_reached self.now f }
         ensures stands { StandsAtLeaf self.now.tree result.now }
         ensures multiplier { HasMultiplier result.now }
-        ensures steps { (f : ℕ → ℤ) → AnswersAs P.gives properties.now f → steps.new ≡ steps.old
+        ensures steps { (f : ℕ → ℤ) → PropertiesAre P.gives properties.now f → steps.new ≡ steps.old
             + nodes_on_way self.now.tree (asked self.now f) }
         ensures cost { steps.new ≤ steps.old + depth self.now.tree + 1 }
         ensures more { steps.old ≤ steps.new }
     {
-        let mut node: &MaTreeNode = &self.tree;
+        let mut node: &MaTreeNode = &self.tree.root;
         loop {
             steps.tick();
             match node {
@@ -209,7 +167,7 @@ impl FlatMaTree {
     // The property of this number, as a decision asks for it.
     fn asked<P: PlaceProperties>(&self, properties: &P, property: u32) -> i32
         requires { P.IsCurrent properties.now }
-        ensures { (f : ℕ → ℤ) → AnswersAs P.gives properties.now f → result ≡ asked self.now f property }
+        ensures { (f : ℕ → ℤ) → PropertiesAre P.gives properties.now f → result ≡ asked self.now f property }
     {
         match property {
             0 => read_as_signed(self.channel),
@@ -239,10 +197,8 @@ impl FlatMaTree {
     ) -> Result<(i32, Predictor)>
         requires clusters { ClustersStandIn (D.meaning.cluster_map decoder.old) self.now.tree }
         requires current { P.IsCurrent properties.now }
-        ensures gives { (f : ℕ → ℤ) → AnswersAs P.gives properties.now f → SampleGives
-            (leaf_reached self.now f) result decoder.old decoder.new (position_of bits.old) (position_of bits.new)
-            (D.meaning.read decoder.old (bytes_of bits.old) (position_of bits.old) (leaf_reached self.now f).cluster
-            dist_multiplier) }
+        ensures gives { (f : ℕ → ℤ) → PropertiesAre P.gives properties.now f → SampleGives D.meaning dist_multiplier
+            (leaf_reached self.now f) result decoder.old decoder.new bits.old bits.new }
         ensures clusters { IfOk result (λ _. D.meaning.cluster_map decoder.new ≡ D.meaning.cluster_map decoder.old) }
         ensures bytes { bytes_of bits.new ≡ bytes_of bits.old }
     {

@@ -1,20 +1,19 @@
 //! Meta-adaptive trees: how a tree is read, and what it is kept with.
 
-ghost use Rattle.std.specs.Prelude.{◌≡◌, ◌≢◌, ◌≤◌, ◌^◌, ℕ, List, length, map, IfOk, IfErr};
+ghost use Rattle.std.specs.Prelude.{◌≡◌, ◌≢◌, ◌≤◌, ◌^◌, length, map, IfOk, IfErr};
 ghost use Rattle.jxlm_base.specs.Bits.{bytes_of, position_of};
-ghost use Rattle.jxlm_base.specs.Decoding.{Taken};
 ghost use Rattle.jxlm_base.specs.ErrorKind.{NoMemory, kind_of};
-ghost use Rattle.jxlm_tree.specs.Inner.DraftReading.{Answers, ListsTrees, node_of};
-ghost use Rattle.jxlm_tree.specs.FlatTree.{ClustersStandIn};
-ghost use Rattle.jxlm_tree.specs.Tree.{AllLeaves, Node, Shape, levels, node_count, depth};
-ghost use Rattle.jxlm_tree.specs.TreeReading.{IsLeafOf, IsOutOfMemory, MemoryGives, TreeGives, leaf_count, listing_at, through};
-ghost use Rattle.jxlm_tree.specs.TreeStands.{OneTreeStands, TreesAreReadExactly};
+ghost use Rattle.jxlm_tree.specs.Inner.DraftReading.{DecoderGives, ListsTrees, node_of};
+ghost use Rattle.jxlm_tree.specs.FlatTree.{ClustersStandIn, flat_tree};
+ghost use Rattle.jxlm_tree.specs.Tree.{AllLeaves, Shape, levels, node_count, depth};
+ghost use Rattle.jxlm_tree.specs.TreeReading.{IsLeafOf, IsOutOfMemory, MemoryGives, TreeGives, leaf_count, listing_at};
+ghost use Rattle.jxlm_tree.specs.TreeStands.{EachListingIsOfATree, OneTreeStands, TreesAreReadExactly};
 ghost use Rattle.jxlm_tree.specs.declared.flat.Leaf.{Leaf};
 
 use crate::build::build;
 use crate::flat::FlatMaTree;
 use crate::nodes::{DraftNode, read_tree};
-use crate::tree::MaTreeNode;
+use crate::tree::MaTree;
 use jxlm_base::bits::Bitstream;
 use jxlm_base::decoder::Decoder;
 use jxlm_base::error::Result;
@@ -37,20 +36,15 @@ pub struct MaConfigParams {
 /// Contracts see it as the tree and the decoder.
 #[derive(Drop)]
 pub struct MaConfig<D: Decoder> {
-    tree: Rc<MaTreeNode>,
+    tree: Rc<MaTree>,
     decoder: D,
     num_tree_nodes: usize,
-    tree_depth: usize,
-    need_self_correcting: bool,
-    prev_channels_named: u32,
 }
 
 impl<D: Decoder> Model for MaConfig<D> {
-    ghost use Rattle.std.specs.Prelude.{◌≡◌, ◌≤◌, ◌^◌};
-    ghost use Rattle.jxlm_tree.specs.FlatTree.{earlier_named, needs_weights};
-    ghost use Rattle.jxlm_tree.specs.Tree.{AllLeaves, Config, config_of, depth, node_count};
-    ghost use Rattle.jxlm_tree.specs.TreeReading.{IsLeafOf};
+    ghost use Rattle.jxlm_tree.specs.Tree.{Config, config_of};
     ghost use Rattle.jxlm_tree.specs.TreeCode.{coded_config};
+    ghost use Rattle.jxlm_tree.specs.Inner.Kept.{IsKept};
     ghost use Rattle.jxlm_tree.specs.Inner.TreeShape.{shape_of};
     ghost use Rattle.jxlm_tree.specs.contracts.flat.Leaf as leaves;
 
@@ -58,13 +52,9 @@ impl<D: Decoder> Model for MaConfig<D> {
 
     ghost coded = { coded_config leaves.the_row.coded D.code };
 
-    ghost view = { λ c. config_of (shape_of c.tree.value) c.decoder };
+    ghost view = { λ c. config_of (shape_of c.tree.value.root) c.decoder };
 
-    ghost invariant = { λ c. AllLeaves (IsLeafOf (D.meaning.cluster_map c.decoder)) (shape_of c.tree.value)
-        × (c.num_tree_nodes ≡ node_count (shape_of c.tree.value)) × (c.tree_depth ≡ depth (shape_of c.tree.value))
-        × (c.num_tree_nodes ≤ 2 ^ 26) × (c.tree_depth ≤ 2048)
-        × (c.need_self_correcting ≡ needs_weights (shape_of c.tree.value))
-        × (c.prev_channels_named ≡ earlier_named (shape_of c.tree.value)) };
+    ghost invariant = { λ c. IsKept (D.meaning.cluster_map c.decoder) c.tree.value c.num_tree_nodes };
 }
 
 impl<D: Decoder> MaConfig<D> {
@@ -94,18 +84,12 @@ impl<D: Decoder> MaConfig<D> {
         let nodes = read_tree(alloc, &mut first, bits, params.node_limit)?;
         let num_tree_nodes = nodes.len();
         let decoder: D = parse_decoder(alloc, bits, count_leaves(&nodes))?;
-        let root = build(alloc, nodes, decoder.cluster_map(), params.depth_limit)?;
-        let tree_depth = root.depth;
-        let need_self_correcting = root.tree.needs_self_correcting();
-        let prev_channels_named = root.tree.earlier_named();
-        let tree = Rc::new(alloc, root.tree).map_err(|_| OutOfMemory)?;
+        let tree = build(alloc, nodes, decoder.cluster_map(), params.depth_limit)?;
+        let tree = Rc::new(alloc, tree).map_err(|_| OutOfMemory)?;
         Ok(MaConfig {
             tree,
             decoder,
             num_tree_nodes,
-            tree_depth,
-            need_self_correcting,
-            prev_channels_named,
         })
     }
 
@@ -124,9 +108,6 @@ impl<D: Decoder> MaConfig<D> {
             tree,
             decoder,
             num_tree_nodes: self.num_tree_nodes,
-            tree_depth: self.tree_depth,
-            need_self_correcting: self.need_self_correcting,
-            prev_channels_named: self.prev_channels_named,
         })
     }
 
@@ -145,27 +126,19 @@ impl<D: Decoder> MaConfig<D> {
         stream_idx: u32,
         prev_channels: u32,
     ) -> Result<FlatMaTree>
-        ensures tree { IfOk result (λ t. t ≡ record {
-          tree = self.now.tree;
-          channel = channel;
-          stream_idx =
-              stream_idx;
-          prev_channels = prev_channels;
-        }) }
+        ensures tree { IfOk result (λ t. t ≡ flat_tree self.now.tree channel stream_idx prev_channels) }
         ensures leaves { IfOk result (λ t. AllLeaves (IsLeafOf (D.meaning.cluster_map self.now.decoder)) t.tree) }
         ensures clusters { IfOk result (λ t. ClustersStandIn (D.meaning.cluster_map self.now.decoder) t.tree) }
         ensures err { IfErr result (λ e. kind_of e ≡ NoMemory) }
     {
         let tree = self.tree.clone().map_err(|_| OutOfMemory)?;
-        Ok(FlatMaTree::new(
+        Ok(FlatMaTree {
             tree,
-            self.num_tree_nodes,
-            self.need_self_correcting,
-            self.prev_channels_named,
+            num_nodes: self.num_tree_nodes,
             channel,
             stream_idx,
             prev_channels,
-        ))
+        })
     }
 
     /// The decoder of the leaves' clusters.
@@ -189,19 +162,17 @@ impl<D: Decoder> MaConfig<D> {
         ensures depth { result ≡ depth self.now.tree }
         ensures most { result ≤ 2048 }
     {
-        self.tree_depth
+        self.tree.depth
     }
 }
 
 fn parse_decoder<D: Decoder>(alloc: Global, bits: &mut Bitstream<'_>, contexts: u32) -> Result<D>
-    ensures gives { Answers (λ d. d) result (position_of bits.new)
-        (through None (D.meaning.parse (bytes_of bits.old) (position_of bits.old) contexts)) }
+    ensures gives { DecoderGives D.meaning contexts result bits.old bits.new }
     ensures contexts { IfOk result (λ d. length (D.meaning.cluster_map d) ≡ contexts) }
     ensures memory { IfErr result (λ e. kind_of e ≢ NoMemory) }
     ensures bytes { bytes_of bits.new ≡ bytes_of bits.old }
 {
-    let decoder = D::parse(alloc, bits, contexts)?;
-    Ok(decoder)
+    Ok(D::parse(alloc, bits, contexts)?)
 }
 
 // There is one leaf more than there are decisions.
@@ -215,8 +186,7 @@ fn count_leaves(nodes: &[DraftNode]) -> u32
 
 /// What is read as the nodes of a tree is the listing of a tree.
 pub fn each_listing_is_of_a_tree<D: Decoder>()
-    ensures { (bytes : List ℕ) (node_limit p : ℕ) (x : Taken (List (Node Leaf)) D) →
-        listing_at D.meaning bytes node_limit p ≡ Ok x → (t : Shape Leaf) × (levels t ≡ x.value) }
+    ensures { EachListingIsOfATree D.meaning }
 {}
 
 /// No two trees have one listing.
@@ -224,8 +194,8 @@ pub fn no_two_trees_share_a_listing()
     ensures { (t u : Shape Leaf) → levels t ≡ levels u → t ≡ u }
 {}
 
-/// A tree that is read stands in the bits token after token, a tree that stands there is read, and no two trees stand at one
-/// bit position.
+/// A tree that is read stands in the bits token after token, a tree that stands there is read, and no two trees stand
+/// at one bit position.
 pub fn each_tree_is_read_exactly<D: Decoder>()
     ensures exactly { TreesAreReadExactly D.meaning }
     ensures one { OneTreeStands D.meaning }

@@ -1,10 +1,10 @@
 //! How the nodes of a tree are read, level by level.
 
-ghost use Rattle.std.specs.Prelude.{◌≡◌, ◌≤◌, ◌<◌, ◌^◌, ℕ, length, map, slice_index, IfOk, IfErr};
-ghost use Rattle.jxlm_base.specs.Bits.{bytes_of, position_of};
+ghost use Rattle.std.specs.Prelude.{◌≡◌, ◌≤◌, ◌<◌, ◌^◌, length, map, IfOk, IfErr};
+ghost use Rattle.jxlm_base.specs.Bits.{bytes_of};
 ghost use Rattle.jxlm_base.specs.ErrorKind.{kind_of};
-ghost use Rattle.jxlm_tree.specs.Inner.DraftReading.{AllDrafts, DrawnAnswers, DrawnGives, IsDraft, IsDraftNode, ListAnswers, ListsTrees, draft_of, is_endless as has_no_end, node_of};
-ghost use Rattle.jxlm_tree.specs.TreeReading.{children as children_of, drafts_at, leaf_at, limit_error, most_nodes, multiplier_at, node_at, nodes_at, predictor_at, read_context as token_of};
+ghost use Rattle.jxlm_tree.specs.Inner.DraftReading.{AllDrafts, IsDraft, IsDraftNode, ListGives, ListsTrees, StepGives, StepsGive, draft_of, is_endless as has_no_end, node_of};
+ghost use Rattle.jxlm_tree.specs.TreeReading.{children as children_of, drafts_at, in_cluster, leaf_at, limit_error, max_nodes, multiplier_at, node_at, nodes_at, predictor_at, read_context as token_of};
 
 use crate::flat::Leaf;
 use crate::predictor::Predictor;
@@ -16,7 +16,7 @@ use jxlm_base::sample::Sealed;
 use std::alloc::Global;
 
 // No tree has more nodes.
-const MOST_NODES: usize = 1 << 26;
+const MAX_NODES: usize = 1 << 26;
 
 // A leaf without its cluster, which comes from the leaves' decoder.
 #[derive(Clone, Copy)]
@@ -29,13 +29,7 @@ pub struct Draft {
 impl Draft {
     /// The leaf, with this cluster.
     pub fn in_cluster(self, cluster: u8) -> Leaf
-        ensures { result ≡ record {
-          cluster = cluster;
-          predictor = self.predictor;
-          offset = self.offset;
-          multiplier =
-              self.multiplier;
-        } }
+        ensures { result ≡ in_cluster (draft_of self) cluster }
     {
         Leaf {
             cluster,
@@ -67,14 +61,10 @@ impl DraftNode {
 
 fn is_endless<D: Decoder>(decoder: &D) -> bool
     requires { length (D.meaning.cluster_map decoder.now) ≡ 6 }
-    ensures { result ≡ has_no_end (D.meaning.single_token decoder.now
-        (slice_index (D.meaning.cluster_map decoder.now) 1)) }
+    ensures { result ≡ has_no_end D.meaning decoder.now }
 {
     let cluster = decoder.cluster_map()[1];
-    match decoder.single_token(cluster) {
-        None | Some(0) => false,
-        Some(_) => true,
-    }
+    decoder.single_token(cluster).unwrap_or(0) > 0
 }
 
 #[tactic(auto, unfolding(crate::specs::TreeReading::drafts_at))]
@@ -86,8 +76,8 @@ pub fn read_tree<D: Decoder>(
 ) -> Result<Vec<DraftNode>>
     requires contexts { length (D.meaning.cluster_map decoder.old) ≡ 6 }
     requires nodes { node_limit ≤ 2 ^ 26 }
-    ensures gives { ListAnswers (λ x. map node_of x.items) result (position_of bits.new)
-        (drafts_at D.meaning (bytes_of bits.old) node_limit decoder.old (position_of bits.old)) }
+    ensures gives { ListGives (λ x. map node_of x.items) result decoder.old bits.old bits.new
+        (λ bytes. drafts_at D.meaning bytes node_limit) }
     ensures within { IfOk result (λ x. AllDrafts (map node_of x.items)) }
     ensures listing { IfOk result (λ x. ListsTrees 1 (map node_of x.items)) }
     ensures count { IfOk result (λ x. length x.items ≤ 2 ^ 26) }
@@ -110,9 +100,8 @@ fn read_nodes<D: Decoder>(
 ) -> Result<Vec<DraftNode>>
     requires contexts { length (D.meaning.cluster_map decoder.old) ≡ 6 }
     requires nodes { node_limit ≤ 2 ^ 26 }
-    ensures gives { DrawnAnswers (λ x. map node_of x.items) result decoder.new (position_of bits.new)
-        (nodes_at D.meaning (bytes_of bits.old) (limit_error node_limit) (most_nodes node_limit) 1 decoder.old
-        (position_of bits.old)) }
+    ensures gives { StepsGive (λ x. map node_of x.items) result decoder.old decoder.new bits.old bits.new
+        (λ bytes. nodes_at D.meaning bytes (limit_error node_limit) (max_nodes node_limit) 1) }
     ensures within { IfOk result (λ x. AllDrafts (map node_of x.items)) }
     ensures count { IfOk result (λ x. length x.items ≤ 2 ^ 26) }
     ensures bytes { bytes_of bits.new ≡ bytes_of bits.old }
@@ -129,16 +118,15 @@ fn read_nodes<D: Decoder>(
 }
 
 fn check_room(read: usize, node_limit: usize) -> Result<()>
-    requires { read ≤ most_nodes node_limit }
-    ensures ok { IfOk result (λ _. read < most_nodes node_limit) }
-    ensures err { IfErr result (λ e. (read ≡ most_nodes node_limit) × (kind_of e ≡ limit_error node_limit)) }
+    requires { read ≤ max_nodes node_limit }
+    ensures ok { IfOk result (λ _. read < max_nodes node_limit) }
+    ensures err { IfErr result (λ e. (read ≡ max_nodes node_limit) × (kind_of e ≡ limit_error node_limit)) }
 {
-    if read >= MOST_NODES {
+    if read >= MAX_NODES {
         return Err(Error::InvalidMaTree);
     }
     if read > node_limit {
-        let failure = BitstreamError::ProfileConformance("MA tree limit exceeded");
-        return Err(Error::Bitstream(failure));
+        return Err(BitstreamError::ProfileConformance("MA tree limit exceeded").into());
     }
     Ok(())
 }
@@ -146,8 +134,7 @@ fn check_room(read: usize, node_limit: usize) -> Result<()>
 #[tactic(auto, unfolding(crate::specs::TreeReading::node_at))]
 fn read_node<D: Decoder>(decoder: &mut D, bits: &mut Bitstream<'_>) -> Result<DraftNode>
     requires { length (D.meaning.cluster_map decoder.old) ≡ 6 }
-    ensures gives { DrawnGives node_of result decoder.new (position_of bits.new)
-        (node_at D.meaning (bytes_of bits.old) decoder.old (position_of bits.old)) }
+    ensures gives { StepGives node_of result decoder.old decoder.new bits.old bits.new (node_at D.meaning) }
     ensures within { IfOk result (λ x. IsDraftNode (node_of x)) }
     ensures clusters { IfOk result (λ _. D.meaning.cluster_map decoder.new ≡ D.meaning.cluster_map decoder.old) }
     ensures bytes { bytes_of bits.new ≡ bytes_of bits.old }
@@ -167,8 +154,7 @@ fn read_node<D: Decoder>(decoder: &mut D, bits: &mut Bitstream<'_>) -> Result<Dr
 #[tactic(auto, unfolding(crate::specs::TreeReading::leaf_at))]
 fn read_leaf<D: Decoder>(decoder: &mut D, bits: &mut Bitstream<'_>) -> Result<Draft>
     requires { length (D.meaning.cluster_map decoder.old) ≡ 6 }
-    ensures gives { DrawnGives draft_of result decoder.new (position_of bits.new)
-        (leaf_at D.meaning (bytes_of bits.old) decoder.old (position_of bits.old)) }
+    ensures gives { StepGives draft_of result decoder.old decoder.new bits.old bits.new (leaf_at D.meaning) }
     ensures within { IfOk result (λ x. IsDraft (draft_of x)) }
     ensures clusters { IfOk result (λ _. D.meaning.cluster_map decoder.new ≡ D.meaning.cluster_map decoder.old) }
     ensures bytes { bytes_of bits.new ≡ bytes_of bits.old }
@@ -186,21 +172,18 @@ fn read_leaf<D: Decoder>(decoder: &mut D, bits: &mut Bitstream<'_>) -> Result<Dr
 #[tactic(auto, unfolding(crate::specs::TreeReading::predictor_at))]
 fn read_predictor<D: Decoder>(decoder: &mut D, bits: &mut Bitstream<'_>) -> Result<Predictor>
     requires { length (D.meaning.cluster_map decoder.old) ≡ 6 }
-    ensures gives { DrawnGives (λ x. x) result decoder.new (position_of bits.new)
-        (predictor_at D.meaning (bytes_of bits.old) decoder.old (position_of bits.old)) }
+    ensures gives { StepGives (λ x. x) result decoder.old decoder.new bits.old bits.new (predictor_at D.meaning) }
     ensures clusters { IfOk result (λ _. D.meaning.cluster_map decoder.new ≡ D.meaning.cluster_map decoder.old) }
     ensures bytes { bytes_of bits.new ≡ bytes_of bits.old }
 {
     let number = read_context(decoder, bits, 2)?;
-    let predictor = Predictor::try_from(number)?;
-    Ok(predictor)
+    Ok(Predictor::try_from(number)?)
 }
 
 #[tactic(auto, unfolding(crate::specs::TreeReading::multiplier_at))]
 fn read_multiplier<D: Decoder>(decoder: &mut D, bits: &mut Bitstream<'_>) -> Result<u32>
     requires { length (D.meaning.cluster_map decoder.old) ≡ 6 }
-    ensures gives { DrawnGives (λ x. x) result decoder.new (position_of bits.new)
-        (multiplier_at D.meaning (bytes_of bits.old) decoder.old (position_of bits.old)) }
+    ensures gives { StepGives (λ x. x) result decoder.old decoder.new bits.old bits.new (multiplier_at D.meaning) }
     ensures range { IfOk result (λ x. (1 ≤ x) × (x < 2 ^ 31)) }
     ensures clusters { IfOk result (λ _. D.meaning.cluster_map decoder.new ≡ D.meaning.cluster_map decoder.old) }
     ensures bytes { bytes_of bits.new ≡ bytes_of bits.old }
@@ -218,11 +201,10 @@ fn read_multiplier<D: Decoder>(decoder: &mut D, bits: &mut Bitstream<'_>) -> Res
 
 fn read_context<D: Decoder>(decoder: &mut D, bits: &mut Bitstream<'_>, context: u32) -> Result<u32>
     requires { context < length (D.meaning.cluster_map decoder.old) }
-    ensures gives { DrawnGives (λ x. x) result decoder.new (position_of bits.new)
-        (token_of D.meaning (bytes_of bits.old) context decoder.old (position_of bits.old)) }
+    ensures gives { StepGives (λ x. x) result decoder.old decoder.new bits.old bits.new
+        (λ bytes. token_of D.meaning bytes context) }
     ensures clusters { IfOk result (λ _. D.meaning.cluster_map decoder.new ≡ D.meaning.cluster_map decoder.old) }
     ensures bytes { bytes_of bits.new ≡ bytes_of bits.old }
 {
-    let token = decoder.read_varint(bits, context)?;
-    Ok(token)
+    Ok(decoder.read_varint(bits, context)?)
 }

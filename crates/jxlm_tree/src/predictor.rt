@@ -1,13 +1,12 @@
 //! Predictors, and the weights of the weighted (self-correcting) one.
 
-ghost use Rattle.std.specs.Prelude.{◌≡◌, ◌≤◌, ◌<◌, ◌^◌, ℤ, List, IfOk};
+ghost use Rattle.std.specs.Prelude.{◌≡◌, ◌≤◌, ◌<◌, ◌^◌, IfOk};
 ghost use Rattle.jxlm_base.specs.Bits.{bytes_of, position_of};
 ghost use Rattle.jxlm_base.specs.Grammar.{IsExact, Reads, number};
-ghost use Rattle.jxlm_tree.specs.Holding.{IsCurrent, state_of};
+ghost use Rattle.jxlm_tree.specs.Holding.{IsCurrent, IsOfPlace};
 ghost use Rattle.jxlm_tree.specs.Predictions.{prediction};
 ghost use Rattle.jxlm_tree.specs.SelfCorrecting.{IsHeader};
 ghost use Rattle.jxlm_tree.specs.SelfCorrectingRanges.{AlwaysInRange};
-ghost use Rattle.jxlm_tree.specs.Standing.{Setting, StandsAt};
 ghost use Rattle.jxlm_tree.specs.WeightsHeader.{AnswersExactly, listed_weights, wp_header};
 
 pub use crate::properties::Properties;
@@ -90,8 +89,7 @@ impl Predictor {
     /// What the predictor makes of the cell of these properties, reduced to 32 bits.
     pub fn predict<S>(self, properties: &Properties<'_, S>) -> i32
         requires { IsCurrent properties.now }
-        ensures { (s : Setting) (samples : List ℤ) → StandsAt (state_of properties.now) s samples → result
-            ≡ prediction s.weights samples s.width self }
+        ensures { IsOfPlace properties.now (λ weights samples width. prediction weights samples width self) result }
     {
         let corrected = PredictionResult::eightfold(&properties.correction);
         reduced(properties.around.prediction(corrected, self))
@@ -170,8 +168,7 @@ impl WpHeader {
         if bits.read_bool()? {
             return Ok(WpHeader::default());
         }
-        let listed = WpHeader::listed(bits)?;
-        Ok(listed)
+        Ok(WpHeader::listed(bits)?)
     }
 
     fn field(bits: &mut Bitstream<'_>, n: u32) -> std::result::Result<u32, BitstreamError>

@@ -4,13 +4,13 @@ ghost use Rattle.std.specs.Prelude.{◌≡◌, ◌≤◌, IfOk, IfErr};
 ghost use Rattle.jxlm_base.specs.ErrorKind.{kind_of};
 ghost use Rattle.jxlm_tree.specs.FlatTree.{earlier_named, earlier_of, needs_weights};
 ghost use Rattle.jxlm_tree.specs.Inner.Queue.{IsTooDeepAt};
-ghost use Rattle.jxlm_tree.specs.Tree.{decision, depth as depth_of, leaf as leaf_shape};
+ghost use Rattle.jxlm_tree.specs.Tree.{depth as depth_of, leaf as leaf_shape};
 ghost use Rattle.jxlm_tree.specs.Inner.TreeShape.{shape_of};
 
 use crate::flat::Leaf;
 use crate::predictor::Predictor;
 use jxlm_base::bits::BitstreamError;
-use jxlm_base::error::{Error, Result};
+use jxlm_base::error::Result;
 use jxlm_base::grid::OutOfMemory;
 use std::alloc::Global;
 
@@ -28,71 +28,41 @@ pub enum MaTreeNode {
     },
 }
 
-impl MaTreeNode {
-    /// Whether property 15 or `SelfCorrecting` is here or below.
-    pub fn needs_self_correcting(&self) -> bool
-        ensures { result ≡ needs_weights (shape_of self.now) }
-    {
-        match self {
-            MaTreeNode::Leaf(leaf) => leaf.predictor == Predictor::SelfCorrecting,
-            MaTreeNode::Decision {
-                property,
-                value: _,
-                left,
-                right,
-            } => {
-                *property == 15 || left.needs_self_correcting() || right.needs_self_correcting()
-            }
-        }
-    }
-
-    /// How many earlier channels can be asked for here or below: the farthest that is named.
-    pub fn earlier_named(&self) -> u32
-        ensures { result ≡ earlier_named (shape_of self.now) }
-    {
-        match self {
-            MaTreeNode::Leaf(_) => 0,
-            MaTreeNode::Decision {
-                property,
-                value: _,
-                left,
-                right,
-            } => {
-                let below = left.earlier_named().max(right.earlier_named());
-                earlier_of(*property).max(below)
-            }
-        }
-    }
-}
-
-// Of which earlier channel a property is, from 1 on; 0 where it is of none.
+// Of which earlier channel a property is, from 1 on, each with four from property 16 on; 0 where it is of none.
 fn earlier_of(property: u32) -> u32
     ensures { result ≡ earlier_of property }
 {
-    if property < 16 {
-        0
-    } else {
-        (property - 16) / 4 + 1
-    }
+    property.saturating_sub(12) / 4
 }
 
-// A part of a tree that is being built, and its depth.
+/// A tree, whole or a part of one, with what is known of all its nodes.
 #[derive(Drop)]
-pub struct Subtree {
-    pub tree: MaTreeNode,
+pub struct MaTree {
+    pub root: MaTreeNode,
+    /// The maximum number of decisions from the root to a leaf.
     pub depth: usize,
-    pub ghost exact: { depth ≡ depth_of (shape_of tree) },
+    /// Whether property 15 or `SelfCorrecting` is in it.
+    pub need_self_correcting: bool,
+    /// How many earlier channels can be asked for: the farthest of which a property is in it.
+    pub prev_channels_named: u32,
+    pub ghost depth_is: { depth ≡ depth_of (shape_of root) },
+    pub ghost need_is: { need_self_correcting ≡ needs_weights (shape_of root) },
+    pub ghost named_is: { prev_channels_named ≡ earlier_named (shape_of root) },
 }
 
-impl Subtree {
+impl MaTree {
+    ghost use Rattle.jxlm_tree.specs.Inner.Building.{decision_of};
+
     /// A tree of one leaf.
-    pub fn leaf(leaf: Leaf) -> Subtree
-        ensures tree { shape_of result.tree ≡ leaf_shape leaf }
+    pub fn leaf(leaf: Leaf) -> MaTree
+        ensures tree { shape_of result.root ≡ leaf_shape leaf }
         ensures depth { result.depth ≡ 0 }
     {
-        Subtree {
-            tree: MaTreeNode::Leaf(leaf),
+        MaTree {
+            root: MaTreeNode::Leaf(leaf),
             depth: 0,
+            need_self_correcting: leaf.predictor == Predictor::SelfCorrecting,
+            prev_channels_named: 0,
         }
     }
 
@@ -101,31 +71,32 @@ impl Subtree {
         alloc: Global,
         property: u32,
         value: i32,
-        left: Subtree,
-        right: Subtree,
+        left: MaTree,
+        right: MaTree,
         depth_limit: usize,
-    ) -> Result<Subtree>
-        ensures tree { IfOk result (λ t. shape_of t.tree ≡ decision property value (shape_of left.tree)
-            (shape_of right.tree)) }
+    ) -> Result<MaTree>
+        ensures tree { IfOk result (λ t. shape_of t.root ≡ decision_of property value left right) }
         ensures depth { IfOk result (λ t. t.depth ≤ depth_limit) }
-        ensures err { IfErr result (λ e. IsTooDeepAt depth_limit
-            (decision property value (shape_of left.tree) (shape_of right.tree)) (kind_of e)) }
+        ensures err { IfErr result (λ e. IsTooDeepAt depth_limit (decision_of property value left right) (kind_of e)) }
     {
         let below = left.depth.max(right.depth);
         if below >= depth_limit {
-            let failure = BitstreamError::ProfileConformance("decoded MA tree is too deep");
-            return Err(Error::Bitstream(failure));
+            return Err(BitstreamError::ProfileConformance("decoded MA tree is too deep").into());
         }
-        let left = Box::new(alloc, left.tree).map_err(|_| OutOfMemory)?;
-        let right = Box::new(alloc, right.tree).map_err(|_| OutOfMemory)?;
-        Ok(Subtree {
-            tree: MaTreeNode::Decision {
+        let need = property == 15 || left.need_self_correcting || right.need_self_correcting;
+        let named = left.prev_channels_named.max(right.prev_channels_named);
+        let left = Box::new(alloc, left.root).map_err(|_| OutOfMemory)?;
+        let right = Box::new(alloc, right.root).map_err(|_| OutOfMemory)?;
+        Ok(MaTree {
+            root: MaTreeNode::Decision {
                 property,
                 value,
                 left,
                 right,
             },
             depth: below + 1,
+            need_self_correcting: need,
+            prev_channels_named: named.max(earlier_of(property)),
         })
     }
 }

@@ -1,4 +1,4 @@
-use Rattle.std.proofs.Common.{◌≡◌, ◌∷◌, [], map, sym, ap, ◌∙◌, arith, rules}
+use Rattle.std.proofs.Common.{◌≡◌, ◌∷◌, [], length, map, sym, ap, ◌∙◌, arith, rules}
 use Rattle.std.proofs.lemmas.List.{length-map, map-append}
 use Rattle.jxlm_base.specs.ErrorKind.{kind_of}
 use Rattle.jxlm_tree.specs.Inner.Building.{listed_of, trees_in}
@@ -6,8 +6,9 @@ use Rattle.jxlm_tree.specs.Inner.DraftReading.{node_of}
 use Rattle.jxlm_tree.specs.Tree.{levels, node_count}
 use Rattle.jxlm_tree.specs.TreeReading.{with_clusters}
 use Rattle.jxlm_tree.specs.Inner.TreeShape.{shape_of}
+use Rattle.jxlm_tree.specs.declared.tree.MaTree.{MaTree}
 use Rattle.jxlm_tree.proofs.Reading.{tree_of_listing}
-use Rattle.jxlm_tree.proofs.Shapes.{count_is, fewer_left, is_taken_up, leaves_are, nothing_left, place_is, some_left, split_at, too_deep_in_tree, whole_taken}
+use Rattle.jxlm_tree.proofs.Shapes.{count_is, fewer_left, is_taken_up, leaves_are, place_is, some_left, split_at, too_deep_in_tree, whole_taken}
 use Rattle.jxlm_tree.proofs.build.build.Goals as goal
 
 pub numbered-node-requires-clause-some : goal.numbered-node-requires-clause-some
@@ -66,14 +67,14 @@ returns-in_err-take_up-clause-err c =
     c.in_err-take_up.ensures.err in
     search rules
 
-pub unreachable-requires : goal.unreachable-requires
-unreachable-requires c =
+pub unwrap-requires : goal.unwrap-requires
+unwrap-requires c =
     let i = c.loop-node.invariant in
     let t = tree_of_listing c.args.clusters.now (map node_of c.args.nodes.items) c.requires.listing in
     let trees = whole_taken node_of c.args.clusters.now t.0 (map node_of c.args.nodes.items) c.loop-node.nodes.items i.rest c.loop-node.unnumbered (trees_in c.loop-node.queue.items) t.1
     (λ h. c.in_default.ensures.variant.1 (rw c.loop-node.nodes.ok.0 h)) i.whole i.numbered i.taken in
-    let none = nothing_left c.loop-node.queue.items (λ h. c.in-None.ensures.variant.1 (rw c.loop-node.queue.ok.0 h)) in
-    cc (trees, ap trees_in none)
+    let one = ap length trees in
+    c.pop_front.ensures.variant.1 (rw c.loop-node.queue.ok.0 (omega (arith, one, length-map c.loop-node.queue.items (λ (x : MaTree). shape_of x.root))))
 
 pub returns-clause-levels : goal.returns-clause-levels
 returns-clause-levels c =
@@ -81,7 +82,7 @@ returns-clause-levels c =
     let t = tree_of_listing c.args.clusters.now (map node_of c.args.nodes.items) c.requires.listing in
     let trees = whole_taken node_of c.args.clusters.now t.0 (map node_of c.args.nodes.items) c.loop-node.nodes.items i.rest c.loop-node.unnumbered (trees_in c.loop-node.queue.items) t.1
     (λ h. c.in_default.ensures.variant.1 (rw c.loop-node.nodes.ok.0 h)) i.whole i.numbered i.taken in
-    let is : shape_of c.in-Some-pop_front.root.tree ≡ t.0 = cc (trees, ap trees_in c.in-Some-pop_front.ensures.items) in
+    let is : shape_of c.unwrap.result.root ≡ t.0 = cc (trees, ap trees_in (rw c.unwrap.ensures at c.pop_front.ensures.items)) in
     ap levels is ∙ t.1
 
 pub returns-clause-count : goal.returns-clause-count
@@ -90,7 +91,7 @@ returns-clause-count c =
     let t = tree_of_listing c.args.clusters.now (map node_of c.args.nodes.items) c.requires.listing in
     let trees = whole_taken node_of c.args.clusters.now t.0 (map node_of c.args.nodes.items) c.loop-node.nodes.items i.rest c.loop-node.unnumbered (trees_in c.loop-node.queue.items) t.1
     (λ h. c.in_default.ensures.variant.1 (rw c.loop-node.nodes.ok.0 h)) i.whole i.numbered i.taken in
-    let is : shape_of c.in-Some-pop_front.root.tree ≡ t.0 = cc (trees, ap trees_in c.in-Some-pop_front.ensures.items) in
+    let is : shape_of c.unwrap.result.root ≡ t.0 = cc (trees, ap trees_in (rw c.unwrap.ensures at c.pop_front.ensures.items)) in
     ap node_count is ∙ count_is c.args.clusters.now t.0 (map node_of c.args.nodes.items) t.1 ∙ length-map c.args.nodes.items node_of
 
 pub returns-clause-leaves : goal.returns-clause-leaves
@@ -99,5 +100,5 @@ returns-clause-leaves c =
     let t = tree_of_listing c.args.clusters.now (map node_of c.args.nodes.items) c.requires.listing in
     let trees = whole_taken node_of c.args.clusters.now t.0 (map node_of c.args.nodes.items) c.loop-node.nodes.items i.rest c.loop-node.unnumbered (trees_in c.loop-node.queue.items) t.1
     (λ h. c.in_default.ensures.variant.1 (rw c.loop-node.nodes.ok.0 h)) i.whole i.numbered i.taken in
-    let is : shape_of c.in-Some-pop_front.root.tree ≡ t.0 = cc (trees, ap trees_in c.in-Some-pop_front.ensures.items) in
+    let is : shape_of c.unwrap.result.root ≡ t.0 = cc (trees, ap trees_in (rw c.unwrap.ensures at c.pop_front.ensures.items)) in
     rw is (leaves_are c.args.clusters.now t.0 (map node_of c.args.nodes.items) t.1 (omega (arith, c.requires.clusters)) c.requires.drafts)

@@ -9,4 +9,4 @@ pub returns-clause-clusters : goal.returns-clause-clusters
 returns-clause-clusters g c =
     let clusters = g.D.Decoder.meaning.cluster_map c.self.inside.decoder in
     rw (← c.self.view_is)
-    (each_leaf {P = IsLeafOf clusters} {Q = λ (l : Leaf). Contains clusters l.cluster} (λ (l : Leaf) (h : IsLeafOf clusters l). h.cluster) (shape_of c.self.inside.tree.value) c.self.invariant.0)
+    (each_leaf {P = IsLeafOf clusters} {Q = λ (l : Leaf). Contains clusters l.cluster} (λ (l : Leaf) (h : IsLeafOf clusters l). h.cluster) (shape_of c.self.inside.tree.value.root) c.self.invariant.leaves)

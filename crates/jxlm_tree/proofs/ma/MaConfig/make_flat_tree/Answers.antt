@@ -1,22 +1,21 @@
-use Rattle.std.proofs.Common.{◌≡◌, ◌∙◌, ap, rules}
+use Rattle.std.proofs.Common.{◌≡◌, rules}
 use Rattle.std.specs.Prelude.{Contains}
-use Rattle.jxlm_tree.specs.FlatTree.{FlatTree, HasMultiplier}
+use Rattle.jxlm_tree.specs.FlatTree.{HasMultiplier}
 use Rattle.jxlm_tree.specs.TreeReading.{IsLeafOf}
 use Rattle.jxlm_tree.specs.Inner.TreeShape.{shape_of}
 use Rattle.jxlm_tree.specs.declared.flat.Leaf.{Leaf}
 use Rattle.jxlm_tree.proofs.FlatTrees.{each_leaf}
 use Rattle.jxlm_tree.proofs.ma.MaConfig.make_flat_tree.Goals as goal
 
-pub new-requires-clause-leaves : goal.new-requires-clause-leaves
-new-requires-clause-leaves g c =
+pub invariant_of-result : goal.invariant_of-result
+invariant_of-result g c =
     let same : c.in_ok-tree.tree.value ≡ c.self.inside.tree.value = search rules in
     let clusters = g.D.Decoder.meaning.cluster_map c.self.inside.decoder in
-    rw same (each_leaf {P = IsLeafOf clusters} {Q = HasMultiplier} (λ (l : Leaf) (h : IsLeafOf clusters l). (h.least, h.below)) (shape_of c.self.inside.tree.value) c.self.invariant.0)
+    rw same (each_leaf {P = IsLeafOf clusters} {Q = HasMultiplier} (λ (l : Leaf) (h : IsLeafOf clusters l). (h.least, h.below)) (shape_of c.self.inside.tree.value.root) c.self.invariant.leaves, c.self.invariant.count)
 
 pub returns-clause-clusters : goal.returns-clause-clusters
 returns-clause-clusters g c =
     let clusters = g.D.Decoder.meaning.cluster_map c.self.inside.decoder in
-    let stand = each_leaf {P = IsLeafOf clusters} {Q = λ (l : Leaf). Contains clusters l.cluster} (λ (l : Leaf) (h : IsLeafOf clusters l). h.cluster) (shape_of c.self.inside.tree.value) c.self.invariant.0 in
+    let stand = each_leaf {P = IsLeafOf clusters} {Q = λ (l : Leaf). Contains clusters l.cluster} (λ (l : Leaf) (h : IsLeafOf clusters l). h.cluster) (shape_of c.self.inside.tree.value.root) c.self.invariant.leaves in
     let same : c.in_ok-tree.tree.value ≡ c.self.inside.tree.value = search rules in
-    let tree : c.new.result.tree ≡ shape_of c.self.inside.tree.value = ap (λ (t : FlatTree). t.tree) c.new.ensures ∙ ap shape_of same in
-    rw (tree, ← c.self.view_is) stand
+    rw (same, ← c.self.view_is) stand
