@@ -1,12 +1,12 @@
 -- The parts of small images.
-use Rattle.std.proofs.Common.{◌≡◌, ℕ, List, [], ◌∷◌, map, true, false, pos, Ok, Result, refl}
+use Rattle.std.proofs.Common.{◌≡◌, ℕ, List, [], ◌∷◌, map, true, false, ℤ, pos, Ok, Result, refl}
 use Rattle.jxlm_base.specs.ErrorKind.{ErrorKind}
 use Rattle.jxlm_transform.specs.Channels.{Channel, ChannelList, image_list}
 use Rattle.jxlm_transform.specs.ChannelSteps.{CodedList, coded_list, ◌>>=◌}
 use Rattle.jxlm_transform.specs.Transforms.{OfSqueeze}
 use Rattle.jxlm_transform.specs.declared.param.ChannelShift.TheVariants.{Shifts}
 use Rattle.jxlm_transform.specs.declared.param.ModularChannelParams.{ModularChannelParams}
-use Rattle.jxlm_cut.specs.Passes.{Pass}
+use Rattle.jxlm_cut.specs.Passes.{Pass, can_group, passes_of}
 use Rattle.jxlm_cut.specs.Cutting.{can_cut}
 use Rattle.jxlm_cut.specs.Pieces.{part_channels, PartName, pieces}
 use Rattle.jxlm_cut.specs.Counts.{exists, group_count}
@@ -68,3 +68,17 @@ sides_of c = c.width ∷ c.height ∷ c.original_width ∷ c.original_height ∷
 
 shifted_channels : map sides_of (part_channels 4 all shifted (parts.Lf 1)) ≡ (1 ∷ 4 ∷ 8 ∷ 32 ∷ []) ∷ []
 shifted_channels = refl
+
+-- which images can be cut into groups: by one pass for all shifts, by two; not without shift 2, without a pass, or with a
+-- pass's number above 255
+abbrev maps : List (List (ℕ × (ℤ × ℤ)))
+maps =
+    ((0, (pos 0, pos 3)) ∷ []) ∷ ((0, (pos 0, pos 1)) ∷ (1, (pos 1, pos 3)) ∷ []) ∷ ((0, (pos 0, pos 2)) ∷ []) ∷ [] ∷
+    ((256, (pos 0, pos 3)) ∷ []) ∷ []
+
+grouped : map (λ e. can_group (passes_of e) narrow.channels) maps ≡ true ∷ true ∷ false ∷ false ∷ false ∷ []
+grouped = refl
+
+-- pictures of unlike sides are not cut
+unlike : can_group all (image_list (given 5 3 0 ∷ given 5 4 0 ∷ [])).channels ≡ false
+unlike = refl
