@@ -10,6 +10,7 @@ ghost use Rattle.jxlm_tree.specs.Tree.{AllLeaves, StandsAtLeaf, depth, leaf, nod
 ghost use Rattle.jxlm_tree.specs.Inner.TreeShape.{shape_of};
 
 use crate::predictor::Predictor;
+use crate::reduced::read_as_signed;
 pub use crate::steps::Steps;
 use crate::tree::MaTreeNode;
 use jxlm_base::bits::Bitstream;
@@ -254,13 +255,6 @@ impl FlatMaTree {
         )?;
         Ok((leaf.residual(token), leaf.predictor))
     }
-}
-
-#[tactic(auto, using(std::proofs::lemmas::Int::wraps))]
-fn read_as_signed(number: u32) -> i32
-    ensures { result ≡ int_wrap w32 (pos number) }
-{
-    number.cast_signed()
 }
 
 /// The walk of a flat tree is that of the whole tree by the properties of the cell, where the

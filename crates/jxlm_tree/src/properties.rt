@@ -12,7 +12,7 @@ ghost use Rattle.jxlm_tree.specs.Standing.{Setting, StandsAt, IsReady, IsInner, 
 
 use crate::around::Around;
 use crate::flat::PlaceProperties;
-use crate::reduced::{reduced, reduced_absolute};
+use crate::reduced::{read_as_signed, reduced, reduced_absolute};
 use crate::self_correcting::PredictionResult;
 use crate::state::PredictorState;
 use jxlm_base::grid::{AlignedGrid, Region};
@@ -26,34 +26,42 @@ pub struct Properties<'p, S> {
     pub(crate) store: &'p [AlignedGrid<S>],
     pub(crate) around: Around,
     pub(crate) correction: Option<PredictionResult>,
-    pub(crate) own: [i32; 16],
 }
 
-/// Properties 0 to 15, of which 0 and 1 are 0.
-fn own_properties(x: u32, y: u32, around: &Around, gradient: i32, max_error: i32) -> [i32; 16]
-    requires narrow { x < 2 ^ 31 }
-    requires few_rows { y < 2 ^ 31 }
-    ensures { result ≡ own_list x y (seen around.now) gradient max_error }
+/// One of properties 0 to 15, of which 0 and 1 are 0; `gradient` is property 9 of the sample before in the row, and
+/// `max_error` property 15.
+#[inline(always)]
+#[tactic(auto, using(std::proofs::lemmas::Int::wraps))]
+fn own_property(
+    property: usize,
+    x: u32,
+    y: u32,
+    around: &Around,
+    gradient: i32,
+    max_error: i32,
+) -> i32
+    requires { property < 16 }
+    ensures { result ≡ int_wrap w32
+        (slice_index_or (own_list x y (seen around.now) gradient max_error) property (pos 0)) }
 {
     let Around { w, n, nw, .. } = *around;
-    [
-        0,
-        0,
-        y as i32,
-        x as i32,
-        reduced_absolute(n),
-        reduced_absolute(w),
-        n,
-        w,
-        w.wrapping_sub(gradient),
-        w.wrapping_sub(nw).wrapping_add(n),
-        w.wrapping_sub(nw),
-        nw.wrapping_sub(n),
-        n.wrapping_sub(around.ne),
-        n.wrapping_sub(around.nn),
-        w.wrapping_sub(around.ww),
-        max_error,
-    ]
+    match property {
+        2 => read_as_signed(y),
+        3 => read_as_signed(x),
+        4 => reduced_absolute(n),
+        5 => reduced_absolute(w),
+        6 => n,
+        7 => w,
+        8 => w.wrapping_sub(gradient),
+        9 => w.wrapping_sub(nw).wrapping_add(n),
+        10 => w.wrapping_sub(nw),
+        11 => nw.wrapping_sub(n),
+        12 => n.wrapping_sub(around.ne),
+        13 => n.wrapping_sub(around.nn),
+        14 => w.wrapping_sub(around.ww),
+        15 => max_error,
+        _ => 0,
+    }
 }
 
 impl<S> PredictorState<S> {
@@ -71,14 +79,11 @@ impl<S> PredictorState<S> {
     {
         let around = self.around::<EDGE>();
         let correction = self.correction::<EDGE>(&around);
-        let max_error = PredictionResult::maximum_error(&correction);
-        let own = own_properties(self.x, self.y, &around, self.gradient, max_error);
         Properties {
             state: self,
             store,
             around,
             correction,
-            own,
         }
     }
 }
@@ -91,7 +96,14 @@ impl<S: Sample> Properties<'_, S> {
             (surroundings s (store_meanings S.to_int (store_of self.now)) samples) property }
     {
         if property < 16 {
-            self.own[property]
+            own_property(
+                property,
+                self.state.x,
+                self.state.y,
+                &self.around,
+                self.state.gradient,
+                PredictionResult::maximum_error(&self.correction),
+            )
         } else {
             self.of_earlier(property - 16)
         }
@@ -194,7 +206,6 @@ impl<S> Properties<'_, S> {
             store: _,
             around: _,
             correction,
-            own: _,
         } = self;
         state.advance(sample, correction);
     }
