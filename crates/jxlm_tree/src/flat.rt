@@ -166,8 +166,7 @@ impl FlatMaTree {
         ensures some { IfSome result (λ l. self.now.tree ≡ leaf l) }
         ensures none { result ≡ None → 0 < depth self.now.tree }
     {
-        let node: &MaTreeNode = &self.tree;
-        match node {
+        match &*self.tree {
             MaTreeNode::Leaf(only) => Some(*only),
             _ => None,
         }
@@ -212,13 +211,16 @@ impl FlatMaTree {
         requires { P.IsCurrent properties.now }
         ensures { (f : ℕ → ℤ) → AnswersAs P.gives properties.now f → result ≡ asked self.now f property }
     {
-        match property {
-            0 => read_as_signed(self.channel),
-            1 => read_as_signed(self.stream_idx),
-            _ if u64::from(property) < 16 + 4 * u64::from(self.prev_channels) => {
-                properties.property(property as usize)
+        if property < 16 {
+            match property {
+                0 => read_as_signed(self.channel),
+                1 => read_as_signed(self.stream_idx),
+                _ => properties.property(property as usize),
             }
-            _ => 0,
+        } else if u64::from(property) < 16 + 4 * u64::from(self.prev_channels) {
+            properties.property(property as usize)
+        } else {
+            0
         }
     }
 

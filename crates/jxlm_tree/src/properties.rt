@@ -28,43 +28,35 @@ pub struct Properties<'p, S> {
     pub(crate) correction: Option<PredictionResult>,
 }
 
-/// One of properties 0 to 15, of which 0 and 1 are 0; `gradient` is property 9 of the sample before in the row, and
-/// `max_error` property 15.
-#[inline(always)]
-#[tactic(auto, using(std::proofs::lemmas::Int::wraps))]
-fn own_property(
-    property: usize,
-    x: u32,
-    y: u32,
-    around: &Around,
-    gradient: i32,
-    max_error: i32,
-) -> i32
-    requires { property < 16 }
-    ensures { result ≡ int_wrap w32
-        (slice_index_or (own_list x y (seen around.now) gradient max_error) property (pos 0)) }
-{
-    let Around { w, n, nw, .. } = *around;
-    match property {
-        2 => read_as_signed(y),
-        3 => read_as_signed(x),
-        4 => reduced_absolute(n),
-        5 => reduced_absolute(w),
-        6 => n,
-        7 => w,
-        8 => w.wrapping_sub(gradient),
-        9 => w.wrapping_sub(nw).wrapping_add(n),
-        10 => w.wrapping_sub(nw),
-        11 => nw.wrapping_sub(n),
-        12 => n.wrapping_sub(around.ne),
-        13 => n.wrapping_sub(around.nn),
-        14 => w.wrapping_sub(around.ww),
-        15 => max_error,
-        _ => 0,
-    }
-}
-
 impl<S> PredictorState<S> {
+    /// One of properties 0 to 15, of which 0 and 1 are 0, at the cell with these neighbours; `error` is property 15.
+    #[inline(always)]
+    #[tactic(auto, using(std::proofs::lemmas::Int::wraps))]
+    fn own_property(&self, property: usize, around: &Around, error: i32) -> i32
+        requires { property < 16 }
+        ensures { result ≡ int_wrap w32 (slice_index_or
+            (own_list self.now.x self.now.y (seen around.now) self.now.gradient error) property (pos 0)) }
+    {
+        let Around { w, n, nw, .. } = *around;
+        match property {
+            2 => read_as_signed(self.y),
+            3 => read_as_signed(self.x),
+            4 => reduced_absolute(n),
+            5 => reduced_absolute(w),
+            6 => n,
+            7 => w,
+            8 => w.wrapping_sub(self.gradient),
+            9 => w.wrapping_sub(nw).wrapping_add(n),
+            10 => w.wrapping_sub(nw),
+            11 => nw.wrapping_sub(n),
+            12 => n.wrapping_sub(around.ne),
+            13 => n.wrapping_sub(around.nn),
+            14 => w.wrapping_sub(around.ww),
+            15 => error,
+            _ => 0,
+        }
+    }
+
     /// The properties of the cell that the state is at.
     pub fn properties<'p, const EDGE: bool>(
         &'p mut self,
@@ -90,20 +82,15 @@ impl<S> PredictorState<S> {
 
 impl<S: Sample> Properties<'_, S> {
     /// A property by its number.
+    #[inline(always)]
     pub fn get(&self, property: usize) -> i32
         requires { IsCurrent self.now }
         ensures { (s : Setting) (samples : List ℤ) → StandsAt (state_of self.now) s samples → result ≡ place_property
             (surroundings s (store_meanings S.to_int (store_of self.now)) samples) property }
     {
         if property < 16 {
-            own_property(
-                property,
-                self.state.x,
-                self.state.y,
-                &self.around,
-                self.state.gradient,
-                PredictionResult::maximum_error(&self.correction),
-            )
+            let error = PredictionResult::maximum_error(&self.correction);
+            self.state.own_property(property, &self.around, error)
         } else {
             self.of_earlier(property - 16)
         }
@@ -186,6 +173,7 @@ impl<S: Sample> PlaceProperties for Properties<'_, S> {
     ghost gives = { λ p k v. (s : Setting) (samples : List ℤ) → StandsAt (state_of p) s samples → v ≡ place_property
         (surroundings s (store_meanings S.to_int (store_of p)) samples) k };
 
+    #[inline(always)]
     fn property(&self, number: usize) -> i32 {
         self.get(number)
     }
@@ -201,12 +189,8 @@ impl<S> Properties<'_, S> {
             → StandsAt self.exit.0.now s (samples ++ sample ∷ []) }
         ensures room { HasSameRoom self.entry.state.now self.exit.0.now }
     {
-        let Properties {
-            state,
-            store: _,
-            around: _,
-            correction,
-        } = self;
+        let correction = self.correction;
+        let Properties { state, .. } = self;
         state.advance(sample, correction);
     }
 }
