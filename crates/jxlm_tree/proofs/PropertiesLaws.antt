@@ -1,5 +1,5 @@
 -- Properties by what the state keeps.
-use Rattle.std.proofs.Common.{◌≡◌, ℕ, zero, suc, ◌-◌, ◌/◌, ◌%◌, ◌^◌, ◌<◌, ◌≤◌, ℤ, pos, ◌-ℤ◌, List, [], length, get_or, Some, None, Option, FitsSigned, subst, refl, arith}
+use Rattle.std.proofs.Common.{◌≡◌, ℕ, zero, suc, ◌-◌, ◌/◌, ◌%◌, ◌<◌, ◌≤◌, ℤ, pos, ◌-ℤ◌, List, [], length, get_or, Some, None, Option, sym, ap, ◌∙◌, refl, arith}
 use Rattle.std.specs.Prelude.{map}
 use Rattle.std.specs.List.{slice_get}
 use Rattle.std.specs.Int.{w32, int_wrap}
@@ -9,9 +9,9 @@ use Rattle.std.proofs.lemmas.Option.{slice_get_past}
 use Rattle.std.proofs.lemmas.Bool.{lt-ltb, le-ltb}
 use Rattle.jxlm_base.specs.Grid.{Grid}
 use Rattle.jxlm_tree.specs.Neighbours.{Neighbours, neighbours, column, row, west}
-use Rattle.jxlm_tree.specs.Properties.{Surroundings, own_properties, earlier_property, earlier_properties, place_property, west_change, gradient_at, error_property}
-use Rattle.jxlm_tree.specs.Holding.{surroundings, own_of}
-use Rattle.jxlm_tree.specs.Inner.OwnProperties.{own_list}
+use Rattle.jxlm_tree.specs.Properties.{Surroundings, own_properties, earlier_property, earlier_properties, place_property, west_change, error_property}
+use Rattle.jxlm_tree.specs.Holding.{surroundings}
+use Rattle.jxlm_tree.specs.Inner.OwnProperties.{own_list, own_of}
 use Rattle.jxlm_tree.specs.Correcting.{IsMade}
 use Rattle.jxlm_tree.specs.Predictions.{corrected}
 use Rattle.jxlm_tree.specs.Rolling.{Rolls}
@@ -56,20 +56,22 @@ change_is : (width x y : ℕ) (w n nw g : ℤ) (previous current samples : List 
 change_is width zero y w n nw g previous current samples r = rw (r.start_is refl) (omega (arith, ints))
 change_is width (suc x) y w n nw g previous current samples r = rw (r.gradient_is x refl) refl
 
-small_wraps : (n : ℕ) → n < 2 ^ 31 → int_wrap w32 (pos n) ≡ pos n
-small_wraps n h = int_wrap_fits w32 (pos n) (record { sfits = h })
+wraps_again : (z : ℤ) → int_wrap w32 (int_wrap w32 z) ≡ int_wrap w32 z
+wraps_again z = int_wrap_fits w32 (int_wrap w32 z) (SFits-int_wrap w32 z)
 
 -- properties 0 to 15, by what is kept
-pub own_kept : (s : Setting) (x y : ℕ) (w n nw g e : ℤ) (previous current samples : List ℤ) (a : Neighbours) → Rolls s.width x y w n nw g previous current samples → x < 2 ^ 31 → y < 2 ^ 31 → a ≡ neighbours samples s.width → FitsSigned w32 a.w → FitsSigned w32 a.n → FitsSigned w32 e →
-    e ≡ error_property s.weights samples s.width → own_list x y a g e ≡ own_of (surroundings s [] samples)
-own_kept s x y w n nw g e previous current samples a r hx hy is fw fn fe error =
+own_kept : (s : Setting) (x y : ℕ) (w n nw g e : ℤ) (previous current samples : List ℤ) (a : Neighbours) → Rolls s.width x y w n nw g previous current samples → a ≡ neighbours samples s.width
+    → e ≡ error_property s.weights samples s.width → map (int_wrap w32) (own_list x y a g e) ≡ own_of (surroundings s [] samples)
+own_kept s x y w n nw g e previous current samples a r is error =
     let cx = column_is s.width x y w n nw g previous current samples r in
     let cy = row_is s.width x y w n nw g previous current samples r in
-    let wn : int_wrap w32 (neighbours samples s.width).n ≡ (neighbours samples s.width).n = let P : Neighbours → Type 0 = λ b. int_wrap w32 b.n ≡ b.n in subst P is (int_wrap_fits w32 a.n fn) in
-    let ww : int_wrap w32 (neighbours samples s.width).w ≡ (neighbours samples s.width).w = let P : Neighbours → Type 0 = λ b. int_wrap w32 b.w ≡ b.w in subst P is (int_wrap_fits w32 a.w fw) in
-    let we : int_wrap w32 e ≡ e = int_wrap_fits w32 e fe in
-    let wg : int_wrap w32 (gradient_at samples s.width x y) ≡ gradient_at samples s.width x y = int_wrap_fits w32 _ (SFits-int_wrap w32 _) in
-    rw is (rw (← error, we, wn, ww, cx, cy, small_wraps x hx, small_wraps y hy, wg, change_is s.width x y w n nw g previous current samples r) refl)
+    rw is (rw (← error, cx, cy, zero_wraps, wraps_again, change_is s.width x y w n nw g previous current samples r) refl)
+
+-- property k of 0 to 15, by what is kept
+pub own_property_kept : (s : Setting) (x y : ℕ) (w n nw g e : ℤ) (previous current samples : List ℤ) (a : Neighbours) (k : ℕ) → Rolls s.width x y w n nw g previous current samples → a ≡ neighbours samples s.width
+    → e ≡ error_property s.weights samples s.width → k < 16 → int_wrap w32 (get_or (own_list x y a g e) k (pos 0)) ≡ get_or (own_of (surroundings s [] samples)) k (pos 0)
+own_property_kept s x y w n nw g e previous current samples a k r is error h =
+    sym (own-wraps (own_list x y a g e) k h) ∙ ap (λ xs. get_or xs k (pos 0)) (own_kept s x y w n nw g e previous current samples a r is error)
 
 -- without weights there is no maximum error
 pub error-some : (o : Option WpHeader) (r : PredictionResult) (width : ℕ) (samples : List ℤ) → IsMade (Some r) o width samples → r.max_error ≡ error_property o samples width

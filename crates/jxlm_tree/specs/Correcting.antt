@@ -1,14 +1,12 @@
 -- The errors of the weighted (self-correcting) predictor as the code keeps them, and what it makes of a cell.
-use Rattle.std.specs.Prelude.{◌≡◌, ℕ, zero, suc, ◌+◌, ◌*◌, ◌/◌, ◌%◌, ◌^◌, ◌<◌, ◌≤◌, ℤ, pos, ◌-ℤ◌, ◌*ℤ◌, unsigned_abs, nat_lt, Bool, if◌then◌else◌, List, map, length, slice_index_or, vec_len, Option, Some, None}
-use Rattle.std.specs.Int.{w32, int_wrap}
+use Rattle.std.specs.Prelude.{◌≡◌, ℕ, suc, ◌<◌, ◌≤◌, ℤ, List, map, length, slice_index_or, vec_len, Option, Some, None}
 use Rattle.std.specs.Option.{ForSome}
-use Rattle.jxlm_tree.specs.Neighbours.{Neighbours, neighbours}
-use Rattle.jxlm_tree.specs.SelfCorrecting.{each, Four, Errors, ErrorsNear, no_errors, errors_at, errors_above, errors_of, near, self_corrected, maximum_error, sub_predictions}
+use Rattle.jxlm_tree.specs.Neighbours.{neighbours}
+use Rattle.jxlm_tree.specs.SelfCorrecting.{Four, Errors, no_errors, errors_at, errors_of, near, self_corrected, maximum_error, sub_predictions}
 use Rattle.jxlm_tree.specs.declared.predictor.WpHeader.{WpHeader}
 use Rattle.jxlm_tree.specs.declared.self_correcting.CellErrors.{CellErrors}
 use Rattle.jxlm_tree.specs.declared.self_correcting.Corrector.{Corrector}
 use Rattle.jxlm_tree.specs.declared.self_correcting.Counts.{Counts}
-use Rattle.jxlm_tree.specs.declared.self_correcting.ErrorsAround.{ErrorsAround}
 use Rattle.jxlm_tree.specs.declared.self_correcting.PredictionResult.{PredictionResult}
 use Rattle.jxlm_tree.specs.declared.self_correcting.SubPredictions.{SubPredictions}
 

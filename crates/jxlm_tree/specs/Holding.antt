@@ -1,13 +1,11 @@
 -- What the properties of a cell hold.
-use Rattle.std.specs.Prelude.{◌≡◌, ℕ, ℤ, pos, ◌+ℤ◌, ◌-ℤ◌, List, [], ◌∷◌, map, Option}
-use Rattle.std.specs.Int.{w32, int_wrap}
+use Rattle.std.specs.Prelude.{◌≡◌, ℕ, ℤ, List, map, Option}
 use Rattle.jxlm_base.specs.Grid.{Grid}
-use Rattle.jxlm_base.specs.Numbers.{absolute}
 use Rattle.jxlm_base.specs.Regions.{grid_of}
 use Rattle.jxlm_tree.specs.Around.{seen}
 use Rattle.jxlm_tree.specs.Correcting.{IsMade}
-use Rattle.jxlm_tree.specs.Neighbours.{Neighbours, neighbours}
-use Rattle.jxlm_tree.specs.Properties.{Surroundings, own_properties}
+use Rattle.jxlm_tree.specs.Neighbours.{neighbours}
+use Rattle.jxlm_tree.specs.Properties.{Surroundings}
 use Rattle.jxlm_tree.specs.Standing.{Setting, StandsAt, IsReady}
 use Rattle.jxlm_tree.specs.declared.predictor.WpHeader.{WpHeader}
 use Rattle.jxlm_tree.specs.declared.properties.Properties.{Properties}
@@ -16,10 +14,6 @@ use Rattle.jxlm_tree.specs.declared.state.PredictorState.{PredictorState}
 -- what the properties look at where a state was set so, after these samples; the store is one of whole numbers
 abbrev pub surroundings : Setting → List (Grid ℤ) → List ℤ → Surroundings
 surroundings s store samples = record { weights = s.weights; width = s.width; samples = samples; earlier = map (grid_of store) s.earlier }
-
--- properties 0 to 15 of a cell
-abbrev pub own_of : Surroundings → List ℤ
-own_of s = pos 0 ∷ pos 0 ∷ map (int_wrap w32) (own_properties s)
 
 module _ {S : Type 0} where
   -- the state that properties hold, and the store that they look at
@@ -38,4 +32,3 @@ module _ {S : Type 0} where
     pub ready : IsReady (state_of p) (store_of p)
     pub around_is : (s : Setting) (samples : List ℤ) → StandsAt (state_of p) s samples → seen p.around ≡ neighbours samples s.width
     pub correction_is : (s : Setting) (samples : List ℤ) → StandsAt (state_of p) s samples → IsMade p.correction s.weights s.width samples
-    pub own_is : (s : Setting) (samples : List ℤ) → StandsAt (state_of p) s samples → p.own ≡ own_of (surroundings s [] samples)

@@ -10,6 +10,7 @@ ghost use Rattle.jxlm_tree.specs.Tree.{AllLeaves, StandsAtLeaf, depth, leaf, nod
 ghost use Rattle.jxlm_tree.specs.Inner.TreeShape.{shape_of};
 
 use crate::predictor::Predictor;
+use crate::reduced::read_as_signed;
 pub use crate::steps::Steps;
 use crate::tree::{MaTree, MaTreeNode};
 use jxlm_base::bits::Bitstream;
@@ -169,13 +170,16 @@ impl FlatMaTree {
         requires { P.IsCurrent properties.now }
         ensures { (f : ℕ → ℤ) → PropertiesAre P.gives properties.now f → result ≡ asked self.now f property }
     {
-        match property {
-            0 => read_as_signed(self.channel),
-            1 => read_as_signed(self.stream_idx),
-            _ if u64::from(property) < 16 + 4 * u64::from(self.prev_channels) => {
-                properties.property(property as usize)
+        if property < 16 {
+            match property {
+                0 => read_as_signed(self.channel),
+                1 => read_as_signed(self.stream_idx),
+                _ => properties.property(property as usize),
             }
-            _ => 0,
+        } else if u64::from(property) < 16 + 4 * u64::from(self.prev_channels) {
+            properties.property(property as usize)
+        } else {
+            0
         }
     }
 
@@ -210,13 +214,6 @@ impl FlatMaTree {
         )?;
         Ok((leaf.residual(token), leaf.predictor))
     }
-}
-
-#[tactic(auto, using(std::proofs::lemmas::Int::wraps))]
-fn read_as_signed(number: u32) -> i32
-    ensures { result ≡ int_wrap w32 (pos number) }
-{
-    number.cast_signed()
 }
 
 /// The walk of a flat tree is that of the whole tree by the properties of the cell, where the

@@ -12,7 +12,7 @@ ghost use Rattle.jxlm_tree.specs.Standing.{Setting, StandsAt, IsReady, IsInner, 
 
 use crate::around::Around;
 use crate::flat::PlaceProperties;
-use crate::reduced::{reduced, reduced_absolute};
+use crate::reduced::{read_as_signed, reduced, reduced_absolute};
 use crate::self_correcting::PredictionResult;
 use crate::state::PredictorState;
 use jxlm_base::grid::{AlignedGrid, Region};
@@ -26,37 +26,37 @@ pub struct Properties<'p, S> {
     pub(crate) store: &'p [AlignedGrid<S>],
     pub(crate) around: Around,
     pub(crate) correction: Option<PredictionResult>,
-    pub(crate) own: [i32; 16],
-}
-
-/// Properties 0 to 15, of which 0 and 1 are 0.
-fn own_properties(x: u32, y: u32, around: &Around, gradient: i32, max_error: i32) -> [i32; 16]
-    requires narrow { x < 2 ^ 31 }
-    requires few_rows { y < 2 ^ 31 }
-    ensures { result ≡ own_list x y (seen around.now) gradient max_error }
-{
-    let Around { w, n, nw, .. } = *around;
-    [
-        0,
-        0,
-        y as i32,
-        x as i32,
-        reduced_absolute(n),
-        reduced_absolute(w),
-        n,
-        w,
-        w.wrapping_sub(gradient),
-        w.wrapping_sub(nw).wrapping_add(n),
-        w.wrapping_sub(nw),
-        nw.wrapping_sub(n),
-        n.wrapping_sub(around.ne),
-        n.wrapping_sub(around.nn),
-        w.wrapping_sub(around.ww),
-        max_error,
-    ]
 }
 
 impl<S> PredictorState<S> {
+    /// One of properties 0 to 15, of which 0 and 1 are 0, at the cell with these neighbours; `error` is property 15.
+    #[inline(always)]
+    #[tactic(auto, using(std::proofs::lemmas::Int::wraps))]
+    fn own_property(&self, property: usize, around: &Around, error: i32) -> i32
+        requires { property < 16 }
+        ensures { result ≡ int_wrap w32 (slice_index_or
+            (own_list self.now.x self.now.y (seen around.now) self.now.gradient error) property (pos 0)) }
+    {
+        let Around { w, n, nw, .. } = *around;
+        match property {
+            2 => read_as_signed(self.y),
+            3 => read_as_signed(self.x),
+            4 => reduced_absolute(n),
+            5 => reduced_absolute(w),
+            6 => n,
+            7 => w,
+            8 => w.wrapping_sub(self.gradient),
+            9 => w.wrapping_sub(nw).wrapping_add(n),
+            10 => w.wrapping_sub(nw),
+            11 => nw.wrapping_sub(n),
+            12 => n.wrapping_sub(around.ne),
+            13 => n.wrapping_sub(around.nn),
+            14 => w.wrapping_sub(around.ww),
+            15 => error,
+            _ => 0,
+        }
+    }
+
     /// The properties of the cell that the state is at.
     pub fn properties<'p, const EDGE: bool>(
         &'p mut self,
@@ -71,27 +71,26 @@ impl<S> PredictorState<S> {
     {
         let around = self.around::<EDGE>();
         let correction = self.correction::<EDGE>(&around);
-        let max_error = PredictionResult::maximum_error(&correction);
-        let own = own_properties(self.x, self.y, &around, self.gradient, max_error);
         Properties {
             state: self,
             store,
             around,
             correction,
-            own,
         }
     }
 }
 
 impl<S: Sample> Properties<'_, S> {
     /// A property by its number.
+    #[inline(always)]
     pub fn get(&self, property: usize) -> i32
         requires { IsCurrent self.now }
         ensures { (s : Setting) (samples : List ℤ) → StandsAt (state_of self.now) s samples → result ≡ place_property
             (surroundings s (store_meanings S.to_int (store_of self.now)) samples) property }
     {
         if property < 16 {
-            self.own[property]
+            let error = PredictionResult::maximum_error(&self.correction);
+            self.state.own_property(property, &self.around, error)
         } else {
             self.of_earlier(property - 16)
         }
@@ -174,6 +173,7 @@ impl<S: Sample> PlaceProperties for Properties<'_, S> {
     ghost gives = { λ p k v. (s : Setting) (samples : List ℤ) → StandsAt (state_of p) s samples → v ≡ place_property
         (surroundings s (store_meanings S.to_int (store_of p)) samples) k };
 
+    #[inline(always)]
     fn property(&self, number: usize) -> i32 {
         self.get(number)
     }
@@ -189,13 +189,8 @@ impl<S> Properties<'_, S> {
             → StandsAt self.exit.0.now s (samples ++ sample ∷ []) }
         ensures room { HasSameRoom self.entry.state.now self.exit.0.now }
     {
-        let Properties {
-            state,
-            store: _,
-            around: _,
-            correction,
-            own: _,
-        } = self;
+        let correction = self.correction;
+        let Properties { state, .. } = self;
         state.advance(sample, correction);
     }
 }

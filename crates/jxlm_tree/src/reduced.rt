@@ -1,6 +1,6 @@
 //! Whole numbers reduced to 32 bits.
 
-ghost use Rattle.std.specs.Prelude.{◌≡◌};
+ghost use Rattle.std.specs.Prelude.{◌≡◌, pos};
 ghost use Rattle.std.specs.Int.{w32, int_wrap};
 ghost use Rattle.jxlm_base.specs.Numbers.{absolute};
 
@@ -16,4 +16,12 @@ pub(crate) fn reduced_absolute(value: i32) -> i32
     ensures { result ≡ int_wrap w32 (absolute value) }
 {
     value.unsigned_abs().cast_signed()
+}
+
+/// The same 32 bits, read as a signed number.
+#[tactic(auto, using(std::proofs::lemmas::Int::wraps))]
+pub(crate) fn read_as_signed(number: u32) -> i32
+    ensures { result ≡ int_wrap w32 (pos number) }
+{
+    number.cast_signed()
 }

@@ -111,7 +111,7 @@ fn floor_log2(n: u64) -> u32
     ensures value { result ≡ floor_log2 n }
     ensures narrow { n < 2 ^ 32 → result < 32 }
 {
-    63u32.saturating_sub(n.leading_zeros())
+    63u32.saturating_sub(n.max(1).leading_zeros())
 }
 
 /// 2^24 divided by `i`, rounded down.

@@ -1,5 +1,5 @@
 -- How a predictor's state goes on by a sample.
-use Rattle.std.specs.Prelude.{◌≡◌, ℕ, ◌+◌, ◌<◌, ◌≤◌, ℤ, List}
+use Rattle.std.specs.Prelude.{◌≡◌, ◌+◌, ◌<◌, ◌≤◌, ℤ, List}
 use Rattle.jxlm_tree.specs.Rolling.{Rolls}
 use Rattle.jxlm_tree.specs.declared.state.PredictorState.{PredictorState}
 

@@ -1,4 +1,4 @@
-use Rattle.std.proofs.Common.{◌≡◌, ◌<◌, ℤ, FitsSigned, ◌∙◌, arith, rules, ap, length, w64}
+use Rattle.std.proofs.Common.{◌≡◌, ◌<◌, ℤ, FitsSigned, ◌∙◌, arith, rules, ap, w64}
 use Rattle.std.proofs.lemmas.Int.{to_z-of_z}
 use Rattle.std.proofs.lemmas.Nat.{mod-mul-add, div-mul-add}
 use Rattle.jxlm_tree.specs.Around.{seen}

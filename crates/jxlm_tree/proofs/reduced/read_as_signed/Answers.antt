@@ -2,7 +2,7 @@ use Rattle.std.proofs.Common.{◌≡◌, ◌%◌, ◌^◌, ap, sym, ◌∙◌, w
 use Rattle.std.specs.Int.{int_wrap, cast_signed}
 use Rattle.std.proofs.Math.Facts.{of_z-to_z}
 use Rattle.std.proofs.Math.Nat.{mod-eq_of_lt}
-use Rattle.jxlm_tree.proofs.flat.read_as_signed.Goals as goal
+use Rattle.jxlm_tree.proofs.reduced.read_as_signed.Goals as goal
 
 pub returns : goal.returns
 unfolding int_wrap
