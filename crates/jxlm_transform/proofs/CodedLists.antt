@@ -21,16 +21,16 @@ transform_applied front t listed ts l m total steps list so_far =
     let one : coded_list (t ∷ ts) l ≡ with_steps (listed_steps listed) (coded_list ts m) = rw (steps, list) refl in
     sym (regroup front (listed_steps listed) (coded_list ts m)) ∙ sym (ap (with_steps front) one) ∙ so_far
 
-stays_refused : {X Y Z : Type 0} (r : Result X ErrorKind) (g : X → Result Y ErrorKind) (h : X → Y → Result Z ErrorKind) (error : ErrorKind) → r >>= g ≡ Err error → (r >>= λ x. g x >>= h x) ≡ Err error
-stays_refused (Err e) g h error refused = cc
-stays_refused {Y} {Z} (Ok x) g h error refused = rw refused refl
+stays_error : {X Y Z : Type 0} (r : Result X ErrorKind) (g : X → Result Y ErrorKind) (h : X → Y → Result Z ErrorKind) (error : ErrorKind) → r >>= g ≡ Err error → (r >>= λ x. g x >>= h x) ≡ Err error
+stays_error (Err e) g h error refused = cc
+stays_error {Y} {Z} (Ok x) g h error refused = rw refused refl
 
 -- a transform gave an error
 pub transform_refused : (front : List Step) (t : Transform) (ts : List Transform) (l : ChannelList) (error : ErrorKind) (total : Result CodedList ErrorKind) →
     (steps_of t l >>= λ steps. list_after_all steps l) ≡ Err error → with_steps front (coded_list (t ∷ ts) l) ≡ total → total ≡ Err error
 transform_refused front t ts l error total refused so_far =
     let one : coded_list (t ∷ ts) l ≡ Err error =
-    stays_refused (steps_of t l) (λ steps. list_after_all steps l) (λ steps m. with_steps steps (coded_list ts m)) error refused in
+    stays_error (steps_of t l) (λ steps. list_after_all steps l) (λ steps m. with_steps steps (coded_list ts m)) error refused in
     sym so_far ∙ ap (with_steps front) one
 
 -- all transforms were applied

@@ -15,7 +15,7 @@ use Rattle.jxlm_base.proofs.GridLaws.{grid_by_same}
 use Rattle.jxlm_base.proofs.Outside.{keeps_all, keeps_both, keeps_wider, lies_still, region_cell_kept, all_one, all_three, number_of_row, number_same}
 use Rattle.jxlm_base.proofs.Regions.{AreApart_sym, HasCell_at, at-grid_of}
 use Rattle.jxlm_base.specs.Squeeze.{AreGridSamples}
-use Rattle.jxlm_transform.specs.ColourRows.{AreThree, triple_of, rows_of, PutsRow, FinishesRow, FinishedUntil}
+use Rattle.jxlm_transform.specs.Inner.ColourRows.{AreThree, triple_of, rows_of, PutsRow, FinishesRow, FinishedUntil}
 use Rattle.jxlm_transform.specs.Recoloured.{triple_in, HaveOneSize, UndoesColour}
 
 -- ---- rows of regions that share no cell

@@ -49,11 +49,11 @@ unless_memory (OfDecoder (decoder.Invalid code)) P holds = holds
 unless_memory (OfDecoder decoder.OutOfMemory) P holds = tt
 
 -- where a squeeze gives an error after its kind, so does the transform
-pub squeeze_refused : (weights : WpHeader) (bytes : List ℕ) (p m q : ℕ) (error : ErrorKind) → (number 2).read bytes p ≡ Ok (record { value = 2; position = m }) →
+pub squeeze_error : (weights : WpHeader) (bytes : List ℕ) (p m q : ℕ) (error : ErrorKind) → (number 2).read bytes p ≡ Ok (record { value = 2; position = m }) →
     IsErrorAt (squeeze.read bytes m) error q → IsErrorAt ((transform weights).read bytes p) error q
-squeeze_refused weights bytes p m q error kind refused = record { place = refused.place; refuses = rw (kind, refused.refuses) refl; stands = refused.stands }
+squeeze_error weights bytes p m q error kind refused = record { place = refused.place; refuses = rw (kind, refused.refuses) refl; stands = refused.stands }
 
 -- a kind above 2 has no meaning
-pub kind_refused : (weights : WpHeader) (bytes : List ℕ) (p m k : ℕ) → (number 2).read bytes p ≡ Ok (record { value = k; position = m }) → (k == 0) ≡ false → (k == 1) ≡ false → (k == 2) ≡ false →
+pub kind_error : (weights : WpHeader) (bytes : List ℕ) (p m k : ℕ) → (number 2).read bytes p ≡ Ok (record { value = k; position = m }) → (k == 0) ≡ false → (k == 1) ≡ false → (k == 2) ≡ false →
     IsErrorAt ((transform weights).read bytes p) (BadEnum (codes "TransformId") k) m
-kind_refused weights bytes p m k kind not0 not1 not2 = record { place = Some m; refuses = rw (kind, not0, not1, not2) refl; stands = refl }
+kind_error weights bytes p m k kind not0 not1 not2 = record { place = Some m; refuses = rw (kind, not0, not1, not2) refl; stands = refl }

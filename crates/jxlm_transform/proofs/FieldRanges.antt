@@ -8,11 +8,11 @@ use Rattle.jxlm_base.specs.Grammar.{Grammar, Reads, either, part, u32}
 use Rattle.jxlm_base.specs.declared.bits.BitstreamError.{BitstreamError}
 use Rattle.jxlm_base.specs.declared.bits.U32Spec.{U32Spec}
 use Rattle.jxlm_base.specs.declared.bits.U32Spec.TheVariants.{Const, Offset}
-use Rattle.jxlm_transform.specs.Transforms.{least_value, max_value, least_of, max_of}
+use Rattle.jxlm_transform.specs.Inner.FieldRanges.{min_value, max_value, min_of, max_of}
 
-part-between : (d : U32Spec) (bytes : List ℕ) (p v q : ℕ) → (part d).Stands bytes p v q → (least_value d ≤ v) × (v ≤ max_value d)
+part-between : (d : U32Spec) (bytes : List ℕ) (p v q : ℕ) → (part d).Stands bytes p v q → (min_value d ≤ v) × (v ≤ max_value d)
 part-between (Const n) bytes p v q s = (omega (arith, s.0), omega (arith, s.0))
-part-between (Offset least n) bytes p v q s =
+part-between (Offset base n) bytes p v q s =
     let below : s.0 < 2 ^ n = rw s.2.1 (bits_at-bound bytes p n) in
     (omega (arith, s.3.0), omega (arith, s.3.0))
 
@@ -23,11 +23,11 @@ either-between false f g bytes p v q low high one two s = two s
 
 -- A U32 that is read lies between the minimum and the maximum of its parts.
 pub u32-between : (d0 d1 d2 d3 : U32Spec) (bytes : List ℕ) (p : ℕ) (found : Found ℕ) → (u32 d0 d1 d2 d3).read bytes p ≡ Ok found →
-    (least_of d0 d1 d2 d3 ≤ found.value) × (found.value ≤ max_of d0 d1 d2 d3)
+    (min_of d0 d1 d2 d3 ≤ found.value) × (found.value ≤ max_of d0 d1 d2 d3)
 u32-between d0 d1 d2 d3 bytes p found e =
     let stands = (exact-u32 d0 d1 d2 d3).read_stands bytes p found e in
     let (s, m, number, chosen) = stands in
-    let low : ℕ = least_of d0 d1 d2 d3 in
+    let low : ℕ = min_of d0 d1 d2 d3 in
     let high : ℕ = max_of d0 d1 d2 d3 in
     let v : ℕ = found.value in
     let q : ℕ = found.position in
@@ -40,7 +40,7 @@ u32-between d0 d1 d2 d3 bytes p found e =
     (λ w. let r = part-between d3 bytes m v q w in (omega arith, omega arith)) u) t) chosen
 
 -- so what a call that reads one returns is at least the minimum and at most the maximum
-pub at_least : (d0 d1 d2 d3 : U32Spec) (bytes : List ℕ) (p q : ℕ) (r : Result ℕ BitstreamError) → Reads (λ (v : ℕ). v) r q ((u32 d0 d1 d2 d3).read bytes p) → IfOk r (λ v. least_of d0 d1 d2 d3 ≤ v)
+pub at_least : (d0 d1 d2 d3 : U32Spec) (bytes : List ℕ) (p q : ℕ) (r : Result ℕ BitstreamError) → Reads (λ (v : ℕ). v) r q ((u32 d0 d1 d2 d3).read bytes p) → IfOk r (λ v. min_of d0 d1 d2 d3 ≤ v)
 at_least d0 d1 d2 d3 bytes p q (Ok v) reads = (u32-between d0 d1 d2 d3 bytes p (record { value = v; position = q }) reads).0
 at_least d0 d1 d2 d3 bytes p q (Err e) reads = tt
 

@@ -30,6 +30,10 @@ abbrev pub with_halves : {X : Type 0} → SqueezeParams → List X → List X �
 with_halves t averages residuals xs =
     if t.in_place then with_range t.begin_c t.num_c (averages ++ residuals) xs else with_range t.begin_c t.num_c averages xs ++ residuals
 
+-- xs after a squeeze step that makes this average and this residual of each element of the range
+abbrev pub with_each_halved : {X : Type 0} → SqueezeParams → (X → X) → (X → X) → List X → List X
+with_each_halved t average residual xs = with_halves t (map average (range t.begin_c t.num_c xs)) (map residual (range t.begin_c t.num_c xs)) xs
+
 -- the n elements from begin on are there
 abbrev pub has_range : {X : Type 0} → ℕ → ℕ → List X → Bool
 has_range begin n xs = nat_le (begin + n) (length xs)
@@ -106,7 +110,7 @@ squeeze_step t l =
     let cs : List Channel = range t.begin_c t.num_c l.channels in
     if squeeze_range t l && list_all can_be_squeezed cs then
     Ok (record {
-      channels = with_halves t (map (average_channel t.horizontal) cs) (map (residual_channel t.horizontal) cs) l.channels;
+      channels = with_each_halved t (average_channel t.horizontal) (residual_channel t.horizontal) l.channels;
       nb_meta = if nat_lt t.begin_c l.nb_meta then l.nb_meta + t.num_c else l.nb_meta;
     })
     else Err BadSqueeze

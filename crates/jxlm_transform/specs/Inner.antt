@@ -1,1 +1,3 @@
+pub mod ColourRows
+pub mod FieldRanges
 pub mod PaletteSteps

@@ -1,7 +1,10 @@
 -- What an image is read by.
-use Rattle.std.specs.Prelude.{◌≡◌, ℕ, ◌≤◌, ◌^◌, List, length, replicate}
+use Rattle.std.specs.Prelude.{◌≡◌, ℕ, ◌≤◌, ◌^◌, List, length, replicate, Option}
+use Rattle.std.specs.Borrow.{Bor}
+use Rattle.std.specs.Global.{Vec}
 use Rattle.std.specs.Int.{IsPowerOfTwo}
 use Rattle.std.specs.List.{All}
+use Rattle.jxlm_tree.specs.declared.ma.MaConfig.{MaConfig}
 use Rattle.jxlm_transform.specs.declared.param.ChannelShift.{ChannelShift}
 use Rattle.jxlm_transform.specs.declared.param.ChannelShift.TheVariants.{Shifts}
 use Rattle.jxlm_transform.specs.declared.param.ModularChannelParams.{ModularChannelParams}
@@ -26,6 +29,10 @@ pub record IsValidParams {D : Type 0} (p : ModularParams D) : Type 0 where
   pub bit_depth : p.bit_depth ≤ 32
   pub count : length p.channels.items ≤ 2 ^ 20
   pub channels : All IsValidChannel p.channels.items
+
+-- parameters with these fields
+abbrev pub params_of : {D : Type 0} → ℕ → ℕ → Vec ModularChannelParams → Option (Bor (MaConfig D)) → ModularParams D
+params_of group_dim bit_depth channels ma_config = record { group_dim = group_dim; bit_depth = bit_depth; channels = channels; ma_config = ma_config }
 
 -- a channel with this shift in a picture of these sides
 abbrev pub sized : ℕ → ℕ → ChannelShift → ModularChannelParams

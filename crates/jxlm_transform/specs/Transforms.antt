@@ -1,10 +1,9 @@
 -- The transforms of a header, as they stand in the input (ISO/IEC 18181-1, Modular: TransformInfo and SqueezeParams).
-use Rattle.std.specs.Prelude.{◌≡◌, ◌⊎◌, ℕ, ◌+◌, ◌-◌, ◌^◌, ◌≤◌, min, max, List, length, slice_get, ◌==◌, codes, Option, Some, None, Result, Ok, Err}
+use Rattle.std.specs.Prelude.{◌≡◌, ◌⊎◌, ℕ, ◌≤◌, List, length, slice_get, ◌==◌, codes, Option, Some, None, Result, Ok, Err}
 use Rattle.std.specs.List.{All}
 use Rattle.jxlm_base.specs.Decoding.{Found}
 use Rattle.jxlm_base.specs.ErrorKind.{ErrorKind, BadEnum, ErrorAt, UnlessNoMemory, kind_of}
 use Rattle.jxlm_base.specs.Grammar.{Grammar, IsErrorAt, number, flag, u32, give, fail, either, repeated, ◌>>=◌}
-use Rattle.jxlm_base.specs.declared.bits.U32Spec.{U32Spec}
 use Rattle.jxlm_base.specs.declared.bits.U32Spec.TheVariants.{Const, Offset}
 use Rattle.jxlm_base.specs.declared.error.Error.{Error}
 use Rattle.jxlm_tree.specs.Predictions.{predictors}
@@ -92,22 +91,6 @@ abbrev pub transform : WpHeader → Grammar Transform
 transform weights = do
   kind ← number 2
   either (kind == 0) (seen OfRct rct) (either (kind == 1) (seen OfPalette (palette weights)) (either (kind == 2) (seen OfSqueeze squeeze) (fail (BadEnum (codes "TransformId") kind))))
-
--- the minimum and the maximum of a part
-abbrev pub least_value : U32Spec → ℕ
-least_value (Const n) = n
-least_value (Offset least n) = least
-
-abbrev pub max_value : U32Spec → ℕ
-max_value (Const n) = n
-max_value (Offset least n) = least + 2 ^ n - 1
-
--- the minimum of a U32, and its maximum
-abbrev pub least_of : U32Spec → U32Spec → U32Spec → U32Spec → ℕ
-least_of d0 d1 d2 d3 = min (min (least_value d0) (least_value d1)) (min (least_value d2) (least_value d3))
-
-abbrev pub max_of : U32Spec → U32Spec → U32Spec → U32Spec → ℕ
-max_of d0 d1 d2 d3 = max (max (max_value d0) (max_value d1)) (max (max_value d2) (max_value d3))
 
 -- the ranges of a colour transform that was read
 pub record IsRct (t : Rct) : Type 0 where

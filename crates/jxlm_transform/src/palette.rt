@@ -11,8 +11,8 @@ ghost use Rattle.jxlm_base.specs.Regions.{Lies, grid_of, store_meanings};
 ghost use Rattle.jxlm_base.specs.Outside.{KeepsOutside, SetsRow};
 ghost use Rattle.jxlm_tree.specs.Predictions.{prediction};
 ghost use Rattle.jxlm_tree.specs.Standing.{Setting, StandsAt, IsReady, HasSameRoom, room_of, setting, weights_of};
-ghost use Rattle.jxlm_transform.specs.Palette.{colour_of, deltas, difference, implicit_colour, is_delta, listed_difference, finished_channel, finished_sample, IsPaletteOf, PaletteHasOneImage, PaletteLies};
-ghost use Rattle.jxlm_transform.specs.Inner.PaletteSteps.{ChannelLies, ChannelsDone, channel_at, columns_of, FillsOn, FillsOnBy, AreSimple, IsSimple, IsSimpleIndex, IsSimpleRow, SetsSample, StandsBefore, index_in, kept, number_of, table_in};
+ghost use Rattle.jxlm_transform.specs.Palette.{colour_of, deltas, difference, implicit_colour, is_delta, listed_difference, finished_channel, IsPaletteOf, PaletteHasOneImage, PaletteLies};
+ghost use Rattle.jxlm_transform.specs.Inner.PaletteSteps.{ChannelLies, ChannelsDone, channel_at, columns_of, FillsOn, FillsOnBy, AreSimple, IsSimple, IsSimpleIndex, IsSimpleRow, SetsNext, StandsBefore, StandsNext, index_in, kept, number_of, table_in};
 
 use crate::transform::Palette;
 use jxlm_base::error::Result;
@@ -520,17 +520,8 @@ impl Palette {
         requires few_rows { channel.index.height ≤ 2 ^ 30 }
         requires deep { bit_depth ≤ 32 }
         requires stands { StandsBefore self.now channel.index.width (y * channel.index.width + x) state.old }
-        ensures sets { (before : List ℤ) → StandsAt state.old (setting channel.index.width self.now.wp_header [])
-            before → SetsSample S.to_int channel x y (finished_sample S.width bit_depth self.now
-            (table_in channel (store_meanings S.to_int store.old))
-            (at (index_in channel (store_meanings S.to_int store.old)) x y) channel.number before channel.index.width)
-            store.old store.new }
-        ensures stands { (before : List ℤ) → StandsAt state.old (setting channel.index.width self.now.wp_header [])
-            before → StandsAt state.new (setting channel.index.width self.now.wp_header [])
-            (before ++ finished_sample S.width bit_depth self.now
-            (table_in channel (store_meanings S.to_int store.old))
-            (at (index_in channel (store_meanings S.to_int store.old)) x y) channel.number before channel.index.width
-            ∷ []) }
+        ensures sets { SetsNext S.width bit_depth self.now channel S.to_int x y state.old store.old store.new }
+        ensures stands { StandsNext S.width bit_depth self.now channel S.to_int x y store.old state.old state.new }
         ensures room { HasSameRoom state.old state.new }
     {
         let index = number_at(store, channel.index, x, y);

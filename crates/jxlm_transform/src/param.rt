@@ -4,7 +4,7 @@ ghost use Rattle.std.specs.Prelude.{◌≡◌, ◌<◌, ◌≤◌, ◌↔◌, �
 ghost use Rattle.std.specs.Int.{div_ceil};
 ghost use Rattle.std.specs.List.{All, list_any};
 ghost use Rattle.jxlm_transform.specs.Shifts.{IsValidShift, shift_size, jpeg_shift, hshift, vshift, IsShift, upsampled_side as the_upsampled_side};
-ghost use Rattle.jxlm_transform.specs.Params.{IsSide, IsValidChannel, IsGroupDim, IsValidParams, OneSizeIsValid, OneSizeOfImageIsValid, PowersAreGroupDims, sized};
+ghost use Rattle.jxlm_transform.specs.Params.{IsSide, IsValidChannel, IsGroupDim, IsValidParams, OneSizeIsValid, OneSizeOfImageIsValid, PowersAreGroupDims, params_of, sized};
 ghost use Rattle.jxlm_base.specs.ErrorKind.{NoMemory, kind_of};
 
 use jxlm_base::decoder::Decoder;
@@ -291,12 +291,7 @@ impl<'a, D: Decoder> ModularParams<'a, D> {
         channels: Vec<ModularChannelParams>,
         ma_config: Option<&'a MaConfig<D>>,
     ) -> ModularParams<'a, D>
-        ensures { result ≡ record {
-          group_dim = group_dim;
-          bit_depth = bit_depth;
-          channels = channels;
-          ma_config = ma_config.entry;
-        } }
+        ensures { result ≡ params_of group_dim bit_depth channels ma_config.entry }
     {
         ModularParams {
             group_dim,

@@ -5,7 +5,8 @@ ghost use Rattle.jxlm_base.specs.Colour.{permuted, triple_at};
 ghost use Rattle.jxlm_base.specs.ErrorKind.{NoMemory, kind_of};
 ghost use Rattle.jxlm_base.specs.Outside.{KeepsOutside};
 ghost use Rattle.jxlm_base.specs.Regions.{AllLie, LieApart, region, store_meanings};
-ghost use Rattle.jxlm_transform.specs.ColourRows.{HasRoom, KeepsRoom, AreThree, PutsRow, FinishesRow, FinishedUntil};
+ghost use Rattle.jxlm_transform.specs.ColourRows.{HasRoom, KeepsRoom};
+ghost use Rattle.jxlm_transform.specs.Inner.ColourRows.{AreThree, PutsRow, FinishesRow, FinishedUntil};
 ghost use Rattle.jxlm_transform.specs.Recoloured.{HaveOneSize, UndoesColour};
 
 use jxlm_base::error;

@@ -25,7 +25,7 @@ pub fn inverse_h<S: Sample>(alloc: Global, subgrid: &mut MutableSubgrid<'_, S>) 
     ensures undone { IfOk result (λ _. squeezed_rows S.width (numbers_in S.to_int subgrid.new)
         ≡ numbers_in S.to_int subgrid.old) }
     ensures samples { IfOk result (λ _. AreGridSamples S.width (numbers_in S.to_int subgrid.new)) }
-    ensures refused { IfErr result (λ e. kind_of e ≡ NoMemory) }
+    ensures err { IfErr result (λ e. kind_of e ≡ NoMemory) }
     ensures unchanged { IfErr result (λ _. whole subgrid.new ≡ whole subgrid.old) }
 {
     S::squeeze_rows(alloc, subgrid)?;
@@ -44,7 +44,7 @@ pub fn inverse_v<S: Sample>(alloc: Global, subgrid: &mut MutableSubgrid<'_, S>) 
     ensures undone { IfOk result (λ _. squeezed_columns S.width (numbers_in S.to_int subgrid.new)
         ≡ numbers_in S.to_int subgrid.old) }
     ensures samples { IfOk result (λ _. AreGridSamples S.width (numbers_in S.to_int subgrid.new)) }
-    ensures refused { IfErr result (λ e. kind_of e ≡ NoMemory) }
+    ensures err { IfErr result (λ e. kind_of e ≡ NoMemory) }
     ensures unchanged { IfErr result (λ _. whole subgrid.new ≡ whole subgrid.old) }
 {
     S::squeeze_columns(alloc, subgrid)?;

@@ -6,7 +6,8 @@ ghost use Rattle.jxlm_base.specs.Bits.{bytes_of, position_of};
 ghost use Rattle.jxlm_base.specs.Grammar.{FitsU32, IsExact, Reads, number, repeated, u32 as the_u32};
 ghost use Rattle.jxlm_tree.specs.WeightsHeader.{AnswersExactly};
 ghost use Rattle.jxlm_transform.specs.DefaultSqueeze.{LeavesSmallSides, TakesFewestSteps};
-ghost use Rattle.jxlm_transform.specs.Transforms.{OfPalette, transform_of, begin_channel as the_begin_channel, rct, predictor, weights_for, palette, squeeze_params, squeeze, transform, least_of, max_of, IsRct, IsPalette, IsSqueezeParams, IsSqueeze, IsTransform, HasChannels, KeepsWeights, IsPaletteTransform, IsSqueezeTransform, Parses};
+ghost use Rattle.jxlm_transform.specs.Inner.FieldRanges.{min_of, max_of};
+ghost use Rattle.jxlm_transform.specs.Transforms.{OfPalette, transform_of, begin_channel as the_begin_channel, rct, predictor, weights_for, palette, squeeze_params, squeeze, transform, IsRct, IsPalette, IsSqueezeParams, IsSqueeze, IsTransform, HasChannels, KeepsWeights, IsPaletteTransform, IsSqueezeTransform, Parses};
 
 mod default_squeeze;
 mod lists;
@@ -86,8 +87,8 @@ fn field(
     requires fits { FitsU32 d0 × FitsU32 d1 × FitsU32 d2 × FitsU32 d3 }
     ensures gives { Reads (λ v. v) result (position_of bits.new)
         ((the_u32 d0 d1 d2 d3).read (bytes_of bits.old) (position_of bits.old)) }
-    ensures least { IfOk result (λ v. least_of d0 d1 d2 d3 ≤ v) }
-    ensures greatest { IfOk result (λ v. v ≤ max_of d0 d1 d2 d3) }
+    ensures minimum { IfOk result (λ v. min_of d0 d1 d2 d3 ≤ v) }
+    ensures maximum { IfOk result (λ v. v ≤ max_of d0 d1 d2 d3) }
     ensures bytes { bytes_of bits.new ≡ bytes_of bits.old }
 {
     bits.read_u32(d0, d1, d2, d3)

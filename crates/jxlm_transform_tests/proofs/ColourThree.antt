@@ -6,11 +6,9 @@ use Rattle.jxlm_base.specs.Grid.{Grid, grid, filled, IsFull}
 use Rattle.jxlm_base.specs.Outside.{KeepsOutside}
 use Rattle.jxlm_base.specs.Regions.{region, Lies, AllLie, AreApart, LieApart}
 use Rattle.jxlm_base.specs.declared.subgrid.Region.{Region}
-use Rattle.jxlm_base.proofs.Outside.{all_three}
+use Rattle.jxlm_base.proofs.Outside.{all_lie_still, all_three}
 use Rattle.jxlm_base.proofs.Regions.{apart_by_buffer}
-use Rattle.jxlm_transform.specs.ColourRows.{AreThree}
 use Rattle.jxlm_transform.specs.Recoloured.{HaveOneSize}
-use Rattle.jxlm_transform.proofs.ColourRegions.{three_still}
 
 pairs_of_three : {Y : Type 0} (R : Y → Y → Type 0) (a b c : Y) → R a b → R a c → R b c → AllPairs R (a ∷ b ∷ c ∷ [])
 pairs_of_three R a b c h k l zero zero d p q = absurd (omega arith)
@@ -46,34 +44,20 @@ module _ {S : Type 0} (g0 g1 g2 : Grid S) (w h : ℕ) where
       let high : (get_or store b (grid 0 0 [])).height ≡ h = ap (λ (k : Grid S). k.height) is ∙ sides.rows in
       record { there = omega arith; full = full; columns = omega (arith, wide); rows = omega (arith, high) }
 
-  pub are_three : IsOfSides g0 w h → IsOfSides g1 w h → IsOfSides g2 w h → AreThree (channel 0) (channel 1) (channel 2) store
-  are_three h0 h1 h2 = record {
-    first = lies_in g0 0 (omega arith) refl h0;
-    second = lies_in g1 1 (omega arith) refl h1;
-    third = lies_in g2 2 (omega arith) refl h2;
-    first_second = apart_by_buffer (channel 0) (channel 1) (λ e. absurd (omega arith));
-    first_third = apart_by_buffer (channel 0) (channel 2) (λ e. absurd (omega arith));
-    second_third = apart_by_buffer (channel 1) (channel 2) (λ e. absurd (omega arith));
-    second_width = refl;
-    third_width = refl;
-    second_height = refl;
-    third_height = refl;
-  }
+  module _ (h0 : IsOfSides g0 w h) (h1 : IsOfSides g1 w h) (h2 : IsOfSides g2 w h) where
+    pub three_lie : AllLie (channel 0 ∷ channel 1 ∷ channel 2 ∷ []) store
+    three_lie = all_three (λ q. Lies q store) (channel 0) (channel 1) (channel 2) (lies_in g0 0 (omega arith) refl h0) (lies_in g1 1 (omega arith) refl h1) (lies_in g2 2 (omega arith) refl h2)
 
--- three regions as a list
-module _ {S : Type 0} (r s t : Region) (store : List (Grid S)) (three : AreThree r s t store) where
-  pub three_lie : AllLie (r ∷ s ∷ t ∷ []) store
-  three_lie = all_three (λ q. Lies q store) r s t three.first three.second three.third
+  other_buffer : (a b : ℕ) → a < b → AreApart (channel a) (channel b)
+  other_buffer a b less = apart_by_buffer (channel a) (channel b) (λ e. absurd (omega arith))
 
-  pub three_apart : LieApart (r ∷ s ∷ t ∷ [])
-  three_apart = pairs_of_three AreApart r s t three.first_second three.first_third three.second_third
+  pub three_apart : LieApart (channel 0 ∷ channel 1 ∷ channel 2 ∷ [])
+  three_apart = pairs_of_three AreApart (channel 0) (channel 1) (channel 2) (other_buffer 0 1 (omega arith)) (other_buffer 0 2 (omega arith)) (other_buffer 1 2 (omega arith))
 
-  pub three_of_one_size : HaveOneSize (r ∷ s ∷ t ∷ [])
-  three_of_one_size =
-      pairs_of_three (λ p q. (p.width ≡ q.width) × (p.height ≡ q.height)) r s t
-      (sym three.second_width, sym three.second_height) (sym three.third_width, sym three.third_height)
-      (three.second_width ∙ sym three.third_width, three.second_height ∙ sym three.third_height)
+  pub three_of_one_size : HaveOneSize (channel 0 ∷ channel 1 ∷ channel 2 ∷ [])
+  three_of_one_size = pairs_of_three (λ p q. (p.width ≡ q.width) × (p.height ≡ q.height)) (channel 0) (channel 1) (channel 2) (refl, refl) (refl, refl) (refl, refl)
 
--- three regions, each of which was written in turn
-pub three_written : {S : Type 0} (r s t : Region) (old a b c : List (Grid S)) → KeepsOutside (r ∷ []) old a → KeepsOutside (s ∷ []) a b → KeepsOutside (t ∷ []) b c → AreThree r s t old → AreThree r s t c
-three_written r s t old a b c h k l three = three_still r s t (t ∷ []) b c l (three_still r s t (s ∷ []) a b k (three_still r s t (r ∷ []) old a h three))
+-- regions lie where they lay, once three of them were written in turn
+pub three_written : {S : Type 0} (regions : List Region) (r s t : Region) (old a b c : List (Grid S)) → KeepsOutside (r ∷ []) old a → KeepsOutside (s ∷ []) a b → KeepsOutside (t ∷ []) b c →
+    AllLie regions old → AllLie regions c
+three_written regions r s t old a b c h k l lie = all_lie_still (t ∷ []) regions b c l (all_lie_still (s ∷ []) regions a b k (all_lie_still (r ∷ []) regions old a h lie))

@@ -1,9 +1,8 @@
 // Colour transforms undone: three regions, each a buffer of its own.
 
-ghost use Rattle.std.specs.Prelude.{OnOk};
+ghost use Rattle.std.specs.Prelude.{OnOk, [], ◌∷◌};
 ghost use Rattle.jxlm_base.specs.Outside.{KeepsOutside};
 ghost use Rattle.jxlm_base.specs.Regions.{AllLie, LieApart};
-ghost use Rattle.jxlm_transform.specs.ColourRows.{AreThree};
 ghost use Rattle.jxlm_transform.specs.Recoloured.{HaveOneSize};
 
 use crate::cells::{read, write};
@@ -52,7 +51,9 @@ fn run<S: Sample>(
     coded: [&[i32]; 3],
     numbers: &mut Vec<i32>,
 ) -> Result<(), Error>
-    requires { AreThree first second third store.old }
+    requires lie { AllLie (first ∷ second ∷ third ∷ []) store.old }
+    requires apart { LieApart (first ∷ second ∷ third ∷ []) }
+    requires sizes { HaveOneSize (first ∷ second ∷ third ∷ []) }
 {
     let [a, b, c] = coded;
     write(store, first, a);

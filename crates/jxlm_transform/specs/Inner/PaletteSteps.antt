@@ -1,5 +1,5 @@
 -- How far the inverse of a palette has come: what its loops over channels, rows and columns keep.
-use Rattle.std.specs.Prelude.{◌≡◌, ℕ, ◌+◌, ◌<◌, ◌≤◌, ◌⊎◌, List, [], length, map, take, get_or, ℤ, pos, negsuc, unsigned_abs}
+use Rattle.std.specs.Prelude.{◌≡◌, ℕ, ◌+◌, ◌<◌, ◌≤◌, ◌⊎◌, List, [], ◌∷◌, ◌++◌, length, map, take, get_or, ℤ, pos, negsuc, unsigned_abs}
 use Rattle.std.specs.Int.{Width}
 use Rattle.jxlm_base.specs.Grid.{Grid, at}
 use Rattle.jxlm_base.specs.Regions.{Lies, AreApart, region, grid_of, store_meanings, with_region_cell}
@@ -9,7 +9,7 @@ use Rattle.jxlm_tree.specs.Standing.{StandsAt, setting}
 use Rattle.jxlm_tree.specs.declared.state.PredictorState.{PredictorState}
 use Rattle.jxlm_transform.specs.declared.transform.Palette.{Palette}
 use Rattle.jxlm_transform.specs.declared.palette.FinishedChannel.{FinishedChannel}
-use Rattle.jxlm_transform.specs.Palette.{finished_channel, finished_samples}
+use Rattle.jxlm_transform.specs.Palette.{finished_channel, finished_sample, finished_samples}
 
 -- an index of the table that is no delta
 abbrev pub IsSimpleIndex : Palette → ℤ → Type 0
@@ -86,6 +86,21 @@ module _ (w : Width) (depth : ℕ) (t : Palette) (p : FinishedChannel) where
   FillsOnBy from to old state new state' = (table index : Grid ℤ) → Filled table index from old →
       StandsAt state (setting p.index.width t.wp_header []) (finished_samples w depth t table index p.number from) →
       Filled table index to new × StandsAt state' (setting p.index.width t.wp_header []) (finished_samples w depth t table index p.number to)
+
+  -- the finished sample in column x of row y, after these samples of the channel
+  abbrev pub sample_after : List (Grid ℤ) → ℕ → ℕ → List ℤ → ℤ
+  sample_after ints x y before = finished_sample w depth t (table_in p ints) (at (index_in p ints) x y) p.number before p.index.width
+
+  module _ {S : Type 0} (to_int : S → ℤ) (x y : ℕ) where
+    -- it was written in column x of row y, after the samples that the state stands after, and nothing else changed
+    abbrev pub SetsNext : PredictorState S → List (Grid S) → List (Grid S) → Type 0
+    SetsNext state old new = (before : List ℤ) → StandsAt state (setting p.index.width t.wp_header []) before →
+        SetsSample to_int p x y (sample_after (store_meanings to_int old) x y before) old new
+
+    -- the state stands after it too
+    abbrev pub StandsNext : List (Grid S) → PredictorState S → PredictorState S → Type 0
+    StandsNext store old new = (before : List ℤ) → StandsAt old (setting p.index.width t.wp_header []) before →
+        StandsAt new (setting p.index.width t.wp_header []) (before ++ sample_after (store_meanings to_int store) x y before ∷ [])
 
 -- the sample in the table that an index names in a channel
 abbrev pub looked_up : Grid ℤ → ℤ → ℕ → ℤ

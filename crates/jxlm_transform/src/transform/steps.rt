@@ -5,7 +5,7 @@ ghost use Rattle.std.specs.Prelude.{◌≡◌, ◌≤◌, ◌+◌, ◌++◌, ◌
 ghost use Rattle.std.specs.List.{All, list_all};
 ghost use Rattle.jxlm_transform.specs.Channels.{HasItsMeta, list_of};
 ghost use Rattle.jxlm_transform.specs.Transforms.{HasChannels, transform_of};
-ghost use Rattle.jxlm_transform.specs.ChannelSteps.{ListIs, ListGives, TransformGives, SqueezeStep, list_after_all, range, has_range as the_has_range, has_size_of, one_size as the_one_size, keeps_meta as the_keeps_meta, rct_step, palette_step, can_be_squeezed, squeeze_range, squeeze_step, average_channel, residual_channel, with_halves as the_halves};
+ghost use Rattle.jxlm_transform.specs.ChannelSteps.{ListIs, ListGives, TransformGives, SqueezeStep, list_after_all, range, has_range as the_has_range, has_size_of, one_size as the_one_size, keeps_meta as the_keeps_meta, rct_step, palette_step, can_be_squeezed, squeeze_range, squeeze_step, average_channel, residual_channel, with_each_halved};
 
 use super::{Palette, Rct, Squeeze, SqueezeParams, TransformInfo};
 use crate::channels::{ModularChannelInfo, ModularChannels};
@@ -179,10 +179,8 @@ impl SqueezeParams {
         requires range { self.now.begin_c + self.now.num_c ≤ length channels.old.items }
         requires each { All (λ c. IsTrue (can_be_squeezed c))
             (range self.now.begin_c self.now.num_c channels.old.items) }
-        ensures gives { IfOk result (λ _. channels.new.items ≡ the_halves self.now
-            (map (average_channel self.now.horizontal) (range self.now.begin_c self.now.num_c channels.old.items))
-            (map (residual_channel self.now.horizontal) (range self.now.begin_c self.now.num_c channels.old.items))
-            channels.old.items) }
+        ensures gives { IfOk result (λ _. channels.new.items ≡ with_each_halved self.now
+            (average_channel self.now.horizontal) (residual_channel self.now.horizontal) channels.old.items) }
         ensures unchanged { IfErr result (λ _. channels.new.items ≡ channels.old.items) }
     {
         let range = &channels[self.begin_c..self.begin_c + self.num_c];

@@ -1,5 +1,5 @@
 use Rattle.std.proofs.Common.{[], ◌∷◌, ◌≡◌, subst, arith}
-use Rattle.jxlm_transform.specs.ColourRows.{FinishedUntil}
+use Rattle.jxlm_transform.specs.Inner.ColourRows.{FinishedUntil}
 use Rattle.jxlm_transform.proofs.ColourRegions.{three_still, until_start, until_more}
 use Rattle.jxlm_transform.proofs.rct.finish_regions.Goals as goal
 

@@ -1,4 +1,4 @@
-use Rattle.jxlm_transform.specs.ColourRows.{AreThree, FinishedUntil}
+use Rattle.jxlm_transform.specs.Inner.ColourRows.{AreThree, FinishedUntil}
 use Rattle.jxlm_transform.proofs.rct.finish_regions.Given as goal
 
 abbrev pub invariant-loop-y : goal.invariant-loop-y
