@@ -12,7 +12,7 @@ ghost use Rattle.jxlm_part.specs.Inner.Source.{source};
 
 use crate::rows::RowError;
 use jxlm_base::bits::Bitstream;
-use jxlm_base::decoder::{Decoder, DecoderError};
+use jxlm_base::decoder::Decoder;
 use jxlm_base::grid::{AlignedGrid, Region};
 use jxlm_base::region::region_row;
 use jxlm_base::sample::{Sample, Sealed};

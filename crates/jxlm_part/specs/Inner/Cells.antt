@@ -17,13 +17,15 @@ use Rattle.jxlm_part.specs.Coded.{sample_of}
 use Rattle.jxlm_part.specs.Inner.Source.{Source}
 
 -- a sample was read at this leaf, over this prediction, from this reading; it left state t and position q
-pub record ReadsNext {S X : Type 0} (w : Width) (from_int : ℤ → X) (l : Leaf) (predicted : ℤ) (sample : X) (t : S) (q : ℕ) (reading : Result (Taken ℕ S) DecoderError) : Type 0 where
+pub record ReadsNext {S X : Type 0} (w : Width) (from_int : ℤ → X) (l : Leaf) (predicted : ℤ) (sample : X)
+    (t : S) (q : ℕ) (reading : Result (Taken ℕ S) DecoderError) : Type 0 where
   pub token : ℕ
   pub read : reading ≡ Ok (record { value = token; state = t; position = q })
   pub sample_is : sample ≡ from_int (sample_of w l predicted token)
 
 -- the read returned the error e, and state and position stay
-pub record FailsNext {S : Type 0} (s t : S) (p q : ℕ) (e : DecoderError) (reading : Result (Taken ℕ S) DecoderError) : Type 0 where
+pub record FailsNext {S : Type 0} (s t : S) (p q : ℕ) (e : DecoderError)
+    (reading : Result (Taken ℕ S) DecoderError) : Type 0 where
   pub error : reading ≡ Err e
   pub state_is : t ≡ s
   pub place_is : q ≡ p
@@ -36,8 +38,8 @@ leaf_at flat s store samples = leaf_reached flat (place_property (surroundings s
 abbrev pub predicted_at : FlatTree → Setting → List (Grid ℤ) → List ℤ → ℤ
 predicted_at flat s store samples = prediction s.weights samples s.width (leaf_at flat s store samples).predictor
 
--- What a read of the sample of a cell with these properties returns, whatever cell that is: one of channel where the
--- state was set so, after these samples of it.
+-- What the read of a sample at a cell with these properties returns, in whatever setting and after whatever samples the
+-- state is at that cell.
 module _ {D X : Type 0} (d : Meaning D) (to_int : X → ℤ) (flat : FlatTree) (widest : ℕ) (properties : Properties X)
     (old new : Source D) where
   -- the numbers of the store that the properties look at

@@ -16,7 +16,8 @@ use Rattle.jxlm_part.specs.Part.{Part, channel, cell_count, cells_before, cells_
 use Rattle.jxlm_part.specs.Reading.{cost_of, part_of, regions_of}
 use Rattle.jxlm_part.specs.declared.coding.PartCoding.{PartCoding}
 
-module _ {S : Type 0} (d : Meaning S) (w : Width) (part : Part) (bytes : List ℕ) (decoder : S) (p0 : ℕ) (old : List (Grid ℤ)) where
+module _ {S : Type 0} (d : Meaning S) (w : Width) (part : Part) (bytes : List ℕ) (decoder : S)
+    (p0 : ℕ) (old : List (Grid ℤ)) where
   -- the first k cells are coded, and the others are as before
   pub record Reached (k : ℕ) (now : List (Grid ℤ)) (state : S) (q : ℕ) : Type 0 where
     pub coded : IsCoded d w part bytes decoder p0 k now state q
@@ -47,14 +48,16 @@ module _ {S : Type 0} (d : Meaning S) (w : Width) (part : Part) (bytes : List �
   -- Whatever was decoded before: where the first `from` cells were decoded, the first `to` are now.
   abbrev pub GoesOn : ℕ → ℕ → List (Grid ℤ) → S → ℕ → List (Grid ℤ) → S → ℕ → Type 0
   GoesOn from to store s p store' s' p' = (decoder : S) (p0 : ℕ) (old : List (Grid ℤ)) →
-      Reached d w part bytes decoder p0 old from (grids_in regions store) s p → Reached d w part bytes decoder p0 old to (grids_in regions store') s' p'
+      Reached d w part bytes decoder p0 old from (grids_in regions store) s p →
+      Reached d w part bytes decoder p0 old to (grids_in regions store') s' p'
 
   -- Whatever was decoded before: where decoding had come to that cell, the read of it or of a later one returned the
   -- error e, and each read up to it took at most `cost` steps.
   abbrev pub Stops : ℕ → ℕ → ℕ → ℕ → List (Grid ℤ) → S → ℕ → List (Grid ℤ) → ℕ → DecoderError → Type 0
   Stops cost before after from store s p store' p' e = (decoder : S) (p0 : ℕ) (old : List (Grid ℤ)) →
       Reached d w part bytes decoder p0 old from (grids_in regions store) s p →
-      (stopped : Stopped d w part bytes decoder p0 old e (grids_in regions store') p') × TakesSteps cost from (suc stopped.count) before after
+      (stopped : Stopped d w part bytes decoder p0 old e (grids_in regions store') p') ×
+      TakesSteps cost from (suc stopped.count) before after
 
 -- how far decoding is: the decoder and the reader, the store, and the steps that were taken
 pub record Moment (D X : Type 0) : Type 0 where
