@@ -106,11 +106,10 @@ fn decode_rows<S: Sample, D: Decoder>(
     requires long { length row.old ≡ (region_at (regions_of coding.now) i).width }
     requires at_row { IsInRow coding.now S.to_int store.old i 0 path [] state.old }
     ensures ok { OnOk result (DecodesCells coding.now D.meaning S.width S.to_int
-        (place_of (part_of coding.now) i 0 0)
-        (place_of (part_of coding.now) i 0 (region_at (regions_of coding.now) i).height)
+        (cells_before (part_of coding.now).channels i) (cells_before (part_of coding.now).channels (i + 1))
         (moment decoder.old bits.old store.old steps.old) (moment decoder.new bits.new store.new steps.new)) }
     ensures err { IfErr result (FailsInCells coding.now D.meaning S.width S.to_int
-        (place_of (part_of coding.now) i 0 0)
+        (cells_before (part_of coding.now).channels i)
         (moment decoder.old bits.old store.old steps.old) (moment decoder.new bits.new store.new steps.new)) }
     ensures at_row { OnOk result (IsInRow coding.now S.to_int store.new i
         (region_at (regions_of coding.now) i).height path [] state.new) }

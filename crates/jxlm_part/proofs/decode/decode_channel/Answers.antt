@@ -5,8 +5,8 @@ use Rattle.jxlm_part.specs.Inner.Channels.{region_at}
 use Rattle.jxlm_part.specs.Inner.Progress.{moment}
 use Rattle.jxlm_part.specs.Reading.{part_of, regions_of}
 use Rattle.jxlm_part.proofs.CellLaws.{flat_at}
-use Rattle.jxlm_part.proofs.Decoding.{at_first_row, channel_decoded, channel_failed, in_channel, none_decoded}
-use Rattle.jxlm_part.proofs.Loops.{channel_empty, err_so, ok_so}
+use Rattle.jxlm_part.proofs.Decoding.{at_first_row, in_channel, none_decoded}
+use Rattle.jxlm_part.proofs.Loops.{channel_empty, ok_so}
 use Rattle.jxlm_part.proofs.Starting.{after_channel, fits_widest}
 use Rattle.jxlm_part.proofs.decode.decode_channel.Goals as goal
 
@@ -36,20 +36,6 @@ pub returns-then-region-eq0-clause-ok : goal.returns-then-region-eq0-clause-ok
 returns-then-region-eq0-clause-ok g c =
     none_decoded c.args.coding.now g.D.Decoder.meaning g.S.Sealed.width g.S.Sealed.to_int _ _ (moment c.args.decoder.now c.args.bits.now c.args.store.now c.args.steps.now)
     (channel_empty (part_of c.args.coding.now) (regions_of c.args.coding.now) c.requires.part.coding.sizes c.args.i c.requires.channel c.if-region-eq0.true)
-
-pub returns-clause-ok : goal.returns-clause-ok
-returns-clause-ok g c =
-    ok_so c.decode_rows.result _ _
-    (channel_decoded c.args.coding.now g.D.Decoder.meaning g.S.Sealed.width g.S.Sealed.to_int c.requires.part.coding c.args.i c.requires.channel
-    (moment c.args.decoder.now c.args.bits.now c.args.store.now c.args.steps.now) (moment c.decode_rows.new.decoder c.decode_rows.new.bits c.decode_rows.new.store c.decode_rows.new.steps))
-    c.decode_rows.ensures.ok
-
-pub returns-clause-err : goal.returns-clause-err
-returns-clause-err g c =
-    err_so c.decode_rows.result _ _
-    (channel_failed c.args.coding.now g.D.Decoder.meaning g.S.Sealed.width g.S.Sealed.to_int c.requires.part.coding c.args.i c.requires.channel
-    (moment c.args.decoder.now c.args.bits.now c.args.store.now c.args.steps.now) (moment c.decode_rows.new.decoder c.decode_rows.new.bits c.decode_rows.new.store c.decode_rows.new.steps))
-    c.decode_rows.ensures.err
 
 pub returns-clause-roomy : goal.returns-clause-roomy
 returns-clause-roomy g c = ok_so c.decode_rows.result _ _ (λ h. h.roomy) c.decode_rows.ensures.at_row

@@ -4,7 +4,7 @@ use Rattle.jxlm_part.specs.Inner.Channels.{region_at}
 use Rattle.jxlm_part.specs.Inner.Progress.{DecodesCells, moment, place_of}
 use Rattle.jxlm_part.specs.Inner.Rows.{IsInRow}
 use Rattle.jxlm_part.specs.Reading.{part_of, regions_of}
-use Rattle.jxlm_part.proofs.Decoding.{decoded_further, failed_further, none_decoded, still_decoding}
+use Rattle.jxlm_part.proofs.Decoding.{channel_decoded, channel_failed, decoded_further, failed_further, none_decoded, still_decoding}
 use Rattle.jxlm_part.proofs.decode.decode_rows.Goals as goal
 
 pub decode_row-requires-clause-here : goal.decode_row-requires-clause-here
@@ -37,15 +37,19 @@ returns-in_err-decode_row-clause-err g c =
     let p = err_from_is_err_and c.from_residual.result c.from_residual.ensures.1 in
     let part = part_of c.args.coding.now in
     rw (p.1, p.2)
+    (channel_failed c.args.coding.now g.D.Decoder.meaning g.S.Sealed.width g.S.Sealed.to_int c.requires.here.part.coding c.args.i c.requires.here.channel
+    (moment c.args.decoder.now c.args.bits.now c.args.store.now c.args.steps.now) (moment c.decode_row.new.decoder c.decode_row.new.bits c.decode_row.new.store c.decode_row.new.steps) _
     (failed_further c.args.coding.now g.D.Decoder.meaning g.S.Sealed.width g.S.Sealed.to_int (place_of part c.args.i 0 0) (place_of part c.args.i 0 c.loop-y.y)
     (moment c.args.decoder.now c.args.bits.now c.args.store.now c.args.steps.now) (moment c.loop-y.decoder c.loop-y.bits c.loop-y.store c.loop-y.steps) c.loop-y.invariant.goes
-    (moment c.decode_row.new.decoder c.decode_row.new.bits c.decode_row.new.store c.decode_row.new.steps) _ c.in_err-decode_row.ensures.err)
+    (moment c.decode_row.new.decoder c.decode_row.new.bits c.decode_row.new.store c.decode_row.new.steps) _ c.in_err-decode_row.ensures.err))
 
 pub returns-clause-ok : goal.returns-clause-ok
 returns-clause-ok g c =
     let all : c.loop-y.y ≡ (region_at (regions_of c.args.coding.now) c.args.i).height = let end = c.loop-y.auto.y-end in omega (arith, end, c.loop-y-test.false) in
-    subst (λ n. DecodesCells c.args.coding.now g.D.Decoder.meaning g.S.Sealed.width g.S.Sealed.to_int (place_of (part_of c.args.coding.now) c.args.i 0 0) (place_of (part_of c.args.coding.now) c.args.i 0 n)
-    (moment c.args.decoder.now c.args.bits.now c.args.store.now c.args.steps.now) (moment c.loop-y.decoder c.loop-y.bits c.loop-y.store c.loop-y.steps)) all c.loop-y.invariant.goes
+    channel_decoded c.args.coding.now g.D.Decoder.meaning g.S.Sealed.width g.S.Sealed.to_int c.requires.here.part.coding c.args.i c.requires.here.channel
+    (moment c.args.decoder.now c.args.bits.now c.args.store.now c.args.steps.now) (moment c.loop-y.decoder c.loop-y.bits c.loop-y.store c.loop-y.steps)
+    (subst (λ n. DecodesCells c.args.coding.now g.D.Decoder.meaning g.S.Sealed.width g.S.Sealed.to_int (place_of (part_of c.args.coding.now) c.args.i 0 0) (place_of (part_of c.args.coding.now) c.args.i 0 n)
+    (moment c.args.decoder.now c.args.bits.now c.args.store.now c.args.steps.now) (moment c.loop-y.decoder c.loop-y.bits c.loop-y.store c.loop-y.steps)) all c.loop-y.invariant.goes)
 
 pub returns-clause-at_row : goal.returns-clause-at_row
 returns-clause-at_row g c =
