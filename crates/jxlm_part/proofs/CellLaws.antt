@@ -1,16 +1,18 @@
 -- A cell of a part: what it holds, and what is read into it.
-use Rattle.std.proofs.Common.{◌≡◌, ℕ, zero, suc, ◌+◌, ◌*◌, ◌/◌, ◌<◌, ◌≤◌, ◌^◌, List, [], ◌∷◌, ◌++◌, length, take, Some, refl, sym, ap, ◌∙◌, subst, arith, ℤ, slice_index_or}
-use Rattle.std.specs.Prelude.{slice_get, slice_set}
+use Rattle.std.proofs.Common.{◌≡◌, ◌≢◌, ℕ, zero, suc, ◌+◌, ◌*◌, ◌/◌, ◌<◌, ◌≤◌, ◌^◌, List, [], ◌∷◌, ◌++◌, length, take, Some, refl, sym, ap, ◌∙◌, subst, arith, ℤ, slice_index_or}
+use Rattle.std.specs.Prelude.{slice_get, slice_set, Result, Err}
 use Rattle.std.specs.List.{All}
 use Rattle.std.specs.Int.{Width}
 use Rattle.std.proofs.lemmas.List.{append-nil, append_assoc, length-append, length-take-le, take-set, take_more_set}
 use Rattle.std.proofs.lemmas.Nat.{div-mul-add, mul-add-lt}
 use Rattle.std.proofs.lemmas.Option.{get_or_from_slice_get}
 use Rattle.std.proofs.lemmas.List.Elements.{All-nil}
-use Rattle.jxlm_base.specs.Decoding.{Meaning}
+use Rattle.jxlm_base.specs.Bits.{bytes_of, position_of}
+use Rattle.jxlm_base.specs.Decoding.{Meaning, Taken}
 use Rattle.jxlm_base.specs.Grid.{Grid}
 use Rattle.jxlm_base.specs.Regions.{AllLie, grid_of, region, store_meanings}
 use Rattle.jxlm_base.specs.declared.decoder.DecoderError.{DecoderError}
+use Rattle.jxlm_base.specs.declared.decoder.DecoderError.TheVariants.{OutOfMemory}
 use Rattle.jxlm_base.specs.declared.subgrid.Region.{Region}
 use Rattle.jxlm_base.proofs.Regions.{IsFull-grid_of}
 use Rattle.jxlm_base.proofs.Cells.{slice_get-set_same}
@@ -27,7 +29,8 @@ use Rattle.jxlm_part.specs.Inner.Cells.{ReadsNext, FailsNext, leaf_at, predicted
 use Rattle.jxlm_part.specs.Inner.Channels.{StandsAfter, handed, region_at, setting_of}
 use Rattle.jxlm_part.specs.Progress.{grids_in}
 use Rattle.jxlm_part.specs.Inner.Progress.{preceding_cells}
-use Rattle.jxlm_part.specs.Inner.Rows.{FailsCell, FailsRow, ReadsCell, StandsInRow, row_rule}
+use Rattle.jxlm_part.specs.Inner.Rows.{FailsCell, FailsRow, ReadsCell, ReadsCells, StandsInRow, row_rule}
+use Rattle.jxlm_part.specs.Inner.Source.{Source}
 use Rattle.jxlm_part.specs.Rule.{Rule, CodedPrefix}
 use Rattle.jxlm_part.specs.declared.coding.PartCoding.{PartCoding}
 use Rattle.jxlm_part.proofs.Earlier.{earlier_all, same_sides}
@@ -39,9 +42,6 @@ use Rattle.jxlm_part.proofs.RowSees.{sees_regions}
 -- what is known of a state is known of the same
 pub stands_so : {X : Type 0} (s : Setting) (samples : List ℤ) (a b : PredictorState X) → b ≡ a → StandsAt a s samples → StandsAt b s samples
 stands_so s samples a b same h = subst (λ p. StandsAt p s samples) (sym same) h
-
-pub has_room_so : {X : Type 0} (old a b : PredictorState X) → b ≡ a → HasSameRoom old a → HasSameRoom old b
-has_room_so old a b same h = subst (HasSameRoom old) (sym same) h
 
 -- what holds of all earlier channels holds of those that are given to the state
 all_handed : {X : Type 0} (n : ℕ) (P : X → Type 0) (xs : List X) → All P xs → All P (handed n xs)
@@ -137,12 +137,12 @@ module _ {D : Type 0} (c : PartCoding D) (coding : IsCodingOf c) (i : ℕ) (li :
         ∙ sym (append_assoc (take (y * reg.width) cells) so_far (sample ∷ [])) in
         subst (StandsAt state (setting_of c i)) (sym more) stands
 
-    module _ (d : Meaning D) (w : Width) (bytes : List ℕ) (s : D) (p : ℕ) (other : FlatTree) where
+    module _ (d : Meaning D) (w : Width) (old : Source D) (other : FlatTree) where
       abbrev the_flat : FlatTree
       the_flat = slice_index_or c.flats.now i other
 
       abbrev rule : Rule D
-      rule = row_rule d w (part_of c) bytes (regions_of c) ints i y
+      rule = row_rule d w (part_of c) (bytes_of old.bits) (regions_of c) ints i y
 
       abbrev here : List ℤ
       here = preceding_cells (part_of c) (grids_in (regions_of c) ints) i 0 y ++ so_far
@@ -150,12 +150,16 @@ module _ {D : Type 0} (c : PartCoding D) (coding : IsCodingOf c) (i : ℕ) (li :
       next : IsNext (part_of c) (regions_of c) ints i here own (sees_regions (part_of c) (regions_of c) ints i y coding.sizes li qy so_far (omega (arith, row_long, px))) (setting_of c i)
       next = is_next (part_of c) (regions_of c) ints i here own (sees_regions (part_of c) (regions_of c) ints i y coding.sizes li qy so_far (omega (arith, row_long, px)))
 
+      -- how the leaf to which the flat tree leads reads its token
+      abbrev reading : Result (Taken ℕ D) DecoderError
+      reading = d.read old.decoder (bytes_of old.bits) (position_of old.bits) (leaf_at the_flat (setting_of c i) ints own).cluster c.widest
+
       -- the read of the rule is that of the leaf to which the flat tree leads
-      read_is : rule.read so_far s p ≡ d.read s bytes p (leaf_at the_flat (setting_of c i) ints own).cluster c.widest
+      read_is : rule.read so_far old.decoder (position_of old.bits) ≡ d.read old.decoder (bytes_of old.bits) (position_of old.bits) (leaf_at the_flat (setting_of c i) ints own).cluster c.widest
       read_is =
-          sym (ap (λ (l : Leaf). d.read s bytes p l.cluster (max_width (part_of c).channels)) next.leaf_is)
-          ∙ sym (ap (d.read s bytes p (leaf_at (flat c.config.now.tree c.stream_index i) (setting_of c i) ints own).cluster) coding.widest)
-          ∙ sym (ap (λ (t : FlatTree). d.read s bytes p (leaf_at t (setting_of c i) ints own).cluster c.widest) (flat_at other))
+          sym (ap (λ (l : Leaf). d.read old.decoder (bytes_of old.bits) (position_of old.bits) l.cluster (max_width (part_of c).channels)) next.leaf_is)
+          ∙ sym (ap (d.read old.decoder (bytes_of old.bits) (position_of old.bits) (leaf_at (flat c.config.now.tree c.stream_index i) (setting_of c i) ints own).cluster) coding.widest)
+          ∙ sym (ap (λ (t : FlatTree). d.read old.decoder (bytes_of old.bits) (position_of old.bits) (leaf_at t (setting_of c i) ints own).cluster c.widest) (flat_at other))
 
       value_is : (token : ℕ) → rule.value so_far token ≡ sample_of w (leaf_at the_flat (setting_of c i) ints own) (predicted_at the_flat (setting_of c i) ints own) token
       value_is token =
@@ -163,40 +167,57 @@ module _ {D : Type 0} (c : PartCoding D) (coding : IsCodingOf c) (i : ℕ) (li :
           ∙ sym (ap (λ z. sample_of w (leaf_at (flat c.config.now.tree c.stream_index i) (setting_of c i) ints own) z token) next.predicted_is)
           ∙ sym (ap (λ (t : FlatTree). sample_of w (leaf_at t (setting_of c i) ints own) (predicted_at t (setting_of c i) ints own) token) (flat_at other))
 
-      pub fails_cell : (t : D) (q : ℕ) (e : DecoderError) → FailsNext s t p q e (d.read s bytes p (leaf_at the_flat (setting_of c i) ints own).cluster c.widest) →
-          FailsCell rule row x s p row t q e
-      fails_cell t q e refuses = record { error = read_is ∙ refuses.error; row_is = refl; state_is = refuses.state_is; place_is = refuses.place_is }
+      pub fails_cell : (new : Source D) (e : DecoderError) → FailsNext old.decoder new.decoder (position_of old.bits) (position_of new.bits) e reading → e ≢ OutOfMemory →
+          bytes_of new.bits ≡ bytes_of old.bits → FailsCell rule row x old new row e
+      fails_cell new e refuses memory bytes = record {
+        error = read_is ∙ refuses.error;
+        row_is = refl;
+        state_is = refuses.state_is;
+        place_is = refuses.place_is;
+        memory = memory;
+        bytes = bytes;
+      }
 
-      pub reads_cell : (from_int : ℤ → X) → ((n : ℤ) → to_int (from_int n) ≡ n) → (sample : X) (new : List ℤ) (t : D) (q : ℕ) → new ≡ slice_set row x (to_int sample) →
-          ReadsNext w from_int (leaf_at the_flat (setting_of c i) ints own) (predicted_at the_flat (setting_of c i) ints own) sample t q
-          (d.read s bytes p (leaf_at the_flat (setting_of c i) ints own).cluster c.widest) →
-          ReadsCell rule row x s p new t q
-      reads_cell from_int back sample new t q written reads = record {
+      pub reads_cell : (from_int : ℤ → X) → ((n : ℤ) → to_int (from_int n) ≡ n) → (sample : X) (now : List ℤ) (new : Source D) → now ≡ slice_set row x (to_int sample) →
+          ReadsNext w from_int (leaf_at the_flat (setting_of c i) ints own) (predicted_at the_flat (setting_of c i) ints own) sample new.decoder (position_of new.bits) reading →
+          d.cluster_map new.decoder ≡ d.cluster_map old.decoder → bytes_of new.bits ≡ bytes_of old.bits → ReadsCell d rule row x old new now
+      reads_cell from_int back sample now new written reads clusters bytes = record {
         token = reads.token;
         read = read_is ∙ reads.read;
         written = written ∙ ap (slice_set row x) (ap to_int reads.sample_is ∙ back _ ∙ sym (value_is reads.token));
+        clusters = clusters;
+        bytes = bytes;
       }
 
 -- at the first cell of a row the state is after the rows above
-pub begins_row : {D X : Type 0} (c : PartCoding D) (i : ℕ) (to_int : X → ℤ) (store : List (Grid X)) (y : ℕ) (row : List ℤ) (state : PredictorState X) →
-    StandsAfter c to_int store i (y * (region_at (regions_of c) i).width) state → StandsInRow c to_int store i y (take 0 row) state
-begins_row c i to_int store y row state h = subst (StandsAt state (setting_of c i)) (sym (append-nil _)) h
+pub begins_row : {D X : Type 0} (c : PartCoding D) (i : ℕ) (to_int : X → ℤ) (store : List (Grid X)) (y : ℕ) (state : PredictorState X) →
+    StandsAfter c to_int store i (y * (region_at (regions_of c) i).width) state → StandsInRow c to_int store i y [] state
+begins_row c i to_int store y state h = subst (StandsAt state (setting_of c i)) (sym (append-nil _)) h
 
 -- ---- cells of a row, one after another
 
-module _ {S : Type 0} (rule : Rule S) (s0 : S) (p0 : ℕ) where
-  pub cell_more : (row new : List ℤ) (x : ℕ) (s : S) (p : ℕ) (t : S) (q : ℕ) → x < length row → CodedPrefix rule row s0 p0 x s p → ReadsCell rule row x s p new t q →
-      CodedPrefix rule new s0 p0 (x + 1) t q
-  cell_more row new x s p t q inside h reads =
-      let v : ℤ = rule.value (take x row) reads.token in
+module _ {S : Type 0} (d : Meaning S) (rule : Rule S) (start : Source S) (row : List ℤ) (x : ℕ) (old : Source S) (inside : x < length row) (before : ReadsCells d rule row x start old) where
+  pub cell_more : (new : Source S) (now : List ℤ) → ReadsCell d rule row x old new now → ReadsCells d rule now (x + 1) start new
+  cell_more new now h =
+      let v : ℤ = rule.value (take x row) h.token in
       let next : suc x ≡ x + 1 = omega arith in
-      let same : take x row ≡ take x new = sym (take-set row x v) ∙ ap (take x) (sym reads.written) in
-      subst (λ n. CodedPrefix rule new s0 p0 n t q) next
-      (prefix_more rule s0 p0 row new x s p reads.token t q same h (ap (λ r. rule.read r s p) (sym same) ∙ reads.read)
-      (ap (λ r. slice_get r x) reads.written ∙ slice_get-set_same row x v inside ∙ ap (λ r. Some (rule.value r reads.token)) same))
+      let same : take x row ≡ take x now = sym (take-set row x v) ∙ ap (take x) (sym h.written) in
+      record {
+        reads = subst (λ n. CodedPrefix rule now start.decoder (position_of start.bits) n new.decoder (position_of new.bits)) next
+            (prefix_more rule start.decoder (position_of start.bits) row now x old.decoder (position_of old.bits) h.token new.decoder (position_of new.bits) same before.reads
+            (ap (λ r. rule.read r old.decoder (position_of old.bits)) (sym same) ∙ h.read)
+            (ap (λ r. slice_get r x) h.written ∙ slice_get-set_same row x v inside ∙ ap (λ r. Some (rule.value r h.token)) same));
+        clusters = h.clusters ∙ before.clusters;
+        bytes = h.bytes ∙ before.bytes;
+      }
 
-  pub cell_fails : (row new : List ℤ) (x : ℕ) (s : S) (p : ℕ) (t : S) (q : ℕ) (e : DecoderError) → x < length row → CodedPrefix rule row s0 p0 x s p → FailsCell rule row x s p new t q e →
-      FailsRow rule new s0 p0 x e q
-  cell_fails row new x s p t q e inside h fails =
-      subst (λ r. FailsRow rule r s0 p0 x e q) (sym fails.row_is)
-      (subst (FailsRow rule row s0 p0 x e) (sym fails.place_is) (record { state = s; inside = inside; reads = h; error = fails.error }))
+  pub cell_fails : (new : Source S) (now : List ℤ) (e : DecoderError) → FailsCell rule row x old new now e → FailsRow rule now start new (record { column = x; error = e })
+  cell_fails new now e h =
+      subst (λ r. FailsRow rule r start new (record { column = x; error = e })) (sym h.row_is) (record {
+        state = old.decoder;
+        inside = inside;
+        reads = subst (λ q. CodedPrefix rule row start.decoder (position_of start.bits) x old.decoder q) (sym h.place_is) before.reads;
+        error = subst (λ q. rule.read (take x row) old.decoder q ≡ Err e) (sym h.place_is) h.error;
+        memory = h.memory;
+        bytes = h.bytes ∙ before.bytes;
+      })

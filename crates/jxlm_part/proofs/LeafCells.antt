@@ -1,32 +1,77 @@
 -- One more cell of a row is read at a leaf.
-use Rattle.std.proofs.Common.{◌≡◌, ℕ, zero, suc, ◌+◌, ◌<◌, List, [], length, take, map, Some, Ok, refl, sym, ap, ◌∙◌, subst, arith, ℤ, pos, ◌+ℤ◌, ◌*ℤ◌}
+use Rattle.std.proofs.Common.{◌≡◌, ℕ, zero, suc, ◌+◌, ◌<◌, List, [], Contains, length, take, map, Some, Ok, Err, refl, sym, ap, ◌∙◌, subst, arith, ℤ, pos, ◌+ℤ◌, ◌*ℤ◌}
 use Rattle.std.specs.Prelude.{get_or, slice_set}
 use Rattle.std.specs.Int.{Width, w32, int_wrap}
 use Rattle.std.proofs.Math.IntN.{+ℤ_idr, *ℤ_comm, suc_ℤ-*ℤ, zero-*ℤ, +ℤ_idl}
 use Rattle.std.proofs.lemmas.Int.{int_wrap-add_left, int_wrap-add_right}
-use Rattle.std.proofs.lemmas.List.{get_or-map, get_or-set_same, get_or-take, length-take-le, take-set}
-use Rattle.jxlm_base.specs.Decoding.{Meaning}
+use Rattle.std.proofs.lemmas.List.{get_or-map, get_or-set_same, get_or-take, length-map, length-take-le, map-set, take-set}
+use Rattle.jxlm_base.specs.Bits.{bytes_of, position_of}
+use Rattle.jxlm_base.specs.Decoding.{IsLawful, Meaning, ReadGives}
 use Rattle.jxlm_base.specs.Numbers.{clamped_gradient, unpack}
+use Rattle.jxlm_base.specs.declared.decoder.DecoderError.{DecoderError}
 use Rattle.jxlm_base.proofs.Cells.{slice_get-set_same}
 use Rattle.jxlm_tree.specs.declared.flat.Leaf.{Leaf}
 use Rattle.jxlm_part.specs.Coded.{sample_of}
 use Rattle.jxlm_part.specs.Inner.Leaves.{IsPlain, gradient_in, leaf_rule, next_by, north_in, north_west_in, west_in}
 use Rattle.jxlm_part.specs.declared.leaves.Path.TheVariants.{Gradient}
-use Rattle.jxlm_part.specs.Rule.{CodedPrefix}
+use Rattle.jxlm_part.specs.Inner.Rows.{FailsRow, ReadsCells, ReadsRow}
+use Rattle.jxlm_part.specs.Inner.Source.{Source}
+use Rattle.jxlm_part.specs.Rule.{Rule, CodedPrefix}
 use Rattle.jxlm_part.proofs.Prefixes.{prefix_more}
 
 -- ---- any path that reads at one leaf
 
-module _ {S : Type 0} (d : Meaning S) (w : Width) (bytes : List ℕ) (l : Leaf) (widest : ℕ) (predicted : List ℤ → ℤ) (s0 : S) (p0 : ℕ) where
-  pub leaf_more : (row : List ℤ) (x : ℕ) (s : S) (p token : ℕ) (t : S) (q : ℕ) (v : ℤ) → x < length row → CodedPrefix (leaf_rule d w bytes l widest predicted) row s0 p0 x s p →
-      d.read s bytes p l.cluster widest ≡ Ok (record { value = token; state = t; position = q }) → v ≡ sample_of w l (predicted (take x row)) token →
-      CodedPrefix (leaf_rule d w bytes l widest predicted) (slice_set row x v) s0 p0 (x + 1) t q
-  leaf_more row x s p token t q v inside h read is =
-      let rule = leaf_rule d w bytes l widest predicted in
-      let next : suc x ≡ x + 1 = omega arith in
-      subst (λ n. CodedPrefix rule (slice_set row x v) s0 p0 n t q) next
-      (prefix_more rule s0 p0 row (slice_set row x v) x s p token t q (sym (take-set row x v)) h read
-      (slice_get-set_same row x v inside ∙ ap Some (is ∙ ap (λ r. sample_of w l (predicted r) token) (sym (take-set row x v)))))
+-- The loop over the cells of a row: `old` is where the row began, `now` where the reader is at column x, `new` where it
+-- is after the next read.
+module _ {D X : Type 0} (d : Meaning D) (lawful : IsLawful d) (w : Width) (to_int : X → ℤ) (l : Leaf) (widest : ℕ) (predicted : List ℤ → ℤ) (old now new : Source D) (row : List X) (x : ℕ)
+    (known : Contains (d.cluster_map old.decoder) l.cluster) (inside : x < length row) where
+  abbrev rule : Rule D
+  rule = leaf_rule d w (bytes_of old.bits) l widest predicted
+
+  abbrev R : List ℤ
+  R = map to_int row
+
+  module _ (h : ReadsCells d rule R x old now) (same : bytes_of new.bits ≡ bytes_of now.bits) where
+    known_now : Contains (d.cluster_map now.decoder) l.cluster
+    known_now = subst (λ clusters. Contains clusters l.cluster) (sym h.clusters) known
+
+    in_row : x < length R
+    in_row = let m = length-map row to_int in omega (arith, m, inside)
+
+    -- one more was read, and its sample written
+    pub leaf_more : (token : ℕ) (v : X) → d.read now.decoder (bytes_of now.bits) (position_of now.bits) l.cluster widest ≡ Ok (record { value = token; state = new.decoder; position = position_of new.bits }) →
+        to_int v ≡ sample_of w l (predicted (take x R)) token → ReadsCells d rule (map to_int (slice_set row x v)) (x + 1) old new
+    leaf_more token v read is =
+        let z : ℤ = to_int v in
+        let next : suc x ≡ x + 1 = omega arith in
+        let read_here = subst (λ bytes. d.read now.decoder bytes (position_of now.bits) l.cluster widest ≡ Ok (record { value = token; state = new.decoder; position = position_of new.bits })) h.bytes read in
+        let reads : CodedPrefix rule (slice_set R x z) old.decoder (position_of old.bits) (x + 1) new.decoder (position_of new.bits) =
+        subst (λ n. CodedPrefix rule (slice_set R x z) old.decoder (position_of old.bits) n new.decoder (position_of new.bits)) next
+        (prefix_more rule old.decoder (position_of old.bits) R (slice_set R x z) x now.decoder (position_of now.bits) token new.decoder (position_of new.bits) (sym (take-set R x z)) h.reads read_here
+        (slice_get-set_same R x z in_row ∙ ap Some (is ∙ ap (λ r. sample_of w l (predicted r) token) (sym (take-set R x z))))) in
+        record {
+          reads = subst (λ r. CodedPrefix rule r old.decoder (position_of old.bits) (x + 1) new.decoder (position_of new.bits)) (sym (map-set to_int row x v)) reads;
+          clusters = (lawful.read_keeps now.decoder (bytes_of now.bits) (position_of now.bits) l.cluster widest _ known_now read).clusters ∙ h.clusters;
+          bytes = same ∙ h.bytes;
+        }
+
+    -- the read returned an error
+    pub leaf_ends : (e : DecoderError) → ReadGives (Err e) now.decoder new.decoder (position_of now.bits) (position_of new.bits) (d.read now.decoder (bytes_of now.bits) (position_of now.bits) l.cluster widest) →
+        FailsRow rule R old new (record { column = x; error = e })
+    leaf_ends e gives = record {
+      state = now.decoder;
+      inside = in_row;
+      reads = subst (λ q. CodedPrefix rule R old.decoder (position_of old.bits) x now.decoder q) (sym gives.2) h.reads;
+      error = subst (λ q. d.read now.decoder (bytes_of old.bits) q l.cluster widest ≡ Err e) (sym gives.2)
+          (subst (λ bytes. d.read now.decoder bytes (position_of now.bits) l.cluster widest ≡ Err e) h.bytes gives.0);
+      memory = λ is. lawful.read_memory now.decoder (bytes_of now.bits) (position_of now.bits) l.cluster widest known_now (gives.0 ∙ ap Err is);
+      bytes = same ∙ h.bytes;
+    }
+
+-- all of them were read
+pub leaf_whole : {D X : Type 0} (d : Meaning D) (rule : Rule D) (to_int : X → ℤ) (old now : Source D) (row : List X) (x : ℕ) → ReadsCells d rule (map to_int row) x old now → x ≡ length row →
+    ReadsRow d rule (map to_int row) old now
+leaf_whole d rule to_int old now row x h all = subst (λ n. ReadsCells d rule (map to_int row) n old now) (all ∙ sym (length-map row to_int)) h
 
 -- at a leaf that adds nothing more, tokens and predictions are added as samples
 pub plain_sample : (w : Width) (l : Leaf) (token : ℕ) (g : ℤ) → IsPlain l → sample_of w l g token ≡ int_wrap w (unpack token +ℤ g)

@@ -1,9 +1,10 @@
 -- Rows that are read at one leaf with a path are those of a part whose tree is this leaf.
-use Rattle.std.proofs.Common.{◌≡◌, ℕ, ◌<◌, List, ◌++◌, length, Some, sym, ap, ◌∙◌, ℤ}
+use Rattle.std.proofs.Common.{◌≡◌, ℕ, ◌<◌, List, ◌++◌, length, Some, sym, ap, ◌∙◌, subst, ℤ}
 use Rattle.std.specs.Int.{Width}
+use Rattle.jxlm_base.specs.Bits.{bytes_of}
 use Rattle.jxlm_base.specs.Decoding.{Meaning}
 use Rattle.jxlm_base.specs.Grid.{Grid}
-use Rattle.jxlm_base.specs.Regions.{grid_of}
+use Rattle.jxlm_base.specs.Regions.{grid_of, store_meanings}
 use Rattle.jxlm_base.specs.declared.subgrid.Region.{Region}
 use Rattle.jxlm_base.proofs.Regions.{IsFull-grid_of}
 use Rattle.jxlm_tree.specs.Predictions.{prediction}
@@ -11,8 +12,14 @@ use Rattle.jxlm_tree.specs.Properties.{property}
 use Rattle.jxlm_tree.specs.Tree.{leaf, walk}
 use Rattle.jxlm_tree.specs.declared.flat.Leaf.{Leaf}
 use Rattle.jxlm_part.specs.Coded.{next_prediction, sample_of}
-use Rattle.jxlm_part.specs.Inner.Leaves.{HasPath, next_by, path_rule, row_above}
-use Rattle.jxlm_part.specs.Inner.Rows.{AreAlike, row_rule}
+use Rattle.jxlm_part.specs.Inner.Leaves.{HasPath, IsOnlyLeaf, next_by, path_rule, row_above}
+use Rattle.jxlm_part.specs.Inner.Rows.{AreAlike, FailsRow, IsDecoding, ReadsRow, row_rule, rule_in}
+use Rattle.jxlm_part.specs.Inner.Source.{Source}
+use Rattle.jxlm_part.specs.Reading.{part_of, regions_of}
+use Rattle.jxlm_part.specs.Rule.{Rule}
+use Rattle.jxlm_part.specs.declared.coding.PartCoding.{PartCoding}
+use Rattle.jxlm_part.specs.declared.rows.RowError.{RowError}
+use Rattle.jxlm_part.proofs.AlikeRules.{alike_fails, alike_reads}
 use Rattle.jxlm_transform.specs.Channels.{AreRegionsOf}
 use Rattle.jxlm_part.specs.Part.{Part, channel, max_width, next_channel, next_leaf, samples_of, surroundings}
 use Rattle.jxlm_part.specs.Progress.{grids_in}
@@ -59,3 +66,22 @@ module _ {S : Type 0} (d : Meaning S) (w : Width) (part : Part) (bytes : List �
     (λ s p. ap (λ (k : Leaf). d.read s bytes p k.cluster (max_width part.channels)) (sym (leaf_is (here row short)))),
     (λ token. ap (λ z. sample_of w l.leaf z token) (sym (predicted_is row short)) ∙ ap (λ (k : Leaf). sample_of w k (next_prediction part (here row short)) token) (sym (leaf_is (here row short)))),
   )
+
+-- What is read at the only leaf of a part's tree is what the part reads.
+module _ {D X : Type 0} (c : PartCoding D) (d : Meaning D) (w : Width) (to_int : X → ℤ) (store : List (Grid X)) (clusters : List ℕ) (i y : ℕ) (here : IsDecoding c i store clusters)
+    (qy : y < (region_at (regions_of c) i).height) (l : LeafPath) (only : IsOnlyLeaf c l) (row : List ℤ) (long : length row ≡ (region_at (regions_of c) i).width) (old new : Source D) where
+  abbrev pub path_in : Rule D
+  path_in = path_rule d w (bytes_of old.bits) l.leaf c.widest l.path (row_above (grid_of (store_meanings to_int store) (region_at (regions_of c) i)) y)
+
+  alike : AreAlike path_in (rule_in c to_int store i y d w (bytes_of old.bits)) (length row)
+  alike =
+      subst (λ n. AreAlike path_in (rule_in c to_int store i y d w (bytes_of old.bits)) n) (sym long)
+      (subst (λ m. AreAlike (path_rule d w (bytes_of old.bits) l.leaf m l.path (row_above (grid_of (store_meanings to_int store) (region_at (regions_of c) i)) y))
+      (rule_in c to_int store i y d w (bytes_of old.bits)) (region_at (regions_of c) i).width) (sym here.part.coding.widest)
+      (leaf_rows d w (part_of c) (bytes_of old.bits) (regions_of c) (store_meanings to_int store) i y here.part.coding.sizes here.channel qy l only.tree only.path))
+
+  pub leaf_reads : ReadsRow d path_in row old new → ReadsRow d (rule_in c to_int store i y d w (bytes_of old.bits)) row old new
+  leaf_reads = alike_reads path_in (rule_in c to_int store i y d w (bytes_of old.bits)) row alike old new d
+
+  pub leaf_fails : (r : RowError) → FailsRow path_in row old new r → FailsRow (rule_in c to_int store i y d w (bytes_of old.bits)) row old new r
+  leaf_fails = alike_fails path_in (rule_in c to_int store i y d w (bytes_of old.bits)) row alike old new

@@ -1,5 +1,7 @@
+pub mod AlikeRules
 pub mod CellLaws
 pub mod Counts
+pub mod Decoding
 pub mod Earlier
 pub mod LeafCells
 pub mod LeafRows

@@ -5,7 +5,6 @@ use Rattle.std.specs.Int.{Width}
 use Rattle.std.proofs.lemmas.List.{length-append}
 use Rattle.std.proofs.Math.Seq.{take-length}
 use Rattle.std.proofs.lemmas.List.Sums.{sum_by-cons}
-use Rattle.std.proofs.lemmas.Nat.{mul-le}
 use Rattle.jxlm_base.specs.Decoding.{Meaning}
 use Rattle.jxlm_base.specs.Grid.{Grid}
 use Rattle.jxlm_base.specs.Regions.{grid_of}
@@ -59,27 +58,12 @@ sums_within a b c s t u h k = omega (arith, h, k)
 pub takes_none : (cost k before : ℕ) → TakesSteps cost k k before before
 takes_none cost k before = omega arith
 
-pub takes_one : (cost k before after : ℕ) → after ≤ before + cost → TakesSteps cost k (suc k) before after
-takes_one cost k before after h = omega (arith, h)
-
 pub takes_some : (cost k n before after : ℕ) → after ≤ before + n * cost → TakesSteps cost k (k + n) before after
 takes_some cost k n before after h = omega (arith, h)
 
-pub takes_less : (cost a b before after : ℕ) → a ≤ b → after ≤ before → TakesSteps cost a b before after
-takes_less cost a b before after h few = let m = mul-le a cost b cost h (omega arith) in omega (arith, few, m)
-
 -- ---- results
 
--- what a result says for each count, it says for one, and the other way round
-pub err_at : {A E : Type 0} (r : Result A E) (P : E → ℕ → Type 0) (n : ℕ) → IfErr r (λ e. (m : ℕ) → P e m) → IfErr r (λ e. P e n)
-err_at (Ok a) P n h = h
-err_at (Err e) P n h = h n
-
-pub err_all : {A E : Type 0} (r : Result A E) (P : E → ℕ → Type 0) → ((n : ℕ) → IfErr r (λ e. P e n)) → IfErr r (λ e. (n : ℕ) → P e n)
-err_all (Ok a) P h = h 0
-err_all (Err e) P h = h
-
--- what follows from it
+-- what follows from an error, and from its absence
 pub err_so : {A E : Type 0} (r : Result A E) (P Q : E → Type 0) → ((e : E) → P e → Q e) → IfErr r P → IfErr r Q
 err_so (Ok a) P Q so h = h
 err_so (Err e) P Q so h = so e h
@@ -88,22 +72,10 @@ pub ok_so : {A E : Type 0} (r : Result A E) (P Q : Type 0) → (P → Q) → OnO
 ok_so (Ok a) P Q so h = so h
 ok_so (Err e) P Q so h = h
 
--- what holds, holds for it
-pub err_still : {A E : Type 0} (r : Result A E) (P : E → Type 0) → ((e : E) → P e) → IfErr r P
-err_still (Ok a) P h = tt
-err_still (Err e) P h = h e
-
-pub ok_still : {A E : Type 0} (r : Result A E) (P : Type 0) → P → OnOk r P
-ok_still (Ok a) P h = h
-ok_still (Err e) P h = tt
-
 -- ---- steps taken one after another
 
 pub takes_further : (cost a b c s t u : ℕ) → TakesSteps cost a b s t → TakesSteps cost b c t u → TakesSteps cost a c s u
 takes_further cost a b c s t u h k = sums_within (a * cost) (b * cost) (c * cost) s t u h k
-
-pub takes_between : (cost a b c d s t : ℕ) → a ≡ c → b ≡ d → TakesSteps cost a b s t → TakesSteps cost c d s t
-takes_between cost a b c d s t p q h = rw (← p, ← q) h
 
 -- ---- cells by their number
 
@@ -141,23 +113,7 @@ fits_in (c ∷ cs) [] store h = absurd h
 fits_in (c ∷ cs) (r ∷ rs) store h =
     (record { same_width = h.0.0; same_height = h.0.1; full = IsFull-grid_of store r }, fits_in cs rs store h.1)
 
--- a cell of a region is one of its channel
-pub record IsPlace (part : Part) (i x y : ℕ) : Type 0 where
-  pub there : i < length part.channels
-  pub column : x < (channel part.channels i).width
-  pub row : y < (channel part.channels i).height
-
 module _ (part : Part) (regions : List Region) (sizes : AreRegionsOf part.channels regions) where
-  pub is_place : (i x y : ℕ) → i < length regions → x < (region_at regions i).width → y < (region_at regions i).height → IsPlace part i x y
-  is_place i x y li px qy =
-      let same = same_size part.channels regions i sizes li in
-      let count = same_count part.channels regions sizes in
-      record {
-        there = omega (arith, count);
-        column = subst (λ n. x < n) same.0 px;
-        row = subst (λ n. y < n) same.1 qy;
-      }
-
   -- ---- the ends of rows and channels
 
   pub row_done : (i y : ℕ) → i < length regions → place_of part i (region_at regions i).width y ≡ place_of part i 0 (y + 1)

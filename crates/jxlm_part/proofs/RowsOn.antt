@@ -1,8 +1,8 @@
 -- From a row that was read and written to the part that was decoded further.
-use Rattle.std.proofs.Common.{◌≡◌, ℕ, zero, suc, ◌+◌, ◌*◌, ◌<◌, ◌≤◌, List, ◌++◌, length, take, map, Some, Ok, Err, refl, sym, ap, ◌∙◌, subst, arith, ℤ, pos}
-use Rattle.std.specs.Prelude.{get_or, slice_set, Result, OnOk, IfErr}
+use Rattle.std.proofs.Common.{◌≡◌, ℕ, zero, suc, ◌+◌, ◌*◌, ◌<◌, ◌≤◌, List, ◌++◌, length, take, map, Ok, Err, refl, sym, ap, ◌∙◌, subst, arith, ℤ, pos}
+use Rattle.std.specs.Prelude.{get_or, slice_set, Result, IfErr}
 use Rattle.std.specs.Int.{Width}
-use Rattle.std.proofs.lemmas.List.{length-map, length-take, length-take-le, take-map, take-take, take_all}
+use Rattle.std.proofs.lemmas.List.{length-map, length-take-le, take-map, take-take, take_all}
 use Rattle.std.proofs.lemmas.Option.{get_or_from_slice_get}
 use Rattle.jxlm_base.specs.Decoding.{Meaning, Taken}
 use Rattle.jxlm_base.specs.Grid.{Grid}
@@ -16,24 +16,13 @@ use Rattle.jxlm_part.specs.Part.{Part, cells_of, channel}
 use Rattle.jxlm_part.specs.Progress.{grids_in}
 use Rattle.jxlm_part.specs.Inner.Progress.{GoesOn, Reached, Stops, TakesSteps, preceding_cells, place_of}
 use Rattle.jxlm_part.specs.Inner.Channels.{region_at}
-use Rattle.jxlm_part.specs.Inner.Rows.{AreAlike, ReadsRow, FailsRow, SetsRead, first_columns, rule_after}
+use Rattle.jxlm_part.specs.Inner.Rows.{SetsRead, first_columns, rule_after}
 use Rattle.jxlm_part.specs.Rule.{Rule, CodedPrefix}
 use Rattle.jxlm_part.specs.declared.rows.RowError.{RowError}
 use Rattle.jxlm_part.proofs.Loops.{all_cells, goes_between, grid_in, row_done, same_count, same_size, takes_some}
 use Rattle.jxlm_part.proofs.Prefixes.{prefix_same}
 use Rattle.jxlm_part.proofs.Progress.{reached_more, stands_within, with_cell_of}
 use Rattle.jxlm_part.proofs.RowWrites.{cells_first, none_written, one_more_written, row_grids, row_keeps, with_cells_of, with_first}
-
--- what one of two rules that are alike reads, the other reads
-pub alike_prefix : {S : Type 0} (a b : Rule S) (n : ℕ) (row : List ℤ) (s : S) (p : ℕ) → AreAlike a b n → (x : ℕ) (t : S) (q : ℕ) → x ≤ n → CodedPrefix a row s p x t q → CodedPrefix b row s p x t q
-alike_prefix a b n row s p same zero t q l h = h
-alike_prefix a b n row s p same (suc x) t q l h =
-    let short : length (take x row) < n = let m = length-take x row in omega (arith, m) in
-    let one = same (take x row) short in
-    (h.0, h.1, h.2, alike_prefix a b n row s p same x h.0 h.1 (omega arith) h.3, sym (one.0 h.0 h.1) ∙ h.4, h.5 ∙ ap Some (one.1 h.2))
-
-pub alike_self : {S : Type 0} (a : Rule S) (n : ℕ) → AreAlike a a n
-alike_self a n row short = ((λ s p. refl), (λ token. refl))
 
 module _ {S : Type 0} (d : Meaning S) (w : Width) (part : Part) (bytes : List ℕ) where
   module _ (decoder : S) (p0 : ℕ) (old : List (Grid ℤ)) (i y : ℕ) (now : List (Grid ℤ)) (l : i < length part.channels) (qy : y < (channel part.channels i).height) (row : List ℤ) (s : S) (q : ℕ)
@@ -127,67 +116,36 @@ module _ {S : Type 0} (d : Meaning S) (w : Width) (part : Part) (bytes : List �
             subst (λ k. TakesSteps cost (place_of part i 0 y) k before after) next (takes_some cost (place_of part i 0 y) (suc n) before after few),
           )
 
-    -- ---- a row function's answer, by any rule that is alike
+    -- ---- a row that was read is written
 
-    module _ (rule : Rule S) (row : List X) (long : length row ≡ (region_at regions i).width) (alike : AreAlike rule row_rule (region_at regions i).width) where
-      pub row_read : (t : S) (q : ℕ) → SetsRow (region_at regions i) y row store new → ReadsRow rule (map to_int row) s p t q →
+    module _ (row : List X) (long : length row ≡ (region_at regions i).width) where
+      pub row_read : (t : S) (q : ℕ) → SetsRow (region_at regions i) y row store new → CodedPrefix row_rule (map to_int row) s p (length (map to_int row)) t q →
           GoesOn d w part bytes regions (place_of part i 0 y) (place_of part i 0 (y + 1)) ints s p (store_meanings to_int new) t q
       row_read t q sets reads =
           let width : ℕ = (region_at regions i).width in
-          let m = length-map row to_int in
-          let all : length (map to_int row) ≡ width = m ∙ long in
-          let le : width ≤ width = omega arith in
-          let by_part = alike_prefix rule row_rule width (map to_int row) s p alike width t q le (subst (λ n. CodedPrefix rule (map to_int row) s p n t q) all reads) in
-          goes_between d w part bytes regions ints s p (place_of part i 0 y) (place_of part i width y) (store_meanings to_int new) t q (row_goes_on row width long le sets t q by_part)
+          let all : length (map to_int row) ≡ width = length-map row to_int ∙ long in
+          goes_between d w part bytes regions ints s p (place_of part i 0 y) (place_of part i width y) (store_meanings to_int new) t q
+          (row_goes_on row width long (omega arith) sets t q (subst (λ n. CodedPrefix row_rule (map to_int row) s p n t q) all reads))
           (place_of part i 0 y) (place_of part i 0 (y + 1)) refl (row_done part regions sizes i y li)
 
-      pub row_refused : (x : ℕ) (e : DecoderError) (q : ℕ) → SetsRow (first_columns (region_at regions i) x) y (take x row) store new → FailsRow rule (map to_int row) s p x e q →
+      pub row_refused : (x : ℕ) (e : DecoderError) (t : S) (q : ℕ) → SetsRow (first_columns (region_at regions i) x) y (take x row) store new → x < length (map to_int row) →
+          CodedPrefix row_rule (map to_int row) s p x t q → row_rule.read (take x (map to_int row)) t q ≡ Err e →
           (cost before after : ℕ) → after ≤ before + suc x * cost → Stops d w part bytes regions cost before after (place_of part i 0 y) ints s p (store_meanings to_int new) q e
-      row_refused x e q sets h cost before after few =
-          let width : ℕ = (region_at regions i).width in
+      row_refused x e t q sets in_row reads error cost before after few =
           let R : List ℤ = map to_int row in
           let m = length-map row to_int in
-          let inside : x < width = let k = h.inside in omega (arith, k, m, long) in
-          let le : x ≤ x = omega arith in
+          let inside : x < (region_at regions i).width = omega (arith, in_row, m, long) in
           let count : length (take x row) ≡ x = length-take-le x row (omega (arith, inside, long)) in
           let is : take x R ≡ map to_int (take x row) = take-map to_int x row in
-          let same : take x R ≡ take x (map to_int (take x row)) = sym (take-take x x R le) ∙ ap (take x) is in
-          let by_part = alike_prefix rule row_rule width R s p alike x h.state q (omega (arith, inside)) h.reads in
-          let short : length (take x R) < width = let k = length-take x R in omega (arith, k, inside) in
-          row_stops (take x row) x count (omega (arith, inside)) sets cost before after h.state q e inside few (prefix_same row_rule s p R (map to_int (take x row)) x h.state q same by_part)
-          (ap (λ cs. row_rule.read cs h.state q) (sym is) ∙ sym ((alike (take x R) short).0 h.state q) ∙ h.error)
+          let same : take x R ≡ take x (map to_int (take x row)) = sym (take-take x x R (omega arith)) ∙ ap (take x) is in
+          row_stops (take x row) x count (omega (arith, inside)) sets cost before after t q e inside few (prefix_same row_rule s p R (map to_int (take x row)) x t q same reads)
+          (ap (λ cs. row_rule.read cs t q) (sym is) ∙ error)
 
-      -- the same, for what a row function returned, once its row was written
+      -- outside of the regions nothing changes, whatever the read of the row returned
 
-      pub row_goes : (read : Result (Unit {0}) RowError) (result : Result (Unit {0}) DecoderError) (t : S) (q : ℕ) → SetsRead (region_at regions i) y row read store new result →
-          OnOk read (ReadsRow rule (map to_int row) s p t q) →
-          OnOk result (GoesOn d w part bytes regions (place_of part i 0 y) (place_of part i 0 (y + 1)) ints s p (store_meanings to_int new) t q)
-      row_goes (Ok u) result t q sets reads = rw sets.1 (row_read t q sets.0 reads)
-      row_goes (Err e) result t q sets reads = rw sets.1 tt
-
-      pub row_stopped : (read : Result (Unit {0}) RowError) (result : Result (Unit {0}) DecoderError) (q cost before after : ℕ) → SetsRead (region_at regions i) y row read store new result →
-          IfErr read (λ r. FailsRow rule (map to_int row) s p r.column r.error q) → IfErr read (λ r. after ≤ before + (r.column + 1) * cost) →
-          IfErr result (λ e. Stops d w part bytes regions cost before after (place_of part i 0 y) ints s p (store_meanings to_int new) q e)
-      row_stopped (Ok u) result q cost before after sets fails few = rw sets.1 tt
-      row_stopped (Err e) result q cost before after sets fails few =
-          rw sets.1 (row_refused e.column e.error q sets.0 fails cost before after (let n : suc e.column ≡ e.column + 1 = omega arith in subst (λ k. after ≤ before + k * cost) (sym n) few))
-
-      pub row_keeps_rest : (read : Result (Unit {0}) RowError) (result : Result (Unit {0}) DecoderError) (q : ℕ) → SetsRead (region_at regions i) y row read store new result →
-          IfErr read (λ r. FailsRow rule (map to_int row) s p r.column r.error q) → KeepsOutside regions store new
-      row_keeps_rest (Ok u) result q sets fails =
+      pub row_keeps_rest : (read : Result (Unit {0}) RowError) (result : Result (Unit {0}) DecoderError) → SetsRead (region_at regions i) y row read store new result →
+          IfErr read (λ r. r.column < length row) → KeepsOutside regions store new
+      row_keeps_rest (Ok u) result sets inside =
           row_keeps to_int store new y (region_at regions i).width row regions i (region 0 0 0 0 0) lie li qy (omega arith) sets.0
-      row_keeps_rest (Err e) result q sets fails =
-          let k = fails.inside in
-          let m = length-map row to_int in
-          row_keeps to_int store new y e.column (take e.column row) regions i (region 0 0 0 0 0) lie li qy (omega (arith, k, m, long)) sets.0
-
--- what holds where a row was read holds where it was written
-pub ok_written : {X : Type 0} (r : Region) (y : ℕ) (row : List X) (store new : List (Grid X)) (read : Result (Unit {0}) RowError) (result : Result (Unit {0}) DecoderError) (P Q : Type 0) →
-    SetsRead r y row read store new result → OnOk read P → (SetsRow r y row store new → P → Q) → OnOk result Q
-ok_written r y row store new (Ok u) result P Q sets h so = rw sets.1 (so sets.0 h)
-ok_written r y row store new (Err e) result P Q sets h so = rw sets.1 tt
-
-pub err_written : {X : Type 0} (r : Region) (y : ℕ) (row : List X) (store new : List (Grid X)) (read : Result (Unit {0}) RowError) (result : Result (Unit {0}) DecoderError) (P : DecoderError → Type 0) →
-    SetsRead r y row read store new result → IfErr read (λ e. P e.error) → IfErr result P
-err_written r y row store new (Ok u) result P sets h = rw sets.1 tt
-err_written r y row store new (Err e) result P sets h = rw sets.1 h
+      row_keeps_rest (Err e) result sets inside =
+          row_keeps to_int store new y e.column (take e.column row) regions i (region 0 0 0 0 0) lie li qy (omega (arith, inside, long)) sets.0

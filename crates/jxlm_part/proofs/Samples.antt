@@ -1,6 +1,5 @@
 -- The sample of a token, computed step by step, is the one that is defined.
-use Rattle.std.proofs.Common.{◌≡◌, ℤ, ◌+ℤ◌, ◌*ℤ◌, refl, ap, ◌∙◌}
-use Rattle.jxlm_base.specs.Numbers.{clamped_gradient}
+use Rattle.std.proofs.Common.{◌≡◌, ℤ, ◌+ℤ◌, ◌*ℤ◌, ap, ◌∙◌}
 use Rattle.std.specs.Int.{Width, int_wrap}
 use Rattle.std.proofs.lemmas.Int.{int_wrap-add_left, int_wrap-add_right, int_wrap-add_same, int_wrap-mul_left}
 
@@ -19,7 +18,3 @@ module _ {X : Type 0} (w : Width) (to_int : X → ℤ) (from_int : ℤ → X) (b
       let ib : to_int b ≡ int_wrap w (int_wrap w u *ℤ mul +ℤ off) = ap to_int hb ∙ back (int_wrap w (to_int a *ℤ mul +ℤ off)) ∙ ap (λ z. int_wrap w (z *ℤ mul +ℤ off)) ia in
       let ic : to_int c ≡ int_wrap w p = ap to_int hc ∙ back (int_wrap w p) in
       hr ∙ ap (λ z. from_int (int_wrap w (z +ℤ to_int c))) ib ∙ ap (λ z. from_int (int_wrap w (int_wrap w (int_wrap w u *ℤ mul +ℤ off) +ℤ z))) ic ∙ ap from_int (wrapped_steps w u mul off p)
-
--- equal neighbours have one clamped gradient
-pub gradient_same : (a b n n' k k' : ℤ) → a ≡ b → n ≡ n' → k ≡ k' → clamped_gradient a n k ≡ clamped_gradient b n' k'
-gradient_same a b n n' k k' p q r = rw (p, q, r) refl

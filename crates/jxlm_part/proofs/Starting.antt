@@ -1,5 +1,5 @@
 -- How a state is set for a channel, and what is made ready for it.
-use Rattle.std.proofs.Common.{◌≡◌, ℕ, zero, suc, ◌+◌, ◌^◌, ◌<◌, ◌≤◌, ◌⊎◌, inl, inr, min, List, [], ◌∷◌, ◌++◌, length, map, Bool, true, false, if◌then◌else◌, Option, Some, refl, sym, ap, ◌∙◌, subst, arith, get_or, ℤ}
+use Rattle.std.proofs.Common.{◌≡◌, ℕ, zero, suc, ◌+◌, ◌-◌, ◌^◌, ◌<◌, ◌≤◌, ◌⊎◌, inl, inr, min, List, [], ◌∷◌, ◌++◌, length, map, Bool, true, false, if◌then◌else◌, Option, Some, refl, sym, ap, ◌∙◌, subst, arith, get_or, slice_index_or, ℤ}
 use Rattle.std.specs.Prelude.{filter, slice_get}
 use Rattle.std.specs.List.{All}
 use Rattle.std.proofs.lemmas.Bool.{cases_lt}
@@ -21,7 +21,7 @@ use Rattle.jxlm_part.specs.Reading.{HasFlats, HasRoom, IsCodingOf, IsRoomy, IsRo
 use Rattle.jxlm_part.specs.Inner.Channels.{IsAfterChannel, StandsIn, all_alike, earlier_regions, handed, region_at, setting_of}
 use Rattle.jxlm_part.specs.declared.coding.PartCoding.{PartCoding}
 use Rattle.jxlm_part.specs.declared.coding.PartState.{PartState}
-use Rattle.jxlm_part.proofs.CellLaws.{roomy_still}
+use Rattle.jxlm_part.proofs.CellLaws.{flat_at, roomy_still}
 use Rattle.jxlm_part.proofs.Earlier.{few, few_earlier, same_alike, same_sides}
 use Rattle.jxlm_part.proofs.Loops.{same_count, same_size}
 
@@ -139,6 +139,26 @@ module _ {D : Type 0} (c : PartCoding D) (coding : IsCodingOf c) (i : ℕ) (li :
   -- so the state was last in it
   pub was_last : {X : Type 0} (state : PredictorState X) → 0 < (region_at (regions_of c) i).width → IsAfterChannel c i state → StandsIn c last state
   was_last state columns after = after last next (subst (λ n. 0 < n) (sym same_width) columns)
+
+-- how many earlier channels the flat tree of channel i asks for at most
+pub depth_at : {D : Type 0} (c : PartCoding D) → IsCodingOf c → (i : ℕ) → i < length (regions_of c) → (other : FlatTree) (depth : ℕ) →
+    (let t : FlatTree = slice_index_or c.flats.now i other in depth ≡ min t.prev_channels (earlier_named t.tree)) → depth ≡ min i (earlier_named c.config.now.tree)
+depth_at c coding i li other depth is = is ∙ ap (λ (t : FlatTree). min t.prev_channels (earlier_named t.tree)) (flat_at c coding i li other)
+
+-- The channel before channel i is like it, and the state was last in it.
+pub record ComesAfterAlike {D X : Type 0} (c : PartCoding D) (i : ℕ) (state : PredictorState X) : Type 0 where
+  pub next : i ≡ i - 1 + 1
+  pub alike : passes c i (i - 1) ≡ true
+  pub stood : StandsIn c (i - 1) state
+
+pub comes_after_alike : {D X : Type 0} (c : PartCoding D) (coding : IsCodingOf c) (i : ℕ) → i < length (regions_of c) → 0 < (region_at (regions_of c) i).width → (state : PredictorState X) →
+    IsAfterChannel c i state → 0 < min i (earlier_named c.config.now.tree) → (a b : Channel) → true ≡ is_alike (get_or c.channels.now (i - 1) a) (get_or c.channels.now i b) →
+    ComesAfterAlike c i state
+comes_after_alike c coding i li columns state last asked a b same =
+    let next : i ≡ i - 1 + 1 = omega (arith, asked) in
+    let n = as_many_channels c coding in
+    let alike = passes_is c i (i - 1) a b true (omega (arith, n, next, li)) (omega (arith, n, li)) same in
+    record { next = next; alike = alike; stood = was_last c coding i li (i - 1) next alike state columns last }
 
 module _ {D X : Type 0} (c : PartCoding D) (i : ℕ) where
   -- a state without earlier channels is set for a channel that has none, or whose tree asks for none

@@ -42,7 +42,8 @@ module _ {S : Type 0} (d : Meaning S) (w : Width) (part : Part) (bytes : List �
 
   -- The first n cells are coded from position p up to position q, and there the next call returns the error e: the read
   -- of the next cell, or finalize after the last. That is the number of reads that were tried.
-  pub record FailsAfter (decoder : S) (p n : ℕ) (grids : List (Grid ℤ)) (q : ℕ) (e : DecoderError) (tried : ℕ) : Type 0 where
+  pub record FailsAfter (decoder : S) (p n : ℕ) (grids : List (Grid ℤ)) (q : ℕ) (e : DecoderError) (tried : ℕ) :
+      Type 0 where
     pub state : S
     pub coded : IsCoded decoder p n grids state q
     pub error :

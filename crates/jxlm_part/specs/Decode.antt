@@ -17,7 +17,8 @@ pub record Standing : Type 0 where
   pub grids : List (Grid ℤ)
   pub partial : Bool
 
-module _ {S : Type 0} (d : Meaning S) (w : Width) (part : Part) (bytes : List ℕ) (decoder : S) (old new : Standing) where
+module _ {S : Type 0} (d : Meaning S) (w : Width) (part : Part) (bytes : List ℕ) (decoder : S)
+    (old new : Standing) where
   -- begin returns the error: nothing changed, and no read was tried
   pub record FailsToBegin (e : DecoderError) (tried : ℕ) : Type 0 where
     pub error : d.begin decoder bytes old.position ≡ Err e

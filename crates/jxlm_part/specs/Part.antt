@@ -82,7 +82,8 @@ surroundings part before =
 
 -- the leaf of the next sample
 abbrev pub next_leaf : Part → List ℤ → Leaf
-next_leaf part before = walk part.tree (property (next_channel part.channels before) part.stream (surroundings part before))
+next_leaf part before =
+    walk part.tree (property (next_channel part.channels before) part.stream (surroundings part before))
 
 -- the cells of grids, grid by grid and row by row
 abbrev pub cells_of : List (Grid ℤ) → List ℤ
@@ -103,5 +104,6 @@ pub record SeesBefore (channels : List Channel) (grids : List (Grid ℤ)) (i j :
 
 -- So it is at each cell of each channel.
 abbrev pub EachSeesBefore : Type 0
-EachSeesBefore = (channels : List Channel) (grids : List (Grid ℤ)) (i j : ℕ) → AreGridsOf channels grids → i < length channels → j < area (channel channels i) →
+EachSeesBefore = (channels : List Channel) (grids : List (Grid ℤ)) (i j : ℕ) → AreGridsOf channels grids →
+    i < length channels → j < area (channel channels i) →
     SeesBefore channels grids i j (take (cells_before channels i + j) (cells_of grids))

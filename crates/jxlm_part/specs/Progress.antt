@@ -12,13 +12,18 @@ use Rattle.jxlm_part.specs.Coded.{IsCodedToTheEnd}
 use Rattle.jxlm_part.specs.Decode.{Fails}
 use Rattle.jxlm_part.specs.Part.{Part, cell_count}
 
-module _ {S : Type 0} (d : Meaning S) (w : Width) (part : Part) (bytes : List ℕ) (regions : List Region) (decoder : S) (old : List (Grid ℤ)) (p : ℕ) (new : List (Grid ℤ)) (q : ℕ) where
+module _ {S : Type 0} (d : Meaning S) (w : Width) (part : Part) (bytes : List ℕ) (regions : List Region)
+    (decoder : S) (old : List (Grid ℤ)) (p : ℕ) (new : List (Grid ℤ)) (q : ℕ) where
   -- the part is coded to the end
   abbrev pub DecodesAll : Type 0
-  DecodesAll = IsCodedToTheEnd d w part bytes decoder p (grids_in regions new) q × AreGridsOf part.channels (grids_in regions new)
+  DecodesAll =
+      IsCodedToTheEnd d w part bytes decoder p (grids_in regions new) q × AreGridsOf part.channels (grids_in regions new)
 
   -- the part, where it has cells, fails with e, and stays as partial as it was; each read that was tried took at
   -- most `cost` steps
   abbrev pub DecodesSome : ℕ → ℕ → ℕ → DecoderError → Type 0
   DecodesSome cost before after e = (partial : Bool) → 0 < cell_count part.channels →
-      (tried : ℕ) × Fails d w part bytes decoder (record { position = p; grids = grids_in regions old; partial = partial }) (record { position = q; grids = grids_in regions new; partial = partial }) e tried × (after ≤ before + tried * cost)
+      (tried : ℕ) × Fails d w part bytes decoder
+      (record { position = p; grids = grids_in regions old; partial = partial })
+      (record { position = q; grids = grids_in regions new; partial = partial }) e tried ×
+      (after ≤ before + tried * cost)

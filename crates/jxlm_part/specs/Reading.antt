@@ -25,7 +25,8 @@ pub record HasFlats (t : Shape Leaf) (stream count : ℕ) (flats : List FlatTree
 
 -- the state has room for channels of these flat trees up to this width and for a row of one, and the weights, where
 -- the first flat tree asks for them
-pub record IsRoomyFor {X : Type 0} (widest : ℕ) (weights : WpHeader) (flats : List FlatTree) (state : PartState X) : Type 0 where
+pub record IsRoomyFor {X : Type 0} (widest : ℕ) (weights : WpHeader) (flats : List FlatTree) (state : PartState X) :
+    Type 0 where
   pub widest_is : room_of state.predictor ≡ widest
   pub earlier_is : earlier_room_of state.predictor ≡ length flats
   pub weights_is : (first : FlatTree) → slice_get flats 0 ≡ Some first →
@@ -35,7 +36,8 @@ pub record IsRoomyFor {X : Type 0} (widest : ℕ) (weights : WpHeader) (flats : 
 module _ {D : Type 0} where
   -- the part that is coded so
   abbrev pub part_of : PartCoding D → Part
-  part_of c = record { channels = c.channels.now; weights = c.weights; tree = c.config.now.tree; stream = c.stream_index }
+  part_of c =
+      record { channels = c.channels.now; weights = c.weights; tree = c.config.now.tree; stream = c.stream_index }
 
   -- the regions of its channels
   abbrev pub regions_of : PartCoding D → List Region

@@ -12,4 +12,5 @@ pub record IsTokenOf (leaf : Leaf) (predicted sample : ℤ) (token : ℕ) : Type
 
 -- where the leaf's multiplier is odd, each sample of 32 bits has such a token
 abbrev pub EachHasToken : Type 0
-EachHasToken = (leaf : Leaf) (predicted sample : ℤ) → leaf.multiplier % 2 ≡ 1 → FitsSigned w32 sample → (token : ℕ) × IsTokenOf leaf predicted sample token
+EachHasToken = (leaf : Leaf) (predicted sample : ℤ) → leaf.multiplier % 2 ≡ 1 →
+    FitsSigned w32 sample → (token : ℕ) × IsTokenOf leaf predicted sample token

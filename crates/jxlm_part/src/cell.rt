@@ -1,18 +1,17 @@
 //! One cell of a part, and how it is read.
 
-ghost use Rattle.std.specs.Prelude.{◌≡◌, ℕ, ℤ, pos, ◌+ℤ◌, ◌*ℤ◌, ◌+◌, ◌*◌, ◌^◌, ◌<◌, ◌≤◌, List, IfOk, OnOk, IfErr, ◌≢◌, length, map, take};
+ghost use Rattle.std.specs.Prelude.{◌≡◌, pos, ◌+ℤ◌, ◌*ℤ◌, ◌+◌, ◌^◌, ◌<◌, ◌≤◌, IfOk, OnOk, IfErr, ◌≢◌, length, map, take};
 ghost use Rattle.std.specs.Int.{int_wrap};
-ghost use Rattle.jxlm_base.specs.Bits.{bytes_of, position_of};
-ghost use Rattle.jxlm_base.specs.Regions.{AllLie, store_meanings};
+ghost use Rattle.jxlm_base.specs.Bits.{bytes_of};
 ghost use Rattle.jxlm_base.specs.Numbers.{unpack};
 ghost use Rattle.jxlm_tree.specs.FlatTree.{ClustersStandIn};
-ghost use Rattle.jxlm_tree.specs.Holding.{IsCurrent, state_of, store_of};
-ghost use Rattle.jxlm_tree.specs.Standing.{Setting, StandsAt};
+ghost use Rattle.jxlm_tree.specs.Holding.{IsCurrent};
 ghost use Rattle.jxlm_tree.specs.Tree.{depth};
-ghost use Rattle.jxlm_part.specs.Inner.Rows.{FailsCell, IsDecoding, ReadsCell, StandsInRow, rule_in};
-ghost use Rattle.jxlm_part.specs.Reading.{FindsClusters, HasRoom, IsCodingOf, cost_of, part_of, regions_of};
-ghost use Rattle.jxlm_part.specs.Inner.Cells.{ReadsNext, FailsNext, leaf_at, predicted_at};
+ghost use Rattle.jxlm_part.specs.Inner.Cells.{FailsSample, ReadsSample};
 ghost use Rattle.jxlm_part.specs.Inner.Channels.{region_at};
+ghost use Rattle.jxlm_part.specs.Inner.Rows.{FailsCell, IsDecoding, ReadsCell, StandsInRow, rule_in};
+ghost use Rattle.jxlm_part.specs.Inner.Source.{source};
+ghost use Rattle.jxlm_part.specs.Reading.{HasRoom, cost_of, regions_of};
 
 use crate::coding::PartCoding;
 use jxlm_base::bits::Bitstream;
@@ -43,15 +42,10 @@ fn next_sample<S: Sample, D: Decoder>(
 ) -> Result<S, DecoderError>
     requires current { IsCurrent properties.now }
     requires clusters { ClustersStandIn (D.meaning.cluster_map decoder.old) flat.now.tree }
-    ensures ok { IfOk result (λ v. (s : Setting) (samples : List ℤ) → StandsAt (state_of properties.now) s samples
-        → ReadsNext S.width S.from_int (leaf_at flat.now s (store_meanings S.to_int (store_of properties.now))
-        samples) (predicted_at flat.now s (store_meanings S.to_int (store_of properties.now)) samples) v decoder.new
-        (position_of bits.new) (D.meaning.read decoder.old (bytes_of bits.old) (position_of bits.old)
-        (leaf_at flat.now s (store_meanings S.to_int (store_of properties.now)) samples).cluster widest)) }
-    ensures err { IfErr result (λ e. (s : Setting) (samples : List ℤ) → StandsAt (state_of properties.now) s samples
-        → FailsNext decoder.old decoder.new (position_of bits.old) (position_of bits.new) e
-        (D.meaning.read decoder.old (bytes_of bits.old) (position_of bits.old)
-        (leaf_at flat.now s (store_meanings S.to_int (store_of properties.now)) samples).cluster widest)) }
+    ensures ok { IfOk result (ReadsSample D.meaning S.to_int flat.now widest properties.now
+        (source decoder.old bits.old) (source decoder.new bits.new) S.width S.from_int) }
+    ensures err { IfErr result (FailsSample D.meaning S.to_int flat.now widest properties.now
+        (source decoder.old bits.old) (source decoder.new bits.new)) }
     ensures clusters { OnOk result (D.meaning.cluster_map decoder.new ≡ D.meaning.cluster_map decoder.old) }
     ensures memory { IfErr result (λ e. e ≢ DecoderError.OutOfMemory) }
     ensures bytes { bytes_of bits.new ≡ bytes_of bits.old }
@@ -84,20 +78,15 @@ pub(crate) fn decode_cell<S: Sample, D: Decoder>(
     requires long { length row.old ≡ (region_at (regions_of coding.now) i).width }
     requires stands { StandsInRow coding.now S.to_int store.now i y (take x (map S.to_int row.old)) state.old }
     requires roomy { HasRoom coding.now state.old }
-    ensures ok { OnOk result
-        (ReadsCell (rule_in coding.now S.to_int store.now i y D.meaning S.width (bytes_of bits.old))
-        (map S.to_int row.old) x decoder.old (position_of bits.old)
-        (map S.to_int row.new) decoder.new (position_of bits.new)) }
-    ensures err { IfErr result (λ e.
-        FailsCell (rule_in coding.now S.to_int store.now i y D.meaning S.width (bytes_of bits.old))
-        (map S.to_int row.old) x decoder.old (position_of bits.old)
-        (map S.to_int row.new) decoder.new (position_of bits.new) e) }
+    ensures ok { OnOk result (ReadsCell D.meaning
+        (rule_in coding.now S.to_int store.now i y D.meaning S.width (bytes_of bits.old))
+        (map S.to_int row.old) x (source decoder.old bits.old) (source decoder.new bits.new) (map S.to_int row.new)) }
+    ensures err { IfErr result (FailsCell
+        (rule_in coding.now S.to_int store.now i y D.meaning S.width (bytes_of bits.old))
+        (map S.to_int row.old) x (source decoder.old bits.old) (source decoder.new bits.new) (map S.to_int row.new)) }
     ensures stands { OnOk result
         (StandsInRow coding.now S.to_int store.now i y (take (x + 1) (map S.to_int row.new)) state.new) }
     ensures roomy { OnOk result (HasRoom coding.now state.new) }
-    ensures clusters { OnOk result (D.meaning.cluster_map decoder.new ≡ D.meaning.cluster_map decoder.old) }
-    ensures memory { IfErr result (λ e. e ≢ DecoderError.OutOfMemory) }
-    ensures bytes { bytes_of bits.new ≡ bytes_of bits.old }
     ensures cost { steps.new ≤ steps.old + cost_of coding.now }
     ensures more { steps.old ≤ steps.new }
 {

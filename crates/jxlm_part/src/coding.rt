@@ -11,7 +11,7 @@ ghost use Rattle.jxlm_part.specs.Inner.Channels.{IsAfterChannel, StandsAfter, al
 
 use jxlm_base::decoder::Decoder;
 use jxlm_base::error::Result;
-use jxlm_base::grid::{AlignedGrid, OutOfMemory, Region};
+use jxlm_base::grid::{OutOfMemory, Region};
 use jxlm_base::sample::{Sample, Sealed};
 use jxlm_transform::channels::ModularChannelInfo;
 use jxlm_tree::flat::FlatMaTree;

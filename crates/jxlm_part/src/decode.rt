@@ -1,20 +1,19 @@
 //! The loops that decode the samples of a part, in the order of its cells.
 
-ghost use Rattle.std.specs.Prelude.{◌≡◌, ℕ, ◌+◌, ◌*◌, ◌<◌, ◌≤◌, OnOk, IfErr, ◌≢◌, length};
+ghost use Rattle.std.specs.Prelude.{◌≡◌, ◌+◌, ◌*◌, ◌<◌, ◌≤◌, [], OnOk, IfErr, ◌≢◌, length, map};
 ghost use Rattle.jxlm_base.specs.Bits.{bytes_of, position_of};
 ghost use Rattle.jxlm_base.specs.Regions.{AllLie, LieApart, store_meanings};
-ghost use Rattle.jxlm_tree.specs.Tree.{leaf as one_leaf};
 ghost use Rattle.jxlm_part.specs.Part.{cells_before, cell_count};
 ghost use Rattle.jxlm_part.specs.Progress.{DecodesAll, DecodesSome, KeepsOutside};
-ghost use Rattle.jxlm_part.specs.Inner.Progress.{GoesOn, Stops, TakesSteps, place_of};
-ghost use Rattle.jxlm_part.specs.Inner.Leaves.{HasPath};
-ghost use Rattle.jxlm_part.specs.Inner.Rows.{IsDecoding, ReadsRows, StopsInRows};
+ghost use Rattle.jxlm_part.specs.Inner.Channels.{IsAfterChannel, region_at};
+ghost use Rattle.jxlm_part.specs.Inner.Progress.{DecodesCells, FailsInCells, moment, place_of};
+ghost use Rattle.jxlm_part.specs.Inner.Rows.{FailsRow, IsDecoding, IsDecodingPart, IsInRow, ReadsRow, rule_in};
+ghost use Rattle.jxlm_part.specs.Inner.Source.{source};
 ghost use Rattle.jxlm_part.specs.Reading.{FindsClusters, HasRoom, IsCodingOf, IsRoomy, cost_of, part_of, regions_of};
-ghost use Rattle.jxlm_part.specs.Inner.Channels.{IsAfterChannel, StandsAfter, region_at, StandsIn};
 
 use crate::coding::{PartCoding, PartState, start_channel};
 use crate::leaves::{LeafPath, leaf_path, read_leaf_row};
-use crate::rows::{read_row, write_read};
+use crate::rows::{RowError, read_row, write_read};
 use jxlm_base::bits::Bitstream;
 use jxlm_base::decoder::{Decoder, DecoderError};
 use jxlm_base::grid::AlignedGrid;
@@ -22,7 +21,47 @@ use jxlm_base::sample::Sample;
 use jxlm_tree::flat::Steps;
 use jxlm_tree::predictor::PredictorState;
 
-/// Reads row `y` of channel `i` cell by cell; `row` is room for it.
+/// Reads row `y` of channel `i` into `row`: at the only leaf of the tree where that has a path, else cell by cell.
+///
+/// # Errors
+///
+/// That of the read of one cell; the cells before are in the row then.
+fn read_any_row<S: Sample, D: Decoder>(
+    bits: &mut Bitstream<'_>,
+    decoder: &mut D,
+    state: &mut PredictorState<S>,
+    steps: &mut Steps,
+    store: &[AlignedGrid<S>],
+    coding: &PartCoding<'_, D>,
+    path: Option<LeafPath>,
+    row: &mut [S],
+    i: usize,
+    y: usize,
+) -> Result<(), RowError>
+    requires here { IsDecoding coding.now i store.now (D.meaning.cluster_map decoder.old) }
+    requires in_rows { y < (region_at (regions_of coding.now) i).height }
+    requires long { length row.old ≡ (region_at (regions_of coding.now) i).width }
+    requires at_row { IsInRow coding.now S.to_int store.now i y path [] state.old }
+    ensures ok { OnOk result (ReadsRow D.meaning
+        (rule_in coding.now S.to_int store.now i y D.meaning S.width (bytes_of bits.old))
+        (map S.to_int row.new) (source decoder.old bits.old) (source decoder.new bits.new)) }
+    ensures err { IfErr result (FailsRow
+        (rule_in coding.now S.to_int store.now i y D.meaning S.width (bytes_of bits.old))
+        (map S.to_int row.new) (source decoder.old bits.old) (source decoder.new bits.new)) }
+    ensures at_row { OnOk result (IsInRow coding.now S.to_int store.now i y path (map S.to_int row.new) state.new) }
+    ensures cost { OnOk result
+        (steps.new ≤ steps.old + (region_at (regions_of coding.now) i).width * cost_of coding.now) }
+    ensures cost_so_far { IfErr result (λ r. steps.new ≤ steps.old + (r.column + 1) * cost_of coding.now) }
+    ensures more { steps.old ≤ steps.new }
+{
+    let region = coding.regions[i];
+    match path {
+        Some(at) => read_leaf_row(bits, decoder, at, coding.widest, store, region, y, row),
+        None => read_row(bits, decoder, state, steps, store, coding, row, i, y),
+    }
+}
+
+/// Reads row `y` of channel `i` into the store; `row` is room for it.
 fn decode_row<S: Sample, D: Decoder>(
     bits: &mut Bitstream<'_>,
     decoder: &mut D,
@@ -30,6 +69,7 @@ fn decode_row<S: Sample, D: Decoder>(
     steps: &mut Steps,
     store: &mut [AlignedGrid<S>],
     coding: &PartCoding<'_, D>,
+    path: Option<LeafPath>,
     row: &mut [S],
     i: usize,
     y: usize,
@@ -37,29 +77,20 @@ fn decode_row<S: Sample, D: Decoder>(
     requires here { IsDecoding coding.now i store.old (D.meaning.cluster_map decoder.old) }
     requires in_rows { y < (region_at (regions_of coding.now) i).height }
     requires long { length row.old ≡ (region_at (regions_of coding.now) i).width }
-    requires stands { StandsAfter coding.now S.to_int store.old i
-        (y * (region_at (regions_of coding.now) i).width) state.old }
-    requires roomy { HasRoom coding.now state.old }
-    ensures ok { OnOk result (ReadsRows coding.now D.meaning S.width S.to_int (bytes_of bits.old) i y
-        store.old decoder.old (position_of bits.old) (y + 1) store.new decoder.new (position_of bits.new)) }
-    ensures err { IfErr result (λ e. StopsInRows coding.now D.meaning S.width S.to_int (bytes_of bits.old) i y
-        store.old decoder.old (position_of bits.old) steps.old steps.new store.new (position_of bits.new) e) }
-    ensures stands { OnOk result (StandsAfter coding.now S.to_int store.new i
-        ((y + 1) * (region_at (regions_of coding.now) i).width) state.new) }
-    ensures roomy { OnOk result (HasRoom coding.now state.new) }
-    ensures work { OnOk result (TakesSteps (cost_of coding.now)
-        (place_of (part_of coding.now) i 0 y) (place_of (part_of coding.now) i 0 (y + 1)) steps.old steps.new) }
-    ensures more { steps.old ≤ steps.new }
-    ensures keeps { KeepsOutside (regions_of coding.now) store.old store.new }
-    ensures clusters { OnOk result (D.meaning.cluster_map decoder.new ≡ D.meaning.cluster_map decoder.old) }
-    ensures memory { IfErr result (λ e. e ≢ DecoderError.OutOfMemory) }
-    ensures bytes { bytes_of bits.new ≡ bytes_of bits.old }
+    requires at_row { IsInRow coding.now S.to_int store.old i y path [] state.old }
+    ensures ok { OnOk result (DecodesCells coding.now D.meaning S.width S.to_int
+        (place_of (part_of coding.now) i 0 y) (place_of (part_of coding.now) i 0 (y + 1))
+        (moment decoder.old bits.old store.old steps.old) (moment decoder.new bits.new store.new steps.new)) }
+    ensures err { IfErr result (FailsInCells coding.now D.meaning S.width S.to_int
+        (place_of (part_of coding.now) i 0 y)
+        (moment decoder.old bits.old store.old steps.old) (moment decoder.new bits.new store.new steps.new)) }
+    ensures at_row { OnOk result (IsInRow coding.now S.to_int store.new i (y + 1) path [] state.new) }
 {
-    let read = read_row(bits, decoder, state, steps, store, coding, row, i, y);
+    let read = read_any_row(bits, decoder, state, steps, store, coding, path, row, i, y);
     write_read(store, coding.regions[i], y, row, read)
 }
 
-/// Reads the rows of channel `i` cell by cell; the state must be at the first one. `row` is room for one.
+/// Reads the rows of channel `i`, which is started; `row` is room for one.
 fn decode_rows<S: Sample, D: Decoder>(
     bits: &mut Bitstream<'_>,
     decoder: &mut D,
@@ -67,97 +98,29 @@ fn decode_rows<S: Sample, D: Decoder>(
     steps: &mut Steps,
     store: &mut [AlignedGrid<S>],
     coding: &PartCoding<'_, D>,
+    path: Option<LeafPath>,
     row: &mut [S],
     i: usize,
 ) -> Result<(), DecoderError>
     requires here { IsDecoding coding.now i store.old (D.meaning.cluster_map decoder.old) }
     requires long { length row.old ≡ (region_at (regions_of coding.now) i).width }
-    requires stands { StandsAfter coding.now S.to_int store.old i 0 state.old }
-    requires roomy { HasRoom coding.now state.old }
-    ensures ok { OnOk result (ReadsRows coding.now D.meaning S.width S.to_int (bytes_of bits.old) i 0
-        store.old decoder.old (position_of bits.old) (region_at (regions_of coding.now) i).height
-        store.new decoder.new (position_of bits.new)) }
-    ensures err { IfErr result (λ e. StopsInRows coding.now D.meaning S.width S.to_int (bytes_of bits.old) i 0
-        store.old decoder.old (position_of bits.old) steps.old steps.new store.new (position_of bits.new) e) }
-    ensures stands { OnOk result (StandsIn coding.now i state.new) }
-    ensures roomy { OnOk result (HasRoom coding.now state.new) }
-    ensures work { OnOk result (TakesSteps (cost_of coding.now)
-        (place_of (part_of coding.now) i 0 0)
-        (place_of (part_of coding.now) i 0 (region_at (regions_of coding.now) i).height) steps.old steps.new) }
-    ensures more { steps.old ≤ steps.new }
-    ensures keeps { KeepsOutside (regions_of coding.now) store.old store.new }
-    ensures clusters { OnOk result (D.meaning.cluster_map decoder.new ≡ D.meaning.cluster_map decoder.old) }
-    ensures memory { IfErr result (λ e. e ≢ DecoderError.OutOfMemory) }
-    ensures bytes { bytes_of bits.new ≡ bytes_of bits.old }
+    requires at_row { IsInRow coding.now S.to_int store.old i 0 path [] state.old }
+    ensures ok { OnOk result (DecodesCells coding.now D.meaning S.width S.to_int
+        (cells_before (part_of coding.now).channels i) (cells_before (part_of coding.now).channels (i + 1))
+        (moment decoder.old bits.old store.old steps.old) (moment decoder.new bits.new store.new steps.new)) }
+    ensures err { IfErr result (FailsInCells coding.now D.meaning S.width S.to_int
+        (cells_before (part_of coding.now).channels i)
+        (moment decoder.old bits.old store.old steps.old) (moment decoder.new bits.new store.new steps.new)) }
+    ensures at_row { OnOk result (IsInRow coding.now S.to_int store.new i
+        (region_at (regions_of coding.now) i).height path [] state.new) }
 {
     for y in 0..coding.regions[i].height {
-        decode_row(bits, decoder, state, steps, store, coding, row, i, y)?;
+        decode_row(bits, decoder, state, steps, store, coding, path, row, i, y)?;
     }
     Ok(())
 }
 
-/// Reads row `y` of channel `i`, where the tree is one leaf with a path; `row` is room for it.
-fn decode_leaf_row<S: Sample, D: Decoder>(
-    bits: &mut Bitstream<'_>,
-    decoder: &mut D,
-    at: LeafPath,
-    store: &mut [AlignedGrid<S>],
-    coding: &PartCoding<'_, D>,
-    row: &mut [S],
-    i: usize,
-    y: usize,
-) -> Result<(), DecoderError>
-    requires here { IsDecoding coding.now i store.old (D.meaning.cluster_map decoder.old) }
-    requires in_rows { y < (region_at (regions_of coding.now) i).height }
-    requires long { length row.old ≡ (region_at (regions_of coding.now) i).width }
-    requires tree { (part_of coding.now).tree ≡ one_leaf at.leaf }
-    requires path { HasPath at }
-    ensures ok { OnOk result (ReadsRows coding.now D.meaning S.width S.to_int (bytes_of bits.old) i y
-        store.old decoder.old (position_of bits.old) (y + 1) store.new decoder.new (position_of bits.new)) }
-    ensures err { IfErr result (λ e. (n : ℕ) → StopsInRows coding.now D.meaning S.width S.to_int (bytes_of bits.old) i y
-        store.old decoder.old (position_of bits.old) n n store.new (position_of bits.new) e) }
-    ensures keeps { KeepsOutside (regions_of coding.now) store.old store.new }
-    ensures clusters { OnOk result (D.meaning.cluster_map decoder.new ≡ D.meaning.cluster_map decoder.old) }
-    ensures memory { IfErr result (λ e. e ≢ DecoderError.OutOfMemory) }
-    ensures bytes { bytes_of bits.new ≡ bytes_of bits.old }
-{
-    let region = coding.regions[i];
-    let read = read_leaf_row(bits, decoder, at, coding.widest, store, region, y, row);
-    write_read(store, region, y, row, read)
-}
-
-/// Reads the rows of channel `i`, where the tree is one leaf with a path. `row` is room for one.
-fn decode_leaf_rows<S: Sample, D: Decoder>(
-    bits: &mut Bitstream<'_>,
-    decoder: &mut D,
-    at: LeafPath,
-    store: &mut [AlignedGrid<S>],
-    coding: &PartCoding<'_, D>,
-    row: &mut [S],
-    i: usize,
-) -> Result<(), DecoderError>
-    requires here { IsDecoding coding.now i store.old (D.meaning.cluster_map decoder.old) }
-    requires long { length row.old ≡ (region_at (regions_of coding.now) i).width }
-    requires tree { (part_of coding.now).tree ≡ one_leaf at.leaf }
-    requires path { HasPath at }
-    ensures ok { OnOk result (ReadsRows coding.now D.meaning S.width S.to_int (bytes_of bits.old) i 0
-        store.old decoder.old (position_of bits.old) (region_at (regions_of coding.now) i).height
-        store.new decoder.new (position_of bits.new)) }
-    ensures err { IfErr result (λ e. (n : ℕ) → StopsInRows coding.now D.meaning S.width S.to_int (bytes_of bits.old) i 0
-        store.old decoder.old (position_of bits.old) n n store.new (position_of bits.new) e) }
-    ensures keeps { KeepsOutside (regions_of coding.now) store.old store.new }
-    ensures clusters { OnOk result (D.meaning.cluster_map decoder.new ≡ D.meaning.cluster_map decoder.old) }
-    ensures memory { IfErr result (λ e. e ≢ DecoderError.OutOfMemory) }
-    ensures bytes { bytes_of bits.new ≡ bytes_of bits.old }
-{
-    for y in 0..coding.regions[i].height {
-        decode_leaf_row(bits, decoder, at, store, coding, row, i, y)?;
-    }
-    Ok(())
-}
-
-/// Reads channel `i`, row by row, along the path of its tree where it has one; a channel without columns has no cell.
-/// `scratch` has room for a row.
+/// Reads channel `i`, row by row; a channel without columns has no cell. `scratch` has room for a row.
 fn decode_channel<S: Sample, D: Decoder>(
     bits: &mut Bitstream<'_>,
     decoder: &mut D,
@@ -168,31 +131,19 @@ fn decode_channel<S: Sample, D: Decoder>(
     scratch: &mut [S],
     i: usize,
 ) -> Result<(), DecoderError>
-    requires lie { AllLie (regions_of coding.now) store.old }
-    requires apart { LieApart (regions_of coding.now) }
+    requires part { IsDecodingPart coding.now store.old (D.meaning.cluster_map decoder.old) }
     requires channel { i < length (regions_of coding.now) }
-    requires coding { IsCodingOf coding.now }
-    requires clusters { FindsClusters coding.now (D.meaning.cluster_map decoder.old) }
     requires roomy { HasRoom coding.now state.old }
     requires room { coding.now.widest ≤ length scratch.old }
     requires last { IsAfterChannel coding.now i state.old }
-    ensures ok { OnOk result (GoesOn D.meaning S.width (part_of coding.now) (bytes_of bits.old)
-        (regions_of coding.now) (cells_before (part_of coding.now).channels i)
-        (cells_before (part_of coding.now).channels (i + 1)) (store_meanings S.to_int store.old) decoder.old
-        (position_of bits.old) (store_meanings S.to_int store.new) decoder.new (position_of bits.new)) }
-    ensures err { IfErr result (λ e. Stops D.meaning S.width (part_of coding.now) (bytes_of bits.old)
-        (regions_of coding.now) (cost_of coding.now) steps.old steps.new
-        (cells_before (part_of coding.now).channels i) (store_meanings S.to_int store.old) decoder.old
-        (position_of bits.old) (store_meanings S.to_int store.new) (position_of bits.new) e) }
+    ensures ok { OnOk result (DecodesCells coding.now D.meaning S.width S.to_int
+        (cells_before (part_of coding.now).channels i) (cells_before (part_of coding.now).channels (i + 1))
+        (moment decoder.old bits.old store.old steps.old) (moment decoder.new bits.new store.new steps.new)) }
+    ensures err { IfErr result (FailsInCells coding.now D.meaning S.width S.to_int
+        (cells_before (part_of coding.now).channels i)
+        (moment decoder.old bits.old store.old steps.old) (moment decoder.new bits.new store.new steps.new)) }
     ensures roomy { OnOk result (HasRoom coding.now state.new) }
     ensures last { OnOk result (IsAfterChannel coding.now (i + 1) state.new) }
-    ensures work { OnOk result (TakesSteps (cost_of coding.now) (cells_before (part_of coding.now).channels i)
-        (cells_before (part_of coding.now).channels (i + 1)) steps.old steps.new) }
-    ensures more { steps.old ≤ steps.new }
-    ensures keeps { KeepsOutside (regions_of coding.now) store.old store.new }
-    ensures clusters { OnOk result (D.meaning.cluster_map decoder.new ≡ D.meaning.cluster_map decoder.old) }
-    ensures memory { IfErr result (λ e. e ≢ DecoderError.OutOfMemory) }
-    ensures bytes { bytes_of bits.new ≡ bytes_of bits.old }
 {
     let region = coding.regions[i];
     if region.width == 0 {
@@ -200,10 +151,8 @@ fn decode_channel<S: Sample, D: Decoder>(
     }
     start_channel(state, coding, i);
     let row = &mut scratch[..region.width];
-    match leaf_path(&coding.flats[i]) {
-        Some(at) => decode_leaf_rows(bits, decoder, at, store, coding, row, i),
-        None => decode_rows(bits, decoder, state, steps, store, coding, row, i),
-    }
+    let path = leaf_path(&coding.flats[i]);
+    decode_rows(bits, decoder, state, steps, store, coding, path, row, i)
 }
 
 /// Reads all channels of a part, in order. `scratch` has room for a row of each.
@@ -216,24 +165,14 @@ fn decode_channels<S: Sample, D: Decoder>(
     coding: &PartCoding<'_, D>,
     scratch: &mut [S],
 ) -> Result<(), DecoderError>
-    requires lie { AllLie (regions_of coding.now) store.old }
-    requires apart { LieApart (regions_of coding.now) }
-    requires coding { IsCodingOf coding.now }
-    requires clusters { FindsClusters coding.now (D.meaning.cluster_map decoder.old) }
+    requires part { IsDecodingPart coding.now store.old (D.meaning.cluster_map decoder.old) }
     requires roomy { HasRoom coding.now state.old }
     requires room { coding.now.widest ≤ length scratch.old }
-    ensures ok { OnOk result (GoesOn D.meaning S.width (part_of coding.now) (bytes_of bits.old)
-        (regions_of coding.now) 0 (cell_count (part_of coding.now).channels) (store_meanings S.to_int store.old)
-        decoder.old (position_of bits.old) (store_meanings S.to_int store.new) decoder.new (position_of bits.new)) }
-    ensures err { IfErr result (λ e. Stops D.meaning S.width (part_of coding.now) (bytes_of bits.old)
-        (regions_of coding.now) (cost_of coding.now) steps.old steps.new 0 (store_meanings S.to_int store.old)
-        decoder.old (position_of bits.old) (store_meanings S.to_int store.new) (position_of bits.new) e) }
-    ensures work { OnOk result (TakesSteps (cost_of coding.now) 0 (cell_count (part_of coding.now).channels) steps.old
-        steps.new) }
-    ensures more { steps.old ≤ steps.new }
-    ensures keeps { KeepsOutside (regions_of coding.now) store.old store.new }
-    ensures memory { IfErr result (λ e. e ≢ DecoderError.OutOfMemory) }
-    ensures bytes { bytes_of bits.new ≡ bytes_of bits.old }
+    ensures ok { OnOk result (DecodesCells coding.now D.meaning S.width S.to_int
+        0 (cell_count (part_of coding.now).channels)
+        (moment decoder.old bits.old store.old steps.old) (moment decoder.new bits.new store.new steps.new)) }
+    ensures err { IfErr result (FailsInCells coding.now D.meaning S.width S.to_int 0
+        (moment decoder.old bits.old store.old steps.old) (moment decoder.new bits.new store.new steps.new)) }
 {
     for i in 0..coding.regions.len() {
         decode_channel(bits, decoder, state, steps, store, coding, scratch, i)?;

@@ -2,16 +2,17 @@
 //!
 //! No state of the predictors is needed for them: a row is read from the row above it.
 
-ghost use Rattle.std.specs.Prelude.{◌≡◌, ◌<◌, ◌≢◌, ℤ, List, [], map, length, OnOk, IfErr, IfSome, Contains};
-ghost use Rattle.jxlm_base.specs.Bits.{bytes_of, position_of};
+ghost use Rattle.std.specs.Prelude.{◌≡◌, ◌<◌, ℤ, List, [], map, length, OnOk, IfErr, IfSome, Contains};
+ghost use Rattle.jxlm_base.specs.Bits.{bytes_of};
 ghost use Rattle.jxlm_base.specs.Regions.{Lies, grid_of, store_meanings};
 ghost use Rattle.jxlm_tree.specs.Tree.{leaf as one_leaf};
 ghost use Rattle.jxlm_part.specs.Inner.Leaves.{HasPath, IsPlain, path_rule, predictor_of, row_above};
 ghost use Rattle.jxlm_part.specs.Inner.Rows.{FailsRow, ReadsRow};
+ghost use Rattle.jxlm_part.specs.Inner.Source.{source};
 
 use crate::rows::RowError;
 use jxlm_base::bits::Bitstream;
-use jxlm_base::decoder::{Decoder, DecoderError};
+use jxlm_base::decoder::Decoder;
 use jxlm_base::grid::{AlignedGrid, Region};
 use jxlm_base::region::region_row;
 use jxlm_base::sample::{Sample, Sealed};
@@ -70,15 +71,12 @@ fn zero_row<S: Sample, D: Decoder>(
 ) -> Result<(), RowError>
     requires plain { IsPlain leaf }
     requires cluster { Contains (D.meaning.cluster_map decoder.old) leaf.cluster }
-    ensures ok { OnOk result ((above : List ℤ) →
-        ReadsRow (path_rule D.meaning S.width (bytes_of bits.old) leaf widest Path.Zero above)
-        (map S.to_int row.new) decoder.old (position_of bits.old) decoder.new (position_of bits.new)) }
+    ensures ok { OnOk result ((above : List ℤ) → ReadsRow D.meaning
+        (path_rule D.meaning S.width (bytes_of bits.old) leaf widest Path.Zero above)
+        (map S.to_int row.new) (source decoder.old bits.old) (source decoder.new bits.new)) }
     ensures err { IfErr result (λ r. (above : List ℤ) →
         FailsRow (path_rule D.meaning S.width (bytes_of bits.old) leaf widest Path.Zero above)
-        (map S.to_int row.new) decoder.old (position_of bits.old) r.column r.error (position_of bits.new)) }
-    ensures clusters { OnOk result (D.meaning.cluster_map decoder.new ≡ D.meaning.cluster_map decoder.old) }
-    ensures memory { IfErr result (λ r. r.error ≢ DecoderError.OutOfMemory) }
-    ensures bytes { bytes_of bits.new ≡ bytes_of bits.old }
+        (map S.to_int row.new) (source decoder.old bits.old) (source decoder.new bits.new) r) }
 {
     for x in 0..row.len() {
         match decoder.read_varint_with_multiplier_clustered(bits, leaf.cluster, widest) {
@@ -99,15 +97,12 @@ fn first_gradient_row<S: Sample, D: Decoder>(
 ) -> Result<(), RowError>
     requires plain { IsPlain leaf }
     requires cluster { Contains (D.meaning.cluster_map decoder.old) leaf.cluster }
-    ensures ok { OnOk result
-        (ReadsRow (path_rule D.meaning S.width (bytes_of bits.old) leaf widest Path.Gradient [])
-        (map S.to_int row.new) decoder.old (position_of bits.old) decoder.new (position_of bits.new)) }
-    ensures err { IfErr result (λ r.
-        FailsRow (path_rule D.meaning S.width (bytes_of bits.old) leaf widest Path.Gradient [])
-        (map S.to_int row.new) decoder.old (position_of bits.old) r.column r.error (position_of bits.new)) }
-    ensures clusters { OnOk result (D.meaning.cluster_map decoder.new ≡ D.meaning.cluster_map decoder.old) }
-    ensures memory { IfErr result (λ r. r.error ≢ DecoderError.OutOfMemory) }
-    ensures bytes { bytes_of bits.new ≡ bytes_of bits.old }
+    ensures ok { OnOk result (ReadsRow D.meaning
+        (path_rule D.meaning S.width (bytes_of bits.old) leaf widest Path.Gradient [])
+        (map S.to_int row.new) (source decoder.old bits.old) (source decoder.new bits.new)) }
+    ensures err { IfErr result (FailsRow
+        (path_rule D.meaning S.width (bytes_of bits.old) leaf widest Path.Gradient [])
+        (map S.to_int row.new) (source decoder.old bits.old) (source decoder.new bits.new)) }
 {
     let mut w = S::from_i32(0);
     for x in 0..row.len() {
@@ -139,15 +134,12 @@ fn gradient_row<S: Sample, D: Decoder>(
     requires cluster { Contains (D.meaning.cluster_map decoder.old) leaf.cluster }
     requires columns { 0 < length row.old }
     requires above { length above.now ≡ length row.old }
-    ensures ok { OnOk result
-        (ReadsRow (path_rule D.meaning S.width (bytes_of bits.old) leaf widest Path.Gradient (map S.to_int above.now))
-        (map S.to_int row.new) decoder.old (position_of bits.old) decoder.new (position_of bits.new)) }
-    ensures err { IfErr result (λ r.
-        FailsRow (path_rule D.meaning S.width (bytes_of bits.old) leaf widest Path.Gradient (map S.to_int above.now))
-        (map S.to_int row.new) decoder.old (position_of bits.old) r.column r.error (position_of bits.new)) }
-    ensures clusters { OnOk result (D.meaning.cluster_map decoder.new ≡ D.meaning.cluster_map decoder.old) }
-    ensures memory { IfErr result (λ r. r.error ≢ DecoderError.OutOfMemory) }
-    ensures bytes { bytes_of bits.new ≡ bytes_of bits.old }
+    ensures ok { OnOk result (ReadsRow D.meaning
+        (path_rule D.meaning S.width (bytes_of bits.old) leaf widest Path.Gradient (map S.to_int above.now))
+        (map S.to_int row.new) (source decoder.old bits.old) (source decoder.new bits.new)) }
+    ensures err { IfErr result (FailsRow
+        (path_rule D.meaning S.width (bytes_of bits.old) leaf widest Path.Gradient (map S.to_int above.now))
+        (map S.to_int row.new) (source decoder.old bits.old) (source decoder.new bits.new)) }
 {
     let mut w = above[0];
     let mut nw = w;
@@ -190,15 +182,12 @@ pub(crate) fn read_leaf_row<S: Sample, D: Decoder>(
     requires in_rows { y < region.height }
     requires columns { 0 < region.width }
     requires long { length row.old ≡ region.width }
-    ensures ok { OnOk result (ReadsRow (path_rule D.meaning S.width (bytes_of bits.old) at.leaf widest at.path
+    ensures ok { OnOk result (ReadsRow D.meaning (path_rule D.meaning S.width (bytes_of bits.old) at.leaf widest at.path
         (row_above (grid_of (store_meanings S.to_int store.now) region) y))
-        (map S.to_int row.new) decoder.old (position_of bits.old) decoder.new (position_of bits.new)) }
-    ensures err { IfErr result (λ r. FailsRow (path_rule D.meaning S.width (bytes_of bits.old) at.leaf widest at.path
+        (map S.to_int row.new) (source decoder.old bits.old) (source decoder.new bits.new)) }
+    ensures err { IfErr result (FailsRow (path_rule D.meaning S.width (bytes_of bits.old) at.leaf widest at.path
         (row_above (grid_of (store_meanings S.to_int store.now) region) y))
-        (map S.to_int row.new) decoder.old (position_of bits.old) r.column r.error (position_of bits.new)) }
-    ensures clusters { OnOk result (D.meaning.cluster_map decoder.new ≡ D.meaning.cluster_map decoder.old) }
-    ensures memory { IfErr result (λ r. r.error ≢ DecoderError.OutOfMemory) }
-    ensures bytes { bytes_of bits.new ≡ bytes_of bits.old }
+        (map S.to_int row.new) (source decoder.old bits.old) (source decoder.new bits.new)) }
 {
     match at.path {
         Path::Zero => zero_row(bits, decoder, at.leaf, widest, row),

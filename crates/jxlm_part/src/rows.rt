@@ -1,11 +1,12 @@
 //! Rows of a channel: what the read of one returns, how it is read cell by cell, and how it is written.
 
-ghost use Rattle.std.specs.Prelude.{◌≡◌, ◌+◌, ◌*◌, ◌<◌, ◌≤◌, ◌≢◌, map, length, OnOk, IfErr};
-ghost use Rattle.jxlm_base.specs.Bits.{bytes_of, position_of};
-ghost use Rattle.jxlm_base.specs.Regions.{AllLie, Lies};
+ghost use Rattle.std.specs.Prelude.{◌≡◌, ◌+◌, ◌*◌, ◌<◌, ◌≤◌, [], map, length, OnOk, IfErr};
+ghost use Rattle.jxlm_base.specs.Bits.{bytes_of};
+ghost use Rattle.jxlm_base.specs.Regions.{Lies};
+ghost use Rattle.jxlm_part.specs.Inner.Channels.{region_at};
 ghost use Rattle.jxlm_part.specs.Inner.Rows.{FailsRow, IsDecoding, ReadsRow, SetsRead, StandsInRow, rule_in};
-ghost use Rattle.jxlm_part.specs.Reading.{FindsClusters, HasRoom, IsCodingOf, cost_of, regions_of};
-ghost use Rattle.jxlm_part.specs.Inner.Channels.{StandsAfter, region_at};
+ghost use Rattle.jxlm_part.specs.Inner.Source.{source};
+ghost use Rattle.jxlm_part.specs.Reading.{HasRoom, cost_of, regions_of};
 
 use crate::cell::decode_cell;
 use crate::coding::PartCoding;
@@ -45,19 +46,16 @@ pub(crate) fn read_row<S: Sample, D: Decoder>(
     requires here { IsDecoding coding.now i store.now (D.meaning.cluster_map decoder.old) }
     requires in_rows { y < (region_at (regions_of coding.now) i).height }
     requires long { length row.old ≡ (region_at (regions_of coding.now) i).width }
-    requires stands { StandsAfter coding.now S.to_int store.now i
-        (y * (region_at (regions_of coding.now) i).width) state.old }
+    requires stands { StandsInRow coding.now S.to_int store.now i y [] state.old }
     requires roomy { HasRoom coding.now state.old }
-    ensures ok { OnOk result (ReadsRow (rule_in coding.now S.to_int store.now i y D.meaning S.width (bytes_of bits.old))
-        (map S.to_int row.new) decoder.old (position_of bits.old) decoder.new (position_of bits.new)) }
-    ensures err { IfErr result (λ r.
-        FailsRow (rule_in coding.now S.to_int store.now i y D.meaning S.width (bytes_of bits.old))
-        (map S.to_int row.new) decoder.old (position_of bits.old) r.column r.error (position_of bits.new)) }
+    ensures ok { OnOk result (ReadsRow D.meaning
+        (rule_in coding.now S.to_int store.now i y D.meaning S.width (bytes_of bits.old))
+        (map S.to_int row.new) (source decoder.old bits.old) (source decoder.new bits.new)) }
+    ensures err { IfErr result (FailsRow
+        (rule_in coding.now S.to_int store.now i y D.meaning S.width (bytes_of bits.old))
+        (map S.to_int row.new) (source decoder.old bits.old) (source decoder.new bits.new)) }
     ensures stands { OnOk result (StandsInRow coding.now S.to_int store.now i y (map S.to_int row.new) state.new) }
     ensures roomy { OnOk result (HasRoom coding.now state.new) }
-    ensures clusters { OnOk result (D.meaning.cluster_map decoder.new ≡ D.meaning.cluster_map decoder.old) }
-    ensures memory { IfErr result (λ r. r.error ≢ DecoderError.OutOfMemory) }
-    ensures bytes { bytes_of bits.new ≡ bytes_of bits.old }
     ensures cost { OnOk result
         (steps.new ≤ steps.old + (region_at (regions_of coding.now) i).width * cost_of coding.now) }
     ensures cost_so_far { IfErr result (λ r. steps.new ≤ steps.old + (r.column + 1) * cost_of coding.now) }

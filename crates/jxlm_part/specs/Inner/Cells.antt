@@ -1,25 +1,31 @@
 -- How one cell of a part is read.
 use Rattle.std.specs.Prelude.{◌≡◌, ℕ, ℤ, List, Result, Ok, Err}
 use Rattle.std.specs.Int.{Width}
-use Rattle.jxlm_base.specs.Decoding.{Taken}
+use Rattle.jxlm_base.specs.Bits.{bytes_of, position_of}
+use Rattle.jxlm_base.specs.Decoding.{Meaning, Taken}
 use Rattle.jxlm_base.specs.Grid.{Grid}
+use Rattle.jxlm_base.specs.Regions.{store_meanings}
 use Rattle.jxlm_base.specs.declared.decoder.DecoderError.{DecoderError}
 use Rattle.jxlm_tree.specs.FlatTree.{FlatTree, leaf_reached}
-use Rattle.jxlm_tree.specs.Holding.{surroundings}
+use Rattle.jxlm_tree.specs.Holding.{state_of, store_of, surroundings}
 use Rattle.jxlm_tree.specs.Predictions.{prediction}
 use Rattle.jxlm_tree.specs.Properties.{place_property}
-use Rattle.jxlm_tree.specs.Standing.{Setting}
+use Rattle.jxlm_tree.specs.Standing.{Setting, StandsAt}
 use Rattle.jxlm_tree.specs.declared.flat.Leaf.{Leaf}
+use Rattle.jxlm_tree.specs.declared.properties.Properties.{Properties}
 use Rattle.jxlm_part.specs.Coded.{sample_of}
+use Rattle.jxlm_part.specs.Inner.Source.{Source}
 
 -- a sample was read at this leaf, over this prediction, from this reading; it left state t and position q
-pub record ReadsNext {S X : Type 0} (w : Width) (from_int : ℤ → X) (l : Leaf) (predicted : ℤ) (sample : X) (t : S) (q : ℕ) (reading : Result (Taken ℕ S) DecoderError) : Type 0 where
+pub record ReadsNext {S X : Type 0} (w : Width) (from_int : ℤ → X) (l : Leaf) (predicted : ℤ) (sample : X)
+    (t : S) (q : ℕ) (reading : Result (Taken ℕ S) DecoderError) : Type 0 where
   pub token : ℕ
   pub read : reading ≡ Ok (record { value = token; state = t; position = q })
   pub sample_is : sample ≡ from_int (sample_of w l predicted token)
 
 -- the read returned the error e, and state and position stay
-pub record FailsNext {S : Type 0} (s t : S) (p q : ℕ) (e : DecoderError) (reading : Result (Taken ℕ S) DecoderError) : Type 0 where
+pub record FailsNext {S : Type 0} (s t : S) (p q : ℕ) (e : DecoderError)
+    (reading : Result (Taken ℕ S) DecoderError) : Type 0 where
   pub error : reading ≡ Err e
   pub state_is : t ≡ s
   pub place_is : q ≡ p
@@ -31,3 +37,27 @@ leaf_at flat s store samples = leaf_reached flat (place_property (surroundings s
 -- the prediction there
 abbrev pub predicted_at : FlatTree → Setting → List (Grid ℤ) → List ℤ → ℤ
 predicted_at flat s store samples = prediction s.weights samples s.width (leaf_at flat s store samples).predictor
+
+-- What the read of a sample at a cell with these properties returns, in whatever setting and after whatever samples the
+-- state is at that cell.
+module _ {D X : Type 0} (d : Meaning D) (to_int : X → ℤ) (flat : FlatTree) (widest : ℕ) (properties : Properties X)
+    (old new : Source D) where
+  -- the numbers of the store that the properties look at
+  abbrev pub numbers : List (Grid ℤ)
+  numbers = store_meanings to_int (store_of properties)
+
+  -- the read of its token
+  abbrev pub reading : Setting → List ℤ → Result (Taken ℕ D) DecoderError
+  reading s samples =
+      d.read old.decoder (bytes_of old.bits) (position_of old.bits) (leaf_at flat s numbers samples).cluster widest
+
+  -- this sample
+  abbrev pub ReadsSample : Width → (ℤ → X) → X → Type 0
+  ReadsSample w from_int sample = (s : Setting) (samples : List ℤ) → StandsAt (state_of properties) s samples →
+      ReadsNext w from_int (leaf_at flat s numbers samples) (predicted_at flat s numbers samples) sample
+      new.decoder (position_of new.bits) (reading s samples)
+
+  -- this error
+  abbrev pub FailsSample : DecoderError → Type 0
+  FailsSample e = (s : Setting) (samples : List ℤ) → StandsAt (state_of properties) s samples →
+      FailsNext old.decoder new.decoder (position_of old.bits) (position_of new.bits) e (reading s samples)

@@ -36,7 +36,8 @@ module _ {D : Type 0} where
     -- the state is at the cell after the first n of channel i
     abbrev pub StandsAfter : PartCoding D → (X → ℤ) → List (Grid X) → ℕ → ℕ → PredictorState X → Type 0
     StandsAfter c to_int store i n state =
-        StandsAt state (setting_of c i) (take n (grid_of (store_meanings to_int store) (region_at (regions_of c) i)).cells)
+        StandsAt state (setting_of c i)
+        (take n (grid_of (store_meanings to_int store) (region_at (regions_of c) i)).cells)
 
     -- the state is at some cell of channel i
     pub record StandsIn (c : PartCoding D) (i : ℕ) (state : PredictorState X) : Type 0 where
@@ -45,4 +46,5 @@ module _ {D : Type 0} where
 
     -- of the channels before channel i, the state was last in the one before, where that has columns
     abbrev pub IsAfterChannel : PartCoding D → ℕ → PredictorState X → Type 0
-    IsAfterChannel c i state = (last : ℕ) → i ≡ last + 1 → 0 < (region_at (regions_of c) last).width → StandsIn c last state
+    IsAfterChannel c i state =
+        (last : ℕ) → i ≡ last + 1 → 0 < (region_at (regions_of c) last).width → StandsIn c last state

@@ -4,11 +4,14 @@ use Rattle.std.specs.Int.{Width, w32, int_wrap}
 use Rattle.jxlm_base.specs.Decoding.{Meaning}
 use Rattle.jxlm_base.specs.Grid.{Grid, row as grid_row}
 use Rattle.jxlm_base.specs.Numbers.{clamped_gradient}
+use Rattle.jxlm_tree.specs.Tree.{leaf}
 use Rattle.jxlm_tree.specs.declared.flat.Leaf.{Leaf}
 use Rattle.jxlm_tree.specs.declared.predictor.Predictor.{Predictor}
 use Rattle.jxlm_tree.specs.declared.predictor.Predictor.TheVariants as predictor
 use Rattle.jxlm_part.specs.Coded.{sample_of}
+use Rattle.jxlm_part.specs.Reading.{part_of}
 use Rattle.jxlm_part.specs.Rule.{Rule}
+use Rattle.jxlm_part.specs.declared.coding.PartCoding.{PartCoding}
 use Rattle.jxlm_part.specs.declared.leaves.LeafPath.{LeafPath}
 use Rattle.jxlm_part.specs.declared.leaves.Path.{Path}
 use Rattle.jxlm_part.specs.declared.leaves.Path.TheVariants.{Zero, Gradient}
@@ -34,6 +37,11 @@ pub record IsPlain (l : Leaf) : Type 0 where
 pub record HasPath (l : LeafPath) : Type 0 where
   pub plain : IsPlain l.leaf
   pub predictor : l.leaf.predictor ≡ predictor_of l.path
+
+-- it is the only leaf of the tree that a part is decoded with
+pub record IsOnlyLeaf {D : Type 0} (c : PartCoding D) (l : LeafPath) : Type 0 where
+  pub tree : (part_of c).tree ≡ leaf l.leaf
+  pub path : HasPath l
 
 -- The neighbours in column x of a row, from the row above (none above the first row) and the cells of the row before
 -- it (ISO/IEC 18181-1, Modular: neighbouring samples).

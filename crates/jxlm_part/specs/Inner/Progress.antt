@@ -1,16 +1,23 @@
 -- How far the decoding of a part has come: what its loops over channels, rows and columns keep.
-use Rattle.std.specs.Prelude.{◌≡◌, ℕ, suc, ◌+◌, ◌*◌, ◌<◌, ◌≤◌, ℤ, List, take, drop, Err}
+use Rattle.std.specs.Prelude.{◌≡◌, ◌≢◌, ℕ, suc, ◌+◌, ◌*◌, ◌<◌, ◌≤◌, ℤ, List, take, drop, Err}
 use Rattle.std.specs.Int.{Width}
+use Rattle.jxlm_base.specs.Bits.{bytes_of, position_of}
 use Rattle.jxlm_base.specs.Decoding.{Meaning}
 use Rattle.jxlm_base.specs.Grid.{Grid}
-use Rattle.jxlm_base.specs.Regions.{grids_in}
+use Rattle.jxlm_base.specs.Outside.{KeepsOutside}
+use Rattle.jxlm_base.specs.Regions.{grids_in, store_meanings}
+use Rattle.jxlm_base.specs.declared.bits.Bitstream.{Bitstream}
 use Rattle.jxlm_base.specs.declared.decoder.DecoderError.{DecoderError}
+use Rattle.jxlm_base.specs.declared.decoder.DecoderError.TheVariants.{OutOfMemory}
 use Rattle.jxlm_base.specs.declared.subgrid.Region.{Region}
 use Rattle.jxlm_transform.specs.Channels.{AreGridsOf}
 use Rattle.jxlm_part.specs.Coded.{part_rule, IsCoded}
 use Rattle.jxlm_part.specs.Part.{Part, channel, cell_count, cells_before, cells_of}
+use Rattle.jxlm_part.specs.Reading.{cost_of, part_of, regions_of}
+use Rattle.jxlm_part.specs.declared.coding.PartCoding.{PartCoding}
 
-module _ {S : Type 0} (d : Meaning S) (w : Width) (part : Part) (bytes : List ℕ) (decoder : S) (p0 : ℕ) (old : List (Grid ℤ)) where
+module _ {S : Type 0} (d : Meaning S) (w : Width) (part : Part) (bytes : List ℕ) (decoder : S)
+    (p0 : ℕ) (old : List (Grid ℤ)) where
   -- the first k cells are coded, and the others are as before
   pub record Reached (k : ℕ) (now : List (Grid ℤ)) (state : S) (q : ℕ) : Type 0 where
     pub coded : IsCoded d w part bytes decoder p0 k now state q
@@ -41,11 +48,46 @@ module _ {S : Type 0} (d : Meaning S) (w : Width) (part : Part) (bytes : List �
   -- Whatever was decoded before: where the first `from` cells were decoded, the first `to` are now.
   abbrev pub GoesOn : ℕ → ℕ → List (Grid ℤ) → S → ℕ → List (Grid ℤ) → S → ℕ → Type 0
   GoesOn from to store s p store' s' p' = (decoder : S) (p0 : ℕ) (old : List (Grid ℤ)) →
-      Reached d w part bytes decoder p0 old from (grids_in regions store) s p → Reached d w part bytes decoder p0 old to (grids_in regions store') s' p'
+      Reached d w part bytes decoder p0 old from (grids_in regions store) s p →
+      Reached d w part bytes decoder p0 old to (grids_in regions store') s' p'
 
   -- Whatever was decoded before: where decoding had come to that cell, the read of it or of a later one returned the
   -- error e, and each read up to it took at most `cost` steps.
   abbrev pub Stops : ℕ → ℕ → ℕ → ℕ → List (Grid ℤ) → S → ℕ → List (Grid ℤ) → ℕ → DecoderError → Type 0
   Stops cost before after from store s p store' p' e = (decoder : S) (p0 : ℕ) (old : List (Grid ℤ)) →
       Reached d w part bytes decoder p0 old from (grids_in regions store) s p →
-      (stopped : Stopped d w part bytes decoder p0 old e (grids_in regions store') p') × TakesSteps cost from (suc stopped.count) before after
+      (stopped : Stopped d w part bytes decoder p0 old e (grids_in regions store') p') ×
+      TakesSteps cost from (suc stopped.count) before after
+
+-- how far decoding is: the decoder and the reader, the store, and the steps that were taken
+pub record Moment (D X : Type 0) : Type 0 where
+  pub decoder : D
+  pub bits : Bitstream
+  pub store : List (Grid X)
+  pub steps : ℕ
+
+abbrev pub moment : {D X : Type 0} → D → Bitstream → List (Grid X) → ℕ → Moment D X
+moment decoder bits store steps = record { decoder = decoder; bits = bits; store = store; steps = steps }
+
+-- what the loops over rows and channels return and leave
+module _ {D X : Type 0} (c : PartCoding D) (d : Meaning D) (w : Width) (to_int : X → ℤ) where
+  -- cells `from` up to `to` of the part were decoded
+  pub record DecodesCells (from to : ℕ) (old new : Moment D X) : Type 0 where
+    pub goes : GoesOn d w (part_of c) (bytes_of old.bits) (regions_of c) from to
+        (store_meanings to_int old.store) old.decoder (position_of old.bits)
+        (store_meanings to_int new.store) new.decoder (position_of new.bits)
+    pub work : TakesSteps (cost_of c) from to old.steps new.steps
+    pub more : old.steps ≤ new.steps
+    pub keeps : KeepsOutside (regions_of c) old.store new.store
+    pub clusters : d.cluster_map new.decoder ≡ d.cluster_map old.decoder
+    pub bytes : bytes_of new.bits ≡ bytes_of old.bits
+
+  -- the read of cell `from` or of a later one returned the error e, and the cells before it were decoded
+  pub record FailsInCells (from : ℕ) (old new : Moment D X) (e : DecoderError) : Type 0 where
+    pub stops : Stops d w (part_of c) (bytes_of old.bits) (regions_of c) (cost_of c) old.steps new.steps from
+        (store_meanings to_int old.store) old.decoder (position_of old.bits)
+        (store_meanings to_int new.store) (position_of new.bits) e
+    pub more : old.steps ≤ new.steps
+    pub keeps : KeepsOutside (regions_of c) old.store new.store
+    pub memory : e ≢ OutOfMemory
+    pub bytes : bytes_of new.bits ≡ bytes_of old.bits

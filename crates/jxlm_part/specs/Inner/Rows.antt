@@ -1,22 +1,26 @@
 -- Rows of cells that are read one after another.
-use Rattle.std.specs.Prelude.{◌≡◌, ℕ, ◌*◌, ◌<◌, ℤ, List, ◌++◌, length, take, slice_set, Result, Ok, Err}
+use Rattle.std.specs.Prelude.{◌≡◌, ◌≢◌, ℕ, ◌*◌, ◌<◌, ℤ, List, ◌++◌, length, take, slice_set, Option, None, Some, Result, Ok, Err}
 use Rattle.std.specs.Int.{Width}
+use Rattle.jxlm_base.specs.Bits.{bytes_of, position_of}
 use Rattle.jxlm_base.specs.Decoding.{Meaning}
 use Rattle.jxlm_base.specs.Grid.{Grid}
 use Rattle.jxlm_base.specs.Outside.{SetsRow}
-use Rattle.jxlm_base.specs.Regions.{AllLie, LieApart, grid_of, region, store_meanings}
+use Rattle.jxlm_base.specs.Regions.{AllLie, LieApart, grid_of, grids_in, region, store_meanings}
 use Rattle.jxlm_base.specs.declared.decoder.DecoderError.{DecoderError}
+use Rattle.jxlm_base.specs.declared.decoder.DecoderError.TheVariants.{OutOfMemory}
 use Rattle.jxlm_base.specs.declared.subgrid.Region.{Region}
 use Rattle.jxlm_tree.specs.Standing.{StandsAt}
 use Rattle.jxlm_tree.specs.declared.state.PredictorState.{PredictorState}
 use Rattle.jxlm_part.specs.Coded.{part_rule}
 use Rattle.jxlm_part.specs.Part.{Part}
-use Rattle.jxlm_part.specs.Progress.{grids_in}
-use Rattle.jxlm_part.specs.Inner.Progress.{GoesOn, Stops, preceding_cells, place_of}
-use Rattle.jxlm_part.specs.Reading.{FindsClusters, IsCodingOf, cost_of, part_of, regions_of}
-use Rattle.jxlm_part.specs.Inner.Channels.{region_at, setting_of}
+use Rattle.jxlm_part.specs.Reading.{FindsClusters, HasRoom, IsCodingOf, part_of, regions_of}
 use Rattle.jxlm_part.specs.Rule.{Rule, CodedPrefix}
+use Rattle.jxlm_part.specs.Inner.Channels.{StandsIn, region_at, setting_of}
+use Rattle.jxlm_part.specs.Inner.Leaves.{IsOnlyLeaf}
+use Rattle.jxlm_part.specs.Inner.Progress.{preceding_cells}
+use Rattle.jxlm_part.specs.Inner.Source.{Source}
 use Rattle.jxlm_part.specs.declared.coding.PartCoding.{PartCoding}
+use Rattle.jxlm_part.specs.declared.leaves.LeafPath.{LeafPath}
 use Rattle.jxlm_part.specs.declared.rows.RowError.{RowError}
 
 -- a rule, for the cells that come after these
@@ -26,31 +30,44 @@ rule_after rule before = record {
   value = λ row token. rule.value (before ++ row) token;
 }
 
-module _ {S : Type 0} (rule : Rule S) (row : List ℤ) (s : S) (p : ℕ) where
-  -- all cells of the row were read, from state s and position p up to state t and position q
-  abbrev pub ReadsRow : S → ℕ → Type 0
-  ReadsRow t q = CodedPrefix rule row s p (length row) t q
+module _ {S : Type 0} (d : Meaning S) (rule : Rule S) (row : List ℤ) where
+  -- the cells before column x of the row were read
+  pub record ReadsCells (x : ℕ) (old new : Source S) : Type 0 where
+    pub reads : CodedPrefix rule row old.decoder (position_of old.bits) x new.decoder (position_of new.bits)
+    pub clusters : d.cluster_map new.decoder ≡ d.cluster_map old.decoder
+    pub bytes : bytes_of new.bits ≡ bytes_of old.bits
 
-  -- the cells before column x of the row were read, and the read of cell x returned the error e at position q
-  pub record FailsRow (x : ℕ) (e : DecoderError) (q : ℕ) : Type 0 where
-    pub state : S
-    pub inside : x < length row
-    pub reads : CodedPrefix rule row s p x state q
-    pub error : rule.read (take x row) state q ≡ Err e
+  -- all cells of the row were read
+  abbrev pub ReadsRow : Source S → Source S → Type 0
+  ReadsRow old new = ReadsCells (length row) old new
 
-module _ {S : Type 0} (rule : Rule S) (row : List ℤ) (x : ℕ) (s : S) (p : ℕ) where
-  -- cell x was read from state s and position p, which left state t and position q, and it is in the row now
-  pub record ReadsCell (new : List ℤ) (t : S) (q : ℕ) : Type 0 where
+  -- cell x was read, and it is in the row now
+  pub record ReadsCell (x : ℕ) (old new : Source S) (now : List ℤ) : Type 0 where
     pub token : ℕ
-    pub read : rule.read (take x row) s p ≡ Ok (record { value = token; state = t; position = q })
-    pub written : new ≡ slice_set row x (rule.value (take x row) token)
+    pub read : rule.read (take x row) old.decoder (position_of old.bits)
+        ≡ Ok (record { value = token; state = new.decoder; position = position_of new.bits })
+    pub written : now ≡ slice_set row x (rule.value (take x row) token)
+    pub clusters : d.cluster_map new.decoder ≡ d.cluster_map old.decoder
+    pub bytes : bytes_of new.bits ≡ bytes_of old.bits
+
+module _ {S : Type 0} (rule : Rule S) (row : List ℤ) where
+  -- the cells of the row before one were read, and the read of that one returned an error
+  pub record FailsRow (old new : Source S) (r : RowError) : Type 0 where
+    pub state : S
+    pub inside : r.column < length row
+    pub reads : CodedPrefix rule row old.decoder (position_of old.bits) r.column state (position_of new.bits)
+    pub error : rule.read (take r.column row) state (position_of new.bits) ≡ Err r.error
+    pub memory : r.error ≢ OutOfMemory
+    pub bytes : bytes_of new.bits ≡ bytes_of old.bits
 
   -- the read of cell x returned the error e, and nothing changed
-  pub record FailsCell (new : List ℤ) (t : S) (q : ℕ) (e : DecoderError) : Type 0 where
-    pub error : rule.read (take x row) s p ≡ Err e
-    pub row_is : new ≡ row
-    pub state_is : t ≡ s
-    pub place_is : q ≡ p
+  pub record FailsCell (x : ℕ) (old new : Source S) (now : List ℤ) (e : DecoderError) : Type 0 where
+    pub error : rule.read (take x row) old.decoder (position_of old.bits) ≡ Err e
+    pub row_is : now ≡ row
+    pub state_is : new.decoder ≡ old.decoder
+    pub place_is : position_of new.bits ≡ position_of old.bits
+    pub memory : e ≢ OutOfMemory
+    pub bytes : bytes_of new.bits ≡ bytes_of old.bits
 
 -- the first n columns of a region
 abbrev pub first_columns : Region → ℕ → Region
@@ -69,16 +86,20 @@ abbrev pub AreAlike : {S : Type 0} → Rule S → Rule S → ℕ → Type 0
 AreAlike {S} a b n = (row : List ℤ) → length row < n →
     ((s : S) (p : ℕ) → a.read row s p ≡ b.read row s p) × ((token : ℕ) → a.value row token ≡ b.value row token)
 
--- What holds while channel i of a part is decoded, which has columns: the regions lie in the store, no two of them
--- share a cell, and the decoder has the clusters that the tree asks for.
+-- What holds while a part is decoded: the regions lie in the store, no two of them share a cell, and the decoder has
+-- the clusters that the tree asks for.
+pub record IsDecodingPart {D X : Type 0} (c : PartCoding D) (store : List (Grid X)) (clusters : List ℕ) : Type 0 where
+  pub coding : IsCodingOf c
+  pub lie : AllLie (regions_of c) store
+  pub apart : LieApart (regions_of c)
+  pub clusters_found : FindsClusters c clusters
+
+-- the same for its channel i, which has columns
 pub record IsDecoding {D X : Type 0} (c : PartCoding D) (i : ℕ) (store : List (Grid X)) (clusters : List ℕ) : Type 0
   where
-    pub coding : IsCodingOf c
-    pub lie : AllLie (regions_of c) store
-    pub apart : LieApart (regions_of c)
+    pub part : IsDecodingPart c store clusters
     pub channel : i < length (regions_of c)
     pub columns : 0 < (region_at (regions_of c) i).width
-    pub clusters_found : FindsClusters c clusters
 
 -- how the cells of row y of channel i are read
 abbrev pub row_rule : {S : Type 0} → Meaning S → Width → Part → List ℕ → List Region → List (Grid ℤ) → ℕ → ℕ → Rule S
@@ -96,16 +117,12 @@ module _ {D X : Type 0} (c : PartCoding D) (to_int : X → ℤ) (store : List (G
       let r : Region = region_at (regions_of c) i in
       StandsAt state (setting_of c i) (take (y * r.width) (grid_of (store_meanings to_int store) r).cells ++ row)
 
-module _ {D X : Type 0} (c : PartCoding D) (d : Meaning D) (w : Width) (to_int : X → ℤ) (bytes : List ℕ) (i from : ℕ)
-    (store : List (Grid X)) (s : D) (p : ℕ) where
-  -- the rows of channel i were decoded, from row `from` up to row `to`
-  abbrev pub ReadsRows : ℕ → List (Grid X) → D → ℕ → Type 0
-  ReadsRows to new t q =
-      GoesOn d w (part_of c) bytes (regions_of c) (place_of (part_of c) i 0 from) (place_of (part_of c) i 0 to)
-      (store_meanings to_int store) s p (store_meanings to_int new) t q
+  -- the same; where the tree is one leaf with a path, the state is anywhere in channel i
+  abbrev pub StandsBy : Option LeafPath → List ℤ → PredictorState X → Type 0
+  StandsBy (Some l) row state = IsOnlyLeaf c l × StandsIn c i state
+  StandsBy None row state = StandsInRow row state
 
-  -- the read of a cell in row `from` of channel i or below returned the error e, and the cells before are decoded
-  abbrev pub StopsInRows : ℕ → ℕ → List (Grid X) → ℕ → DecoderError → Type 0
-  StopsInRows before after new q e =
-      Stops d w (part_of c) bytes (regions_of c) (cost_of c) before after (place_of (part_of c) i 0 from)
-      (store_meanings to_int store) s p (store_meanings to_int new) q e
+  -- so it is, and there is room for each channel
+  pub record IsInRow (path : Option LeafPath) (row : List ℤ) (state : PredictorState X) : Type 0 where
+    pub stands : StandsBy path row state
+    pub roomy : HasRoom c state

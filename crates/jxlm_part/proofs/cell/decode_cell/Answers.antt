@@ -2,8 +2,8 @@ use Rattle.std.proofs.Common.{◌*◌, ◌++◌, map, take, ◌∙◌, rules, w3
 use Rattle.std.proofs.lemmas.Int.{to_z-of_z}
 use Rattle.std.proofs.lemmas.List.{length-map, map-set}
 use Rattle.std.proofs.lemmas.Result.{err_from_is_err_and}
-use Rattle.jxlm_base.specs.Bits.{bytes_of, position_of}
 use Rattle.jxlm_base.specs.Regions.{grid_of, store_meanings}
+use Rattle.jxlm_part.specs.Inner.Source.{source}
 use Rattle.jxlm_part.specs.Reading.{regions_of}
 use Rattle.jxlm_part.specs.Inner.Channels.{region_at, setting_of}
 use Rattle.jxlm_part.proofs.CellLaws.{clusters_at, cost_at, is_ready, reads_cell, fails_cell, stands_further, stands_so}
@@ -11,11 +11,11 @@ use Rattle.jxlm_part.proofs.cell.decode_cell.Goals as goal
 
 pub properties-properties-requires-clause-ready : goal.properties-properties-requires-clause-ready
 properties-properties-requires-clause-ready g c =
-    is_ready c.args.coding.now c.requires.here.coding c.args.i c.requires.here.channel g.S.Sealed.to_int c.args.store.now (map g.S.Sealed.to_int c.args.row.now) c.args.x c.args.y c.requires.here.lie c.requires.column c.requires.in_rows
+    is_ready c.args.coding.now c.requires.here.part.coding c.args.i c.requires.here.channel g.S.Sealed.to_int c.args.store.now (map g.S.Sealed.to_int c.args.row.now) c.args.x c.args.y c.requires.here.part.lie c.requires.column c.requires.in_rows
     (length-map c.args.row.now g.S.Sealed.to_int ∙ c.requires.long) c.args.state.now c.requires.stands
 
 pub next_sample-requires-clause-clusters : goal.next_sample-requires-clause-clusters
-next_sample-requires-clause-clusters g c κs within = clusters_at c.args.coding.now c.requires.here.coding c.args.i c.requires.here.channel _ _ c.requires.here.clusters_found
+next_sample-requires-clause-clusters g c κs within = clusters_at c.args.coding.now c.requires.here.part.coding c.args.i c.requires.here.channel _ _ c.requires.here.part.clusters_found
 
 pub returns-in_err-sample-clause-err : goal.returns-in_err-sample-clause-err
 returns-in_err-sample-clause-err g c =
@@ -24,14 +24,16 @@ returns-in_err-sample-clause-err g c =
     let here = setting_of c.args.coding.now c.args.i in
     let reg = region_at (regions_of c.args.coding.now) c.args.i in
     let own = take (c.args.y * reg.width) (grid_of (store_meanings to_int c.args.store.now) reg).cells ++ take c.args.x (map to_int c.args.row.now) in
+    let old = source c.args.decoder.now c.args.bits.now in
+    let new = source c.next_sample.new.decoder c.next_sample.new.bits in
     let refuses = rw c.properties-properties.ensures.store at (c.in_err-sample.ensures.err here own (rw c.properties-properties.ensures.unchanged c.requires.stands)) in
     rw (p.1, p.2)
-    (fails_cell c.args.coding.now c.requires.here.coding c.args.i c.requires.here.channel to_int c.args.store.now (map to_int c.args.row.now) c.args.x c.args.y c.requires.here.lie c.requires.column c.requires.in_rows
+    (fails_cell c.args.coding.now c.requires.here.part.coding c.args.i c.requires.here.channel to_int c.args.store.now (map to_int c.args.row.now) c.args.x c.args.y c.requires.here.part.lie c.requires.column c.requires.in_rows
     (length-map c.args.row.now to_int ∙ c.requires.long)
-    g.D.Decoder.meaning g.S.Sealed.width (bytes_of c.args.bits.now) c.args.decoder.now (position_of c.args.bits.now) _ _ _ _ refuses)
+    g.D.Decoder.meaning g.S.Sealed.width old _ new _ refuses c.in_err-sample.ensures.memory c.in_err-sample.ensures.bytes)
 
 pub returns-in_err-sample-clause-cost : goal.returns-in_err-sample-clause-cost
-returns-in_err-sample-clause-cost g c = cost_at c.args.coding.now c.requires.here.coding c.args.i c.requires.here.channel _ _ _ c.in_err-sample.ensures.cost
+returns-in_err-sample-clause-cost g c = cost_at c.args.coding.now c.requires.here.part.coding c.args.i c.requires.here.channel _ _ _ c.in_err-sample.ensures.cost
 
 pub returns-clause-ok : goal.returns-clause-ok
 returns-clause-ok g c =
@@ -39,11 +41,13 @@ returns-clause-ok g c =
     let here = setting_of c.args.coding.now c.args.i in
     let reg = region_at (regions_of c.args.coding.now) c.args.i in
     let own = take (c.args.y * reg.width) (grid_of (store_meanings to_int c.args.store.now) reg).cells ++ take c.args.x (map to_int c.args.row.now) in
+    let old = source c.args.decoder.now c.args.bits.now in
+    let new = source c.next_sample.new.decoder c.next_sample.new.bits in
     let reads = rw c.properties-properties.ensures.store at (c.in_ok-sample.ensures.ok here own (rw c.properties-properties.ensures.unchanged c.requires.stands)) in
-    reads_cell c.args.coding.now c.requires.here.coding c.args.i c.requires.here.channel to_int c.args.store.now (map to_int c.args.row.now) c.args.x c.args.y c.requires.here.lie c.requires.column c.requires.in_rows
+    reads_cell c.args.coding.now c.requires.here.part.coding c.args.i c.requires.here.channel to_int c.args.store.now (map to_int c.args.row.now) c.args.x c.args.y c.requires.here.part.lie c.requires.column c.requires.in_rows
     (length-map c.args.row.now to_int ∙ c.requires.long)
-    g.D.Decoder.meaning g.S.Sealed.width (bytes_of c.args.bits.now) c.args.decoder.now (position_of c.args.bits.now) _ g.S.Sealed.from_int g.met.S.Sealed.to_int_from_int c.in_ok-sample.sample _ _ _
-    (map-set to_int c.args.row.now c.args.x c.in_ok-sample.sample) reads
+    g.D.Decoder.meaning g.S.Sealed.width old _ g.S.Sealed.from_int g.met.S.Sealed.to_int_from_int c.in_ok-sample.sample _ new
+    (map-set to_int c.args.row.now c.args.x c.in_ok-sample.sample) reads c.in_ok-sample.ensures.clusters c.in_ok-sample.ensures.bytes
 
 pub returns-clause-stands : goal.returns-clause-stands
 returns-clause-stands g c =
@@ -54,6 +58,6 @@ returns-clause-stands g c =
     let fits : FitsSigned w32 c.to_i32.result = search rules in
     let sample = to_z-of_z w32 c.to_i32.result fits ∙ c.to_i32.ensures.value in
     let after_it = rw sample at (c.record.ensures.stands here own (rw c.properties-properties.ensures.unchanged c.requires.stands)) in
-    stands_further c.args.coding.now c.requires.here.coding c.args.i c.requires.here.channel to_int c.args.store.now (map to_int c.args.row.now) c.args.x c.args.y c.requires.here.lie c.requires.column c.requires.in_rows
+    stands_further c.args.coding.now c.requires.here.part.coding c.args.i c.requires.here.channel to_int c.args.store.now (map to_int c.args.row.now) c.args.x c.args.y c.requires.here.part.lie c.requires.column c.requires.in_rows
     (length-map c.args.row.now to_int ∙ c.requires.long)
     (to_int c.in_ok-sample.sample) _ _ (map-set to_int c.args.row.now c.args.x c.in_ok-sample.sample) (stands_so _ _ _ _ (search rules) after_it)

@@ -17,7 +17,7 @@ returns-in_err-begin-clause-err g c =
 pub returns-in_err-decode_channels-clause-err : goal.returns-in_err-decode_channels-clause-err
 returns-in_err-decode_channels-clause-err g c =
     let p = err_from_is_err_and c.from_residual-in_err-decode_channels.result c.from_residual-in_err-decode_channels.ensures.1 in
-    let stops = rw c.in_ok-begin.ensures.bytes at c.in_err-decode_channels.ensures.err in
+    let stops = rw c.in_ok-begin.ensures.bytes at c.in_err-decode_channels.ensures.err.stops in
     rw (p.1, p.2)
     (refused_at_read g.D.Decoder.meaning g.S.Sealed.width (part_of c.args.coding.now) (bytes_of c.args.bits.now) (regions_of c.args.coding.now) c.args.decoder.now (store_meanings g.S.Sealed.to_int c.args.store.now)
     (position_of c.args.bits.now) c.requires.coding.sizes _ c.in_ok-begin.ensures.gives _ (cost_of c.args.coding.now) c.args.steps.now c.decode_channels.new.steps _ _ stops)
@@ -25,16 +25,16 @@ returns-in_err-decode_channels-clause-err g c =
 pub returns-in_err-finalize-clause-err : goal.returns-in_err-finalize-clause-err
 returns-in_err-finalize-clause-err g c =
     let p = err_from_is_err_and c.from_residual-in_err-finalize.result c.from_residual-in_err-finalize.ensures.1 in
-    let goes = rw c.in_ok-begin.ensures.bytes at c.in_ok-decode_channels.ensures.ok in
+    let goes = rw c.in_ok-begin.ensures.bytes at c.in_ok-decode_channels.ensures.ok.goes in
     rw (p.1, p.2)
     (refused_at_end g.D.Decoder.meaning g.S.Sealed.width (part_of c.args.coding.now) (bytes_of c.args.bits.now) (regions_of c.args.coding.now) c.args.decoder.now (store_meanings g.S.Sealed.to_int c.args.store.now)
-    (position_of c.args.bits.now) c.requires.coding.sizes _ c.in_ok-begin.ensures.gives _ _ _ goes (cost_of c.args.coding.now) c.args.steps.now c.decode_channels.new.steps _ c.in_ok-decode_channels.ensures.work (sym c.in_err-finalize.ensures))
+    (position_of c.args.bits.now) c.requires.coding.sizes _ c.in_ok-begin.ensures.gives _ _ _ goes (cost_of c.args.coding.now) c.args.steps.now c.decode_channels.new.steps _ c.in_ok-decode_channels.ensures.ok.work (sym c.in_err-finalize.ensures))
 
 pub returns-clause-ok : goal.returns-clause-ok
 returns-clause-ok g c =
-    let goes = rw c.in_ok-begin.ensures.bytes at c.in_ok-decode_channels.ensures.ok in
+    let goes = rw c.in_ok-begin.ensures.bytes at c.in_ok-decode_channels.ensures.ok.goes in
     decodes_all g.D.Decoder.meaning g.S.Sealed.width (part_of c.args.coding.now) (bytes_of c.args.bits.now) (regions_of c.args.coding.now) c.args.decoder.now (store_meanings g.S.Sealed.to_int c.args.store.now)
     (position_of c.args.bits.now) c.requires.coding.sizes _ c.in_ok-begin.ensures.gives _ _ _ goes (sym c.in_ok-finalize.ensures)
 
 pub returns-clause-work : goal.returns-clause-work
-returns-clause-work g c = steps_from (cost_of c.args.coding.now) _ c.args.steps.now c.decode_channels.new.steps c.in_ok-decode_channels.ensures.work
+returns-clause-work g c = steps_from (cost_of c.args.coding.now) _ c.args.steps.now c.decode_channels.new.steps c.in_ok-decode_channels.ensures.ok.work

@@ -1,19 +1,17 @@
 use Rattle.std.proofs.Common.{◌≡◌, [], map, length}
-use Rattle.jxlm_base.specs.Bits.{bytes_of, position_of}
+use Rattle.jxlm_base.specs.Bits.{bytes_of}
 use Rattle.jxlm_part.specs.Inner.Leaves.{path_rule, west_in}
+use Rattle.jxlm_part.specs.Inner.Rows.{ReadsCells}
+use Rattle.jxlm_part.specs.Inner.Source.{source}
 use Rattle.jxlm_part.specs.declared.leaves.Path.TheVariants.{Gradient}
-use Rattle.jxlm_part.specs.Rule.{CodedPrefix}
 use Rattle.jxlm_part.proofs.leaves.first_gradient_row.Given as goal
 
 abbrev pub invariant-loop-x : goal.invariant-loop-x
 invariant-loop-x g l =
-    let d = g.D.Decoder.meaning in
     let to_int = g.S.Sealed.to_int in
     record {
-      bytes : bytes_of l.bits ≡ bytes_of l.fn.bits;
       len : length l.row ≡ length l.fn.row;
-      clusters : d.cluster_map l.decoder ≡ d.cluster_map l.fn.decoder;
-      reads : CodedPrefix (path_rule d g.S.Sealed.width (bytes_of l.fn.bits) l.leaf l.widest Gradient [])
-          (map to_int l.row) l.fn.decoder (position_of l.fn.bits) l.x l.decoder (position_of l.bits);
+      reads : ReadsCells g.D.Decoder.meaning (path_rule g.D.Decoder.meaning g.S.Sealed.width (bytes_of l.fn.bits) l.leaf l.widest Gradient [])
+          (map to_int l.row) l.x (source l.fn.decoder l.fn.bits) (source l.decoder l.bits);
       west : to_int l.w ≡ west_in [] (map to_int l.row) l.x;
     }

@@ -1,50 +1,49 @@
 use Rattle.std.proofs.Common.{rules, ◌≡◌, ◌<◌, map, length, ◌+◌, ◌∙◌, arith, subst, sym}
 use Rattle.std.specs.Prelude.{slice_set}
 use Rattle.std.proofs.lemmas.List.{length-map, map-set}
-use Rattle.jxlm_base.specs.Bits.{bytes_of, position_of}
+use Rattle.jxlm_base.specs.Bits.{bytes_of}
 use Rattle.jxlm_part.specs.Inner.Leaves.{next_by, path_rule, west_in}
+use Rattle.jxlm_part.specs.Inner.Source.{source}
 use Rattle.jxlm_part.specs.declared.leaves.Path.TheVariants.{Gradient}
-use Rattle.jxlm_part.specs.Rule.{CodedPrefix}
-use Rattle.jxlm_part.proofs.LeafCells.{above_is, gradient_sample, leaf_more, north_west_next, west_next}
+use Rattle.jxlm_part.proofs.LeafCells.{above_is, gradient_sample, leaf_ends, leaf_more, leaf_whole, north_west_next, west_next}
 use Rattle.jxlm_part.proofs.leaves.gradient_row.Goals as goal
 
 pub loop-x-preserved : goal.loop-x-preserved
 loop-x-preserved g c =
-    let d = g.D.Decoder.meaning in
-    let w = g.S.Sealed.width in
     let to_int = g.S.Sealed.to_int in
-    let above = c.args.above.now in
     let row = c.loop-x.row in
     let x = c.loop-x.x in
     let v = c.add-value.result in
-    let bytes = bytes_of c.args.bits.now in
     let same = c.loop-x.invariant.len in
     let inside : x < length row = omega (arith, same, c.loop-x-test.true) in
-    let long : length above ≡ length row = c.requires.above ∙ sym same in
     let in_row : x < length (map to_int row) = let m = length-map row to_int in omega (arith, m) in
-    let read = rw c.loop-x.invariant.bytes at c.in-Ok.ensures.gives in
-    let value = gradient_sample w to_int g.S.Sealed.from_int g.met.S.Sealed.to_int_from_int g.met.S.Sealed.wraps_after_i32 c.args.leaf c.requires.plain (map to_int above) (map to_int row) x in_row
+    let written : slice_set (map to_int row) x (to_int v) ≡ map to_int (slice_set row x v) = sym (map-set to_int row x v) in
+    let above = c.args.above.now in
+    let long : length above ≡ length row = c.requires.above ∙ sym same in
+    let value = gradient_sample g.S.Sealed.width to_int g.S.Sealed.from_int g.met.S.Sealed.to_int_from_int g.met.S.Sealed.wraps_after_i32 c.args.leaf c.requires.plain (map to_int above) (map to_int row) x in_row
     c.in-Ok.token c.index-above-x.result c.loop-x.w c.loop-x.nw c.unpack_signed_u32.result c.grad_clamped.result v
     (above_is to_int above x c.index-above-x.result (west_in (map to_int above) (map to_int row) x) (omega (arith, long)) c.index-above-x.is) c.loop-x.invariant.west c.loop-x.invariant.north_west
     c.unpack_signed_u32.ensures c.grad_clamped.ensures c.add-value.ensures in
-    let more = leaf_more d w bytes c.args.leaf c.args.widest (next_by Gradient (map to_int above)) c.args.decoder.now (position_of c.args.bits.now) (map to_int row) x c.loop-x.decoder (position_of c.loop-x.bits)
-    c.in-Ok.token c.read_varint_with_multiplier_clustered.new.self (position_of c.read_varint_with_multiplier_clustered.new.bits) (to_int v) in_row c.loop-x.invariant.reads read value in
-    let written : slice_set (map to_int row) x (to_int v) ≡ map to_int (slice_set row x v) = sym (map-set to_int row x v) in
     record {
-      bytes = search rules;
       len = search rules;
-      clusters = (g.met.D.Decoder.lawful.read_keeps c.loop-x.decoder (bytes_of c.loop-x.bits) (position_of c.loop-x.bits) c.args.leaf.cluster c.args.widest _ (rw c.loop-x.invariant.clusters c.requires.cluster) c.in-Ok.ensures.gives).clusters
-          ∙ c.loop-x.invariant.clusters;
-      reads = rw written at more;
+      reads = leaf_more g.D.Decoder.meaning g.met.D.Decoder.lawful g.S.Sealed.width to_int c.args.leaf c.args.widest (next_by Gradient (map to_int above))
+          (source c.args.decoder.now c.args.bits.now) (source c.loop-x.decoder c.loop-x.bits) (source c.read_varint_with_multiplier_clustered.new.self c.read_varint_with_multiplier_clustered.new.bits)
+          row x c.requires.cluster inside c.loop-x.invariant.reads c.in-Ok.ensures.bytes c.in-Ok.token v c.in-Ok.ensures.gives value;
       west = subst (λ r. to_int v ≡ west_in (map to_int above) r (x + 1)) written (west_next (map to_int above) (map to_int row) x (to_int v) in_row);
       north_west = north_west_next (map to_int above) (map to_int (slice_set row x v)) x (to_int c.index-above-x.result)
           (λ e. above_is to_int above x c.index-above-x.result e (omega (arith, long)) c.index-above-x.is);
     }
 
+pub returns-in-Err-clause-err : goal.returns-in-Err-clause-err
+returns-in-Err-clause-err g c =
+    let same = c.loop-x.invariant.len in
+    leaf_ends g.D.Decoder.meaning g.met.D.Decoder.lawful g.S.Sealed.width g.S.Sealed.to_int c.args.leaf c.args.widest (next_by Gradient (map g.S.Sealed.to_int c.args.above.now))
+    (source c.args.decoder.now c.args.bits.now) (source c.loop-x.decoder c.loop-x.bits) (source c.read_varint_with_multiplier_clustered.new.self c.read_varint_with_multiplier_clustered.new.bits)
+    c.loop-x.row c.loop-x.x c.requires.cluster (omega (arith, same, c.loop-x-test.true)) c.loop-x.invariant.reads c.in-Err.ensures.bytes _ c.in-Err.ensures.gives
+
 pub returns-clause-ok : goal.returns-clause-ok
 returns-clause-ok g c =
-    let to_int = g.S.Sealed.to_int in
-    let all : c.loop-x.x ≡ length (map to_int c.loop-x.row) =
-    let end = c.loop-x.auto.x-end in let same = c.loop-x.invariant.len in let m = length-map c.loop-x.row to_int in omega (arith, end, same, m, c.loop-x-test.false) in
-    subst (λ n. CodedPrefix (path_rule g.D.Decoder.meaning g.S.Sealed.width (bytes_of c.args.bits.now) c.args.leaf c.args.widest Gradient (map to_int c.args.above.now))
-    (map to_int c.loop-x.row) c.args.decoder.now (position_of c.args.bits.now) n c.loop-x.decoder (position_of c.loop-x.bits)) all c.loop-x.invariant.reads
+    let end = c.loop-x.auto.x-end in
+    let same = c.loop-x.invariant.len in
+    leaf_whole g.D.Decoder.meaning (path_rule g.D.Decoder.meaning g.S.Sealed.width (bytes_of c.args.bits.now) c.args.leaf c.args.widest Gradient (map g.S.Sealed.to_int c.args.above.now)) g.S.Sealed.to_int
+    (source c.args.decoder.now c.args.bits.now) (source c.loop-x.decoder c.loop-x.bits) c.loop-x.row c.loop-x.x c.loop-x.invariant.reads (omega (arith, end, same, c.loop-x-test.false))

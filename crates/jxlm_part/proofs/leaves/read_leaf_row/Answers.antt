@@ -2,7 +2,7 @@ use Rattle.std.proofs.Common.{◌≡◌, ◌<◌, map, arith}
 use Rattle.jxlm_base.specs.Regions.{grid_of, store_meanings}
 use Rattle.jxlm_part.specs.Inner.Leaves.{row_above}
 use Rattle.jxlm_part.specs.declared.leaves.Path.TheVariants.{Zero, Gradient}
-use Rattle.jxlm_part.proofs.Loops.{ok_so}
+use Rattle.jxlm_part.proofs.Loops.{err_so, ok_so}
 use Rattle.jxlm_part.proofs.RowNeighbours.{row_above_is}
 use Rattle.jxlm_part.proofs.leaves.read_leaf_row.Goals as goal
 
@@ -11,6 +11,12 @@ returns-in-Zero-clause-ok g c =
     let path : c.args.at.path ≡ Zero = c.in-Zero.is in
     let above = row_above (grid_of (store_meanings g.S.Sealed.to_int c.args.store.now) c.args.region) c.args.y in
     rw path (ok_so c.zero_row.result _ _ (λ reads. reads above) c.zero_row.ensures.ok)
+
+pub returns-in-Zero-clause-err : goal.returns-in-Zero-clause-err
+returns-in-Zero-clause-err g c =
+    let path : c.args.at.path ≡ Zero = c.in-Zero.is in
+    let above = row_above (grid_of (store_meanings g.S.Sealed.to_int c.args.store.now) c.args.region) c.args.y in
+    rw path (err_so c.zero_row.result _ _ (λ r fails. fails above) c.zero_row.ensures.err)
 
 pub returns-in-Gradient-clause-ok : goal.returns-in-Gradient-clause-ok
 returns-in-Gradient-clause-ok g c =

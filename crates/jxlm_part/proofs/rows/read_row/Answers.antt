@@ -1,23 +1,21 @@
-use Rattle.std.proofs.Common.{rules, ◌≡◌, ◌<◌, map, length, arith, ◌∙◌, subst}
+use Rattle.std.proofs.Common.{rules, ◌≡◌, ◌<◌, map, length, arith, refl, subst}
 use Rattle.std.proofs.lemmas.List.{length-map, take_all}
-use Rattle.jxlm_base.specs.Bits.{bytes_of, position_of}
-use Rattle.jxlm_part.specs.Reading.{regions_of}
+use Rattle.jxlm_base.specs.Bits.{bytes_of}
 use Rattle.jxlm_part.specs.Inner.Channels.{region_at}
-use Rattle.jxlm_part.specs.Inner.Rows.{StandsInRow, rule_in}
-use Rattle.jxlm_part.specs.Rule.{CodedPrefix}
-use Rattle.jxlm_part.proofs.CellLaws.{begins_row, cell_more, cell_fails}
+use Rattle.jxlm_part.specs.Inner.Rows.{FailsCell, ReadsCell, ReadsCells, StandsInRow, rule_in}
+use Rattle.jxlm_part.specs.Inner.Source.{source}
+use Rattle.jxlm_part.specs.Reading.{regions_of}
+use Rattle.jxlm_part.proofs.CellLaws.{cell_more, cell_fails}
 use Rattle.jxlm_part.proofs.rows.read_row.Goals as goal
 
 pub decode_cell-requires-clause-here : goal.decode_cell-requires-clause-here
-decode_cell-requires-clause-here g c κs within = rw c.loop-x.invariant.clusters c.requires.here
+decode_cell-requires-clause-here g c κs within = rw c.loop-x.invariant.reads.clusters c.requires.here
 
 pub loop-x-init : goal.loop-x-init
 loop-x-init g c = record {
-  bytes = search rules;
-  len = search rules;
-  clusters = search rules;
-  reads = search rules;
-  stands = begins_row c.args.coding.now c.args.i g.S.Sealed.to_int c.args.store.now c.args.y (map g.S.Sealed.to_int c.args.row.now) c.args.state.now c.requires.stands;
+  len = refl;
+  reads = record { reads = (refl, refl); clusters = refl; bytes = refl };
+  stands = c.requires.stands;
   roomy = c.requires.roomy;
   work = omega arith;
   more = omega arith;
@@ -31,16 +29,16 @@ loop-x-preserved g c =
     let x = c.loop-x.x in
     let same = c.loop-x.invariant.len in
     let inside : x < length (map to_int row) = let m = length-map row to_int in omega (arith, m, same, c.loop-x-test.true) in
-    let reads = rw c.loop-x.invariant.bytes at c.in-Ok.ensures.ok in
+    let rule = rule_in c.args.coding.now to_int c.args.store.now c.args.i c.args.y d g.S.Sealed.width in
+    let old = source c.loop-x.decoder c.loop-x.bits in
+    let new = source c.decode_cell.new.decoder c.decode_cell.new.bits in
+    let now = map to_int c.decode_cell.new.row in
+    let read = subst (λ bytes. ReadsCell d (rule bytes) (map to_int row) x old new now) c.loop-x.invariant.reads.bytes c.in-Ok.ensures.ok in
     let before = c.loop-x.invariant.work in
     let more = c.loop-x.invariant.more in
     record {
-      bytes = search rules;
       len = search rules;
-      clusters = c.in-Ok.ensures.clusters ∙ c.loop-x.invariant.clusters;
-      reads = cell_more (rule_in c.args.coding.now to_int c.args.store.now c.args.i c.args.y d g.S.Sealed.width (bytes_of c.args.bits.now))
-          c.args.decoder.now (position_of c.args.bits.now) (map to_int row) (map to_int c.decode_cell.new.row) x c.loop-x.decoder (position_of c.loop-x.bits)
-          c.decode_cell.new.decoder (position_of c.decode_cell.new.bits) inside c.loop-x.invariant.reads reads;
+      reads = cell_more d (rule (bytes_of c.args.bits.now)) (source c.args.decoder.now c.args.bits.now) (map to_int row) x old inside c.loop-x.invariant.reads new now read;
       stands = c.in-Ok.ensures.stands;
       roomy = c.in-Ok.ensures.roomy;
       work = omega (arith, before, c.in-Ok.ensures.cost);
@@ -55,10 +53,12 @@ returns-in-Err-clause-err g c =
     let x = c.loop-x.x in
     let same = c.loop-x.invariant.len in
     let inside : x < length (map to_int row) = let m = length-map row to_int in omega (arith, m, same, c.loop-x-test.true) in
-    let refuses = rw c.loop-x.invariant.bytes at c.in-Err.ensures.err in
-    cell_fails (rule_in c.args.coding.now to_int c.args.store.now c.args.i c.args.y d g.S.Sealed.width (bytes_of c.args.bits.now))
-    c.args.decoder.now (position_of c.args.bits.now) (map to_int row) (map to_int c.decode_cell.new.row) x c.loop-x.decoder (position_of c.loop-x.bits)
-    c.decode_cell.new.decoder (position_of c.decode_cell.new.bits) _ inside c.loop-x.invariant.reads refuses
+    let rule = rule_in c.args.coding.now to_int c.args.store.now c.args.i c.args.y d g.S.Sealed.width in
+    let old = source c.loop-x.decoder c.loop-x.bits in
+    let new = source c.decode_cell.new.decoder c.decode_cell.new.bits in
+    let now = map to_int c.decode_cell.new.row in
+    let refuses = subst (λ bytes. FailsCell (rule bytes) (map to_int row) x old new now c.in-Err.error) c.loop-x.invariant.reads.bytes c.in-Err.ensures.err in
+    cell_fails d (rule (bytes_of c.args.bits.now)) (source c.args.decoder.now c.args.bits.now) (map to_int row) x old inside c.loop-x.invariant.reads new now c.in-Err.error refuses
 
 pub returns-in-Err-clause-cost_so_far : goal.returns-in-Err-clause-cost_so_far
 returns-in-Err-clause-cost_so_far g c = let before = c.loop-x.invariant.work in omega (arith, before, c.in-Err.ensures.cost)
@@ -68,8 +68,8 @@ returns-clause-ok g c =
     let to_int = g.S.Sealed.to_int in
     let all : c.loop-x.x ≡ length (map to_int c.loop-x.row) =
     let end = c.loop-x.auto.x-end in let same = c.loop-x.invariant.len in let m = length-map c.loop-x.row to_int in omega (arith, end, same, m, c.loop-x-test.false) in
-    subst (λ n. CodedPrefix (rule_in c.args.coding.now to_int c.args.store.now c.args.i c.args.y g.D.Decoder.meaning g.S.Sealed.width (bytes_of c.args.bits.now))
-    (map to_int c.loop-x.row) c.args.decoder.now (position_of c.args.bits.now) n c.loop-x.decoder (position_of c.loop-x.bits)) all c.loop-x.invariant.reads
+    subst (λ n. ReadsCells g.D.Decoder.meaning (rule_in c.args.coding.now to_int c.args.store.now c.args.i c.args.y g.D.Decoder.meaning g.S.Sealed.width (bytes_of c.args.bits.now))
+    (map to_int c.loop-x.row) n (source c.args.decoder.now c.args.bits.now) (source c.loop-x.decoder c.loop-x.bits)) all c.loop-x.invariant.reads
 
 pub returns-clause-stands : goal.returns-clause-stands
 returns-clause-stands g c =
