@@ -180,23 +180,3 @@ pub trait Decoder: Sized + Drop {
 pub fn run_is_reads<D: Decoder>()
     ensures { RunIsReads D.meaning }
 {}
-
-#[cfg(test)]
-mod tests {
-    use super::*;
-    use std::test::Fail;
-
-    #[test]
-    fn errors(rt: HostRuntime) -> Result<(), Fail> {
-        for (error, is_eof, text) in [
-            (DecoderError::UnexpectedEof, true, "unexpected end of input"),
-            (DecoderError::Invalid(4), false, "invalid code 4"),
-            (DecoderError::OutOfMemory, false, "out of memory"),
-        ] {
-            assert_eq!(rt; error.unexpected_eof(), is_eof, "{text}");
-            let shown = format!(in rt.alloc(); "{error}")?;
-            assert_eq!(rt; shown.as_str(), text);
-        }
-        Ok(())
-    }
-}

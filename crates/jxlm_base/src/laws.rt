@@ -51,20 +51,3 @@ pub fn colour_loses_nothing()
 pub fn squeeze_loses_nothing()
     ensures { (w : Width) → SqueezeLosesNothing w }
 {}
-
-#[cfg(test)]
-mod tests {
-    use super::*;
-
-    #[test]
-    fn laws_can_be_called() {
-        narrow_samples_are_wide_ones_reduced();
-        gradients_fit();
-        each_number_has_one_token();
-        grids_are_their_cells::<i16>();
-        grids_are_their_cells::<i32>();
-        writes_change_one_region();
-        colour_loses_nothing();
-        squeeze_loses_nothing();
-    }
-}

@@ -117,31 +117,3 @@ impl<'a, S: Copy> MutableSubgrid<'a, S> {
         self.grid.get(self.x + x, self.y + y)
     }
 }
-
-#[cfg(test)]
-mod tests {
-    use super::*;
-    use crate::grid::OutOfMemory;
-    use crate::sample::Sample;
-    use std::alloc::Global;
-    use std::test::Fail;
-
-    /// The sides of a rectangle of a grid, and its last cell.
-    fn corner<S: Sample>(alloc: Global) -> Result<(usize, usize, i32), OutOfMemory> {
-        let mut grid = AlignedGrid::<S>::new(alloc, 4, 3)?;
-        *grid.get_mut(3, 2) = S::from_i32(9);
-        let subgrid = MutableSubgrid::new(&mut grid, 1, 2, 3, 1);
-        Ok((
-            subgrid.width(),
-            subgrid.height(),
-            subgrid.get(2, 0).to_i32(),
-        ))
-    }
-
-    #[test]
-    fn rectangles(rt: HostRuntime) -> Result<(), Fail> {
-        assert_eq!(rt; corner::<i32>(rt.alloc())?, (3, 1, 9));
-        assert_eq!(rt; corner::<i16>(rt.alloc())?, (3, 1, 9));
-        Ok(())
-    }
-}

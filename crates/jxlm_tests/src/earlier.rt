@@ -4,7 +4,7 @@ use crate::outcome::at_once;
 use crate::table::check;
 use jxl_modular::ModularChannelParams;
 use jxl_modular::plain::PlainDecoder;
-use jxlm_tree_tests::text::bytes;
+use jxlm_base_tests::text::bytes;
 use std::test::Fail;
 
 // Decisions on the samples of the three nearest earlier channels of equal size, where channels of two sizes come in

@@ -9,6 +9,8 @@ mod earlier;
 #[cfg(test)]
 mod generated;
 #[cfg(test)]
+mod headers;
+#[cfg(test)]
 mod long_header;
 #[cfg(test)]
 mod outcome;

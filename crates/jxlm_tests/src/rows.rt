@@ -6,6 +6,7 @@ use jxl_modular::plain::PlainDecoder;
 use std::test::Fail;
 
 // The clamped gradient; tokens of three bits 2, 4, 1 and 0, from bit 68 on.
+#[cfg(test)]
 const GRADIENT: &str = "\
 2x2|42000400040e05c02006|1 3 0 2 @80
 2x2|42000400040e05c020|1 0 0 0 @71 entropy decoder error: unexpected end of input

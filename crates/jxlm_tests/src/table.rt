@@ -5,7 +5,7 @@ use crate::outcome::{Outcome, at_once, by_calls};
 use jxl_modular::decoder::Decoder;
 use jxl_modular::error::Error;
 use jxl_modular::{ModularChannelParams, Sample};
-use jxlm_tree_tests::text::bytes;
+use jxlm_base_tests::text::bytes;
 use std::alloc::Global;
 use std::process::Abort;
 use std::test::Fail;

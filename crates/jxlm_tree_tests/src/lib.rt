@@ -1,4 +1,4 @@
-//! Tests of trees, predictors and properties, and what other tests read their tables by.
+//! Tests of trees, predictors and properties, and tables of pictures that other tests read.
 #![tactic(auto)]
 
 pub mod pictures;
@@ -8,7 +8,6 @@ mod place_rows;
 mod places;
 #[cfg(test)]
 mod predictor_calls;
-pub mod text;
 pub mod told;
 #[cfg(test)]
 mod tree_errors;
@@ -16,3 +15,5 @@ mod tree_errors;
 mod tree_rows;
 #[cfg(test)]
 mod trees;
+
+pub use jxlm_base_tests::text;

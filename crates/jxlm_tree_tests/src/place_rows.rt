@@ -8,6 +8,7 @@ use std::test::Fail;
 // A line has the channel's width; the weights, as the bytes of a header; the samples before the cell; those of the
 // earlier channels; and after a colon the properties from 2 on, four more than there are, and what the predictors
 // from 0 to 13 make of the cell.
+#[cfg(test)]
 const GENERATED: &str = "\
 4|c007007cf0f00f|-1875700508 -642677928 1785363621 -283877117 101798751 -1428478167 -1189993286 -676051044 -58301453|\
     |:2 1 1428478167 58301453 -1428478167 -58301453 -160100204 -1588578371 -160100204 1530276918 -238484881 \

@@ -1,10 +1,10 @@
 // Predictors by number, weights, and cells that a state with room comes to.
 
 use crate::places::{check, check_eighths};
-use crate::text::bytes;
 use jxlm_base::bits::{Bitstream, BitstreamError};
 use jxlm_base::grid::{AlignedGrid, Region};
 use jxlm_base::region::region_set;
+use jxlm_base_tests::text::bytes;
 use jxlm_tree::eighths::{after_clamp, before_clamp};
 use jxlm_tree::flat::PlaceProperties;
 use jxlm_tree::predictor::{

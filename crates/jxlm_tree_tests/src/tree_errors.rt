@@ -5,11 +5,14 @@ use crate::told::Told;
 use crate::trees::{check, read_tree};
 use jxlm_base::bits::Bitstream;
 use jxlm_base::decoder::Decoder;
+use jxlm_base::error::Error;
 use jxlm_base::plain::PlainDecoder;
 use jxlm_tree::flat::{Steps, a_flat_tree_walks_by_properties};
 use jxlm_tree::ma::{
-    each_listing_is_of_a_tree, each_tree_is_read_exactly, no_two_trees_share_a_listing,
+    MaConfig, each_listing_is_of_a_tree, each_tree_is_read_exactly, no_two_trees_share_a_listing,
 };
+use std::alloc::Global;
+use std::process::Abort;
 use std::test::Fail;
 
 // Leaves: of two streams; West of cluster 1, then truncated in its predictor, in its offset and at the start; with
@@ -61,23 +64,49 @@ const SEVEN_NODES: &[u8] = &[
     0x58, 0x01, 0x00, 0x03, 0x03, 0xf4, 0x09, 0x11, 0x81, 0x08, 0xc8, 0xc1, 0x86, 0x26, 0x0f, 0x00,
 ];
 
+// Where the properties that are all 0 lead in a channel: the leaf's cluster; how many nodes there are; how many
+// earlier channels are named; and whether weights are needed.
+fn facts<D: Decoder>(
+    alloc: Global,
+    config: &MaConfig<D>,
+    channel: u32,
+    stream: u32,
+    earlier: u32,
+) -> Result<(u8, usize, usize, bool), Error> {
+    let flat = config.make_flat_tree(alloc, channel, stream, earlier)?;
+    let cluster = flat.leaf(&Told { values: &[] }, &mut Steps::new()).cluster;
+    let (nodes, named) = (flat.num_nodes(), flat.max_prev_channel_depth());
+    Ok((cluster, nodes, named, flat.need_self_correcting()))
+}
+
+// A tree under these limits, of which this is expected.
+fn tree(
+    rt: &impl Abort,
+    alloc: Global,
+    bytes: &[u8],
+    limits: &str,
+    expected: &str,
+) -> Result<MaConfig<PlainDecoder>, Fail> {
+    let mut bits = Bitstream::new(bytes);
+    let config = read_tree::<PlainDecoder>(rt, alloc, &mut bits, limits, expected)?;
+    Ok(config.ok_or("no tree")?)
+}
+
 // The seven nodes need weights, and name the nearest earlier channel alone.
 #[test]
 fn questions(rt: HostRuntime) -> Result<(), Fail> {
-    let mut bits = Bitstream::new(WEST);
-    let west = "1 nodes, depth 0 @143";
-    let config = read_tree::<PlainDecoder>(&rt, rt.alloc(), &mut bits, "0 0 0", west)?;
-    let config = config.ok_or("no tree")?;
+    let config = tree(&rt, rt.alloc(), WEST, "0 0 0", "1 nodes, depth 0 @143")?;
     assert_eq!(rt; config.decoder().cluster_map(), [1].as_slice());
-    let mut bits = Bitstream::new(SEVEN_NODES);
-    let seven = "7 nodes, depth 2 @231";
-    let config = read_tree::<PlainDecoder>(&rt, rt.alloc(), &mut bits, "0 6 2", seven)?;
-    let config = config.ok_or("no tree")?;
-    for (earlier, named) in [(0, 0), (1, 1), (2, 1)] {
-        let flat = config.make_flat_tree(rt.alloc(), 0, 0, earlier)?;
-        assert_eq!(rt; flat.num_nodes(), 7);
-        assert!(rt; flat.need_self_correcting());
-        assert_eq!(rt; flat.max_prev_channel_depth(), named);
+    let config = tree(
+        &rt,
+        rt.alloc(),
+        SEVEN_NODES,
+        "0 6 2",
+        "7 nodes, depth 2 @231",
+    )?;
+    for (earlier, expected) in [(0, 0), (1, 1), (2, 1)] {
+        let (_, nodes, named, weights) = facts(rt.alloc(), &config, 0, 0, earlier)?;
+        assert_eq!(rt; (nodes, named, weights), (7, expected, true));
     }
     Ok(())
 }
@@ -139,22 +168,12 @@ fn too_deep(rt: HostRuntime) -> Result<(), Fail> {
 #[test]
 fn the_deepest_tree(rt: HostRuntime) -> Result<(), Fail> {
     let bytes = chain(2048);
-    let mut bits = Bitstream::new(&bytes);
-    let deepest = "4097 nodes, depth 2048 @12357";
-    let limits = "0 67108864 2048";
-    let config = read_tree::<PlainDecoder>(&rt, rt.alloc(), &mut bits, limits, deepest)?;
-    let config = config.ok_or("no tree")?;
+    let expected = "4097 nodes, depth 2048 @12357";
+    let config = tree(&rt, rt.alloc(), &bytes, "0 67108864 2048", expected)?;
     let copy = config.try_clone(rt.alloc())?;
-    let last = config.make_flat_tree(rt.alloc(), 0, 7, 3)?;
-    let first = copy.make_flat_tree(rt.alloc(), 1, 7, 0)?;
+    assert_eq!(rt; facts(rt.alloc(), &config, 0, 7, 3)?, (1, 4097, 0, false));
     drop(config);
-    let told = Told { values: &[] };
-    let mut steps = Steps::new();
-    assert_eq!(rt; last.leaf(&told, &mut steps).cluster, 1);
-    assert_eq!(rt; first.leaf(&told, &mut steps).cluster, 0);
-    assert_eq!(rt; last.num_nodes(), 4097);
-    assert_eq!(rt; last.max_prev_channel_depth(), 0);
-    assert!(rt; !last.need_self_correcting());
+    assert_eq!(rt; facts(rt.alloc(), &copy, 1, 7, 0)?.0, 0);
     Ok(())
 }
 

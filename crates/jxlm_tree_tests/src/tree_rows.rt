@@ -8,6 +8,7 @@ use jxlm_base::plain::PlainDecoder;
 use std::test::Fail;
 
 // A line has the bits before the tree and its limits, the bytes, what the tree's reading comes to, and walks.
+#[cfg(test)]
 const GENERATED: &str = "\
 4 1048576 2048|c241c85001150a0030700022ebffffff67feffffff0cfeffff9fd9ffffffb3f9ffff3f40000000000001000000000400000000\
     10000000004000000000d9ffffff3fc3ffffff03040000000010000000004000800000cc884c4488c20001020000002ca005|invalid \

@@ -1,30 +1,32 @@
 // Tables of trees, each with what its reading comes to, and walks through it.
 
 ghost use Rattle.std.specs.Prelude.{◌≡◌, ◌≤◌, ◌^◌, IfOk};
+ghost use Rattle.jxlm_tree.specs.FlatTree.{ClustersStandIn};
 
-use crate::text::{bytes, signed};
 use crate::told::Told;
 use jxlm_base::bits::Bitstream;
 use jxlm_base::decoder::Decoder;
-use jxlm_tree::flat::Steps;
+use jxlm_base::error::Error;
+use jxlm_base_tests::text::{bytes, pair, signed};
+use jxlm_tree::flat::{FlatMaTree, Steps};
 use jxlm_tree::ma::{MaConfig, MaConfigParams};
 use std::alloc::Global;
 use std::process::Abort;
 use std::test::Fail;
 
-// The limits that a line's numbers say.
-fn limits(node_limit: &str, depth_limit: &str) -> Result<MaConfigParams, Fail>
-    ensures nodes { IfOk result (λ p. p.node_limit ≤ 2 ^ 26) }
-    ensures depth { IfOk result (λ p. p.depth_limit ≤ 2048) }
+// How many bits come before the tree, and its limits, by the numbers of a line.
+fn limits(place: &str) -> Result<(u32, MaConfigParams), Fail>
+    ensures nodes { IfOk result (λ p. p.1.node_limit ≤ 2 ^ 26) }
+    ensures depth { IfOk result (λ p. p.1.depth_limit ≤ 2048) }
 {
+    let (start, rest) = pair(place, ' ')?;
+    let (node_limit, depth_limit) = pair(rest, ' ')?;
+    let start = start.parse::<u32>()?;
     let limits = MaConfigParams {
-        node_limit: node_limit.parse::<usize>()?,
-        depth_limit: depth_limit.parse::<usize>()?,
+        node_limit: node_limit.parse::<usize>()?.min(1 << 26),
+        depth_limit: depth_limit.parse::<usize>()?.min(2048),
     };
-    if limits.node_limit > 1 << 26 || limits.depth_limit > 2048 {
-        return Err("no such limits".into());
-    }
-    Ok(limits)
+    Ok((start, limits))
 }
 
 /// Reads each tree of a table, and walks it.
@@ -48,6 +50,21 @@ pub fn check<D: Decoder>(rt: &impl Abort, alloc: Global, table: &str) -> Result<
     Ok(())
 }
 
+// How large a tree is, or its error, and the reader's position after it.
+fn size<D: Decoder>(
+    alloc: Global,
+    parsed: &Result<MaConfig<D>, Error>,
+    position: u64,
+) -> Result<String, Fail> {
+    Ok(match parsed {
+        Ok(config) => {
+            let (nodes, depth) = (config.num_tree_nodes(), config.tree_depth());
+            format!(in alloc; "{nodes} nodes, depth {depth} @{position}")?
+        }
+        Err(error) => format!(in alloc; "{error} @{position}")?,
+    })
+}
+
 /// Reads the tree after n bits under these limits, and compares what is expected of it: how large it is, or its
 /// error, and the reader's position then.
 pub fn read_tree<D: Decoder>(
@@ -57,20 +74,12 @@ pub fn read_tree<D: Decoder>(
     place: &str,
     expected: &str,
 ) -> Result<Option<MaConfig<D>>, Fail> {
-    let (start, rest) = place.split_once(' ').ok_or("no limits")?;
-    let (node_limit, depth_limit) = rest.split_once(' ').ok_or("no depth limit")?;
-    for _ in 0..start.parse::<u32>()? {
+    let (start, limits) = limits(place)?;
+    for _ in 0..start {
         bits.read_bits(1)?;
     }
-    let parsed = MaConfig::<D>::parse(alloc, bits, limits(node_limit, depth_limit)?);
-    let position = bits.position();
-    let seen = match &parsed {
-        Ok(config) => {
-            let (nodes, depth) = (config.num_tree_nodes(), config.tree_depth());
-            format!(in alloc; "{nodes} nodes, depth {depth} @{position}")?
-        }
-        Err(error) => format!(in alloc; "{error} @{position}")?,
-    };
+    let parsed = MaConfig::<D>::parse(alloc, bits, limits);
+    let seen = size(alloc, &parsed, bits.position())?;
     assert_eq!(rt; seen.as_str(), expected, "{place}");
     Ok(parsed.ok())
 }
@@ -91,6 +100,39 @@ fn walk_all<D: Decoder>(
     Ok(())
 }
 
+// A channel, a stream, and a count of earlier channels.
+fn place(text: &str) -> Result<(u32, u32, u32), Fail> {
+    let (channel, rest) = pair(text, ' ')?;
+    let (stream, earlier) = pair(rest, ' ')?;
+    Ok((
+        channel.parse::<u32>()?,
+        stream.parse::<u32>()?,
+        earlier.parse::<u32>()?,
+    ))
+}
+
+// The leaf of these properties, the sample of its token before its prediction, and the reader's position then.
+fn walked<D: Decoder>(
+    alloc: Global,
+    flat: &FlatMaTree,
+    decoder: &mut D,
+    bits: &mut Bitstream<'_>,
+    values: &[i32],
+) -> Result<String, Fail>
+    requires { ClustersStandIn (D.meaning.cluster_map decoder.old) flat.now.tree }
+    ensures { IfOk result (λ _. D.meaning.cluster_map decoder.new ≡ D.meaning.cluster_map decoder.old) }
+{
+    let told = Told { values };
+    let leaf = flat.leaf(&told, &mut Steps::new());
+    let (cluster, offset, multiplier) = (leaf.cluster, leaf.offset, leaf.multiplier);
+    let (sample, predictor) = flat.decode_sample(bits, decoder, &told, 0)?;
+    if leaf.predictor != predictor {
+        return Err("the leaf's predictor is another".into());
+    }
+    let position = bits.position();
+    Ok(format!(in alloc; "{cluster} {predictor:?} {offset} {multiplier} {sample} @{position}")?)
+}
+
 // Walks by a channel, a stream, a count of earlier channels and, after a colon, the properties from 2 on; and
 // compares, after an equals sign, the leaf, the sample before its prediction and the reader's position then.
 fn walk_once<D: Decoder>(
@@ -104,22 +146,12 @@ fn walk_once<D: Decoder>(
     requires { D.meaning.cluster_map decoder.old ≡ D.meaning.cluster_map config.now.decoder }
     ensures { IfOk result (λ _. D.meaning.cluster_map decoder.new ≡ D.meaning.cluster_map config.now.decoder) }
 {
-    let (put, expected) = walk.split_once('=').ok_or("nothing expected")?;
-    let (place, values) = put.split_once(':').ok_or("no properties")?;
-    let (channel, rest) = place.split_once(' ').ok_or("no stream")?;
-    let (stream, earlier) = rest.split_once(' ').ok_or("no count of earlier channels")?;
-    let (channel, stream, earlier) = (channel.parse()?, stream.parse()?, earlier.parse()?);
-    let flat = config.make_flat_tree(alloc, channel, stream, earlier)?;
+    let (put, expected) = pair(walk, '=')?;
+    let (words, values) = pair(put, ':')?;
+    let (channel, stream, earlier) = place(words)?;
     let values = signed(alloc, values)?;
-    let told = Told { values: &values };
-    let leaf = flat.leaf(&told, &mut Steps::new());
-    let (sample, predictor) = flat.decode_sample(bits, decoder, &told, 0)?;
-    let (cluster, offset, multiplier) = (leaf.cluster, leaf.offset, leaf.multiplier);
-    let position = bits.position();
-    let seen = format!(in alloc;
-        "{cluster} {predictor:?} {offset} {multiplier} {sample} @{position}"
-    )?;
+    let flat = config.make_flat_tree(alloc, channel, stream, earlier)?;
+    let seen = walked(alloc, &flat, decoder, bits, &values)?;
     assert_eq!(rt; seen.as_str(), expected, "{walk}");
-    assert_eq!(rt; leaf.predictor, predictor, "{walk}");
     Ok(())
 }

@@ -1,7 +1,7 @@
 use Rattle.std.proofs.Common.{rules, ◌≡◌, ◌∙◌, true, Contains, get_or}
 use Rattle.jxlm_base.specs.Bits.{bytes_of, position_of}
 use Rattle.jxlm_base.proofs.DecodingLaws.{run_keeps}
-use Rattle.jxlm_base.proofs.plain.tests.runs.Goals as goal
+use Rattle.jxlm_base_tests.proofs.plain.runs.Goals as goal
 
 pub loop-context-init : goal.loop-context-init
 loop-context-init g c =

@@ -1,0 +1,17 @@
+//! Tests of bits, errors, samples, grids and the plain decoder, and what other tests read their tables by.
+#![tactic(auto)]
+
+#[cfg(test)]
+mod bits;
+#[cfg(test)]
+mod errors;
+#[cfg(test)]
+mod grids;
+#[cfg(test)]
+mod laws;
+pub mod pictures;
+#[cfg(test)]
+mod plain;
+#[cfg(test)]
+mod samples;
+pub mod text;

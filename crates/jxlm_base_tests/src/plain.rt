@@ -1,0 +1,199 @@
+// Plain decoders, by what is asked of them in turn.
+
+use crate::text::{bytes, pair};
+use jxlm_base::bits::Bitstream;
+use jxlm_base::decoder::{Decoder, DecoderError, RleToken};
+use jxlm_base::plain::PlainDecoder;
+use std::alloc::Global;
+use std::process::Abort;
+use std::test::Fail;
+
+// The clusters of a decoder's contexts, whether its tokens come in runs, and the single token of each context.
+fn about<D: Decoder>(alloc: Global, decoder: &D) -> Result<String, Fail> {
+    let clusters = decoder.cluster_map();
+    let rle = decoder.as_rle();
+    let mut text = format!(in alloc; "{clusters:?} {rle}")?;
+    for k in 0..clusters.len() {
+        let single = decoder.single_token(clusters[k]);
+        write!(text, " {single:?}")?;
+    }
+    Ok(text)
+}
+
+// A token of a context, or its error.
+fn token<D: Decoder>(
+    decoder: &mut D,
+    bits: &mut Bitstream<'_>,
+    context: u32,
+) -> Result<u32, DecoderError> {
+    if context as usize >= decoder.cluster_map().len() {
+        return Err(DecoderError::Invalid(99));
+    }
+    decoder.read_varint(bits, context)
+}
+
+// What a word asks of a decoder, and what comes of it: to begin, to end, what it is, or a token of a context.
+fn ask<D: Decoder>(
+    alloc: Global,
+    decoder: &mut D,
+    bits: &mut Bitstream<'_>,
+    word: &str,
+) -> Result<String, Fail> {
+    let answer = match word {
+        "begin" => decoder.begin(bits).map(|()| 0),
+        "end" => decoder.finalize().map(|()| 0),
+        "about" => return about(alloc, decoder),
+        _ => token(decoder, bits, word.parse::<u32>().unwrap_or(99)),
+    };
+    Ok(match answer {
+        Ok(number) => format!(in alloc; "{number}")?,
+        Err(error) => format!(in alloc; "{error}")?,
+    })
+}
+
+// What all words give. After `clone` a clone goes on, and after `back` the reader is where the decoder ended; `at` is
+// the reader's position.
+fn answers<D: Decoder>(
+    alloc: Global,
+    mut decoder: D,
+    mut bits: Bitstream<'_>,
+    words: &str,
+) -> Result<String, Fail> {
+    let start = bits;
+    let mut text = String::new(alloc);
+    for word in words.split(' ') {
+        match word {
+            "clone" => decoder = decoder.try_clone(alloc)?,
+            "back" => bits = start,
+            "at" => write!(text, "@{} ", bits.position())?,
+            _ => write!(text, "{} ", ask(alloc, &mut decoder, &mut bits, word)?)?,
+        }
+    }
+    Ok(text)
+}
+
+// A line has how many contexts there are, how many bits come before the decoder, and the bytes; what is asked; and
+// what that gives, or the error of the decoder.
+fn check(rt: &impl Abort, alloc: Global, line: &str) -> Result<(), Fail> {
+    let (head, rest) = pair(line, '|')?;
+    let (words, expected) = pair(rest, '|')?;
+    let (contexts, head) = pair(head, ' ')?;
+    let (skipped, digits) = pair(head, ' ')?;
+    let (contexts, skipped) = (contexts.parse::<u32>()?, skipped.parse::<u32>()?);
+    check_decoder(rt, alloc, contexts, skipped, digits, words, expected)
+}
+
+fn check_decoder(
+    rt: &impl Abort,
+    alloc: Global,
+    contexts: u32,
+    skipped: u32,
+    digits: &str,
+    words: &str,
+    expected: &str,
+) -> Result<(), Fail> {
+    let bytes = bytes(alloc, digits)?;
+    let mut bits = Bitstream::new(&bytes);
+    for _ in 0..skipped {
+        bits.read_bits(1)?;
+    }
+    let seen = match PlainDecoder::parse(alloc, &mut bits, contexts) {
+        Ok(decoder) => answers(alloc, decoder, bits, words)?,
+        Err(error) => format!(in alloc; "{error}")?,
+    };
+    assert_eq!(rt; seen.as_str().trim_end(), expected, "{digits}");
+    Ok(())
+}
+
+// Clusters 2, 0, 1 of three contexts: codes fixed 3, constant 19 of 5 bits, fixed 0; tokens 5, 6.
+// A seal, right and wrong, then tokens 200, 100 of 8 bits, and between them a constant 7, which is not summed.
+// Pictures of 2 by 2, whose decoder is at bit position 51: tokens; a run of the one before; a run with no token before
+// it; and a wrong seal.
+const TOKENS: &str = "\
+3 0 88401816135003|at about begin 1 2 0 1 at end|@44 [2, 0, 1] false None None Some(19) 0 5 19 0 6 @50 0
+2 0 0604e470166432|begin at 0 1 0 end|0 @39 200 7 100 0
+2 0 0604e4f0166432|begin at 0 1 0 end|0 @39 200 7 100 invalid code 4
+1 51 42000400040e05c02006|begin 0 0 0 0 end at|0 2 4 1 0 0 @80
+1 51 42000400040e0dc0408f01|begin 0 0 0 0 end at|0 2 2 2 2 0 @81
+1 51 42000400040e0dc07000|begin 0 0 0 0 end at|0 0 0 0 0 0 @77
+1 51 42000400040e15c0802006|begin 0 0 0 0 end at|0 2 4 1 0 invalid code 4 @88";
+
+// Runs, and clusters of 3 and 8 bits: Repeat(1), Value(5), Repeat(3), Value(200). A run crosses clusters, a clone goes
+// on in the middle of it, and what begins anew has no token before.
+const RUNS: &str = "\
+2 0 05840112400b4006|at about begin 0 0 0 at 1 1 1 at back begin 1 0 end|@28 [0, 1] true None None 0 0 5 5 @50 5 5 \
+    200 @59 0 0 5 0
+2 0 05840112400b4006|begin 0 0 0 at clone 1 1 1 at|0 0 5 5 @50 5 5 200 @59";
+
+// Truncated tokens: runs, and clusters of 5 and 2 bits: Value(21), Value(3), and at bit 37 a flag and two bits more,
+// after which a narrower token may be read. A truncated seal, of seven bits.
+const CUT: &str = "\
+2 0 058482a09a|begin 0 1 0 at 1|0 21 3 unexpected end of input @37 2
+2 0 058482a0ba|begin 0 1 0 at 1|0 21 3 unexpected end of input @37 unexpected end of input
+1 0 024000|begin at|unexpected end of input @17";
+
+// Runs and a seal; cluster 1 of 1; 33 bits; a constant under runs, before its width; no flags; no clusters; half a
+// code; no constant.
+const REFUSED: &str = "\
+1 0 03||invalid code 3
+1 0 401800||invalid code 1
+1 0 000801||invalid code 2
+1 0 01fc01||invalid code 3
+1 0 ||unexpected end of input
+1 0 00||unexpected end of input
+1 0 0018||unexpected end of input
+1 0 008400||unexpected end of input";
+
+#[test]
+fn plain_decoders(rt: HostRuntime) -> Result<(), Fail> {
+    for table in [TOKENS, RUNS, CUT, REFUSED] {
+        for line in table.lines() {
+            check(&rt, rt.alloc(), line)?;
+        }
+    }
+    Ok(())
+}
+
+// Begins, and reads a token or a run at each of these contexts, through any decoder.
+fn runs<D: Decoder>(
+    alloc: Global,
+    decoder: &mut D,
+    bits: &mut Bitstream<'_>,
+    contexts: &[u32],
+) -> Result<Vec<RleToken>, DecoderError> {
+    if !decoder.as_rle() {
+        return Err(DecoderError::Invalid(99));
+    }
+    decoder.begin(bits)?;
+    let mut runs = Vec::new(alloc);
+    for context in contexts {
+        if *context as usize >= decoder.cluster_map().len() {
+            return Err(DecoderError::Invalid(99));
+        }
+        let cluster = decoder.cluster_map()[*context as usize];
+        runs.push(decoder.read_varint_clustered(bits, cluster)?)?;
+    }
+    Ok(runs)
+}
+
+// The runs of the table above, whole and in a decoder that has read before.
+#[test]
+fn runs_at_once(rt: HostRuntime) -> Result<(), Fail> {
+    let bytes = [0x05, 0x84, 0x01, 0x12, 0x40, 0x0B, 0x40, 0x06];
+    let mut bits = Bitstream::new(&bytes);
+    let mut decoder = PlainDecoder::parse(rt.alloc(), &mut bits, 2)?;
+    let expected = [
+        RleToken::Repeat(1),
+        RleToken::Value(5),
+        RleToken::Repeat(3),
+        RleToken::Value(200),
+    ];
+    for _ in 0..2 {
+        let mut again = bits;
+        let read = runs(rt.alloc(), &mut decoder, &mut again, &[0, 0, 0, 1])?;
+        assert_eq!(rt; read.as_slice(), expected.as_slice());
+        assert_eq!(rt; again.position(), 59);
+    }
+    assert_eq!(rt; decoder.finalize(), Ok(()));
+    Ok(())
+}
