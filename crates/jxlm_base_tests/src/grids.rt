@@ -1,8 +1,5 @@
 // Grids, and regions of a store, at both widths.
 
-ghost use Rattle.std.specs.Prelude.{◌≡◌};
-ghost use Rattle.jxlm_base.specs.Regions.{Lies};
-
 use jxlm_base::grid::{AlignedGrid, OutOfMemory, Region};
 use jxlm_base::region::{region_get, region_row, region_set, region_set_row};
 use jxlm_base::sample::{Sample, Sealed};
@@ -69,32 +66,11 @@ fn sides_of_grids(rt: HostRuntime) {
     }
 }
 
-// Writes a cell and a row of a region, and returns two cells and the row.
-fn through<S: Sample>(
-    alloc: Global,
-    store: &mut [AlignedGrid<S>],
-    region: Region,
-) -> Result<Vec<i32>, OutOfMemory>
-    requires lies { Lies region store.old }
-    requires wide { region.width ≡ 2 }
-    requires high { region.height ≡ 3 }
-{
-    region_set(store, region, 1, 2, S::from_i32(-4));
-    region_set_row(store, region, 1, &[S::from_i32(7), S::from_i32(-4)]);
-    let mut cells = Vec::new(alloc);
-    cells.push(region_get(store, region, 1, 2).to_i32())?;
-    cells.push(region_get(store, region, 0, 2).to_i32())?;
-    for sample in region_row(store, region, 1) {
-        cells.push(sample.to_i32())?;
-    }
-    Ok(cells)
-}
-
-// What a region of the second grid of a store returns after writes, and all samples of that grid.
-fn of_store<S: Sample>(alloc: Global) -> Result<(Vec<i32>, Vec<i32>), OutOfMemory> {
+// What is in a store after a write through a region of it.
+fn written_cell<S: Sample>(alloc: Global) -> Result<(i32, i32, i32), OutOfMemory> {
     let first = AlignedGrid::<S>::new(alloc, 4, 3)?;
     let second = AlignedGrid::<S>::new(alloc, 5, 4)?;
-    let mut store = [first, second];
+    let mut store = vec![in alloc; first, second]?;
     let region = Region {
         buffer: 1,
         x: 2,
@@ -102,16 +78,49 @@ fn of_store<S: Sample>(alloc: Global) -> Result<(Vec<i32>, Vec<i32>), OutOfMemor
         width: 2,
         height: 3,
     };
-    let cells = through(alloc, &mut store, region)?;
-    Ok((cells, samples(alloc, &store[1])?))
+    region_set(&mut store, region, 1, 2, S::from_i32(-4));
+    Ok((
+        region_get(&store, region, 1, 2).to_i32(),
+        region_get(&store, region, 0, 2).to_i32(),
+        store[1].get(3, 3).to_i32(),
+    ))
+}
+
+// What is in the second grid of a store after a row of a region was written, and then that row.
+fn written_row<S: Sample>(alloc: Global) -> Result<Vec<i32>, OutOfMemory> {
+    let first = AlignedGrid::<S>::new(alloc, 4, 3)?;
+    let second = AlignedGrid::<S>::new(alloc, 4, 2)?;
+    let mut store = vec![in alloc; first, second]?;
+    let region = Region {
+        buffer: 1,
+        x: 1,
+        y: 0,
+        width: 2,
+        height: 2,
+    };
+    region_set_row(&mut store, region, 1, &[S::from_i32(7), S::from_i32(-4)]);
+    let mut cells = samples(alloc, &store[1])?;
+    for sample in region_row(&store, region, 1) {
+        cells.push(sample.to_i32())?;
+    }
+    Ok(cells)
 }
 
 #[test]
-fn regions_of_a_store(rt: HostRuntime) -> Result<(), Fail> {
-    let grid = [0, 0, 0, 0, 0, 0, 0, 0, 0, 0, 0, 0, 7, -4, 0, 0, 0, 0, -4, 0];
-    for (cells, all) in [of_store::<i32>(rt.alloc())?, of_store::<i16>(rt.alloc())?] {
-        assert_eq!(rt; cells.as_slice(), [-4, 0, 7, -4].as_slice());
-        assert_eq!(rt; all.as_slice(), grid.as_slice());
+fn a_row_through_a_region(rt: HostRuntime) -> Result<(), Fail> {
+    let expected = [0, 0, 0, 0, 0, 7, -4, 0, 7, -4];
+    for row in [
+        written_row::<i32>(rt.alloc())?,
+        written_row::<i16>(rt.alloc())?,
+    ] {
+        assert_eq!(rt; row.as_slice(), expected.as_slice());
     }
+    Ok(())
+}
+
+#[test]
+fn a_write_through_a_region(rt: HostRuntime) -> Result<(), Fail> {
+    assert_eq!(rt; written_cell::<i32>(rt.alloc())?, (-4, 0, -4));
+    assert_eq!(rt; written_cell::<i16>(rt.alloc())?, (-4, 0, -4));
     Ok(())
 }

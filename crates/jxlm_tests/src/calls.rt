@@ -1,15 +1,12 @@
 // Calls that reading a picture does not make, or not with these values.
-ghost use Rattle.std.specs.Prelude.{◌<◌};
 
 use crate::bytewise::Bytewise;
+use crate::outcome::decoded;
 use jxl_modular::bits::Bitstream;
 use jxl_modular::decoder::{Decoder, DecoderError, RleToken};
 use jxl_modular::flat::Steps;
 use jxl_modular::plain::PlainDecoder;
-use jxl_modular::predictor::Predictor;
-use jxl_modular::{
-    ChannelShift, MaConfig, MaConfigParams, ModularChannelParams, ModularParams, decode_picture,
-};
+use jxl_modular::{ChannelShift, MaConfig, MaConfigParams, ModularParams};
 use jxlm_tree_tests::told::Told;
 use std::alloc::Global;
 use std::test::Fail;
@@ -34,37 +31,52 @@ fn tokens_are_bytes(rt: HostRuntime) -> Result<(), Fail> {
     Ok(())
 }
 
+// A token of the first context's cluster.
+fn first<D: Decoder>(decoder: &mut D, bits: &mut Bitstream<'_>) -> Result<u32, DecoderError> {
+    let Some(cluster) = decoder.cluster_map().first().copied() else {
+        return Err(DecoderError::Invalid(99));
+    };
+    decoder.read_varint_with_multiplier_clustered(bits, cluster, 3)
+}
+
 #[test]
 fn a_cut_byte(rt: HostRuntime) -> Result<(), Fail> {
     let mut bits = Bitstream::new(&[7]);
     assert_eq!(rt; bits.read_bits(1), Ok(1));
     let mut decoder = Bytewise::parse(rt.alloc(), &mut bits, 1)?;
-    assert_eq!(rt; decoder.cluster_map(), [0].as_slice());
-    let token = decoder.read_varint_with_multiplier_clustered(&mut bits, 0, 3);
-    assert_eq!(rt; token, Err(DecoderError::UnexpectedEof));
+    assert_eq!(rt;
+        first(&mut decoder, &mut bits),
+        Err(DecoderError::UnexpectedEof)
+    );
     assert_eq!(rt; bits.position(), 1);
     Ok(())
+}
+
+// A tree of one leaf: how many nodes it has, how deep it is, its clusters, and the leaf.
+fn leaf_of<D: Decoder>(alloc: Global, bits: &mut Bitstream<'_>) -> Result<String, Fail> {
+    let limits = MaConfigParams {
+        node_limit: 0,
+        depth_limit: 0,
+    };
+    let config = MaConfig::<D>::parse(alloc, bits, limits)?;
+    let flat = config.make_flat_tree(alloc, 0, 0, 0)?;
+    let leaf = flat.leaf(&Told { values: &[] }, &mut Steps::new());
+    let (cluster, predictor) = (leaf.cluster, leaf.predictor);
+    let (offset, multiplier) = (leaf.offset, leaf.multiplier);
+    let (nodes, depth) = (config.num_tree_nodes(), config.tree_depth());
+    let clusters = config.decoder().cluster_map();
+    Ok(format!(in alloc;
+        "{nodes} {depth} {clusters:?}: {cluster} {predictor:?} {offset} {multiplier}"
+    )?)
 }
 
 // A leaf of bytes: west, less 1, times (1 + 1) * 2^3.
 #[test]
 fn a_tree_of_bytes(rt: HostRuntime) -> Result<(), Fail> {
     let mut bits = Bitstream::new(&[0, 1, 1, 3, 1]);
-    let limits = MaConfigParams {
-        node_limit: 0,
-        depth_limit: 0,
-    };
-    let config = MaConfig::<Bytewise>::parse(rt.alloc(), &mut bits, limits)?;
+    let seen = leaf_of::<Bytewise>(rt.alloc(), &mut bits)?;
     assert_eq!(rt; bits.position(), 40);
-    assert_eq!(rt; config.num_tree_nodes(), 1);
-    assert_eq!(rt; config.tree_depth(), 0);
-    assert_eq!(rt; config.decoder().cluster_map(), [0].as_slice());
-    let flat = config.make_flat_tree(rt.alloc(), 0, 0, 0)?;
-    let leaf = flat.leaf(&Told { values: &[] }, &mut Steps::new());
-    assert_eq!(rt; leaf.cluster, 0);
-    assert_eq!(rt; leaf.predictor, Predictor::West);
-    assert_eq!(rt; leaf.offset, -1);
-    assert_eq!(rt; leaf.multiplier, 16);
+    assert_eq!(rt; seen.as_str(), "1 0 [0]: 0 West -1 16");
     Ok(())
 }
 
@@ -80,10 +92,8 @@ fn channels_of_one_picture(rt: HostRuntime) -> Result<(), Fail> {
         ChannelShift::Raw(0, 2),
     ]?;
     let params = ModularParams::<PlainDecoder>::new(rt.alloc(), 5, 3, 256, 8, shifts, None)?;
-    assert!(rt; params.is_valid());
     let mut bits = Bitstream::new(CONSTANT);
-    let mut steps = Steps::new();
-    let image = decode_picture::<i16, PlainDecoder>(rt.alloc(), &mut bits, params, 0, &mut steps)?;
+    let image = decoded::<i16, PlainDecoder>(&rt, rt.alloc(), &mut bits, params)?;
     let image = image.ok_or("no image")?;
     let mut sizes = Vec::new(rt.alloc());
     for grid in image.image_channels() {
@@ -94,30 +104,5 @@ fn channels_of_one_picture(rt: HostRuntime) -> Result<(), Fail> {
     }
     assert_eq!(rt; sizes.as_slice(), [(5, 3), (3, 2), (5, 1)].as_slice());
     assert_eq!(rt; bits.position(), 79);
-    Ok(())
-}
-
-// The first sample of a picture of one channel: that there is one follows from the sides that are asked for.
-fn corner(alloc: Global, bytes: &[u8], width: u32, height: u32) -> Result<Option<i32>, Fail>
-    requires wide { 0 < width }
-    requires high { 0 < height }
-{
-    let channels = vec![in alloc; ModularChannelParams::new(width, height)]?;
-    let params = ModularParams::<PlainDecoder>::with_channels(256, 8, channels, None);
-    if !params.is_valid() {
-        return Ok(None);
-    }
-    let mut bits = Bitstream::new(bytes);
-    let mut steps = Steps::new();
-    let Some(image) = decode_picture::<i32, PlainDecoder>(alloc, &mut bits, params, 0, &mut steps)?
-    else {
-        return Ok(None);
-    };
-    Ok(Some(image.image_channels()[0].get(0, 0)))
-}
-
-#[test]
-fn the_first_sample(rt: HostRuntime) -> Result<(), Fail> {
-    assert_eq!(rt; corner(rt.alloc(), CONSTANT, 5, 3)?, Some(1));
     Ok(())
 }

@@ -48,6 +48,27 @@ fn params<'a, D: Decoder>(
     Ok(ModularParams::with_channels(256, depth, channels, None))
 }
 
+// Decodes all of an image and finishes it: the error, if there was one, and whether the part was returned as whole.
+fn finished<S: Sample, D: Decoder>(
+    rt: &impl Abort,
+    alloc: Global,
+    bits: &mut Bitstream<'_>,
+    image: &mut ModularImageDestination<S, D>,
+) -> Result<(Option<Error>, bool), Fail> {
+    let mut part = image.prepare_subimage(alloc)?;
+    assert!(rt; part.holds_all());
+    assert_eq!(rt;
+        part.is_partial(),
+        !part.is_empty(),
+        "a part with samples is partial at first"
+    );
+    let answer = part.decode(alloc, bits, 0, false);
+    let is_partial = part.is_partial();
+    let whole = part.finish(alloc)?;
+    assert_eq!(rt; whole, !is_partial);
+    Ok((answer.err(), whole))
+}
+
 /// Reads, decodes and finishes a picture of this bit depth and these channels, each by its own call.
 pub fn by_calls<S: Sample, D: Decoder>(
     rt: &impl Abort,
@@ -59,40 +80,36 @@ pub fn by_calls<S: Sample, D: Decoder>(
     let params = params::<D>(alloc, depth, channels)?;
     assert!(rt; params.is_valid());
     let mut bits = Bitstream::new(bytes);
-    let mut modular = match Modular::<S, D>::parse(alloc, &mut bits, params) {
-        Ok(modular) => modular,
-        Err(error) => return Ok(Outcome {
-            error: Some(error),
-            samples: Vec::new(alloc),
-            position: bits.position(),
-            whole: false,
-        }),
+    let mut outcome = Outcome {
+        error: None,
+        samples: Vec::new(alloc),
+        position: 0,
+        whole: true,
     };
-    let Some(image) = modular.image_mut() else {
-        return Ok(Outcome {
-            error: None,
-            samples: Vec::new(alloc),
-            position: bits.position(),
-            whole: true,
-        });
-    };
-    let mut part = image.prepare_subimage(alloc)?;
-    assert!(rt; part.holds_all());
-    assert_eq!(rt;
-        part.is_partial(),
-        !part.is_empty(),
-        "a part with samples is partial at first"
-    );
-    let answer = part.decode(alloc, &mut bits, 0, false);
-    let is_partial = part.is_partial();
-    let whole = part.finish(alloc)?;
-    assert_eq!(rt; whole, !is_partial);
-    Ok(Outcome {
-        error: answer.err(),
-        samples: samples(alloc, image)?,
-        position: bits.position(),
-        whole,
-    })
+    match Modular::<S, D>::parse(alloc, &mut bits, params) {
+        Ok(mut modular) => {
+            if let Some(image) = modular.image_mut() {
+                (outcome.error, outcome.whole) = finished(rt, alloc, &mut bits, image)?;
+                outcome.samples = samples(alloc, image)?;
+            }
+        }
+        Err(error) => (outcome.error, outcome.whole) = (Some(error), false),
+    }
+    outcome.position = bits.position();
+    Ok(outcome)
+}
+
+/// A picture, read by one call.
+pub fn decoded<S: Sample, D: Decoder>(
+    rt: &impl Abort,
+    alloc: Global,
+    bits: &mut Bitstream<'_>,
+    params: ModularParams<'_, D>,
+) -> Result<Option<ModularImageDestination<S, D>>, Error>
+    requires { params.ma_config ≡ None }
+{
+    assert!(rt; params.is_valid());
+    decode_picture(alloc, bits, params, 0, &mut Steps::new())
 }
 
 /// Reads a picture of this bit depth and these channels by one call.
@@ -104,9 +121,8 @@ pub fn at_once<S: Sample, D: Decoder>(
     channels: &[ModularChannelParams],
 ) -> Result<Outcome, Fail> {
     let params = params::<D>(alloc, depth, channels)?;
-    assert!(rt; params.is_valid());
     let mut bits = Bitstream::new(bytes);
-    let answer = decode_picture::<S, D>(alloc, &mut bits, params, 0, &mut Steps::new());
+    let answer = decoded::<S, D>(rt, alloc, &mut bits, params);
     let position = bits.position();
     let whole = answer.is_ok();
     let (error, samples) = match answer {

@@ -170,6 +170,7 @@ fn check(rt: &impl Abort, alloc: Global, row: &str) -> Result<(), Fail> {
 }
 
 // A list, transforms, and the list after them, or an error.
+#[cfg(test)]
 const ROWS: &str = "0 2x2 2x2|colour 0|invalid Rct transform parameters
 0 2x2 2x2 2x1|colour 0|invalid Rct transform parameters
 0 9x9 2x2 2x2 2x2|colour 1|0 9x9:0,0 2x2:0,0 2x2:0,0 2x2:0,0
@@ -197,7 +198,8 @@ const ROWS: &str = "0 2x2 2x2|colour 0|invalid Rct transform parameters
 0 16x16|default|0 8x8:1,1 8x8:1,1 16x8:0,1
 0 33x5|default|0 5x5:3,0 4x5:3,0 8x5:2,0 16x5:1,0
 0 8x8|default|0 8x8:0,0
-0 16x16 16x16 16x16|default|0 8x8:1,1 4x4:2,2 4x4:2,2 8x8:1,1 4x4:2,2 4x4:2,2 16x8:0,1 8x4:1,2 8x4:1,2 8x16:1,0 8x16:1,0 8x8:1,1 8x8:1,1
+0 16x16 16x16 16x16|default|0 8x8:1,1 4x4:2,2 4x4:2,2 8x8:1,1 4x4:2,2 4x4:2,2 16x8:0,1 8x4:1,2 8x4:1,2 8x16:1,0 \
+    8x16:1,0 8x8:1,1 8x8:1,1
 0|default|invalid Squeeze transform parameters";
 
 #[test]

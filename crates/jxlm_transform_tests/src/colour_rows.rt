@@ -5,6 +5,7 @@
 // from -20 to 20, any of its width, or one of 0 and both ends. What is expected is the model's inverse of each triple.
 
 /// Worked by hand, the same at both widths; and channels of no samples.
+#[cfg(test)]
 pub const WORKED: &str = "\
 6 1 1|100 10 6|102 103 92
 4 1 1|10 1 5|10 8 5
@@ -14,8 +15,13 @@ pub const WORKED: &str = "\
 6 0 2||
 6 2 0||";
 
-/// Generated at 16 bits: a triple for each type, and one picture.
+/// At 16 bits: some triples whose sums wrap; then generated ones, a triple for each type, and one picture.
 pub const NARROW: &str = "\
+1 1 1|6573 -32768 21034|6573 -32768 27607
+2 1 1|-1 1 18|-1 0 18
+3 1 1|32767 -32768 0|32767 -1 32767
+5 1 1|-17344 3 -32768|-17344 -957 15424
+6 1 1|12 -11406 32767|-22074 16396 -10668
 0 1 1|-32768 11406 -16|-32768 11406 -16
 1 1 1|-18816 -32768 8|-18816 -32768 -18808
 2 1 1|3 6 0|3 9 0
@@ -93,8 +99,11 @@ pub const NARROW: &str = "\
 20 3 2|-32768 -14 12 -1 -32768 -2595 32767 2093 31292 0 17401 -32768 0 -20221 -19 11291 -14 -32768|-32768 -10124 3 \
     5645 32761 -18979 16385 9051 -15624 -5646 24075 30173 -16384 11144 15668 -5646 -24060 -2595";
 
-/// Generated at 32 bits: a triple for each type, and one picture.
+/// The same at 32 bits.
 pub const WIDE: &str = "\
+4 1 1|13 2147483647 0|13 -2147483643 0
+5 1 1|1125157091 2147483647 1254496793|1125157091 1752405486 -1915313412
+6 1 1|1420542933 0 2147483647|346801110 -1800682539 346801110
 0 1 1|-1 1766198314 -1251290391|-1 1766198314 -1251290391
 1 1 1|-19 -2147483648 20|-19 -2147483648 1
 2 1 1|-2147483648 -563220461 6|-2147483648 1584263187 6

@@ -279,19 +279,24 @@ fn every_width_and_height(rt: HostRuntime) -> std::result::Result<(), Fail> {
 }
 
 // Averages, then residuals, and the row that they come from, in both widths.
+#[cfg(test)]
 const ROWS: &str = "10 20 0 0|10 11 20 20
 10 4 3|12 8 4
 7|7
 |
 12000 0 -12000 0 0 0|12000 11999 3500 -3500 -12000 -12000
+12000 0 -12000 -1 0|12000 12000 3500 -3500 -12000
+-12000 0 12000 1 0|-12000 -12000 -3500 3500 12000
 66 30|81 51
 0 1|0 -1
 5 5 5 0 0|5 5 5 5 5";
 
-// Rows of 16 bits that wrap. A model of the definitions in Python generated them, with seed 1: each number is, with
-// equal chance, from -20 to 20, any of its width, or one of 0 and both ends. What is expected is the only row whose
-// averages and residuals these are.
-const GENERATED_NARROW: &str = "\
+// Rows of 16 bits that wrap: two worked by hand, and then generated ones. A model of the definitions in Python
+// generated those, with seed 1: each number is, with equal chance, from -20 to 20, any of its width, or one of 0 and
+// both ends. What is expected is the only row whose averages and residuals these are.
+const NARROW: &str = "\
+32767 -1|32767 -32768
+32767 -32768 0|32767 32766 -32768
 0 12074|6037 -6037
 -32625 2 -31702|17060 -16773 2
 0 -12361 5969 11 -32768|6 -6 -28745 4023 5969
@@ -299,8 +304,9 @@ const GENERATED_NARROW: &str = "\
 32767 -6 -19894 -2720 26126 -32768 -23373 -3454 0|16384 -16385 -11692 11681 -21621 -18167 -8900 3461 26126
 9 -3 0 -23069 -7289 -7 -17 0 -32768 10 -32768|1 17 -3 -3 -16384 16384 -23064 -23074 5554 -20132 -7";
 
-// The same of 32 bits.
-const GENERATED_WIDE: &str = "\
+// The same of 32 bits; the first is worked by hand.
+const WIDE: &str = "\
+2147483647 0 -2147483648 -1 0|2147483647 2147483647 626349397 -626349397 -2147483648
 15 2147483647|1073741838 -1073741809
 -837137952 1690294478 -4|-837137954 -837137949 1690294478
 2147483647 2147483647 5 0 -2147483648|2147483647 2147483647 1073741824 -1073741825 5
@@ -332,8 +338,8 @@ fn check_rows<S: Sample>(
 fn rows_and_columns_of_both_widths(rt: HostRuntime) -> std::result::Result<(), Fail> {
     check_rows::<i16>(&rt, rt.alloc(), ROWS)?;
     check_rows::<i32>(&rt, rt.alloc(), ROWS)?;
-    check_rows::<i16>(&rt, rt.alloc(), GENERATED_NARROW)?;
-    check_rows::<i32>(&rt, rt.alloc(), GENERATED_WIDE)?;
+    check_rows::<i16>(&rt, rt.alloc(), NARROW)?;
+    check_rows::<i32>(&rt, rt.alloc(), WIDE)?;
     Ok(())
 }
 
