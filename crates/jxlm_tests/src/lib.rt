@@ -15,6 +15,8 @@ mod long_header;
 #[cfg(test)]
 mod outcome;
 #[cfg(test)]
+mod parts;
+#[cfg(test)]
 mod pictures;
 #[cfg(test)]
 mod rows;

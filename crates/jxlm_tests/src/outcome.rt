@@ -54,6 +54,7 @@ fn finished<S: Sample, D: Decoder>(
     alloc: Global,
     bits: &mut Bitstream<'_>,
     image: &mut ModularImageDestination<S, D>,
+    allow_partial: bool,
 ) -> Result<(Option<Error>, bool), Fail> {
     let mut part = image.prepare_subimage(alloc)?;
     assert!(rt; part.holds_all());
@@ -62,20 +63,22 @@ fn finished<S: Sample, D: Decoder>(
         !part.is_empty(),
         "a part with samples is partial at first"
     );
-    let answer = part.decode(alloc, bits, 0, false);
+    let answer = part.decode(alloc, bits, 0, allow_partial);
     let is_partial = part.is_partial();
     let whole = part.finish(alloc)?;
     assert_eq!(rt; whole, !is_partial);
     Ok((answer.err(), whole))
 }
 
-/// Reads, decodes and finishes a picture of this bit depth and these channels, each by its own call.
+/// Reads, decodes and finishes a picture of this bit depth and these channels, each by its own call; samples that end
+/// early may be allowed.
 pub fn by_calls<S: Sample, D: Decoder>(
     rt: &impl Abort,
     alloc: Global,
     bytes: &[u8],
     depth: u32,
     channels: &[ModularChannelParams],
+    allow_partial: bool,
 ) -> Result<Outcome, Fail> {
     let params = params::<D>(alloc, depth, channels)?;
     assert!(rt; params.is_valid());
@@ -89,7 +92,7 @@ pub fn by_calls<S: Sample, D: Decoder>(
     match Modular::<S, D>::parse(alloc, &mut bits, params) {
         Ok(mut modular) => {
             if let Some(image) = modular.image_mut() {
-                (outcome.error, outcome.whole) = finished(rt, alloc, &mut bits, image)?;
+                (outcome.error, outcome.whole) = finished(rt, alloc, &mut bits, image, allow_partial)?;
                 outcome.samples = samples(alloc, image)?;
             }
         }

@@ -466,12 +466,14 @@ fn finished<S: Sample, D: Decoder>(
     bits: &mut Bitstream<'_>,
     image: &mut ModularImageDestination<S, D>,
 ) -> error::Result<bool> {
+    let global: TransformedModularSubimage<'_, S, D> = image.prepare_gmodular(alloc)?;
+    let all: bool = global.holds_all();
     let mut part: TransformedModularSubimage<'_, S, D> = image.prepare_subimage(alloc)?;
     let states: [bool; 3] = [part.is_empty(), part.is_partial(), part.holds_all()];
     let () = part.decode(alloc, bits, 0, false)?;
     let _: &Steps = part.steps();
     let whole: bool = part.finish(alloc)?;
-    Ok(whole && states[2])
+    Ok(whole && all && states[2])
 }
 
 fn image<S: Sample>(

@@ -55,7 +55,25 @@ fn told(alloc: Global, outcome: &Outcome, summed: bool) -> Result<String, Fail> 
     })
 }
 
-// Reads a picture call by call, and once more by one call, and compares what is expected of it.
+// What is read where samples may end early is the same, but that this end is no error.
+fn check_allowed(
+    rt: &impl Abort,
+    picture: &str,
+    outcome: &Outcome,
+    allowed: &Outcome,
+) -> Result<(), Fail> {
+    let samples = outcome.samples.as_slice();
+    let ends = outcome.error.is_some_and(|e| e.unexpected_eof()) && !samples.is_empty();
+    let error = if ends { None } else { outcome.error };
+    assert_eq!(rt; allowed.error, error, "{picture}");
+    assert_eq!(rt; allowed.samples.as_slice(), samples, "{picture}");
+    assert_eq!(rt; allowed.position, outcome.position, "{picture}");
+    assert_eq!(rt; allowed.whole, outcome.whole, "{picture}");
+    Ok(())
+}
+
+// Reads a picture call by call, with an early end refused and allowed, and once more by one call, and compares what is
+// expected of it.
 fn check_picture<S: Sample, D: Decoder>(
     rt: &impl Abort,
     alloc: Global,
@@ -67,10 +85,12 @@ fn check_picture<S: Sample, D: Decoder>(
     let depth = depth.parse::<u32>()?;
     let channels = channels(alloc, sizes)?;
     let bytes = bytes(alloc, digits)?;
-    let outcome = by_calls::<S, D>(rt, alloc, &bytes, depth, &channels)?;
+    let outcome = by_calls::<S, D>(rt, alloc, &bytes, depth, &channels, false)?;
     let seen = told(alloc, &outcome, expected.starts_with('#'))?;
     assert_eq!(rt; seen.as_str(), expected, "{picture}");
     assert_eq!(rt; outcome.whole, outcome.error.is_none(), "{picture}");
+    let allowed = by_calls::<S, D>(rt, alloc, &bytes, depth, &channels, true)?;
+    check_allowed(rt, picture, &outcome, &allowed)?;
     let again = at_once::<S, D>(rt, alloc, &bytes, depth, &channels)?;
     assert_eq!(rt; again.error, outcome.error, "{picture}");
     assert_eq!(rt; again.position, outcome.position, "{picture}");
@@ -84,7 +104,8 @@ fn check_picture<S: Sample, D: Decoder>(
     Ok(())
 }
 
-/// Reads each picture of a table call by call, and once more by one call, and compares what is expected of it.
+/// Reads each picture of a table call by call, with an early end refused and allowed, and once more by one call, and
+/// compares what is expected of it.
 pub fn check<S: Sample, D: Decoder>(
     rt: &impl Abort,
     alloc: Global,
