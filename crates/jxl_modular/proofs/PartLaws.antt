@@ -67,8 +67,8 @@ module _ {S D : Type 0} (d : Meaning D) (w : Width) (to_int : S → ℤ) (bytes 
   whole_gives n is laid h = (
     h.0,
     subst (λ (part : Part). DecodeAnswers d w part bytes old.config.decoder (standing_in to_int old.coded old.store p partial) (standing_in to_int old.coded new.store q still) allow result h.0)
-    (ap (λ k. front_part k old stream) is ∙ all_is_whole old laid stream)
-    (subst (λ (rs : List Region). DecodeAnswers d w (front_part n old stream) bytes old.config.decoder (standing_in to_int rs old.store p partial) (standing_in to_int rs new.store q still) allow result h.0)
-    (ap (λ k. front_regions k old) is ∙ all_regions old laid) h.1),
+        (ap (λ k. front_part k old stream) is ∙ all_is_whole old laid stream)
+        (subst (λ (rs : List Region). DecodeAnswers d w (front_part n old stream) bytes old.config.decoder (standing_in to_int rs old.store p partial) (standing_in to_int rs new.store q still) allow result h.0)
+        (ap (λ k. front_regions k old) is ∙ all_regions old laid) h.1),
     h.2,
   )

@@ -18,7 +18,7 @@ use Rattle.jxl_modular.specs.declared.image.TransformedModularSubimage.{Transfor
 abbrev pub FrontGives : {S D : Type 0} → Meaning D → Width → (S → ℤ) → List ℕ → ℕ → ℕ → Image S D → ℕ → Bool → ℕ → Image S D → ℕ → Bool → ℕ → Bool → Result (Unit {0}) Error → Type 0
 FrontGives d w to_int bytes stream n old p partial before new q still after allow result =
     (tried : ℕ) × DecodeAnswers d w (front_part n old stream) bytes old.config.decoder
-        (standing_in to_int (front_regions n old) old.store p partial) (standing_in to_int (front_regions n old) new.store q still) allow result tried
+    (standing_in to_int (front_regions n old) old.store p partial) (standing_in to_int (front_regions n old) new.store q still) allow result tried
     × MovesWithin before after (tried * cost_of old)
 
 module _ {S D : Type 0} where

@@ -41,15 +41,7 @@ fn fill<S: Sample, D: Decoder>(
 {
     let count = image.channel_count();
     let mut partial = image.has_samples(count);
-    image.decode_front(
-        alloc,
-        bits,
-        count,
-        stream_index,
-        false,
-        &mut partial,
-        steps,
-    )?;
+    image.decode_front(alloc, bits, count, stream_index, false, &mut partial, steps)?;
     image.undo_transforms(alloc)
 }
 

@@ -60,7 +60,12 @@ impl<'a, D: Decoder> PlacedPart<'a, D> {
         ensures err { IfErr result (λ e. IsOutOfMemory (kind_of e)) }
     {
         let decoder = self.config.decoder().try_clone(alloc)?;
-        let flats = flat_trees(alloc, self.config, self.stream_index, self.channels.len() as u32)?;
+        let flats = flat_trees(
+            alloc,
+            self.config,
+            self.stream_index,
+            self.channels.len() as u32,
+        )?;
         let widest = max_width(self.channels);
         let state = roomy_state(alloc, &flats, widest, &self.weights)?;
         Ok(Ready {

@@ -92,7 +92,13 @@ pub fn by_calls<S: Sample, D: Decoder>(
     match Modular::<S, D>::parse(alloc, &mut bits, params) {
         Ok(mut modular) => {
             if let Some(image) = modular.image_mut() {
-                (outcome.error, outcome.whole) = finished(rt, alloc, &mut bits, image, allow_partial)?;
+                (outcome.error, outcome.whole) = finished(
+                    rt,
+                    alloc,
+                    &mut bits,
+                    image,
+                    allow_partial,
+                )?;
                 outcome.samples = samples(alloc, image)?;
             }
         }

@@ -28,12 +28,7 @@ fn global_part(
     let mut part = image.prepare_gmodular(alloc)?;
     let before = part.is_partial();
     part.decode(alloc, &mut bits, 0, false)?;
-    let states = [
-        part.is_empty(),
-        before,
-        part.is_partial(),
-        part.holds_all(),
-    ];
+    let states = [part.is_empty(), before, part.is_partial(), part.holds_all()];
     Ok((states, bits.position()))
 }
 

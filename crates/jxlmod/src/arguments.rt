@@ -185,10 +185,7 @@ mod tests {
         assert_eq!(rt; asked(&rt, "decode 02 003 01 08 i32")?, decode(2, 3, 1, 8));
         assert_eq!(rt; asked(&rt, "decode 0 0 1 0 i32")?, decode(0, 0, 1, 0));
         let largest = "decode 1073741824 1073741824 1048576 32 i32";
-        assert_eq!(rt;
-            asked(&rt, largest)?,
-            decode(1 << 30, 1 << 30, 1 << 20, 32)
-        );
+        assert_eq!(rt; asked(&rt, largest)?, decode(1 << 30, 1 << 30, 1 << 20, 32));
         let no_channels = "decode 4294967295 4294967295 0 32 i32";
         assert_eq!(rt; asked(&rt, no_channels)?, decode(u32::MAX, u32::MAX, 0, 32));
         let small = Command::Decode {

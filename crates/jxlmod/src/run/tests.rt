@@ -243,7 +243,14 @@ fn each_error_is_one_line(rt: HostRuntime) -> Result<(), Fail> {
         let mut output = Vec::new(alloc);
         let mut errors = Vec::new(alloc);
         let printer = Fails { error };
-        let status = run_with(alloc, &words, &mut input, &mut output, &mut errors, &printer);
+        let status = run_with(
+            alloc,
+            &words,
+            &mut input,
+            &mut output,
+            &mut errors,
+            &printer,
+        );
         assert_eq!(rt; (status, output.len()), (1, 0), "{line}");
         assert_eq!(rt; errors.as_slice(), line.as_bytes(), "{line}");
     }

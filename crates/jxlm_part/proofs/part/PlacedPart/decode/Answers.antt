@@ -33,12 +33,14 @@ returns-in-Err-2-clause-answers g c =
 
 pub returns-clause-answers : goal.returns-clause-answers
 returns-clause-answers g c =
-    elim c.match-decode_part.branch [ in-Ok w ↦ rw w.partial-is
-      (answers_whole g.D.Decoder.meaning g.S.Sealed.width g.S.Sealed.to_int (bytes_of c.args.bits.now) (part_placed c.args.self.now) c.args.self.now.regions.now c.args.self.now.config.now.decoder
-      c.args.store.now (position_of c.args.bits.now) c.args.partial.now c.args.allow_partial c.decode_part.new.store (position_of c.decode_part.new.bits) c.args.steps.now c.decode_part.new.steps
-      (c.if-not-has_samples.ensures.0 refl) (rw c.in_ok-decoder.ensures.ok.decoder_is at w.in-Ok.ensures.ok) c.decode_part.ensures.more w.in-Ok.ensures.work)
-    | in-Err w ↦ rw (w.partial-is, w.if-allow_partial.true)
-      (answers_partial g.D.Decoder.meaning g.S.Sealed.width g.S.Sealed.to_int (bytes_of c.args.bits.now) (part_placed c.args.self.now) c.args.self.now.regions.now c.args.self.now.config.now.decoder
-      c.args.store.now (position_of c.args.bits.now) c.args.partial.now c.decode_part.new.store (position_of c.decode_part.new.bits) c.args.steps.now c.decode_part.new.steps
-      (c.if-not-has_samples.ensures.0 refl) c.decode_part.ensures.more
-      (rw (w.if-unexpected_eof.ensures.0 refl, c.in_ok-decoder.ensures.ok.decoder_is) at w.in-Err.ensures.err)) ]
+    elim c.match-decode_part.branch [
+      | in-Ok w ↦ rw w.partial-is
+          (answers_whole g.D.Decoder.meaning g.S.Sealed.width g.S.Sealed.to_int (bytes_of c.args.bits.now) (part_placed c.args.self.now) c.args.self.now.regions.now c.args.self.now.config.now.decoder
+          c.args.store.now (position_of c.args.bits.now) c.args.partial.now c.args.allow_partial c.decode_part.new.store (position_of c.decode_part.new.bits) c.args.steps.now c.decode_part.new.steps
+          (c.if-not-has_samples.ensures.0 refl) (rw c.in_ok-decoder.ensures.ok.decoder_is at w.in-Ok.ensures.ok) c.decode_part.ensures.more w.in-Ok.ensures.work)
+      | in-Err w ↦ rw (w.partial-is, w.if-allow_partial.true)
+          (answers_partial g.D.Decoder.meaning g.S.Sealed.width g.S.Sealed.to_int (bytes_of c.args.bits.now) (part_placed c.args.self.now) c.args.self.now.regions.now c.args.self.now.config.now.decoder
+          c.args.store.now (position_of c.args.bits.now) c.args.partial.now c.decode_part.new.store (position_of c.decode_part.new.bits) c.args.steps.now c.decode_part.new.steps
+          (c.if-not-has_samples.ensures.0 refl) c.decode_part.ensures.more
+          (rw (w.if-unexpected_eof.ensures.0 refl, c.in_ok-decoder.ensures.ok.decoder_is) at w.in-Err.ensures.err))
+    ]
