@@ -242,15 +242,8 @@ fn each_error_is_one_line(rt: HostRuntime) -> Result<(), Fail> {
         let mut input = b"".as_slice();
         let mut output = Vec::new(alloc);
         let mut errors = Vec::new(alloc);
-        let printer = Fails { error };
-        let status = run_with(
-            alloc,
-            &words,
-            &mut input,
-            &mut output,
-            &mut errors,
-            &printer,
-        );
+        let fails = Fails { error };
+        let status = run_with(alloc, &words, &mut input, &mut output, &mut errors, &fails);
         assert_eq!(rt; (status, output.len()), (1, 0), "{line}");
         assert_eq!(rt; errors.as_slice(), line.as_bytes(), "{line}");
     }
