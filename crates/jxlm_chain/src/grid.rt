@@ -47,11 +47,6 @@ impl TransformedGrid {
         }
     }
 
-    /// Whether it stands for itself.
-    pub(crate) fn is_single(&self) -> bool {
-        matches!(self, TransformedGrid::Single(_))
-    }
-
     /// How many channels it stands for.
     pub(crate) fn count(&self) -> usize
         ensures { result ≡ length (members_of self.now) }

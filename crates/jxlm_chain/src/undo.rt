@@ -49,53 +49,30 @@ pub enum Undoing {
     },
 }
 
-/// The channel that lies in the region: that of the indices of the last of these palettes that has them there, or one
-/// that stands for itself. The palettes are indices into the list of undoings.
-fn channel_at(
-    alloc: Global,
-    undoings: &[Undoing],
-    palettes: &[usize],
-    region: Region,
-) -> Result<TransformedGrid, OutOfMemory>
-    ensures { IfOk result (λ g. leader_of g ≡ region) }
+/// The channel of the indices that stand for the channels in these regions: it lies where the first of them lies.
+fn merged(alloc: Global, range: &[Region]) -> Result<TransformedGrid, OutOfMemory>
+    requires { 1 ≤ length range.now }
+    ensures leader { IfOk result (λ g. leader_of g ≡ get_or range.now 0 no_region) }
+    ensures members { IfOk result (λ g. members_of g ≡ range.now) }
 {
-    for place in palettes.iter().rev() {
-        if let Some(Undoing::Palette { index, .. }) = undoings.get(*place)
-            && index.leader() == region
-        {
-            return index.try_clone(alloc);
-        }
+    if range.len() == 1 {
+        return Ok(TransformedGrid::Single(range[0]));
     }
-    Ok(TransformedGrid::Single(region))
+    Ok(TransformedGrid::Merged {
+        leader: range[0],
+        members: singles(alloc, range)?,
+    })
 }
 
-/// The channels that lie in these regions.
-fn channels_at(
-    alloc: Global,
-    undoings: &[Undoing],
-    palettes: &[usize],
-    regions: &[Region],
-) -> Result<Vec<TransformedGrid>, OutOfMemory>
+/// The channels that lie in these regions, each of which stands for itself there.
+fn singles(alloc: Global, regions: &[Region]) -> Result<Vec<TransformedGrid>, OutOfMemory>
     ensures { IfOk result (λ v. map leader_of v.items ≡ regions.now) }
 {
     let mut channels = Vec::new(alloc);
     for region in regions {
-        channels.push(channel_at(alloc, undoings, palettes, *region)?)?;
+        channels.push(TransformedGrid::Single(*region))?;
     }
     Ok(channels)
-}
-
-/// The channel of the indices that stand for these channels, the first of which lies in the region `leader`.
-fn merged(leader: Region, members: Vec<TransformedGrid>) -> TransformedGrid
-    requires some { 1 ≤ length members.items }
-    requires first { get_or (map leader_of members.items) 0 no_region ≡ leader }
-    ensures leader { leader_of result ≡ leader }
-    ensures members { members_of result ≡ map leader_of members.items }
-{
-    if members.len() == 1 && members[0].is_single() {
-        return TransformedGrid::Single(leader);
-    }
-    TransformedGrid::Merged { leader, members }
 }
 
 impl Places {
@@ -115,12 +92,10 @@ impl Places {
         }
     }
 
-    /// What undoes a palette after these undoings, of which the ones with the indices `palettes` undo palettes.
+    /// What undoes a palette after these places.
     pub(crate) fn undo_palette(
         &self,
         alloc: Global,
-        undoings: &[Undoing],
-        palettes: &[usize],
         palette: &Palette,
     ) -> Result<Undoing, OutOfMemory>
         requires some_channels { 1 ≤ palette.now.num_c }
@@ -129,13 +104,10 @@ impl Places {
     {
         let begin = palette.begin_c as usize;
         let count = palette.num_c as usize;
-        let range = &self.regions[begin..begin + count];
-        let members = channels_at(alloc, undoings, palettes, range)?;
-        let index = merged(range[0], members);
         Ok(Undoing::Palette {
             palette: *palette,
             table: self.table(palette),
-            index,
+            index: merged(alloc, &self.regions[begin..begin + count])?,
         })
     }
 }
