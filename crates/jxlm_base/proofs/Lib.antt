@@ -19,5 +19,6 @@ mod NumberAt
 mod RowLoop
 mod RowWrites
 mod Strips
+mod Turned
 mod Undo
 mod Tendency

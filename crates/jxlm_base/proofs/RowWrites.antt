@@ -1,6 +1,6 @@
 -- Parts of rows: what is read there, and what a write to one changes.
 use Rattle.std.proofs.Common.{◌≡◌, ℕ, suc, ◌+◌, ◌-◌, ◌*◌, ◌<◌, ◌≤◌, ◌⊎◌, inl, inr, List, length, take, drop, ℤ, sym, refl, ap, ◌∙◌, subst, arith}
-use Rattle.std.specs.Prelude.{slice_get, slice_range}
+use Rattle.std.specs.Prelude.{Option, slice_get, slice_range}
 use Rattle.std.proofs.Math.Nat.{mul_comm, mul-le-mul_right}
 use Rattle.std.proofs.lemmas.Bool.{cases_lt}
 use Rattle.std.proofs.lemmas.List.{length-take-le, length-drop}
@@ -31,10 +31,13 @@ module _ {S : Type 0} where
   get-row : (g : Grid S) (x y : ℕ) → x < g.width → slice_get (row g y) x ≡ cell g x y
   get-row g x y h = get-slice_range g.cells (y * g.width) (y * g.width + g.width) x (omega arith)
 
+  -- the cells of a part of a row
+  pub part_cells : (g : Grid S) (a y n i : ℕ) (xs : List S) → xs ≡ slice_range (row g y) a (a + n) → a + n ≤ g.width → i < n → slice_get xs i ≡ cell g (a + i) y
+  part_cells g a y n i xs e fits h = ap (λ zs. slice_get zs i) e ∙ get-slice_range (row g y) a (a + n) i (omega arith) ∙ get-row g (a + i) y (omega arith)
+
   -- the numbers of a part of a row
   pub part_numbers : (f : S → ℤ) (g : Grid S) (a y n i : ℕ) (xs : List S) → xs ≡ slice_range (row g y) a (a + n) → a + n ≤ g.width → i < n → number_at f xs i ≡ at (meanings f g) (a + i) y
-  part_numbers f g a y n i xs e fits h =
-      number_same f xs g.cells i (place g (a + i) y) (ap (λ zs. slice_get zs i) e ∙ get-slice_range (row g y) a (a + n) i (omega arith) ∙ get-row g (a + i) y (omega arith))
+  part_numbers f g a y n i xs e fits h = number_same f xs g.cells i (place g (a + i) y) (part_cells g a y n i xs e fits h)
 
   module _ (g : Grid S) (full : IsFull g) (a y : ℕ) (vs : List S) (fits : a + length vs ≤ g.width) (inside : y < g.height) where
     abbrev line : List S
@@ -117,10 +120,10 @@ module _ {S : Type 0} where
         outside = λ i j p q o. b.outside i j (omega arith) (omega arith) (two i j o) ∙ a.outside i j p q (one i j o);
       }
 
-  -- one row more, and some columns more
-  pub outside_row_more : (x y w k : ℕ) (g g' g'' : Grid S) → IsSameOutside x y w k g g' → IsSameOutside x (y + k) w 1 g' g'' → IsSameOutside x y w (k + 1) g g''
-  outside_row_more x y w k g g' g'' =
-      outside_both x y w k x (y + k) w 1 x y w (k + 1) g g' g''
+  -- some rows more, and some columns more
+  pub outside_rows_more : (x y w k n : ℕ) (g g' g'' : Grid S) → IsSameOutside x y w k g g' → IsSameOutside x (y + k) w n g' g'' → IsSameOutside x y w (k + n) g g''
+  outside_rows_more x y w k n g g' g'' =
+      outside_both x y w k x (y + k) w n x y w (k + n) g g' g''
       (λ i j o. elim o [ inl l ↦ inl l | inr o2 ↦ elim o2 [ inl r ↦ inr (inl r) | inr o3 ↦ elim o3 [ inl u ↦ inr (inr (inl u)) | inr d ↦ inr (inr (inr (omega arith))) ] ] ])
       (λ i j o. elim o [ inl l ↦ inl l | inr o2 ↦ elim o2 [ inl r ↦ inr (inl r) | inr o3 ↦ elim o3 [ inl u ↦ inr (inr (inl (omega arith))) | inr d ↦ inr (inr (inr (omega arith))) ] ] ])
 
@@ -134,10 +137,10 @@ module _ {S : Type 0} where
   pub at_same : (f : S → ℤ) (g h : Grid S) (x y i j : ℕ) → cell g x y ≡ cell h i j → at (meanings f g) x y ≡ at (meanings f h) i j
   at_same f g h x y i j e = number_same f g.cells h.cells (place g x y) (place h i j) e
 
-  -- ---- lines of a strip that are written, row by row
+  -- ---- rows that are written one by one: value i j is what is written in column j of row i
 
-  module _ (g g' g'' : Grid S) (x y n h k : ℕ) (strip vs : List S) (columns : x + n ≤ g.width) (rows : y + h ≤ g.height) (inside : k < h) (lv : length vs ≡ n)
-      (is : vs ≡ slice_range strip (k * n + n) (k * n + n + n)) (a : IsSameOutside x y n k g g') (e : g'' ≡ with_row g' (y + k) (written (row g' (y + k)) x vs)) where
+  module _ (g g' g'' : Grid S) (x y n h k : ℕ) (value : ℕ → ℕ → Option S) (vs : List S) (columns : x + n ≤ g.width) (rows : y + h ≤ g.height) (inside : k < h) (lv : length vs ≡ n)
+      (is : (j : ℕ) → j < n → slice_get vs j ≡ value k j) (a : IsSameOutside x y n k g g') (e : g'' ≡ with_row g' (y + k) (written (row g' (y + k)) x vs)) where
     line_outside : IsSameOutside x (y + k) n 1 g' g''
     line_outside =
         let sw = a.same_width in
@@ -147,9 +150,9 @@ module _ {S : Type 0} where
         subst (λ h. IsSameOutside x (y + k) n 1 g' h) (sym e) (subst (λ m. IsSameOutside x (y + k) m 1 g' new) lv b)
 
     pub lines_outside : IsSameOutside x y n (k + 1) g g''
-    lines_outside = outside_row_more x y n k g g' g'' a line_outside
+    lines_outside = outside_rows_more x y n k 1 g g' g'' a line_outside
 
-    pub lines_written : ((i j : ℕ) → i < k → j < n → cell g' (x + j) (y + i) ≡ slice_get strip (i * n + n + j)) → (i j : ℕ) → i < k + 1 → j < n → cell g'' (x + j) (y + i) ≡ slice_get strip (i * n + n + j)
+    pub lines_written : ((i j : ℕ) → i < k → j < n → cell g' (x + j) (y + i) ≡ value i j) → (i j : ℕ) → i < k + 1 → j < n → cell g'' (x + j) (y + i) ≡ value i j
     lines_written all i j p q =
         let sw = a.same_width in
         let sh = a.same_height in
@@ -157,8 +160,7 @@ module _ {S : Type 0} where
           | inl lt ↦ line_outside.outside (x + j) (y + i) (omega arith) (omega arith) (inr (inr (inl (omega arith)))) ∙ all i j lt q
           | inr ge ↦
               let same : k ≡ i = omega arith in
-              let own : cell g'' (x + j) (y + k) ≡ slice_get strip (k * n + n + j) =
-              ap (λ h. cell h (x + j) (y + k)) e ∙ changed_in g' a.full x (y + k) vs (omega arith) (omega arith) j (omega arith) ∙ ap (λ zs. slice_get zs j) is
-              ∙ get-slice_range strip (k * n + n) (k * n + n + n) j (omega arith)
-              in subst (λ i. cell g'' (x + j) (y + i) ≡ slice_get strip (i * n + n + j)) same own
+              let own : cell g'' (x + j) (y + k) ≡ value k j =
+              ap (λ h. cell h (x + j) (y + k)) e ∙ changed_in g' a.full x (y + k) vs (omega arith) (omega arith) j (omega arith) ∙ is j q
+              in subst (λ i. cell g'' (x + j) (y + i) ≡ value i j) same own
         ]

@@ -53,18 +53,32 @@ le_from a b h = (unsigned_abs (b -ℤ a), grind (arith, ints))
 abbrev pub rising_slope : ℤ → ℤ → ℤ → ℕ
 rising_slope a b c = slope (unsigned_abs (a -ℤ b)) (unsigned_abs (b -ℤ c))
 
+-- and the whole rise fits, as does a whole fall
+pub narrow_sum : (a b c : ℤ) → FitsSigned w16 a → FitsSigned w16 b → FitsSigned w16 c → int_le a b ≡ true → int_le b c ≡ true → unsigned_abs (a -ℤ b) + unsigned_abs (b -ℤ c) < 2 ^ 16
+narrow_sum a b c fa fb fc s t =
+    let p : ℕ = unsigned_abs (a -ℤ b) in
+    let q : ℕ = unsigned_abs (b -ℤ c) in
+    let sum : p + q < 2 ^ 16 = grind (arith, ints) in sum
+
 pub narrow_small : (a b c : ℤ) → FitsSigned w16 a → FitsSigned w16 b → FitsSigned w16 c → int_le a b ≡ true → int_le b c ≡ true → rising_slope a b c < 2 ^ 15
 narrow_small a b c fa fb fc s t =
     let p : ℕ = unsigned_abs (a -ℤ b) in
     let q : ℕ = unsigned_abs (b -ℤ c) in
-    let sum : p + q < 2 ^ 16 = grind (arith, ints) in
+    let sum : p + q < 2 ^ 16 = narrow_sum a b c fa fb fc s t in
     let small = slope_small p q in omega arith
+
+-- and the whole rise fits, as does a whole fall
+pub wide_sum : (a b c : ℤ) → FitsSigned w32 a → FitsSigned w32 b → FitsSigned w32 c → int_le a b ≡ true → int_le b c ≡ true → unsigned_abs (a -ℤ b) + unsigned_abs (b -ℤ c) < 2 ^ 32
+wide_sum a b c fa fb fc s t =
+    let p : ℕ = unsigned_abs (a -ℤ b) in
+    let q : ℕ = unsigned_abs (b -ℤ c) in
+    let sum : p + q < 2 ^ 32 = grind (arith, ints) in sum
 
 pub wide_small : (a b c : ℤ) → FitsSigned w32 a → FitsSigned w32 b → FitsSigned w32 c → int_le a b ≡ true → int_le b c ≡ true → rising_slope a b c < 2 ^ 31
 wide_small a b c fa fb fc s t =
     let p : ℕ = unsigned_abs (a -ℤ b) in
     let q : ℕ = unsigned_abs (b -ℤ c) in
-    let sum : p + q < 2 ^ 32 = grind (arith, ints) in
+    let sum : p + q < 2 ^ 32 = wide_sum a b c fa fb fc s t in
     let small = slope_small p q in omega arith
 
 pub narrow_negated : (n : ℕ) → n < 2 ^ 15 → to_z w16 (of_z w16 (pos 0 -ℤ to_z w16 n)) ≡ neg_ℤ (pos n)

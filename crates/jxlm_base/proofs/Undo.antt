@@ -52,10 +52,10 @@ below_next P k h p j lt = elim (cases_lt j k) [ inl l ↦ h j l | inr g ↦ let 
 pub moved : (P : ℕ → ℕ → ℕ → Type 0) (a b c a' b' c' : ℕ) → a ≡ a' → b ≡ b' → c ≡ c' → P a b c → P a' b' c'
 moved P a b c a' b' c' p q r t = subst (λ a. P a b' c') p (subst (λ b. P a b c') q (subst (λ c. P a b c) r t))
 
--- ---- one row more
+-- ---- some rows more
 
-module _ {S : Type 0} (f : S → ℤ) (w : Width) (g g' g'' : Grid S) (x y n h k : ℕ) (columns : x + n ≤ g.width) (rows : y + h ≤ g.height) (inside : k < h)
-    (a : IsSameOutside x y n k g g') (b : IsSameOutside x (y + k) n 1 g' g'') where
+module _ {S : Type 0} (f : S → ℤ) (w : Width) (g g' g'' : Grid S) (x y n k m : ℕ) (columns : x + n ≤ g.width) (rows : y + (k + m) ≤ g.height)
+    (a : IsSameOutside x y n k g g') (b : IsSameOutside x (y + k) n m g' g'') where
   abbrev row_of : Grid S → ℕ → ℕ → ℤ
   row_of g j i = at (meanings f g) (x + i) (y + j)
 
@@ -65,17 +65,27 @@ module _ {S : Type 0} (f : S → ℤ) (w : Width) (g g' g'' : Grid S) (x y n h k
       let sh = a.same_height in
       at_same f g' g'' (x + i) (y + j) (x + i) (y + j) (sym (b.outside (x + i) (y + j) (omega arith) (omega arith) (inr (inr (inl (omega arith))))))
 
-  untouched : AreSame n (row_of g' k) (row_of g k)
-  untouched i p = at_same f g' g (x + i) (y + k) (x + i) (y + k) (a.outside (x + i) (y + k) (omega arith) (omega arith) (inr (inr (inr (omega arith)))))
+  untouched : (j : ℕ) → k ≤ j → j < k + m → AreSame n (row_of g' j) (row_of g j)
+  untouched j le lt i p = at_same f g' g (x + i) (y + j) (x + i) (y + j) (a.outside (x + i) (y + j) (omega arith) (omega arith) (inr (inr (inr (omega arith)))))
 
-  pub undone_rows_more : ((j : ℕ) → j < k → IsUnsqueezed w n (row_of g j) (row_of g' j)) → IsUnsqueezed w n (row_of g' k) (row_of g'' k) → (j : ℕ) → j < k + 1 → IsUnsqueezed w n (row_of g j) (row_of g'' j)
-  undone_rows_more all one =
-      below_next (λ j. IsUnsqueezed w n (row_of g j) (row_of g'' j)) k
-      (λ j lt. IsUnsqueezed_same w n (row_of g j) (row_of g j) (λ i p. refl) (row_of g' j) (row_of g'' j) (still j lt) (all j lt))
-      (IsUnsqueezed_same w n (row_of g' k) (row_of g k) untouched (row_of g'' k) (row_of g'' k) (λ i p. refl) one)
+  pub undone_rows_more : ((j : ℕ) → j < k → IsUnsqueezed w n (row_of g j) (row_of g' j)) → ((j : ℕ) → j < m → IsUnsqueezed w n (row_of g' (k + j)) (row_of g'' (k + j))) →
+      (j : ℕ) → j < k + m → IsUnsqueezed w n (row_of g j) (row_of g'' j)
+  undone_rows_more all some j lt =
+      elim (cases_lt j k) [
+        | inl l ↦ IsUnsqueezed_same w n (row_of g j) (row_of g j) (λ i p. refl) (row_of g' j) (row_of g'' j) (still j l) (all j l)
+        | inr ge ↦
+            let e : k + (j - k) ≡ j = omega arith in
+            IsUnsqueezed_same w n (row_of g' j) (row_of g j) (untouched j ge lt) (row_of g'' j) (row_of g'' j) (λ i p. refl) (subst (λ j. IsUnsqueezed w n (row_of g' j) (row_of g'' j)) e (some (j - k) (omega arith)))
+      ]
 
-  pub row_samples_more : ((j : ℕ) → j < k → AreSamples w n (row_of g j)) → AreSamples w n (row_of g' k) → (j : ℕ) → j < k + 1 → AreSamples w n (row_of g j)
-  row_samples_more all one = below_next (λ j. AreSamples w n (row_of g j)) k all (λ i p. subst (FitsSigned w) (untouched i p) (one i p))
+  pub row_samples_more : ((j : ℕ) → j < k → AreSamples w n (row_of g j)) → ((j : ℕ) → j < m → AreSamples w n (row_of g' (k + j))) → (j : ℕ) → j < k + m → AreSamples w n (row_of g j)
+  row_samples_more all some j lt =
+      elim (cases_lt j k) [
+        | inl l ↦ all j l
+        | inr ge ↦
+            let e : k + (j - k) ≡ j = omega arith in
+            λ i p. subst (FitsSigned w) (untouched j ge lt i p) (subst (λ j. AreSamples w n (row_of g' j)) e (some (j - k) (omega arith)) i p)
+      ]
 
 -- ---- some columns more
 

@@ -145,6 +145,13 @@ impl<S: Copy> AlignedGrid<S> {
         &self.cells[start..start + self.width]
     }
 
+    /// All cells, row by row.
+    pub(crate) fn all_cells(&self) -> &[S]
+        ensures { result.now ≡ self.now.cells }
+    {
+        &self.cells
+    }
+
     /// Writes `cells` into row `y`, from column `x` on; all of them lie inside.
     pub(crate) fn write_cells(&mut self, x: usize, y: usize, cells: &[S])
         requires columns { x + length cells.now ≤ self.old.width }

@@ -66,7 +66,7 @@ pub trait Sealed: Copy + Default {
     /// averages and then residuals, and afterwards the row that becomes them when it is squeezed. Nothing outside
     /// changes.
     ///
-    /// Memory is asked for once, for a row; a rectangle without cells takes none. `OutOfMemory` if it is not given:
+    /// Memory is asked for once, for some rows; a rectangle without cells takes none. `OutOfMemory` if it is not given:
     /// then no cell has changed.
     fn squeeze_rows(
         alloc: Global,
@@ -95,7 +95,8 @@ pub trait Sealed: Copy + Default {
         ensures unchanged { IfErr result (λ _. whole subgrid.new ≡ whole subgrid.old) }
         ensures no_cells { (subgrid.old.width ≡ 0) ⊎ (subgrid.old.height ≡ 0) → IsOk result };
 
-    /// As `squeeze_rows`, with `scratch`, which has room for a row.
+    /// As `squeeze_rows`, with `scratch`, which has room for a row. If it has room for 32 rows twice, with a cell more
+    /// each, as many are undone at a time.
     fn squeeze_rows_in(subgrid: &mut MutableSubgrid<'_, Self>, scratch: &mut [Self])
         requires room { subgrid.old.width ≤ length scratch.old }
         ensures len { length scratch.new ≡ length scratch.old }

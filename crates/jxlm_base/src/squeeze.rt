@@ -1,10 +1,10 @@
 //! Rows and columns unsqueezed.
-ghost use Rattle.std.specs.Prelude.{◌≡◌, ℕ, suc, ℤ, ◌+◌, ◌-◌, ◌*◌, ◌/◌, ◌<◌, ◌≤◌, ◌⊎◌, FitsSigned, length, min, slice_get, IfOk, IfErr, IsOk};
+ghost use Rattle.std.specs.Prelude.{◌≡◌, ℕ, suc, ℤ, ◌+◌, ◌-◌, ◌*◌, ◌/◌, ◌^◌, ◌<◌, ◌≤◌, ◌⊎◌, FitsSigned, length, min, slice_get, slice_range, IfOk, IfErr, IsOk};
 ghost use Rattle.std.specs.Int.{Width, w16, w32};
 ghost use Rattle.jxlm_base.specs.Grid.{cell};
 ghost use Rattle.jxlm_base.specs.Squeeze.{slope, tendency, averages, AreSamples, AreGridSamples, squeezed_rows, squeezed_columns};
 ghost use Rattle.jxlm_base.specs.Subgrid.{whole, IsSamePlace, IsSameOutside, KeepsOutside, numbers_in};
-ghost use Rattle.jxlm_base.specs.Inner.Unsqueeze.{first_of, second_of, next_in, first_in, before_in, number_at, row_in, column_in, IsUnsqueezed};
+ghost use Rattle.jxlm_base.specs.Inner.Unsqueeze.{first_of, second_of, next_in, first_in, before_in, number_at, row_in, column_in, line_in, IsUnsqueezed};
 
 use crate::grid::OutOfMemory;
 use crate::subgrid::MutableSubgrid;
@@ -32,23 +32,30 @@ pub(crate) trait Pairs: Copy {
         ensures fits { FitsSigned Self.width (Self.to_int self) };
 }
 
-/// The slope of a fall by `p` and then by `q`.
-fn narrow_slope(p: u16, q: u16) -> u32
-    ensures { result ≡ slope p q }
+/// The slope of a fall by `p` and then by `q`, by sums that saturate: it is exact where the whole fall fits.
+#[inline(always)]
+fn narrow_slope(p: u16, q: u16) -> u16
+    ensures { p + q < 2 ^ 16 → result ≡ slope p q }
 {
-    let (p, q) = (u32::from(p), u32::from(q));
-    ((4 * p + 3 * q + 6) / 12).min(2 * p + 1).min(2 * q)
+    let next = q.saturating_add(1);
+    let third = p.saturating_add(next - next / 4) / 3;
+    let within_p = third.min(p.saturating_add(p).saturating_add(1));
+    within_p.min(q.saturating_add(q))
 }
 
-/// The slope of a fall by `p` and then by `q`.
-fn wide_slope(p: u32, q: u32) -> u64
-    ensures { result ≡ slope p q }
+/// The slope of a fall by `p` and then by `q`, by sums that saturate: it is exact where the whole fall fits.
+#[inline(always)]
+fn wide_slope(p: u32, q: u32) -> u32
+    ensures { p + q < 2 ^ 32 → result ≡ slope p q }
 {
-    let (p, q) = (u64::from(p), u64::from(q));
-    ((4 * p + 3 * q + 6) / 12).min(2 * p + 1).min(2 * q)
+    let next = q.saturating_add(1);
+    let third = p.saturating_add(next - next / 4) / 3;
+    let within_p = third.min(p.saturating_add(p).saturating_add(1));
+    within_p.min(q.saturating_add(q))
 }
 
 /// The tendency of three samples of 16 bits.
+#[inline(always)]
 fn narrow_tendency(a: i16, b: i16, c: i16) -> i16
     ensures { result ≡ tendency a b c }
 {
@@ -63,6 +70,7 @@ fn narrow_tendency(a: i16, b: i16, c: i16) -> i16
 }
 
 /// The tendency of three samples of 32 bits.
+#[inline(always)]
 fn wide_tendency(a: i32, b: i32, c: i32) -> i32
     ensures { result ≡ tendency a b c }
 {
@@ -81,12 +89,14 @@ impl Pairs for i16 {
 
     ghost width = { w16 };
 
+    #[inline(always)]
     fn pair(before: i16, average: i16, next: i16, residual: i16) -> (i16, i16) {
         let difference = residual.wrapping_add(narrow_tendency(before, average, next));
         let first = average.wrapping_add(difference / 2);
         (first, first.wrapping_sub(difference))
     }
 
+    #[inline(always)]
     fn single(self) -> i16 {
         self
     }
@@ -97,18 +107,21 @@ impl Pairs for i32 {
 
     ghost width = { w32 };
 
+    #[inline(always)]
     fn pair(before: i32, average: i32, next: i32, residual: i32) -> (i32, i32) {
         let gap = residual.wrapping_add(wide_tendency(before, average, next));
         let first = average.wrapping_add(gap / 2);
         (first, first.wrapping_sub(gap))
     }
 
+    #[inline(always)]
     fn single(self) -> i32 {
         self
     }
 }
 
 /// The average after that of pair `k` of a coded row, and the pair's own where there is none.
+#[inline(always)]
 fn next_average<S: Pairs>(coded: &[S], k: usize) -> S
     requires { k < length coded.now / 2 }
     ensures { S.to_int result ≡ next_in (length coded.now) (number_at S.to_int coded.now) k }
@@ -121,6 +134,7 @@ fn next_average<S: Pairs>(coded: &[S], k: usize) -> S
 }
 
 /// The samples of pair `k` of a coded row, from the sample before them.
+#[inline(always)]
 fn pair_at<S: Pairs>(coded: &[S], k: usize, before: S) -> (S, S)
     requires pair { k < length coded.now / 2 }
     requires stands_before { S.to_int before ≡ before_in S.width (length coded.now) (number_at S.to_int coded.now) k }
@@ -175,25 +189,9 @@ fn undo_row<S: Pairs>(subgrid: &mut MutableSubgrid<'_, S>, y: usize, scratch: &m
     subgrid.write_cells(0, y, row);
 }
 
-/// Undoes each row of the rectangle, with `scratch`, which has room for a row.
-pub(crate) fn undo_rows<S: Pairs>(subgrid: &mut MutableSubgrid<'_, S>, scratch: &mut [S])
-    requires room { subgrid.old.width ≤ length scratch.old }
-    ensures len { length scratch.new ≡ length scratch.old }
-    ensures kept { KeepsOutside subgrid.old subgrid.new }
-    ensures undone { squeezed_rows S.width (numbers_in S.to_int subgrid.new) ≡ numbers_in S.to_int subgrid.old }
-    ensures samples { AreGridSamples S.width (numbers_in S.to_int subgrid.new) }
-{
-    let (width, height) = (subgrid.width(), subgrid.height());
-    if width == 0 {
-        return;
-    }
-    for y in 0..height {
-        undo_row(subgrid, y, scratch);
-    }
-}
-
 /// Undoes one pair of rows of several columns: the samples before the pair are in `strip` from `at` on, and its own
 /// are written after them.
+#[inline(never)]
 fn unsqueeze_lines<S: Pairs>(
     averages: &[S],
     next: &[S],
@@ -226,6 +224,7 @@ fn unsqueeze_lines<S: Pairs>(
 }
 
 /// Copies a line of single samples into `strip`, from `at` on.
+#[inline(never)]
 fn single_line<S: Pairs>(line: &[S], strip: &mut [S], at: usize)
     requires room { at + length line.now ≤ length strip.old }
     ensures len { length strip.new ≡ length strip.old }
@@ -241,6 +240,7 @@ fn single_line<S: Pairs>(line: &[S], strip: &mut [S], at: usize)
 }
 
 /// Where the average after that of pair `k` is, of `len` samples; that of the pair's own where there is none.
+#[inline(always)]
 fn place_of_next(len: usize, k: usize) -> usize
     requires { k < len / 2 }
     ensures within { result < averages len }
@@ -249,65 +249,75 @@ fn place_of_next(len: usize, k: usize) -> usize
     if k + 1 < len - len / 2 { k + 1 } else { k }
 }
 
-/// Undoes pair `k` of `columns` columns, from column `x` on: the lines of `strip` are the first averages and the
-/// undone rows, of which those before the pair are there.
+/// Line `i` of `coded`: `columns` samples from `start` and `i` times `stride` on.
+fn line_of<S>(coded: &[S], start: usize, stride: usize, columns: usize, i: usize) -> &[S]
+    requires { start + i * stride + columns ≤ length coded.now }
+    ensures len { length result.now ≡ columns }
+    ensures value { result.now ≡ slice_range coded.now (start + i * stride) (start + i * stride + columns) }
+{
+    let begin = start + i * stride;
+    &coded[begin..begin + columns]
+}
+
+/// Undoes pair `k` of `columns` columns, or of as many rows that are turned, of `len` samples each: line `i` of `coded`,
+/// which begins at `start` and `i` times `stride`, has sample `i` of each. The lines of `strip` are the first averages
+/// and the undone lines, of which those before the pair are there.
 #[tactic(auto, using(crate::proofs::Strips::lines_within))]
 fn strip_pair<S: Pairs>(
-    subgrid: &MutableSubgrid<'_, S>,
-    x: usize,
+    coded: &[S],
+    start: usize,
+    stride: usize,
+    len: usize,
     columns: usize,
     k: usize,
     strip: &mut [S],
 )
-    requires columns_inside { x + columns ≤ subgrid.now.width }
-    requires pair { k < subgrid.now.height / 2 }
-    requires room { (subgrid.now.height + 1) * columns ≤ length strip.old }
+    requires inside { (i : ℕ) → i < len → start + i * stride + columns ≤ length coded.now }
+    requires pair { k < len / 2 }
+    requires room { (len + 1) * columns ≤ length strip.old }
     requires stands_before { (j : ℕ) → j < columns → number_at S.to_int strip.old (2 * k * columns + j)
-        ≡ before_in S.width subgrid.now.height (column_in S.to_int subgrid.now (whole subgrid.now) (x + j)) k }
+        ≡ before_in S.width len (line_in S.to_int coded.now start stride j) k }
     ensures len { length strip.new ≡ length strip.old }
     ensures kept { (i : ℕ) → i < 2 * k * columns + columns → number_at S.to_int strip.new i
         ≡ number_at S.to_int strip.old i }
     ensures first { (j : ℕ) → j < columns → number_at S.to_int strip.new (2 * k * columns + columns + j)
-        ≡ first_in S.width subgrid.now.height (column_in S.to_int subgrid.now (whole subgrid.now) (x + j)) k }
+        ≡ first_in S.width len (line_in S.to_int coded.now start stride j) k }
     ensures second { (j : ℕ) → j < columns → number_at S.to_int strip.new (2 * k * columns + 2 * columns + j)
-        ≡ before_in S.width subgrid.now.height (column_in S.to_int subgrid.now (whole subgrid.now) (x + j)) (suc k) }
-    ensures averages_fit { (j : ℕ) → j < columns → FitsSigned S.width
-        (column_in S.to_int subgrid.now (whole subgrid.now) (x + j) k) }
+        ≡ before_in S.width len (line_in S.to_int coded.now start stride j) (suc k) }
+    ensures averages_fit { (j : ℕ) → j < columns → FitsSigned S.width (line_in S.to_int coded.now start stride j k) }
     ensures residuals_fit { (j : ℕ) → j < columns → FitsSigned S.width
-        (column_in S.to_int subgrid.now (whole subgrid.now) (x + j) (averages subgrid.now.height + k)) }
+        (line_in S.to_int coded.now start stride j (averages len + k)) }
 {
-    let height = subgrid.height();
-    let averages = subgrid.cells(x, k, columns);
-    let next = subgrid.cells(x, place_of_next(height, k), columns);
-    let residuals = subgrid.cells(x, height - height / 2 + k, columns);
+    let averages = line_of(coded, start, stride, columns, k);
+    let next = line_of(coded, start, stride, columns, place_of_next(len, k));
+    let residuals = line_of(coded, start, stride, columns, len - len / 2 + k);
     unsqueeze_lines(averages, next, residuals, strip, 2 * k * columns);
 }
 
-/// Writes the undone rows of `columns` columns, from column `x` on, into the lines of `strip`, the second line first.
+/// Writes the undone lines into those of `strip`, the second line first.
 fn unsqueeze_strip<S: Pairs>(
-    subgrid: &MutableSubgrid<'_, S>,
-    x: usize,
+    coded: &[S],
+    start: usize,
+    stride: usize,
+    len: usize,
     columns: usize,
     strip: &mut [S],
 )
-    requires columns_inside { x + columns ≤ subgrid.now.width }
-    requires some_rows { 0 < subgrid.now.height }
-    requires room { (subgrid.now.height + 1) * columns ≤ length strip.old }
+    requires inside { (i : ℕ) → i < len → start + i * stride + columns ≤ length coded.now }
+    requires some_lines { 0 < len }
+    requires room { (len + 1) * columns ≤ length strip.old }
     ensures len { length strip.new ≡ length strip.old }
-    ensures undone { (j : ℕ) → j < columns → IsUnsqueezed S.width subgrid.now.height
-        (column_in S.to_int subgrid.now (whole subgrid.now) (x + j))
+    ensures undone { (j : ℕ) → j < columns → IsUnsqueezed S.width len (line_in S.to_int coded.now start stride j)
         (λ i. number_at S.to_int strip.new (i * columns + columns + j)) }
-    ensures samples { (j : ℕ) → j < columns → AreSamples S.width subgrid.now.height
-        (column_in S.to_int subgrid.now (whole subgrid.now) (x + j)) }
+    ensures samples { (j : ℕ) → j < columns → AreSamples S.width len (line_in S.to_int coded.now start stride j) }
 {
-    let height = subgrid.height();
-    single_line(subgrid.cells(x, 0, columns), strip, 0);
-    for k in 0..height / 2 {
-        strip_pair(subgrid, x, columns, k, strip);
+    single_line(line_of(coded, start, stride, columns, 0), strip, 0);
+    for k in 0..len / 2 {
+        strip_pair(coded, start, stride, len, columns, k, strip);
     }
-    if height % 2 == 1 {
-        let last = subgrid.cells(x, height / 2, columns);
-        single_line(last, strip, height * columns);
+    if len % 2 == 1 {
+        let last = line_of(coded, start, stride, columns, len / 2);
+        single_line(last, strip, len * columns);
     }
 }
 
@@ -349,7 +359,15 @@ fn undo_strip<S: Pairs>(
     ensures samples { (j : ℕ) → j < columns → AreSamples S.width subgrid.old.height
         (column_in S.to_int subgrid.old (whole subgrid.old) (x + j)) }
 {
-    unsqueeze_strip(subgrid, x, columns, strip);
+    let start = subgrid.start(x);
+    unsqueeze_strip(
+        subgrid.whole_cells(),
+        start,
+        subgrid.stride(),
+        subgrid.height(),
+        columns,
+        strip,
+    );
     write_strip(subgrid, x, columns, strip);
 }
 
@@ -377,6 +395,173 @@ pub(crate) fn undo_columns<S: Pairs>(subgrid: &mut MutableSubgrid<'_, S>, scratc
     }
 }
 
+/// Copies a row into `turned`, whose lines have `rows` samples: sample `i` of the row is sample `j` of line `i`.
+#[inline(never)]
+#[tactic(auto, using(crate::proofs::Turned::turned_within))]
+fn turn_row<S: Copy>(row: &[S], turned: &mut [S], rows: usize, j: usize)
+    requires among { j < rows }
+    requires room { length row.now * rows ≤ length turned.old }
+    ensures len { length turned.new ≡ length turned.old }
+    ensures turned { (i : ℕ) → i < length row.now → slice_get turned.new (i * rows + j) ≡ slice_get row.now i }
+    ensures kept { (i k : ℕ) → k < j → slice_get turned.new (i * rows + k) ≡ slice_get turned.old (i * rows + k) }
+{
+    for i in 0..row.len() {
+        turned[i * rows + j] = row[i];
+    }
+}
+
+/// Copies `rows` rows, from row `y` on, into `turned`: line `i` has sample `i` of each.
+fn turn_rows<S: Copy>(subgrid: &MutableSubgrid<'_, S>, y: usize, rows: usize, turned: &mut [S])
+    requires rows_inside { y + rows ≤ subgrid.now.height }
+    requires room { subgrid.now.width * rows ≤ length turned.old }
+    ensures len { length turned.new ≡ length turned.old }
+    ensures turned { (i j : ℕ) → i < subgrid.now.width → j < rows → slice_get turned.new (i * rows + j)
+        ≡ cell (whole subgrid.now) (subgrid.now.x + i) (subgrid.now.y + (y + j)) }
+{
+    let width = subgrid.width();
+    for j in 0..rows {
+        turn_row(subgrid.cells(0, y + j, width), turned, rows, j);
+    }
+}
+
+/// Copies sample `j` of each line of `strip`, but for the first, into a row. The lines have `rows` samples.
+#[inline(never)]
+#[tactic(auto, using(crate::proofs::Turned::strip_within))]
+fn turn_back<S: Copy>(strip: &[S], rows: usize, j: usize, row: &mut [S])
+    requires among { j < rows }
+    requires room { (length row.old + 1) * rows ≤ length strip.now }
+    ensures len { length row.new ≡ length row.old }
+    ensures turned { (i : ℕ) → i < length row.old → slice_get row.new i
+        ≡ slice_get strip.now (i * rows + rows + j) }
+{
+    for i in 0..row.len() {
+        row[i] = strip[i * rows + rows + j];
+    }
+}
+
+/// Writes the lines of `strip`, but for the first, turned over `rows` rows from row `y` on. `row` is written over.
+fn write_turned<S: Copy>(
+    subgrid: &mut MutableSubgrid<'_, S>,
+    y: usize,
+    rows: usize,
+    strip: &[S],
+    row: &mut [S],
+)
+    requires rows_inside { y + rows ≤ subgrid.old.height }
+    requires room { (subgrid.old.width + 1) * rows ≤ length strip.now }
+    requires row { length row.old ≡ subgrid.old.width }
+    ensures len { length row.new ≡ length row.old }
+    ensures place { IsSamePlace subgrid.old subgrid.new }
+    ensures cells { IsSameOutside subgrid.old.x (subgrid.old.y + y) subgrid.old.width rows (whole subgrid.old)
+        (whole subgrid.new) }
+    ensures written { (j i : ℕ) → j < rows → i < subgrid.old.width → cell (whole subgrid.new)
+        (subgrid.old.x + i) (subgrid.old.y + y + j) ≡ slice_get strip.now (i * rows + rows + j) }
+{
+    for j in 0..rows {
+        turn_back(strip, rows, j, row);
+        subgrid.write_cells(0, y + j, row);
+    }
+}
+
+/// Undoes `rows` rows of the rectangle, from row `y` on, turned, in `scratch`.
+fn undo_turned<S: Pairs>(
+    subgrid: &mut MutableSubgrid<'_, S>,
+    y: usize,
+    rows: usize,
+    scratch: &mut [S],
+)
+    requires some_columns { 0 < subgrid.old.width }
+    requires some_rows { 0 < rows }
+    requires rows_inside { y + rows ≤ subgrid.old.height }
+    requires room { (subgrid.old.width + 1) * rows + (subgrid.old.width + 1) * rows ≤ length scratch.old }
+    ensures len { length scratch.new ≡ length scratch.old }
+    ensures place { IsSamePlace subgrid.old subgrid.new }
+    ensures cells { IsSameOutside subgrid.old.x (subgrid.old.y + y) subgrid.old.width rows (whole subgrid.old)
+        (whole subgrid.new) }
+    ensures undone { (j : ℕ) → j < rows → IsUnsqueezed S.width subgrid.old.width
+        (row_in S.to_int subgrid.old (whole subgrid.old) (y + j))
+        (row_in S.to_int subgrid.old (whole subgrid.new) (y + j)) }
+    ensures samples { (j : ℕ) → j < rows → AreSamples S.width subgrid.old.width
+        (row_in S.to_int subgrid.old (whole subgrid.old) (y + j)) }
+{
+    let width = subgrid.width();
+    let (turned, strip) = scratch.split_at_mut(width * rows);
+    turn_rows(subgrid, y, rows, turned);
+    unsqueeze_strip(turned, 0, rows, width, rows, strip);
+    write_turned(subgrid, y, rows, strip, &mut turned[..width]);
+}
+
+/// How many rows are undone at a time, if the scratch has room for them.
+pub(crate) const ROWS: usize = 32;
+
+/// How many rows of `width` samples are undone at a time, turned, in a scratch of `room` samples: all or none.
+fn turned_rows(width: usize, room: usize) -> usize
+    ensures { 0 < result → (width + 1) * 32 + (width + 1) * 32 ≤ room }
+{
+    if width < room / (2 * ROWS) { ROWS } else { 0 }
+}
+
+/// Undoes some rows from row `y` on: several, turned, if there are as many and the scratch has room for them, else one.
+/// Returns how many.
+fn undo_some_rows<S: Pairs>(
+    subgrid: &mut MutableSubgrid<'_, S>,
+    y: usize,
+    scratch: &mut [S],
+) -> usize
+    requires in_rows { y < subgrid.old.height }
+    requires some_columns { 0 < subgrid.old.width }
+    requires room { subgrid.old.width ≤ length scratch.old }
+    ensures some { 0 < result }
+    ensures inside { y + result ≤ subgrid.old.height }
+    ensures len { length scratch.new ≡ length scratch.old }
+    ensures place { IsSamePlace subgrid.old subgrid.new }
+    ensures cells { IsSameOutside subgrid.old.x (subgrid.old.y + y) subgrid.old.width result (whole subgrid.old)
+        (whole subgrid.new) }
+    ensures undone { (j : ℕ) → j < result → IsUnsqueezed S.width subgrid.old.width
+        (row_in S.to_int subgrid.old (whole subgrid.old) (y + j))
+        (row_in S.to_int subgrid.old (whole subgrid.new) (y + j)) }
+    ensures samples { (j : ℕ) → j < result → AreSamples S.width subgrid.old.width
+        (row_in S.to_int subgrid.old (whole subgrid.old) (y + j)) }
+{
+    let most = turned_rows(subgrid.width(), scratch.len());
+    let rows = most.min(subgrid.height() - y);
+    if rows < ROWS {
+        undo_row(subgrid, y, scratch);
+        return 1;
+    }
+    undo_turned(subgrid, y, ROWS, scratch);
+    ROWS
+}
+
+/// Undoes each row of the rectangle, with `scratch`, which has room for a row.
+pub(crate) fn undo_rows<S: Pairs>(subgrid: &mut MutableSubgrid<'_, S>, scratch: &mut [S])
+    requires room { subgrid.old.width ≤ length scratch.old }
+    ensures len { length scratch.new ≡ length scratch.old }
+    ensures kept { KeepsOutside subgrid.old subgrid.new }
+    ensures undone { squeezed_rows S.width (numbers_in S.to_int subgrid.new) ≡ numbers_in S.to_int subgrid.old }
+    ensures samples { AreGridSamples S.width (numbers_in S.to_int subgrid.new) }
+{
+    let (width, height) = (subgrid.width(), subgrid.height());
+    if width == 0 {
+        return;
+    }
+    let mut y = 0;
+    while y < height {
+        y += undo_some_rows(subgrid, y, scratch);
+    }
+}
+
+/// How many cells the scratch of rows has, for a rectangle of these sides.
+fn room_for_rows(width: usize, height: usize) -> Result<usize, OutOfMemory>
+    requires { 0 < height }
+    ensures { IfOk result (λ room. width ≤ room) }
+{
+    let rows = height.min(ROWS);
+    let line = width.checked_add(1).ok_or(OutOfMemory)?;
+    let one = line.checked_mul(2).ok_or(OutOfMemory)?;
+    one.checked_mul(rows).ok_or(OutOfMemory)
+}
+
 /// Undoes each row of the rectangle. `OutOfMemory` if no memory is given; a rectangle without cells does not ask for
 /// any.
 pub(crate) fn rows<S: Pairs>(
@@ -394,7 +579,8 @@ pub(crate) fn rows<S: Pairs>(
     if subgrid.is_empty() {
         return Ok(());
     }
-    let mut scratch = vec![in alloc; zero; subgrid.width()]?;
+    let room = room_for_rows(subgrid.width(), subgrid.height())?;
+    let mut scratch = vec![in alloc; zero; room]?;
     undo_rows(subgrid, &mut scratch);
     Ok(())
 }

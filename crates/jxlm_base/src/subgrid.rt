@@ -1,5 +1,5 @@
 //! Rectangles of grids.
-ghost use Rattle.std.specs.Prelude.{◌≡◌, ◌↔◌, ◌⊎◌, ◌+◌, ◌^◌, ◌<◌, ◌≤◌, IsTrue, Some, length, slice_range};
+ghost use Rattle.std.specs.Prelude.{◌≡◌, ◌↔◌, ◌⊎◌, ◌+◌, ◌*◌, ◌^◌, ◌<◌, ◌≤◌, IsTrue, Some, length, slice_range};
 ghost use Rattle.jxlm_base.specs.Grid.{Grid, IsFull, cell, row, written, with_row};
 
 use crate::grid::AlignedGrid;
@@ -32,6 +32,14 @@ pub struct MutableSubgrid<'a, S> {
     ghost rows_inside: { y + height ≤ grid.now.height },
     ghost columns_fit: { x + width < 2 ^ 64 },
     ghost rows_fit: { y + height < 2 ^ 64 },
+}
+
+/// Where column `x` of row `y` is among cells that stand row by row.
+fn place_in<S>(cells: &[S], stride: usize, x: usize, y: usize) -> usize
+    requires { y * stride + x ≤ length cells.now }
+    ensures { result ≡ y * stride + x }
+{
+    y * stride + x
 }
 
 impl<'a, S: Copy> MutableSubgrid<'a, S> {
@@ -95,6 +103,30 @@ impl<'a, S: Copy> MutableSubgrid<'a, S> {
     {
         let start = self.x + x;
         &self.grid.get_row(self.y + y)[start..start + count]
+    }
+
+    /// The cells of the whole grid, row by row.
+    pub(crate) fn whole_cells(&self) -> &[S]
+        ensures { result.now ≡ (whole self.now).cells }
+    {
+        self.grid.all_cells()
+    }
+
+    /// How many cells of the whole grid a row has.
+    pub(crate) fn stride(&self) -> usize
+        ensures { result ≡ (whole self.now).width }
+    {
+        self.grid.width()
+    }
+
+    /// Where column `x` of the first row is among the cells of the whole grid.
+    pub(crate) fn start(&self, x: usize) -> usize
+        requires columns { x ≤ self.now.width }
+        requires some_rows { 0 < self.now.height }
+        ensures { result ≡ self.now.y * (whole self.now).width + self.now.x + x }
+    {
+        let stride = self.grid.width();
+        place_in(self.grid.all_cells(), stride, self.x + x, self.y)
     }
 
     /// Writes `cells` into row `y` of the rectangle, from column `x` on; all of them lie inside.

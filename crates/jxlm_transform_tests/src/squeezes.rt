@@ -261,19 +261,58 @@ fn comes_back<S: Sample>(
 
 #[test]
 fn every_width_and_height(rt: HostRuntime) -> std::result::Result<(), Fail> {
-    for width in 0..21 {
-        for height in 0..21 {
+    for width in 0..41 {
+        for height in 0..41 {
             for across in [true, false] {
                 let kind = if width % 2 == 0 { 5 } else { 11 };
                 assert!(rt; comes_back::<i16>(rt.alloc(), across, (width, height), kind)?);
-                assert!(rt; comes_back::<i32>(rt.alloc(), across, (width, height), kind)?);
+                if width < 21 && height < 21 {
+                    assert!(rt; comes_back::<i32>(rt.alloc(), across, (width, height), kind)?);
+                }
             }
         }
     }
-    // more columns than are undone at a time
+    // more columns, or rows, than are undone at a time
     for across in [true, false] {
         assert!(rt; comes_back::<i16>(rt.alloc(), across, (300, 9), 2)?);
         assert!(rt; comes_back::<i32>(rt.alloc(), across, (270, 12), 3)?);
+        assert!(rt; comes_back::<i16>(rt.alloc(), across, (9, 71), 2)?);
+        assert!(rt; comes_back::<i32>(rt.alloc(), across, (12, 100), 3)?);
+    }
+    Ok(())
+}
+
+// Writes nine equal lines.
+fn write_lines<S: Sample>(across: bool, grid: &mut AlignedGrid<S>, samples: &[i32]) {
+    for line in 0..9 {
+        for (i, sample) in samples.iter().enumerate() {
+            let (x, y) = place(across, line, i);
+            set(grid, x, y, S::from_i32(*sample));
+        }
+    }
+}
+
+// Whether there are nine lines of these samples.
+fn are_lines<S: Sample>(across: bool, grid: &AlignedGrid<S>, samples: &[i32]) -> bool {
+    let mut same = true;
+    for line in 0..9 {
+        for (i, sample) in samples.iter().enumerate() {
+            let (x, y) = place(across, line, i);
+            same = same && get(grid, x, y) == i64::from(*sample);
+        }
+    }
+    same
+}
+
+#[test]
+fn nine_steep_lines(rt: HostRuntime) -> std::result::Result<(), Fail> {
+    for across in [true, false] {
+        let (width, height) = if across { (6, 9) } else { (9, 6) };
+        let mut grid = room::<i16>(rt.alloc(), width, height)?;
+        write_lines(across, &mut grid, &[12000, 0, -12000, 0, 0, 0]);
+        undo(rt.alloc(), across, &mut grid)?;
+        let samples = [12000, 11999, 3500, -3500, -12000, -12000];
+        assert!(rt; are_lines(across, &grid, &samples));
     }
     Ok(())
 }

@@ -47,3 +47,7 @@ module _ {S : Type 0} (f : S → ℤ) where
 
   abbrev pub column_in : MutableSubgrid S → Grid S → ℕ → ℕ → ℤ
   column_in s g x i = at (meanings f g) (s.x + x) (s.y + i)
+
+  -- sample j of line i, where line i begins at start and i times stride: column j, or row j where rows are turned
+  abbrev pub line_in : List S → ℕ → ℕ → ℕ → ℕ → ℤ
+  line_in cells start stride j i = number_at f cells (start + i * stride + j)

@@ -31,3 +31,11 @@ returns-in_err-scratch-clause-kept g c =
       place = record { loan = refl; at = record { left = refl; top = refl; columns = refl; rows = refl } };
       cells = outside_none s.x s.y s.width s.height (whole s) s.full;
     }
+
+pub returns-in_err-room-clause-kept : goal.returns-in_err-room-clause-kept
+returns-in_err-room-clause-kept g c =
+    let s = c.args.subgrid.now in
+    record {
+      place = record { loan = refl; at = record { left = refl; top = refl; columns = refl; rows = refl } };
+      cells = outside_none s.x s.y s.width s.height (whole s) s.full;
+    }

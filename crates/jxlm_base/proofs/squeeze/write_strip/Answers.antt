@@ -1,6 +1,7 @@
 use Rattle.std.proofs.Common.{◌≡◌, ℕ, ◌+◌, ◌*◌, ◌<◌, length, arith, ◌∙◌, refl, subst}
-use Rattle.std.specs.Prelude.{slice_range}
+use Rattle.std.specs.Prelude.{slice_get, slice_range}
 use Rattle.jxlm_base.specs.Subgrid.{whole, IsSameOutside}
+use Rattle.jxlm_base.proofs.NumberAt.{get-slice_range}
 use Rattle.jxlm_base.proofs.RowWrites.{line_within, length-slice_range, outside_none, lines_outside, lines_written}
 use Rattle.jxlm_base.proofs.squeeze.write_strip.Goals as goal
 
@@ -46,8 +47,8 @@ loop-i-preserved g c =
     record {
       until = until;
       place = record { loan = p.loan ∙ inv.place.loan; at = record { left = p.at.left ∙ at.left; top = p.at.top ∙ at.top; columns = p.at.columns ∙ at.columns; rows = p.at.rows ∙ at.rows } };
-      cells = lines_outside (whole s) (whole c.loop-i.subgrid) (whole c.write_cells.new.self) x s.y n h i strip (slice_range strip (i * n + n) (i * n + n + n)) (omega arith) rows below lv refl inv.cells written;
-      written = lines_written (whole s) (whole c.loop-i.subgrid) (whole c.write_cells.new.self) x s.y n h i strip (slice_range strip (i * n + n) (i * n + n + n)) (omega arith) rows below lv refl inv.cells written inv.written;
+      cells = lines_outside (whole s) (whole c.loop-i.subgrid) (whole c.write_cells.new.self) x s.y n h i (λ i j. slice_get strip (i * n + n + j)) (slice_range strip (i * n + n) (i * n + n + n)) (omega arith) rows below lv (λ j q. get-slice_range strip (i * n + n) (i * n + n + n) j (omega arith)) inv.cells written;
+      written = lines_written (whole s) (whole c.loop-i.subgrid) (whole c.write_cells.new.self) x s.y n h i (λ i j. slice_get strip (i * n + n + j)) (slice_range strip (i * n + n) (i * n + n + n)) (omega arith) rows below lv (λ j q. get-slice_range strip (i * n + n) (i * n + n + n) j (omega arith)) inv.cells written inv.written;
     }
 
 pub returns : goal.returns
