@@ -5,6 +5,7 @@ pub mod Ends
 pub mod KeptGrids
 pub mod LayoutLaws
 pub mod ListLaws
+pub mod Listings
 pub mod ListsApart
 pub mod OneImage
 pub mod PlacedSteps

@@ -35,7 +35,7 @@ impl From<Region> for TransformedGrid {
 
 impl TransformedGrid {
     ghost use Rattle.std.specs.Prelude.{◌≡◌, ◌≤◌, IfOk, length, take};
-    ghost use Rattle.jxlm_chain.specs.Grids.{leader_of, members_of};
+    ghost use Rattle.jxlm_chain.specs.Grids.{leader_of, listing_of, members_of};
 
     /// Where the channel lies.
     pub fn leader(&self) -> Region
@@ -70,6 +70,7 @@ impl TransformedGrid {
     pub fn try_clone(&self, alloc: Global) -> Result<TransformedGrid, OutOfMemory>
         ensures leader { IfOk result (λ g. leader_of g ≡ leader_of self.now) }
         ensures members { IfOk result (λ g. members_of g ≡ members_of self.now) }
+        ensures whole { IfOk result (λ g. listing_of g ≡ listing_of self.now) }
     {
         match self {
             TransformedGrid::Single(own) => Ok(TransformedGrid::Single(*own)),

@@ -21,7 +21,7 @@ use std::alloc::Global;
 pub struct Scratch<S> {
     /// Rows of three channels.
     pub(crate) rows: RctScratch<S>,
-    /// A row, or several columns.
+    /// Several rows twice, or several columns.
     pub(crate) line: Vec<S>,
     /// The predictions of palettes without weights.
     pub(crate) plain: PredictorState<S>,
@@ -64,18 +64,21 @@ const NO_REGION: Region = Region {
     height: 0,
 };
 
+/// The squeezed rows that are undone at a time.
+const ROWS: usize = 32;
+
 /// The squeezed columns that are undone at a time.
 const COLUMNS: usize = 256;
 
-/// The samples of the line in which a squeeze of the region is undone: a row, or several columns with a sample more
-/// each.
+/// The samples of the line in which a squeeze of the region is undone: several rows twice, or several columns, with a
+/// sample more each.
 fn line_for(horizontal: bool, region: &Region) -> usize
     requires { IsNarrow region.now }
     ensures { max region.now.width (region.now.height + 1) ≤ result }
 {
     let one = region.width.max(region.height + 1);
     if horizontal {
-        return one;
+        return one.max(2 * (region.width + 1) * region.height.min(ROWS));
     }
     one.max((region.height + 1) * region.width.min(COLUMNS))
 }
