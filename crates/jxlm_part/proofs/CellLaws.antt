@@ -18,7 +18,7 @@ use Rattle.jxlm_base.proofs.Regions.{IsFull-grid_of}
 use Rattle.jxlm_base.proofs.Cells.{slice_get-set_same}
 use Rattle.jxlm_tree.specs.FlatTree.{ClustersStandIn, FlatTree, earlier_named}
 use Rattle.jxlm_tree.specs.Neighbours.{row as line}
-use Rattle.jxlm_tree.specs.Standing.{HasSameRoom, HoldsRow, IsReady, Setting, StandsAt}
+use Rattle.jxlm_tree.specs.Standing.{HasSameRoom, HoldsRow, IsInner, IsReady, Setting, StandsAt}
 use Rattle.jxlm_tree.specs.Tree.{depth}
 use Rattle.jxlm_tree.specs.declared.flat.Leaf.{Leaf}
 use Rattle.jxlm_tree.specs.declared.state.PredictorState.{PredictorState}
@@ -29,7 +29,7 @@ use Rattle.jxlm_part.specs.Inner.Cells.{ReadsNext, FailsNext, leaf_at, predicted
 use Rattle.jxlm_part.specs.Inner.Channels.{StandsAfter, handed, region_at, setting_of}
 use Rattle.jxlm_part.specs.Progress.{grids_in}
 use Rattle.jxlm_part.specs.Inner.Progress.{preceding_cells}
-use Rattle.jxlm_part.specs.Inner.Rows.{FailsCell, FailsRow, ReadsCell, ReadsCells, StandsInRow, row_rule}
+use Rattle.jxlm_part.specs.Inner.Rows.{FailsCell, FailsRow, IsAway, ReadsCell, ReadsCells, StandsInRow, row_rule}
 use Rattle.jxlm_part.specs.Inner.Source.{Source}
 use Rattle.jxlm_part.specs.Rule.{Rule, CodedPrefix}
 use Rattle.jxlm_part.specs.declared.coding.PartCoding.{PartCoding}
@@ -42,6 +42,10 @@ use Rattle.jxlm_part.proofs.RowSees.{sees_regions}
 -- what is known of a state is known of the same
 pub stands_so : {X : Type 0} (s : Setting) (samples : List ℤ) (a b : PredictorState X) → b ≡ a → StandsAt a s samples → StandsAt b s samples
 stands_so s samples a b same h = subst (λ p. StandsAt p s samples) (sym same) h
+
+-- and so is its room
+pub room_so : {X : Type 0} (old a b : PredictorState X) → b ≡ a → HasSameRoom old a → HasSameRoom old b
+room_so old a b same h = subst (HasSameRoom old) (sym same) h
 
 -- what holds of all earlier channels holds of those that are given to the state
 all_handed : {X : Type 0} (n : ℕ) (P : X → Type 0) (xs : List X) → All P xs → All P (handed n xs)
@@ -97,15 +101,29 @@ module _ {D : Type 0} (c : PartCoding D) (coding : IsCodingOf c) (i : ℕ) (li :
     row_long : length so_far ≡ x
     row_long = length-take-le x row (omega (arith, long, px))
 
-    line_is : line own reg.width ≡ y
-    line_is =
+    own_long : length own ≡ y * reg.width + x
+    own_long =
         let full = IsFull-grid_of ints reg in
         let n = mul-add-lt y reg.width x reg.height qy px in
         let k : y * reg.width ≤ length cells = omega (arith, full, n) in
         let a = length-take-le (y * reg.width) cells k in
         let b = length-append (take (y * reg.width) cells) so_far in
-        let m : length own ≡ y * reg.width + x = b ∙ ap (λ j. j + length so_far) a ∙ ap (λ j. y * reg.width + j) row_long in
-        ap (λ j. j / reg.width) m ∙ div-mul-add y reg.width x px
+        b ∙ ap (λ j. j + length so_far) a ∙ ap (λ j. y * reg.width + j) row_long
+
+    line_is : line own reg.width ≡ y
+    line_is = ap (λ j. j / reg.width) own_long ∙ div-mul-add y reg.width x px
+
+    -- the state is as far from the edges as the cell
+    pub is_inner : (state : PredictorState X) → StandsInRow c to_int store i y so_far state → IsAway x y reg.width → IsInner state
+    is_inner state stands away =
+        let place : y * reg.width + x ≡ state.y * reg.width + state.x = sym own_long ∙ stands.rolls.place in
+        let row_is : state.y ≡ y = sym (div-mul-add state.y reg.width state.x stands.rolls.in_row) ∙ ap (λ n. n / reg.width) (sym place) ∙ div-mul-add y reg.width x px in
+        let column_is : state.x ≡ x = let rows = ap (λ n. n * reg.width) row_is in omega (arith, place, rows) in
+        record {
+          rows_above = subst (λ n. 2 ≤ n) (sym row_is) away.rows_above;
+          columns_left = subst (λ n. 2 ≤ n) (sym column_is) away.columns_left;
+          columns_right = let wide : state.width ≡ reg.width = stands.same_width in let right = away.columns_right in omega (arith, wide, column_is, right);
+        }
 
     -- the state can give the properties of the cell
     pub is_ready : (state : PredictorState X) → StandsInRow c to_int store i y so_far state → IsReady state store
@@ -195,6 +213,10 @@ pub begins_row : {D X : Type 0} (c : PartCoding D) (i : ℕ) (to_int : X → ℤ
 begins_row c i to_int store y state h = subst (StandsAt state (setting_of c i)) (sym (append-nil _)) h
 
 -- ---- cells of a row, one after another
+
+-- before the first cell none was read
+pub none_read : {S : Type 0} (d : Meaning S) (r : Rule S) (row : List ℤ) (start : Source S) → ReadsCells d r row 0 start start
+none_read d r row start = record { reads = (refl, refl); clusters = refl; bytes = refl }
 
 module _ {S : Type 0} (d : Meaning S) (rule : Rule S) (start : Source S) (row : List ℤ) (x : ℕ) (old : Source S) (inside : x < length row) (before : ReadsCells d rule row x start old) where
   pub cell_more : (new : Source S) (now : List ℤ) → ReadsCell d rule row x old new now → ReadsCells d rule now (x + 1) start new

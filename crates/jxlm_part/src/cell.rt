@@ -1,6 +1,6 @@
 //! One cell of a part, and how it is read.
 
-ghost use Rattle.std.specs.Prelude.{◌≡◌, pos, ◌+ℤ◌, ◌*ℤ◌, ◌+◌, ◌^◌, ◌<◌, ◌≤◌, IfOk, OnOk, IfErr, ◌≢◌, length, map, take};
+ghost use Rattle.std.specs.Prelude.{◌≡◌, pos, ◌+ℤ◌, ◌*ℤ◌, ◌+◌, ◌^◌, ◌<◌, ◌≤◌, IfOk, OnOk, IfErr, ◌≢◌, false, length, map, take};
 ghost use Rattle.std.specs.Int.{int_wrap};
 ghost use Rattle.jxlm_base.specs.Bits.{bytes_of};
 ghost use Rattle.jxlm_base.specs.Numbers.{unpack};
@@ -9,7 +9,7 @@ ghost use Rattle.jxlm_tree.specs.Holding.{IsCurrent};
 ghost use Rattle.jxlm_tree.specs.Tree.{depth};
 ghost use Rattle.jxlm_part.specs.Inner.Cells.{FailsSample, ReadsSample};
 ghost use Rattle.jxlm_part.specs.Inner.Channels.{region_at};
-ghost use Rattle.jxlm_part.specs.Inner.Rows.{FailsCell, IsDecoding, ReadsCell, StandsInRow, rule_in};
+ghost use Rattle.jxlm_part.specs.Inner.Rows.{FailsCell, IsAway, IsDecoding, ReadsCell, StandsInRow, rule_in};
 ghost use Rattle.jxlm_part.specs.Inner.Source.{source};
 ghost use Rattle.jxlm_part.specs.Reading.{HasRoom, cost_of, regions_of};
 
@@ -32,6 +32,7 @@ fn sample_from<S: Sample>(token: u32, leaf: Leaf, predicted: i32) -> S
 }
 
 /// Reads the sample of the cell of these properties: at the leaf to which the tree leads, over that leaf's prediction.
+#[inline(always)]
 fn next_sample<S: Sample, D: Decoder>(
     bits: &mut Bitstream<'_>,
     decoder: &mut D,
@@ -59,8 +60,9 @@ fn next_sample<S: Sample, D: Decoder>(
 }
 
 /// Reads the cell in column `x` of row `y` of channel `i` into `row`; the state must be at this cell, and is at the
-/// next one afterwards.
-pub(crate) fn decode_cell<S: Sample, D: Decoder>(
+/// next one afterwards. Without `EDGE` the cell is two or more columns and rows away from every edge but the last row.
+#[inline(always)]
+pub(crate) fn decode_cell<S: Sample, D: Decoder, const EDGE: bool>(
     bits: &mut Bitstream<'_>,
     decoder: &mut D,
     state: &mut PredictorState<S>,
@@ -75,6 +77,7 @@ pub(crate) fn decode_cell<S: Sample, D: Decoder>(
     requires here { IsDecoding coding.now i store.now (D.meaning.cluster_map decoder.old) }
     requires column { x < (region_at (regions_of coding.now) i).width }
     requires in_rows { y < (region_at (regions_of coding.now) i).height }
+    requires inner { EDGE ≡ false → IsAway x y (region_at (regions_of coding.now) i).width }
     requires long { length row.old ≡ (region_at (regions_of coding.now) i).width }
     requires stands { StandsInRow coding.now S.to_int store.now i y (take x (map S.to_int row.old)) state.old }
     requires roomy { HasRoom coding.now state.old }
@@ -90,7 +93,7 @@ pub(crate) fn decode_cell<S: Sample, D: Decoder>(
     ensures cost { steps.new ≤ steps.old + cost_of coding.now }
     ensures more { steps.old ≤ steps.new }
 {
-    let properties = state.properties::<true>(store);
+    let properties = state.properties::<EDGE>(store);
     let flat = &coding.flats[i];
     let sample = next_sample(bits, decoder, steps, &properties, flat, coding.widest)?;
     properties.record(sample.to_i32());

@@ -67,6 +67,7 @@ impl Around {
     }
 
     /// What a predictor makes of the neighbours. `corrected` is the weighted prediction times 8.
+    #[inline(always)]
     pub(crate) fn prediction(&self, corrected: i64, predictor: Predictor) -> i64
         requires { unsigned_abs corrected < 2 ^ 62 }
         ensures { result ≡ prediction_from (seen self.now) corrected predictor }

@@ -137,6 +137,7 @@ impl FlatMaTree {
     /// Property 0 is the channel and 1 the stream, both read as signed numbers of 32 bits; those of
     /// earlier channels that are not there are 0. Each node that is looked at, the leaf among them, is a
     /// step: at most as many as the tree's depth and one more.
+    #[inline(always)]
     pub fn leaf<P: PlaceProperties>(&self, properties: &P, steps: &mut Steps) -> &Leaf
         requires { P.IsCurrent properties.now }
         ensures leaf { (f : ℕ → ℤ) → PropertiesAre P.gives properties.now f → result.now ≡ leaf_reached self.now f }

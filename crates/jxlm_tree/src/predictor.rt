@@ -87,6 +87,7 @@ impl TryFrom<u32> for Predictor {
 
 impl Predictor {
     /// What the predictor makes of the cell of these properties, reduced to 32 bits.
+    #[inline(always)]
     pub fn predict<S>(self, properties: &Properties<'_, S>) -> i32
         requires { IsCurrent properties.now }
         ensures { IsOfPlace properties.now (λ weights samples width. prediction weights samples width self) result }

@@ -288,6 +288,7 @@ impl SubPredictions {
     ghost use Rattle.jxlm_tree.specs.Correcting.{counted, predicted_by};
     ghost use Rattle.jxlm_tree.specs.Inner.CorrectingSteps.{near_of};
 
+    #[inline(always)]
     fn of_place(header: &WpHeader, around: &Around, errors: &ErrorsAround) -> SubPredictions
         requires { IsHeader header.now }
         ensures { predicted_by result ≡ sub_predictions header.now (seen around.now) (near_of errors.now) }
@@ -367,6 +368,7 @@ impl PredictionResult {
         }
     }
 
+    #[inline(always)]
     fn of_place(header: &WpHeader, around: &Around, errors: &ErrorsAround) -> PredictionResult
         requires { IsHeader header.now }
         ensures prediction { result.prediction ≡ predicted header.now (seen around.now) (near_of errors.now) }

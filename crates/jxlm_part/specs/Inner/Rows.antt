@@ -1,5 +1,5 @@
 -- Rows of cells that are read one after another.
-use Rattle.std.specs.Prelude.{◌≡◌, ◌≢◌, ℕ, ◌*◌, ◌<◌, ℤ, List, ◌++◌, length, take, slice_set, Option, None, Some, Result, Ok, Err}
+use Rattle.std.specs.Prelude.{◌≡◌, ◌≢◌, ℕ, ◌+◌, ◌*◌, ◌<◌, ◌≤◌, ℤ, List, ◌++◌, length, take, slice_set, Option, None, Some, Result, Ok, Err}
 use Rattle.std.specs.Int.{Width}
 use Rattle.jxlm_base.specs.Bits.{bytes_of, position_of}
 use Rattle.jxlm_base.specs.Decoding.{Meaning}
@@ -101,6 +101,16 @@ pub record IsDecoding {D X : Type 0} (c : PartCoding D) (i : ℕ) (store : List 
     pub channel : i < length (regions_of c)
     pub columns : 0 < (region_at (regions_of c) i).width
 
+-- the cell in column x of row y is two or more columns and rows away from every edge but the last row
+pub record IsAway (x y width : ℕ) : Type 0 where
+  pub rows_above : 2 ≤ y
+  pub columns_left : 2 ≤ x
+  pub columns_right : x + 2 < width
+
+-- so is each cell of row y from one column to before another
+abbrev pub AreAway : ℕ → ℕ → ℕ → ℕ → Type 0
+AreAway from to y width = (x : ℕ) → from ≤ x → x < to → IsAway x y width
+
 -- how the cells of row y of channel i are read
 abbrev pub row_rule : {S : Type 0} → Meaning S → Width → Part → List ℕ → List Region → List (Grid ℤ) → ℕ → ℕ → Rule S
 row_rule d w part bytes regions ints i y =
@@ -110,6 +120,19 @@ module _ {D X : Type 0} (c : PartCoding D) (to_int : X → ℤ) (store : List (G
   -- the same, in a store
   abbrev pub rule_in : Meaning D → Width → List ℕ → Rule D
   rule_in d w bytes = row_rule d w (part_of c) bytes (regions_of c) (store_meanings to_int store) i y
+
+  -- Cells of row y from one column to before another were read: wherever those before the first one were read from, all
+  -- before the other one were read from there then.
+  abbrev pub ReadsOn : Meaning D → Width → ℕ → ℕ → List ℤ → List ℤ → Source D → Source D → Type 0
+  ReadsOn d w from to row now old new = (start : Source D) →
+      ReadsCells d (rule_in d w (bytes_of start.bits)) row from start old →
+      ReadsCells d (rule_in d w (bytes_of start.bits)) now to start new
+
+  -- the same, up to a cell whose read returned an error
+  abbrev pub FailsOn : Meaning D → Width → ℕ → List ℤ → List ℤ → Source D → Source D → RowError → Type 0
+  FailsOn d w from row now old new r = (start : Source D) →
+      ReadsCells d (rule_in d w (bytes_of start.bits)) row from start old →
+      FailsRow (rule_in d w (bytes_of start.bits)) now start new r
 
   -- the state is at the cell after the rows above row y of channel i and these cells of that row
   abbrev pub StandsInRow : List ℤ → PredictorState X → Type 0

@@ -6,13 +6,18 @@ use Rattle.jxlm_base.specs.Regions.{grid_of, store_meanings}
 use Rattle.jxlm_part.specs.Inner.Source.{source}
 use Rattle.jxlm_part.specs.Reading.{regions_of}
 use Rattle.jxlm_part.specs.Inner.Channels.{region_at, setting_of}
-use Rattle.jxlm_part.proofs.CellLaws.{clusters_at, cost_at, is_ready, reads_cell, fails_cell, stands_further, stands_so}
+use Rattle.jxlm_part.proofs.CellLaws.{clusters_at, cost_at, is_inner, is_ready, reads_cell, fails_cell, room_so, roomy_still, stands_further, stands_so}
 use Rattle.jxlm_part.proofs.cell.decode_cell.Goals as goal
 
 pub properties-properties-requires-clause-ready : goal.properties-properties-requires-clause-ready
 properties-properties-requires-clause-ready g c =
     is_ready c.args.coding.now c.requires.here.part.coding c.args.i c.requires.here.channel g.S.Sealed.to_int c.args.store.now (map g.S.Sealed.to_int c.args.row.now) c.args.x c.args.y c.requires.here.part.lie c.requires.column c.requires.in_rows
     (length-map c.args.row.now g.S.Sealed.to_int ∙ c.requires.long) c.args.state.now c.requires.stands
+
+pub properties-properties-requires-clause-inner : goal.properties-properties-requires-clause-inner
+properties-properties-requires-clause-inner g c inside =
+    is_inner c.args.coding.now c.requires.here.part.coding c.args.i c.requires.here.channel g.S.Sealed.to_int c.args.store.now (map g.S.Sealed.to_int c.args.row.now) c.args.x c.args.y c.requires.here.part.lie c.requires.column c.requires.in_rows
+    (length-map c.args.row.now g.S.Sealed.to_int ∙ c.requires.long) c.args.state.now c.requires.stands (c.requires.inner inside)
 
 pub next_sample-requires-clause-clusters : goal.next_sample-requires-clause-clusters
 next_sample-requires-clause-clusters g c κs within = clusters_at c.args.coding.now c.requires.here.part.coding c.args.i c.requires.here.channel _ _ c.requires.here.part.clusters_found
@@ -61,3 +66,11 @@ returns-clause-stands g c =
     stands_further c.args.coding.now c.requires.here.part.coding c.args.i c.requires.here.channel to_int c.args.store.now (map to_int c.args.row.now) c.args.x c.args.y c.requires.here.part.lie c.requires.column c.requires.in_rows
     (length-map c.args.row.now to_int ∙ c.requires.long)
     (to_int c.in_ok-sample.sample) _ _ (map-set to_int c.args.row.now c.args.x c.in_ok-sample.sample) (stands_so _ _ _ _ (search rules) after_it)
+
+pub returns-clause-roomy : goal.returns-clause-roomy
+returns-clause-roomy g c =
+    let same = rw c.properties-properties.ensures.unchanged at c.record.ensures.room in
+    roomy_still c.args.coding.now c.requires.here.part.coding c.args.i c.requires.here.channel c.args.state.now _ (room_so c.args.state.now _ _ (search rules) same) c.requires.roomy
+
+pub returns-clause-cost : goal.returns-clause-cost
+returns-clause-cost g c = cost_at c.args.coding.now c.requires.here.part.coding c.args.i c.requires.here.channel _ _ _ c.in_ok-sample.ensures.cost

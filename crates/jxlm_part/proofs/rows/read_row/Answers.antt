@@ -1,87 +1,91 @@
-use Rattle.std.proofs.Common.{rules, ◌≡◌, ◌<◌, map, length, arith, refl, subst}
+use Rattle.std.proofs.Common.{◌≡◌, ◌*◌, ◌≤◌, map, length, arith, ap, subst, ◌∙◌}
 use Rattle.std.proofs.lemmas.List.{length-map, take_all}
+use Rattle.std.proofs.lemmas.Result.{err_from_is_err_and}
 use Rattle.jxlm_base.specs.Bits.{bytes_of}
-use Rattle.jxlm_part.specs.Inner.Channels.{region_at}
-use Rattle.jxlm_part.specs.Inner.Rows.{FailsCell, ReadsCell, ReadsCells, StandsInRow, rule_in}
+use Rattle.jxlm_part.specs.Inner.Rows.{IsAway, ReadsCells, StandsInRow, rule_in}
 use Rattle.jxlm_part.specs.Inner.Source.{source}
-use Rattle.jxlm_part.specs.Reading.{regions_of}
-use Rattle.jxlm_part.proofs.CellLaws.{cell_more, cell_fails}
+use Rattle.jxlm_part.specs.Reading.{cost_of}
+use Rattle.jxlm_part.proofs.CellLaws.{none_read}
 use Rattle.jxlm_part.proofs.rows.read_row.Goals as goal
 
-pub decode_cell-requires-clause-here : goal.decode_cell-requires-clause-here
-decode_cell-requires-clause-here g c κs within = rw c.loop-x.invariant.reads.clusters c.requires.here
+pub returns-in_err-read_cells-clause-err : goal.returns-in_err-read_cells-clause-err
+returns-in_err-read_cells-clause-err g c =
+    let p = err_from_is_err_and c.from_residual.result c.from_residual.ensures.1 in
+    rw (p.1, p.2) (c.in_err-read_cells.ensures.err (source c.args.decoder.now c.args.bits.now)
+    (none_read g.D.Decoder.meaning (rule_in c.args.coding.now g.S.Sealed.to_int c.args.store.now c.args.i c.args.y g.D.Decoder.meaning g.S.Sealed.width (bytes_of c.args.bits.now)) (map g.S.Sealed.to_int c.args.row.now) (source c.args.decoder.now c.args.bits.now)))
 
-pub loop-x-init : goal.loop-x-init
-loop-x-init g c = record {
-  len = refl;
-  reads = record { reads = (refl, refl); clusters = refl; bytes = refl };
-  stands = c.requires.stands;
-  roomy = c.requires.roomy;
-  work = omega arith;
-  more = omega arith;
-}
+pub returns-in_err-read_cells-clause-cost_so_far : goal.returns-in_err-read_cells-clause-cost_so_far
+returns-in_err-read_cells-clause-cost_so_far g c =
+    let p = err_from_is_err_and c.from_residual.result c.from_residual.ensures.1 in
+    let here = c.in_err-read_cells.ensures.cost_so_far in
+    rw (p.1, p.2) (omega (arith, here))
 
-pub loop-x-preserved : goal.loop-x-preserved
-loop-x-preserved g c =
-    let d = g.D.Decoder.meaning in
-    let to_int = g.S.Sealed.to_int in
-    let row = c.loop-x.row in
-    let x = c.loop-x.x in
-    let same = c.loop-x.invariant.len in
-    let inside : x < length (map to_int row) = let m = length-map row to_int in omega (arith, m, same, c.loop-x-test.true) in
-    let rule = rule_in c.args.coding.now to_int c.args.store.now c.args.i c.args.y d g.S.Sealed.width in
-    let old = source c.loop-x.decoder c.loop-x.bits in
-    let new = source c.decode_cell.new.decoder c.decode_cell.new.bits in
-    let now = map to_int c.decode_cell.new.row in
-    let read = subst (λ bytes. ReadsCell d (rule bytes) (map to_int row) x old new now) c.loop-x.invariant.reads.bytes c.in-Ok.ensures.ok in
-    let before = c.loop-x.invariant.work in
-    let more = c.loop-x.invariant.more in
-    record {
-      len = search rules;
-      reads = cell_more d (rule (bytes_of c.args.bits.now)) (source c.args.decoder.now c.args.bits.now) (map to_int row) x old inside c.loop-x.invariant.reads new now read;
-      stands = c.in-Ok.ensures.stands;
-      roomy = c.in-Ok.ensures.roomy;
-      work = omega (arith, before, c.in-Ok.ensures.cost);
-      more = omega (arith, more, c.in-Ok.ensures.more);
-    }
+pub read_cells-requires-2-clause-here : goal.read_cells-requires-2-clause-here
+read_cells-requires-2-clause-here g c κs within = rw c.in_ok-read_cells.ensures.clusters c.requires.here
 
-pub returns-in-Err-clause-err : goal.returns-in-Err-clause-err
-returns-in-Err-clause-err g c =
-    let d = g.D.Decoder.meaning in
-    let to_int = g.S.Sealed.to_int in
-    let row = c.loop-x.row in
-    let x = c.loop-x.x in
-    let same = c.loop-x.invariant.len in
-    let inside : x < length (map to_int row) = let m = length-map row to_int in omega (arith, m, same, c.loop-x-test.true) in
-    let rule = rule_in c.args.coding.now to_int c.args.store.now c.args.i c.args.y d g.S.Sealed.width in
-    let old = source c.loop-x.decoder c.loop-x.bits in
-    let new = source c.decode_cell.new.decoder c.decode_cell.new.bits in
-    let now = map to_int c.decode_cell.new.row in
-    let refuses = subst (λ bytes. FailsCell (rule bytes) (map to_int row) x old new now c.in-Err.error) c.loop-x.invariant.reads.bytes c.in-Err.ensures.err in
-    cell_fails d (rule (bytes_of c.args.bits.now)) (source c.args.decoder.now c.args.bits.now) (map to_int row) x old inside c.loop-x.invariant.reads new now c.in-Err.error refuses
+pub read_cells-requires-2-clause-stands : goal.read_cells-requires-2-clause-stands
+read_cells-requires-2-clause-stands g c κs within = c.in_ok-read_cells.ensures.stands
 
-pub returns-in-Err-clause-cost_so_far : goal.returns-in-Err-clause-cost_so_far
-returns-in-Err-clause-cost_so_far g c = let before = c.loop-x.invariant.work in omega (arith, before, c.in-Err.ensures.cost)
+pub read_cells-requires-2-clause-roomy : goal.read_cells-requires-2-clause-roomy
+read_cells-requires-2-clause-roomy g c κs within = c.in_ok-read_cells.ensures.roomy
+
+pub read_cells-requires-2-clause-inner : goal.read_cells-requires-2-clause-inner
+read_cells-requires-2-clause-inner g c κs within inside x after before = subst (λ n. IsAway x c.args.y n) c.requires.long (c.inner_columns-from.ensures.inner x after before)
+
+pub returns-in_err-read_cells-2-clause-err : goal.returns-in_err-read_cells-2-clause-err
+returns-in_err-read_cells-2-clause-err g c =
+    let p = err_from_is_err_and c.from_residual-in_err-read_cells-2.result c.from_residual-in_err-read_cells-2.ensures.1 in
+    rw (p.1, p.2) (c.in_err-read_cells-2.ensures.err (source c.args.decoder.now c.args.bits.now)
+    (c.in_ok-read_cells.ensures.ok (source c.args.decoder.now c.args.bits.now) (none_read g.D.Decoder.meaning (rule_in c.args.coding.now g.S.Sealed.to_int c.args.store.now c.args.i c.args.y g.D.Decoder.meaning g.S.Sealed.width (bytes_of c.args.bits.now)) (map g.S.Sealed.to_int c.args.row.now) (source c.args.decoder.now c.args.bits.now))))
+
+pub returns-in_err-read_cells-2-clause-cost_so_far : goal.returns-in_err-read_cells-2-clause-cost_so_far
+returns-in_err-read_cells-2-clause-cost_so_far g c =
+    let p = err_from_is_err_and c.from_residual-in_err-read_cells-2.result c.from_residual-in_err-read_cells-2.ensures.1 in
+    let here = c.in_err-read_cells-2.ensures.cost_so_far in
+    rw (p.1, p.2) (omega (arith, here, c.in_ok-read_cells.ensures.cost))
+
+pub read_cells-requires-3-clause-here : goal.read_cells-requires-3-clause-here
+read_cells-requires-3-clause-here g c κs within = rw (c.in_ok-read_cells-2.ensures.clusters ∙ c.in_ok-read_cells.ensures.clusters) c.requires.here
+
+pub read_cells-requires-3-clause-stands : goal.read_cells-requires-3-clause-stands
+read_cells-requires-3-clause-stands g c κs within = c.in_ok-read_cells-2.ensures.stands
+
+pub read_cells-requires-3-clause-roomy : goal.read_cells-requires-3-clause-roomy
+read_cells-requires-3-clause-roomy g c κs within = c.in_ok-read_cells-2.ensures.roomy
+
+pub returns-in_err-read_cells-3-clause-err : goal.returns-in_err-read_cells-3-clause-err
+returns-in_err-read_cells-3-clause-err g c =
+    let p = err_from_is_err_and c.from_residual-in_err-read_cells-3.result c.from_residual-in_err-read_cells-3.ensures.1 in
+    rw (p.1, p.2) (c.in_err-read_cells-3.ensures.err (source c.args.decoder.now c.args.bits.now)
+    (c.in_ok-read_cells-2.ensures.ok (source c.args.decoder.now c.args.bits.now) (c.in_ok-read_cells.ensures.ok (source c.args.decoder.now c.args.bits.now) (none_read g.D.Decoder.meaning (rule_in c.args.coding.now g.S.Sealed.to_int c.args.store.now c.args.i c.args.y g.D.Decoder.meaning g.S.Sealed.width (bytes_of c.args.bits.now)) (map g.S.Sealed.to_int c.args.row.now) (source c.args.decoder.now c.args.bits.now)))))
+
+pub returns-in_err-read_cells-3-clause-cost_so_far : goal.returns-in_err-read_cells-3-clause-cost_so_far
+returns-in_err-read_cells-3-clause-cost_so_far g c =
+    let p = err_from_is_err_and c.from_residual-in_err-read_cells-3.result c.from_residual-in_err-read_cells-3.ensures.1 in
+    let here = c.in_err-read_cells-3.ensures.cost_so_far in
+    rw (p.1, p.2) (omega (arith, here, c.in_ok-read_cells.ensures.cost, c.in_ok-read_cells-2.ensures.cost))
 
 pub returns-clause-ok : goal.returns-clause-ok
 returns-clause-ok g c =
     let to_int = g.S.Sealed.to_int in
-    let all : c.loop-x.x ≡ length (map to_int c.loop-x.row) =
-    let end = c.loop-x.auto.x-end in let same = c.loop-x.invariant.len in let m = length-map c.loop-x.row to_int in omega (arith, end, same, m, c.loop-x-test.false) in
+    let whole : length c.args.row.now ≡ length (map to_int c.read_cells-3.new.row) =
+    let m = length-map c.read_cells-3.new.row to_int in let a = c.read_cells.auto.row in let b = c.read_cells-2.auto.row in let e = c.read_cells-3.auto.row in omega (arith, m, a, b, e) in
     subst (λ n. ReadsCells g.D.Decoder.meaning (rule_in c.args.coding.now to_int c.args.store.now c.args.i c.args.y g.D.Decoder.meaning g.S.Sealed.width (bytes_of c.args.bits.now))
-    (map to_int c.loop-x.row) n (source c.args.decoder.now c.args.bits.now) (source c.loop-x.decoder c.loop-x.bits)) all c.loop-x.invariant.reads
+    (map to_int c.read_cells-3.new.row) n (source c.args.decoder.now c.args.bits.now) (source c.read_cells-3.new.decoder c.read_cells-3.new.bits)) whole
+    (c.in_ok-read_cells-3.ensures.ok (source c.args.decoder.now c.args.bits.now)
+    (c.in_ok-read_cells-2.ensures.ok (source c.args.decoder.now c.args.bits.now) (c.in_ok-read_cells.ensures.ok (source c.args.decoder.now c.args.bits.now) (none_read g.D.Decoder.meaning (rule_in c.args.coding.now g.S.Sealed.to_int c.args.store.now c.args.i c.args.y g.D.Decoder.meaning g.S.Sealed.width (bytes_of c.args.bits.now)) (map g.S.Sealed.to_int c.args.row.now) (source c.args.decoder.now c.args.bits.now)))))
 
 pub returns-clause-stands : goal.returns-clause-stands
 returns-clause-stands g c =
-    let to_int = g.S.Sealed.to_int in
-    let R = map to_int c.loop-x.row in
-    let all : c.loop-x.x ≡ length R =
-    let end = c.loop-x.auto.x-end in let same = c.loop-x.invariant.len in let m = length-map c.loop-x.row to_int in omega (arith, end, same, m, c.loop-x-test.false) in
-    subst (λ r. StandsInRow c.args.coding.now to_int c.args.store.now c.args.i c.args.y r c.loop-x.state) (take_all c.loop-x.x R (omega (arith, all))) c.loop-x.invariant.stands
+    let row = map g.S.Sealed.to_int c.read_cells-3.new.row in
+    let whole : length row ≤ length c.args.row.now =
+    let m = length-map c.read_cells-3.new.row g.S.Sealed.to_int in let a = c.read_cells.auto.row in let b = c.read_cells-2.auto.row in let e = c.read_cells-3.auto.row in omega (arith, m, a, b, e) in
+    subst (λ r. StandsInRow c.args.coding.now g.S.Sealed.to_int c.args.store.now c.args.i c.args.y r c.read_cells-3.new.state) (take_all (length c.args.row.now) row whole) c.in_ok-read_cells-3.ensures.stands
+
+pub returns-clause-roomy : goal.returns-clause-roomy
+returns-clause-roomy g c = c.in_ok-read_cells-3.ensures.roomy
 
 pub returns-clause-cost : goal.returns-clause-cost
 returns-clause-cost g c =
-    let width = (region_at (regions_of c.args.coding.now) c.args.i).width in
-    let all : c.loop-x.x ≡ width =
-    let end = c.loop-x.auto.x-end in let same = c.loop-x.invariant.len in omega (arith, end, same, c.requires.long, c.loop-x-test.false) in
-    rw (← all) c.loop-x.invariant.work
+    let whole = ap (λ n. n * cost_of c.args.coding.now) c.requires.long in
+    omega (arith, whole, c.in_ok-read_cells.ensures.cost, c.in_ok-read_cells-2.ensures.cost, c.in_ok-read_cells-3.ensures.cost)
