@@ -11,7 +11,7 @@ use Rattle.jxlm_chain.specs.Layout.{no_region}
 use Rattle.jxlm_chain.proofs.KeptGrids.{grid_apart}
 use Rattle.jxlm_transform.specs.Channels.{ChannelList}
 use Rattle.jxlm_cut.specs.Passes.{Pass}
-use Rattle.jxlm_cut.specs.Pieces.{PartName, pieces, within, in_store}
+use Rattle.jxlm_cut.specs.Pieces.{SectionPart, pieces, within, in_store}
 use Rattle.jxlm_cut.specs.Parts.{HaveCell, HoldEachCellOnce, AreAllApart}
 
 -- a region of the list that has a cell is one that has it
@@ -49,8 +49,8 @@ pub record IsInside (coded : List Region) (p : Region) : Type 0 where
   pub high : p.y + p.height ≤ (get_or coded p.buffer no_region).height
 
 module _ (dim : ℕ) (passes : List Pass) (l : ChannelList) (once : HoldEachCellOnce dim passes l) (coded : List Region) (apart : LieApart coded)
-    (inside : (part : PartName) → All (IsInside coded) (pieces dim passes l part)) where
-  module _ (one other : PartName) (unlike : one ≡ other → ⊥) where
+    (inside : (part : SectionPart) → All (IsInside coded) (pieces dim passes l part)) where
+  module _ (one other : SectionPart) (unlike : one ≡ other → ⊥) where
     -- no cell is in regions of both
     no_common : (n x y : ℕ) → HaveCell (pieces dim passes l one) n x y → HaveCell (pieces dim passes l other) n x y → ⊥
     no_common n x y a b =

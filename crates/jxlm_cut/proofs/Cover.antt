@@ -8,10 +8,10 @@ use Rattle.jxlm_base.specs.declared.subgrid.Region.{Region}
 use Rattle.jxlm_chain.proofs.StepFacts.{both_of}
 use Rattle.jxlm_transform.specs.Channels.{Channel}
 use Rattle.jxlm_cut.specs.Cutting.{Kind, cell_width, cell_height, columns, rows}
-use Rattle.jxlm_cut.specs.Pieces.{PartName, piece_in, piece_of_group, where_some}
+use Rattle.jxlm_cut.specs.Pieces.{SectionPart, piece_in, piece_of_group, where_some}
 use Rattle.jxlm_cut.specs.Parts.{group_of, part_in}
 use Rattle.jxlm_cut.specs.declared.part.Kind.TheVariants as kinds
-use Rattle.jxlm_cut.specs.declared.part.PartName.TheVariants as parts
+use Rattle.jxlm_cut.specs.declared.part.SectionPart.TheVariants as parts
 
 -- A number is in exactly one of the cells of side n: the one of its quotient.
 in_cell : (n x : ℕ) → 0 < n → (x / n * n ≤ x) × (x < x / n * n + n)
@@ -120,7 +120,7 @@ module _ (dim n : ℕ) (c : Channel) (x y : ℕ) (lx : x < c.width) (ly : y < c.
     a_group (cell_width dim c) (cell_height dim c) c.width c.height (columns dim c) (rows dim c) cut.wide cut.high cut.across cut.down n k x y lx ly e,
   )
 
-  pub once : (kind : Kind) (part : PartName) → ((kind ≡ kinds.Global → ⊥) → IsCut dim c) → HasIn (piece_in dim kind part n c) n x y ↔ (part ≡ part_in kind (group_of dim c x y))
+  pub once : (kind : Kind) (part : SectionPart) → ((kind ≡ kinds.Global → ⊥) → IsCut dim c) → HasIn (piece_in dim kind part n c) n x y ↔ (part ≡ part_in kind (group_of dim c x y))
   once kinds.Global parts.Global cut = (λ h. refl, λ e. record { buffer = refl; left = omega arith; right = omega arith; top = omega arith; bottom = omega arith })
   once kinds.Global (parts.Lf k) cut = (λ h. absurd h, λ e. absurd cc)
   once kinds.Global (parts.Pass p k) cut = (λ h. absurd h, λ e. absurd cc)
@@ -158,5 +158,5 @@ module _ (dim n : ℕ) (c : Channel) (x y : ℕ) (lx : x < c.width) (ly : y < c.
         same_group : {a b i j : ℕ} → parts.Pass a i ≡ parts.Pass b j → i ≡ j
         same_group e = cc
 
-        ap2 : {a b i j : ℕ} (f : ℕ → ℕ → PartName) → a ≡ b → i ≡ j → f a i ≡ f b j
+        ap2 : {a b i j : ℕ} (f : ℕ → ℕ → SectionPart) → a ≡ b → i ≡ j → f a i ≡ f b j
         ap2 f e d = cc

@@ -8,10 +8,10 @@ use Rattle.jxlm_transform.specs.declared.param.ChannelShift.TheVariants.{Shifts}
 use Rattle.jxlm_transform.specs.declared.param.ModularChannelParams.{ModularChannelParams}
 use Rattle.jxlm_cut.specs.Passes.{Pass, can_group, passes_of}
 use Rattle.jxlm_cut.specs.Cutting.{can_cut}
-use Rattle.jxlm_cut.specs.Pieces.{part_channels, PartName, pieces}
+use Rattle.jxlm_cut.specs.Pieces.{part_channels, SectionPart, pieces}
 use Rattle.jxlm_cut.specs.Counts.{exists, group_count}
 use Rattle.jxlm_cut.specs.declared.part.Kind.TheVariants as kinds
-use Rattle.jxlm_cut.specs.declared.part.PartName.TheVariants as parts
+use Rattle.jxlm_cut.specs.declared.part.SectionPart.TheVariants as parts
 
 abbrev given : ℕ → ℕ → ℕ → ModularChannelParams
 given w h s = record { width = w; height = h; shift = Shifts s }
@@ -19,7 +19,7 @@ given w h s = record { width = w; height = h; shift = Shifts s }
 abbrev all : List Pass
 all = record { number = 0; first_shift = pos 0; end_shift = pos 3 } ∷ []
 
-abbrev sizes : ℕ → ChannelList → PartName → List (ℕ × ℕ)
+abbrev sizes : ℕ → ChannelList → SectionPart → List (ℕ × ℕ)
 sizes dim l part = map (λ r. (r.width, r.height)) (pieces dim all l part)
 
 -- 5 by 3 in groups of 2
@@ -34,7 +34,7 @@ narrow_global : sizes 2 narrow parts.Global ≡ []
 narrow_global = refl
 
 -- 16 by 16, squeezed by the default steps, in groups of 8
-abbrev squeezed : (PartName → List (ℕ × ℕ)) × Result CodedList ErrorKind
+abbrev squeezed : (SectionPart → List (ℕ × ℕ)) × Result CodedList ErrorKind
 squeezed = ((λ p. []), coded_list (OfSqueeze [] ∷ []) (image_list (given 16 16 0 ∷ [])))
 
 squeezed_parts : (squeezed.1 >>= λ c. Ok (map (sizes 8 c.list) (parts.Global ∷ parts.Pass 0 0 ∷ parts.Pass 0 1 ∷ parts.Pass 0 2 ∷ parts.Pass 0 3 ∷ parts.Pass 0 4 ∷ parts.Lf 0 ∷ []))) ≡

@@ -13,7 +13,7 @@ use Rattle.jxlm_transform.specs.ChannelSteps.{table_channel}
 use Rattle.jxlm_transform.specs.Params.{IsGroupDim}
 use Rattle.jxlm_cut.specs.Passes.{Pass}
 use Rattle.jxlm_cut.specs.Cutting.{Kind, cell_height, cell_width, is_low_frequency, kind_of, list_with, rows, span}
-use Rattle.jxlm_cut.specs.Pieces.{PartName, channel_in, in_store, piece, piece_in, where_some, within}
+use Rattle.jxlm_cut.specs.Pieces.{SectionPart, channel_in, in_store, piece, piece_in, where_some, within}
 use Rattle.jxlm_cut.specs.Inner.Fitting.{FitsBack, pieces_from}
 use Rattle.jxlm_cut.proofs.HeldCells.{own_piece_in}
 use Rattle.jxlm_cut.proofs.Pictured.{ceil_within}
@@ -108,7 +108,7 @@ pub same_sides_at : (cs : List Channel) (rs : List Region) (n : ℕ) (c : Channe
     ((get_or rs n r).width ≡ (get_or cs n c).width) × ((get_or rs n r).height ≡ (get_or cs n c).height)
 same_sides_at cs rs n c r zip lt = let s = sides_at cs rs n c r zip lt in (s.1, s.2)
 
-module _ (dim : ℕ) (passes : List Pass) (count : ℕ) (name : PartName) where
+module _ (dim : ℕ) (passes : List Pass) (count : ℕ) (name : SectionPart) where
   -- the pieces from a channel on: what the part has of this one, and the pieces from the next one on
   pub pieces_turn : (n : ℕ) (cs : List Channel) (d : Channel) → n < length cs →
       pieces_from dim passes count name n cs ≡ cons_option (piece_in dim (kind_of passes count n (get_or cs n d)) name n (get_or cs n d)) (pieces_from dim passes count name (n + 1) cs)
@@ -131,7 +131,7 @@ same_get (x ∷ xs) zero d e lt = refl
 same_get (x ∷ xs) (suc n) d e lt = same_get xs n d e (omega (arith, lt))
 
 -- what a part has of channel n, whose kind this is, was added
-module _ (dim : ℕ) (passes : List Pass) (count : ℕ) (name : PartName) (cs : List Channel) (n : ℕ) (d : Channel) (k : Kind) (lt : n < length cs) (is : k ≡ kind_of passes count n (get_or cs n d)) where
+module _ (dim : ℕ) (passes : List Pass) (count : ℕ) (name : SectionPart) (cs : List Channel) (n : ℕ) (d : Channel) (k : Kind) (lt : n < length cs) (is : k ≡ kind_of passes count n (get_or cs n d)) where
   abbrev here : Option Region
   here = piece_in dim k name n (get_or cs n d)
 

@@ -10,20 +10,20 @@ use Rattle.jxlm_transform.specs.Channels.{Channel, ChannelList}
 use Rattle.jxlm_cut.proofs.Cover.{HasIn, IsCut, some_in, once}
 use Rattle.jxlm_cut.specs.Passes.{Pass}
 use Rattle.jxlm_cut.specs.Cutting.{Kind, cell_width, cell_height, global_count, kind_of, columns, rows}
-use Rattle.jxlm_cut.specs.Pieces.{PartName, piece, piece_in, piece_of_group, pieces, where_some}
+use Rattle.jxlm_cut.specs.Pieces.{SectionPart, piece, piece_in, piece_of_group, pieces, where_some}
 use Rattle.jxlm_cut.specs.Parts.{HaveCell, HoldEachCellOnce, IsCell, part_of}
 use Rattle.jxlm_cut.specs.declared.part.Kind.TheVariants as kinds
-use Rattle.jxlm_cut.specs.declared.part.PartName.TheVariants as parts
+use Rattle.jxlm_cut.specs.declared.part.SectionPart.TheVariants as parts
 
-have_split : (o : Option Region) (rs : List Region) (n x y : ℕ) → HaveCell (cons_option o rs) n x y → HasIn o n x y ⊎ HaveCell rs n x y
+pub have_split : (o : Option Region) (rs : List Region) (n x y : ℕ) → HaveCell (cons_option o rs) n x y → HasIn o n x y ⊎ HaveCell rs n x y
 have_split None rs n x y h = inr h
 have_split (Some r) rs n x y h = h
 
-have_first : (o : Option Region) (rs : List Region) (n x y : ℕ) → HasIn o n x y → HaveCell (cons_option o rs) n x y
+pub have_first : (o : Option Region) (rs : List Region) (n x y : ℕ) → HasIn o n x y → HaveCell (cons_option o rs) n x y
 have_first None rs n x y h = absurd h
 have_first (Some r) rs n x y h = inl h
 
-have_rest : (o : Option Region) (rs : List Region) (n x y : ℕ) → HaveCell rs n x y → HaveCell (cons_option o rs) n x y
+pub have_rest : (o : Option Region) (rs : List Region) (n x y : ℕ) → HaveCell rs n x y → HaveCell (cons_option o rs) n x y
 have_rest None rs n x y h = h
 have_rest (Some r) rs n x y h = inr h
 
@@ -59,7 +59,7 @@ module _ (f : ℕ × Channel → Option Region) (own : (p : ℕ × Channel) (r :
             record { i = suc r.i; c = r.c; place = omega (arith, p); channel = r.channel; has = r.has }
       ]
 
-  out : (m : ℕ) (cs : List Channel) (i : ℕ) (c : Channel) (n x y : ℕ) → slice_get cs i ≡ Some c → n ≡ m + i → HasIn (f (n, c)) n x y → HaveCell (filter_map f (enumerate_from m cs)) n x y
+  pub out : (m : ℕ) (cs : List Channel) (i : ℕ) (c : Channel) (n x y : ℕ) → slice_get cs i ≡ Some c → n ≡ m + i → HasIn (f (n, c)) n x y → HaveCell (filter_map f (enumerate_from m cs)) n x y
   out m [] i c n x y e p h = absurd (none_some e)
   out m (d ∷ cs) zero c n x y e p h =
       have_first (f (m, d)) (filter_map f (enumerate_from (m + 1) cs)) n x y
@@ -100,7 +100,7 @@ within : (w a m x : ℕ) → a ≤ x → x < a + min m (w - a) → x < w
 within w a m x h k = omega arith
 
 module _ (dim : ℕ) (passes : List Pass) (l : ChannelList) where
-  pub own_piece_in : (kind : Kind) (part : PartName) (n : ℕ) (c : Channel) (r : Region) → piece_in dim kind part n c ≡ Some r → r.buffer ≡ n
+  pub own_piece_in : (kind : Kind) (part : SectionPart) (n : ℕ) (c : Channel) (r : Region) → piece_in dim kind part n c ≡ Some r → r.buffer ≡ n
   own_piece_in kinds.Global parts.Global n c r e = ap (λ s. s.buffer) (sym (same_some e))
   own_piece_in kinds.Lf (parts.Lf k) n c r e = ap (λ s. s.buffer) (sym (own_some (nat_lt k (columns dim c * rows dim c)) (piece_of_group dim k n c) r e))
   own_piece_in (kinds.Pass q) (parts.Pass p k) n c r e = ap (λ s. s.buffer) (sym (own_some ((p == q) && nat_lt k (columns dim c * rows dim c)) (piece_of_group dim k n c) r e))
@@ -117,7 +117,7 @@ module _ (dim : ℕ) (passes : List Pass) (l : ChannelList) where
     within c.height ((k / columns dim c) * cell_height dim c) (cell_height dim c) y h.top h.bottom,
   )
 
-  inside_piece : (kind : Kind) (part : PartName) (n x y : ℕ) (c : Channel) → HasIn (piece_in dim kind part n c) n x y → (x < c.width) × (y < c.height)
+  inside_piece : (kind : Kind) (part : SectionPart) (n x y : ℕ) (c : Channel) → HasIn (piece_in dim kind part n c) n x y → (x < c.width) × (y < c.height)
   inside_piece kinds.Global parts.Global n x y c h = let right = h.right in let bottom = h.bottom in (omega (arith, right), omega (arith, bottom))
   inside_piece kinds.Lf (parts.Lf k) n x y c h = in_channel k n x y c (some_in (nat_lt k (columns dim c * rows dim c)) (piece_of_group dim k n c) n x y h).1
   inside_piece (kinds.Pass q) (parts.Pass p k) n x y c h = in_channel k n x y c (some_in ((p == q) && nat_lt k (columns dim c * rows dim c)) (piece_of_group dim k n c) n x y h).1
@@ -128,7 +128,7 @@ module _ (dim : ℕ) (passes : List Pass) (l : ChannelList) where
   inside_piece (kinds.Pass q) parts.Global n x y c h = absurd h
   inside_piece (kinds.Pass q) (parts.Lf k) n x y c h = absurd h
 
-  pub own_piece : (part : PartName) (p : ℕ × Channel) (r : Region) → piece dim passes (global_count dim l) part p ≡ Some r → r.buffer ≡ p.0
+  pub own_piece : (part : SectionPart) (p : ℕ × Channel) (r : Region) → piece dim passes (global_count dim l) part p ≡ Some r → r.buffer ≡ p.0
   own_piece part p r e = own_piece_in (kind_of passes (global_count dim l) p.0 p.1) part p.0 p.1 r e
 
   not_front : (n : ℕ) (c : Channel) → (kind_of passes (global_count dim l) n c ≡ kinds.Global → ⊥) → global_count dim l ≤ n
@@ -137,8 +137,12 @@ module _ (dim : ℕ) (passes : List Pass) (l : ChannelList) where
     | inr ge ↦ ge
   ]
 
+  -- no two regions of a part are of one channel
+  pub unlike_buffers : (part : SectionPart) → AllPairs (λ a b. a.buffer ≢ b.buffer) (pieces dim passes l part)
+  unlike_buffers part = apart (piece dim passes (global_count dim l) part) (own_piece part) 0 l.channels
+
   module _ (cut : (n : ℕ) (c : Channel) → slice_get l.channels n ≡ Some c → global_count dim l ≤ n → IsCut dim c) where
-    pub once_each : (part : PartName) (n x y : ℕ) (c : Channel) → IsCell l n x y c → HaveCell (pieces dim passes l part) n x y ↔ (part ≡ part_of dim passes l n c x y)
+    pub once_each : (part : SectionPart) (n x y : ℕ) (c : Channel) → IsCell l n x y c → HaveCell (pieces dim passes l part) n x y ↔ (part ≡ part_of dim passes l n c x y)
     once_each part n x y c is =
         let f : ℕ × Channel → Option Region = piece dim passes (global_count dim l) part in
         let iff = once dim n c x y is.column is.row (kind_of passes (global_count dim l) n c) part (λ h. cut n c is.channel (not_front n c h)) in (
@@ -161,5 +165,5 @@ module _ (dim : ℕ) (passes : List Pass) (l : ChannelList) where
           let same : r.i ≡ n = omega (arith, p) in
           let sides = inside_piece (kind_of passes (global_count dim l) n r.c) part n x y r.c r.has in
           (r.c, record { channel = subst (λ k. slice_get l.channels k ≡ Some r.c) same r.channel; column = sides.0; row = sides.1 });
-      apart = λ part. apart (piece dim passes (global_count dim l) part) (own_piece part) 0 l.channels;
+      apart = unlike_buffers;
     }

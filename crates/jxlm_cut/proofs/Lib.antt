@@ -7,5 +7,9 @@ pub mod Parts
 pub mod Apart
 pub mod Outside
 pub mod PieceFacts
+pub mod SomeCells
+pub mod PartChannels
 pub mod Others
+pub mod PartSets
+pub mod EachPart
 mod Examples

@@ -4,7 +4,8 @@ use Rattle.std.specs.List.{All, AllPairs, filter_map, enumerate_from, cons_optio
 use Rattle.std.proofs.lemmas.Bool.{cases_lt, ltb-true, lt-ltb}
 use Rattle.std.specs.Int.{div_ceil}
 use Rattle.std.proofs.lemmas.List.Elements.{All-cons, All-head, All-tail, All-map}
-use Rattle.jxlm_base.specs.Regions.{LieApart, AreApart}
+use Rattle.jxlm_base.specs.Grid.{Grid}
+use Rattle.jxlm_base.specs.Regions.{AllLie, AreApart, LieApart, Lies}
 use Rattle.jxlm_base.specs.declared.subgrid.Region.{Region}
 use Rattle.jxlm_chain.specs.Layout.{no_region}
 use Rattle.jxlm_base.proofs.Regions.{apart_at}
@@ -19,11 +20,11 @@ use Rattle.jxlm_cut.proofs.Pictured.{IsOfPicture}
 use Rattle.jxlm_cut.proofs.HeldCells.{into, own_piece, same_some, none_some}
 use Rattle.jxlm_cut.specs.Passes.{Pass}
 use Rattle.jxlm_cut.specs.Cutting.{Kind, columns, rows, is_low_frequency, span, cell_width, cell_height, global_count, kind_of}
-use Rattle.jxlm_cut.specs.Pieces.{PartName, piece, piece_in, piece_of_group, pieces, where_some, channel_in, part_channels, within, in_store}
+use Rattle.jxlm_cut.specs.Pieces.{SectionPart, piece, piece_in, piece_of_group, pieces, where_some, channel_in, part_channels, within, in_store}
 use Rattle.jxlm_cut.specs.Counts.{is_kind, maximum, groups_of, group_count, exists}
 use Rattle.jxlm_cut.specs.Parts.{HaveCell}
 use Rattle.jxlm_cut.specs.declared.part.Kind.TheVariants as kinds
-use Rattle.jxlm_cut.specs.declared.part.PartName.TheVariants as parts
+use Rattle.jxlm_cut.specs.declared.part.SectionPart.TheVariants as parts
 
 -- ---- what holds of each piece
 
@@ -53,7 +54,7 @@ tested true false c r s e = absurd (none_some e)
 tested false b c r s e = absurd (none_some e)
 
 -- a piece of channel c lies inside it, and the part's channel is as large
-pub record IsPieceOf (name : PartName) (c : Channel) (r : Region) : Type 0 where
+pub record IsPieceOf (name : SectionPart) (c : Channel) (r : Region) : Type 0 where
   pub wide : r.x + r.width ≤ c.width
   pub high : r.y + r.height ≤ c.height
   pub same_width : (channel_in name c r).width ≡ r.width
@@ -71,7 +72,7 @@ module _ (dim : ℕ) where
         subst (λ (q : Region). q.y + q.height ≤ c.height) t.same (fits c.height p.y (cell_height dim c) (ltb-true 0 p.height t.third)),
       )
 
-  is_piece : (kind : Kind) (name : PartName) (n : ℕ) (c : Channel) (r : Region) → piece_in dim kind name n c ≡ Some r → IsPieceOf name c r
+  is_piece : (kind : Kind) (name : SectionPart) (n : ℕ) (c : Channel) (r : Region) → piece_in dim kind name n c ≡ Some r → IsPieceOf name c r
   is_piece kinds.Global parts.Global n c r e = subst (IsPieceOf parts.Global c) (same_some e) (record { wide = omega arith; high = omega arith; same_width = refl; same_height = refl })
   is_piece kinds.Lf (parts.Lf k) n c r e = let b = group_piece (nat_lt k (columns dim c * rows dim c)) k n c r e in record { wide = b.0; high = b.1; same_width = refl; same_height = refl }
   is_piece (kinds.Pass q) (parts.Pass p k) n c r e = let b = group_piece ((p == q) && nat_lt k (columns dim c * rows dim c)) k n c r e in record { wide = b.0; high = b.1; same_width = refl; same_height = refl }
@@ -83,13 +84,13 @@ module _ (dim : ℕ) where
   is_piece (kinds.Pass q) (parts.Lf k) n c r e = absurd (none_some e)
 
 -- the piece's channel is one of the list
-pub record IsPiece (l : ChannelList) (name : PartName) (r : Region) : Type 0 where
+pub record IsPiece (l : ChannelList) (name : SectionPart) (r : Region) : Type 0 where
   pub c : Channel
   pub channel : slice_get l.channels r.buffer ≡ Some c
   pub is : IsPieceOf name c r
 
 module _ (dim : ℕ) (passes : List Pass) (l : ChannelList) where
-  pub each_piece : (name : PartName) → All (IsPiece l name) (pieces dim passes l name)
+  pub each_piece : (name : SectionPart) → All (IsPiece l name) (pieces dim passes l name)
   each_piece name =
       each_kept (piece dim passes (global_count dim l) name) (IsPiece l name) 0 l.channels (λ i c r k e.
       let zero_more : 0 + i ≡ i = omega arith in
@@ -106,7 +107,7 @@ module _ (dim : ℕ) (passes : List Pass) (l : ChannelList) where
   side_at (d ∷ cs) (r ∷ rs) (suc n) c zip e = let (lt, w, h) = side_at cs rs n c zip.1 e in (omega (arith, lt), w, h)
 
   -- each piece lies inside its channel's region
-  pub each_inside : (coded : List Region) → AreRegionsOf l.channels coded → (name : PartName) → All (IsInside coded) (pieces dim passes l name)
+  pub each_inside : (coded : List Region) → AreRegionsOf l.channels coded → (name : SectionPart) → All (IsInside coded) (pieces dim passes l name)
   each_inside coded zip name = λ k d lt.
       let r : Region = get_or (pieces dim passes l name) k d in
       let p = each_piece name k d lt in
@@ -114,7 +115,7 @@ module _ (dim : ℕ) (passes : List Pass) (l : ChannelList) where
       record { there = there; wide = subst (λ n. r.x + r.width ≤ n) (sym w) p.is.wide; high = subst (λ n. r.y + r.height ≤ n) (sym h) p.is.high }
 
   -- the part's channels have the sides of their regions in the store
-  pub channels_sides : (coded : List Region) (name : PartName) → AreRegionsOf (part_channels dim passes l name) (in_store coded (pieces dim passes l name))
+  pub channels_sides : (coded : List Region) (name : SectionPart) → AreRegionsOf (part_channels dim passes l name) (in_store coded (pieces dim passes l name))
   channels_sides coded name = all_sides (pieces dim passes l name) (each_piece name) where
     all_sides : (ps : List Region) → All (IsPiece l name) ps → AreRegionsOf (map (λ r. channel_in name (get_or l.channels r.buffer (table_channel 0 0)) r) ps) (in_store coded ps)
     all_sides [] all = tt
@@ -138,6 +139,19 @@ held_apart coded (p ∷ ps) apart all pairs =
     (held_apart coded ps apart rest (λ i j d lt l. pairs (suc i) (suc j) d (omega (arith, lt)) (omega (arith, l)))) where
       two : (i j : ℕ) → i < length coded → j < length coded → i ≢ j → AreApart (get_or coded i no_region) (get_or coded j no_region)
       two i j li lj ne = apart_at coded i j no_region apart li lj ne
+
+-- a region of a region that lies in a store lies there
+pub pieces_lie : {S : Type 0} (store : List (Grid S)) (coded ps : List Region) → AllLie coded store → All (IsInside coded) ps → AllLie (in_store coded ps) store
+pieces_lie store coded ps lie inside =
+    All-map (λ r. Lies r store) (λ p. within (get_or coded p.buffer no_region) p) ps (λ k d lt.
+    let p : Region = get_or ps k d in
+    let is = inside k d lt in
+    let r = lie p.buffer no_region is.there in
+    let wide = is.wide in
+    let high = is.high in
+    let columns = r.columns in
+    let rows = r.rows in
+    record { there = r.there; full = r.full; columns = omega (arith, wide, columns); rows = omega (arith, high, rows) })
 
 -- ---- counts
 
@@ -168,7 +182,7 @@ module _ (dim : ℕ) (passes : List Pass) (l : ChannelList) where
       let more : n ≡ 0 + n = omega arith in
       counted_from f 0 l.channels n c k e (subst (λ i. k < f (i, c)) more (kind_has kind (kind_of passes (global_count dim l) n c) c k is h))
 
-  exists_in : (kind : Kind) (name : PartName) (n x y : ℕ) (c : Channel) → slice_get l.channels n ≡ Some c → kind_of passes (global_count dim l) n c ≡ kind → HasIn (piece_in dim kind name n c) n x y → exists dim passes l name ≡ true
+  exists_in : (kind : Kind) (name : SectionPart) (n x y : ℕ) (c : Channel) → slice_get l.channels n ≡ Some c → kind_of passes (global_count dim l) n c ≡ kind → HasIn (piece_in dim kind name n c) n x y → exists dim passes l name ≡ true
   exists_in kinds.Global parts.Global n x y c e is h = refl
   exists_in kinds.Lf (parts.Lf k) n x y c e is h =
       let t = some_in (nat_lt k (columns dim c * rows dim c)) (piece_of_group dim k n c) n x y h in
@@ -185,7 +199,7 @@ module _ (dim : ℕ) (passes : List Pass) (l : ChannelList) where
   exists_in (kinds.Pass q) (parts.Lf k) n x y c e is h = absurd h
 
   -- A part that holds a cell exists.
-  pub held_exists : (name : PartName) (n x y : ℕ) → HaveCell (pieces dim passes l name) n x y → exists dim passes l name ≡ true
+  pub held_exists : (name : SectionPart) (n x y : ℕ) → HaveCell (pieces dim passes l name) n x y → exists dim passes l name ≡ true
   held_exists name n x y h =
       let r = into (piece dim passes (global_count dim l) name) (own_piece dim passes l name) 0 l.channels n x y h in
       let p = r.place in

@@ -4,9 +4,9 @@ use Rattle.std.specs.List.{enumerate_from}
 use Rattle.jxlm_transform.specs.Channels.{Channel, ChannelList}
 use Rattle.jxlm_cut.specs.Passes.{Pass}
 use Rattle.jxlm_cut.specs.Cutting.{Kind, columns, rows, global_count, kind_of}
-use Rattle.jxlm_cut.specs.Pieces.{PartName}
+use Rattle.jxlm_cut.specs.Pieces.{SectionPart}
 use Rattle.jxlm_cut.specs.declared.part.Kind.TheVariants as kinds
-use Rattle.jxlm_cut.specs.declared.part.PartName.TheVariants as parts
+use Rattle.jxlm_cut.specs.declared.part.SectionPart.TheVariants as parts
 
 -- two kinds are the same
 abbrev pub is_kind : Kind → Kind → Bool
@@ -31,7 +31,7 @@ group_count dim passes l kind =
     maximum (map (groups_of dim passes (global_count dim l) kind) (enumerate_from 0 l.channels))
 
 -- there is such a part: the global part is always there
-abbrev pub exists : ℕ → List Pass → ChannelList → PartName → Bool
+abbrev pub exists : ℕ → List Pass → ChannelList → SectionPart → Bool
 exists dim passes l parts.Global = true
 exists dim passes l (parts.Lf k) = nat_lt k (group_count dim passes l kinds.Lf)
 exists dim passes l (parts.Pass p k) = nat_lt k (group_count dim passes l (kinds.Pass p))

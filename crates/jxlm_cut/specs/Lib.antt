@@ -3,4 +3,5 @@ pub mod Cutting
 pub mod Pieces
 pub mod Counts
 pub mod Parts
+pub mod PartSets
 pub mod Inner

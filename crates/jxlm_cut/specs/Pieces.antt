@@ -10,9 +10,9 @@ use Rattle.jxlm_transform.specs.ChannelSteps.{table_channel}
 use Rattle.jxlm_cut.specs.Passes.{Pass}
 use Rattle.jxlm_cut.specs.Cutting.{Kind, cell_width, cell_height, columns, rows, global_count, kind_of}
 use Rattle.jxlm_cut.specs.declared.part.Kind.TheVariants as kinds
-pub use Rattle.jxlm_cut.specs.declared.part.PartName.{PartName}
+pub use Rattle.jxlm_cut.specs.declared.part.SectionPart.{SectionPart}
 use Rattle.jxlm_cut.specs.declared.pieces.Pieces.{Pieces}
-use Rattle.jxlm_cut.specs.declared.part.PartName.TheVariants as parts
+use Rattle.jxlm_cut.specs.declared.part.SectionPart.TheVariants as parts
 
 -- Group k's cells of channel n. Groups are numbered by rows, left to right; the last column or row may be narrow.
 abbrev pub piece_of_group : ℕ → ℕ → ℕ → Channel → Region
@@ -26,7 +26,7 @@ abbrev pub where_some : Bool → Region → Option Region
 where_some here r = if here && nat_lt 0 r.width && nat_lt 0 r.height then Some r else None
 
 -- what a part holds of channel n, of a kind: the global part the whole channel, a group of its kind what its cell has
-abbrev pub piece_in : ℕ → Kind → PartName → ℕ → Channel → Option Region
+abbrev pub piece_in : ℕ → Kind → SectionPart → ℕ → Channel → Option Region
 piece_in dim kinds.Global parts.Global n c = Some (region n 0 0 c.width c.height)
 piece_in dim kinds.Lf (parts.Lf k) n c = where_some (nat_lt k (columns dim c * rows dim c)) (piece_of_group dim k n c)
 piece_in dim (kinds.Pass q) (parts.Pass p k) n c =
@@ -34,11 +34,11 @@ piece_in dim (kinds.Pass q) (parts.Pass p k) n c =
 piece_in dim other name n c = None
 
 -- the same of a channel with its number
-abbrev pub piece : ℕ → List Pass → ℕ → PartName → ℕ × Channel → Option Region
+abbrev pub piece : ℕ → List Pass → ℕ → SectionPart → ℕ × Channel → Option Region
 piece dim passes count name p = piece_in dim (kind_of passes count p.0 p.1) name p.0 p.1
 
 -- The regions of a part, channel by channel, in the coded channels: the buffer of each is the number of its channel.
-abbrev pub pieces : ℕ → List Pass → ChannelList → PartName → List Region
+abbrev pub pieces : ℕ → List Pass → ChannelList → SectionPart → List Region
 pieces dim passes l name = filter_map (piece dim passes (global_count dim l) name) (enumerate_from 0 l.channels)
 
 -- a region of a region
@@ -60,12 +60,12 @@ piece_channel c r = record c {
 }
 
 -- the channel that a part has of it: the global part has the coded channel itself
-abbrev pub channel_in : PartName → Channel → Region → Channel
+abbrev pub channel_in : SectionPart → Channel → Region → Channel
 channel_in parts.Global c r = c
 channel_in name c r = piece_channel c r
 
 -- the channels of a part, one for each of its regions
-abbrev pub part_channels : ℕ → List Pass → ChannelList → PartName → List Channel
+abbrev pub part_channels : ℕ → List Pass → ChannelList → SectionPart → List Channel
 part_channels dim passes l name =
     map (λ r. channel_in name (get_or l.channels r.buffer (table_channel 0 0)) r) (pieces dim passes l name)
 
@@ -74,6 +74,6 @@ abbrev pub HasRoom : Region → Type 0
 HasRoom r = (r.x + r.width < 2 ^ 64) × (r.y + r.height < 2 ^ 64)
 
 -- the channels of a part, and where each lies in the store, where the coded channels lie in these regions
-pub record ArePiecesOf (dim : ℕ) (passes : List Pass) (l : ChannelList) (coded : List Region) (name : PartName) (p : Pieces) : Type 0 where
+pub record ArePiecesOf (dim : ℕ) (passes : List Pass) (l : ChannelList) (coded : List Region) (name : SectionPart) (p : Pieces) : Type 0 where
   pub channels : p.infos.items ≡ part_channels dim passes l name
   pub regions : p.regions.items ≡ in_store coded (pieces dim passes l name)

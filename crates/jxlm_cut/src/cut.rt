@@ -6,7 +6,7 @@ ghost use Rattle.jxlm_transform.specs.Params.{IsGroupDim};
 ghost use Rattle.jxlm_cut.specs.Cutting.{can_cut, cell_height as the_cell_height, cell_width as the_cell_width, columns as the_columns, fits_group as the_fit, global_count as the_global_count, has_cells as the_cells, is_low_frequency as the_low, kind_of as the_kind, list_with, rows as the_rows, span as the_span};
 ghost use Rattle.jxlm_cut.specs.Counts.{exists as the_existing, group_count as the_group_count, is_kind as the_same_kind};
 
-use crate::part::{Kind, PartName};
+use crate::part::{Kind, SectionPart};
 use crate::pass::{Pass, pass_with};
 use jxlm_base::error::{Error, Result};
 use jxlm_transform::channels::ModularChannelInfo;
@@ -182,15 +182,15 @@ pub fn exists(
     nb_meta: usize,
     group_dim: u32,
     passes: &[Pass],
-    part: PartName,
+    part: SectionPart,
 ) -> bool
     requires { IsGroupDim group_dim }
     ensures { result ≡ the_existing group_dim passes.now (list_with channels.now nb_meta) part }
 {
     match part {
-        PartName::Global => true,
-        PartName::Lf(k) => k < group_count(channels, nb_meta, group_dim, passes, Kind::Lf),
-        PartName::Pass(p, k) => {
+        SectionPart::Global => true,
+        SectionPart::Lf(k) => k < group_count(channels, nb_meta, group_dim, passes, Kind::Lf),
+        SectionPart::Pass(p, k) => {
             k < group_count(channels, nb_meta, group_dim, passes, Kind::Pass(p))
         }
     }

@@ -1,8 +1,8 @@
 //! The parts of an image (ISO/IEC 18181-1, frame: groups, LF groups and passes).
 
 /// A part of an image.
-#[derive(Clone, Copy, Debug, PartialEq, Eq)]
-pub enum PartName {
+#[derive(Clone, Copy, Debug, PartialEq, Eq, PartialOrd, Ord)]
+pub enum SectionPart {
     /// The global part: the channels that are not cut.
     Global,
     /// An LF group, by its number.

@@ -1,15 +1,16 @@
 //! What a part holds of the coded channels (ISO/IEC 18181-1, Modular: global and group sub-bitstreams).
 
-ghost use Rattle.std.specs.Prelude.{◌≡◌, ◌+◌, ◌*◌, ◌^◌, ◌<◌, ◌++◌, ◌∷◌, [], IfOk, IfSome, nat_lt, true};
-ghost use Rattle.std.specs.List.{All};
+ghost use Rattle.std.specs.Prelude.{◌≡◌, ◌↔◌, IsTrue, ◌+◌, ◌*◌, ◌^◌, ◌<◌, ◌++◌, ◌∷◌, [], IfOk, IfSome, nat_lt, true};
+ghost use Rattle.std.specs.List.{All, cons_option};
 ghost use Rattle.jxlm_transform.specs.Channels.{AreRegionsOf};
 ghost use Rattle.jxlm_transform.specs.Params.{IsGroupDim};
 ghost use Rattle.jxlm_cut.specs.Cutting.{columns as the_columns, list_with, rows as the_rows};
+ghost use Rattle.jxlm_cut.specs.Parts.{HasSome};
 ghost use Rattle.jxlm_cut.specs.Inner.Fitting.{Adds, FitsBack, FitsIn};
-ghost use Rattle.jxlm_cut.specs.Pieces.{ArePiecesOf, HasRoom, channel_in as the_channel, piece_channel as the_piece_channel, piece_in as the_piece, piece_of_group as the_group, where_some, within as the_place};
+ghost use Rattle.jxlm_cut.specs.Pieces.{ArePiecesOf, HasRoom, channel_in as the_channel, piece_channel as the_piece_channel, piece_in as the_piece, piece_of_group as the_group, pieces as the_pieces, where_some, within as the_place};
 
 use crate::cut::{cell_height, cell_width, columns, global_count, groups, kind_of};
-use crate::part::{Kind, PartName};
+use crate::part::{Kind, SectionPart};
 use crate::pass::Pass;
 use jxlm_base::grid::{OutOfMemory, Region};
 use jxlm_transform::channels::ModularChannelInfo;
@@ -51,27 +52,27 @@ fn piece_of_group(channel: &ModularChannelInfo, n: usize, group_dim: u32, k: u64
 }
 
 /// What a part holds of channel n, of a kind: the global part all of it, a group what its cell has.
-fn piece_in(
+pub(crate) fn piece_in(
     channel: &ModularChannelInfo,
     n: usize,
     kind: Kind,
     group_dim: u32,
-    part: PartName,
+    part: SectionPart,
 ) -> Option<Region>
     requires { IsGroupDim group_dim }
     ensures fits { IfSome result (λ r. FitsIn part channel.now r) }
     ensures piece { result ≡ the_piece group_dim kind part n channel.now }
 {
     match (kind, part) {
-        (Kind::Global, PartName::Global) => Some(Region {
+        (Kind::Global, SectionPart::Global) => Some(Region {
             buffer: n,
             x: 0,
             y: 0,
             width: channel.width as usize,
             height: channel.height as usize,
         }),
-        (Kind::Lf, PartName::Lf(k)) => piece_of_group(channel, n, group_dim, k),
-        (Kind::Pass(q), PartName::Pass(p, k)) => {
+        (Kind::Lf, SectionPart::Lf(k)) => piece_of_group(channel, n, group_dim, k),
+        (Kind::Pass(q), SectionPart::Pass(p, k)) => {
             if p == q {
                 piece_of_group(channel, n, group_dim, k)
             } else {
@@ -99,12 +100,12 @@ fn piece_channel(channel: &ModularChannelInfo, piece: Region) -> ModularChannelI
 }
 
 /// The channel that a part has of a piece of a channel.
-fn channel_in(part: PartName, channel: &ModularChannelInfo, piece: Region) -> ModularChannelInfo
+fn channel_in(part: SectionPart, channel: &ModularChannelInfo, piece: Region) -> ModularChannelInfo
     requires { FitsIn part channel.now piece }
     ensures { result ≡ the_channel part channel.now piece }
 {
     match part {
-        PartName::Global => *channel,
+        SectionPart::Global => *channel,
         _ => piece_channel(channel, piece),
     }
 }
@@ -145,7 +146,7 @@ impl Pieces {
         n: usize,
         kind: Kind,
         group_dim: u32,
-        part: PartName,
+        part: SectionPart,
         region: &Region,
     ) -> Result<(), OutOfMemory>
         requires group_dim { IsGroupDim group_dim }
@@ -174,7 +175,7 @@ impl Pieces {
         group_dim: u32,
         passes: &[Pass],
         coded: &[Region],
-        part: PartName,
+        part: SectionPart,
     ) -> Result<Pieces, OutOfMemory>
         requires group_dim { IsGroupDim group_dim }
         requires sides { AreRegionsOf channels.now coded.now }
@@ -193,4 +194,35 @@ impl Pieces {
         }
         Ok(pieces)
     }
+}
+
+/// Whether there is a region, and it has cells.
+fn has_some(piece: Option<Region>) -> bool
+    ensures { IsTrue result ↔ HasSome (cons_option piece []) }
+{
+    match piece {
+        Some(piece) => piece.width > 0 && piece.height > 0,
+        None => false,
+    }
+}
+
+/// Whether a part has cells of the coded channels, of which the first `nb_meta` are meta channels.
+pub fn has_pieces(
+    channels: &[ModularChannelInfo],
+    nb_meta: usize,
+    group_dim: u32,
+    passes: &[Pass],
+    part: SectionPart,
+) -> bool
+    requires { IsGroupDim group_dim }
+    ensures { IsTrue result ↔ HasSome (the_pieces group_dim passes.now (list_with channels.now nb_meta) part) }
+{
+    let count = global_count(channels, nb_meta, group_dim);
+    for n in 0..channels.len() {
+        let kind = kind_of(passes, count, n, &channels[n]);
+        if has_some(piece_in(&channels[n], n, kind, group_dim, part)) {
+            return true;
+        }
+    }
+    false
 }

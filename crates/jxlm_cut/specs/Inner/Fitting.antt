@@ -6,9 +6,9 @@ use Rattle.jxlm_transform.specs.Channels.{Channel}
 use Rattle.jxlm_cut.specs.Passes.{Pass}
 use Rattle.jxlm_cut.specs.Cutting.{Kind}
 use Rattle.jxlm_cut.specs.Counts.{maximum, groups_of}
-use Rattle.jxlm_cut.specs.Pieces.{PartName, channel_in, piece, within}
+use Rattle.jxlm_cut.specs.Pieces.{SectionPart, channel_in, piece, within}
 use Rattle.jxlm_cut.specs.declared.pieces.Pieces.{Pieces}
-use Rattle.jxlm_cut.specs.declared.part.PartName.TheVariants as parts
+use Rattle.jxlm_cut.specs.declared.part.SectionPart.TheVariants as parts
 
 -- the region's sides, shifted back as often as the channel's are halved, have at most 32 bits
 pub record FitsBack (c : Channel) (r : Region) : Type 0 where
@@ -18,12 +18,12 @@ pub record FitsBack (c : Channel) (r : Region) : Type 0 where
   pub height : r.height * 2 ^ unsigned_abs c.vshift < 2 ^ 32
 
 -- what a part other than the global one has of the channel fits
-abbrev pub FitsIn : PartName → Channel → Region → Type 0
+abbrev pub FitsIn : SectionPart → Channel → Region → Type 0
 FitsIn parts.Global c r = Unit {0}
 FitsIn name c r = FitsBack c r
 
 -- what a part has of channel c, which lies in region r, was added: a piece with its channel, or nothing
-pub record Adds (piece : Option Region) (name : PartName) (c : Channel) (r : Region) (old new : Pieces) : Type 0 where
+pub record Adds (piece : Option Region) (name : SectionPart) (c : Channel) (r : Region) (old new : Pieces) : Type 0 where
   pub channels : new.infos.items ≡ old.infos.items ++ map (channel_in name c) (cons_option piece [])
   pub regions : new.regions.items ≡ old.regions.items ++ map (within r) (cons_option piece [])
 
@@ -33,5 +33,5 @@ module _ (dim : ℕ) (passes : List Pass) (count : ℕ) where
   count_from kind n cs = maximum (map (groups_of dim passes count kind) (enumerate_from n (drop n cs)))
 
   -- the pieces of channels from number n on
-  abbrev pub pieces_from : PartName → ℕ → List Channel → List Region
+  abbrev pub pieces_from : SectionPart → ℕ → List Channel → List Region
   pieces_from name n cs = filter_map (piece dim passes count name) (enumerate_from n (drop n cs))
