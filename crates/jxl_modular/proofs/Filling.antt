@@ -1,6 +1,6 @@
 -- Decoding all samples of an image that was read, and undoing its transforms: what comes of it, from what comes of
 -- the two.
-use Rattle.std.proofs.Common.{◌≡◌, ℕ, ◌+◌, ◌*◌, ◌<◌, ◌≤◌, List, length, Ok, Err, inl, inr, Bool, true, false, refl, sym, ap, subst, arith, ◌∙◌, ℤ}
+use Rattle.std.proofs.Common.{◌≡◌, ℕ, ◌*◌, ◌≤◌, List, length, Ok, Err, inl, inr, Bool, false, refl, ap, subst, arith, ◌∙◌, ℤ}
 use Rattle.std.proofs.Math.Nat.{mul-le-mul_right}
 use Rattle.std.specs.Int.{Width}
 use Rattle.std.specs.Prelude.{Result}
@@ -44,7 +44,7 @@ fails_so d w part bytes decoder old new e tried h = elim h.1 [
 ]
 
 -- the only image of the same steps and channels
-only_of : {S D : Type 0} (w : Width) (old new : Image S D) (grids samples : List (Grid ℤ)) → new.bit_depth ≡ old.bit_depth → new.steps ≡ old.steps → new.given ≡ old.given → IsOnlyImage w new grids samples → IsOnlyImage w old grids samples
+pub only_of : {S D : Type 0} (w : Width) (old new : Image S D) (grids samples : List (Grid ℤ)) → new.bit_depth ≡ old.bit_depth → new.steps ≡ old.steps → new.given ≡ old.given → IsOnlyImage w new grids samples → IsOnlyImage w old grids samples
 only_of w old new grids samples deep steps given h =
     subst (λ (k : ℕ). chain.IsOnlyImage w k old.steps (record { channels = old.given; nb_meta = 0 }) grids samples) deep
     (subst (λ (ss : List Step). chain.IsOnlyImage w new.bit_depth ss (record { channels = old.given; nb_meta = 0 }) grids samples) steps

@@ -76,6 +76,8 @@ still_laid x y laid same = record {
   steps = rw same.steps laid.steps;
   palettes = rw (same.weights, same.steps) laid.palettes;
   deep = rw same.bit_depth laid.deep;
+  groups = rw same.group_dim laid.groups;
+  asked = rw same.given laid.asked;
 }
 
 -- the image with cells that were written in these regions

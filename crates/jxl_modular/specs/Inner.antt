@@ -3,4 +3,6 @@ pub mod ImageCode
 pub mod Kept
 pub mod Laid
 pub mod Opened
+pub mod SectionParts
 pub mod StepCode
+pub mod Turns

@@ -1,5 +1,8 @@
 pub mod Image
 pub mod Parts
+pub mod Groups
+pub mod GroupParts
+pub mod Sections
 pub mod SameButCells
 pub mod Picture
 pub mod PartRests

@@ -7,19 +7,24 @@ use Rattle.jxlm_base.specs.declared.error.Error.{Error}
 use Rattle.jxlm_base.specs.declared.subgrid.Region.{Region}
 use Rattle.jxlm_transform.specs.Channels.{Channel}
 use Rattle.jxlm_part.specs.Decode.{DecodeAnswers, MovesWithin}
-use Rattle.jxlm_part.specs.Part.{cell_count}
+use Rattle.jxlm_part.specs.Part.{Part, cell_count}
 use Rattle.jxlm_part.specs.Placed.{standing_in}
 use Rattle.jxl_modular.specs.Image.{Image, cost_of, front_channels, front_part, front_regions}
 use Rattle.jxl_modular.specs.declared.image.TransformedModularSubimage.{TransformedModularSubimage}
 
--- What decoding the first n coded channels returns, with what is before and after: the image, the reader's position,
--- whether samples are still to be decoded, and the steps. For each sample whose read was tried, at most as many nodes
--- were looked at as the tree is deep, and one more.
+-- What decoding a part of an image returns, whose channels lie in these regions, with what is before and after: the
+-- image, the reader's position, whether samples are still to be decoded, and the steps. For each sample whose read was
+-- tried, at most as many nodes were looked at as the tree is deep, and one more.
+abbrev pub HeldGives : {S D : Type 0} → Meaning D → Width → (S → ℤ) → List ℕ → Part → List Region → Image S D → ℕ → Bool → ℕ → Image S D → ℕ → Bool → ℕ → Bool → Result (Unit {0}) Error → Type 0
+HeldGives d w to_int bytes part regions old p partial before new q still after allow result =
+    (tried : ℕ) × DecodeAnswers d w part bytes old.config.decoder
+    (standing_in to_int regions old.store p partial) (standing_in to_int regions new.store q still) allow result tried
+    × MovesWithin before after (tried * cost_of old)
+
+-- the same of its first n coded channels
 abbrev pub FrontGives : {S D : Type 0} → Meaning D → Width → (S → ℤ) → List ℕ → ℕ → ℕ → Image S D → ℕ → Bool → ℕ → Image S D → ℕ → Bool → ℕ → Bool → Result (Unit {0}) Error → Type 0
 FrontGives d w to_int bytes stream n old p partial before new q still after allow result =
-    (tried : ℕ) × DecodeAnswers d w (front_part n old stream) bytes old.config.decoder
-    (standing_in to_int (front_regions n old) old.store p partial) (standing_in to_int (front_regions n old) new.store q still) allow result tried
-    × MovesWithin before after (tried * cost_of old)
+    HeldGives d w to_int bytes (front_part n old stream) (front_regions n old) old p partial before new q still after allow result
 
 module _ {S D : Type 0} where
   -- the image that the part is of, as it is now, and the name of its borrow

@@ -1,11 +1,13 @@
 //! Modular images of JPEG XL (ISO/IEC 18181-1).
 #![tactic(auto)]
 
+pub mod groups;
 pub mod image;
 pub mod laws;
 mod opening;
 mod picture;
 mod root;
+pub mod sections;
 
 /// Bits of the input.
 pub mod bits {

@@ -1,13 +1,21 @@
 -- What is known of each image, from its reading.
-use Rattle.std.specs.Prelude.{◌≡◌, ◌≤◌, length, Ok}
+use Rattle.std.specs.Prelude.{◌≡◌, ◌≤◌, List, length, Ok}
 use Rattle.std.specs.List.{All}
 use Rattle.jxlm_chain.specs.Layout.{HasBuffers, buffers_of, first_layout, layout_after_all}
 use Rattle.jxlm_chain.specs.Steps.{IsNarrowStore}
-use Rattle.jxlm_transform.specs.Channels.{ChannelList, IsNarrow}
+use Rattle.jxlm_transform.specs.Channels.{Channel, IsNarrow, image_list}
+use Rattle.jxlm_transform.specs.Params.{IsGroupDim, IsValidChannel}
+use Rattle.jxlm_transform.specs.declared.param.ModularChannelParams.{ModularChannelParams}
 use Rattle.jxlm_transform.specs.ChannelSteps.{list_after_all}
 use Rattle.jxlm_transform.specs.Steps.{HasChannels, HasWeights}
 use Rattle.jxlm_tree.specs.SelfCorrecting.{IsHeader}
 use Rattle.jxl_modular.specs.Image.{Image, coded_list, given_list}
+
+-- channels as valid parameters ask for them
+pub record AreAskedFor (channels : List Channel) : Type 0 where
+  pub params : List ModularChannelParams
+  pub valid : All IsValidChannel params
+  pub are : channels ≡ (image_list params).channels
 
 -- The coded channels, which are narrow and at most 65536, are those that the steps leave, and lie where these put
 -- them; the buffers are those of the image's own channels, and then those of the tables.
@@ -22,3 +30,5 @@ pub record IsLaidOut {S D : Type 0} (x : Image S D) : Type 0 where
   pub steps : All HasChannels x.steps
   pub palettes : All (HasWeights x.weights) x.steps
   pub deep : x.bit_depth ≤ 32
+  pub groups : IsGroupDim x.group_dim
+  pub asked : AreAskedFor x.given

@@ -51,16 +51,17 @@ fn with_tables<S: Sample>(
 
 impl<S: Sample, D: Decoder> ModularImageDestination<S, D> {
     ghost use Rattle.std.specs.Prelude.{◌≤◌};
-    ghost use Rattle.std.specs.List.{All};
-    ghost use Rattle.jxlm_transform.specs.Channels.{IsNarrow, list_of};
+    ghost use Rattle.jxlm_transform.specs.Channels.{list_of};
+    ghost use Rattle.jxlm_transform.specs.Params.{IsGroupDim};
+    ghost use Rattle.jxl_modular.specs.Inner.Laid.{AreAskedFor};
     ghost use Rattle.jxlm_chain.specs.Layout.{first_layout};
     ghost use Rattle.jxlm_chain.specs.Placed.{IsPlacedBy};
     ghost use Rattle.jxl_modular.specs.Inner.Opened.{IsOpened, opened_of, steps_of_header};
 
     /// An image of these channels, each in a buffer of its own, whose coded channels are those that the transforms of
-    /// its header leave, each in its region. It keeps what undoes the transforms. All cells are 0. No side is above
-    /// 2^30, at most 65536 channels are coded, and weights and palettes are those of a header that was read. Out of
-    /// memory is its only error.
+    /// its header leave, each in its region. It keeps what undoes the transforms. All cells are 0. The channels are
+    /// those of valid parameters, at most 65536 channels are coded, and weights and palettes are those of a header that
+    /// was read. Out of memory is its only error.
     pub(crate) fn new(
         alloc: Global,
         header: ModularHeader,
@@ -73,7 +74,8 @@ impl<S: Sample, D: Decoder> ModularImageDestination<S, D> {
         requires opened { IsOpened (list_of given) (header, placed) }
         requires placed { IsPlacedBy (steps_of_header header) (first_layout (list_of given).channels) placed }
         requires image { given.nb_meta_channels ≡ 0 }
-        requires narrow_given { All IsNarrow (list_of given).channels }
+        requires asked { AreAskedFor (list_of given).channels }
+        requires groups { IsGroupDim group_dim }
         requires deep { bit_depth ≤ 32 }
         ensures ok { IfOk result (λ image. image ≡ fresh (S.from_int (pos 0)) (list_of given)
             (opened_of (header, placed)) ma_ctx group_dim bit_depth) }

@@ -5,6 +5,7 @@ use Rattle.jxlm_chain.specs.Steps.{IsNarrowStore}
 use Rattle.jxlm_transform.specs.Channels.{list_of}
 use Rattle.jxlm_transform.specs.ChannelSteps.{Step, list_after_all}
 use Rattle.jxlm_transform.specs.Transforms.{transform_of}
+use Rattle.jxlm_transform.proofs.SideBounds.{narrow_image}
 use Rattle.jxl_modular.specs.Fresh.{zeros}
 use Rattle.jxl_modular.proofs.FreshLaws.{buffers_zeros, zeros_fit, zeros_narrow}
 use Rattle.jxl_modular.proofs.image.ModularImageDestination.new.Goals as goal
@@ -23,13 +24,15 @@ invariant_of-result g c =
         list = subst (λ n. list_after_all ss (record { channels = cs; nb_meta = n }) ≡ Ok (list_of c.args.placed.channels)) c.requires.image c.requires.opened.leaves;
         regions = coded;
         buffers = subst (HasBuffers (buffers_of cs ss)) (sym store) (zeros_fit zero (buffers_of cs ss));
-        narrow_store = subst IsNarrowStore (sym store) (zeros_narrow zero cs ss c.requires.narrow_given c.requires.opened.tables);
+        narrow_store = subst IsNarrowStore (sym store) (zeros_narrow zero cs ss (rw c.requires.asked.are (narrow_image c.requires.asked.params c.requires.asked.valid)) c.requires.opened.tables);
         narrow = c.requires.opened.narrow;
         few = c.requires.opened.few;
         weights = c.requires.opened.weights;
         steps = c.requires.opened.steps;
         palettes = c.requires.opened.palettes;
         deep = c.requires.deep;
+        groups = c.requires.groups;
+        asked = c.requires.asked;
       };
       undos = c.requires.placed.undos;
     }

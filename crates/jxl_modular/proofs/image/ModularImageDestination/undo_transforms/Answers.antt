@@ -1,4 +1,4 @@
-use Rattle.std.proofs.Common.{◌≡◌, sym, map, ap, subst, ◌∙◌, List, Some}
+use Rattle.std.proofs.Common.{◌≡◌, sym, ap, subst, ◌∙◌, List, Some}
 use Rattle.std.specs.List.{All}
 use Rattle.jxlm_base.specs.Grid.{Grid}
 use Rattle.jxlm_chain.specs.Layout.{first_layout}

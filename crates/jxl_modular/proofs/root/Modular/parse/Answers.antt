@@ -1,4 +1,4 @@
-use Rattle.std.proofs.Common.{arith, sym, ◌≡◌, ◌+◌, ◌^◌, ◌<◌, min, pos, List, [], length, map, sum_by, false, rules, Err, Ok, ap, ◌∙◌, subst}
+use Rattle.std.proofs.Common.{arith, sym, ◌≡◌, ◌+◌, ◌^◌, ◌<◌, min, pos, List, [], length, sum_by, false, rules, Err, Ok, ap, ◌∙◌, subst}
 use Rattle.jxlm_base.specs.Bits.{bytes_of, position_of}
 use Rattle.jxlm_chain.specs.declared.placed.PlacedChannels.{PlacedChannels}
 use Rattle.jxlm_tree.specs.TreeReading.{TreeGives, IsTreeAt}
@@ -9,7 +9,7 @@ use Rattle.jxlm_header.specs.declared.header.ModularHeader.{ModularHeader}
 use Rattle.jxl_modular.proofs.ParsingLaws.{image_stands, same_list, tree_fails, not_zero, gives_image, gives_error}
 use Rattle.jxl_modular.proofs.root.Modular.parse.Goals as goal
 use Rattle.jxlm_base.specs.ErrorKind.{kind_of}
-use Rattle.jxlm_transform.specs.Channels.{Channel, IsNarrow, area, image_list, list_of}
+use Rattle.jxlm_transform.specs.Channels.{Channel, ChannelList, IsNarrow, area, image_list, list_of}
 use Rattle.jxlm_chain.specs.Layout.{first_layout}
 use Rattle.jxlm_chain.specs.Placed.{IsPlacedBy}
 use Rattle.jxlm_chain.proofs.PlacedSteps.{placed_by}
@@ -38,10 +38,14 @@ new-requires-2-clause-placed g c κs within =
     let by = subst (λ (is : List Channel). IsPlacedBy [] (first_layout is) c.in_ok-start.start) c.deref-2.ensures.value c.in_ok-start.ensures.by in
     placed_by _ _ c.in_ok-start.start c.in_ok-header.placed by c.in_ok-header.ensures.goes
 
-pub new-requires-2-clause-narrow_given : goal.new-requires-2-clause-narrow_given
-new-requires-2-clause-narrow_given g c κs within =
+pub new-requires-2-clause-asked : goal.new-requires-2-clause-asked
+new-requires-2-clause-asked g c κs within =
     let given : list_of c.in_ok-given.given ≡ image_list c.args.params.channels.items = c.in_ok-given.ensures.ok ∙ ap (λ (cs : List ModularChannelParams). image_list cs) c.deref.ensures.value in
-    subst (λ l. All IsNarrow l.channels) (sym given) (narrow_image c.args.params.channels.items c.requires.valid.channels)
+    record {
+      params = c.args.params.channels.items;
+      valid = c.requires.valid.channels;
+      are = ap (λ (l : ChannelList). l.channels) given;
+    }
 
 pub returns-in_err-image-clause-gives : goal.returns-in_err-image-clause-gives
 returns-in_err-image-clause-gives g c =

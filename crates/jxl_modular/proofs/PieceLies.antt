@@ -1,0 +1,50 @@
+-- A part of an image that is cut lies in the image's store.
+use Rattle.std.proofs.Common.{◌≡◌, List, [], get_or, arith}
+use Rattle.std.specs.List.{All}
+use Rattle.jxlm_base.specs.Grid.{grid}
+use Rattle.jxlm_base.specs.Regions.{AllLie}
+use Rattle.jxlm_base.specs.declared.subgrid.Region.{Region}
+use Rattle.jxlm_cut.specs.Pieces.{HasRoom}
+use Rattle.jxlm_cut.specs.declared.part.SectionPart.{SectionPart}
+use Rattle.jxlm_cut.specs.declared.pass.Pass.{Pass}
+use Rattle.jxlm_cut.proofs.Apart.{IsInside}
+use Rattle.jxlm_cut.proofs.HeldCells.{unlike_buffers}
+use Rattle.jxlm_cut.proofs.PartChannels.{few_channels, narrow_channels}
+use Rattle.jxlm_cut.proofs.PieceFacts.{channels_sides, each_inside, held_apart, pieces_lie}
+use Rattle.jxlm_part.specs.Placed.{PartLies}
+use Rattle.jxlm_part.specs.declared.part.PlacedPart.{PlacedPart}
+use Rattle.jxl_modular.specs.Groups.{channels_in, held_in, pieces_of}
+use Rattle.jxl_modular.specs.Image.{Image, coded_list}
+use Rattle.jxl_modular.specs.Inner.Laid.{IsLaidOut}
+use Rattle.jxl_modular.proofs.Laid.{coded_apart, coded_lie, coded_sizes}
+
+module _ {S D : Type 0} (x : Image S D) (laid : IsLaidOut x) where
+  -- the ends of the coded channels' regions can be counted in 64 bits
+  pub coded_room : All HasRoom x.coded
+  coded_room = λ k d lt.
+      let r : Region = get_or x.coded k d in
+      let lies = coded_lie x laid k d lt in
+      let sides = laid.narrow_store r.buffer (grid 0 0 []) lies.there in
+      let wide = sides.0 in
+      let high = sides.1 in
+      let columns = lies.columns in
+      let rows = lies.rows in
+      (omega (arith, wide, columns), omega (arith, high, rows))
+
+  module _ (passes : List Pass) (part : SectionPart) where
+    pub held_inside : All (IsInside x.coded) (pieces_of x passes part)
+    held_inside = each_inside x.group_dim passes (coded_list x) x.coded (coded_sizes x laid) part
+
+    pub held_lie : AllLie (held_in x passes part) x.store
+    held_lie = pieces_lie x.store x.coded (pieces_of x passes part) (coded_lie x laid) held_inside
+
+    -- the part, as one that lies in the store
+    pub held_lies : (p : PlacedPart D) → p.channels.now ≡ channels_in x passes part → p.regions.now ≡ held_in x passes part → p.weights ≡ x.weights → PartLies p x.store
+    held_lies p channels regions weights = record {
+      sizes = rw (channels, regions) (channels_sides x.group_dim passes (coded_list x) x.coded part);
+      narrow = rw channels (narrow_channels x.group_dim passes (coded_list x) part laid.narrow);
+      few = rw channels (let l = few_channels x.group_dim passes (coded_list x) part in let f = laid.few in omega (arith, l, f));
+      weights = rw weights laid.weights;
+      lie = rw regions held_lie;
+      apart = rw regions (held_apart x.coded (pieces_of x passes part) (coded_apart x laid) held_inside (unlike_buffers x.group_dim passes (coded_list x) part));
+    }

@@ -1,0 +1,40 @@
+-- The turn of one section, and the turns of several.
+use Rattle.std.specs.Prelude.{◌≡◌, ◌↔◌, ℕ, ◌+◌, ℤ, List, ◌++◌, ◌∷◌, map, sum, not, Bool, IsTrue, Result, Ok, Err}
+use Rattle.std.specs.Int.{Width}
+use Rattle.jxlm_base.specs.Decoding.{Meaning}
+use Rattle.jxlm_base.specs.Grid.{Grid}
+use Rattle.jxlm_base.specs.declared.error.Error.{Error}
+use Rattle.jxlm_cut.specs.declared.pass.Pass.{Pass}
+use Rattle.jxlm_part.specs.Decode.{MovesWithin}
+use Rattle.jxl_modular.specs.Image.{Image}
+use Rattle.jxl_modular.specs.Sections.{AllTurn, AllWhole, PlainTurn, Section, Turn, most}
+
+module _ {S D : Type 0} (d : Meaning D) (w : Width) (to_int : S → ℤ) (x : Image S D) (passes : List Pass) (partly : Bool) where
+  -- a section's turn: its samples were decoded, all of them or not, or there was an error
+  abbrev pub Turns : Section → Result Bool Error → Turn → List (Grid S) → List (Grid S) → Type 0
+  Turns s (Ok whole) t old new = PlainTurn d w to_int x passes partly s (Ok tt) t old new × (whole ≡ not t.partial)
+  Turns s (Err e) t old new = PlainTurn d w to_int x passes partly s (Err e) t old new
+
+  -- and what it took of steps
+  abbrev pub TurnGives : Section → Result Bool Error → List (Grid S) → List (Grid S) → ℕ → ℕ → Type 0
+  TurnGives s result old new before after = (t : Turn) × Turns s result t old new × MovesWithin before after (most t)
+
+  -- all sections had their turn, and whether all samples were decoded
+  pub record HasTurned (sections : List Section) (whole : Bool) (old new : List (Grid S)) (before after : ℕ) : Type 0 where
+    pub turns : List Turn
+    pub left : AllTurn d w to_int x passes partly sections turns old new
+    pub says : IsTrue whole ↔ AllWhole turns
+    pub counted : MovesWithin before after (sum (map most turns))
+
+  -- the first sections had their turn, and the next one ends with an error
+  pub record HasStopped (sections : List Section) (e : Error) (old new : List (Grid S)) (before after : ℕ) : Type 0 where
+    pub done : List Section
+    pub next : Section
+    pub rest : List Section
+    pub in_order : sections ≡ done ++ next ∷ rest
+    pub turns : List Turn
+    pub between : List (Grid S)
+    pub left : AllTurn d w to_int x passes partly done turns old between
+    pub last : Turn
+    pub ends : PlainTurn d w to_int x passes partly next (Err e) last between new
+    pub counted : MovesWithin before after (sum (map most turns) + most last)

@@ -1,0 +1,303 @@
+//! Images that are decoded by their parts: the groups of the passes, and the LF groups (ISO/IEC 18181-1, frame: groups,
+//! LF groups and passes).
+
+ghost use Rattle.std.specs.Prelude.{◌≡◌, ◌≢◌, ◌↔◌, Some, IsFalse, IsOk, IsSome, IsTrue, IfOk, IfErr, OnOk, OnErr, nat_le};
+ghost use Rattle.std.specs.List.{list_all};
+ghost use Rattle.jxlm_base.specs.Bits.{bytes_of, position_of};
+ghost use Rattle.jxlm_base.specs.ErrorKind.{BadSqueeze, UnlessNoMemory, kind_of};
+ghost use Rattle.jxlm_part.specs.Part.{cell_count};
+
+use crate::image::ModularImageDestination;
+use jxlm_base::bits::Bitstream;
+use jxlm_base::decoder::Decoder;
+use jxlm_base::error::Result;
+use jxlm_base::grid::OutOfMemory;
+use jxlm_base::sample::Sample;
+use jxlm_cut::part::{Kind, SectionPart};
+use jxlm_cut::pass::{Pass, passes};
+use jxlm_tree::flat::Steps;
+use std::alloc::Global;
+use std::collections::BTreeMap;
+
+/// A part of an image that is cut into groups, beside its global part.
+#[derive(Clone, Copy, Debug, PartialEq, Eq, PartialOrd, Ord)]
+pub enum Part {
+    /// An LF group, by its number, from 0.
+    Lf(u64),
+    /// A group of a pass: the pass's number, and the group's, from 0.
+    Pass(u32, u64),
+}
+
+impl From<Part> for SectionPart {
+    ghost use Rattle.jxl_modular.specs.GroupParts.{section_part};
+
+    ghost from_gives = { λ part name. name ≡ section_part part };
+
+    fn from(part: Part) -> SectionPart {
+        match part {
+            Part::Lf(group) => SectionPart::Lf(group),
+            Part::Pass(pass, group) => SectionPart::Pass(pass, group),
+        }
+    }
+}
+
+/// How far a part is decoded.
+#[derive(Drop)]
+struct PartState {
+    // False from the first decode on that ended whole.
+    partial: bool,
+    steps: Steps,
+}
+
+impl PartState {
+    ghost use Rattle.jxl_modular.specs.GroupParts.{new_state};
+
+    /// That of a part whose decode has not begun.
+    fn new() -> PartState
+        ensures { result ≡ new_state }
+    {
+        PartState {
+            partial: true,
+            steps: Steps::new(),
+        }
+    }
+}
+
+/// The passes that an image is cut by, and how far its parts are decoded.
+#[derive(Drop)]
+struct Progress {
+    passes: Vec<Pass>,
+    // Of the parts whose decode began.
+    states: BTreeMap<Part, PartState>,
+    // Those of the other parts.
+    no_steps: Steps,
+    ghost numbered: { IsTrue (list_all (λ p. nat_le p.number 255) passes.items) },
+    ghost none: { no_steps ≡ 0 },
+}
+
+impl Progress {
+    ghost use Rattle.jxl_modular.specs.GroupParts.{Part, pass_count, state_in, state_kept};
+
+    /// One more than the maximum number of a pass.
+    fn num_passes(&self) -> u32
+        ensures { result ≡ pass_count self.now.passes.items }
+    {
+        let mut count = 0;
+        for pass in &self.passes {
+            count = count.max(pass.number + 1);
+        }
+        count
+    }
+
+    /// Whether no decode of the part ended whole.
+    fn is_partial(&self, part: Part) -> bool
+        ensures { result ≡ (state_in self.now part).partial }
+    {
+        match self.states.get(&part) {
+            Some(state) => state.partial,
+            None => true,
+        }
+    }
+
+    /// How many nodes of trees were looked at by the decodes of the part.
+    fn steps(&self, part: Part) -> &Steps
+        ensures { result.now ≡ (state_in self.now part).steps }
+    {
+        match self.states.get(&part) {
+            Some(state) => &state.steps,
+            None => &self.no_steps,
+        }
+    }
+
+    /// Takes the state of the part out, and keeps a new one in its place. Out of memory is its only error.
+    fn take(&mut self, part: Part) -> std::result::Result<PartState, OutOfMemory>
+        ensures taken { IfOk result (λ state. state ≡ state_in self.old part) }
+        ensures kept { OnOk result (IsSome (state_kept self.new part)) }
+        ensures unchanged { OnErr result (state_kept self.new part ≡ state_kept self.old part) }
+        ensures others { (other : Part) → other ≢ part → state_kept self.new other ≡ state_kept self.old other }
+        ensures passes { self.new.passes.items ≡ self.old.passes.items }
+    {
+        let kept = self
+            .states
+            .insert(part, PartState::new())
+            .map_err(|_| OutOfMemory)?;
+        match kept {
+            Some(state) => Ok(state),
+            None => Ok(PartState::new()),
+        }
+    }
+
+    /// Puts the state of the part back, where one is kept in its place.
+    fn put(&mut self, part: Part, state: PartState)
+        requires kept { IsSome (state_kept self.old part) }
+        ensures put { state_kept self.new part ≡ Some state }
+        ensures others { (other : Part) → other ≢ part → state_kept self.new other ≡ state_kept self.old other }
+        ensures passes { self.new.passes.items ≡ self.old.passes.items }
+    {
+        if let Some(kept) = self.states.get_mut(&part) {
+            *kept = state;
+        }
+    }
+}
+
+/// An image that is cut into groups, to be decoded part by part, in any order.
+///
+/// It is held for writing until this is given up; it then keeps the samples that were decoded.
+#[derive(Drop)]
+pub struct TransformedGlobalModular<'dest, S, D: Decoder> {
+    image: &'dest mut ModularImageDestination<S, D>,
+    progress: Progress,
+}
+
+impl<S: Sample, D: Decoder> ModularImageDestination<S, D> {
+    ghost use Rattle.std.specs.Borrow.{sem};
+    ghost use Rattle.jxlm_cut.specs.Cutting.{can_cut};
+    ghost use Rattle.jxlm_cut.specs.Passes.{can_group as groups_possible, passes_of};
+    ghost use Rattle.jxl_modular.specs.Groups.{IsCut};
+    ghost use Rattle.jxl_modular.specs.GroupParts.{AreNew, image_of, loan, passes_in};
+    ghost use Rattle.jxl_modular.specs.Image.{coded_list};
+    ghost use Rattle.jxl_modular.specs.PartRests.{RestsWithGroups};
+
+    /// The image cut into groups by these passes, each from its first shift on up to its last one, which it does not
+    /// hold (ISO/IEC 18181-1, frame: passes and groups). It must be possible
+    /// ([`can_group`](ModularImageDestination::can_group)).
+    ///
+    /// Each part that has samples is partial at first, and without a step; the image stays as it is.
+    ///
+    /// # Errors
+    ///
+    /// `InvalidSqueezeParams` if a group has a side of 0 in a coded channel, because of a squeeze's shift. `Buffer` if
+    /// it is out of memory. The image is as before then.
+    pub fn prepare_groups(
+        &mut self,
+        alloc: Global,
+        pass_shifts: &BTreeMap<u32, (i32, i32)>,
+    ) -> Result<TransformedGlobalModular<'_, S, D>>
+        requires possible { IsTrue (groups_possible (passes_of pass_shifts.now.entries) self.old.given) }
+        ensures* rests { sem 𝓛 (RestsWithGroups S.row D.row D.Decoder self.entry result) }
+        ensures same_reference { IfOk result (λ g. loan g ≡ self.entry.ghost_name) }
+        ensures unchanged { IfOk result (λ g. image_of g ≡ self.old) }
+        ensures passes { IfOk result (λ g. passes_in g ≡ passes_of pass_shifts.now.entries) }
+        ensures cut { IfOk result (λ g. IsCut (image_of g) (passes_in g)) }
+        ensures new { IfOk result AreNew }
+        ensures err { IfErr result (λ e. UnlessNoMemory (kind_of e) ((kind_of e ≡ BadSqueeze)
+            × IsFalse (can_cut self.old.group_dim (coded_list self.old)))) }
+    {
+        self.check_cut()?;
+        let passes = passes(alloc, pass_shifts)?;
+        Ok(TransformedGlobalModular {
+            image: self,
+            progress: Progress {
+                passes,
+                states: BTreeMap::new(alloc),
+                no_steps: Steps::new(),
+            },
+        })
+    }
+}
+
+impl<'dest, S: Sample, D: Decoder> TransformedGlobalModular<'dest, S, D> {
+    ghost use Rattle.jxlm_cut.specs.declared.part.Kind.TheVariants as kinds;
+    ghost use Rattle.jxl_modular.specs.GroupParts.{KeepsOtherParts, PartGives, channels_of, groups_of, image_of, is_partial, loan, pass_count, passes_in, regions_of, steps_of};
+    ghost use Rattle.jxl_modular.specs.SameButCells.{SameButIn};
+
+    /// How many LF groups the image has: 0 where no channel is cut into them. They are numbered by rows, left to right.
+    pub fn num_lf_groups(&self) -> u64
+        ensures { result ≡ groups_of self.now kinds.Lf }
+    {
+        self.image.group_count(&self.progress.passes, Kind::Lf)
+    }
+
+    /// One more than the maximum number of a pass.
+    pub fn num_passes(&self) -> u32
+        ensures { result ≡ pass_count (passes_in self.now) }
+    {
+        self.progress.num_passes()
+    }
+
+    /// How many groups the pass of this number has: 0 where no channel is cut into them, or there is no such pass. They
+    /// are numbered by rows, left to right.
+    pub fn num_groups(&self, pass: u32) -> u64
+        ensures { result ≡ groups_of self.now (kinds.Pass pass) }
+    {
+        self.image
+            .group_count(&self.progress.passes, Kind::Pass(pass))
+    }
+
+    /// Whether the part has no samples, as one that does not exist.
+    pub fn is_empty(&self, part: Part) -> bool
+        ensures { IsTrue result ↔ (cell_count (channels_of self.now part) ≡ 0) }
+    {
+        !self
+            .image
+            .part_has_samples(&self.progress.passes, part.into())
+    }
+
+    /// Whether samples of the part are still to be decoded: from the start where it has some, until a decode has
+    /// ended whole.
+    pub fn is_partial(&self, part: Part) -> bool
+        ensures { result ≡ is_partial self.now part }
+    {
+        !self.is_empty(part) && self.progress.is_partial(part)
+    }
+
+    /// How many nodes of trees were looked at by the decodes of the part, as contracts see it: 0 at first, and each
+    /// `decode` moves it by at most the tree's depth and one more for each sample whose read it tried.
+    pub fn steps(&self, part: Part) -> &Steps
+        ensures { result.now ≡ steps_of self.now part }
+    {
+        self.progress.steps(part)
+    }
+
+    /// Decodes all samples of the part from the reader's position (ISO/IEC 18181-1, Modular: decoding of samples).
+    ///
+    /// It is Ok where the samples are coded whole from there; then the part is whole, and the reader is after them. A
+    /// part without samples reads no bit and is Ok. With `allow_partial` it is also Ok where the input ends, and the
+    /// part stays partial. The samples of other parts stay, and how far these are decoded.
+    ///
+    /// # Memory
+    ///
+    /// All memory is taken before the first bit is read: a note of the part at its first decode, the part's channels, a
+    /// clone of the decoder, a tree for each of the channels, which shares its nodes, and room for two rows of the
+    /// maximum width.
+    ///
+    /// # Errors
+    ///
+    /// The decoder's error: of its `begin`, of the read of one sample, or of its `finalize`. The samples before are
+    /// then decoded and the others as before, the part stays partial, and the reader is where that call began. Out of
+    /// memory, `Buffer` or `Decoder(OutOfMemory)`, leaves reader, samples and part as they were.
+    pub fn decode(
+        &mut self,
+        alloc: Global,
+        part: Part,
+        bits: &mut Bitstream<'_>,
+        stream_index: u32,
+        allow_partial: bool,
+    ) -> Result<()>
+        ensures gives { PartGives D.meaning S.width S.to_int (bytes_of bits.old) stream_index part self.old
+            (position_of bits.old) self.new (position_of bits.new) allow_partial result }
+        ensures empty { cell_count (channels_of self.old part) ≡ 0 → IsOk result }
+        ensures same { SameButIn (regions_of self.old part) (image_of self.old) (image_of self.new) }
+        ensures others { KeepsOtherParts part self.old self.new }
+        ensures passes { passes_in self.new ≡ passes_in self.old }
+        ensures same_reference { loan self.new ≡ loan self.old }
+        ensures bytes { bytes_of bits.new ≡ bytes_of bits.old }
+    {
+        if self.is_empty(part) {
+            return Ok(());
+        }
+        let mut state = self.progress.take(part)?;
+        let result = self.image.decode_part(
+            alloc,
+            bits,
+            &self.progress.passes,
+            part.into(),
+            stream_index,
+            allow_partial,
+            &mut state.partial,
+            &mut state.steps,
+        );
+        self.progress.put(part, state);
+        result
+    }
+}

@@ -1,0 +1,130 @@
+//! Images that are cut into parts (ISO/IEC 18181-1, frame: groups, LF groups and passes).
+
+ghost use Rattle.jxlm_base.specs.Bits.{bytes_of, position_of};
+ghost use Rattle.jxlm_part.specs.Part.{cell_count};
+ghost use Rattle.std.specs.Prelude.{◌≡◌, ◌↔◌, ◌<◌, IsOk, IsTrue, IsFalse, IfOk, IfErr};
+
+use super::ModularImageDestination;
+use jxlm_base::bits::Bitstream;
+use jxlm_base::decoder::Decoder;
+use jxlm_base::error::Result;
+use jxlm_base::sample::Sample;
+use jxlm_cut::complete::has_each_part;
+use jxlm_cut::cut::{check_cut, exists, group_count};
+use jxlm_cut::part::{Kind, SectionPart};
+use jxlm_cut::pass::Pass;
+use jxlm_cut::pieces::{Pieces, has_pieces};
+use jxlm_part::part::PlacedPart;
+use jxlm_tree::flat::Steps;
+use std::alloc::Global;
+use std::collections::BTreeSet;
+
+impl<S: Sample, D: Decoder> ModularImageDestination<S, D> {
+    ghost use Rattle.jxlm_base.specs.ErrorKind.{BadSqueeze, kind_of};
+    ghost use Rattle.jxlm_cut.specs.Counts.{exists as the_existing, group_count as the_group_count};
+    ghost use Rattle.jxlm_cut.specs.Cutting.{can_cut};
+    ghost use Rattle.jxlm_cut.specs.PartSets.{HoldsEach};
+    ghost use Rattle.jxl_modular.specs.Image.{coded_list};
+    ghost use Rattle.jxl_modular.specs.Groups.{PartOfGives, channels_in, held_in};
+    ghost use Rattle.jxl_modular.specs.Inner.Laid.{IsLaidOut};
+    ghost use Rattle.jxl_modular.specs.SameButCells.{SameButIn};
+
+    /// Checks that no group has a side of 0.
+    pub(crate) fn check_cut(&self) -> Result<()>
+        ensures ok { IfOk result (λ _. IsTrue (can_cut self.now.group_dim (coded_list self.now))) }
+        ensures err { IfErr result (λ e. (kind_of e ≡ BadSqueeze) × IsFalse
+            (can_cut self.now.group_dim (coded_list self.now))) }
+    {
+        check_cut(&self.channels, self.nb_meta_channels, self.group_dim)
+    }
+
+    /// How many groups there are of a kind.
+    pub(crate) fn group_count(&self, passes: &[Pass], kind: Kind) -> u64
+        ensures { result ≡ the_group_count self.now.group_dim passes.now (coded_list self.now) kind }
+    {
+        group_count(
+            &self.channels,
+            self.nb_meta_channels,
+            self.group_dim,
+            passes,
+            kind,
+        )
+    }
+
+    /// Whether there is such a part.
+    pub(crate) fn has_part(&self, passes: &[Pass], part: SectionPart) -> bool
+        ensures { result ≡ the_existing self.now.group_dim passes.now (coded_list self.now) part }
+    {
+        exists(
+            &self.channels,
+            self.nb_meta_channels,
+            self.group_dim,
+            passes,
+            part,
+        )
+    }
+
+    /// Whether a part has samples.
+    pub(crate) fn part_has_samples(&self, passes: &[Pass], part: SectionPart) -> bool
+        ensures { IsTrue result ↔ (0 < cell_count (channels_in self.now passes.now part)) }
+    {
+        has_pieces(
+            &self.channels,
+            self.nb_meta_channels,
+            self.group_dim,
+            passes,
+            part,
+        )
+    }
+
+    /// Whether a set has each part with samples.
+    pub(crate) fn has_each_part(&self, passes: &[Pass], parts: &BTreeSet<SectionPart>) -> bool
+        ensures each { IsTrue result ↔ HoldsEach self.now.group_dim passes.now (coded_list self.now) parts.now }
+        ensures laid { IsLaidOut self.now }
+    {
+        has_each_part(
+            &self.channels,
+            self.nb_meta_channels,
+            self.group_dim,
+            passes,
+            parts,
+        )
+    }
+
+    /// Decodes all samples of a part. All memory is taken before the first bit is read.
+    pub(crate) fn decode_part(
+        &mut self,
+        alloc: Global,
+        bits: &mut Bitstream<'_>,
+        passes: &[Pass],
+        part: SectionPart,
+        stream_index: u32,
+        allow_partial: bool,
+        partial: &mut bool,
+        steps: &mut Steps,
+    ) -> Result<()>
+        ensures gives { PartOfGives D.meaning S.width S.to_int (bytes_of bits.old) stream_index passes.now part
+            self.old (position_of bits.old) partial.old steps.old
+            self.new (position_of bits.new) partial.new steps.new allow_partial result }
+        ensures same { SameButIn (held_in self.old passes.now part) self.old self.new }
+        ensures bytes { bytes_of bits.new ≡ bytes_of bits.old }
+    {
+        let pieces = Pieces::of(
+            alloc,
+            &self.channels,
+            self.nb_meta_channels,
+            self.group_dim,
+            passes,
+            &self.coded,
+            part,
+        )?;
+        let placed = PlacedPart {
+            channels: &pieces.infos,
+            regions: &pieces.regions,
+            config: &self.ma_ctx,
+            weights: self.header.wp_params,
+            stream_index,
+        };
+        placed.decode(alloc, bits, &mut self.store, allow_partial, partial, steps)
+    }
+}

@@ -1,0 +1,81 @@
+//! Whole runs: an image decoded from sections, each of which codes one part (ISO/IEC 18181-1, frame: sections).
+
+ghost use Rattle.std.specs.Prelude.{◌≡◌, true, Ok, IfOk, IfErr};
+ghost use Rattle.std.specs.List.{All};
+ghost use Rattle.jxlm_cut.specs.Passes.{passes_of};
+ghost use Rattle.jxl_modular.specs.Image.{image_grids};
+ghost use Rattle.jxl_modular.specs.SameButCells.{SameButCells};
+ghost use Rattle.jxl_modular.specs.Sections.{AreDecoded, IsPlain, SectionsFit, SectionsLeave, SectionsStop};
+
+mod complete;
+mod fit;
+mod turns;
+
+use crate::image::ModularImageDestination;
+pub use fit::sections_fit;
+use jxlm_base::bits::Bitstream;
+use jxlm_base::decoder::Decoder;
+use jxlm_base::error::Result;
+use jxlm_base::sample::Sample;
+pub use jxlm_cut::part::SectionPart;
+use jxlm_cut::pass::passes;
+use jxlm_tree::flat::Steps;
+use jxlm_tree::ma::MaConfig;
+use std::alloc::Global;
+use std::collections::BTreeMap;
+
+/// The bits of one part.
+#[derive(Clone, Copy)]
+pub struct Section<'a> {
+    /// The part.
+    pub part: SectionPart,
+    /// Where it is read from; what follows it there is not looked at.
+    pub bits: Bitstream<'a>,
+    /// The index of its stream.
+    pub stream_index: u32,
+    /// Whether the part has a header of its own.
+    pub nested: bool,
+}
+
+/// Decodes sections, in their order, and undoes the transforms of the whole (ISO/IEC 18181-1, Modular: image
+/// decoding). It returns whether each part with samples had a section and all samples were decoded; without
+/// `allow_partial` the first is the only question. The sections must fit the image ([`sections_fit`]), and none has a
+/// header of its own; `_global` is the tree for sections that have one.
+///
+/// # Memory
+///
+/// The list of passes, a set of the sections' parts, and at each section what a part's `decode` takes; at last what
+/// `finish` takes.
+///
+/// # Errors
+///
+/// That of the first section that has one, as a part's `decode` returns it: the sections before it are decoded, it
+/// stands as `decode` leaves it, no later one was begun, and no transform is undone. Or `Buffer`, out of memory, before
+/// a section or before the transforms are undone. Header, tree and sizes stay.
+pub fn decode_sections<S: Sample, D: Decoder>(
+    alloc: Global,
+    image: &mut ModularImageDestination<S, D>,
+    pass_shifts: &BTreeMap<u32, (i32, i32)>,
+    sections: &[Section<'_>],
+    _global: Option<&MaConfig<D>>,
+    allow_partial: bool,
+    steps: &mut Steps,
+) -> Result<bool>
+    requires plain { All IsPlain sections.now }
+    requires fit { SectionsFit image.old (passes_of pass_shifts.now.entries) sections.now }
+    ensures decoded { result ≡ Ok true → AreDecoded D.meaning S.width S.to_int image.old
+        (passes_of pass_shifts.now.entries) sections.now (image_grids S.to_int image.new) steps.old steps.new }
+    ensures left { IfOk result (λ whole. SectionsLeave D.meaning S.width S.to_int image.old
+        (passes_of pass_shifts.now.entries) allow_partial sections.now whole image.old.store
+        (image_grids S.to_int image.new) steps.old steps.new) }
+    ensures stopped { IfErr result (λ e. SectionsStop D.meaning S.width S.to_int image.old
+        (passes_of pass_shifts.now.entries) allow_partial sections.now e image.old.store image.new.store
+        steps.old steps.new) }
+    ensures same { SameButCells image.old image.new }
+{
+    let passes = passes(alloc, pass_shifts)?;
+    let complete = image.is_complete(alloc, &passes, sections)?;
+    let whole = image.decode_all(alloc, &passes, sections, allow_partial, steps)?;
+    image.undo_transforms(alloc)?;
+    Ok(whole && complete)
+}

@@ -1,0 +1,70 @@
+//! Sections decoded one after another.
+
+ghost use Rattle.std.specs.Prelude.{IfOk, IfErr};
+
+use super::Section;
+use crate::image::ModularImageDestination;
+use jxlm_base::decoder::Decoder;
+use jxlm_base::error::Result;
+use jxlm_base::sample::Sample;
+use jxlm_cut::pass::Pass;
+use jxlm_tree::flat::Steps;
+use std::alloc::Global;
+
+impl<S: Sample, D: Decoder> ModularImageDestination<S, D> {
+    ghost use Rattle.jxl_modular.specs.SameButCells.{SameButCells};
+    ghost use Rattle.jxl_modular.specs.Inner.Turns.{HasTurned, HasStopped, TurnGives};
+
+    /// Decodes a section, and returns whether all samples of its part were decoded.
+    fn decode_section(
+        &mut self,
+        alloc: Global,
+        passes: &[Pass],
+        section: &Section<'_>,
+        allow_partial: bool,
+        steps: &mut Steps,
+    ) -> Result<bool>
+        ensures gives { TurnGives D.meaning S.width S.to_int self.old passes.now allow_partial section.now result
+            self.old.store self.new.store steps.old steps.new }
+        ensures same { SameButCells self.old self.new }
+    {
+        let mut bits = section.bits;
+        let mut partial = self.part_has_samples(passes, section.part);
+        self.decode_part(
+            alloc,
+            &mut bits,
+            passes,
+            section.part,
+            section.stream_index,
+            allow_partial,
+            &mut partial,
+            steps,
+        )?;
+        Ok(!partial)
+    }
+
+    /// Decodes sections, in their order, and returns whether all samples of their parts were decoded.
+    pub(super) fn decode_all(
+        &mut self,
+        alloc: Global,
+        passes: &[Pass],
+        sections: &[Section<'_>],
+        allow_partial: bool,
+        steps: &mut Steps,
+    ) -> Result<bool>
+        ensures turned { IfOk result (λ whole. HasTurned D.meaning S.width S.to_int self.old passes.now allow_partial
+            sections.now whole self.old.store self.new.store steps.old steps.new) }
+        ensures stopped { IfErr result (λ e. HasStopped D.meaning S.width S.to_int self.old passes.now allow_partial
+            sections.now e self.old.store self.new.store steps.old steps.new) }
+        ensures same { SameButCells self.old self.new }
+    {
+        let mut whole = true;
+        for section in sections {
+            let decoded = self.decode_section(alloc, passes, section, allow_partial, steps)?;
+            if !decoded {
+                whole = false;
+            }
+        }
+        Ok(whole)
+    }
+}
