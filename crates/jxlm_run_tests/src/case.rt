@@ -1,0 +1,128 @@
+// Runs as tables have them, a run a line. A line has, with a bar between: the channels; the side of a group, the bit
+// depth and the passes; the bytes of header and tree; the sections; and what is expected.
+//
+// A channel has the sides of its picture, as `5x3`, and after a slash its shift, unless it is 0: one number for both
+// sides, two for each side its own, or four, each 0 or 1, for a channel of a JPEG picture. A pass is `2:0,3`, its
+// number and its shifts. A section is its part, as `g`, `l4` or `p2.4`; after @ its stream's index; after + how many
+// bits of its bytes are before it, unless there are none; and after = its bytes.
+
+ghost use Rattle.std.specs.Prelude.{◌≡◌, None, IfOk};
+ghost use Rattle.std.specs.List.{All};
+ghost use Rattle.jxl_modular.specs.Sections.{IsPlain};
+
+use jxl_modular::bits::Bitstream;
+use jxl_modular::sections::{Section, SectionPart};
+use jxl_modular::{ChannelShift, ModularChannelParams};
+use jxlm_base_tests::text::{bytes, pair};
+use std::alloc::Global;
+use std::collections::BTreeMap;
+use std::test::Fail;
+
+// A section's part, its stream's index, how many bits are before it, and its bytes.
+#[derive(Drop)]
+pub struct Piece {
+    part: SectionPart,
+    stream_index: u32,
+    before: u32,
+    bytes: Vec<u8>,
+}
+
+// Numbers with a comma between.
+fn numbers(alloc: Global, text: &str) -> Result<Vec<u32>, Fail> {
+    let mut numbers = Vec::new(alloc);
+    for word in text.split(',') {
+        numbers.push(word.parse::<u32>()?)?;
+    }
+    Ok(numbers)
+}
+
+fn shift(alloc: Global, text: &str) -> Result<ChannelShift, Fail> {
+    let numbers = numbers(alloc, text)?;
+    Ok(match numbers.as_slice() {
+        [both] => ChannelShift::Shifts(*both),
+        [h, v] => ChannelShift::Raw(h.cast_signed(), v.cast_signed()),
+        [has_h, h, has_v, v] => ChannelShift::JpegUpsampling {
+            has_h_subsample: *has_h == 1,
+            h_subsample: *h == 1,
+            has_v_subsample: *has_v == 1,
+            v_subsample: *v == 1,
+        },
+        _ => return Err(Fail::from("a shift has one number, two or four")),
+    })
+}
+
+pub fn channels(alloc: Global, text: &str) -> Result<Vec<ModularChannelParams>, Fail> {
+    let mut channels = Vec::new(alloc);
+    for word in text.split(' ') {
+        let (sides, numbers) = word.split_once('/').unwrap_or((word, "0"));
+        let (width, height) = pair(sides, 'x')?;
+        let shift = shift(alloc, numbers)?;
+        channels.push(ModularChannelParams::with_shift(width.parse()?, height.parse()?, shift))?;
+    }
+    Ok(channels)
+}
+
+pub fn passes(alloc: Global, text: &str) -> Result<BTreeMap<u32, (i32, i32)>, Fail> {
+    let mut passes = BTreeMap::new(alloc);
+    for word in text.split_whitespace() {
+        let (number, shifts) = pair(word, ':')?;
+        let (first, end) = pair(shifts, ',')?;
+        passes.insert(number.parse()?, (first.parse()?, end.parse()?))?;
+    }
+    Ok(passes)
+}
+
+fn part(text: &str) -> Result<SectionPart, Fail> {
+    Ok(if let Some(group) = text.strip_prefix('l') {
+        SectionPart::Lf(group.parse()?)
+    } else if let Some(numbers) = text.strip_prefix('p') {
+        let (pass, group) = pair(numbers, '.')?;
+        SectionPart::Pass(pass.parse()?, group.parse()?)
+    } else {
+        SectionPart::Global
+    })
+}
+
+fn read_piece(alloc: Global, text: &str) -> Result<Piece, Fail> {
+    let (place, digits) = pair(text, '=')?;
+    let (name, stream) = pair(place, '@')?;
+    let (index, before) = stream.split_once('+').unwrap_or((stream, "0"));
+    Ok(Piece {
+        part: part(name)?,
+        stream_index: index.parse()?,
+        before: before.parse()?,
+        bytes: bytes(alloc, digits)?,
+    })
+}
+
+pub fn pieces(alloc: Global, text: &str) -> Result<Vec<Piece>, Fail> {
+    let mut pieces = Vec::new(alloc);
+    for word in text.split_whitespace() {
+        pieces.push(read_piece(alloc, word)?)?;
+    }
+    Ok(pieces)
+}
+
+// The reader at the section's first bit.
+fn reader(piece: &Piece) -> Result<Bitstream<'_>, Fail> {
+    let mut bits = Bitstream::new(&piece.bytes);
+    for _ in 0..piece.before {
+        bits.read_bool()?;
+    }
+    Ok(bits)
+}
+
+pub fn sections<'a>(alloc: Global, pieces: &'a [Piece]) -> Result<Vec<Section<'a>>, Fail>
+    ensures { IfOk result (λ s. All IsPlain s.items) }
+{
+    let mut sections = Vec::new(alloc);
+    for piece in pieces {
+        sections.push(Section {
+            part: piece.part,
+            bits: reader(piece)?,
+            stream_index: piece.stream_index,
+            nested: false,
+        })?;
+    }
+    Ok(sections)
+}

@@ -1,0 +1,13 @@
+//! Tests of whole runs: images that are decoded from sections, each of one part.
+#![tactic(auto)]
+
+#[cfg(test)]
+mod case;
+#[cfg(test)]
+mod generated;
+#[cfg(test)]
+mod parts;
+#[cfg(test)]
+mod rows;
+#[cfg(test)]
+mod run;

@@ -1,0 +1,138 @@
+// Images decoded by their parts, each by its own call.
+
+ghost use Rattle.std.specs.Prelude.{◌≡◌, true, IsTrue};
+
+use jxl_modular::Sample;
+use jxl_modular::decoder::Decoder;
+use jxl_modular::error::Error;
+use jxl_modular::groups::{Part, TransformedGlobalModular};
+use jxl_modular::image::ModularImageDestination;
+use jxl_modular::sections::{Section, SectionPart};
+use std::alloc::Global;
+use std::collections::BTreeMap;
+use std::test::Fail;
+
+// How many LF groups there are, after a slash one more than the number of the last pass, and for each pass with groups
+// its number and how many.
+fn group_counts<S: Sample, D: Decoder>(
+    alloc: Global,
+    groups: &TransformedGlobalModular<'_, S, D>,
+) -> Result<String, Fail> {
+    let mut text = String::new(alloc);
+    write!(text, "{}/{}", groups.num_lf_groups(), groups.num_passes())?;
+    for pass in 0..groups.num_passes() {
+        let count = groups.num_groups(pass);
+        if count > 0 {
+            write!(text, " {pass}:{count}")?;
+        }
+    }
+    Ok(text)
+}
+
+/// The counts of groups, or why there are none.
+pub fn counts<S: Sample, D: Decoder>(
+    alloc: Global,
+    image: &mut ModularImageDestination<S, D>,
+    passes: &BTreeMap<u32, (i32, i32)>,
+) -> Result<String, Fail> {
+    if !image.can_group(passes) {
+        return Ok(format!(in alloc; "no groups")?);
+    }
+    match image.prepare_groups(alloc, passes) {
+        Ok(groups) => group_counts(alloc, &groups),
+        Err(error) => Ok(format!(in alloc; "{error}")?),
+    }
+}
+
+fn has_section(sections: &[Section<'_>], part: SectionPart) -> bool {
+    sections.iter().any(|section| section.part == part)
+}
+
+// Whether each group of a pass, or each LF group, that has samples has a section.
+fn has_each_group<S: Sample, D: Decoder>(
+    groups: &TransformedGlobalModular<'_, S, D>,
+    pass: Option<u32>,
+    sections: &[Section<'_>],
+) -> bool {
+    let count = match pass {
+        Some(number) => groups.num_groups(number),
+        None => groups.num_lf_groups(),
+    };
+    for k in 0..count {
+        let part = match pass {
+            Some(number) => Part::Pass(number, k),
+            None => Part::Lf(k),
+        };
+        if !groups.is_empty(part) && !has_section(sections, part.into()) {
+            return false;
+        }
+    }
+    true
+}
+
+// Whether each part that has samples has a section.
+fn has_each_part<S: Sample, D: Decoder>(
+    alloc: Global,
+    image: &mut ModularImageDestination<S, D>,
+    passes: &BTreeMap<u32, (i32, i32)>,
+    sections: &[Section<'_>],
+) -> Result<bool, Error> {
+    if !image.prepare_gmodular(alloc)?.is_empty() && !has_section(sections, SectionPart::Global) {
+        return Ok(false);
+    }
+    if !image.can_group(passes) {
+        return Ok(false);
+    }
+    let groups = image.prepare_groups(alloc, passes)?;
+    for pass in 0..groups.num_passes() {
+        if !has_each_group(&groups, Some(pass), sections) {
+            return Ok(false);
+        }
+    }
+    Ok(has_each_group(&groups, None, sections))
+}
+
+// Decodes a part, and returns whether it is whole then.
+fn decode_part<S: Sample, D: Decoder>(
+    alloc: Global,
+    image: &mut ModularImageDestination<S, D>,
+    passes: &BTreeMap<u32, (i32, i32)>,
+    section: &Section<'_>,
+) -> Result<bool, Error> {
+    let mut bits = section.bits;
+    let part = match section.part {
+        SectionPart::Global => {
+            let mut part = image.prepare_gmodular(alloc)?;
+            part.decode(alloc, &mut bits, section.stream_index, false)?;
+            return Ok(!part.is_partial());
+        }
+        SectionPart::Lf(k) => Part::Lf(k),
+        SectionPart::Pass(pass, k) => Part::Pass(pass, k),
+    };
+    if !image.can_group(passes) {
+        return Ok(false);
+    }
+    let mut groups = image.prepare_groups(alloc, passes)?;
+    groups.decode(alloc, part, &mut bits, section.stream_index, false)?;
+    Ok(!groups.is_partial(part))
+}
+
+/// Decodes an image by a call for each part, in the order of the sections, and finishes it: whether all samples were
+/// decoded.
+pub fn decode_by_parts<S: Sample, D: Decoder>(
+    alloc: Global,
+    image: &mut ModularImageDestination<S, D>,
+    passes: &BTreeMap<u32, (i32, i32)>,
+    sections: &[Section<'_>],
+) -> Result<bool, Error> {
+    let mut whole = has_each_part(alloc, image, passes, sections)?;
+    for section in sections {
+        whole = decode_part(alloc, image, passes, section)? && whole;
+    }
+    let all = image.prepare_subimage(alloc)?;
+    if !all.holds_all() {
+        return Ok(false);
+    }
+    all.finish(alloc)?;
+    Ok(whole)
+}
