@@ -62,6 +62,7 @@ pub(crate) fn leaf_path(flat: &FlatMaTree) -> Option<LeafPath>
 }
 
 /// Reads a row where each cell is predicted by 0.
+#[inline(never)]
 fn zero_row<S: Sample, D: Decoder>(
     bits: &mut Bitstream<'_>,
     decoder: &mut D,
@@ -122,6 +123,7 @@ fn first_gradient_row<S: Sample, D: Decoder>(
 }
 
 /// Reads a row below another where each cell is predicted by the clamped gradient.
+#[inline(never)]
 fn gradient_row<S: Sample, D: Decoder>(
     bits: &mut Bitstream<'_>,
     decoder: &mut D,
