@@ -51,6 +51,7 @@ fn shift(alloc: Global, text: &str) -> Result<ChannelShift, Fail> {
     })
 }
 
+/// The channels of a text, a space between them.
 pub fn channels(alloc: Global, text: &str) -> Result<Vec<ModularChannelParams>, Fail> {
     let mut channels = Vec::new(alloc);
     for word in text.split(' ') {
@@ -62,6 +63,7 @@ pub fn channels(alloc: Global, text: &str) -> Result<Vec<ModularChannelParams>, 
     Ok(channels)
 }
 
+/// The passes of a text: the number of each, and the shifts that it holds.
 pub fn passes(alloc: Global, text: &str) -> Result<BTreeMap<u32, (i32, i32)>, Fail> {
     let mut passes = BTreeMap::new(alloc);
     for word in text.split_whitespace() {
@@ -95,6 +97,7 @@ fn read_piece(alloc: Global, text: &str) -> Result<Piece, Fail> {
     })
 }
 
+/// The sections of a text, with bytes of their own.
 pub fn pieces(alloc: Global, text: &str) -> Result<Vec<Piece>, Fail> {
     let mut pieces = Vec::new(alloc);
     for word in text.split_whitespace() {
@@ -112,6 +115,7 @@ fn reader(piece: &Piece) -> Result<Bitstream<'_>, Fail> {
     Ok(bits)
 }
 
+/// The same as the library takes them.
 pub fn sections<'a>(alloc: Global, pieces: &'a [Piece]) -> Result<Vec<Section<'a>>, Fail>
     ensures { IfOk result (λ s. All IsPlain s.items) }
 {
