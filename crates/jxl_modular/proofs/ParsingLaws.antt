@@ -9,9 +9,9 @@ use Rattle.jxlm_transform.specs.Channels.{Channel, ChannelList, area, image_list
 use Rattle.jxlm_transform.specs.declared.channels.ModularChannels.{ModularChannels}
 use Rattle.jxlm_transform.specs.declared.param.ModularChannelParams.{ModularChannelParams}
 use Rattle.jxlm_transform.specs.declared.param.ModularParams.{ModularParams}
-use Rattle.jxlm_tree.proofs.Memory.{unless_so}
-use Rattle.jxlm_tree.specs.Tree.{Config}
-use Rattle.jxlm_tree.specs.TreeReading.{IsTreeAt, IsTooDeep, TreeGives, listing_at}
+use Rattle.jxlm_ma.proofs.Memory.{unless_so}
+use Rattle.jxlm_ma.specs.Tree.{Config}
+use Rattle.jxlm_ma.specs.TreeReading.{IsTreeAt, IsTooDeep, TreeGives, listing_at}
 use Rattle.jxl_modular.specs.Fresh.{fresh}
 use Rattle.jxl_modular.specs.Image.{Image}
 use Rattle.jxlm_header.specs.Opening.{node_limit, depth_limit}

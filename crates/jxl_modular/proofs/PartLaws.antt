@@ -10,8 +10,8 @@ use Rattle.jxlm_base.specs.declared.error.Error.{Error}
 use Rattle.jxlm_base.specs.declared.subgrid.Region.{Region}
 use Rattle.jxlm_chain.proofs.ListsApart.{pairs_take, zip_take}
 use Rattle.jxlm_transform.specs.Channels.{Channel, IsNarrow}
-use Rattle.jxlm_tree.specs.Tree.{Shape}
-use Rattle.jxlm_tree.specs.declared.flat.Leaf.{Leaf}
+use Rattle.jxlm_ma.specs.Tree.{Shape}
+use Rattle.jxlm_ma.specs.declared.flat.Leaf.{Leaf}
 use Rattle.jxlm_tree.specs.declared.predictor.WpHeader.{WpHeader}
 use Rattle.jxlm_part.specs.Decode.{DecodeAnswers, MovesWithin}
 use Rattle.jxlm_part.specs.Part.{Part}

@@ -15,7 +15,7 @@ use jxlm_base::grid::OutOfMemory;
 use jxlm_base::sample::Sample;
 use jxlm_cut::part::{Kind, SectionPart};
 use jxlm_cut::pass::{Pass, passes};
-use jxlm_tree::flat::Steps;
+use jxlm_ma::flat::Steps;
 use std::alloc::Global;
 use std::collections::BTreeMap;
 

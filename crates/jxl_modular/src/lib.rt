@@ -26,7 +26,7 @@ pub mod error {
 
 /// Trees as the samples of one channel walk them.
 pub mod flat {
-    pub use jxlm_tree::flat::{FlatMaTree, Leaf, Steps};
+    pub use jxlm_ma::flat::{FlatMaTree, Leaf, Steps};
 }
 
 /// Grids of samples, and rectangles in them.
@@ -36,7 +36,7 @@ pub mod grid {
 
 /// Meta-adaptive trees.
 pub mod ma {
-    pub use jxlm_tree::ma::{MaConfig, MaConfigParams};
+    pub use jxlm_ma::ma::{MaConfig, MaConfigParams};
 }
 
 /// What an image is read by.
@@ -80,7 +80,7 @@ pub use jxlm_base::error::{Error, Result};
 pub use jxlm_base::sample::Sample;
 pub use jxlm_transform::channels::ModularChannelInfo;
 pub use jxlm_transform::param::{ChannelShift, ModularChannelParams, ModularParams};
-pub use jxlm_tree::flat::FlatMaTree;
-pub use jxlm_tree::ma::{MaConfig, MaConfigParams};
+pub use jxlm_ma::flat::FlatMaTree;
+pub use jxlm_ma::ma::{MaConfig, MaConfigParams};
 pub use picture::decode_picture;
 pub use root::Modular;

@@ -17,7 +17,7 @@ use jxlm_chain::placed::PlacedChannels;
 use jxlm_header::opening::{DEPTH_LIMIT, node_limit};
 use jxlm_transform::channels::ModularChannels;
 use jxlm_transform::param::ModularParams;
-use jxlm_tree::ma::{MaConfig, MaConfigParams};
+use jxlm_ma::ma::{MaConfig, MaConfigParams};
 use std::alloc::Global;
 
 /// A Modular image, or none where there are no channels.

@@ -19,8 +19,8 @@ use jxlm_base::error::Result;
 use jxlm_base::sample::Sample;
 pub use jxlm_cut::part::SectionPart;
 use jxlm_cut::pass::passes;
-use jxlm_tree::flat::Steps;
-use jxlm_tree::ma::MaConfig;
+use jxlm_ma::flat::Steps;
+use jxlm_ma::ma::MaConfig;
 use std::alloc::Global;
 use std::collections::BTreeMap;
 

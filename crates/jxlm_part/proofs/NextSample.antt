@@ -7,17 +7,17 @@ use Rattle.std.proofs.lemmas.Simd.{map-map}
 use Rattle.jxlm_base.specs.Grid.{Grid}
 use Rattle.jxlm_base.specs.Regions.{grid_of}
 use Rattle.jxlm_base.specs.declared.subgrid.Region.{Region}
-use Rattle.jxlm_tree.specs.FlatTree.{earlier_named, leaf_reached, needs_weights}
+use Rattle.jxlm_ma.specs.FlatTree.{earlier_named, leaf_reached, needs_weights}
 use Rattle.jxlm_tree.specs.Holding.{surroundings as surroundings_of}
 use Rattle.jxlm_tree.specs.Predictions.{prediction}
 use Rattle.jxlm_tree.specs.Properties.{Surroundings, place_property, property}
 use Rattle.jxlm_tree.specs.Standing.{Setting, setting}
-use Rattle.jxlm_tree.specs.Tree.{walk}
-use Rattle.jxlm_tree.specs.declared.flat.Leaf.{Leaf}
+use Rattle.jxlm_ma.specs.Tree.{walk}
+use Rattle.jxlm_ma.specs.declared.flat.Leaf.{Leaf}
 use Rattle.jxlm_tree.specs.declared.predictor.Predictor.{Predictor}
 use Rattle.jxlm_tree.specs.declared.predictor.Predictor.TheVariants.{Zero, West, North, AvgWestAndNorth, Select, Gradient, SelfCorrecting, NorthEast, NorthWest, WestWest, AvgWestAndNorthWest, AvgNorthAndNorthWest, AvgNorthAndNorthEast, AvgAll}
 use Rattle.jxlm_tree.specs.declared.predictor.WpHeader.{WpHeader}
-use Rattle.jxlm_tree.proofs.FlatTrees.{goes_without_weights, reads_earlier_below, walks_by_properties}
+use Rattle.jxlm_ma.proofs.FlatTrees.{goes_without_weights, reads_earlier_below, walks_by_properties}
 use Rattle.jxlm_tree.proofs.PropertiesLaws.{later_property}
 use Rattle.jxlm_part.specs.Coded.{next_prediction}
 use Rattle.jxlm_part.specs.Reading.{flat}

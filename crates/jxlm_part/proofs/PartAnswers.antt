@@ -10,7 +10,7 @@ use Rattle.jxlm_base.specs.declared.error.Error.{Error}
 use Rattle.jxlm_base.specs.declared.error.Error.TheVariants.{Decoder}
 use Rattle.jxlm_base.specs.declared.subgrid.Region.{Region}
 use Rattle.jxlm_transform.specs.Channels.{AreRegionsOf, Channel}
-use Rattle.jxlm_tree.specs.Tree.{depth}
+use Rattle.jxlm_ma.specs.Tree.{depth}
 use Rattle.jxlm_part.specs.Decode.{DecodeAnswers, MovesWithin, Standing}
 use Rattle.jxlm_part.specs.Inner.Ready.{IsReadyFor}
 use Rattle.jxlm_part.specs.Part.{Part, cell_count, max_width}

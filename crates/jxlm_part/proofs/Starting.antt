@@ -8,10 +8,10 @@ use Rattle.std.proofs.lemmas.List.{length-append, length-map, get_or_default, ge
 use Rattle.std.proofs.lemmas.Option.{slice_get-get_or, get_or_from_slice_get}
 use Rattle.std.proofs.Math.Seq.{get_or-append_seam}
 use Rattle.jxlm_base.specs.declared.subgrid.Region.{Region}
-use Rattle.jxlm_tree.specs.FlatTree.{FlatTree, earlier_named}
+use Rattle.jxlm_ma.specs.FlatTree.{FlatTree, earlier_named}
 use Rattle.jxlm_tree.specs.Standing.{HasSameRoom, Setting, Stands, StandsAt, earlier_count, earlier_room_of, setting, weights_of}
-use Rattle.jxlm_tree.specs.Tree.{Shape}
-use Rattle.jxlm_tree.specs.declared.flat.Leaf.{Leaf}
+use Rattle.jxlm_ma.specs.Tree.{Shape}
+use Rattle.jxlm_ma.specs.declared.flat.Leaf.{Leaf}
 use Rattle.jxlm_tree.specs.declared.predictor.WpHeader.{WpHeader}
 use Rattle.jxlm_tree.specs.declared.state.PredictorState.{PredictorState}
 use Rattle.jxlm_tree.proofs.StandingLaws.{stands_earlier}

@@ -14,8 +14,8 @@ use jxlm_base::error::Result;
 use jxlm_base::grid::{OutOfMemory, Region};
 use jxlm_base::sample::{Sample, Sealed};
 use jxlm_transform::channels::ModularChannelInfo;
-use jxlm_tree::flat::FlatMaTree;
-use jxlm_tree::ma::MaConfig;
+use jxlm_ma::flat::FlatMaTree;
+use jxlm_ma::ma::MaConfig;
 use jxlm_tree::predictor::{PredictorState, WpHeader};
 use std::alloc::Global;
 

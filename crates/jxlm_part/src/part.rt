@@ -1,10 +1,10 @@
 //! A part decoded whole: from what is made ready for it to the decoder's last word.
 
 ghost use Rattle.std.specs.Prelude.{◌≡◌, ◌↔◌, ◌<◌, ◌≤◌, ◌^◌, ◌*◌, ℕ, IfErr, IfOk, IsOk, IsTrue, length};
-ghost use Rattle.jxlm_tree.specs.FlatTree.{ClustersStandIn};
+ghost use Rattle.jxlm_ma.specs.FlatTree.{ClustersStandIn};
 ghost use Rattle.jxlm_tree.specs.SelfCorrecting.{IsHeader};
 ghost use Rattle.jxlm_base.specs.Bits.{bytes_of, position_of};
-ghost use Rattle.jxlm_tree.specs.TreeReading.{IsOutOfMemory};
+ghost use Rattle.jxlm_ma.specs.TreeReading.{IsOutOfMemory};
 ghost use Rattle.jxlm_base.specs.ErrorKind.{kind_of};
 ghost use Rattle.jxlm_part.specs.Decode.{DecodeAnswers, MovesWithin};
 ghost use Rattle.jxlm_part.specs.Part.{cell_count, max_width as the_maximum_width};
@@ -21,8 +21,8 @@ use jxlm_base::error::{Error, Result};
 use jxlm_base::grid::{AlignedGrid, Region};
 use jxlm_base::sample::Sample;
 use jxlm_transform::channels::ModularChannelInfo;
-use jxlm_tree::flat::Steps;
-use jxlm_tree::ma::MaConfig;
+use jxlm_ma::flat::Steps;
+use jxlm_ma::ma::MaConfig;
 use jxlm_tree::predictor::WpHeader;
 use std::alloc::Global;
 

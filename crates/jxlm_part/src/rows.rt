@@ -15,7 +15,7 @@ use jxlm_base::decoder::{Decoder, DecoderError};
 use jxlm_base::grid::{AlignedGrid, Region};
 use jxlm_base::region::region_set_row;
 use jxlm_base::sample::Sample;
-use jxlm_tree::flat::Steps;
+use jxlm_ma::flat::Steps;
 use jxlm_tree::predictor::PredictorState;
 
 /// Where the read of a row ended before its end, and why.

@@ -11,7 +11,7 @@ ghost use Rattle.jxlm_tree.specs.Properties.{place_property, earlier_properties,
 ghost use Rattle.jxlm_tree.specs.Standing.{Setting, StandsAt, IsReady, IsInner, HasSameRoom};
 
 use crate::around::Around;
-use crate::flat::PlaceProperties;
+use crate::place::PlaceProperties;
 use crate::reduced::{read_as_signed, reduced, reduced_absolute};
 use crate::self_correcting::PredictionResult;
 use crate::state::PredictorState;

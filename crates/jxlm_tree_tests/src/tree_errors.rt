@@ -7,8 +7,8 @@ use jxlm_base::bits::Bitstream;
 use jxlm_base::decoder::Decoder;
 use jxlm_base::error::Error;
 use jxlm_base::plain::PlainDecoder;
-use jxlm_tree::flat::{Steps, a_flat_tree_walks_by_properties};
-use jxlm_tree::ma::{
+use jxlm_ma::flat::{Steps, a_flat_tree_walks_by_properties};
+use jxlm_ma::ma::{
     MaConfig, each_listing_is_of_a_tree, each_tree_is_read_exactly, no_two_trees_share_a_listing,
 };
 use std::alloc::Global;

@@ -15,7 +15,7 @@ use jxlm_base::grid::OutOfMemory;
 use jxlm_base::plain::PlainDecoder;
 use jxlm_base::sample::Sample;
 use jxlm_transform::param::{ModularChannelParams, ModularParams};
-use jxlm_tree::flat::Steps;
+use jxlm_ma::flat::Steps;
 use std::alloc::Global;
 
 /// The side of a group of the pictures that are printed.

@@ -15,7 +15,7 @@ use jxlm_cut::part::{Kind, SectionPart};
 use jxlm_cut::pass::Pass;
 use jxlm_cut::pieces::{Pieces, has_pieces};
 use jxlm_part::part::PlacedPart;
-use jxlm_tree::flat::Steps;
+use jxlm_ma::flat::Steps;
 use std::alloc::Global;
 use std::collections::BTreeSet;
 

@@ -1,5 +1,5 @@
 use Rattle.std.proofs.Common.{◌≡◌, ◌+◌, ◌-◌, ◌<◌, min, [], arith, rules}
-use Rattle.jxlm_tree.specs.FlatTree.{earlier_named}
+use Rattle.jxlm_ma.specs.FlatTree.{earlier_named}
 use Rattle.jxlm_part.proofs.CellLaws.{narrow_at}
 use Rattle.jxlm_part.proofs.Starting.{as_many_channels, comes_after_alike, depth_at, fits_widest, room_for_last, set_by_last, set_for_all, set_for_none, somewhere}
 use Rattle.jxlm_part.proofs.coding.start_channel.Goals as goal

@@ -1,7 +1,7 @@
 use Rattle.std.proofs.Common.{arith, sym, ◌≡◌, ◌+◌, ◌^◌, ◌<◌, min, pos, List, [], length, sum_by, false, rules, Err, Ok, ap, ◌∙◌, subst}
 use Rattle.jxlm_base.specs.Bits.{bytes_of, position_of}
 use Rattle.jxlm_chain.specs.declared.placed.PlacedChannels.{PlacedChannels}
-use Rattle.jxlm_tree.specs.TreeReading.{TreeGives, IsTreeAt}
+use Rattle.jxlm_ma.specs.TreeReading.{TreeGives, IsTreeAt}
 use Rattle.jxlm_header.specs.Opening.{depth_limit}
 use Rattle.jxl_modular.specs.Inner.Opened.{IsOpened, opened_of}
 use Rattle.jxl_modular.specs.Parsing.{ParseGives, opened}

@@ -1,0 +1,9 @@
+pub mod Accumulated
+pub mod FlatTrees
+pub mod Listing
+pub mod Memory
+pub mod Multipliers
+pub mod Queues
+pub mod Reading
+pub mod Shapes
+pub mod TreeStanding

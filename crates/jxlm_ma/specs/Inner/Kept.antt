@@ -1,0 +1,13 @@
+-- What is always true of a tree that is kept.
+use Rattle.std.specs.Prelude.{◌≡◌, ℕ, ◌≤◌, ◌^◌, List}
+use Rattle.jxlm_ma.specs.Tree.{AllLeaves, node_count}
+use Rattle.jxlm_ma.specs.TreeReading.{IsLeafOf}
+use Rattle.jxlm_ma.specs.Inner.TreeShape.{shape_of}
+use Rattle.jxlm_ma.specs.declared.tree.MaTree.{MaTree}
+
+-- it has n nodes, at most 2 ^ 26, no more than 2048 decisions above a leaf, and its leaves have these clusters
+pub record IsKept (clusters : List ℕ) (t : MaTree) (n : ℕ) : Type 0 where
+  pub leaves : AllLeaves (IsLeafOf clusters) (shape_of t.root)
+  pub count : n ≡ node_count (shape_of t.root)
+  pub few : n ≤ 2 ^ 26
+  pub shallow : t.depth ≤ 2048

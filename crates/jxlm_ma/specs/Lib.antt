@@ -1,0 +1,7 @@
+pub mod DecodingSamples
+pub mod FlatTree
+pub mod Tree
+pub mod TreeCode
+pub mod TreeReading
+pub mod TreeStands
+pub mod Inner
