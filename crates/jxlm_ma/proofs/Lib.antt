@@ -7,3 +7,11 @@ pub mod Queues
 pub mod Reading
 pub mod Shapes
 pub mod TreeStanding
+pub mod FlatWalks
+pub mod FlatTables
+pub mod FlatNodes
+pub mod FlatCasts
+pub mod FlatLooks
+pub mod FlatTwo
+pub mod FlatNeeds
+pub mod FlatChannels

@@ -3,3 +3,9 @@ pub mod DraftReading
 pub mod Kept
 pub mod Queue
 pub mod TreeShape
+pub mod Counting
+pub mod FlatNodes
+pub mod FlatShapes
+pub mod Pruned
+pub mod Rooted
+pub mod SoundNodes

@@ -5,3 +5,4 @@ pub mod TreeCode
 pub mod TreeReading
 pub mod TreeStands
 pub mod Inner
+pub mod ShortTrees

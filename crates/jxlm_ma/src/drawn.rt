@@ -235,9 +235,9 @@ fn looks(flat: &FlatMaTree, values: &[i32]) -> u32 {
                     right
                 };
                 place = if values[side.property as usize] > side.value {
-                    side.left as usize
+                    side.above as usize
                 } else {
-                    side.right as usize
+                    side.rest as usize
                 };
             }
         }

@@ -55,12 +55,12 @@ impl Leaf {
 pub struct Side {
     /// The number of the property, from 2 on.
     pub property: u32,
-    /// To the left where the property is greater than this value.
+    /// What the property is compared with.
     pub value: i32,
-    /// The place of the node to the left.
-    pub left: u32,
-    /// The place of the node to the right.
-    pub right: u32,
+    /// The place of the next node where the property is greater than the value.
+    pub above: u32,
+    /// The place of the next node where it is not.
+    pub rest: u32,
 }
 
 /// A node of a compiled tree.
@@ -138,9 +138,9 @@ impl Side {
         requires { P.IsCurrent properties.now }
     {
         if properties.property(self.property as usize) > self.value {
-            self.left
+            self.above
         } else {
-            self.right
+            self.rest
         }
     }
 }

@@ -1,0 +1,125 @@
+-- What the functions' answers need, with the checks' casts as equations.
+use Rattle.std.proofs.Common.{◌≡◌, ℕ, ◌+◌, ◌<◌, ◌≤◌, ℤ, pos, ◌+ℤ◌, ◌<ℤ◌, ◌≤ℤ◌, true, false, List, [], ◌∷◌, length, Option, Some, None, Result, Ok, Err, IfOk, OnOk, IsSome, sym, ap, ◌∙◌, subst, arith}
+use Rattle.std.specs.Prelude.{int_lt}
+use Rattle.std.proofs.lemmas.Int.{ints}
+use Rattle.std.proofs.lemmas.Bool.{false≢true}
+use Rattle.jxlm_ma.specs.declared.compile.Survey.{Survey}
+use Rattle.jxlm_ma.specs.declared.flat.FlatNode.{FlatNode}
+use Rattle.jxlm_ma.specs.declared.flat.Leaf.{Leaf}
+use Rattle.jxlm_ma.specs.Tree.{Shape, decision}
+use Rattle.jxlm_ma.specs.Inner.FlatShapes.{size}
+use Rattle.jxlm_ma.specs.Inner.Pruned.{hanging, cuts, surveyed}
+use Rattle.jxlm_ma.specs.Inner.FlatNodes.{Compiles, CompilesSide, Fills}
+use Rattle.std.specs.Int.{int_min, int_max}
+use Rattle.jxlm_ma.proofs.FlatTables.{cuts_above, cuts_between, surveyed-append, surveyed-cuts, cuts-few}
+use Rattle.jxlm_ma.proofs.FlatNodes.{hanging-at, hanging-some, hanging-few, fill-left, fill-right, fill-both, side-split}
+
+pub on_ok : {T E : Type 0} (r : Result T E) (P Q : Type 0) → (P → Q) → OnOk r P → OnOk r Q
+on_ok (Ok x) P Q f h = f h
+on_ok (Err e) P Q f h = h
+
+pub if_ok : {T E : Type 0} (r : Result T E) (P Q : T → Type 0) → ((x : T) → P x → Q x) → IfOk r P → IfOk r Q
+if_ok (Ok x) P Q f h = f x h
+if_ok (Err e) P Q f h = h
+
+pub less : (a b : ℤ) → int_lt a b ≡ true → a <ℤ b
+less a b h = grind (arith, ints)
+
+pub not_less : (a b : ℤ) → int_lt a b ≡ false → b ≤ℤ a
+not_less a b h = grind (arith, ints)
+
+-- what a root that was opened tells of numbers
+pub record Splits (p : ℕ) (t a b : Shape Leaf) : Type 0 where
+  pub sizes : size t ≡ size a + size b + 1
+  pub hang : hanging p t ≡ hanging p a + hanging p b
+  pub some_a : 0 < hanging p a
+  pub some_b : 0 < hanging p b
+  pub few_a : hanging p a ≤ size a
+  pub few_b : hanging p b ≤ size b
+
+pub splits-at : (p q : ℕ) (v : ℤ) (t a b : Shape Leaf) → t ≡ decision q v a b → q ≡ p → Splits p t a b
+splits-at p q v t a b e is = record {
+  sizes = ap size e;
+  hang = ap (hanging p) e ∙ ap (λ k. hanging p (decision k v a b)) is ∙ hanging-at p v a b;
+  some_a = hanging-some p a;
+  some_b = hanging-some p b;
+  few_a = hanging-few p a;
+  few_b = hanging-few p b;
+}
+
+at_decision : (p q : ℕ) (v : ℤ) (t a b : Shape Leaf) → t ≡ decision q v a b → q ≡ p → decision p v a b ≡ t
+at_decision p q v t a b e is = ap (λ k. decision k v a b) (sym is) ∙ sym e
+
+moved : (p : ℕ) (low high low1 high1 : ℤ) (t : Shape Leaf) (old new : List FlatNode) (before after : List ℕ) → low1 ≡ low → high1 ≡ high → Fills old new before after p low1 high1 t → Fills old new before after p low high t
+moved p low high low1 high1 t old new before after l h f = subst (λ x. Fills old new before after p x high t) l (subst (λ x. Fills old new before after p low1 x t) h f)
+
+pub fills-left : (p q : ℕ) (v low high low1 high1 : ℤ) (t a b : Shape Leaf) (old new : List FlatNode) (before after : List ℕ) → t ≡ decision q v a b → q ≡ p → low1 ≡ low → high1 ≡ high → v <ℤ low →
+    Fills old new before after p low1 high1 a → Fills old new before after p low high t
+fills-left p q v low high low1 high1 t a b old new before after e is l h below f =
+    subst (λ u. Fills old new before after p low high u) (at_decision p q v t a b e is) (fill-left p low high v a b old new before after below (moved p low high low1 high1 a old new before after l h f))
+
+pub fills-right : (p q : ℕ) (v low high low1 high1 : ℤ) (t a b : Shape Leaf) (old new : List FlatNode) (before after : List ℕ) → t ≡ decision q v a b → q ≡ p → low1 ≡ low → high1 ≡ high → high ≤ℤ v →
+    Fills old new before after p low1 high1 b → Fills old new before after p low high t
+fills-right p q v low high low1 high1 t a b old new before after e is l h over f =
+    subst (λ u. Fills old new before after p low high u) (at_decision p q v t a b e is) (fill-right p low high v a b old new before after over (moved p low high low1 high1 b old new before after l h f))
+
+pub fills-both : (p q : ℕ) (v low high low1 v1 v2 high2 : ℤ) (t a b : Shape Leaf) (old mid new : List FlatNode) (before middle after : List ℕ) → t ≡ decision q v a b → q ≡ p →
+    low1 ≡ low → v1 ≡ v → v2 ≡ (v +ℤ pos 1) → high2 ≡ high → low ≤ℤ v → v <ℤ high →
+    Fills old mid before middle p low1 v1 b → Fills mid new middle after p v2 high2 a → Fills old new before after p low high t
+fills-both p q v low high low1 v1 v2 high2 t a b old mid new before middle after e is l e1 e2 h lv vh fb fa =
+    subst (λ u. Fills old new before after p low high u) (at_decision p q v t a b e is)
+    (fill-both p low high v a b old mid new before middle after lv vh
+    (moved p low v low1 v1 b old mid before middle l e1 fb)
+    (moved p (v +ℤ pos 1) high v2 high2 a mid new middle after e2 h fa))
+
+-- a node that was added
+pub added : {E : Type 0} (r : Result ℕ E) (old new newer : List FlatNode) (n : FlatNode) (t u : Shape Leaf) → u ≡ t → Compiles old (n ∷ new) (length new) t → IfOk r (λ i. i ≡ length new) → OnOk r (newer ≡ n ∷ new) →
+    IfOk r (λ i. Compiles old newer i u)
+added (Ok i) old new newer n t u same c at_i is = subst (λ w. Compiles old newer i w) (sym same) (subst (λ k. Compiles old newer k t) (sym at_i) (subst (λ ns. Compiles old ns (length new) t) (sym is) c))
+added (Err e) old new newer n t u same c at_i is = tt
+
+pub on_ok3 : {T E : Type 0} (r : Result T E) (A B C Q : Type 0) → (A → B → C → Q) → OnOk r A → OnOk r B → OnOk r C → OnOk r Q
+on_ok3 (Ok x) A B C Q f a b c = f a b c
+on_ok3 (Err e) A B C Q f a b c = a
+
+pub fills-table : (p : ℕ) (low high low1 high1 : ℤ) (t u : Shape Leaf) (old new : List FlatNode) (before after : List ℕ) → before ≡ [] → low1 ≡ low → high1 ≡ high → t ≡ u →
+    Fills old new before after p low1 high1 t → Fills old new [] after p low high u
+fills-table p low high low1 high1 t u old new before after none l h is f =
+    subst (λ w. Fills old new [] after p low high w) is (subst (λ b. Fills old new b after p low high t) none (moved p low high low1 high1 t old new before after l h f))
+
+pub no_table : (o r : Option Survey) → r ≡ o → r ≡ None → IsSome o → ⊥
+no_table None r e n h = false≢true h
+no_table (Some x) r e n h = cc
+
+pub survey-one : (old new : Survey) (p q : ℕ) (v low high low1 high1 : ℤ) (t a b : Shape Leaf) → t ≡ decision q v a b → q ≡ p → low1 ≡ low → high1 ≡ high → v <ℤ low → new ≡ surveyed old (cuts p low1 high1 a) → new ≡ surveyed old (cuts p low high t)
+survey-one old new p q v low high low1 high1 t a b e is l h below n =
+    n ∙ ap (λ x. surveyed old (cuts p x high1 a)) l ∙ ap (λ x. surveyed old (cuts p low x a)) h
+    ∙ sym (ap (surveyed old) (ap (cuts p low high) (sym (at_decision p q v t a b e is)) ∙ cuts_above p low high v a b below))
+
+pub survey-both : (old mid new : Survey) (l1 g1 : ℤ) (p q : ℕ) (v low high low1 v1 v2 high2 : ℤ) (t a b : Shape Leaf) → t ≡ decision q v a b → q ≡ p → low1 ≡ low → v1 ≡ v → v2 ≡ (v +ℤ pos 1) → high2 ≡ high → low ≤ℤ v → v <ℤ high →
+    mid ≡ surveyed old (cuts p low1 v1 b) → l1 ≡ int_min mid.least v → g1 ≡ int_max mid.greatest v → new ≡ surveyed (record { cuts = mid.cuts + 1; least = l1; greatest = g1 }) (cuts p v2 high2 a) →
+    new ≡ surveyed old (cuts p low high t)
+survey-both old mid new l1 g1 p q v low high low1 v1 v2 high2 t a b e is l e1 e2 h lv vh m ml mg n =
+    let first : mid ≡ surveyed old (cuts p low v b) = m ∙ ap (λ x. surveyed old (cuts p x v1 b)) l ∙ ap (λ x. surveyed old (cuts p low x b)) e1 in
+    n
+    ∙ ap (λ x. surveyed (record { cuts = mid.cuts + 1; least = l1; greatest = g1 }) (cuts p x high2 a)) e2
+    ∙ ap (λ x. surveyed (record { cuts = mid.cuts + 1; least = l1; greatest = g1 }) (cuts p (v +ℤ pos 1) x a)) h
+    ∙ ap (λ x. surveyed (record { cuts = mid.cuts + 1; least = x; greatest = g1 }) (cuts p (v +ℤ pos 1) high a)) ml
+    ∙ ap (λ x. surveyed (record { cuts = mid.cuts + 1; least = int_min mid.least v; greatest = x }) (cuts p (v +ℤ pos 1) high a)) mg
+    ∙ ap (λ s. surveyed s (v ∷ cuts p (v +ℤ pos 1) high a)) first
+    ∙ sym (surveyed-append old (cuts p low v b) (v ∷ cuts p (v +ℤ pos 1) high a))
+    ∙ sym (ap (surveyed old) (ap (cuts p low high) (sym (at_decision p q v t a b e is)) ∙ cuts_between p low high v a b lv vh))
+
+-- what a survey leaves room for
+pub survey-room : (old mid : Survey) (p : ℕ) (low high : ℤ) (b : Shape Leaf) → mid ≡ surveyed old (cuts p low high b) → mid.cuts < old.cuts + size b
+survey-room old mid p low high b m =
+    let k = surveyed-cuts old (cuts p low high b) in
+    let n = cuts-few p low high b in
+    let e : mid.cuts ≡ (surveyed old (cuts p low high b)).cuts = ap (λ (s : Survey). s.cuts) m in
+    omega arith
+
+pub side-split-at : (p : ℕ) (v v1 : ℤ) (t a b : Shape Leaf) (i j : ℕ) (old mid new : List FlatNode) → t ≡ decision p v a b → v1 ≡ v → Compiles old mid i a → Compiles mid new j b →
+    CompilesSide old new (record { property = p; value = v1; above = i; rest = j }) t
+side-split-at p v v1 t a b i j old mid new e is ca cb =
+    subst (λ (z : ℤ). CompilesSide old new (record { property = p; value = z; above = i; rest = j }) t) (sym is)
+    (subst (λ u. CompilesSide old new (record { property = p; value = v; above = i; rest = j }) u) (sym e) (side-split p v a b i j old mid new ca cb))
