@@ -1,6 +1,7 @@
 -- What the functions' answers need, with the checks' casts as equations.
-use Rattle.std.proofs.Common.{◌≡◌, ℕ, ◌+◌, ◌<◌, ◌≤◌, ℤ, pos, ◌+ℤ◌, ◌<ℤ◌, ◌≤ℤ◌, true, false, List, [], ◌∷◌, length, Option, Some, None, Result, Ok, Err, IfOk, OnOk, IsSome, sym, ap, ◌∙◌, subst, arith}
+use Rattle.std.proofs.Common.{◌≡◌, ℕ, ◌+◌, ◌<◌, ◌≤◌, ℤ, pos, ◌+ℤ◌, ◌<ℤ◌, ◌≤ℤ◌, true, false, Bool, ◌||◌, if◌then◌else◌, nat_lt, ◌⊎◌, inl, inr, List, [], ◌∷◌, ◌++◌, append_assoc, length-append, length, Option, Some, None, Result, Ok, Err, IfOk, OnOk, IsSome, refl, sym, ap, ◌∙◌, subst, arith}
 use Rattle.std.specs.Prelude.{int_lt}
+use Rattle.jxlm_ma.proofs.FlatWalks.{above}
 use Rattle.std.proofs.lemmas.Int.{ints}
 use Rattle.std.proofs.lemmas.Bool.{false≢true}
 use Rattle.jxlm_ma.specs.declared.compile.Survey.{Survey}
@@ -8,10 +9,11 @@ use Rattle.jxlm_ma.specs.declared.flat.FlatNode.{FlatNode}
 use Rattle.jxlm_ma.specs.declared.flat.Leaf.{Leaf}
 use Rattle.jxlm_ma.specs.Tree.{Shape, decision}
 use Rattle.jxlm_ma.specs.Inner.FlatShapes.{size}
-use Rattle.jxlm_ma.specs.Inner.Pruned.{hanging, cuts, surveyed}
+use Rattle.jxlm_ma.specs.Inner.Counting.{Counted, is_wide}
+use Rattle.jxlm_ma.specs.Inner.Pruned.{hanging, cuts, surveyed, unsurveyed, worth}
 use Rattle.jxlm_ma.specs.Inner.FlatNodes.{Compiles, CompilesSide, Fills}
 use Rattle.std.specs.Int.{int_min, int_max}
-use Rattle.jxlm_ma.proofs.FlatTables.{cuts_above, cuts_between, surveyed-append, surveyed-cuts, cuts-few}
+use Rattle.jxlm_ma.proofs.FlatTables.{cuts_above, cuts_below, cuts_between, surveyed-append, surveyed-wider, cuts-few}
 use Rattle.jxlm_ma.proofs.FlatNodes.{hanging-at, hanging-some, hanging-few, fill-left, fill-right, fill-both, side-split}
 
 pub on_ok : {T E : Type 0} (r : Result T E) (P Q : Type 0) → (P → Q) → OnOk r P → OnOk r Q
@@ -91,35 +93,82 @@ pub no_table : (o r : Option Survey) → r ≡ o → r ≡ None → IsSome o →
 no_table None r e n h = false≢true h
 no_table (Some x) r e n h = cc
 
-pub survey-one : (old new : Survey) (p q : ℕ) (v low high low1 high1 : ℤ) (t a b : Shape Leaf) → t ≡ decision q v a b → q ≡ p → low1 ≡ low → high1 ≡ high → v <ℤ low → new ≡ surveyed old (cuts p low1 high1 a) → new ≡ surveyed old (cuts p low high t)
+-- what was counted stays counted, or too wide
+wide-more : (s : Survey) (cs : List ℤ) → is_wide s ≡ true → is_wide (surveyed s cs) ≡ true
+wide-more s cs h = let w = surveyed-wider s cs in let wide = less (s.least +ℤ pos 1022) s.greatest h in above ((surveyed s cs).least +ℤ pos 1022) (surveyed s cs).greatest (omega (arith, ints))
+
+pub counted-wide : (s : Survey) (cs : List ℤ) → is_wide s ≡ true → Counted s s cs
+counted-wide s cs h = record { few = omega arith; is = inr (h, wide-more s cs h) }
+
+pub counted-none : (s : Survey) → Counted s s []
+counted-none s = record { few = omega arith; is = inl refl }
+
+one_more : (s t : Survey) (cs : List ℤ) → Counted s t cs → (v : ℤ) → Counted s (surveyed t (v ∷ [])) (cs ++ v ∷ [])
+one_more s t cs c v = record {
+  few = let f = c.few in let l = length-append cs (v ∷ []) in omega arith;
+  is = elim c.is [
+    | inl all ↦ inl (ap (λ x. surveyed x (v ∷ [])) all ∙ sym (surveyed-append s cs (v ∷ [])))
+    | inr wide ↦ inr (wide-more t (v ∷ []) wide.0, subst (λ x. is_wide x ≡ true) (sym (surveyed-append s cs (v ∷ []))) (wide-more (surveyed s cs) (v ∷ []) wide.1))
+  ];
+}
+
+in_turn : (r s t : Survey) (cs ds : List ℤ) → Counted r s cs → Counted s t ds → Counted r t (cs ++ ds)
+in_turn r s t cs ds c d = record {
+  few = let f = c.few in let g = d.few in let l = length-append cs ds in omega arith;
+  is = elim c.is [
+    | inl all ↦ elim d.is [
+      | inl rest ↦ inl (rest ∙ ap (λ x. surveyed x ds) all ∙ sym (surveyed-append r cs ds))
+      | inr wide ↦ inr (wide.0, subst (λ x. is_wide x ≡ true) (ap (λ x. surveyed x ds) all ∙ sym (surveyed-append r cs ds)) wide.1)
+    ]
+    | inr wide ↦
+        let over : is_wide (surveyed r (cs ++ ds)) ≡ true = subst (λ x. is_wide x ≡ true) (sym (surveyed-append r cs ds)) (wide-more (surveyed r cs) ds wide.1) in
+        elim d.is [
+          | inl rest ↦ inr (subst (λ x. is_wide x ≡ true) (sym rest) (wide-more s ds wide.0), over)
+          | inr both ↦ inr (both.0, over)
+        ]
+  ];
+}
+
+pub survey-one : (old new : Survey) (p q : ℕ) (v low high low1 high1 : ℤ) (t a b : Shape Leaf) → t ≡ decision q v a b → q ≡ p → low1 ≡ low → high1 ≡ high → v <ℤ low → Counted old new (cuts p low1 high1 a) → Counted old new (cuts p low high t)
 survey-one old new p q v low high low1 high1 t a b e is l h below n =
-    n ∙ ap (λ x. surveyed old (cuts p x high1 a)) l ∙ ap (λ x. surveyed old (cuts p low x a)) h
-    ∙ sym (ap (surveyed old) (ap (cuts p low high) (sym (at_decision p q v t a b e is)) ∙ cuts_above p low high v a b below))
+    subst (Counted old new) (ap (λ x. cuts p x high1 a) l ∙ ap (λ x. cuts p low x a) h ∙ sym (ap (cuts p low high) (sym (at_decision p q v t a b e is)) ∙ cuts_above p low high v a b below)) n
+
+pub survey-last : (old new : Survey) (p q : ℕ) (v low high low1 high1 : ℤ) (t a b : Shape Leaf) → t ≡ decision q v a b → q ≡ p → low1 ≡ low → high1 ≡ high → low ≤ℤ v → high ≤ℤ v → Counted old new (cuts p low1 high1 b) → Counted old new (cuts p low high t)
+survey-last old new p q v low high low1 high1 t a b e is l h lv over n =
+    subst (Counted old new) (ap (λ x. cuts p x high1 b) l ∙ ap (λ x. cuts p low x b) h ∙ sym (ap (cuts p low high) (sym (at_decision p q v t a b e is)) ∙ cuts_below p low high v a b lv over)) n
 
 pub survey-both : (old mid new : Survey) (l1 g1 : ℤ) (p q : ℕ) (v low high low1 v1 v2 high2 : ℤ) (t a b : Shape Leaf) → t ≡ decision q v a b → q ≡ p → low1 ≡ low → v1 ≡ v → v2 ≡ (v +ℤ pos 1) → high2 ≡ high → low ≤ℤ v → v <ℤ high →
-    mid ≡ surveyed old (cuts p low1 v1 b) → l1 ≡ int_min mid.least v → g1 ≡ int_max mid.greatest v → new ≡ surveyed (record { cuts = mid.cuts + 1; least = l1; greatest = g1 }) (cuts p v2 high2 a) →
-    new ≡ surveyed old (cuts p low high t)
+    Counted old mid (cuts p low1 v1 b) → l1 ≡ int_min mid.least v → g1 ≡ int_max mid.greatest v → Counted (record { cuts = mid.cuts + 1; least = l1; greatest = g1 }) new (cuts p v2 high2 a) →
+    Counted old new (cuts p low high t)
 survey-both old mid new l1 g1 p q v low high low1 v1 v2 high2 t a b e is l e1 e2 h lv vh m ml mg n =
-    let first : mid ≡ surveyed old (cuts p low v b) = m ∙ ap (λ x. surveyed old (cuts p x v1 b)) l ∙ ap (λ x. surveyed old (cuts p low x b)) e1 in
-    n
-    ∙ ap (λ x. surveyed (record { cuts = mid.cuts + 1; least = l1; greatest = g1 }) (cuts p x high2 a)) e2
-    ∙ ap (λ x. surveyed (record { cuts = mid.cuts + 1; least = l1; greatest = g1 }) (cuts p (v +ℤ pos 1) x a)) h
-    ∙ ap (λ x. surveyed (record { cuts = mid.cuts + 1; least = x; greatest = g1 }) (cuts p (v +ℤ pos 1) high a)) ml
-    ∙ ap (λ x. surveyed (record { cuts = mid.cuts + 1; least = int_min mid.least v; greatest = x }) (cuts p (v +ℤ pos 1) high a)) mg
-    ∙ ap (λ s. surveyed s (v ∷ cuts p (v +ℤ pos 1) high a)) first
-    ∙ sym (surveyed-append old (cuts p low v b) (v ∷ cuts p (v +ℤ pos 1) high a))
-    ∙ sym (ap (surveyed old) (ap (cuts p low high) (sym (at_decision p q v t a b e is)) ∙ cuts_between p low high v a b lv vh))
+    let first : Counted old mid (cuts p low v b) = subst (Counted old mid) (ap (λ x. cuts p x v1 b) l ∙ ap (λ x. cuts p low x b) e1) m in
+    let same : cuts p v2 high2 a ≡ cuts p (v +ℤ pos 1) high a = ap (λ x. cuts p x high2 a) e2 ∙ ap (λ x. cuts p (v +ℤ pos 1) x a) h in
+    let last : Counted (surveyed mid (v ∷ [])) new (cuts p (v +ℤ pos 1) high a) =
+    subst (Counted (surveyed mid (v ∷ [])) new) same
+    (subst (λ (x : ℤ). Counted (record { cuts = mid.cuts + 1; least = int_min mid.least v; greatest = x }) new (cuts p v2 high2 a)) mg
+    (subst (λ (x : ℤ). Counted (record { cuts = mid.cuts + 1; least = x; greatest = g1 }) new (cuts p v2 high2 a)) ml n)) in
+    let all = in_turn old (surveyed mid (v ∷ [])) new (cuts p low v b ++ v ∷ []) (cuts p (v +ℤ pos 1) high a) (one_more old mid (cuts p low v b) first v) last in
+    subst (Counted old new)
+    (append_assoc (cuts p low v b) (v ∷ []) (cuts p (v +ℤ pos 1) high a)
+    ∙ sym (ap (cuts p low high) (sym (at_decision p q v t a b e is)) ∙ cuts_between p low high v a b lv vh))
+    all
 
 -- what a survey leaves room for
-pub survey-room : (old mid : Survey) (p : ℕ) (low high : ℤ) (b : Shape Leaf) → mid ≡ surveyed old (cuts p low high b) → mid.cuts < old.cuts + size b
+pub survey-room : (old mid : Survey) (p : ℕ) (low high : ℤ) (b : Shape Leaf) → Counted old mid (cuts p low high b) → mid.cuts < old.cuts + size b
 survey-room old mid p low high b m =
-    let k = surveyed-cuts old (cuts p low high b) in
     let n = cuts-few p low high b in
-    let e : mid.cuts ≡ (surveyed old (cuts p low high b)).cuts = ap (λ (s : Survey). s.cuts) m in
+    let f = m.few in
     omega arith
 
-pub side-split-at : (p : ℕ) (v v1 : ℤ) (t a b : Shape Leaf) (i j : ℕ) (old mid new : List FlatNode) → t ≡ decision p v a b → v1 ≡ v → Compiles old mid i a → Compiles mid new j b →
-    CompilesSide old new (record { property = p; value = v1; above = i; rest = j }) t
-side-split-at p v v1 t a b i j old mid new e is ca cb =
-    subst (λ (z : ℤ). CompilesSide old new (record { property = p; value = z; above = i; rest = j }) t) (sym is)
-    (subst (λ u. CompilesSide old new (record { property = p; value = v; above = i; rest = j }) u) (sym e) (side-split p v a b i j old mid new ca cb))
+-- a decision is a table where enough cuts were counted that are not too wide
+pub worth-counted : (new : Survey) (cs : List ℤ) (few wide : Bool) → Counted unsurveyed new cs → few ≡ nat_lt new.cuts 3 → wide ≡ is_wide new → (if few || wide then None else Some new) ≡ worth (surveyed unsurveyed cs)
+worth-counted new cs few wide c f w = elim c.is [
+  | inl all ↦ subst (λ (s : Survey). (if few || wide then None else Some new) ≡ worth s) all (rw (f, w) (elim (nat_lt new.cuts 3) as (λ b. (if b || is_wide new then None else Some new) ≡ (if b then None else (if is_wide new then None else Some new))) [ true ↦ refl | false ↦ refl ]))
+  | inr both ↦ rw (w, both.0, both.1) (elim few as (λ b. (if b || true then None else Some new) ≡ (if nat_lt (surveyed unsurveyed cs).cuts 3 then None else None)) [ true ↦ elim (nat_lt (surveyed unsurveyed cs).cuts 3) as (λ b. None ≡ (if b then None else None)) [ true ↦ refl | false ↦ refl ] | false ↦ elim (nat_lt (surveyed unsurveyed cs).cuts 3) as (λ b. None ≡ (if b then None else None)) [ true ↦ refl | false ↦ refl ] ])
+]
+
+pub side-split-at : (k p : ℕ) (v v1 : ℤ) (t a b : Shape Leaf) (i j : ℕ) (old mid new : List FlatNode) → t ≡ decision p v a b → v1 ≡ v → Compiles old mid i a → Compiles mid new j b →
+    CompilesSide k old new (record { property = p; value = v1; above = i; rest = j }) t
+side-split-at k p v v1 t a b i j old mid new e is ca cb =
+    subst (λ (z : ℤ). CompilesSide k old new (record { property = p; value = z; above = i; rest = j }) t) (sym is)
+    (subst (λ u. CompilesSide k old new (record { property = p; value = v; above = i; rest = j }) u) (sym e) (side-split k p v a b i j old mid new ca cb))

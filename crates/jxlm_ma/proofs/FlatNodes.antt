@@ -105,7 +105,7 @@ serves-fused p v a b l r older none sl sr = record {
       (λ once. elim (int_lt v (f p)) as (λ t. 2 * (reached older (cond t (side_end l f) (side_end r f)) f).looks ≤ max (depth a) (depth b) + 2) [ true ↦ (let m = sl.half f fits once.1.0 in omega arith) | false ↦ (let m = sr.half f fits once.1.1 in omega arith) ]));
 }
 
-pub compiles-fused : (p : ℕ) (v : ℤ) (a b : Shape Leaf) (l r : Side) (old mid older : List FlatNode) → (IsTable (decision p v a b) → ⊥) → CompilesSide old mid l a → CompilesSide mid older r b →
+pub compiles-fused : (p : ℕ) (v : ℤ) (a b : Shape Leaf) (l r : Side) (old mid older : List FlatNode) → (IsTable (decision p v a b) → ⊥) → CompilesSide p old mid l a → CompilesSide p mid older r b →
     Compiles old (node.Fused p v l r ∷ older) (length older) (decision p v a b)
 compiles-fused p v a b l r old mid older none cl cr =
     let sl = side_serves-later mid older (size b) l a cr.grows cl.serves in
@@ -117,14 +117,14 @@ compiles-fused p v a b l r old mid older none cl cr =
       tops = record { node = node.Fused p v l r; older = older; newest = refl; place = refl; table = λ h. absurd (none h) };
       keeps = record {
         keeps = λ p' q zero h olds.
-            ((h.0, (cl.tests p' q zero h.1.0, cr.tests p' q zero h.1.1)), cr.keeps.keeps p' q zero h.1.1 (cl.keeps.keeps p' q zero h.1.0 olds));
+            ((h.0, (cl.tests p' q h.0 h.1.0, cr.tests p' q h.0 h.1.1)), cr.keeps.keeps p' q zero h.1.1 (cl.keeps.keeps p' q zero h.1.0 olds));
       };
     }
 
 -- a side that is itself a decision
-pub side-split : (p : ℕ) (v : ℤ) (a b : Shape Leaf) (i j : ℕ) (old mid new : List FlatNode) → Compiles old mid i a → Compiles mid new j b →
-    CompilesSide old new (record { property = p; value = v; above = i; rest = j }) (decision p v a b)
-side-split p v a b i j old mid new ca cb =
+pub side-split : (k p : ℕ) (v : ℤ) (a b : Shape Leaf) (i j : ℕ) (old mid new : List FlatNode) → Compiles old mid i a → Compiles mid new j b →
+    CompilesSide k old new (record { property = p; value = v; above = i; rest = j }) (decision p v a b)
+side-split k p v a b i j old mid new ca cb =
     let sa = serves-later mid new (size b) i a cb.grows ca.serves in
     let sb = cb.serves in
     record {
@@ -145,8 +145,8 @@ not_both None e h = false≢true h
 not_both (Some x) e h = cc
 
 -- a side that is a leaf or a table
-pub side-shared : (t : Shape Leaf) (i : ℕ) (old new : List FlatNode) → (depth t ≡ 0) ⊎ IsTable t → Compiles old new i t → CompilesSide old new (record { property = 0; value = pos 0; above = i; rest = i }) t
-side-shared t i old new kind c =
+pub side-shared : (k : ℕ) (t : Shape Leaf) (i : ℕ) (old new : List FlatNode) → (depth t ≡ 0) ⊎ IsTable t → Compiles old new i t → CompilesSide k old new (record { property = k; value = pos 0; above = i; rest = i }) t
+side-shared k t i old new kind c =
     let s = c.serves in
     record {
       grows = c.grows;
@@ -155,14 +155,14 @@ side-shared t i old new kind c =
       serves = record {
         above = s.within;
         rest = s.within;
-        leads = λ f fits. elim (int_lt (pos 0) (f 0)) as (λ b. (reached new (cond b i i) f).leaf ≡ walk t f) [ true ↦ s.leads f fits | false ↦ s.leads f fits ];
-        most = λ f fits. elim (int_lt (pos 0) (f 0)) as (λ b. (reached new (cond b i i) f).looks ≤ depth t + 1) [ true ↦ (s.few f fits).most | false ↦ (s.few f fits).most ];
+        leads = λ f fits. elim (int_lt (pos 0) (f k)) as (λ b. (reached new (cond b i i) f).leaf ≡ walk t f) [ true ↦ s.leads f fits | false ↦ s.leads f fits ];
+        most = λ f fits. elim (int_lt (pos 0) (f k)) as (λ b. (reached new (cond b i i) f).looks ≤ depth t + 1) [ true ↦ (s.few f fits).most | false ↦ (s.few f fits).most ];
         half = λ f fits once.
             let least : 2 * (reached new i f).looks ≤ depth t + 2 = elim kind [
               | inl end ↦ let m = (s.few f fits).one end in omega arith
               | inr table ↦ absurd (not_both (tabled t) (once-not_table t once) table)
             ] in
-            elim (int_lt (pos 0) (f 0)) as (λ b. 2 * (reached new (cond b i i) f).looks ≤ depth t + 2) [ true ↦ least | false ↦ least ];
+            elim (int_lt (pos 0) (f k)) as (λ b. 2 * (reached new (cond b i i) f).looks ≤ depth t + 2) [ true ↦ least | false ↦ least ];
       };
     }
 

@@ -86,7 +86,7 @@ compile_side-returns t c =
       | compile_side-in-Leaf w ↦ inl (ap depth (c.open_root.ensures ∙ ap (rooted c.args.known.now) w.in-Leaf.is))
       | compile_side-in-Decision+else-is_none w ↦ inr (ap is_some (sym w.table_of.ensures) ∙ w.is_none.ensures ∙ ap not w.if-is_none.false)
     ] in
-    side-shared (pruned c.args.known.now (shape_of c.args.tree.now)) c.in_ok-place.place _ _ kind c.in_ok-place.ensures
+    side-shared c.args.fallback (pruned c.args.known.now (shape_of c.args.tree.now)) c.in_ok-place.place _ _ kind c.in_ok-place.ensures
 
 pub fill-fill-requires : goal.fill-fill-requires
 fill-fill-requires t c =
