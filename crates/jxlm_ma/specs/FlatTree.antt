@@ -1,5 +1,5 @@
 -- A tree as the samples of one channel walk it (ISO/IEC 18181-1, Modular: meta-adaptive trees, properties).
-use Rattle.std.specs.Prelude.{◌≡◌, ◌≢◌, ℕ, ◌+◌, ◌-◌, ◌*◌, ◌/◌, max, ◌<◌, ◌^◌, ◌≤◌, ◌==◌, ◌||◌, nat_lt, if◌then◌else◌, ℤ, pos, ◌+ℤ◌, ◌*ℤ◌, Bool, true, false, List, Contains}
+use Rattle.std.specs.Prelude.{◌≡◌, ◌≢◌, ◌⊎◌, ℕ, ◌+◌, ◌-◌, ◌*◌, ◌/◌, max, ◌<◌, ◌^◌, ◌≤◌, ◌==◌, ◌||◌, nat_lt, if◌then◌else◌, ℤ, pos, ◌+ℤ◌, ◌*ℤ◌, Bool, true, false, List, Contains}
 use Rattle.std.specs.Int.{w32, int_wrap}
 use Rattle.jxlm_base.specs.Numbers.{unpack}
 use Rattle.jxlm_ma.specs.Tree.{AllLeaves, Shape, leaf, decision, walk}
@@ -68,6 +68,11 @@ earlier_of k = if nat_lt k 16 then 0 else (k - 16) / 4 + 1
 abbrev pub earlier_named : Shape Leaf → ℕ
 earlier_named (leaf l) = 0
 earlier_named (decision k value left right) = max (earlier_of k) (max (earlier_named left) (earlier_named right))
+
+-- a decision on a property of this earlier channel, counted from 1, is somewhere in the tree
+abbrev pub NamesEarlier : ℕ → Shape Leaf → Type 0
+NamesEarlier n (leaf l) = ⊥
+NamesEarlier n (decision k value left right) = (earlier_of k ≡ n) ⊎ (NamesEarlier n left ⊎ NamesEarlier n right)
 
 -- a leaf's multiplier lies in its range
 abbrev pub HasMultiplier : Leaf → Type 0

@@ -3,6 +3,7 @@ pub mod DraftReading
 pub mod Kept
 pub mod Queue
 pub mod TreeShape
+pub mod Compiled
 pub mod Counting
 pub mod FlatNodes
 pub mod FlatShapes

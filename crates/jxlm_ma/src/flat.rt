@@ -1,12 +1,15 @@
 //! Trees as the samples of one channel walk them, and what a leaf says.
 
-ghost use Rattle.std.specs.Prelude.{◌≡◌, ◌≤◌, ◌<◌, ◌+◌, ◌^◌, ℕ, ℤ, pos, false, length, min, IfOk, IfSome, None};
+ghost use Rattle.std.specs.Prelude.{◌≡◌, ◌≤◌, ◌<◌, ◌+◌, ◌^◌, ℕ, ℤ, pos, false, length, true, ◌*◌, ◌/◌, ◌⊎◌, IfOk, IfErr, IfSome, None};
 ghost use Rattle.std.specs.Int.{w32, int_wrap};
 ghost use Rattle.jxlm_base.specs.Bits.{bytes_of};
 ghost use Rattle.jxlm_ma.specs.DecodingSamples.{SampleGives};
-ghost use Rattle.jxlm_ma.specs.FlatTree.{PropertiesAre, ClustersStandIn, FlatTree, GoesWithoutWeights, HasMultiplier, ReadsEarlierBelow, asked, earlier_named, leaf_reached, needs_weights, residual_of};
+ghost use Rattle.jxlm_ma.specs.FlatTree.{PropertiesAre, ClustersStandIn, FlatTree, GoesWithoutWeights, HasMultiplier, NamesEarlier, ReadsEarlierBelow, flat_tree, leaf_reached, needs_weights, residual_of};
 ghost use Rattle.jxlm_tree.specs.Properties.{Surroundings, place_property, property};
-ghost use Rattle.jxlm_ma.specs.Tree.{AllLeaves, StandsAtLeaf, depth, leaf, node_count, nodes_on_way, walk};
+ghost use Rattle.jxlm_ma.specs.Tree.{AllLeaves, StandsAtLeaf, depth, leaf, node_count, walk};
+ghost use Rattle.jxlm_ma.specs.ShortTrees.{CutsWithin, MeetsOnce, Reaches, TestsOnly};
+ghost use Rattle.jxlm_ma.specs.Inner.FlatNodes.{channels_of, node_channels, sees_error, side_end, slot};
+ghost use Rattle.jxlm_base.specs.ErrorKind.{NoMemory, kind_of};
 ghost use Rattle.jxlm_ma.specs.Inner.TreeShape.{shape_of};
 
 use crate::compile::{Known, compile};
@@ -104,9 +107,8 @@ pub struct FlatMaTree {
 }
 
 impl Model for FlatMaTree {
-    ghost use Rattle.std.specs.Prelude.{◌≡◌};
-    ghost use Rattle.jxlm_ma.specs.FlatTree.{FlatTree, HasMultiplier, flat_tree};
-    ghost use Rattle.jxlm_ma.specs.Tree.{AllLeaves, node_count};
+    ghost use Rattle.jxlm_ma.specs.FlatTree.{FlatTree, flat_tree};
+    ghost use Rattle.jxlm_ma.specs.Inner.Compiled.{IsCompiled, known_at};
     ghost use Rattle.jxlm_ma.specs.TreeCode.{coded_flat};
     ghost use Rattle.jxlm_ma.specs.Inner.TreeShape.{shape_of};
     ghost use Rattle.jxlm_ma.specs.contracts.flat.Leaf as leaves;
@@ -117,13 +119,15 @@ impl Model for FlatMaTree {
 
     ghost view = { λ t. flat_tree (shape_of t.tree.value.root) t.channel t.stream_idx t.prev_channels };
 
-    ghost invariant = { λ t. AllLeaves HasMultiplier (shape_of t.tree.value.root)
-        × (t.num_nodes ≡ node_count (shape_of t.tree.value.root)) };
+    ghost invariant = { λ t. IsCompiled (shape_of t.tree.value.root) (known_at t.channel t.stream_idx t.prev_channels)
+        t.nodes.items t.root t.need_self_correcting t.prev_channels_named };
 }
 
 // The entry of a table that serves a value.
 #[inline(always)]
-fn entry_of(base: i32, last: usize, value: i32) -> usize {
+fn entry_of(base: i32, last: usize, value: i32) -> usize
+    ensures { result ≡ slot base last value }
+{
     if value <= base {
         return 0;
     }
@@ -136,6 +140,8 @@ impl Side {
     #[inline(always)]
     fn end<P: PlaceProperties>(&self, properties: &P) -> u32
         requires { P.IsCurrent properties.now }
+        ensures end { (f : ℕ → ℤ) → PropertiesAre P.gives properties.now f → result ≡ side_end self.now f }
+        ensures either { (result ≡ self.now.above) ⊎ (result ≡ self.now.rest) }
     {
         if properties.property(self.property as usize) > self.value {
             self.above
@@ -146,13 +152,17 @@ impl Side {
 }
 
 // Of which earlier channel a property is, from 1 on, each with four from property 16 on; 0 where it is of none.
-fn earlier_of(property: u32) -> u32 {
+fn earlier_of(property: u32) -> u32
+    ensures { result ≡ channels_of property }
+{
     property.saturating_sub(12) / 4
 }
 
 impl FlatNode {
     // Whether the node tests property 15, or is a leaf that predicts by the weighted predictor.
-    fn needs_weights(&self) -> bool {
+    fn needs_weights(&self) -> bool
+        ensures { result ≡ sees_error self.now }
+    {
         match self {
             FlatNode::Leaf(leaf) => leaf.predictor == Predictor::SelfCorrecting,
             FlatNode::Table { property, .. } => *property == 15,
@@ -166,7 +176,9 @@ impl FlatNode {
     }
 
     // How many earlier channels the node asks for.
-    fn earlier_named(&self) -> u32 {
+    fn earlier_named(&self) -> u32
+        ensures { result ≡ node_channels self.now }
+    {
         match self {
             FlatNode::Leaf(_) => 0,
             FlatNode::Table { property, .. } => earlier_of(*property),
@@ -190,7 +202,12 @@ impl FlatMaTree {
         channel: u32,
         stream_idx: u32,
         prev_channels: u32,
-    ) -> Result<FlatMaTree> {
+    ) -> Result<FlatMaTree>
+        requires multipliers { AllLeaves HasMultiplier (shape_of tree.value.root) }
+        requires few { node_count (shape_of tree.value.root) ≤ 2 ^ 26 }
+        ensures tree { IfOk result (λ t. t ≡ flat_tree (shape_of tree.value.root) channel stream_idx prev_channels) }
+        ensures err { IfErr result (λ e. kind_of e ≡ NoMemory) }
+    {
         let known = Known {
             channel: read_as_signed(channel),
             stream: read_as_signed(stream_idx),
@@ -214,28 +231,30 @@ impl FlatMaTree {
         })
     }
 
-    /// How many nodes a walk can come to, leaves and decisions together.
+    /// How many nodes the compiled tree has.
     pub fn num_nodes(&self) -> usize
-        ensures { result ≤ 2 * node_count self.now.tree }
+        ensures some { 0 < result }
+        ensures most { result ≤ node_count self.now.tree }
     {
         self.nodes.len()
     }
 
-    /// Whether the tree asks for the weighted (self-correcting) predictor: true where property 15 or
-    /// `SelfCorrecting` is somewhere in it.
+    /// Whether a walk can ask for the weighted (self-correcting) predictor: true only where property 15 or
+    /// `SelfCorrecting` is somewhere in the tree.
     ///
-    /// Where it is false, property 15 does not matter, and no leaf predicts so.
+    /// Where it is false, property 15 does not matter, and no leaf that is reached predicts so.
     pub fn need_self_correcting(&self) -> bool
-        ensures need { result ≡ needs_weights self.now.tree }
+        ensures need { result ≡ true → needs_weights self.now.tree ≡ true }
         ensures without { result ≡ false → GoesWithoutWeights self.now }
     {
         self.need_self_correcting
     }
 
-    /// How many of the earlier channels a walk may ask for, the nearest first: those that are there, up
-    /// to the farthest of which a property is in the tree.
+    /// How many of the earlier channels a walk may ask for, the nearest first: at most those that are there, and
+    /// the tree has a decision on the last of them.
     pub fn max_prev_channel_depth(&self) -> usize
-        ensures depth { result ≡ min self.now.prev_channels (earlier_named self.now.tree) }
+        ensures there { result ≤ self.now.prev_channels }
+        ensures named { 0 < result → NamesEarlier result self.now.tree }
         ensures below { ReadsEarlierBelow self.now result }
     {
         self.prev_channels_named as usize
@@ -256,18 +275,20 @@ impl FlatMaTree {
     /// meta-adaptive trees): to the left where a decision's property is greater than its value.
     ///
     /// Property 0 is the channel and 1 the stream, both read as signed numbers of 32 bits; those of
-    /// earlier channels that are not there are 0. Each node that is looked at, the leaf among them, is a
-    /// step: at most as many as the tree's depth and one more.
+    /// earlier channels that are not there are 0. Each compiled node that is looked at, the leaf among them, is a
+    /// step: at most as many as the tree's depth and one more, about half as many where no path tests a property
+    /// twice, and two where a table serves the whole tree.
     #[inline(always)]
     pub fn leaf<P: PlaceProperties>(&self, properties: &P, steps: &mut Steps) -> &Leaf
         requires { P.IsCurrent properties.now }
         ensures leaf { (f : ℕ → ℤ) → PropertiesAre P.gives properties.now f → result.now ≡ leaf_reached self.now f }
         ensures stands { StandsAtLeaf self.now.tree result.now }
         ensures multiplier { HasMultiplier result.now }
-        ensures steps { (f : ℕ → ℤ) → PropertiesAre P.gives properties.now f → steps.new ≡ steps.old
-            + nodes_on_way self.now.tree (asked self.now f) }
         ensures cost { steps.new ≤ steps.old + depth self.now.tree + 1 }
         ensures more { steps.old ≤ steps.new }
+        ensures half { MeetsOnce self.now.tree → steps.new ≤ steps.old + (depth self.now.tree + 1) / 2 + 1 }
+        ensures two { (p : ℕ) → 2 ≤ p → p ≤ 15 → TestsOnly p self.now.tree → CutsWithin 1022 self.now.tree
+            → Reaches 4 self.now.tree → steps.new ≡ steps.old + 2 }
     {
         let mut place = self.root as usize;
         loop {

@@ -68,7 +68,8 @@ fn is_alike(a: &ModularChannelInfo, b: &ModularChannelInfo) -> bool
 /// Puts the state at the first cell of channel `i`, with the regions of the channels before that are like it, the
 /// nearest first, where the tree asks for any.
 ///
-/// Where the channel before is like it, the state has all of them but that one, and is given only that.
+/// Where the channel before is like it and asked for any, the state has all of them but that one, and is given only
+/// that.
 pub(crate) fn start_channel<S: Sample, D: Decoder>(
     state: &mut PredictorState<S>,
     coding: &PartCoding<'_, D>,
@@ -85,7 +86,9 @@ pub(crate) fn start_channel<S: Sample, D: Decoder>(
     let width = coding.regions[i].width as u32;
     if coding.flats[i].max_prev_channel_depth() == 0 {
         state.restart(width);
-    } else if is_alike(&coding.channels[i - 1], &coding.channels[i]) {
+    } else if coding.flats[i - 1].max_prev_channel_depth() > 0
+        && is_alike(&coding.channels[i - 1], &coding.channels[i])
+    {
         state.restart_alike();
         state.add_earlier(coding.regions[i - 1]);
     } else {
@@ -154,9 +157,10 @@ pub fn roomy_state<S: Sample>(
     ensures ok { IfOk result (λ s. IsRoomyFor widest weights.now flats.now s) }
     ensures err { IfErr result (λ e. kind_of e ≡ NoMemory) }
 {
-    let used = match flats.first() {
-        Some(flat) if flat.need_self_correcting() => Some(weights),
-        _ => None,
+    let used = if flats.iter().any(|flat| flat.need_self_correcting()) {
+        Some(weights)
+    } else {
+        None
     };
     let predictor = PredictorState::with_room(alloc, widest, flats.len(), used)?;
     let row = vec![in alloc; S::default(); widest as usize].map_err(|_| OutOfMemory)?;
