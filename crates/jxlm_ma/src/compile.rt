@@ -98,7 +98,14 @@ fn open_root<'t>(tree: &'t MaTreeNode, known: &Known) -> Root<'t>
 
 // Counts the cuts of the decisions on `property` that hang together from the root, in `low..=high`, until they are
 // too wide for a table.
-fn count_cuts(tree: &MaTreeNode, known: &Known, property: u32, low: i64, high: i64, found: &mut Survey)
+fn count_cuts(
+    tree: &MaTreeNode,
+    known: &Known,
+    property: u32,
+    low: i64,
+    high: i64,
+    found: &mut Survey,
+)
     requires room { found.old.cuts + size (pruned known.now (shape_of tree.now)) < 2 ^ 32 }
     requires low { least ≤ℤ low }
     requires high { high ≤ℤ greatest }
@@ -327,4 +334,3 @@ fn fill(
     let place = compile(alloc, tree, known, nodes)?;
     extend(entries, place, low, high)
 }
-

@@ -120,13 +120,7 @@ fn end(cluster: u8) -> MaTreeNode {
 }
 
 // The plain walk.
-fn walk(
-    tree: &MaTreeNode,
-    channel: u32,
-    stream: u32,
-    prev_channels: u32,
-    values: &[i32],
-) -> Leaf {
+fn walk(tree: &MaTreeNode, channel: u32, stream: u32, prev_channels: u32, values: &[i32]) -> Leaf {
     match tree {
         MaTreeNode::Leaf(leaf) => *leaf,
         MaTreeNode::Decision {
@@ -155,18 +149,14 @@ fn walk(
 fn size_of(tree: &MaTreeNode) -> u32 {
     match tree {
         MaTreeNode::Leaf(_) => 1,
-        MaTreeNode::Decision { left, right, .. } => {
-            1 + size_of(left) + size_of(right)
-        }
+        MaTreeNode::Decision { left, right, .. } => { 1 + size_of(left) + size_of(right) }
     }
 }
 
 fn depth_of(tree: &MaTreeNode) -> u32 {
     match tree {
         MaTreeNode::Leaf(_) => 0,
-        MaTreeNode::Decision { left, right, .. } => {
-            1 + depth_of(left).max(depth_of(right))
-        }
+        MaTreeNode::Decision { left, right, .. } => { 1 + depth_of(left).max(depth_of(right)) }
     }
 }
 
@@ -320,7 +310,14 @@ fn longest_table(rt: HostRuntime) -> Result<(), Fail> {
                 longest = entries.len();
             }
         }
-        assert_eq!(rt; longest, if spread <= 1022 { spread as usize + 2 } else { 0 });
+        assert_eq!(rt;
+            longest,
+            if spread <= 1022 {
+                spread as usize + 2
+            } else {
+                0
+            }
+        );
         assert_eq!(rt; cluster_at(&flat, 9, i32::MIN), 1);
         assert_eq!(rt; cluster_at(&flat, 9, 0), 1);
         assert_eq!(rt; cluster_at(&flat, 9, 1), 2);
@@ -361,9 +358,7 @@ fn drawn_trees(rt: HostRuntime) -> Result<(), Fail> {
         let mut values = [0i32; 32];
         for i in 0..60usize {
             for k in 0..32usize {
-                values[k] = drawn
-                    .value(near)
-                    .wrapping_add(drawn.below(3) as i32 - 1);
+                values[k] = drawn.value(near).wrapping_add(drawn.below(3) as i32 - 1);
             }
             // on a cut, beside it, and at both ends
             if let Some((property, value)) = cuts.get(i / 3) {

@@ -7,12 +7,12 @@ ghost use Rattle.jxlm_ma.specs.Inner.DraftReading.{AllDrafts, IsDraft, IsDraftNo
 ghost use Rattle.jxlm_ma.specs.TreeReading.{children as children_of, drafts_at, in_cluster, leaf_at, limit_error, max_nodes, multiplier_at, node_at, nodes_at, predictor_at, read_context as token_of};
 
 use crate::flat::Leaf;
-use jxlm_tree::predictor::Predictor;
 use jxlm_base::bits::{Bitstream, BitstreamError};
 use jxlm_base::decoder::Decoder;
 use jxlm_base::error::{Error, Result};
 use jxlm_base::grid::OutOfMemory;
 use jxlm_base::sample::Sealed;
+use jxlm_tree::predictor::Predictor;
 use std::alloc::Global;
 
 // No tree has more nodes.

@@ -8,10 +8,10 @@ ghost use Rattle.jxlm_ma.specs.Tree.{depth as depth_of, leaf as leaf_shape};
 ghost use Rattle.jxlm_ma.specs.Inner.TreeShape.{shape_of};
 
 use crate::flat::Leaf;
-use jxlm_tree::predictor::Predictor;
 use jxlm_base::bits::BitstreamError;
 use jxlm_base::error::Result;
 use jxlm_base::grid::OutOfMemory;
+use jxlm_tree::predictor::Predictor;
 use std::alloc::Global;
 
 /// A node of a meta-adaptive tree, with all that is below it.
