@@ -40,7 +40,7 @@ pub struct Section<'a> {
 /// Decodes sections, in their order, and undoes the transforms of the whole (ISO/IEC 18181-1, Modular: image
 /// decoding). It returns whether each part with samples had a section and all samples were decoded; without
 /// `allow_partial` the first is the only question. The sections must fit the image ([`sections_fit`]), and none has a
-/// header of its own; `_global` is the tree for sections that have one.
+/// header of its own: `_global`, a tree for such sections, is not looked at.
 ///
 /// # Memory
 ///
