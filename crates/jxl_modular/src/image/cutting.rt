@@ -5,6 +5,7 @@ ghost use Rattle.jxlm_part.specs.Part.{cell_count};
 ghost use Rattle.std.specs.Prelude.{◌≡◌, ◌↔◌, ◌<◌, IsOk, IsTrue, IsFalse, IfOk, IfErr};
 
 use super::ModularImageDestination;
+use crate::nested::NestedPart;
 use jxlm_base::bits::Bitstream;
 use jxlm_base::decoder::Decoder;
 use jxlm_base::error::Result;
@@ -16,6 +17,7 @@ use jxlm_cut::pass::Pass;
 use jxlm_cut::pieces::{Pieces, has_pieces};
 use jxlm_part::part::PlacedPart;
 use jxlm_tree::flat::Steps;
+use jxlm_tree::ma::MaConfig;
 use std::alloc::Global;
 use std::collections::BTreeSet;
 
@@ -28,6 +30,9 @@ impl<S: Sample, D: Decoder> ModularImageDestination<S, D> {
     ghost use Rattle.jxl_modular.specs.Groups.{PartOfGives, channels_in, held_in};
     ghost use Rattle.jxl_modular.specs.Inner.Laid.{IsLaidOut};
     ghost use Rattle.jxl_modular.specs.SameButCells.{SameButIn};
+    ghost use Rattle.jxl_modular.specs.Inner.Turns.{NestedGives};
+    ghost use Rattle.std.specs.Option.{option_copied};
+    ghost use Rattle.std.specs.Prelude.{pos};
 
     /// Checks that no group has a side of 0.
     pub(crate) fn check_cut(&self) -> Result<()>
@@ -126,5 +131,45 @@ impl<S: Sample, D: Decoder> ModularImageDestination<S, D> {
             stream_index,
         };
         placed.decode(alloc, bits, &mut self.store, allow_partial, partial, steps)
+    }
+
+    /// Reads a part's own header and tree, decodes its samples and undoes its transforms. It returns whether all
+    /// samples of its coded channels were decoded.
+    pub(crate) fn decode_nested(
+        &mut self,
+        alloc: Global,
+        bits: &mut Bitstream<'_>,
+        passes: &[Pass],
+        part: SectionPart,
+        stream_index: u32,
+        global: Option<&MaConfig<D>>,
+        allow_partial: bool,
+        steps: &mut Steps,
+    ) -> Result<bool>
+        ensures gives { NestedGives D.meaning S.width S.to_int (S.from_int (pos 0)) self.old passes.now
+            (option_copied global.entry) (bytes_of bits.old) (position_of bits.old) part stream_index allow_partial
+            result self.old.store self.new.store steps.old steps.new }
+        ensures bytes { bytes_of bits.new ≡ bytes_of bits.old }
+        ensures same { SameButIn (held_in self.old passes.now part) self.old self.new }
+    {
+        let pieces = Pieces::of(
+            alloc,
+            &self.channels,
+            self.nb_meta_channels,
+            self.group_dim,
+            passes,
+            &self.coded,
+            part,
+        )?;
+        let nested = NestedPart::parse(alloc, bits, pieces, self.store.len(), global)?;
+        nested.decode(
+            alloc,
+            bits,
+            &mut self.store,
+            self.bit_depth,
+            stream_index,
+            allow_partial,
+            steps,
+        )
     }
 }
