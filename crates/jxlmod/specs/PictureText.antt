@@ -1,5 +1,5 @@
 -- What the program prints for the bytes of its input.
-use Rattle.std.specs.Prelude.{ℕ, ◌≡◌, ℤ, pos, List, replicate}
+use Rattle.std.specs.Prelude.{ℕ, ◌≡◌, ℤ, pos, List, None, replicate}
 use Rattle.std.specs.Int.{Width, w16, w32}
 use Rattle.jxlm_base.specs.Grid.{Grid}
 use Rattle.jxlm_base.specs.Plain.{plain}
@@ -28,7 +28,7 @@ channels_asked width height n = record {
 pub record IsPictureText (w : Width) (width height channels : ℕ) (bytes : List ℕ) (bit_depth : ℕ) (text : List ℕ) : Type 0 where
   pub grids : List (Grid ℤ)
   pub place : ℕ
-  pub picture : IsPicture plain w bytes 0 (channels_asked width height channels) 0 bit_depth grids place
+  pub picture : IsPicture plain w None bytes 0 (channels_asked width height channels) 0 bit_depth grids place
   pub printed : text ≡ image_text grids
 
 -- the text for the bytes and a command
