@@ -6,8 +6,17 @@ mod case;
 #[cfg(test)]
 mod generated;
 #[cfg(test)]
+mod nested;
+#[cfg(test)]
+mod nested_narrow;
+#[cfg(test)]
+mod nested_rules;
+#[cfg(test)]
+mod partial;
+#[cfg(test)]
 mod parts;
 #[cfg(test)]
 mod rows;
 #[cfg(test)]
 mod run;
+pub mod viewer;
