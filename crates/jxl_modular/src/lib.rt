@@ -4,6 +4,7 @@
 pub mod groups;
 pub mod image;
 pub mod laws;
+mod nested;
 mod opening;
 mod picture;
 mod root;

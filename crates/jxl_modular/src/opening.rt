@@ -10,10 +10,13 @@ ghost use Rattle.jxlm_transform.specs.Transforms.{Parses};
 ghost use Rattle.jxl_modular.specs.Inner.Opened.{IsOpened, opened_of, steps_of_header};
 
 use jxlm_base::bits::Bitstream;
-use jxlm_base::error::Result;
+use jxlm_base::decoder::Decoder;
+use jxlm_base::error::{Error, Result};
 use jxlm_chain::placed::PlacedChannels;
 use jxlm_header::header::ModularHeader;
-use jxlm_header::opening::check;
+use jxlm_header::opening::{DEPTH_LIMIT, check, node_limit};
+use jxlm_transform::channels::ModularChannelInfo;
+use jxlm_tree::ma::{MaConfig, MaConfigParams};
 use std::alloc::Global;
 
 /// Reads what comes before a tree: the header, whose transforms are applied to these channels, none of which has a
@@ -41,4 +44,33 @@ pub(crate) fn open(
     placed.apply(alloc, &mut header.transform)?;
     check(&header, &placed.channels, has_global)?;
     Ok((header, placed))
+}
+
+/// The tree of a header whose coded channels are these: the global one where the header uses it, or else the one at the
+/// reader's position.
+///
+/// # Errors
+///
+/// `GlobalMaTreeNotAvailable` where the header uses the global tree and there is none; that of a tree that is read; out
+/// of memory.
+pub(crate) fn tree_of<D: Decoder>(
+    alloc: Global,
+    bits: &mut Bitstream<'_>,
+    header: &ModularHeader,
+    channels: &[ModularChannelInfo],
+    global: Option<&MaConfig<D>>,
+) -> Result<MaConfig<D>>
+    ensures bytes { bytes_of bits.new ≡ bytes_of bits.old }
+{
+    if header.use_global_tree {
+        return match global {
+            Some(config) => config.try_clone(alloc),
+            None => Err(Error::GlobalMaTreeNotAvailable),
+        };
+    }
+    let limits = MaConfigParams {
+        node_limit: node_limit(channels),
+        depth_limit: DEPTH_LIMIT,
+    };
+    MaConfig::parse(alloc, bits, limits)
 }

@@ -8,16 +8,14 @@ ghost use Rattle.jxlm_transform.specs.Params.{IsValidParams};
 ghost use Rattle.jxl_modular.specs.Parsing.{ParseGives, image_of};
 
 use crate::image::ModularImageDestination;
-use crate::opening::open;
+use crate::opening::{open, tree_of};
 use jxlm_base::bits::Bitstream;
 use jxlm_base::decoder::Decoder;
 use jxlm_base::error::Result;
 use jxlm_base::sample::Sample;
 use jxlm_chain::placed::PlacedChannels;
-use jxlm_header::opening::{DEPTH_LIMIT, node_limit};
 use jxlm_transform::channels::ModularChannels;
 use jxlm_transform::param::ModularParams;
-use jxlm_tree::ma::{MaConfig, MaConfigParams};
 use std::alloc::Global;
 
 /// A Modular image, or none where there are no channels.
@@ -41,7 +39,8 @@ impl<S: Sample, D: Decoder> Modular<S, D> {
     /// MA tree). Its samples are 0 until they are decoded.
     ///
     /// With no channels no bit is read, and there is no image. The parameters must be valid
-    /// ([`is_valid`](ModularParams::is_valid)), without a global tree.
+    /// ([`is_valid`](ModularParams::is_valid)). A header that uses the global tree has the one of the parameters, whose
+    /// nodes are shared.
     ///
     /// # Memory
     ///
@@ -57,9 +56,10 @@ impl<S: Sample, D: Decoder> Modular<S, D> {
     /// The error of the first check that fails. A truncated header is `UnexpectedEof`, and a number without a
     /// transform or a predictor is `InvalidEnum`. Then each transform, in order, that does not suit the channels
     /// which the ones before it leave is `InvalidRctParams`, `InvalidPaletteParams` or `InvalidSqueezeParams`; then
-    /// more than 65536 coded channels are `ProfileConformance`; then a header that uses the global tree is
-    /// `GlobalMaTreeNotAvailable`; and then come the errors of the tree, as by [`MaConfig::parse`]: it may have 1025
-    /// nodes and one more for each coded sample, at most 2^20 + 1, and a depth of 2048. The reader is then after the
+    /// more than 65536 coded channels are `ProfileConformance`; then a header that uses the global tree where there is
+    /// none is `GlobalMaTreeNotAvailable`; and then, for a header that does not use it, come the errors of the tree, as
+    /// by [`MaConfig::parse`](jxlm_tree::ma::MaConfig::parse): it may have 1025 nodes and one more for each coded sample,
+    /// at most 2^20 + 1, and a depth of 2048. The reader is then after the
     /// last field that was read whole; after an error inside a decoder's own `parse` its position is up to the
     /// decoder. Out of memory, `Buffer` or `Decoder(OutOfMemory)`, may come at any time, and leaves the reader
     /// anywhere.
@@ -69,7 +69,6 @@ impl<S: Sample, D: Decoder> Modular<S, D> {
         params: ModularParams<'_, D>,
     ) -> Result<Self>
         requires valid { IsValidParams params }
-        requires alone { params.ma_config ≡ None }
         ensures gives { ParseGives D.meaning (S.from_int (pos 0)) (bytes_of bits.old)
             (position_of bits.old) params.entry params.entry.channels.items result (position_of bits.new) }
         ensures bytes { bytes_of bits.new ≡ bytes_of bits.old }
@@ -77,15 +76,11 @@ impl<S: Sample, D: Decoder> Modular<S, D> {
         if params.channels.is_empty() {
             return Ok(Modular::empty());
         }
-        let has_global = params.ma_config.is_some();
+        let global = params.ma_config;
         let given = ModularChannels::new(alloc, &params.channels)?;
         let start = PlacedChannels::whole(alloc, &given.info)?;
-        let (header, placed) = open(alloc, bits, start, has_global)?;
-        let limits = MaConfigParams {
-            node_limit: node_limit(&placed.channels.info),
-            depth_limit: DEPTH_LIMIT,
-        };
-        let ma_ctx = MaConfig::parse(alloc, bits, limits)?;
+        let (header, placed) = open(alloc, bits, start, global.is_some())?;
+        let ma_ctx = tree_of(alloc, bits, &header, &placed.channels.info, global)?;
         let image = ModularImageDestination::new(
             alloc,
             header,

@@ -57,11 +57,10 @@ pub fn decode_sections<S: Sample, D: Decoder>(
     image: &mut ModularImageDestination<S, D>,
     pass_shifts: &BTreeMap<u32, (i32, i32)>,
     sections: &[Section<'_>],
-    _global: Option<&MaConfig<D>>,
+    global: Option<&MaConfig<D>>,
     allow_partial: bool,
     steps: &mut Steps,
 ) -> Result<bool>
-    requires plain { All IsPlain sections.now }
     requires fit { SectionsFit image.old (passes_of pass_shifts.now.entries) sections.now }
     ensures decoded { result ≡ Ok true → AreDecoded D.meaning S.width S.to_int image.old
         (passes_of pass_shifts.now.entries) sections.now (image_grids S.to_int image.new) steps.old steps.new }
@@ -75,7 +74,7 @@ pub fn decode_sections<S: Sample, D: Decoder>(
 {
     let passes = passes(alloc, pass_shifts)?;
     let complete = image.is_complete(alloc, &passes, sections)?;
-    let whole = image.decode_all(alloc, &passes, sections, allow_partial, steps)?;
+    let whole = image.decode_all(alloc, &passes, sections, global, allow_partial, steps)?;
     image.undo_transforms(alloc)?;
     Ok(whole && complete)
 }

@@ -4,27 +4,27 @@
 // A channel has the sides of its picture, as `5x3`, and after a slash its shift, unless it is 0: one number for both
 // sides, two for each side its own, or four, each 0 or 1, for a channel of a JPEG picture. A pass is `2:0,3`, its
 // number and its shifts. A section is its part, as `g`, `l4` or `p2.4`; after @ its stream's index; after + how many
-// bits of its bytes are before it, unless there are none; and after = its bytes.
-
-ghost use Rattle.std.specs.Prelude.{◌≡◌, None, IfOk};
-ghost use Rattle.std.specs.List.{All};
-ghost use Rattle.jxl_modular.specs.Sections.{IsPlain};
+// bits of its bytes are before it, unless there are none; and its bytes, after = or, where it has a header of its own,
+// after a colon. After the bytes of header and tree may stand global trees: after p that of the parameters, after s that
+// of the sections; each is the limits of its nodes and of its depth, and its bytes.
 
 use jxl_modular::bits::Bitstream;
+use jxl_modular::decoder::Decoder;
 use jxl_modular::sections::{Section, SectionPart};
-use jxl_modular::{ChannelShift, ModularChannelParams};
+use jxl_modular::{ChannelShift, MaConfig, MaConfigParams, ModularChannelParams};
 use jxlm_base_tests::text::{bytes, pair};
 use std::alloc::Global;
 use std::collections::BTreeMap;
 use std::test::Fail;
 
-// A section's part, its stream's index, how many bits are before it, and its bytes.
+// A section's part, its stream's index, how many bits are before it, its bytes, and whether it has a header.
 #[derive(Drop)]
 pub struct Piece {
     part: SectionPart,
     stream_index: u32,
     before: u32,
     bytes: Vec<u8>,
+    nested: bool,
 }
 
 // Numbers with a comma between.
@@ -86,7 +86,8 @@ fn part(text: &str) -> Result<SectionPart, Fail> {
 }
 
 fn read_piece(alloc: Global, text: &str) -> Result<Piece, Fail> {
-    let (place, digits) = pair(text, '=')?;
+    let nested = !text.contains('=');
+    let (place, digits) = pair(text, if nested { ':' } else { '=' })?;
     let (name, stream) = pair(place, '@')?;
     let (index, before) = stream.split_once('+').unwrap_or((stream, "0"));
     Ok(Piece {
@@ -94,6 +95,7 @@ fn read_piece(alloc: Global, text: &str) -> Result<Piece, Fail> {
         stream_index: index.parse()?,
         before: before.parse()?,
         bytes: bytes(alloc, digits)?,
+        nested,
     })
 }
 
@@ -115,18 +117,37 @@ fn reader(piece: &Piece) -> Result<Bitstream<'_>, Fail> {
     Ok(bits)
 }
 
-/// The same as the library takes them.
-pub fn sections<'a>(alloc: Global, pieces: &'a [Piece]) -> Result<Vec<Section<'a>>, Fail>
-    ensures { IfOk result (λ s. All IsPlain s.items) }
-{
+pub fn sections<'a>(alloc: Global, pieces: &'a [Piece]) -> Result<Vec<Section<'a>>, Fail> {
     let mut sections = Vec::new(alloc);
     for piece in pieces {
         sections.push(Section {
             part: piece.part,
             bits: reader(piece)?,
             stream_index: piece.stream_index,
-            nested: false,
+            nested: piece.nested,
         })?;
     }
     Ok(sections)
+}
+
+// The global tree after the mark, if there is one.
+pub fn global<D: Decoder>(
+    alloc: Global,
+    text: &str,
+    mark: char,
+) -> Result<Option<MaConfig<D>>, Fail> {
+    for word in text.split_whitespace() {
+        if let Some(tree) = word.strip_prefix(mark) {
+            let (nodes, rest) = pair(tree, ',')?;
+            let (depth, digits) = pair(rest, ',')?;
+            let limits = MaConfigParams {
+                node_limit: nodes.parse::<usize>()?.min(1 << 26),
+                depth_limit: depth.parse::<usize>()?.min(2048),
+            };
+            let bytes = bytes(alloc, digits)?;
+            let tree = MaConfig::parse(alloc, &mut Bitstream::new(&bytes), limits);
+            return Ok(Some(tree.ok().ok_or("no tree")?));
+        }
+    }
+    Ok(None)
 }

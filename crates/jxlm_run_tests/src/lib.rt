@@ -6,6 +6,8 @@ mod case;
 #[cfg(test)]
 mod generated;
 #[cfg(test)]
+mod nested;
+#[cfg(test)]
 mod parts;
 #[cfg(test)]
 mod rows;

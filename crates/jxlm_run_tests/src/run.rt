@@ -3,12 +3,9 @@
 // pass with groups its number and how many; what is returned, `true`, `false` or an error; and the samples, channel by
 // channel and row by row, or where they are more than 32 their checksum after a #. Where decoding is not begun, it ends
 // with why.
-ghost use Rattle.std.specs.Prelude.{◌≡◌, None, IfOk};
-ghost use Rattle.std.specs.List.{All};
 ghost use Rattle.jxlm_transform.specs.Params.{IsValidParams};
-ghost use Rattle.jxl_modular.specs.Sections.{IsPlain};
 
-use crate::case::{channels, passes, pieces, sections};
+use crate::case::{channels, global, passes, pieces, sections};
 use crate::parts::{counts, decode_by_parts};
 use jxl_modular::bits::Bitstream;
 use jxl_modular::decoder::Decoder;
@@ -94,9 +91,7 @@ fn decoded<S: Sample, D: Decoder>(
     sections: &[Section<'_>],
     global: Option<&MaConfig<D>>,
     way: Way,
-) -> Result<String, Fail>
-    requires { All IsPlain sections.now }
-{
+) -> Result<String, Fail> {
     match sections_fit(alloc, image, passes, sections) {
         Ok(true) => {
             let answer = if way.by_parts {
@@ -117,12 +112,11 @@ fn params<'a, D: Decoder>(
     channels_text: &str,
     group_dim: &str,
     depth: &str,
-) -> Result<ModularParams<'a, D>, Fail>
-    ensures { IfOk result (λ p. p.ma_config ≡ None) }
-{
+    global: Option<&'a MaConfig<D>>,
+) -> Result<ModularParams<'a, D>, Fail> {
     let channels = channels(alloc, channels_text)?;
     let (group_dim, depth) = (group_dim.parse()?, depth.parse()?);
-    Ok(ModularParams::with_channels(group_dim, depth, channels, None))
+    Ok(ModularParams::with_channels(group_dim, depth, channels, global))
 }
 
 // Reads an image, and decodes it from its sections.
@@ -132,13 +126,11 @@ fn run<S: Sample, D: Decoder>(
     passes: &BTreeMap<u32, (i32, i32)>,
     header: &[u8],
     sections: &[Section<'_>],
+    global: Option<&MaConfig<D>>,
     way: Way,
 ) -> Result<String, Fail>
-    requires valid { IsValidParams params }
-    requires alone { params.ma_config ≡ None }
-    requires plain { All IsPlain sections.now }
+    requires { IsValidParams params }
 {
-    let global = params.ma_config;
     match Modular::<S, D>::parse(alloc, &mut Bitstream::new(header), params) {
         Ok(mut modular) => {
             let image = modular.image_mut().ok_or("no image")?;
@@ -163,22 +155,37 @@ fn check_run<S: Sample, D: Decoder>(
     let (sections_text, expected) = pair(rest, '|')?;
     let (group_dim, rest) = pair(setting, ' ')?;
     let (depth, passes_text) = rest.split_once(' ').unwrap_or((rest, ""));
-    let params = params::<D>(alloc, channels, group_dim, depth)?;
+    let (header, trees) = header.split_once(' ').unwrap_or((header, ""));
+    let outer = global::<D>(alloc, trees, 'p')?;
+    let params = params::<D>(alloc, channels, group_dim, depth, outer.as_ref())?;
     assert!(rt; params.is_valid(), "{line}");
     let header = bytes(alloc, header)?;
+    let inner = global::<D>(alloc, trees, 's')?;
     let passes = passes(alloc, passes_text)?;
     let pieces = pieces(alloc, sections_text)?;
     let sections = sections(alloc, &pieces)?;
+    if by_parts && sections.iter().any(|section| section.nested) {
+        return Ok(());
+    }
     let way = Way {
         by_parts,
         summed: expected.contains('#'),
     };
-    let seen = run::<S, D>(alloc, params, &passes, &header, &sections, way)?;
+    let seen = run::<S, D>(
+        alloc,
+        params,
+        &passes,
+        &header,
+        &sections,
+        inner.as_ref(),
+        way,
+    )?;
     assert_eq!(rt; seen.as_str(), expected, "{line}");
     Ok(())
 }
 
-/// Decodes each run of a table by one call, and then by a call for each part, and compares what is expected of it.
+/// Decodes each run of a table by one call, and then, where no part has a header of its own, by a call for each part, and
+/// compares what is expected of it.
 pub fn check<S: Sample, D: Decoder>(
     rt: &impl Abort,
     alloc: Global,

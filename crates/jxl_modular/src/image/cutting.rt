@@ -5,6 +5,7 @@ ghost use Rattle.jxlm_part.specs.Part.{cell_count};
 ghost use Rattle.std.specs.Prelude.{◌≡◌, ◌↔◌, ◌<◌, IsOk, IsTrue, IsFalse, IfOk, IfErr};
 
 use super::ModularImageDestination;
+use crate::nested::NestedPart;
 use jxlm_base::bits::Bitstream;
 use jxlm_base::decoder::Decoder;
 use jxlm_base::error::Result;
@@ -16,6 +17,7 @@ use jxlm_cut::pass::Pass;
 use jxlm_cut::pieces::{Pieces, has_pieces};
 use jxlm_part::part::PlacedPart;
 use jxlm_tree::flat::Steps;
+use jxlm_tree::ma::MaConfig;
 use std::alloc::Global;
 use std::collections::BTreeSet;
 
@@ -126,5 +128,39 @@ impl<S: Sample, D: Decoder> ModularImageDestination<S, D> {
             stream_index,
         };
         placed.decode(alloc, bits, &mut self.store, allow_partial, partial, steps)
+    }
+
+    /// Reads a part's own header and tree, decodes its samples and undoes its transforms. It returns whether all samples
+    /// of its coded channels were decoded.
+    pub(crate) fn decode_nested(
+        &mut self,
+        alloc: Global,
+        bits: &mut Bitstream<'_>,
+        passes: &[Pass],
+        part: SectionPart,
+        stream_index: u32,
+        global: Option<&MaConfig<D>>,
+        allow_partial: bool,
+        steps: &mut Steps,
+    ) -> Result<bool> {
+        let pieces = Pieces::of(
+            alloc,
+            &self.channels,
+            self.nb_meta_channels,
+            self.group_dim,
+            passes,
+            &self.coded,
+            part,
+        )?;
+        let nested = NestedPart::parse(alloc, bits, pieces, self.store.len(), global)?;
+        nested.decode(
+            alloc,
+            bits,
+            &mut self.store,
+            self.bit_depth,
+            stream_index,
+            allow_partial,
+            steps,
+        )
     }
 }

@@ -9,6 +9,7 @@ use jxlm_base::error::Result;
 use jxlm_base::sample::Sample;
 use jxlm_cut::pass::Pass;
 use jxlm_tree::flat::Steps;
+use jxlm_tree::ma::MaConfig;
 use std::alloc::Global;
 
 impl<S: Sample, D: Decoder> ModularImageDestination<S, D> {
@@ -21,6 +22,7 @@ impl<S: Sample, D: Decoder> ModularImageDestination<S, D> {
         alloc: Global,
         passes: &[Pass],
         section: &Section<'_>,
+        global: Option<&MaConfig<D>>,
         allow_partial: bool,
         steps: &mut Steps,
     ) -> Result<bool>
@@ -29,6 +31,18 @@ impl<S: Sample, D: Decoder> ModularImageDestination<S, D> {
         ensures same { SameButCells self.old self.new }
     {
         let mut bits = section.bits;
+        if section.nested {
+            return self.decode_nested(
+                alloc,
+                &mut bits,
+                passes,
+                section.part,
+                section.stream_index,
+                global,
+                allow_partial,
+                steps,
+            );
+        }
         let mut partial = self.part_has_samples(passes, section.part);
         self.decode_part(
             alloc,
@@ -49,6 +63,7 @@ impl<S: Sample, D: Decoder> ModularImageDestination<S, D> {
         alloc: Global,
         passes: &[Pass],
         sections: &[Section<'_>],
+        global: Option<&MaConfig<D>>,
         allow_partial: bool,
         steps: &mut Steps,
     ) -> Result<bool>
@@ -60,7 +75,7 @@ impl<S: Sample, D: Decoder> ModularImageDestination<S, D> {
     {
         let mut whole = true;
         for section in sections {
-            let decoded = self.decode_section(alloc, passes, section, allow_partial, steps)?;
+            let decoded = self.decode_section(alloc, passes, section, global, allow_partial, steps)?;
             if !decoded {
                 whole = false;
             }

@@ -1,0 +1,149 @@
+//! Parts that have a header of their own, with transforms and a tree (ISO/IEC 18181-1, Modular: group sub-bitstreams).
+
+use crate::opening::{open, tree_of};
+use jxlm_base::bits::Bitstream;
+use jxlm_base::decoder::Decoder;
+use jxlm_base::error::Result;
+use jxlm_base::grid::{AlignedGrid, OutOfMemory, Region};
+use jxlm_base::sample::Sample;
+use jxlm_chain::placed::PlacedChannels;
+use jxlm_chain::places::Places;
+use jxlm_chain::scratch::Scratch;
+use jxlm_chain::undo::undo_all;
+use jxlm_cut::pieces::Pieces;
+use jxlm_header::header::ModularHeader;
+use jxlm_part::part::PlacedPart;
+use jxlm_transform::channels::ModularChannels;
+use jxlm_tree::flat::Steps;
+use jxlm_tree::ma::MaConfig;
+use std::alloc::Global;
+
+/// A part by its own header and tree: its coded channels lie in the part's regions of the image's store, and in tables
+/// after the store's buffers.
+#[derive(Drop)]
+pub(crate) struct NestedPart<D: Decoder> {
+    header: ModularHeader,
+    config: MaConfig<D>,
+    placed: PlacedChannels,
+}
+
+/// Adds a buffer for each table, whose cells are 0. Out of memory is its only error.
+fn add_tables<S: Sample>(
+    alloc: Global,
+    store: &mut Vec<AlignedGrid<S>>,
+    tables: &[Region],
+) -> Result<()> {
+    for table in tables {
+        let grid = AlignedGrid::new(alloc, table.width, table.height)?;
+        store.push(grid).map_err(|_| OutOfMemory)?;
+    }
+    Ok(())
+}
+
+impl<D: Decoder> NestedPart<D> {
+    /// Reads header and tree of a part that holds these pieces of an image with so many buffers. The header's list of
+    /// channels begins without meta channels.
+    ///
+    /// # Errors
+    ///
+    /// As when an image is read: of the header, of the first transform that does not suit the part's channels, of the
+    /// first condition that does not hold, or of the tree; out of memory may come at any time.
+    pub(crate) fn parse(
+        alloc: Global,
+        bits: &mut Bitstream<'_>,
+        pieces: Pieces,
+        buffers: usize,
+        global: Option<&MaConfig<D>>,
+    ) -> Result<NestedPart<D>> {
+        let Pieces { infos, regions } = pieces;
+        let channels = ModularChannels {
+            info: infos,
+            nb_meta_channels: 0,
+        };
+        let start = PlacedChannels::new(alloc, channels, Places { regions, buffers });
+        let (header, placed) = open(alloc, bits, start, global.is_some())?;
+        let config = tree_of(alloc, bits, &header, &placed.channels.info, global)?;
+        Ok(NestedPart {
+            header,
+            config,
+            placed,
+        })
+    }
+
+    /// Decodes the samples of its coded channels, and returns whether all were decoded. All memory is taken before the
+    /// first bit is read.
+    fn decode_samples<S: Sample>(
+        &self,
+        alloc: Global,
+        bits: &mut Bitstream<'_>,
+        store: &mut [AlignedGrid<S>],
+        stream_index: u32,
+        allow_partial: bool,
+        steps: &mut Steps,
+    ) -> Result<bool> {
+        let part = PlacedPart {
+            channels: &self.placed.channels.info,
+            regions: &self.placed.places.regions,
+            config: &self.config,
+            weights: self.header.wp_params,
+            stream_index,
+        };
+        let mut partial = part.has_samples();
+        part.decode(alloc, bits, store, allow_partial, &mut partial, steps)?;
+        Ok(!partial)
+    }
+
+    /// Undoes its transforms, from the last to the first. Out of memory is its only error; no cell changes then.
+    fn undo<S: Sample>(
+        &self,
+        alloc: Global,
+        store: &mut [AlignedGrid<S>],
+        bit_depth: u32,
+    ) -> Result<()> {
+        let undoings = &self.placed.undoings;
+        let mut scratch = Scratch::new(alloc, undoings, &self.header.wp_params)?;
+        undo_all(undoings, store, bit_depth, &mut scratch);
+        Ok(())
+    }
+
+    /// Adds its tables, decodes the samples, and undoes the transforms. It returns whether all samples were decoded.
+    fn fill<S: Sample>(
+        &self,
+        alloc: Global,
+        bits: &mut Bitstream<'_>,
+        store: &mut Vec<AlignedGrid<S>>,
+        bit_depth: u32,
+        stream_index: u32,
+        allow_partial: bool,
+        steps: &mut Steps,
+    ) -> Result<bool> {
+        add_tables(alloc, store, &self.placed.tables)?;
+        let whole =
+            self.decode_samples(alloc, bits, store, stream_index, allow_partial, steps)?;
+        self.undo(alloc, store, bit_depth)?;
+        Ok(whole)
+    }
+
+    /// Decodes its samples, and undoes its transforms, in the image's store, which has no table of it afterwards. It
+    /// returns whether all samples were decoded.
+    ///
+    /// # Errors
+    ///
+    /// That of decoding the samples, as a part's `decode` returns it; the samples before are then decoded, and no
+    /// transform is undone. Or out of memory.
+    pub(crate) fn decode<S: Sample>(
+        &self,
+        alloc: Global,
+        bits: &mut Bitstream<'_>,
+        store: &mut Vec<AlignedGrid<S>>,
+        bit_depth: u32,
+        stream_index: u32,
+        allow_partial: bool,
+        steps: &mut Steps,
+    ) -> Result<bool> {
+        let own = store.len();
+        let result = self.fill(alloc, bits, store, bit_depth, stream_index, allow_partial, steps);
+        store.truncate(own);
+        result
+    }
+}
