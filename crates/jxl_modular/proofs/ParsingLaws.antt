@@ -1,21 +1,21 @@
 -- What reading an image returns, from what its steps return.
-use Rattle.std.proofs.Common.{◌≡◌, ℕ, zero, suc, false, ◌+◌, ◌^◌, ◌<◌, min, List, [], ◌∷◌, length, sum_by, Ok, Err, inr, refl, ap, ◌∙◌, arith}
-use Rattle.std.specs.Prelude.{◌⊎◌, ◌==◌, Some}
+use Rattle.std.proofs.Common.{◌≡◌, ℕ, zero, suc, false, ◌+◌, ◌<◌, List, [], ◌∷◌, length, Ok, Err, inr, refl, ap, ◌∙◌, arith}
+use Rattle.std.specs.Prelude.{◌⊎◌, ◌==◌, Option, None, Some, Result, is_some}
+use Rattle.std.specs.Borrow.{Bor}
+use Rattle.std.specs.Option.{option_copied}
 use Rattle.jxlm_base.specs.Decoding.{Meaning}
 use Rattle.jxlm_base.specs.ErrorKind.{UnlessMemory, kind_of}
 use Rattle.jxlm_base.specs.Grammar.{IsErrorAt}
 use Rattle.jxlm_base.specs.declared.error.Error.{Error}
-use Rattle.jxlm_transform.specs.Channels.{Channel, ChannelList, area, image_list, list_of}
+use Rattle.jxlm_transform.specs.Channels.{Channel, ChannelList, image_list, list_of}
 use Rattle.jxlm_transform.specs.declared.channels.ModularChannels.{ModularChannels}
 use Rattle.jxlm_transform.specs.declared.param.ModularChannelParams.{ModularChannelParams}
 use Rattle.jxlm_transform.specs.declared.param.ModularParams.{ModularParams}
 use Rattle.jxlm_tree.proofs.Memory.{unless_so}
 use Rattle.jxlm_tree.specs.Tree.{Config}
-use Rattle.jxlm_tree.specs.TreeReading.{IsTreeAt, IsTooDeep, TreeGives, listing_at}
 use Rattle.jxl_modular.specs.Fresh.{fresh}
 use Rattle.jxl_modular.specs.Image.{Image}
-use Rattle.jxlm_header.specs.Opening.{node_limit, depth_limit}
-use Rattle.jxl_modular.specs.Inner.Opened.{opened_of}
+use Rattle.jxl_modular.specs.Inner.Opened.{TreeOfGives, opened_of}
 use Rattle.jxlm_chain.specs.declared.placed.PlacedChannels.{PlacedChannels}
 use Rattle.jxl_modular.specs.Parsing.{IsImageAt, IsTreeErrorAt, ParseGives, opened}
 use Rattle.jxlm_header.specs.declared.header.ModularHeader.{ModularHeader}
@@ -31,35 +31,40 @@ pub same_list : (copied : List Channel) (l : ModularChannels) (ps : List Modular
 same_list copied l ps same is =
     ap (λ (cs : List Channel). record { channels = cs; nb_meta = 0 }) same ∙ ap (λ (m : ChannelList). record { channels = m.channels; nb_meta = 0 }) is
 
+-- whether there is a tree does not depend on its being lent
+pub lent_some : {A : Type 0} (o : Option (Bor A)) → is_some (option_copied o) ≡ is_some o
+lent_some None = refl
+lent_some (Some x) = refl
+
 module _ {S D : Type 0} (d : Meaning D) (zero : S) (bytes : List ℕ) (p : ℕ) (params : ModularParams D) where
   abbrev given : ChannelList
   given = image_list params.channels.items
 
-  module _ (o : ModularHeader × PlacedChannels) (m : ℕ) (opens : opened bytes given p ≡ Ok (record { value = opened_of o; position = m }))
-      (limit : ℕ) (counted : limit ≡ min (1024 + sum_by area o.1.channels.info.items) (2 ^ 20)) where
-    limit_same : limit ≡ node_limit (list_of o.1.channels).channels
-    limit_same = counted
+  abbrev global : Option (Config D)
+  global = option_copied params.ma_config
 
-    -- an image of the tree that stands there
-    pub image_stands : (config : Config D) (q : ℕ) (image : Image S D) → IsTreeAt d bytes limit depth_limit m config q →
+  module _ (o : ModularHeader × PlacedChannels) (m : ℕ) (opens : opened global bytes given p ≡ Ok (record { value = opened_of o; position = m })) where
+    abbrev TreeGives : Result (Config D) Error → ℕ → Type 0
+    TreeGives result q = TreeOfGives d global bytes o.0.use_global_tree o.1.channels.info.items m result q
+
+    -- an image of the header's tree
+    pub image_stands : (config : Config D) (q : ℕ) (image : Image S D) → TreeGives (Ok config) q →
         image ≡ fresh zero given (opened_of o) config params.group_dim params.bit_depth → IsImageAt d zero bytes p params image q
     image_stands config q image tree same = rw same (record {
       head = opened_of o;
-      start = record { tree_at = m; header = opens; tree = rw limit_same at tree };
+      start = record { tree_at = m; header = opens; tree = tree };
       cells = refl;
     })
 
-    -- where a tree gives an error, so does the image
-    pub tree_fails : (e : Error) (q : ℕ) → TreeGives d bytes limit depth_limit m (Err e) q →
-        UnlessMemory (kind_of e) (IsErrorAt (opened bytes given p) (kind_of e) q ⊎ IsTreeErrorAt d bytes given p (kind_of e) q)
+    -- where the tree gives an error, so does the image
+    pub tree_fails : (e : Error) (q : ℕ) → TreeGives (Err e) q →
+        UnlessMemory (kind_of e) (IsErrorAt (opened global bytes given p) (kind_of e) q ⊎ IsTreeErrorAt d global bytes given p (kind_of e) q)
     tree_fails e q gives =
-        unless_so (kind_of e) {P = IsErrorAt (listing_at d bytes limit m) (kind_of e) q ⊎ IsTooDeep d bytes limit depth_limit m (kind_of e) q}
-        {Q = IsErrorAt (opened bytes given p) (kind_of e) q ⊎ IsTreeErrorAt d bytes given p (kind_of e) q}
-        (λ tree. inr (record {
+        unless_so (kind_of e) (λ tree. inr (record {
           head = opened_of o;
           tree_at = m;
           header = opens;
-          tree = rw limit_same at tree;
+          tree = tree;
         })) gives
 
   pub gives_image : (cs : List ModularChannelParams) (image : Image S D) (q : ℕ) → 0 < length cs → IsImageAt d zero bytes p params image q → ParseGives d zero bytes p params cs (Ok (record { inner = Some image })) q
@@ -67,6 +72,6 @@ module _ {S D : Type 0} (d : Meaning D) (zero : S) (bytes : List ℕ) (p : ℕ) 
   gives_image (c ∷ cs) image q some stands = (image, refl, stands)
 
   pub gives_error : (cs : List ModularChannelParams) (e : Error) (q : ℕ) → 0 < length cs →
-      UnlessMemory (kind_of e) (IsErrorAt (opened bytes given p) (kind_of e) q ⊎ IsTreeErrorAt d bytes given p (kind_of e) q) → ParseGives d zero bytes p params cs (Err e) q
+      UnlessMemory (kind_of e) (IsErrorAt (opened global bytes given p) (kind_of e) q ⊎ IsTreeErrorAt d global bytes given p (kind_of e) q) → ParseGives d zero bytes p params cs (Err e) q
   gives_error [] e q some refused = absurd (omega (arith, some))
   gives_error (c ∷ cs) e q some refused = refused

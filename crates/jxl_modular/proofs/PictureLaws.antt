@@ -1,6 +1,7 @@
 -- A picture from its bits: reading and filling put together.
 use Rattle.std.proofs.Common.{◌≡◌, ◌≢◌, ℕ, ◌*◌, ◌≤◌, List, [], ◌∷◌, sum_by, Some, None, Ok, Err, inl, inr, refl, sym, ap, subst, ℤ}
 use Rattle.std.specs.Prelude.{Option}
+use Rattle.std.specs.Option.{option_copied}
 use Rattle.std.specs.Int.{Width}
 use Rattle.jxlm_base.specs.Decoding.{Meaning}
 use Rattle.jxlm_base.specs.ErrorKind.{ErrorKind, NoMemory, UnlessMemory, kind_of}
@@ -13,6 +14,7 @@ use Rattle.jxlm_transform.specs.ChannelSteps.{Step}
 use Rattle.jxlm_transform.specs.declared.param.ModularChannelParams.{ModularChannelParams}
 use Rattle.jxlm_transform.specs.declared.param.ModularParams.{ModularParams}
 use Rattle.jxlm_part.specs.Decode.{MovesWithin}
+use Rattle.jxlm_tree.specs.Tree.{Config}
 use Rattle.jxl_modular.specs.Inner.Filled.{IsFilled, FillFails, samples_in}
 use Rattle.jxl_modular.specs.Fresh.{fresh}
 use Rattle.jxl_modular.specs.Image.{Image, cost_of, image_grids}
@@ -29,9 +31,9 @@ chain_sides : (w : Width) (bit_depth : ℕ) (steps : List Step) (given : Channel
 chain_sides w bit_depth [] given grids samples h = h.0
 chain_sides w bit_depth (s ∷ steps) given grids samples h = h.0
 
-pub picture_sides : {D : Type 0} (d : Meaning D) (w : Width) (bytes : List ℕ) (stream : ℕ) (given : ChannelList) (p bit_depth : ℕ) (grids : List (Grid ℤ)) (q : ℕ) →
-    IsPicture d w bytes stream given p bit_depth grids q → AreGridsOf given.channels grids
-picture_sides d w bytes stream given p bit_depth grids q h = chain_sides w bit_depth h.head.coded.steps given grids h.samples h.only.chain
+pub picture_sides : {D : Type 0} (d : Meaning D) (w : Width) (global : Option (Config D)) (bytes : List ℕ) (stream : ℕ) (given : ChannelList) (p bit_depth : ℕ) (grids : List (Grid ℤ)) (q : ℕ) →
+    IsPicture d w global bytes stream given p bit_depth grids q → AreGridsOf given.channels grids
+picture_sides d w global bytes stream given p bit_depth grids q h = chain_sides w bit_depth h.head.coded.steps given grids h.samples h.only.chain
 
 -- ---- what reading gives
 
@@ -62,7 +64,7 @@ module _ {S D : Type 0} (d : Meaning D) (z : S) (bytes : List ℕ) (p : ℕ) (pa
 
   -- an error of reading is one of the picture
   pub fails_read : (w : Width) (stream : ℕ) (list : List ModularChannelParams) (e : Error) (q before : ℕ) → ParseGives d z bytes p params list (Err e) q →
-      PictureFails d w bytes stream (image_list params.channels.items) p (kind_of e) q before before
+      PictureFails d w (option_copied params.ma_config) bytes stream (image_list params.channels.items) p (kind_of e) q before before
   fails_read w stream [] e q before h = absurd h
   fails_read w stream (c ∷ cs) e q before h = unless_so (kind_of e) (λ either. inl (either, refl)) h
 
@@ -72,6 +74,9 @@ module _ {S D : Type 0} (d : Meaning D) (w : Width) (to_int : S → ℤ) (bytes 
     (stands : IsImageAt d z bytes p params read place) where
   abbrev given : ChannelList
   given = image_list params.channels.items
+
+  abbrev global : Option (Config D)
+  global = option_copied params.ma_config
 
   abbrev coded : List Channel
   coded = stands.head.coded.list.channels
@@ -86,10 +91,10 @@ module _ {S D : Type 0} (d : Meaning D) (w : Width) (to_int : S → ℤ) (bytes 
       let same : samples_in read ≡ sum_by area coded = ap (λ (x : Image S D). samples_in x) stands.cells in
       subst (λ n. MovesWithin before after (n * cost_of read)) same h
 
-  pub steps_within : (before after : ℕ) → MovesWithin before after (samples_in read * cost_of read) → StepsWithin d bytes given p before after
+  pub steps_within : (before after : ℕ) → MovesWithin before after (samples_in read * cost_of read) → StepsWithin d global bytes given p before after
   steps_within before after h = inr (stands.head, read.config, place, stands.start, steps_for before after h)
 
-  abbrev picture_stands : (picture : Image S D) (q : ℕ) → IsFilled d w to_int bytes stream read place picture q → IsPicture d w bytes stream given p params.bit_depth (image_grids to_int picture) q
+  abbrev picture_stands : (picture : Image S D) (q : ℕ) → IsFilled d w to_int bytes stream read place picture q → IsPicture d w global bytes stream given p params.bit_depth (image_grids to_int picture) q
   picture_stands picture q h =
       let f : IsFilled d w to_int bytes stream begun place picture q = subst (λ (x : Image S D). IsFilled d w to_int bytes stream x place picture q) stands.cells h in
       record {
@@ -103,11 +108,11 @@ module _ {S D : Type 0} (d : Meaning D) (w : Width) (to_int : S → ℤ) (bytes 
       }
 
   pub picture_read : (picture : Image S D) (q before after : ℕ) → IsFilled d w to_int bytes stream read place picture q → MovesWithin before after (samples_in read * cost_of read) →
-      IsPictureRead d w bytes stream given p params.bit_depth (image_grids to_int picture) q before after
+      IsPictureRead d w global bytes stream given p params.bit_depth (image_grids to_int picture) q before after
   picture_read picture q before after h work = record { picture = picture_stands picture q h; steps = steps_for before after work }
 
   module _ (error : ErrorKind) (q before after : ℕ) (more : before ≤ after) where
-    samples_fail : FillFails d w to_int bytes stream read place error q before after → SamplesFail d w bytes stream given p error q before after
+    samples_fail : FillFails d w to_int bytes stream read place error q before after → SamplesFail d w global bytes stream given p error q before after
     samples_fail h =
         let f : FillFails d w to_int bytes stream begun place error q before after = subst (λ (x : Image S D). FillFails d w to_int bytes stream x place error q before after) stands.cells h in
         record {
@@ -123,5 +128,5 @@ module _ {S D : Type 0} (d : Meaning D) (w : Width) (to_int : S → ℤ) (bytes 
         }
 
     -- an error of filling is one of the picture
-    pub fails_filling : UnlessMemory error (FillFails d w to_int bytes stream read place error q before after) → PictureFails d w bytes stream given p error q before after
+    pub fails_filling : UnlessMemory error (FillFails d w to_int bytes stream read place error q before after) → PictureFails d w global bytes stream given p error q before after
     fails_filling h = unless_so error (λ f. inr (samples_fail f)) h

@@ -2,6 +2,7 @@ pub mod Filled
 pub mod ImageCode
 pub mod Kept
 pub mod Laid
+pub mod NestedCode
 pub mod Opened
 pub mod SectionParts
 pub mod StepCode

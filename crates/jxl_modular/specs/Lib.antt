@@ -2,6 +2,7 @@ pub mod Image
 pub mod Parts
 pub mod Groups
 pub mod GroupParts
+pub mod Nested
 pub mod Sections
 pub mod SameButCells
 pub mod Picture

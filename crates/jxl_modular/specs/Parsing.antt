@@ -1,5 +1,6 @@
 -- What reading an image gives: its header and its tree (ISO/IEC 18181-1, Modular: Modular header, MA tree).
-use Rattle.std.specs.Prelude.{◌≡◌, ℕ, List, [], ◌∷◌, false, ◌⊎◌, Option, None, Some, Result, Ok, Err}
+use Rattle.std.specs.Prelude.{◌≡◌, ℕ, List, [], ◌∷◌, false, ◌⊎◌, MatchBool, Option, None, Some, is_some, Result, Ok, Err}
+use Rattle.std.specs.Option.{option_copied}
 use Rattle.jxlm_base.specs.Decoding.{Found, Meaning}
 use Rattle.jxlm_base.specs.ErrorKind.{ErrorKind, ErrorAt, UnlessMemory, kind_of}
 use Rattle.jxlm_base.specs.Grammar.{IsErrorAt}
@@ -18,29 +19,29 @@ use Rattle.jxl_modular.specs.declared.root.Modular.{Modular}
 abbrev pub image_of : {S D : Type 0} → Modular S D → Option (Image S D)
 image_of m = m.inner
 
--- the header at bit position p, and what it comes to for the given channels; no global tree is given
-abbrev pub opened : List ℕ → ChannelList → ℕ → Result (Found Opening) ErrorAt
-opened bytes given p = (opening false given).read bytes p
+-- the header at bit position p, and what it comes to for the given channels, with a global tree or without
+abbrev pub opened : {D : Type 0} → Option (Config D) → List ℕ → ChannelList → ℕ → Result (Found Opening) ErrorAt
+opened global bytes given p = (opening (is_some global) given).read bytes p
 
-module _ {D : Type 0} (d : Meaning D) (bytes : List ℕ) (given : ChannelList) (p : ℕ) where
-  -- at p, up to q, stand a header, which comes to this head for the given channels, and after it this MA tree
+module _ {D : Type 0} (d : Meaning D) (global : Option (Config D)) (bytes : List ℕ) (given : ChannelList) (p : ℕ) where
+  -- at p, up to q, stand a header, which comes to this head, and after it this MA tree, unless it uses the global one
   pub record IsStartAt (head : Opening) (config : Config D) (q : ℕ) : Type 0 where
     pub tree_at : ℕ
-    pub header : opened bytes given p ≡ Ok (record { value = head; position = tree_at })
-    pub tree : IsTreeAt d bytes (node_limit head.coded.list.channels) depth_limit tree_at config q
+    pub header : opened global bytes given p ≡ Ok (record { value = head; position = tree_at })
+    pub tree : MatchBool head.uses_global ((global ≡ Some config) × (q ≡ tree_at)) (IsTreeAt d bytes (node_limit head.coded.list.channels) depth_limit tree_at config q)
 
   -- at p stands a header, and reading the MA tree after it returns this error, and the reader is at q then
   pub record IsTreeErrorAt (error : ErrorKind) (q : ℕ) : Type 0 where
     pub head : Opening
     pub tree_at : ℕ
-    pub header : opened bytes given p ≡ Ok (record { value = head; position = tree_at })
-    pub tree : IsErrorAt (listing_at d bytes (node_limit head.coded.list.channels) tree_at) error q ⊎ IsTooDeep d bytes (node_limit head.coded.list.channels) depth_limit tree_at error q
+    pub header : opened global bytes given p ≡ Ok (record { value = head; position = tree_at })
+    pub tree : (head.uses_global ≡ false) × (IsErrorAt (listing_at d bytes (node_limit head.coded.list.channels) tree_at) error q ⊎ IsTooDeep d bytes (node_limit head.coded.list.channels) depth_limit tree_at error q)
 
 module _ {S D : Type 0} (d : Meaning D) (zero : S) (bytes : List ℕ) (p : ℕ) (params : ModularParams D) where
   -- an image stands at position p up to position q: its header and its tree; its cells are 0
   pub record IsImageAt (image : Image S D) (q : ℕ) : Type 0 where
     pub head : Opening
-    pub start : IsStartAt d bytes (image_list params.channels.items) p head image.config q
+    pub start : IsStartAt d (option_copied params.ma_config) bytes (image_list params.channels.items) p head image.config q
     pub cells : image ≡ fresh zero (image_list params.channels.items) head image.config params.group_dim params.bit_depth
 
   -- What reading an image of these channels gives, and where it leaves the reader. With no channels no bit is read,
@@ -51,4 +52,4 @@ module _ {S D : Type 0} (d : Meaning D) (zero : S) (bytes : List ℕ) (p : ℕ) 
   ParseGives [] (Err e) q = ⊥
   ParseGives (c ∷ cs) (Ok m) q = (image : Image S D) × (image_of m ≡ Some image) × IsImageAt image q
   ParseGives (c ∷ cs) (Err e) q =
-      UnlessMemory (kind_of e) (IsErrorAt (opened bytes (image_list params.channels.items) p) (kind_of e) q ⊎ IsTreeErrorAt d bytes (image_list params.channels.items) p (kind_of e) q)
+      UnlessMemory (kind_of e) (IsErrorAt (opened (option_copied params.ma_config) bytes (image_list params.channels.items) p) (kind_of e) q ⊎ IsTreeErrorAt d (option_copied params.ma_config) bytes (image_list params.channels.items) p (kind_of e) q)

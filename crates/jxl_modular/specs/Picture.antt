@@ -1,5 +1,5 @@
 -- A picture of one part, by its bits and by grids alone (ISO/IEC 18181-1, Modular: header to inverse transforms).
-use Rattle.std.specs.Prelude.{◌≡◌, ℕ, ◌+◌, ◌*◌, ◌⊎◌, ℤ, List, sum_by}
+use Rattle.std.specs.Prelude.{◌≡◌, ℕ, ◌+◌, ◌*◌, ◌⊎◌, ℤ, List, Option, sum_by}
 use Rattle.std.specs.Int.{Width}
 use Rattle.jxlm_base.specs.Decoding.{Meaning}
 use Rattle.jxlm_base.specs.ErrorKind.{ErrorKind, OfDecoder, UnlessMemory}
@@ -24,7 +24,7 @@ coded_part stream head config = record { channels = head.coded.list.channels; we
 abbrev pub StepsFor : Shape Leaf → ℕ → ℕ → ℕ → Type 0
 StepsFor tree n before after = MovesWithin before after (n * (depth tree + 1))
 
-module _ {D : Type 0} (d : Meaning D) (w : Width) (bytes : List ℕ) (stream : ℕ) (given : ChannelList) (p : ℕ) where
+module _ {D : Type 0} (d : Meaning D) (w : Width) (global : Option (Config D)) (bytes : List ℕ) (stream : ℕ) (given : ChannelList) (p : ℕ) where
   -- At bit position p, up to q, stands a picture of the given channels: header, MA tree, and the samples of the coded
   -- channels. Its grids are the only ones that the header's transforms turn into these samples.
   pub record IsPicture (bit_depth : ℕ) (grids : List (Grid ℤ)) (q : ℕ) : Type 0 where
@@ -32,7 +32,7 @@ module _ {D : Type 0} (d : Meaning D) (w : Width) (bytes : List ℕ) (stream : �
     pub config : Config D
     pub samples_at : ℕ
     pub samples : List (Grid ℤ)
-    pub start : IsStartAt d bytes given p head config samples_at
+    pub start : IsStartAt d global bytes given p head config samples_at
     pub coded : IsCodedWhole d w (coded_part stream head config) bytes config.decoder samples_at samples q
     pub only : IsOnlyImage w bit_depth head.coded.steps given grids samples
 
@@ -41,13 +41,12 @@ module _ {D : Type 0} (d : Meaning D) (w : Width) (bytes : List ℕ) (stream : �
     pub picture : IsPicture bit_depth grids q
     pub steps : StepsFor picture.config.tree (sum_by area picture.head.coded.list.channels) before after
 
-  -- Header and MA tree stand at bit position p; decoding the samples after them returns this error, and the reader is at
-  -- q then. The count of steps went on by no more than the samples whose read was tried allow.
+  -- After header and MA tree at p, decoding the samples returns this error at q, with steps for the samples tried.
   pub record SamplesFail (error : ErrorKind) (q before after : ℕ) : Type 0 where
     pub head : Opening
     pub config : Config D
     pub samples_at : ℕ
-    pub start : IsStartAt d bytes given p head config samples_at
+    pub start : IsStartAt d global bytes given p head config samples_at
     pub cause : DecoderError
     pub tried : ℕ
     pub fails : DecodingFails d w (coded_part stream head config) bytes config.decoder samples_at cause q tried
@@ -57,9 +56,9 @@ module _ {D : Type 0} (d : Meaning D) (w : Width) (bytes : List ℕ) (stream : �
   -- there is no picture, by the first error of header, tree or samples; it may be out of memory at any time
   abbrev pub PictureFails : ErrorKind → ℕ → ℕ → ℕ → Type 0
   PictureFails error q before after =
-      UnlessMemory error (((IsErrorAt (opened bytes given p) error q ⊎ IsTreeErrorAt d bytes given p error q) × (after ≡ before)) ⊎ SamplesFail error q before after)
+      UnlessMemory error (((IsErrorAt (opened global bytes given p) error q ⊎ IsTreeErrorAt d global bytes given p error q) × (after ≡ before)) ⊎ SamplesFail error q before after)
 
 -- whatever is returned, no step was taken, or header and tree stand there, and steps are within those for all samples
-abbrev pub StepsWithin : {D : Type 0} → Meaning D → List ℕ → ChannelList → ℕ → ℕ → ℕ → Type 0
-StepsWithin {D} d bytes given p before after =
-    (after ≡ before) ⊎ ((head : Opening) × (config : Config D) × (q : ℕ) × IsStartAt d bytes given p head config q × StepsFor config.tree (sum_by area head.coded.list.channels) before after)
+abbrev pub StepsWithin : {D : Type 0} → Meaning D → Option (Config D) → List ℕ → ChannelList → ℕ → ℕ → ℕ → Type 0
+StepsWithin {D} d global bytes given p before after =
+    (after ≡ before) ⊎ ((head : Opening) × (config : Config D) × (q : ℕ) × IsStartAt d global bytes given p head config q × StepsFor config.tree (sum_by area head.coded.list.channels) before after)

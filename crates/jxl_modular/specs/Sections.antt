@@ -22,6 +22,7 @@ use Rattle.jxlm_part.specs.Part.{cell_count}
 use Rattle.jxlm_part.specs.Placed.{standing_in}
 use Rattle.jxl_modular.specs.Groups.{Exists, IsCut, channels_in, held_in, part_in, pieces_of}
 use Rattle.jxl_modular.specs.Image.{Image, IsOnlyImage, coded_list, cost_of}
+pub use Rattle.jxl_modular.specs.Nested.{Turn, most}
 pub use Rattle.jxl_modular.specs.declared.sections.Section.{Section}
 
 -- a section without a header of its own
@@ -36,18 +37,6 @@ IsNone part sections = All (λ s. s.part ≡ part → ⊥) sections
 abbrev pub AreUnlike : List Section → Type 0
 AreUnlike [] = Unit {0}
 AreUnlike (s ∷ ss) = IsNone s.part ss × AreUnlike ss
-
--- what the decoding of a section shows beside samples: where its reader is afterwards, whether samples are missing, for
--- how many samples a read was tried, and how many nodes of a tree each may take
-pub record Turn : Type 0 where
-  pub position : ℕ
-  pub partial : Bool
-  pub tried : ℕ
-  pub cost : ℕ
-
--- the maximum number of nodes that a turn may take
-abbrev pub most : Turn → ℕ
-most t = t.tried * t.cost
 
 -- no turn has samples missing
 abbrev pub AllWhole : List Turn → Type 0

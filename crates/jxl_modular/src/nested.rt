@@ -1,5 +1,20 @@
 //! Parts that have a header of their own, with transforms and a tree (ISO/IEC 18181-1, Modular: group sub-bitstreams).
 
+ghost use Rattle.std.specs.Prelude.{◌≡◌, ◌++◌, ◌<◌, ◌≤◌, ◌⊎◌, ◌^◌, length, take, pos, IfOk, IfErr, OnOk, OnErr};
+ghost use Rattle.std.specs.List.{All};
+ghost use Rattle.std.specs.Option.{option_copied};
+ghost use Rattle.jxlm_base.specs.Bits.{bytes_of, position_of};
+ghost use Rattle.jxlm_base.specs.ErrorKind.{NoMemory, UnlessMemory, kind_of};
+ghost use Rattle.jxlm_base.specs.Grammar.{IsErrorAt};
+ghost use Rattle.jxlm_chain.specs.Inner.Ends.{HasEnds};
+ghost use Rattle.jxlm_chain.specs.Placed.{sides_in};
+ghost use Rattle.jxlm_chain.specs.Undo.{UndoesAll};
+ghost use Rattle.jxlm_chain.specs.Undoings.{undos_of};
+ghost use Rattle.jxlm_transform.specs.Channels.{IsNarrow};
+ghost use Rattle.jxl_modular.specs.Fresh.{zeros};
+ghost use Rattle.jxl_modular.specs.Inner.NestedCode.{CanFill, DecodesTo, Fills, FillsIn, IsNested, WithSteps, nested_list, nested_places, with_own_tables};
+ghost use Rattle.jxl_modular.specs.Parsing.{IsTreeErrorAt, opened};
+
 use crate::opening::{open, tree_of};
 use jxlm_base::bits::Bitstream;
 use jxlm_base::decoder::Decoder;
@@ -32,7 +47,11 @@ fn add_tables<S: Sample>(
     alloc: Global,
     store: &mut Vec<AlignedGrid<S>>,
     tables: &[Region],
-) -> Result<()> {
+) -> Result<()>
+    ensures ok { OnOk result (store.new.items ≡ store.old.items ++ zeros (S.from_int (pos 0)) (sides_in tables.now)) }
+    ensures cut { take (length store.old.items) store.new.items ≡ store.old.items }
+    ensures err { IfErr result (λ e. kind_of e ≡ NoMemory) }
+{
     for table in tables {
         let grid = AlignedGrid::new(alloc, table.width, table.height)?;
         store.push(grid).map_err(|_| OutOfMemory)?;
@@ -54,7 +73,20 @@ impl<D: Decoder> NestedPart<D> {
         pieces: Pieces,
         buffers: usize,
         global: Option<&MaConfig<D>>,
-    ) -> Result<NestedPart<D>> {
+    ) -> Result<NestedPart<D>>
+        requires even { length pieces.regions.items ≡ length pieces.infos.items }
+        requires narrow { All IsNarrow pieces.infos.items }
+        requires ends { All HasEnds pieces.regions.items }
+        requires room { buffers < 2 ^ 63 }
+        ensures ok { IfOk result (λ n. IsNested D.meaning (option_copied global.entry) (bytes_of bits.old)
+            (nested_list pieces.infos.items) (nested_places pieces.regions.items buffers) (position_of bits.old)
+            n (position_of bits.new)) }
+        ensures err { IfErr result (λ e. UnlessMemory (kind_of e) (IsErrorAt (opened (option_copied global.entry)
+            (bytes_of bits.old) (nested_list pieces.infos.items) (position_of bits.old)) (kind_of e)
+            (position_of bits.new) ⊎ IsTreeErrorAt D.meaning (option_copied global.entry) (bytes_of bits.old)
+            (nested_list pieces.infos.items) (position_of bits.old) (kind_of e) (position_of bits.new))) }
+        ensures bytes { bytes_of bits.new ≡ bytes_of bits.old }
+    {
         let Pieces { infos, regions } = pieces;
         let channels = ModularChannels {
             info: infos,
@@ -80,7 +112,11 @@ impl<D: Decoder> NestedPart<D> {
         stream_index: u32,
         allow_partial: bool,
         steps: &mut Steps,
-    ) -> Result<bool> {
+    ) -> Result<bool>
+        requires { CanFill self.now store.old }
+        ensures { WithSteps (λ t. DecodesTo D.meaning S.width S.to_int (bytes_of bits.old) stream_index
+            (position_of bits.old) self.now allow_partial result t store.old store.new) steps.old steps.new }
+    {
         let part = PlacedPart {
             channels: &self.placed.channels.info,
             regions: &self.placed.places.regions,
@@ -99,25 +135,37 @@ impl<D: Decoder> NestedPart<D> {
         alloc: Global,
         store: &mut [AlignedGrid<S>],
         bit_depth: u32,
-    ) -> Result<()> {
+    ) -> Result<()>
+        requires can { CanFill self.now store.old }
+        requires deep { bit_depth ≤ 32 }
+        ensures undoes { OnOk result (UndoesAll S.to_int S.width bit_depth (undos_of self.now.placed.undoings.items)
+            store.old store.new) }
+        ensures unchanged { OnErr result (store.new ≡ store.old) }
+        ensures err { IfErr result (λ e. kind_of e ≡ NoMemory) }
+    {
         let undoings = &self.placed.undoings;
         let mut scratch = Scratch::new(alloc, undoings, &self.header.wp_params)?;
         undo_all(undoings, store, bit_depth, &mut scratch);
         Ok(())
     }
 
-    /// Adds its tables, decodes the samples, and undoes the transforms. It returns whether all samples were decoded.
+    /// Decodes its samples, and undoes its transforms, where its tables are in the store. It returns whether all samples
+    /// were decoded.
     fn fill<S: Sample>(
         &self,
         alloc: Global,
         bits: &mut Bitstream<'_>,
-        store: &mut Vec<AlignedGrid<S>>,
+        store: &mut [AlignedGrid<S>],
         bit_depth: u32,
         stream_index: u32,
         allow_partial: bool,
         steps: &mut Steps,
-    ) -> Result<bool> {
-        add_tables(alloc, store, &self.placed.tables)?;
+    ) -> Result<bool>
+        requires can { CanFill self.now store.old }
+        requires deep { bit_depth ≤ 32 }
+        ensures { WithSteps (λ t. Fills D.meaning S.width S.to_int (bytes_of bits.old) stream_index
+            (position_of bits.old) self.now allow_partial bit_depth result t store.old store.new) steps.old steps.new }
+    {
         let whole =
             self.decode_samples(alloc, bits, store, stream_index, allow_partial, steps)?;
         self.undo(alloc, store, bit_depth)?;
@@ -140,9 +188,18 @@ impl<D: Decoder> NestedPart<D> {
         stream_index: u32,
         allow_partial: bool,
         steps: &mut Steps,
-    ) -> Result<bool> {
+    ) -> Result<bool>
+        requires can { CanFill self.now (with_own_tables (S.from_int (pos 0)) self.now store.old.items) }
+        requires deep { bit_depth ≤ 32 }
+        ensures { WithSteps (λ t. FillsIn D.meaning S.width S.to_int (bytes_of bits.old) stream_index
+            (position_of bits.old) self.now allow_partial (S.from_int (pos 0)) bit_depth result t
+            store.old.items store.new.items) steps.old steps.new }
+    {
         let own = store.len();
-        let result = self.fill(alloc, bits, store, bit_depth, stream_index, allow_partial, steps);
+        let result = match add_tables(alloc, store, &self.placed.tables) {
+            Ok(()) => self.fill(alloc, bits, store, bit_depth, stream_index, allow_partial, steps),
+            Err(e) => Err(e),
+        };
         store.truncate(own);
         result
     }

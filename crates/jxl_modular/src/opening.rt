@@ -1,13 +1,14 @@
 //! What comes before an image's tree: the header, applied to the channels, and its conditions.
 
-ghost use Rattle.std.specs.Prelude.{◌≡◌, IfOk};
+ghost use Rattle.std.specs.Prelude.{◌≡◌, true, is_some, IfOk};
 ghost use Rattle.std.specs.List.{All};
+ghost use Rattle.std.specs.Option.{option_copied};
 ghost use Rattle.jxlm_base.specs.Bits.{bytes_of, position_of};
 ghost use Rattle.jxlm_chain.specs.Placed.{GoesOn, IsPlaced};
 ghost use Rattle.jxlm_header.specs.Opening.{opening};
 ghost use Rattle.jxlm_transform.specs.Channels.{IsNarrow, list_of};
 ghost use Rattle.jxlm_transform.specs.Transforms.{Parses};
-ghost use Rattle.jxl_modular.specs.Inner.Opened.{IsOpened, opened_of, steps_of_header};
+ghost use Rattle.jxl_modular.specs.Inner.Opened.{IsOpened, TreeOfGives, opened_of, steps_of_header};
 
 use jxlm_base::bits::Bitstream;
 use jxlm_base::decoder::Decoder;
@@ -37,6 +38,7 @@ pub(crate) fn open(
     ensures gives { Parses opened_of result (position_of bits.new)
         ((opening has_global (list_of placed.channels)).read (bytes_of bits.old) (position_of bits.old)) }
     ensures goes { IfOk result (λ o. GoesOn (steps_of_header o.0) placed o.1) }
+    ensures global { IfOk result (λ o. o.0.use_global_tree ≡ true → has_global ≡ true) }
     ensures opened { IfOk result (λ o. IsOpened (list_of placed.channels) o) }
     ensures bytes { bytes_of bits.new ≡ bytes_of bits.old }
 {
@@ -60,6 +62,9 @@ pub(crate) fn tree_of<D: Decoder>(
     channels: &[ModularChannelInfo],
     global: Option<&MaConfig<D>>,
 ) -> Result<MaConfig<D>>
+    requires given { header.now.use_global_tree ≡ true → is_some (option_copied global) ≡ true }
+    ensures gives { TreeOfGives D.meaning (option_copied global.entry) (bytes_of bits.old) header.now.use_global_tree
+        channels.now (position_of bits.old) result (position_of bits.new) }
     ensures bytes { bytes_of bits.new ≡ bytes_of bits.old }
 {
     if header.use_global_tree {

@@ -1,7 +1,7 @@
 //! A picture from its bits.
 
 ghost use Rattle.std.specs.Prelude.{◌≡◌, ◌↔◌, ◌*◌, [], pos, None, IfOk, IfErr, IsOk, OnOk};
-ghost use Rattle.std.specs.Option.{IfSome};
+ghost use Rattle.std.specs.Option.{IfSome, option_copied};
 ghost use Rattle.jxlm_base.specs.Bits.{bytes_of, position_of};
 ghost use Rattle.jxlm_base.specs.ErrorKind.{UnlessMemory, kind_of};
 ghost use Rattle.jxlm_transform.specs.Channels.{AreGridsOf, image_list};
@@ -48,8 +48,8 @@ fn fill<S: Sample, D: Decoder>(
 /// Reads a picture whose samples are in one part: its header, its tree, and all its samples, and undoes its transforms
 /// (ISO/IEC 18181-1, Modular: header, MA tree, samples, inverse transforms).
 ///
-/// With no channels no bit is read, and there is no picture. The parameters are valid, and no global tree is given. It
-/// returns the picture at the reader's position, and the reader is after it then.
+/// With no channels no bit is read, and there is no picture. The parameters are valid. It returns the picture at the
+/// reader's position, and the reader is after it then.
 ///
 /// For each sample whose read is tried, `steps` goes on by at most the tree's depth and one more.
 ///
@@ -66,7 +66,6 @@ pub fn decode_picture<S: Sample, D: Decoder>(
     steps: &mut Steps,
 ) -> Result<Option<ModularImageDestination<S, D>>>
     requires valid { IsValidParams params }
-    requires alone { params.ma_config ≡ None }
 
     // With no channels there is no picture: no bit is read, and no step is taken.
     ensures none { (result ≡ Ok None) ↔ (params.entry.channels.items ≡ []) }
@@ -74,18 +73,18 @@ pub fn decode_picture<S: Sample, D: Decoder>(
         → (position_of bits.new ≡ position_of bits.old) × (steps.new ≡ steps.old) }
 
     // Else it is the picture at the reader's position, whose grids have the sides of the channels ..
-    ensures picture { IfOk result (λ made. IfSome made (λ picture. IsPictureRead D.meaning S.width (bytes_of bits.old)
-        stream_index (image_list params.entry.channels.items) (position_of bits.old) params.entry.bit_depth
+    ensures picture { IfOk result (λ made. IfSome made (λ picture. IsPictureRead D.meaning S.width
+        (option_copied params.entry.ma_config) (bytes_of bits.old) stream_index (image_list params.entry.channels.items) (position_of bits.old) params.entry.bit_depth
         (image_grids S.to_int picture) (position_of bits.new) steps.old steps.new)) }
     ensures sides { IfOk result (λ made. IfSome made (λ picture.
         AreGridsOf (image_list params.entry.channels.items).channels (image_grids S.to_int picture))) }
 
     // .. or the first error.
-    ensures err { IfErr result (λ e. PictureFails D.meaning S.width (bytes_of bits.old) stream_index
-        (image_list params.entry.channels.items) (position_of bits.old) (kind_of e) (position_of bits.new)
+    ensures err { IfErr result (λ e. PictureFails D.meaning S.width (option_copied params.entry.ma_config)
+        (bytes_of bits.old) stream_index (image_list params.entry.channels.items) (position_of bits.old) (kind_of e) (position_of bits.new)
         steps.old steps.new) }
-    ensures work { StepsWithin D.meaning (bytes_of bits.old) (image_list params.entry.channels.items)
-        (position_of bits.old) steps.old steps.new }
+    ensures work { StepsWithin D.meaning (option_copied params.entry.ma_config) (bytes_of bits.old)
+        (image_list params.entry.channels.items) (position_of bits.old) steps.old steps.new }
     ensures bytes { bytes_of bits.new ≡ bytes_of bits.old }
 {
     let modular = Modular::parse(alloc, bits, params)?;

@@ -18,7 +18,7 @@ module _ (w : Width) (request : Request) (bytes : List ℕ) where
   -- the grids are the picture at the start of the bytes, in the format of the plain decoder, at stream index 0
   pub record IsPictureOf (grids : List (Grid ℤ)) : Type 0 where
     pub place : ℕ
-    pub picture : IsPicture plain w bytes 0 (channels_asked request) 0 request.bit_depth grids place
+    pub picture : IsPicture plain w None bytes 0 (channels_asked request) 0 request.bit_depth grids place
 
   -- the sum is the checksum of the picture at the start of the bytes
   pub record IsChecksumOf (sum : ℕ) : Type 0 where

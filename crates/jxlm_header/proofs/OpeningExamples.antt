@@ -43,7 +43,7 @@ and_a_global_tree : (opening false (image_list (squares 3))).read (0x07 ∷ 0x00
 and_a_global_tree = refl
 
 -- A default squeeze of a channel that is small enough has no step.
-small_squeeze : (opening false (image_list square)).read (0x26 ∷ []) 0 ≡ Ok (record { value = record { weights = default_weights; coded = record { steps = []; list = image_list square } }; position = 8 })
+small_squeeze : (opening false (image_list square)).read (0x26 ∷ []) 0 ≡ Ok (record { value = record { uses_global = false; weights = default_weights; coded = record { steps = []; list = image_list square } }; position = 8 })
 small_squeeze = refl
 
 -- the default squeeze of no channels

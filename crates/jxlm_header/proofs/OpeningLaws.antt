@@ -29,7 +29,23 @@ first_not : (a b : Bool) (e f : ErrorKind) → first_of_two a b e f ≡ Ok tt �
 first_not true b e f h = cc
 first_not false b e f h = refl
 
+second_not : (a b : Bool) (e f : ErrorKind) → first_of_two a b e f ≡ Ok tt → b ≡ false
+second_not true b e f h = cc
+second_not false true e f h = cc
+second_not false false e f h = refl
+
+there_if_used : (used there : Bool) → (used && not there) ≡ false → used ≡ true → there ≡ true
+there_if_used used true h k = refl
+there_if_used true false h k = cc
+there_if_used false false h k = cc
+
 module _ (has_global : Bool) (list : ChannelList) where
+  -- where they hold, a global tree that is used is there
+  pub global_there : (h : Header) → conditions has_global h list ≡ Ok tt → h.use_global_tree ≡ true → has_global ≡ true
+  global_there h holds used =
+      there_if_used h.use_global_tree has_global
+      (second_not (nat_lt 65536 (length list.channels)) (h.use_global_tree && not has_global) (BadProfile (codes "nb_channels_tr too large")) NoGlobalTree holds) used
+
   -- the conditions look at the flag of the global tree alone
   pub conditions_alike : (h k : Header) → h.use_global_tree ≡ k.use_global_tree → conditions has_global h list ≡ conditions has_global k list
   conditions_alike h k flags = rw flags refl
@@ -69,8 +85,8 @@ module _ (has_global : Bool) (list : ChannelList) (bytes : List ℕ) (p : ℕ) w
 
       -- where all hold, it is opened
       pub is_opened : (k : Header) → k.use_global_tree ≡ h.use_global_tree → conditions has_global k coded.list ≡ Ok tt →
-          (opening has_global list).read bytes p ≡ Ok (record { value = record { weights = h.wp_params; coded = coded }; position = m })
+          (opening has_global list).read bytes p ≡ Ok (record { value = record { uses_global = h.use_global_tree; weights = h.wp_params; coded = coded }; position = m })
       is_opened k flags holds =
           let here : conditions has_global h coded.list ≡ Ok tt = sym (conditions_alike has_global coded.list k h flags) ∙ holds in
-          let all : resolved has_global list h ≡ Ok (record { weights = h.wp_params; coded = coded }) = rw (found, here) refl in
+          let all : resolved has_global list h ≡ Ok (record { uses_global = h.use_global_tree; weights = h.wp_params; coded = coded }) = rw (found, here) refl in
           reads_on ∙ ap (λ (r : Result Opening ErrorKind). (checked r).read bytes m) all

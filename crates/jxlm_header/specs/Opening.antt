@@ -9,8 +9,9 @@ use Rattle.jxlm_transform.specs.Channels.{Channel, ChannelList, area}
 use Rattle.jxlm_transform.specs.ChannelSteps.{CodedList, coded_list, ◌>>=◌}
 use Rattle.jxlm_header.specs.Header.{Header, header}
 
--- the weights of the header, and what its transforms come to: their steps, and the channels that are coded
+-- whether the header uses the global tree, its weights, and what its transforms come to: steps, and coded channels
 pub record Opening : Type 0 where
+  pub uses_global : Bool
   pub weights : WpHeader
   pub coded : CodedList
 
@@ -30,7 +31,7 @@ abbrev pub resolved : Bool → ChannelList → Header → Result Opening ErrorKi
 resolved has_global list header =
     coded_list header.transform list >>= λ coded.
     conditions has_global header coded.list >>= λ _.
-    Ok (record { weights = header.wp_params; coded = coded })
+    Ok (record { uses_global = header.use_global_tree; weights = header.wp_params; coded = coded })
 
 -- the whole header, and then what it comes to
 abbrev pub opening : Bool → ChannelList → Grammar Opening

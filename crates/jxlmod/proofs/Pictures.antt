@@ -55,20 +55,20 @@ asked width height n given is =
 -- ---- what comes of a picture at the start of the bytes
 
 module _ (w : Width) (width height channels : ℕ) (bytes bytes' : List ℕ) (p : ℕ) (given : ChannelList) (same : bytes' ≡ bytes) (start : p ≡ 0) (are : given ≡ channels_asked width height channels) where
-  pub at_start : (deep bit_depth : ℕ) (grids : List (Grid ℤ)) (q : ℕ) → deep ≡ bit_depth → IsPicture plain w bytes' 0 given p deep grids q → IsPicture plain w bytes 0 (channels_asked width height channels) 0 bit_depth grids q
+  pub at_start : (deep bit_depth : ℕ) (grids : List (Grid ℤ)) (q : ℕ) → deep ≡ bit_depth → IsPicture plain w None bytes' 0 given p deep grids q → IsPicture plain w None bytes 0 (channels_asked width height channels) 0 bit_depth grids q
   at_start deep bit_depth grids q depth h =
-      subst (λ (l : ChannelList). IsPicture plain w bytes 0 l 0 bit_depth grids q) are
-      (subst (λ (n : ℕ). IsPicture plain w bytes 0 given n bit_depth grids q) start (subst (λ (b : List ℕ). IsPicture plain w b 0 given p bit_depth grids q) same
-      (subst (λ (n : ℕ). IsPicture plain w bytes' 0 given p n grids q) depth h)))
+      subst (λ (l : ChannelList). IsPicture plain w None bytes 0 l 0 bit_depth grids q) are
+      (subst (λ (n : ℕ). IsPicture plain w None bytes 0 given n bit_depth grids q) start (subst (λ (b : List ℕ). IsPicture plain w None b 0 given p bit_depth grids q) same
+      (subst (λ (n : ℕ). IsPicture plain w None bytes' 0 given p n grids q) depth h)))
 
-  pub error_at_start : (error : Error) (q before after : ℕ) → before ≡ 0 → PictureFails plain w bytes' 0 given p (kind_of error) q before after → IsPictureError w width height channels bytes error
+  pub error_at_start : (error : Error) (q before after : ℕ) → before ≡ 0 → PictureFails plain w None bytes' 0 given p (kind_of error) q before after → IsPictureError w width height channels bytes error
   error_at_start error q before after nought h = record {
     place = q;
     steps = after;
-    fails = subst (λ (l : ChannelList). PictureFails plain w bytes 0 l 0 (kind_of error) q 0 after) are
-        (subst (λ (n : ℕ). PictureFails plain w bytes 0 given n (kind_of error) q 0 after) start
-        (subst (λ (b : List ℕ). PictureFails plain w b 0 given p (kind_of error) q 0 after) same
-        (subst (λ (n : ℕ). PictureFails plain w bytes' 0 given p (kind_of error) q n after) nought h)));
+    fails = subst (λ (l : ChannelList). PictureFails plain w None bytes 0 l 0 (kind_of error) q 0 after) are
+        (subst (λ (n : ℕ). PictureFails plain w None bytes 0 given n (kind_of error) q 0 after) start
+        (subst (λ (b : List ℕ). PictureFails plain w None b 0 given p (kind_of error) q 0 after) same
+        (subst (λ (n : ℕ). PictureFails plain w None bytes' 0 given p (kind_of error) q n after) nought h)));
   }
 
 -- it was out of memory

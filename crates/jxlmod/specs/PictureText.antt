@@ -28,7 +28,7 @@ channels_asked width height n = record {
 pub record IsPictureText (w : Width) (width height channels : ℕ) (bytes : List ℕ) (bit_depth : ℕ) (text : List ℕ) : Type 0 where
   pub grids : List (Grid ℤ)
   pub place : ℕ
-  pub picture : IsPicture plain w bytes 0 (channels_asked width height channels) 0 bit_depth grids place
+  pub picture : IsPicture plain w None bytes 0 (channels_asked width height channels) 0 bit_depth grids place
   pub printed : text ≡ image_text grids
 
 -- the text for the bytes and a command

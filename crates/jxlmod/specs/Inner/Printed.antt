@@ -13,7 +13,7 @@ use Rattle.jxlmod.specs.declared.arguments.Command.TheVariants.{Decode}
 pub record IsPictureError (w : Width) (width height channels : ℕ) (bytes : List ℕ) (error : Error) : Type 0 where
   pub place : ℕ
   pub steps : ℕ
-  pub fails : PictureFails plain w bytes 0 (channels_asked width height channels) 0 (kind_of error) place 0 steps
+  pub fails : PictureFails plain w None bytes 0 (channels_asked width height channels) 0 (kind_of error) place 0 steps
 
 -- there is no text for the bytes and a command, by this error
 abbrev pub FailsToPrint : List ℕ → Command → Error → Type 0

@@ -10,7 +10,7 @@ use Rattle.jxlm_transform.specs.Transforms.{transform_of}
 use Rattle.jxlm_transform.proofs.StepLaws.{narrow_tables, steps_channels, steps_list, steps_weights}
 use Rattle.jxlm_header.specs.Header.{header_of}
 use Rattle.jxlm_transform.specs.Steps.{steps_in}
-use Rattle.jxlm_header.proofs.OpeningLaws.{condition_fails, few_channels, have_channels, header_fails, is_opened}
+use Rattle.jxlm_header.proofs.OpeningLaws.{condition_fails, few_channels, global_there, have_channels, header_fails, is_opened}
 use Rattle.jxl_modular.proofs.opening.open.Goals as goal
 
 pub apply-requires-clause-some_channels : goal.apply-requires-clause-some_channels
@@ -61,3 +61,9 @@ returns-clause-opened c =
       palettes = steps_weights h.wp_params h.transform l coded read.palettes found;
       tables = narrow_tables h.transform l coded read.transforms found;
     }
+
+pub returns-clause-global : goal.returns-clause-global
+returns-clause-global c used =
+    let h = header_of c.in_ok-header.header in
+    let k = record h { transform = map transform_of c.apply.new.transforms.items } in
+    global_there c.args.has_global (list_of c.apply.new.self.channels) k c.in_ok-check.ensures used

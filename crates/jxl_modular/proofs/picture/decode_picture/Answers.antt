@@ -1,4 +1,5 @@
 use Rattle.std.proofs.Common.{pos, sym, ◌∙◌}
+use Rattle.std.specs.Option.{option_copied}
 use Rattle.std.proofs.lemmas.Result.{err_from_is_err_and}
 use Rattle.jxlm_base.specs.Bits.{bytes_of, position_of}
 use Rattle.jxlm_transform.specs.Channels.{image_list}
@@ -40,7 +41,7 @@ returns-clause-picture g c =
 pub returns-clause-sides : goal.returns-clause-sides
 returns-clause-sides g c =
     let picture = returns-clause-picture g c in
-    picture_sides g.D.Decoder.meaning g.S.Sealed.width (bytes_of c.args.bits.now) c.args.stream_index (image_list c.args.params.channels.items) (position_of c.args.bits.now) c.args.params.bit_depth _ (position_of c.fill.new.bits) picture.picture
+    picture_sides g.D.Decoder.meaning g.S.Sealed.width (option_copied c.args.params.ma_config) (bytes_of c.args.bits.now) c.args.stream_index (image_list c.args.params.channels.items) (position_of c.args.bits.now) c.args.params.bit_depth _ (position_of c.fill.new.bits) picture.picture
 
 pub returns-clause-work : goal.returns-clause-work
 returns-clause-work g c =

@@ -1,15 +1,15 @@
-use Rattle.std.proofs.Common.{arith, sym, ◌≡◌, ◌+◌, ◌^◌, ◌<◌, min, pos, List, [], length, sum_by, false, rules, Err, Ok, ap, ◌∙◌, subst}
+use Rattle.std.proofs.Common.{arith, sym, ◌≡◌, ◌<◌, pos, List, [], length, rules, Err, Ok, ap, ◌∙◌, subst}
+use Rattle.std.specs.Option.{option_copied}
+use Rattle.std.specs.Prelude.{is_some}
 use Rattle.jxlm_base.specs.Bits.{bytes_of, position_of}
 use Rattle.jxlm_chain.specs.declared.placed.PlacedChannels.{PlacedChannels}
-use Rattle.jxlm_tree.specs.TreeReading.{TreeGives, IsTreeAt}
-use Rattle.jxlm_header.specs.Opening.{depth_limit}
-use Rattle.jxl_modular.specs.Inner.Opened.{IsOpened, opened_of}
+use Rattle.jxl_modular.specs.Inner.Opened.{IsOpened, TreeOfGives, opened_of}
 use Rattle.jxl_modular.specs.Parsing.{ParseGives, opened}
 use Rattle.jxlm_header.specs.declared.header.ModularHeader.{ModularHeader}
-use Rattle.jxl_modular.proofs.ParsingLaws.{image_stands, same_list, tree_fails, not_zero, gives_image, gives_error}
+use Rattle.jxl_modular.proofs.ParsingLaws.{image_stands, lent_some, same_list, tree_fails, not_zero, gives_image, gives_error}
 use Rattle.jxl_modular.proofs.root.Modular.parse.Goals as goal
 use Rattle.jxlm_base.specs.ErrorKind.{kind_of}
-use Rattle.jxlm_transform.specs.Channels.{Channel, ChannelList, IsNarrow, area, image_list, list_of}
+use Rattle.jxlm_transform.specs.Channels.{Channel, ChannelList, IsNarrow, image_list, list_of}
 use Rattle.jxlm_chain.specs.Layout.{first_layout}
 use Rattle.jxlm_chain.specs.Placed.{IsPlacedBy}
 use Rattle.jxlm_chain.proofs.PlacedSteps.{placed_by}
@@ -58,7 +58,7 @@ returns-in_err-image-clause-gives g c =
     let counted_some : 0 < params.channels.len = not_zero params.channels.len (sym c.is_empty.ensures ∙ c.if-is_empty.false) in
     let some : 0 < length ps = omega (arith, counted_some, params.channels.ok.0) in
     let e = c.in_err-image.field-0.0 in
-    let q = position_of c.parse.new.bits in
+    let q = position_of c.tree_of.new.bits in
     let answer : ParseGives d zero bytes p params ps (Err e) q = gives_error d zero bytes p params ps e q some (no_memory (kind_of e) _ c.in_err-image.ensures.err) in
     search rules
 
@@ -72,18 +72,17 @@ returns-in_err-ma_ctx-clause-gives g c =
     let ps = params.channels.items in
     let o : ModularHeader × PlacedChannels = (c.in_ok-header.header, c.in_ok-header.placed) in
     let m = position_of c.open.new.bits in
-    let limit = c.node_limit.result in
-    let no_global : c.is_some-has_global.result ≡ false = search rules in
+    let global = option_copied params.ma_config in
+    let has : c.is_some.result ≡ is_some global = c.is_some.ensures ∙ sym (lent_some params.ma_config) in
     let counted_some : 0 < params.channels.len = not_zero params.channels.len (sym c.is_empty.ensures ∙ c.if-is_empty.false) in
     let some : 0 < length ps = omega (arith, counted_some, params.channels.ok.0) in
     let given : list_of c.in_ok-given.given ≡ image_list ps = c.in_ok-given.ensures.ok ∙ ap (λ (cs : List ModularChannelParams). image_list cs) c.deref.ensures.value in
     let list : list_of c.in_ok-start.start.channels ≡ image_list ps = c.in_ok-start.ensures.list ∙ same_list c.deref-2.result.now c.in_ok-given.given ps c.deref-2.ensures.value given in
-    let opens : opened bytes (image_list ps) p ≡ Ok (record { value = opened_of o; position = m }) = rw (no_global, list) at c.in_ok-header.ensures.gives in
-    let counted : limit ≡ min (1024 + sum_by area o.1.channels.info.items) (2 ^ 20) = c.node_limit.ensures ∙ ap (λ (xs : List Channel). min (1024 + sum_by area xs) (2 ^ 20)) c.deref-3.ensures.value in
+    let opens : opened global bytes (image_list ps) p ≡ Ok (record { value = opened_of o; position = m }) = rw (has, list) at c.in_ok-header.ensures.gives in
+    let q = position_of c.tree_of.new.bits in
     let e = c.in_err-ma_ctx.field-0.0 in
-    let q = position_of c.parse.new.bits in
-    let gives : TreeGives d bytes limit depth_limit m (Err e) q = rw c.in_ok-header.ensures.bytes at c.in_err-ma_ctx.ensures.gives in
-    let answer : ParseGives d zero bytes p params ps (Err e) q = gives_error d zero bytes p params ps e q some (tree_fails d zero bytes p params o m opens limit counted e q gives) in
+    let tree : TreeOfGives d global bytes o.0.use_global_tree o.1.channels.info.items m (Err e) q = rw (c.in_ok-header.ensures.bytes, c.deref-3.ensures.value) at c.in_err-ma_ctx.ensures.gives in
+    let answer : ParseGives d zero bytes p params ps (Err e) q = gives_error d zero bytes p params ps e q some (tree_fails d zero bytes p params o m opens e q tree) in
     search rules
 
 pub returns-clause-gives : goal.returns-clause-gives
@@ -96,16 +95,15 @@ returns-clause-gives g c =
     let ps = params.channels.items in
     let o : ModularHeader × PlacedChannels = (c.in_ok-header.header, c.in_ok-header.placed) in
     let m = position_of c.open.new.bits in
-    let limit = c.node_limit.result in
-    let no_global : c.is_some-has_global.result ≡ false = search rules in
+    let global = option_copied params.ma_config in
+    let has : c.is_some.result ≡ is_some global = c.is_some.ensures ∙ sym (lent_some params.ma_config) in
     let counted_some : 0 < params.channels.len = not_zero params.channels.len (sym c.is_empty.ensures ∙ c.if-is_empty.false) in
     let some : 0 < length ps = omega (arith, counted_some, params.channels.ok.0) in
     let given : list_of c.in_ok-given.given ≡ image_list ps = c.in_ok-given.ensures.ok ∙ ap (λ (cs : List ModularChannelParams). image_list cs) c.deref.ensures.value in
     let list : list_of c.in_ok-start.start.channels ≡ image_list ps = c.in_ok-start.ensures.list ∙ same_list c.deref-2.result.now c.in_ok-given.given ps c.deref-2.ensures.value given in
-    let opens : opened bytes (image_list ps) p ≡ Ok (record { value = opened_of o; position = m }) = rw (no_global, list) at c.in_ok-header.ensures.gives in
-    let counted : limit ≡ min (1024 + sum_by area o.1.channels.info.items) (2 ^ 20) = c.node_limit.ensures ∙ ap (λ (xs : List Channel). min (1024 + sum_by area xs) (2 ^ 20)) c.deref-3.ensures.value in
-    let q = position_of c.parse.new.bits in
-    let tree : IsTreeAt d bytes limit depth_limit m c.in_ok-ma_ctx.ma_ctx q = rw c.in_ok-header.ensures.bytes at c.in_ok-ma_ctx.ensures.gives in
+    let opens : opened global bytes (image_list ps) p ≡ Ok (record { value = opened_of o; position = m }) = rw (has, list) at c.in_ok-header.ensures.gives in
+    let q = position_of c.tree_of.new.bits in
+    let tree : TreeOfGives d global bytes o.0.use_global_tree o.1.channels.info.items m (Ok c.in_ok-ma_ctx.ma_ctx) q = rw (c.in_ok-header.ensures.bytes, c.deref-3.ensures.value) at c.in_ok-ma_ctx.ensures.gives in
     let is = subst (λ l. c.in_ok-image.image ≡ fresh zero l (opened_of o) c.in_ok-ma_ctx.ma_ctx params.group_dim params.bit_depth) given c.in_ok-image.ensures.ok in
-    let stands = image_stands d zero bytes p params o m opens limit counted c.in_ok-ma_ctx.ma_ctx q c.in_ok-image.image tree is in
+    let stands = image_stands d zero bytes p params o m opens c.in_ok-ma_ctx.ma_ctx q c.in_ok-image.image tree is in
     gives_image d zero bytes p params ps c.in_ok-image.image q some stands
