@@ -1,6 +1,7 @@
 -- What each section left still is there when all have had their turn: where no samples are missing, all is decoded.
 use Rattle.std.proofs.Common.{◌≡◌, ℕ, Bool, true, false, nat_lt, ◌+◌, ◌*◌, inl, inr, List, [], ◌∷◌, map, get_or, Result, Ok, ℤ, refl, sym, ap, ◌∙◌, subst, arith}
 use Rattle.std.specs.List.{All, AllZip}
+use Rattle.std.specs.Prelude.{MatchBool, Option}
 use Rattle.std.specs.Int.{Width}
 use Rattle.std.proofs.lemmas.Bool.{lt-ltb}
 use Rattle.std.proofs.lemmas.List.{get_or-map}
@@ -32,7 +33,9 @@ use Rattle.jxlm_part.proofs.Loops.{fits_in}
 use Rattle.jxl_modular.specs.Groups.{channels_in, held_in, pieces_of}
 use Rattle.jxl_modular.specs.Image.{Image, coded_list}
 use Rattle.jxl_modular.specs.Inner.Laid.{IsLaidOut}
-use Rattle.jxl_modular.specs.Sections.{AllTurn, AllWhole, AreDecoded, AreUnlike, CodesPart, IsNone, PlainTurn, Section, SectionsFit, SectionsLeave, Turn, most}
+use Rattle.jxl_modular.specs.Nested.{nested_regions}
+use Rattle.jxlm_tree.specs.Tree.{Config}
+use Rattle.jxl_modular.specs.Sections.{AllTurn, AllWhole, AreDecoded, AreUnlike, CodesNested, CodesPart, CodesPlain, IsNone, NestedOk, PlainTurn, Section, SectionsFit, SectionsLeave, Turn, Turned, most}
 use Rattle.jxl_modular.proofs.Laid.{coded_apart, coded_lie, coded_sizes}
 
 -- ---- a piece of coded grids is the grid of its region in the store
@@ -74,13 +77,13 @@ zip_weaker R S f [] (y ∷ ys) h = absurd h
 zip_weaker R S f (x ∷ xs) [] h = absurd h
 zip_weaker R S f (x ∷ xs) (y ∷ ys) h = (f x y h.0, zip_weaker R S f xs ys h.1)
 
-module _ {S D : Type 0} (d : Meaning D) (w : Width) (to_int : S → ℤ) (x : Image S D) (passes : List Pass) (once : HoldEachCellOnce x.group_dim passes (coded_list x))
+module _ {S D : Type 0} (d : Meaning D) (w : Width) (to_int : S → ℤ) (zero : S) (x : Image S D) (passes : List Pass) (global : Option (Config D)) (once : HoldEachCellOnce x.group_dim passes (coded_list x))
     (sides : AreRegionsOf x.channels x.coded) (apart : LieApart x.coded) where
   abbrev Left : Bool → List Section → List Turn → List (Grid S) → List (Grid S) → Type 0
-  Left = AllTurn d w to_int x passes
+  Left = AllTurn d w to_int zero x passes global
 
   abbrev Codes : Section → List (Grid ℤ) → ℕ → Type 0
-  Codes = CodesPart d w to_int x passes
+  Codes = CodesPart d w to_int zero x passes global
 
   -- what is in a part, by the store and by the coded grids
   abbrev stand : SectionPart → List (Grid S) → List (Grid ℤ)
@@ -101,18 +104,31 @@ module _ {S D : Type 0} (d : Meaning D) (w : Width) (to_int : S → ℤ) (x : Im
       part_kept x.group_dim passes (coded_list x) once x.coded apart inside_of one other unlike to_int old new
       (pieces_lie old x.coded (pieces_of x passes other) lie (inside_of other)) keeps
 
+  match_either : {P Q R : Type 0} (b : Bool) → (P → R) → (Q → R) → MatchBool b P Q → R
+  match_either true f g h = f h
+  match_either false f g h = g h
+
+  match_both : {P Q R T : Type 0} (b : Bool) → (P → R) → (Q → T) → MatchBool b P Q → MatchBool b R T
+  match_both true f g h = f h
+  match_both false f g h = g h
+
+  -- either kind of turn keeps the cells of other parts
+  turned_outside : (partly : Bool) (s : Section) (t : Turn) (old new : List (Grid S)) → Turned d w to_int zero x passes global partly s t old new → KeepsOutside (held_in x passes s.part) old new
+  turned_outside partly s t old new h = match_either {P = NestedOk d w to_int zero x passes global partly s t old new} {Q = PlainTurn d w to_int zero x passes global partly s (Ok tt) t old new} s.nested (λ n. n.outside) (λ p. p.outside) h
+
   later_keep : (partly : Bool) (part : SectionPart) (ss : List Section) (ts : List Turn) (old new : List (Grid S)) → AllLie x.coded old → IsNone part ss → Left partly ss ts old new → stand part new ≡ stand part old
   later_keep partly part [] [] old new lie none left = ap (stand part) left
   later_keep partly part [] (t ∷ ts) old new lie none left = absurd left
   later_keep partly part (s ∷ ss) [] old new lie none left = absurd left
   later_keep partly part (s ∷ ss) (t ∷ ts) old new lie none left =
       let (between, turn, rest) = left in
-      later_keep partly part ss ts between new (still_lie s.part old between turn.outside lie) (All-tail (λ (s : Section). s.part ≡ part → ⊥) s ss none) rest
-      ∙ other_stands s.part part old between (All-head (λ (s : Section). s.part ≡ part → ⊥) s ss none) lie turn.outside
+      later_keep partly part ss ts between new (still_lie s.part old between (turned_outside partly s t old between turn) lie) (All-tail (λ (s : Section). s.part ≡ part → ⊥) s ss none) rest
+      ∙ other_stands s.part part old between (All-head (λ (s : Section). s.part ≡ part → ⊥) s ss none) lie (turned_outside partly s t old between turn)
 
   -- a section that has no samples missing is coded whole, for so many nodes
-  whole_turn : (partly : Bool) (s : Section) (t : Turn) (old new : List (Grid S)) → t.partial ≡ false → PlainTurn d w to_int x passes partly s (Ok tt) t old new → Codes s (stand s.part new) (most t)
-  whole_turn partly s t old new none h =
+  whole_plain : (partly : Bool) (s : Section) (t : Turn) (old new : List (Grid S)) → t.partial ≡ false → PlainTurn d w to_int zero x passes global partly s (Ok tt) t old new →
+      CodesPlain d w to_int zero x passes global s (stand s.part new) (most t)
+  whole_plain partly s t old new none h =
       let whole = whole_of d w _ (bytes_of s.bits) x.config.decoder _ _ partly t.tried refl none h.answers in
       record {
         end = t.position;
@@ -121,6 +137,26 @@ module _ {S D : Type 0} (d : Meaning D) (w : Width) (to_int : S → ℤ) (x : Im
         costs = ap (λ n. n * t.cost) whole.tries ∙ ap (λ n. cell_count (channels_in x passes s.part) * n) h.costs;
       }
 
+  whole_nested : (partly : Bool) (s : Section) (t : Turn) (old new : List (Grid S)) → t.partial ≡ false → NestedOk d w to_int zero x passes global partly s t old new →
+      CodesNested d w to_int zero x passes global s (stand s.part new) (most t)
+  whole_nested partly s t old new none h =
+      let whole = whole_of d w _ (bytes_of s.bits) h.start.config.decoder _ _ partly t.tried refl none h.decoded.answers in
+      record {
+        head = h.start.head;
+        config = h.start.config;
+        samples_at = h.start.samples_at;
+        samples = grids_in (nested_regions (held_in x passes s.part) h.start.head.coded.steps old) (store_meanings to_int h.now);
+        end = t.position;
+        start = h.start.start;
+        coded = whole.coded;
+        sizes = whole.fits;
+        only = h.only;
+        costs = ap (λ n. n * t.cost) whole.tries ∙ ap (λ n. cell_count h.start.head.coded.list.channels * n) h.decoded.costs;
+      }
+
+  whole_turn : (partly : Bool) (s : Section) (t : Turn) (old new : List (Grid S)) → t.partial ≡ false → Turned d w to_int zero x passes global partly s t old new → Codes s (stand s.part new) (most t)
+  whole_turn partly s t old new none h = match_both s.nested (whole_nested partly s t old new none) (whole_plain partly s t old new none) h
+
   each_whole : (partly : Bool) (ss : List Section) (ts : List Turn) (old new : List (Grid S)) → AllLie x.coded old → AreUnlike ss → AllWhole ts → Left partly ss ts old new →
       AllZip (λ s n. Codes s (stand s.part new) n) ss (map most ts)
   each_whole partly [] [] old new lie unlike whole left = tt
@@ -128,7 +164,7 @@ module _ {S D : Type 0} (d : Meaning D) (w : Width) (to_int : S → ℤ) (x : Im
   each_whole partly (s ∷ ss) [] old new lie unlike whole left = absurd left
   each_whole partly (s ∷ ss) (t ∷ ts) old new lie unlike whole left =
       let (between, turn, rest) = left in
-      let next = still_lie s.part old between turn.outside lie in
+      let next = still_lie s.part old between (turned_outside partly s t old between turn) lie in
       let here = whole_turn partly s t old between (All-head (λ (t : Turn). t.partial ≡ false) t ts whole) turn in (
         subst (λ gs. Codes s gs (most t)) (sym (later_keep partly s.part ss ts between new next unlike.0 rest)) here,
         each_whole partly ss ts between new next unlike.1 (All-tail (λ (t : Turn). t.partial ≡ false) t ts whole) rest,
@@ -145,7 +181,7 @@ module _ {S D : Type 0} (d : Meaning D) (w : Width) (to_int : S → ℤ) (x : Im
 
   -- Where the answer is true, there is one list of coded grids that all sections code.
   are_decoded : (partly : Bool) (ss : List Section) (old : List (Grid S)) (image : List (Grid ℤ)) (before after : ℕ) → AllLie x.coded old → AreUnlike ss →
-      SectionsLeave d w to_int x passes partly ss true old image before after → AreDecoded d w to_int x passes ss image before after
+      SectionsLeave d w to_int zero x passes global partly ss true old image before after → AreDecoded d w to_int zero x passes global ss image before after
   are_decoded partly ss old image before after lie unlike leave =
       let (whole, complete) = leave.says.0 refl in
       record {
@@ -161,18 +197,18 @@ module _ {S D : Type 0} (d : Meaning D) (w : Width) (to_int : S → ℤ) (x : Im
       }
 
 -- The headline, of an image that is laid out and sections that fit.
-pub decoded_if_true : {S D : Type 0} (d : Meaning D) (w : Width) (to_int : S → ℤ) (x : Image S D) (passes : List Pass) (partly : Bool) (ss : List Section) (image : List (Grid ℤ)) (before after : ℕ) →
-    IsLaidOut x → SectionsFit x passes ss → SectionsLeave d w to_int x passes partly ss true x.store image before after → AreDecoded d w to_int x passes ss image before after
-decoded_if_true d w to_int x passes partly ss image before after laid fit leave =
-    are_decoded d w to_int x passes once (coded_sizes x laid) (coded_apart x laid) partly ss x.store image before after (coded_lie x laid) fit.unlike leave where
+pub decoded_if_true : {S D : Type 0} (d : Meaning D) (w : Width) (to_int : S → ℤ) (zero : S) (x : Image S D) (passes : List Pass) (global : Option (Config D)) (partly : Bool) (ss : List Section) (image : List (Grid ℤ)) (before after : ℕ) →
+    IsLaidOut x → SectionsFit x passes ss → SectionsLeave d w to_int zero x passes global partly ss true x.store image before after → AreDecoded d w to_int zero x passes global ss image before after
+decoded_if_true d w to_int zero x passes global partly ss image before after laid fit leave =
+    are_decoded d w to_int zero x passes global once (coded_sizes x laid) (coded_apart x laid) partly ss x.store image before after (coded_lie x laid) fit.unlike leave where
       once : HoldEachCellOnce x.group_dim passes (coded_list x)
       once =
           parts_hold x.group_dim passes laid.asked.params x.steps (coded_list x) laid.groups laid.asked.valid laid.steps
           (rw (← laid.asked.are) fit.cut.groups) (rw (← laid.asked.are) laid.list) fit.cut.cells
 
-pub decoded_if_so : {S D : Type 0} {E : Type 0} (d : Meaning D) (w : Width) (to_int : S → ℤ) (x : Image S D) (passes : List Pass) (partly : Bool) (ss : List Section) (image : List (Grid ℤ)) (before after : ℕ) (answer : Bool) →
-    IsLaidOut x → SectionsFit x passes ss → SectionsLeave d w to_int x passes partly ss answer x.store image before after → ◌≡◌ {A = Result Bool E} (Ok answer) (Ok true) → AreDecoded d w to_int x passes ss image before after
-decoded_if_so d w to_int x passes partly ss image before after answer laid fit leave is =
+pub decoded_if_so : {S D : Type 0} {E : Type 0} (d : Meaning D) (w : Width) (to_int : S → ℤ) (zero : S) (x : Image S D) (passes : List Pass) (global : Option (Config D)) (partly : Bool) (ss : List Section) (image : List (Grid ℤ)) (before after : ℕ) (answer : Bool) →
+    IsLaidOut x → SectionsFit x passes ss → SectionsLeave d w to_int zero x passes global partly ss answer x.store image before after → ◌≡◌ {A = Result Bool E} (Ok answer) (Ok true) → AreDecoded d w to_int zero x passes global ss image before after
+decoded_if_so d w to_int zero x passes global partly ss image before after answer laid fit leave is =
     let so : answer ≡ true = cc in
-    decoded_if_true d w to_int x passes partly ss image before after laid fit
-    (subst (λ b. SectionsLeave d w to_int x passes partly ss b x.store image before after) so leave)
+    decoded_if_true d w to_int zero x passes global partly ss image before after laid fit
+    (subst (λ b. SectionsLeave d w to_int zero x passes global partly ss b x.store image before after) so leave)

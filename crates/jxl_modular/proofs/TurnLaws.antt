@@ -1,6 +1,6 @@
 -- One section after another: what the loop over sections keeps, how it goes on by one turn, and how it ends.
 use Rattle.std.proofs.Common.{◌≡◌, ◌↔◌, ℕ, Bool, true, false, not, ◌&&◌, ◌+◌, ◌<◌, inl, inr, List, [], ◌∷◌, ◌++◌, map, take, drop, length, get_or, Result, Ok, Err, ℤ, refl, sym, ap, ◌∙◌, subst, arith, append_assoc}
-use Rattle.std.specs.Prelude.{sum, nat_lt, IsTrue}
+use Rattle.std.specs.Prelude.{sum, nat_lt, IsTrue, MatchBool, Option}
 use Rattle.std.proofs.lemmas.Bool.{lt-ltb, ltb-true}
 use Rattle.std.specs.Int.{Width}
 use Rattle.std.proofs.lemmas.List.{take_more, take-append-drop, append-nil}
@@ -17,13 +17,14 @@ use Rattle.jxlm_chain.proofs.ShapeLaws.{shape_both, shape_same}
 use Rattle.jxlm_cut.specs.declared.pass.Pass.{Pass}
 use Rattle.jxlm_part.specs.Decode.{MovesWithin}
 use Rattle.jxlm_part.specs.Part.{cell_count}
+use Rattle.jxlm_tree.specs.Tree.{Config}
 use Rattle.jxl_modular.specs.Image.{Image, IsOnlyImage, coded_grids, cost_of, image_grids}
 use Rattle.jxl_modular.specs.Inner.Turns.{HasStopped, HasTurned, TurnGives}
 use Rattle.jxl_modular.specs.SameButCells.{SameButCells}
 use Rattle.jxl_modular.proofs.Filling.{only_of}
 use Rattle.jxl_modular.proofs.Laid.{same_but_store}
 use Rattle.jxl_modular.specs.Groups.{PartOfGives, channels_in, held_in}
-use Rattle.jxl_modular.specs.Sections.{AllTurn, AllWhole, EndsAt, IsComplete, PlainTurn, Section, SectionsLeave, SectionsStop, Turn, most}
+use Rattle.jxl_modular.specs.Sections.{AllTurn, AllWhole, EndsAt, IsComplete, PlainTurn, Section, SectionsLeave, SectionsStop, Turn, TurnFails, Turned, most}
 
 -- ---- images that differ in cells alone
 
@@ -100,9 +101,9 @@ stays now false b h k = h
 
 -- ---- one turn more
 
-module _ {S D : Type 0} (d : Meaning D) (w : Width) (to_int : S → ℤ) (x : Image S D) (passes : List Pass) (partly : Bool) where
+module _ {S D : Type 0} (d : Meaning D) (w : Width) (to_int : S → ℤ) (zero : S) (x : Image S D) (passes : List Pass) (global : Option (Config D)) (partly : Bool) where
   abbrev Left : List Section → List Turn → List (Grid S) → List (Grid S) → Type 0
-  Left = AllTurn d w to_int x passes partly
+  Left = AllTurn d w to_int zero x passes global partly
 
   -- what decoding a part gives is a section's turn
   module _ (s : Section) (p : ℕ) (new : Image S D) (begins still : Bool) (before after : ℕ) (there : IsTrue begins ↔ (0 < cell_count (channels_in x passes s.part)))
@@ -113,38 +114,50 @@ module _ {S D : Type 0} (d : Meaning D) (w : Width) (to_int : S → ℤ) (x : Im
     abbrev turn_with : ℕ → Turn
     turn_with tried = record { position = p; partial = still; tried = tried; cost = cost_of x }
 
-    turn_of : (r : Result (Unit {0}) Error) (gives : Gives r) → PlainTurn d w to_int x passes partly s r (turn_with gives.0) x.store new.store
+    turn_of : (r : Result (Unit {0}) Error) (gives : Gives r) → PlainTurn d w to_int zero x passes global partly s r (turn_with gives.0) x.store new.store
     turn_of r gives = record {
       answers = rw (as_test begins (cell_count (channels_in x passes s.part)) there) at gives.1;
       outside = outside;
       costs = refl;
     }
 
-    pub turn_ok : Gives (Ok tt) → TurnGives d w to_int x passes partly s (Ok (not still)) x.store new.store before after
-    turn_ok gives = (turn_with gives.0, (turn_of (Ok tt) gives, refl), gives.2)
+    module _ (plain : s.nested ≡ false) where
+      pub turn_ok : Gives (Ok tt) → TurnGives d w to_int zero x passes global partly s (Ok (not still)) x.store new.store before after
+      turn_ok gives = (turn_with gives.0, (rw plain (turn_of (Ok tt) gives), refl), gives.2)
 
-    pub turn_err : (e : Error) → Gives (Err e) → TurnGives d w to_int x passes partly s (Err e) x.store new.store before after
-    turn_err e gives = (turn_with gives.0, turn_of (Err e) gives, gives.2)
+      pub turn_err : (e : Error) → Gives (Err e) → TurnGives d w to_int zero x passes global partly s (Err e) x.store new.store before after
+      turn_err e gives = (turn_with gives.0, rw plain (turn_of (Err e) gives), gives.2)
 
   -- the turn of an image that differs in cells alone is one of the earlier image
-  of_store : (store : List (Grid S)) (s : Section) (r : Result (Unit {0}) Error) (t : Turn) (old new : List (Grid S)) →
-      PlainTurn d w to_int (record x { store = store }) passes partly s r t old new → PlainTurn d w to_int x passes partly s r t old new
-  of_store store s r t old new h = record { answers = h.answers; outside = h.outside; costs = h.costs }
+  match_both : {P Q R T : Type 0} (b : Bool) → (P → R) → (Q → T) → MatchBool b P Q → MatchBool b R T
+  match_both true f g h = f h
+  match_both false f g h = g h
 
-  of_image : (y : Image S D) (s : Section) (r : Result (Unit {0}) Error) (t : Turn) (old new : List (Grid S)) → SameButCells x y →
-      PlainTurn d w to_int y passes partly s r t old new → PlainTurn d w to_int x passes partly s r t old new
-  of_image y s r t old new same h =
-      of_store y.store s r t old new (subst (λ (z : Image S D). PlainTurn d w to_int z passes partly s r t old new) (sym (with_store x y same)) h)
+  plain_of_store : (store : List (Grid S)) (s : Section) (r : Result (Unit {0}) Error) (t : Turn) (old new : List (Grid S)) →
+      PlainTurn d w to_int zero (record x { store = store }) passes global partly s r t old new → PlainTurn d w to_int zero x passes global partly s r t old new
+  plain_of_store store s r t old new h = record { answers = h.answers; outside = h.outside; costs = h.costs }
+
+  ok_of_image : (y : Image S D) (s : Section) (t : Turn) (old new : List (Grid S)) → SameButCells x y →
+      Turned d w to_int zero y passes global partly s t old new → Turned d w to_int zero x passes global partly s t old new
+  ok_of_image y s t old new same h =
+      match_both s.nested (λ n. n) (plain_of_store y.store s (Ok tt) t old new)
+      (subst (λ (z : Image S D). Turned d w to_int zero z passes global partly s t old new) (sym (with_store x y same)) h)
+
+  err_of_image : (y : Image S D) (s : Section) (e : Error) (t : Turn) (old new : List (Grid S)) → SameButCells x y →
+      TurnFails d w to_int zero y passes global partly s e t old new → TurnFails d w to_int zero x passes global partly s e t old new
+  err_of_image y s e t old new same h =
+      match_both s.nested (λ n. n) (plain_of_store y.store s (Err e) t old new)
+      (subst (λ (z : Image S D). TurnFails d w to_int zero z passes global partly s e t old new) (sym (with_store x y same)) h)
 
   left_next : (ss : List Section) (ts : List Turn) (s : Section) (t : Turn) (old between new : List (Grid S)) → Left ss ts old between →
-      PlainTurn d w to_int x passes partly s (Ok tt) t between new → Left (ss ++ s ∷ []) (ts ++ t ∷ []) old new
+      Turned d w to_int zero x passes global partly s t between new → Left (ss ++ s ∷ []) (ts ++ t ∷ []) old new
   left_next [] [] s t old between new left turn =
-      (new, subst (λ (store : List (Grid S)). PlainTurn d w to_int x passes partly s (Ok tt) t store new) left turn, refl)
+      (new, subst (λ (store : List (Grid S)). Turned d w to_int zero x passes global partly s t store new) left turn, refl)
   left_next [] (u ∷ ts) s t old between new left turn = absurd left
   left_next (r ∷ ss) [] s t old between new left turn = absurd left
   left_next (r ∷ ss) (u ∷ ts) s t old between new left turn = (left.0, left.1, left_next ss ts s t left.0 between new left.2 turn)
 
-  pub turned_none : (old : List (Grid S)) (n : ℕ) → HasTurned d w to_int x passes partly [] true old old n n
+  pub turned_none : (old : List (Grid S)) (n : ℕ) → HasTurned d w to_int zero x passes global partly [] true old old n n
   turned_none old n = record {
     turns = [];
     left = refl;
@@ -153,16 +166,16 @@ module _ {S D : Type 0} (d : Meaning D) (w : Width) (to_int : S → ℤ) (x : Im
   }
 
   module _ (y : Image S D) (same : SameButCells x y) (ss : List Section) (i : ℕ) (s : Section) (here : s ≡ get_or ss i s) (lt : i < length ss) (whole : Bool) (old new : List (Grid S)) (before now after : ℕ)
-      (turned : HasTurned d w to_int x passes partly (take i ss) whole old y.store before now) where
+      (turned : HasTurned d w to_int zero x passes global partly (take i ss) whole old y.store before now) where
     more : take (i + 1) ss ≡ take i ss ++ s ∷ []
     more = take_more ss i s lt ∙ ap (λ (r : Section). take i ss ++ r ∷ []) (sym here)
 
-    pub turned_next : (b then : Bool) → then ≡ (whole && b) → TurnGives d w to_int y passes partly s (Ok b) y.store new now after →
-        HasTurned d w to_int x passes partly (take (i + 1) ss) then old new before after
+    pub turned_next : (b then : Bool) → then ≡ (whole && b) → TurnGives d w to_int zero y passes global partly s (Ok b) y.store new now after →
+        HasTurned d w to_int zero x passes global partly (take (i + 1) ss) then old new before after
     turned_next b then is (t, turn, moves) = record {
       turns = turned.turns ++ t ∷ [];
       left = subst (λ (rs : List Section). Left rs (turned.turns ++ t ∷ []) old new) (sym more)
-          (left_next (take i ss) turned.turns s t old y.store new turned.left (of_image y s (Ok tt) t y.store new same turn.0));
+          (left_next (take i ss) turned.turns s t old y.store new turned.left (ok_of_image y s t y.store new same turn.0));
       says = (
         λ so. let both = parts_true whole b (sym is ∙ so) in whole_next turned.turns t (turned.says.0 both.0) (whole_is b t.partial turn.1 both.1),
         λ all. let parts = whole_parts turned.turns t all in is ∙ both_true whole b (turned.says.1 parts.0) (is_whole b t.partial turn.1 parts.1),
@@ -170,8 +183,8 @@ module _ {S D : Type 0} (d : Meaning D) (w : Width) (to_int : S → ℤ) (x : Im
       counted = moves_next before now after turned.turns t turned.counted moves;
     }
 
-    pub stops_here : (error : Error) → TurnGives d w to_int y passes partly s (Err error) y.store new now after →
-        HasStopped d w to_int x passes partly ss error old new before after
+    pub stops_here : (error : Error) → TurnGives d w to_int zero y passes global partly s (Err error) y.store new now after →
+        HasStopped d w to_int zero x passes global partly ss error old new before after
     stops_here error (t, turn, moves) = record {
       done = take i ss;
       next = s;
@@ -181,7 +194,7 @@ module _ {S D : Type 0} (d : Meaning D) (w : Width) (to_int : S → ℤ) (x : Im
       between = y.store;
       left = turned.left;
       last = t;
-      ends = of_image y s (Err error) t y.store new same turn;
+      ends = err_of_image y s error t y.store new same turn;
       counted = moves_both before now after (sum (map most turned.turns)) (most t) turned.counted moves;
     }
 
@@ -189,8 +202,8 @@ module _ {S D : Type 0} (d : Meaning D) (w : Width) (to_int : S → ℤ) (x : Im
 
   -- all sections had their turn, and the transforms are undone
   pub leaves : (ss : List Section) (whole complete answer : Bool) (mid new : Image S D) (before after : ℕ) → answer ≡ (whole && complete) → SameButCells x mid → SameButCells mid new →
-      HasTurned d w to_int x passes partly ss whole x.store mid.store before after → IsTrue complete ↔ IsComplete x passes ss →
-      IsOnlyImage w new (image_grids to_int new) (coded_grids to_int mid) → SectionsLeave d w to_int x passes partly ss answer x.store (image_grids to_int new) before after
+      HasTurned d w to_int zero x passes global partly ss whole x.store mid.store before after → IsTrue complete ↔ IsComplete x passes ss →
+      IsOnlyImage w new (image_grids to_int new) (coded_grids to_int mid) → SectionsLeave d w to_int zero x passes global partly ss answer x.store (image_grids to_int new) before after
   leaves ss whole complete answer mid new before after is same last turned all only = record {
     turns = turned.turns;
     between = mid.store;
@@ -208,12 +221,12 @@ module _ {S D : Type 0} (d : Meaning D) (w : Width) (to_int : S → ℤ) (x : Im
   abbrev no_turn : Turn
   no_turn = record { position = 0; partial = false; tried = 0; cost = 0 }
 
-  not_begun : (ss : List Section) (e : Error) (old : List (Grid S)) → kind_of e ≡ NoMemory → EndsAt d w to_int x passes partly ss e no_turn old old
+  not_begun : (ss : List Section) (e : Error) (old : List (Grid S)) → kind_of e ≡ NoMemory → EndsAt d w to_int zero x passes global partly ss e no_turn old old
   not_begun [] e old memory = record { memory = memory; unchanged = refl; tries = refl }
   not_begun (s ∷ ss) e old memory = inl (record { memory = memory; unchanged = refl; tries = refl })
 
   -- out of memory before the first section
-  pub stops_first : (ss : List Section) (e : Error) (old : List (Grid S)) (n : ℕ) → kind_of e ≡ NoMemory → SectionsStop d w to_int x passes partly ss e old old n n
+  pub stops_first : (ss : List Section) (e : Error) (old : List (Grid S)) (n : ℕ) → kind_of e ≡ NoMemory → SectionsStop d w to_int zero x passes global partly ss e old old n n
   stops_first ss e old n memory = record {
     done = [];
     rest = ss;
@@ -227,8 +240,8 @@ module _ {S D : Type 0} (d : Meaning D) (w : Width) (to_int : S → ℤ) (x : Im
   }
 
   -- an error of a section
-  pub stops_at : (ss : List Section) (e : Error) (old new : List (Grid S)) (before after : ℕ) → HasStopped d w to_int x passes partly ss e old new before after →
-      SectionsStop d w to_int x passes partly ss e old new before after
+  pub stops_at : (ss : List Section) (e : Error) (old new : List (Grid S)) (before after : ℕ) → HasStopped d w to_int zero x passes global partly ss e old new before after →
+      SectionsStop d w to_int zero x passes global partly ss e old new before after
   stops_at ss e old new before after h = record {
     done = h.done;
     rest = h.next ∷ h.rest;
@@ -243,7 +256,7 @@ module _ {S D : Type 0} (d : Meaning D) (w : Width) (to_int : S → ℤ) (x : Im
 
   -- out of memory after the last section
   pub stops_last : (ss : List Section) (e : Error) (whole : Bool) (old new : List (Grid S)) (before after : ℕ) → kind_of e ≡ NoMemory →
-      HasTurned d w to_int x passes partly ss whole old new before after → SectionsStop d w to_int x passes partly ss e old new before after
+      HasTurned d w to_int zero x passes global partly ss whole old new before after → SectionsStop d w to_int zero x passes global partly ss e old new before after
   stops_last ss e whole old new before after memory turned = record {
     done = ss;
     rest = [];

@@ -1,6 +1,6 @@
 -- Whole runs: an image decoded from sections, each of which codes one part
 -- (ISO/IEC 18181-1, frame: sections; Modular: image decoding, global and group sub-bitstreams).
-use Rattle.std.specs.Prelude.{◌≡◌, ◌↔◌, ◌⊎◌, ℕ, ◌+◌, ◌*◌, ℤ, List, [], ◌∷◌, ◌++◌, map, sum, Bool, true, false, nat_lt, IsTrue, Any, Result, Ok, Err}
+use Rattle.std.specs.Prelude.{◌≡◌, ◌↔◌, ◌⊎◌, ℕ, ◌+◌, ◌*◌, ℤ, List, [], ◌∷◌, ◌++◌, map, sum, Bool, true, false, nat_lt, IsTrue, Any, MatchBool, Option, Result, Ok, Err}
 use Rattle.std.specs.List.{All, AllZip}
 use Rattle.std.specs.Int.{Width}
 use Rattle.jxlm_base.specs.Bits.{bytes_of, position_of}
@@ -10,7 +10,10 @@ use Rattle.jxlm_base.specs.Grid.{Grid}
 use Rattle.jxlm_base.specs.Outside.{KeepsOutside}
 use Rattle.jxlm_base.specs.Regions.{grid_of, grids_in, store_meanings}
 use Rattle.jxlm_base.specs.declared.error.Error.{Error}
-use Rattle.jxlm_transform.specs.Channels.{AreGridsOf}
+use Rattle.jxlm_chain.specs.Chain as chain
+use Rattle.jxlm_header.specs.Opening.{Opening}
+use Rattle.jxlm_tree.specs.Tree.{Config, depth}
+use Rattle.jxlm_transform.specs.Channels.{AreGridsOf, ChannelList}
 use Rattle.jxlm_cut.specs.Cutting.{can_cut}
 use Rattle.jxlm_cut.specs.Parts.{HaveCell}
 use Rattle.jxlm_cut.specs.Passes.{can_group}
@@ -20,14 +23,13 @@ use Rattle.jxlm_part.specs.Coded.{IsCodedWhole}
 use Rattle.jxlm_part.specs.Decode.{DecodeAnswers, MovesWithin}
 use Rattle.jxlm_part.specs.Part.{cell_count}
 use Rattle.jxlm_part.specs.Placed.{standing_in}
+use Rattle.jxl_modular.specs.Nested.{NestedFails, NestedTurn}
+use Rattle.jxl_modular.specs.Parsing.{IsStartAt}
+use Rattle.jxl_modular.specs.Picture.{coded_part}
 use Rattle.jxl_modular.specs.Groups.{Exists, IsCut, channels_in, held_in, part_in, pieces_of}
 use Rattle.jxl_modular.specs.Image.{Image, IsOnlyImage, coded_list, cost_of}
 pub use Rattle.jxl_modular.specs.Nested.{Turn, most}
 pub use Rattle.jxl_modular.specs.declared.sections.Section.{Section}
-
--- a section without a header of its own
-abbrev pub IsPlain : Section → Type 0
-IsPlain s = s.nested ≡ false
 
 -- none of the sections is of this part
 abbrev pub IsNone : SectionPart → List Section → Type 0
@@ -61,15 +63,38 @@ module _ {S D : Type 0} (x : Image S D) (passes : List Pass) where
   IsComplete sections = (part : SectionPart) (n i j : ℕ) → HaveCell (pieces_of x passes part) n i j →
       Any (λ s. s.part ≡ part) sections
 
--- what is decoded: what a decoder means, how samples are kept, the image as it is before all sections, and its passes
-module _ {S D : Type 0} (d : Meaning D) (w : Width) (to_int : S → ℤ) (x : Image S D) (passes : List Pass) where
-  -- a section codes these grids of its part whole, whose samples may take so many nodes
-  pub record CodesPart (s : Section) (held : List (Grid ℤ)) (nodes : ℕ) : Type 0 where
+-- what is decoded: what a decoder means, how samples are kept, and which is 0, the image as it is before all sections, its
+-- passes, and the global tree, where there is one
+module _ {S D : Type 0} (d : Meaning D) (w : Width) (to_int : S → ℤ) (zero : S) (x : Image S D) (passes : List Pass) (global : Option (Config D)) where
+  -- the channels of a part as a header of its own finds them: none is a meta channel
+  abbrev pub list_in : SectionPart → ChannelList
+  list_in part = record { channels = channels_in x passes part; nb_meta = 0 }
+
+  -- a section without a header codes these grids of its part whole, whose samples may take so many nodes
+  pub record CodesPlain (s : Section) (held : List (Grid ℤ)) (nodes : ℕ) : Type 0 where
     pub end : ℕ
     pub coded : IsCodedWhole d w (part_in x passes s.part s.stream_index) (bytes_of s.bits) x.config.decoder
         (position_of s.bits) held end
     pub sizes : AreGridsOf (channels_in x passes s.part) held
     pub costs : nodes ≡ cell_count (channels_in x passes s.part) * cost_of x
+
+  -- A section with a header of its own codes some grids whole, whose samples may take so many nodes, and these grids of
+  -- its part are the only ones that the header's transforms turn into them.
+  pub record CodesNested (s : Section) (held : List (Grid ℤ)) (nodes : ℕ) : Type 0 where
+    pub head : Opening
+    pub config : Config D
+    pub samples_at : ℕ
+    pub samples : List (Grid ℤ)
+    pub end : ℕ
+    pub start : IsStartAt d global (bytes_of s.bits) (list_in s.part) (position_of s.bits) head config samples_at
+    pub coded : IsCodedWhole d w (coded_part s.stream_index head config) (bytes_of s.bits) config.decoder samples_at samples end
+    pub sizes : AreGridsOf head.coded.list.channels samples
+    pub only : chain.IsOnlyImage w x.bit_depth head.coded.steps (list_in s.part) held samples
+    pub costs : nodes ≡ cell_count head.coded.list.channels * (depth config.tree + 1)
+
+  -- either, as the section says
+  abbrev pub CodesPart : Section → List (Grid ℤ) → ℕ → Type 0
+  CodesPart s held nodes = MatchBool s.nested (CodesNested s held nodes) (CodesPlain s held nodes)
 
   -- The headline: there is one list of coded grids; each section codes its part of them whole, each part with samples
   -- has a section, the image is the only one that the transforms turn into these grids, and so many nodes were read.
@@ -90,11 +115,25 @@ module _ {S D : Type 0} (d : Meaning D) (w : Width) (to_int : S → ℤ) (x : Im
     pub outside : KeepsOutside (held_in x passes s.part) old new
     pub costs : t.cost ≡ cost_of x
 
+  -- what decoding a section with a header of its own leaves, or which error it returns
+  abbrev pub NestedOk : Bool → Section → Turn → List (Grid S) → List (Grid S) → Type 0
+  NestedOk partly s t old new = NestedTurn d w to_int zero x.bit_depth global (bytes_of s.bits) (position_of s.bits) (list_in s.part) (held_in x passes s.part) s.stream_index partly t old new
+
+  abbrev pub NestedErr : Bool → Section → Error → Turn → List (Grid S) → List (Grid S) → Type 0
+  NestedErr partly s e t old new = NestedFails d w to_int zero x.bit_depth global (bytes_of s.bits) (position_of s.bits) (list_in s.part) (held_in x passes s.part) s.stream_index partly e t old new
+
+  -- a section's turn, with its samples or with its error
+  abbrev pub Turned : Bool → Section → Turn → List (Grid S) → List (Grid S) → Type 0
+  Turned partly s t old new = MatchBool s.nested (NestedOk partly s t old new) (PlainTurn partly s (Ok tt) t old new)
+
+  abbrev pub TurnFails : Bool → Section → Error → Turn → List (Grid S) → List (Grid S) → Type 0
+  TurnFails partly s e t old new = MatchBool s.nested (NestedErr partly s e t old new) (PlainTurn partly s (Err e) t old new)
+
   -- sections one after another, each decoded without an error
   abbrev pub AllTurn : Bool → List Section → List Turn → List (Grid S) → List (Grid S) → Type 0
   AllTurn partly [] [] old new = new ≡ old
   AllTurn partly (s ∷ ss) (t ∷ ts) old new =
-      (between : List (Grid S)) × PlainTurn partly s (Ok tt) t old between × AllTurn partly ss ts between new
+      (between : List (Grid S)) × Turned partly s t old between × AllTurn partly ss ts between new
   AllTurn partly _ _ old new = ⊥
 
   -- Ok: each section left its samples, and the image is the only one that the transforms turn into all samples as they
@@ -116,7 +155,7 @@ module _ {S D : Type 0} (d : Meaning D) (w : Width) (to_int : S → ℤ) (x : Im
   -- where decoding ends early: at the next section, or, after the last one, before the transforms are undone
   abbrev pub EndsAt : Bool → List Section → Error → Turn → List (Grid S) → List (Grid S) → Type 0
   EndsAt partly [] e t old new = NotBegun e t old new
-  EndsAt partly (s ∷ ss) e t old new = NotBegun e t old new ⊎ PlainTurn partly s (Err e) t old new
+  EndsAt partly (s ∷ ss) e t old new = NotBegun e t old new ⊎ TurnFails partly s e t old new
 
   -- Err: the sections before the failing one left their samples, no later one was begun, and no transform is undone.
   pub record SectionsStop (partly : Bool) (sections : List Section) (e : Error) (old new : List (Grid S)) (before after : ℕ) : Type 0 where

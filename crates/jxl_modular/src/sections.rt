@@ -1,11 +1,11 @@
 //! Whole runs: an image decoded from sections, each of which codes one part (ISO/IEC 18181-1, frame: sections).
 
-ghost use Rattle.std.specs.Prelude.{◌≡◌, true, Ok, IfOk, IfErr};
-ghost use Rattle.std.specs.List.{All};
+ghost use Rattle.std.specs.Prelude.{◌≡◌, pos, true, Ok, IfOk, IfErr};
+ghost use Rattle.std.specs.Option.{option_copied};
 ghost use Rattle.jxlm_cut.specs.Passes.{passes_of};
 ghost use Rattle.jxl_modular.specs.Image.{image_grids};
 ghost use Rattle.jxl_modular.specs.SameButCells.{SameButCells};
-ghost use Rattle.jxl_modular.specs.Sections.{AreDecoded, IsPlain, SectionsFit, SectionsLeave, SectionsStop};
+ghost use Rattle.jxl_modular.specs.Sections.{AreDecoded, SectionsFit, SectionsLeave, SectionsStop};
 
 mod complete;
 mod fit;
@@ -39,19 +39,22 @@ pub struct Section<'a> {
 
 /// Decodes sections, in their order, and undoes the transforms of the whole (ISO/IEC 18181-1, Modular: image
 /// decoding). It returns whether each part with samples had a section and all samples were decoded; without
-/// `allow_partial` the first is the only question. The sections must fit the image ([`sections_fit`]), and none has a
-/// header of its own: `_global`, a tree for such sections, is not looked at.
+/// `allow_partial` the first is the only question. The sections must fit the image ([`sections_fit`]). A section may have
+/// a header of its own, with transforms and a tree; `global` is the tree for headers that use a global one. Such a
+/// section is read, decoded, and its transforms undone, at its turn; its tables are there only so long.
 ///
 /// # Memory
 ///
-/// The list of passes, a set of the sections' parts, and at each section what a part's `decode` takes; at last what
-/// `finish` takes.
+/// The list of passes, a set of the sections' parts, and at each section what a part's `decode` takes, and for one with a
+/// header also what reading an image takes but the channels' grids, and what `finish` takes; at last what `finish` takes.
 ///
 /// # Errors
 ///
-/// That of the first section that has one, as a part's `decode` returns it: the sections before it are decoded, it
-/// stands as `decode` leaves it, no later one was begun, and no transform is undone. Or `Buffer`, out of memory, before
-/// a section or before the transforms are undone. Header, tree and sizes stay.
+/// That of the first section that has one, as a part's `decode` returns it, or as reading an image returns it for a
+/// section's own header and tree: the sections before it are decoded, it stands as `decode` leaves it, its own transforms
+/// are not undone, no later one was begun, and no transform of the whole is undone. Or it is out of memory, before a
+/// section, in its header, before its transforms are undone, or before those of the whole are. Header, tree and sizes
+/// stay.
 pub fn decode_sections<S: Sample, D: Decoder>(
     alloc: Global,
     image: &mut ModularImageDestination<S, D>,
@@ -62,13 +65,13 @@ pub fn decode_sections<S: Sample, D: Decoder>(
     steps: &mut Steps,
 ) -> Result<bool>
     requires fit { SectionsFit image.old (passes_of pass_shifts.now.entries) sections.now }
-    ensures decoded { result ≡ Ok true → AreDecoded D.meaning S.width S.to_int image.old
-        (passes_of pass_shifts.now.entries) sections.now (image_grids S.to_int image.new) steps.old steps.new }
-    ensures left { IfOk result (λ whole. SectionsLeave D.meaning S.width S.to_int image.old
-        (passes_of pass_shifts.now.entries) allow_partial sections.now whole image.old.store
+    ensures decoded { result ≡ Ok true → AreDecoded D.meaning S.width S.to_int (S.from_int (pos 0)) image.old
+        (passes_of pass_shifts.now.entries) (option_copied global.entry) sections.now (image_grids S.to_int image.new) steps.old steps.new }
+    ensures left { IfOk result (λ whole. SectionsLeave D.meaning S.width S.to_int (S.from_int (pos 0)) image.old
+        (passes_of pass_shifts.now.entries) (option_copied global.entry) allow_partial sections.now whole image.old.store
         (image_grids S.to_int image.new) steps.old steps.new) }
-    ensures stopped { IfErr result (λ e. SectionsStop D.meaning S.width S.to_int image.old
-        (passes_of pass_shifts.now.entries) allow_partial sections.now e image.old.store image.new.store
+    ensures stopped { IfErr result (λ e. SectionsStop D.meaning S.width S.to_int (S.from_int (pos 0)) image.old
+        (passes_of pass_shifts.now.entries) (option_copied global.entry) allow_partial sections.now e image.old.store image.new.store
         steps.old steps.new) }
     ensures same { SameButCells image.old image.new }
 {

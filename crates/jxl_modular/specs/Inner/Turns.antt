@@ -1,19 +1,23 @@
 -- The turn of one section, and the turns of several.
-use Rattle.std.specs.Prelude.{◌≡◌, ◌↔◌, ℕ, ◌+◌, ℤ, List, ◌++◌, ◌∷◌, map, sum, not, Bool, IsTrue, Result, Ok, Err}
+use Rattle.std.specs.Prelude.{◌≡◌, ◌↔◌, ℕ, ◌+◌, ℤ, List, ◌++◌, ◌∷◌, map, sum, not, Bool, IsTrue, Option, Result, Ok, Err}
 use Rattle.std.specs.Int.{Width}
 use Rattle.jxlm_base.specs.Decoding.{Meaning}
 use Rattle.jxlm_base.specs.Grid.{Grid}
 use Rattle.jxlm_base.specs.declared.error.Error.{Error}
 use Rattle.jxlm_cut.specs.declared.pass.Pass.{Pass}
 use Rattle.jxlm_part.specs.Decode.{MovesWithin}
+use Rattle.jxlm_tree.specs.Tree.{Config}
+use Rattle.jxlm_cut.specs.declared.part.SectionPart.{SectionPart}
+use Rattle.jxl_modular.specs.Groups.{held_in}
+use Rattle.jxl_modular.specs.Nested.{NestedFails, NestedTurn}
 use Rattle.jxl_modular.specs.Image.{Image}
-use Rattle.jxl_modular.specs.Sections.{AllTurn, AllWhole, PlainTurn, Section, Turn, most}
+use Rattle.jxl_modular.specs.Sections.{AllTurn, AllWhole, Section, Turn, TurnFails, Turned, list_in, most}
 
-module _ {S D : Type 0} (d : Meaning D) (w : Width) (to_int : S → ℤ) (x : Image S D) (passes : List Pass) (partly : Bool) where
+module _ {S D : Type 0} (d : Meaning D) (w : Width) (to_int : S → ℤ) (zero : S) (x : Image S D) (passes : List Pass) (global : Option (Config D)) (partly : Bool) where
   -- a section's turn: its samples were decoded, all of them or not, or there was an error
   abbrev pub Turns : Section → Result Bool Error → Turn → List (Grid S) → List (Grid S) → Type 0
-  Turns s (Ok whole) t old new = PlainTurn d w to_int x passes partly s (Ok tt) t old new × (whole ≡ not t.partial)
-  Turns s (Err e) t old new = PlainTurn d w to_int x passes partly s (Err e) t old new
+  Turns s (Ok whole) t old new = Turned d w to_int zero x passes global partly s t old new × (whole ≡ not t.partial)
+  Turns s (Err e) t old new = TurnFails d w to_int zero x passes global partly s e t old new
 
   -- and what it took of steps
   abbrev pub TurnGives : Section → Result Bool Error → List (Grid S) → List (Grid S) → ℕ → ℕ → Type 0
@@ -22,7 +26,7 @@ module _ {S D : Type 0} (d : Meaning D) (w : Width) (to_int : S → ℤ) (x : Im
   -- all sections had their turn, and whether all samples were decoded
   pub record HasTurned (sections : List Section) (whole : Bool) (old new : List (Grid S)) (before after : ℕ) : Type 0 where
     pub turns : List Turn
-    pub left : AllTurn d w to_int x passes partly sections turns old new
+    pub left : AllTurn d w to_int zero x passes global partly sections turns old new
     pub says : IsTrue whole ↔ AllWhole turns
     pub counted : MovesWithin before after (sum (map most turns))
 
@@ -34,7 +38,19 @@ module _ {S D : Type 0} (d : Meaning D) (w : Width) (to_int : S → ℤ) (x : Im
     pub in_order : sections ≡ done ++ next ∷ rest
     pub turns : List Turn
     pub between : List (Grid S)
-    pub left : AllTurn d w to_int x passes partly done turns old between
+    pub left : AllTurn d w to_int zero x passes global partly done turns old between
     pub last : Turn
-    pub ends : PlainTurn d w to_int x passes partly next (Err e) last between new
+    pub ends : TurnFails d w to_int zero x passes global partly next e last between new
     pub counted : MovesWithin before after (sum (map most turns) + most last)
+
+-- what decoding a part by a header of its own returns, with what it took of steps
+module _ {S D : Type 0} (d : Meaning D) (w : Width) (to_int : S → ℤ) (zero : S) (x : Image S D) (passes : List Pass) (global : Option (Config D))
+    (bytes : List ℕ) (p : ℕ) (part : SectionPart) (stream : ℕ) (partly : Bool) where
+  abbrev pub NestedTurns : Result Bool Error → Turn → List (Grid S) → List (Grid S) → Type 0
+  NestedTurns (Ok whole) t old new =
+      NestedTurn d w to_int zero x.bit_depth global bytes p (list_in d w to_int zero x passes global part) (held_in x passes part) stream partly t old new × (whole ≡ not t.partial)
+  NestedTurns (Err e) t old new =
+      NestedFails d w to_int zero x.bit_depth global bytes p (list_in d w to_int zero x passes global part) (held_in x passes part) stream partly e t old new
+
+  abbrev pub NestedGives : Result Bool Error → List (Grid S) → List (Grid S) → ℕ → ℕ → Type 0
+  NestedGives result old new before after = (t : Turn) × NestedTurns result t old new × MovesWithin before after (most t)

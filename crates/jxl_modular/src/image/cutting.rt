@@ -30,6 +30,9 @@ impl<S: Sample, D: Decoder> ModularImageDestination<S, D> {
     ghost use Rattle.jxl_modular.specs.Groups.{PartOfGives, channels_in, held_in};
     ghost use Rattle.jxl_modular.specs.Inner.Laid.{IsLaidOut};
     ghost use Rattle.jxl_modular.specs.SameButCells.{SameButIn};
+    ghost use Rattle.jxl_modular.specs.Inner.Turns.{NestedGives};
+    ghost use Rattle.std.specs.Option.{option_copied};
+    ghost use Rattle.std.specs.Prelude.{pos};
 
     /// Checks that no group has a side of 0.
     pub(crate) fn check_cut(&self) -> Result<()>
@@ -142,7 +145,13 @@ impl<S: Sample, D: Decoder> ModularImageDestination<S, D> {
         global: Option<&MaConfig<D>>,
         allow_partial: bool,
         steps: &mut Steps,
-    ) -> Result<bool> {
+    ) -> Result<bool>
+        ensures gives { NestedGives D.meaning S.width S.to_int (S.from_int (pos 0)) self.old passes.now
+            (option_copied global.entry) (bytes_of bits.old) (position_of bits.old) part stream_index allow_partial
+            result self.old.store self.new.store steps.old steps.new }
+        ensures bytes { bytes_of bits.new ≡ bytes_of bits.old }
+        ensures same { SameButIn (held_in self.old passes.now part) self.old self.new }
+    {
         let pieces = Pieces::of(
             alloc,
             &self.channels,

@@ -1,6 +1,7 @@
 //! Sections decoded one after another.
 
-ghost use Rattle.std.specs.Prelude.{IfOk, IfErr};
+ghost use Rattle.std.specs.Option.{option_copied};
+ghost use Rattle.std.specs.Prelude.{pos, IfOk, IfErr};
 
 use super::Section;
 use crate::image::ModularImageDestination;
@@ -26,7 +27,8 @@ impl<S: Sample, D: Decoder> ModularImageDestination<S, D> {
         allow_partial: bool,
         steps: &mut Steps,
     ) -> Result<bool>
-        ensures gives { TurnGives D.meaning S.width S.to_int self.old passes.now allow_partial section.now result
+        ensures gives { TurnGives D.meaning S.width S.to_int (S.from_int (pos 0)) self.old passes.now
+            (option_copied global.entry) allow_partial section.now result
             self.old.store self.new.store steps.old steps.new }
         ensures same { SameButCells self.old self.new }
     {
@@ -67,9 +69,11 @@ impl<S: Sample, D: Decoder> ModularImageDestination<S, D> {
         allow_partial: bool,
         steps: &mut Steps,
     ) -> Result<bool>
-        ensures turned { IfOk result (λ whole. HasTurned D.meaning S.width S.to_int self.old passes.now allow_partial
+        ensures turned { IfOk result (λ whole. HasTurned D.meaning S.width S.to_int (S.from_int (pos 0)) self.old passes.now
+            (option_copied global.entry) allow_partial
             sections.now whole self.old.store self.new.store steps.old steps.new) }
-        ensures stopped { IfErr result (λ e. HasStopped D.meaning S.width S.to_int self.old passes.now allow_partial
+        ensures stopped { IfErr result (λ e. HasStopped D.meaning S.width S.to_int (S.from_int (pos 0)) self.old passes.now
+            (option_copied global.entry) allow_partial
             sections.now e self.old.store self.new.store steps.old steps.new) }
         ensures same { SameButCells self.old self.new }
     {

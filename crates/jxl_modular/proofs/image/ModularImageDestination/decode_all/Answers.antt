@@ -1,3 +1,5 @@
+use Rattle.std.specs.Prelude.{pos}
+use Rattle.std.specs.Option.{option_copied}
 use Rattle.std.proofs.Common.{◌≡◌, ◌&&◌}
 use Rattle.std.proofs.lemmas.Result.{err_from_is_err_and}
 use Rattle.jxl_modular.proofs.TurnLaws.{falls, same_both, same_here, stays, stops_here, turned_next, turned_none}
@@ -6,7 +8,7 @@ use Rattle.jxl_modular.proofs.image.ModularImageDestination.decode_all.Goals.{th
 
 pub loop-section-init : goal.loop-section-init
 loop-section-init g c = record {
-  turned = turned_none g.D.Decoder.meaning g.S.Sealed.width g.S.Sealed.to_int c.args.self.now c.args.passes.now c.args.allow_partial c.args.self.now.store c.args.steps.now;
+  turned = turned_none g.D.Decoder.meaning g.S.Sealed.width g.S.Sealed.to_int (g.S.Sealed.from_int (pos 0)) c.args.self.now c.args.passes.now (option_copied c.args.global) c.args.allow_partial c.args.self.now.store c.args.steps.now;
   same = same_here c.args.self.now;
 }
 
@@ -17,7 +19,7 @@ loop-section-preserved g c =
       | else-not-decoded w ↦ stays c.if-not-decoded.whole c.loop-section.whole c.in_ok-decoded.decoded w.whole-is w.if-not-decoded.false
     ] in
     record {
-      turned = turned_next g.D.Decoder.meaning g.S.Sealed.width g.S.Sealed.to_int c.args.self.now c.args.passes.now c.args.allow_partial c.loop-section.self c.loop-section.invariant.same
+      turned = turned_next g.D.Decoder.meaning g.S.Sealed.width g.S.Sealed.to_int (g.S.Sealed.from_int (pos 0)) c.args.self.now c.args.passes.now (option_copied c.args.global) c.args.allow_partial c.loop-section.self c.loop-section.invariant.same
           c.args.sections.now c.loop-section.section-index c.section-item.result c.section-item.is c.loop-section-test.true c.loop-section.whole c.args.self.now.store c.decode_section.new.self.store c.args.steps.now c.loop-section.steps c.decode_section.new.steps
           c.loop-section.invariant.turned c.in_ok-decoded.decoded c.if-not-decoded.whole is c.in_ok-decoded.ensures.gives;
       same = same_both c.args.self.now c.loop-section.self c.decode_section.new.self c.loop-section.invariant.same c.in_ok-decoded.ensures.same;
@@ -27,7 +29,7 @@ pub returns-in_err-decoded-clause-stopped : goal.returns-in_err-decoded-clause-s
 returns-in_err-decoded-clause-stopped g c =
     let p = err_from_is_err_and c.from_residual.result c.from_residual.ensures.1 in
     rw (p.1, p.2)
-    (stops_here g.D.Decoder.meaning g.S.Sealed.width g.S.Sealed.to_int c.args.self.now c.args.passes.now c.args.allow_partial c.loop-section.self c.loop-section.invariant.same
+    (stops_here g.D.Decoder.meaning g.S.Sealed.width g.S.Sealed.to_int (g.S.Sealed.from_int (pos 0)) c.args.self.now c.args.passes.now (option_copied c.args.global) c.args.allow_partial c.loop-section.self c.loop-section.invariant.same
     c.args.sections.now c.loop-section.section-index c.section-item.result c.section-item.is c.loop-section-test.true c.loop-section.whole c.args.self.now.store c.decode_section.new.self.store c.args.steps.now c.loop-section.steps c.decode_section.new.steps
     c.loop-section.invariant.turned c.in_err-decoded.field-0.0 c.in_err-decoded.ensures.gives)
 

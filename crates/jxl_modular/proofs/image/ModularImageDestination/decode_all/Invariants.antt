@@ -1,3 +1,5 @@
+use Rattle.std.specs.Prelude.{pos}
+use Rattle.std.specs.Option.{option_copied}
 use Rattle.std.proofs.Common.{take}
 use Rattle.jxl_modular.specs.Inner.Turns.{HasTurned}
 use Rattle.jxl_modular.specs.SameButCells.{SameButCells}
@@ -5,6 +7,6 @@ use Rattle.jxl_modular.proofs.image.ModularImageDestination.decode_all.Given as 
 
 abbrev pub invariant-loop-section : goal.invariant-loop-section
 invariant-loop-section g l = record {
-  turned : HasTurned g.D.Decoder.meaning g.S.Sealed.width g.S.Sealed.to_int l.fn.self l.passes l.allow_partial (take l.section-index l.sections) l.whole l.fn.self.store l.self.store l.fn.steps l.steps;
+  turned : HasTurned g.D.Decoder.meaning g.S.Sealed.width g.S.Sealed.to_int (g.S.Sealed.from_int (pos 0)) l.fn.self l.passes (option_copied l.global) l.allow_partial (take l.section-index l.sections) l.whole l.fn.self.store l.self.store l.fn.steps l.steps;
   same : SameButCells l.fn.self l.self;
 }
