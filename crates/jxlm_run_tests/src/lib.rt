@@ -8,6 +8,8 @@ mod generated;
 #[cfg(test)]
 mod nested;
 #[cfg(test)]
+mod nested_narrow;
+#[cfg(test)]
 mod parts;
 #[cfg(test)]
 mod rows;
