@@ -10,6 +10,8 @@ mod nested;
 #[cfg(test)]
 mod nested_narrow;
 #[cfg(test)]
+mod nested_rules;
+#[cfg(test)]
 mod parts;
 #[cfg(test)]
 mod rows;
