@@ -14,6 +14,9 @@ pub mod Tokens
 pub mod DecodingLaws
 pub mod PlainTokens
 pub mod Wraps
+mod Digits
+mod Each
+mod Eights
 mod Lines
 mod NumberAt
 mod RowLoop
@@ -21,4 +24,5 @@ mod RowWrites
 mod Strips
 mod Turned
 mod Undo
+mod Tendencies
 mod Tendency

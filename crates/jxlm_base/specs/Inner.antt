@@ -2,3 +2,4 @@ pub mod PlainLaws
 pub mod PlainReads
 pub mod SampleLaws
 pub mod Unsqueeze
+pub mod Lanes

@@ -7,6 +7,7 @@ mod colour;
 pub mod decoder;
 pub mod error;
 pub mod grid;
+mod lanes;
 pub mod laws;
 pub mod plain;
 pub mod region;
