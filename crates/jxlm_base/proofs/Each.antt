@@ -1,13 +1,14 @@
 -- Facts of the lanes of vectors.
-use Rattle.std.proofs.Common.{◌≡◌, ℕ, ◌<◌, ◌≤◌, List, [], ◌∷◌, map, length, get_or, ℤ, pos, to_z, of_z, FitsSigned, int_div, arith, ◌<ℤ◌, ap, ◌∙◌, refl, cond, ltb, Bool, true, false, inl, inr, min, w16, int_lt, int_le, unsigned_abs, ◌-ℤ◌, ◌+◌, ◌-◌, ◌%◌}
-use Rattle.std.specs.Int.{Width, int_wrap}
-use Rattle.std.proofs.lemmas.Int.{ints, quot_fits, to_z-of_z}
+use Rattle.std.proofs.Common.{◌≡◌, ℕ, negsuc, ◌<◌, ◌≤◌, List, [], ◌∷◌, map, length, get_or, ℤ, pos, to_z, of_z, FitsSigned, arith, ap, ◌∙◌, refl, sym, subst, cond, ltb, eqb, Bool, true, false, inl, inr, min, w16, int_lt, int_le, unsigned_abs, ◌-ℤ◌, ◌+◌, ◌-◌, ◌%◌}
+use Rattle.std.specs.Int.{Width}
+use Rattle.std.proofs.lemmas.Int.{ints, to_z-of_z}
 use Rattle.std.proofs.lemmas.List.{get_or-map, length-map}
 use Rattle.std.proofs.lemmas.Simd.{Each1-get_or, get_or-zip2, length-zip2, tops_compared, length-sel_l, get_or-sel_l}
 use Rattle.std.proofs.Math.Facts.{sfits_to_z}
-use Rattle.std.proofs.lemmas.Bool.{cases_lt, lt-ltb, le-ltb}
-use lib.Lanes.{Each1, Each2, zip2, sel_l, top}
-use Rattle.jxlm_base.specs.Inner.Lanes.{lane}
+use Rattle.std.proofs.lemmas.Bool.{cases_lt, lt-ltb, le-ltb, eq-eqb, ne_eqb}
+use lib.Lanes.{Each1, zip2, sel_l, top}
+use Rattle.jxlm_base.specs.Colour.{halved}
+use Rattle.jxlm_base.specs.Inner.Lanes.{lane, AreEight}
 
 pub Each1-map : {A B : Type 0} (Q : A → Type 0) (P : B → Type 0) (f : A → B) → ((a : A) → Q a → P (f a)) → (xs : List A) → Each1 Q xs → Each1 P (map f xs)
 Each1-map Q P f h [] q = tt
@@ -139,3 +140,40 @@ none_of a b k fk = by (int_lt a b) (int_le b a) refl refl
 pub either : (t : Bool) (k : ℤ) → FitsSigned w16 k → FitsSigned w16 (cond t k (pos 0))
 either true k f = f
 either false k f = omega (arith, ints)
+
+-- ---- eight numbers
+
+-- eight numbers, as bits and back
+pub eight_back : (v : List ℤ) → AreEight v → AreEight (map (to_z w16) (map (of_z w16) v))
+eight_back v e = subst AreEight (sym (same_numbers w16 v e.fit)) e
+
+pub lane_back : (v : List ℤ) (j : ℕ) → AreEight v → lane (map (to_z w16) (map (of_z w16) v)) j ≡ lane v j
+lane_back v j e = ap (λ l. lane l j) (same_numbers w16 v e.fit)
+
+-- what an operator makes of two vectors of eight
+pub lanes_of_two : (f : ℕ → ℕ → ℕ) → ((a b : ℕ) → f a b < 65536) → (xs ys : List ℤ) → AreEight xs → AreEight ys →
+    AreEight (map (to_z w16) (zip2 f (map (of_z w16) xs) (map (of_z w16) ys)))
+lanes_of_two f h xs ys p q =
+    let lx = p.len in
+    let ly = q.len in
+    let a = length-map xs (of_z w16) in
+    let b = length-map ys (of_z w16) in
+    let n = length-zip2 f (map (of_z w16) xs) (map (of_z w16) ys) (omega arith) in
+    record {
+      len = length-map (zip2 f (map (of_z w16) xs) (map (of_z w16) ys)) (to_z w16) ∙ omega arith;
+      fit = Each1-signed (zip2 f (map (of_z w16) xs) (map (of_z w16) ys)) (Each1-zip2_all (λ x. x < 65536) f h (map (of_z w16) xs) (map (of_z w16) ys));
+    }
+
+pub halved_fits : (x : ℤ) → FitsSigned w16 x → FitsSigned w16 (halved x)
+halved_fits (pos a) h = omega (arith, ints, h)
+halved_fits (negsuc a) h = omega (arith, ints, h)
+
+pub two : (p : ℤ → ℤ → ℤ) (x x2 y y2 : ℤ) → x ≡ x2 → y ≡ y2 → p x y ≡ p x2 y2
+two p x x2 y y2 e f = ap (λ z. p z y) e ∙ ap (p x2) f
+
+-- a choice by a number, where it is known
+pub chosen : (m n : ℕ) (x y : ℤ) → m ≡ n → cond (eqb m n) x y ≡ x
+chosen m n x y e = ap (λ t. cond t x y) (eq-eqb m n e)
+
+pub not_chosen : (m n : ℕ) (x y : ℤ) → (m ≡ n → ⊥) → cond (eqb m n) x y ≡ y
+not_chosen m n x y ne = ap (λ t. cond t x y) (ne_eqb m n ne)

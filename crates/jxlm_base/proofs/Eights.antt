@@ -3,12 +3,12 @@ use Rattle.std.proofs.Common.{◌≡◌, ℕ, ◌+◌, ◌*◌, ◌-◌, ◌<◌
 use Rattle.std.proofs.lemmas.Simd.{length-put_chunk, get_or-put_chunk_below, get_or-put_chunk_at, get_or-put_chunk_above, get_or-chunk, length-chunk, Each1-from_get_or}
 use lib.Lanes.{Each1, chunk, put_chunk}
 use Rattle.jxlm_base.specs.Inner.Lanes.{lane}
-use Rattle.jxlm_base.specs.Inner.Unsqueeze.{number_at, first_of, second_of, of_column, ArePairs}
+use Rattle.jxlm_base.specs.Inner.Unsqueeze.{number_at, first_of, second_of, of_column}
 use Rattle.jxlm_base.proofs.Each.{same_numbers}
 use Rattle.jxlm_base.proofs.Lines.{LinesSoFar, more_pairs}
 
 -- numbers stand for themselves
-same : (xs : List ℤ) → map (λ x. x) xs ≡ xs
+pub same : (xs : List ℤ) → map (λ x. x) xs ≡ xs
 same [] = refl
 same (x ∷ xs) = ap (λ l. x ∷ l) (same xs)
 
@@ -67,24 +67,24 @@ module _ (averages next residuals old : List ℤ) (n start : ℕ) where
       let numbers : (k : ℕ) → lane later k ≡ lane strip k → number_at (λ x. x) later k ≡ number_at (λ x. x) strip k =
       λ k e. number_lane later k ∙ e ∙ sym (number_lane strip k) in
       let at_one : (j : ℕ) → j < 8 → lane later (start + n + (i + j)) ≡ lane one j = λ j h.
-          let is : start + n + (i + j) ≡ start + n + i + j = omega arith in
-          ap (lane later) is ∙ get_or-put_chunk_below (start + 2 * n + i) mid two (start + n + i + j) (pos 0) (omega arith)
-          ∙ get_or-put_chunk_at (start + n + i) strip one j (pos 0) (omega arith) (omega arith) in
+      let is : start + n + (i + j) ≡ start + n + i + j = omega arith in
+      ap (lane later) is ∙ get_or-put_chunk_below (start + 2 * n + i) mid two (start + n + i + j) (pos 0) (omega arith)
+      ∙ get_or-put_chunk_at (start + n + i) strip one j (pos 0) (omega arith) (omega arith) in
       let at_two : (j : ℕ) → j < 8 → lane later (start + 2 * n + (i + j)) ≡ lane two j = λ j h.
-          let is : start + 2 * n + (i + j) ≡ start + 2 * n + i + j = omega arith in
-          ap (lane later) is ∙ get_or-put_chunk_at (start + 2 * n + i) mid two j (pos 0) (omega arith) (omega arith) in
+      let is : start + 2 * n + (i + j) ≡ start + 2 * n + i + j = omega arith in
+      ap (lane later) is ∙ get_or-put_chunk_at (start + 2 * n + i) mid two j (pos 0) (omega arith) (omega arith) in
       more_pairs (λ x. x) w16 averages next residuals old n start strip later i (i + 8) le
       (λ k h. numbers k (below k (omega arith)))
       (λ k h. numbers (start + n + k) (below (start + n + k) (omega arith)))
       (λ k h. numbers (start + 2 * n + k) (between (start + 2 * n + k) (omega arith) (omega arith)))
       (λ k g h.
-          let is : i + (k - i) ≡ k = omega arith in
-          subst (λ m. number_at (λ x. x) later (start + n + m) ≡ column (first_of w16) strip m) is
-          (number_lane later (start + n + (i + (k - i))) ∙ at_one (k - i) (omega arith) ∙ first (k - i) (omega arith) ∙ lanes_of (first_of w16) strip (i + (k - i))))
+      let is : i + (k - i) ≡ k = omega arith in
+      subst (λ m. number_at (λ x. x) later (start + n + m) ≡ column (first_of w16) strip m) is
+      (number_lane later (start + n + (i + (k - i))) ∙ at_one (k - i) (omega arith) ∙ first (k - i) (omega arith) ∙ lanes_of (first_of w16) strip (i + (k - i))))
       (λ k g h.
-          let is : i + (k - i) ≡ k = omega arith in
-          subst (λ m. number_at (λ x. x) later (start + 2 * n + m) ≡ column (second_of w16) strip m) is
-          (number_lane later (start + 2 * n + (i + (k - i))) ∙ at_two (k - i) (omega arith) ∙ second (k - i) (omega arith) ∙ lanes_of (second_of w16) strip (i + (k - i))))
+      let is : i + (k - i) ≡ k = omega arith in
+      subst (λ m. number_at (λ x. x) later (start + 2 * n + m) ≡ column (second_of w16) strip m) is
+      (number_lane later (start + 2 * n + (i + (k - i))) ∙ at_two (k - i) (omega arith) ∙ second (k - i) (omega arith) ∙ lanes_of (second_of w16) strip (i + (k - i))))
       (λ k g h. subst (FitsSigned w16) (sym (number_lane averages k)) (averages_fit k (omega arith)))
       (λ k g h. subst (FitsSigned w16) (sym (number_lane residuals k)) (residuals_fit k (omega arith)))
       so_far (omega arith)

@@ -2,6 +2,7 @@ pub mod BitsLemmas
 pub mod Cells
 pub mod ColourLaws
 pub mod ColourRows
+mod ColourEights
 pub mod GridLaws
 pub mod GrammarLaws
 pub mod ItemLoop

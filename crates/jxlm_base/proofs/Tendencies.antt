@@ -1,7 +1,6 @@
 -- The tendency of three numbers, from what is kept of a slope where they fall and where they rise.
-use Rattle.std.proofs.Common.{◌≡◌, ℕ, zero, suc, ◌+◌, ◌-◌, ◌*◌, ◌/◌, ◌%◌, ◌<◌, ◌≤◌, Bool, true, false, T, not, ◌&&◌, cond, nat_lt, inl, inr, ℤ, pos, ◌-ℤ◌, neg_ℤ, int_le, unsigned_abs, FitsSigned, to_z, of_z, w16, sym, refl, ap, ◌∙◌, subst, arith}
-use Rattle.std.proofs.lemmas.Bool.{cases_lt}
-use Rattle.std.proofs.lemmas.Int.{ints, to_z-of_z, to_z_pos}
+use Rattle.std.proofs.Common.{◌≡◌, ℕ, zero, suc, ◌+◌, ◌-◌, ◌%◌, ◌<◌, Bool, true, false, T, not, ◌&&◌, cond, ℤ, pos, ◌-ℤ◌, neg_ℤ, int_le, unsigned_abs, FitsSigned, to_z, of_z, w16, sym, refl, ap, ◌∙◌, subst, arith}
+use Rattle.std.proofs.lemmas.Int.{ints, to_z_pos}
 use Rattle.std.proofs.Math.Facts.{to_z-neg}
 use Rattle.jxlm_base.specs.Squeeze.{slope, tendency}
 use Rattle.jxlm_base.proofs.Tendency.{slope_small}
@@ -58,13 +57,13 @@ module _ (a b c : ℤ) (fa : FitsSigned w16 a) (fb : FitsSigned w16 b) (fc : Fit
   tendency_of n is =
       let small : p + q < 65536 → slope p q < 32768 = λ h. (let s = slope_small p q in omega arith) in
       let number : p + q < 65536 → (to_z w16 n ≡ pos (slope p q)) × (slope p q < 32768) = λ h.
-          (ap (to_z w16) (is h) ∙ to_z_pos w16 (slope p q) (small h), small h) in
+      (ap (to_z w16) (is h) ∙ to_z_pos w16 (slope p q) (small h), small h) in
       signed_by (int_le b a && int_le c b) (int_le a b && int_le b c) (slope p q) (to_z w16 n)
       (λ t. let d = and_true (int_le b a) (int_le c b) t in number (falls d.0 d.1))
       (λ u. let d = and_true (int_le a b) (int_le b c) u in number (rises d.0 d.1))
       (λ t u.
-          let d = and_true (int_le b a) (int_le c b) t in
-          let e = and_true (int_le a b) (int_le b c) u in ap (λ p. slope p q) (flat_p d.0 e.0) ∙ ap (slope 0) (flat_q d.1 e.1))
+      let d = and_true (int_le b a) (int_le c b) t in
+      let e = and_true (int_le a b) (int_le b c) u in ap (λ p. slope p q) (flat_p d.0 e.0) ∙ ap (slope 0) (flat_q d.1 e.1))
 
   pub tendency_by : (n : ℕ) (s : ℤ) → (p + q < 65536 → n ≡ slope p q) → s ≡ to_z w16 n →
       to_z w16 ((of_z w16 (cond (int_le b a) (cond (int_le c b) s (pos 0)) (pos 0)) + (65536 - of_z w16 (cond (int_le a b) (cond (int_le b c) s (pos 0)) (pos 0)))) % 65536) ≡ tendency a b c

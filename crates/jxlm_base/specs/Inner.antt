@@ -1,5 +1,6 @@
+pub mod ColourRows
+pub mod Lanes
 pub mod PlainLaws
 pub mod PlainReads
 pub mod SampleLaws
 pub mod Unsqueeze
-pub mod Lanes

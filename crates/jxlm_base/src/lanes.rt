@@ -172,12 +172,11 @@ fn pairs(before: i16x8, average: i16x8, next: i16x8, residual: i16x8) -> (i16x8,
 #[inline(always)]
 fn number_fits(_number: i16)
     ensures { FitsSigned w16 _number }
-{
-}
+{}
 
 /// Shows that the numbers of a line are those of their type. It compiles to nothing.
 #[inline(always)]
-fn line_fits(line: &[i16])
+pub(crate) fn line_fits(line: &[i16])
     ensures { (j : ℕ) → j < length line.now → FitsSigned w16 (lane line.now j) }
 {
     for j in 0..line.len() {

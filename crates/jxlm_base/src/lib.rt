@@ -4,6 +4,7 @@
 pub mod bit_laws;
 pub mod bits;
 mod colour;
+mod colour_lanes;
 pub mod decoder;
 pub mod error;
 pub mod grid;

@@ -1,4 +1,4 @@
-use Rattle.std.proofs.Common.{◌≡◌, ◌∙◌, ap, sym, ℕ, ℤ, pos, map, length, get_or, FitsSigned, arith, cond, List, w16, of_z, to_z, int_lt, unsigned_abs, ◌-ℤ◌, ◌<◌, ◌+◌, ◌-◌, ◌%◌}
+use Rattle.std.proofs.Common.{◌≡◌, ◌∙◌, ap, sym, ℕ, ℤ, pos, map, length, get_or, FitsSigned, arith, cond, List, w16, of_z, to_z, int_lt, unsigned_abs, ◌-ℤ◌, ◌<◌}
 use Rattle.std.proofs.lemmas.Simd.{Each1-get_or, length-zip2, get_or-zip2}
 use Rattle.std.proofs.lemmas.List.{length-map, get_or-map}
 use Rattle.std.proofs.lemmas.Int.{of_z-to_z}

@@ -1,8 +1,8 @@
-use Rattle.std.proofs.Common.{w16, arith, map, of_z, to_z, pos, ◌<ℤ◌, ℤ, FitsSigned, int_div, subst, sym, ap, ◌∙◌, length, get_or}
+use Rattle.std.proofs.Common.{w16, arith, map, of_z, to_z, pos, ◌<ℤ◌, ℤ, FitsSigned, int_div, subst, sym, ap, ◌∙◌, get_or}
 use Rattle.std.proofs.lemmas.Simd.{Each2-splat, Each1-get_or, length-zip2, get_or-zip2, get_or-replicate}
 use Rattle.std.proofs.lemmas.Int.{quot_fits, to_z-of_z}
 use Rattle.std.proofs.lemmas.List.{length-map, get_or-map}
-use Rattle.jxlm_base.proofs.Each.{Each1-map, lane_of_two}
+use Rattle.jxlm_base.proofs.Each.{Each1-map}
 use lib.ListN.{replicate}
 use lib.Lanes.{zip2}
 use mir.Syntax.{div, signed}
@@ -15,7 +15,7 @@ nonzero_div-result c =
     let two : pos 0 <ℤ pos 2 = omega arith in
     Each2-splat (Asks2 (div signed) (s_int w16) (s_int w16)) (map (of_z w16) c.args.n) 8 2
     (Each1-map (FitsSigned w16) (λ x. Asks2 (div signed) (s_int w16) (s_int w16) x 2) (of_z w16)
-        (λ (x : ℤ) fits. (omega arith, subst (λ z. FitsSigned w16 (int_div z (pos 2))) (sym (to_z-of_z w16 x fits)) (quot_fits w16 x (pos 2) fits two))) c.args.n c.requires.fit)
+    (λ (x : ℤ) fits. (omega arith, subst (λ z. FitsSigned w16 (int_div z (pos 2))) (sym (to_z-of_z w16 x fits)) (quot_fits w16 x (pos 2) fits two))) c.args.n c.requires.fit)
 
 pub returns-clause-value : goal.returns-clause-value
 returns-clause-value c j lt =

@@ -1,4 +1,4 @@
-use Rattle.std.proofs.Common.{◌≡◌, ◌∙◌, ◌<◌, ◌-◌, ◌/◌, ◌%◌, ◌+◌, ℕ, arith, length, sym, ap, get_or, w16}
+use Rattle.std.proofs.Common.{◌∙◌, ◌<◌, arith, ap, get_or, w16}
 use Rattle.std.proofs.lemmas.Simd.{get_or-zip2, length-zip2, get_or-replicate, Each1-get_or, below_from_Fits}
 use lib.ListN.{replicate}
 use lib.Lanes.{zip2}

@@ -1,4 +1,4 @@
-use Rattle.std.proofs.Common.{◌≡◌, ◌∙◌, arith, length, sym}
+use Rattle.std.proofs.Common.{◌∙◌, arith}
 use Rattle.jxlm_base.proofs.Each.{lesser_at, lesser_len}
 use Rattle.jxlm_base.proofs.lanes.lesser.Goals as goal
 

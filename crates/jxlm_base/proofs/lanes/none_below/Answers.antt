@@ -1,7 +1,6 @@
 use Rattle.std.proofs.Common.{◌∙◌, ap, ℕ, pos, map, length, get_or, FitsSigned, arith, cond, refl, ◌≡◌, int_le, List, [], ◌∷◌, w16, of_z, to_z, int_lt, ◌<◌, subst, sym}
 use Rattle.std.proofs.lemmas.Simd.{Each1-from_get_or, Each1-get_or, get_or-replicate}
 use Rattle.std.proofs.lemmas.List.{length-map, get_or-map}
-use lib.Lanes.{Each1}
 use Rattle.jxlm_base.specs.Inner.Lanes.{lane}
 use Rattle.jxlm_base.proofs.Each.{picked, picked_len, picked_at, none_of, either}
 use Rattle.jxlm_base.proofs.lanes.none_below.Goals as goal
@@ -47,5 +46,5 @@ returns-clause-fit c =
     let m = length-map (chosen c) (to_z w16) in
     let lk = c.requires.kept_len in
     Each1-from_get_or (FitsSigned w16) (map (to_z w16) (chosen c)) (pos 0) (λ i lt.
-        let fk : FitsSigned w16 (lane c.args.kept i) = Each1-get_or (FitsSigned w16) c.args.kept i (pos 0) (omega arith) c.requires.kept_fit in
-        subst (FitsSigned w16) (sym (value c i (omega arith))) (either (int_le (lane c.args.b i) (lane c.args.a i)) (lane c.args.kept i) fk))
+    let fk : FitsSigned w16 (lane c.args.kept i) = Each1-get_or (FitsSigned w16) c.args.kept i (pos 0) (omega arith) c.requires.kept_fit in
+    subst (FitsSigned w16) (sym (value c i (omega arith))) (either (int_le (lane c.args.b i) (lane c.args.a i)) (lane c.args.kept i) fk))

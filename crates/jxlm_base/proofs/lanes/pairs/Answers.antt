@@ -1,11 +1,10 @@
-use Rattle.std.proofs.Common.{◌≡◌, ◌<◌, ◌∙◌, ap, sym, ℕ, ℤ, List, pos, map, length, get_or, arith, int_div, FitsSigned, to_z, of_z, ◌-ℤ◌, ◌+ℤ◌, ◌+◌, ◌%◌, subst}
-use Rattle.std.specs.Int.{w16, int_wrap, int_wrapping_add, int_wrapping_sub}
+use Rattle.std.proofs.Common.{◌≡◌, ◌<◌, ◌∙◌, ap, sym, ℕ, ℤ, List, pos, map, length, get_or, arith, int_div, FitsSigned, to_z, of_z, ◌+ℤ◌, subst}
+use Rattle.std.specs.Int.{w16, int_wrapping_add}
 use Rattle.std.proofs.lemmas.Simd.{Each1-get_or, length-zip2, get_or-zip2}
 use Rattle.std.proofs.lemmas.List.{length-map, get_or-map}
-use Rattle.std.proofs.lemmas.Int.{to_z-of_z, wrapping_add_is, SFits-int_wrap}
-use Rattle.jxlm_base.specs.Inner.Unsqueeze.{first_of, pair_difference}
+use Rattle.std.proofs.lemmas.Int.{wrapping_add_is, SFits-int_wrap}
 use Rattle.jxlm_base.specs.Squeeze.{tendency}
-use Rattle.jxlm_base.proofs.Tendency.{sum_is, first_is, second_is}
+use Rattle.jxlm_base.proofs.Tendency.{first_is, second_is}
 use Rattle.jxlm_base.specs.Inner.Lanes.{lane}
 use Rattle.jxlm_base.proofs.Each.{lane_of_two, bits_of_two, same_numbers, Each1-numbers, Each1-signed, Each1-zip2_all}
 use Rattle.jxlm_base.proofs.lanes.pairs.Goals as goal
@@ -57,13 +56,13 @@ returns-clause-first c j lt =
     let fr : FitsSigned w16 r = Each1-get_or (FitsSigned w16) c.args.residual j (pos 0) (omega arith) c.requires.residual_fit in
     let ft : FitsSigned w16 t = Each1-get_or (FitsSigned w16) c.tendencies.result j (pos 0) (omega arith) c.tendencies.ensures.fit in
     let sum : lane (map (to_z w16) (zip2 (act2 wrap_add (s_int w16) (s_int w16) (s_int w16)) (map (of_z w16) c.args.residual) (map (of_z w16) c.tendencies.result))) j ≡ int_wrapping_add w16 r t =
-        lane_of_two w16 (act2 wrap_add (s_int w16) (s_int w16) (s_int w16)) c.args.residual c.tendencies.result j (omega arith) (omega arith) in
+    lane_of_two w16 (act2 wrap_add (s_int w16) (s_int w16) (s_int w16)) c.args.residual c.tendencies.result j (omega arith) (omega arith) in
     let back = same_numbers w16 in
     let is : t ≡ tendency b m x =
-        c.tendencies.ensures.value j lt
-        ∙ ap (λ l. tendency (lane l j) (lane (map (to_z w16) (map (of_z w16) c.args.average)) j) (lane (map (to_z w16) (map (of_z w16) c.args.next)) j)) (back c.args.before c.requires.before_fit)
-        ∙ ap (λ l. tendency b (lane l j) (lane (map (to_z w16) (map (of_z w16) c.args.next)) j)) (back c.args.average c.requires.average_fit)
-        ∙ ap (λ l. tendency b m (lane l j)) (back c.args.next c.requires.next_fit) in
+    c.tendencies.ensures.value j lt
+    ∙ ap (λ l. tendency (lane l j) (lane (map (to_z w16) (map (of_z w16) c.args.average)) j) (lane (map (to_z w16) (map (of_z w16) c.args.next)) j)) (back c.args.before c.requires.before_fit)
+    ∙ ap (λ l. tendency b (lane l j) (lane (map (to_z w16) (map (of_z w16) c.args.next)) j)) (back c.args.average c.requires.average_fit)
+    ∙ ap (λ l. tendency b m (lane l j)) (back c.args.next c.requires.next_fit) in
     lane_of_two w16 (act2 wrap_add (s_int w16) (s_int w16) (s_int w16)) c.args.average c.half.result j (omega arith) (omega arith)
     ∙ ap (int_wrapping_add w16 m) (c.half.ensures.value j lt ∙ ap (λ d. int_div d (pos 2)) sum)
     ∙ first_is w16 b m x r t fm fr ft is
@@ -83,13 +82,13 @@ returns-clause-second c j lt =
     let fr : FitsSigned w16 r = Each1-get_or (FitsSigned w16) c.args.residual j (pos 0) (omega arith) c.requires.residual_fit in
     let ft : FitsSigned w16 t = Each1-get_or (FitsSigned w16) c.tendencies.result j (pos 0) (omega arith) c.tendencies.ensures.fit in
     let sum : lane (map (to_z w16) (zip2 (act2 wrap_add (s_int w16) (s_int w16) (s_int w16)) (map (of_z w16) c.args.residual) (map (of_z w16) c.tendencies.result))) j ≡ int_wrapping_add w16 r t =
-        lane_of_two w16 (act2 wrap_add (s_int w16) (s_int w16) (s_int w16)) c.args.residual c.tendencies.result j (omega arith) (omega arith) in
+    lane_of_two w16 (act2 wrap_add (s_int w16) (s_int w16) (s_int w16)) c.args.residual c.tendencies.result j (omega arith) (omega arith) in
     let back = same_numbers w16 in
     let is : t ≡ tendency b m x =
-        c.tendencies.ensures.value j lt
-        ∙ ap (λ l. tendency (lane l j) (lane (map (to_z w16) (map (of_z w16) c.args.average)) j) (lane (map (to_z w16) (map (of_z w16) c.args.next)) j)) (back c.args.before c.requires.before_fit)
-        ∙ ap (λ l. tendency b (lane l j) (lane (map (to_z w16) (map (of_z w16) c.args.next)) j)) (back c.args.average c.requires.average_fit)
-        ∙ ap (λ l. tendency b m (lane l j)) (back c.args.next c.requires.next_fit) in
+    c.tendencies.ensures.value j lt
+    ∙ ap (λ l. tendency (lane l j) (lane (map (to_z w16) (map (of_z w16) c.args.average)) j) (lane (map (to_z w16) (map (of_z w16) c.args.next)) j)) (back c.args.before c.requires.before_fit)
+    ∙ ap (λ l. tendency b (lane l j) (lane (map (to_z w16) (map (of_z w16) c.args.next)) j)) (back c.args.average c.requires.average_fit)
+    ∙ ap (λ l. tendency b m (lane l j)) (back c.args.next c.requires.next_fit) in
     let plus = act2 wrap_add (s_int w16) (s_int w16) (s_int w16) in
     let minus = act2 wrap_sub (s_int w16) (s_int w16) (s_int w16) in
     let f = zip2 plus (map (of_z w16) c.args.average) (map (of_z w16) c.half.result) in

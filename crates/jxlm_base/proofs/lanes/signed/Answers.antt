@@ -1,4 +1,4 @@
-use Rattle.std.proofs.Common.{◌≡◌, ◌∙◌, ap, sym, map, length, List, ℕ, ℤ, subst, arith, ◌<◌, ◌^◌, refl, w16, to_z, FitsSigned}
+use Rattle.std.proofs.Common.{ap, sym, map, subst, w16, to_z, FitsSigned}
 use Rattle.std.proofs.lemmas.Simd.{below_from_Fits}
 use lib.Lanes.{Each1}
 use Rattle.jxlm_base.proofs.Each.{Each1-signed}

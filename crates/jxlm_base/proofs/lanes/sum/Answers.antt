@@ -1,7 +1,6 @@
-use Rattle.std.proofs.Common.{◌≡◌, ◌∙◌, ◌<◌, ◌-◌, ◌/◌, ◌%◌, ◌+◌, ℕ, arith, length, map, sym, ap, get_or, w16, min}
+use Rattle.std.proofs.Common.{◌∙◌, ◌<◌, arith, map, ap, get_or, w16, min}
 use Rattle.std.proofs.lemmas.Simd.{get_or-zip2, length-zip2, Each1-get_or, below_from_Fits}
 use Rattle.std.proofs.lemmas.List.{get_or-map, length-map}
-use lib.Lanes.{zip2, sel_l, top}
 use mir.Syntax.{bit_not, wrap_add}
 use borrow.Table.Row.{s_int}
 use borrow.Rule.Simd.Lanes.{act1, act2}

@@ -1,11 +1,11 @@
-use Rattle.std.proofs.Common.{◌≡◌, ◌∙◌, ap, sym, subst, ℕ, ℤ, pos, List, map, length, get_or, FitsSigned, arith, cond, w16, of_z, to_z, int_le, unsigned_abs, ◌-ℤ◌, ◌<◌, ◌+◌}
-use Rattle.std.proofs.lemmas.Simd.{Each1-get_or, length-zip2, below_from_Fits}
+use Rattle.std.proofs.Common.{◌≡◌, ◌∙◌, ap, sym, subst, ℕ, ℤ, pos, List, map, get_or, FitsSigned, arith, cond, w16, of_z, to_z, int_le, unsigned_abs, ◌-ℤ◌, ◌<◌, ◌+◌}
+use Rattle.std.proofs.lemmas.Simd.{Each1-get_or, length-zip2}
 use Rattle.std.proofs.lemmas.List.{length-map, get_or-map}
 use lib.Lanes.{Each1, zip2}
 use mir.Syntax.{wrap_sub}
 use borrow.Table.Row.{s_int}
 use borrow.Rule.Simd.Lanes.{act2}
-use Rattle.jxlm_base.specs.Squeeze.{slope, tendency}
+use Rattle.jxlm_base.specs.Squeeze.{slope}
 use Rattle.jxlm_base.specs.Inner.Lanes.{lane}
 use Rattle.jxlm_base.proofs.Each.{same_numbers, Each1-signed, Each1-zip2_all, lane_of_two}
 use Rattle.jxlm_base.proofs.Tendencies.{tendency_by}
@@ -92,27 +92,27 @@ returns-clause-value c j lt =
     let p_is : get_or c.gap.result j 0 ≡ unsigned_abs (a -ℤ b) = c.gap.ensures.value j lt ∙ ap (λ z. unsigned_abs (z -ℤ lane (back c.args.b) j)) at_a ∙ ap (λ z. unsigned_abs (a -ℤ z)) at_b in
     let q_is : get_or c.gap-2.result j 0 ≡ unsigned_abs (b -ℤ d) = c.gap-2.ensures.value j lt ∙ ap (λ z. unsigned_abs (z -ℤ lane (back c.args.c) j)) at_b ∙ ap (λ z. unsigned_abs (b -ℤ z)) at_d in
     let n_is : unsigned_abs (a -ℤ b) + unsigned_abs (b -ℤ d) < 65536 → n ≡ slope (unsigned_abs (a -ℤ b)) (unsigned_abs (b -ℤ d)) = λ h.
-        c.slopes.ensures.value j lt (omega (arith, h, p_is, q_is)) ∙ ap (λ p. slope p (get_or c.gap-2.result j 0)) p_is ∙ ap (slope (unsigned_abs (a -ℤ b))) q_is in
+    c.slopes.ensures.value j lt (omega (arith, h, p_is, q_is)) ∙ ap (λ p. slope p (get_or c.gap-2.result j 0)) p_is ∙ ap (slope (unsigned_abs (a -ℤ b))) q_is in
     let f1 : lane c.none_below.result j ≡ cond (int_le d b) s (pos 0) =
-        c.none_below.ensures.value j lt
-        ∙ ap (λ z. cond (int_le z (lane (back c.args.b) j)) (lane (back c.signed-slope.result) j) (pos 0)) at_d
-        ∙ ap (λ z. cond (int_le d z) (lane (back c.signed-slope.result) j) (pos 0)) at_b
-        ∙ ap (λ z. cond (int_le d b) z (pos 0)) at_s in
+    c.none_below.ensures.value j lt
+    ∙ ap (λ z. cond (int_le z (lane (back c.args.b) j)) (lane (back c.signed-slope.result) j) (pos 0)) at_d
+    ∙ ap (λ z. cond (int_le d z) (lane (back c.signed-slope.result) j) (pos 0)) at_b
+    ∙ ap (λ z. cond (int_le d b) z (pos 0)) at_s in
     let f2 : lane c.none_below-fall.result j ≡ cond (int_le b a) (cond (int_le d b) s (pos 0)) (pos 0) =
-        c.none_below-fall.ensures.value j lt
-        ∙ ap (λ z. cond (int_le z (lane (back c.args.a) j)) (lane (back c.none_below.result) j) (pos 0)) at_b
-        ∙ ap (λ z. cond (int_le b z) (lane (back c.none_below.result) j) (pos 0)) at_a
-        ∙ ap (λ z. cond (int_le b a) z (pos 0)) (ap (λ l. lane l j) (same_numbers w16 c.none_below.result c.none_below.ensures.fit) ∙ f1) in
+    c.none_below-fall.ensures.value j lt
+    ∙ ap (λ z. cond (int_le z (lane (back c.args.a) j)) (lane (back c.none_below.result) j) (pos 0)) at_b
+    ∙ ap (λ z. cond (int_le b z) (lane (back c.none_below.result) j) (pos 0)) at_a
+    ∙ ap (λ z. cond (int_le b a) z (pos 0)) (ap (λ l. lane l j) (same_numbers w16 c.none_below.result c.none_below.ensures.fit) ∙ f1) in
     let r1 : lane c.none_below-2.result j ≡ cond (int_le b d) s (pos 0) =
-        c.none_below-2.ensures.value j lt
-        ∙ ap (λ z. cond (int_le z (lane (back c.args.c) j)) (lane (back c.signed-slope.result) j) (pos 0)) at_b
-        ∙ ap (λ z. cond (int_le b z) (lane (back c.signed-slope.result) j) (pos 0)) at_d
-        ∙ ap (λ z. cond (int_le b d) z (pos 0)) at_s in
+    c.none_below-2.ensures.value j lt
+    ∙ ap (λ z. cond (int_le z (lane (back c.args.c) j)) (lane (back c.signed-slope.result) j) (pos 0)) at_b
+    ∙ ap (λ z. cond (int_le b z) (lane (back c.signed-slope.result) j) (pos 0)) at_d
+    ∙ ap (λ z. cond (int_le b d) z (pos 0)) at_s in
     let r2 : lane c.none_below-rise.result j ≡ cond (int_le a b) (cond (int_le b d) s (pos 0)) (pos 0) =
-        c.none_below-rise.ensures.value j lt
-        ∙ ap (λ z. cond (int_le z (lane (back c.args.b) j)) (lane (back c.none_below-2.result) j) (pos 0)) at_a
-        ∙ ap (λ z. cond (int_le a z) (lane (back c.none_below-2.result) j) (pos 0)) at_b
-        ∙ ap (λ z. cond (int_le a b) z (pos 0)) (ap (λ l. lane l j) (same_numbers w16 c.none_below-2.result c.none_below-2.ensures.fit) ∙ r1) in
+    c.none_below-rise.ensures.value j lt
+    ∙ ap (λ z. cond (int_le z (lane (back c.args.b) j)) (lane (back c.none_below-2.result) j) (pos 0)) at_a
+    ∙ ap (λ z. cond (int_le a z) (lane (back c.none_below-2.result) j) (pos 0)) at_b
+    ∙ ap (λ z. cond (int_le a b) z (pos 0)) (ap (λ l. lane l j) (same_numbers w16 c.none_below-2.result c.none_below-2.ensures.fit) ∙ r1) in
     lane_of_two w16 minus c.none_below-fall.result c.none_below-rise.result j (omega arith) (omega arith)
     ∙ ap (λ z. to_z w16 (minus (of_z w16 z) (of_z w16 (lane c.none_below-rise.result j)))) f2
     ∙ ap (λ z. to_z w16 (minus (of_z w16 (cond (int_le b a) (cond (int_le d b) s (pos 0)) (pos 0))) (of_z w16 z))) r2

@@ -1,4 +1,4 @@
-use Rattle.std.proofs.Common.{w16, arith, ap, ◌∙◌, ◌/◌, slice_index, get_or}
+use Rattle.std.proofs.Common.{w16, arith, ap, ◌∙◌, ◌/◌, slice_index}
 use Rattle.std.proofs.lemmas.Simd.{Each2-splat, Each1-all, get_or-zip2, length-zip2, get_or-replicate}
 use lib.ListN.{replicate}
 use mir.Syntax.{div, unsigned}

@@ -1,4 +1,4 @@
-use Rattle.std.proofs.Common.{◌∙◌, map, length, ℤ, arith, ◌<◌, FitsSigned}
+use Rattle.std.proofs.Common.{◌∙◌, map, ℤ, arith, ◌<◌, FitsSigned}
 use Rattle.std.specs.Int.{w16}
 use Rattle.std.proofs.lemmas.List.{length-map}
 use Rattle.std.proofs.lemmas.Int.{ints}

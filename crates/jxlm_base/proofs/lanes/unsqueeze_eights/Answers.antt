@@ -1,17 +1,16 @@
-use Rattle.std.proofs.Common.{◌≡◌, ◌≤◌, ◌∙◌, ap, sym, subst, ◌<◌, ◌+◌, ◌*◌, ◌/◌, ℕ, ℤ, pos, List, map, length, get_or, FitsSigned, arith, w16, of_z, to_z}
-use lib.Lanes.{Each1, chunk}
+use Rattle.std.proofs.Common.{◌≡◌, ◌∙◌, ap, subst, ◌<◌, ◌+◌, ◌*◌, ◌/◌, ℕ, ℤ, length, FitsSigned, arith, w16}
+use lib.Lanes.{chunk}
 use Rattle.jxlm_base.specs.Inner.Unsqueeze.{first_of, second_of, ArePairs}
 use Rattle.jxlm_base.specs.Inner.Lanes.{lane}
 use Rattle.jxlm_base.proofs.Each.{same_numbers}
 use Rattle.jxlm_base.proofs.Lines.{LinesSoFar, lines_from, no_pairs}
-use Rattle.jxlm_base.proofs.Eights.{number_lane, back, back_fits, chunk_fits, still_fits, four, moved, eight_more}
+use Rattle.jxlm_base.proofs.Eights.{back, back_fits, chunk_fits, still_fits, four, moved, eight_more}
 use Rattle.jxlm_base.proofs.lanes.unsqueeze_eights.Goals as goal
 
 pub loop-k-init : goal.loop-k-init
 loop-k-init c =
     lines_from (λ x. x) w16 c.args.averages.now c.args.next.now c.args.residuals.now c.args.strip.now (length c.args.averages.now) c.args.at 0
     (no_pairs (λ x. x) w16 c.args.averages.now c.args.next.now c.args.residuals.now c.args.strip.now (length c.args.averages.now) c.args.at c.args.strip.now)
-
 
 pub pairs-requires-clause-before_fit : goal.pairs-requires-clause-before_fit
 pairs-requires-clause-before_fit c =
@@ -21,7 +20,7 @@ pairs-requires-clause-before_fit c =
     let so_far = c.loop-k.invariant in
     let len = so_far.len in
     back_fits (chunk i 8 c.loop-k.strip) (chunk_fits c.loop-k.strip i (omega arith)
-        (λ j h. still_fits c.args.strip.now c.loop-k.strip (i + j) (so_far.kept (i + j) (omega arith)) (c.line_fits-4.ensures (i + j) (omega arith))))
+    (λ j h. still_fits c.args.strip.now c.loop-k.strip (i + j) (so_far.kept (i + j) (omega arith)) (c.line_fits-4.ensures (i + j) (omega arith))))
 
 pub pairs-requires-clause-average_fit : goal.pairs-requires-clause-average_fit
 pairs-requires-clause-average_fit c =
@@ -62,19 +61,19 @@ loop-k-preserved c =
     let one : back c.pairs.result.0 ≡ c.pairs.result.0 = same_numbers w16 c.pairs.result.0 c.pairs.ensures.first_fits in
     let two : back c.pairs.result.1 ≡ c.pairs.result.1 = same_numbers w16 c.pairs.result.1 c.pairs.ensures.second_fits in
     let fits : (j : ℕ) → j < 8 → FitsSigned w16 (lane strip (at + i + j)) = λ j h.
-        still_fits old strip (at + i + j) (so_far.kept (at + i + j) (omega arith)) (c.line_fits-4.ensures (at + i + j) (omega arith)) in
+    still_fits old strip (at + i + j) (so_far.kept (at + i + j) (omega arith)) (c.line_fits-4.ensures (at + i + j) (omega arith)) in
     let args : (p : ℤ → ℤ → ℤ → ℤ → ℤ) (j : ℕ) → j < 8 →
-            p (lane (back (chunk (at + i) 8 strip)) j) (lane (back (chunk i 8 ms)) j) (lane (back (chunk i 8 xs)) j) (lane (back (chunk i 8 rs)) j)
-            ≡ p (lane strip (at + (i + j))) (lane ms (i + j)) (lane xs (i + j)) (lane rs (i + j)) = λ p j h.
-        (let is : at + i + j ≡ at + (i + j) = omega arith in
-        four p _ _ _ _ _ _ _ _ (moved strip (at + i) j (omega arith) fits h ∙ ap (lane strip) is) (moved ms i j (omega arith) (λ k l. c.line_fits.ensures (i + k) (omega arith)) h)
-        (moved xs i j (omega arith) (λ k l. c.line_fits-2.ensures (i + k) (omega arith)) h) (moved rs i j (omega arith) (λ k l. c.line_fits-3.ensures (i + k) (omega arith)) h)) in
+    p (lane (back (chunk (at + i) 8 strip)) j) (lane (back (chunk i 8 ms)) j) (lane (back (chunk i 8 xs)) j) (lane (back (chunk i 8 rs)) j)
+    ≡ p (lane strip (at + (i + j))) (lane ms (i + j)) (lane xs (i + j)) (lane rs (i + j)) = λ p j h.
+    (let is : at + i + j ≡ at + (i + j) = omega arith in
+    four p _ _ _ _ _ _ _ _ (moved strip (at + i) j (omega arith) fits h ∙ ap (lane strip) is) (moved ms i j (omega arith) (λ k l. c.line_fits.ensures (i + k) (omega arith)) h)
+    (moved xs i j (omega arith) (λ k l. c.line_fits-2.ensures (i + k) (omega arith)) h) (moved rs i j (omega arith) (λ k l. c.line_fits-3.ensures (i + k) (omega arith)) h)) in
     let next : i + 8 ≡ 8 * (c.loop-k.k + 1) = omega arith in
     subst (LinesSoFar (λ x. x) w16 ms xs rs old n at _) next
     (eight_more ms xs rs old n at strip (back c.pairs.result.0) (back c.pairs.result.1) i (omega arith) room (ap length one ∙ c.pairs.ensures.first_len) (ap length two ∙ c.pairs.ensures.second_len)
-        (λ j h. ap (λ l. lane l j) one ∙ c.pairs.ensures.first j h ∙ args (first_of w16) j h)
-        (λ j h. ap (λ l. lane l j) two ∙ c.pairs.ensures.second j h ∙ args (second_of w16) j h)
-        (λ j h. c.line_fits.ensures j h) (λ j h. c.line_fits-3.ensures j (omega arith)) so_far)
+    (λ j h. ap (λ l. lane l j) one ∙ c.pairs.ensures.first j h ∙ args (first_of w16) j h)
+    (λ j h. ap (λ l. lane l j) two ∙ c.pairs.ensures.second j h ∙ args (second_of w16) j h)
+    (λ j h. c.line_fits.ensures j h) (λ j h. c.line_fits-3.ensures j (omega arith)) so_far)
 
 pub returns-clause-undone : goal.returns-clause-undone
 returns-clause-undone c =

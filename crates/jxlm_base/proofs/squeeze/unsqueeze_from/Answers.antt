@@ -1,4 +1,4 @@
-use Rattle.std.proofs.Common.{◌≡◌, ◌≤◌, ◌+◌, length, arith}
+use Rattle.std.proofs.Common.{◌≤◌, ◌+◌, length, arith}
 use Rattle.jxlm_base.proofs.NumberAt.{number_read}
 use Rattle.jxlm_base.proofs.Lines.{lines_from, lines_more, fewer_pairs}
 use Rattle.jxlm_base.proofs.squeeze.unsqueeze_from.Goals as goal

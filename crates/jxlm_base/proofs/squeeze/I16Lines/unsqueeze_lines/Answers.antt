@@ -10,7 +10,7 @@ returns c =
     let new = c.unsqueeze_from.new.strip in
     let n : ℕ = length c.args.averages.now in
     let kept : (i : ℕ) → i < c.args.at + n → number_at (λ x. x) new i ≡ number_at (λ x. x) old i = λ i h.
-        c.unsqueeze_from.ensures.kept i h ∙ c.unsqueeze_eights-from.ensures.kept i h in
+    c.unsqueeze_from.ensures.kept i h ∙ c.unsqueeze_eights-from.ensures.kept i h in
     let pairs = c.unsqueeze_from.ensures.undone in
     record {
       len = c.unsqueeze_from.ensures.len ∙ c.unsqueeze_eights-from.ensures.len;

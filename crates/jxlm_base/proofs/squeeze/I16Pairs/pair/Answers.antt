@@ -1,7 +1,6 @@
-use Rattle.std.proofs.Common.{rules, ◌+◌, ◌%◌, ◌-ℤ◌, FitsSigned, int_div, pos, to_z, of_z, ap, ◌∙◌, arith, ℕ}
-use Rattle.std.specs.Int.{w16, int_wrap, cast_signed}
-use Rattle.std.proofs.lemmas.Int.{to_z-of_z, wrapping_sub-bits}
-use Rattle.jxlm_base.specs.Inner.Unsqueeze.{first_of}
+use Rattle.std.proofs.Common.{rules, FitsSigned}
+use Rattle.std.specs.Int.{w16}
+use Rattle.std.proofs.lemmas.Int.{to_z-of_z}
 use Rattle.jxlm_base.proofs.Tendency.{first_is, second_is}
 use Rattle.jxlm_base.proofs.squeeze.I16Pairs.pair.Goals as goal
 
