@@ -2,6 +2,7 @@ pub mod BitsLemmas
 pub mod Cells
 pub mod ColourLaws
 pub mod ColourRows
+mod ColourEights
 pub mod GridLaws
 pub mod GrammarLaws
 pub mod ItemLoop
@@ -14,6 +15,9 @@ pub mod Tokens
 pub mod DecodingLaws
 pub mod PlainTokens
 pub mod Wraps
+mod Digits
+mod Each
+mod Eights
 mod Lines
 mod NumberAt
 mod RowLoop
@@ -21,4 +25,5 @@ mod RowWrites
 mod Strips
 mod Turned
 mod Undo
+mod Tendencies
 mod Tendency

@@ -1,10 +1,10 @@
 -- Tendencies and pairs in machine numbers.
 use Rattle.std.proofs.Common.{◌≡◌, ℕ, ◌+◌, ◌-◌, ◌*◌, ◌/◌, ◌%◌, ◌<◌, ◌≤◌, ◌^◌, Bool, true, false, ◌&&◌, cond, nat_lt, inl, inr, ℤ, pos, ◌+ℤ◌, ◌-ℤ◌, neg_ℤ, int_le, int_div, ◌<ℤ◌, unsigned_abs, FitsSigned, to_z, of_z, sym, refl, ap, ◌∙◌, subst, arith}
-use Rattle.std.specs.Int.{Width, w16, w32, int_wrap, int_wrapping_add}
+use Rattle.std.specs.Int.{Width, w16, w32, int_wrap, int_wrapping_add, cast_signed}
 use Rattle.std.proofs.lemmas.Bool.{cases_lt}
-use Rattle.std.proofs.lemmas.Int.{ints, to_z-of_z, to_z_pos, wrapping_add_is, quot_fits, SFits-int_wrap}
+use Rattle.std.proofs.lemmas.Int.{ints, to_z-of_z, to_z_pos, wrapping_add_is, wrapping_sub-bits, quot_fits, SFits-int_wrap}
 use Rattle.jxlm_base.specs.Squeeze.{slope, tendency}
-use Rattle.jxlm_base.specs.Inner.Unsqueeze.{pair_difference, first_of}
+use Rattle.jxlm_base.specs.Inner.Unsqueeze.{pair_difference, first_of, second_of}
 use Rattle.jxlm_base.proofs.SqueezeLaws.{if_lt, if_ge}
 
 -- what a comparison says of numbers that fit
@@ -40,7 +40,7 @@ capped_right x q =
       | inr ge ↦ subst (λ y. y ≤ x) (sym (if_ge (2 * q) (x + x % 2) (2 * q) x ge)) (omega arith)
     ]
 
-slope_small : (p q : ℕ) → slope p q ≤ (4 * p + 3 * q + 6) / 12
+pub slope_small : (p q : ℕ) → slope p q ≤ (4 * p + 3 * q + 6) / 12
 slope_small p q =
     let x : ℕ = (4 * p + 3 * q + 6) / 12 in
     let y : ℕ = cond (nat_lt (2 * p) (x - x % 2)) (2 * p + 1) x in
@@ -99,3 +99,14 @@ module _ (w : Width) (b m x r t : ℤ) (fm : FitsSigned w m) (fr : FitsSigned w 
       let d : ℤ = int_wrapping_add w r t in
       let fd : FitsSigned w d = subst (FitsSigned w) (sym sum_is) (SFits-int_wrap w (r +ℤ tendency b m x)) in
       wrapping_add_is w m (int_div d (pos 2)) fm (quot_fits w d (pos 2) fd two) ∙ ap (λ d. int_wrap w (m +ℤ int_div d (pos 2))) sum_is
+
+pub second_is : (b m x r t : ℤ) → FitsSigned w16 m → FitsSigned w16 r → FitsSigned w16 t → t ≡ tendency b m x →
+    let d : ℕ = (of_z w16 r + of_z w16 t) % 65536 in
+    let a : ℕ = (of_z w16 m + of_z w16 (int_div (to_z w16 d) (pos 2))) % 65536 in
+    to_z w16 ((a + (65536 - d)) % 65536) ≡ second_of w16 b m x r
+second_is b m x r t fm fr ft is =
+    let d : ℕ = (of_z w16 r + of_z w16 t) % 65536 in
+    let a : ℕ = (of_z w16 m + of_z w16 (int_div (to_z w16 d) (pos 2))) % 65536 in
+    wrapping_sub-bits w16 a d (omega arith) (omega arith)
+    ∙ ap (λ a. int_wrap w16 (a -ℤ cast_signed w16 d)) (first_is w16 b m x r t fm fr ft is)
+    ∙ ap (λ d. int_wrap w16 (first_of w16 b m x r -ℤ d)) (sum_is w16 b m x r t fm fr ft is)

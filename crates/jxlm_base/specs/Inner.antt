@@ -1,3 +1,5 @@
+pub mod ColourRows
+pub mod Lanes
 pub mod PlainLaws
 pub mod PlainReads
 pub mod SampleLaws

@@ -2,6 +2,9 @@
 ghost use Rattle.std.specs.Prelude.{◌≡◌, ℤ, FitsSigned, length, map};
 ghost use Rattle.std.specs.Int.{Width, w16, w32};
 ghost use Rattle.jxlm_base.specs.Colour.{triple, plus, minus, halved, finished_by, FinishesRows, from_luma as the_luma_undone, from_differences as the_differences_undone};
+ghost use Rattle.jxlm_base.specs.Inner.ColourRows.{FinishesCells};
+
+use crate::colour_lanes;
 
 /// Numbers of one width. What is computed is reduced to it.
 pub(crate) trait Arithmetic: Copy {
@@ -112,6 +115,22 @@ fn finished<S: Arithmetic>(ty: u32, a: S, b: S, c: S) -> (S, S, S)
     }
 }
 
+/// Finishes the cells from `from` on of three rows of one length, cell by cell.
+#[inline(always)]
+fn finish_from<S: Arithmetic>(from: usize, ty: u32, a: &mut [S], b: &mut [S], c: &mut [S])
+    requires second { length b.old ≡ length a.old }
+    requires third { length c.old ≡ length a.old }
+    ensures { FinishesCells S.width ty from (length a.old) (map S.to_int a.old) (map S.to_int b.old)
+        (map S.to_int c.old) (map S.to_int a.new) (map S.to_int b.new) (map S.to_int c.new) }
+{
+    for i in from..a.len() {
+        let (d, e, f) = finished(ty, a[i].known(), b[i].known(), c[i].known());
+        a[i] = d;
+        b[i] = e;
+        c[i] = f;
+    }
+}
+
 /// Finishes three rows of one length, cell by cell.
 pub(crate) fn finish_rows<S: Arithmetic>(ty: u32, a: &mut [S], b: &mut [S], c: &mut [S])
     requires second { length b.old ≡ length a.old }
@@ -119,10 +138,16 @@ pub(crate) fn finish_rows<S: Arithmetic>(ty: u32, a: &mut [S], b: &mut [S], c: &
     ensures { FinishesRows S.width ty (map S.to_int a.old) (map S.to_int b.old) (map S.to_int c.old)
         (map S.to_int a.new) (map S.to_int b.new) (map S.to_int c.new) }
 {
-    for i in 0..a.len() {
-        let (d, e, f) = finished(ty, a[i].known(), b[i].known(), c[i].known());
-        a[i] = d;
-        b[i] = e;
-        c[i] = f;
-    }
+    finish_from(0, ty, a, b, c);
+}
+
+/// Finishes three rows of one length of samples of 16 bits, eight cells at a time and the rest cell by cell.
+pub(crate) fn finish_narrow_rows(ty: u32, a: &mut [i16], b: &mut [i16], c: &mut [i16])
+    requires second { length b.old ≡ length a.old }
+    requires third { length c.old ≡ length a.old }
+    ensures { FinishesRows w16 ty (map (λ x. x) a.old) (map (λ x. x) b.old) (map (λ x. x) c.old)
+        (map (λ x. x) a.new) (map (λ x. x) b.new) (map (λ x. x) c.new) }
+{
+    let from = colour_lanes::finish_eights(ty, a, b, c);
+    finish_from(from, ty, a, b, c);
 }

@@ -4,9 +4,11 @@
 pub mod bit_laws;
 pub mod bits;
 mod colour;
+mod colour_lanes;
 pub mod decoder;
 pub mod error;
 pub mod grid;
+mod lanes;
 pub mod laws;
 pub mod plain;
 pub mod region;

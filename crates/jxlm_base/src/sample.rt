@@ -8,7 +8,7 @@ ghost use Rattle.jxlm_base.specs.Squeeze.{AreGridSamples, squeezed_rows, squeeze
 ghost use Rattle.jxlm_base.specs.Subgrid.{whole, KeepsOutside, numbers_in};
 ghost use Rattle.jxlm_base.specs.Inner.SampleLaws.{fits_wider, int_wrap-narrow, int_wrap_again};
 
-use crate::colour::finish_rows;
+use crate::colour::{finish_narrow_rows, finish_rows};
 use crate::grid::{AlignedGrid, OutOfMemory};
 use crate::squeeze;
 use crate::subgrid::MutableSubgrid;
@@ -273,7 +273,7 @@ impl Sealed for i16 {
     }
 
     fn rct_rows(ty: u32, a: &mut [i16], b: &mut [i16], c: &mut [i16]) {
-        finish_rows(ty, a, b, c);
+        finish_narrow_rows(ty, a, b, c);
     }
 
     fn squeeze_rows(

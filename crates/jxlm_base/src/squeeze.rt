@@ -4,9 +4,10 @@ ghost use Rattle.std.specs.Int.{Width, w16, w32};
 ghost use Rattle.jxlm_base.specs.Grid.{cell};
 ghost use Rattle.jxlm_base.specs.Squeeze.{slope, tendency, averages, AreSamples, AreGridSamples, squeezed_rows, squeezed_columns};
 ghost use Rattle.jxlm_base.specs.Subgrid.{whole, IsSamePlace, IsSameOutside, KeepsOutside, numbers_in};
-ghost use Rattle.jxlm_base.specs.Inner.Unsqueeze.{first_of, second_of, next_in, first_in, before_in, number_at, row_in, column_in, line_in, IsUnsqueezed};
+ghost use Rattle.jxlm_base.specs.Inner.Unsqueeze.{first_of, second_of, next_in, first_in, before_in, number_at, row_in, column_in, line_in, IsUnsqueezed, ArePairs};
 
 use crate::grid::OutOfMemory;
+use crate::lanes;
 use crate::subgrid::MutableSubgrid;
 use std::alloc::Global;
 
@@ -189,10 +190,41 @@ fn undo_row<S: Pairs>(subgrid: &mut MutableSubgrid<'_, S>, y: usize, scratch: &m
     subgrid.write_cells(0, y, row);
 }
 
-/// Undoes one pair of rows of several columns: the samples before the pair are in `strip` from `at` on, and its own
-/// are written after them.
-#[inline(never)]
-fn unsqueeze_lines<S: Pairs>(
+/// A sample's type whose pairs are undone in lines.
+pub(crate) trait Lines: Pairs {
+    /// Undoes one pair of rows of several columns: the samples before the pair are in `strip` from `at` on, and its own
+    /// are written after them.
+    fn unsqueeze_lines(
+        averages: &[Self],
+        next: &[Self],
+        residuals: &[Self],
+        strip: &mut [Self],
+        at: usize,
+    )
+        requires next_len { length next.now ≡ length averages.now }
+        requires residuals_len { length residuals.now ≡ length averages.now }
+        requires room { at + 3 * length averages.now ≤ length strip.old }
+        ensures len { length strip.new ≡ length strip.old }
+        ensures kept { (i : ℕ) → i < at + length averages.now → number_at Self.to_int strip.new i
+            ≡ number_at Self.to_int strip.old i }
+        ensures first { (j : ℕ) → j < length averages.now → number_at Self.to_int strip.new
+            (at + length averages.now + j) ≡ first_of Self.width (number_at Self.to_int strip.old (at + j))
+            (number_at Self.to_int averages.now j) (number_at Self.to_int next.now j)
+            (number_at Self.to_int residuals.now j) }
+        ensures second { (j : ℕ) → j < length averages.now → number_at Self.to_int strip.new
+            (at + 2 * length averages.now + j) ≡ second_of Self.width (number_at Self.to_int strip.old (at + j))
+            (number_at Self.to_int averages.now j) (number_at Self.to_int next.now j)
+            (number_at Self.to_int residuals.now j) }
+        ensures averages_fit { (j : ℕ) → j < length averages.now → FitsSigned Self.width
+            (number_at Self.to_int averages.now j) }
+        ensures residuals_fit { (j : ℕ) → j < length averages.now → FitsSigned Self.width
+            (number_at Self.to_int residuals.now j) };
+}
+
+/// Undoes one pair of rows of the columns from `from` on, one by one; those before are undone.
+#[inline(always)]
+fn unsqueeze_from<S: Pairs>(
+    from: usize,
     averages: &[S],
     next: &[S],
     residuals: &[S],
@@ -202,24 +234,46 @@ fn unsqueeze_lines<S: Pairs>(
     requires next_len { length next.now ≡ length averages.now }
     requires residuals_len { length residuals.now ≡ length averages.now }
     requires room { at + 3 * length averages.now ≤ length strip.old }
+    requires undone { ArePairs S.to_int S.width averages.now next.now residuals.now (length averages.now) at
+        strip.old from }
     ensures len { length strip.new ≡ length strip.old }
     ensures kept { (i : ℕ) → i < at + length averages.now → number_at S.to_int strip.new i
         ≡ number_at S.to_int strip.old i }
-    ensures first { (j : ℕ) → j < length averages.now → number_at S.to_int strip.new (at + length averages.now + j)
-        ≡ first_of S.width (number_at S.to_int strip.old (at + j)) (number_at S.to_int averages.now j)
-        (number_at S.to_int next.now j) (number_at S.to_int residuals.now j) }
-    ensures second { (j : ℕ) → j < length averages.now → number_at S.to_int strip.new
-        (at + 2 * length averages.now + j) ≡ second_of S.width (number_at S.to_int strip.old (at + j))
-        (number_at S.to_int averages.now j) (number_at S.to_int next.now j) (number_at S.to_int residuals.now j) }
-    ensures averages_fit { (j : ℕ) → j < length averages.now → FitsSigned S.width (number_at S.to_int averages.now j) }
-    ensures residuals_fit { (j : ℕ) → j < length averages.now → FitsSigned S.width
-        (number_at S.to_int residuals.now j) }
+    ensures undone { ArePairs S.to_int S.width averages.now next.now residuals.now (length averages.now) at
+        strip.new (length averages.now) }
 {
     let columns = averages.len();
-    for j in 0..columns {
+    for j in from..columns {
         let (first, second) = S::pair(strip[at + j], averages[j], next[j], residuals[j]);
         strip[at + columns + j] = first;
         strip[at + 2 * columns + j] = second;
+    }
+}
+
+impl Lines for i16 {
+    #[inline(never)]
+    fn unsqueeze_lines(
+        averages: &[i16],
+        next: &[i16],
+        residuals: &[i16],
+        strip: &mut [i16],
+        at: usize,
+    ) {
+        let from = lanes::unsqueeze_eights(averages, next, residuals, strip, at);
+        unsqueeze_from(from, averages, next, residuals, strip, at);
+    }
+}
+
+impl Lines for i32 {
+    #[inline(never)]
+    fn unsqueeze_lines(
+        averages: &[i32],
+        next: &[i32],
+        residuals: &[i32],
+        strip: &mut [i32],
+        at: usize,
+    ) {
+        unsqueeze_from(0, averages, next, residuals, strip, at);
     }
 }
 
@@ -263,7 +317,7 @@ fn line_of<S>(coded: &[S], start: usize, stride: usize, columns: usize, i: usize
 /// which begins at `start` and `i` times `stride`, has sample `i` of each. The lines of `strip` are the first averages
 /// and the undone lines, of which those before the pair are there.
 #[tactic(auto, using(crate::proofs::Strips::lines_within))]
-fn strip_pair<S: Pairs>(
+fn strip_pair<S: Lines>(
     coded: &[S],
     start: usize,
     stride: usize,
@@ -291,11 +345,11 @@ fn strip_pair<S: Pairs>(
     let averages = line_of(coded, start, stride, columns, k);
     let next = line_of(coded, start, stride, columns, place_of_next(len, k));
     let residuals = line_of(coded, start, stride, columns, len - len / 2 + k);
-    unsqueeze_lines(averages, next, residuals, strip, 2 * k * columns);
+    S::unsqueeze_lines(averages, next, residuals, strip, 2 * k * columns);
 }
 
 /// Writes the undone lines into those of `strip`, the second line first.
-fn unsqueeze_strip<S: Pairs>(
+fn unsqueeze_strip<S: Lines>(
     coded: &[S],
     start: usize,
     stride: usize,
@@ -340,7 +394,7 @@ fn write_strip<S: Copy>(subgrid: &mut MutableSubgrid<'_, S>, x: usize, columns: 
 }
 
 /// Undoes `columns` columns of the rectangle, from column `x` on, with `strip`.
-fn undo_strip<S: Pairs>(
+fn undo_strip<S: Lines>(
     subgrid: &mut MutableSubgrid<'_, S>,
     x: usize,
     columns: usize,
@@ -375,7 +429,7 @@ fn undo_strip<S: Pairs>(
 pub(crate) const COLUMNS: usize = 256;
 
 /// Undoes each column of the rectangle, with `scratch`, which has room for a column and a cell more.
-pub(crate) fn undo_columns<S: Pairs>(subgrid: &mut MutableSubgrid<'_, S>, scratch: &mut [S])
+pub(crate) fn undo_columns<S: Lines>(subgrid: &mut MutableSubgrid<'_, S>, scratch: &mut [S])
     requires room { subgrid.old.height + 1 ≤ length scratch.old }
     ensures len { length scratch.new ≡ length scratch.old }
     ensures kept { KeepsOutside subgrid.old subgrid.new }
@@ -464,7 +518,7 @@ fn write_turned<S: Copy>(
 }
 
 /// Undoes `rows` rows of the rectangle, from row `y` on, turned, in `scratch`.
-fn undo_turned<S: Pairs>(
+fn undo_turned<S: Lines>(
     subgrid: &mut MutableSubgrid<'_, S>,
     y: usize,
     rows: usize,
@@ -503,7 +557,7 @@ fn turned_rows(width: usize, room: usize) -> usize
 
 /// Undoes some rows from row `y` on: several, turned, if there are as many and the scratch has room for them, else one.
 /// Returns how many.
-fn undo_some_rows<S: Pairs>(
+fn undo_some_rows<S: Lines>(
     subgrid: &mut MutableSubgrid<'_, S>,
     y: usize,
     scratch: &mut [S],
@@ -534,7 +588,7 @@ fn undo_some_rows<S: Pairs>(
 }
 
 /// Undoes each row of the rectangle, with `scratch`, which has room for a row.
-pub(crate) fn undo_rows<S: Pairs>(subgrid: &mut MutableSubgrid<'_, S>, scratch: &mut [S])
+pub(crate) fn undo_rows<S: Lines>(subgrid: &mut MutableSubgrid<'_, S>, scratch: &mut [S])
     requires room { subgrid.old.width ≤ length scratch.old }
     ensures len { length scratch.new ≡ length scratch.old }
     ensures kept { KeepsOutside subgrid.old subgrid.new }
@@ -564,7 +618,7 @@ fn room_for_rows(width: usize, height: usize) -> Result<usize, OutOfMemory>
 
 /// Undoes each row of the rectangle. `OutOfMemory` if no memory is given; a rectangle without cells does not ask for
 /// any.
-pub(crate) fn rows<S: Pairs>(
+pub(crate) fn rows<S: Lines>(
     alloc: Global,
     zero: S,
     subgrid: &mut MutableSubgrid<'_, S>,
@@ -598,7 +652,7 @@ fn room_for_columns(width: usize, height: usize) -> Result<usize, OutOfMemory>
 
 /// Undoes each column of the rectangle. `OutOfMemory` if no memory is given; a rectangle without cells does not ask
 /// for any.
-pub(crate) fn columns<S: Pairs>(
+pub(crate) fn columns<S: Lines>(
     alloc: Global,
     zero: S,
     subgrid: &mut MutableSubgrid<'_, S>,

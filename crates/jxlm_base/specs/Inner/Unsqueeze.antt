@@ -1,5 +1,5 @@
 -- A squeezed row undone, pair by pair.
-use Rattle.std.specs.Prelude.{◌≡◌, ℕ, zero, suc, ◌+◌, ◌*◌, ◌/◌, ◌<◌, nat_lt, if◌then◌else◌, ℤ, pos, ◌+ℤ◌, ◌-ℤ◌, int_div, List, map, get_or}
+use Rattle.std.specs.Prelude.{◌≡◌, ℕ, zero, suc, ◌+◌, ◌*◌, ◌/◌, ◌<◌, nat_lt, if◌then◌else◌, ℤ, pos, ◌+ℤ◌, ◌-ℤ◌, int_div, List, map, get_or, FitsSigned}
 use Rattle.std.specs.Int.{Width, int_wrap}
 use Rattle.jxlm_base.specs.declared.subgrid.MutableSubgrid.{MutableSubgrid}
 use Rattle.jxlm_base.specs.Grid.{Grid, at, meanings}
@@ -51,3 +51,18 @@ module _ {S : Type 0} (f : S → ℤ) where
   -- sample j of line i, where line i begins at start and i times stride: column j, or row j where rows are turned
   abbrev pub line_in : List S → ℕ → ℕ → ℕ → ℕ → ℤ
   line_in cells start stride j i = number_at f cells (start + i * stride + j)
+
+-- pairs of columns: averages, next averages and residuals are lines of n columns; the samples before the pairs stand
+-- in a strip, from start on, and those of the pairs in the two lines after them
+module _ {S : Type 0} (f : S → ℤ) (w : Width) (averages next residuals : List S) (n start : ℕ) where
+  -- p of what pair i is made of
+  abbrev pub of_column : (ℤ → ℤ → ℤ → ℤ → ℤ) → List S → ℕ → ℤ
+  of_column p strip i =
+      p (number_at f strip (start + i)) (number_at f averages i) (number_at f next i) (number_at f residuals i)
+
+  -- the pairs of the first j columns are undone
+  pub record ArePairs (strip : List S) (j : ℕ) : Type 0 where
+    pub first : (i : ℕ) → i < j → number_at f strip (start + n + i) ≡ of_column (first_of w) strip i
+    pub second : (i : ℕ) → i < j → number_at f strip (start + 2 * n + i) ≡ of_column (second_of w) strip i
+    pub averages_fit : (i : ℕ) → i < j → FitsSigned w (number_at f averages i)
+    pub residuals_fit : (i : ℕ) → i < j → FitsSigned w (number_at f residuals i)

@@ -1,19 +1,17 @@
-use Rattle.jxlm_base.proofs.ColourRows.{start, more, end}
+use Rattle.std.proofs.Common.{map, subst, sym}
+use Rattle.std.proofs.lemmas.List.{length-map}
+use Rattle.jxlm_base.proofs.ColourRows.{Cells, all_rows}
 use Rattle.jxlm_base.proofs.colour.finish_rows.Goals as goal
-
-pub loop-i-init : goal.loop-i-init
-loop-i-init g c = start g.S.Arithmetic.width g.S.Arithmetic.to_int c.args.ty c.args.a.now c.args.b.now c.args.c.now
-
-pub loop-i-preserved : goal.loop-i-preserved
-loop-i-preserved g c =
-    more g.S.Arithmetic.width g.S.Arithmetic.to_int c.args.ty c.loop-i.i c.args.a.now c.args.b.now c.args.c.now c.loop-i.a c.loop-i.b c.loop-i.c
-    c.index-a-i.result c.index-b-i.result c.index-c-i.result c.known.result c.known-in-loop-i.result c.known-in-loop-i-2.result c.finished-d.result.0 c.finished-d.result.1 c.finished-d.result.2
-    c.loop-i.invariant c.loop-i-test.true c.requires.second c.requires.third c.loop-i.auto.a c.loop-i.auto.b c.loop-i.auto.c
-    c.index-a-i.is c.index-b-i.is c.index-c-i.is c.known.ensures.same c.known-in-loop-i.ensures.same c.known-in-loop-i-2.ensures.same
-    (record { first = c.known.ensures.fits; second = c.known-in-loop-i.ensures.fits; third = c.known-in-loop-i-2.ensures.fits })
-    c.finished-d.ensures
 
 pub returns : goal.returns
 returns g c =
-    end g.S.Arithmetic.width g.S.Arithmetic.to_int c.args.ty c.loop-i.i c.args.a.now c.args.b.now c.args.c.now c.loop-i.a c.loop-i.b c.loop-i.c
-    c.loop-i.invariant c.loop-i-test.false
+    let f = g.S.Arithmetic.to_int in
+    let w = g.S.Arithmetic.width in
+    let a = c.args.a.now in
+    let b = c.args.b.now in
+    let d = c.args.c.now in
+    let x = c.finish_from.new.a in
+    let y = c.finish_from.new.b in
+    let z = c.finish_from.new.c in
+    all_rows w c.args.ty (map f a) (map f b) (map f d) (map f x) (map f y) (map f z)
+    (subst (λ n. Cells w f c.args.ty 0 n a b d x y z) (sym (length-map a f)) c.finish_from.ensures)

@@ -1,8 +1,7 @@
-use Rattle.std.proofs.Common.{rules, ◌+◌, ◌%◌, ◌-ℤ◌, FitsSigned, int_div, pos, to_z, of_z, ap, ◌∙◌, arith, ℕ}
-use Rattle.std.specs.Int.{w16, int_wrap, cast_signed}
-use Rattle.std.proofs.lemmas.Int.{to_z-of_z, wrapping_sub-bits}
-use Rattle.jxlm_base.specs.Inner.Unsqueeze.{first_of}
-use Rattle.jxlm_base.proofs.Tendency.{sum_is, first_is}
+use Rattle.std.proofs.Common.{rules, FitsSigned}
+use Rattle.std.specs.Int.{w16}
+use Rattle.std.proofs.lemmas.Int.{to_z-of_z}
+use Rattle.jxlm_base.proofs.Tendency.{first_is, second_is}
 use Rattle.jxlm_base.proofs.squeeze.I16Pairs.pair.Goals as goal
 
 pub returns-clause-first : goal.returns-clause-first
@@ -20,8 +19,4 @@ returns-clause-second c =
     let t = c.narrow_tendency.result in
     let fits : FitsSigned w16 t = search rules in
     let is = simp (to_z-of_z, c.ranges.before, c.ranges.average, c.ranges.next) at c.narrow_tendency.ensures in
-    let d : ℕ = (of_z w16 r + of_z w16 t) % 65536 in
-    let a : ℕ = (of_z w16 m + of_z w16 (int_div (to_z w16 d) (pos 2))) % 65536 in
-    wrapping_sub-bits w16 a d (omega arith) (omega arith)
-    ∙ ap (λ a. int_wrap w16 (a -ℤ cast_signed w16 d)) (first_is w16 b m x r t c.ranges.average c.ranges.residual fits is)
-    ∙ ap (λ d. int_wrap w16 (first_of w16 b m x r -ℤ d)) (sum_is w16 b m x r t c.ranges.average c.ranges.residual fits is)
+    second_is b m x r t c.ranges.average c.ranges.residual fits is

@@ -1,10 +1,10 @@
-use Rattle.std.proofs.Common.{◌≡◌, ◌+◌, length, arith, subst}
+use Rattle.std.proofs.Common.{◌≤◌, ◌+◌, length, arith}
 use Rattle.jxlm_base.proofs.NumberAt.{number_read}
-use Rattle.jxlm_base.proofs.Lines.{LinesSoFar, lines_none, lines_more}
-use Rattle.jxlm_base.proofs.squeeze.unsqueeze_lines.Goals as goal
+use Rattle.jxlm_base.proofs.Lines.{lines_from, lines_more, fewer_pairs}
+use Rattle.jxlm_base.proofs.squeeze.unsqueeze_from.Goals as goal
 
 pub loop-j-init : goal.loop-j-init
-loop-j-init g c = lines_none g.S.Pairs.to_int g.S.Pairs.width c.args.averages.now c.args.next.now c.args.residuals.now c.args.strip.now (length c.args.averages.now) c.args.at
+loop-j-init g c = lines_from g.S.Pairs.to_int g.S.Pairs.width c.args.averages.now c.args.next.now c.args.residuals.now c.args.strip.now (length c.args.averages.now) c.args.at c.args.from c.requires.undone
 
 pub loop-j-preserved : goal.loop-j-preserved
 loop-j-preserved g c =
@@ -22,8 +22,8 @@ loop-j-preserved g c =
     (number_read f c.args.residuals.now c.loop-j.j c.index-residuals-j.result (omega arith) c.index-residuals-j.is)
     so_far c.pair-first.ensures.first c.pair-first.ensures.second c.pair-first.ensures.average_fits c.pair-first.ensures.residual_fits
 
-pub returns : goal.returns
-returns g c =
-    let e : c.loop-j.j ≡ length c.args.averages.now = omega arith in
-    let all = subst (LinesSoFar g.S.Pairs.to_int g.S.Pairs.width c.args.averages.now c.args.next.now c.args.residuals.now c.args.strip.now (length c.args.averages.now) c.args.at c.loop-j.strip) e c.loop-j.invariant in
-    record { len = all.len; kept = all.kept; first = all.first; second = all.second; averages_fit = all.averages_fit; residuals_fit = all.residuals_fit }
+pub returns-clause-undone : goal.returns-clause-undone
+returns-clause-undone g c =
+    let all : length c.args.averages.now ≤ c.loop-j.j = omega arith in
+    fewer_pairs g.S.Pairs.to_int g.S.Pairs.width c.args.averages.now c.args.next.now c.args.residuals.now c.args.strip.now (length c.args.averages.now) c.args.at c.loop-j.strip
+    (length c.args.averages.now) c.loop-j.j all c.loop-j.invariant.pairs
