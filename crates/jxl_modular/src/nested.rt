@@ -114,8 +114,9 @@ impl<D: Decoder> NestedPart<D> {
         steps: &mut Steps,
     ) -> Result<bool>
         requires { CanFill self.now store.old }
-        ensures { WithSteps (λ t. DecodesTo D.meaning S.width S.to_int (bytes_of bits.old) stream_index
+        ensures gives { WithSteps (λ t. DecodesTo D.meaning S.width S.to_int (bytes_of bits.old) stream_index
             (position_of bits.old) self.now allow_partial result t store.old store.new) steps.old steps.new }
+        ensures bytes { bytes_of bits.new ≡ bytes_of bits.old }
     {
         let part = PlacedPart {
             channels: &self.placed.channels.info,
@@ -163,8 +164,9 @@ impl<D: Decoder> NestedPart<D> {
     ) -> Result<bool>
         requires can { CanFill self.now store.old }
         requires deep { bit_depth ≤ 32 }
-        ensures { WithSteps (λ t. Fills D.meaning S.width S.to_int (bytes_of bits.old) stream_index
+        ensures gives { WithSteps (λ t. Fills D.meaning S.width S.to_int (bytes_of bits.old) stream_index
             (position_of bits.old) self.now allow_partial bit_depth result t store.old store.new) steps.old steps.new }
+        ensures bytes { bytes_of bits.new ≡ bytes_of bits.old }
     {
         let whole =
             self.decode_samples(alloc, bits, store, stream_index, allow_partial, steps)?;
@@ -191,9 +193,10 @@ impl<D: Decoder> NestedPart<D> {
     ) -> Result<bool>
         requires can { CanFill self.now (with_own_tables (S.from_int (pos 0)) self.now store.old.items) }
         requires deep { bit_depth ≤ 32 }
-        ensures { WithSteps (λ t. FillsIn D.meaning S.width S.to_int (bytes_of bits.old) stream_index
+        ensures gives { WithSteps (λ t. FillsIn D.meaning S.width S.to_int (bytes_of bits.old) stream_index
             (position_of bits.old) self.now allow_partial (S.from_int (pos 0)) bit_depth result t
             store.old.items store.new.items) steps.old steps.new }
+        ensures bytes { bytes_of bits.new ≡ bytes_of bits.old }
     {
         let own = store.len();
         let result = match add_tables(alloc, store, &self.placed.tables) {
