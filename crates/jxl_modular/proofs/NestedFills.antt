@@ -1,8 +1,7 @@
 -- What decoding a part by its own header returns, from what its calls return.
-use Rattle.std.proofs.Common.{◌≡◌, ℕ, Bool, not, ◌+◌, ◌*◌, ◌<◌, inl, inr, List, ◌++◌, take, length, Ok, Err, Result, Option, ℤ, refl, ap, ◌∙◌, subst, arith}
-use Rattle.std.specs.Prelude.{nat_lt, IsTrue, ◌↔◌}
+use Rattle.std.proofs.Common.{◌≡◌, ℕ, Bool, not, ◌+◌, ◌*◌, ◌<◌, inl, inr, List, take, length, Ok, Err, Result, ℤ, refl, ap, ◌∙◌, subst, arith}
+use Rattle.std.specs.Prelude.{IsTrue, ◌↔◌}
 use Rattle.std.specs.Int.{Width}
-use Rattle.std.specs.List.{All}
 use Rattle.jxlm_base.specs.Decoding.{Meaning}
 use Rattle.jxlm_base.specs.ErrorKind.{NoMemory, kind_of}
 use Rattle.jxlm_base.specs.Grid.{Grid}
@@ -10,7 +9,6 @@ use Rattle.jxlm_base.specs.Outside.{KeepsOutside}
 use Rattle.jxlm_base.specs.declared.error.Error.{Error}
 use Rattle.jxlm_base.specs.declared.subgrid.Region.{Region}
 use Rattle.jxlm_chain.specs.Shape.{SameShape}
-use Rattle.jxlm_chain.specs.Undo.{UndoesAll}
 use Rattle.jxlm_chain.specs.Undoings.{undos_of}
 use Rattle.jxlm_chain.proofs.ShapeLaws.{all_lie_kept, narrow_kept, shape_kept, undos_kept}
 use Rattle.jxlm_part.specs.Decode.{DecodeAnswers, MovesWithin}
@@ -19,9 +17,8 @@ use Rattle.jxlm_part.specs.Placed.{PartLies, standing_in}
 use Rattle.jxlm_part.specs.declared.part.PlacedPart.{PlacedPart}
 use Rattle.jxlm_transform.specs.Channels.{Channel}
 use Rattle.jxlm_tree.specs.Tree.{depth}
-use Rattle.jxl_modular.specs.Inner.NestedCode.{CanFill, Decodes, DecodesTo, Fills, FillsIn, WithSteps, head_of, nested_channels, regions_in, with_own_tables}
-use Rattle.jxl_modular.specs.Nested.{Turn, most}
-use Rattle.jxl_modular.specs.Picture.{coded_part}
+use Rattle.jxl_modular.specs.Inner.NestedCode.{CanFill, Decodes, DecodesTo, Fills, FillsIn, WithSteps, nested_channels, regions_in, with_own_tables}
+use Rattle.jxl_modular.specs.Nested.{Turn}
 use Rattle.jxl_modular.specs.declared.nested.NestedPart.{NestedPart}
 use Rattle.jxl_modular.proofs.PartLaws.{as_test}
 
