@@ -96,9 +96,9 @@ module _ {S D : Type 0} (d : Meaning D) (w : Width) (to_int : S → ℤ) (bytes 
     pub filled_in : (r : Result Bool Error) (begun last store : List (Grid S)) → begun ≡ with_own_tables zero n old → Filled bit_depth r begun last → store ≡ last → new ≡ take (length old) store → FilledIn zero bit_depth r old new
     filled_in r begun last store tables fills same cut =
         in_it r (subst (λ (s : List (Grid S)). Filled bit_depth r s last) tables fills) (cut ∙ ap (λ (s : List (Grid S)). take (length old) s) same) where
-      in_it : (r : Result Bool Error) → Filled bit_depth r (with_own_tables zero n old) last → new ≡ take (length old) last → FilledIn zero bit_depth r old new
-      in_it (Ok whole) (t, fills, moves) cut = (t, (last, fills, cut), moves)
-      in_it (Err e) (t, fills, moves) cut = (t, inr (last, fills, cut), moves)
+          in_it : (r : Result Bool Error) → Filled bit_depth r (with_own_tables zero n old) last → new ≡ take (length old) last → FilledIn zero bit_depth r old new
+          in_it (Ok whole) (t, fills, moves) cut = (t, (last, fills, cut), moves)
+          in_it (Err e) (t, fills, moves) cut = (t, inr (last, fills, cut), moves)
 
     -- out of memory for its tables
     pub no_tables : (e : Error) → kind_of e ≡ NoMemory → new ≡ old → after ≡ before → FilledIn zero bit_depth (Err e) old new

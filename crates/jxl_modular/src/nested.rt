@@ -168,8 +168,7 @@ impl<D: Decoder> NestedPart<D> {
             (position_of bits.old) self.now allow_partial bit_depth result t store.old store.new) steps.old steps.new }
         ensures bytes { bytes_of bits.new ≡ bytes_of bits.old }
     {
-        let whole =
-            self.decode_samples(alloc, bits, store, stream_index, allow_partial, steps)?;
+        let whole = self.decode_samples(alloc, bits, store, stream_index, allow_partial, steps)?;
         self.undo(alloc, store, bit_depth)?;
         Ok(whole)
     }
@@ -200,7 +199,15 @@ impl<D: Decoder> NestedPart<D> {
     {
         let own = store.len();
         let result = match add_tables(alloc, store, &self.placed.tables) {
-            Ok(()) => self.fill(alloc, bits, store, bit_depth, stream_index, allow_partial, steps),
+            Ok(()) => self.fill(
+                alloc,
+                bits,
+                store,
+                bit_depth,
+                stream_index,
+                allow_partial,
+                steps,
+            ),
             Err(e) => Err(e),
         };
         store.truncate(own);
