@@ -150,8 +150,8 @@ impl<D: Decoder> NestedPart<D> {
         Ok(())
     }
 
-    /// Decodes its samples, and undoes its transforms, where its tables are in the store. It returns whether all samples
-    /// were decoded.
+    /// Decodes its samples, and undoes its transforms, where its tables are in the store. It returns whether all
+    /// samples were decoded.
     fn fill<S: Sample>(
         &self,
         alloc: Global,
