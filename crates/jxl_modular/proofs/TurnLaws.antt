@@ -19,7 +19,7 @@ use Rattle.jxlm_part.specs.Decode.{MovesWithin}
 use Rattle.jxlm_part.specs.Part.{cell_count}
 use Rattle.jxlm_tree.specs.Tree.{Config}
 use Rattle.jxl_modular.specs.Image.{Image, IsOnlyImage, coded_grids, cost_of, image_grids}
-use Rattle.jxl_modular.specs.Inner.Turns.{HasStopped, HasTurned, NestedGives, PlainGives, TurnGives}
+use Rattle.jxl_modular.specs.Inner.Turns.{HasStopped, HasTurned, PlainGives, TurnGives}
 use Rattle.jxl_modular.specs.SameButCells.{SameButCells}
 use Rattle.jxl_modular.proofs.Filling.{only_of}
 use Rattle.jxl_modular.proofs.Laid.{same_but_store}
@@ -128,18 +128,6 @@ module _ {S D : Type 0} (d : Meaning D) (w : Width) (to_int : S → ℤ) (x : Im
 module _ {S D : Type 0} (d : Meaning D) (w : Width) (to_int : S → ℤ) (zero : S) (x : Image S D) (passes : List Pass) (global : Option (Config D)) (partly : Bool) where
   abbrev Left : List Section → List Turn → List (Grid S) → List (Grid S) → Type 0
   Left = AllTurn d w to_int zero x passes global partly
-
-  -- the turn of a section is that of its kind
-  pub plain_turn : (s : Section) → s.nested ≡ false → (r : Result Bool Error) (old new : List (Grid S)) (before after : ℕ) →
-      PlainGives d w to_int x passes partly s r old new before after → TurnGives d w to_int zero x passes global partly s r old new before after
-  plain_turn s plain (Ok whole) old new before after (t, (turn, is), moves) = (t, (rw plain turn, is), moves)
-  plain_turn s plain (Err e) old new before after (t, turn, moves) = (t, rw plain turn, moves)
-
-  pub nested_turn : (s : Section) → s.nested ≡ true → (r : Result Bool Error) (old new : List (Grid S)) (before after : ℕ) →
-      NestedGives d w to_int zero x passes global (bytes_of s.bits) (position_of s.bits) s.part s.stream_index partly r old new before after →
-      TurnGives d w to_int zero x passes global partly s r old new before after
-  nested_turn s nested (Ok whole) old new before after (t, (turn, is), moves) = (t, (rw nested turn, is), moves)
-  nested_turn s nested (Err e) old new before after (t, turn, moves) = (t, rw nested turn, moves)
 
   -- the turn of an image that differs in cells alone is one of the earlier image
   match_both : {P Q R T : Type 0} (b : Bool) → (P → R) → (Q → T) → MatchBool b P Q → MatchBool b R T
