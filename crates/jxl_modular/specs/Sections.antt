@@ -1,6 +1,6 @@
 -- Whole runs: an image decoded from sections, each of which codes one part
 -- (ISO/IEC 18181-1, frame: sections; Modular: image decoding, global and group sub-bitstreams).
-use Rattle.std.specs.Prelude.{◌≡◌, ◌↔◌, ◌⊎◌, ℕ, ◌+◌, ◌*◌, ℤ, List, [], ◌∷◌, ◌++◌, map, sum, Bool, true, false, nat_lt, IsTrue, Any, MatchBool, Option, Result, Ok, Err}
+use Rattle.std.specs.Prelude.{◌≡◌, ◌↔◌, ◌⊎◌, ℕ, ◌+◌, ◌*◌, ℤ, List, [], ◌∷◌, ◌++◌, map, sum, Bool, false, nat_lt, IsTrue, Any, MatchBool, Option, Result, Ok, Err}
 use Rattle.std.specs.List.{All, AllZip}
 use Rattle.std.specs.Int.{Width}
 use Rattle.jxlm_base.specs.Bits.{bytes_of, position_of}
