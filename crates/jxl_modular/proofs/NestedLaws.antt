@@ -1,6 +1,7 @@
 -- A part with a header of its own: its coded channels lie in its regions, and in tables after the store's buffers; once
 -- they are decoded and its transforms undone, the part has their only image, and no cell outside it changed.
-use Rattle.std.proofs.Common.{◌≡◌, ℕ, Bool, ◌+◌, ◌<◌, ◌≤◌, inl, inr, List, [], ◌++◌, take, length, get_or, Ok, Err, Result, Option, Some, ℤ, refl, sym, ap, ◌∙◌, subst, arith}
+use Rattle.std.specs.Prelude.{◌⊎◌}
+use Rattle.std.proofs.Common.{◌≡◌, ℕ, Bool, not, ◌+◌, ◌<◌, ◌≤◌, inl, inr, List, [], ◌++◌, take, length, get_or, Ok, Err, Result, Option, Some, ℤ, refl, sym, ap, ◌∙◌, subst, arith}
 use Rattle.std.specs.List.{All}
 use Rattle.std.specs.Int.{Width}
 use Rattle.std.proofs.lemmas.Bool.{cases_lt}
@@ -8,6 +9,7 @@ use Rattle.std.proofs.lemmas.List.{get_or-take, get_or_append_left, get_or_past,
 use Rattle.std.proofs.lemmas.List.Elements.{All-append}
 use Rattle.std.proofs.Math.Seq.{drop-append_seam}
 use Rattle.jxlm_base.specs.Decoding.{Meaning}
+use Rattle.jxlm_base.specs.ErrorKind.{NoMemory, kind_of}
 use Rattle.jxlm_base.specs.Grid.{Grid, IsFull, at, cell, grid, grid_by, meanings}
 use Rattle.jxlm_base.specs.Outside.{KeepsOutside, buffer_at}
 use Rattle.jxlm_base.specs.Regions.{AllLie, HasCell, LieApart, Lies, buffer_of, grid_of, grids_in, store_meanings}
@@ -33,12 +35,14 @@ use Rattle.jxlm_transform.specs.Channels.{AreRegionsOf, ChannelList}
 use Rattle.jxlm_transform.specs.ChannelSteps.{Step}
 use Rattle.jxlm_transform.specs.Steps.{HasNarrowTables, Sides, tables_of}
 use Rattle.jxlm_tree.specs.Tree.{Config}
+use Rattle.jxlm_tree.specs.TreeReading.{IsOutOfMemory}
 use Rattle.jxl_modular.specs.Fresh.{zeros}
 use Rattle.jxl_modular.specs.Inner.NestedCode.{CanFill, Decodes, Fills, FillsIn, IsNested, head_of, nested_places, regions_in, with_own_tables}
 use Rattle.jxl_modular.specs.Inner.Opened.{steps_of_header}
 use Rattle.jxl_modular.specs.Nested.{NestedDecodes, NestedFails, NestedStart, NestedStops, NestedTurn, Turn, nested_regions, with_tables}
 use Rattle.jxl_modular.specs.declared.nested.NestedPart.{NestedPart}
 use Rattle.jxl_modular.proofs.FreshLaws.{zeros_fit}
+use Rattle.jxl_modular.proofs.PictureLaws.{no_memory}
 use Rattle.jxl_modular.proofs.Suits.{steps_suit}
 
 -- ---- buffers after the store's own, and buffers cut off
@@ -108,6 +112,25 @@ module _ {S : Type 0} where
     front b lt = get_or-take (length store) now b (grid 0 0 []) lt
     past : (b : ℕ) → length store ≤ b → length (take (length store) now) ≡ length store → buffer_at (take (length store) now) b ≡ buffer_at store b
     past b ge short = get_or_past (take (length store) now) b (grid 0 0 []) (omega (arith, ge, short)) ∙ sym (get_or_past store b (grid 0 0 []) ge)
+
+-- ---- an error in the middle
+
+module _ {S D : Type 0} (d : Meaning D) (w : Width) (to_int : S → ℤ) (zero : S) (bit_depth : ℕ) (global : Option (Config D)) (bytes : List ℕ) (p : ℕ) (list : ChannelList) (held : List Region) (stream : ℕ)
+    (old : List (Grid S)) where
+  -- it changes the part alone
+  pub stops_outside : (partly : Bool) (e : Error) (t : Turn) (new : List (Grid S)) (h : NestedStops d w to_int zero bit_depth global bytes p list held stream partly e t old new) → KeepsOutside held old new
+  stops_outside partly e t new h =
+      let its = h.start.head.coded.steps in
+      let there : Layout = nested_places held (length old) in
+      let from : List (Grid S) = with_tables zero its old in
+      let shape = shape_kept (nested_regions held its old) from h.now h.decoded.outside in
+      subst (KeepsOutside held old) (sym h.cut)
+      (cut_back held old (zeros zero (tables_of its)) h.now shape (λ b i j lt li lj none.
+        let first : buffer_at from b ≡ buffer_at old b = get_or_append_left old (zeros zero (tables_of its)) (grid 0 0 []) b lt in
+        let never : HaveCell held b i j → ⊥ = never_has b i j held none in
+        h.decoded.outside.cells b i j (subst (λ (g : Grid S). i < g.width) (sym first) li) (subst (λ (g : Grid S). j < g.height) (sym first) lj)
+            (none_has b i j (nested_regions held its old) (λ k. never (all_inside b i j its there lt k)))
+        ∙ ap (λ (g : Grid S). cell g i j) first))
 
 -- ---- a part by its own header, whose channels lie in these regions of the store
 
@@ -198,24 +221,26 @@ module _ {S D : Type 0} (d : Meaning D) (w : Width) (to_int : S → ℤ) (zero :
             ∙ ap (λ (g : Grid S). cell g i j) first);
       }
 
-  -- an error in the middle changes the part alone
-  pub stops_outside : (partly : Bool) (e : Error) (t : Turn) (new : List (Grid S)) (h : NestedStops d w to_int zero bit_depth global bytes p list held stream partly e t old new) → KeepsOutside held old new
-  stops_outside partly e t new h =
-      let its = h.start.head.coded.steps in
-      let there : Layout = nested_places held (length old) in
-      let from : List (Grid S) = with_tables zero its old in
-      let shape = shape_kept (nested_regions held its old) from h.now h.decoded.outside in
-      subst (KeepsOutside held old) (sym h.cut)
-      (cut_back held old (zeros zero (tables_of its)) h.now shape (λ b i j lt li lj none.
-        let first : buffer_at from b ≡ buffer_at old b = get_or_append_left old (zeros zero (tables_of its)) (grid 0 0 []) b lt in
-        let never : HaveCell held b i j → ⊥ = never_has b i j held none in
-        h.decoded.outside.cells b i j (subst (λ (g : Grid S). i < g.width) (sym first) li) (subst (λ (g : Grid S). j < g.height) (sym first) lj)
-            (none_has b i j (nested_regions held its old) (λ k. never (all_inside b i j its there lt k)))
-        ∙ ap (λ (g : Grid S). cell g i j) first))
-
-  -- what filling it returns is its turn
+  -- what filling it returns is its turn, or its error
   pub turned_ok : (partly whole : Bool) (t : Turn) (new : List (Grid S)) → FillsIn d w to_int bytes stream q n partly zero bit_depth (Ok whole) t old new →
-      NestedTurn d w to_int zero bit_depth global bytes p list held stream partly t old new
-  turned_ok partly whole t new (last, (now, decoded, undone, says), cut) =
-      subst (NestedTurn d w to_int zero bit_depth global bytes p list held stream partly t old) (sym cut)
-      (turned partly t now last (decodes partly (Ok tt) t now decoded) (rw is.placed.undos at undone))
+      NestedTurn d w to_int zero bit_depth global bytes p list held stream partly t old new × (whole ≡ not t.partial)
+  turned_ok partly whole t new (last, (now, decoded, undone, says), cut) = (
+    subst (NestedTurn d w to_int zero bit_depth global bytes p list held stream partly t old) (sym cut)
+    (turned partly t now last (decodes partly (Ok tt) t now decoded) (rw is.placed.undos at undone)),
+    says,
+  )
+
+  pub turned_err : (partly : Bool) (e : Error) (t : Turn) (new : List (Grid S)) → FillsIn d w to_int bytes stream q n partly zero bit_depth (Err e) t old new →
+      NestedFails d w to_int zero bit_depth global bytes p list held stream partly e t old new
+  turned_err partly e t new (inl (memory, unchanged, tries)) = inl (record { fails = no_memory (kind_of e) _ memory; unchanged = unchanged; tries = tries })
+  turned_err partly e t new (inr (last, (answer, decoded, cause), cut)) = inr (record {
+    start = start;
+    now = last;
+    answer = answer;
+    decoded = decodes partly answer t last decoded;
+    cause = cause_is cause;
+    cut = cut;
+  }) where
+    cause_is : (answer ≡ Err e) ⊎ ((answer ≡ Ok tt) × (kind_of e ≡ NoMemory)) → (answer ≡ Err e) ⊎ ((answer ≡ Ok tt) × IsOutOfMemory (kind_of e))
+    cause_is (inl is) = inl is
+    cause_is (inr (is, memory)) = inr (is, no_memory (kind_of e) ⊥ memory)

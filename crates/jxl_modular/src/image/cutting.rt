@@ -133,8 +133,8 @@ impl<S: Sample, D: Decoder> ModularImageDestination<S, D> {
         placed.decode(alloc, bits, &mut self.store, allow_partial, partial, steps)
     }
 
-    /// Reads a part's own header and tree, decodes its samples and undoes its transforms. It returns whether all samples
-    /// of its coded channels were decoded.
+    /// Reads a part's own header and tree, decodes its samples and undoes its transforms. It returns whether all
+    /// samples of its coded channels were decoded. The reader is then where the samples begin.
     pub(crate) fn decode_nested(
         &mut self,
         alloc: Global,
@@ -162,9 +162,10 @@ impl<S: Sample, D: Decoder> ModularImageDestination<S, D> {
             part,
         )?;
         let nested = NestedPart::parse(alloc, bits, pieces, self.store.len(), global)?;
+        let mut samples = *bits;
         nested.decode(
             alloc,
-            bits,
+            &mut samples,
             &mut self.store,
             self.bit_depth,
             stream_index,
