@@ -1,7 +1,7 @@
 -- A part with a header of its own: its coded channels lie in its regions, and in tables after the store's buffers; once
 -- they are decoded and its transforms undone, the part has their only image, and no cell outside it changed.
-use Rattle.std.specs.Prelude.{◌⊎◌}
 use Rattle.std.proofs.Common.{◌≡◌, ℕ, Bool, not, ◌+◌, ◌<◌, ◌≤◌, inl, inr, List, [], ◌++◌, take, length, get_or, Ok, Err, Result, Option, Some, ℤ, refl, sym, ap, ◌∙◌, subst, arith}
+use Rattle.std.specs.Prelude.{◌⊎◌, nat_lt}
 use Rattle.std.specs.List.{All}
 use Rattle.std.specs.Int.{Width}
 use Rattle.std.proofs.lemmas.Bool.{cases_lt}
@@ -31,15 +31,19 @@ use Rattle.jxlm_chain.proofs.Undone.{chain_of}
 use Rattle.jxlm_cut.specs.Parts.{HaveCell}
 use Rattle.jxlm_cut.proofs.Apart.{map_same}
 use Rattle.jxlm_cut.proofs.Outside.{all_inside, finish_outside, never_has, none_has}
+use Rattle.jxlm_part.specs.Decode.{DecodeAnswers}
+use Rattle.jxlm_part.specs.Part.{cell_count}
+use Rattle.jxlm_part.specs.Placed.{standing_in}
 use Rattle.jxlm_transform.specs.Channels.{AreRegionsOf, ChannelList}
 use Rattle.jxlm_transform.specs.ChannelSteps.{Step}
 use Rattle.jxlm_transform.specs.Steps.{HasNarrowTables, Sides, tables_of}
 use Rattle.jxlm_tree.specs.Tree.{Config}
 use Rattle.jxlm_tree.specs.TreeReading.{IsOutOfMemory}
 use Rattle.jxl_modular.specs.Fresh.{zeros}
-use Rattle.jxl_modular.specs.Inner.NestedCode.{CanFill, Decodes, Fills, FillsIn, IsNested, head_of, nested_places, regions_in, with_own_tables}
+use Rattle.jxl_modular.specs.Inner.NestedCode.{CanFill, Decodes, Fills, FillsIn, IsNested, head_of, nested_channels, nested_places, regions_in, with_own_tables}
 use Rattle.jxl_modular.specs.Inner.Opened.{steps_of_header}
 use Rattle.jxl_modular.specs.Nested.{NestedDecodes, NestedFails, NestedStart, NestedStops, NestedTurn, Turn, nested_regions, with_tables}
+use Rattle.jxl_modular.specs.Picture.{coded_part}
 use Rattle.jxl_modular.specs.declared.nested.NestedPart.{NestedPart}
 use Rattle.jxl_modular.proofs.FreshLaws.{zeros_fit}
 use Rattle.jxl_modular.proofs.PictureLaws.{no_memory}
@@ -173,24 +177,28 @@ module _ {S D : Type 0} (d : Meaning D) (w : Width) (to_int : S → ℤ) (zero :
   -- it can be decoded, and undone, in the store with its tables
   pub can_fill : IsNarrowStore begun → CanFill n (with_own_tables zero n old)
   can_fill narrow_store = record {
-    sizes = rw regions_are coded_lie.sizes;
+    sizes = subst (AreRegionsOf (nested_channels n)) (sym regions_are) coded_lie.sizes;
     narrow = is.opened.narrow;
     few = is.opened.few;
     weights = is.opened.weights;
-    lie = rw (regions_are, tables_are) coded_lie.lie;
-    apart = rw regions_are coded_lie.apart;
-    undo = rw (is.placed.undos, tables_are) (can_undo_all steps list _ places begun is.opened.leaves is.opened.steps own_lie (tables_behind zero steps old));
-    suits = rw is.placed.undos (steps_suit n.header.wp_params steps places is.opened.palettes);
-    narrow_store = rw tables_are narrow_store;
+    lie = subst (λ (rs : List Region). AllLie rs (with_own_tables zero n old)) (sym regions_are) (subst (AllLie (nested_regions held steps old)) (sym tables_are) coded_lie.lie);
+    apart = subst LieApart (sym regions_are) coded_lie.apart;
+    undo = subst (CanUndoAll (with_own_tables zero n old)) (sym is.placed.undos)
+        (subst (λ (store : List (Grid S)). CanUndoAll store (undo_of_all steps places)) (sym tables_are)
+        (can_undo_all steps list _ places begun is.opened.leaves is.opened.steps own_lie (tables_behind zero steps old)));
+    suits = subst (All (SuitsWeights (Some n.header.wp_params))) (sym is.placed.undos) (steps_suit n.header.wp_params steps places is.opened.palettes);
+    narrow_store = subst (λ (store : List (Grid S)). IsNarrowStore store) (sym tables_are) narrow_store;
   }
 
   decodes : (partly : Bool) (result : Result (Unit {0}) Error) (t : Turn) (now : List (Grid S)) → Decodes d w to_int bytes stream q n partly result t (with_own_tables zero n old) now →
       NestedDecodes d w to_int zero bit_depth global bytes p list held stream partly start result t old now
   decodes partly result t now h = record {
-    answers = rw (regions_are, tables_are) at h.answers;
-    outside = rw (regions_are, tables_are) at h.outside;
+    answers = subst (λ (rs : List Region). Answers rs begun) regions_are (subst (λ (store : List (Grid S)). Answers (regions_in n) store) tables_are h.answers);
+    outside = subst (λ (rs : List Region). KeepsOutside rs begun now) regions_are (subst (λ (store : List (Grid S)). KeepsOutside (regions_in n) store now) tables_are h.outside);
     costs = h.costs;
-  }
+  } where
+    abbrev Answers : List Region → List (Grid S) → Type 0
+    Answers rs store = DecodeAnswers d w (coded_part stream (head_of n) n.config) bytes n.config.decoder (standing_in to_int rs store q (nat_lt 0 (cell_count (nested_channels n)))) (standing_in to_int rs now t.position t.partial) partly result t.tried
 
   -- Decoded and undone, the part has the only image of its samples.
   turned : (partly : Bool) (t : Turn) (now finished : List (Grid S)) → NestedDecodes d w to_int zero bit_depth global bytes p list held stream partly start (Ok tt) t old now →
@@ -226,7 +234,7 @@ module _ {S D : Type 0} (d : Meaning D) (w : Width) (to_int : S → ℤ) (zero :
       NestedTurn d w to_int zero bit_depth global bytes p list held stream partly t old new × (whole ≡ not t.partial)
   turned_ok partly whole t new (last, (now, decoded, undone, says), cut) = (
     subst (NestedTurn d w to_int zero bit_depth global bytes p list held stream partly t old) (sym cut)
-    (turned partly t now last (decodes partly (Ok tt) t now decoded) (rw is.placed.undos at undone)),
+    (turned partly t now last (decodes partly (Ok tt) t now decoded) (subst (λ (us : List Undo). UndoesAll to_int w bit_depth us now last) is.placed.undos undone)),
     says,
   )
 
