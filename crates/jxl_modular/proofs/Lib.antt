@@ -8,6 +8,7 @@ pub mod PieceLies
 pub mod PictureLaws
 pub mod Filling
 pub mod FreshLaws
+pub mod NestedFills
 pub mod NestedImage
 pub mod NestedLaws
 pub mod ParsingLaws

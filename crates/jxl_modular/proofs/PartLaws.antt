@@ -1,5 +1,7 @@
 -- The first coded channels of an image, as a part.
-use Rattle.std.proofs.Common.{◌≡◌, ℕ, ◌*◌, List, ◌++◌, length, take, drop, Bool, Result, sym, ap, ◌∙◌, subst, arith, ℤ}
+use Rattle.std.proofs.Common.{◌≡◌, ◌↔◌, ℕ, ◌*◌, ◌<◌, List, ◌++◌, length, take, drop, Bool, true, false, Result, refl, sym, ap, ◌∙◌, subst, arith, ℤ}
+use Rattle.std.specs.Prelude.{nat_lt, IsTrue}
+use Rattle.std.proofs.lemmas.Bool.{lt-ltb, ltb-true}
 use Rattle.std.proofs.Math.Seq.{take-append_seam}
 use Rattle.std.proofs.lemmas.List.{length-take, take_all}
 use Rattle.std.proofs.lemmas.List.Elements.{All-take}
@@ -28,6 +30,14 @@ use Rattle.jxl_modular.proofs.Laid.{coded_apart, coded_lie, coded_sizes}
 pub refilled : {X : Type 0} (n : ℕ) (xs ys : List X) → n ≡ length ys → length xs ≡ length ys → take n (xs ++ drop (length xs) ys) ≡ xs
 refilled n xs ys a b =
     ap (λ k. take k (xs ++ drop (length xs) ys)) (a ∙ sym b) ∙ take-append_seam xs (drop (length xs) ys)
+
+-- the test of whether a part has samples
+pub as_test : (b : Bool) (n : ℕ) → IsTrue b ↔ (0 < n) → b ≡ nat_lt 0 n
+as_test true n h = sym (lt-ltb 0 n (h.0 refl))
+as_test false n h = no (nat_lt 0 n) refl where
+  no : (c : Bool) → nat_lt 0 n ≡ c → false ≡ c
+  no true e = h.1 (ltb-true 0 n e)
+  no false e = refl
 
 abbrev part_with : List Channel → WpHeader → Shape Leaf → ℕ → Part
 part_with channels weights tree stream = record { channels = channels; weights = weights; tree = tree; stream = stream }

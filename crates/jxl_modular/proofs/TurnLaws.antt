@@ -23,6 +23,7 @@ use Rattle.jxl_modular.specs.Inner.Turns.{HasStopped, HasTurned, TurnGives}
 use Rattle.jxl_modular.specs.SameButCells.{SameButCells}
 use Rattle.jxl_modular.proofs.Filling.{only_of}
 use Rattle.jxl_modular.proofs.Laid.{same_but_store}
+use Rattle.jxl_modular.proofs.PartLaws.{as_test}
 use Rattle.jxl_modular.specs.Groups.{PartOfGives, channels_in, held_in}
 use Rattle.jxl_modular.specs.Sections.{AllTurn, AllWhole, EndsAt, IsComplete, PlainTurn, Section, SectionsLeave, SectionsStop, Turn, TurnFails, Turned, most}
 
@@ -68,14 +69,6 @@ whole_parts [] t all = (λ k d l. absurd (omega (arith, l)), All-head (λ (t : T
 whole_parts (u ∷ ts) t all =
     let rest = whole_parts ts t (All-tail (λ (t : Turn). t.partial ≡ false) u (ts ++ t ∷ []) all) in
     (All-cons (λ (t : Turn). t.partial ≡ false) u ts (All-head (λ (t : Turn). t.partial ≡ false) u (ts ++ t ∷ []) all) rest.0, rest.1)
-
--- the test of whether a part has samples
-pub as_test : (b : Bool) (n : ℕ) → IsTrue b ↔ (0 < n) → b ≡ nat_lt 0 n
-as_test true n h = sym (lt-ltb 0 n (h.0 refl))
-as_test false n h = no (nat_lt 0 n) refl where
-  no : (c : Bool) → nat_lt 0 n ≡ c → false ≡ c
-  no true e = h.1 (ltb-true 0 n e)
-  no false e = refl
 
 both_true : (a b : Bool) → a ≡ true → b ≡ true → (a && b) ≡ true
 both_true a b h k = rw (h, k) refl

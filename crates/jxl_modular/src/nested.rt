@@ -114,8 +114,9 @@ impl<D: Decoder> NestedPart<D> {
         steps: &mut Steps,
     ) -> Result<bool>
         requires { CanFill self.now store.old }
-        ensures { WithSteps (λ t. DecodesTo D.meaning S.width S.to_int (bytes_of bits.old) stream_index
+        ensures gives { WithSteps (λ t. DecodesTo D.meaning S.width S.to_int (bytes_of bits.old) stream_index
             (position_of bits.old) self.now allow_partial result t store.old store.new) steps.old steps.new }
+        ensures bytes { bytes_of bits.new ≡ bytes_of bits.old }
     {
         let part = PlacedPart {
             channels: &self.placed.channels.info,
@@ -149,8 +150,8 @@ impl<D: Decoder> NestedPart<D> {
         Ok(())
     }
 
-    /// Decodes its samples, and undoes its transforms, where its tables are in the store. It returns whether all samples
-    /// were decoded.
+    /// Decodes its samples, and undoes its transforms, where its tables are in the store. It returns whether all
+    /// samples were decoded.
     fn fill<S: Sample>(
         &self,
         alloc: Global,
@@ -163,11 +164,11 @@ impl<D: Decoder> NestedPart<D> {
     ) -> Result<bool>
         requires can { CanFill self.now store.old }
         requires deep { bit_depth ≤ 32 }
-        ensures { WithSteps (λ t. Fills D.meaning S.width S.to_int (bytes_of bits.old) stream_index
+        ensures gives { WithSteps (λ t. Fills D.meaning S.width S.to_int (bytes_of bits.old) stream_index
             (position_of bits.old) self.now allow_partial bit_depth result t store.old store.new) steps.old steps.new }
+        ensures bytes { bytes_of bits.new ≡ bytes_of bits.old }
     {
-        let whole =
-            self.decode_samples(alloc, bits, store, stream_index, allow_partial, steps)?;
+        let whole = self.decode_samples(alloc, bits, store, stream_index, allow_partial, steps)?;
         self.undo(alloc, store, bit_depth)?;
         Ok(whole)
     }
@@ -191,13 +192,22 @@ impl<D: Decoder> NestedPart<D> {
     ) -> Result<bool>
         requires can { CanFill self.now (with_own_tables (S.from_int (pos 0)) self.now store.old.items) }
         requires deep { bit_depth ≤ 32 }
-        ensures { WithSteps (λ t. FillsIn D.meaning S.width S.to_int (bytes_of bits.old) stream_index
+        ensures gives { WithSteps (λ t. FillsIn D.meaning S.width S.to_int (bytes_of bits.old) stream_index
             (position_of bits.old) self.now allow_partial (S.from_int (pos 0)) bit_depth result t
             store.old.items store.new.items) steps.old steps.new }
+        ensures bytes { bytes_of bits.new ≡ bytes_of bits.old }
     {
         let own = store.len();
         let result = match add_tables(alloc, store, &self.placed.tables) {
-            Ok(()) => self.fill(alloc, bits, store, bit_depth, stream_index, allow_partial, steps),
+            Ok(()) => self.fill(
+                alloc,
+                bits,
+                store,
+                bit_depth,
+                stream_index,
+                allow_partial,
+                steps,
+            ),
             Err(e) => Err(e),
         };
         store.truncate(own);

@@ -134,7 +134,7 @@ impl<S: Sample, D: Decoder> ModularImageDestination<S, D> {
     }
 
     /// Reads a part's own header and tree, decodes its samples and undoes its transforms. It returns whether all
-    /// samples of its coded channels were decoded. The reader is then where the samples begin.
+    /// samples of its coded channels were decoded.
     pub(crate) fn decode_nested(
         &mut self,
         alloc: Global,
@@ -162,10 +162,9 @@ impl<S: Sample, D: Decoder> ModularImageDestination<S, D> {
             part,
         )?;
         let nested = NestedPart::parse(alloc, bits, pieces, self.store.len(), global)?;
-        let mut samples = *bits;
         nested.decode(
             alloc,
-            &mut samples,
+            bits,
             &mut self.store,
             self.bit_depth,
             stream_index,
