@@ -190,15 +190,17 @@ module _ {S D : Type 0} (d : Meaning D) (w : Width) (to_int : S → ℤ) (zero :
     narrow_store = subst (λ (store : List (Grid S)). IsNarrowStore store) (sym tables_are) narrow_store;
   }
 
+  -- what decoding its samples returns, in these regions of a store
+  abbrev Answers : Bool → Result (Unit {0}) Error → Turn → List (Grid S) → List Region → List (Grid S) → Type 0
+  Answers partly result t now rs store = DecodeAnswers d w (coded_part stream (head_of n) n.config) bytes n.config.decoder (standing_in to_int rs store q (nat_lt 0 (cell_count (nested_channels n)))) (standing_in to_int rs now t.position t.partial) partly result t.tried
+
   decodes : (partly : Bool) (result : Result (Unit {0}) Error) (t : Turn) (now : List (Grid S)) → Decodes d w to_int bytes stream q n partly result t (with_own_tables zero n old) now →
       NestedDecodes d w to_int zero bit_depth global bytes p list held stream partly start result t old now
   decodes partly result t now h = record {
-    answers = subst (λ (rs : List Region). Answers rs begun) regions_are (subst (λ (store : List (Grid S)). Answers (regions_in n) store) tables_are h.answers);
+    answers = subst (λ (rs : List Region). Answers partly result t now rs begun) regions_are (subst (λ (store : List (Grid S)). Answers partly result t now (regions_in n) store) tables_are h.answers);
     outside = subst (λ (rs : List Region). KeepsOutside rs begun now) regions_are (subst (λ (store : List (Grid S)). KeepsOutside (regions_in n) store now) tables_are h.outside);
     costs = h.costs;
-  } where
-    abbrev Answers : List Region → List (Grid S) → Type 0
-    Answers rs store = DecodeAnswers d w (coded_part stream (head_of n) n.config) bytes n.config.decoder (standing_in to_int rs store q (nat_lt 0 (cell_count (nested_channels n)))) (standing_in to_int rs now t.position t.partial) partly result t.tried
+  }
 
   -- Decoded and undone, the part has the only image of its samples.
   turned : (partly : Bool) (t : Turn) (now finished : List (Grid S)) → NestedDecodes d w to_int zero bit_depth global bytes p list held stream partly start (Ok tt) t old now →
