@@ -1,6 +1,6 @@
 -- A part of an image, read by a header of its own: it lies in the image's store as reading and decoding ask, and what
 -- these return is its turn.
-use Rattle.std.proofs.Common.{◌≡◌, ℕ, Bool, false, ◌+◌, ◌^◌, ◌<◌, ◌≤◌, inl, inr, List, [], length, get_or, Ok, Err, Result, Option, ℤ, refl, sym, subst, arith}
+use Rattle.std.proofs.Common.{◌≡◌, ℕ, Bool, false, ◌^◌, ◌≤◌, inl, inr, List, [], length, get_or, Ok, Err, Result, Option, ℤ, refl, sym, subst, arith}
 use Rattle.std.specs.Prelude.{◌⊎◌}
 use Rattle.std.specs.List.{All}
 use Rattle.std.specs.Int.{Width}

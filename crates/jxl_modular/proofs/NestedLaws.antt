@@ -1,12 +1,11 @@
 -- A part with a header of its own: its coded channels lie in its regions, and in tables after the store's buffers; once
 -- they are decoded and its transforms undone, the part has their only image, and no cell outside it changed.
-use Rattle.std.proofs.Common.{◌≡◌, ℕ, Bool, not, ◌+◌, ◌<◌, ◌≤◌, inl, inr, List, [], ◌++◌, take, length, get_or, Ok, Err, Result, Option, Some, ℤ, refl, sym, ap, ◌∙◌, subst, arith}
+use Rattle.std.proofs.Common.{◌≡◌, ℕ, Bool, not, ◌+◌, ◌<◌, ◌≤◌, inl, inr, List, [], ◌++◌, take, length, get_or, Ok, Err, Result, Option, Some, ℤ, sym, ap, ◌∙◌, subst, arith}
 use Rattle.std.specs.Prelude.{◌⊎◌, nat_lt}
 use Rattle.std.specs.List.{All}
 use Rattle.std.specs.Int.{Width}
 use Rattle.std.proofs.lemmas.Bool.{cases_lt}
 use Rattle.std.proofs.lemmas.List.{get_or-take, get_or_append_left, get_or_past, length-append, length-take}
-use Rattle.std.proofs.lemmas.List.Elements.{All-append}
 use Rattle.std.proofs.Math.Seq.{drop-append_seam}
 use Rattle.jxlm_base.specs.Decoding.{Meaning}
 use Rattle.jxlm_base.specs.ErrorKind.{NoMemory, kind_of}
@@ -22,7 +21,7 @@ use Rattle.jxlm_chain.specs.Layout.{HasBuffers, Layout, layout_after_all}
 use Rattle.jxlm_chain.specs.Shape.{SameShape}
 use Rattle.jxlm_chain.specs.Steps.{CanUndoAll, IsNarrowStore}
 use Rattle.jxlm_chain.specs.Undo.{Undo, UndoesAll, undo_of_all}
-use Rattle.jxlm_chain.specs.Undoings.{SuitsWeights, undos_of}
+use Rattle.jxlm_chain.specs.Undoings.{SuitsWeights}
 use Rattle.jxlm_chain.proofs.CanUndo.{can_undo_all}
 use Rattle.jxlm_chain.proofs.LayoutLaws.{lie_after_all, tables_there}
 use Rattle.jxlm_chain.proofs.OneImage.{no_two_images}
@@ -36,11 +35,11 @@ use Rattle.jxlm_part.specs.Part.{cell_count}
 use Rattle.jxlm_part.specs.Placed.{standing_in}
 use Rattle.jxlm_transform.specs.Channels.{AreRegionsOf, ChannelList}
 use Rattle.jxlm_transform.specs.ChannelSteps.{Step}
-use Rattle.jxlm_transform.specs.Steps.{HasNarrowTables, Sides, tables_of}
+use Rattle.jxlm_transform.specs.Steps.{Sides, tables_of}
 use Rattle.jxlm_tree.specs.Tree.{Config}
 use Rattle.jxlm_tree.specs.TreeReading.{IsOutOfMemory}
 use Rattle.jxl_modular.specs.Fresh.{zeros}
-use Rattle.jxl_modular.specs.Inner.NestedCode.{CanFill, Decodes, Fills, FillsIn, IsNested, head_of, nested_channels, nested_places, regions_in, with_own_tables}
+use Rattle.jxl_modular.specs.Inner.NestedCode.{CanFill, Decodes, FillsIn, IsNested, head_of, nested_channels, nested_places, regions_in, with_own_tables}
 use Rattle.jxl_modular.specs.Inner.Opened.{steps_of_header}
 use Rattle.jxl_modular.specs.Nested.{NestedDecodes, NestedFails, NestedStart, NestedStops, NestedTurn, Turn, nested_regions, with_tables}
 use Rattle.jxl_modular.specs.Picture.{coded_part}
@@ -112,10 +111,11 @@ module _ {S : Type 0} where
           | inr ge ↦ ap (λ (g : Grid S). cell g x y) (past b ge short)
         ];
       } where
-    front : (b : ℕ) → b < length store → buffer_at (take (length store) now) b ≡ buffer_at now b
-    front b lt = get_or-take (length store) now b (grid 0 0 []) lt
-    past : (b : ℕ) → length store ≤ b → length (take (length store) now) ≡ length store → buffer_at (take (length store) now) b ≡ buffer_at store b
-    past b ge short = get_or_past (take (length store) now) b (grid 0 0 []) (omega (arith, ge, short)) ∙ sym (get_or_past store b (grid 0 0 []) ge)
+        front : (b : ℕ) → b < length store → buffer_at (take (length store) now) b ≡ buffer_at now b
+        front b lt = get_or-take (length store) now b (grid 0 0 []) lt
+
+        past : (b : ℕ) → length store ≤ b → length (take (length store) now) ≡ length store → buffer_at (take (length store) now) b ≡ buffer_at store b
+        past b ge short = get_or_past (take (length store) now) b (grid 0 0 []) (omega (arith, ge, short)) ∙ sym (get_or_past store b (grid 0 0 []) ge)
 
 -- ---- an error in the middle
 
@@ -130,11 +130,11 @@ module _ {S D : Type 0} (d : Meaning D) (w : Width) (to_int : S → ℤ) (zero :
       let shape = shape_kept (nested_regions held its old) from h.now h.decoded.outside in
       subst (KeepsOutside held old) (sym h.cut)
       (cut_back held old (zeros zero (tables_of its)) h.now shape (λ b i j lt li lj none.
-        let first : buffer_at from b ≡ buffer_at old b = get_or_append_left old (zeros zero (tables_of its)) (grid 0 0 []) b lt in
-        let never : HaveCell held b i j → ⊥ = never_has b i j held none in
-        h.decoded.outside.cells b i j (subst (λ (g : Grid S). i < g.width) (sym first) li) (subst (λ (g : Grid S). j < g.height) (sym first) lj)
-            (none_has b i j (nested_regions held its old) (λ k. never (all_inside b i j its there lt k)))
-        ∙ ap (λ (g : Grid S). cell g i j) first))
+      let first : buffer_at from b ≡ buffer_at old b = get_or_append_left old (zeros zero (tables_of its)) (grid 0 0 []) b lt in
+      let never : HaveCell held b i j → ⊥ = never_has b i j held none in
+      h.decoded.outside.cells b i j (subst (λ (g : Grid S). i < g.width) (sym first) li) (subst (λ (g : Grid S). j < g.height) (sym first) lj)
+      (none_has b i j (nested_regions held its old) (λ k. never (all_inside b i j its there lt k)))
+      ∙ ap (λ (g : Grid S). cell g i j) first))
 
 -- ---- a part by its own header, whose channels lie in these regions of the store
 
@@ -236,7 +236,7 @@ module _ {S D : Type 0} (d : Meaning D) (w : Width) (to_int : S → ℤ) (zero :
       NestedTurn d w to_int zero bit_depth global bytes p list held stream partly t old new × (whole ≡ not t.partial)
   turned_ok partly whole t new (last, (now, decoded, undone, says), cut) = (
     subst (NestedTurn d w to_int zero bit_depth global bytes p list held stream partly t old) (sym cut)
-    (turned partly t now last (decodes partly (Ok tt) t now decoded) (subst (λ (us : List Undo). UndoesAll to_int w bit_depth us now last) is.placed.undos undone)),
+        (turned partly t now last (decodes partly (Ok tt) t now decoded) (subst (λ (us : List Undo). UndoesAll to_int w bit_depth us now last) is.placed.undos undone)),
     says,
   )
 
