@@ -9,6 +9,7 @@ pub mod PictureLaws
 pub mod Filling
 pub mod FreshLaws
 pub mod NestedFills
+pub mod NestedImage
 pub mod NestedLaws
 pub mod ParsingLaws
 pub mod SectionLaws

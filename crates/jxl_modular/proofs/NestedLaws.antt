@@ -1,13 +1,14 @@
 -- A part with a header of its own: its coded channels lie in its regions, and in tables after the store's buffers; once
 -- they are decoded and its transforms undone, the part has their only image, and no cell outside it changed.
-use Rattle.std.proofs.Common.{◌≡◌, ℕ, Bool, ◌+◌, ◌<◌, ◌≤◌, inl, inr, List, [], ◌++◌, take, length, get_or, Ok, Err, Result, Option, Some, ℤ, refl, sym, ap, ◌∙◌, subst, arith}
+use Rattle.std.proofs.Common.{◌≡◌, ℕ, Bool, not, ◌+◌, ◌<◌, ◌≤◌, inl, inr, List, [], ◌++◌, take, length, get_or, Ok, Err, Result, Option, Some, ℤ, sym, ap, ◌∙◌, subst, arith}
+use Rattle.std.specs.Prelude.{◌⊎◌, nat_lt}
 use Rattle.std.specs.List.{All}
 use Rattle.std.specs.Int.{Width}
 use Rattle.std.proofs.lemmas.Bool.{cases_lt}
 use Rattle.std.proofs.lemmas.List.{get_or-take, get_or_append_left, get_or_past, length-append, length-take}
-use Rattle.std.proofs.lemmas.List.Elements.{All-append}
 use Rattle.std.proofs.Math.Seq.{drop-append_seam}
 use Rattle.jxlm_base.specs.Decoding.{Meaning}
+use Rattle.jxlm_base.specs.ErrorKind.{NoMemory, kind_of}
 use Rattle.jxlm_base.specs.Grid.{Grid, IsFull, at, cell, grid, grid_by, meanings}
 use Rattle.jxlm_base.specs.Outside.{KeepsOutside, buffer_at}
 use Rattle.jxlm_base.specs.Regions.{AllLie, HasCell, LieApart, Lies, buffer_of, grid_of, grids_in, store_meanings}
@@ -20,7 +21,7 @@ use Rattle.jxlm_chain.specs.Layout.{HasBuffers, Layout, layout_after_all}
 use Rattle.jxlm_chain.specs.Shape.{SameShape}
 use Rattle.jxlm_chain.specs.Steps.{CanUndoAll, IsNarrowStore}
 use Rattle.jxlm_chain.specs.Undo.{Undo, UndoesAll, undo_of_all}
-use Rattle.jxlm_chain.specs.Undoings.{SuitsWeights, undos_of}
+use Rattle.jxlm_chain.specs.Undoings.{SuitsWeights}
 use Rattle.jxlm_chain.proofs.CanUndo.{can_undo_all}
 use Rattle.jxlm_chain.proofs.LayoutLaws.{lie_after_all, tables_there}
 use Rattle.jxlm_chain.proofs.OneImage.{no_two_images}
@@ -29,16 +30,22 @@ use Rattle.jxlm_chain.proofs.Undone.{chain_of}
 use Rattle.jxlm_cut.specs.Parts.{HaveCell}
 use Rattle.jxlm_cut.proofs.Apart.{map_same}
 use Rattle.jxlm_cut.proofs.Outside.{all_inside, finish_outside, never_has, none_has}
+use Rattle.jxlm_part.specs.Decode.{DecodeAnswers}
+use Rattle.jxlm_part.specs.Part.{cell_count}
+use Rattle.jxlm_part.specs.Placed.{standing_in}
 use Rattle.jxlm_transform.specs.Channels.{AreRegionsOf, ChannelList}
 use Rattle.jxlm_transform.specs.ChannelSteps.{Step}
-use Rattle.jxlm_transform.specs.Steps.{HasNarrowTables, Sides, tables_of}
+use Rattle.jxlm_transform.specs.Steps.{Sides, tables_of}
 use Rattle.jxlm_tree.specs.Tree.{Config}
+use Rattle.jxlm_tree.specs.TreeReading.{IsOutOfMemory}
 use Rattle.jxl_modular.specs.Fresh.{zeros}
-use Rattle.jxl_modular.specs.Inner.NestedCode.{CanFill, Decodes, Fills, FillsIn, IsNested, head_of, nested_places, regions_in, with_own_tables}
+use Rattle.jxl_modular.specs.Inner.NestedCode.{CanFill, Decodes, FillsIn, IsNested, head_of, nested_channels, nested_places, regions_in, with_own_tables}
 use Rattle.jxl_modular.specs.Inner.Opened.{steps_of_header}
 use Rattle.jxl_modular.specs.Nested.{NestedDecodes, NestedFails, NestedStart, NestedStops, NestedTurn, Turn, nested_regions, with_tables}
+use Rattle.jxl_modular.specs.Picture.{coded_part}
 use Rattle.jxl_modular.specs.declared.nested.NestedPart.{NestedPart}
 use Rattle.jxl_modular.proofs.FreshLaws.{zeros_fit}
+use Rattle.jxl_modular.proofs.PictureLaws.{no_memory}
 use Rattle.jxl_modular.proofs.Suits.{steps_suit}
 
 -- ---- buffers after the store's own, and buffers cut off
@@ -104,10 +111,30 @@ module _ {S : Type 0} where
           | inr ge ↦ ap (λ (g : Grid S). cell g x y) (past b ge short)
         ];
       } where
-    front : (b : ℕ) → b < length store → buffer_at (take (length store) now) b ≡ buffer_at now b
-    front b lt = get_or-take (length store) now b (grid 0 0 []) lt
-    past : (b : ℕ) → length store ≤ b → length (take (length store) now) ≡ length store → buffer_at (take (length store) now) b ≡ buffer_at store b
-    past b ge short = get_or_past (take (length store) now) b (grid 0 0 []) (omega (arith, ge, short)) ∙ sym (get_or_past store b (grid 0 0 []) ge)
+        front : (b : ℕ) → b < length store → buffer_at (take (length store) now) b ≡ buffer_at now b
+        front b lt = get_or-take (length store) now b (grid 0 0 []) lt
+
+        past : (b : ℕ) → length store ≤ b → length (take (length store) now) ≡ length store → buffer_at (take (length store) now) b ≡ buffer_at store b
+        past b ge short = get_or_past (take (length store) now) b (grid 0 0 []) (omega (arith, ge, short)) ∙ sym (get_or_past store b (grid 0 0 []) ge)
+
+-- ---- an error in the middle
+
+module _ {S D : Type 0} (d : Meaning D) (w : Width) (to_int : S → ℤ) (zero : S) (bit_depth : ℕ) (global : Option (Config D)) (bytes : List ℕ) (p : ℕ) (list : ChannelList) (held : List Region) (stream : ℕ)
+    (old : List (Grid S)) where
+  -- it changes the part alone
+  pub stops_outside : (partly : Bool) (e : Error) (t : Turn) (new : List (Grid S)) (h : NestedStops d w to_int zero bit_depth global bytes p list held stream partly e t old new) → KeepsOutside held old new
+  stops_outside partly e t new h =
+      let its = h.start.head.coded.steps in
+      let there : Layout = nested_places held (length old) in
+      let from : List (Grid S) = with_tables zero its old in
+      let shape = shape_kept (nested_regions held its old) from h.now h.decoded.outside in
+      subst (KeepsOutside held old) (sym h.cut)
+      (cut_back held old (zeros zero (tables_of its)) h.now shape (λ b i j lt li lj none.
+      let first : buffer_at from b ≡ buffer_at old b = get_or_append_left old (zeros zero (tables_of its)) (grid 0 0 []) b lt in
+      let never : HaveCell held b i j → ⊥ = never_has b i j held none in
+      h.decoded.outside.cells b i j (subst (λ (g : Grid S). i < g.width) (sym first) li) (subst (λ (g : Grid S). j < g.height) (sym first) lj)
+      (none_has b i j (nested_regions held its old) (λ k. never (all_inside b i j its there lt k)))
+      ∙ ap (λ (g : Grid S). cell g i j) first))
 
 -- ---- a part by its own header, whose channels lie in these regions of the store
 
@@ -150,22 +177,28 @@ module _ {S D : Type 0} (d : Meaning D) (w : Width) (to_int : S → ℤ) (zero :
   -- it can be decoded, and undone, in the store with its tables
   pub can_fill : IsNarrowStore begun → CanFill n (with_own_tables zero n old)
   can_fill narrow_store = record {
-    sizes = rw regions_are coded_lie.sizes;
+    sizes = subst (AreRegionsOf (nested_channels n)) (sym regions_are) coded_lie.sizes;
     narrow = is.opened.narrow;
     few = is.opened.few;
     weights = is.opened.weights;
-    lie = rw (regions_are, tables_are) coded_lie.lie;
-    apart = rw regions_are coded_lie.apart;
-    undo = rw (is.placed.undos, tables_are) (can_undo_all steps list _ places begun is.opened.leaves is.opened.steps own_lie (tables_behind zero steps old));
-    suits = rw is.placed.undos (steps_suit n.header.wp_params steps places is.opened.palettes);
-    narrow_store = rw tables_are narrow_store;
+    lie = subst (λ (rs : List Region). AllLie rs (with_own_tables zero n old)) (sym regions_are) (subst (AllLie (nested_regions held steps old)) (sym tables_are) coded_lie.lie);
+    apart = subst LieApart (sym regions_are) coded_lie.apart;
+    undo = subst (CanUndoAll (with_own_tables zero n old)) (sym is.placed.undos)
+        (subst (λ (store : List (Grid S)). CanUndoAll store (undo_of_all steps places)) (sym tables_are)
+        (can_undo_all steps list _ places begun is.opened.leaves is.opened.steps own_lie (tables_behind zero steps old)));
+    suits = subst (All (SuitsWeights (Some n.header.wp_params))) (sym is.placed.undos) (steps_suit n.header.wp_params steps places is.opened.palettes);
+    narrow_store = subst (λ (store : List (Grid S)). IsNarrowStore store) (sym tables_are) narrow_store;
   }
+
+  -- what decoding its samples returns, in these regions of a store
+  abbrev Answers : Bool → Result (Unit {0}) Error → Turn → List (Grid S) → List Region → List (Grid S) → Type 0
+  Answers partly result t now rs store = DecodeAnswers d w (coded_part stream (head_of n) n.config) bytes n.config.decoder (standing_in to_int rs store q (nat_lt 0 (cell_count (nested_channels n)))) (standing_in to_int rs now t.position t.partial) partly result t.tried
 
   decodes : (partly : Bool) (result : Result (Unit {0}) Error) (t : Turn) (now : List (Grid S)) → Decodes d w to_int bytes stream q n partly result t (with_own_tables zero n old) now →
       NestedDecodes d w to_int zero bit_depth global bytes p list held stream partly start result t old now
   decodes partly result t now h = record {
-    answers = rw (regions_are, tables_are) at h.answers;
-    outside = rw (regions_are, tables_are) at h.outside;
+    answers = subst (λ (rs : List Region). Answers partly result t now rs begun) regions_are (subst (λ (store : List (Grid S)). Answers partly result t now (regions_in n) store) tables_are h.answers);
+    outside = subst (λ (rs : List Region). KeepsOutside rs begun now) regions_are (subst (λ (store : List (Grid S)). KeepsOutside (regions_in n) store now) tables_are h.outside);
     costs = h.costs;
   }
 
@@ -198,24 +231,26 @@ module _ {S D : Type 0} (d : Meaning D) (w : Width) (to_int : S → ℤ) (zero :
             ∙ ap (λ (g : Grid S). cell g i j) first);
       }
 
-  -- an error in the middle changes the part alone
-  pub stops_outside : (partly : Bool) (e : Error) (t : Turn) (new : List (Grid S)) (h : NestedStops d w to_int zero bit_depth global bytes p list held stream partly e t old new) → KeepsOutside held old new
-  stops_outside partly e t new h =
-      let its = h.start.head.coded.steps in
-      let there : Layout = nested_places held (length old) in
-      let from : List (Grid S) = with_tables zero its old in
-      let shape = shape_kept (nested_regions held its old) from h.now h.decoded.outside in
-      subst (KeepsOutside held old) (sym h.cut)
-      (cut_back held old (zeros zero (tables_of its)) h.now shape (λ b i j lt li lj none.
-        let first : buffer_at from b ≡ buffer_at old b = get_or_append_left old (zeros zero (tables_of its)) (grid 0 0 []) b lt in
-        let never : HaveCell held b i j → ⊥ = never_has b i j held none in
-        h.decoded.outside.cells b i j (subst (λ (g : Grid S). i < g.width) (sym first) li) (subst (λ (g : Grid S). j < g.height) (sym first) lj)
-            (none_has b i j (nested_regions held its old) (λ k. never (all_inside b i j its there lt k)))
-        ∙ ap (λ (g : Grid S). cell g i j) first))
-
-  -- what filling it returns is its turn
+  -- what filling it returns is its turn, or its error
   pub turned_ok : (partly whole : Bool) (t : Turn) (new : List (Grid S)) → FillsIn d w to_int bytes stream q n partly zero bit_depth (Ok whole) t old new →
-      NestedTurn d w to_int zero bit_depth global bytes p list held stream partly t old new
-  turned_ok partly whole t new (last, (now, decoded, undone, says), cut) =
-      subst (NestedTurn d w to_int zero bit_depth global bytes p list held stream partly t old) (sym cut)
-      (turned partly t now last (decodes partly (Ok tt) t now decoded) (rw is.placed.undos at undone))
+      NestedTurn d w to_int zero bit_depth global bytes p list held stream partly t old new × (whole ≡ not t.partial)
+  turned_ok partly whole t new (last, (now, decoded, undone, says), cut) = (
+    subst (NestedTurn d w to_int zero bit_depth global bytes p list held stream partly t old) (sym cut)
+        (turned partly t now last (decodes partly (Ok tt) t now decoded) (subst (λ (us : List Undo). UndoesAll to_int w bit_depth us now last) is.placed.undos undone)),
+    says,
+  )
+
+  pub turned_err : (partly : Bool) (e : Error) (t : Turn) (new : List (Grid S)) → FillsIn d w to_int bytes stream q n partly zero bit_depth (Err e) t old new →
+      NestedFails d w to_int zero bit_depth global bytes p list held stream partly e t old new
+  turned_err partly e t new (inl (memory, unchanged, tries)) = inl (record { fails = no_memory (kind_of e) _ memory; unchanged = unchanged; tries = tries })
+  turned_err partly e t new (inr (last, (answer, decoded, cause), cut)) = inr (record {
+    start = start;
+    now = last;
+    answer = answer;
+    decoded = decodes partly answer t last decoded;
+    cause = cause_is cause;
+    cut = cut;
+  }) where
+    cause_is : (answer ≡ Err e) ⊎ ((answer ≡ Ok tt) × (kind_of e ≡ NoMemory)) → (answer ≡ Err e) ⊎ ((answer ≡ Ok tt) × IsOutOfMemory (kind_of e))
+    cause_is (inl is) = inl is
+    cause_is (inr (is, memory)) = inr (is, no_memory (kind_of e) ⊥ memory)

@@ -74,15 +74,16 @@ pub fn decode_picture<S: Sample, D: Decoder>(
 
     // Else it is the picture at the reader's position, whose grids have the sides of the channels ..
     ensures picture { IfOk result (λ made. IfSome made (λ picture. IsPictureRead D.meaning S.width
-        (option_copied params.entry.ma_config) (bytes_of bits.old) stream_index (image_list params.entry.channels.items) (position_of bits.old) params.entry.bit_depth
+        (option_copied params.entry.ma_config) (bytes_of bits.old) stream_index
+        (image_list params.entry.channels.items) (position_of bits.old) params.entry.bit_depth
         (image_grids S.to_int picture) (position_of bits.new) steps.old steps.new)) }
     ensures sides { IfOk result (λ made. IfSome made (λ picture.
         AreGridsOf (image_list params.entry.channels.items).channels (image_grids S.to_int picture))) }
 
     // .. or the first error.
     ensures err { IfErr result (λ e. PictureFails D.meaning S.width (option_copied params.entry.ma_config)
-        (bytes_of bits.old) stream_index (image_list params.entry.channels.items) (position_of bits.old) (kind_of e) (position_of bits.new)
-        steps.old steps.new) }
+        (bytes_of bits.old) stream_index (image_list params.entry.channels.items) (position_of bits.old) (kind_of e)
+        (position_of bits.new) steps.old steps.new) }
     ensures work { StepsWithin D.meaning (option_copied params.entry.ma_config) (bytes_of bits.old)
         (image_list params.entry.channels.items) (position_of bits.old) steps.old steps.new }
     ensures bytes { bytes_of bits.new ≡ bytes_of bits.old }

@@ -133,8 +133,8 @@ impl<S: Sample, D: Decoder> ModularImageDestination<S, D> {
         placed.decode(alloc, bits, &mut self.store, allow_partial, partial, steps)
     }
 
-    /// Reads a part's own header and tree, decodes its samples and undoes its transforms. It returns whether all samples
-    /// of its coded channels were decoded.
+    /// Reads a part's own header and tree, decodes its samples and undoes its transforms. It returns whether all
+    /// samples of its coded channels were decoded.
     pub(crate) fn decode_nested(
         &mut self,
         alloc: Global,
