@@ -3,7 +3,7 @@ use Rattle.std.specs.Prelude.{◌≡◌, ◌≤◌, List, length, Ok}
 use Rattle.std.specs.List.{All}
 use Rattle.jxlm_chain.specs.declared.placed.PlacedChannels.{PlacedChannels}
 use Rattle.jxlm_header.specs.Header.{header_of}
-use Rattle.jxlm_header.specs.Opening.{Opening}
+use Rattle.jxlm_header.specs.Opening.{Opening, opening_of}
 use Rattle.jxlm_header.specs.declared.header.ModularHeader.{ModularHeader}
 use Rattle.jxlm_transform.specs.Channels.{ChannelList, IsNarrow, list_of}
 use Rattle.jxlm_transform.specs.ChannelSteps.{Step, list_after_all}
@@ -16,7 +16,7 @@ steps_of_header h = steps_in (header_of h).transform
 
 -- a header and its coded channels, without where these lie
 abbrev pub opened_of : ModularHeader × PlacedChannels → Opening
-opened_of o = record { weights = (header_of o.0).wp_params; coded = record { steps = steps_of_header o.0; list = list_of o.1.channels } }
+opened_of o = opening_of (header_of o.0) (record { steps = steps_of_header o.0; list = list_of o.1.channels })
 
 -- The steps of a header that was read leave these coded channels of the list: narrow ones, at most 65536. Weights and
 -- palettes are those of a header, and tables are narrow.
