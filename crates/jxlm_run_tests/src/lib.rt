@@ -4,10 +4,17 @@
 #[cfg(test)]
 mod case;
 #[cfg(test)]
+mod follow;
+#[cfg(test)]
 mod generated;
+#[cfg(test)]
+mod partial;
 #[cfg(test)]
 mod parts;
 #[cfg(test)]
 mod rows;
 #[cfg(test)]
 mod run;
+#[cfg(test)]
+mod surface;
+pub mod viewer;
