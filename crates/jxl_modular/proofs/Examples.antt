@@ -51,7 +51,7 @@ three_bits mode = record { mode = mode; codes = Fixed 3 ∷ []; clusters = 0 ∷
 abbrev row_bytes : List ℕ
 row_bytes = 0x42 ∷ 0x00 ∷ 0x04 ∷ 0x00 ∷ 0x04 ∷ 0x0E ∷ 0x05 ∷ 0xC0 ∷ 0x20 ∷ 0x06 ∷ []
 
-row_opening : (opening false (image_list square)).read row_bytes 0 ≡ Ok (record { value = record { uses_global = false; weights = default_weights; coded = as_given }; position = 4 })
+row_opening : (opening false (image_list square)).read row_bytes 0 ≡ Ok (record { value = record { uses_global = false; has_palette = false; has_squeeze = false; weights = default_weights; coded = as_given }; position = 4 })
 row_opening = refl
 
 row_limit : node_limit (image_list square).channels ≡ 1028
@@ -212,7 +212,7 @@ run_samples = inl (
 -- A picture stands at the start of those bytes: header, tree and samples, up to bit 80, whatever the bit depth.
 row_picture : (bit_depth : ℕ) → IsPicture plain w32 None row_bytes 0 (image_list square) 0 bit_depth row_grids 80
 row_picture bit_depth = record {
-  head = record { uses_global = false; weights = default_weights; coded = as_given };
+  head = record { uses_global = false; has_palette = false; has_squeeze = false; weights = default_weights; coded = as_given };
   config = one_leaf gradient (three_bits Unsealed);
   samples_at = 68;
   samples = row_grids;

@@ -83,6 +83,8 @@ still_laid x y laid same = record {
 -- the image with cells that were written in these regions
 pub same_but_store : {S D : Type 0} (x : Image S D) (s : List (Grid S)) → SameShape x.store s → SameButCells x (record x { store = s })
 same_but_store x s shape = record {
+  palette = refl;
+  squeeze = refl;
   weights = refl;
   steps = refl;
   config = refl;

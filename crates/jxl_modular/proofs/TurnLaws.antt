@@ -32,6 +32,8 @@ use Rattle.jxl_modular.specs.Sections.{AllTurn, AllWhole, EndsAt, IsComplete, Pl
 module _ {S D : Type 0} where
   pub same_both : (x y z : Image S D) → SameButCells x y → SameButCells y z → SameButCells x z
   same_both x y z a b = record {
+    palette = b.palette ∙ a.palette;
+    squeeze = b.squeeze ∙ a.squeeze;
     weights = b.weights ∙ a.weights;
     steps = b.steps ∙ a.steps;
     config = b.config ∙ a.config;
@@ -49,7 +51,7 @@ module _ {S D : Type 0} where
 
   -- such an image is the earlier one with its own store
   with_store : (x y : Image S D) → SameButCells x y → record x { store = y.store } ≡ y
-  with_store x y same = rw (← same.weights, ← same.steps, ← same.config, ← same.group_dim, ← same.bit_depth, ← same.given, ← same.channels, ← same.nb_meta, ← same.coded) refl
+  with_store x y same = rw (← same.palette, ← same.squeeze, ← same.weights, ← same.steps, ← same.config, ← same.group_dim, ← same.bit_depth, ← same.given, ← same.channels, ← same.nb_meta, ← same.coded) refl
 
 -- ---- counts and flags
 

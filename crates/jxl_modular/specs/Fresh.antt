@@ -15,6 +15,8 @@ zeros zero sides = map (λ s. filled s.width s.height zero) sides
 -- the image of these channels, as its opening says, whose cells are all 0
 abbrev pub fresh : {S D : Type 0} → S → ChannelList → Opening → Config D → ℕ → ℕ → Image S D
 fresh zero given head config group_dim bit_depth = record {
+  has_palette = head.has_palette;
+  has_squeeze = head.has_squeeze;
   weights = head.weights;
   steps = head.coded.steps;
   config = config;

@@ -1,9 +1,11 @@
 //! Modular images as they are read.
 
-ghost use Rattle.std.specs.Prelude.{◌≡◌, pos, None, Ok};
+ghost use Rattle.std.specs.Prelude.{◌≡◌, ◌↔◌, pos, None, Ok, IsOk, IsTrue, IsSomeAnd, IfOk, IfErr};
 ghost use Rattle.std.specs.List.{All};
 ghost use Rattle.std.specs.Option.{option_copied, option_copied_mut};
 ghost use Rattle.jxlm_base.specs.Bits.{bytes_of, position_of};
+ghost use Rattle.jxlm_base.specs.ErrorKind.{kind_of};
+ghost use Rattle.jxlm_tree.specs.TreeReading.{IsOutOfMemory};
 ghost use Rattle.jxlm_transform.specs.Params.{IsValidParams};
 ghost use Rattle.jxl_modular.specs.Parsing.{ParseGives, image_of};
 
@@ -91,6 +93,44 @@ impl<S: Sample, D: Decoder> Modular<S, D> {
             placed,
         )?;
         Ok(Modular { inner: Some(image) })
+    }
+
+    /// The same image, with its samples as they are, or none. The nodes of the tree are shared.
+    ///
+    /// # Errors
+    ///
+    /// Out of memory alone, as by [`ModularImageDestination::try_clone`]. This image stays.
+    pub fn try_clone(&self, alloc: Global) -> Result<Self>
+        ensures ok { IfOk result (λ c. c ≡ self.now) }
+        ensures err { IfErr result (λ e. IsOutOfMemory (kind_of e)) }
+        ensures none { image_of self.now ≡ None → IsOk result }
+    {
+        match &self.inner {
+            Some(image) => Ok(Modular {
+                inner: Some(image.try_clone(alloc)?),
+            }),
+            None => Ok(Modular { inner: None }),
+        }
+    }
+
+    /// Whether there is an image and a transform of its header is a palette.
+    pub fn has_palette(&self) -> bool
+        ensures { IsTrue result ↔ IsSomeAnd (image_of self.now) (λ image. IsTrue image.has_palette) }
+    {
+        match &self.inner {
+            Some(image) => image.has_palette(),
+            None => false,
+        }
+    }
+
+    /// Whether there is an image and a transform of its header is a squeeze, also one without steps.
+    pub fn has_squeeze(&self) -> bool
+        ensures { IsTrue result ↔ IsSomeAnd (image_of self.now) (λ image. IsTrue image.has_squeeze) }
+    {
+        match &self.inner {
+            Some(image) => image.has_squeeze(),
+            None => false,
+        }
     }
 
     /// The image; with no channels there is none.

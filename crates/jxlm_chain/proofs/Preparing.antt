@@ -1,9 +1,10 @@
 -- Transforms that are applied one after another, as a loop does that writes them.
 use Rattle.std.proofs.Common.{◌≡◌, ℕ, ◌+◌, ◌<◌, ◌≤◌, List, [], ◌∷◌, ◌++◌, length, map, take, drop, get_or, set, Result, Ok, Err, refl, sym, ap, ◌∙◌, append_assoc, subst, arith}
 use Rattle.std.specs.List.{All}
-use Rattle.std.proofs.lemmas.List.{append-nil, drop_all, drop_more, map_push, take_all, take_more_set}
+use Rattle.std.proofs.lemmas.List.{append-nil, drop_all, drop_more, map-set, map_push, take_all, take_more_set}
 use Rattle.std.proofs.lemmas.List.Elements.{All-head, All-tail}
-use lib.Seq.{drop-set-lt}
+use lib.ListN.{get_or-map}
+use lib.Seq.{drop-set-lt, map-set_same}
 use Rattle.jxlm_base.specs.ErrorKind.{ErrorKind, UnlessNoMemory}
 use Rattle.jxlm_transform.specs.Channels.{ChannelList}
 use Rattle.jxlm_transform.specs.ChannelSteps.{CodedList, Step, coded_list, list_after_all, listed_steps, steps_of, ◌>>=◌}
@@ -94,3 +95,8 @@ goes_further ts i u p q r lt h k =
 
 pub all_gone : (ts us : List TransformInfo) (i : ℕ) (p q : PlacedChannels) → length ts ≤ i → us ≡ ts → GoesOn (steps_in (done i ts)) p q → GoesOn (steps_in (map transform_of us)) p q
 all_gone ts us i p q le same h = subst (λ (xs : List TransformInfo). GoesOn (steps_in (map transform_of xs)) p q) (take_all i ts le ∙ sym same) h
+
+-- a transform that a test cannot tell from the one in its place changes nothing for the test
+pub kept_alike : {Y : Type 0} (test : Transform → Y) (ts : List TransformInfo) (i : ℕ) (d u : TransformInfo) → test (transform_of u) ≡ test (transform_of (get_or ts i d)) → map test (map transform_of (set ts i u)) ≡ map test (map transform_of ts)
+kept_alike test ts i d u same =
+    ap (map test) (map-set transform_of ts i u) ∙ map-set_same test (map transform_of ts) i (transform_of u) (transform_of d) (same ∙ ap test (sym (get_or-map transform_of ts i d)))

@@ -5,6 +5,7 @@ use Rattle.jxlm_base.specs.declared.error.Error.{Error}
 use Rattle.jxlm_base.specs.declared.subgrid.Region.{Region}
 use Rattle.jxlm_transform.specs.Channels.{ChannelList, HasItsMeta, list_of}
 use Rattle.jxlm_transform.specs.ChannelSteps.{Step, coded_list}
+use Rattle.jxlm_transform.specs.Kinds.{is_palette, is_squeeze}
 use Rattle.jxlm_transform.specs.Steps.{Sides, steps_in, tables_of}
 use Rattle.jxlm_transform.specs.Transforms.{Transform}
 use Rattle.jxlm_chain.specs.Layout.{Layout, layout_after_all}
@@ -39,6 +40,16 @@ pub record GoesOn (steps : List Step) (old new : PlacedChannels) : Type 0 where
   pub undos : undos_of new.undoings.items ≡ undos_of old.undoings.items ++ undo_of_all steps (layout_of old.places)
   pub layout : layout_of new.places ≡ layout_after_all steps (layout_of old.places)
   pub tables : sides_in new.tables.items ≡ sides_in old.tables.items ++ tables_of steps
+
+-- a transform is a palette, and a squeeze, where the other one is
+pub record IsOfKindOf (old new : Transform) : Type 0 where
+  pub palette : is_palette new ≡ is_palette old
+  pub squeeze : is_squeeze new ≡ is_squeeze old
+
+-- the same of each of a list and the one in its place
+pub record AreOfKindsOf (old new : List Transform) : Type 0 where
+  pub palettes : map is_palette new ≡ map is_palette old
+  pub squeezes : map is_squeeze new ≡ map is_squeeze old
 
 -- What a call that applies transforms in order returned, the transforms after it, which then list their steps, and
 -- the list after it.

@@ -5,7 +5,7 @@ ghost use Rattle.std.specs.Prelude.{◌≡◌, ◌<◌, ◌≤◌, ◌^◌, [], 
 ghost use Rattle.std.specs.List.{All};
 ghost use Rattle.jxlm_base.specs.ErrorKind.{NoMemory, kind_of};
 ghost use Rattle.jxlm_chain.specs.Layout.{first_layout};
-ghost use Rattle.jxlm_chain.specs.Placed.{GoesOn, IsPlaced, IsPlacedBy, PrepareGives};
+ghost use Rattle.jxlm_chain.specs.Placed.{AreOfKindsOf, GoesOn, IsOfKindOf, IsPlaced, IsPlacedBy, PrepareGives};
 ghost use Rattle.jxlm_chain.specs.Places.{layout_of};
 ghost use Rattle.jxlm_transform.specs.Channels.{HasItsMeta, list_of};
 ghost use Rattle.jxlm_transform.specs.ChannelSteps.{ListGives, TransformGives, RctStep, PaletteStep, SqueezeStep};
@@ -142,6 +142,7 @@ impl PlacedChannels {
         ensures gives { TransformGives (transform_of transform.old) (list_of self.old.channels) result
             (transform_of transform.new) (list_of self.new.channels) }
         ensures goes { IfOk result (λ _. GoesOn (listed_steps (transform_of transform.new)) self.old self.new) }
+        ensures kind { IfOk result (λ _. IsOfKindOf (transform_of transform.old) (transform_of transform.new)) }
     {
         match transform {
             TransformInfo::Rct(rct) => self.add_colour(rct),
@@ -169,6 +170,8 @@ impl PlacedChannels {
             (map transform_of transforms.new.items) (list_of self.new.channels) }
         ensures goes { IfOk result (λ _. GoesOn (steps_in (map transform_of transforms.new.items)) self.old self.new) }
         ensures count { IfOk result (λ _. length transforms.new.items ≡ length transforms.old.items) }
+        ensures kinds { IfOk result (λ _. AreOfKindsOf (map transform_of transforms.old.items)
+            (map transform_of transforms.new.items)) }
     {
         for transform in transforms.iter_mut() {
             self.add(alloc, transform)?;

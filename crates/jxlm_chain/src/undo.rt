@@ -235,6 +235,35 @@ fn run_squeeze<S: Sample>(
 }
 
 impl Undoing {
+    /// The same.
+    ///
+    /// # Errors
+    ///
+    /// `OutOfMemory`, and no other.
+    pub fn try_clone(&self, alloc: Global) -> Result<Undoing, OutOfMemory>
+        ensures { IfOk result (λ u. undo_of_code u ≡ undo_of_code self.now) }
+    {
+        match self {
+            Undoing::Colour { kind, regions } => Ok(Undoing::Colour {
+                kind: *kind,
+                regions: *regions,
+            }),
+            Undoing::Palette {
+                palette,
+                table,
+                index,
+            } => Ok(Undoing::Palette {
+                palette: *palette,
+                table: *table,
+                index: index.try_clone(alloc)?,
+            }),
+            Undoing::Squeeze { horizontal, region } => Ok(Undoing::Squeeze {
+                horizontal: *horizontal,
+                region: *region,
+            }),
+        }
+    }
+
     /// Undoes what it names in a store.
     ///
     /// Its regions lie in the store as they must, no side of whose buffers is above 2^30. `bit_depth` is that of the
@@ -265,6 +294,21 @@ impl Undoing {
             }
         }
     }
+}
+
+/// The same, in their order.
+///
+/// # Errors
+///
+/// `OutOfMemory`, and no other.
+pub fn clone_all(alloc: Global, undoings: &[Undoing]) -> Result<Vec<Undoing>, OutOfMemory>
+    ensures { IfOk result (λ v. undos_of v.items ≡ undos_of undoings.now) }
+{
+    let mut clones = Vec::new(alloc);
+    for undoing in undoings {
+        clones.push(undoing.try_clone(alloc)?)?;
+    }
+    Ok(clones)
 }
 
 /// Undoes all of these in a store, from the last to the first: each takes what those after it have left, and changes

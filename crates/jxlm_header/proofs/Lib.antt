@@ -1,3 +1,4 @@
 pub mod HeaderLaws
+pub mod SeenTransforms
 pub mod OpeningLaws
 mod OpeningExamples

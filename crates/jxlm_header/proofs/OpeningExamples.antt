@@ -1,5 +1,5 @@
 -- Computed examples: errors before a tree, from bits.
-use Rattle.std.specs.Prelude.{◌≡◌, ℕ, List, [], ◌∷◌, replicate, Some, Err, Ok, refl, false, codes}
+use Rattle.std.specs.Prelude.{◌≡◌, ℕ, List, [], ◌∷◌, replicate, Some, Err, Ok, refl, false, true, codes}
 use Rattle.jxlm_base.specs.ErrorKind.{BadEnum, BadRct, BadSqueeze, NoGlobalTree, Eof}
 use Rattle.jxlm_transform.specs.Channels.{image_list}
 use Rattle.jxlm_transform.specs.Params.{sized}
@@ -43,7 +43,7 @@ and_a_global_tree : (opening false (image_list (squares 3))).read (0x07 ∷ 0x00
 and_a_global_tree = refl
 
 -- A default squeeze of a channel that is small enough has no step.
-small_squeeze : (opening false (image_list square)).read (0x26 ∷ []) 0 ≡ Ok (record { value = record { uses_global = false; weights = default_weights; coded = record { steps = []; list = image_list square } }; position = 8 })
+small_squeeze : (opening false (image_list square)).read (0x26 ∷ []) 0 ≡ Ok (record { value = record { uses_global = false; has_palette = false; has_squeeze = true; weights = default_weights; coded = record { steps = []; list = image_list square } }; position = 8 })
 small_squeeze = refl
 
 -- the default squeeze of no channels

@@ -11,7 +11,7 @@ use Rattle.std.specs.List.{All}
 use Rattle.std.proofs.lemmas.List.Elements.{All-weaker}
 use Rattle.jxlm_transform.proofs.Failures.{unless_so}
 use Rattle.jxlm_header.specs.Header.{Header, header}
-use Rattle.jxlm_header.specs.Opening.{Opening, checked, conditions, resolved, opening}
+use Rattle.jxlm_header.specs.Opening.{Opening, checked, conditions, resolved, opening, opening_of}
 
 -- palettes that were read have channels
 has_channels : (t : Transform) → IsTransform t → HasChannels t
@@ -85,8 +85,8 @@ module _ (has_global : Bool) (list : ChannelList) (bytes : List ℕ) (p : ℕ) w
 
       -- where all hold, it is opened
       pub is_opened : (k : Header) → k.use_global_tree ≡ h.use_global_tree → conditions has_global k coded.list ≡ Ok tt →
-          (opening has_global list).read bytes p ≡ Ok (record { value = record { uses_global = h.use_global_tree; weights = h.wp_params; coded = coded }; position = m })
+          (opening has_global list).read bytes p ≡ Ok (record { value = opening_of h coded; position = m })
       is_opened k flags holds =
           let here : conditions has_global h coded.list ≡ Ok tt = sym (conditions_alike has_global coded.list k h flags) ∙ holds in
-          let all : resolved has_global list h ≡ Ok (record { uses_global = h.use_global_tree; weights = h.wp_params; coded = coded }) = rw (found, here) refl in
+          let all : resolved has_global list h ≡ Ok (opening_of h coded) = rw (found, here) refl in
           reads_on ∙ ap (λ (r : Result Opening ErrorKind). (checked r).read bytes m) all

@@ -7,13 +7,27 @@ use Rattle.jxlm_base.specs.declared.error.Error.{Error}
 use Rattle.jxlm_tree.specs.declared.predictor.WpHeader.{WpHeader}
 use Rattle.jxlm_transform.specs.Channels.{Channel, ChannelList, area}
 use Rattle.jxlm_transform.specs.ChannelSteps.{CodedList, coded_list, ◌>>=◌}
+use Rattle.jxlm_transform.specs.Kinds.{has_palette, has_squeeze}
 use Rattle.jxlm_header.specs.Header.{Header, header}
 
--- whether the header uses the global tree, its weights, and what its transforms come to: steps, and coded channels
+-- whether the header uses the global tree, and whether a transform of it is a palette, and a squeeze; its weights, and what
+-- its transforms come to: their steps, and the channels that are coded
 pub record Opening : Type 0 where
   pub uses_global : Bool
+  pub has_palette : Bool
+  pub has_squeeze : Bool
   pub weights : WpHeader
   pub coded : CodedList
+
+-- that of a header whose transforms come to this
+abbrev pub opening_of : Header → CodedList → Opening
+opening_of header coded = record {
+  uses_global = header.use_global_tree;
+  has_palette = has_palette header.transform;
+  has_squeeze = has_squeeze header.transform;
+  weights = header.wp_params;
+  coded = coded;
+}
 
 -- a value that is found without bits, or its error
 abbrev pub checked : {X : Type 0} → Result X ErrorKind → Grammar X
@@ -31,7 +45,7 @@ abbrev pub resolved : Bool → ChannelList → Header → Result Opening ErrorKi
 resolved has_global list header =
     coded_list header.transform list >>= λ coded.
     conditions has_global header coded.list >>= λ _.
-    Ok (record { uses_global = header.use_global_tree; weights = header.wp_params; coded = coded })
+    Ok (opening_of header coded)
 
 -- the whole header, and then what it comes to
 abbrev pub opening : Bool → ChannelList → Grammar Opening

@@ -1,15 +1,16 @@
 //! The header of a Modular image (ISO/IEC 18181-1, Modular: Modular header).
 
 ghost use Rattle.std.specs.Prelude.{◌≡◌, IfOk, map};
-ghost use Rattle.std.specs.List.{All};
+ghost use Rattle.std.specs.List.{All, list_any};
 ghost use Rattle.jxlm_base.specs.Bits.{bytes_of, position_of};
+ghost use Rattle.jxlm_transform.specs.Kinds.{is_palette, is_squeeze};
 ghost use Rattle.jxlm_base.specs.Grammar.{repeated};
 ghost use Rattle.jxlm_transform.specs.Transforms.{IsTransform, KeepsWeights, Parses, transform, transform_of};
 
 use jxlm_base::bits::{Bitstream, U32Spec};
 use jxlm_base::error::Result;
 use jxlm_base::grid::OutOfMemory;
-use jxlm_transform::transform::TransformInfo;
+use jxlm_transform::transform::{Squeeze, TransformInfo};
 use jxlm_tree::predictor::WpHeader;
 use std::alloc::Global;
 
@@ -19,6 +20,20 @@ pub struct ModularHeader {
     pub use_global_tree: bool,
     pub wp_params: WpHeader,
     pub transform: Vec<TransformInfo>,
+}
+
+/// The same transforms.
+fn clone_transforms(
+    alloc: Global,
+    transforms: &[TransformInfo],
+) -> std::result::Result<Vec<TransformInfo>, OutOfMemory>
+    ensures { IfOk result (λ v. map transform_of v.items ≡ map transform_of transforms.now) }
+{
+    let mut clones = Vec::new(alloc);
+    for transform in transforms {
+        clones.push(clone_transform(alloc, transform)?)?;
+    }
+    Ok(clones)
 }
 
 /// `count` transforms, of which each palette keeps no weights, or these.
@@ -42,8 +57,40 @@ fn read_transforms(
     Ok(transforms)
 }
 
+/// Whether one of these is a palette.
+fn some_palette(transforms: &[TransformInfo]) -> bool
+    ensures { result ≡ list_any (λ t. is_palette (transform_of t)) transforms.now }
+{
+    transforms.iter().any(|t| t.is_palette())
+}
+
+/// Whether one of these is a squeeze.
+fn some_squeeze(transforms: &[TransformInfo]) -> bool
+    ensures { result ≡ list_any (λ t. is_squeeze (transform_of t)) transforms.now }
+{
+    transforms.iter().any(|t| t.is_squeeze())
+}
+
+/// The same transform.
+fn clone_transform(
+    alloc: Global,
+    transform: &TransformInfo,
+) -> std::result::Result<TransformInfo, OutOfMemory>
+    ensures { IfOk result (λ t. transform_of t ≡ transform_of transform.now) }
+{
+    match transform {
+        TransformInfo::Rct(rct) => Ok(TransformInfo::Rct(*rct)),
+        TransformInfo::Palette(palette) => Ok(TransformInfo::Palette(*palette)),
+        TransformInfo::Squeeze(squeeze) => {
+            let sp = Vec::from_slice(alloc, &squeeze.sp)?;
+            Ok(TransformInfo::Squeeze(Squeeze { sp }))
+        }
+    }
+}
+
 impl ModularHeader {
     ghost use Rattle.jxlm_header.specs.Header.{IsReadHeader, header, header_of};
+    ghost use Rattle.jxlm_transform.specs.Kinds.{has_palette as has_a_palette, has_squeeze as has_a_squeeze};
 
     /// The header that stands at the reader's position: whether the global tree is used, the weights
     /// of the weighted (self-correcting) predictor, and the transforms, at most 273. A palette keeps no
@@ -74,5 +121,34 @@ impl ModularHeader {
             wp_params,
             transform,
         })
+    }
+
+    /// The same header.
+    ///
+    /// # Errors
+    ///
+    /// `OutOfMemory`, and no other.
+    pub fn try_clone(&self, alloc: Global) -> std::result::Result<ModularHeader, OutOfMemory>
+        ensures { IfOk result (λ h. header_of h ≡ header_of self.now) }
+    {
+        Ok(ModularHeader {
+            use_global_tree: self.use_global_tree,
+            wp_params: self.wp_params,
+            transform: clone_transforms(alloc, &self.transform)?,
+        })
+    }
+
+    /// Whether a transform is a palette.
+    pub fn has_palette(&self) -> bool
+        ensures { result ≡ has_a_palette (header_of self.now).transform }
+    {
+        some_palette(&self.transform)
+    }
+
+    /// Whether a transform is a squeeze.
+    pub fn has_squeeze(&self) -> bool
+        ensures { result ≡ has_a_squeeze (header_of self.now).transform }
+    {
+        some_squeeze(&self.transform)
     }
 }

@@ -4,6 +4,8 @@
 #[cfg(test)]
 mod case;
 #[cfg(test)]
+mod follow;
+#[cfg(test)]
 mod generated;
 #[cfg(test)]
 mod nested;
@@ -12,8 +14,13 @@ mod nested_narrow;
 #[cfg(test)]
 mod nested_rules;
 #[cfg(test)]
+mod partial;
+#[cfg(test)]
 mod parts;
 #[cfg(test)]
 mod rows;
 #[cfg(test)]
 mod run;
+#[cfg(test)]
+mod surface;
+pub mod viewer;

@@ -98,12 +98,13 @@ fn decode_part<S: Sample, D: Decoder>(
     image: &mut ModularImageDestination<S, D>,
     passes: &BTreeMap<u32, (i32, i32)>,
     section: &Section<'_>,
+    allow_partial: bool,
 ) -> Result<bool, Error> {
     let mut bits = section.bits;
     let part = match section.part {
         SectionPart::Global => {
             let mut part = image.prepare_gmodular(alloc)?;
-            part.decode(alloc, &mut bits, section.stream_index, false)?;
+            part.decode(alloc, &mut bits, section.stream_index, allow_partial)?;
             return Ok(!part.is_partial());
         }
         SectionPart::Lf(k) => Part::Lf(k),
@@ -113,7 +114,7 @@ fn decode_part<S: Sample, D: Decoder>(
         return Ok(false);
     }
     let mut groups = image.prepare_groups(alloc, passes)?;
-    groups.decode(alloc, part, &mut bits, section.stream_index, false)?;
+    groups.decode(alloc, part, &mut bits, section.stream_index, allow_partial)?;
     Ok(!groups.is_partial(part))
 }
 
@@ -124,10 +125,11 @@ pub fn decode_by_parts<S: Sample, D: Decoder>(
     image: &mut ModularImageDestination<S, D>,
     passes: &BTreeMap<u32, (i32, i32)>,
     sections: &[Section<'_>],
+    allow_partial: bool,
 ) -> Result<bool, Error> {
     let mut whole = has_each_part(alloc, image, passes, sections)?;
     for section in sections {
-        whole = decode_part(alloc, image, passes, section)? && whole;
+        whole = decode_part(alloc, image, passes, section, allow_partial)? && whole;
     }
     let all = image.prepare_subimage(alloc)?;
     if !all.holds_all() {

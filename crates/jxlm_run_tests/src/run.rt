@@ -81,6 +81,8 @@ struct Way {
     by_parts: bool,
     // The samples as their checksum.
     summed: bool,
+    // Samples may end early.
+    partial: bool,
 }
 
 // Decodes an image from sections, if they fit it.
@@ -95,10 +97,18 @@ fn decoded<S: Sample, D: Decoder>(
     match sections_fit(alloc, image, passes, sections) {
         Ok(true) => {
             let answer = if way.by_parts {
-                decode_by_parts(alloc, image, passes, sections)
+                decode_by_parts(alloc, image, passes, sections, way.partial)
             } else {
                 let mut steps = Steps::new();
-                decode_sections(alloc, image, passes, sections, global, false, &mut steps)
+                decode_sections(
+                    alloc,
+                    image,
+                    passes,
+                    sections,
+                    global,
+                    way.partial,
+                    &mut steps,
+                )
             };
             told(alloc, image, answer, way.summed)
         }
@@ -148,6 +158,7 @@ fn check_run<S: Sample, D: Decoder>(
     alloc: Global,
     line: &str,
     by_parts: bool,
+    partial: bool,
 ) -> Result<(), Fail> {
     let (channels, rest) = pair(line, '|')?;
     let (setting, rest) = pair(rest, '|')?;
@@ -170,6 +181,7 @@ fn check_run<S: Sample, D: Decoder>(
     let way = Way {
         by_parts,
         summed: expected.contains('#'),
+        partial,
     };
     let seen = run::<S, D>(
         alloc,
@@ -192,8 +204,21 @@ pub fn check<S: Sample, D: Decoder>(
     table: &str,
 ) -> Result<(), Fail> {
     for line in table.lines() {
-        check_run::<S, D>(rt, alloc, line, false)?;
-        check_run::<S, D>(rt, alloc, line, true)?;
+        check_run::<S, D>(rt, alloc, line, false, false)?;
+        check_run::<S, D>(rt, alloc, line, true, false)?;
+    }
+    Ok(())
+}
+
+/// The same where samples may end early.
+pub fn check_partial<S: Sample, D: Decoder>(
+    rt: &impl Abort,
+    alloc: Global,
+    table: &str,
+) -> Result<(), Fail> {
+    for line in table.lines() {
+        check_run::<S, D>(rt, alloc, line, false, true)?;
+        check_run::<S, D>(rt, alloc, line, true, true)?;
     }
     Ok(())
 }

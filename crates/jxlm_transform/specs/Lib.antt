@@ -2,6 +2,7 @@ pub mod ChannelSteps
 pub mod DefaultSqueeze
 pub mod ColourRows
 pub mod Channels
+pub mod Kinds
 pub mod Palette
 pub mod Params
 pub mod Recoloured

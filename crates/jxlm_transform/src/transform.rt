@@ -7,6 +7,7 @@ ghost use Rattle.jxlm_base.specs.Grammar.{FitsU32, IsExact, Reads, number, repea
 ghost use Rattle.jxlm_tree.specs.WeightsHeader.{AnswersExactly};
 ghost use Rattle.jxlm_transform.specs.DefaultSqueeze.{LeavesSmallSides, TakesFewestSteps};
 ghost use Rattle.jxlm_transform.specs.Inner.FieldRanges.{min_of, max_of};
+ghost use Rattle.jxlm_transform.specs.Kinds.{is_palette as the_palettes, is_squeeze as the_squeezes};
 ghost use Rattle.jxlm_transform.specs.Transforms.{OfPalette, transform_of, begin_channel as the_begin_channel, rct, predictor, weights_for, palette, squeeze_params, squeeze, transform, IsRct, IsPalette, IsSqueezeParams, IsSqueeze, IsTransform, HasChannels, KeepsWeights, IsPaletteTransform, IsSqueezeTransform, Parses};
 
 mod default_squeeze;
@@ -320,14 +321,16 @@ impl TransformInfo {
 
     /// Whether it is a palette.
     pub fn is_palette(&self) -> bool
-        ensures { IsTrue result ↔ IsPaletteTransform (transform_of self.now) }
+        ensures palette { IsTrue result ↔ IsPaletteTransform (transform_of self.now) }
+        ensures value { result ≡ the_palettes (transform_of self.now) }
     {
         matches!(self, TransformInfo::Palette(_))
     }
 
     /// Whether it is a squeeze.
     pub fn is_squeeze(&self) -> bool
-        ensures { IsTrue result ↔ IsSqueezeTransform (transform_of self.now) }
+        ensures squeeze { IsTrue result ↔ IsSqueezeTransform (transform_of self.now) }
+        ensures value { result ≡ the_squeezes (transform_of self.now) }
     {
         matches!(self, TransformInfo::Squeeze(_))
     }

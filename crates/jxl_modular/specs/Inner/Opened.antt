@@ -7,7 +7,7 @@ use Rattle.jxlm_base.specs.Grammar.{IsErrorAt}
 use Rattle.jxlm_base.specs.declared.error.Error.{Error}
 use Rattle.jxlm_chain.specs.declared.placed.PlacedChannels.{PlacedChannels}
 use Rattle.jxlm_header.specs.Header.{header_of}
-use Rattle.jxlm_header.specs.Opening.{Opening, depth_limit, node_limit}
+use Rattle.jxlm_header.specs.Opening.{Opening, depth_limit, node_limit, opening_of}
 use Rattle.jxlm_header.specs.declared.header.ModularHeader.{ModularHeader}
 use Rattle.jxlm_transform.specs.Channels.{Channel, ChannelList, IsNarrow, list_of}
 use Rattle.jxlm_transform.specs.ChannelSteps.{Step, list_after_all}
@@ -22,7 +22,7 @@ steps_of_header h = steps_in (header_of h).transform
 
 -- a header and its coded channels, without where these lie
 abbrev pub opened_of : ModularHeader × PlacedChannels → Opening
-opened_of o = record { uses_global = o.0.use_global_tree; weights = (header_of o.0).wp_params; coded = record { steps = steps_of_header o.0; list = list_of o.1.channels } }
+opened_of o = opening_of (header_of o.0) (record { steps = steps_of_header o.0; list = list_of o.1.channels })
 
 -- what finding the tree of a header returns, whose coded channels these are, and where it leaves the reader: the global
 -- tree where the header uses it, or else the one that is read, or its error; it may be out of memory at any time

@@ -6,11 +6,13 @@ use Rattle.jxlm_transform.proofs.Failures.{unless_no_memory}
 use Rattle.jxlm_transform.proofs.SideBounds.{narrow_coded}
 use Rattle.jxlm_transform.specs.Channels.{list_of}
 use Rattle.jxlm_transform.specs.ChannelSteps.{CodedList, coded_list}
+use Rattle.jxlm_transform.specs.Kinds.{is_palette, is_squeeze}
 use Rattle.jxlm_transform.specs.Transforms.{transform_of}
 use Rattle.jxlm_transform.proofs.StepLaws.{narrow_tables, steps_channels, steps_list, steps_weights}
 use Rattle.jxlm_header.specs.Header.{header_of}
 use Rattle.jxlm_transform.specs.Steps.{steps_in}
 use Rattle.jxlm_header.proofs.OpeningLaws.{condition_fails, few_channels, global_there, have_channels, header_fails, is_opened}
+use Rattle.jxlm_header.proofs.SeenTransforms.{any_alike}
 use Rattle.jxl_modular.proofs.opening.open.Goals as goal
 
 pub apply-requires-clause-some_channels : goal.apply-requires-clause-some_channels
@@ -42,7 +44,9 @@ returns-clause-gives c =
     let k = record h { transform = map transform_of ts } in
     let coded : CodedList = record { steps = steps_in (map transform_of ts); list = list_of c.apply.new.self.channels } in
     let found : coded_list h.transform (list_of c.args.placed.channels) ≡ Ok coded = c.in_ok-apply.ensures.gives in
-    is_opened c.args.has_global (list_of c.args.placed.channels) (bytes_of c.args.bits.now) (position_of c.args.bits.now) h (position_of c.parse.new.bits) c.in_ok-header.ensures.gives coded found k refl c.in_ok-check.ensures
+    let opens = is_opened c.args.has_global (list_of c.args.placed.channels) (bytes_of c.args.bits.now) (position_of c.args.bits.now) h (position_of c.parse.new.bits) c.in_ok-header.ensures.gives coded found k refl c.in_ok-check.ensures in
+    let kinds = c.in_ok-apply.ensures.kinds in
+    rw (any_alike is_palette (map transform_of ts) h.transform kinds.palettes, any_alike is_squeeze (map transform_of ts) h.transform kinds.squeezes) opens
 
 pub returns-clause-opened : goal.returns-clause-opened
 returns-clause-opened c =

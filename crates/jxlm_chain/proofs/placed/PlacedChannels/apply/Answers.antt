@@ -4,11 +4,12 @@ use Rattle.std.specs.List.{All}
 use Rattle.jxlm_base.specs.ErrorKind.{kind_of}
 use Rattle.jxlm_transform.specs.Channels.{list_of}
 use Rattle.jxlm_transform.specs.ChannelSteps.{coded_list}
+use Rattle.jxlm_transform.specs.Kinds.{is_palette, is_squeeze}
 use Rattle.jxlm_transform.specs.Transforms.{HasChannels, transform_of}
 use Rattle.jxlm_transform.specs.declared.transform.TransformInfo.{TransformInfo}
 use Rattle.jxlm_transform.specs.Steps.{steps_in}
 use Rattle.jxlm_chain.proofs.PlacedSteps.{goes_nowhere}
-use Rattle.jxlm_chain.proofs.Preparing.{all_gone, all_prepared, first_is, goes_further, nothing_done, others_are, prepared_more, prepared_fails, written_back}
+use Rattle.jxlm_chain.proofs.Preparing.{all_gone, all_prepared, first_is, goes_further, kept_alike, nothing_done, others_are, prepared_more, prepared_fails, written_back}
 use Rattle.jxlm_chain.proofs.placed.PlacedChannels.apply.Goals as goal
 
 pub loop-transform-init : goal.loop-transform-init
@@ -17,6 +18,8 @@ loop-transform-init c =
     record {
       goes = goes_nowhere c.args.self.now c.requires.placed;
       channels = subst (λ (ts : List TransformInfo). All HasChannels (map transform_of ts)) (sym lent) c.requires.some_channels;
+      palettes = ap (λ (ts : List TransformInfo). map is_palette (map transform_of ts)) lent;
+      squeezes = ap (λ (ts : List TransformInfo). map is_squeeze (map transform_of ts)) lent;
       so_far = nothing_done c.deref_mut-transform-items.result.now (list_of c.args.self.now.channels) ∙ ap (λ (ts : List TransformInfo). coded_list (map transform_of ts) (list_of c.args.self.now.channels)) lent;
     }
 
@@ -50,6 +53,8 @@ loop-transform-preserved c =
     record {
       goes = goes_further ts i u c.args.self.now c.loop-transform.self c.add.new.self there c.loop-transform.invariant.goes c.in_ok-add.ensures.goes;
       channels = others_are ts i d u there c.loop-transform.invariant.channels;
+      palettes = kept_alike is_palette ts i d u c.in_ok-add.ensures.kind.palette ∙ c.loop-transform.invariant.palettes;
+      squeezes = kept_alike is_squeeze ts i d u c.in_ok-add.ensures.kind.squeeze ∙ c.loop-transform.invariant.squeezes;
       so_far = prepared_more ts i d u (list_of c.loop-transform.self.channels) (list_of c.add.new.self.channels) _ there gives.0 gives.1 c.loop-transform.invariant.so_far;
     }
 
@@ -69,3 +74,14 @@ returns-clause-goes c =
     let lengths : length ts ≡ length old.items = c.loop-transform.auto.transform-items ∙ c.deref_mut-transform-items.ensures.len ∙ omega (arith, old.ok.0) in
     let back = written_back ts old.items old.len lengths (omega (arith, old.ok.0)) in
     all_gone ts _ c.loop-transform.transform-index c.args.self.now c.loop-transform.self (omega (arith, c.loop-transform-test.false, c.loop-transform.auto.transform-items)) back c.loop-transform.invariant.goes
+
+pub returns-clause-kinds : goal.returns-clause-kinds
+returns-clause-kinds c =
+    let ts = c.loop-transform.transform-items in
+    let old = c.args.transforms.now in
+    let lengths : length ts ≡ length old.items = c.loop-transform.auto.transform-items ∙ c.deref_mut-transform-items.ensures.len ∙ omega (arith, old.ok.0) in
+    let back = written_back ts old.items old.len lengths (omega (arith, old.ok.0)) in
+    record {
+      palettes = ap (λ (us : List TransformInfo). map is_palette (map transform_of us)) back ∙ c.loop-transform.invariant.palettes;
+      squeezes = ap (λ (us : List TransformInfo). map is_squeeze (map transform_of us)) back ∙ c.loop-transform.invariant.squeezes;
+    }

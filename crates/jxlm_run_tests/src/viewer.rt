@@ -1,0 +1,33 @@
+//! A viewer: a picture as it is shown before all of it has come.
+
+ghost use Rattle.std.specs.Prelude.{IfOk};
+ghost use Rattle.jxlm_base.specs.Regions.{store_meanings};
+ghost use Rattle.jxl_modular.specs.Image.{IsOnlyImage, coded_grids};
+
+use jxl_modular::Sample;
+use jxl_modular::decoder::Decoder;
+use jxl_modular::error::Result;
+use jxl_modular::grid::AlignedGrid;
+use jxl_modular::image::ModularImageDestination;
+use std::alloc::Global;
+
+/// The picture as far as it is decoded: its transforms are undone in a copy, with 0 for each sample that is not decoded
+/// yet. So after the first squeeze levels it is coarse.
+///
+/// The image stays as it is, to be decoded further.
+///
+/// # Errors
+///
+/// Out of memory, and no other.
+pub fn shown<S: Sample, D: Decoder>(
+    alloc: Global,
+    image: &ModularImageDestination<S, D>,
+) -> Result<Vec<AlignedGrid<S>>>
+    ensures { IfOk result (λ v. IsOnlyImage S.width image.now (store_meanings S.to_int v.items)
+        (coded_grids S.to_int image.now)) }
+{
+    let mut copy = image.try_clone(alloc)?;
+    let part = copy.prepare_subimage(alloc)?;
+    part.finish(alloc)?;
+    Ok(copy.into_image_channels())
+}
