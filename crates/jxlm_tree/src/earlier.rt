@@ -52,7 +52,7 @@ impl<'s, S: Sample> EarlierRow<'s, S> {
         requires column { x < length self.row.now }
         requires above { x < length self.above.now }
         requires few { which < 4 }
-        ensures { (r : Region) (store : List (Grid S)) → IsRowOf r store y self → result ≡ int_wrap w32 (slice_index_or
+        ensures { (r : Region) (store : List (Grid S)) → IsRowOf r store y self.entry → result ≡ int_wrap w32 (slice_index_or
             (earlier_properties (grid_of (store_meanings S.to_int store) r) x y) which (pos 0)) }
     {
         let cell = self.cell(x);
@@ -68,7 +68,7 @@ impl<'s, S: Sample> EarlierRow<'s, S> {
     fn expected(self, x: usize, y: usize) -> i32
         requires column { x < length self.row.now }
         requires above { x < length self.above.now }
-        ensures { (r : Region) (store : List (Grid S)) → IsRowOf r store y self → result ≡ expected
+        ensures { (r : Region) (store : List (Grid S)) → IsRowOf r store y self.entry → result ≡ expected
             (grid_of (store_meanings S.to_int store) r).cells r.width x y }
     {
         if x > 0 && y > 0 {
@@ -84,7 +84,7 @@ impl<'s, S: Sample> EarlierRow<'s, S> {
 
     fn cell(self, x: usize) -> i32
         requires { x < length self.row.now }
-        ensures { (r : Region) (store : List (Grid S)) (y : ℕ) → IsRowOf r store y self → result ≡ at
+        ensures { (r : Region) (store : List (Grid S)) (y : ℕ) → IsRowOf r store y self.entry → result ≡ at
             (grid_of (store_meanings S.to_int store) r) x y }
     {
         self.row[x].to_i32()
@@ -92,7 +92,7 @@ impl<'s, S: Sample> EarlierRow<'s, S> {
 
     fn cell_above(self, x: usize) -> i32
         requires { x < length self.above.now }
-        ensures { (r : Region) (store : List (Grid S)) (y : ℕ) → IsRowOf r store (y + 1) self → result ≡ at
+        ensures { (r : Region) (store : List (Grid S)) (y : ℕ) → IsRowOf r store (y + 1) self.entry → result ≡ at
             (grid_of (store_meanings S.to_int store) r) x y }
     {
         self.above[x].to_i32()
