@@ -41,3 +41,17 @@ returns-then-y-gt0 g c r store h =
     ∙ c.grad_clamped.ensures
     ∙ rw (to_z-of_z w32 c.cell_above.result f1, to_z-of_z w32 c.cell.result f2, to_z-of_z w32 c.cell_above-then-y-gt0.result f3, c.cell_above.ensures r store (y - 1) above, c.cell.ensures r store y h, c.cell_above-then-y-gt0.ensures r store (y - 1) above)
     (expected_inside cells r.width x y (x - 1) (y - 1) (omega arith) (omega arith))
+
+pub returns-then-x-gt0-2 : goal.returns-then-x-gt0-2
+returns-then-x-gt0-2 g c r store h =
+    let cells = (grid_of (store_meanings g.S.Sealed.to_int store) r).cells in
+    let f : FitsSigned w32 c.cell-then-x-gt0-2.result = search rules in
+    let first : c.args.y ≡ 0 = omega arith in
+    to_z-of_z w32 c.cell-then-x-gt0-2.result f ∙ c.cell-then-x-gt0-2.ensures r store c.args.y h ∙ rw first at expected_first_row cells r.width c.args.x 0 (c.args.x - 1) (omega arith) refl
+
+pub returns-then-y-gt0-2 : goal.returns-then-y-gt0-2
+returns-then-y-gt0-2 g c r store h =
+    let cells = (grid_of (store_meanings g.S.Sealed.to_int store) r).cells in
+    let f : FitsSigned w32 c.cell_above-then-y-gt0-2.result = search rules in
+    let above = row_below r store c.args.y c.args.self h (c.args.y - 1) (omega arith) in
+    to_z-of_z w32 c.cell_above-then-y-gt0-2.result f ∙ c.cell_above-then-y-gt0-2.ensures r store (c.args.y - 1) above ∙ expected_first_column cells r.width c.args.x c.args.y (c.args.y - 1) (omega arith) (omega arith)

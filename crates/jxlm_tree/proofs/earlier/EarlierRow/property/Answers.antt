@@ -1,6 +1,6 @@
-use Rattle.std.proofs.Common.{◌≡◌, ℤ, ◌-ℤ◌, FitsSigned, refl, arith, rules, to_z, of_z, ◌+◌, ◌-◌, ◌%◌}
+use Rattle.std.proofs.Common.{◌≡◌, ℤ, ◌-ℤ◌, FitsSigned, refl, sym, ◌∙◌, arith, rules, to_z, of_z, ◌+◌, ◌-◌, ◌%◌}
 use Rattle.std.specs.Int.{w32, w64, int_wrap}
-use Rattle.std.proofs.lemmas.Int.{to_z-of_z, ints, wraps}
+use Rattle.std.proofs.lemmas.Int.{int_wrap_fits, to_z-of_z, ints, wraps}
 use Rattle.jxlm_base.specs.Numbers.{absolute}
 use Rattle.jxlm_tree.proofs.earlier.EarlierRow.property.Goals as goal
 
@@ -25,3 +25,14 @@ returns-in_default g c r store h =
     let f2 : FitsSigned w32 c.expected-in_default.result = search rules in
     let three : c.args.which ≡ 3 = omega arith in
     rw (less c.cell-cell.result c.expected-in_default.result f1 f2, three, c.cell-cell.ensures r store c.args.y h, c.expected-in_default.ensures r store h) refl
+
+pub returns-in-0 : goal.returns-in-0
+returns-in-0 g c r store h =
+    let f : FitsSigned w32 c.reduced_absolute.result = search rules in
+    rw (to_z-of_z w32 c.reduced_absolute.result f, c.reduced_absolute.ensures, c.in-0.is, c.cell-cell.ensures r store c.args.y h) refl
+
+pub returns-in-1 : goal.returns-in-1
+returns-in-1 g c r store h =
+    let f : FitsSigned w32 c.cell-cell.result = search rules in
+    let same = int_wrap_fits w32 c.cell-cell.result f in
+    to_z-of_z w32 c.cell-cell.result f ∙ sym same ∙ rw (c.in-1.is, c.cell-cell.ensures r store c.args.y h) refl
