@@ -52,8 +52,8 @@ impl<'s, S: Sample> EarlierRow<'s, S> {
         requires column { x < length self.row.now }
         requires above { x < length self.above.now }
         requires few { which < 4 }
-        ensures { (r : Region) (store : List (Grid S)) → IsRowOf r store y self.entry → result ≡ int_wrap w32 (slice_index_or
-            (earlier_properties (grid_of (store_meanings S.to_int store) r) x y) which (pos 0)) }
+        ensures { (r : Region) (store : List (Grid S)) → IsRowOf r store y self.entry → result ≡ int_wrap w32
+            (slice_index_or (earlier_properties (grid_of (store_meanings S.to_int store) r) x y) which (pos 0)) }
     {
         let cell = self.cell(x);
         match which {
