@@ -13,4 +13,4 @@ returns g c r store y h =
     let below : y < r.height = let under = h.below in omega (arith, under) in
     to_z-of_z w32 c.to_i32.result fits ∙ c.to_i32.ensures.value
     ∙ sym (at_from_cell (grid_of (store_meanings g.S.Sealed.to_int store) r) c.args.x y _
-    (cell-grid_of_read g.S.Sealed.to_int store r c.args.x y _ inside below (h.above_is y c.args.x refl inside ∙ slice_get-get_or c.args.self.above.now c.args.x c.index-self-x.result.now c.requires ∙ ap Some (sym c.index-self-x.ensures))))
+    (cell-grid_of_read g.S.Sealed.to_int store r c.args.x y _ inside below (h.above_is y c.args.x refl inside ∙ slice_get-get_or c.args.self.above.now c.args.x c.index-self-x.result c.requires ∙ ap Some (sym c.index-self-x.ensures))))
