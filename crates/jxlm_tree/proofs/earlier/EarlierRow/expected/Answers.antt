@@ -47,7 +47,7 @@ returns-then-x-gt0-2 g c r store h =
     let cells = (grid_of (store_meanings g.S.Sealed.to_int store) r).cells in
     let f : FitsSigned w32 c.cell-then-x-gt0-2.result = search rules in
     let first : c.args.y ≡ 0 = omega arith in
-    to_z-of_z w32 c.cell-then-x-gt0-2.result f ∙ c.cell-then-x-gt0-2.ensures r store c.args.y h ∙ rw first at expected_first_row cells r.width c.args.x 0 (c.args.x - 1) (omega arith) refl
+    to_z-of_z w32 c.cell-then-x-gt0-2.result f ∙ c.cell-then-x-gt0-2.ensures r store c.args.y h ∙ expected_first_row cells r.width c.args.x c.args.y (c.args.x - 1) (omega arith) first
 
 pub returns-then-y-gt0-2 : goal.returns-then-y-gt0-2
 returns-then-y-gt0-2 g c r store h =
