@@ -29,7 +29,8 @@ returns-in_default g c r store h =
 pub returns-in-0 : goal.returns-in-0
 returns-in-0 g c r store h =
     let f : FitsSigned w32 c.reduced_absolute.result = search rules in
-    rw (to_z-of_z w32 c.reduced_absolute.result f, c.reduced_absolute.ensures, c.in-0.is, c.cell-cell.ensures r store c.args.y h) refl
+    let f1 : FitsSigned w32 c.cell-cell.result = search rules in
+    rw (to_z-of_z w32 c.reduced_absolute.result f, c.reduced_absolute.ensures, to_z-of_z w32 c.cell-cell.result f1, c.in-0.is, c.cell-cell.ensures r store c.args.y h) refl
 
 pub returns-in-1 : goal.returns-in-1
 returns-in-1 g c r store h =
