@@ -16,12 +16,12 @@ pub returns-then-nearer-len : goal.returns-then-nearer-len
 returns-then-nearer-len g c = λ s samples stands.
     let store = store_meanings g.S.Sealed.to_int c.args.store.now in
     let state = c.args.state.now in
-    let r = c.index.result.now in
+    let r = c.index-region.result.now in
     let k = c.args.number / 4 in
     let f : FitsSigned w32 c.property.result = search rules in
     let long = stands_earlier state s samples stands in
     let near : k < length s.earlier = omega (arith, long, c.if-nearer-len.true, c.len.ensures) in
-    let there : slice_get s.earlier k ≡ Some r = reversed_at s.earlier state.earlier.items state.earlier.len k r stands.same_earlier long near (subst (λ n. r ≡ get_or state.earlier.items (n - 1 - k) r) c.len-then-nearer-len.ensures c.index.ensures) in
+    let there : slice_get s.earlier k ≡ Some r = reversed_at s.earlier state.earlier.items state.earlier.len k r stands.same_earlier long near (subst (λ n. r ≡ get_or state.earlier.items (n - 1 - k) r) c.len-then-nearer-len.ensures c.index-region.ensures) in
     let found : slice_get (map (grid_of store) s.earlier) k ≡ Some (grid_of store r) = slice_get-map (grid_of store) s.earlier k ∙ ap (option_map (grid_of store)) there in
     to_z-of_z w32 c.property.result f ∙ c.property.ensures r c.args.store.now c.of.ensures
     ∙ ap (int_wrap w32) (sym (earlier-some (surroundings s store samples) c.args.number (grid_of store r) found ∙ rw (stands_column state s samples stands, stands_row state s samples stands) refl))

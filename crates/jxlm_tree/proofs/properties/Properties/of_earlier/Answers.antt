@@ -14,21 +14,21 @@ use Rattle.jxlm_tree.proofs.PropertiesLaws.{earlier-some}
 use Rattle.jxlm_tree.proofs.StandingLaws.{stands_column, stands_row}
 use Rattle.jxlm_tree.proofs.properties.Properties.of_earlier.Goals as goal
 
-pub returns-then-nearer-len : goal.returns-then-nearer-len
-returns-then-nearer-len g c = λ s samples stands.
+pub returns-then-nearer-self : goal.returns-then-nearer-self
+returns-then-nearer-self g c = λ s samples stands.
     let grids = store_meanings g.S.Sealed.to_int c.args.self.now.store.now in
     let state = c.args.self.now.state.now in
     let rows = c.args.self.now.rows.now in
     let k = c.args.number / 4 in
-    let e = c.index.result.now in
+    let e = c.index-self-nearer.result.now in
     let none : Region = region 0 0 0 0 0 in
     let r : Region = get_or s.earlier k none in
     let f : FitsSigned w32 c.property.result = search rules in
     let are = of_setting state s samples stands c.args.self.now.store.now rows c.requires.rows_are in
     let few = are.few in
-    let held : k < length rows = omega (arith, c.if-nearer-len.true, c.len.ensures) in
+    let held : k < length rows = omega arith in
     let near : k < length s.earlier = omega (arith, few, held) in
-    let is : IsRowOf r c.args.self.now.store.now state.y e = subst (IsRowOf r c.args.self.now.store.now state.y) (sym c.index.ensures) (are.each k e none held) in
+    let is : IsRowOf r c.args.self.now.store.now state.y e = subst (IsRowOf r c.args.self.now.store.now state.y) (sym c.index-self-nearer.ensures) (are.each k e none held) in
     let found : slice_get (map (grid_of grids) s.earlier) k ≡ Some (grid_of grids r) = slice_get-map (grid_of grids) s.earlier k ∙ ap (option_map (grid_of grids)) (slice_get-get_or s.earlier k none near) in
     to_z-of_z w32 c.property.result f ∙ c.property.ensures r c.args.self.now.store.now is
     ∙ ap (int_wrap w32) (sym (earlier-some (surroundings s grids samples) c.args.number (grid_of grids r) found ∙ rw (stands_column state s samples stands, stands_row state s samples stands) refl))
