@@ -6,7 +6,7 @@ use Rattle.jxlm_base.specs.Grid.{Grid}
 use Rattle.jxlm_base.specs.Regions.{region}
 use Rattle.jxlm_base.specs.declared.subgrid.Region.{Region}
 use Rattle.jxlm_tree.specs.EarlierRows.{AreRowsOf, HoldRows, IsRowOf}
-use Rattle.jxlm_tree.specs.Standing.{HoldsRow, Setting, StandsAt, column_of, earlier_of, row_of}
+use Rattle.jxlm_tree.specs.Standing.{IsReady, Setting, StandsAt, column_of, earlier_of, row_of}
 use Rattle.jxlm_tree.specs.declared.earlier.EarlierRow.{EarlierRow}
 use Rattle.jxlm_tree.specs.declared.state.PredictorState.{PredictorState}
 use Rattle.jxlm_tree.proofs.StandingLaws.{reversed_at, stands_earlier_of, stands_row}
@@ -56,16 +56,18 @@ module _ {S : Type 0} (state : PredictorState S) (s : Setting) (samples : List �
   pub in_state : AreRowsOf s.earlier store (row_of state) rows → HoldRows state store rows
   in_state h = subst (λ l. AreRowsOf l store (row_of state) rows) (sym (stands_earlier_of state s samples stands)) h
 
-  -- each has the state's column
-  pub has_column : AreRowsOf s.earlier store (row_of state) rows → All (λ r. HoldsRow r store s.width (row_of state)) s.earlier → (k : ℕ) (e : EarlierRow S) → k < length rows →
-      (column_of state < length (get_or rows k e).row.now) × (column_of state < length (get_or rows k e).above.now)
-  has_column h hold k e lt =
-      let none : Region = region 0 0 0 0 0 in
-      let few = h.few in
-      let there : k < length s.earlier = omega (arith, few, lt) in
-      let is = h.each k e none lt in
-      let wide = (hold k none there).as_wide in
-      let inside = stands.rolls.in_row in
-      let long = is.row_long in
-      let above = is.above_long in
-      (omega (arith, wide, inside, long), omega (arith, wide, inside, above))
+-- each row that is held has the state's column
+pub has_column : {S : Type 0} (state : PredictorState S) (store : List (Grid S)) (rows : List (EarlierRow S)) → IsReady state store → HoldRows state store rows → (k : ℕ) (e : EarlierRow S) → k < length rows →
+    (column_of state < length (get_or rows k e).row.now) × (column_of state < length (get_or rows k e).above.now)
+has_column state store rows ready held k e lt =
+    let s = ready.where_set in
+    let none : Region = region 0 0 0 0 0 in
+    let h = of_setting state s ready.before ready.stands store rows held in
+    let few = h.few in
+    let there : k < length s.earlier = omega (arith, few, lt) in
+    let is = h.each k e none lt in
+    let wide = (ready.earlier_hold k none there).as_wide in
+    let inside = ready.stands.rolls.in_row in
+    let long = is.row_long in
+    let above = is.above_long in
+    (omega (arith, wide, inside, long), omega (arith, wide, inside, above))
