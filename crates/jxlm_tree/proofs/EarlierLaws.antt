@@ -26,7 +26,7 @@ module _ {S : Type 0} (earlier : List Region) (store : List (Grid S)) (y : ℕ) 
 
   -- no row is held
   pub no_rows : AreRowsOf earlier store y []
-  no_rows = record { few = omega arith; each = λ k e r lt. absurd (omega arith); }
+  no_rows = record { few = omega arith; each = λ k e r lt. absurd (omega arith) }
 
   module _ (a b c d : EarlierRow S) (count : ℕ) (most : count ≤ 4) (pa : IsAt count 0 a) (pb : IsAt count 1 b) (pc : IsAt count 2 c) (pd : IsAt count 3 d) where
     at_each : (k : ℕ) (e : EarlierRow S) → IsAt count k (get_or (a ∷ b ∷ c ∷ d ∷ []) k e)
