@@ -1,5 +1,5 @@
 -- Rows of earlier channels.
-use Rattle.std.proofs.Common.{◌≡◌, ℕ, zero, suc, ℤ, All, ◌-◌, ◌<◌, ◌≤◌, List, [], ◌∷◌, length, reverse, get_or, take, Some, sym, ap, subst, ◌∙◌, arith, length-take-le, get_or-take}
+use Rattle.std.proofs.Common.{◌≡◌, ℕ, zero, suc, ℤ, ◌-◌, ◌<◌, ◌≤◌, List, [], ◌∷◌, length, reverse, get_or, take, sym, subst, ◌∙◌, arith, length-take-le, get_or-take}
 use Rattle.std.proofs.lemmas.List.{length-reverse, reverse-reverse}
 use Rattle.std.proofs.lemmas.Option.{get_or_from_slice_get}
 use Rattle.jxlm_base.specs.Grid.{Grid}
@@ -9,7 +9,7 @@ use Rattle.jxlm_tree.specs.EarlierRows.{AreRowsOf, HoldRows, IsRowOf}
 use Rattle.jxlm_tree.specs.Standing.{IsReady, Setting, StandsAt, column_of, earlier_of, row_of}
 use Rattle.jxlm_tree.specs.declared.earlier.EarlierRow.{EarlierRow}
 use Rattle.jxlm_tree.specs.declared.state.PredictorState.{PredictorState}
-use Rattle.jxlm_tree.proofs.StandingLaws.{reversed_at, stands_earlier_of, stands_row}
+use Rattle.jxlm_tree.proofs.StandingLaws.{reversed_at, stands_earlier_of}
 
 -- earlier channel k of a state
 pub earlier_at : {S : Type 0} (state : PredictorState S) (k : ℕ) (v r : Region) → k < state.earlier.len → v ≡ get_or state.earlier.items (state.earlier.len - 1 - k) v → get_or (earlier_of state) k r ≡ v

@@ -1,4 +1,4 @@
-use Rattle.std.proofs.Common.{◌<◌, ◌+◌, rules, refl, sym, subst, ◌∙◌, w32, FitsSigned, arith}
+use Rattle.std.proofs.Common.{◌<◌, rules, refl, sym, subst, ◌∙◌, w32, FitsSigned, arith}
 use Rattle.std.proofs.lemmas.Int.{to_z-of_z}
 use Rattle.std.proofs.lemmas.Option.{slice_get-get_or}
 use Rattle.jxlm_base.proofs.GridLaws.{at_from_cell}

@@ -1,4 +1,4 @@
-use Rattle.std.proofs.Common.{◌≡◌, ◌≤◌, length, ◌∙◌, sym, arith, rules}
+use Rattle.std.proofs.Common.{◌≡◌, ◌≤◌, length, ◌∙◌, sym, arith}
 use Rattle.std.proofs.lemmas.List.{length-reverse}
 use Rattle.jxlm_tree.specs.Standing.{earlier_of}
 use Rattle.jxlm_tree.proofs.EarlierLaws.{first_rows}

@@ -1,4 +1,4 @@
-use Rattle.std.proofs.Common.{◌≡◌, ◌/◌, ◌<◌, ℕ, length, get_or, Some, FitsSigned, sym, ap, subst, ◌∙◌, refl, arith, rules}
+use Rattle.std.proofs.Common.{◌≡◌, ◌/◌, ◌<◌, ℕ, length, get_or, Some, FitsSigned, sym, ap, ◌∙◌, refl, arith, rules}
 use Rattle.std.specs.Prelude.{map}
 use Rattle.std.specs.List.{slice_get}
 use Rattle.std.specs.Option.{option_map}

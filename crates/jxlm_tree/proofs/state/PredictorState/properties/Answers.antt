@@ -1,4 +1,3 @@
-use Rattle.jxlm_base.specs.Grid.{Grid}
 use Rattle.jxlm_tree.proofs.EarlierLaws.{no_rows}
 use Rattle.jxlm_tree.specs.Standing.{earlier_of, row_of}
 use Rattle.jxlm_tree.proofs.state.PredictorState.properties.Goals as goal
