@@ -62,7 +62,8 @@ fn next_sample<S: Sample, D: Decoder>(
 }
 
 /// Reads the cell in column `x` of row `y` of channel `i` into `row`; the state must be at this cell, and is at the
-/// next one afterwards. `rows` are the rows of the nearest earlier channels. Without `EDGE` the cell is two or more columns and rows away from every edge but the last row.
+/// next one afterwards. `rows` are the rows of the nearest earlier channels. Without `EDGE` the cell is two or more
+/// columns and rows away from every edge but the last row.
 #[inline(always)]
 pub(crate) fn decode_cell<S: Sample, D: Decoder, const EDGE: bool>(
     bits: &mut Bitstream<'_>,

@@ -1,6 +1,6 @@
 //! The samples of earlier channels, in the row of the state's cell and in the row above.
 
-ghost use Rattle.std.specs.Prelude.{◌≡◌, ◌+◌, ◌<◌, ◌≤◌, ℕ, pos, List, length, get_or, slice_index_or};
+ghost use Rattle.std.specs.Prelude.{◌≡◌, ◌+◌, ◌<◌, ◌≤◌, ℕ, pos, List, length, min, get_or, slice_index_or};
 ghost use Rattle.std.specs.Int.{w32, int_wrap};
 ghost use Rattle.jxlm_base.specs.Grid.{Grid, at};
 ghost use Rattle.jxlm_base.specs.Regions.{Lies, grid_of, store_meanings};
@@ -110,7 +110,8 @@ impl<'s, S: Sample> EarlierRows<'s, S> {
         most: usize,
     ) -> EarlierRows<'s, S>
         requires { IsReady state.now store.now }
-        ensures { HoldRows state.now store.now (held_rows result) }
+        ensures held { HoldRows state.now store.now (held_rows result) }
+        ensures count { length (held_rows result) ≡ min (min most 4) (earlier_count state.now) }
     {
         let count = most.min(4).min(state.earlier.len());
         EarlierRows {
