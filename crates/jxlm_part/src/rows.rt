@@ -87,7 +87,9 @@ fn read_cells<S: Sample, D: Decoder, const EDGE: bool>(
     ensures more { steps.old ≤ steps.new }
 {
     for x in from..to {
-        match decode_cell::<S, D, EDGE>(bits, decoder, state, steps, store, rows, coding, row, i, x, y) {
+        match decode_cell::<S, D, EDGE>(
+            bits, decoder, state, steps, store, rows, coding, row, i, x, y,
+        ) {
             Ok(()) => (),
             Err(error) => return Err(RowError { column: x, error }),
         }

@@ -26,8 +26,11 @@ module _ {D X : Type 0} (coding : PartCoding D) (to_int : X → ℤ) (store : Li
   rows_of_row rows held = rows_are coding here.part.coding i here.channel to_int store row 0 y here.part.lie here.columns below long state stands rows held
 
 pub of-earlier-requires-after_bounds : goal.of-earlier-requires-after_bounds
-of-earlier-requires-after_bounds g c κs within = (omega arith, ready c.args.coding.now g.S.Sealed.to_int c.args.store.now c.args.i c.args.y (g.D.Decoder.meaning.cluster_map c.args.decoder.now) (map g.S.Sealed.to_int c.args.row.now) c.args.state.now
-    c.requires.here c.requires.in_rows (length-map c.args.row.now g.S.Sealed.to_int ∙ c.requires.long) c.requires.stands)
+of-earlier-requires-after_bounds g c κs within = (
+  omega arith,
+  ready c.args.coding.now g.S.Sealed.to_int c.args.store.now c.args.i c.args.y (g.D.Decoder.meaning.cluster_map c.args.decoder.now) (map g.S.Sealed.to_int c.args.row.now) c.args.state.now
+      c.requires.here c.requires.in_rows (length-map c.args.row.now g.S.Sealed.to_int ∙ c.requires.long) c.requires.stands,
+)
 
 pub read_cells-requires-clause-rows : goal.read_cells-requires-clause-rows
 read_cells-requires-clause-rows g c κs within = rw c.rows-rows.ensures
