@@ -6,13 +6,13 @@ use Rattle.jxlm_base.specs.Grid.{Grid}
 use Rattle.jxlm_base.specs.Regions.{region}
 use Rattle.jxlm_base.specs.declared.subgrid.Region.{Region}
 use Rattle.jxlm_tree.specs.EarlierRows.{AreRowsOf, HoldRows, IsRowOf}
-use Rattle.jxlm_tree.specs.Standing.{IsReady, Setting, StandsAt, column_of, earlier_of, row_of}
+use Rattle.jxlm_tree.specs.Standing.{IsReady, Setting, StandsAt, column_of, earlier_held, row_of}
 use Rattle.jxlm_tree.specs.declared.earlier.EarlierRow.{EarlierRow}
 use Rattle.jxlm_tree.specs.declared.state.PredictorState.{PredictorState}
-use Rattle.jxlm_tree.proofs.StandingLaws.{reversed_at, stands_earlier_of}
+use Rattle.jxlm_tree.proofs.StandingLaws.{reversed_at, stands_earlier_held}
 
 -- earlier channel k of a state
-pub earlier_at : {S : Type 0} (state : PredictorState S) (k : ℕ) (v r : Region) → k < state.earlier.len → v ≡ get_or state.earlier.items (state.earlier.len - 1 - k) v → get_or (earlier_of state) k r ≡ v
+pub earlier_at : {S : Type 0} (state : PredictorState S) (k : ℕ) (v r : Region) → k < state.earlier.len → v ≡ get_or state.earlier.items (state.earlier.len - 1 - k) v → get_or (earlier_held state) k r ≡ v
 earlier_at state k v r near read =
     let xs = reverse state.earlier.items in
     let back = sym (reverse-reverse state.earlier.items) in
@@ -51,10 +51,10 @@ module _ {S : Type 0} (earlier : List Region) (store : List (Grid S)) (y : ℕ) 
 -- rows that a state holds are rows of the channels that it was set for
 module _ {S : Type 0} (state : PredictorState S) (s : Setting) (samples : List ℤ) (stands : StandsAt state s samples) (store : List (Grid S)) (rows : List (EarlierRow S)) where
   pub of_setting : HoldRows state store rows → AreRowsOf s.earlier store (row_of state) rows
-  of_setting h = subst (λ l. AreRowsOf l store (row_of state) rows) (stands_earlier_of state s samples stands) h
+  of_setting h = subst (λ l. AreRowsOf l store (row_of state) rows) (stands_earlier_held state s samples stands) h
 
   pub in_state : AreRowsOf s.earlier store (row_of state) rows → HoldRows state store rows
-  in_state h = subst (λ l. AreRowsOf l store (row_of state) rows) (sym (stands_earlier_of state s samples stands)) h
+  in_state h = subst (λ l. AreRowsOf l store (row_of state) rows) (sym (stands_earlier_held state s samples stands)) h
 
 -- each row that is held has the state's column
 pub has_column : {S : Type 0} (state : PredictorState S) (store : List (Grid S)) (rows : List (EarlierRow S)) → IsReady state store → HoldRows state store rows → (k : ℕ) (e : EarlierRow S) → k < length rows →

@@ -3,7 +3,7 @@ use Rattle.std.specs.Prelude.{◌≡◌, ℕ, ◌+◌, ◌<◌, ◌≤◌, List,
 use Rattle.jxlm_base.specs.Grid.{Grid}
 use Rattle.jxlm_base.specs.Regions.{region_cell}
 use Rattle.jxlm_base.specs.declared.subgrid.Region.{Region}
-use Rattle.jxlm_tree.specs.Standing.{earlier_of, row_of}
+use Rattle.jxlm_tree.specs.Standing.{earlier_held, row_of}
 use Rattle.jxlm_tree.specs.declared.earlier.EarlierRow.{EarlierRow}
 use Rattle.jxlm_tree.specs.declared.earlier.EarlierRows.{EarlierRows}
 use Rattle.jxlm_tree.specs.declared.state.PredictorState.{PredictorState}
@@ -26,7 +26,7 @@ module _ {S : Type 0} where
 
   -- the rows of the nearest earlier channels in which the state's cell is, and those above
   abbrev pub HoldRows : PredictorState S → List (Grid S) → List (EarlierRow S) → Type 0
-  HoldRows state store rows = AreRowsOf (earlier_of state) store (row_of state) rows
+  HoldRows state store rows = AreRowsOf (earlier_held state) store (row_of state) rows
 
   -- the rows that are held
   abbrev pub held_rows : EarlierRows S → List (EarlierRow S)

@@ -70,8 +70,8 @@ module _ {S : Type 0} where
   earlier_count state = vec_len state.earlier
 
   -- their regions, the nearest first
-  abbrev pub earlier_of : PredictorState S → List Region
-  earlier_of state = reverse state.earlier.items
+  abbrev pub earlier_held : PredictorState S → List Region
+  earlier_held state = reverse state.earlier.items
 
   abbrev pub earlier_room_of : PredictorState S → ℕ
   earlier_room_of state = vec_capacity state.earlier

@@ -101,7 +101,7 @@ impl<'s, S: Sample> EarlierRow<'s, S> {
 
 impl<'s, S: Sample> EarlierRows<'s, S> {
     ghost use Rattle.jxlm_tree.specs.EarlierRows.{HoldRows, IsRowOf, held_rows};
-    ghost use Rattle.jxlm_tree.specs.Standing.{IsReady, earlier_count, earlier_of, row_of};
+    ghost use Rattle.jxlm_tree.specs.Standing.{IsReady, earlier_count, earlier_held, row_of};
 
     /// The rows of the state's cell, of up to `most` of the nearest earlier channels, and of no more than four.
     pub fn of(
@@ -134,7 +134,7 @@ impl<'s, S: Sample> EarlierRows<'s, S> {
     ) -> EarlierRow<'s, S>
         requires ready { IsReady state.now store.now }
         requires there { count ≤ earlier_count state.now }
-        ensures { (r : Region) → nearer < count → IsRowOf (get_or (earlier_of state.now) nearer r) store.now
+        ensures { (r : Region) → nearer < count → IsRowOf (get_or (earlier_held state.now) nearer r) store.now
             (row_of state.now) result }
     {
         if nearer < count {
