@@ -16,12 +16,16 @@ use Rattle.jxlm_base.specs.declared.decoder.DecoderError.TheVariants.{OutOfMemor
 use Rattle.jxlm_base.specs.declared.subgrid.Region.{Region}
 use Rattle.jxlm_base.proofs.Regions.{IsFull-grid_of}
 use Rattle.jxlm_base.proofs.Cells.{slice_get-set_same}
+use Rattle.jxlm_tree.specs.EarlierRows.{AreRowsOf, HoldRows}
 use Rattle.jxlm_tree.specs.FlatTree.{ClustersStandIn, FlatTree, earlier_named}
 use Rattle.jxlm_tree.specs.Neighbours.{row as line}
-use Rattle.jxlm_tree.specs.Standing.{HasSameRoom, HoldsRow, IsInner, IsReady, Setting, StandsAt}
+use Rattle.jxlm_tree.specs.Standing.{HasSameRoom, HoldsRow, IsInner, IsReady, Setting, StandsAt, row_of}
 use Rattle.jxlm_tree.specs.Tree.{depth}
+use Rattle.jxlm_tree.specs.declared.earlier.EarlierRow.{EarlierRow}
 use Rattle.jxlm_tree.specs.declared.flat.Leaf.{Leaf}
 use Rattle.jxlm_tree.specs.declared.state.PredictorState.{PredictorState}
+use Rattle.jxlm_tree.proofs.EarlierLaws.{in_state, of_setting}
+use Rattle.jxlm_tree.proofs.StandingLaws.{stands_row}
 use Rattle.jxlm_part.specs.Coded.{next_prediction, sample_of}
 use Rattle.jxlm_part.specs.Part.{channel, max_width, no_channel}
 use Rattle.jxlm_part.specs.Reading.{FindsClusters, HasRoom, IsCodingOf, cost_of, flat, part_of, regions_of}
@@ -144,6 +148,18 @@ module _ {D : Type 0} (c : PartCoding D) (coding : IsCodingOf c) (i : ℕ) (li :
             below = subst (λ n. y < n) (here.1 ∙ sym sides.1 ∙ sym there.1) qy;
           })));
     }
+
+    module _ (state : PredictorState X) (stands : StandsInRow c to_int store i y so_far state) (rows : List (EarlierRow X)) where
+      in_row : row_of state ≡ y
+      in_row = sym (stands_row state (setting_of c i) own stands) ∙ line_is
+
+      -- rows of earlier channels that the state holds are those of row y
+      pub rows_are : HoldRows state store rows → AreRowsOf (setting_of c i).earlier store y rows
+      rows_are h = subst (λ n. AreRowsOf (setting_of c i).earlier store n rows) in_row (of_setting state (setting_of c i) own stands store rows h)
+
+      -- and so it holds these
+      pub rows_held : AreRowsOf (setting_of c i).earlier store y rows → HoldRows state store rows
+      rows_held h = in_state state (setting_of c i) own stands store rows (subst (λ n. AreRowsOf (setting_of c i).earlier store n rows) (sym in_row) h)
 
     -- after the cell, once it is in the row, the cells are those before it and its sample
     pub stands_further : (sample : ℤ) (new : List ℤ) (state : PredictorState X) → new ≡ slice_set row x sample →

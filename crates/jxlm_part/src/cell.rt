@@ -4,11 +4,12 @@ ghost use Rattle.std.specs.Prelude.{◌≡◌, pos, ◌+ℤ◌, ◌*ℤ◌, ◌+
 ghost use Rattle.std.specs.Int.{int_wrap};
 ghost use Rattle.jxlm_base.specs.Bits.{bytes_of};
 ghost use Rattle.jxlm_base.specs.Numbers.{unpack};
+ghost use Rattle.jxlm_tree.specs.EarlierRows.{AreRowsOf};
 ghost use Rattle.jxlm_tree.specs.FlatTree.{ClustersStandIn};
 ghost use Rattle.jxlm_tree.specs.Holding.{IsCurrent};
 ghost use Rattle.jxlm_tree.specs.Tree.{depth};
 ghost use Rattle.jxlm_part.specs.Inner.Cells.{FailsSample, ReadsSample};
-ghost use Rattle.jxlm_part.specs.Inner.Channels.{region_at};
+ghost use Rattle.jxlm_part.specs.Inner.Channels.{region_at, setting_of};
 ghost use Rattle.jxlm_part.specs.Inner.Rows.{FailsCell, IsAway, IsDecoding, ReadsCell, StandsInRow, rule_in};
 ghost use Rattle.jxlm_part.specs.Inner.Source.{source};
 ghost use Rattle.jxlm_part.specs.Reading.{HasRoom, cost_of, regions_of};
@@ -18,6 +19,7 @@ use jxlm_base::bits::Bitstream;
 use jxlm_base::decoder::{Decoder, DecoderError};
 use jxlm_base::grid::AlignedGrid;
 use jxlm_base::sample::{Sample, Sealed};
+use jxlm_tree::earlier::EarlierRow;
 use jxlm_tree::flat::{FlatMaTree, Leaf, Steps};
 use jxlm_tree::predictor::{PredictorState, Properties};
 
@@ -60,7 +62,8 @@ fn next_sample<S: Sample, D: Decoder>(
 }
 
 /// Reads the cell in column `x` of row `y` of channel `i` into `row`; the state must be at this cell, and is at the
-/// next one afterwards. Without `EDGE` the cell is two or more columns and rows away from every edge but the last row.
+/// next one afterwards. `rows` are the rows of the nearest earlier channels. Without `EDGE` the cell is two or more
+/// columns and rows away from every edge but the last row.
 #[inline(always)]
 pub(crate) fn decode_cell<S: Sample, D: Decoder, const EDGE: bool>(
     bits: &mut Bitstream<'_>,
@@ -68,6 +71,7 @@ pub(crate) fn decode_cell<S: Sample, D: Decoder, const EDGE: bool>(
     state: &mut PredictorState<S>,
     steps: &mut Steps,
     store: &[AlignedGrid<S>],
+    rows: &[EarlierRow<'_, S>],
     coding: &PartCoding<'_, D>,
     row: &mut [S],
     i: usize,
@@ -81,6 +85,7 @@ pub(crate) fn decode_cell<S: Sample, D: Decoder, const EDGE: bool>(
     requires long { length row.old ≡ (region_at (regions_of coding.now) i).width }
     requires stands { StandsInRow coding.now S.to_int store.now i y (take x (map S.to_int row.old)) state.old }
     requires roomy { HasRoom coding.now state.old }
+    requires rows { AreRowsOf (setting_of coding.now i).earlier store.now y rows.now }
     ensures ok { OnOk result (ReadsCell D.meaning
         (rule_in coding.now S.to_int store.now i y D.meaning S.width (bytes_of bits.old))
         (map S.to_int row.old) x (source decoder.old bits.old) (source decoder.new bits.new) (map S.to_int row.new)) }
@@ -93,7 +98,7 @@ pub(crate) fn decode_cell<S: Sample, D: Decoder, const EDGE: bool>(
     ensures cost { steps.new ≤ steps.old + cost_of coding.now }
     ensures more { steps.old ≤ steps.new }
 {
-    let properties = state.properties::<EDGE>(store);
+    let properties = state.properties_by_rows::<EDGE>(store, rows);
     let flat = &coding.flats[i];
     let sample = next_sample(bits, decoder, steps, &properties, flat, coding.widest)?;
     properties.record(sample.to_i32());

@@ -3,7 +3,8 @@
 ghost use Rattle.std.specs.Prelude.{◌≡◌, ◌+◌, ◌*◌, ◌<◌, ◌≤◌, [], false, map, take, length, OnOk, IfErr};
 ghost use Rattle.jxlm_base.specs.Bits.{bytes_of};
 ghost use Rattle.jxlm_base.specs.Regions.{Lies};
-ghost use Rattle.jxlm_part.specs.Inner.Channels.{region_at};
+ghost use Rattle.jxlm_tree.specs.EarlierRows.{AreRowsOf};
+ghost use Rattle.jxlm_part.specs.Inner.Channels.{region_at, setting_of};
 ghost use Rattle.jxlm_part.specs.Inner.Rows.{AreAway, FailsOn, FailsRow, IsDecoding, ReadsOn, ReadsRow, SetsRead, StandsInRow, rule_in};
 ghost use Rattle.jxlm_part.specs.Inner.Source.{source};
 ghost use Rattle.jxlm_part.specs.Reading.{HasRoom, cost_of, regions_of};
@@ -15,6 +16,7 @@ use jxlm_base::decoder::{Decoder, DecoderError};
 use jxlm_base::grid::{AlignedGrid, Region};
 use jxlm_base::region::region_set_row;
 use jxlm_base::sample::Sample;
+use jxlm_tree::earlier::{EarlierRow, EarlierRows};
 use jxlm_tree::flat::Steps;
 use jxlm_tree::predictor::PredictorState;
 
@@ -54,6 +56,7 @@ fn read_cells<S: Sample, D: Decoder, const EDGE: bool>(
     state: &mut PredictorState<S>,
     steps: &mut Steps,
     store: &[AlignedGrid<S>],
+    rows: &[EarlierRow<'_, S>],
     coding: &PartCoding<'_, D>,
     row: &mut [S],
     i: usize,
@@ -69,6 +72,7 @@ fn read_cells<S: Sample, D: Decoder, const EDGE: bool>(
     requires long { length row.old ≡ (region_at (regions_of coding.now) i).width }
     requires stands { StandsInRow coding.now S.to_int store.now i y (take from (map S.to_int row.old)) state.old }
     requires roomy { HasRoom coding.now state.old }
+    requires rows { AreRowsOf (setting_of coding.now i).earlier store.now y rows.now }
     ensures ok { OnOk result (ReadsOn coding.now S.to_int store.now i y D.meaning S.width from to
         (map S.to_int row.old) (map S.to_int row.new) (source decoder.old bits.old) (source decoder.new bits.new)) }
     ensures err { IfErr result (FailsOn coding.now S.to_int store.now i y D.meaning S.width from
@@ -83,7 +87,9 @@ fn read_cells<S: Sample, D: Decoder, const EDGE: bool>(
     ensures more { steps.old ≤ steps.new }
 {
     for x in from..to {
-        match decode_cell::<S, D, EDGE>(bits, decoder, state, steps, store, coding, row, i, x, y) {
+        match decode_cell::<S, D, EDGE>(
+            bits, decoder, state, steps, store, rows, coding, row, i, x, y,
+        ) {
             Ok(()) => (),
             Err(error) => return Err(RowError { column: x, error }),
         }
@@ -126,15 +132,17 @@ pub(crate) fn read_row<S: Sample, D: Decoder>(
     ensures more { steps.old ≤ steps.new }
 {
     let width = row.len();
+    let earlier = EarlierRows::of(state, store, coding.flats[i].max_prev_channel_depth());
+    let rows = earlier.rows();
     let (from, to) = inner_columns(width, y);
     read_cells::<S, D, true>(
-        bits, decoder, state, steps, store, coding, row, i, y, 0, from,
+        bits, decoder, state, steps, store, rows, coding, row, i, y, 0, from,
     )?;
     read_cells::<S, D, false>(
-        bits, decoder, state, steps, store, coding, row, i, y, from, to,
+        bits, decoder, state, steps, store, rows, coding, row, i, y, from, to,
     )?;
     read_cells::<S, D, true>(
-        bits, decoder, state, steps, store, coding, row, i, y, to, width,
+        bits, decoder, state, steps, store, rows, coding, row, i, y, to, width,
     )?;
     Ok(())
 }

@@ -2,6 +2,7 @@ mod Examples
 pub mod Accumulated
 pub mod Causal
 pub mod Correcting
+pub mod EarlierLaws
 pub mod FlatTrees
 pub mod Listing
 pub mod Memory

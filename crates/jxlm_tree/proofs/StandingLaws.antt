@@ -7,7 +7,7 @@ use Rattle.std.proofs.lemmas.Option.{slice_get-get_or}
 use Rattle.jxlm_tree.specs.Correcting.{Corrects, CorrectsBy, IsMade, IsMadeBy}
 use Rattle.jxlm_tree.specs.Inner.CorrectingSteps.{CorrectsAfter, CorrectsNext, HoldsColumn}
 use Rattle.jxlm_tree.specs.Neighbours.{column, row}
-use Rattle.jxlm_tree.specs.Standing.{Setting, StandsAt, column_of, row_of, width_of, earlier_count}
+use Rattle.jxlm_tree.specs.Standing.{Setting, StandsAt, column_of, row_of, width_of, earlier_count, earlier_held}
 use Rattle.jxlm_tree.specs.declared.predictor.WpHeader.{WpHeader}
 use Rattle.jxlm_tree.specs.declared.self_correcting.Corrector.{Corrector}
 use Rattle.jxlm_tree.specs.declared.self_correcting.PredictionResult.{PredictionResult}
@@ -52,6 +52,10 @@ module _ {S : Type 0} (state : PredictorState S) (s : Setting) (samples : List �
   -- as many earlier channels as it has
   pub stands_earlier : earlier_count state ≡ length s.earlier
   stands_earlier = state.earlier.ok.0 ∙ ap length stands.same_earlier ∙ length-reverse s.earlier
+
+  -- and the same ones
+  pub stands_earlier_held : earlier_held state ≡ s.earlier
+  stands_earlier_held = ap reverse stands.same_earlier ∙ reverse-reverse s.earlier
 
 -- element k of a list that is kept the other way round
 pub reversed_at : {X : Type 0} (xs items : List X) (len k : ℕ) (x : X) → items ≡ reverse xs → len ≡ length xs → k < length xs → x ≡ get_or items (len - 1 - k) x → slice_get xs k ≡ Some x

@@ -4,9 +4,11 @@ use Rattle.jxlm_base.specs.Grid.{Grid}
 use Rattle.jxlm_base.specs.Regions.{grid_of}
 use Rattle.jxlm_tree.specs.Around.{seen}
 use Rattle.jxlm_tree.specs.Correcting.{IsMade}
+use Rattle.jxlm_tree.specs.EarlierRows.{HoldRows}
 use Rattle.jxlm_tree.specs.Neighbours.{neighbours}
 use Rattle.jxlm_tree.specs.Properties.{Surroundings}
 use Rattle.jxlm_tree.specs.Standing.{Setting, StandsAt, IsReady}
+use Rattle.jxlm_tree.specs.declared.earlier.EarlierRow.{EarlierRow}
 use Rattle.jxlm_tree.specs.declared.predictor.WpHeader.{WpHeader}
 use Rattle.jxlm_tree.specs.declared.properties.Properties.{Properties}
 use Rattle.jxlm_tree.specs.declared.state.PredictorState.{PredictorState}
@@ -23,6 +25,10 @@ module _ {S : Type 0} where
   abbrev pub store_of : Properties S → List (Grid S)
   store_of p = p.store.now
 
+  -- the rows of the nearest earlier channels that it was handed
+  abbrev pub rows_of : Properties S → List (EarlierRow S)
+  rows_of p = p.rows.now
+
   -- the value is what f makes of the weights, the samples and the width, whatever cell the state is at
   abbrev pub IsOfPlace : Properties S → (Option WpHeader → List ℤ → ℕ → ℤ) → ℤ → Type 0
   IsOfPlace p f value = (s : Setting) (samples : List ℤ) → StandsAt (state_of p) s samples → value ≡ f s.weights samples s.width
@@ -32,3 +38,4 @@ module _ {S : Type 0} where
     pub ready : IsReady (state_of p) (store_of p)
     pub around_is : (s : Setting) (samples : List ℤ) → StandsAt (state_of p) s samples → seen p.around ≡ neighbours samples s.width
     pub correction_is : (s : Setting) (samples : List ℤ) → StandsAt (state_of p) s samples → IsMade p.correction s.weights s.width samples
+    pub rows_are : HoldRows (state_of p) (store_of p) (rows_of p)

@@ -1,6 +1,7 @@
 pub mod Around
 pub mod Correcting
 pub mod DecodingSamples
+pub mod EarlierRows
 pub mod FlatTree
 pub mod Holding
 pub mod Neighbours

@@ -69,6 +69,10 @@ module _ {S : Type 0} where
   abbrev pub earlier_count : PredictorState S → ℕ
   earlier_count state = vec_len state.earlier
 
+  -- their regions, the nearest first
+  abbrev pub earlier_held : PredictorState S → List Region
+  earlier_held state = reverse state.earlier.items
+
   abbrev pub earlier_room_of : PredictorState S → ℕ
   earlier_room_of state = vec_capacity state.earlier
 

@@ -3,6 +3,7 @@
 
 mod around;
 mod build;
+pub mod earlier;
 pub mod eighths;
 pub mod flat;
 pub mod ma;

@@ -2,21 +2,21 @@
 
 ghost use Rattle.std.specs.Prelude.{◌≡◌, ◌+◌, ◌-◌, ◌<◌, ◌≤◌, ◌^◌, ℕ, ℤ, pos, List, [], ◌∷◌, ◌++◌, false, slice_index_or};
 ghost use Rattle.std.specs.Int.{w32, int_wrap};
-ghost use Rattle.jxlm_base.specs.Grid.{at};
-ghost use Rattle.jxlm_base.specs.Regions.{Lies, grid_of, store_meanings};
+ghost use Rattle.jxlm_base.specs.Regions.{store_meanings};
 ghost use Rattle.jxlm_tree.specs.Around.{seen};
+ghost use Rattle.jxlm_tree.specs.EarlierRows.{HoldRows};
 ghost use Rattle.jxlm_tree.specs.Inner.OwnProperties.{own_list};
 ghost use Rattle.jxlm_tree.specs.Holding.{IsCurrent, surroundings, state_of, store_of};
-ghost use Rattle.jxlm_tree.specs.Properties.{place_property, earlier_properties, earlier_property, expected};
+ghost use Rattle.jxlm_tree.specs.Properties.{place_property, earlier_property};
 ghost use Rattle.jxlm_tree.specs.Standing.{Setting, StandsAt, IsReady, IsInner, HasSameRoom};
 
 use crate::around::Around;
+use crate::earlier::EarlierRow;
 use crate::flat::PlaceProperties;
-use crate::reduced::{read_as_signed, reduced, reduced_absolute};
+use crate::reduced::{read_as_signed, reduced_absolute};
 use crate::self_correcting::PredictionResult;
 use crate::state::PredictorState;
-use jxlm_base::grid::{AlignedGrid, Region};
-use jxlm_base::region::region_get;
+use jxlm_base::grid::AlignedGrid;
 use jxlm_base::sample::{Sample, Sealed};
 
 /// The properties of the cell that a state is at (ISO/IEC 18181-1, Modular: properties).
@@ -24,6 +24,7 @@ use jxlm_base::sample::{Sample, Sealed};
 pub struct Properties<'p, S> {
     pub(crate) state: &'p mut PredictorState<S>,
     pub(crate) store: &'p [AlignedGrid<S>],
+    pub(crate) rows: &'p [EarlierRow<'p, S>],
     pub(crate) around: Around,
     pub(crate) correction: Option<PredictionResult>,
 }
@@ -69,11 +70,31 @@ impl<S> PredictorState<S> {
         ensures store { store_of result ≡ store.now }
         ensures current { IsCurrent result }
     {
+        self.properties_by_rows::<EDGE>(store, &[])
+    }
+
+    /// The properties of the cell that the state is at, with rows of the nearest earlier channels from which theirs are
+    /// taken: `EarlierRows` has them, for each cell of the row.
+    #[inline(always)]
+    pub fn properties_by_rows<'p, const EDGE: bool>(
+        &'p mut self,
+        store: &'p [AlignedGrid<S>],
+        rows: &'p [EarlierRow<'p, S>],
+    ) -> Properties<'p, S>
+        requires ready { IsReady self.old store.now }
+        requires inner { EDGE ≡ false → IsInner self.old }
+        requires rows { HoldRows self.old store.now rows.now }
+        ensures same_reference { result.state.ghost_name ≡ self.entry.ghost_name }
+        ensures unchanged { state_of result ≡ self.old }
+        ensures store { store_of result ≡ store.now }
+        ensures current { IsCurrent result }
+    {
         let around = self.around::<EDGE>();
         let correction = self.correction::<EDGE>(&around);
         Properties {
             state: self,
             store,
+            rows,
             around,
             correction,
         }
@@ -101,63 +122,35 @@ impl<S: Sample> Properties<'_, S> {
         ensures { (s : Setting) (samples : List ℤ) → StandsAt (state_of self.now) s samples → result ≡ int_wrap w32
             (earlier_property (surroundings s (store_meanings S.to_int (store_of self.now)) samples) number) }
     {
-        let earlier = &self.state.earlier;
         let nearer = number / 4;
-        if nearer < earlier.len() {
-            self.of_region(earlier[earlier.len() - 1 - nearer], number % 4)
+        if nearer < self.rows.len() {
+            let (x, y) = (self.state.x as usize, self.state.y as usize);
+            self.rows[nearer].property(x, y, number % 4)
         } else {
-            0
+            farther_property(self.state, self.store, number)
         }
     }
+}
 
-    fn of_region(&self, region: Region, which: usize) -> i32
-        requires lies { Lies region self.now.store.now }
-        requires column { self.now.state.now.x < region.width }
-        requires in_rows { self.now.state.now.y < region.height }
-        requires few { which < 4 }
-        ensures { result ≡ int_wrap w32 (slice_index_or (earlier_properties
-            (grid_of (store_meanings S.to_int self.now.store.now) region) self.now.state.now.x self.now.state.now.y)
-            which (pos 0)) }
-    {
-        let cell = self.cell(region, self.state.x as usize, self.state.y as usize);
-        match which {
-            0 => reduced_absolute(cell),
-            1 => cell,
-            2 => reduced((cell as i64 - self.expected(region) as i64).abs()),
-            _ => cell.wrapping_sub(self.expected(region)),
-        }
-    }
-
-    fn cell(&self, region: Region, x: usize, y: usize) -> i32
-        requires lies { Lies region self.now.store.now }
-        requires column { x < region.width }
-        requires in_rows { y < region.height }
-        ensures { result ≡ at (grid_of (store_meanings S.to_int self.now.store.now) region) x y }
-    {
-        region_get(self.store, region, x, y).to_i32()
-    }
-
-    fn expected(&self, region: Region) -> i32
-        requires lies { Lies region self.now.store.now }
-        requires column { self.now.state.now.x < region.width }
-        requires in_rows { self.now.state.now.y < region.height }
-        ensures { result ≡ expected (grid_of (store_meanings S.to_int self.now.store.now) region).cells region.width
-            self.now.state.now.x self.now.state.now.y }
-    {
-        let (x, y) = (self.state.x as usize, self.state.y as usize);
-        if x > 0 && y > 0 {
-            i32::grad_clamped(
-                self.cell(region, x, y - 1),
-                self.cell(region, x - 1, y),
-                self.cell(region, x - 1, y - 1),
-            )
-        } else if x > 0 {
-            self.cell(region, x - 1, 0)
-        } else if y > 0 {
-            self.cell(region, 0, y - 1)
-        } else {
-            0
-        }
+// A property of an earlier channel of which no row is at hand, or 0 where there is none.
+#[inline(never)]
+fn farther_property<S: Sample>(
+    state: &PredictorState<S>,
+    store: &[AlignedGrid<S>],
+    number: usize,
+) -> i32
+    requires { IsReady state.now store.now }
+    ensures { (s : Setting) (samples : List ℤ) → StandsAt state.now s samples → result ≡ int_wrap w32
+        (earlier_property (surroundings s (store_meanings S.to_int store.now) samples) number) }
+{
+    let earlier = &state.earlier;
+    let nearer = number / 4;
+    if nearer < earlier.len() {
+        let (x, y) = (state.x as usize, state.y as usize);
+        let region = earlier[earlier.len() - 1 - nearer];
+        EarlierRow::of(store, region, y).property(x, y, number % 4)
+    } else {
+        0
     }
 }
 

@@ -1,12 +1,51 @@
-use Rattle.std.proofs.Common.{◌≡◌, ◌*◌, ◌≤◌, map, length, arith, ap, subst, ◌∙◌}
+use Rattle.std.proofs.Common.{◌≡◌, ℕ, ℤ, ◌*◌, ◌<◌, ◌≤◌, List, [], map, length, arith, ap, subst, ◌∙◌}
 use Rattle.std.proofs.lemmas.List.{length-map, take_all}
 use Rattle.std.proofs.lemmas.Result.{err_from_is_err_and}
 use Rattle.jxlm_base.specs.Bits.{bytes_of}
-use Rattle.jxlm_part.specs.Inner.Rows.{IsAway, ReadsCells, StandsInRow, rule_in}
+use Rattle.jxlm_base.specs.Grid.{Grid}
+use Rattle.jxlm_tree.specs.EarlierRows.{AreRowsOf, HoldRows}
+use Rattle.jxlm_tree.specs.Standing.{IsReady}
+use Rattle.jxlm_tree.specs.declared.earlier.EarlierRow.{EarlierRow}
+use Rattle.jxlm_tree.specs.declared.state.PredictorState.{PredictorState}
+use Rattle.jxlm_part.specs.Inner.Channels.{region_at, setting_of}
+use Rattle.jxlm_part.specs.Inner.Rows.{IsAway, IsDecoding, ReadsCells, StandsInRow, rule_in}
 use Rattle.jxlm_part.specs.Inner.Source.{source}
-use Rattle.jxlm_part.specs.Reading.{cost_of}
-use Rattle.jxlm_part.proofs.CellLaws.{none_read}
+use Rattle.jxlm_part.specs.Reading.{cost_of, regions_of}
+use Rattle.jxlm_part.specs.declared.coding.PartCoding.{PartCoding}
+use Rattle.jxlm_part.proofs.CellLaws.{is_ready, none_read, rows_are}
 use Rattle.jxlm_part.proofs.rows.read_row.Goals as goal
+
+module _ {D X : Type 0} (coding : PartCoding D) (to_int : X → ℤ) (store : List (Grid X)) (i y : ℕ) (clusters : List ℕ) (row : List ℤ) (state : PredictorState X) (here : IsDecoding coding i store clusters)
+    (below : y < (region_at (regions_of coding) i).height) (long : length row ≡ (region_at (regions_of coding) i).width) (stands : StandsInRow coding to_int store i y [] state) where
+  -- at its first cell the state can give the row's properties
+  ready : IsReady state store
+  ready = is_ready coding here.part.coding i here.channel to_int store row 0 y here.part.lie here.columns below long state stands
+
+  -- rows of earlier channels that the state holds there are those of this row
+  rows_of_row : (rows : List (EarlierRow X)) → HoldRows state store rows → AreRowsOf (setting_of coding i).earlier store y rows
+  rows_of_row rows held = rows_are coding here.part.coding i here.channel to_int store row 0 y here.part.lie here.columns below long state stands rows held
+
+pub of-earlier-requires-after_bounds : goal.of-earlier-requires-after_bounds
+of-earlier-requires-after_bounds g c κs within = (
+  omega arith,
+  ready c.args.coding.now g.S.Sealed.to_int c.args.store.now c.args.i c.args.y (g.D.Decoder.meaning.cluster_map c.args.decoder.now) (map g.S.Sealed.to_int c.args.row.now) c.args.state.now
+      c.requires.here c.requires.in_rows (length-map c.args.row.now g.S.Sealed.to_int ∙ c.requires.long) c.requires.stands,
+)
+
+pub read_cells-requires-clause-rows : goal.read_cells-requires-clause-rows
+read_cells-requires-clause-rows g c κs within = rw c.rows-rows.ensures
+    (rows_of_row c.args.coding.now g.S.Sealed.to_int c.args.store.now c.args.i c.args.y (g.D.Decoder.meaning.cluster_map c.args.decoder.now) (map g.S.Sealed.to_int c.args.row.now) c.args.state.now
+    c.requires.here c.requires.in_rows (length-map c.args.row.now g.S.Sealed.to_int ∙ c.requires.long) c.requires.stands _ c.of-earlier.ensures.held)
+
+pub read_cells-requires-2-clause-rows : goal.read_cells-requires-2-clause-rows
+read_cells-requires-2-clause-rows g c κs within = rw c.rows-rows.ensures
+    (rows_of_row c.args.coding.now g.S.Sealed.to_int c.args.store.now c.args.i c.args.y (g.D.Decoder.meaning.cluster_map c.args.decoder.now) (map g.S.Sealed.to_int c.args.row.now) c.args.state.now
+    c.requires.here c.requires.in_rows (length-map c.args.row.now g.S.Sealed.to_int ∙ c.requires.long) c.requires.stands _ c.of-earlier.ensures.held)
+
+pub read_cells-requires-3-clause-rows : goal.read_cells-requires-3-clause-rows
+read_cells-requires-3-clause-rows g c κs within = rw c.rows-rows.ensures
+    (rows_of_row c.args.coding.now g.S.Sealed.to_int c.args.store.now c.args.i c.args.y (g.D.Decoder.meaning.cluster_map c.args.decoder.now) (map g.S.Sealed.to_int c.args.row.now) c.args.state.now
+    c.requires.here c.requires.in_rows (length-map c.args.row.now g.S.Sealed.to_int ∙ c.requires.long) c.requires.stands _ c.of-earlier.ensures.held)
 
 pub returns-in_err-read_cells-clause-err : goal.returns-in_err-read_cells-clause-err
 returns-in_err-read_cells-clause-err g c =

@@ -1,8 +1,6 @@
+use Rattle.jxlm_tree.proofs.EarlierLaws.{no_rows}
+use Rattle.jxlm_tree.specs.Standing.{earlier_held, row_of}
 use Rattle.jxlm_tree.proofs.state.PredictorState.properties.Goals as goal
 
-pub returns-clause-current : goal.returns-clause-current
-returns-clause-current g c = record {
-  ready = c.requires.ready;
-  around_is = c.around-around.ensures;
-  correction_is = λ s samples stands. c.correction-correction.ensures s samples stands (c.around-around.ensures s samples stands);
-}
+pub properties_by_rows-requires-clause-rows : goal.properties_by_rows-requires-clause-rows
+properties_by_rows-requires-clause-rows g c = no_rows (earlier_held c.args.self.now) c.args.store.now (row_of c.args.self.now)
