@@ -16,7 +16,7 @@ use Rattle.jxlm_base.specs.declared.error.Error.{Error}
 use Rattle.jxlm_base.specs.declared.subgrid.Region.{Region}
 use Rattle.jxlm_base.proofs.Regions.{buffer_of-meanings}
 use Rattle.jxlm_chain.specs.Chain.{Chain}
-use Rattle.jxlm_chain.specs.Inner.Lying.{HasTables, LieIn}
+use Rattle.jxlm_chain.specs.Lying.{HasTables, LieIn}
 use Rattle.jxlm_chain.specs.Layout.{HasBuffers, Layout, layout_after_all}
 use Rattle.jxlm_chain.specs.Shape.{SameShape}
 use Rattle.jxlm_chain.specs.Steps.{CanUndoAll, IsNarrowStore}

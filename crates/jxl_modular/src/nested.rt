@@ -6,7 +6,7 @@ ghost use Rattle.std.specs.Option.{option_copied};
 ghost use Rattle.jxlm_base.specs.Bits.{bytes_of, position_of};
 ghost use Rattle.jxlm_base.specs.ErrorKind.{NoMemory, UnlessMemory, kind_of};
 ghost use Rattle.jxlm_base.specs.Grammar.{IsErrorAt};
-ghost use Rattle.jxlm_chain.specs.Inner.Ends.{HasEnds};
+ghost use Rattle.jxlm_chain.specs.Ends.{HasEnds};
 ghost use Rattle.jxlm_chain.specs.Placed.{sides_in};
 ghost use Rattle.jxlm_chain.specs.Undo.{UndoesAll};
 ghost use Rattle.jxlm_chain.specs.Undoings.{undos_of};

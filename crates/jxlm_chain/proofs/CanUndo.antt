@@ -16,7 +16,7 @@ use Rattle.jxlm_transform.specs.Recoloured.{HaveOneSize}
 use Rattle.jxlm_transform.specs.declared.transform.Palette.{Palette}
 use Rattle.jxlm_transform.specs.declared.transform.Rct.{Rct}
 use Rattle.jxlm_chain.specs.Layout.{Layout, layout_after, no_region}
-use Rattle.jxlm_chain.specs.Inner.Lying.{HasTables, LieIn}
+use Rattle.jxlm_chain.specs.Lying.{HasTables, LieIn}
 use Rattle.jxlm_chain.specs.Steps.{CanUndo, CanUndoAll}
 use Rattle.jxlm_transform.specs.Steps.{HasChannels}
 use Rattle.jxlm_chain.specs.Undo.{UndoRct, UndoPalette, UndoSqueeze, undo_of, undo_of_all}

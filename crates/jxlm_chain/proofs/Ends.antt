@@ -7,7 +7,7 @@ use Rattle.jxlm_base.specs.declared.subgrid.Region.{Region}
 use Rattle.jxlm_transform.specs.ChannelSteps.{range, with_halves}
 use Rattle.jxlm_transform.specs.declared.transform.SqueezeParams.{SqueezeParams}
 use Rattle.jxlm_transform.specs.SqueezedRegions.{average_region, residual_region}
-use Rattle.jxlm_chain.specs.Inner.Ends.{HasEnds}
+use Rattle.jxlm_chain.specs.Ends.{HasEnds}
 use Rattle.jxlm_chain.proofs.StepParts.{all_first, all_halves, all_range}
 
 average_ends : (horizontal : Bool) (r : Region) → HasEnds r → HasEnds (average_region horizontal r)

@@ -13,7 +13,7 @@ use Rattle.jxlm_base.proofs.Regions.{HasCell_at, apart_at, IsFull-grid_of}
 use Rattle.jxlm_transform.specs.Channels.{AreGridsOf, AreRegionsOf, Channel}
 use Rattle.jxlm_transform.specs.ChannelSteps.{range}
 use Rattle.jxlm_chain.specs.Layout.{Layout}
-use Rattle.jxlm_chain.specs.Inner.Lying.{LieIn}
+use Rattle.jxlm_chain.specs.Lying.{LieIn}
 use Rattle.jxlm_chain.proofs.Ranges.{range_at, range_length}
 
 module _ {S : Type 0} (f : S → ℤ) where

@@ -17,7 +17,7 @@ use Rattle.jxlm_transform.specs.declared.transform.Palette.{Palette}
 use Rattle.jxlm_transform.specs.declared.transform.SqueezeParams.{SqueezeParams}
 use Rattle.jxlm_transform.specs.SqueezedRegions.{average_region, residual_region}
 use Rattle.jxlm_chain.specs.Layout.{Layout, whole_regions, first_layout, layout_after, layout_after_all, no_region, sides_of, buffers_of, HasBuffers}
-use Rattle.jxlm_chain.specs.Inner.Lying.{HasTables, LieIn}
+use Rattle.jxlm_chain.specs.Lying.{HasTables, LieIn}
 use Rattle.jxlm_transform.specs.Steps.{Sides, tables_of, HasChannels}
 use Rattle.jxlm_chain.proofs.ListsApart.{pairs_cons, zip_length, zip_parts}
 use Rattle.jxlm_chain.proofs.StepFacts.{PaletteApplies, SqueezeApplies, rct_applies, palette_applies, squeeze_applies, same_ok, first_step}

@@ -9,7 +9,7 @@ use Rattle.jxlm_transform.specs.Channels.{Channel, ChannelList}
 use Rattle.jxlm_transform.specs.ChannelSteps.{Step, RctStep, PaletteStep, SqueezeStep, list_after_all}
 use Rattle.jxlm_chain.specs.Chain.{Codes, Chain}
 use Rattle.jxlm_chain.specs.Layout.{Layout, layout_after, layout_after_all}
-use Rattle.jxlm_chain.specs.Inner.Lying.{LieIn, HasTables}
+use Rattle.jxlm_chain.specs.Lying.{LieIn, HasTables}
 use Rattle.jxlm_transform.specs.Steps.{HasChannels}
 use Rattle.jxlm_chain.specs.Undo.{Undo, UndoesAll, undo_of, undo_of_all}
 use Rattle.jxlm_chain.proofs.KeptGrids.{grids_of_lying}

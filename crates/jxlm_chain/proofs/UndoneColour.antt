@@ -13,7 +13,7 @@ use Rattle.jxlm_transform.specs.declared.transform.Rct.{Rct}
 use Rattle.jxlm_chain.specs.Chain.{Codes}
 use Rattle.jxlm_chain.proofs.SampleGrids.{AreSampleGrids}
 use Rattle.jxlm_chain.specs.Layout.{Layout, layout_after}
-use Rattle.jxlm_chain.specs.Inner.Lying.{LieIn}
+use Rattle.jxlm_chain.specs.Lying.{LieIn}
 use Rattle.jxlm_chain.specs.Undo.{UndoRct, Undoes, UndoesAll, undo_of}
 use Rattle.jxlm_chain.proofs.KeptGrids.{grid_out_of_range}
 use Rattle.jxlm_chain.proofs.Ranges.{range_map, with_own, with_range_same}

@@ -12,7 +12,7 @@ use Rattle.jxlm_transform.specs.Palette.{IsPaletteOf}
 use Rattle.jxlm_transform.specs.declared.transform.Palette.{Palette}
 use Rattle.jxlm_chain.specs.Chain.{Codes}
 use Rattle.jxlm_chain.specs.Layout.{Layout, layout_after, no_region}
-use Rattle.jxlm_chain.specs.Inner.Lying.{LieIn}
+use Rattle.jxlm_chain.specs.Lying.{LieIn}
 use Rattle.jxlm_chain.specs.Undo.{UndoPalette, Undoes, UndoesAll, undo_of}
 use Rattle.jxlm_chain.proofs.KeptGrids.{grid_out_of_range}
 use Rattle.jxlm_chain.proofs.Ranges.{range_map, with_range_map, with_range_same}

@@ -19,7 +19,7 @@ use Rattle.jxlm_transform.proofs.SqueezedRegions.{averages_stood, residuals_stoo
 use Rattle.jxlm_chain.specs.Chain.{Codes}
 use Rattle.jxlm_chain.proofs.SampleGrids.{AreSampleGrids}
 use Rattle.jxlm_chain.specs.Layout.{Layout, layout_after}
-use Rattle.jxlm_chain.specs.Inner.Lying.{LieIn}
+use Rattle.jxlm_chain.specs.Lying.{LieIn}
 use Rattle.jxlm_chain.specs.Undo.{UndoSqueeze, UndoesAll, undo_of}
 use Rattle.jxlm_chain.proofs.KeptGrids.{grid_apart, grid_out_of_range}
 use Rattle.jxlm_chain.proofs.Ranges.{range_map, with_halves_map, with_halves_same, map_map_same}

@@ -1,3 +1,1 @@
-pub mod Ends
-pub mod Lying
 pub mod Needs

@@ -1,6 +1,8 @@
 pub mod Chain
+pub mod Ends
 pub mod Grids
 pub mod Layout
+pub mod Lying
 pub mod Placed
 pub mod Places
 pub mod Scratch

@@ -4,7 +4,7 @@ ghost use Rattle.std.specs.Prelude.{◌≡◌, ℕ, ◌+◌, ◌^◌, ◌<◌, �
 ghost use Rattle.std.specs.List.{All};
 ghost use Rattle.jxlm_base.specs.Squeeze.{averages as the_averages};
 ghost use Rattle.jxlm_transform.specs.SqueezedRegions.{average_region, residual_region};
-ghost use Rattle.jxlm_chain.specs.Inner.Ends.{HasEnds};
+ghost use Rattle.jxlm_chain.specs.Ends.{HasEnds};
 ghost use Rattle.jxlm_chain.specs.Layout.{first_layout, layout_after, whole_regions};
 ghost use Rattle.jxlm_transform.specs.ChannelSteps.{PaletteStep, SqueezeStep, range, with_halves as the_halves};
 

@@ -3,7 +3,7 @@ use Rattle.std.specs.List.{All}
 use Rattle.std.proofs.lemmas.List.{take_all}
 use Rattle.jxlm_base.specs.declared.subgrid.Region.{Region}
 use Rattle.jxlm_transform.specs.Channels.{Channel}
-use Rattle.jxlm_chain.specs.Inner.Ends.{HasEnds}
+use Rattle.jxlm_chain.specs.Ends.{HasEnds}
 use Rattle.jxlm_chain.specs.Layout.{Layout, whole_regions, first_layout}
 use Rattle.jxlm_chain.proofs.Ends.{ends_push}
 use Rattle.jxlm_chain.proofs.WholeRegions.{whole-next, length-whole}

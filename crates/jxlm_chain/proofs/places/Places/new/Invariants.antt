@@ -1,6 +1,6 @@
 use Rattle.std.proofs.Common.{◌≡◌, take}
 use Rattle.std.specs.List.{All}
-use Rattle.jxlm_chain.specs.Inner.Ends.{HasEnds}
+use Rattle.jxlm_chain.specs.Ends.{HasEnds}
 use Rattle.jxlm_chain.specs.Layout.{whole_regions}
 use Rattle.jxlm_chain.proofs.places.Places.new.Given as goal
 
