@@ -109,8 +109,8 @@ fn finished(ty: u32, a: i16x8, b: i16x8, c: i16x8) -> (i16x8, i16x8, i16x8)
     (a, second_samples(ty, a, b, f), f)
 }
 
-/// Finishes three rows of one length, eight cells at a time. Returns how many cells are finished: all but those that are
-/// left over.
+/// Finishes three rows of one length, eight cells at a time. Returns how many cells are finished: all but those that
+/// are left over.
 #[inline(always)]
 pub(crate) fn finish_eights(ty: u32, a: &mut [i16], b: &mut [i16], c: &mut [i16]) -> usize
     requires second { length b.old ≡ length a.old }

@@ -184,8 +184,8 @@ pub(crate) fn line_fits(line: &[i16])
     }
 }
 
-/// Undoes one pair of rows of several columns, eight at a time: the samples before the pair are in `strip` from `at` on,
-/// and its own are written after them. Returns how many columns are undone: all but those that are left over.
+/// Undoes one pair of rows of several columns, eight at a time: the samples before the pair are in `strip` from `at`
+/// on, and its own are written after them. Returns how many columns are undone: all but those that are left over.
 #[inline(always)]
 pub(crate) fn unsqueeze_eights(
     averages: &[i16],

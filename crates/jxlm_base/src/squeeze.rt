@@ -207,14 +207,12 @@ pub(crate) trait Lines: Pairs {
         ensures len { length strip.new ≡ length strip.old }
         ensures kept { (i : ℕ) → i < at + length averages.now → number_at Self.to_int strip.new i
             ≡ number_at Self.to_int strip.old i }
-        ensures first { (j : ℕ) → j < length averages.now → number_at Self.to_int strip.new
-            (at + length averages.now + j) ≡ first_of Self.width (number_at Self.to_int strip.old (at + j))
-            (number_at Self.to_int averages.now j) (number_at Self.to_int next.now j)
-            (number_at Self.to_int residuals.now j) }
-        ensures second { (j : ℕ) → j < length averages.now → number_at Self.to_int strip.new
-            (at + 2 * length averages.now + j) ≡ second_of Self.width (number_at Self.to_int strip.old (at + j))
-            (number_at Self.to_int averages.now j) (number_at Self.to_int next.now j)
-            (number_at Self.to_int residuals.now j) }
+        ensures first { (j : ℕ) → j < length averages.now → number_at Self.to_int strip.new (at + length averages.now
+            + j) ≡ first_of Self.width (number_at Self.to_int strip.old (at + j)) (number_at Self.to_int averages.now j)
+            (number_at Self.to_int next.now j) (number_at Self.to_int residuals.now j) }
+        ensures second { (j : ℕ) → j < length averages.now → number_at Self.to_int strip.new (at + 2 * length
+            averages.now + j) ≡ second_of Self.width (number_at Self.to_int strip.old (at + j)) (number_at Self.to_int
+            averages.now j) (number_at Self.to_int next.now j) (number_at Self.to_int residuals.now j) }
         ensures averages_fit { (j : ℕ) → j < length averages.now → FitsSigned Self.width
             (number_at Self.to_int averages.now j) }
         ensures residuals_fit { (j : ℕ) → j < length averages.now → FitsSigned Self.width
