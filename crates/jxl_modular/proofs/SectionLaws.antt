@@ -114,7 +114,7 @@ module _ {S D : Type 0} (d : Meaning D) (w : Width) (to_int : S → ℤ) (zero :
 
   -- either kind of turn keeps the cells of other parts
   turned_outside : (partly : Bool) (s : Section) (t : Turn) (old new : List (Grid S)) → Turned d w to_int zero x passes global partly s t old new → KeepsOutside (held_in x passes s.part) old new
-  turned_outside partly s t old new h = match_either {P = NestedOk d w to_int zero x passes global partly s t old new} {Q = PlainTurn d w to_int zero x passes global partly s (Ok tt) t old new} s.nested (λ n. n.outside) (λ p. p.outside) h
+  turned_outside partly s t old new h = match_either {P = NestedOk d w to_int zero x passes global partly s t old new} {Q = PlainTurn d w to_int x passes partly s (Ok tt) t old new} s.nested (λ n. n.outside) (λ p. p.outside) h
 
   later_keep : (partly : Bool) (part : SectionPart) (ss : List Section) (ts : List Turn) (old new : List (Grid S)) → AllLie x.coded old → IsNone part ss → Left partly ss ts old new → stand part new ≡ stand part old
   later_keep partly part [] [] old new lie none left = ap (stand part) left
@@ -126,8 +126,8 @@ module _ {S D : Type 0} (d : Meaning D) (w : Width) (to_int : S → ℤ) (zero :
       ∙ other_stands s.part part old between (All-head (λ (s : Section). s.part ≡ part → ⊥) s ss none) lie (turned_outside partly s t old between turn)
 
   -- a section that has no samples missing is coded whole, for so many nodes
-  whole_plain : (partly : Bool) (s : Section) (t : Turn) (old new : List (Grid S)) → t.partial ≡ false → PlainTurn d w to_int zero x passes global partly s (Ok tt) t old new →
-      CodesPlain d w to_int zero x passes global s (stand s.part new) (most t)
+  whole_plain : (partly : Bool) (s : Section) (t : Turn) (old new : List (Grid S)) → t.partial ≡ false → PlainTurn d w to_int x passes partly s (Ok tt) t old new →
+      CodesPlain d w to_int x passes s (stand s.part new) (most t)
   whole_plain partly s t old new none h =
       let whole = whole_of d w _ (bytes_of s.bits) x.config.decoder _ _ partly t.tried refl none h.answers in
       record {

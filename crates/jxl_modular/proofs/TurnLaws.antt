@@ -19,7 +19,7 @@ use Rattle.jxlm_part.specs.Decode.{MovesWithin}
 use Rattle.jxlm_part.specs.Part.{cell_count}
 use Rattle.jxlm_tree.specs.Tree.{Config}
 use Rattle.jxl_modular.specs.Image.{Image, IsOnlyImage, coded_grids, cost_of, image_grids}
-use Rattle.jxl_modular.specs.Inner.Turns.{HasStopped, HasTurned, TurnGives}
+use Rattle.jxl_modular.specs.Inner.Turns.{HasStopped, HasTurned, PlainGives, TurnGives}
 use Rattle.jxl_modular.specs.SameButCells.{SameButCells}
 use Rattle.jxl_modular.proofs.Filling.{only_of}
 use Rattle.jxl_modular.proofs.Laid.{same_but_store}
@@ -92,34 +92,35 @@ pub stays : (now whole b : Bool) → now ≡ whole → b ≡ true → now ≡ (w
 stays now true b h k = h ∙ sym k
 stays now false b h k = h
 
+-- ---- a section without a header of its own: what decoding its part gives is its turn
+
+module _ {S D : Type 0} (d : Meaning D) (w : Width) (to_int : S → ℤ) (x : Image S D) (passes : List Pass) (partly : Bool)
+    (s : Section) (p : ℕ) (new : Image S D) (begins still : Bool) (before after : ℕ) (there : IsTrue begins ↔ (0 < cell_count (channels_in x passes s.part)))
+    (outside : KeepsOutside (held_in x passes s.part) x.store new.store) where
+  abbrev Gives : Result (Unit {0}) Error → Type 0
+  Gives r = PartOfGives d w to_int (bytes_of s.bits) s.stream_index passes s.part x (position_of s.bits) begins before new p still after partly r
+
+  abbrev turn_with : ℕ → Turn
+  turn_with tried = record { position = p; partial = still; tried = tried; cost = cost_of x }
+
+  turn_of : (r : Result (Unit {0}) Error) (gives : Gives r) → PlainTurn d w to_int x passes partly s r (turn_with gives.0) x.store new.store
+  turn_of r gives = record {
+    answers = rw (as_test begins (cell_count (channels_in x passes s.part)) there) at gives.1;
+    outside = outside;
+    costs = refl;
+  }
+
+  pub plain_ok : Gives (Ok tt) → PlainGives d w to_int x passes partly s (Ok (not still)) x.store new.store before after
+  plain_ok gives = (turn_with gives.0, (turn_of (Ok tt) gives, refl), gives.2)
+
+  pub plain_err : (e : Error) → Gives (Err e) → PlainGives d w to_int x passes partly s (Err e) x.store new.store before after
+  plain_err e gives = (turn_with gives.0, turn_of (Err e) gives, gives.2)
+
 -- ---- one turn more
 
 module _ {S D : Type 0} (d : Meaning D) (w : Width) (to_int : S → ℤ) (zero : S) (x : Image S D) (passes : List Pass) (global : Option (Config D)) (partly : Bool) where
   abbrev Left : List Section → List Turn → List (Grid S) → List (Grid S) → Type 0
   Left = AllTurn d w to_int zero x passes global partly
-
-  -- what decoding a part gives is a section's turn
-  module _ (s : Section) (p : ℕ) (new : Image S D) (begins still : Bool) (before after : ℕ) (there : IsTrue begins ↔ (0 < cell_count (channels_in x passes s.part)))
-      (outside : KeepsOutside (held_in x passes s.part) x.store new.store) where
-    abbrev Gives : Result (Unit {0}) Error → Type 0
-    Gives r = PartOfGives d w to_int (bytes_of s.bits) s.stream_index passes s.part x (position_of s.bits) begins before new p still after partly r
-
-    abbrev turn_with : ℕ → Turn
-    turn_with tried = record { position = p; partial = still; tried = tried; cost = cost_of x }
-
-    turn_of : (r : Result (Unit {0}) Error) (gives : Gives r) → PlainTurn d w to_int zero x passes global partly s r (turn_with gives.0) x.store new.store
-    turn_of r gives = record {
-      answers = rw (as_test begins (cell_count (channels_in x passes s.part)) there) at gives.1;
-      outside = outside;
-      costs = refl;
-    }
-
-    module _ (plain : s.nested ≡ false) where
-      pub turn_ok : Gives (Ok tt) → TurnGives d w to_int zero x passes global partly s (Ok (not still)) x.store new.store before after
-      turn_ok gives = (turn_with gives.0, (rw plain (turn_of (Ok tt) gives), refl), gives.2)
-
-      pub turn_err : (e : Error) → Gives (Err e) → TurnGives d w to_int zero x passes global partly s (Err e) x.store new.store before after
-      turn_err e gives = (turn_with gives.0, rw plain (turn_of (Err e) gives), gives.2)
 
   -- the turn of an image that differs in cells alone is one of the earlier image
   match_both : {P Q R T : Type 0} (b : Bool) → (P → R) → (Q → T) → MatchBool b P Q → MatchBool b R T
@@ -127,7 +128,7 @@ module _ {S D : Type 0} (d : Meaning D) (w : Width) (to_int : S → ℤ) (zero :
   match_both false f g h = g h
 
   plain_of_store : (store : List (Grid S)) (s : Section) (r : Result (Unit {0}) Error) (t : Turn) (old new : List (Grid S)) →
-      PlainTurn d w to_int zero (record x { store = store }) passes global partly s r t old new → PlainTurn d w to_int zero x passes global partly s r t old new
+      PlainTurn d w to_int (record x { store = store }) passes partly s r t old new → PlainTurn d w to_int x passes partly s r t old new
   plain_of_store store s r t old new h = record { answers = h.answers; outside = h.outside; costs = h.costs }
 
   ok_of_image : (y : Image S D) (s : Section) (t : Turn) (old new : List (Grid S)) → SameButCells x y →

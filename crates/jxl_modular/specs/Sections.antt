@@ -1,6 +1,6 @@
 -- Whole runs: an image decoded from sections, each of which codes one part
 -- (ISO/IEC 18181-1, frame: sections; Modular: image decoding, global and group sub-bitstreams).
-use Rattle.std.specs.Prelude.{◌≡◌, ◌↔◌, ◌⊎◌, ℕ, ◌+◌, ◌*◌, ℤ, List, [], ◌∷◌, ◌++◌, map, sum, Bool, true, false, nat_lt, IsTrue, Any, MatchBool, Option, Result, Ok, Err}
+use Rattle.std.specs.Prelude.{◌≡◌, ◌↔◌, ◌⊎◌, ℕ, ◌+◌, ◌*◌, ℤ, List, [], ◌∷◌, ◌++◌, map, sum, Bool, false, nat_lt, IsTrue, Any, MatchBool, Option, Result, Ok, Err}
 use Rattle.std.specs.List.{All, AllZip}
 use Rattle.std.specs.Int.{Width}
 use Rattle.jxlm_base.specs.Bits.{bytes_of, position_of}
@@ -63,14 +63,14 @@ module _ {S D : Type 0} (x : Image S D) (passes : List Pass) where
   IsComplete sections = (part : SectionPart) (n i j : ℕ) → HaveCell (pieces_of x passes part) n i j →
       Any (λ s. s.part ≡ part) sections
 
--- what is decoded: what a decoder means, how samples are kept, and which is 0, the image as it is before all sections, its
--- passes, and the global tree, where there is one
-module _ {S D : Type 0} (d : Meaning D) (w : Width) (to_int : S → ℤ) (zero : S) (x : Image S D) (passes : List Pass) (global : Option (Config D)) where
   -- the channels of a part as a header of its own finds them: none is a meta channel
   abbrev pub list_in : SectionPart → ChannelList
   list_in part = record { channels = channels_in x passes part; nb_meta = 0 }
 
-  -- a section without a header codes these grids of its part whole, whose samples may take so many nodes
+-- a section without a header of its own: what a decoder means, how samples are kept, the image as it is before all
+-- sections, and its passes
+module _ {S D : Type 0} (d : Meaning D) (w : Width) (to_int : S → ℤ) (x : Image S D) (passes : List Pass) where
+  -- it codes these grids of its part whole, whose samples may take so many nodes
   pub record CodesPlain (s : Section) (held : List (Grid ℤ)) (nodes : ℕ) : Type 0 where
     pub end : ℕ
     pub coded : IsCodedWhole d w (part_in x passes s.part s.stream_index) (bytes_of s.bits) x.config.decoder
@@ -78,23 +78,38 @@ module _ {S D : Type 0} (d : Meaning D) (w : Width) (to_int : S → ℤ) (zero :
     pub sizes : AreGridsOf (channels_in x passes s.part) held
     pub costs : nodes ≡ cell_count (channels_in x passes s.part) * cost_of x
 
-  -- A section with a header of its own codes some grids whole, whose samples may take so many nodes, and these grids of
-  -- its part are the only ones that the header's transforms turn into them.
+  -- what decoding it returns, and what it leaves: samples of other parts stay
+  pub record PlainTurn (partly : Bool) (s : Section) (result : Result (Unit {0}) Error) (t : Turn) (old new : List (Grid S)) : Type 0 where
+    pub answers : DecodeAnswers d w (part_in x passes s.part s.stream_index) (bytes_of s.bits) x.config.decoder
+        (standing_in to_int (held_in x passes s.part) old (position_of s.bits)
+        (nat_lt 0 (cell_count (channels_in x passes s.part))))
+        (standing_in to_int (held_in x passes s.part) new t.position t.partial) partly result t.tried
+    pub outside : KeepsOutside (held_in x passes s.part) old new
+    pub costs : t.cost ≡ cost_of x
+
+-- all that is decoded: with it which sample is 0, and the global tree, where there is one
+module _ {S D : Type 0} (d : Meaning D) (w : Width) (to_int : S → ℤ) (zero : S) (x : Image S D) (passes : List Pass)
+    (global : Option (Config D)) where
+  -- A section with a header of its own: header and tree stand in its bits; behind them it codes samples of the header's
+  -- channels whole, which may take so many nodes; and these grids of its part are the only ones that the header's
+  -- transforms turn into those samples.
   pub record CodesNested (s : Section) (held : List (Grid ℤ)) (nodes : ℕ) : Type 0 where
     pub head : Opening
     pub config : Config D
     pub samples_at : ℕ
     pub samples : List (Grid ℤ)
     pub end : ℕ
-    pub start : IsStartAt d global (bytes_of s.bits) (list_in s.part) (position_of s.bits) head config samples_at
-    pub coded : IsCodedWhole d w (coded_part s.stream_index head config) (bytes_of s.bits) config.decoder samples_at samples end
+    pub start : IsStartAt d global (bytes_of s.bits) (list_in x passes s.part) (position_of s.bits) head config
+        samples_at
+    pub coded : IsCodedWhole d w (coded_part s.stream_index head config) (bytes_of s.bits) config.decoder samples_at
+        samples end
     pub sizes : AreGridsOf head.coded.list.channels samples
-    pub only : chain.IsOnlyImage w x.bit_depth head.coded.steps (list_in s.part) held samples
+    pub only : chain.IsOnlyImage w x.bit_depth head.coded.steps (list_in x passes s.part) held samples
     pub costs : nodes ≡ cell_count head.coded.list.channels * (depth config.tree + 1)
 
   -- either, as the section says
   abbrev pub CodesPart : Section → List (Grid ℤ) → ℕ → Type 0
-  CodesPart s held nodes = MatchBool s.nested (CodesNested s held nodes) (CodesPlain s held nodes)
+  CodesPart s held nodes = MatchBool s.nested (CodesNested s held nodes) (CodesPlain d w to_int x passes s held nodes)
 
   -- The headline: there is one list of coded grids; each section codes its part of them whole, each part with samples
   -- has a section, the image is the only one that the transforms turn into these grids, and so many nodes were read.
@@ -107,27 +122,27 @@ module _ {S D : Type 0} (d : Meaning D) (w : Width) (to_int : S → ℤ) (zero :
     pub only : IsOnlyImage w x image coded
     pub counted : MovesWithin before after (sum costs)
 
-  -- what decoding a section without a header of its own returns, and what it leaves: samples of other parts stay
-  pub record PlainTurn (partly : Bool) (s : Section) (result : Result (Unit {0}) Error) (t : Turn) (old new : List (Grid S)) : Type 0 where
-    pub answers : DecodeAnswers d w (part_in x passes s.part s.stream_index) (bytes_of s.bits) x.config.decoder
-        (standing_in to_int (held_in x passes s.part) old (position_of s.bits) (nat_lt 0 (cell_count (channels_in x passes s.part))))
-        (standing_in to_int (held_in x passes s.part) new t.position t.partial) partly result t.tried
-    pub outside : KeepsOutside (held_in x passes s.part) old new
-    pub costs : t.cost ≡ cost_of x
-
-  -- what decoding a section with a header of its own leaves, or which error it returns
+  -- what decoding a section with a header of its own leaves: samples of other parts stay
   abbrev pub NestedOk : Bool → Section → Turn → List (Grid S) → List (Grid S) → Type 0
-  NestedOk partly s t old new = NestedTurn d w to_int zero x.bit_depth global (bytes_of s.bits) (position_of s.bits) (list_in s.part) (held_in x passes s.part) s.stream_index partly t old new
+  NestedOk partly s t old new =
+      NestedTurn d w to_int zero x.bit_depth global (bytes_of s.bits) (position_of s.bits) (list_in x passes s.part)
+      (held_in x passes s.part) s.stream_index partly t old new
 
+  -- which error it returns, and what it leaves then
   abbrev pub NestedErr : Bool → Section → Error → Turn → List (Grid S) → List (Grid S) → Type 0
-  NestedErr partly s e t old new = NestedFails d w to_int zero x.bit_depth global (bytes_of s.bits) (position_of s.bits) (list_in s.part) (held_in x passes s.part) s.stream_index partly e t old new
+  NestedErr partly s e t old new =
+      NestedFails d w to_int zero x.bit_depth global (bytes_of s.bits) (position_of s.bits) (list_in x passes s.part)
+      (held_in x passes s.part) s.stream_index partly e t old new
 
-  -- a section's turn, with its samples or with its error
+  -- a section's turn without an error, whether it has a header of its own or not
   abbrev pub Turned : Bool → Section → Turn → List (Grid S) → List (Grid S) → Type 0
-  Turned partly s t old new = MatchBool s.nested (NestedOk partly s t old new) (PlainTurn partly s (Ok tt) t old new)
+  Turned partly s t old new =
+      MatchBool s.nested (NestedOk partly s t old new) (PlainTurn d w to_int x passes partly s (Ok tt) t old new)
 
+  -- its turn with an error
   abbrev pub TurnFails : Bool → Section → Error → Turn → List (Grid S) → List (Grid S) → Type 0
-  TurnFails partly s e t old new = MatchBool s.nested (NestedErr partly s e t old new) (PlainTurn partly s (Err e) t old new)
+  TurnFails partly s e t old new =
+      MatchBool s.nested (NestedErr partly s e t old new) (PlainTurn d w to_int x passes partly s (Err e) t old new)
 
   -- sections one after another, each decoded without an error
   abbrev pub AllTurn : Bool → List Section → List Turn → List (Grid S) → List (Grid S) → Type 0

@@ -39,22 +39,25 @@ pub struct Section<'a> {
 
 /// Decodes sections, in their order, and undoes the transforms of the whole (ISO/IEC 18181-1, Modular: image
 /// decoding). It returns whether each part with samples had a section and all samples were decoded; without
-/// `allow_partial` the first is the only question. The sections must fit the image ([`sections_fit`]). A section may have
-/// a header of its own, with transforms and a tree; `global` is the tree for headers that use a global one. Such a
-/// section is read, decoded, and its transforms undone, at its turn; its tables are there only so long.
+/// `allow_partial` the first is the only question. The sections must fit the image ([`sections_fit`]).
+///
+/// A section may have a header of its own, with transforms and a tree; `global` is the tree for headers that use a
+/// global one. Such a section is read and decoded, and its own transforms are undone, at its turn; its tables, whose
+/// samples count among its own, are gone afterwards.
 ///
 /// # Memory
 ///
-/// The list of passes, a set of the sections' parts, and at each section what a part's `decode` takes, and for one with a
-/// header also what reading an image takes but the channels' grids, and what `finish` takes; at last what `finish` takes.
+/// The list of passes, a set of the sections' parts, and at each section what a part's `decode` takes; for one with a
+/// header also what reading an image takes, but for the grids of its own channels, and what `finish` takes. At last what
+/// `finish` takes.
 ///
 /// # Errors
 ///
-/// That of the first section that has one, as a part's `decode` returns it, or as reading an image returns it for a
-/// section's own header and tree: the sections before it are decoded, it stands as `decode` leaves it, its own transforms
-/// are not undone, no later one was begun, and no transform of the whole is undone. Or it is out of memory, before a
+/// That of the first section that has one, as a part's `decode` returns it, or, of a section's own header and tree, as
+/// reading an image returns it: the sections before it are decoded, it stands as `decode` leaves it, its own transforms
+/// are not undone, no later one was begun, and no transform of the whole is undone. Or it is out of memory: before a
 /// section, in its header, before its transforms are undone, or before those of the whole are. Header, tree and sizes
-/// stay.
+/// of the image stay.
 pub fn decode_sections<S: Sample, D: Decoder>(
     alloc: Global,
     image: &mut ModularImageDestination<S, D>,
@@ -66,13 +69,14 @@ pub fn decode_sections<S: Sample, D: Decoder>(
 ) -> Result<bool>
     requires fit { SectionsFit image.old (passes_of pass_shifts.now.entries) sections.now }
     ensures decoded { result ≡ Ok true → AreDecoded D.meaning S.width S.to_int (S.from_int (pos 0)) image.old
-        (passes_of pass_shifts.now.entries) (option_copied global.entry) sections.now (image_grids S.to_int image.new) steps.old steps.new }
+        (passes_of pass_shifts.now.entries) (option_copied global.entry) sections.now (image_grids S.to_int image.new)
+        steps.old steps.new }
     ensures left { IfOk result (λ whole. SectionsLeave D.meaning S.width S.to_int (S.from_int (pos 0)) image.old
-        (passes_of pass_shifts.now.entries) (option_copied global.entry) allow_partial sections.now whole image.old.store
-        (image_grids S.to_int image.new) steps.old steps.new) }
+        (passes_of pass_shifts.now.entries) (option_copied global.entry) allow_partial sections.now whole
+        image.old.store (image_grids S.to_int image.new) steps.old steps.new) }
     ensures stopped { IfErr result (λ e. SectionsStop D.meaning S.width S.to_int (S.from_int (pos 0)) image.old
-        (passes_of pass_shifts.now.entries) (option_copied global.entry) allow_partial sections.now e image.old.store image.new.store
-        steps.old steps.new) }
+        (passes_of pass_shifts.now.entries) (option_copied global.entry) allow_partial sections.now e
+        image.old.store image.new.store steps.old steps.new) }
     ensures same { SameButCells image.old image.new }
 {
     let passes = passes(alloc, pass_shifts)?;

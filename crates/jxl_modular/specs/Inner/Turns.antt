@@ -11,9 +11,10 @@ use Rattle.jxlm_cut.specs.declared.part.SectionPart.{SectionPart}
 use Rattle.jxl_modular.specs.Groups.{held_in}
 use Rattle.jxl_modular.specs.Nested.{NestedFails, NestedTurn}
 use Rattle.jxl_modular.specs.Image.{Image}
-use Rattle.jxl_modular.specs.Sections.{AllTurn, AllWhole, Section, Turn, TurnFails, Turned, list_in, most}
+use Rattle.jxl_modular.specs.Sections.{AllTurn, AllWhole, PlainTurn, Section, Turn, TurnFails, Turned, list_in, most}
 
-module _ {S D : Type 0} (d : Meaning D) (w : Width) (to_int : S → ℤ) (zero : S) (x : Image S D) (passes : List Pass) (global : Option (Config D)) (partly : Bool) where
+module _ {S D : Type 0} (d : Meaning D) (w : Width) (to_int : S → ℤ) (zero : S) (x : Image S D) (passes : List Pass)
+    (global : Option (Config D)) (partly : Bool) where
   -- a section's turn: its samples were decoded, all of them or not, or there was an error
   abbrev pub Turns : Section → Result Bool Error → Turn → List (Grid S) → List (Grid S) → Type 0
   Turns s (Ok whole) t old new = Turned d w to_int zero x passes global partly s t old new × (whole ≡ not t.partial)
@@ -43,14 +44,26 @@ module _ {S D : Type 0} (d : Meaning D) (w : Width) (to_int : S → ℤ) (zero :
     pub ends : TurnFails d w to_int zero x passes global partly next e last between new
     pub counted : MovesWithin before after (sum (map most turns) + most last)
 
+-- what decoding a section without a header of its own returns, with what it took of steps
+module _ {S D : Type 0} (d : Meaning D) (w : Width) (to_int : S → ℤ) (x : Image S D) (passes : List Pass)
+    (partly : Bool) where
+  abbrev pub PlainTurns : Section → Result Bool Error → Turn → List (Grid S) → List (Grid S) → Type 0
+  PlainTurns s (Ok whole) t old new = PlainTurn d w to_int x passes partly s (Ok tt) t old new × (whole ≡ not t.partial)
+  PlainTurns s (Err e) t old new = PlainTurn d w to_int x passes partly s (Err e) t old new
+
+  abbrev pub PlainGives : Section → Result Bool Error → List (Grid S) → List (Grid S) → ℕ → ℕ → Type 0
+  PlainGives s result old new before after = (t : Turn) × PlainTurns s result t old new × MovesWithin before after (most t)
+
 -- what decoding a part by a header of its own returns, with what it took of steps
-module _ {S D : Type 0} (d : Meaning D) (w : Width) (to_int : S → ℤ) (zero : S) (x : Image S D) (passes : List Pass) (global : Option (Config D))
-    (bytes : List ℕ) (p : ℕ) (part : SectionPart) (stream : ℕ) (partly : Bool) where
+module _ {S D : Type 0} (d : Meaning D) (w : Width) (to_int : S → ℤ) (zero : S) (x : Image S D) (passes : List Pass)
+    (global : Option (Config D)) (bytes : List ℕ) (p : ℕ) (part : SectionPart) (stream : ℕ) (partly : Bool) where
   abbrev pub NestedTurns : Result Bool Error → Turn → List (Grid S) → List (Grid S) → Type 0
   NestedTurns (Ok whole) t old new =
-      NestedTurn d w to_int zero x.bit_depth global bytes p (list_in d w to_int zero x passes global part) (held_in x passes part) stream partly t old new × (whole ≡ not t.partial)
+      NestedTurn d w to_int zero x.bit_depth global bytes p (list_in x passes part) (held_in x passes part) stream
+      partly t old new × (whole ≡ not t.partial)
   NestedTurns (Err e) t old new =
-      NestedFails d w to_int zero x.bit_depth global bytes p (list_in d w to_int zero x passes global part) (held_in x passes part) stream partly e t old new
+      NestedFails d w to_int zero x.bit_depth global bytes p (list_in x passes part) (held_in x passes part) stream
+      partly e t old new
 
   abbrev pub NestedGives : Result Bool Error → List (Grid S) → List (Grid S) → ℕ → ℕ → Type 0
   NestedGives result old new before after = (t : Turn) × NestedTurns result t old new × MovesWithin before after (most t)

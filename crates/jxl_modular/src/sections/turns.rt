@@ -15,36 +15,22 @@ use std::alloc::Global;
 
 impl<S: Sample, D: Decoder> ModularImageDestination<S, D> {
     ghost use Rattle.jxl_modular.specs.SameButCells.{SameButCells};
-    ghost use Rattle.jxl_modular.specs.Inner.Turns.{HasTurned, HasStopped, TurnGives};
+    ghost use Rattle.jxl_modular.specs.Inner.Turns.{HasTurned, HasStopped, PlainGives, TurnGives};
 
-    /// Decodes a section, and returns whether all samples of its part were decoded.
-    fn decode_section(
+    /// Decodes a section without a header of its own, and returns whether all samples of its part were decoded.
+    fn decode_plain(
         &mut self,
         alloc: Global,
         passes: &[Pass],
         section: &Section<'_>,
-        global: Option<&MaConfig<D>>,
         allow_partial: bool,
         steps: &mut Steps,
     ) -> Result<bool>
-        ensures gives { TurnGives D.meaning S.width S.to_int (S.from_int (pos 0)) self.old passes.now
-            (option_copied global.entry) allow_partial section.now result
+        ensures gives { PlainGives D.meaning S.width S.to_int self.old passes.now allow_partial section.now result
             self.old.store self.new.store steps.old steps.new }
         ensures same { SameButCells self.old self.new }
     {
         let mut bits = section.bits;
-        if section.nested {
-            return self.decode_nested(
-                alloc,
-                &mut bits,
-                passes,
-                section.part,
-                section.stream_index,
-                global,
-                allow_partial,
-                steps,
-            );
-        }
         let mut partial = self.part_has_samples(passes, section.part);
         self.decode_part(
             alloc,
@@ -59,6 +45,38 @@ impl<S: Sample, D: Decoder> ModularImageDestination<S, D> {
         Ok(!partial)
     }
 
+    /// Decodes a section, and returns whether all samples of its part, or of its own header's channels, were decoded.
+    fn decode_section(
+        &mut self,
+        alloc: Global,
+        passes: &[Pass],
+        section: &Section<'_>,
+        global: Option<&MaConfig<D>>,
+        allow_partial: bool,
+        steps: &mut Steps,
+    ) -> Result<bool>
+        ensures gives { TurnGives D.meaning S.width S.to_int (S.from_int (pos 0)) self.old passes.now
+            (option_copied global.entry) allow_partial section.now result self.old.store self.new.store
+            steps.old steps.new }
+        ensures same { SameButCells self.old self.new }
+    {
+        if section.nested {
+            let mut bits = section.bits;
+            self.decode_nested(
+                alloc,
+                &mut bits,
+                passes,
+                section.part,
+                section.stream_index,
+                global,
+                allow_partial,
+                steps,
+            )
+        } else {
+            self.decode_plain(alloc, passes, section, allow_partial, steps)
+        }
+    }
+
     /// Decodes sections, in their order, and returns whether all samples of their parts were decoded.
     pub(super) fn decode_all(
         &mut self,
@@ -69,17 +87,24 @@ impl<S: Sample, D: Decoder> ModularImageDestination<S, D> {
         allow_partial: bool,
         steps: &mut Steps,
     ) -> Result<bool>
-        ensures turned { IfOk result (λ whole. HasTurned D.meaning S.width S.to_int (S.from_int (pos 0)) self.old passes.now
-            (option_copied global.entry) allow_partial
-            sections.now whole self.old.store self.new.store steps.old steps.new) }
-        ensures stopped { IfErr result (λ e. HasStopped D.meaning S.width S.to_int (S.from_int (pos 0)) self.old passes.now
-            (option_copied global.entry) allow_partial
-            sections.now e self.old.store self.new.store steps.old steps.new) }
+        ensures turned { IfOk result (λ whole. HasTurned D.meaning S.width S.to_int (S.from_int (pos 0)) self.old
+            passes.now (option_copied global.entry) allow_partial sections.now whole self.old.store self.new.store
+            steps.old steps.new) }
+        ensures stopped { IfErr result (λ e. HasStopped D.meaning S.width S.to_int (S.from_int (pos 0)) self.old
+            passes.now (option_copied global.entry) allow_partial sections.now e self.old.store self.new.store
+            steps.old steps.new) }
         ensures same { SameButCells self.old self.new }
     {
         let mut whole = true;
         for section in sections {
-            let decoded = self.decode_section(alloc, passes, section, global, allow_partial, steps)?;
+            let decoded = self.decode_section(
+                alloc,
+                passes,
+                section,
+                global,
+                allow_partial,
+                steps,
+            )?;
             if !decoded {
                 whole = false;
             }
