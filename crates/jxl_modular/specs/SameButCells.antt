@@ -6,8 +6,8 @@ use Rattle.jxl_modular.specs.Image.{Image}
 use Rattle.jxlm_part.specs.Progress.{KeepsOutside}
 
 module _ {S D : Type 0} where
-  -- Only cells of the buffers may differ: kinds of transforms, weights, steps, tree, channels and regions are as before,
-  -- and so are the buffers' sizes.
+  -- Only cells of the buffers may differ: kinds of transforms, weights, steps, tree, channels and regions are as
+  -- before, and so are the buffers' sizes.
   pub record SameButCells (old new : Image S D) : Type 0 where
     pub palette : new.has_palette ≡ old.has_palette
     pub squeeze : new.has_squeeze ≡ old.has_squeeze

@@ -1,7 +1,7 @@
-// Runs whose samples may end early. A model of the definitions in Python generated them, with seeds 8 and 9, as those of
-// the other table, but that it truncated many sections, and computed what is expected by coordinates. Of 3000 runs 1763
-// let samples end early. 1061 of these have sections with headers of their own, 221 others a global tree, and 129 others
-// sections that do not fit the image: these are left out. Of the rest 300 of short lines are kept.
+// Runs whose samples may end early. A model of the definitions in Python generated them, with seeds 8 and 9, as those
+// of the other table, but that it truncated many sections, and computed what is expected by coordinates. Of 3000 runs
+// 1763 let samples end early. 1061 of these have sections with headers of their own, 221 others a global tree, and 129
+// others sections that do not fit the image: these are left out. Of the rest 300 of short lines are kept.
 
 mod narrow;
 mod wide;
@@ -14,8 +14,8 @@ use narrow::NARROW;
 use std::test::Fail;
 use wide::WIDE;
 
-// Four samples by the clamped gradient, truncated in the second token, and whole; two groups, of which one has no token;
-// and of which one is left out.
+// Four samples by the clamped gradient, truncated in the second token, and whole; two groups, of which one has no
+// token; and of which one is left out.
 const WORKED: &str = "\
 2x2|256 8 0:0,3|42000400040e05c020|g@0+68=42000400040e05c020|0/1|false|1 0 0 0
 2x2|256 8 0:0,3|42000400040e05c020|g@0+68=42000400040e05c02006|0/1|true|1 3 0 2

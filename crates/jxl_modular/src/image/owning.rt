@@ -96,8 +96,8 @@ impl<S: Sample, D: Decoder> ModularImageDestination<S, D> {
         self.header.has_squeeze()
     }
 
-    /// The same image, with its samples as they are: each can be decoded and finished without the other. The nodes of the
-    /// tree are shared.
+    /// The same image, with its samples as they are: each can be decoded and finished without the other. The nodes of
+    /// the tree are shared.
     ///
     /// # Memory
     ///
