@@ -1,5 +1,5 @@
 -- Computed examples: headers, trees and samples, from bits.
-use Rattle.std.specs.Prelude.{◌≡◌, ℕ, ◌≤◌, ℤ, pos, List, [], ◌∷◌, Ok, Err, refl, false, true, Bool}
+use Rattle.std.specs.Prelude.{◌≡◌, ℕ, ◌≤◌, ℤ, pos, List, [], ◌∷◌, Ok, Err, None, refl, false, true, Bool}
 use Rattle.std.specs.Int.{w32, int_wrap}
 use Rattle.std.specs.Int.Count.{count_leading_zeros}
 use Rattle.std.proofs.Common.{arith, inl, inr, sym}

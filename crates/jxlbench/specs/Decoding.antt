@@ -1,5 +1,5 @@
 -- What is measured: the picture at the start of the bytes.
-use Rattle.std.specs.Prelude.{◌≡◌, ℕ, ℤ, List, replicate}
+use Rattle.std.specs.Prelude.{◌≡◌, ℕ, ℤ, List, None, replicate}
 use Rattle.std.specs.Int.{Width}
 use Rattle.jxlm_base.specs.Grid.{Grid}
 use Rattle.jxlm_base.specs.Plain.{plain}

@@ -1,6 +1,6 @@
 -- The parameters of a command are valid, and its channels are those that it asks for.
 use Rattle.std.proofs.Common.{◌≡◌, ℕ, zero, suc, pos, ◌≤◌, ◌%◌, ◌^◌, List, ◌∷◌, length, map, ℤ, refl, arith, ◌∙◌, sym, ap, subst}
-use Rattle.std.specs.Prelude.{replicate}
+use Rattle.std.specs.Prelude.{Option, None, replicate}
 use Rattle.std.specs.List.{All}
 use Rattle.std.specs.Int.{Width, div_ceil}
 use Rattle.std.proofs.Math.Nat.{div-one}
@@ -15,8 +15,9 @@ use Rattle.jxlmod.specs.PictureText.{channels_asked}
 use Rattle.jxlmod.specs.Inner.Printed.{IsPictureError}
 use Rattle.jxlm_base.specs.ErrorKind.{NoMemory, kind_of}
 use Rattle.jxlm_base.specs.Grid.{Grid}
-use Rattle.jxlm_base.specs.Plain.{plain}
+use Rattle.jxlm_base.specs.Plain.{PlainState, plain}
 use Rattle.jxlm_base.specs.declared.error.Error.{Error}
+use Rattle.jxlm_tree.specs.Tree.{Config}
 use Rattle.jxl_modular.specs.Picture.{IsPicture, PictureFails}
 use Rattle.jxl_modular.proofs.PictureLaws.{no_memory}
 
@@ -54,21 +55,24 @@ asked width height n given is =
 
 -- ---- what comes of a picture at the start of the bytes
 
-module _ (w : Width) (width height channels : ℕ) (bytes bytes' : List ℕ) (p : ℕ) (given : ChannelList) (same : bytes' ≡ bytes) (start : p ≡ 0) (are : given ≡ channels_asked width height channels) where
-  pub at_start : (deep bit_depth : ℕ) (grids : List (Grid ℤ)) (q : ℕ) → deep ≡ bit_depth → IsPicture plain w None bytes' 0 given p deep grids q → IsPicture plain w None bytes 0 (channels_asked width height channels) 0 bit_depth grids q
+module _ (w : Width) (width height channels : ℕ) (bytes bytes' : List ℕ) (p : ℕ) (given : ChannelList) (global : Option (Config PlainState)) (same : bytes' ≡ bytes) (start : p ≡ 0)
+    (are : given ≡ channels_asked width height channels) (alone : global ≡ None) where
+  pub at_start : (deep bit_depth : ℕ) (grids : List (Grid ℤ)) (q : ℕ) → deep ≡ bit_depth → IsPicture plain w global bytes' 0 given p deep grids q → IsPicture plain w None bytes 0 (channels_asked width height channels) 0 bit_depth grids q
   at_start deep bit_depth grids q depth h =
-      subst (λ (l : ChannelList). IsPicture plain w None bytes 0 l 0 bit_depth grids q) are
-      (subst (λ (n : ℕ). IsPicture plain w None bytes 0 given n bit_depth grids q) start (subst (λ (b : List ℕ). IsPicture plain w None b 0 given p bit_depth grids q) same
-      (subst (λ (n : ℕ). IsPicture plain w None bytes' 0 given p n grids q) depth h)))
+      subst (λ (t : Option (Config PlainState)). IsPicture plain w t bytes 0 (channels_asked width height channels) 0 bit_depth grids q) alone
+      (subst (λ (l : ChannelList). IsPicture plain w global bytes 0 l 0 bit_depth grids q) are
+      (subst (λ (n : ℕ). IsPicture plain w global bytes 0 given n bit_depth grids q) start (subst (λ (b : List ℕ). IsPicture plain w global b 0 given p bit_depth grids q) same
+      (subst (λ (n : ℕ). IsPicture plain w global bytes' 0 given p n grids q) depth h))))
 
-  pub error_at_start : (error : Error) (q before after : ℕ) → before ≡ 0 → PictureFails plain w None bytes' 0 given p (kind_of error) q before after → IsPictureError w width height channels bytes error
+  pub error_at_start : (error : Error) (q before after : ℕ) → before ≡ 0 → PictureFails plain w global bytes' 0 given p (kind_of error) q before after → IsPictureError w width height channels bytes error
   error_at_start error q before after nought h = record {
     place = q;
     steps = after;
-    fails = subst (λ (l : ChannelList). PictureFails plain w None bytes 0 l 0 (kind_of error) q 0 after) are
-        (subst (λ (n : ℕ). PictureFails plain w None bytes 0 given n (kind_of error) q 0 after) start
-        (subst (λ (b : List ℕ). PictureFails plain w None b 0 given p (kind_of error) q 0 after) same
-        (subst (λ (n : ℕ). PictureFails plain w None bytes' 0 given p (kind_of error) q n after) nought h)));
+    fails = subst (λ (t : Option (Config PlainState)). PictureFails plain w t bytes 0 (channels_asked width height channels) 0 (kind_of error) q 0 after) alone
+        (subst (λ (l : ChannelList). PictureFails plain w global bytes 0 l 0 (kind_of error) q 0 after) are
+        (subst (λ (n : ℕ). PictureFails plain w global bytes 0 given n (kind_of error) q 0 after) start
+        (subst (λ (b : List ℕ). PictureFails plain w global b 0 given p (kind_of error) q 0 after) same
+        (subst (λ (n : ℕ). PictureFails plain w global bytes' 0 given p (kind_of error) q n after) nought h))));
   }
 
 -- it was out of memory

@@ -1,5 +1,5 @@
 -- What the program prints for the bytes of its input.
-use Rattle.std.specs.Prelude.{ℕ, ◌≡◌, ℤ, pos, List, replicate}
+use Rattle.std.specs.Prelude.{ℕ, ◌≡◌, ℤ, pos, List, None, replicate}
 use Rattle.std.specs.Int.{Width, w16, w32}
 use Rattle.jxlm_base.specs.Grid.{Grid}
 use Rattle.jxlm_base.specs.Plain.{plain}

@@ -42,12 +42,6 @@ pub fn number(text: &str) -> Option<u32>
     text.parse::<u32>().ok()
 }
 
-/// Whether the library takes these numbers of an image.
-fn are_within_limits(width: u32, height: u32, channels: u32, bit_depth: u32) -> bool {
-    let sides_fit = channels == 0 || (width <= 1 << 30 && height <= 1 << 30);
-    channels <= 1 << 20 && bit_depth <= 32 && sides_fit
-}
-
 fn has_only_digits(text: &str) -> bool
     ensures { IsTrue result ↔ IsOfDigits text.now }
 {
@@ -71,21 +65,6 @@ pub enum Command {
         /// What the samples are decoded to.
         samples: Samples,
     },
-    /// Decode an image of the same channels that is cut into sections.
-    Sections {
-        /// How many columns each channel has.
-        width: u32,
-        /// How many rows each channel has.
-        height: u32,
-        /// How many channels there are.
-        channels: u32,
-        /// How many bits a sample has, for palettes without colours.
-        bit_depth: u32,
-        /// What the samples are decoded to.
-        samples: Samples,
-        /// The side of a group.
-        group_dim: u32,
-    },
 }
 
 impl Command {
@@ -95,9 +74,8 @@ impl Command {
     pub fn channels(&self) -> u32
         ensures { result ≡ channels_of self.now }
     {
-        match *self {
-            Command::Decode { channels, .. } | Command::Sections { channels, .. } => channels,
-        }
+        let Command::Decode { channels, .. } = *self;
+        channels
     }
 
     /// Whether the library takes these numbers: at most 2^20 channels, sides of at most 2^30 where
@@ -105,54 +83,15 @@ impl Command {
     pub fn is_within_limits(&self) -> bool
         ensures { IsTrue result ↔ IsWithinLimits self.now }
     {
-        match *self {
-            Command::Decode {
-                width,
-                height,
-                channels,
-                bit_depth,
-                ..
-            } => are_within_limits(width, height, channels, bit_depth),
-            Command::Sections {
-                width,
-                height,
-                channels,
-                bit_depth,
-                group_dim,
-                ..
-            } => {
-                let is_side = (2..=1 << 20).contains(&group_dim) && group_dim.is_power_of_two();
-                is_side && are_within_limits(width, height, channels, bit_depth)
-            }
-        }
-    }
-
-    /// The command that the words ask for, within the limits or not.
-    fn of(words: &[String]) -> Option<Command> {
-        match words {
-            [name, width, height, channels, bit_depth, samples] if name.as_str() == "decode" => {
-                Some(Command::Decode {
-                    width: number(width.as_str())?,
-                    height: number(height.as_str())?,
-                    channels: number(channels.as_str())?,
-                    bit_depth: number(bit_depth.as_str())?,
-                    samples: Samples::parse(samples.as_str())?,
-                })
-            }
-            [name, width, height, channels, bit_depth, samples, group_dim]
-                if name.as_str() == "sections" =>
-            {
-                Some(Command::Sections {
-                    width: number(width.as_str())?,
-                    height: number(height.as_str())?,
-                    channels: number(channels.as_str())?,
-                    bit_depth: number(bit_depth.as_str())?,
-                    samples: Samples::parse(samples.as_str())?,
-                    group_dim: number(group_dim.as_str())?,
-                })
-            }
-            _ => None,
-        }
+        let Command::Decode {
+            width,
+            height,
+            channels,
+            bit_depth,
+            ..
+        } = *self;
+        let sides_fit = channels == 0 || (width <= 1 << 30 && height <= 1 << 30);
+        channels <= 1 << 20 && bit_depth <= 32 && sides_fit
     }
 
     /// The command that the words ask for, without the program's name. It is within the limits.
@@ -160,7 +99,19 @@ impl Command {
         ensures { MatchOption result (AreWrong (map string_bytes words.now))
             (AreFor (map string_bytes words.now)) }
     {
-        let command = Command::of(words)?;
+        let [name, width, height, channels, bit_depth, samples] = words else {
+            return None;
+        };
+        if name.as_str() != "decode" {
+            return None;
+        }
+        let command = Command::Decode {
+            width: number(width.as_str())?,
+            height: number(height.as_str())?,
+            channels: number(channels.as_str())?,
+            bit_depth: number(bit_depth.as_str())?,
+            samples: Samples::parse(samples.as_str())?,
+        };
         if command.is_within_limits() {
             Some(command)
         } else {
@@ -259,9 +210,7 @@ mod tests {
             "Decode 2 2 1 8 i32",
             "encode 2 2 1 8 i32",
             "sections 2 2 1 8 i32",
-            "sections 3 1 1 8 i32 1",
-            "sections 3 1 1 8 i32 3",
-            "sections 3 1 1 8 i32 2097152",
+            "sections 3 1 1 8 i32 2",
             "decode  2 1 8 i32",
             "decode 2 +2 1 8 i32",
             "decode 2 2 -1 8 i32",

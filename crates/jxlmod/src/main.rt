@@ -5,7 +5,6 @@ mod arguments;
 mod picture;
 mod printing;
 mod run;
-mod sections;
 
 use std::env;
 use std::process::ExitCode;

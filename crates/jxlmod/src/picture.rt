@@ -8,7 +8,6 @@ ghost use Rattle.jxlmod.specs.Inner.Printed.{IsPictureError, PrintGives};
 use crate::arguments::{Command, Samples};
 use crate::printing::print_image;
 use crate::run::Print;
-use crate::sections::sections_text;
 use jxl_modular::decode_picture;
 use jxlm_base::bits::Bitstream;
 use jxlm_base::error::Error;
@@ -31,36 +30,16 @@ impl Print for PartPrinter {
     ghost may_return = { PrintGives };
 
     fn print(&self, alloc: Global, bytes: &[u8], command: Command) -> Result<String, Error> {
-        match command {
-            Command::Decode {
-                width,
-                height,
-                channels,
-                bit_depth,
-                samples,
-            } => match samples {
-                Samples::I16 => {
-                    picture_text::<i16>(alloc, bytes, width, height, channels, bit_depth)
-                }
-                Samples::I32 => {
-                    picture_text::<i32>(alloc, bytes, width, height, channels, bit_depth)
-                }
-            },
-            Command::Sections {
-                width,
-                height,
-                channels,
-                bit_depth,
-                samples,
-                group_dim,
-            } => {
-                let list = channel_list(alloc, width, height, channels)?;
-                let params = ModularParams::with_channels(group_dim, bit_depth, list, None);
-                match samples {
-                    Samples::I16 => sections_text::<i16>(alloc, bytes, params),
-                    Samples::I32 => sections_text::<i32>(alloc, bytes, params),
-                }
-            }
+        let Command::Decode {
+            width,
+            height,
+            channels,
+            bit_depth,
+            samples,
+        } = command;
+        match samples {
+            Samples::I16 => picture_text::<i16>(alloc, bytes, width, height, channels, bit_depth),
+            Samples::I32 => picture_text::<i32>(alloc, bytes, width, height, channels, bit_depth),
         }
     }
 }
