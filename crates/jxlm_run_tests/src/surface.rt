@@ -2,9 +2,7 @@
 // function, variant and field of it. One that is missing, or has another type, does not compile.
 
 ghost use Rattle.std.specs.Prelude.{◌≡◌, None, IfOk};
-ghost use Rattle.std.specs.List.{All};
 ghost use Rattle.jxl_modular.specs.Params.{IsValidParams};
-ghost use Rattle.jxl_modular.specs.Sections.{IsPlain};
 
 use jxl_modular::bits::Bitstream;
 use jxl_modular::decoder::Decoder;
@@ -125,9 +123,7 @@ fn run<S: Sample, D: Decoder>(
     passes: &BTreeMap<u32, (i32, i32)>,
     sections: &[Section<'_>],
     global: Option<&MaConfig<D>>,
-) -> Result<(bool, bool)>
-    requires { All IsPlain sections.now }
-{
+) -> Result<(bool, bool)> {
     let fit: bool = sections_fit(alloc, image, passes, sections)?;
     if !fit {
         return Ok((false, false));
