@@ -1,4 +1,5 @@
 use Rattle.std.proofs.Common.{refl, ap, ◌∙◌, map}
+use Rattle.std.specs.Prelude.{None}
 use Rattle.std.specs.Option.{option_copied}
 use Rattle.std.proofs.lemmas.Result.{err_from_is_err_and}
 use Rattle.jxlm_base.specs.Bits.{bytes_of, position_of}
@@ -24,7 +25,7 @@ returns-in_err-image g c =
     let are = asked c.args.width c.args.height c.args.channels c.with_channels-params.result.channels.items (rw c.with_channels-params.ensures c.in_ok-channels.ensures) in
     rw (e.1, e.2)
     (error_at_start g.S.Sealed.width c.args.width c.args.height c.args.channels c.args.bytes.now (bytes_of c.new-bits.result) (position_of c.new-bits.result) (image_list c.with_channels-params.result.channels.items) (option_copied c.with_channels-params.result.ma_config)
-    c.new-bits.ensures.bytes c.new-bits.ensures.position are (rw c.with_channels-params.ensures refl) _ (position_of c.decode_picture.new.bits) c.new.result c.decode_picture.new.steps c.new.ensures c.in_err-image.ensures.err)
+    c.new-bits.ensures.bytes c.new-bits.ensures.position are (rw c.with_channels-params.ensures (refl {a = None})) _ (position_of c.decode_picture.new.bits) c.new.result c.decode_picture.new.steps c.new.ensures c.in_err-image.ensures.err)
 
 pub returns-in_ok-print_image-in-Some : goal.returns-in_ok-print_image-in-Some
 returns-in_ok-print_image-in-Some g c =
@@ -34,6 +35,6 @@ returns-in_ok-print_image-in-Some g c =
       grids = image_grids g.S.Sealed.to_int c.in-Some.image;
       place = position_of c.decode_picture.new.bits;
       picture = at_start g.S.Sealed.width c.args.width c.args.height c.args.channels c.args.bytes.now (bytes_of c.new-bits.result) (position_of c.new-bits.result) (image_list c.with_channels-params.result.channels.items) (option_copied c.with_channels-params.result.ma_config)
-          c.new-bits.ensures.bytes c.new-bits.ensures.position are (rw c.with_channels-params.ensures refl) _ c.args.bit_depth _ (position_of c.decode_picture.new.bits) (rw c.with_channels-params.ensures refl) read.picture;
+          c.new-bits.ensures.bytes c.new-bits.ensures.position are (rw c.with_channels-params.ensures (refl {a = None})) _ c.args.bit_depth _ (position_of c.decode_picture.new.bits) (rw c.with_channels-params.ensures refl) read.picture;
       printed = c.in_ok-print_image-in-Some.ensures ∙ ap (λ s. image_text (map (meanings g.S.Sealed.to_int) s)) c.image_channels.ensures.grids;
     }
