@@ -4,8 +4,6 @@
 #[cfg(test)]
 mod case;
 #[cfg(test)]
-mod follow;
-#[cfg(test)]
 mod generated;
 #[cfg(test)]
 mod nested;
@@ -21,6 +19,4 @@ mod parts;
 mod rows;
 #[cfg(test)]
 mod run;
-#[cfg(test)]
-mod surface;
 pub mod viewer;
