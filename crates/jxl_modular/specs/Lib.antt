@@ -3,6 +3,9 @@ pub mod Parts
 pub mod Groups
 pub mod GroupParts
 pub mod Nested
+pub mod Layers
+pub mod Recursive
+pub mod RecursiveRests
 pub mod Sections
 pub mod SameButCells
 pub mod Picture

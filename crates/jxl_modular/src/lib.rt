@@ -7,6 +7,7 @@ pub mod laws;
 mod nested;
 mod opening;
 mod picture;
+pub mod recursive;
 mod root;
 pub mod sections;
 

@@ -37,13 +37,13 @@ use std::alloc::Global;
 /// after the store's buffers.
 #[derive(Drop)]
 pub(crate) struct NestedPart<D: Decoder> {
-    header: ModularHeader,
-    config: MaConfig<D>,
-    placed: PlacedChannels,
+    pub(crate) header: ModularHeader,
+    pub(crate) config: MaConfig<D>,
+    pub(crate) placed: PlacedChannels,
 }
 
 /// Adds a buffer for each table, whose cells are 0. Out of memory is its only error.
-fn add_tables<S: Sample>(
+pub(crate) fn add_tables<S: Sample>(
     alloc: Global,
     store: &mut Vec<AlignedGrid<S>>,
     tables: &[Region],
@@ -131,7 +131,7 @@ impl<D: Decoder> NestedPart<D> {
     }
 
     /// Undoes its transforms, from the last to the first. Out of memory is its only error; no cell changes then.
-    fn undo<S: Sample>(
+    pub(crate) fn undo<S: Sample>(
         &self,
         alloc: Global,
         store: &mut [AlignedGrid<S>],
