@@ -12,6 +12,9 @@ pub mod FreshLaws
 pub mod NestedFills
 pub mod NestedImage
 pub mod NestedLaws
+pub mod LayerLaws
+pub mod LayerReads
+pub mod LayerUndone
 pub mod ParsingLaws
 pub mod SectionLaws
 pub mod TurnLaws

@@ -38,6 +38,7 @@ fn move_back<T>(store: &mut Vec<T>, tables: &mut Vec<T>, own: usize)
     requires room { length store.old.items ≤ own + vec_capacity tables.old }
     ensures store { store.new.items ≡ take own store.old.items }
     ensures tables { tables.new.items ≡ drop own store.old.items }
+    ensures joined { store.new.items ++ tables.new.items ≡ store.old.items }
 {
     for _ in own..store.len() {
         if let Some(item) = store.pop() {

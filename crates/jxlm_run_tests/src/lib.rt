@@ -16,6 +16,8 @@ mod partial;
 #[cfg(test)]
 mod parts;
 #[cfg(test)]
+mod recursive;
+#[cfg(test)]
 mod rows;
 #[cfg(test)]
 mod run;

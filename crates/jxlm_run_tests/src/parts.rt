@@ -2,7 +2,7 @@
 
 ghost use Rattle.std.specs.Prelude.{◌≡◌, true, IsTrue};
 
-use jxl_modular::Sample;
+use jxl_modular::{MaConfig, Sample};
 use jxl_modular::decoder::Decoder;
 use jxl_modular::error::Error;
 use jxl_modular::groups::{Part, TransformedGlobalModular};
@@ -92,16 +92,38 @@ fn has_each_part<S: Sample, D: Decoder>(
     Ok(has_each_group(&groups, None, sections))
 }
 
+// Decodes the global part by a header of its own, and undoes that header's transforms: whether it is whole then.
+fn decode_nested_global<S: Sample, D: Decoder>(
+    alloc: Global,
+    image: &mut ModularImageDestination<S, D>,
+    section: &Section<'_>,
+    global: Option<&MaConfig<D>>,
+    allow_partial: bool,
+) -> Result<bool, Error> {
+    let mut bits = section.bits;
+    let part = image.prepare_gmodular(alloc)?;
+    let header = part.recursive(alloc, &mut bits, global)?;
+    let mut nested = header.prepare_subimage(alloc)?;
+    nested.decode(alloc, &mut bits, section.stream_index, allow_partial)?;
+    let whole = !nested.is_partial();
+    nested.finish(alloc)?;
+    Ok(whole)
+}
+
 // Decodes a part, and returns whether it is whole then.
 fn decode_part<S: Sample, D: Decoder>(
     alloc: Global,
     image: &mut ModularImageDestination<S, D>,
     passes: &BTreeMap<u32, (i32, i32)>,
     section: &Section<'_>,
+    global: Option<&MaConfig<D>>,
     allow_partial: bool,
 ) -> Result<bool, Error> {
     let mut bits = section.bits;
     let part = match section.part {
+        SectionPart::Global if section.nested => {
+            return decode_nested_global(alloc, image, section, global, allow_partial);
+        }
         SectionPart::Global => {
             let mut part = image.prepare_gmodular(alloc)?;
             part.decode(alloc, &mut bits, section.stream_index, allow_partial)?;
@@ -114,6 +136,10 @@ fn decode_part<S: Sample, D: Decoder>(
         return Ok(false);
     }
     let mut groups = image.prepare_groups(alloc, passes)?;
+    if section.nested {
+        let index = section.stream_index;
+        return groups.decode_nested(alloc, part, &mut bits, index, global, allow_partial);
+    }
     groups.decode(alloc, part, &mut bits, section.stream_index, allow_partial)?;
     Ok(!groups.is_partial(part))
 }
@@ -125,11 +151,12 @@ pub fn decode_by_parts<S: Sample, D: Decoder>(
     image: &mut ModularImageDestination<S, D>,
     passes: &BTreeMap<u32, (i32, i32)>,
     sections: &[Section<'_>],
+    global: Option<&MaConfig<D>>,
     allow_partial: bool,
 ) -> Result<bool, Error> {
     let mut whole = has_each_part(alloc, image, passes, sections)?;
     for section in sections {
-        whole = decode_part(alloc, image, passes, section, allow_partial)? && whole;
+        whole = decode_part(alloc, image, passes, section, global, allow_partial)? && whole;
     }
     let all = image.prepare_subimage(alloc)?;
     if !all.holds_all() {

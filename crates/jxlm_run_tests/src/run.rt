@@ -97,7 +97,7 @@ fn decoded<S: Sample, D: Decoder>(
     match sections_fit(alloc, image, passes, sections) {
         Ok(true) => {
             let answer = if way.by_parts {
-                decode_by_parts(alloc, image, passes, sections, way.partial)
+                decode_by_parts(alloc, image, passes, sections, global, way.partial)
             } else {
                 let mut steps = Steps::new();
                 decode_sections(
@@ -175,9 +175,6 @@ fn check_run<S: Sample, D: Decoder>(
     let passes = passes(alloc, passes_text)?;
     let pieces = pieces(alloc, sections_text)?;
     let sections = sections(alloc, &pieces)?;
-    if by_parts && sections.iter().any(|section| section.nested) {
-        return Ok(());
-    }
     let way = Way {
         by_parts,
         summed: expected.contains('#'),
@@ -196,8 +193,7 @@ fn check_run<S: Sample, D: Decoder>(
     Ok(())
 }
 
-/// Decodes each run of a table by one call, and then, where no part has a header of its own, by a call for each part, and
-/// compares what is expected of it.
+/// Decodes each run of a table by one call, and then by a call for each part, and compares what is expected of it.
 pub fn check<S: Sample, D: Decoder>(
     rt: &impl Abort,
     alloc: Global,
