@@ -1,8 +1,9 @@
 //! Images that are decoded by their parts: the groups of the passes, and the LF groups (ISO/IEC 18181-1, frame: groups,
 //! LF groups and passes).
 
-ghost use Rattle.std.specs.Prelude.{◌≡◌, ◌≢◌, ◌↔◌, Some, IsFalse, IsOk, IsSome, IsTrue, IfOk, IfErr, OnOk, OnErr, nat_le};
+ghost use Rattle.std.specs.Prelude.{◌≡◌, ◌≢◌, ◌↔◌, ◌&&◌, Some, not, pos, IsFalse, IsOk, IsSome, IsTrue, IfOk, IfErr, OnOk, OnErr, nat_le};
 ghost use Rattle.std.specs.List.{list_all};
+ghost use Rattle.std.specs.Option.{option_copied};
 ghost use Rattle.jxlm_base.specs.Bits.{bytes_of, position_of};
 ghost use Rattle.jxlm_base.specs.ErrorKind.{BadSqueeze, UnlessNoMemory, kind_of};
 ghost use Rattle.jxlm_part.specs.Part.{cell_count};
@@ -16,6 +17,7 @@ use jxlm_base::sample::Sample;
 use jxlm_cut::part::{Kind, SectionPart};
 use jxlm_cut::pass::{Pass, passes};
 use jxlm_tree::flat::Steps;
+use jxlm_tree::ma::MaConfig;
 use std::alloc::Global;
 use std::collections::BTreeMap;
 
@@ -198,7 +200,7 @@ impl<S: Sample, D: Decoder> ModularImageDestination<S, D> {
 
 impl<'dest, S: Sample, D: Decoder> TransformedGlobalModular<'dest, S, D> {
     ghost use Rattle.jxlm_cut.specs.declared.part.Kind.TheVariants as kinds;
-    ghost use Rattle.jxl_modular.specs.GroupParts.{KeepsOtherParts, PartGives, channels_of, groups_of, image_of, is_partial, loan, pass_count, passes_in, regions_of, steps_of};
+    ghost use Rattle.jxl_modular.specs.GroupParts.{KeepsOtherParts, NestedPartGives, PartGives, channels_of, groups_of, image_of, is_partial, loan, pass_count, passes_in, regions_of, steps_of};
     ghost use Rattle.jxl_modular.specs.SameButCells.{SameButIn};
 
     /// How many LF groups the image has: 0 where no channel is cut into them. They are numbered by rows, left to right.
@@ -297,6 +299,56 @@ impl<'dest, S: Sample, D: Decoder> TransformedGlobalModular<'dest, S, D> {
             &mut state.partial,
             &mut state.steps,
         );
+        self.progress.put(part, state);
+        result
+    }
+    /// Decodes the part by a header of its own, and undoes that header's transforms, so that the part's samples are
+    /// finished (ISO/IEC 18181-1, Modular: group sub-bitstreams); `global` is the tree for a header that uses a global
+    /// one. It returns whether all samples that the header codes were decoded; the part is whole then. The samples of
+    /// other parts stay, and how far these are decoded.
+    ///
+    /// # Memory
+    ///
+    /// A note of the part at its first decode, what reading an image takes but the channels' grids, what a part's
+    /// `decode` takes, and what `finish` takes.
+    ///
+    /// # Errors
+    ///
+    /// As when an image is read, for header and tree; as of a part's `decode`, for the samples: those before are then
+    /// decoded, and no transform is undone. Out of memory may come at any time.
+    pub fn decode_nested(
+        &mut self,
+        alloc: Global,
+        part: Part,
+        bits: &mut Bitstream<'_>,
+        stream_index: u32,
+        global: Option<&MaConfig<D>>,
+        allow_partial: bool,
+    ) -> Result<bool>
+        ensures gives { NestedPartGives D.meaning S.width S.to_int (S.from_int (pos 0)) (option_copied global.entry)
+            (bytes_of bits.old) stream_index part self.old (position_of bits.old) self.new allow_partial result }
+        ensures whole { IfOk result (λ whole. is_partial self.new part ≡ (is_partial self.old part && not whole)) }
+        ensures partial { IfErr result (λ _. is_partial self.new part ≡ is_partial self.old part) }
+        ensures same { SameButIn (regions_of self.old part) (image_of self.old) (image_of self.new) }
+        ensures others { KeepsOtherParts part self.old self.new }
+        ensures passes { passes_in self.new ≡ passes_in self.old }
+        ensures same_reference { loan self.new ≡ loan self.old }
+        ensures bytes { bytes_of bits.new ≡ bytes_of bits.old }
+    {
+        let mut state = self.progress.take(part)?;
+        let result = self.image.decode_nested(
+            alloc,
+            bits,
+            &self.progress.passes,
+            part.into(),
+            stream_index,
+            global,
+            allow_partial,
+            &mut state.steps,
+        );
+        if let Ok(true) = result {
+            state.partial = false;
+        }
         self.progress.put(part, state);
         result
     }
