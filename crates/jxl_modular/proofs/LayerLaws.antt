@@ -215,11 +215,11 @@ module _ {S D : Type 0} (n : NestedPart D) (given : Pieces) (tables : List (Grid
         let cut : take (length store) (left ++ right) ≡ left = ap (λ k. take k (left ++ right)) (sym even) ∙ take-append_seam left right in
         subst (λ (s : List (Grid S)). KeepsOutside held store s) cut
         (cut_back held store tables (left ++ right) joined (λ b i j lt li lj none.
-          let first : buffer_at whole b ≡ buffer_at store b = at_left store tables b lt in
-          let never : HaveCell held b i j → ⊥ = never_has b i j held none in
-          keeps.cells b i j (subst (λ (g : Grid S). i < g.width) (sym first) li) (subst (λ (g : Grid S). j < g.height) (sym first) lj)
-              (none_has b i j (regions_in n) (λ k. never (all_inside b i j steps places (taken_before b lt) (subst (λ (rs : List Region). HaveCell rs b i j) regions_are k))))
-          ∙ ap (λ (g : Grid S). cell g i j) first))
+        let first : buffer_at whole b ≡ buffer_at store b = at_left store tables b lt in
+        let never : HaveCell held b i j → ⊥ = never_has b i j held none in
+        keeps.cells b i j (subst (λ (g : Grid S). i < g.width) (sym first) li) (subst (λ (g : Grid S). j < g.height) (sym first) lj)
+        (none_has b i j (regions_in n) (λ k. never (all_inside b i j steps places (taken_before b lt) (subst (λ (rs : List Region). HaveCell rs b i j) regions_are k))))
+        ∙ ap (λ (g : Grid S). cell g i j) first))
 
     -- the header suits its tables as before
     pub still_layer : IsLayer n given right

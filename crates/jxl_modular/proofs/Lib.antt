@@ -13,6 +13,7 @@ pub mod NestedFills
 pub mod NestedImage
 pub mod NestedLaws
 pub mod LayerLaws
+pub mod LayerNests
 pub mod LayerReads
 pub mod LayerUndone
 pub mod ParsingLaws

@@ -23,9 +23,12 @@ use jxlm_base::decoder::Decoder;
 use jxlm_base::error::Result;
 use jxlm_base::grid::{AlignedGrid, OutOfMemory};
 use jxlm_base::sample::Sample;
+use jxlm_chain::placed::PlacedChannels;
+use jxlm_chain::places::Places;
 use jxlm_cut::pieces::Pieces;
 use jxlm_part::channels::have_samples;
 use jxlm_part::part::PlacedPart;
+use jxlm_transform::channels::ModularChannels;
 use jxlm_tree::flat::Steps;
 use jxlm_tree::ma::MaConfig;
 use std::alloc::Global;
@@ -97,9 +100,9 @@ impl<D: Decoder> NestedPart<D> {
         ensures answers { (tried : ℕ) × DecodeAnswers D.meaning S.width
             (coded_part stream_index (head_of self.now) self.now.config) (bytes_of bits.old) self.now.config.decoder
             (standing_in S.to_int (regions_in self.now) (store.old.items ++ tables.old.items) (position_of bits.old)
-                partial.old)
+            partial.old)
             (standing_in S.to_int (regions_in self.now) (store.new.items ++ tables.new.items) (position_of bits.new)
-                partial.new)
+            partial.new)
             allow_partial result tried × MovesWithin steps.old steps.new (tried * (depth self.now.config.tree + 1)) }
         ensures empty { cell_count (nested_channels self.now) ≡ 0 → IsOk result }
         ensures keeps { KeepsOutside (regions_in self.now) (store.old.items ++ tables.old.items)
@@ -155,9 +158,17 @@ impl<D: Decoder> NestedPart<D> {
         ensures infos { result.infos.items ≡ nested_channels self }
         ensures regions { result.regions.items ≡ regions_in self }
     {
+        let NestedPart { placed, .. } = self;
+        let PlacedChannels {
+            channels,
+            places,
+            ..
+        } = placed;
+        let ModularChannels { info, .. } = channels;
+        let Places { regions, .. } = places;
         Pieces {
-            infos: self.placed.channels.info,
-            regions: self.placed.places.regions,
+            infos: info,
+            regions,
         }
     }
 }

@@ -2,12 +2,12 @@
 
 ghost use Rattle.std.specs.Prelude.{◌≡◌, true, IsTrue};
 
-use jxl_modular::{MaConfig, Sample};
 use jxl_modular::decoder::Decoder;
 use jxl_modular::error::Error;
 use jxl_modular::groups::{Part, TransformedGlobalModular};
 use jxl_modular::image::ModularImageDestination;
 use jxl_modular::sections::{Section, SectionPart};
+use jxl_modular::{MaConfig, Sample};
 use std::alloc::Global;
 use std::collections::BTreeMap;
 use std::test::Fail;

@@ -12,21 +12,16 @@ use crate::recursive::{NestedHeader, RecursiveModularImage};
 use jxlm_base::bits::Bitstream;
 use jxlm_base::decoder::Decoder;
 use jxlm_base::error::Result;
-use jxlm_base::grid::AlignedGrid;
+use jxlm_base::grid::{AlignedGrid, Region};
 use jxlm_base::sample::Sample;
 use jxlm_cut::pieces::Pieces;
+use jxlm_transform::channels::ModularChannelInfo;
 use jxlm_tree::flat::Steps;
 use jxlm_tree::ma::MaConfig;
-use jxlm_transform::channels::ModularChannelInfo;
-use jxlm_base::grid::Region;
 use std::alloc::Global;
 
 /// Pieces of these channels and regions.
-fn copied(
-    alloc: Global,
-    infos: &[ModularChannelInfo],
-    regions: &[Region],
-) -> Result<Pieces>
+fn copied(alloc: Global, infos: &[ModularChannelInfo], regions: &[Region]) -> Result<Pieces>
     ensures infos { IfOk result (λ p. p.infos.items ≡ infos.now) }
     ensures regions { IfOk result (λ p. p.regions.items ≡ regions.now) }
     ensures err { IfErr result (λ e. kind_of e ≡ NoMemory) }
@@ -38,7 +33,6 @@ fn copied(
 }
 
 impl<S: Sample, D: Decoder> ModularImageDestination<S, D> {
-    
     ghost use Rattle.jxl_modular.specs.Image.{front_channels, front_regions};
     ghost use Rattle.jxl_modular.specs.Inner.LayerCode.{CanNest};
     ghost use Rattle.jxl_modular.specs.Layers.{StandsIn, coded_channels};

@@ -12,7 +12,7 @@ pub invariant_of-self : goal.invariant_of-self
 invariant_of-self g c =
     let stands = rw (← c.header.view_is, ← c.self.view_is) at c.requires in
     let left = decoded_left c.header.inside.part c.header.inside.given c.header.inside.tables.items c.header.invariant c.self.inside.store.items stands.lie stands.count c.self.invariant.laid.narrow_store
-        c.decode_with.new.store.items c.decode_with.new.tables.items c.decode_with.ensures.count c.decode_with.ensures.keeps in
+    c.decode_with.new.store.items c.decode_with.new.tables.items c.decode_with.ensures.count c.decode_with.ensures.keeps in
     record {
       laid = still_laid _ _ c.self.invariant.laid (same_but_store _ _ left);
       undos = c.self.invariant.undos;
@@ -31,7 +31,7 @@ pub returns-clause-same : goal.returns-clause-same
 returns-clause-same g c =
     let stands = rw (← c.header.view_is, ← c.self.view_is) at c.requires in
     let left = decoded_left c.header.inside.part c.header.inside.given c.header.inside.tables.items c.header.invariant c.self.inside.store.items stands.lie stands.count c.self.invariant.laid.narrow_store
-        c.decode_with.new.store.items c.decode_with.new.tables.items c.decode_with.ensures.count c.decode_with.ensures.keeps in
+    c.decode_with.new.store.items c.decode_with.new.tables.items c.decode_with.ensures.count c.decode_with.ensures.keeps in
     rw (← c.header.view_is, ← c.self.view_is)
     (record {
       layer = record {
@@ -66,7 +66,7 @@ pub returns-clause-between : goal.returns-clause-between
 returns-clause-between g c =
     let stands = rw (← c.header.view_is, ← c.self.view_is) at c.requires in
     let left = decoded_left c.header.inside.part c.header.inside.given c.header.inside.tables.items c.header.invariant c.self.inside.store.items stands.lie stands.count c.self.invariant.laid.narrow_store
-        c.decode_with.new.store.items c.decode_with.new.tables.items c.decode_with.ensures.count c.decode_with.ensures.keeps in
+    c.decode_with.new.store.items c.decode_with.new.tables.items c.decode_with.ensures.count c.decode_with.ensures.keeps in
     rw (← c.header.view_is)
     (record {
       lie = other_lie c.header.inside.part c.header.inside.given c.header.inside.tables.items c.header.invariant c.self.inside.store.items stands.lie stands.count c.self.invariant.laid.narrow_store
