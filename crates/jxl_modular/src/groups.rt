@@ -352,4 +352,16 @@ impl<'dest, S: Sample, D: Decoder> TransformedGlobalModular<'dest, S, D> {
         self.progress.put(part, state);
         result
     }
+
+    /// Gives the image back, with the samples that were decoded.
+    pub fn give_back(self) -> &'dest mut ModularImageDestination<S, D>
+        ensures same_reference { result.ghost_name ≡ loan self.entry }
+        ensures value { result.now ≡ image_of self.entry }
+    {
+        let TransformedGlobalModular {
+            image,
+            progress: _progress,
+        } = self;
+        image
+    }
 }

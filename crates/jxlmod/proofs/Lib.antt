@@ -1,3 +1,5 @@
 pub mod ArgumentLemmas
 pub mod TextLemmas
 pub mod Pictures
+pub mod WordLemmas
+pub mod SectionRows

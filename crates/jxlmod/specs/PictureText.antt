@@ -1,14 +1,15 @@
 -- What the program prints for the bytes of its input.
-use Rattle.std.specs.Prelude.{ℕ, ◌≡◌, ℤ, pos, List, None, replicate}
+use Rattle.std.specs.Prelude.{ℕ, ◌≡◌, ℤ, pos, List, replicate}
 use Rattle.std.specs.Int.{Width, w16, w32}
 use Rattle.jxlm_base.specs.Grid.{Grid}
 use Rattle.jxlm_base.specs.Plain.{plain}
 use Rattle.jxlm_transform.specs.Channels.{ChannelList}
 use Rattle.jxlm_transform.specs.declared.param.ChannelShift.TheVariants.{Shifts}
 use Rattle.jxl_modular.specs.Picture.{IsPicture}
+use Rattle.jxlmod.specs.CutPicture.{IsCutPictureText}
 use Rattle.jxlmod.specs.Printing.{image_text}
 use Rattle.jxlmod.specs.declared.arguments.Command.{Command}
-use Rattle.jxlmod.specs.declared.arguments.Command.TheVariants.{Decode}
+use Rattle.jxlmod.specs.declared.arguments.Command.TheVariants.{Decode, Sections}
 use Rattle.jxlmod.specs.declared.arguments.Samples.{Samples}
 use Rattle.jxlmod.specs.declared.arguments.Samples.TheVariants.{I16, I32}
 
@@ -34,3 +35,5 @@ pub record IsPictureText (w : Width) (width height channels : ℕ) (bytes : List
 -- the text for the bytes and a command
 abbrev pub Prints : List ℕ → Command → List ℕ → Type 0
 Prints bytes (Decode width height channels bit_depth samples) text = IsPictureText (width_of samples) width height channels bytes bit_depth text
+Prints bytes (Sections width height channels bit_depth samples group_dim) text =
+    IsCutPictureText (width_of samples) (λ v. v) (pos 0) (channels_asked width height channels) group_dim bit_depth bytes text

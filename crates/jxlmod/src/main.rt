@@ -5,6 +5,7 @@ mod arguments;
 mod picture;
 mod printing;
 mod run;
+mod sections;
 
 use std::env;
 use std::process::ExitCode;

@@ -1,13 +1,16 @@
 //! The text of a picture, from its bytes.
-ghost use Rattle.std.specs.Prelude.{◌≡◌, ◌≤◌, ◌<◌, ◌^◌, MatchResult, IfOk, replicate, string_bytes};
-ghost use Rattle.jxlm_transform.specs.Params.{sized};
+ghost use Rattle.std.specs.Prelude.{◌≡◌, ◌≤◌, ◌<◌, ◌^◌, pos, MatchResult, IfOk, replicate, string_bytes};
+ghost use Rattle.jxlm_transform.specs.Params.{IsGroupDim, sized};
 ghost use Rattle.jxlm_transform.specs.declared.param.ChannelShift.TheVariants.{Shifts};
-ghost use Rattle.jxlmod.specs.PictureText.{IsPictureText};
+ghost use Rattle.jxlmod.specs.Arguments.{ArePossible};
+ghost use Rattle.jxlmod.specs.CutPicture.{IsCutPictureText};
+ghost use Rattle.jxlmod.specs.PictureText.{IsPictureText, channels_asked};
 ghost use Rattle.jxlmod.specs.Inner.Printed.{IsPictureError, PrintGives};
 
 use crate::arguments::{Command, Samples};
 use crate::printing::print_image;
 use crate::run::Print;
+use crate::sections::sections_text;
 use jxl_modular::decode_picture;
 use jxlm_base::bits::Bitstream;
 use jxlm_base::error::Error;
@@ -21,8 +24,8 @@ use std::alloc::Global;
 /// The side of a group of the pictures that are printed.
 const GROUP_DIM: u32 = 256;
 
-/// Makes the text of the picture that stands at the start of the bytes: a header and the samples of
-/// one part, in the format of the plain decoder.
+/// Makes the text of the picture that stands at the start of the bytes, in the format of the plain decoder: a header and
+/// the samples of one part, or a row of sections.
 #[derive(Clone, Copy)]
 pub struct PartPrinter;
 
@@ -30,16 +33,40 @@ impl Print for PartPrinter {
     ghost may_return = { PrintGives };
 
     fn print(&self, alloc: Global, bytes: &[u8], command: Command) -> Result<String, Error> {
-        let Command::Decode {
-            width,
-            height,
-            channels,
-            bit_depth,
-            samples,
-        } = command;
-        match samples {
-            Samples::I16 => picture_text::<i16>(alloc, bytes, width, height, channels, bit_depth),
-            Samples::I32 => picture_text::<i32>(alloc, bytes, width, height, channels, bit_depth),
+        match command {
+            Command::Decode {
+                width,
+                height,
+                channels,
+                bit_depth,
+                samples,
+            } => match samples {
+                Samples::I16 => {
+                    picture_text::<i16>(alloc, bytes, width, height, channels, bit_depth)
+                }
+                Samples::I32 => {
+                    picture_text::<i32>(alloc, bytes, width, height, channels, bit_depth)
+                }
+            },
+            Command::Sections {
+                width,
+                height,
+                channels,
+                bit_depth,
+                samples,
+                group_dim,
+            } => match samples {
+                Samples::I16 => {
+                    cut_picture_text::<i16>(
+                        alloc, bytes, width, height, channels, bit_depth, group_dim,
+                    )
+                }
+                Samples::I32 => {
+                    cut_picture_text::<i32>(
+                        alloc, bytes, width, height, channels, bit_depth, group_dim,
+                    )
+                }
+            },
         }
     }
 }
@@ -83,4 +110,25 @@ fn picture_text<S: Sample>(
         Some(image) => Ok(print_image(alloc, image.image_channels())?),
         None => Ok(String::new(alloc)),
     }
+}
+
+/// The text of the picture of `channels` channels of these sides that is cut into sections, with groups of this side.
+fn cut_picture_text<S: Sample>(
+    alloc: Global,
+    bytes: &[u8],
+    width: u32,
+    height: u32,
+    channels: u32,
+    bit_depth: u32,
+    group_dim: u32,
+) -> Result<String, Error>
+    requires some { 0 < channels }
+    requires possible { ArePossible width height channels bit_depth }
+    requires side { IsGroupDim group_dim }
+    ensures { IfOk result (λ text. IsCutPictureText S.width S.to_int (S.from_int (pos 0))
+        (channels_asked width height channels) group_dim bit_depth bytes.now (string_bytes text)) }
+{
+    let channels = channel_list(alloc, width, height, channels)?;
+    let params = ModularParams::with_channels(group_dim, bit_depth, channels, None);
+    sections_text::<S>(alloc, bytes, params)
 }
