@@ -4,6 +4,8 @@
 #[cfg(test)]
 mod case;
 #[cfg(test)]
+mod follow;
+#[cfg(test)]
 mod generated;
 #[cfg(test)]
 mod nested;
@@ -21,4 +23,6 @@ mod recursive;
 mod rows;
 #[cfg(test)]
 mod run;
+#[cfg(test)]
+mod surface;
 pub mod viewer;
