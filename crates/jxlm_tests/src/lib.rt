@@ -19,6 +19,8 @@ mod parts;
 #[cfg(test)]
 mod pictures;
 #[cfg(test)]
+mod prefixes;
+#[cfg(test)]
 mod rows;
 #[cfg(test)]
 mod surface;

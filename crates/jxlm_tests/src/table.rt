@@ -11,7 +11,7 @@ use std::process::Abort;
 use std::test::Fail;
 
 // Channels as large as the picture, from sizes as `3x2`, with one space between.
-fn channels(alloc: Global, sizes: &str) -> Result<Vec<ModularChannelParams>, Fail> {
+pub fn channels(alloc: Global, sizes: &str) -> Result<Vec<ModularChannelParams>, Fail> {
     let mut channels = Vec::new(alloc);
     for size in sizes.split(' ') {
         let (width, height) = size.split_once('x').ok_or("a size without x")?;
