@@ -12,7 +12,7 @@ use Rattle.jxlm_base.specs.Outside.{KeepsOutside, buffer_at}
 use Rattle.jxlm_base.specs.Regions.{AllLie, LieApart, grids_in, store_meanings}
 use Rattle.jxlm_base.specs.declared.subgrid.Region.{Region}
 use Rattle.jxlm_chain.specs.Chain.{Chain, IsOnlyImage}
-use Rattle.jxlm_chain.specs.Inner.Lying.{HasTables, LieIn}
+use Rattle.jxlm_chain.specs.Lying.{HasTables, LieIn}
 use Rattle.jxlm_chain.specs.Layout.{Layout, layout_after, layout_after_all}
 use Rattle.jxlm_chain.specs.Shape.{SameShape}
 use Rattle.jxlm_chain.specs.Steps.{CanUndoAll, IsNarrowStore}

@@ -7,8 +7,8 @@ use Rattle.jxlm_base.specs.Decoding.{Meaning}
 use Rattle.jxlm_base.specs.Grid.{Grid, filled, grid}
 use Rattle.jxlm_base.specs.Regions.{AllLie, Lies}
 use Rattle.jxlm_base.specs.declared.subgrid.Region.{Region}
-use Rattle.jxlm_chain.specs.Inner.Ends.{HasEnds}
-use Rattle.jxlm_chain.specs.Inner.Lying.{HasTables}
+use Rattle.jxlm_chain.specs.Ends.{HasEnds}
+use Rattle.jxlm_chain.specs.Lying.{HasTables}
 use Rattle.jxlm_chain.specs.Layout.{Layout, layout_after_all}
 use Rattle.jxlm_chain.specs.Placed.{IsPlacedBy, sides_in}
 use Rattle.jxlm_chain.specs.Steps.{IsNarrowStore}

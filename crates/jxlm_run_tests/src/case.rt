@@ -117,6 +117,7 @@ fn reader(piece: &Piece) -> Result<Bitstream<'_>, Fail> {
     Ok(bits)
 }
 
+/// The same as the library takes them.
 pub fn sections<'a>(alloc: Global, pieces: &'a [Piece]) -> Result<Vec<Section<'a>>, Fail> {
     let mut sections = Vec::new(alloc);
     for piece in pieces {
@@ -130,7 +131,7 @@ pub fn sections<'a>(alloc: Global, pieces: &'a [Piece]) -> Result<Vec<Section<'a
     Ok(sections)
 }
 
-// The global tree after the mark, if there is one.
+/// The global tree after the mark, if there is one.
 pub fn global<D: Decoder>(
     alloc: Global,
     text: &str,

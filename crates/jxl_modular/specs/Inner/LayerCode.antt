@@ -5,7 +5,7 @@ use Rattle.std.specs.Coded.{Coded, code_by, coded×, coded_bool, coded_list, cod
 use Rattle.jxlm_base.specs.Grid.{Grid, grid_code}
 use Rattle.jxlm_base.specs.Regions.{AllLie, LieApart}
 use Rattle.jxlm_base.specs.declared.subgrid.Region.{Region}
-use Rattle.jxlm_chain.specs.Inner.Lying.{HasTables}
+use Rattle.jxlm_chain.specs.Lying.{HasTables}
 use Rattle.jxlm_chain.specs.Placed.{IsPlacedBy}
 use Rattle.jxlm_chain.specs.Steps.{IsNarrowStore}
 use Rattle.jxlm_cut.specs.declared.pieces.Pieces.{Pieces}
