@@ -5,15 +5,12 @@ pub mod ColourRows
 mod ColourEights
 pub mod GridLaws
 pub mod GrammarLaws
-pub mod ItemLoop
-pub mod PlainGives
 pub mod Outside
 pub mod RegionRows
 pub mod Regions
 pub mod SqueezeLaws
 pub mod Tokens
 pub mod DecodingLaws
-pub mod PlainTokens
 pub mod Wraps
 mod Digits
 mod Each

@@ -7,7 +7,6 @@ use Rattle.jxlm_base.specs.ErrorKind.{ErrorKind, Eof, ErrorAt, bitstream_kind, k
 use Rattle.jxlm_base.specs.declared.bits.BitstreamError.{BitstreamError}
 use Rattle.jxlm_base.specs.declared.bits.U32Spec.{U32Spec}
 use Rattle.jxlm_base.specs.declared.bits.U32Spec.TheVariants.{Const, Offset}
-use Rattle.jxlm_base.specs.declared.error.Error.{Error}
 
 -- A kind of field, over bytes and bit positions.
 pub record Grammar (X : Type 0) : Type 1 where

@@ -7,9 +7,7 @@ pub mod Grid
 pub mod GridLends
 pub mod Numbers
 pub mod Outside
-pub mod Plain
 pub mod Regions
-pub mod PlainTokens
 pub mod Squeeze
 pub mod Subgrid
 pub mod Inner

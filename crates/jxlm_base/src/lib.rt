@@ -10,7 +10,6 @@ pub mod error;
 pub mod grid;
 mod lanes;
 pub mod laws;
-pub mod plain;
 pub mod region;
 pub mod sample;
 mod squeeze;

@@ -311,9 +311,9 @@ fn line_of<S>(coded: &[S], start: usize, stride: usize, columns: usize, i: usize
     &coded[begin..begin + columns]
 }
 
-/// Undoes pair `k` of `columns` columns, or of as many rows that are turned, of `len` samples each: line `i` of `coded`,
-/// which begins at `start` and `i` times `stride`, has sample `i` of each. The lines of `strip` are the first averages
-/// and the undone lines, of which those before the pair are there.
+/// Undoes pair `k` of `columns` columns, or of as many rows that are turned, of `len` samples each: line `i` of
+/// `coded`, which begins at `start` and `i` times `stride`, has sample `i` of each. The lines of `strip` are the first
+/// averages and the undone lines, of which those before the pair are there.
 #[tactic(auto, using(crate::proofs::Strips::lines_within))]
 fn strip_pair<S: Lines>(
     coded: &[S],

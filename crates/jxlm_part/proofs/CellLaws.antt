@@ -1,11 +1,12 @@
 -- A cell of a part: what it holds, and what is read into it.
-use Rattle.std.proofs.Common.{◌≡◌, ◌≢◌, ℕ, zero, suc, ◌+◌, ◌*◌, ◌/◌, ◌<◌, ◌≤◌, ◌^◌, List, [], ◌∷◌, ◌++◌, length, take, Some, refl, sym, ap, ◌∙◌, subst, arith, ℤ, slice_index_or}
+use Rattle.std.proofs.Common.{◌≡◌, ◌≢◌, ℕ, zero, suc, ◌+◌, ◌*◌, ◌/◌, ◌<◌, ◌≤◌, ◌^◌, List, [], ◌∷◌, ◌++◌, length, take, Some, refl, sym, ap, ◌∙◌, subst, arith, ℤ, slice_index_or, Bool, true, false, ◌||◌}
 use Rattle.std.specs.Prelude.{slice_get, slice_set, Result, Err}
 use Rattle.std.specs.List.{All}
 use Rattle.std.specs.Int.{Width}
 use Rattle.std.proofs.lemmas.List.{append-nil, append_assoc, length-append, length-take-le, take-set, take_more_set}
 use Rattle.std.proofs.lemmas.Nat.{div-mul-add, mul-add-lt}
-use Rattle.std.proofs.lemmas.Option.{get_or_from_slice_get}
+use Rattle.std.specs.Option.{option_map_or}
+use Rattle.std.proofs.lemmas.Option.{slice_get-get_or}
 use Rattle.std.proofs.lemmas.List.Elements.{All-nil}
 use Rattle.jxlm_base.specs.Bits.{bytes_of, position_of}
 use Rattle.jxlm_base.specs.Decoding.{Meaning, Taken}
@@ -17,25 +18,26 @@ use Rattle.jxlm_base.specs.declared.subgrid.Region.{Region}
 use Rattle.jxlm_base.proofs.Regions.{IsFull-grid_of}
 use Rattle.jxlm_base.proofs.Cells.{slice_get-set_same}
 use Rattle.jxlm_tree.specs.EarlierRows.{AreRowsOf, HoldRows}
-use Rattle.jxlm_tree.specs.FlatTree.{ClustersStandIn, FlatTree, earlier_named}
+use Rattle.jxlm_ma.specs.FlatTree.{ClustersStandIn, FlatTree, GoesWithoutWeights, ReadsEarlierBelow}
 use Rattle.jxlm_tree.specs.Neighbours.{row as line}
 use Rattle.jxlm_tree.specs.Standing.{HasSameRoom, HoldsRow, IsInner, IsReady, Setting, StandsAt, row_of}
-use Rattle.jxlm_tree.specs.Tree.{depth}
+use Rattle.jxlm_ma.specs.Tree.{depth}
 use Rattle.jxlm_tree.specs.declared.earlier.EarlierRow.{EarlierRow}
-use Rattle.jxlm_tree.specs.declared.flat.Leaf.{Leaf}
+use Rattle.jxlm_ma.specs.declared.flat.Leaf.{Leaf}
 use Rattle.jxlm_tree.specs.declared.state.PredictorState.{PredictorState}
 use Rattle.jxlm_tree.proofs.EarlierLaws.{in_state, of_setting}
 use Rattle.jxlm_tree.proofs.StandingLaws.{stands_row}
 use Rattle.jxlm_part.specs.Coded.{next_prediction, sample_of}
 use Rattle.jxlm_part.specs.Part.{channel, max_width, no_channel}
-use Rattle.jxlm_part.specs.Reading.{FindsClusters, HasRoom, IsCodingOf, cost_of, flat, part_of, regions_of}
+use Rattle.jxlm_part.specs.Reading.{FindsClusters, HasRoom, IsCodingOf, IsTreeOf, are_weighted, cost_of, flat, part_of, regions_of}
 use Rattle.jxlm_part.specs.Inner.Cells.{ReadsNext, FailsNext, leaf_at, predicted_at}
-use Rattle.jxlm_part.specs.Inner.Channels.{StandsAfter, handed, region_at, setting_of}
+use Rattle.jxlm_part.specs.Inner.Channels.{StandsAfter, asked_at, handed, region_at, setting_of}
 use Rattle.jxlm_part.specs.Progress.{grids_in}
 use Rattle.jxlm_part.specs.Inner.Progress.{preceding_cells}
 use Rattle.jxlm_part.specs.Inner.Rows.{FailsCell, FailsRow, IsAway, ReadsCell, ReadsCells, StandsInRow, row_rule}
 use Rattle.jxlm_part.specs.Inner.Source.{Source}
 use Rattle.jxlm_part.specs.Rule.{Rule, CodedPrefix}
+use Rattle.jxlm_part.specs.declared.coding.ChannelTree.{ChannelTree}
 use Rattle.jxlm_part.specs.declared.coding.PartCoding.{PartCoding}
 use Rattle.jxlm_part.proofs.Earlier.{earlier_all, same_sides}
 use Rattle.jxlm_part.proofs.Loops.{same_count, same_size}
@@ -56,15 +58,46 @@ all_handed : {X : Type 0} (n : ℕ) (P : X → Type 0) (xs : List X) → All P x
 all_handed zero P xs h = All-nil P
 all_handed (suc n) P xs h = h
 
+-- where none of them asks for the weights, one does not
+not_weighted : (flats : List ChannelTree) → are_weighted flats ≡ false → (i : ℕ) (other : ChannelTree) → i < length flats → (slice_index_or flats i other).weighted ≡ false
+not_weighted [] none i other less = absurd (omega arith)
+not_weighted (t ∷ ts) none zero other less = first t.weighted (are_weighted ts) none where
+  first : (a b : Bool) → (a || b) ≡ false → a ≡ false
+  first true b h = h
+  first false b h = refl
+not_weighted (t ∷ ts) none (suc i) other less = not_weighted ts (rest t.weighted (are_weighted ts) none) i other (omega arith) where
+  rest : (a b : Bool) → (a || b) ≡ false → b ≡ false
+  rest true b h = cc
+  rest false b h = h
+
 module _ {D : Type 0} (c : PartCoding D) (coding : IsCodingOf c) (i : ℕ) (li : i < length (regions_of c)) where
   -- the flat tree of a channel
-  pub flat_at : (other : FlatTree) → slice_index_or c.flats.now i other ≡ flat c.config.now.tree c.stream_index i
-  flat_at other = get_or_from_slice_get c.flats.now i (flat c.config.now.tree c.stream_index i) other (coding.flats.each i li)
+  pub tree_at : (other : ChannelTree) → IsTreeOf (flat c.config.now.tree c.stream_index i) (slice_index_or c.flats.now i other)
+  tree_at other = coding.flats.each i other li
 
-  pub clusters_at : (other : FlatTree) (clusters : List ℕ) → FindsClusters c clusters → ClustersStandIn clusters (slice_index_or c.flats.now i other).tree
+  pub flat_at : (other : ChannelTree) → (slice_index_or c.flats.now i other).flat ≡ flat c.config.now.tree c.stream_index i
+  flat_at other = (tree_at other).flat_is
+
+  -- how many earlier channels it asks for
+  pub asked_is : (other : ChannelTree) → asked_at c i ≡ (slice_index_or c.flats.now i other).asked
+  asked_is other =
+      let n = coding.flats.count_is in
+      ap (λ o. option_map_or (λ (t : ChannelTree). t.asked) o 0) (slice_get-get_or c.flats.now i other (omega (arith, n, li)))
+
+  -- a channel tree, any of them
+  any_tree : ChannelTree
+  any_tree = record { flat = flat c.config.now.tree c.stream_index i; weighted = true; asked = 0 }
+
+  reads_below : ReadsEarlierBelow (flat c.config.now.tree c.stream_index i) (asked_at c i)
+  reads_below = subst (ReadsEarlierBelow (flat c.config.now.tree c.stream_index i)) (sym (asked_is any_tree)) (tree_at any_tree).below
+
+  goes_without : are_weighted c.flats.now ≡ false → GoesWithoutWeights (flat c.config.now.tree c.stream_index i)
+  goes_without none = (tree_at any_tree).without (let n = coding.flats.count_is in not_weighted c.flats.now none i any_tree (omega (arith, n, li)))
+
+  pub clusters_at : (other : ChannelTree) (clusters : List ℕ) → FindsClusters c clusters → ClustersStandIn clusters (slice_index_or c.flats.now i other).flat.tree
   clusters_at other clusters h = subst (λ (t : FlatTree). ClustersStandIn clusters t.tree) (sym (flat_at other)) h
 
-  pub cost_at : (other : FlatTree) (before after : ℕ) → after ≤ before + depth (slice_index_or c.flats.now i other).tree + 1 → after ≤ before + cost_of c
+  pub cost_at : (other : ChannelTree) (before after : ℕ) → after ≤ before + depth (slice_index_or c.flats.now i other).flat.tree + 1 → after ≤ before + cost_of c
   cost_at other before after h =
       let same = ap (λ (t : FlatTree). depth t.tree) (flat_at other) in
       omega (arith, same, h)
@@ -137,7 +170,7 @@ module _ {D : Type 0} (c : PartCoding D) (coding : IsCodingOf c) (i : ℕ) (li :
       stands = stands;
       few_rows = let n = narrow_at.1 in subst (λ k. k < 2 ^ 30) (sym line_is) (omega (arith, n, qy));
       earlier_hold = subst (λ k. All (λ r. HoldsRow r store reg.width k) (setting_of c i).earlier) (sym line_is)
-          (all_handed (earlier_named c.config.now.tree) (λ r. HoldsRow r store reg.width y) _ (earlier_all (part_of c).channels i (λ r. HoldsRow r store reg.width y) (region_at (regions_of c)) (λ e less alike.
+          (all_handed (asked_at c i) (λ r. HoldsRow r store reg.width y) _ (earlier_all (part_of c).channels i (λ r. HoldsRow r store reg.width y) (region_at (regions_of c)) (λ e less alike.
           let le : e < length (regions_of c) = omega (arith, less, li) in
           let here = same_size (part_of c).channels (regions_of c) i coding.sizes li in
           let there = same_size (part_of c).channels (regions_of c) e coding.sizes le in
@@ -171,9 +204,9 @@ module _ {D : Type 0} (c : PartCoding D) (coding : IsCodingOf c) (i : ℕ) (li :
         ∙ sym (append_assoc (take (y * reg.width) cells) so_far (sample ∷ [])) in
         subst (StandsAt state (setting_of c i)) (sym more) stands
 
-    module _ (d : Meaning D) (w : Width) (old : Source D) (other : FlatTree) where
+    module _ (d : Meaning D) (w : Width) (old : Source D) (other : ChannelTree) where
       abbrev the_flat : FlatTree
-      the_flat = slice_index_or c.flats.now i other
+      the_flat = (slice_index_or c.flats.now i other).flat
 
       abbrev rule : Rule D
       rule = row_rule d w (part_of c) (bytes_of old.bits) (regions_of c) ints i y
@@ -182,7 +215,9 @@ module _ {D : Type 0} (c : PartCoding D) (coding : IsCodingOf c) (i : ℕ) (li :
       here = preceding_cells (part_of c) (grids_in (regions_of c) ints) i 0 y ++ so_far
 
       next : IsNext (part_of c) (regions_of c) ints i here own (sees_regions (part_of c) (regions_of c) ints i y coding.sizes li qy so_far (omega (arith, row_long, px))) (setting_of c i)
-      next = is_next (part_of c) (regions_of c) ints i here own (sees_regions (part_of c) (regions_of c) ints i y coding.sizes li qy so_far (omega (arith, row_long, px)))
+      next =
+          is_next (part_of c) (regions_of c) ints i here own (sees_regions (part_of c) (regions_of c) ints i y coding.sizes li qy so_far (omega (arith, row_long, px)))
+          (asked_at c i) reads_below (are_weighted c.flats.now) goes_without
 
       -- how the leaf to which the flat tree leads reads its token
       abbrev reading : Result (Taken ℕ D) DecoderError

@@ -10,7 +10,7 @@ use Rattle.jxlm_base.specs.Decoding.{IsLawful, Meaning, ReadGives}
 use Rattle.jxlm_base.specs.Numbers.{clamped_gradient, unpack}
 use Rattle.jxlm_base.specs.declared.decoder.DecoderError.{DecoderError}
 use Rattle.jxlm_base.proofs.Cells.{slice_get-set_same}
-use Rattle.jxlm_tree.specs.declared.flat.Leaf.{Leaf}
+use Rattle.jxlm_ma.specs.declared.flat.Leaf.{Leaf}
 use Rattle.jxlm_part.specs.Coded.{sample_of}
 use Rattle.jxlm_part.specs.Inner.Leaves.{IsPlain, gradient_in, leaf_rule, next_by, north_in, north_west_in, west_in}
 use Rattle.jxlm_part.specs.declared.leaves.Path.TheVariants.{Gradient}

@@ -9,8 +9,8 @@ use Rattle.jxlm_base.specs.declared.subgrid.Region.{Region}
 use Rattle.jxlm_base.proofs.Regions.{IsFull-grid_of}
 use Rattle.jxlm_tree.specs.Predictions.{prediction}
 use Rattle.jxlm_tree.specs.Properties.{property}
-use Rattle.jxlm_tree.specs.Tree.{leaf, walk}
-use Rattle.jxlm_tree.specs.declared.flat.Leaf.{Leaf}
+use Rattle.jxlm_ma.specs.Tree.{leaf, walk}
+use Rattle.jxlm_ma.specs.declared.flat.Leaf.{Leaf}
 use Rattle.jxlm_part.specs.Coded.{next_prediction, sample_of}
 use Rattle.jxlm_part.specs.Inner.Leaves.{HasPath, IsOnlyLeaf, next_by, path_rule, row_above}
 use Rattle.jxlm_part.specs.Inner.Rows.{AreAlike, FailsRow, IsDecoding, ReadsRow, row_rule, rule_in}

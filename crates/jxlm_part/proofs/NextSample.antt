@@ -1,23 +1,25 @@
 -- The next sample of a part, by its flat trees and by what the predictor's state was set for.
-use Rattle.std.proofs.Common.{◌≡◌, ◌≢◌, ℕ, zero, suc, ◌+◌, ◌-◌, ◌*◌, ◌/◌, ◌<◌, ◌≤◌, min, List, [], ◌∷◌, length, take, map, Bool, true, false, if◌then◌else◌, Option, Some, None, refl, sym, ap, ◌∙◌, arith, ℤ}
+use Rattle.std.proofs.Common.{◌≡◌, ◌≢◌, ℕ, zero, suc, ◌+◌, ◌-◌, ◌*◌, ◌/◌, ◌<◌, ◌≤◌, min, List, [], ◌∷◌, length, take, map, Bool, true, false, if◌then◌else◌, Option, Some, None, refl, sym, ap, ◌∙◌, arith, ℤ, pos, neg_ℤ, ◌^◌, ◌≤ℤ◌, ◌<ℤ◌, nat_lt}
 use Rattle.std.specs.Prelude.{slice_get}
 use Rattle.std.specs.Int.{w32, int_wrap}
+use Rattle.std.proofs.lemmas.Int.{SFits-int_wrap, ints}
 use Rattle.std.proofs.lemmas.List.{length-map}
 use Rattle.std.proofs.lemmas.Simd.{map-map}
 use Rattle.jxlm_base.specs.Grid.{Grid}
 use Rattle.jxlm_base.specs.Regions.{grid_of}
 use Rattle.jxlm_base.specs.declared.subgrid.Region.{Region}
-use Rattle.jxlm_tree.specs.FlatTree.{earlier_named, leaf_reached, needs_weights}
+use Rattle.jxlm_ma.specs.FlatTree.{GoesWithoutWeights, ReadsEarlierBelow, leaf_reached}
+use Rattle.jxlm_ma.specs.ShortTrees.{Fits}
 use Rattle.jxlm_tree.specs.Holding.{surroundings as surroundings_of}
 use Rattle.jxlm_tree.specs.Predictions.{prediction}
 use Rattle.jxlm_tree.specs.Properties.{Surroundings, place_property, property}
 use Rattle.jxlm_tree.specs.Standing.{Setting, setting}
-use Rattle.jxlm_tree.specs.Tree.{walk}
-use Rattle.jxlm_tree.specs.declared.flat.Leaf.{Leaf}
+use Rattle.jxlm_ma.specs.Tree.{walk}
+use Rattle.jxlm_ma.specs.declared.flat.Leaf.{Leaf}
 use Rattle.jxlm_tree.specs.declared.predictor.Predictor.{Predictor}
 use Rattle.jxlm_tree.specs.declared.predictor.Predictor.TheVariants.{Zero, West, North, AvgWestAndNorth, Select, Gradient, SelfCorrecting, NorthEast, NorthWest, WestWest, AvgWestAndNorthWest, AvgNorthAndNorthWest, AvgNorthAndNorthEast, AvgAll}
 use Rattle.jxlm_tree.specs.declared.predictor.WpHeader.{WpHeader}
-use Rattle.jxlm_tree.proofs.FlatTrees.{goes_without_weights, reads_earlier_below, walks_by_properties}
+use Rattle.jxlm_ma.proofs.FlatTrees.{walks_by_properties}
 use Rattle.jxlm_tree.proofs.PropertiesLaws.{later_property}
 use Rattle.jxlm_part.specs.Coded.{next_prediction}
 use Rattle.jxlm_part.specs.Reading.{flat}
@@ -86,10 +88,25 @@ cut_same s f xs n (suc (suc (suc (suc (suc (suc (suc (suc (suc (suc (suc (suc (s
     later_property (with_earlier s (map f (take n xs))) (suc (suc (suc (suc (suc (suc (suc (suc (suc (suc (suc (suc (suc (suc (suc (suc k)))))))))))))))) past ∙ ap (int_wrap w32) (rw (got f n xs (((suc (suc (suc (suc (suc (suc (suc (suc (suc (suc (suc (suc (suc (suc (suc (suc k)))))))))))))))) - 16) / 4) there) refl) ∙ sym (later_property (with_earlier s (map f xs)) (suc (suc (suc (suc (suc (suc (suc (suc (suc (suc (suc (suc (suc (suc (suc (suc k)))))))))))))))) past)
 
 -- so it is where a tree that asks for none is given none
-cut_handed : {X : Type 0} (s : Surroundings) (f : X → Grid ℤ) (xs : List X) (n i k : ℕ) → k < 16 + 4 * min i n →
+cut_handed : {X : Type 0} (s : Surroundings) (f : X → Grid ℤ) (xs : List X) (n k : ℕ) → k < 16 + 4 * n →
     place_property (with_earlier s (map f (handed n xs))) k ≡ place_property (with_earlier s (map f xs)) k
-cut_handed s f xs zero i k h = cut_same s f xs 0 k (omega (arith, h))
-cut_handed s f xs (suc n) i k h = refl
+cut_handed s f xs zero k h = cut_same s f xs 0 k (omega (arith, h))
+cut_handed s f xs (suc n) k h = refl
+
+-- each property is a number of 32 bits
+wraps-fit : (z : ℤ) → (neg_ℤ (pos (2 ^ 31)) ≤ℤ int_wrap w32 z) × (int_wrap w32 z <ℤ pos (2 ^ 31))
+wraps-fit z = let f = SFits-int_wrap w32 z in (omega (arith, ints), omega (arith, ints))
+
+either-fit : (a b : Bool) (x y : ℤ) → (neg_ℤ (pos (2 ^ 31)) ≤ℤ (if a then pos 0 else if b then int_wrap w32 x else int_wrap w32 y)) × ((if a then pos 0 else if b then int_wrap w32 x else int_wrap w32 y) <ℤ pos (2 ^ 31))
+either-fit true b x y = (omega (arith, ints), omega (arith, ints))
+either-fit false true x y = wraps-fit x
+either-fit false false x y = wraps-fit y
+
+place-fit : (s : Surroundings) → Fits (place_property s)
+place-fit s = record {
+  low = λ k. (either-fit (nat_lt k 2) (nat_lt k 16) _ _).0;
+  high = λ k. (either-fit (nat_lt k 2) (nat_lt k 16) _ _).1;
+}
 
 -- a prediction is the same without weights by each predictor but the weighted one
 predicts_without : (a b : Option WpHeader) (samples : List ℤ) (width : ℕ) (p : Predictor) → p ≢ SelfCorrecting → prediction a samples width p ≡ prediction b samples width p
@@ -155,18 +172,6 @@ module _ (part : Part) (regions : List Region) (ints : List (Grid ℤ)) (i : ℕ
       ∙ sym (ap (λ (s : Surroundings). walk part.tree (property i part.stream s)) same_seen)
       ∙ sym (ap (λ n. walk part.tree (property n part.stream (surroundings part before))) sees.stands)
 
-  -- the earlier channels, where the tree asks for any
-  abbrev handed_on : List Region
-  handed_on = handed (earlier_named part.tree) earlier
-
-  abbrev cut_with : Option WpHeader → Surroundings
-  cut_with weights = surroundings_of (setting reg.width weights handed_on) ints own
-
-  cut_leaf : (weights : Option WpHeader) → leaf_reached (flat part.tree part.stream i) (place_property (cut_with weights)) ≡ leaf_reached (flat part.tree part.stream i) (place_property (seen_with weights))
-  cut_leaf weights =
-      reads_earlier_below (flat part.tree part.stream i) (earlier_named part.tree) refl (place_property (cut_with weights)) (place_property (seen_with weights))
-      (λ k less. cut_handed (seen_with weights) (grid_of ints) earlier (earlier_named part.tree) i k less)
-
   -- the prediction of the part, at its leaf
   predicted_with : next_prediction part before ≡ prediction (Some part.weights) own reg.width (next_leaf part before).predictor
   predicted_with = ap (λ (s : Surroundings). prediction s.weights s.samples s.width (next_leaf part before).predictor) same_seen
@@ -176,17 +181,28 @@ module _ (part : Part) (regions : List Region) (ints : List (Grid ℤ)) (i : ℕ
     pub leaf_is : leaf_at (flat part.tree part.stream i) s ints own ≡ next_leaf part before
     pub predicted_is : predicted_at (flat part.tree part.stream i) s ints own ≡ next_prediction part before
 
-  pub is_next : IsNext (setting reg.width (if needs_weights part.tree then Some part.weights else None) handed_on)
-  is_next = either (needs_weights part.tree) refl where
-    either : (b : Bool) → needs_weights part.tree ≡ b → IsNext (setting reg.width (if b then Some part.weights else None) handed_on)
-    either true is =
+  -- the earlier channels, where the tree asks for any
+  module _ (n : ℕ) (below : ReadsEarlierBelow (flat part.tree part.stream i) n) where
+    abbrev handed_on : List Region
+    handed_on = handed n earlier
+
+    abbrev cut_with : Option WpHeader → Surroundings
+    cut_with weights = surroundings_of (setting reg.width weights handed_on) ints own
+
+    cut_leaf : (weights : Option WpHeader) → leaf_reached (flat part.tree part.stream i) (place_property (cut_with weights)) ≡ leaf_reached (flat part.tree part.stream i) (place_property (seen_with weights))
+    cut_leaf weights =
+        below (place_property (cut_with weights)) (place_property (seen_with weights)) (place-fit (cut_with weights)) (place-fit (seen_with weights))
+        (λ k less. cut_handed (seen_with weights) (grid_of ints) earlier n k less)
+
+    pub is_next : (used : Bool) → (used ≡ false → GoesWithoutWeights (flat part.tree part.stream i)) → IsNext (setting reg.width (if used then Some part.weights else None) handed_on)
+    is_next true without =
         let same = cut_leaf (Some part.weights) ∙ leaf_with in
         record {
           leaf_is = same;
           predicted_is = ap (λ (k : Leaf). prediction (Some part.weights) own reg.width k.predictor) same ∙ sym predicted_with;
         }
-    either false is =
-        let goes = goes_without_weights (flat part.tree part.stream i) is (place_property (cut_with None)) (place_property (cut_with (Some part.weights)))
+    is_next false without =
+        let goes = without refl (place_property (cut_with None)) (place_property (cut_with (Some part.weights))) (place-fit (cut_with None)) (place-fit (cut_with (Some part.weights)))
         (λ k other. weightless (cut_with None) None (Some part.weights) k other) in
         let same = goes.0 ∙ cut_leaf (Some part.weights) ∙ leaf_with in
         record {

@@ -10,8 +10,8 @@ use Rattle.jxlm_base.specs.declared.error.Error.{Error}
 use Rattle.jxlm_base.specs.declared.error.Error.TheVariants.{Decoder}
 use Rattle.jxlm_base.specs.declared.subgrid.Region.{Region}
 use Rattle.jxlm_transform.specs.Channels.{AreRegionsOf, Channel}
-use Rattle.jxlm_tree.specs.Tree.{depth}
-use Rattle.jxlm_part.specs.Decode.{DecodeAnswers, MovesWithin, Standing}
+use Rattle.jxlm_ma.specs.Tree.{depth}
+use Rattle.jxlm_part.specs.Decode.{DecodeGives, MovesWithin, Standing}
 use Rattle.jxlm_part.specs.Inner.Ready.{IsReadyFor}
 use Rattle.jxlm_part.specs.Part.{Part, cell_count, max_width}
 use Rattle.jxlm_part.specs.Placed.{PartLies, standing_in}
@@ -22,10 +22,6 @@ use Rattle.jxlm_part.specs.declared.coding.Ready.{Ready}
 use Rattle.jxlm_part.specs.declared.part.PlacedPart.{PlacedPart}
 use Rattle.jxlm_part.proofs.Loops.{fits_in, same_count}
 use Rattle.jxlm_part.proofs.Starting.{roomy_for}
-
-some_channel : (channels : List Channel) → 0 < cell_count channels → 0 < length channels
-some_channel [] h = absurd (omega arith)
-some_channel (c ∷ cs) h = omega arith
 
 -- a part that lies in a store, made ready, can be decoded
 module _ {D S : Type 0} (p : PlacedPart D) (store : List (Grid S)) (lies : PartLies p store) (r : Ready S D) (ready : IsReadyFor p r) (c : PartCoding D)
@@ -43,11 +39,9 @@ module _ {D S : Type 0} (p : PlacedPart D) (store : List (Grid S)) (lies : PartL
     weights = rw weights lies.weights;
   }
 
-  -- where there are samples, the state has room for them
-  pub placed_roomy : 0 < cell_count p.channels.now → IsRoomy c r.state
-  placed_roomy some =
-      roomy_for c r.state placed_coding (rw (widest, weights, flats) ready.roomy)
-      (let n = count_is in let m = some_channel p.channels.now some in omega (arith, n, m))
+  -- the state has room for its samples
+  pub placed_roomy : IsRoomy c r.state
+  placed_roomy = roomy_for c r.state placed_coding (rw (widest, weights, flats) ready.roomy)
 
 none_is : (n : ℕ) → (0 < n → ⊥) → n ≡ 0
 none_is zero h = refl
@@ -61,7 +55,7 @@ module _ {S D : Type 0} (d : Meaning D) (w : Width) (to_int : S → ℤ) (bytes 
   -- what is returned, and how many steps were taken
   abbrev Answers : Bool → List (Grid S) → ℕ → Bool → Result (Unit {0}) Error → ℕ → ℕ → Type 0
   Answers allow new q still result before after =
-      (tried : ℕ) × DecodeAnswers d w part bytes decoder (standing_in to_int regions old p partial) (standing_in to_int regions new q still) allow result tried
+      (tried : ℕ) × DecodeGives d w part bytes decoder (standing_in to_int regions old p partial) (standing_in to_int regions new q still) allow result tried
       × MovesWithin before after (tried * cost)
 
   -- the samples are coded to the end

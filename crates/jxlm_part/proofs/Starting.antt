@@ -8,20 +8,21 @@ use Rattle.std.proofs.lemmas.List.{length-append, length-map, get_or_default, ge
 use Rattle.std.proofs.lemmas.Option.{slice_get-get_or, get_or_from_slice_get}
 use Rattle.std.proofs.Math.Seq.{get_or-append_seam}
 use Rattle.jxlm_base.specs.declared.subgrid.Region.{Region}
-use Rattle.jxlm_tree.specs.FlatTree.{FlatTree, earlier_named}
+use Rattle.jxlm_ma.specs.FlatTree.{FlatTree}
 use Rattle.jxlm_tree.specs.Standing.{HasSameRoom, Setting, Stands, StandsAt, earlier_count, earlier_room_of, setting, weights_of}
-use Rattle.jxlm_tree.specs.Tree.{Shape}
-use Rattle.jxlm_tree.specs.declared.flat.Leaf.{Leaf}
+use Rattle.jxlm_ma.specs.Tree.{Shape}
+use Rattle.jxlm_ma.specs.declared.flat.Leaf.{Leaf}
 use Rattle.jxlm_tree.specs.declared.predictor.WpHeader.{WpHeader}
 use Rattle.jxlm_tree.specs.declared.state.PredictorState.{PredictorState}
 use Rattle.jxlm_tree.proofs.StandingLaws.{stands_earlier}
 use Rattle.jxlm_transform.specs.Channels.{Channel, IsNarrow}
 use Rattle.jxlm_part.specs.Part.{channel, no_channel, downward, earlier_alike, max_width, is_alike}
-use Rattle.jxlm_part.specs.Reading.{HasFlats, HasRoom, IsCodingOf, IsRoomy, IsRoomyFor, flat, part_of, regions_of, weights_used}
-use Rattle.jxlm_part.specs.Inner.Channels.{IsAfterChannel, StandsIn, all_alike, earlier_regions, handed, region_at, setting_of}
+use Rattle.jxlm_part.specs.Reading.{HasFlats, HasRoom, IsCodingOf, IsRoomy, IsRoomyFor, IsTreeOf, flat, part_of, regions_of, weights_used}
+use Rattle.jxlm_part.specs.Inner.Channels.{IsAfterChannel, StandsIn, all_alike, asked_at, earlier_regions, handed, region_at, setting_of}
+use Rattle.jxlm_part.specs.declared.coding.ChannelTree.{ChannelTree}
 use Rattle.jxlm_part.specs.declared.coding.PartCoding.{PartCoding}
 use Rattle.jxlm_part.specs.declared.coding.PartState.{PartState}
-use Rattle.jxlm_part.proofs.CellLaws.{flat_at, roomy_still}
+use Rattle.jxlm_part.proofs.CellLaws.{roomy_still, tree_at}
 use Rattle.jxlm_part.proofs.Earlier.{few, few_earlier, same_alike, same_sides}
 use Rattle.jxlm_part.proofs.Loops.{same_count, same_size}
 
@@ -39,11 +40,7 @@ narrow_widest (c ∷ cs) h =
     let rest = narrow_widest cs (All-tail IsNarrow c cs h) in
     omega (arith, first, rest)
 
--- where a tree asks for no earlier channel, or there is none, none is given; else all are
-pub none_asked : (n i : ℕ) (all : List Region) → (i ≡ 0 → all ≡ []) → min i n ≡ 0 → handed n all ≡ []
-none_asked zero i all none h = refl
-none_asked (suc n) i all none h = none (omega (arith, h))
-
+-- where a tree asks for earlier channels, all are given
 pub some_asked : (n : ℕ) (all : List Region) → 0 < n → handed n all ≡ all
 some_asked zero all h = absurd (omega (arith, h))
 some_asked (suc n) all h = refl
@@ -125,10 +122,6 @@ module _ {D : Type 0} (c : PartCoding D) (coding : IsCodingOf c) where
       let widest = coding.widest in
       omega (arith, same, most, widest)
 
-module _ {D : Type 0} (c : PartCoding D) (i : ℕ) (asked : 0 < min i (earlier_named c.config.now.tree)) where
-  some : 0 < earlier_named c.config.now.tree
-  some = omega (arith, asked)
-
 module _ {D : Type 0} (c : PartCoding D) (coding : IsCodingOf c) (i : ℕ) (li : i < length (regions_of c)) (last : ℕ) (next : i ≡ last + 1) (alike : passes c i last ≡ true) where
   -- the channel before is as wide
   pub same_width : (region_at (regions_of c) last).width ≡ (region_at (regions_of c) i).width
@@ -140,10 +133,9 @@ module _ {D : Type 0} (c : PartCoding D) (coding : IsCodingOf c) (i : ℕ) (li :
   pub was_last : {X : Type 0} (state : PredictorState X) → 0 < (region_at (regions_of c) i).width → IsAfterChannel c i state → StandsIn c last state
   was_last state columns after = after last next (subst (λ n. 0 < n) (sym same_width) columns)
 
--- how many earlier channels the flat tree of channel i asks for at most
-pub depth_at : {D : Type 0} (c : PartCoding D) → IsCodingOf c → (i : ℕ) → i < length (regions_of c) → (other : FlatTree) (depth : ℕ) →
-    (let t : FlatTree = slice_index_or c.flats.now i other in depth ≡ min t.prev_channels (earlier_named t.tree)) → depth ≡ min i (earlier_named c.config.now.tree)
-depth_at c coding i li other depth is = is ∙ ap (λ (t : FlatTree). min t.prev_channels (earlier_named t.tree)) (flat_at c coding i li other)
+-- a channel whose tree asks for earlier ones has one before it
+pub is_later : {D : Type 0} (c : PartCoding D) (coding : IsCodingOf c) (i : ℕ) (li : i < length (regions_of c)) (other : ChannelTree) → 0 < (slice_index_or c.flats.now i other).asked → 0 < i
+is_later c coding i li other some = let n = (tree_at c coding i li other).few in omega (arith, n, some)
 
 -- The channel before channel i is like it, and the state was last in it.
 pub record ComesAfterAlike {D X : Type 0} (c : PartCoding D) (i : ℕ) (state : PredictorState X) : Type 0 where
@@ -152,7 +144,7 @@ pub record ComesAfterAlike {D X : Type 0} (c : PartCoding D) (i : ℕ) (state : 
   pub stood : StandsIn c (i - 1) state
 
 pub comes_after_alike : {D X : Type 0} (c : PartCoding D) (coding : IsCodingOf c) (i : ℕ) → i < length (regions_of c) → 0 < (region_at (regions_of c) i).width → (state : PredictorState X) →
-    IsAfterChannel c i state → 0 < min i (earlier_named c.config.now.tree) → (a b : Channel) → true ≡ is_alike (get_or c.channels.now (i - 1) a) (get_or c.channels.now i b) →
+    IsAfterChannel c i state → 0 < i → (a b : Channel) → true ≡ is_alike (get_or c.channels.now (i - 1) a) (get_or c.channels.now i b) →
     ComesAfterAlike c i state
 comes_after_alike c coding i li columns state last asked a b same =
     let next : i ≡ i - 1 + 1 = omega (arith, asked) in
@@ -161,19 +153,19 @@ comes_after_alike c coding i li columns state last asked a b same =
     record { next = next; alike = alike; stood = was_last c coding i li (i - 1) next alike state columns last }
 
 module _ {D X : Type 0} (c : PartCoding D) (i : ℕ) where
-  -- a state without earlier channels is set for a channel that has none, or whose tree asks for none
-  pub set_for_none : (state : PredictorState X) (weights : Option WpHeader) → weights ≡ weights_used c → min i (earlier_named c.config.now.tree) ≡ 0 →
+  -- a state without earlier channels is set for a channel whose tree asks for none
+  pub set_for_none : (state : PredictorState X) (weights : Option WpHeader) → weights ≡ weights_used c → asked_at c i ≡ 0 →
       StandsAt state (setting (region_at (regions_of c) i).width weights []) [] → StandsAt state (setting_of c i) []
   set_for_none state weights same none h =
-      let no = none_asked (earlier_named c.config.now.tree) i (all_alike c i) (λ first. ap (all_alike c) first) none in
+      let no : earlier_regions c i ≡ [] = ap (λ n. handed n (all_alike c i)) none in
       subst (λ rs. StandsAt state (setting (region_at (regions_of c) i).width (weights_used c) rs) []) (sym no)
       (subst (λ w. StandsAt state (setting (region_at (regions_of c) i).width w []) []) same h)
 
   -- one with all earlier channels is set for a channel whose tree asks for some
-  pub set_for_all : (state : PredictorState X) (weights : Option WpHeader) → weights ≡ weights_used c → 0 < min i (earlier_named c.config.now.tree) →
+  pub set_for_all : (state : PredictorState X) (weights : Option WpHeader) → weights ≡ weights_used c → 0 < asked_at c i →
       StandsAt state (setting (region_at (regions_of c) i).width weights (all_alike c i)) [] → StandsAt state (setting_of c i) []
   set_for_all state weights same asked h =
-      subst (λ rs. StandsAt state (setting (region_at (regions_of c) i).width (weights_used c) rs) []) (sym (some_asked (earlier_named c.config.now.tree) (all_alike c i) (some c i asked)))
+      subst (λ rs. StandsAt state (setting (region_at (regions_of c) i).width (weights_used c) rs) []) (sym (some_asked (asked_at c i) (all_alike c i) asked))
       (subst (λ w. StandsAt state (setting (region_at (regions_of c) i).width w (all_alike c i)) []) same h)
 
   pub somewhere : (state : PredictorState X) → StandsIn c i state → Stands state
@@ -187,12 +179,12 @@ module _ {D X : Type 0} (c : PartCoding D) (i : ℕ) where
   pub after_none : (state : PredictorState X) → IsAfterChannel c 0 state
   after_none state = λ last next columns. absurd (omega (arith, next))
 
-  module _ (asked : 0 < min i (earlier_named c.config.now.tree)) (last : ℕ) (next : i ≡ last + 1) where
+  module _ (last : ℕ) (asked : 0 < asked_at c last) (next : i ≡ last + 1) where
     -- there is room for the channel before
     pub room_for_last : i < length (regions_of c) → (old mid : PredictorState X) → StandsIn c last old → earlier_count mid ≡ earlier_count old → HasSameRoom old mid → HasRoom c old → earlier_count mid < earlier_room_of mid
     room_for_last li old mid h count same roomy =
         let has = stands_earlier old (setting_of c last) h.before h.stands in
-        let all = ap length (some_asked (earlier_named c.config.now.tree) (all_alike c last) (some c i asked)) in
+        let all = ap length (some_asked (asked_at c last) (all_alike c last) asked) in
         let long = length-map (earlier_alike (part_of c).channels last) (region_at (regions_of c)) in
         let few = few_earlier (part_of c).channels last in
         let room = roomy.earlier in
@@ -200,46 +192,40 @@ module _ {D X : Type 0} (c : PartCoding D) (i : ℕ) where
         omega (arith, has, all, long, few, room, kept, count, next, li)
 
     -- with it the state has all
-    pub set_by_last : (coding : IsCodingOf c) → i < length (regions_of c) → passes c i last ≡ true → (old mid new : PredictorState X) → StandsIn c last old → HasRoom c old →
+    pub set_by_last : (coding : IsCodingOf c) → i < length (regions_of c) → 0 < asked_at c i → passes c i last ≡ true → (old mid new : PredictorState X) → StandsIn c last old → HasRoom c old →
         ((s : Setting) (samples : List ℤ) → StandsAt old s samples → StandsAt mid (setting s.width (weights_of old) s.earlier) []) →
         ((s : Setting) (samples : List ℤ) → StandsAt mid s samples → StandsAt new (setting s.width s.weights (region_at (regions_of c) last ∷ s.earlier)) samples) →
         StandsAt new (setting_of c i) []
-    set_by_last coding li alike old mid new h roomy restarts adds =
+    set_by_last coding li here alike old mid new h roomy restarts adds =
         let one = adds _ [] (restarts (setting_of c last) h.before h.stands) in
-        let all = some_asked (earlier_named c.config.now.tree) (all_alike c last) (some c i asked) in
-        set_for_all new (weights_of old) roomy.weights asked
+        let all = some_asked (asked_at c last) (all_alike c last) asked in
+        set_for_all new (weights_of old) roomy.weights here
         (subst (λ rs. StandsAt new (setting (region_at (regions_of c) i).width (weights_of old) rs) [])
         (ap (λ rs. region_at (regions_of c) last ∷ rs) all ∙ sym (next_alike c i last next alike))
         (subst (λ n. StandsAt new (setting n (weights_of old) (region_at (regions_of c) last ∷ earlier_regions c last)) []) (same_width c coding i li last next alike) one))
 
 pub no_flats : (t : Shape Leaf) (stream : ℕ) → HasFlats t stream 0 []
-no_flats t stream = record { count_is = refl; each = λ i h. absurd (omega arith) }
+no_flats t stream = record { count_is = refl; each = λ i other h. absurd (omega arith) }
 
 -- one flat tree more
-pub flats_more : (t : Shape Leaf) (stream k : ℕ) (flats : List FlatTree) (next : FlatTree) → HasFlats t stream k flats → next ≡ flat t stream k → HasFlats t stream (k + 1) (flats ++ next ∷ [])
+pub flats_more : (t : Shape Leaf) (stream k : ℕ) (flats : List ChannelTree) (next : ChannelTree) → HasFlats t stream k flats → IsTreeOf (flat t stream k) next → HasFlats t stream (k + 1) (flats ++ next ∷ [])
 flats_more t stream k flats next h is = record {
   count_is = let n = h.count_is in let m = length-append flats (next ∷ []) in omega (arith, n, m);
-  each = λ i less. either i less (cases_lt i k);
+  each = λ i other less. either i other less (cases_lt i k);
 } where
-  either : (i : ℕ) → i < k + 1 → (i < k) ⊎ (k ≤ i) → slice_get (flats ++ next ∷ []) i ≡ Some (flat t stream i)
-  either i less (inl lt) =
+  either : (i : ℕ) (other : ChannelTree) → i < k + 1 → (i < k) ⊎ (k ≤ i) → IsTreeOf (flat t stream i) (get_or (flats ++ next ∷ []) i other)
+  either i other less (inl lt) =
       let n = h.count_is in
-      let m = length-append flats (next ∷ []) in
-      let inside : i < length (flats ++ next ∷ []) = omega (arith, n, m, less) in
-      slice_get-get_or (flats ++ next ∷ []) i next inside
-      ∙ ap Some (get_or_append_left flats (next ∷ []) next i (omega (arith, n, lt)) ∙ get_or_from_slice_get flats i (flat t stream i) next (h.each i lt))
-  either i less (inr ge) =
+      subst (IsTreeOf (flat t stream i)) (sym (get_or_append_left flats (next ∷ []) other i (omega (arith, n, lt)))) (h.each i other lt)
+  either i other less (inr ge) =
       let n = h.count_is in
-      let m = length-append flats (next ∷ []) in
       let at : i ≡ length flats = omega (arith, n, less, ge) in
       let it : i ≡ k = omega (arith, less, ge) in
-      let inside : i < length (flats ++ next ∷ []) = omega (arith, n, m, less) in
-      slice_get-get_or (flats ++ next ∷ []) i next inside
-      ∙ ap Some (ap (λ n. get_or (flats ++ next ∷ []) n next) at ∙ get_or-append_seam flats next [] next ∙ is ∙ ap (flat t stream) (sym it))
+      subst (IsTreeOf (flat t stream i)) (sym (ap (λ n. get_or (flats ++ next ∷ []) n other) at ∙ get_or-append_seam flats next [] other)) (subst (λ n. IsTreeOf (flat t stream n) next) (sym it) is)
 
 -- a state that has room for channels of flat trees has room for those of a part
-pub roomy_for : {D X : Type 0} (c : PartCoding D) (state : PartState X) → IsCodingOf c → IsRoomyFor c.widest c.weights c.flats.now state → 0 < length (regions_of c) → IsRoomy c state
-roomy_for c state coding h some =
+pub roomy_for : {D X : Type 0} (c : PartCoding D) (state : PartState X) → IsCodingOf c → IsRoomyFor c.widest c.weights c.flats.now state → IsRoomy c state
+roomy_for c state coding h =
     let wide = h.widest_is in
     let earlier = h.earlier_is in
     let long = h.row_is in
@@ -248,7 +234,7 @@ roomy_for c state coding h some =
       predictor = record {
         widest = omega (arith, wide);
         earlier = omega (arith, earlier, count);
-        weights = h.weights_is (flat c.config.now.tree c.stream_index 0) (coding.flats.each 0 some);
+        weights = h.weights_is;
       };
       row = omega (arith, long);
     }

@@ -6,7 +6,7 @@ use Rattle.jxlm_base.specs.Grid.{Grid}
 use Rattle.jxlm_base.specs.Numbers.{unpack}
 use Rattle.jxlm_base.specs.declared.decoder.DecoderError.{DecoderError}
 use Rattle.jxlm_tree.specs.Predictions.{prediction}
-use Rattle.jxlm_tree.specs.declared.flat.Leaf.{Leaf}
+use Rattle.jxlm_ma.specs.declared.flat.Leaf.{Leaf}
 use Rattle.jxlm_part.specs.Part.{Part, surroundings, next_leaf, cell_count, max_width, cells_of}
 use Rattle.jxlm_part.specs.Rule.{Rule, CodedPrefix}
 

@@ -52,13 +52,13 @@ module _ {S : Type 0} (d : Meaning S) (w : Width) (part : Part) (bytes : List �
 
   -- What decoding returns: Ok where the part is whole, or where the input ends and that is allowed; else the
   -- decoder's error.
-  abbrev pub DecodeAnswers : Bool → Result (Unit {0}) Error → ℕ → Type 0
-  DecodeAnswers allow_partial (Ok u) tried = IsWhole tried ⊎ ((allow_partial ≡ true) × Fails UnexpectedEof tried)
-  DecodeAnswers allow_partial (Err (Decoder UnexpectedEof)) tried = (allow_partial ≡ false) × Fails UnexpectedEof tried
-  DecodeAnswers allow_partial (Err (Decoder (Invalid k))) tried = Fails (Invalid k) tried
-  DecodeAnswers allow_partial (Err (Decoder OutOfMemory)) tried = IsUnchanged tried
-  DecodeAnswers allow_partial (Err (Buffer m)) tried = IsUnchanged tried
-  DecodeAnswers allow_partial (Err e) tried = ⊥
+  abbrev pub DecodeGives : Bool → Result (Unit {0}) Error → ℕ → Type 0
+  DecodeGives allow_partial (Ok u) tried = IsWhole tried ⊎ ((allow_partial ≡ true) × Fails UnexpectedEof tried)
+  DecodeGives allow_partial (Err (Decoder UnexpectedEof)) tried = (allow_partial ≡ false) × Fails UnexpectedEof tried
+  DecodeGives allow_partial (Err (Decoder (Invalid k))) tried = Fails (Invalid k) tried
+  DecodeGives allow_partial (Err (Decoder OutOfMemory)) tried = IsUnchanged tried
+  DecodeGives allow_partial (Err (Buffer m)) tried = IsUnchanged tried
+  DecodeGives allow_partial (Err e) tried = ⊥
 
 -- a count went on, and by at most n
 abbrev pub MovesWithin : ℕ → ℕ → ℕ → Type 0

@@ -5,8 +5,8 @@ use Rattle.jxlm_base.specs.Grid.{Grid}
 use Rattle.jxlm_transform.specs.Channels.{AreGridsOf, Channel, area}
 use Rattle.jxlm_transform.specs.ChannelSteps.{table_channel}
 use Rattle.jxlm_tree.specs.Properties.{Surroundings, property}
-use Rattle.jxlm_tree.specs.Tree.{Shape, walk}
-use Rattle.jxlm_tree.specs.declared.flat.Leaf.{Leaf}
+use Rattle.jxlm_ma.specs.Tree.{Shape, walk}
+use Rattle.jxlm_ma.specs.declared.flat.Leaf.{Leaf}
 use Rattle.jxlm_tree.specs.declared.predictor.WpHeader.{WpHeader}
 
 -- a part: its channels in order, the weights of its header, its tree, and its stream index

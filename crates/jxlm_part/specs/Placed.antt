@@ -6,7 +6,7 @@ use Rattle.jxlm_base.specs.Regions.{AllLie, LieApart, grids_in, store_meanings}
 use Rattle.jxlm_base.specs.declared.subgrid.Region.{Region}
 use Rattle.jxlm_transform.specs.Channels.{AreRegionsOf, IsNarrow}
 use Rattle.jxlm_tree.specs.SelfCorrecting.{IsHeader}
-use Rattle.jxlm_tree.specs.Tree.{depth}
+use Rattle.jxlm_ma.specs.Tree.{depth}
 use Rattle.jxlm_part.specs.Decode.{Standing}
 use Rattle.jxlm_part.specs.Part.{Part}
 use Rattle.jxlm_part.specs.declared.part.PlacedPart.{PlacedPart}

@@ -1,16 +1,17 @@
 -- Everything a part is decoded with, and what it must be.
-use Rattle.std.specs.Prelude.{◌≡◌, ℕ, ◌+◌, ◌<◌, ◌≤◌, List, length, slice_get, if◌then◌else◌, Option, None, Some}
-use Rattle.std.specs.List.{All}
+use Rattle.std.specs.Prelude.{◌≡◌, ℕ, ◌+◌, ◌<◌, ◌≤◌, Bool, false, List, length, get_or, if◌then◌else◌, Option, None, Some}
+use Rattle.std.specs.List.{All, list_any}
 use Rattle.jxlm_base.specs.declared.subgrid.Region.{Region}
-use Rattle.jxlm_tree.specs.FlatTree.{FlatTree, ClustersStandIn, needs_weights}
+use Rattle.jxlm_ma.specs.FlatTree.{FlatTree, ClustersStandIn, GoesWithoutWeights, ReadsEarlierBelow}
 use Rattle.jxlm_tree.specs.SelfCorrecting.{IsHeader}
 use Rattle.jxlm_tree.specs.Standing.{room_of, earlier_room_of, weights_of}
-use Rattle.jxlm_tree.specs.Tree.{Shape, depth}
-use Rattle.jxlm_tree.specs.declared.flat.Leaf.{Leaf}
+use Rattle.jxlm_ma.specs.Tree.{Shape, depth}
+use Rattle.jxlm_ma.specs.declared.flat.Leaf.{Leaf}
 use Rattle.jxlm_tree.specs.declared.predictor.WpHeader.{WpHeader}
 use Rattle.jxlm_tree.specs.declared.state.PredictorState.{PredictorState}
 use Rattle.jxlm_transform.specs.Channels.{AreRegionsOf, IsNarrow}
 use Rattle.jxlm_part.specs.Part.{Part, max_width}
+use Rattle.jxlm_part.specs.declared.coding.ChannelTree.{ChannelTree}
 use Rattle.jxlm_part.specs.declared.coding.PartCoding.{PartCoding}
 use Rattle.jxlm_part.specs.declared.coding.PartState.{PartState}
 
@@ -18,19 +19,29 @@ use Rattle.jxlm_part.specs.declared.coding.PartState.{PartState}
 abbrev pub flat : Shape Leaf → ℕ → ℕ → FlatTree
 flat t stream i = record { tree = t; channel = i; stream_idx = stream; prev_channels = i }
 
+-- It is this flat tree, and asks for no more than it says.
+pub record IsTreeOf (t : FlatTree) (c : ChannelTree) : Type 0 where
+  pub flat_is : c.flat ≡ t
+  pub without : c.weighted ≡ false → GoesWithoutWeights t
+  pub below : ReadsEarlierBelow t c.asked
+  pub few : c.asked ≤ t.prev_channels
+
 -- There are `count` flat trees, each of this tree for its channel.
-pub record HasFlats (t : Shape Leaf) (stream count : ℕ) (flats : List FlatTree) : Type 0 where
+pub record HasFlats (t : Shape Leaf) (stream count : ℕ) (flats : List ChannelTree) : Type 0 where
   pub count_is : length flats ≡ count
-  pub each : (i : ℕ) → i < count → slice_get flats i ≡ Some (flat t stream i)
+  pub each : (i : ℕ) (other : ChannelTree) → i < count → IsTreeOf (flat t stream i) (get_or flats i other)
+
+-- one of the trees may ask for the weights
+abbrev pub are_weighted : List ChannelTree → Bool
+are_weighted flats = list_any (λ c. c.weighted) flats
 
 -- the state has room for channels of these flat trees up to this width and for a row of one, and the weights, where
--- the first flat tree asks for them
-pub record IsRoomyFor {X : Type 0} (widest : ℕ) (weights : WpHeader) (flats : List FlatTree) (state : PartState X) :
+-- one of the trees may ask for them
+pub record IsRoomyFor {X : Type 0} (widest : ℕ) (weights : WpHeader) (flats : List ChannelTree) (state : PartState X) :
     Type 0 where
   pub widest_is : room_of state.predictor ≡ widest
   pub earlier_is : earlier_room_of state.predictor ≡ length flats
-  pub weights_is : (first : FlatTree) → slice_get flats 0 ≡ Some first →
-      weights_of state.predictor ≡ (if needs_weights first.tree then Some weights else None)
+  pub weights_is : weights_of state.predictor ≡ (if are_weighted flats then Some weights else None)
   pub row_is : length state.row.items ≡ widest
 
 module _ {D : Type 0} where
@@ -56,9 +67,9 @@ module _ {D : Type 0} where
   abbrev pub FindsClusters : PartCoding D → List ℕ → Type 0
   FindsClusters c clusters = ClustersStandIn clusters c.config.now.tree
 
-  -- the weights, where the tree asks for them
+  -- the weights, where one of the flat trees may ask for them
   abbrev pub weights_used : PartCoding D → Option WpHeader
-  weights_used c = if needs_weights c.config.now.tree then Some c.weights else None
+  weights_used c = if are_weighted c.flats.now then Some c.weights else None
 
   -- the maximum number of steps to a leaf
   abbrev pub cost_of : PartCoding D → ℕ

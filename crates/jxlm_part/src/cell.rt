@@ -5,9 +5,9 @@ ghost use Rattle.std.specs.Int.{int_wrap};
 ghost use Rattle.jxlm_base.specs.Bits.{bytes_of};
 ghost use Rattle.jxlm_base.specs.Numbers.{unpack};
 ghost use Rattle.jxlm_tree.specs.EarlierRows.{AreRowsOf};
-ghost use Rattle.jxlm_tree.specs.FlatTree.{ClustersStandIn};
+ghost use Rattle.jxlm_ma.specs.FlatTree.{ClustersStandIn};
 ghost use Rattle.jxlm_tree.specs.Holding.{IsCurrent};
-ghost use Rattle.jxlm_tree.specs.Tree.{depth};
+ghost use Rattle.jxlm_ma.specs.Tree.{depth};
 ghost use Rattle.jxlm_part.specs.Inner.Cells.{FailsSample, ReadsSample};
 ghost use Rattle.jxlm_part.specs.Inner.Channels.{region_at, setting_of};
 ghost use Rattle.jxlm_part.specs.Inner.Rows.{FailsCell, IsAway, IsDecoding, ReadsCell, StandsInRow, rule_in};
@@ -19,8 +19,8 @@ use jxlm_base::bits::Bitstream;
 use jxlm_base::decoder::{Decoder, DecoderError};
 use jxlm_base::grid::AlignedGrid;
 use jxlm_base::sample::{Sample, Sealed};
+use jxlm_ma::flat::{FlatMaTree, Leaf, Steps};
 use jxlm_tree::earlier::EarlierRow;
-use jxlm_tree::flat::{FlatMaTree, Leaf, Steps};
 use jxlm_tree::predictor::{PredictorState, Properties};
 
 /// The sample of a token: times the multiplier, plus the offset and the prediction.
@@ -99,7 +99,7 @@ pub(crate) fn decode_cell<S: Sample, D: Decoder, const EDGE: bool>(
     ensures more { steps.old ≤ steps.new }
 {
     let properties = state.properties_by_rows::<EDGE>(store, rows);
-    let flat = &coding.flats[i];
+    let flat = &coding.flats[i].flat;
     let sample = next_sample(bits, decoder, steps, &properties, flat, coding.widest)?;
     properties.record(sample.to_i32());
     row[x] = sample;

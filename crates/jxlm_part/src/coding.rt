@@ -6,18 +6,29 @@ ghost use Rattle.jxlm_base.specs.Grid.{Grid};
 ghost use Rattle.jxlm_tree.specs.SelfCorrecting.{IsHeader};
 ghost use Rattle.jxlm_part.specs.Part.{is_alike as alike};
 ghost use Rattle.jxlm_tree.specs.Standing.{Setting, StandsAt, earlier_count, setting};
-ghost use Rattle.jxlm_part.specs.Reading.{HasFlats, HasRoom, IsCodingOf, IsRoomyFor, regions_of};
+ghost use Rattle.jxlm_part.specs.Reading.{HasFlats, HasRoom, IsCodingOf, IsRoomyFor, IsTreeOf, regions_of};
 ghost use Rattle.jxlm_part.specs.Inner.Channels.{IsAfterChannel, StandsAfter, all_alike, region_at};
 
 use jxlm_base::decoder::Decoder;
 use jxlm_base::error::Result;
 use jxlm_base::grid::{OutOfMemory, Region};
 use jxlm_base::sample::{Sample, Sealed};
+use jxlm_ma::flat::FlatMaTree;
+use jxlm_ma::ma::MaConfig;
 use jxlm_transform::channels::ModularChannelInfo;
-use jxlm_tree::flat::FlatMaTree;
-use jxlm_tree::ma::MaConfig;
 use jxlm_tree::predictor::{PredictorState, WpHeader};
 use std::alloc::Global;
+
+/// The tree as one channel walks it, and what it may ask for.
+#[derive(Drop)]
+pub struct ChannelTree {
+    /// The tree, compiled for the channel.
+    pub flat: FlatMaTree,
+    /// Whether it may ask for the weighted (self-correcting) predictor.
+    pub weighted: bool,
+    /// How many of the earlier channels it may ask for, the nearest first.
+    pub asked: usize,
+}
 
 /// Everything the samples of a part are decoded with.
 #[derive(Drop)]
@@ -29,7 +40,7 @@ pub struct PartCoding<'a, D: Decoder> {
     /// Its tree.
     pub config: &'a MaConfig<D>,
     /// The tree as each channel walks it.
-    pub flats: &'a [FlatMaTree],
+    pub flats: &'a [ChannelTree],
     /// The weights of the weighted (self-correcting) predictor.
     pub weights: WpHeader,
     /// The index of its stream.
@@ -53,7 +64,7 @@ pub struct Ready<S, D: Decoder> {
     /// The entropy decoder, as the tree was read with it.
     pub decoder: D,
     /// The tree as each channel walks it.
-    pub flats: Vec<FlatMaTree>,
+    pub flats: Vec<ChannelTree>,
     /// The state, with room for each channel.
     pub state: PartState<S>,
 }
@@ -68,7 +79,8 @@ fn is_alike(a: &ModularChannelInfo, b: &ModularChannelInfo) -> bool
 /// Puts the state at the first cell of channel `i`, with the regions of the channels before that are like it, the
 /// nearest first, where the tree asks for any.
 ///
-/// Where the channel before is like it, the state has all of them but that one, and is given only that.
+/// Where the channel before is like it and asked for any, the state has all of them but that one, and is given only
+/// that.
 pub(crate) fn start_channel<S: Sample, D: Decoder>(
     state: &mut PredictorState<S>,
     coding: &PartCoding<'_, D>,
@@ -83,9 +95,11 @@ pub(crate) fn start_channel<S: Sample, D: Decoder>(
     ensures roomy { HasRoom coding.now state.new }
 {
     let width = coding.regions[i].width as u32;
-    if coding.flats[i].max_prev_channel_depth() == 0 {
+    if coding.flats[i].asked == 0 {
         state.restart(width);
-    } else if is_alike(&coding.channels[i - 1], &coding.channels[i]) {
+    } else if coding.flats[i - 1].asked > 0
+        && is_alike(&coding.channels[i - 1], &coding.channels[i])
+    {
         state.restart_alike();
         state.add_earlier(coding.regions[i - 1]);
     } else {
@@ -115,6 +129,19 @@ fn add_all_earlier<S: Sample, D: Decoder>(
     }
 }
 
+/// The tree as a channel walks it, with what it may ask for.
+fn channel_tree(flat: FlatMaTree) -> ChannelTree
+    ensures { IsTreeOf flat result }
+{
+    let weighted = flat.need_self_correcting();
+    let asked = flat.max_prev_channel_depth();
+    ChannelTree {
+        flat,
+        weighted,
+        asked,
+    }
+}
+
 /// The tree as each of n channels walks it.
 ///
 /// # Errors
@@ -125,27 +152,28 @@ pub fn flat_trees<D: Decoder>(
     config: &MaConfig<D>,
     stream_index: u32,
     channels: u32,
-) -> Result<Vec<FlatMaTree>>
+) -> Result<Vec<ChannelTree>>
     ensures ok { IfOk result (λ v. HasFlats config.now.tree stream_index channels v.items) }
     ensures err { IfErr result (λ e. kind_of e ≡ NoMemory) }
 {
     let mut flats = Vec::new(alloc);
     for channel in 0..channels {
         let flat = config.make_flat_tree(alloc, channel, stream_index, channel)?;
-        flats.push(flat).map_err(|_| OutOfMemory)?;
+        let tree = channel_tree(flat);
+        flats.push(tree).map_err(|_| OutOfMemory)?;
     }
     Ok(flats)
 }
 
 /// A state with room for channels of these flat trees and up to this width, and for a row of one; it has the weights
-/// where the tree asks for them.
+/// where one of the trees may ask for them.
 ///
 /// # Errors
 ///
 /// `Buffer` if it is out of memory, and no other.
 pub fn roomy_state<S: Sample>(
     alloc: Global,
-    flats: &[FlatMaTree],
+    flats: &[ChannelTree],
     widest: u32,
     weights: &WpHeader,
 ) -> Result<PartState<S>>
@@ -154,9 +182,10 @@ pub fn roomy_state<S: Sample>(
     ensures ok { IfOk result (λ s. IsRoomyFor widest weights.now flats.now s) }
     ensures err { IfErr result (λ e. kind_of e ≡ NoMemory) }
 {
-    let used = match flats.first() {
-        Some(flat) if flat.need_self_correcting() => Some(weights),
-        _ => None,
+    let used = if flats.iter().any(|tree| tree.weighted) {
+        Some(weights)
+    } else {
+        None
     };
     let predictor = PredictorState::with_room(alloc, widest, flats.len(), used)?;
     let row = vec![in alloc; S::default(); widest as usize].map_err(|_| OutOfMemory)?;

@@ -18,7 +18,7 @@ use jxlm_base::bits::Bitstream;
 use jxlm_base::decoder::{Decoder, DecoderError};
 use jxlm_base::grid::AlignedGrid;
 use jxlm_base::sample::Sample;
-use jxlm_tree::flat::Steps;
+use jxlm_ma::flat::Steps;
 use jxlm_tree::predictor::PredictorState;
 
 /// Reads row `y` of channel `i` into `row`: at the only leaf of the tree where that has a path, else cell by cell.
@@ -151,7 +151,7 @@ fn decode_channel<S: Sample, D: Decoder>(
     }
     start_channel(state, coding, i);
     let row = &mut scratch[..region.width];
-    let path = leaf_path(&coding.flats[i]);
+    let path = leaf_path(&coding.flats[i].flat);
     decode_rows(bits, decoder, state, steps, store, coding, path, row, i)
 }
 

@@ -5,7 +5,7 @@
 ghost use Rattle.std.specs.Prelude.{◌≡◌, ◌<◌, ℤ, List, [], map, length, OnOk, IfErr, IfSome, Contains};
 ghost use Rattle.jxlm_base.specs.Bits.{bytes_of};
 ghost use Rattle.jxlm_base.specs.Regions.{Lies, grid_of, store_meanings};
-ghost use Rattle.jxlm_tree.specs.Tree.{leaf as one_leaf};
+ghost use Rattle.jxlm_ma.specs.Tree.{leaf as one_leaf};
 ghost use Rattle.jxlm_part.specs.Inner.Leaves.{HasPath, IsPlain, path_rule, predictor_of, row_above};
 ghost use Rattle.jxlm_part.specs.Inner.Rows.{FailsRow, ReadsRow};
 ghost use Rattle.jxlm_part.specs.Inner.Source.{source};
@@ -16,7 +16,7 @@ use jxlm_base::decoder::Decoder;
 use jxlm_base::grid::{AlignedGrid, Region};
 use jxlm_base::region::region_row;
 use jxlm_base::sample::{Sample, Sealed};
-use jxlm_tree::flat::{FlatMaTree, Leaf};
+use jxlm_ma::flat::{FlatMaTree, Leaf};
 use jxlm_tree::predictor::Predictor;
 
 /// How the cells of a row are predicted, from the row above and the cells before.

@@ -1,12 +1,12 @@
 //! A part decoded whole: from what is made ready for it to the decoder's last word.
 
 ghost use Rattle.std.specs.Prelude.{◌≡◌, ◌↔◌, ◌<◌, ◌≤◌, ◌^◌, ◌*◌, ℕ, IfErr, IfOk, IsOk, IsTrue, length};
-ghost use Rattle.jxlm_tree.specs.FlatTree.{ClustersStandIn};
+ghost use Rattle.jxlm_ma.specs.FlatTree.{ClustersStandIn};
 ghost use Rattle.jxlm_tree.specs.SelfCorrecting.{IsHeader};
 ghost use Rattle.jxlm_base.specs.Bits.{bytes_of, position_of};
-ghost use Rattle.jxlm_tree.specs.TreeReading.{IsOutOfMemory};
+ghost use Rattle.jxlm_ma.specs.TreeReading.{IsOutOfMemory};
 ghost use Rattle.jxlm_base.specs.ErrorKind.{kind_of};
-ghost use Rattle.jxlm_part.specs.Decode.{DecodeAnswers, MovesWithin};
+ghost use Rattle.jxlm_part.specs.Decode.{DecodeGives, MovesWithin};
 ghost use Rattle.jxlm_part.specs.Part.{cell_count, max_width as the_maximum_width};
 ghost use Rattle.jxlm_part.specs.Placed.{PartLies, most_steps, part_placed, standing_in};
 ghost use Rattle.jxlm_part.specs.Progress.{KeepsOutside};
@@ -20,9 +20,9 @@ use jxlm_base::decoder::Decoder;
 use jxlm_base::error::{Error, Result};
 use jxlm_base::grid::{AlignedGrid, Region};
 use jxlm_base::sample::Sample;
+use jxlm_ma::flat::Steps;
+use jxlm_ma::ma::MaConfig;
 use jxlm_transform::channels::ModularChannelInfo;
-use jxlm_tree::flat::Steps;
-use jxlm_tree::ma::MaConfig;
 use jxlm_tree::predictor::WpHeader;
 use std::alloc::Global;
 
@@ -93,7 +93,7 @@ impl<'a, D: Decoder> PlacedPart<'a, D> {
         steps: &mut Steps,
     ) -> Result<()>
         requires lies { PartLies self.now store.old }
-        ensures answers { (tried : ℕ) × DecodeAnswers D.meaning S.width (part_placed self.now) (bytes_of bits.old)
+        ensures answers { (tried : ℕ) × DecodeGives D.meaning S.width (part_placed self.now) (bytes_of bits.old)
             self.now.config.now.decoder
             (standing_in S.to_int self.now.regions.now store.old (position_of bits.old) partial.old)
             (standing_in S.to_int self.now.regions.now store.new (position_of bits.new) partial.new)

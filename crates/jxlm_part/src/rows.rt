@@ -16,8 +16,8 @@ use jxlm_base::decoder::{Decoder, DecoderError};
 use jxlm_base::grid::{AlignedGrid, Region};
 use jxlm_base::region::region_set_row;
 use jxlm_base::sample::Sample;
+use jxlm_ma::flat::Steps;
 use jxlm_tree::earlier::{EarlierRow, EarlierRows};
-use jxlm_tree::flat::Steps;
 use jxlm_tree::predictor::PredictorState;
 
 /// Where the read of a row ended before its end, and why.
@@ -132,7 +132,7 @@ pub(crate) fn read_row<S: Sample, D: Decoder>(
     ensures more { steps.old ≤ steps.new }
 {
     let width = row.len();
-    let earlier = EarlierRows::of(state, store, coding.flats[i].max_prev_channel_depth());
+    let earlier = EarlierRows::of(state, store, coding.flats[i].asked);
     let rows = earlier.rows();
     let (from, to) = inner_columns(width, y);
     read_cells::<S, D, true>(

@@ -10,7 +10,7 @@ ghost use Rattle.jxlm_base.specs.ErrorKind.{NoMemory, kind_of};
 use jxlm_base::decoder::Decoder;
 use jxlm_base::error::Result;
 use jxlm_base::grid::OutOfMemory;
-use jxlm_tree::ma::MaConfig;
+use jxlm_ma::ma::MaConfig;
 use std::alloc::Global;
 
 /// The maximum side of a picture.

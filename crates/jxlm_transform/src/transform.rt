@@ -4,7 +4,7 @@ ghost use Rattle.std.specs.Prelude.{◌≡◌, ◌≤◌, ◌↔◌, ◌⊎◌, 
 ghost use Rattle.std.specs.List.{All};
 ghost use Rattle.jxlm_base.specs.Bits.{bytes_of, position_of};
 ghost use Rattle.jxlm_base.specs.Grammar.{FitsU32, IsExact, Reads, number, repeated, u32 as the_u32};
-ghost use Rattle.jxlm_tree.specs.WeightsHeader.{AnswersExactly};
+ghost use Rattle.jxlm_tree.specs.WeightsHeader.{GivesExactly};
 ghost use Rattle.jxlm_transform.specs.DefaultSqueeze.{LeavesSmallSides, TakesFewestSteps};
 ghost use Rattle.jxlm_transform.specs.Inner.FieldRanges.{min_of, max_of};
 ghost use Rattle.jxlm_transform.specs.Kinds.{is_palette as the_palettes, is_squeeze as the_squeezes};
@@ -119,7 +119,7 @@ impl Rct {
     /// `UnexpectedEof` if the input is truncated; the reader is then after the last field that was read
     /// whole.
     pub fn parse(bits: &mut Bitstream<'_>) -> Result<Rct>
-        ensures gives { AnswersExactly result (position_of bits.new)
+        ensures gives { GivesExactly result (position_of bits.new)
             (rct.read (bytes_of bits.old) (position_of bits.old)) }
         ensures ranges { IfOk result (λ t. IsRct t) }
         ensures bytes { bytes_of bits.new ≡ bytes_of bits.old }
@@ -155,7 +155,7 @@ impl Palette {
     /// `UnexpectedEof` if the input is truncated, and `InvalidEnum` for the number of a predictor that
     /// is none. The reader is then after the last field that was read whole.
     pub fn parse(bits: &mut Bitstream<'_>, wp_header: &WpHeader) -> Result<Palette>
-        ensures gives { AnswersExactly result (position_of bits.new)
+        ensures gives { GivesExactly result (position_of bits.new)
             ((palette wp_header.now).read (bytes_of bits.old) (position_of bits.old)) }
         ensures ranges { IfOk result (λ t. IsPalette t) }
         ensures weights { IfOk result (λ t. t.wp_header ≡ weights_for t.d_pred wp_header.now) }

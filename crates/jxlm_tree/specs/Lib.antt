@@ -1,8 +1,6 @@
 pub mod Around
 pub mod Correcting
-pub mod DecodingSamples
 pub mod EarlierRows
-pub mod FlatTree
 pub mod Holding
 pub mod Neighbours
 pub mod Predictions
@@ -11,9 +9,5 @@ pub mod Rolling
 pub mod SelfCorrecting
 pub mod SelfCorrectingRanges
 pub mod Standing
-pub mod Tree
-pub mod TreeCode
-pub mod TreeReading
-pub mod TreeStands
 pub mod WeightsHeader
 pub mod Inner

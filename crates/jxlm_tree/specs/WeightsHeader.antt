@@ -23,6 +23,6 @@ abbrev pub wp_header : Grammar WpHeader
 wp_header = flag >>= λ is_default. either is_default (give default_weights) listed_weights
 
 -- What a call that takes no memory returned, and where it left the reader, are what reading gives.
-abbrev pub AnswersExactly : {X : Type 0} → Result X Error → ℕ → Result (Found X) ErrorAt → Type 0
-AnswersExactly (Ok x) q reading = reading ≡ Ok (record { value = x; position = q })
-AnswersExactly (Err e) q reading = IsErrorAt reading (kind_of e) q
+abbrev pub GivesExactly : {X : Type 0} → Result X Error → ℕ → Result (Found X) ErrorAt → Type 0
+GivesExactly (Ok x) q reading = reading ≡ Ok (record { value = x; position = q })
+GivesExactly (Err e) q reading = IsErrorAt reading (kind_of e) q

@@ -1,17 +1,12 @@
-//! Neighbours, predictors, properties and meta-adaptive trees.
+//! Neighbours, predictors and properties.
 #![tactic(auto)]
 
 mod around;
-mod build;
 pub mod earlier;
 pub mod eighths;
-pub mod flat;
-pub mod ma;
-mod nodes;
+pub mod place;
 pub mod predictor;
 mod properties;
 pub mod reduced;
 mod self_correcting;
 mod state;
-mod steps;
-mod tree;

@@ -7,7 +7,7 @@ ghost use Rattle.jxlm_tree.specs.Holding.{IsCurrent, IsOfPlace};
 ghost use Rattle.jxlm_tree.specs.Predictions.{prediction};
 ghost use Rattle.jxlm_tree.specs.SelfCorrecting.{IsHeader};
 ghost use Rattle.jxlm_tree.specs.SelfCorrectingRanges.{AlwaysInRange};
-ghost use Rattle.jxlm_tree.specs.WeightsHeader.{AnswersExactly, listed_weights, wp_header};
+ghost use Rattle.jxlm_tree.specs.WeightsHeader.{GivesExactly, listed_weights, wp_header};
 
 pub use crate::properties::Properties;
 use crate::reduced::reduced;
@@ -161,7 +161,7 @@ impl WpHeader {
     ///
     /// `UnexpectedEof` if the input is truncated: the reader is then after the last whole field.
     pub fn parse(bits: &mut Bitstream<'_>) -> Result<WpHeader>
-        ensures gives { AnswersExactly result (position_of bits.new)
+        ensures gives { GivesExactly result (position_of bits.new)
             (wp_header.read (bytes_of bits.old) (position_of bits.old)) }
         ensures ranges { IfOk result (λ h. IsHeader h) }
         ensures bytes { bytes_of bits.new ≡ bytes_of bits.old }

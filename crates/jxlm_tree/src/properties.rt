@@ -12,7 +12,7 @@ ghost use Rattle.jxlm_tree.specs.Standing.{Setting, StandsAt, IsReady, IsInner, 
 
 use crate::around::Around;
 use crate::earlier::EarlierRow;
-use crate::flat::PlaceProperties;
+use crate::place::PlaceProperties;
 use crate::reduced::{read_as_signed, reduced_absolute};
 use crate::self_correcting::PredictionResult;
 use crate::state::PredictorState;

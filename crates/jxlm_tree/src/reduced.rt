@@ -20,7 +20,7 @@ pub(crate) fn reduced_absolute(value: i32) -> i32
 
 /// The same 32 bits, read as a signed number.
 #[tactic(auto, using(std::proofs::lemmas::Int::wraps))]
-pub(crate) fn read_as_signed(number: u32) -> i32
+pub fn read_as_signed(number: u32) -> i32
     ensures { result ≡ int_wrap w32 (pos number) }
 {
     number.cast_signed()

@@ -1,20 +1,21 @@
 -- What the predictors' state is set for in each channel of a part, and where it is.
-use Rattle.std.specs.Prelude.{◌≡◌, ℕ, zero, suc, ◌+◌, ◌<◌, ℤ, List, [], map, take, get_or}
+use Rattle.std.specs.Prelude.{◌≡◌, ℕ, zero, suc, ◌+◌, ◌<◌, ℤ, List, [], map, take, get_or, slice_get}
+use Rattle.std.specs.Option.{option_map_or}
 use Rattle.jxlm_base.specs.Grid.{Grid}
 use Rattle.jxlm_base.specs.Regions.{region, grid_of, store_meanings}
 use Rattle.jxlm_base.specs.declared.subgrid.Region.{Region}
-use Rattle.jxlm_tree.specs.FlatTree.{earlier_named}
 use Rattle.jxlm_tree.specs.Standing.{Setting, StandsAt, setting}
 use Rattle.jxlm_tree.specs.declared.state.PredictorState.{PredictorState}
 use Rattle.jxlm_part.specs.Part.{earlier_alike}
 use Rattle.jxlm_part.specs.Reading.{part_of, regions_of, weights_used}
+use Rattle.jxlm_part.specs.declared.coding.ChannelTree.{ChannelTree}
 use Rattle.jxlm_part.specs.declared.coding.PartCoding.{PartCoding}
 
 -- region i of a list
 abbrev pub region_at : List Region → ℕ → Region
 region_at regions i = get_or regions i (region 0 0 0 0 0)
 
--- the earlier channels that a tree is given that names n of them: none where n is 0, else all
+-- the earlier channels that a tree is given that may ask for n of them: none where n is 0, else all
 abbrev pub handed : {X : Type 0} → ℕ → List X → List X
 handed zero earlier = []
 handed (suc n) earlier = earlier
@@ -24,9 +25,13 @@ module _ {D : Type 0} where
   abbrev pub all_alike : PartCoding D → ℕ → List Region
   all_alike c i = map (region_at (regions_of c)) (earlier_alike (part_of c).channels i)
 
+  -- how many earlier channels the tree of channel i may ask for
+  abbrev pub asked_at : PartCoding D → ℕ → ℕ
+  asked_at c i = option_map_or (λ (t : ChannelTree). t.asked) (slice_get c.flats.now i) 0
+
   -- those that the state is given
   abbrev pub earlier_regions : PartCoding D → ℕ → List Region
-  earlier_regions c i = handed (earlier_named c.config.now.tree) (all_alike c i)
+  earlier_regions c i = handed (asked_at c i) (all_alike c i)
 
   -- what the state is set for in channel i
   abbrev pub setting_of : PartCoding D → ℕ → Setting

@@ -1,7 +1,7 @@
 use Rattle.std.proofs.Common.{Contains}
 use Rattle.std.proofs.lemmas.Result.{err_from_is_err_and}
 use Rattle.jxlm_base.specs.Bits.{bytes_of, position_of}
-use Rattle.jxlm_tree.proofs.FlatTrees.{standing_leaf}
+use Rattle.jxlm_ma.proofs.FlatTrees.{standing_leaf}
 use Rattle.jxlm_part.proofs.cell.next_sample.Goals as goal
 
 pub read_varint_with_multiplier_clustered-requires : goal.read_varint_with_multiplier_clustered-requires

@@ -1,5 +1,6 @@
 use Rattle.std.proofs.Common.{◌≡◌, ◌+◌, ◌∷◌, ◌++◌, [], sym, subst, arith, rules}
-use Rattle.jxlm_part.specs.Reading.{HasFlats}
+use Rattle.jxlm_ma.specs.FlatTree.{FlatTree}
+use Rattle.jxlm_part.specs.Reading.{HasFlats, IsTreeOf}
 use Rattle.jxlm_part.proofs.Starting.{flats_more, no_flats}
 use Rattle.jxlm_part.proofs.coding.flat_trees.Goals as goal
 
@@ -10,9 +11,9 @@ loop-channel-init g c =
 
 pub loop-channel-preserved : goal.loop-channel-preserved
 loop-channel-preserved g c =
-    let pushed : c.push.new.self.items ≡ c.loop-channel.flats.items ++ c.in_ok-flat.flat ∷ [] = search rules in
+    let pushed : c.push.new.self.items ≡ c.loop-channel.flats.items ++ c.channel_tree-tree.result ∷ [] = search rules in
     subst (HasFlats c.args.config.now.tree c.args.stream_index (c.loop-channel.channel + 1)) (sym pushed)
-    (flats_more c.args.config.now.tree c.args.stream_index c.loop-channel.channel c.loop-channel.flats.items c.in_ok-flat.flat c.loop-channel.invariant c.in_ok-flat.ensures.tree)
+    (flats_more c.args.config.now.tree c.args.stream_index c.loop-channel.channel c.loop-channel.flats.items c.channel_tree-tree.result c.loop-channel.invariant (subst (λ (t : FlatTree). IsTreeOf t c.channel_tree-tree.result) c.in_ok-flat.ensures.tree c.channel_tree-tree.ensures))
 
 pub returns-clause-ok : goal.returns-clause-ok
 returns-clause-ok g c =

@@ -1,6 +1,6 @@
 use Rattle.std.proofs.Common.{sym, ap, arith}
 use Rattle.std.proofs.lemmas.List.{length-take-le}
-use Rattle.jxlm_tree.specs.FlatTree.{FlatTree}
+use Rattle.jxlm_ma.specs.FlatTree.{FlatTree}
 use Rattle.jxlm_part.specs.Inner.Channels.{region_at}
 use Rattle.jxlm_part.specs.Inner.Progress.{moment}
 use Rattle.jxlm_part.specs.Reading.{part_of, regions_of}

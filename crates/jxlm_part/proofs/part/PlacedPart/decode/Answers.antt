@@ -21,7 +21,6 @@ decode_part-requires-clause-coding g c κs within =
 pub decode_part-requires-clause-roomy : goal.decode_part-requires-clause-roomy
 decode_part-requires-clause-roomy g c κs within =
     placed_roomy c.args.self.now c.args.store.now c.requires.lies c.in_ok-decoder.field-0 c.in_ok-decoder.ensures.ok _ refl refl refl c.deref.ensures.value refl refl c.max_width.ensures
-    (c.if-not-has_samples.ensures.0 refl)
 
 pub returns-in-Err-2-clause-answers : goal.returns-in-Err-2-clause-answers
 returns-in-Err-2-clause-answers g c =

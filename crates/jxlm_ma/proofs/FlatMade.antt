@@ -1,0 +1,57 @@
+-- What is known of the nodes of a whole tree.
+use Rattle.std.proofs.Common.{◌≡◌, ◌∙◌, ℕ, ℤ, ◌+◌, ◌<◌, ◌≤◌, ◌^◌, Bool, List, [], length, reverse, Result, Ok, IfOk, refl, ap, subst, arith}
+use Rattle.std.specs.List.{list_any}
+use Rattle.std.proofs.lemmas.List.{length-reverse}
+use Rattle.jxlm_ma.specs.FlatTree.{HasMultiplier}
+use Rattle.jxlm_ma.specs.Inner.Compiled.{IsCompiled}
+use Rattle.jxlm_ma.specs.Inner.FlatNodes.{Compiles, most_channels, sees_error}
+use Rattle.jxlm_ma.specs.Inner.FlatShapes.{size}
+use Rattle.jxlm_ma.specs.Inner.Pruned.{pruned}
+use Rattle.jxlm_ma.specs.Tree.{AllLeaves, Shape, leaf, decision, node_count}
+use Rattle.jxlm_ma.specs.declared.compile.Known.{Known}
+use Rattle.jxlm_ma.specs.declared.flat.FlatNode.{FlatNode}
+use Rattle.jxlm_ma.specs.declared.flat.Leaf.{Leaf}
+use Rattle.jxlm_ma.proofs.FlatWalks.{pruned-size}
+
+-- the nodes of a tree, counted either way
+pub size-is : (t : Shape Leaf) → size t ≡ node_count t
+size-is (leaf l) = refl
+size-is (decision p v a b) = let l = size-is a in let r = size-is b in omega arith
+
+pub room : (t : Shape Leaf) (known : Known) (nodes : List FlatNode) → nodes ≡ [] → node_count t ≤ 2 ^ 26 → length (reverse nodes) + size (pruned known t) < 2 ^ 32
+room t known nodes none few =
+    let empty = ap (λ (ns : List FlatNode). length (reverse ns)) none in
+    let s = pruned-size known t in
+    let n = size-is t in
+    omega arith
+
+-- the value where nothing failed
+pub ok_at : {T E : Type 0} (P : T → Type 0) (r : Result T E) (x : T) → r ≡ Ok x → IfOk r P → P x
+ok_at P r x e h = subst (λ s. IfOk s P) e h
+
+abbrev pub known_by : ℤ → ℤ → ℕ → Known
+known_by channel stream earlier = record { channel = channel; stream = stream; prev_channels = earlier }
+
+-- the nodes of a tree, known by the same numbers
+pub made_of : (t : Shape Leaf) (channel channel1 stream stream1 : ℤ) (earlier : ℕ) (before nodes : List FlatNode) (root : ℕ) → before ≡ [] → channel1 ≡ channel → stream1 ≡ stream →
+    Compiles (reverse before) (reverse nodes) root (pruned (known_by channel1 stream1 earlier) t) →
+    Compiles [] (reverse nodes) root (pruned (known_by channel stream earlier) t)
+made_of t channel channel1 stream stream1 earlier before nodes root none at_channel at_stream c =
+    subst (λ (k : Known). Compiles [] (reverse nodes) root (pruned k t)) (ap (λ (z : ℤ). known_by z stream1 earlier) at_channel ∙ ap (λ (z : ℤ). known_by channel z earlier) at_stream)
+    (subst (λ (ns : List FlatNode). Compiles (reverse ns) (reverse nodes) root (pruned (known_by channel1 stream1 earlier) t)) none c)
+
+pub is_compiled : (t : Shape Leaf) (known : Known) (nodes : List FlatNode) (root : ℕ) (needs : Bool) (named : ℕ) → AllLeaves HasMultiplier t → Compiles [] (reverse nodes) root (pruned known t) →
+    needs ≡ list_any sees_error nodes → named ≡ most_channels nodes → IsCompiled t known nodes root needs named
+is_compiled t known nodes root needs named multipliers c needs_is named_is =
+    let l = length-reverse nodes in
+    record {
+      multipliers = multipliers;
+      sound = c.grows.sound tt;
+      rooted = let w = c.serves.within in omega arith;
+      serves = c.serves;
+      tops = c.tops;
+      keeps = c.keeps;
+      few = let g = c.grows.few in let s = pruned-size known t in omega arith;
+      needs_is = needs_is;
+      named_is = named_is;
+    }

@@ -1,0 +1,24 @@
+use Rattle.std.proofs.Common.{rules, tests, ◌≡◌, w32, ap, ◌∙◌, arith, SFits, Ok}
+use Rattle.std.specs.List.{list_any}
+use Rattle.std.proofs.lemmas.Int.{to_z-of_z}
+use Rattle.std.proofs.lemmas.Grind.{common_steps}
+use Rattle.std.proofs.lemmas.Iterator.{YieldsList-from_slice}
+use Rattle.std.proofs.lemmas.Iterator.Search.{any_from_yields_List}
+use Rattle.jxlm_ma.specs.Inner.FlatNodes.{most_channels, sees_error}
+use Rattle.jxlm_ma.specs.Inner.TreeShape.{shape_of}
+use Rattle.jxlm_ma.proofs.FlatMade.{room, ok_at, made_of, is_compiled}
+use Rattle.jxlm_ma.proofs.flat.CompiledTree.new.Goals as goal
+
+pub compile-requires : goal.compile-requires
+compile-requires c = room _ _ _ c.new-nodes.ensures.items c.requires.few
+
+pub returns-clause-compiled : goal.returns-clause-compiled
+returns-clause-compiled c =
+    let channel_fits : SFits w32 c.read_as_signed.result = search rules in
+    let stream_fits : SFits w32 c.read_as_signed-2.result = search rules in
+    let needs = any_from_yields_List sees_error _ _ c.any-need_self_correcting.result c.any-need_self_correcting.ensures.ran (YieldsList-from_slice c.deref.result.now cc) (λ x b q k. search (rules, tests)) in
+    let named : c.fold-prev_channels_named.result ≡ most_channels c.compile.new.nodes.items = grind (arith, common_steps) in
+    let kept : c.compile.result ≡ Ok c.in_ok-root.root = grind (arith, common_steps, c.in_ok-root.was, c.map_err.ensures.cases) in
+    let compiles = ok_at _ _ _ kept c.compile.ensures in
+    let made = made_of (shape_of c.args.tree.now.root) _ _ _ _ c.args.prev_channels _ c.compile.new.nodes.items _ c.new-nodes.ensures.items (to_z-of_z w32 c.read_as_signed.result channel_fits ∙ c.read_as_signed.ensures) (to_z-of_z w32 c.read_as_signed-2.result stream_fits ∙ c.read_as_signed-2.ensures) compiles in
+    is_compiled _ _ c.compile.new.nodes.items _ _ _ c.requires.multipliers made (needs ∙ ap (list_any sees_error) c.deref.ensures.value) named

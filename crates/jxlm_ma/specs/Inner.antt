@@ -1,0 +1,13 @@
+pub mod Building
+pub mod DraftReading
+pub mod Kept
+pub mod Queue
+pub mod TreeShape
+pub mod Walking
+pub mod Compiled
+pub mod Counting
+pub mod FlatNodes
+pub mod FlatShapes
+pub mod Pruned
+pub mod Rooted
+pub mod SoundNodes

@@ -1,0 +1,44 @@
+-- What a compiled tree keeps to.
+use Rattle.std.specs.Prelude.{◌≡◌, ℕ, ◌<◌, ◌≤◌, pos, Bool, false, List, [], length}
+use Rattle.std.specs.Int.{w32, int_wrap}
+use Rattle.std.specs.List.{list_any}
+use Rattle.std.proofs.Common.{reverse}
+use Rattle.jxlm_ma.specs.FlatTree.{HasMultiplier}
+use Rattle.jxlm_ma.specs.Inner.FlatShapes.{earlier_named, size}
+use Rattle.jxlm_ma.specs.Inner.FlatNodes.{IsSound, Keeps, Tops, Serves, most_channels, sees_error}
+use Rattle.jxlm_ma.specs.Inner.Pruned.{pruned, tests_place}
+use Rattle.jxlm_ma.specs.Tree.{AllLeaves, Shape}
+use Rattle.jxlm_ma.specs.declared.compile.Known.{Known}
+use Rattle.jxlm_ma.specs.declared.flat.CompiledTree.{CompiledTree}
+use Rattle.jxlm_ma.specs.declared.flat.FlatNode.{FlatNode}
+use Rattle.jxlm_ma.specs.declared.flat.Leaf.{Leaf}
+
+-- what is known of the properties of a channel's samples beforehand
+abbrev pub known_at : ℕ → ℕ → ℕ → Known
+known_at channel stream earlier =
+    record { channel = int_wrap w32 (pos channel); stream = int_wrap w32 (pos stream); prev_channels = earlier }
+
+-- The nodes, the newest last, are those of the tree without the decisions that are known; the root is the last of
+-- them; what is said of all of them is so.
+pub record IsCompiled (t : Shape Leaf) (known : Known) (nodes : List FlatNode) (root : ℕ) (needs : Bool) (named : ℕ) :
+    Type 0 where
+  pub multipliers : AllLeaves HasMultiplier t
+  pub sound : IsSound (reverse nodes)
+  pub rooted : root < length nodes
+  pub serves : Serves (reverse nodes) root (pruned known t)
+  pub tops : Tops (reverse nodes) root (pruned known t)
+  pub keeps : Keeps [] (reverse nodes) (pruned known t)
+  pub few : length nodes ≤ size t
+  pub needs_is : needs ≡ list_any sees_error nodes
+  pub named_is : named ≡ most_channels nodes
+
+-- the tree is compiled for this channel of this stream, with so many earlier channels
+abbrev pub IsCompiledFor : Shape Leaf → ℕ → ℕ → ℕ → CompiledTree → Type 0
+IsCompiledFor t channel stream earlier c =
+    IsCompiled t (known_at channel stream earlier) c.nodes.items c.root c.need_self_correcting c.prev_channels_named
+
+-- The tree is compiled for every channel of every stream, where no earlier channel that it names is missing: it asks
+-- for neither channel nor stream.
+pub record ServesAnywhere (t : Shape Leaf) (c : CompiledTree) : Type 0 where
+  pub no_place : tests_place t ≡ false
+  pub compiled : IsCompiledFor t 0 0 (earlier_named t) c

@@ -1,0 +1,10 @@
+//! Meta-adaptive trees: how they are read, and how they are compiled for the samples of one channel.
+#![tactic(auto)]
+
+mod build;
+mod compile;
+pub mod flat;
+pub mod ma;
+mod nodes;
+mod steps;
+mod tree;

@@ -1,0 +1,3 @@
+mod ItemLoop
+pub mod PlainGives
+pub mod PlainTokens

@@ -1,0 +1,3 @@
+pub mod Plain
+pub mod PlainTokens
+pub mod Inner

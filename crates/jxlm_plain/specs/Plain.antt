@@ -1,0 +1,220 @@
+-- The plain decoder, field by field: what parse, begin, a read and finalize give, with each error at the field that
+-- causes it.
+use Rattle.std.specs.Prelude.{ℕ, zero, suc, ◌+◌, ◌-◌, ◌*◌, ◌%◌, List, [], ◌∷◌, length, Bool, true, false, if◌then◌else◌, nat_lt, ◌==◌, ◌&&◌, Option, Some, None, Result, Ok, Err, slice_index_or}
+use Rattle.jxlm_base.specs.Bits.{bits_at}
+use Rattle.jxlm_base.specs.Decoding.{Found, Taken, Meaning}
+use Rattle.jxlm_base.specs.ErrorKind.{◌>>=◌}
+use Rattle.jxlm_base.specs.declared.decoder.DecoderError.{DecoderError}
+use Rattle.jxlm_base.specs.declared.decoder.DecoderError.TheVariants.{UnexpectedEof, Invalid}
+use Rattle.jxlm_base.specs.declared.decoder.RleToken.{RleToken}
+use Rattle.jxlm_base.specs.declared.decoder.RleToken.TheVariants.{Value, Repeat}
+use Rattle.jxlm_plain.specs.declared.plain.Code.{Code}
+use Rattle.jxlm_plain.specs.declared.plain.Code.TheVariants.{Constant, Fixed}
+use Rattle.jxlm_plain.specs.declared.plain.Mode.{Mode}
+use Rattle.jxlm_plain.specs.declared.plain.Mode.TheVariants.{Unsealed, Sealed, Runs}
+
+-- What the results of a plain decoder's calls depend on: the mode with its state, the code of each cluster, the
+-- cluster of each context.
+pub record PlainState : Type 0 where
+  pub mode : Mode
+  pub codes : List Code
+  pub clusters : List ℕ
+
+-- the number of n bits at position p
+unfoldable pub number_at : List ℕ → ℕ → ℕ → Result (Found ℕ) DecoderError
+number_at bytes p n =
+    if nat_lt (8 * length bytes) (p + n) then Err UnexpectedEof else Ok (record { value = bits_at bytes p n; position = p + n })
+
+-- the code of a cluster
+abbrev pub code_of : List Code → ℕ → Code
+code_of codes c = slice_index_or codes c (Fixed 0)
+
+-- The mode, from the two bits for runs and for a seal. Both are Invalid(3).
+abbrev pub mode_from : ℕ → ℕ → Result Mode DecoderError
+mode_from zero zero = Ok Unsealed
+mode_from zero (suc seal) = Ok (Sealed 0)
+mode_from (suc runs) zero = Ok (Runs 0 0)
+mode_from (suc runs) (suc seal) = Err (Invalid 3)
+
+-- tokens may come in runs
+abbrev pub is_runs : Mode → Bool
+is_runs Unsealed = false
+is_runs (Sealed sum) = false
+is_runs (Runs last left) = true
+
+-- the mode at a bit position
+unfoldable pub mode_at : List ℕ → ℕ → Result (Found Mode) DecoderError
+mode_at bytes p = do
+  runs ← number_at bytes p 1
+  seal ← number_at bytes runs.position 1
+  mode ← mode_from runs.value seal.value
+  Ok (record { value = mode; position = seal.position })
+
+-- n items, one after another
+abbrev pub items_at : {X : Type 0} → (ℕ → Result (Found X) DecoderError) → ℕ → ℕ → Result (Found (List X)) DecoderError
+items_at item zero p = Ok (record { value = []; position = p })
+items_at item (suc n) p = do
+  first ← item p
+  others ← items_at item n first.position
+  Ok (record { value = first.value ∷ others.value; position = others.position })
+
+-- the cluster of a context, one of k; others are Invalid(1)
+unfoldable pub cluster_at : List ℕ → ℕ → ℕ → Result (Found ℕ) DecoderError
+cluster_at bytes k p = do
+  cluster ← number_at bytes p 4
+  if nat_lt cluster.value k then Ok cluster else Err (Invalid 1)
+
+-- A code: kind, width, and the token of a constant. A constant under runs is Invalid(3) at its kind, a width above 32
+-- is Invalid(2).
+unfoldable pub code_at : List ℕ → Bool → ℕ → Result (Found Code) DecoderError
+code_at bytes runs p = do
+  kind ← number_at bytes p 1
+  if runs && (kind.value == 1) then Err (Invalid 3) else (do
+    width ← number_at bytes kind.position 6
+    if nat_lt 32 width.value then Err (Invalid 2) else
+        if kind.value == 1 then (do
+          token ← number_at bytes width.position width.value
+          Ok (record { value = Constant token.value; position = token.position }))
+        else Ok (record { value = Fixed width.value; position = width.position }))
+
+-- the decoder at a bit position: mode, count of clusters, the cluster of each context, the code of each cluster
+unfoldable pub plain_parse : List ℕ → ℕ → ℕ → Result (Found PlainState) DecoderError
+plain_parse bytes p contexts = do
+  mode ← mode_at bytes p
+  count ← number_at bytes mode.position 4
+  clusters ← items_at (cluster_at bytes (1 + count.value)) contexts count.position
+  codes ← items_at (code_at bytes (is_runs mode.value)) (1 + count.value) clusters.position
+  Ok (record { value = record { mode = mode.value; codes = codes.value; clusters = clusters.value }; position = codes.position })
+
+-- runs begin anew, and a seal is read
+abbrev pub begin_mode : Mode → List ℕ → ℕ → Result (Found Mode) DecoderError
+begin_mode Unsealed bytes p = Ok (record { value = Unsealed; position = p })
+begin_mode (Sealed sum) bytes p = do
+  seal ← number_at bytes p 8
+  Ok (record { value = Sealed seal.value; position = seal.position })
+begin_mode (Runs last left) bytes p = Ok (record { value = Runs 0 0; position = p })
+
+-- the decoder at the beginning of its tokens
+unfoldable pub plain_begin : PlainState → List ℕ → ℕ → Result (Found PlainState) DecoderError
+plain_begin s bytes p = do
+  mode ← begin_mode s.mode bytes p
+  Ok (record { value = record s { mode = mode.value }; position = mode.position })
+
+-- a token, and the mode and the position after it
+pub record Read : Type 0 where
+  pub token : ℕ
+  pub mode : Mode
+  pub position : ℕ
+
+-- the bits of a number; a constant takes none
+abbrev pub width_of : Code → ℕ
+width_of (Constant token) = 0
+width_of (Fixed width) = width
+
+-- under runs, a flag and what it announces: 0 a token, 1 a run of 1 + u(8) tokens
+unfoldable pub run_at : Code → List ℕ → ℕ → Result (Found RleToken) DecoderError
+run_at code bytes p = do
+  flag ← number_at bytes p 1
+  if flag.value == 0 then (do
+    token ← number_at bytes flag.position (width_of code)
+    Ok (record { value = Value token.value; position = token.position }))
+      else (do
+        more ← number_at bytes flag.position 8
+        Ok (record { value = Repeat (1 + more.value); position = more.position }))
+
+-- the first token of a run, where the token before is last
+abbrev pub first_of_run : ℕ → RleToken → ℕ → Read
+first_of_run last (Value token) q = record { token = token; mode = Runs token 0; position = q }
+first_of_run last (Repeat n) q = record { token = last; mode = Runs last (n - 1); position = q }
+
+-- a token of this code in this mode
+unfoldable pub token_at : Mode → Code → List ℕ → ℕ → Result Read DecoderError
+token_at Unsealed (Constant token) bytes p = Ok (record { token = token; mode = Unsealed; position = p })
+token_at Unsealed (Fixed width) bytes p = do
+  number ← number_at bytes p width
+  Ok (record { token = number.value; mode = Unsealed; position = number.position })
+token_at (Sealed sum) (Constant token) bytes p = Ok (record { token = token; mode = Sealed sum; position = p })
+token_at (Sealed sum) (Fixed width) bytes p = do
+  number ← number_at bytes p width
+  Ok (record { token = number.value; mode = Sealed ((sum + 256 - number.value % 256) % 256); position = number.position })
+token_at (Runs last (suc left)) code bytes p = Ok (record { token = last; mode = Runs last left; position = p })
+token_at (Runs last zero) code bytes p = do
+  run ← run_at code bytes p
+  Ok (first_of_run last run.value run.position)
+
+-- a token of a cluster; the multiplier is not looked at
+unfoldable pub plain_read : PlainState → List ℕ → ℕ → ℕ → ℕ → Result (Taken ℕ PlainState) DecoderError
+plain_read s bytes p c m = do
+  read ← token_at s.mode (code_of s.codes c) bytes p
+  Ok (record { value = read.token; state = record s { mode = read.mode }; position = read.position })
+
+-- a seal of which something is left is Invalid(4)
+abbrev pub finalize_mode : Mode → Result (Unit {0}) DecoderError
+finalize_mode Unsealed = Ok tt
+finalize_mode (Sealed sum) = if sum == 0 then Ok tt else Err (Invalid 4)
+finalize_mode (Runs last left) = Ok tt
+
+-- the token of a constant
+abbrev pub constant_of : Code → Option ℕ
+constant_of (Constant token) = Some token
+constant_of (Fixed width) = None
+
+-- the only token of a constant cluster; there is none under runs
+abbrev pub single_of : Mode → Code → Option ℕ
+single_of Unsealed code = constant_of code
+single_of (Sealed sum) code = constant_of code
+single_of (Runs last left) code = None
+
+-- how many tokens an open run still owes
+abbrev pub owed_in : Mode → ℕ
+owed_in Unsealed = 0
+owed_in (Sealed sum) = 0
+owed_in (Runs last left) = left
+
+-- the last token, or 0
+abbrev pub last_in : Mode → ℕ
+last_in Unsealed = 0
+last_in (Sealed sum) = 0
+last_in (Runs last left) = last
+
+-- the mode after an owed token
+abbrev pub next_mode : Mode → Mode
+next_mode Unsealed = Unsealed
+next_mode (Sealed sum) = Sealed sum
+next_mode (Runs last left) = Runs last (left - 1)
+
+abbrev pub plain_finalize : PlainState → Result (Unit {0}) DecoderError
+plain_finalize s = finalize_mode s.mode
+
+abbrev pub plain_single : PlainState → ℕ → Option ℕ
+plain_single s c = single_of s.mode (code_of s.codes c)
+
+abbrev pub plain_runs : PlainState → Bool
+plain_runs s = is_runs s.mode
+
+abbrev pub plain_owed : PlainState → ℕ
+plain_owed s = owed_in s.mode
+
+abbrev pub plain_last : PlainState → ℕ
+plain_last s = last_in s.mode
+
+abbrev pub plain_next : PlainState → PlainState
+plain_next s = record s { mode = next_mode s.mode }
+
+abbrev pub plain_clusters : PlainState → List ℕ
+plain_clusters s = s.clusters
+
+-- the plain decoder
+abbrev pub plain : Meaning PlainState
+plain = record {
+  parse = plain_parse;
+  begin = plain_begin;
+  read = plain_read;
+  finalize = plain_finalize;
+  cluster_map = plain_clusters;
+  single_token = plain_single;
+  as_rle = plain_runs;
+  owed = plain_owed;
+  last = plain_last;
+  next = plain_next;
+}
