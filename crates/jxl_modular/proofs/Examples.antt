@@ -4,10 +4,10 @@ use Rattle.std.specs.Int.{w32, int_wrap}
 use Rattle.std.specs.Int.Count.{count_leading_zeros}
 use Rattle.std.proofs.Common.{arith, inl, inr, sym}
 use Rattle.jxlm_base.specs.Grid.{Grid, grid}
-use Rattle.jxlm_base.specs.Plain.{PlainState, plain, number_at, mode_at, cluster_at, code_at, plain_parse, plain_begin, plain_read, token_at, run_at}
-use Rattle.jxlm_base.specs.declared.plain.Code.TheVariants.{Constant, Fixed}
-use Rattle.jxlm_base.specs.declared.plain.Mode.TheVariants.{Unsealed, Sealed, Runs}
-use Rattle.jxlm_base.specs.declared.plain.Mode.{Mode}
+use Rattle.jxlm_plain.specs.Plain.{PlainState, plain, number_at, mode_at, cluster_at, code_at, plain_parse, plain_begin, plain_read, token_at, run_at}
+use Rattle.jxlm_plain.specs.declared.plain.Code.TheVariants.{Constant, Fixed}
+use Rattle.jxlm_plain.specs.declared.plain.Mode.TheVariants.{Unsealed, Sealed, Runs}
+use Rattle.jxlm_plain.specs.declared.plain.Mode.{Mode}
 use Rattle.jxlm_base.specs.declared.decoder.DecoderError.TheVariants.{UnexpectedEof, Invalid}
 use Rattle.jxlm_base.specs.declared.error.Error.TheVariants.{Decoder}
 use Rattle.jxlm_transform.specs.Channels.{image_list}
@@ -15,13 +15,13 @@ use Rattle.jxlm_transform.specs.ChannelSteps.{CodedList}
 use Rattle.jxlm_transform.specs.Params.{sized}
 use Rattle.jxlm_transform.specs.declared.param.ChannelShift.TheVariants.{Shifts}
 use Rattle.jxlm_transform.specs.declared.param.ModularChannelParams.{ModularChannelParams}
-use Rattle.jxlm_tree.specs.Tree.{Config, config_of, leaf, levels}
-use Rattle.jxlm_tree.specs.TreeReading.{listing_at, drafts_at, nodes_at, node_at, leaf_at, predictor_at, multiplier_at, IsTreeAt}
+use Rattle.jxlm_ma.specs.Tree.{Config, config_of, leaf, levels}
+use Rattle.jxlm_ma.specs.TreeReading.{listing_at, drafts_at, nodes_at, node_at, leaf_at, predictor_at, multiplier_at, IsTreeAt}
 use Rattle.jxlm_tree.specs.WeightsHeader.{default_weights}
-use Rattle.jxlm_tree.specs.declared.flat.Leaf.{Leaf}
+use Rattle.jxlm_ma.specs.declared.flat.Leaf.{Leaf}
 use Rattle.jxlm_tree.specs.declared.predictor.Predictor.TheVariants.{Zero, Gradient}
 use Rattle.jxlm_part.specs.Coded.{IsCodedWhole}
-use Rattle.jxlm_part.specs.Decode.{Standing, FailsLater, DecodeAnswers}
+use Rattle.jxlm_part.specs.Decode.{Standing, FailsLater, DecodeGives}
 use Rattle.jxlm_header.specs.Header.{Header}
 use Rattle.jxlm_header.specs.Opening.{opening, node_limit}
 use Rattle.jxlm_part.specs.Part.{Part}
@@ -112,7 +112,7 @@ truncated_samples = record {
   as_partial = refl;
 }
 
-truncated_gives : DecodeAnswers plain w32 (part_of gradient) truncated_bytes (three_bits Unsealed) (standing 68 (pos 0 ∷ pos 0 ∷ pos 0 ∷ pos 0 ∷ []) true) (standing 71 (pos 1 ∷ pos 0 ∷ pos 0 ∷ pos 0 ∷ []) true) false (Err (Decoder UnexpectedEof)) 2
+truncated_gives : DecodeGives plain w32 (part_of gradient) truncated_bytes (three_bits Unsealed) (standing 68 (pos 0 ∷ pos 0 ∷ pos 0 ∷ pos 0 ∷ []) true) (standing 71 (pos 1 ∷ pos 0 ∷ pos 0 ∷ pos 0 ∷ []) true) false (Err (Decoder UnexpectedEof)) 2
 truncated_gives = (refl, (omega arith, inr truncated_samples))
 
 -- The same samples after their sum, which is 7, and after 8: there all four are coded, and the end is an error.
@@ -155,7 +155,7 @@ wrongly_sealed_samples = record {
   as_partial = refl;
 }
 
-wrongly_sealed_gives : DecodeAnswers plain w32 (part_of gradient) (sealed_bytes 0x80) (sealed 0) (standing 68 (pos 0 ∷ pos 0 ∷ pos 0 ∷ pos 0 ∷ []) true) (standing 88 (pos 1 ∷ pos 3 ∷ pos 0 ∷ pos 2 ∷ []) true) false (Err (Decoder (Invalid 4))) 4
+wrongly_sealed_gives : DecodeGives plain w32 (part_of gradient) (sealed_bytes 0x80) (sealed 0) (standing 68 (pos 0 ∷ pos 0 ∷ pos 0 ∷ pos 0 ∷ []) true) (standing 88 (pos 1 ∷ pos 3 ∷ pos 0 ∷ pos 2 ∷ []) true) false (Err (Decoder (Invalid 4))) 4
 wrongly_sealed_gives = (omega arith, inr wrongly_sealed_samples)
 
 -- The constant token 3, doubled, and 5 more: no bit is read after the tree, which ends at bit 79.

@@ -16,7 +16,7 @@ use Rattle.jxlm_chain.specs.Chain as chain
 use Rattle.jxlm_transform.specs.Channels.{Channel}
 use Rattle.jxlm_transform.specs.ChannelSteps.{Step}
 use Rattle.jxlm_part.specs.Coded.{DecodingFails, IsCodedWhole}
-use Rattle.jxlm_part.specs.Decode.{DecodeAnswers, Standing, Fails, MovesWithin}
+use Rattle.jxlm_part.specs.Decode.{DecodeGives, Standing, Fails, MovesWithin}
 use Rattle.jxl_modular.specs.Inner.Filled.{IsFilled, FillFails, samples_in, whole_part}
 use Rattle.jxl_modular.specs.Image.{Image, IsOnlyImage, coded_grids, cost_of, image_grids}
 use Rattle.jxlm_part.specs.Part.{Part, cell_count}
@@ -57,7 +57,7 @@ both_ok (Err e) P Q R p q f = tt
 
 -- nor where decoding returns anything else
 answers_within : {D : Type 0} (d : Meaning D) (w : Width) (part : Part) (bytes : List ℕ) (decoder : D) (old new : Standing) (allow : Bool) (result : Result (Unit {0}) Error) (tried : ℕ) →
-    DecodeAnswers d w part bytes decoder old new allow result tried → tried ≤ cell_count part.channels
+    DecodeGives d w part bytes decoder old new allow result tried → tried ≤ cell_count part.channels
 answers_within d w part bytes decoder old new allow (Ok u) tried h = elim h [
   | inl whole ↦ let t = whole.tries in omega (arith, t)
   | inr cut ↦ tried_within d w part bytes decoder old new UnexpectedEof tried cut.1

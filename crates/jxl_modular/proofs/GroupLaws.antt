@@ -1,9 +1,9 @@
 -- Parts without samples have no region; and what decoding a part gives, by the states before and after.
-use Rattle.std.proofs.Common.{zero, suc, ◌↔◌, inl, inr, ℤ, Result, Ok, ◌≡◌, ℕ, ◌+◌, ◌*◌, ◌<◌, ◌≤◌, List, [], ◌∷◌, map, Option, None, Some, refl, sym, ap, ◌∙◌, subst, arith}
+use Rattle.std.proofs.Common.{zero, suc, ◌↔◌, inl, inr, ℤ, Result, Ok, Err, ◌≡◌, ◌≢◌, ℕ, ◌+◌, ◌*◌, ◌<◌, ◌≤◌, List, [], ◌∷◌, map, Option, None, Some, refl, sym, ap, ◌∙◌, subst, arith}
 use Rattle.std.proofs.lemmas.Bool.{ltb-true}
 use Rattle.std.proofs.lemmas.List.Sums.{sum_by-cons}
 use Rattle.std.proofs.Math.Nat.{mul-le-mul_right}
-use Rattle.std.specs.Prelude.{IsTrue, get_or, Bool, true, false, ◌&&◌, ◌==◌, nat_lt, filter_map, sum_by, if◌then◌else◌}
+use Rattle.std.specs.Prelude.{IsTrue, IfOk, IfErr, not, get_or, Bool, true, false, ◌&&◌, ◌==◌, nat_lt, filter_map, sum_by, if◌then◌else◌}
 use Rattle.std.specs.List.{cons_option, enumerate_from}
 use Rattle.jxlm_base.specs.declared.subgrid.Region.{Region}
 use Rattle.jxlm_transform.specs.Channels.{Channel, ChannelList, area}
@@ -11,6 +11,7 @@ use Rattle.jxlm_transform.specs.ChannelSteps.{table_channel}
 use Rattle.std.specs.Int.{Width}
 use Rattle.std.proofs.lemmas.Bool.{lt-ltb}
 use Rattle.jxlm_base.specs.Decoding.{Meaning}
+use Rattle.jxlm_base.specs.ErrorKind.{NoMemory, kind_of as error_kind}
 use Rattle.jxlm_base.specs.declared.error.Error.{Error}
 use Rattle.jxlm_base.specs.Regions.{grids_in, store_meanings}
 use Rattle.jxlm_base.specs.Grid.{Grid}
@@ -29,8 +30,10 @@ use Rattle.jxl_modular.specs.declared.groups.PartState.{PartState}
 use Rattle.jxl_modular.specs.declared.groups.Progress.{Progress}
 use Rattle.jxl_modular.specs.declared.groups.TransformedGlobalModular.{TransformedGlobalModular}
 use Rattle.jxl_modular.specs.Groups.{PartOfGives, channels_in, held_in}
-use Rattle.jxl_modular.specs.GroupParts.{channels_of, image_of, is_partial, or_new, passes_in, section_part, state_in, state_kept, state_of, steps_of}
+use Rattle.jxl_modular.specs.GroupParts.{KeepsOtherParts, channels_of, image_of, is_partial, or_new, passes_in, section_part, state_in, state_kept, state_of, steps_of}
 use Rattle.jxl_modular.specs.Image.{Image, coded_list}
+use Rattle.jxl_modular.specs.NestedTurns.{NestedGives}
+use Rattle.jxlm_ma.specs.Tree.{Config}
 use Rattle.jxl_modular.specs.SameButCells.{SameButCells}
 use Rattle.jxlm_cut.proofs.HeldCells.{none_some, same_some}
 
@@ -135,3 +138,60 @@ module _ {S D : Type 0} (d : Meaning D) (w : Width) (to_int : S → ℤ) (bytes 
       (ap (λ (v : PartState). v.steps) taken)
       (sym (ap (λ (v : PartState). v.partial) state) ∙ sym (ap (λ b. b && (state_in progress part).partial) (ap (λ cs. nat_lt 0 (cell_count cs)) channels ∙ samples)))
       (sym (ap (λ (v : PartState). v.steps) state)) h
+
+  -- what decoding a part by a header of its own gives where it is out of memory at once
+  pub nested_refused : (x : TransformedGlobalModular S D) (part : Part) (p : ℕ) (nought : S) (global : Option (Config D)) (allow : Bool) (result : Result Bool Error) (e : Error) (progress : Progress) →
+      result ≡ Err e → error_kind e ≡ NoMemory → state_kept progress part ≡ state_kept x.progress part →
+      NestedGives d w to_int nought (image_of x) (passes_in x) global bytes p (section_part part) stream allow result (image_of x).store (image_of x).store (steps_of x part) (state_in progress part).steps
+  nested_refused x part p nought global allow result e progress is memory same =
+      subst (λ (r : Result Bool Error). NestedGives d w to_int nought (image_of x) (passes_in x) global bytes p (section_part part) stream allow r (image_of x).store (image_of x).store (steps_of x part) (state_in progress part).steps) (sym is)
+      (subst (λ (n : ℕ). NestedGives d w to_int nought (image_of x) (passes_in x) global bytes p (section_part part) stream allow (Err e) (image_of x).store (image_of x).store (steps_of x part) n)
+      (sym (ap (λ (o : Option PartState). (or_new o).steps) same)) (
+        record { position = p; partial = false; tried = 0; cost = 0 },
+        inl (record { fails = rw memory tt; unchanged = refl; tries = refl }),
+        (omega arith, omega arith),
+      ))
+
+and_all : (a b c : Bool) → (a && (b && c)) ≡ ((a && b) && c)
+and_all true b c = refl
+and_all false b c = refl
+
+module _ {S D : Type 0} (x : TransformedGlobalModular S D) (part : Part) (s t : PartState) (y : Image S D) (progress : Progress) (result : Result Bool Error)
+    (taken : s ≡ state_of x part) (put : state_kept progress part ≡ Some t) (kept : progress.passes.items ≡ passes_in x) (same : SameButCells (image_of x) y) where
+  abbrev has_cells : Bool
+  has_cells = nat_lt 0 (cell_count (channels_of x part))
+
+  abbrev partial_then : Bool
+  partial_then = nat_lt 0 (cell_count (channels_in y progress.passes.items (section_part part))) && (state_in progress part).partial
+
+  -- whether the part is partial by the state that is put back
+  by_state : partial_then ≡ (has_cells && t.partial)
+  by_state =
+      let channels : channels_in y progress.passes.items (section_part part) ≡ channels_of x part = rw (same.group_dim, same.channels, same.nb_meta, kept) refl in
+      let state : state_in progress part ≡ t = ap or_new put in
+      rw (channels, state) refl
+
+  -- it is whole where all samples were decoded, or where it was so before
+  pub nested_whole : IfOk result (λ whole. t.partial ≡ (s.partial && not whole)) → IfOk result (λ whole. partial_then ≡ (is_partial x part && not whole))
+  nested_whole h = go result h where
+    go : (r : Result Bool Error) → IfOk r (λ whole. t.partial ≡ (s.partial && not whole)) → IfOk r (λ whole. partial_then ≡ (is_partial x part && not whole))
+    go (Err e) h = tt
+    go (Ok whole) h =
+        by_state ∙ ap (λ b. has_cells && b) (h ∙ ap (λ (v : PartState). v.partial && not whole) taken) ∙ and_all has_cells (state_of x part).partial (not whole)
+
+  pub nested_same : IfErr result (λ _. t.partial ≡ s.partial) → IfErr result (λ _. partial_then ≡ is_partial x part)
+  nested_same h = go result h where
+    go : (r : Result Bool Error) → IfErr r (λ _. t.partial ≡ s.partial) → IfErr r (λ _. partial_then ≡ is_partial x part)
+    go (Ok whole) h = tt
+    go (Err e) h = by_state ∙ ap (λ b. has_cells && b) (h ∙ ap (λ (v : PartState). v.partial) taken)
+
+-- the other parts are decoded as far as before, where what is kept of them, the passes and the channels stay
+pub others_kept : {S D : Type 0} (x new : TransformedGlobalModular S D) (part : Part) →
+    ((other : Part) → other ≢ part → state_kept new.progress other ≡ state_kept x.progress other) → passes_in new ≡ passes_in x → SameButCells (image_of x) (image_of new) → KeepsOtherParts part x new
+others_kept x new part states passes same = record {
+  partial = λ other unlike.
+      let channels : channels_of new other ≡ channels_of x other = rw (same.group_dim, same.channels, same.nb_meta, passes) refl in
+      let state : state_of new other ≡ state_of x other = ap or_new (states other unlike) in
+      rw (channels, state) refl;
+  steps = λ other unlike. ap (λ (o : Option PartState). (or_new o).steps) (states other unlike);
+}

@@ -5,6 +5,7 @@ pub mod UndoneImage
 pub mod GroupLaws
 pub mod Pairs
 pub mod PartLaws
+pub mod PartNests
 pub mod PieceLies
 pub mod PictureLaws
 pub mod Filling
@@ -12,6 +13,10 @@ pub mod FreshLaws
 pub mod NestedFills
 pub mod NestedImage
 pub mod NestedLaws
+pub mod LayerLaws
+pub mod LayerNests
+pub mod LayerReads
+pub mod LayerUndone
 pub mod ParsingLaws
 pub mod SectionLaws
 pub mod TurnLaws

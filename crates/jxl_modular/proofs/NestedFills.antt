@@ -11,12 +11,12 @@ use Rattle.jxlm_base.specs.declared.subgrid.Region.{Region}
 use Rattle.jxlm_chain.specs.Shape.{SameShape}
 use Rattle.jxlm_chain.specs.Undoings.{undos_of}
 use Rattle.jxlm_chain.proofs.ShapeLaws.{all_lie_kept, narrow_kept, shape_kept, undos_kept}
-use Rattle.jxlm_part.specs.Decode.{DecodeAnswers, MovesWithin}
+use Rattle.jxlm_part.specs.Decode.{DecodeGives, MovesWithin}
 use Rattle.jxlm_part.specs.Part.{Part, cell_count}
 use Rattle.jxlm_part.specs.Placed.{PartLies, standing_in}
 use Rattle.jxlm_part.specs.declared.part.PlacedPart.{PlacedPart}
 use Rattle.jxlm_transform.specs.Channels.{Channel}
-use Rattle.jxlm_tree.specs.Tree.{depth}
+use Rattle.jxlm_ma.specs.Tree.{depth}
 use Rattle.jxl_modular.specs.Inner.NestedCode.{CanFill, Decodes, DecodesTo, Fills, FillsIn, WithSteps, nested_channels, regions_in, with_own_tables}
 use Rattle.jxl_modular.specs.Nested.{Turn}
 use Rattle.jxl_modular.specs.declared.nested.NestedPart.{NestedPart}
@@ -66,7 +66,7 @@ module _ {S D : Type 0} (d : Meaning D) (w : Width) (to_int : S → ℤ) (bytes 
 
     abbrev Gives : Result (Unit {0}) Error → Type 0
     Gives r =
-        (tried : ℕ) × DecodeAnswers d w part bytes n.config.decoder (standing_in to_int rs old p begins) (standing_in to_int rs now q still) partly r tried
+        (tried : ℕ) × DecodeGives d w part bytes n.config.decoder (standing_in to_int rs old p begins) (standing_in to_int rs now q still) partly r tried
         × MovesWithin before after (tried * (depth n.config.tree + 1))
 
     abbrev turn_with : ℕ → Turn

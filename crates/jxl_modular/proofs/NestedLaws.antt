@@ -30,14 +30,14 @@ use Rattle.jxlm_chain.proofs.Undone.{chain_of}
 use Rattle.jxlm_cut.specs.Parts.{HaveCell}
 use Rattle.jxlm_cut.proofs.Apart.{map_same}
 use Rattle.jxlm_cut.proofs.Outside.{all_inside, finish_outside, never_has, none_has}
-use Rattle.jxlm_part.specs.Decode.{DecodeAnswers}
+use Rattle.jxlm_part.specs.Decode.{DecodeGives}
 use Rattle.jxlm_part.specs.Part.{cell_count}
 use Rattle.jxlm_part.specs.Placed.{standing_in}
 use Rattle.jxlm_transform.specs.Channels.{AreRegionsOf, ChannelList}
 use Rattle.jxlm_transform.specs.ChannelSteps.{Step}
 use Rattle.jxlm_transform.specs.Steps.{Sides, tables_of}
-use Rattle.jxlm_tree.specs.Tree.{Config}
-use Rattle.jxlm_tree.specs.TreeReading.{IsOutOfMemory}
+use Rattle.jxlm_ma.specs.Tree.{Config}
+use Rattle.jxlm_ma.specs.TreeReading.{IsOutOfMemory}
 use Rattle.jxl_modular.specs.Fresh.{zeros}
 use Rattle.jxl_modular.specs.Inner.NestedCode.{CanFill, Decodes, FillsIn, IsNested, head_of, nested_channels, nested_places, regions_in, with_own_tables}
 use Rattle.jxl_modular.specs.Inner.Opened.{steps_of_header}
@@ -54,7 +54,7 @@ module _ {S : Type 0} where
   more_same : (store more : List (Grid S)) (b : ℕ) → b < length store → buffer_at (store ++ more) b ≡ buffer_at store b
   more_same store more b lt = get_or_append_left store more (grid 0 0 []) b lt
 
-  lies_more : (store more : List (Grid S)) (r : Region) → Lies r store → Lies r (store ++ more)
+  pub lies_more : (store more : List (Grid S)) (r : Region) → Lies r store → Lies r (store ++ more)
   lies_more store more r h =
       let there = h.there in
       let long = length-append store more in
@@ -67,14 +67,14 @@ module _ {S : Type 0} where
       }
 
   -- the tables are there
-  tables_behind : (zero : S) (steps : List Step) (store : List (Grid S)) → HasTables steps (length store) (with_tables zero steps store)
+  pub tables_behind : (zero : S) (steps : List Step) (store : List (Grid S)) → HasTables steps (length store) (with_tables zero steps store)
   tables_behind zero steps store =
       let long = length-append store (zeros zero (tables_of steps)) in
       tables_there steps (length store) (with_tables zero steps store) (omega (arith, long))
       (subst (HasBuffers (tables_of steps)) (sym (drop-append_seam store (zeros zero (tables_of steps)))) (zeros_fit zero (tables_of steps)))
 
   -- a store without the buffers after the first n has the same grids in regions of these
-  grids_front : (f : S → ℤ) (n : ℕ) (store : List (Grid S)) (rs : List Region) → All (λ r. r.buffer < n) rs → grids_in rs (store_meanings f (take n store)) ≡ grids_in rs (store_meanings f store)
+  pub grids_front : (f : S → ℤ) (n : ℕ) (store : List (Grid S)) (rs : List Region) → All (λ r. r.buffer < n) rs → grids_in rs (store_meanings f (take n store)) ≡ grids_in rs (store_meanings f store)
   grids_front f n store rs all =
       map_same (grid_of (store_meanings f (take n store))) (grid_of (store_meanings f store)) rs (λ k d lt.
       let r : Region = get_or rs k d in
@@ -83,7 +83,7 @@ module _ {S : Type 0} where
       ap (λ g. grid_by r.width r.height (λ x y. at g (r.x + x) (r.y + y))) same)
 
   -- what changed in a store with more buffers, cut back, is what changed in the store
-  cut_back : (regions : List Region) (store more now : List (Grid S)) → SameShape (store ++ more) now →
+  pub cut_back : (regions : List Region) (store more now : List (Grid S)) → SameShape (store ++ more) now →
       ((b x y : ℕ) → b < length store → x < (buffer_at store b).width → y < (buffer_at store b).height → All (λ r. HasCell r b x y → ⊥) regions → cell (buffer_at now b) x y ≡ cell (buffer_at store b) x y) →
       KeepsOutside regions store (take (length store) now)
   cut_back regions store more now shape same =
@@ -192,7 +192,7 @@ module _ {S D : Type 0} (d : Meaning D) (w : Width) (to_int : S → ℤ) (zero :
 
   -- what decoding its samples returns, in these regions of a store
   abbrev Answers : Bool → Result (Unit {0}) Error → Turn → List (Grid S) → List Region → List (Grid S) → Type 0
-  Answers partly result t now rs store = DecodeAnswers d w (coded_part stream (head_of n) n.config) bytes n.config.decoder (standing_in to_int rs store q (nat_lt 0 (cell_count (nested_channels n)))) (standing_in to_int rs now t.position t.partial) partly result t.tried
+  Answers partly result t now rs store = DecodeGives d w (coded_part stream (head_of n) n.config) bytes n.config.decoder (standing_in to_int rs store q (nat_lt 0 (cell_count (nested_channels n)))) (standing_in to_int rs now t.position t.partial) partly result t.tried
 
   decodes : (partly : Bool) (result : Result (Unit {0}) Error) (t : Turn) (now : List (Grid S)) → Decodes d w to_int bytes stream q n partly result t (with_own_tables zero n old) now →
       NestedDecodes d w to_int zero bit_depth global bytes p list held stream partly start result t old now

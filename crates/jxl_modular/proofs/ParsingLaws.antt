@@ -12,8 +12,8 @@ use Rattle.jxlm_transform.specs.declared.channels.ModularChannels.{ModularChanne
 use Rattle.jxlm_transform.specs.declared.param.ModularChannelParams.{ModularChannelParams}
 use Rattle.jxlm_transform.specs.declared.param.ModularParams.{ModularParams}
 use Rattle.jxlm_transform.proofs.Failures.{unless_memory}
-use Rattle.jxlm_tree.proofs.Memory.{unless_so}
-use Rattle.jxlm_tree.specs.Tree.{Config}
+use Rattle.jxlm_ma.proofs.Memory.{unless_so}
+use Rattle.jxlm_ma.specs.Tree.{Config}
 use Rattle.jxl_modular.specs.Fresh.{fresh}
 use Rattle.jxl_modular.specs.Image.{Image}
 use Rattle.jxl_modular.specs.Inner.Opened.{TreeOfGives, opened_of}

@@ -12,10 +12,10 @@ use Rattle.jxlm_base.specs.declared.error.Error.{Error}
 use Rattle.jxlm_base.specs.declared.subgrid.Region.{Region}
 use Rattle.jxlm_chain.proofs.ListsApart.{pairs_take, zip_take}
 use Rattle.jxlm_transform.specs.Channels.{Channel, IsNarrow}
-use Rattle.jxlm_tree.specs.Tree.{Shape}
-use Rattle.jxlm_tree.specs.declared.flat.Leaf.{Leaf}
+use Rattle.jxlm_ma.specs.Tree.{Shape}
+use Rattle.jxlm_ma.specs.declared.flat.Leaf.{Leaf}
 use Rattle.jxlm_tree.specs.declared.predictor.WpHeader.{WpHeader}
-use Rattle.jxlm_part.specs.Decode.{DecodeAnswers, MovesWithin}
+use Rattle.jxlm_part.specs.Decode.{DecodeGives, MovesWithin}
 use Rattle.jxlm_part.specs.Part.{Part}
 use Rattle.jxlm_part.specs.Placed.{PartLies, standing_in}
 use Rattle.jxlm_part.specs.declared.part.PlacedPart.{PlacedPart}
@@ -69,15 +69,15 @@ module _ {S D : Type 0} (d : Meaning D) (w : Width) (to_int : S → ℤ) (bytes 
     (new : Image S D) (q : ℕ) (still : Bool) (after : ℕ) (allow : Bool) (result : Result (Unit {0}) Error) where
   abbrev pub WholeGives : Type 0
   WholeGives =
-      (tried : ℕ) × DecodeAnswers d w (whole_part old stream) bytes old.config.decoder (standing_in to_int old.coded old.store p partial) (standing_in to_int old.coded new.store q still) allow result tried
+      (tried : ℕ) × DecodeGives d w (whole_part old stream) bytes old.config.decoder (standing_in to_int old.coded old.store p partial) (standing_in to_int old.coded new.store q still) allow result tried
       × MovesWithin before after (tried * cost_of old)
 
   pub whole_gives : (n : ℕ) → n ≡ length old.channels → IsLaidOut old → FrontGives d w to_int bytes stream n old p partial before new q still after allow result → WholeGives
   whole_gives n is laid h = (
     h.0,
-    subst (λ (part : Part). DecodeAnswers d w part bytes old.config.decoder (standing_in to_int old.coded old.store p partial) (standing_in to_int old.coded new.store q still) allow result h.0)
+    subst (λ (part : Part). DecodeGives d w part bytes old.config.decoder (standing_in to_int old.coded old.store p partial) (standing_in to_int old.coded new.store q still) allow result h.0)
         (ap (λ k. front_part k old stream) is ∙ all_is_whole old laid stream)
-        (subst (λ (rs : List Region). DecodeAnswers d w (front_part n old stream) bytes old.config.decoder (standing_in to_int rs old.store p partial) (standing_in to_int rs new.store q still) allow result h.0)
+        (subst (λ (rs : List Region). DecodeGives d w (front_part n old stream) bytes old.config.decoder (standing_in to_int rs old.store p partial) (standing_in to_int rs new.store q still) allow result h.0)
         (ap (λ k. front_regions k old) is ∙ all_regions old laid) h.1),
     h.2,
   )

@@ -26,7 +26,7 @@ use Rattle.jxlm_cut.specs.declared.pass.Pass.{Pass}
 use Rattle.jxlm_cut.proofs.Apart.{IsInside, part_kept}
 use Rattle.jxlm_cut.proofs.Parts.{parts_hold}
 use Rattle.jxlm_cut.proofs.PieceFacts.{each_inside, pieces_lie}
-use Rattle.jxlm_part.specs.Decode.{DecodeAnswers, Fails, Standing}
+use Rattle.jxlm_part.specs.Decode.{DecodeGives, Fails, Standing}
 use Rattle.jxlm_part.specs.Decode as decode
 use Rattle.jxlm_part.specs.Part.{Part, cell_count}
 use Rattle.jxlm_part.proofs.Loops.{fits_in}
@@ -34,7 +34,7 @@ use Rattle.jxl_modular.specs.Groups.{channels_in, held_in, pieces_of}
 use Rattle.jxl_modular.specs.Image.{Image, coded_list}
 use Rattle.jxl_modular.specs.Inner.Laid.{IsLaidOut}
 use Rattle.jxl_modular.specs.Nested.{nested_regions}
-use Rattle.jxlm_tree.specs.Tree.{Config}
+use Rattle.jxlm_ma.specs.Tree.{Config}
 use Rattle.jxl_modular.specs.Sections.{AllTurn, AllWhole, AreDecoded, AreUnlike, CodesNested, CodesPart, CodesPlain, IsNone, NestedOk, PlainTurn, Section, SectionsFit, SectionsLeave, Turn, Turned, most}
 use Rattle.jxl_modular.proofs.Laid.{coded_apart, coded_lie, coded_sizes}
 
@@ -63,7 +63,7 @@ module _ {D : Type 0} (d : Meaning D) (w : Width) (part : Part) (bytes : List �
   never_same b f t = cc
 
   whole_of : (partly : Bool) (tried : ℕ) → old.partial ≡ nat_lt 0 (cell_count part.channels) → new.partial ≡ false →
-      DecodeAnswers d w part bytes decoder old new partly (Ok tt) tried → decode.IsWhole d w part bytes decoder old new tried
+      DecodeGives d w part bytes decoder old new partly (Ok tt) tried → decode.IsWhole d w part bytes decoder old new tried
   whole_of partly tried begins not_missing (inl whole) = whole
   whole_of partly tried begins not_missing (inr fails) =
       let more : old.partial ≡ true = begins ∙ lt-ltb 0 (cell_count part.channels) fails.1.0 in

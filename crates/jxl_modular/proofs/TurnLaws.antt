@@ -1,7 +1,6 @@
 -- One section after another: what the loop over sections keeps, how it goes on by one turn, and how it ends.
 use Rattle.std.proofs.Common.{◌≡◌, ◌↔◌, ℕ, Bool, true, false, not, ◌&&◌, ◌+◌, ◌<◌, inl, inr, List, [], ◌∷◌, ◌++◌, map, take, drop, length, get_or, Result, Ok, Err, ℤ, refl, sym, ap, ◌∙◌, subst, arith, append_assoc}
-use Rattle.std.specs.Prelude.{sum, nat_lt, IsTrue, MatchBool, Option}
-use Rattle.std.proofs.lemmas.Bool.{lt-ltb, ltb-true}
+use Rattle.std.specs.Prelude.{sum, IsTrue, MatchBool, Option}
 use Rattle.std.specs.Int.{Width}
 use Rattle.std.proofs.lemmas.List.{take_more, take-append-drop, append-nil}
 use Rattle.std.proofs.lemmas.List.Sums.{sum-map, sum_by_push}
@@ -17,7 +16,7 @@ use Rattle.jxlm_chain.proofs.ShapeLaws.{shape_both, shape_same}
 use Rattle.jxlm_cut.specs.declared.pass.Pass.{Pass}
 use Rattle.jxlm_part.specs.Decode.{MovesWithin}
 use Rattle.jxlm_part.specs.Part.{cell_count}
-use Rattle.jxlm_tree.specs.Tree.{Config}
+use Rattle.jxlm_ma.specs.Tree.{Config}
 use Rattle.jxl_modular.specs.Image.{Image, IsOnlyImage, coded_grids, cost_of, image_grids}
 use Rattle.jxl_modular.specs.Inner.Turns.{HasStopped, HasTurned, PlainGives, TurnGives}
 use Rattle.jxl_modular.specs.SameButCells.{SameButCells}

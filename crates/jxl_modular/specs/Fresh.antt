@@ -3,7 +3,7 @@ use Rattle.std.specs.Prelude.{ℕ, List, map}
 use Rattle.jxlm_base.specs.Grid.{Grid, filled}
 use Rattle.jxlm_chain.specs.Layout.{buffers_of, first_layout, layout_after_all}
 use Rattle.jxlm_transform.specs.Steps.{Sides}
-use Rattle.jxlm_tree.specs.Tree.{Config}
+use Rattle.jxlm_ma.specs.Tree.{Config}
 use Rattle.jxlm_transform.specs.Channels.{ChannelList}
 use Rattle.jxl_modular.specs.Image.{Image}
 use Rattle.jxlm_header.specs.Opening.{Opening}

@@ -14,6 +14,8 @@ use Rattle.jxlm_cut.specs.declared.part.SectionPart.{SectionPart}
 use Rattle.jxlm_cut.specs.declared.pass.Pass.{Pass}
 use Rattle.jxlm_cut.specs.declared.part.SectionPart.TheVariants as sections
 use Rattle.jxlm_part.specs.Part.{cell_count}
+use Rattle.jxlm_ma.specs.Tree.{Config}
+use Rattle.jxl_modular.specs.NestedTurns.{NestedGives}
 use Rattle.jxl_modular.specs.Groups.{PartOfGives, channels_in, held_in}
 use Rattle.jxl_modular.specs.Image.{Image, coded_list}
 use Rattle.jxl_modular.specs.contracts.groups.PartOrd.TheImpl as order
@@ -97,3 +99,8 @@ module _ {S D : Type 0} where
   abbrev pub PartGives : Meaning D → Width → (S → ℤ) → List ℕ → ℕ → Part → TransformedGlobalModular S D → ℕ → TransformedGlobalModular S D → ℕ → Bool → Result (Unit {0}) Error → Type 0
   PartGives d w to_int bytes stream part old p new q allow result =
       PartOfGives d w to_int bytes stream (passes_in old) (section_part part) (image_of old) p (is_partial old part) (steps_of old part) (image_of new) q (is_partial new part) (steps_of new part) allow result
+
+  -- what decoding a part by a header of its own returns, with what it took of steps; the transforms of the header are undone
+  abbrev pub NestedPartGives : Meaning D → Width → (S → ℤ) → S → Option (Config D) → List ℕ → ℕ → Part → TransformedGlobalModular S D → ℕ → TransformedGlobalModular S D → Bool → Result Bool Error → Type 0
+  NestedPartGives d w to_int zero global bytes stream part old p new allow result =
+      NestedGives d w to_int zero (image_of old) (passes_in old) global bytes p (section_part part) stream allow result (image_of old).store (image_of new).store (steps_of old part) (steps_of new part)

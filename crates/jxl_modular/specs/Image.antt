@@ -7,7 +7,7 @@ use Rattle.jxlm_base.specs.declared.subgrid.Region.{Region}
 use Rattle.jxlm_chain.specs.Chain as chain
 use Rattle.jxlm_transform.specs.Channels.{Channel, ChannelList}
 use Rattle.jxlm_transform.specs.ChannelSteps.{Step}
-use Rattle.jxlm_tree.specs.Tree.{Config, depth}
+use Rattle.jxlm_ma.specs.Tree.{Config, depth}
 use Rattle.jxlm_tree.specs.declared.predictor.WpHeader.{WpHeader}
 use Rattle.jxlm_part.specs.Part.{Part}
 use Rattle.jxlm_part.specs.Progress.{grids_in}

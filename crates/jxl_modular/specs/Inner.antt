@@ -3,6 +3,7 @@ pub mod ImageCode
 pub mod Kept
 pub mod Laid
 pub mod NestedCode
+pub mod LayerCode
 pub mod Opened
 pub mod SectionParts
 pub mod StepCode

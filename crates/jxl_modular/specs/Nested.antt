@@ -13,14 +13,14 @@ use Rattle.jxlm_base.specs.declared.subgrid.Region.{Region}
 use Rattle.jxlm_chain.specs.Chain.{IsOnlyImage}
 use Rattle.jxlm_chain.specs.Layout.{layout_after_all}
 use Rattle.jxlm_header.specs.Opening.{Opening}
-use Rattle.jxlm_part.specs.Decode.{DecodeAnswers}
+use Rattle.jxlm_part.specs.Decode.{DecodeGives}
 use Rattle.jxlm_part.specs.Part.{cell_count}
 use Rattle.jxlm_part.specs.Placed.{standing_in}
 use Rattle.jxlm_transform.specs.Channels.{ChannelList}
 use Rattle.jxlm_transform.specs.ChannelSteps.{Step}
 use Rattle.jxlm_transform.specs.Steps.{tables_of}
-use Rattle.jxlm_tree.specs.Tree.{Config, depth}
-use Rattle.jxlm_tree.specs.TreeReading.{IsOutOfMemory}
+use Rattle.jxlm_ma.specs.Tree.{Config, depth}
+use Rattle.jxlm_ma.specs.TreeReading.{IsOutOfMemory}
 use Rattle.jxl_modular.specs.Fresh.{zeros}
 use Rattle.jxl_modular.specs.Parsing.{IsStartAt, IsTreeErrorAt, opened}
 use Rattle.jxl_modular.specs.Picture.{coded_part}
@@ -56,7 +56,7 @@ module _ {S D : Type 0} (d : Meaning D) (w : Width) (to_int : S → ℤ) (zero :
 
   -- what decoding its samples returns, and what it leaves: cells of other parts stay
   pub record NestedDecodes (partly : Bool) (s : NestedStart) (result : Result (Unit {0}) Error) (t : Turn) (store now : List (Grid S)) : Type 0 where
-    pub answers : DecodeAnswers d w (coded_part stream s.head s.config) bytes s.config.decoder
+    pub answers : DecodeGives d w (coded_part stream s.head s.config) bytes s.config.decoder
         (standing_in to_int (nested_regions held s.head.coded.steps store) (with_tables zero s.head.coded.steps store) s.samples_at (nat_lt 0 (cell_count s.head.coded.list.channels)))
         (standing_in to_int (nested_regions held s.head.coded.steps store) now t.position t.partial) partly result t.tried
     pub outside : KeepsOutside (nested_regions held s.head.coded.steps store) (with_tables zero s.head.coded.steps store) now

@@ -12,7 +12,7 @@ use Rattle.jxlm_base.specs.Regions.{grid_of, grids_in, store_meanings}
 use Rattle.jxlm_base.specs.declared.error.Error.{Error}
 use Rattle.jxlm_chain.specs.Chain as chain
 use Rattle.jxlm_header.specs.Opening.{Opening}
-use Rattle.jxlm_tree.specs.Tree.{Config, depth}
+use Rattle.jxlm_ma.specs.Tree.{Config, depth}
 use Rattle.jxlm_transform.specs.Channels.{AreGridsOf, ChannelList}
 use Rattle.jxlm_cut.specs.Cutting.{can_cut}
 use Rattle.jxlm_cut.specs.Parts.{HaveCell}
@@ -20,7 +20,7 @@ use Rattle.jxlm_cut.specs.Passes.{can_group}
 use Rattle.jxlm_cut.specs.declared.part.SectionPart.{SectionPart}
 use Rattle.jxlm_cut.specs.declared.pass.Pass.{Pass}
 use Rattle.jxlm_part.specs.Coded.{IsCodedWhole}
-use Rattle.jxlm_part.specs.Decode.{DecodeAnswers, MovesWithin}
+use Rattle.jxlm_part.specs.Decode.{DecodeGives, MovesWithin}
 use Rattle.jxlm_part.specs.Part.{cell_count}
 use Rattle.jxlm_part.specs.Placed.{standing_in}
 use Rattle.jxl_modular.specs.Nested.{NestedFails, NestedTurn}
@@ -80,7 +80,7 @@ module _ {S D : Type 0} (d : Meaning D) (w : Width) (to_int : S → ℤ) (x : Im
 
   -- what decoding it returns, and what it leaves: samples of other parts stay
   pub record PlainTurn (partly : Bool) (s : Section) (result : Result (Unit {0}) Error) (t : Turn) (old new : List (Grid S)) : Type 0 where
-    pub answers : DecodeAnswers d w (part_in x passes s.part s.stream_index) (bytes_of s.bits) x.config.decoder
+    pub answers : DecodeGives d w (part_in x passes s.part s.stream_index) (bytes_of s.bits) x.config.decoder
         (standing_in to_int (held_in x passes s.part) old (position_of s.bits)
         (nat_lt 0 (cell_count (channels_in x passes s.part))))
         (standing_in to_int (held_in x passes s.part) new t.position t.partial) partly result t.tried

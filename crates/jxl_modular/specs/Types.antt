@@ -6,7 +6,7 @@ pub use Rattle.jxlm_base.specs.declared.decoder.RleToken
 pub use Rattle.jxlm_base.specs.declared.error.Error
 pub use Rattle.jxlm_base.specs.declared.grid.OutOfMemory
 pub use Rattle.jxlm_base.specs.declared.subgrid.Region
-pub use Rattle.jxlm_tree.specs.declared.flat.Leaf
+pub use Rattle.jxlm_ma.specs.declared.flat.Leaf
 pub use Rattle.jxlm_tree.specs.declared.predictor.Predictor
 pub use Rattle.jxlm_tree.specs.declared.predictor.WpHeader
 pub use Rattle.jxlm_transform.specs.declared.channels.ModularChannelInfo

@@ -1,13 +1,15 @@
 //! Images that are decoded by their parts: the groups of the passes, and the LF groups (ISO/IEC 18181-1, frame: groups,
 //! LF groups and passes).
 
-ghost use Rattle.std.specs.Prelude.{◌≡◌, ◌≢◌, ◌↔◌, Some, IsFalse, IsOk, IsSome, IsTrue, IfOk, IfErr, OnOk, OnErr, nat_le};
+ghost use Rattle.std.specs.Prelude.{◌≡◌, ◌≢◌, ◌↔◌, ◌&&◌, [], Some, not, pos, IsFalse, IsOk, IsSome, IsTrue, IfOk, IfErr, OnOk, OnErr, nat_le};
 ghost use Rattle.std.specs.List.{list_all};
+ghost use Rattle.std.specs.Option.{option_copied};
 ghost use Rattle.jxlm_base.specs.Bits.{bytes_of, position_of};
 ghost use Rattle.jxlm_base.specs.ErrorKind.{BadSqueeze, UnlessNoMemory, kind_of};
 ghost use Rattle.jxlm_part.specs.Part.{cell_count};
 
 use crate::image::ModularImageDestination;
+use crate::recursive::{NestedHeader, RecursiveModularImage};
 use jxlm_base::bits::Bitstream;
 use jxlm_base::decoder::Decoder;
 use jxlm_base::error::Result;
@@ -15,7 +17,8 @@ use jxlm_base::grid::OutOfMemory;
 use jxlm_base::sample::Sample;
 use jxlm_cut::part::{Kind, SectionPart};
 use jxlm_cut::pass::{Pass, passes};
-use jxlm_tree::flat::Steps;
+use jxlm_ma::flat::Steps;
+use jxlm_ma::ma::MaConfig;
 use std::alloc::Global;
 use std::collections::BTreeMap;
 
@@ -59,6 +62,17 @@ impl PartState {
         PartState {
             partial: true,
             steps: Steps::new(),
+        }
+    }
+
+    /// Notes whether all samples were decoded, where that is known.
+    fn note(&mut self, whole: &Result<bool>)
+        ensures ok { IfOk whole.now (λ b. self.new.partial ≡ (self.old.partial && not b)) }
+        ensures err { IfErr whole.now (λ _. self.new.partial ≡ self.old.partial) }
+        ensures steps { self.new.steps ≡ self.old.steps }
+    {
+        if let Ok(whole) = whole {
+            self.partial = self.partial && !*whole;
         }
     }
 }
@@ -198,7 +212,9 @@ impl<S: Sample, D: Decoder> ModularImageDestination<S, D> {
 
 impl<'dest, S: Sample, D: Decoder> TransformedGlobalModular<'dest, S, D> {
     ghost use Rattle.jxlm_cut.specs.declared.part.Kind.TheVariants as kinds;
-    ghost use Rattle.jxl_modular.specs.GroupParts.{KeepsOtherParts, PartGives, channels_of, groups_of, image_of, is_partial, loan, pass_count, passes_in, regions_of, steps_of};
+    ghost use Rattle.jxl_modular.specs.GroupParts.{KeepsOtherParts, NestedPartGives, PartGives, channels_of, groups_of, image_of, is_partial, loan, pass_count, passes_in, regions_of, steps_of};
+    ghost use Rattle.jxl_modular.specs.Layers.{StandsIn};
+    ghost use Rattle.jxl_modular.specs.Recursive.{IsReadIn, ReadFails, image_in, layer_in};
     ghost use Rattle.jxl_modular.specs.SameButCells.{SameButIn};
 
     /// How many LF groups the image has: 0 where no channel is cut into them. They are numbered by rows, left to right.
@@ -299,5 +315,120 @@ impl<'dest, S: Sample, D: Decoder> TransformedGlobalModular<'dest, S, D> {
         );
         self.progress.put(part, state);
         result
+    }
+
+    /// Reads header and tree for the part.
+    fn read_header(
+        &self,
+        alloc: Global,
+        part: Part,
+        bits: &mut Bitstream<'_>,
+        global: Option<&MaConfig<D>>,
+    ) -> Result<NestedHeader<S, D>>
+        ensures read { IfOk result (λ l. IsReadIn D.meaning (S.from_int (pos 0)) (option_copied global.entry)
+            (bytes_of bits.old) (channels_of self.now part) (position_of bits.old) (regions_of self.now part)
+            (image_of self.now) [] l (position_of bits.new)) }
+        ensures stands { IfOk result (λ l. StandsIn l (image_of self.now)) }
+        ensures err { IfErr result (λ e. ReadFails D.meaning (S.from_int (pos 0)) (option_copied global.entry)
+            (bytes_of bits.old) (channels_of self.now part) (position_of bits.old) e (position_of bits.new)) }
+        ensures bytes { bytes_of bits.new ≡ bytes_of bits.old }
+    {
+        self.image
+            .read_part(alloc, bits, &self.progress.passes, part.into(), global)
+    }
+
+    /// Reads a header of the part's own, and its tree, at the reader's position (ISO/IEC 18181-1, Modular: group
+    /// sub-bitstreams); `global` is the tree for a header that uses a global one. Its list of channels is the part's,
+    /// of which none is a meta channel. No cell changes; the reader is after what was read.
+    ///
+    /// What is decoded and finished by the header is the part's, and no other samples change. How far the part is
+    /// decoded by [`decode`](Self::decode) is not touched. A contract cannot see through this call what the image is
+    /// once the header is given up; through [`decode_nested`](Self::decode_nested) it can.
+    ///
+    /// # Errors
+    ///
+    /// As when an image is read: of the header, of the first transform that does not suit the part's channels, of the
+    /// first condition that does not hold, or of the tree; out of memory may come at any time.
+    pub fn recursive(
+        &mut self,
+        alloc: Global,
+        part: Part,
+        bits: &mut Bitstream<'_>,
+        global: Option<&MaConfig<D>>,
+    ) -> Result<RecursiveModularImage<'_, S, D>>
+        ensures unchanged { IfOk result (λ r. image_in r ≡ image_of self.old) }
+        ensures read { IfOk result (λ r. IsReadIn D.meaning (S.from_int (pos 0)) (option_copied global.entry)
+            (bytes_of bits.old) (channels_of self.old part) (position_of bits.old) (regions_of self.old part)
+            (image_of self.old) [] (layer_in r) (position_of bits.new)) }
+        ensures err { IfErr result (λ e. ReadFails D.meaning (S.from_int (pos 0)) (option_copied global.entry)
+            (bytes_of bits.old) (channels_of self.old part) (position_of bits.old) e (position_of bits.new)) }
+        ensures bytes { bytes_of bits.new ≡ bytes_of bits.old }
+    {
+        let header = self.read_header(alloc, part, bits, global)?;
+        Ok(RecursiveModularImage {
+            image: self.image,
+            header,
+        })
+    }
+
+    /// Decodes the part by a header of its own, and undoes that header's transforms, so that the part's samples are
+    /// finished (ISO/IEC 18181-1, Modular: group sub-bitstreams); `global` is the tree for a header that uses a global
+    /// one. It returns whether all samples that the header codes were decoded; the part is whole then. The samples of
+    /// other parts stay, and how far these are decoded.
+    ///
+    /// # Memory
+    ///
+    /// A note of the part at its first decode, what reading an image takes but the channels' grids, what a part's
+    /// `decode` takes, and what `finish` takes.
+    ///
+    /// # Errors
+    ///
+    /// As when an image is read, for header and tree; as of a part's `decode`, for the samples: those before are then
+    /// decoded, and no transform is undone. Out of memory may come at any time.
+    pub fn decode_nested(
+        &mut self,
+        alloc: Global,
+        part: Part,
+        bits: &mut Bitstream<'_>,
+        stream_index: u32,
+        global: Option<&MaConfig<D>>,
+        allow_partial: bool,
+    ) -> Result<bool>
+        ensures gives { NestedPartGives D.meaning S.width S.to_int (S.from_int (pos 0)) (option_copied global.entry)
+            (bytes_of bits.old) stream_index part self.old (position_of bits.old) self.new allow_partial result }
+        ensures whole { IfOk result (λ whole. is_partial self.new part ≡ (is_partial self.old part && not whole)) }
+        ensures partial { IfErr result (λ _. is_partial self.new part ≡ is_partial self.old part) }
+        ensures same { SameButIn (regions_of self.old part) (image_of self.old) (image_of self.new) }
+        ensures others { KeepsOtherParts part self.old self.new }
+        ensures passes { passes_in self.new ≡ passes_in self.old }
+        ensures same_reference { loan self.new ≡ loan self.old }
+        ensures bytes { bytes_of bits.new ≡ bytes_of bits.old }
+    {
+        let mut state = self.progress.take(part)?;
+        let result = self.image.decode_nested(
+            alloc,
+            bits,
+            &self.progress.passes,
+            part.into(),
+            stream_index,
+            global,
+            allow_partial,
+            &mut state.steps,
+        );
+        state.note(&result);
+        self.progress.put(part, state);
+        result
+    }
+
+    /// Gives the image back, with the samples that were decoded.
+    pub fn give_back(self) -> &'dest mut ModularImageDestination<S, D>
+        ensures same_reference { result.ghost_name ≡ loan self.entry }
+        ensures value { result.now ≡ image_of self.entry }
+    {
+        let TransformedGlobalModular {
+            image,
+            progress: _progress,
+        } = self;
+        image
     }
 }

@@ -7,6 +7,7 @@ pub mod laws;
 mod nested;
 mod opening;
 mod picture;
+pub mod recursive;
 mod root;
 pub mod sections;
 
@@ -27,7 +28,7 @@ pub mod error {
 
 /// Trees as the samples of one channel walk them.
 pub mod flat {
-    pub use jxlm_tree::flat::{FlatMaTree, Leaf, Steps};
+    pub use jxlm_ma::flat::{FlatMaTree, Leaf, Steps};
 }
 
 /// Grids of samples, and rectangles in them.
@@ -37,7 +38,7 @@ pub mod grid {
 
 /// Meta-adaptive trees.
 pub mod ma {
-    pub use jxlm_tree::ma::{MaConfig, MaConfigParams};
+    pub use jxlm_ma::ma::{MaConfig, MaConfigParams};
 }
 
 /// What an image is read by.
@@ -47,7 +48,7 @@ pub mod param {
 
 /// The plain decoder.
 pub mod plain {
-    pub use jxlm_base::plain::PlainDecoder;
+    pub use jxlm_plain::plain::PlainDecoder;
 }
 
 /// Predictors, and the properties of a cell of a channel.
@@ -79,9 +80,9 @@ pub mod transform {
 
 pub use jxlm_base::error::{Error, Result};
 pub use jxlm_base::sample::Sample;
+pub use jxlm_ma::flat::FlatMaTree;
+pub use jxlm_ma::ma::{MaConfig, MaConfigParams};
 pub use jxlm_transform::channels::ModularChannelInfo;
 pub use jxlm_transform::param::{ChannelShift, ModularChannelParams, ModularParams};
-pub use jxlm_tree::flat::FlatMaTree;
-pub use jxlm_tree::ma::{MaConfig, MaConfigParams};
 pub use picture::decode_picture;
 pub use root::Modular;

@@ -27,23 +27,23 @@ use jxlm_chain::scratch::Scratch;
 use jxlm_chain::undo::undo_all;
 use jxlm_cut::pieces::Pieces;
 use jxlm_header::header::ModularHeader;
+use jxlm_ma::flat::Steps;
+use jxlm_ma::ma::MaConfig;
 use jxlm_part::part::PlacedPart;
 use jxlm_transform::channels::ModularChannels;
-use jxlm_tree::flat::Steps;
-use jxlm_tree::ma::MaConfig;
 use std::alloc::Global;
 
 /// A part by its own header and tree: its coded channels lie in the part's regions of the image's store, and in tables
 /// after the store's buffers.
 #[derive(Drop)]
 pub(crate) struct NestedPart<D: Decoder> {
-    header: ModularHeader,
-    config: MaConfig<D>,
-    placed: PlacedChannels,
+    pub(crate) header: ModularHeader,
+    pub(crate) config: MaConfig<D>,
+    pub(crate) placed: PlacedChannels,
 }
 
 /// Adds a buffer for each table, whose cells are 0. Out of memory is its only error.
-fn add_tables<S: Sample>(
+pub(crate) fn add_tables<S: Sample>(
     alloc: Global,
     store: &mut Vec<AlignedGrid<S>>,
     tables: &[Region],
@@ -131,7 +131,7 @@ impl<D: Decoder> NestedPart<D> {
     }
 
     /// Undoes its transforms, from the last to the first. Out of memory is its only error; no cell changes then.
-    fn undo<S: Sample>(
+    pub(crate) fn undo<S: Sample>(
         &self,
         alloc: Global,
         store: &mut [AlignedGrid<S>],

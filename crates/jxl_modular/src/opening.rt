@@ -16,8 +16,8 @@ use jxlm_base::error::{Error, Result};
 use jxlm_chain::placed::PlacedChannels;
 use jxlm_header::header::ModularHeader;
 use jxlm_header::opening::{DEPTH_LIMIT, check, node_limit};
+use jxlm_ma::ma::{MaConfig, MaConfigParams};
 use jxlm_transform::channels::ModularChannelInfo;
-use jxlm_tree::ma::{MaConfig, MaConfigParams};
 use std::alloc::Global;
 
 /// Reads what comes before a tree: the header, whose transforms are applied to these channels, none of which has a

@@ -18,8 +18,8 @@ use jxlm_base::bits::Bitstream;
 use jxlm_base::decoder::Decoder;
 use jxlm_base::error::Result;
 use jxlm_base::sample::Sample;
+use jxlm_ma::flat::Steps;
 use jxlm_transform::param::ModularParams;
-use jxlm_tree::flat::Steps;
 use std::alloc::Global;
 
 /// Decodes all samples of an image that was read, and undoes its transforms.

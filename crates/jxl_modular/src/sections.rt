@@ -19,8 +19,8 @@ use jxlm_base::error::Result;
 use jxlm_base::sample::Sample;
 pub use jxlm_cut::part::SectionPart;
 use jxlm_cut::pass::passes;
-use jxlm_tree::flat::Steps;
-use jxlm_tree::ma::MaConfig;
+use jxlm_ma::flat::Steps;
+use jxlm_ma::ma::MaConfig;
 use std::alloc::Global;
 use std::collections::BTreeMap;
 
@@ -48,8 +48,8 @@ pub struct Section<'a> {
 /// # Memory
 ///
 /// The list of passes, a set of the sections' parts, and at each section what a part's `decode` takes; for one with a
-/// header also what reading an image takes, but for the grids of its own channels, and what `finish` takes. At last what
-/// `finish` takes.
+/// header also what reading an image takes, but for the grids of its own channels, and what `finish` takes. At last
+/// what `finish` takes.
 ///
 /// # Errors
 ///

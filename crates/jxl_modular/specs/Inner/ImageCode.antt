@@ -8,7 +8,7 @@ use Rattle.jxlm_transform.specs.Channels.{Channel}
 use Rattle.jxlm_transform.specs.ChannelSteps.{Step}
 use Rattle.jxlm_transform.specs.Kinds.{has_palette, has_squeeze}
 use Rattle.jxlm_transform.specs.Steps.{steps_in}
-use Rattle.jxlm_tree.specs.Tree.{Config}
+use Rattle.jxlm_ma.specs.Tree.{Config}
 use Rattle.jxlm_tree.specs.declared.predictor.WpHeader.{WpHeader}
 use Rattle.jxl_modular.specs.Image.{Image}
 

@@ -15,12 +15,12 @@ use Rattle.jxlm_chain.specs.Steps.{CanUndoAll, IsNarrowStore}
 use Rattle.jxlm_chain.specs.Undo.{UndoesAll}
 use Rattle.jxlm_chain.specs.Undoings.{SuitsWeights, undos_of}
 use Rattle.jxlm_header.specs.Opening.{Opening}
-use Rattle.jxlm_part.specs.Decode.{DecodeAnswers, MovesWithin}
+use Rattle.jxlm_part.specs.Decode.{DecodeGives, MovesWithin}
 use Rattle.jxlm_part.specs.Part.{cell_count}
 use Rattle.jxlm_part.specs.Placed.{standing_in}
 use Rattle.jxlm_transform.specs.Channels.{AreRegionsOf, Channel, ChannelList, IsNarrow}
 use Rattle.jxlm_tree.specs.SelfCorrecting.{IsHeader}
-use Rattle.jxlm_tree.specs.Tree.{Config, depth}
+use Rattle.jxlm_ma.specs.Tree.{Config, depth}
 use Rattle.jxl_modular.specs.Fresh.{zeros}
 use Rattle.jxl_modular.specs.Inner.Opened.{IsOpened, opened_of, steps_of_header}
 use Rattle.jxl_modular.specs.Nested.{Turn, most}
@@ -73,7 +73,7 @@ module _ {D : Type 0} where
 module _ {S D : Type 0} (d : Meaning D) (w : Width) (to_int : S → ℤ) (bytes : List ℕ) (stream : ℕ) (p : ℕ) (n : NestedPart D) (partly : Bool) where
   -- what decoding its samples from position p returns
   pub record Decodes (result : Result (Unit {0}) Error) (t : Turn) (old now : List (Grid S)) : Type 0 where
-    pub answers : DecodeAnswers d w (coded_part stream (head_of n) n.config) bytes n.config.decoder
+    pub answers : DecodeGives d w (coded_part stream (head_of n) n.config) bytes n.config.decoder
         (standing_in to_int (regions_in n) old p (nat_lt 0 (cell_count (nested_channels n))))
         (standing_in to_int (regions_in n) now t.position t.partial) partly result t.tried
     pub outside : KeepsOutside (regions_in n) old now

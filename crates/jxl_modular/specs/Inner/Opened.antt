@@ -12,8 +12,8 @@ use Rattle.jxlm_header.specs.declared.header.ModularHeader.{ModularHeader}
 use Rattle.jxlm_transform.specs.Channels.{Channel, ChannelList, IsNarrow, list_of}
 use Rattle.jxlm_transform.specs.ChannelSteps.{Step, list_after_all}
 use Rattle.jxlm_transform.specs.Steps.{HasChannels, HasNarrowTables, HasWeights, steps_in}
-use Rattle.jxlm_tree.specs.Tree.{Config}
-use Rattle.jxlm_tree.specs.TreeReading.{IsTreeAt, IsTooDeep, listing_at}
+use Rattle.jxlm_ma.specs.Tree.{Config}
+use Rattle.jxlm_ma.specs.TreeReading.{IsTreeAt, IsTooDeep, listing_at}
 use Rattle.jxlm_tree.specs.SelfCorrecting.{IsHeader}
 
 -- the steps of a header's transforms

@@ -6,12 +6,9 @@ use Rattle.jxlm_base.specs.Grid.{Grid}
 use Rattle.jxlm_base.specs.declared.error.Error.{Error}
 use Rattle.jxlm_cut.specs.declared.pass.Pass.{Pass}
 use Rattle.jxlm_part.specs.Decode.{MovesWithin}
-use Rattle.jxlm_tree.specs.Tree.{Config}
-use Rattle.jxlm_cut.specs.declared.part.SectionPart.{SectionPart}
-use Rattle.jxl_modular.specs.Groups.{held_in}
-use Rattle.jxl_modular.specs.Nested.{NestedFails, NestedTurn}
+use Rattle.jxlm_ma.specs.Tree.{Config}
 use Rattle.jxl_modular.specs.Image.{Image}
-use Rattle.jxl_modular.specs.Sections.{AllTurn, AllWhole, PlainTurn, Section, Turn, TurnFails, Turned, list_in, most}
+use Rattle.jxl_modular.specs.Sections.{AllTurn, AllWhole, PlainTurn, Section, Turn, TurnFails, Turned, most}
 
 module _ {S D : Type 0} (d : Meaning D) (w : Width) (to_int : S → ℤ) (zero : S) (x : Image S D) (passes : List Pass)
     (global : Option (Config D)) (partly : Bool) where
@@ -53,17 +50,3 @@ module _ {S D : Type 0} (d : Meaning D) (w : Width) (to_int : S → ℤ) (x : Im
 
   abbrev pub PlainGives : Section → Result Bool Error → List (Grid S) → List (Grid S) → ℕ → ℕ → Type 0
   PlainGives s result old new before after = (t : Turn) × PlainTurns s result t old new × MovesWithin before after (most t)
-
--- what decoding a part by a header of its own returns, with what it took of steps
-module _ {S D : Type 0} (d : Meaning D) (w : Width) (to_int : S → ℤ) (zero : S) (x : Image S D) (passes : List Pass)
-    (global : Option (Config D)) (bytes : List ℕ) (p : ℕ) (part : SectionPart) (stream : ℕ) (partly : Bool) where
-  abbrev pub NestedTurns : Result Bool Error → Turn → List (Grid S) → List (Grid S) → Type 0
-  NestedTurns (Ok whole) t old new =
-      NestedTurn d w to_int zero x.bit_depth global bytes p (list_in x passes part) (held_in x passes part) stream
-      partly t old new × (whole ≡ not t.partial)
-  NestedTurns (Err e) t old new =
-      NestedFails d w to_int zero x.bit_depth global bytes p (list_in x passes part) (held_in x passes part) stream
-      partly e t old new
-
-  abbrev pub NestedGives : Result Bool Error → List (Grid S) → List (Grid S) → ℕ → ℕ → Type 0
-  NestedGives result old new before after = (t : Turn) × NestedTurns result t old new × MovesWithin before after (most t)

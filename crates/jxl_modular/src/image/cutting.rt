@@ -15,9 +15,9 @@ use jxlm_cut::cut::{check_cut, exists, group_count};
 use jxlm_cut::part::{Kind, SectionPart};
 use jxlm_cut::pass::Pass;
 use jxlm_cut::pieces::{Pieces, has_pieces};
+use jxlm_ma::flat::Steps;
+use jxlm_ma::ma::MaConfig;
 use jxlm_part::part::PlacedPart;
-use jxlm_tree::flat::Steps;
-use jxlm_tree::ma::MaConfig;
 use std::alloc::Global;
 use std::collections::BTreeSet;
 
@@ -30,7 +30,7 @@ impl<S: Sample, D: Decoder> ModularImageDestination<S, D> {
     ghost use Rattle.jxl_modular.specs.Groups.{PartOfGives, channels_in, held_in};
     ghost use Rattle.jxl_modular.specs.Inner.Laid.{IsLaidOut};
     ghost use Rattle.jxl_modular.specs.SameButCells.{SameButIn};
-    ghost use Rattle.jxl_modular.specs.Inner.Turns.{NestedGives};
+    ghost use Rattle.jxl_modular.specs.NestedTurns.{NestedGives};
     ghost use Rattle.std.specs.Option.{option_copied};
     ghost use Rattle.std.specs.Prelude.{pos};
 

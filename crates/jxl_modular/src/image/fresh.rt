@@ -13,8 +13,8 @@ use jxlm_base::grid::{AlignedGrid, OutOfMemory, Region};
 use jxlm_base::sample::Sample;
 use jxlm_chain::placed::PlacedChannels;
 use jxlm_header::header::ModularHeader;
+use jxlm_ma::ma::MaConfig;
 use jxlm_transform::channels::{ModularChannelInfo, ModularChannels};
-use jxlm_tree::ma::MaConfig;
 use std::alloc::Global;
 
 /// For each channel a grid of its size, whose cells are 0. Out of memory is its only error.

@@ -1,0 +1,31 @@
+-- The turn of a part that has a header of its own, with transforms and a tree
+-- (ISO/IEC 18181-1, Modular: group sub-bitstreams).
+use Rattle.std.specs.Prelude.{◌≡◌, ℕ, ℤ, List, not, Bool, Option, Result, Ok, Err}
+use Rattle.std.specs.Int.{Width}
+use Rattle.jxlm_base.specs.Decoding.{Meaning}
+use Rattle.jxlm_base.specs.Grid.{Grid}
+use Rattle.jxlm_base.specs.declared.error.Error.{Error}
+use Rattle.jxlm_cut.specs.declared.pass.Pass.{Pass}
+use Rattle.jxlm_cut.specs.declared.part.SectionPart.{SectionPart}
+use Rattle.jxlm_part.specs.Decode.{MovesWithin}
+use Rattle.jxlm_ma.specs.Tree.{Config}
+use Rattle.jxl_modular.specs.Groups.{held_in}
+use Rattle.jxl_modular.specs.Image.{Image}
+use Rattle.jxl_modular.specs.Nested.{NestedFails, NestedTurn, Turn, most}
+use Rattle.jxl_modular.specs.Sections.{list_in}
+
+-- a part that begins at bit position p
+module _ {S D : Type 0} (d : Meaning D) (w : Width) (to_int : S → ℤ) (zero : S) (x : Image S D) (passes : List Pass)
+    (global : Option (Config D)) (bytes : List ℕ) (p : ℕ) (part : SectionPart) (stream : ℕ) (partly : Bool) where
+  -- what decoding it returns, with what the turn shows, and the store before and after
+  abbrev pub NestedTurns : Result Bool Error → Turn → List (Grid S) → List (Grid S) → Type 0
+  NestedTurns (Ok whole) t old new =
+      NestedTurn d w to_int zero x.bit_depth global bytes p (list_in x passes part) (held_in x passes part) stream
+      partly t old new × (whole ≡ not t.partial)
+  NestedTurns (Err e) t old new =
+      NestedFails d w to_int zero x.bit_depth global bytes p (list_in x passes part) (held_in x passes part) stream
+      partly e t old new
+
+  -- and what it took of steps
+  abbrev pub NestedGives : Result Bool Error → List (Grid S) → List (Grid S) → ℕ → ℕ → Type 0
+  NestedGives result old new before after = (t : Turn) × NestedTurns result t old new × MovesWithin before after (most t)

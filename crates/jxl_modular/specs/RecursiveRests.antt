@@ -1,0 +1,16 @@
+-- What an image ends as, once a part by a header of its own has ended.
+use Rattle.std.specs.Prelude.{◌≡◌, Result}
+use Rattle.std.specs.Borrow.{Fml, RattleType, MutBor, RestsIfErr}
+use Rattle.jxlm_base.specs.declared.decoder.Decoder as decoders
+use Rattle.jxl_modular.specs.Image.{Image}
+use Rattle.jxl_modular.specs.declared.recursive.HoldsHeader as holders
+use Rattle.jxl_modular.specs.declared.recursive.NestedSubimage.{NestedSubimage}
+use Rattle.jxl_modular.specs.declared.recursive.RecursiveModularImage.{RecursiveModularImage}
+use Rattle.jxl_modular.specs.contracts.image.ModularImageDestination.{the_row}
+
+-- The image ends as what is held of it leaves it. Where there is an error, it is as before.
+abbrev pub RestsWithHeader : (S D : RattleType) (d : decoders.Ghosts D.Denot) {E : Type 0} → MutBor (Image S.Denot D.Denot) → Result (RecursiveModularImage S.Denot D.Denot d) E → Fml
+RestsWithHeader S D d image made = RestsIfErr (the_row S D d) image (λ r. r.image.ghost_name) made (λ n. n ≡ image.now)
+
+abbrev pub RestsWithNested : (S D : RattleType) (d : decoders.Ghosts D.Denot) {H : Type 0} {g : holders.Ghosts H S.Denot D.Denot} {E : Type 0} → MutBor (Image S.Denot D.Denot) → Result (NestedSubimage S.Denot D.Denot H d g) E → Fml
+RestsWithNested S D d image made = RestsIfErr (the_row S D d) image (λ p. p.image.ghost_name) made (λ n. n ≡ image.now)

@@ -1,0 +1,439 @@
+//! Parts by headers of their own, held for decoding and finishing (ISO/IEC 18181-1, Modular: group sub-bitstreams).
+
+ghost use Rattle.std.specs.Prelude.{◌≡◌, ◌↔◌, ◌≤◌, ◌+◌, ◌*◌, ◌++◌, ℕ, List, true, false, pos, IsOk, IsTrue, IfOk, IfErr, OnOk, OnErr, length, take, drop, vec_capacity};
+ghost use Rattle.std.specs.Option.{option_copied};
+ghost use Rattle.jxlm_base.specs.Bits.{bytes_of, position_of};
+ghost use Rattle.jxlm_base.specs.ErrorKind.{NoMemory, kind_of};
+ghost use Rattle.jxlm_base.specs.Grid.{Grid};
+ghost use Rattle.jxlm_base.specs.Outside.{KeepsOutside};
+ghost use Rattle.jxlm_chain.specs.Undo.{UndoesAll};
+ghost use Rattle.jxlm_chain.specs.Undoings.{undos_of};
+ghost use Rattle.jxlm_part.specs.Decode.{DecodeGives, MovesWithin};
+ghost use Rattle.jxlm_part.specs.Part.{cell_count};
+ghost use Rattle.jxlm_part.specs.Placed.{standing_in};
+ghost use Rattle.jxlm_ma.specs.Tree.{depth};
+ghost use Rattle.jxl_modular.specs.Inner.NestedCode.{CanFill, head_of, nested_channels, regions_in};
+ghost use Rattle.jxl_modular.specs.Layers.{StandsIn};
+ghost use Rattle.jxl_modular.specs.Picture.{coded_part};
+
+use crate::image::ModularImageDestination;
+use crate::nested::NestedPart;
+use jxlm_base::bits::Bitstream;
+use jxlm_base::decoder::Decoder;
+use jxlm_base::error::Result;
+use jxlm_base::grid::{AlignedGrid, OutOfMemory};
+use jxlm_base::sample::Sample;
+use jxlm_chain::placed::PlacedChannels;
+use jxlm_chain::places::Places;
+use jxlm_cut::pieces::Pieces;
+use jxlm_ma::flat::Steps;
+use jxlm_ma::ma::MaConfig;
+use jxlm_part::channels::have_samples;
+use jxlm_part::part::PlacedPart;
+use jxlm_transform::channels::ModularChannels;
+use std::alloc::Global;
+use std::marker::Model;
+
+/// Moves the items after the first `own` ones out of a store, back into the list that they came from.
+fn move_back<T>(store: &mut Vec<T>, tables: &mut Vec<T>, own: usize)
+    requires within { own ≤ length store.old.items }
+    requires none { length tables.old.items ≡ 0 }
+    requires room { length store.old.items ≤ own + vec_capacity tables.old }
+    ensures store { store.new.items ≡ take own store.old.items }
+    ensures tables { tables.new.items ≡ drop own store.old.items }
+    ensures joined { store.new.items ++ tables.new.items ≡ store.old.items }
+{
+    for _ in own..store.len() {
+        if let Some(item) = store.pop() {
+            tables.push_reserved(item);
+        }
+    }
+    tables.reverse();
+}
+
+impl<D: Decoder> NestedPart<D> {
+    /// Decodes all samples of its coded channels, where its tables are in the store. All memory is taken before the
+    /// first bit is read.
+    fn decode_placed<S: Sample>(
+        &self,
+        alloc: Global,
+        bits: &mut Bitstream<'_>,
+        store: &mut [AlignedGrid<S>],
+        stream_index: u32,
+        allow_partial: bool,
+        partial: &mut bool,
+        steps: &mut Steps,
+    ) -> Result<()>
+        requires { CanFill self.now store.old }
+        ensures answers { (tried : ℕ) × DecodeGives D.meaning S.width
+            (coded_part stream_index (head_of self.now) self.now.config) (bytes_of bits.old) self.now.config.decoder
+            (standing_in S.to_int (regions_in self.now) store.old (position_of bits.old) partial.old)
+            (standing_in S.to_int (regions_in self.now) store.new (position_of bits.new) partial.new)
+            allow_partial result tried × MovesWithin steps.old steps.new (tried * (depth self.now.config.tree + 1)) }
+        ensures keeps { KeepsOutside (regions_in self.now) store.old store.new }
+        ensures bytes { bytes_of bits.new ≡ bytes_of bits.old }
+    {
+        let part = PlacedPart {
+            channels: &self.placed.channels.info,
+            regions: &self.placed.places.regions,
+            config: &self.config,
+            weights: self.header.wp_params,
+            stream_index,
+        };
+        part.decode(alloc, bits, store, allow_partial, partial, steps)
+    }
+
+    /// Decodes all samples of its coded channels, whose tables, and those of headers around it, are moved to the end of
+    /// the store until it returns.
+    pub(crate) fn decode_with<S: Sample>(
+        &self,
+        alloc: Global,
+        bits: &mut Bitstream<'_>,
+        store: &mut Vec<AlignedGrid<S>>,
+        tables: &mut Vec<AlignedGrid<S>>,
+        stream_index: u32,
+        allow_partial: bool,
+        partial: &mut bool,
+        steps: &mut Steps,
+    ) -> Result<()>
+        requires { CanFill self.now (store.old.items ++ tables.old.items) }
+        ensures answers { (tried : ℕ) × DecodeGives D.meaning S.width
+            (coded_part stream_index (head_of self.now) self.now.config) (bytes_of bits.old) self.now.config.decoder
+            (standing_in S.to_int (regions_in self.now) (store.old.items ++ tables.old.items) (position_of bits.old)
+            partial.old)
+            (standing_in S.to_int (regions_in self.now) (store.new.items ++ tables.new.items) (position_of bits.new)
+            partial.new)
+            allow_partial result tried × MovesWithin steps.old steps.new (tried * (depth self.now.config.tree + 1)) }
+        ensures empty { cell_count (nested_channels self.now) ≡ 0 → IsOk result }
+        ensures keeps { KeepsOutside (regions_in self.now) (store.old.items ++ tables.old.items)
+            (store.new.items ++ tables.new.items) }
+        ensures count { length store.new.items ≡ length store.old.items }
+        ensures bytes { bytes_of bits.new ≡ bytes_of bits.old }
+    {
+        if !have_samples(&self.placed.channels.info) {
+            *partial = false;
+            return Ok(());
+        }
+        let own = store.len();
+        store.append(tables).map_err(|_| OutOfMemory)?;
+        let result = self.decode_placed(
+            alloc,
+            bits,
+            store,
+            stream_index,
+            allow_partial,
+            partial,
+            steps,
+        );
+        move_back(store, tables, own);
+        result
+    }
+
+    /// Undoes its transforms, and gives its tables up, and those of headers around it. Out of memory is its only error;
+    /// no cell changes then.
+    pub(crate) fn undo_with<S: Sample>(
+        &self,
+        alloc: Global,
+        store: &mut Vec<AlignedGrid<S>>,
+        mut tables: Vec<AlignedGrid<S>>,
+        bit_depth: u32,
+    ) -> Result<()>
+        requires can { CanFill self.now (store.old.items ++ tables.items) }
+        requires deep { bit_depth ≤ 32 }
+        ensures undoes { OnOk result ((last : List (Grid S)) × UndoesAll S.to_int S.width bit_depth
+            (undos_of self.now.placed.undoings.items) (store.old.items ++ tables.items) last
+            × (store.new.items ≡ take (length store.old.items) last)) }
+        ensures unchanged { OnErr result (store.new.items ≡ store.old.items) }
+        ensures err { IfErr result (λ e. kind_of e ≡ NoMemory) }
+    {
+        let own = store.len();
+        store.append(&mut tables).map_err(|_| OutOfMemory)?;
+        let result = self.undo(alloc, store, bit_depth);
+        store.truncate(own);
+        result
+    }
+
+    /// Its coded channels, and their regions.
+    pub(crate) fn into_pieces(self) -> Pieces
+        ensures infos { result.infos.items ≡ nested_channels self }
+        ensures regions { result.regions.items ≡ regions_in self }
+    {
+        let NestedPart { placed, .. } = self;
+        let PlacedChannels {
+            channels,
+            places,
+            ..
+        } = placed;
+        let ModularChannels { info, .. } = channels;
+        let Places { regions, .. } = places;
+        Pieces {
+            infos: info,
+            regions,
+        }
+    }
+}
+
+/// A part's own header, with its tree and the tables of its palettes.
+#[derive(Drop)]
+pub struct NestedHeader<S, D: Decoder> {
+    pub(crate) part: NestedPart<D>,
+    // The channels of the part that the header is for, and their regions.
+    pub(crate) given: Pieces,
+    // Those of headers around it, and then its own.
+    pub(crate) tables: Vec<AlignedGrid<S>>,
+}
+
+impl<S, D: Decoder> Model for NestedHeader<S, D> {
+    ghost use Rattle.jxl_modular.specs.Inner.LayerCode.{IsLayer, layer_code, layer_kept};
+    ghost use Rattle.jxl_modular.specs.Layers.{Layer};
+    ghost use Rattle.jxl_modular.specs.Inner.StepCode.{step_code};
+    ghost use Rattle.jxlm_ma.specs.TreeCode.{coded_config};
+    ghost use Rattle.jxlm_ma.specs.contracts.flat.Leaf as leaves;
+    ghost use Rattle.jxlm_tree.specs.contracts.predictor.WpHeader as weights;
+    ghost use Rattle.jxlm_transform.specs.contracts.transform.Rct as colours;
+    ghost use Rattle.jxlm_transform.specs.contracts.transform.Palette as palettes;
+    ghost use Rattle.jxlm_transform.specs.contracts.transform.SqueezeParams as squeezes;
+    ghost use Rattle.jxlm_transform.specs.contracts.channels.ModularChannelInfo as infos;
+    ghost use Rattle.jxlm_base.specs.contracts.subgrid.Region as regions;
+
+    ghost Value = { Layer S D };
+
+    ghost coded = { layer_code weights.the_row.coded (step_code colours.the_row.coded palettes.the_row.coded
+        squeezes.the_row.coded) (coded_config leaves.the_row.coded D.code) infos.the_row.coded regions.the_row.coded
+        S.code };
+
+    ghost view = { λ n. layer_kept n.part n.given n.tables.items };
+
+    ghost invariant = { λ n. IsLayer n.part n.given n.tables.items };
+}
+
+/// What holds a part's own header.
+pub trait HoldsHeader<S, D: Decoder> {
+    ghost use Rattle.std.specs.Prelude.{◌≡◌};
+    ghost use Rattle.jxl_modular.specs.Layers.{Layer};
+
+    ghost layer: { Self → Layer S D };
+
+    /// The header.
+    fn into_header(self) -> NestedHeader<S, D>
+        ensures { result ≡ layer self };
+}
+
+impl<S, D: Decoder> HoldsHeader<S, D> for NestedHeader<S, D> {
+    ghost layer = { λ l. l };
+
+    fn into_header(self) -> NestedHeader<S, D> {
+        self
+    }
+}
+
+impl<S: Sample, D: Decoder> NestedHeader<S, D> {
+    ghost use Rattle.std.specs.Prelude.{◌<◌};
+    ghost use Rattle.jxl_modular.specs.Layers.{coded_channels};
+
+    /// Whether its coded channels have samples.
+    pub(crate) fn has_samples(&self) -> bool
+        ensures { IsTrue result ↔ (0 < cell_count (coded_channels self.now)) }
+    {
+        have_samples(&self.part.placed.channels.info)
+    }
+}
+
+/// A part of an image by a header of its own, whose samples are still to be prepared for decoding.
+///
+/// The image is held for writing until this is given up.
+#[derive(Drop)]
+pub struct RecursiveModularImage<'dest, S, D: Decoder> {
+    pub(crate) image: &'dest mut ModularImageDestination<S, D>,
+    pub(crate) header: NestedHeader<S, D>,
+    ghost stands: { StandsIn header image.now },
+}
+
+/// What a header of a part's own codes: its coded channels, whose samples are coded one after another.
+///
+/// The image is held for writing until this is given up; it then keeps the samples that were decoded, but not the cells
+/// of the header's tables.
+#[derive(Drop)]
+pub struct NestedSubimage<'dest, S, D: Decoder, H: HoldsHeader<S, D> = NestedHeader<S, D>> {
+    image: &'dest mut ModularImageDestination<S, D>,
+    header: H,
+    partial: bool,
+    steps: Steps,
+    ghost stands: { StandsIn (H.layer header) image.now },
+}
+
+impl<'dest, S: Sample, D: Decoder> RecursiveModularImage<'dest, S, D> {
+    ghost use Rattle.std.specs.Borrow.{sem};
+    ghost use Rattle.jxl_modular.specs.Recursive.{IsNew, image_in, image_of, layer_in, layer_of, loan, loan_in};
+    ghost use Rattle.jxl_modular.specs.RecursiveRests.{RestsWithNested};
+
+    /// What the header codes: all its coded channels. It is partial where some of them has samples; the image stays as
+    /// it is.
+    ///
+    /// # Errors
+    ///
+    /// `Buffer` if it is out of memory, and no other; the image is as before then.
+    pub fn prepare_subimage(self, _alloc: Global) -> Result<NestedSubimage<'dest, S, D>>
+        ensures* rests { sem 𝓛 (RestsWithNested S.row D.row D.Decoder self.entry.image result) }
+        ensures same_reference { IfOk result (λ p. loan p ≡ loan_in self.entry) }
+        ensures unchanged { IfOk result (λ p. image_of p ≡ image_in self.entry) }
+        ensures header { IfOk result (λ p. layer_of p ≡ layer_in self.entry) }
+        ensures new { IfOk result IsNew }
+        ensures err { IfErr result (λ e. kind_of e ≡ NoMemory) }
+    {
+        let RecursiveModularImage { image, header } = self;
+        let partial = header.has_samples();
+        Ok(NestedSubimage {
+            image,
+            header,
+            partial,
+            steps: Steps::new(),
+        })
+    }
+}
+
+impl<'dest, S: Sample, D: Decoder> NestedSubimage<'dest, S, D> {
+    ghost use Rattle.jxl_modular.specs.Recursive.{PartGives, SameButPart, channels_of, image_of, is_partial, layer_of, loan, steps_of};
+
+    /// Whether it has no samples.
+    pub fn is_empty(&self) -> bool
+        ensures { IsTrue result ↔ (cell_count (channels_of self.now) ≡ 0) }
+    {
+        !self.header.has_samples()
+    }
+
+    /// Whether samples are still to be decoded: from the start where there are some, until a decode has ended whole.
+    pub fn is_partial(&self) -> bool
+        ensures { result ≡ is_partial self.now }
+    {
+        self.partial
+    }
+
+    /// How many nodes of trees were looked at by its decodes, as contracts see it: 0 at first, and each `decode` moves
+    /// it by at most the tree's depth and one more for each sample whose read it tried.
+    pub fn steps(&self) -> &Steps
+        ensures { result.now ≡ steps_of self.now }
+    {
+        &self.steps
+    }
+
+    /// Whether it holds all channels that its header codes, which is so.
+    pub fn holds_all(&self) -> bool
+        ensures { result ≡ true }
+    {
+        true
+    }
+
+    /// Decodes all samples of its coded channels from the reader's position (ISO/IEC 18181-1, Modular: decoding of
+    /// samples).
+    ///
+    /// It is Ok where the samples are coded whole from there; then it is whole, and the reader is after them. Without
+    /// samples no bit is read, and it is Ok. With `allow_partial` it is also Ok where the input ends, and it stays
+    /// partial. Samples of other parts stay.
+    ///
+    /// # Memory
+    ///
+    /// All memory is taken before the first bit is read: what the `decode` of a part takes, and room for the header's
+    /// tables in the image's list of buffers.
+    ///
+    /// # Errors
+    ///
+    /// The decoder's error: of its `begin`, of the read of one sample, or of its `finalize`. The samples before are
+    /// then decoded and the others as before, it stays partial, and the reader is where that call began. Out of
+    /// memory, `Buffer` or `Decoder(OutOfMemory)`, leaves reader and samples as they were.
+    pub fn decode(
+        &mut self,
+        alloc: Global,
+        bits: &mut Bitstream<'_>,
+        stream_index: u32,
+        allow_partial: bool,
+    ) -> Result<()>
+        ensures gives { PartGives D.meaning S.width S.to_int (bytes_of bits.old) stream_index self.old
+            (position_of bits.old) self.new (position_of bits.new) allow_partial result }
+        ensures empty { cell_count (channels_of self.old) ≡ 0 → IsOk result }
+        ensures same { SameButPart (layer_of self.old) (layer_of self.new) (image_of self.old) (image_of self.new) }
+        ensures same_reference { loan self.new ≡ loan self.old }
+        ensures bytes { bytes_of bits.new ≡ bytes_of bits.old }
+    {
+        self.image.decode_layer(
+            alloc,
+            bits,
+            &mut self.header,
+            stream_index,
+            allow_partial,
+            &mut self.partial,
+            &mut self.steps,
+        )
+    }
+}
+
+impl<'dest, S: Sample, D: Decoder, H: HoldsHeader<S, D> + Drop> NestedSubimage<'dest, S, D, H> {
+    ghost use Rattle.std.specs.Borrow.{sem};
+    ghost use Rattle.jxl_modular.specs.Recursive.{IsReadIn, IsUndone, ReadFails, channels_of, image_in, image_of, is_partial, layer_in, layer_of, loan, loan_in};
+    ghost use Rattle.jxl_modular.specs.RecursiveRests.{RestsWithHeader};
+    ghost use Rattle.jxl_modular.specs.SameButCells.{SameButIn};
+
+    /// Reads header and tree at the reader's position for a part within the part: for its coded channels. It is given
+    /// up, and no cell of the image changes; the reader is after what was read.
+    ///
+    /// # Errors
+    ///
+    /// As when an image is read: of the header, of the first transform that does not suit the coded channels, of the
+    /// first condition that does not hold, or of the tree; out of memory may come at any time.
+    pub fn recursive(
+        self,
+        alloc: Global,
+        bits: &mut Bitstream<'_>,
+        global: Option<&MaConfig<D>>,
+    ) -> Result<RecursiveModularImage<'dest, S, D>>
+        ensures* rests { sem 𝓛 (RestsWithHeader S.row D.row D.Decoder self.entry.image result) }
+        ensures same_reference { IfOk result (λ r. loan_in r ≡ loan self.entry) }
+        ensures unchanged { IfOk result (λ r. image_in r ≡ image_of self.entry) }
+        ensures read { IfOk result (λ r. IsReadIn D.meaning (S.from_int (pos 0)) (option_copied global.entry)
+            (bytes_of bits.old) (channels_of self.entry) (position_of bits.old) (layer_of self.entry).coded
+            (image_of self.entry) (layer_of self.entry).tables (layer_in r) (position_of bits.new)) }
+        ensures err { IfErr result (λ e. ReadFails D.meaning (S.from_int (pos 0)) (option_copied global.entry)
+            (bytes_of bits.old) (channels_of self.entry) (position_of bits.old) e (position_of bits.new)) }
+        ensures bytes { bytes_of bits.new ≡ bytes_of bits.old }
+    {
+        let NestedSubimage {
+            image,
+            header: outer,
+            ..
+        } = self;
+        let header = image.read_within(alloc, bits, outer.into_header(), global)?;
+        Ok(RecursiveModularImage { image, header })
+    }
+
+    /// Undoes the header's transforms, gives it up and returns whether it is whole (ISO/IEC 18181-1, Modular: inverse
+    /// transforms).
+    ///
+    /// The grids of the part are afterwards the only ones that the header's transforms turn into the coded samples as
+    /// they were, decoded or not. No cell outside the part changes.
+    ///
+    /// # Memory
+    ///
+    /// All memory is taken before the first sample changes: some rows and columns of the largest grid, and room for the
+    /// header's tables in the image's list of buffers.
+    ///
+    /// # Errors
+    ///
+    /// `Buffer` if it is out of memory, and no other. The image then keeps every sample.
+    pub fn finish(self, alloc: Global) -> Result<bool>
+        ensures only { IfOk result (λ _. IsUndone S.width S.to_int (layer_of self.entry) (image_of self.entry)
+            self.exit.0.now) }
+        ensures same { IfOk result (λ _. SameButIn (layer_of self.entry).held (image_of self.entry) self.exit.0.now) }
+        ensures whole { IfOk result (λ whole. IsTrue whole ↔ (is_partial self.entry ≡ false)) }
+        ensures unchanged { IfErr result (λ _. self.exit.0.now ≡ image_of self.entry) }
+        ensures err { IfErr result (λ e. kind_of e ≡ NoMemory) }
+    {
+        let NestedSubimage {
+            image,
+            header,
+            partial,
+            ..
+        } = self;
+        let answer = image.finish_layer(alloc, header.into_header());
+        answer.map(|()| !partial)
+    }
+}
