@@ -1,1 +1,2 @@
+mod Alike
 mod Sums

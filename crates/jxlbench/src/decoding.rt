@@ -1,10 +1,10 @@
 //! One image, decoded again and again between two readings of the clock.
-ghost use Rattle.std.specs.Prelude.{IfOk, IfSome};
+ghost use Rattle.std.specs.Prelude.{IfOk, IfSome, pos};
 ghost use Rattle.jxl_modular.specs.Image.{image_grids};
-ghost use Rattle.jxlbench.specs.Decoding.{IsChecksumOf, IsPictureOf};
+ghost use Rattle.jxlbench.specs.Decoding.{IsAsked, IsChecksumOf};
 
 use crate::checksum::checksum;
-use crate::request::Request;
+use crate::request::{Request, Source};
 use crate::run::Failure;
 use jxl_modular::bits::Bitstream;
 use jxl_modular::error::Result;
@@ -13,10 +13,11 @@ use jxl_modular::image::ModularImageDestination;
 use jxl_modular::plain::PlainDecoder;
 use jxl_modular::sample::Sample;
 use jxl_modular::{ModularChannelParams, ModularParams, decode_picture};
+use jxlm_sections::decode_cut_picture;
 use std::alloc::Global;
 use std::time::{Clock, Instant};
 
-/// The side of a group of the images that are decoded.
+/// The side of a group of the images that are in one part.
 const GROUP_DIM: u32 = 256;
 
 /// What was measured.
@@ -35,21 +36,25 @@ fn image<S: Sample>(
     request: Request,
 ) -> Result<Option<ModularImageDestination<S, PlainDecoder>>>
     ensures { IfOk result (λ made. IfSome made (λ image.
-        IsPictureOf S.width request bytes.now (image_grids S.to_int image))) }
+        IsAsked S.width S.to_int (S.from_int (pos 0)) request bytes.now (image_grids S.to_int image))) }
 {
     let channel = ModularChannelParams::new(request.width, request.height);
     let channels = vec![in alloc; channel; request.channels as usize]?;
-    let params = ModularParams::with_channels(GROUP_DIM, request.bit_depth, channels, None);
+    let group_dim = match request.source {
+        Source::Picture => GROUP_DIM,
+        Source::CutPicture { group_dim } => group_dim,
+    };
+    let params = ModularParams::with_channels(group_dim, request.bit_depth, channels, None);
     if !params.is_valid() {
         return Ok(None);
     }
-    decode_picture(
-        alloc,
-        &mut Bitstream::new(bytes),
-        params,
-        0,
-        &mut Steps::new(),
-    )
+    let mut steps = Steps::new();
+    match request.source {
+        Source::Picture => {
+            decode_picture(alloc, &mut Bitstream::new(bytes), params, 0, &mut steps)
+        }
+        Source::CutPicture { .. } => decode_cut_picture(alloc, bytes, params, &mut steps),
+    }
 }
 
 /// The same image, parsed, decoded and finished as often as the request says; the last one is returned.
@@ -59,7 +64,7 @@ fn image_again<S: Sample>(
     request: Request,
 ) -> Result<Option<ModularImageDestination<S, PlainDecoder>>>
     ensures { IfOk result (λ made. IfSome made (λ image.
-        IsPictureOf S.width request bytes.now (image_grids S.to_int image))) }
+        IsAsked S.width S.to_int (S.from_int (pos 0)) request bytes.now (image_grids S.to_int image))) }
 {
     for _ in 1..request.repeat {
         image::<S>(alloc, bytes, request)?;
@@ -79,7 +84,8 @@ pub fn measure<S: Sample, C: Clock>(
     bytes: &[u8],
     request: Request,
 ) -> std::result::Result<Measured, Failure>
-    ensures { IfOk result (λ measured. IsChecksumOf S.width request bytes.now measured.checksum) }
+    ensures { IfOk result (λ measured. IsChecksumOf S.width S.to_int (S.from_int (pos 0)) request bytes.now
+        measured.checksum) }
 {
     let start = Instant::now(clock)?;
     let image = image_again::<S>(alloc, bytes, request)?;

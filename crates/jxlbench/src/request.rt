@@ -10,9 +10,23 @@ pub enum Samples {
     I32,
 }
 
+/// How the image stands in the input.
+#[derive(Clone, Copy, Debug, PartialEq, Eq)]
+pub enum Source {
+    /// A picture in one part.
+    Picture,
+    /// A picture that is cut into sections.
+    CutPicture {
+        /// The side of a group.
+        group_dim: u32,
+    },
+}
+
 /// What the program is to decode, and how often.
 #[derive(Clone, Copy, Debug, PartialEq, Eq)]
 pub struct Request {
+    /// How the image stands in the input.
+    pub source: Source,
     /// How many columns each channel has.
     pub width: u32,
     /// How many rows each channel has.
@@ -32,8 +46,16 @@ impl Request {
     pub fn parse(words: &[String]) -> Option<Request>
         ensures { IfSome result (λ request. 0 < request.repeat) }
     {
-        let [name, width, height, channels, bit_depth, samples, repeat] = words else {
+        let [name, width, height, channels, bit_depth, samples, rest @ ..] = words else {
             return None;
+        };
+        let (source, repeat) = match (name.as_str(), rest) {
+            ("decode", [repeat]) => (Source::Picture, repeat),
+            ("sections", [group_dim, repeat]) => {
+                let group_dim = number(group_dim)?;
+                (Source::CutPicture { group_dim }, repeat)
+            }
+            _ => return None,
         };
         let samples = match samples.as_str() {
             "i16" => Samples::I16,
@@ -41,6 +63,7 @@ impl Request {
             _ => return None,
         };
         let request = Request {
+            source,
             width: number(width)?,
             height: number(height)?,
             channels: number(channels)?,
@@ -48,7 +71,7 @@ impl Request {
             samples,
             repeat: number(repeat)?,
         };
-        if name.as_str() == "decode" && request.repeat > 0 {
+        if request.repeat > 0 {
             Some(request)
         } else {
             None

@@ -9,7 +9,8 @@ use std::io::{Read, Write};
 use std::time::Clock;
 
 /// What is printed for wrong arguments.
-const USAGE: &str = "usage: jxlbench decode W H N BITS i16|i32 REPEAT";
+const USAGE: &str = "usage: jxlbench decode W H N BITS i16|i32 REPEAT | \
+    jxlbench sections W H N BITS i16|i32 GROUP_DIM REPEAT";
 
 /// Why the program did not do what it was asked.
 #[derive(Clone, Copy, Debug, PartialEq, Eq)]

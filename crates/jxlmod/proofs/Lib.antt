@@ -1,3 +1,4 @@
 pub mod ArgumentLemmas
 pub mod TextLemmas
 pub mod Pictures
+pub mod WordLemmas

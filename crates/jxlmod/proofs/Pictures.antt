@@ -1,23 +1,27 @@
 -- The parameters of a command are valid, and its channels are those that it asks for.
-use Rattle.std.proofs.Common.{◌≡◌, ℕ, zero, suc, pos, ◌≤◌, ◌%◌, ◌^◌, List, ◌∷◌, length, map, ℤ, refl, arith, ◌∙◌, sym, ap, subst}
+use Rattle.std.proofs.Common.{◌≡◌, ℕ, zero, suc, pos, true, ◌≤◌, ◌%◌, ◌^◌, List, ◌∷◌, length, map, ℤ, refl, arith, ◌∙◌, sym, ap, subst}
 use Rattle.std.specs.Prelude.{Option, None, replicate}
 use Rattle.std.specs.List.{All}
 use Rattle.std.specs.Int.{Width, div_ceil}
 use Rattle.std.proofs.Math.Nat.{div-one}
 use Rattle.std.proofs.lemmas.List.{length-replicate}
 use Rattle.std.proofs.lemmas.List.Elements.{All-replicate}
+use Rattle.std.proofs.lemmas.List.Sums.{list_all-from_AllPass}
+use Rattle.std.proofs.lemmas.Bool.Decides.{nat_tests}
 use Rattle.jxlm_transform.specs.Params.{IsValidParams, IsValidChannel, IsSide, sized}
 use Rattle.jxlm_transform.specs.declared.param.ChannelShift.TheVariants.{Shifts}
 use Rattle.jxlm_transform.specs.declared.param.ModularChannelParams.{ModularChannelParams}
 use Rattle.jxlm_transform.specs.declared.param.ModularParams.{ModularParams}
 use Rattle.jxlm_transform.specs.Channels.{Channel, ChannelList, image_channel, image_list}
+use Rattle.jxlm_cut.specs.Passes.{is_of_picture_of, one_picture}
+use Rattle.jxlm_sections.specs.CutPicture.{IsCutPicture}
 use Rattle.jxlmod.specs.PictureText.{channels_asked}
-use Rattle.jxlmod.specs.Inner.Printed.{IsPictureError}
+use Rattle.jxlmod.specs.Inner.Printed.{IsCutPictureError, IsPictureError}
 use Rattle.jxlm_base.specs.ErrorKind.{NoMemory, kind_of}
 use Rattle.jxlm_base.specs.Grid.{Grid}
-use Rattle.jxlm_base.specs.Plain.{PlainState, plain}
+use Rattle.jxlm_plain.specs.Plain.{PlainState, plain}
 use Rattle.jxlm_base.specs.declared.error.Error.{Error}
-use Rattle.jxlm_tree.specs.Tree.{Config}
+use Rattle.jxlm_ma.specs.Tree.{Config}
 use Rattle.jxl_modular.specs.Picture.{IsPicture, PictureFails}
 use Rattle.jxl_modular.proofs.PictureLaws.{no_memory}
 
@@ -53,6 +57,17 @@ asked width height n given is =
     ap (λ (cs : List ModularChannelParams). image_list cs) is
     ∙ ap (λ (cs : List Channel). record { channels = cs; nb_meta = 0 }) (replicated n (sized width height (Shifts 0)) _ (each_asked width height))
 
+-- they are of one picture
+same_picture : (c : Channel) → is_of_picture_of c c ≡ true
+same_picture c = grind (arith, nat_tests)
+
+alike : (n : ℕ) (c : Channel) → one_picture (replicate n c) ≡ true
+alike zero c = refl
+alike (suc n) c = list_all-from_AllPass (is_of_picture_of c) (replicate n c) (All-replicate (λ (d : Channel). is_of_picture_of c d ≡ true) n c (same_picture c))
+
+pub alike_asked : (width height n : ℕ) (given : List ModularChannelParams) → given ≡ replicate n (sized width height (Shifts 0)) → one_picture (image_list given).channels ≡ true
+alike_asked width height n given is = ap (λ (l : ChannelList). one_picture l.channels) (asked width height n given is) ∙ alike n _
+
 -- ---- what comes of a picture at the start of the bytes
 
 module _ (w : Width) (width height channels : ℕ) (bytes bytes' : List ℕ) (p : ℕ) (given : ChannelList) (global : Option (Config PlainState)) (same : bytes' ≡ bytes) (start : p ≡ 0)
@@ -78,3 +93,18 @@ module _ (w : Width) (width height channels : ℕ) (bytes bytes' : List ℕ) (p 
 -- it was out of memory
 pub out_of_memory : (w : Width) (width height channels : ℕ) (bytes : List ℕ) (error : Error) → kind_of error ≡ NoMemory → IsPictureError w width height channels bytes error
 out_of_memory w width height channels bytes error is = record { place = 0; steps = 0; fails = no_memory (kind_of error) _ is }
+
+-- ---- what comes of a picture that is cut into sections
+
+module _ {S : Type 0} (w : Width) (to_int : S → ℤ) (zero : S) (given given' : ChannelList) (dim dim' deep deep' : ℕ) (bytes : List ℕ) (are : given' ≡ given) (cut : dim' ≡ dim) (depth : deep' ≡ deep) where
+  pub cut_picture : (grids : List (Grid ℤ)) → IsCutPicture w to_int zero given' dim' deep' bytes grids → IsCutPicture w to_int zero given dim deep bytes grids
+  cut_picture grids h =
+      subst (λ (l : ChannelList). IsCutPicture w to_int zero l dim deep bytes grids) are
+      (subst (λ (n : ℕ). IsCutPicture w to_int zero given' n deep bytes grids) cut
+      (subst (λ (n : ℕ). IsCutPicture w to_int zero given' dim' n bytes grids) depth h))
+
+  pub cut_error : (error : Error) → IsCutPictureError w to_int zero given' dim' deep' bytes error → IsCutPictureError w to_int zero given dim deep bytes error
+  cut_error error h =
+      subst (λ (l : ChannelList). IsCutPictureError w to_int zero l dim deep bytes error) are
+      (subst (λ (n : ℕ). IsCutPictureError w to_int zero given' n deep bytes error) cut
+      (subst (λ (n : ℕ). IsCutPictureError w to_int zero given' dim' n bytes error) depth h))

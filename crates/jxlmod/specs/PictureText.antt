@@ -2,13 +2,14 @@
 use Rattle.std.specs.Prelude.{ℕ, ◌≡◌, ℤ, pos, List, None, replicate}
 use Rattle.std.specs.Int.{Width, w16, w32}
 use Rattle.jxlm_base.specs.Grid.{Grid}
-use Rattle.jxlm_base.specs.Plain.{plain}
+use Rattle.jxlm_plain.specs.Plain.{plain}
 use Rattle.jxlm_transform.specs.Channels.{ChannelList}
 use Rattle.jxlm_transform.specs.declared.param.ChannelShift.TheVariants.{Shifts}
 use Rattle.jxl_modular.specs.Picture.{IsPicture}
+use Rattle.jxlm_sections.specs.CutPicture.{IsCutPicture}
 use Rattle.jxlmod.specs.Printing.{image_text}
 use Rattle.jxlmod.specs.declared.arguments.Command.{Command}
-use Rattle.jxlmod.specs.declared.arguments.Command.TheVariants.{Decode}
+use Rattle.jxlmod.specs.declared.arguments.Command.TheVariants.{Decode, Sections}
 use Rattle.jxlmod.specs.declared.arguments.Samples.{Samples}
 use Rattle.jxlmod.specs.declared.arguments.Samples.TheVariants.{I16, I32}
 
@@ -31,6 +32,14 @@ pub record IsPictureText (w : Width) (width height channels : ℕ) (bytes : List
   pub picture : IsPicture plain w None bytes 0 (channels_asked width height channels) 0 bit_depth grids place
   pub printed : text ≡ image_text grids
 
+-- the text is that of the picture of these channels that is cut into sections, which stand at the start of the bytes
+pub record IsCutPictureText {S : Type 0} (w : Width) (to_int : S → ℤ) (zero : S) (given : ChannelList) (group_dim bit_depth : ℕ) (bytes text : List ℕ) : Type 0 where
+  pub grids : List (Grid ℤ)
+  pub picture : IsCutPicture w to_int zero given group_dim bit_depth bytes grids
+  pub printed : text ≡ image_text grids
+
 -- the text for the bytes and a command
 abbrev pub Prints : List ℕ → Command → List ℕ → Type 0
 Prints bytes (Decode width height channels bit_depth samples) text = IsPictureText (width_of samples) width height channels bytes bit_depth text
+Prints bytes (Sections width height channels bit_depth samples group_dim) text =
+    IsCutPictureText (width_of samples) (λ v. v) (pos 0) (channels_asked width height channels) group_dim bit_depth bytes text

@@ -98,7 +98,8 @@ pub fn run_with<R: Read, W: Write, E: Write, P: Print>(
 
 /// Carries out what the words ask for, as `run_with` does: `decode W H N BITS i16|i32` reads a picture
 /// of `N` channels of `W` by `H` samples from the input, in one part and in the format of the plain
-/// decoder, and prints its samples.
+/// decoder, and prints its samples; `sections W H N BITS i16|i32 GROUP_DIM` reads one that is cut into
+/// sections, with groups of the side `GROUP_DIM`.
 pub fn run<R: Read, W: Write, E: Write>(
     alloc: Global,
     words: &[String],
@@ -216,6 +217,8 @@ fn all_but_first(alloc: Global, all: Args) -> Result<Vec<String>, AllocError>
     all.skip(1).collect(alloc)
 }
 
+#[cfg(test)]
+mod cut_rows;
 #[cfg(test)]
 mod rows;
 #[cfg(test)]

@@ -39,13 +39,13 @@ const SQUEEZED: &[u8] = &[
 ];
 
 #[derive(Drop)]
-struct Ended {
-    status: u8,
-    output: Vec<u8>,
-    errors: Vec<u8>,
+pub struct Ended {
+    pub status: u8,
+    pub output: Vec<u8>,
+    pub errors: Vec<u8>,
 }
 
-fn run_on(alloc: Global, line: &str, bytes: &[u8]) -> Result<Ended, Fail> {
+pub fn run_on(alloc: Global, line: &str, bytes: &[u8]) -> Result<Ended, Fail> {
     let mut words = Vec::new(alloc);
     for word in line.split(' ') {
         words.push(String::from_str(alloc, word)?)?;

@@ -141,7 +141,7 @@ fn reads_nothing_for_no_channels(rt: HostRuntime) -> Result<(), Fail> {
 #[test]
 fn wrong_words_come_first(rt: HostRuntime) -> Result<(), Fail> {
     let alloc = rt.alloc();
-    for line in ["", "decode", "decode 2 2 1 8 i64", "sections 3 1 1 8 i32 2"] {
+    for line in ["", "decode", "decode 2 2 1 8 i64", "sections 3 1 1 8 i32 3"] {
         let words = words(alloc, line)?;
         let mut input = CutReader {
             bytes: b"",

@@ -1,0 +1,6 @@
+pub mod SectionRows
+pub mod Openings
+pub mod PartLists
+pub mod OnePass
+pub mod Whole
+pub mod Pictures

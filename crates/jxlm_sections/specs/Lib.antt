@@ -1,0 +1,3 @@
+pub mod CutPicture
+pub mod CutErrors
+pub mod Inner

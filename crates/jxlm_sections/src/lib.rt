@@ -1,0 +1,9 @@
+//! Modular images that are cut into sections, as they stand in bytes: a row of sections, each after its length
+//! (ISO/IEC 18181-1, frame: sections).
+#![tactic(auto)]
+
+mod picture;
+mod reading;
+mod split;
+
+pub use picture::decode_cut_picture;
