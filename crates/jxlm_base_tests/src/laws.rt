@@ -5,7 +5,7 @@ use jxlm_base::laws::{
     colour_loses_nothing, each_number_has_one_token, gradients_fit, grids_are_their_cells,
     narrow_samples_are_wide_ones_reduced, squeeze_loses_nothing, writes_change_one_region,
 };
-use jxlm_base::plain::{PlainDecoder, fixed_tokens_are_numbers, runs_repeat, seals_are_sums};
+use jxlm_plain::plain::{PlainDecoder, fixed_tokens_are_numbers, runs_repeat, seals_are_sums};
 
 #[test]
 fn laws_can_be_called() {

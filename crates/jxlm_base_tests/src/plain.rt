@@ -3,7 +3,7 @@
 use crate::text::{bytes, pair};
 use jxlm_base::bits::Bitstream;
 use jxlm_base::decoder::{Decoder, DecoderError, RleToken};
-use jxlm_base::plain::PlainDecoder;
+use jxlm_plain::plain::PlainDecoder;
 use std::alloc::Global;
 use std::process::Abort;
 use std::test::Fail;

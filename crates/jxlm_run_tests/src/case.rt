@@ -5,8 +5,8 @@
 // sides, two for each side its own, or four, each 0 or 1, for a channel of a JPEG picture. A pass is `2:0,3`, its
 // number and its shifts. A section is its part, as `g`, `l4` or `p2.4`; after @ its stream's index; after + how many
 // bits of its bytes are before it, unless there are none; and its bytes, after = or, where it has a header of its own,
-// after a colon. After the bytes of header and tree may stand global trees: after p that of the parameters, after s that
-// of the sections; each is the limits of its nodes and of its depth, and its bytes.
+// after a colon. After the bytes of header and tree may stand global trees: after p that of the parameters, after s
+// that of the sections; each is the limits of its nodes and of its depth, and its bytes.
 
 use jxl_modular::bits::Bitstream;
 use jxl_modular::decoder::Decoder;
@@ -22,8 +22,8 @@ use std::test::Fail;
 pub struct Piece {
     part: SectionPart,
     stream_index: u32,
-    before: u32,
-    bytes: Vec<u8>,
+    pub before: u32,
+    pub bytes: Vec<u8>,
     nested: bool,
 }
 
@@ -108,22 +108,29 @@ pub fn pieces(alloc: Global, text: &str) -> Result<Vec<Piece>, Fail> {
     Ok(pieces)
 }
 
-// The reader at the section's first bit.
-fn reader(piece: &Piece) -> Result<Bitstream<'_>, Fail> {
-    let mut bits = Bitstream::new(&piece.bytes);
+// The reader at the section's first bit, which ends after n bytes, if the section has more.
+fn reader(piece: &Piece, n: usize) -> Result<Bitstream<'_>, Fail> {
+    let bytes = piece.bytes.as_slice();
+    let mut bits = Bitstream::new(&bytes[..n.min(bytes.len())]);
     for _ in 0..piece.before {
         bits.read_bool()?;
     }
     Ok(bits)
 }
 
-/// The same as the library takes them.
-pub fn sections<'a>(alloc: Global, pieces: &'a [Piece]) -> Result<Vec<Section<'a>>, Fail> {
+/// The same as the library takes them; or where they end early, as many whole ones, and of the next as many bytes.
+pub fn sections<'a>(
+    alloc: Global,
+    pieces: &'a [Piece],
+    end: Option<(usize, usize)>,
+) -> Result<Vec<Section<'a>>, Fail> {
+    let (whole, n) = end.unwrap_or((pieces.len(), 0));
     let mut sections = Vec::new(alloc);
-    for piece in pieces {
+    for (number, piece) in pieces.iter().enumerate().take(whole.saturating_add(1)) {
+        let n = if number < whole { usize::MAX } else { n };
         sections.push(Section {
             part: piece.part,
-            bits: reader(piece)?,
+            bits: reader(piece, n)?,
             stream_index: piece.stream_index,
             nested: piece.nested,
         })?;

@@ -1,7 +1,7 @@
 // Generated runs. A model of the definitions in Python generated them, with seed 1, and computed what is expected by
 // coordinates: channels and shifts, transforms, passes, trees and tokens, an order of the sections and their streams'
-// indices; some sections are left out, changed, truncated, or of parts that are not there. Of 675 runs it kept 300: those
-// of short lines, and longer ones that show something that fewer than three before them show.
+// indices; some sections are left out, changed, truncated, or of parts that are not there. Of 675 runs it kept 300:
+// those of short lines, and longer ones that show something that fewer than three before them show.
 
 use crate::run::check;
 use jxl_modular::plain::PlainDecoder;

@@ -2,7 +2,11 @@
 #![tactic(auto)]
 
 #[cfg(test)]
+mod beginnings;
+#[cfg(test)]
 mod case;
+#[cfg(test)]
+mod follow;
 #[cfg(test)]
 mod generated;
 #[cfg(test)]
@@ -16,7 +20,11 @@ mod partial;
 #[cfg(test)]
 mod parts;
 #[cfg(test)]
+mod recursive;
+#[cfg(test)]
 mod rows;
 #[cfg(test)]
 mod run;
+#[cfg(test)]
+mod surface;
 pub mod viewer;

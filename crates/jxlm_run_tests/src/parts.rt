@@ -2,12 +2,14 @@
 
 ghost use Rattle.std.specs.Prelude.{◌≡◌, true, IsTrue};
 
-use jxl_modular::Sample;
+use jxl_modular::bits::Bitstream;
 use jxl_modular::decoder::Decoder;
 use jxl_modular::error::Error;
 use jxl_modular::groups::{Part, TransformedGlobalModular};
 use jxl_modular::image::ModularImageDestination;
+use jxl_modular::recursive::RecursiveModularImage;
 use jxl_modular::sections::{Section, SectionPart};
+use jxl_modular::{MaConfig, Sample};
 use std::alloc::Global;
 use std::collections::BTreeMap;
 use std::test::Fail;
@@ -92,16 +94,73 @@ fn has_each_part<S: Sample, D: Decoder>(
     Ok(has_each_group(&groups, None, sections))
 }
 
+// Decodes what a header of a part's own codes, and undoes its transforms: whether the part is whole then.
+fn decode_by_header<S: Sample, D: Decoder>(
+    alloc: Global,
+    header: RecursiveModularImage<'_, S, D>,
+    bits: &mut Bitstream<'_>,
+    stream_index: u32,
+    allow_partial: bool,
+) -> Result<bool, Error> {
+    let mut nested = header.prepare_subimage(alloc)?;
+    nested.decode(alloc, bits, stream_index, allow_partial)?;
+    let whole = !nested.is_partial();
+    nested.finish(alloc)?;
+    Ok(whole)
+}
+
+// Decodes the global part by a header of its own: whether it is whole then.
+fn decode_nested_global<S: Sample, D: Decoder>(
+    alloc: Global,
+    image: &mut ModularImageDestination<S, D>,
+    section: &Section<'_>,
+    global: Option<&MaConfig<D>>,
+    allow_partial: bool,
+) -> Result<bool, Error> {
+    let mut bits = section.bits;
+    let part = image.prepare_gmodular(alloc)?;
+    let header = part.recursive(alloc, &mut bits, global)?;
+    decode_by_header(
+        alloc,
+        header,
+        &mut bits,
+        section.stream_index,
+        allow_partial,
+    )
+}
+
+// Decodes a group by a header of its own, LF groups in one call and others step by step: whether it is whole then.
+fn decode_nested_group<S: Sample, D: Decoder>(
+    alloc: Global,
+    groups: &mut TransformedGlobalModular<'_, S, D>,
+    part: Part,
+    section: &Section<'_>,
+    global: Option<&MaConfig<D>>,
+    allow_partial: bool,
+) -> Result<bool, Error> {
+    let mut bits = section.bits;
+    let index = section.stream_index;
+    if let Part::Lf(_) = part {
+        return groups.decode_nested(alloc, part, &mut bits, index, global, allow_partial);
+    }
+    let header = groups.recursive(alloc, part, &mut bits, global)?;
+    decode_by_header(alloc, header, &mut bits, index, allow_partial)
+}
+
 // Decodes a part, and returns whether it is whole then.
 fn decode_part<S: Sample, D: Decoder>(
     alloc: Global,
     image: &mut ModularImageDestination<S, D>,
     passes: &BTreeMap<u32, (i32, i32)>,
     section: &Section<'_>,
+    global: Option<&MaConfig<D>>,
     allow_partial: bool,
 ) -> Result<bool, Error> {
     let mut bits = section.bits;
     let part = match section.part {
+        SectionPart::Global if section.nested => {
+            return decode_nested_global(alloc, image, section, global, allow_partial);
+        }
         SectionPart::Global => {
             let mut part = image.prepare_gmodular(alloc)?;
             part.decode(alloc, &mut bits, section.stream_index, allow_partial)?;
@@ -114,6 +173,9 @@ fn decode_part<S: Sample, D: Decoder>(
         return Ok(false);
     }
     let mut groups = image.prepare_groups(alloc, passes)?;
+    if section.nested {
+        return decode_nested_group(alloc, &mut groups, part, section, global, allow_partial);
+    }
     groups.decode(alloc, part, &mut bits, section.stream_index, allow_partial)?;
     Ok(!groups.is_partial(part))
 }
@@ -125,11 +187,12 @@ pub fn decode_by_parts<S: Sample, D: Decoder>(
     image: &mut ModularImageDestination<S, D>,
     passes: &BTreeMap<u32, (i32, i32)>,
     sections: &[Section<'_>],
+    global: Option<&MaConfig<D>>,
     allow_partial: bool,
 ) -> Result<bool, Error> {
     let mut whole = has_each_part(alloc, image, passes, sections)?;
     for section in sections {
-        whole = decode_part(alloc, image, passes, section, allow_partial)? && whole;
+        whole = decode_part(alloc, image, passes, section, global, allow_partial)? && whole;
     }
     let all = image.prepare_subimage(alloc)?;
     if !all.holds_all() {

@@ -1,8 +1,8 @@
 // A run: an image read, and decoded from its sections, by one call and by a call for each part. What is expected of it,
-// with a bar between: how many LF groups there are, after a slash one more than the number of the last pass, and for each
-// pass with groups its number and how many; what is returned, `true`, `false` or an error; and the samples, channel by
-// channel and row by row, or where they are more than 32 their checksum after a #. Where decoding is not begun, it ends
-// with why.
+// with a bar between: how many LF groups there are, after a slash one more than the number of the last pass, and for
+// each pass with groups its number and how many; what is returned, `true`, `false` or an error; and the samples,
+// channel by channel and row by row, or where they are more than 32 their checksum after a #. Where decoding is not
+// begun, it ends with why.
 ghost use Rattle.jxlm_transform.specs.Params.{IsValidParams};
 
 use crate::case::{channels, global, passes, pieces, sections};
@@ -97,7 +97,7 @@ fn decoded<S: Sample, D: Decoder>(
     match sections_fit(alloc, image, passes, sections) {
         Ok(true) => {
             let answer = if way.by_parts {
-                decode_by_parts(alloc, image, passes, sections, way.partial)
+                decode_by_parts(alloc, image, passes, sections, global, way.partial)
             } else {
                 let mut steps = Steps::new();
                 decode_sections(
@@ -152,14 +152,16 @@ fn run<S: Sample, D: Decoder>(
     }
 }
 
-// Decodes a run by one call, or by a call for each part, and compares what is expected of it.
-fn check_run<S: Sample, D: Decoder>(
+/// What comes of a run that is decoded by one call, or by a call for each part, and what is expected of it. Its
+/// sections can be cut off: after as many whole ones, and as many bytes of the next.
+pub fn seen<'t, S: Sample, D: Decoder>(
     rt: &impl Abort,
     alloc: Global,
-    line: &str,
+    line: &'t str,
     by_parts: bool,
     partial: bool,
-) -> Result<(), Fail> {
+    end: Option<(usize, usize)>,
+) -> Result<(String, &'t str), Fail> {
     let (channels, rest) = pair(line, '|')?;
     let (setting, rest) = pair(rest, '|')?;
     let (header, rest) = pair(rest, '|')?;
@@ -174,30 +176,31 @@ fn check_run<S: Sample, D: Decoder>(
     let inner = global::<D>(alloc, trees, 's')?;
     let passes = passes(alloc, passes_text)?;
     let pieces = pieces(alloc, sections_text)?;
-    let sections = sections(alloc, &pieces)?;
-    if by_parts && sections.iter().any(|section| section.nested) {
-        return Ok(());
-    }
+    let sections = sections(alloc, &pieces, end)?;
     let way = Way {
         by_parts,
         summed: expected.contains('#'),
         partial,
     };
-    let seen = run::<S, D>(
-        alloc,
-        params,
-        &passes,
-        &header,
-        &sections,
-        inner.as_ref(),
-        way,
-    )?;
+    let inner = inner.as_ref();
+    let seen = run::<S, D>(alloc, params, &passes, &header, &sections, inner, way)?;
+    Ok((seen, expected))
+}
+
+// Decodes a run by one call, or by a call for each part, and compares what is expected of it.
+fn check_run<S: Sample, D: Decoder>(
+    rt: &impl Abort,
+    alloc: Global,
+    line: &str,
+    by_parts: bool,
+    partial: bool,
+) -> Result<(), Fail> {
+    let (seen, expected) = seen::<S, D>(rt, alloc, line, by_parts, partial, None)?;
     assert_eq!(rt; seen.as_str(), expected, "{line}");
     Ok(())
 }
 
-/// Decodes each run of a table by one call, and then, where no part has a header of its own, by a call for each part, and
-/// compares what is expected of it.
+/// Decodes each run of a table by one call, and then by a call for each part, and compares what is expected of it.
 pub fn check<S: Sample, D: Decoder>(
     rt: &impl Abort,
     alloc: Global,

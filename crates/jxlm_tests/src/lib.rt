@@ -1,6 +1,7 @@
 //! Tests that cross crates: whole pictures, by the plain decoder and by one of these tests' own.
 #![tactic(auto)]
 
+#[cfg(test)]
 pub mod bytewise;
 #[cfg(test)]
 mod calls;
@@ -18,6 +19,8 @@ mod outcome;
 mod parts;
 #[cfg(test)]
 mod pictures;
+#[cfg(test)]
+mod prefixes;
 #[cfg(test)]
 mod rows;
 #[cfg(test)]

@@ -11,7 +11,7 @@ use std::process::Abort;
 use std::test::Fail;
 
 // Channels as large as the picture, from sizes as `3x2`, with one space between.
-fn channels(alloc: Global, sizes: &str) -> Result<Vec<ModularChannelParams>, Fail> {
+pub fn channels(alloc: Global, sizes: &str) -> Result<Vec<ModularChannelParams>, Fail> {
     let mut channels = Vec::new(alloc);
     for size in sizes.split(' ') {
         let (width, height) = size.split_once('x').ok_or("a size without x")?;
@@ -45,7 +45,7 @@ fn numbers(alloc: Global, samples: &[i32], summed: bool) -> Result<String, Fail>
 
 // The samples, or their checksum, and the reader's position, with the error of the samples, if there is one; or the
 // error of what comes before them.
-fn told(alloc: Global, outcome: &Outcome, summed: bool) -> Result<String, Fail> {
+pub fn told(alloc: Global, outcome: &Outcome, summed: bool) -> Result<String, Fail> {
     let samples = numbers(alloc, &outcome.samples, summed)?;
     let position = outcome.position;
     Ok(match outcome.error {

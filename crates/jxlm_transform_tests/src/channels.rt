@@ -5,7 +5,7 @@ ghost use Rattle.jxlm_transform.specs.Channels.{HasItsMeta, list_of};
 ghost use Rattle.jxlm_transform.specs.Transforms.{HasChannels, transform_of};
 
 use jxlm_base::error::Error;
-use jxlm_base::plain::PlainDecoder;
+use jxlm_plain::plain::PlainDecoder;
 use jxlm_transform::channels::{ModularChannelInfo, ModularChannels};
 use jxlm_transform::param::{ChannelShift, ModularChannelParams, ModularParams};
 use jxlm_transform::transform::{Palette, Rct, Squeeze, SqueezeParams, TransformInfo};

@@ -1,6 +1,6 @@
 // What an image is read by: sizes, shifts and limits.
 
-use jxlm_base::plain::PlainDecoder;
+use jxlm_plain::plain::PlainDecoder;
 use jxlm_transform::param::{ChannelShift, ModularChannelParams, ModularParams};
 use jxlm_tree_tests::text::pair;
 use std::alloc::Global;

@@ -295,8 +295,8 @@ pub const GENERATED_NARROW: &str = "\
     00000000000280000000000000000000000000a00000000000000000100000000e4b3b7404449002000d0d2cbd409|-14124 -22203 \
     27933 28061 1857 7052 @5308";
 
-/// Generated larger pictures, the same at both widths: one for each list of kinds of transforms. After a # is the checksum
-/// of the samples: each times a power of 31, the last times 1, added up modulo 2^32.
+/// Generated larger pictures, the same at both widths: one for each list of kinds of transforms. After a # is the
+/// checksum of the samples: each times a power of 31, the last times 1, added up modulo 2^32.
 pub const GENERATED_LARGE: &str = "\
 8x13 8x13/9|0a81030002480444e268000000c080020840423d52fe4b7b17|#2451793253 @197
 6x19 6x19 6x19/0|261e840cd54103404000e00b6137141400000004a09012241800200431e0408150405b8e500718c6806c|#1000501202 @336

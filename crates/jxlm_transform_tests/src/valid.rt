@@ -5,7 +5,7 @@ ghost use Rattle.jxlm_transform.specs.Params.{IsSide, IsValidParams};
 
 use jxlm_base::error::Result;
 use jxlm_base::grid::OutOfMemory;
-use jxlm_base::plain::PlainDecoder;
+use jxlm_plain::plain::PlainDecoder;
 use jxlm_transform::param::{ModularChannelParams, ModularParams, channels_of_one_size_are_valid};
 use std::alloc::Global;
 use std::test::Fail;

@@ -1,6 +1,10 @@
 //! Tests of trees, predictors and properties, and tables of pictures that other tests read.
 #![tactic(auto)]
 
+#[cfg(test)]
+mod drawn;
+#[cfg(test)]
+mod listing;
 pub mod pictures;
 #[cfg(test)]
 mod place_rows;

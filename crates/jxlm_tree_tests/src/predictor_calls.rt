@@ -5,8 +5,8 @@ use jxlm_base::bits::{Bitstream, BitstreamError};
 use jxlm_base::grid::{AlignedGrid, Region};
 use jxlm_base::region::region_set;
 use jxlm_base_tests::text::bytes;
+use jxlm_ma::flat::PlaceProperties;
 use jxlm_tree::eighths::{after_clamp, before_clamp};
-use jxlm_tree::flat::PlaceProperties;
 use jxlm_tree::predictor::{
     Predictor, PredictorState, WpHeader, self_correcting_stays_in_range, weights_are_read_exactly,
 };

@@ -1,6 +1,6 @@
 //! Properties as a test gives them.
 
-use jxlm_tree::flat::PlaceProperties;
+use jxlm_ma::flat::PlaceProperties;
 
 /// Properties of a cell, from property 2 on; those after the last are 0.
 #[derive(Clone, Copy)]

@@ -6,11 +6,11 @@ use crate::trees::{check, read_tree};
 use jxlm_base::bits::Bitstream;
 use jxlm_base::decoder::Decoder;
 use jxlm_base::error::Error;
-use jxlm_base::plain::PlainDecoder;
-use jxlm_tree::flat::{Steps, a_flat_tree_walks_by_properties};
-use jxlm_tree::ma::{
+use jxlm_ma::flat::{Steps, a_flat_tree_walks_by_properties};
+use jxlm_ma::ma::{
     MaConfig, each_listing_is_of_a_tree, each_tree_is_read_exactly, no_two_trees_share_a_listing,
 };
+use jxlm_plain::plain::PlainDecoder;
 use std::alloc::Global;
 use std::process::Abort;
 use std::test::Fail;
@@ -92,7 +92,8 @@ fn tree(
     Ok(config.ok_or("no tree")?)
 }
 
-// The seven nodes need weights, and name the nearest earlier channel alone.
+// The root tests property 3. On its left property 17 leads to a leaf of `Zero`, or else to one that needs weights; on
+// its right property 1 leads to a leaf, which is known. Without an earlier channel property 17 is known too.
 #[test]
 fn questions(rt: HostRuntime) -> Result<(), Fail> {
     let config = tree(&rt, rt.alloc(), WEST, "0 0 0", "1 nodes, depth 0 @143")?;
@@ -104,9 +105,9 @@ fn questions(rt: HostRuntime) -> Result<(), Fail> {
         "0 6 2",
         "7 nodes, depth 2 @231",
     )?;
-    for (earlier, expected) in [(0, 0), (1, 1), (2, 1)] {
+    for (earlier, expected) in [(0, (3, 0, false)), (1, (4, 1, true)), (2, (4, 1, true))] {
         let (_, nodes, named, weights) = facts(rt.alloc(), &config, 0, 0, earlier)?;
-        assert_eq!(rt; (nodes, named, weights), (7, expected, true));
+        assert_eq!(rt; (nodes, named, weights), expected);
     }
     Ok(())
 }
@@ -164,14 +165,14 @@ fn too_deep(rt: HostRuntime) -> Result<(), Fail> {
     Ok(())
 }
 
-// The deepest tree is walked whole, and dropped with what shares it.
+// The deepest tree, of decisions on the channel, is compiled to one leaf for each, and dropped with what shares it.
 #[test]
 fn the_deepest_tree(rt: HostRuntime) -> Result<(), Fail> {
     let bytes = chain(2048);
     let expected = "4097 nodes, depth 2048 @12357";
     let config = tree(&rt, rt.alloc(), &bytes, "0 67108864 2048", expected)?;
     let copy = config.try_clone(rt.alloc())?;
-    assert_eq!(rt; facts(rt.alloc(), &config, 0, 7, 3)?, (1, 4097, 0, false));
+    assert_eq!(rt; facts(rt.alloc(), &config, 0, 7, 3)?, (1, 1, 0, false));
     drop(config);
     assert_eq!(rt; facts(rt.alloc(), &copy, 1, 7, 0)?.0, 0);
     Ok(())

@@ -4,7 +4,7 @@
 // position.
 
 use crate::trees::check;
-use jxlm_base::plain::PlainDecoder;
+use jxlm_plain::plain::PlainDecoder;
 use std::test::Fail;
 
 // A line has the bits before the tree and its limits, the bytes, what the tree's reading comes to, and walks.

@@ -1,15 +1,15 @@
 // Tables of trees, each with what its reading comes to, and walks through it.
 
 ghost use Rattle.std.specs.Prelude.{◌≡◌, ◌≤◌, ◌^◌, IfOk};
-ghost use Rattle.jxlm_tree.specs.FlatTree.{ClustersStandIn};
+ghost use Rattle.jxlm_ma.specs.FlatTree.{ClustersStandIn};
 
 use crate::told::Told;
 use jxlm_base::bits::Bitstream;
 use jxlm_base::decoder::Decoder;
 use jxlm_base::error::Error;
 use jxlm_base_tests::text::{bytes, pair, signed};
-use jxlm_tree::flat::{FlatMaTree, Steps};
-use jxlm_tree::ma::{MaConfig, MaConfigParams};
+use jxlm_ma::flat::{FlatMaTree, Steps};
+use jxlm_ma::ma::{MaConfig, MaConfigParams};
 use std::alloc::Global;
 use std::process::Abort;
 use std::test::Fail;

@@ -1,0 +1,250 @@
+// The public surface of images, of their groups and of their sections, named through `jxl_modular` alone: each type,
+// function, variant and field of it. One that is missing, or has another type, does not compile.
+
+ghost use Rattle.std.specs.Prelude.{◌≡◌, None, IfOk};
+ghost use Rattle.jxl_modular.specs.Params.{IsValidParams};
+
+use jxl_modular::bits::Bitstream;
+use jxl_modular::decoder::Decoder;
+use jxl_modular::error::Result;
+use jxl_modular::flat::Steps;
+use jxl_modular::grid::{AlignedGrid, Region};
+use jxl_modular::image::{
+    ChannelsWithInfo, ModularImageDestination, Part, RecursiveModularImage,
+    TransformedGlobalModular, TransformedGrid, TransformedModularSubimage,
+};
+use jxl_modular::plain::PlainDecoder;
+use jxl_modular::recursive::NestedSubimage;
+use jxl_modular::sections::{Section, SectionPart, decode_sections, sections_fit};
+use jxl_modular::{
+    ChannelShift, MaConfig, Modular, ModularChannelInfo, ModularChannelParams, ModularParams,
+    Sample,
+};
+use std::alloc::Global;
+use std::collections::BTreeMap;
+use std::test::Fail;
+
+// No transforms, a tree of one leaf up to bit 68, and samples after it.
+const PICTURE: [u8; 10] = [0x42, 0x00, 0x04, 0x00, 0x04, 0x0E, 0x05, 0xC0, 0x20, 0x06];
+
+fn read<S: Sample>(
+    alloc: Global,
+    params: ModularParams<'_, PlainDecoder>,
+) -> Result<Modular<S, PlainDecoder>>
+    requires valid { IsValidParams params }
+    requires alone { params.ma_config ≡ None }
+{
+    Modular::parse(alloc, &mut Bitstream::new(&PICTURE), params)
+}
+
+// Whether an image and its clone have a palette, and a squeeze.
+fn questions<S: Sample, D: Decoder>(
+    alloc: Global,
+    modular: &Modular<S, D>,
+) -> Result<([bool; 2], [bool; 2])> {
+    let copy: Modular<S, D> = modular.try_clone(alloc)?;
+    let of_modular: [bool; 2] = [copy.has_palette(), copy.has_squeeze()];
+    let Some(image) = copy.into_image() else {
+        return Ok((of_modular, [false, false]));
+    };
+    let copy: ModularImageDestination<S, D> = image.try_clone(alloc)?;
+    Ok((of_modular, [copy.has_palette(), copy.has_squeeze()]))
+}
+
+// How many channels are taken out, without what is known of them and with it, and how the last was given.
+fn taken<S: Sample, D: Decoder>(
+    alloc: Global,
+    image: ModularImageDestination<S, D>,
+) -> Result<(usize, usize, Option<(ChannelShift, (u32, u32))>)> {
+    let copy = image.try_clone(alloc)?;
+    let grids: Vec<AlignedGrid<S>> = copy.into_image_channels();
+    let channels: ChannelsWithInfo<S> = image.into_image_channels_with_info();
+    let (mut count, mut last) = (0, None);
+    for channel in channels {
+        let (_, info): (AlignedGrid<S>, ModularChannelInfo) = channel;
+        count = grids.len();
+        last = Some((info.shift(), info.original_size()));
+    }
+    Ok((grids.len(), count, last))
+}
+
+fn lies(grid: TransformedGrid) -> usize {
+    match grid {
+        TransformedGrid::Single(region) => region.buffer,
+        TransformedGrid::Merged { leader, members } => {
+            let (_, _): (Region, Vec<TransformedGrid>) = (leader, members);
+            0
+        }
+    }
+}
+
+// How many groups of each kind there are, and of a part whether it is empty and whether it is partial.
+fn asked<S: Sample, D: Decoder>(
+    groups: &TransformedGlobalModular<'_, S, D>,
+    part: Part,
+) -> ([u64; 3], bool, bool) {
+    let _: &Steps = groups.steps(part);
+    let passes: u32 = groups.num_passes();
+    (
+        [
+            groups.num_lf_groups(),
+            u64::from(passes),
+            groups.num_groups(0),
+        ],
+        groups.is_empty(part),
+        groups.is_partial(part),
+    )
+}
+
+// What is asked of an image's parts before their samples are decoded, and then of one part.
+fn parts<S: Sample, D: Decoder>(
+    alloc: Global,
+    image: &mut ModularImageDestination<S, D>,
+    passes: &BTreeMap<u32, (i32, i32)>,
+    bits: &mut Bitstream<'_>,
+) -> Result<([bool; 3], [u64; 3], bool, bool)> {
+    let part: TransformedModularSubimage<'_, S, D> = image.prepare_gmodular(alloc)?;
+    let _: &Steps = part.steps();
+    let global: [bool; 3] = [part.is_empty(), part.is_partial(), part.holds_all()];
+    if !image.can_group(passes) {
+        return Ok((global, [0; 3], false, false));
+    }
+    let mut groups: TransformedGlobalModular<'_, S, D> = image.prepare_groups(alloc, passes)?;
+    let (lf, pass) = (Part::Lf(0), Part::Pass(0, 0));
+    groups.decode(alloc, lf, bits, 0, false)?;
+    groups.decode(alloc, pass, bits, 0, true)?;
+    let (counts, is_empty, is_partial) = asked(&groups, pass);
+    Ok((global, counts, is_empty, is_partial))
+}
+
+// What is asked of the global part, read by a header of its own.
+fn global_by_header<S: Sample, D: Decoder>(
+    alloc: Global,
+    image: &mut ModularImageDestination<S, D>,
+    bits: &mut Bitstream<'_>,
+    global: Option<&MaConfig<D>>,
+) -> Result<[bool; 3]> {
+    let part: TransformedModularSubimage<'_, S, D> = image.prepare_gmodular(alloc)?;
+    let header: RecursiveModularImage<'_, S, D> = part.recursive(alloc, bits, global)?;
+    let nested: NestedSubimage<'_, S, D> = header.prepare_subimage(alloc)?;
+    let _: &Steps = nested.steps();
+    Ok([nested.is_empty(), nested.is_partial(), nested.holds_all()])
+}
+
+// Whether a group, read by a header of its own, has no samples.
+fn group_by_header<S: Sample, D: Decoder>(
+    alloc: Global,
+    image: &mut ModularImageDestination<S, D>,
+    passes: &BTreeMap<u32, (i32, i32)>,
+    bits: &mut Bitstream<'_>,
+    global: Option<&MaConfig<D>>,
+) -> Result<bool> {
+    if !image.can_group(passes) {
+        return Ok(false);
+    }
+    let mut groups: TransformedGlobalModular<'_, S, D> = image.prepare_groups(alloc, passes)?;
+    let part = Part::Pass(0, 0);
+    let header: RecursiveModularImage<'_, S, D> = groups.recursive(alloc, part, bits, global)?;
+    let nested: NestedSubimage<'_, S, D> = header.prepare_subimage(alloc)?;
+    Ok(nested.is_empty())
+}
+
+// Whether sections fit, and what decoding them returns.
+fn run<S: Sample, D: Decoder>(
+    alloc: Global,
+    image: &mut ModularImageDestination<S, D>,
+    passes: &BTreeMap<u32, (i32, i32)>,
+    sections: &[Section<'_>],
+    global: Option<&MaConfig<D>>,
+) -> Result<(bool, bool)> {
+    let fit: bool = sections_fit(alloc, image, passes, sections)?;
+    if !fit {
+        return Ok((false, false));
+    }
+    let mut steps: Steps = Steps::new();
+    let whole: bool = decode_sections(alloc, image, passes, sections, global, false, &mut steps)?;
+    Ok((fit, whole))
+}
+
+fn number(part: SectionPart) -> (u32, u64) {
+    match part {
+        SectionPart::Global => (0, 0),
+        SectionPart::Lf(group) => (1, group),
+        SectionPart::Pass(pass, group) => (pass, group),
+    }
+}
+
+// The parameters of a picture of 2x2 samples.
+fn params<'a>(alloc: Global) -> std::result::Result<ModularParams<'a, PlainDecoder>, Fail>
+    ensures { IfOk result (λ p. p.ma_config ≡ None) }
+{
+    let channels = vec![in alloc; ModularChannelParams::new(2, 2)]?;
+    Ok(ModularParams::with_channels(256, 8, channels, None))
+}
+
+#[test]
+fn values(rt: HostRuntime) -> std::result::Result<(), Fail> {
+    let alloc = rt.alloc();
+    let params = params(alloc)?;
+    assert!(rt; params.is_valid());
+    let modular = read::<i16>(alloc, params)?;
+    assert_eq!(rt; questions(alloc, &modular)?, ([false; 2], [false; 2]));
+    let empty = Modular::<i16, PlainDecoder>::empty();
+    assert_eq!(rt; questions(alloc, &empty)?, ([false; 2], [false; 2]));
+    let image = modular.into_image().ok_or("no image")?;
+    let last = Some((ChannelShift::Shifts(0), (2, 2)));
+    assert_eq!(rt; taken(alloc, image)?, (1, 1, last));
+    assert_eq!(rt;
+        lies(TransformedGrid::from(Region {
+            buffer: 3,
+            x: 0,
+            y: 0,
+            width: 1,
+            height: 1
+        })),
+        3
+    );
+    Ok(())
+}
+
+#[test]
+fn parts_and_sections(rt: HostRuntime) -> std::result::Result<(), Fail> {
+    let alloc = rt.alloc();
+    let mut passes = BTreeMap::new(alloc);
+    passes.insert(0, (0, 3))?;
+    let params = params(alloc)?;
+    assert!(rt; params.is_valid());
+    let global = params.ma_config;
+    let mut image = read::<i32>(alloc, params)?.into_image().ok_or("no image")?;
+    let mut bits = Bitstream::new(&PICTURE);
+    let mut own = bits;
+    assert_eq!(rt;
+        global_by_header(alloc, &mut image, &mut own, global)?,
+        [false, true, true]
+    );
+    let mut own = bits;
+    assert!(rt; group_by_header(alloc, &mut image, &passes, &mut own, global)?);
+    let seen = parts(alloc, &mut image, &passes, &mut bits)?;
+    assert_eq!(rt; seen, ([false, true, true], [0, 1, 0], true, false));
+    for _ in 0..68 {
+        bits.read_bool()?;
+    }
+    let section: Section<'_> = Section {
+        part: SectionPart::Global,
+        bits,
+        stream_index: 0,
+        nested: false,
+    };
+    assert_eq!(rt; number(section.part), (0, 0));
+    assert_eq!(rt; number(Part::Lf(4).into()), (1, 4));
+    assert_eq!(rt; number(Part::Pass(2, 4).into()), (2, 4));
+    let sections = [section];
+    assert_eq!(rt;
+        run(alloc, &mut image, &passes, &sections, global)?,
+        (true, true)
+    );
+    let grid = image.image_channels().first().ok_or("no channel")?;
+    assert!(rt; grid.width() > 1 && grid.height() > 0);
+    assert_eq!(rt; grid.get(1, 0), 3);
+    Ok(())
+}

@@ -1,0 +1,430 @@
+// Compiled trees against a plain walk: of worked trees, of long chains, and of two thousand drawn ones, each on its
+// cuts, beside them, and at both ends of the numbers.
+
+use crate::listing::{Node, read};
+use crate::told::Told;
+use jxlm_ma::flat::{FlatMaTree, Steps};
+use std::alloc::{AllocError, Global};
+use std::process::Abort;
+use std::test::Fail;
+
+// What a walk goes by: the channel and the stream as decisions read them, and how many earlier channels there are.
+#[derive(Clone, Copy)]
+struct Place {
+    channel: i32,
+    stream: i32,
+    earlier: u32,
+}
+
+const FIRST: Place = Place {
+    channel: 0,
+    stream: 0,
+    earlier: 0,
+};
+
+// A property of a cell, of which those from 2 on are given.
+fn property(place: Place, values: &[i32; 30], number: u32) -> i32 {
+    match number {
+        0 => place.channel,
+        1 => place.stream,
+        _ if number >= 16u32.saturating_add(place.earlier.saturating_mul(4)) => 0,
+        _ => values.get(number as usize - 2).copied().unwrap_or(0),
+    }
+}
+
+// The offset of the leaf that a plain walk comes to.
+fn walked(nodes: &[Node], place: Place, values: &[i32; 30]) -> Option<i32> {
+    let mut at = 0usize;
+    for _ in nodes {
+        match nodes.get(at)? {
+            Node::Leaf(offset) => return Some(*offset),
+            Node::Decision {
+                property: number,
+                value,
+                left,
+            } => {
+                at = if property(place, values, *number) > *value {
+                    *left
+                } else {
+                    left.saturating_add(1)
+                };
+            }
+        }
+    }
+    None
+}
+
+fn flat_of(alloc: Global, nodes: &[Node], place: Place) -> Result<FlatMaTree, Fail> {
+    let config = read(alloc, nodes)?;
+    let (channel, stream) = (place.channel.cast_unsigned(), place.stream.cast_unsigned());
+    Ok(config.make_flat_tree(alloc, channel, stream, place.earlier)?)
+}
+
+fn offset_of(flat: &FlatMaTree, values: &[i32; 30]) -> i32 {
+    flat.leaf(&Told { values }, &mut Steps::new()).offset
+}
+
+// The properties that are all 0 but one, from 2 on.
+fn one_property(number: usize, value: i32) -> [i32; 30] {
+    let mut values = [0; 30];
+    if let Some(place) = number.checked_sub(2) {
+        if let Some(at) = values.get_mut(place) {
+            *at = value;
+        }
+    }
+    values
+}
+
+// Checks the leaf by some values of the properties.
+fn check_walk(
+    rt: &impl Abort,
+    flat: &FlatMaTree,
+    nodes: &[Node],
+    place: Place,
+    values: &[i32; 30],
+) -> Result<(), Fail> {
+    let expected = walked(nodes, place, values).ok_or("a walk without an end")?;
+    assert_eq!(rt; offset_of(flat, values), expected);
+    Ok(())
+}
+
+const fn cut(property: u32, value: i32, left: usize) -> Node {
+    Node::Decision {
+        property,
+        value,
+        left,
+    }
+}
+
+// Four cuts of one property, one within the other: a table serves them, with four of the five leaves, since no value is
+// above 10 and at most 5.
+#[test]
+fn cuts_of_one_property(rt: HostRuntime) -> Result<(), Fail> {
+    let alloc = rt.alloc();
+    let nodes = [
+        cut(9, 5, 1),
+        cut(9, 7, 3),
+        cut(9, 10, 5),
+        Node::Leaf(3),
+        Node::Leaf(4),
+        Node::Leaf(1),
+        cut(9, 3, 7),
+        Node::Leaf(5),
+        Node::Leaf(6),
+    ];
+    let flat = flat_of(alloc, &nodes, FIRST)?;
+    assert_eq!(rt; flat.num_nodes(), 5);
+    let expected = [6, 6, 6, 6, 5, 5, 4, 4, 3, 3, 3, 3];
+    for (value, offset) in expected.iter().enumerate() {
+        let values = one_property(9, value as i32);
+        assert_eq!(rt; offset_of(&flat, &values), *offset, "{value}");
+    }
+    Ok(())
+}
+
+// What is known when a tree is compiled: a property of an earlier channel that is not there, the stream, the channel.
+#[test]
+fn known_decisions(rt: HostRuntime) -> Result<(), Fail> {
+    let alloc = rt.alloc();
+    let below_0 = |stream: i32, channel: i32| Place {
+        channel,
+        stream,
+        earlier: 0,
+    };
+    let rows = [
+        (17, FIRST, 1),
+        (1, below_0(-1, 0), 2),
+        (1, FIRST, 1),
+        (0, below_0(0, i32::MIN), 2),
+        (0, below_0(0, i32::MAX), 1),
+    ];
+    for (property, place, expected) in rows {
+        let nodes = [cut(property, -1, 1), Node::Leaf(1), Node::Leaf(2)];
+        let flat = flat_of(alloc, &nodes, place)?;
+        assert_eq!(rt; flat.num_nodes(), 1);
+        assert_eq!(rt; flat.max_prev_channel_depth(), 0);
+        assert_eq!(rt; offset_of(&flat, &one_property(17, -5)), expected);
+    }
+    Ok(())
+}
+
+// The minimum and the maximum of 32 bits, and the numbers beside them.
+const ENDS: [i32; 4] = [i32::MIN, i32::MIN + 1, i32::MAX - 1, i32::MAX];
+
+#[test]
+fn cuts_at_the_ends(rt: HostRuntime) -> Result<(), Fail> {
+    let alloc = rt.alloc();
+    let above = [
+        [false, true, true, true],
+        [false, false, true, true],
+        [false, false, false, true],
+        [false; 4],
+    ];
+    for (end, rows) in ENDS.iter().zip(above) {
+        let nodes = [cut(3, *end, 1), Node::Leaf(1), Node::Leaf(2)];
+        let flat = flat_of(alloc, &nodes, FIRST)?;
+        for (value, is_above) in ENDS.iter().zip(rows) {
+            let expected = if is_above { 1 } else { 2 };
+            assert_eq!(rt; offset_of(&flat, &one_property(3, *value)), expected);
+        }
+    }
+    Ok(())
+}
+
+// Three cuts as far apart as a table allows, and one farther.
+#[test]
+fn spread_of_a_table(rt: HostRuntime) -> Result<(), Fail> {
+    let alloc = rt.alloc();
+    for spread in 1020..1026i32 {
+        let nodes = [
+            cut(9, spread, 1),
+            Node::Leaf(4),
+            cut(9, 7, 3),
+            Node::Leaf(3),
+            cut(9, 0, 5),
+            Node::Leaf(2),
+            Node::Leaf(1),
+        ];
+        let flat = flat_of(alloc, &nodes, FIRST)?;
+        assert_eq!(rt; flat.num_nodes(), if spread <= 1022 { 5 } else { 6 });
+        for value in [i32::MIN, -1, 0, 1, 6, 7, 8, spread, spread + 1, i32::MAX] {
+            check_walk(&rt, &flat, &nodes, FIRST, &one_property(9, value))?;
+        }
+    }
+    Ok(())
+}
+
+#[derive(Drop)]
+struct Seed {
+    number: u32,
+}
+
+impl Seed {
+    fn next(&mut self) -> u32 {
+        self.number = self.number.wrapping_mul(1664525).wrapping_add(1013904223);
+        self.number >> 16
+    }
+
+    fn below(&mut self, n: u32) -> u32 {
+        self.next().checked_rem(n).unwrap_or(0)
+    }
+
+    // A number from `least` on, one of n.
+    fn number(&mut self, least: i32, n: u32) -> i32 {
+        least.wrapping_add(self.below(n).cast_signed())
+    }
+
+    // A number: near others, small, or at an end.
+    fn value(&mut self, near: bool) -> i32 {
+        if near {
+            return self.number(100, 40);
+        }
+        match self.below(12) {
+            0 => i32::MAX,
+            1 => i32::MIN,
+            2 => i32::MAX - 1,
+            3 => i32::MIN + 1,
+            4 => self.number(1000, 60),
+            5 => self.number(-1000, 2000),
+            _ => self.number(-5, 12),
+        }
+    }
+
+    fn values(&mut self, near: bool) -> [i32; 30] {
+        let mut values = [0; 30];
+        for at in &mut values {
+            *at = self.value(near);
+        }
+        values
+    }
+}
+
+// How trees are drawn: which properties they test, one leaf in how many nodes, at most how many nodes, and whether
+// their cuts are near to one another.
+#[derive(Clone, Copy)]
+struct Manner {
+    properties: (u32, u32),
+    ends: u32,
+    most: u32,
+    near: bool,
+}
+
+// Deep, wide, with redundant cuts, of one property, and of many.
+const MANNERS: [Manner; 6] = [
+    Manner {
+        properties: (0, 30),
+        ends: 2,
+        most: 120,
+        near: false,
+    },
+    Manner {
+        properties: (2, 14),
+        ends: 9,
+        most: 60,
+        near: false,
+    },
+    Manner {
+        properties: (8, 2),
+        ends: 5,
+        most: 80,
+        near: true,
+    },
+    Manner {
+        properties: (9, 1),
+        ends: 4,
+        most: 60,
+        near: true,
+    },
+    Manner {
+        properties: (9, 1),
+        ends: 3,
+        most: 60,
+        near: false,
+    },
+    Manner {
+        properties: (14, 16),
+        ends: 6,
+        most: 40,
+        near: false,
+    },
+];
+
+// A tree's nodes level by level; the offset of each leaf is its index.
+fn drawn(alloc: Global, seed: &mut Seed, manner: Manner) -> Result<Vec<Node>, AllocError> {
+    let mut nodes = Vec::new(alloc);
+    let mut next = 1u32;
+    for i in 0..manner.most {
+        if i >= next {
+            break;
+        }
+        let is_last = next.saturating_sub(i) > 1 && seed.below(manner.ends) == 0;
+        if is_last || next.saturating_add(2) > manner.most {
+            nodes.push(Node::Leaf(i.cast_signed()))?;
+        } else {
+            let (first, count) = manner.properties;
+            let property = first.wrapping_add(seed.below(count));
+            nodes.push(cut(property, seed.value(manner.near), next as usize))?;
+            next = next.saturating_add(2);
+        }
+    }
+    Ok(nodes)
+}
+
+// Checks a tree on one of its cuts, beside it, and at both ends.
+fn check_cut(
+    rt: &impl Abort,
+    flat: &FlatMaTree,
+    nodes: &[Node],
+    place: Place,
+    node: Node,
+    drawn: [i32; 30],
+) -> Result<(), Fail> {
+    let Node::Decision {
+        property,
+        value,
+        ..
+    } = node
+    else {
+        return Ok(());
+    };
+    let beside = [
+        value,
+        value.saturating_add(1),
+        value.saturating_sub(1),
+        i32::MAX,
+        i32::MIN,
+    ];
+    for value in beside {
+        let mut values = drawn;
+        if let Some(at) = values.get_mut((property as usize).wrapping_sub(2)) {
+            *at = value;
+        }
+        check_walk(rt, flat, nodes, place, &values)?;
+    }
+    Ok(())
+}
+
+// Checks one drawn tree on each of its cuts.
+fn check_drawn(
+    rt: &impl Abort,
+    alloc: Global,
+    seed: &mut Seed,
+    manner: Manner,
+) -> Result<(), Fail> {
+    let nodes = drawn(alloc, seed, manner)?;
+    let place = Place {
+        channel: seed.value(manner.near),
+        stream: seed.value(manner.near),
+        earlier: seed.below(4),
+    };
+    let flat = flat_of(alloc, &nodes, place)?;
+    assert!(rt; flat.num_nodes() <= nodes.len());
+    assert!(rt; flat.max_prev_channel_depth() <= place.earlier as usize);
+    check_walk(rt, &flat, &nodes, place, &seed.values(manner.near))?;
+    for node in &nodes {
+        let values = seed.values(manner.near);
+        check_cut(rt, &flat, &nodes, place, *node, values)?;
+    }
+    Ok(())
+}
+
+#[test]
+fn two_thousand_trees(rt: HostRuntime) -> Result<(), Fail> {
+    let mut seed = Seed { number: 7 };
+    for _ in 0..334u32 {
+        for manner in MANNERS {
+            check_drawn(&rt, rt.alloc(), &mut seed, manner)?;
+        }
+    }
+    Ok(())
+}
+
+// The kinds of long chains: cuts that fall one by one, that fall far, that are one, and on three properties.
+#[derive(Clone, Copy)]
+enum Chain {
+    Falling,
+    Far,
+    Same,
+    Turns,
+}
+
+// The property and the value of a chain's decision.
+fn link(kind: Chain, i: u16) -> (u32, i32) {
+    let left = 2048i32.wrapping_sub(i32::from(i));
+    match kind {
+        Chain::Falling => (9, left),
+        Chain::Far => (9, left.wrapping_mul(1000)),
+        Chain::Same => (9, 5),
+        Chain::Turns => (2 + u32::from(i) % 3, left / 3),
+    }
+}
+
+// The nodes of a chain of 2048 decisions: each has a leaf at its left.
+fn chain_of(alloc: Global, kind: Chain) -> Result<Vec<Node>, AllocError> {
+    let mut nodes = Vec::new(alloc);
+    for i in 0..2048u16 {
+        let (property, value) = link(kind, i);
+        nodes.push(cut(property, value, 2 * usize::from(i) + 1))?;
+        nodes.push(Node::Leaf(i32::from(i)))?;
+    }
+    nodes.push(Node::Leaf(2048))?;
+    Ok(nodes)
+}
+
+fn check_chain(rt: &impl Abort, alloc: Global, kind: Chain) -> Result<(), Fail> {
+    let nodes = chain_of(alloc, kind)?;
+    let flat = flat_of(alloc, &nodes, FIRST)?;
+    for value in 0..60u16 {
+        let values = [i32::from(value) * 37 - 1; 30];
+        check_walk(rt, &flat, &nodes, FIRST, &values)?;
+    }
+    Ok(())
+}
+
+#[test]
+fn long_chains(rt: HostRuntime) -> Result<(), Fail> {
+    for kind in [Chain::Falling, Chain::Far, Chain::Same, Chain::Turns] {
+        check_chain(&rt, rt.alloc(), kind)?;
+    }
+    Ok(())
+}

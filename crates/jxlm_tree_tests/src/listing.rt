@@ -1,0 +1,127 @@
+//! Trees that tests make, as streams from which they are read.
+
+use jxlm_base::bits::Bitstream;
+use jxlm_ma::ma::{MaConfig, MaConfigParams};
+use jxlm_plain::plain::PlainDecoder;
+use std::alloc::{AllocError, Global};
+use std::test::Fail;
+
+/// A node of a tree whose nodes stand level by level.
+#[derive(Clone, Copy)]
+pub enum Node {
+    /// A leaf, with its offset.
+    Leaf(i32),
+    /// A decision: where the property is above the value the walk goes on at the node of this index, else at the one
+    /// after it.
+    Decision {
+        property: u32,
+        value: i32,
+        left: usize,
+    },
+}
+
+// Bits, the least significant of a byte first.
+#[derive(Drop)]
+struct Writer {
+    bytes: Vec<u8>,
+    held: u8,
+    count: u32,
+}
+
+impl Writer {
+    fn bit(&mut self, bit: bool) -> Result<(), AllocError> {
+        self.held = self.held / 2 + if bit { 128 } else { 0 };
+        self.count = self.count.wrapping_add(1);
+        if self.count % 8 == 0 {
+            self.bytes.push(self.held)?;
+        }
+        Ok(())
+    }
+
+    fn put(&mut self, value: u32, n: u32) -> Result<(), AllocError> {
+        for i in 0..n {
+            self.bit(value.wrapping_shr(i) % 2 == 1)?;
+        }
+        Ok(())
+    }
+
+    // A signed number, packed, as a token of 32 bits.
+    fn signed(&mut self, value: i32) -> Result<(), AllocError> {
+        let twice = value.cast_unsigned().wrapping_mul(2);
+        self.put(if value < 0 { !twice } else { twice }, 32)
+    }
+}
+
+// The decoder of a tree's nodes: numbers of 32 bits in contexts 0 and 3, of 8 bits in 1 and 2, and 0 in 4 and 5.
+const DECODER: [(u32, u32); 13] = [
+    (0, 2),
+    (2, 4),
+    (0, 4),
+    (1, 4),
+    (1, 4),
+    (0, 4),
+    (2, 4),
+    (2, 4),
+    (32 * 2, 7),
+    (8 * 2, 7),
+    (1, 7),
+    (0, 0),
+    (0, 0),
+];
+
+// Writes a node: a decision with its property and value, or a leaf with the predictor 0, its offset and the
+// multiplier 1.
+fn put_node(writer: &mut Writer, node: Node) -> Result<(), AllocError> {
+    match node {
+        Node::Leaf(offset) => {
+            writer.put(0, 16)?;
+            writer.signed(offset)
+        }
+        Node::Decision {
+            property,
+            value,
+            ..
+        } => {
+            writer.put(property.wrapping_add(1), 8)?;
+            writer.signed(value)
+        }
+    }
+}
+
+fn is_leaf(node: &Node) -> bool {
+    match node {
+        Node::Leaf(_) => true,
+        Node::Decision { .. } => false,
+    }
+}
+
+/// The bytes of a tree's nodes, and of a decoder that has one cluster for all leaves.
+pub fn listed(alloc: Global, nodes: &[Node]) -> Result<Vec<u8>, AllocError> {
+    let mut writer = Writer {
+        bytes: Vec::new(alloc),
+        held: 0,
+        count: 0,
+    };
+    for (value, n) in DECODER {
+        writer.put(value, n)?;
+    }
+    for node in nodes {
+        put_node(&mut writer, *node)?;
+    }
+    writer.put(0, 6)?;
+    for _ in nodes.iter().filter(|node| is_leaf(node)) {
+        writer.put(0, 4)?;
+    }
+    writer.put(0, 14)?;
+    Ok(writer.bytes)
+}
+
+/// The tree of these nodes.
+pub fn read(alloc: Global, nodes: &[Node]) -> Result<MaConfig<PlainDecoder>, Fail> {
+    let bytes = listed(alloc, nodes)?;
+    let limits = MaConfigParams {
+        node_limit: 1 << 26,
+        depth_limit: 2048,
+    };
+    Ok(MaConfig::parse(alloc, &mut Bitstream::new(&bytes), limits)?)
+}
