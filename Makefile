@@ -1,10 +1,11 @@
 # run: a first look. Runs the program on the input that is kept with it, without any proof.
 # triangle: the same on examples/triangle.hex, drawn in the terminal.
+# groups: the same on examples/groups.hex, a picture of two groups; it prints the samples.
 # build: proves and builds the program, and prints where it lies.
 # docs: looks up each name that the documents cite.
 # test: docs, and then every proof, every edit that the prover must refuse, every test and the program's run.
 
-.PHONY: run triangle build docs test
+.PHONY: run triangle groups build docs test
 
 run:
 	@cd crates/jxlmod && rt try -- $$(cat args) < stdin
@@ -12,6 +13,10 @@ run:
 triangle:
 	@python3 -c 'import sys; sys.stdout.buffer.write(bytes.fromhex(sys.stdin.read()))' < examples/triangle.hex \
 	    | (cd crates/jxlmod && rt try -- decode 32 16 1 8 i32) | awk -f examples/to_text.awk
+
+groups:
+	@python3 -c 'import sys; sys.stdout.buffer.write(bytes.fromhex(sys.stdin.read()))' < examples/groups.hex \
+	    | (cd crates/jxlmod && rt try -- sections 3 1 1 8 i32 2)
 
 build:
 	@cd crates/jxlmod && rt run -- $$(cat args) < stdin > /dev/null

@@ -3,19 +3,31 @@
 #
 # PROGRAM is jxlbench, built; FOLDER has pictures of scripts/speed_inputs.py, of three channels of SIDE by SIDE samples,
 # 256 unless another side is given. Three runs are counted and one run, so that what is not decoding falls out. For each
-# picture a line: its name, the instructions a sample at 16 and at 32 bits, and the two checksums. It needs valgrind.
+# picture a line: its name, the instructions a sample at 16 and at 32 bits, and the two checksums. A picture whose name
+# ends in -cut is decoded from its sections. It needs valgrind.
 set -eu
 program=$1
 folder=$2
 side=${3:-256}
 
+# The arguments that a picture is decoded by, for samples of this type, so many times.
+arguments() {
+    case $1 in
+        *-cut) echo "sections $side $side 3 8 $2 $((side / 4)) $3" ;;
+        *) echo "decode $side $side 3 8 $2 $3" ;;
+    esac
+}
+
 counted() {
-    valgrind --tool=callgrind --callgrind-out-file=/dev/null "$program" decode "$side" "$side" 3 8 "$2" "$3" \
+    # The arguments are words of their own.
+    # shellcheck disable=SC2046
+    valgrind --tool=callgrind --callgrind-out-file=/dev/null "$program" $(arguments "$@") \
         < "$1" 2>&1 > /dev/null | sed -n 's/.*Collected : \([0-9]*\).*/\1/p'
 }
 
 checksum() {
-    "$program" decode "$side" "$side" 3 8 "$2" 1 < "$1" | sed -n 's/^checksum //p'
+    # shellcheck disable=SC2046
+    "$program" $(arguments "$1" "$2" 1) < "$1" | sed -n 's/^checksum //p'
 }
 
 for picture in "$folder"/*; do

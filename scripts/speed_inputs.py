@@ -2,7 +2,8 @@
 """Writes the pictures by which docs/SPEED.md counts: speed_inputs.py FOLDER [SIDE]
 
 Each has three channels of SIDE by SIDE samples, 256 unless another side is given, of bit depth 8, in the format of
-docs/FORMAT.md. Tokens take 8 bits; small ones are the most frequent, and they are the same at each call.
+docs/FORMAT.md. Tokens take 8 bits; small ones are the most frequent, and they are the same at each call. Those whose
+names end in -cut are cut into 16 groups, whose side is a quarter of SIDE, which is then a power of two.
 """
 import math
 import pathlib
@@ -59,6 +60,36 @@ def halving(properties, reach, leaves):
     return first, middle, left, halving(rest, {**reach, first: (low, middle)}, leaves)
 
 
+def grown(source, decisions, depth):
+    """A drawn tree of so many decisions on properties 2 to 15, so deep. Each cuts what is left of its property's range."""
+
+    def end():
+        return leaf(source.choice((0, 1, 2, 3, 4, 5, 6, 11)), 0, source.randrange(-8, 8))
+
+    root = [end(), 0, {}]
+    open_nodes = [root]
+    for i in range(decisions):
+        node = open_nodes.pop(-1 if i < depth else source.randrange(len(open_nodes)))
+        name, (low, high) = 0, (0, 0)
+        while high - low < 2:
+            name = source.randrange(2, 16)
+            low, high = node[2].get(name, (0, 255) if name in (2, 3) else (-500, 500))
+        cut = source.randrange(low, high)
+        sides = []
+        for reach in ((cut + 1, high), (low, cut)):
+            sides.append([end(), node[1] + 1, {**node[2], name: reach}])
+        node[0] = [name, cut, *sides]
+        open_nodes += [side for side in sides if side[1] < depth]
+
+    def whole(node):
+        if isinstance(node[0], tuple):
+            return node[0]
+        name, cut, left, right = node[0]
+        return name, cut, whole(left), whole(right)
+
+    return whole(root)
+
+
 def around_zero(**reach):
     return {int(name[1:]): (-bound, bound) for name, bound in reach.items()}
 
@@ -92,6 +123,17 @@ def joined(fields):
     return int(text, 2).to_bytes((len(text) + 7) // 8, "little")
 
 
+def cut(side, fields, tokens):
+    """The sections of a picture: these fields, and then for each group the same fields and its tokens."""
+    group = side // 4
+    sections = [packed(fields)]
+    for place in range(16):
+        top, left = place // 4 * group, place % 4 * group
+        rows = [(channel * side + top + y) * side + left for channel in range(3) for y in range(group)]
+        sections.append(packed(fields, b"".join(tokens[start : start + group] for start in rows)))
+    return b"".join(len(section).to_bytes(4, "little") + section for section in sections)
+
+
 def pictures(side):
     source = random.Random(1)
     samples = 3 * side * side
@@ -111,7 +153,10 @@ def pictures(side):
     yield "weighted-turns", packed(header() + tree(halving(fused, errors, iter(weighted)), clusters=4), tokens)
     yield "zero", packed(header() + zero, tokens)
     yield "fill", packed(header() + tree(leaf(ZERO), constant=6))
+    yield "gradient-cut", cut(side, header() + one, tokens)
+    yield "zero-cut", cut(side, header() + zero, tokens)
     yield "palette", packed(header(PALETTE) + zero, bytes(token & 254 for token in tokens))
+    yield "large", packed(header() + tree(grown(random.Random(2), 6282, 37)), tokens)
 
 
 def main():
