@@ -1,4 +1,5 @@
-use Rattle.std.proofs.Common.{◌≡◌, ◌∙◌, IsTrue, Some, None, false, pos, refl, sym, ap, subst, rules}
+use Rattle.std.proofs.Common.{◌≡◌, ◌∙◌, IsTrue, Some, None, false, pos, refl, sym, ap, subst}
+use Rattle.std.proofs.lemmas.Result.{err_from_is_err_and}
 use Rattle.jxlm_base.specs.Bits.{bytes_of, position_of}
 use Rattle.jxlm_base.specs.ErrorKind.{UnlessMemory, kind_of}
 use Rattle.jxlm_plain.specs.Plain.{PlainState, plain}
@@ -17,7 +18,8 @@ returns-in_err-first-clause-err g c =
     let e = c.in_err-first.field-0.0 in
     let fails : UnlessMemory (kind_of e) (Fails g.S.Sealed.width g.S.Sealed.to_int zero c.args.params c.args.bytes.now c.requires.local (kind_of e)) =
     first_fails g.S.Sealed.width g.S.Sealed.to_int zero c.args.params c.args.bytes.now c.requires.local e (ap kind_of c.in_err-first.ensures.0) c.in_err-first.ensures.1 in
-    search rules
+    let p = err_from_is_err_and c.from_residual.result c.from_residual.ensures.1 in
+    rw (p.1, p.2) fails
 
 pub returns-in_err-modular-clause-err : goal.returns-in_err-modular-clause-err
 returns-in_err-modular-clause-err g c =
@@ -26,7 +28,8 @@ returns-in_err-modular-clause-err g c =
     let fails : UnlessMemory (kind_of e) (Fails g.S.Sealed.width g.S.Sealed.to_int zero c.args.params c.args.bytes.now c.requires.local (kind_of e)) =
     header_fails g.S.Sealed.width g.S.Sealed.to_int zero c.args.params c.args.bytes.now c.requires.local c.in_ok-first.first.now c.in_ok-first.rest.now (bytes_of c.new-bits.result) (position_of c.new-bits.result)
     (position_of c.parse.new.bits) e c.in_ok-first.ensures c.new-bits.ensures.bytes c.new-bits.ensures.position c.in_err-modular.ensures.gives in
-    search rules
+    let p = err_from_is_err_and c.from_residual-in_err-modular.result c.from_residual-in_err-modular.ensures.1 in
+    rw (p.1, p.2) fails
 
 pub sections_of-requires-clause-possible : goal.sections_of-requires-clause-possible
 sections_of-requires-clause-possible g c κs within =
@@ -49,7 +52,8 @@ returns-in_err-sections-clause-err g c =
     q c.in_ok-modular.modular image c.in_ok-first.ensures c.new-bits.ensures.bytes c.new-bits.ensures.position c.in_ok-modular.ensures.gives some in
     let fails : UnlessMemory (kind_of e) (Fails g.S.Sealed.width g.S.Sealed.to_int zero c.args.params c.args.bytes.now c.requires.local (kind_of e)) =
     reading_fails g.S.Sealed.width g.S.Sealed.to_int zero c.args.params c.args.bytes.now c.requires.local c.in_ok-first.first.now c.in_ok-first.rest.now image q b e c.in_err-sections.ensures.err in
-    search rules
+    let p = err_from_is_err_and c.from_residual-in_err-sections.result c.from_residual-in_err-sections.ensures.1 in
+    rw (p.1, p.2) fails
 
 pub decode_sections-requires-clause-fit : goal.decode_sections-requires-clause-fit
 decode_sections-requires-clause-fit g c κs within =
@@ -98,7 +102,8 @@ returns-in_err-decode_sections-clause-err g c =
     let fails : UnlessMemory (kind_of e) (Fails g.S.Sealed.width g.S.Sealed.to_int zero c.args.params c.args.bytes.now c.requires.local (kind_of e)) =
     samples_fail g.S.Sealed.width g.S.Sealed.to_int zero c.args.params c.args.bytes.now c.requires.local first rest image q b c.parse.new.bits bits_are refl sections
     c.in_ok-sections.ensures.read c.in_ok-sections.ensures.cut.cells e left before after stop in
-    search rules
+    let p = err_from_is_err_and c.from_residual-in_err-decode_sections.result c.from_residual-in_err-decode_sections.ensures.1 in
+    rw (p.1, p.2) fails
 
 pub returns-clause-counted : goal.returns-clause-counted
 returns-clause-counted g c =
