@@ -251,9 +251,8 @@ impl CompiledTree {
         Ok(Some(shared))
     }
 
-    // The walk from the root to a leaf, by these properties; a call of its own, as it wants the registers that the
-    // loops around it hold.
-    #[inline(never)]
+    // The walk from the root to a leaf, by these properties.
+    #[inline(always)]
     fn leaf<P: PlaceProperties>(&self, properties: &P, steps: &mut Steps) -> &Leaf
         requires current { P.IsCurrent properties.now }
         requires sound { IsSound (reverse self.now.nodes.items) }

@@ -40,7 +40,6 @@ impl<S> PredictorState<S> {
     {
         let Around { w, n, nw, .. } = *around;
         match property {
-            0 | 1 => 0,
             2 => read_as_signed(self.y),
             3 => read_as_signed(self.x),
             4 => reduced_absolute(n),
@@ -55,7 +54,7 @@ impl<S> PredictorState<S> {
             13 => n.wrapping_sub(around.nn),
             14 => w.wrapping_sub(around.ww),
             15 => error,
-            _ => unreachable!(),
+            _ => 0,
         }
     }
 
