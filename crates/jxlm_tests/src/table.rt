@@ -10,7 +10,7 @@ use std::alloc::Global;
 use std::process::Abort;
 use std::test::Fail;
 
-// Channels as large as the picture, from sizes as `3x2`, with one space between.
+/// Channels as large as the picture, from sizes as `3x2`, with one space between.
 pub fn channels(alloc: Global, sizes: &str) -> Result<Vec<ModularChannelParams>, Fail> {
     let mut channels = Vec::new(alloc);
     for size in sizes.split(' ') {
@@ -43,8 +43,8 @@ fn numbers(alloc: Global, samples: &[i32], summed: bool) -> Result<String, Fail>
     Ok(text)
 }
 
-// The samples, or their checksum, and the reader's position, with the error of the samples, if there is one; or the
-// error of what comes before them.
+/// The samples, or their checksum, and the reader's position, with the error of the samples, if there is one; or the
+/// error of what comes before them.
 pub fn told(alloc: Global, outcome: &Outcome, summed: bool) -> Result<String, Fail> {
     let samples = numbers(alloc, &outcome.samples, summed)?;
     let position = outcome.position;

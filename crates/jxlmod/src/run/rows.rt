@@ -38,6 +38,7 @@ const SQUEEZED: &[u8] = &[
     0x66, 0x30, 0x00, 0x00, 0x00, 0x00, 0x08, 0x00, 0xC0, 0xA0, 0x50, 0x00, 0x00,
 ];
 
+/// What a run of the program answers and writes.
 #[derive(Drop)]
 pub struct Ended {
     pub status: u8,
@@ -45,6 +46,7 @@ pub struct Ended {
     pub errors: Vec<u8>,
 }
 
+/// Runs the program on these words, parted by single spaces, and these bytes as its input.
 pub fn run_on(alloc: Global, line: &str, bytes: &[u8]) -> Result<Ended, Fail> {
     let mut words = Vec::new(alloc);
     for word in line.split(' ') {
