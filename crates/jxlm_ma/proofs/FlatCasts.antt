@@ -1,19 +1,15 @@
 -- What the functions' answers need, with the checks' casts as equations.
 use Rattle.std.proofs.Common.{◌≡◌, ℕ, ◌+◌, ◌<◌, ◌≤◌, ℤ, pos, ◌+ℤ◌, ◌<ℤ◌, ◌≤ℤ◌, true, false, inl, inr, List, [], ◌∷◌, ◌++◌, length-append, length, Option, Some, None, Result, Ok, Err, IfOk, OnOk, IsSome, refl, sym, ap, ◌∙◌, subst, arith}
 use Rattle.std.specs.Prelude.{int_lt}
-use Rattle.jxlm_ma.proofs.FlatWalks.{above}
-use Rattle.std.proofs.lemmas.Int.{ints, clamps}
+use Rattle.std.proofs.lemmas.Int.{ints}
 use Rattle.std.proofs.lemmas.Bool.{false≢true}
-use Rattle.jxlm_ma.specs.declared.compile.Survey.{Survey}
+use Rattle.jxlm_ma.specs.declared.marks.Survey.{Survey}
 use Rattle.jxlm_ma.specs.declared.flat.FlatNode.{FlatNode}
 use Rattle.jxlm_ma.specs.declared.flat.Leaf.{Leaf}
 use Rattle.jxlm_ma.specs.Tree.{Shape, decision}
 use Rattle.jxlm_ma.specs.Inner.FlatShapes.{size}
-use Rattle.jxlm_ma.specs.Inner.Counting.{Counted, is_wide}
-use Rattle.jxlm_ma.specs.Inner.Pruned.{hanging, cuts, surveyed}
+use Rattle.jxlm_ma.specs.Inner.Pruned.{hanging}
 use Rattle.jxlm_ma.specs.Inner.FlatNodes.{Compiles, CompilesSide, Fills}
-use Rattle.std.specs.Int.{int_min, int_max}
-use Rattle.jxlm_ma.proofs.FlatTables.{cuts_above, cuts_below, cuts_between, surveyed-append, surveyed-wider, cuts-few}
 use Rattle.jxlm_ma.proofs.FlatNodes.{hanging-at, hanging-some, hanging-few, fill-left, fill-right, fill-both, side-split}
 
 pub on_ok : {T E : Type 0} (r : Result T E) (P Q : Type 0) → (P → Q) → OnOk r P → OnOk r Q
@@ -92,86 +88,6 @@ fills-table p low high low1 high1 t u old new before after none l h is f =
 pub no_table : (o r : Option Survey) → r ≡ o → r ≡ None → IsSome o → ⊥
 no_table None r e n h = false≢true h
 no_table (Some x) r e n h = cc
-
--- what was counted stays counted, or too wide
-wide-more : (s : Survey) (cs : List ℤ) → is_wide s ≡ true → is_wide (surveyed s cs) ≡ true
-wide-more s cs h = let w = surveyed-wider s cs in let wide = less (s.least +ℤ pos 1022) s.greatest h in above ((surveyed s cs).least +ℤ pos 1022) (surveyed s cs).greatest (omega (arith, ints))
-
-pub counted-wide : (s : Survey) (cs : List ℤ) → is_wide s ≡ true → Counted s s cs
-counted-wide s cs h = record { few = omega arith; is = inr (h, wide-more s cs h) }
-
-in_turn : (r s t : Survey) (cs ds : List ℤ) → Counted r s cs → Counted s t ds → Counted r t (cs ++ ds)
-in_turn r s t cs ds c d = record {
-  few = let f = c.few in let g = d.few in let l = length-append cs ds in omega arith;
-  is = elim c.is [
-    | inl all ↦ elim d.is [
-      | inl rest ↦ inl (rest ∙ ap (λ x. surveyed x ds) all ∙ sym (surveyed-append r cs ds))
-      | inr wide ↦ inr (wide.0, subst (λ x. is_wide x ≡ true) (ap (λ x. surveyed x ds) all ∙ sym (surveyed-append r cs ds)) wide.1)
-    ]
-    | inr wide ↦
-        let over : is_wide (surveyed r (cs ++ ds)) ≡ true = subst (λ x. is_wide x ≡ true) (sym (surveyed-append r cs ds)) (wide-more (surveyed r cs) ds wide.1) in
-        elim d.is [
-          | inl rest ↦ inr (subst (λ x. is_wide x ≡ true) (sym rest) (wide-more s ds wide.0), over)
-          | inr both ↦ inr (both.0, over)
-        ]
-  ];
-}
-
-pub survey-one : (old new : Survey) (p q : ℕ) (v low high low1 high1 : ℤ) (t a b : Shape Leaf) → t ≡ decision q v a b → q ≡ p → low1 ≡ low → high1 ≡ high → v <ℤ low → Counted old new (cuts p low1 high1 a) → Counted old new (cuts p low high t)
-survey-one old new p q v low high low1 high1 t a b e is l h below n =
-    subst (Counted old new) (ap (λ x. cuts p x high1 a) l ∙ ap (λ x. cuts p low x a) h ∙ sym (ap (cuts p low high) (sym (at_decision p q v t a b e is)) ∙ cuts_above p low high v a b below)) n
-
-pub survey-last : (old new : Survey) (p q : ℕ) (v low high low1 high1 : ℤ) (t a b : Shape Leaf) → t ≡ decision q v a b → q ≡ p → low1 ≡ low → high1 ≡ high → low ≤ℤ v → high ≤ℤ v → Counted old new (cuts p low1 high1 b) → Counted old new (cuts p low high t)
-survey-last old new p q v low high low1 high1 t a b e is l h lv over n =
-    subst (Counted old new) (ap (λ x. cuts p x high1 b) l ∙ ap (λ x. cuts p low x b) h ∙ sym (ap (cuts p low high) (sym (at_decision p q v t a b e is)) ∙ cuts_below p low high v a b lv over)) n
-
-abbrev the_survey : ℕ → ℤ → ℤ → Survey
-the_survey n l g = record { cuts = n; least = l; greatest = g }
-
--- a cut may be counted before those below it
-same-survey : (n : ℕ) (l m g h : ℤ) → l ≡ m → g ≡ h → the_survey n l g ≡ the_survey n m h
-same-survey n l m g h at_l at_g = ap (λ (z : ℤ). the_survey n z g) at_l ∙ ap (λ (z : ℤ). the_survey n m z) at_g
-
-earlier-cut : (s : Survey) (v x : ℤ) → surveyed s (v ∷ x ∷ []) ≡ surveyed s (x ∷ v ∷ [])
-earlier-cut s v x = same-survey (s.cuts + 1 + 1) _ _ _ _ (omega (arith, ints, clamps)) (omega (arith, ints, clamps))
-
-cut-first : (s : Survey) (v : ℤ) (xs : List ℤ) → surveyed (surveyed s (v ∷ [])) xs ≡ surveyed (surveyed s xs) (v ∷ [])
-cut-first s v [] = refl
-cut-first s v (x ∷ xs) = ap (λ (t : Survey). surveyed t xs) (earlier-cut s v x) ∙ cut-first (surveyed s (x ∷ [])) v xs
-
-cut-between : (s : Survey) (v : ℤ) (xs ys : List ℤ) → surveyed (surveyed s (v ∷ [])) (xs ++ ys) ≡ surveyed s (xs ++ v ∷ ys)
-cut-between s v xs ys =
-    surveyed-append (surveyed s (v ∷ [])) xs ys ∙ ap (λ (t : Survey). surveyed t ys) (cut-first s v xs) ∙ sym (surveyed-append s xs (v ∷ ys))
-
-one_first : (s t : Survey) (v : ℤ) (xs ys : List ℤ) → Counted (surveyed s (v ∷ [])) t (xs ++ ys) → Counted s t (xs ++ v ∷ ys)
-one_first s t v xs ys c = record {
-  few = let f = c.few in let l = length-append xs ys in let m = length-append xs (v ∷ ys) in omega arith;
-  is = elim c.is [
-    | inl all ↦ inl (all ∙ cut-between s v xs ys)
-    | inr wide ↦ inr (wide.0, subst (λ x. is_wide x ≡ true) (cut-between s v xs ys) wide.1)
-  ];
-}
-
-pub survey-both : (old mid new : Survey) (l1 g1 : ℤ) (p q : ℕ) (v low high low1 v1 v2 high2 : ℤ) (t a b : Shape Leaf) → t ≡ decision q v a b → q ≡ p → low1 ≡ low → v1 ≡ v → v2 ≡ (v +ℤ pos 1) → high2 ≡ high → low ≤ℤ v → v <ℤ high →
-    l1 ≡ int_min old.least v → g1 ≡ int_max old.greatest v → Counted (record { cuts = old.cuts + 1; least = l1; greatest = g1 }) mid (cuts p low1 v1 b) → Counted mid new (cuts p v2 high2 a) →
-    Counted old new (cuts p low high t)
-survey-both old mid new l1 g1 p q v low high low1 v1 v2 high2 t a b e is l e1 e2 h lv vh ml mg m n =
-    let own : Counted (surveyed old (v ∷ [])) mid (cuts p low1 v1 b) =
-    subst (λ (x : ℤ). Counted (record { cuts = old.cuts + 1; least = int_min old.least v; greatest = x }) mid (cuts p low1 v1 b)) mg
-    (subst (λ (x : ℤ). Counted (record { cuts = old.cuts + 1; least = x; greatest = g1 }) mid (cuts p low1 v1 b)) ml m) in
-    let first : Counted (surveyed old (v ∷ [])) mid (cuts p low v b) = subst (Counted (surveyed old (v ∷ [])) mid) (ap (λ x. cuts p x v1 b) l ∙ ap (λ x. cuts p low x b) e1) own in
-    let last : Counted mid new (cuts p (v +ℤ pos 1) high a) = subst (Counted mid new) (ap (λ x. cuts p x high2 a) e2 ∙ ap (λ x. cuts p (v +ℤ pos 1) x a) h) n in
-    let all = in_turn (surveyed old (v ∷ [])) mid new (cuts p low v b) (cuts p (v +ℤ pos 1) high a) first last in
-    subst (Counted old new)
-    (sym (ap (cuts p low high) (sym (at_decision p q v t a b e is)) ∙ cuts_between p low high v a b lv vh))
-    (one_first old new v (cuts p low v b) (cuts p (v +ℤ pos 1) high a) all)
-
--- what a survey leaves room for
-pub survey-room : (old mid : Survey) (p : ℕ) (low high : ℤ) (b : Shape Leaf) → Counted old mid (cuts p low high b) → mid.cuts < old.cuts + size b
-survey-room old mid p low high b m =
-    let n = cuts-few p low high b in
-    let f = m.few in
-    omega arith
 
 pub side-split-at : (k p : ℕ) (v v1 : ℤ) (t a b : Shape Leaf) (i j : ℕ) (old mid new : List FlatNode) → t ≡ decision p v a b → v1 ≡ v → Compiles old mid i a → Compiles mid new j b →
     CompilesSide k old new (record { property = p; value = v1; above = i; rest = j }) t

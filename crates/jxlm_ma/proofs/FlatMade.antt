@@ -8,7 +8,7 @@ use Rattle.jxlm_ma.specs.Inner.FlatNodes.{Compiles, most_channels, sees_error}
 use Rattle.jxlm_ma.specs.Inner.FlatShapes.{size}
 use Rattle.jxlm_ma.specs.Inner.Pruned.{pruned}
 use Rattle.jxlm_ma.specs.Tree.{AllLeaves, Shape, leaf, decision, node_count}
-use Rattle.jxlm_ma.specs.declared.compile.Known.{Known}
+use Rattle.jxlm_ma.specs.declared.marks.Known.{Known}
 use Rattle.jxlm_ma.specs.declared.flat.FlatNode.{FlatNode}
 use Rattle.jxlm_ma.specs.declared.flat.Leaf.{Leaf}
 use Rattle.jxlm_ma.proofs.FlatWalks.{pruned-size}

@@ -5,7 +5,7 @@ use Rattle.std.proofs.lemmas.Int.{ints}
 use Rattle.std.proofs.lemmas.Bool.{false≢true}
 use Rattle.jxlm_ma.specs.declared.flat.Leaf.{Leaf}
 use Rattle.jxlm_ma.specs.declared.flat.Side.{Side}
-use Rattle.jxlm_ma.specs.declared.compile.Survey.{Survey}
+use Rattle.jxlm_ma.specs.declared.marks.Survey.{Survey}
 use Rattle.jxlm_ma.specs.declared.flat.FlatNode.{FlatNode}
 use Rattle.jxlm_ma.specs.declared.flat.FlatNode.TheVariants as node
 use Rattle.jxlm_ma.specs.Tree.{Shape, StandsAtLeaf, leaf, decision, walk, depth}
@@ -14,7 +14,8 @@ use Rattle.jxlm_ma.specs.ShortTrees.{MeetsOnce, TestsOnly}
 use Rattle.jxlm_ma.specs.Inner.Pruned.{chosen, cuts, surveyed, unsurveyed, tabled, least, greatest, hanging}
 use Rattle.jxlm_ma.specs.Inner.FlatNodes.{slot, side_end, side_says, Answers, AreOf, says, Reached, onward, reached, LeadsBelow, IsTable, Few, Serves, SideServes, Grows, Compiles, CompilesSide, Fills}
 use Rattle.jxlm_ma.proofs.FlatWalks.{eqb-same, eqb-other, chosen-walk, chosen-stands, chosen_root-depth, chosen-one, chosen_above, chosen_not_above, int_lt-tells, eqb_is, eqb-not}
-use Rattle.jxlm_ma.proofs.FlatTables.{Each, Each-map, Within, surveyed-within, surveyed-cuts, worth-some, once-not_table, chosen-same, slot-stands, stands-alike, Alike}
+use Rattle.jxlm_ma.specs.Inner.Marked.{Each}
+use Rattle.jxlm_ma.proofs.FlatTables.{Each-map, Within, surveyed-within, surveyed-cuts, worth-some, once-not_table, chosen-same, slot-stands, stands-alike, Alike}
 
 -- the two equations of the walk
 pub reached-older : (n : FlatNode) (older : List FlatNode) (i : ℕ) (a : ℕ → Answers) → i < length older → reached (n ∷ older) i a ≡ reached older i a

@@ -6,7 +6,7 @@ use Rattle.jxlm_ma.specs.Tree.{Shape, leaf, decision}
 use Rattle.jxlm_ma.specs.Inner.Compiled.{IsCompiledFor, ServesAnywhere, known_at}
 use Rattle.jxlm_ma.specs.Inner.FlatNodes.{Keeps, Serves, Tops, channels_of}
 use Rattle.jxlm_ma.specs.Inner.Pruned.{known, pruned, taken, tests_place}
-use Rattle.jxlm_ma.specs.declared.compile.Known.{Known}
+use Rattle.jxlm_ma.specs.declared.marks.Known.{Known}
 use Rattle.jxlm_ma.specs.declared.flat.CompiledTree.{CompiledTree}
 use Rattle.jxlm_ma.specs.declared.flat.Leaf.{Leaf}
 use Rattle.jxlm_ma.proofs.FlatAsks.{within}

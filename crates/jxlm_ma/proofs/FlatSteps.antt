@@ -11,7 +11,7 @@ use Rattle.jxlm_ma.specs.Inner.Compiled.{IsCompiled, IsCompiledFor, known_at}
 use Rattle.jxlm_ma.specs.Inner.FlatNodes.{slot, side_end, Answers, Heard, heard, AreOf, FirstFit, go, says, Reached, onward, reached, IsTable}
 use Rattle.jxlm_ma.specs.Inner.Pruned.{or_seen, pruned, seen}
 use Rattle.jxlm_ma.specs.Inner.Walking.{Ended, Walked}
-use Rattle.jxlm_ma.specs.declared.compile.Known.{Known}
+use Rattle.jxlm_ma.specs.declared.marks.Known.{Known}
 use Rattle.jxlm_ma.specs.declared.flat.CompiledTree.{CompiledTree}
 use Rattle.jxlm_ma.specs.declared.flat.FlatNode.{FlatNode}
 use Rattle.jxlm_ma.specs.declared.flat.FlatNode.TheVariants as node

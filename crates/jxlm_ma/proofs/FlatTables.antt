@@ -4,25 +4,22 @@ use Rattle.std.specs.Prelude.{int_lt, unsigned_abs}
 use Rattle.std.specs.Int.{int_min, int_max}
 use Rattle.std.proofs.lemmas.Int.{ints, clamps}
 use Rattle.std.proofs.lemmas.Bool.Decides.{nat_tests}
-use Rattle.jxlm_ma.specs.declared.compile.Survey.{Survey}
+use Rattle.jxlm_ma.specs.declared.marks.Survey.{Survey}
 use Rattle.jxlm_ma.specs.declared.flat.Leaf.{Leaf}
 use Rattle.jxlm_ma.specs.Tree.{Shape, leaf, decision}
 use Rattle.jxlm_ma.specs.Inner.FlatShapes.{size}
 use Rattle.jxlm_ma.specs.ShortTrees.{Avoids, MeetsOnce}
 use Rattle.jxlm_ma.specs.Inner.Pruned.{chosen, cuts, surveyed, unsurveyed, worth, tabled, least, greatest}
+use Rattle.jxlm_ma.specs.Inner.Marked.{Each}
 use Rattle.jxlm_ma.specs.Inner.FlatNodes.{slot}
 use Rattle.jxlm_ma.proofs.FlatWalks.{above, not_above, int_lt-tells, eqb-same, eqb-not, eqb_is, chosen_above, chosen_not_above, chosen-other}
 
 -- P of each cut
-abbrev pub Each : (ℤ → Type 0) → List ℤ → Type 0
-Each P [] = Unit {0}
-Each P (v ∷ vs) = P v × Each P vs
-
-Each-front : (P : ℤ → Type 0) (xs ys : List ℤ) → Each P (xs ++ ys) → Each P xs
+pub Each-front : (P : ℤ → Type 0) (xs ys : List ℤ) → Each P (xs ++ ys) → Each P xs
 Each-front P [] ys h = tt
 Each-front P (x ∷ xs) ys h = (h.0, Each-front P xs ys h.1)
 
-Each-back : (P : ℤ → Type 0) (xs ys : List ℤ) → Each P (xs ++ ys) → Each P ys
+pub Each-back : (P : ℤ → Type 0) (xs ys : List ℤ) → Each P (xs ++ ys) → Each P ys
 Each-back P [] ys h = h
 Each-back P (x ∷ xs) ys h = Each-back P xs ys h.1
 

@@ -4,7 +4,7 @@ use Rattle.std.specs.Prelude.{int_lt}
 use Rattle.std.proofs.lemmas.Int.{ints}
 use Rattle.std.proofs.lemmas.Bool.Decides.{nat_tests, eqb_tells}
 use Rattle.jxlm_ma.specs.declared.flat.Leaf.{Leaf}
-use Rattle.jxlm_ma.specs.declared.compile.Known.{Known}
+use Rattle.jxlm_ma.specs.declared.marks.Known.{Known}
 use Rattle.jxlm_ma.specs.Tree.{Shape, StandsAtLeaf, leaf, decision, walk, depth}
 use Rattle.jxlm_ma.specs.Inner.FlatShapes.{size, Lacks}
 use Rattle.jxlm_ma.specs.ShortTrees.{Avoids, MeetsOnce, TestsOnly}

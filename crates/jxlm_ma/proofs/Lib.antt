@@ -9,6 +9,7 @@ pub mod Shapes
 pub mod TreeStanding
 pub mod FlatWalks
 pub mod FlatTables
+pub mod FlatCuts
 pub mod FlatNodes
 pub mod FlatCasts
 pub mod FlatLooks

@@ -5,9 +5,8 @@ pub mod Queue
 pub mod TreeShape
 pub mod Walking
 pub mod Compiled
-pub mod Counting
 pub mod FlatNodes
 pub mod FlatShapes
+pub mod Marked
 pub mod Pruned
-pub mod Rooted
 pub mod SoundNodes

@@ -2,178 +2,14 @@
 
 ghost use Rattle.std.specs.Prelude.{◌≡◌, ℕ, ℤ, pos, ◌+◌, ◌<◌, ◌≤◌, ◌∷◌, ◌≤ℤ◌, ◌+ℤ◌, ◌-ℤ◌, length, slice_index, IfOk, OnOk, ◌^◌};
 ghost use Rattle.std.proofs.Common.{reverse};
-ghost use Rattle.jxlm_ma.specs.Inner.Counting.{Counted, is_wide};
 ghost use Rattle.jxlm_ma.specs.Inner.FlatNodes.{Compiles, CompilesSide, Fills};
 ghost use Rattle.jxlm_ma.specs.Inner.FlatShapes.{size};
-ghost use Rattle.jxlm_ma.specs.Inner.Pruned.{known as known_of, pruned, cuts, tabled, least, greatest};
-ghost use Rattle.jxlm_ma.specs.Inner.Rooted.{rooted};
-ghost use Rattle.jxlm_ma.specs.Inner.TreeShape.{shape_of};
+ghost use Rattle.jxlm_ma.specs.Inner.Marked.{IsMarked, marked_shape};
+ghost use Rattle.jxlm_ma.specs.Inner.Pruned.{least, greatest};
 
 use crate::flat::{FlatNode, Leaf, Side};
-use crate::tree::MaTreeNode;
+use crate::marks::Marked;
 use std::alloc::{AllocError, Global};
-
-/// What is known of the properties when a tree is compiled: the channel and the stream as decisions read them, and
-/// how many earlier channels there are.
-#[derive(Clone, Copy)]
-pub struct Known {
-    pub channel: i32,
-    pub stream: i32,
-    pub prev_channels: u32,
-}
-
-// What was counted of cuts: how many, the least and the greatest.
-#[derive(Clone, Copy)]
-pub struct Survey {
-    pub cuts: u32,
-    pub least: i32,
-    pub greatest: i32,
-}
-
-impl Survey {
-    // Whether the cuts differ by more than those of a table.
-    fn is_wide(&self) -> bool
-        ensures { result ≡ is_wide self.now }
-    {
-        i64::from(self.least) + 1022 < i64::from(self.greatest)
-    }
-}
-
-// The value of a property, where it is known.
-fn known_value(known: &Known, property: u32) -> Option<i32>
-    ensures { result ≡ known_of known.now property }
-{
-    if property == 0 {
-        return Some(known.channel);
-    }
-    if property == 1 {
-        return Some(known.stream);
-    }
-    if u64::from(property) < 16 + 4 * u64::from(known.prev_channels) {
-        return None;
-    }
-    Some(0)
-}
-
-// The root of a pruned tree.
-#[derive(Drop)]
-pub enum Root<'t> {
-    Leaf(Leaf),
-    Decision {
-        property: u32,
-        value: i32,
-        left: &'t MaTreeNode,
-        right: &'t MaTreeNode,
-    },
-}
-
-// The root of the tree once known decisions are taken.
-fn open_root<'t>(tree: &'t MaTreeNode, known: &Known) -> Root<'t>
-    ensures { pruned known.now (shape_of tree.now) ≡ rooted known.now result }
-{
-    match tree {
-        MaTreeNode::Leaf(leaf) => Root::Leaf(*leaf),
-        MaTreeNode::Decision {
-            property,
-            value,
-            left,
-            right,
-        } => match known_value(known, *property) {
-            None => Root::Decision {
-                property: *property,
-                value: *value,
-                left,
-                right,
-            },
-            Some(x) => {
-                if x > *value {
-                    open_root(left, known)
-                } else {
-                    open_root(right, known)
-                }
-            }
-        },
-    }
-}
-
-// Counts the cuts of the decisions on `property` that hang together from the root, in `low..=high`, until they are
-// too wide for a table.
-fn count_cuts(
-    tree: &MaTreeNode,
-    known: &Known,
-    property: u32,
-    low: i64,
-    high: i64,
-    found: &mut Survey,
-)
-    requires room { found.old.cuts + size (pruned known.now (shape_of tree.now)) < 2 ^ 32 }
-    requires low { least ≤ℤ low }
-    requires high { high ≤ℤ greatest }
-    ensures { Counted found.old found.new (cuts property low high (pruned known.now (shape_of tree.now))) }
-{
-    if found.is_wide() {
-        return;
-    }
-    match open_root(tree, known) {
-        Root::Leaf(_) => {}
-        Root::Decision {
-            property: tested,
-            value,
-            left,
-            right,
-        } => {
-            if tested != property {
-                return;
-            }
-            let cut = i64::from(value);
-            if cut < low {
-                count_cuts(left, known, property, low, high, found);
-            } else if cut < high {
-                found.cuts = found.cuts + 1;
-                found.least = found.least.min(value);
-                found.greatest = found.greatest.max(value);
-                count_cuts(right, known, property, low, cut, found);
-                count_cuts(left, known, property, cut + 1, high, found);
-            } else {
-                count_cuts(right, known, property, low, high, found);
-            }
-        }
-    }
-}
-
-// The cuts of a decision that becomes a table.
-fn table_of(tree: &MaTreeNode, known: &Known) -> Option<Survey>
-    requires { size (pruned known.now (shape_of tree.now)) < 2 ^ 32 }
-    ensures { result ≡ tabled (pruned known.now (shape_of tree.now)) }
-{
-    match open_root(tree, known) {
-        Root::Leaf(_) => None,
-        Root::Decision {
-            property,
-            value: _,
-            left: _,
-            right: _,
-        } => {
-            let mut found = Survey {
-                cuts: 0,
-                least: i32::MAX,
-                greatest: i32::MIN,
-            };
-            count_cuts(
-                tree,
-                known,
-                property,
-                i64::from(i32::MIN),
-                i64::from(i32::MAX),
-                &mut found,
-            );
-            if found.cuts < 3 || found.is_wide() {
-                return None;
-            }
-            Some(found)
-        }
-    }
-}
 
 // Adds a node, and says where it stands.
 fn add(nodes: &mut Vec<FlatNode>, node: FlatNode) -> Result<u32, AllocError>
@@ -188,46 +24,43 @@ fn add(nodes: &mut Vec<FlatNode>, node: FlatNode) -> Result<u32, AllocError>
 
 // Adds the nodes of a tree, its root last.
 #[cycle(compile)]
-pub fn compile(
-    alloc: Global,
-    tree: &MaTreeNode,
-    known: &Known,
-    nodes: &mut Vec<FlatNode>,
-) -> Result<u32, AllocError>
-    requires { length (reverse nodes.old.items) + size (pruned known.now (shape_of tree.now)) < 2 ^ 32 }
+pub fn compile(alloc: Global, tree: &Marked, nodes: &mut Vec<FlatNode>) -> Result<u32, AllocError>
+    requires marked { IsMarked tree.now }
+    requires room { length (reverse nodes.old.items) + size (marked_shape tree.now) < 2 ^ 32 }
     ensures { IfOk result (λ i. Compiles (reverse nodes.old.items) (reverse nodes.new.items) i
-        (pruned known.now (shape_of tree.now))) }
+        (marked_shape tree.now)) }
 {
-    match open_root(tree, known) {
-        Root::Leaf(leaf) => add(nodes, FlatNode::Leaf(leaf)),
-        Root::Decision {
+    match tree {
+        Marked::Leaf(leaf) => add(nodes, FlatNode::Leaf(*leaf)),
+        Marked::Decision {
             property,
             value,
+            table,
             left,
             right,
-        } => match table_of(tree, known) {
+        } => match table {
             Some(found) => {
                 let mut entries = Vec::new(alloc);
                 let low = i64::from(found.least);
                 let high = i64::from(found.greatest) + 1;
-                fill(alloc, tree, known, property, low, high, nodes, &mut entries)?;
+                fill(alloc, tree, *property, low, high, nodes, &mut entries)?;
                 add(
                     nodes,
                     FlatNode::Table {
-                        property,
+                        property: *property,
                         base: found.least,
                         entries,
                     },
                 )
             }
             None => {
-                let left = compile_side(alloc, left, known, property, nodes)?;
-                let right = compile_side(alloc, right, known, property, nodes)?;
+                let left = compile_side(alloc, left, *property, nodes)?;
+                let right = compile_side(alloc, right, *property, nodes)?;
                 add(
                     nodes,
                     FlatNode::Fused {
-                        property,
-                        value,
+                        property: *property,
+                        value: *value,
                         left,
                         right,
                     },
@@ -241,36 +74,37 @@ pub fn compile(
 #[cycle(compile)]
 fn compile_side(
     alloc: Global,
-    tree: &MaTreeNode,
-    known: &Known,
+    tree: &Marked,
     fallback: u32,
     nodes: &mut Vec<FlatNode>,
 ) -> Result<Side, AllocError>
-    requires { length (reverse nodes.old.items) + size (pruned known.now (shape_of tree.now)) < 2 ^ 32 }
+    requires marked { IsMarked tree.now }
+    requires room { length (reverse nodes.old.items) + size (marked_shape tree.now) < 2 ^ 32 }
     ensures { IfOk result (λ s. CompilesSide fallback (reverse nodes.old.items) (reverse nodes.new.items) s
-        (pruned known.now (shape_of tree.now))) }
+        (marked_shape tree.now)) }
 {
-    match open_root(tree, known) {
-        Root::Leaf(_) => {}
-        Root::Decision {
+    match tree {
+        Marked::Leaf(_) => {}
+        Marked::Decision {
             property,
             value,
+            table,
             left,
             right,
         } => {
-            if table_of(tree, known).is_none() {
-                let above = compile(alloc, left, known, nodes)?;
-                let rest = compile(alloc, right, known, nodes)?;
+            if table.is_none() {
+                let above = compile(alloc, left, nodes)?;
+                let rest = compile(alloc, right, nodes)?;
                 return Ok(Side {
-                    property,
-                    value,
+                    property: *property,
+                    value: *value,
                     above,
                     rest,
                 });
             }
         }
     }
-    let place = compile(alloc, tree, known, nodes)?;
+    let place = compile(alloc, tree, nodes)?;
     Ok(Side {
         property: fallback,
         value: 0,
@@ -300,43 +134,44 @@ fn extend(entries: &mut Vec<u32>, place: u32, low: i64, high: i64) -> Result<(),
 #[cycle(compile)]
 fn fill(
     alloc: Global,
-    tree: &MaTreeNode,
-    known: &Known,
+    tree: &Marked,
     property: u32,
     low: i64,
     high: i64,
     nodes: &mut Vec<FlatNode>,
     entries: &mut Vec<u32>,
 ) -> Result<(), AllocError>
-    requires room { length (reverse nodes.old.items) + size (pruned known.now (shape_of tree.now)) < 2 ^ 32 }
+    requires marked { IsMarked tree.now }
+    requires room { length (reverse nodes.old.items) + size (marked_shape tree.now) < 2 ^ 32 }
     requires low { least ≤ℤ low }
     requires order { low ≤ℤ high }
     requires high { high ≤ℤ (greatest +ℤ pos 1) }
     requires short { (pos (length entries.old.items) +ℤ (high -ℤ low)) ≤ℤ pos 1023 }
     ensures { OnOk result (Fills (reverse nodes.old.items) (reverse nodes.new.items) entries.old.items
-        entries.new.items property low high (pruned known.now (shape_of tree.now))) }
+        entries.new.items property low high (marked_shape tree.now)) }
 {
-    match open_root(tree, known) {
-        Root::Leaf(_) => {}
-        Root::Decision {
+    match tree {
+        Marked::Leaf(_) => {}
+        Marked::Decision {
             property: tested,
             value,
+            table: _,
             left,
             right,
         } => {
-            if tested == property {
-                let cut = i64::from(value);
+            if *tested == property {
+                let cut = i64::from(*value);
                 if cut < low {
-                    return fill(alloc, left, known, property, low, high, nodes, entries);
+                    return fill(alloc, left, property, low, high, nodes, entries);
                 }
                 if cut < high {
-                    fill(alloc, right, known, property, low, cut, nodes, entries)?;
-                    return fill(alloc, left, known, property, cut + 1, high, nodes, entries);
+                    fill(alloc, right, property, low, cut, nodes, entries)?;
+                    return fill(alloc, left, property, cut + 1, high, nodes, entries);
                 }
-                return fill(alloc, right, known, property, low, high, nodes, entries);
+                return fill(alloc, right, property, low, high, nodes, entries);
             }
         }
     }
-    let place = compile(alloc, tree, known, nodes)?;
+    let place = compile(alloc, tree, nodes)?;
     extend(entries, place, low, high)
 }

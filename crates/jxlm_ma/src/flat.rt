@@ -15,7 +15,8 @@ ghost use Rattle.jxlm_ma.specs.Inner.Walking.{Ended, EndsAt};
 ghost use Rattle.jxlm_base.specs.ErrorKind.{NoMemory, kind_of};
 ghost use Rattle.jxlm_ma.specs.Inner.TreeShape.{shape_of};
 
-use crate::compile::{Known, compile};
+use crate::compile::compile;
+use crate::marks::{Known, mark};
 pub use crate::steps::Steps;
 use crate::tree::{MaTree, MaTreeNode};
 use jxlm_base::bits::Bitstream;
@@ -222,7 +223,8 @@ impl CompiledTree {
             prev_channels,
         };
         let mut nodes = Vec::new(alloc);
-        let root = compile(alloc, &tree.root, &known, &mut nodes).map_err(|_| OutOfMemory)?;
+        let marks = mark(alloc, &tree.root, &known).map_err(|_| OutOfMemory)?;
+        let root = compile(alloc, &marks.tree, &mut nodes).map_err(|_| OutOfMemory)?;
         let need_self_correcting = nodes.iter().any(|node| node.needs_weights());
         let prev_channels_named = nodes
             .iter()

@@ -5,6 +5,7 @@ mod build;
 mod compile;
 pub mod flat;
 pub mod ma;
+mod marks;
 mod nodes;
 mod steps;
 mod tree;

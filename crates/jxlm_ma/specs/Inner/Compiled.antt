@@ -8,7 +8,7 @@ use Rattle.jxlm_ma.specs.Inner.FlatShapes.{earlier_named, size}
 use Rattle.jxlm_ma.specs.Inner.FlatNodes.{IsSound, Keeps, Tops, Serves, most_channels, sees_error}
 use Rattle.jxlm_ma.specs.Inner.Pruned.{pruned, tests_place}
 use Rattle.jxlm_ma.specs.Tree.{AllLeaves, Shape}
-use Rattle.jxlm_ma.specs.declared.compile.Known.{Known}
+use Rattle.jxlm_ma.specs.declared.marks.Known.{Known}
 use Rattle.jxlm_ma.specs.declared.flat.CompiledTree.{CompiledTree}
 use Rattle.jxlm_ma.specs.declared.flat.FlatNode.{FlatNode}
 use Rattle.jxlm_ma.specs.declared.flat.Leaf.{Leaf}

@@ -1,8 +1,8 @@
 -- What is left of a tree where some properties are known, and what a table needs to know of it.
 use Rattle.std.specs.Prelude.{ℕ, ◌+◌, ◌*◌, ◌==◌, nat_lt, ◌||◌, Bool, false, ℤ, pos, neg_ℤ, ◌+ℤ◌, int_lt, if◌then◌else◌, List, [], ◌∷◌, ◌++◌, Option, Some, None, ◌^◌}
 use Rattle.std.specs.Int.{int_min, int_max}
-use Rattle.jxlm_ma.specs.declared.compile.Known.{Known}
-use Rattle.jxlm_ma.specs.declared.compile.Survey.{Survey}
+use Rattle.jxlm_ma.specs.declared.marks.Known.{Known}
+use Rattle.jxlm_ma.specs.declared.marks.Survey.{Survey}
 use Rattle.jxlm_ma.specs.declared.flat.Leaf.{Leaf}
 use Rattle.jxlm_ma.specs.Tree.{Shape, leaf, decision}
 use Rattle.jxlm_ma.specs.Inner.FlatShapes.{size}

@@ -1,14 +1,14 @@
 use Rattle.std.proofs.Common.{◌+◌, ◌*◌}
 use Rattle.jxlm_ma.specs.Inner.FlatShapes.{size}
-use Rattle.jxlm_ma.specs.Inner.TreeShape.{shape_of}
-use Rattle.jxlm_ma.specs.Inner.Pruned.{pruned, hanging}
+use Rattle.jxlm_ma.specs.Inner.Marked.{marked_shape}
+use Rattle.jxlm_ma.specs.Inner.Pruned.{hanging}
 use Rattle.jxlm_ma.proofs.compile.+compile.Given as goal
 
 abbrev pub decreases-compile : goal.decreases-compile
-decreases-compile l = 3 * size (pruned l.known.now (shape_of l.tree.now)) + 1
+decreases-compile l = 3 * size (marked_shape l.tree.now) + 1
 
 abbrev pub decreases-compile_side : goal.decreases-compile_side
-decreases-compile_side l = 3 * size (pruned l.known.now (shape_of l.tree.now)) + 2
+decreases-compile_side l = 3 * size (marked_shape l.tree.now) + 2
 
 abbrev pub decreases-fill : goal.decreases-fill
-decreases-fill l = 3 * hanging l.property (pruned l.known.now (shape_of l.tree.now)) + 2
+decreases-fill l = 3 * hanging l.property (marked_shape l.tree.now) + 2
