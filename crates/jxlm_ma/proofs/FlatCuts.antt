@@ -8,6 +8,7 @@ use Rattle.jxlm_ma.specs.declared.marks.Marked.{Marked}
 use Rattle.jxlm_ma.specs.declared.marks.Survey.{Survey}
 use Rattle.jxlm_ma.specs.declared.flat.Leaf.{Leaf}
 use Rattle.jxlm_ma.specs.Tree.{Shape, leaf, decision}
+use Rattle.jxlm_ma.specs.Inner.FlatShapes.{size}
 use Rattle.jxlm_ma.specs.Inner.Marked.{Ascends, Each, IsMarked, LeavesAbove, LeavesBelow, asks_for, marked_shape, root_cuts}
 use Rattle.jxlm_ma.specs.Inner.Pruned.{cuts, surveyed, unsurveyed, tabled, worth, least, greatest}
 use Rattle.jxlm_ma.proofs.FlatTables.{Each-back, Each-front, Each-map, cuts_above, cuts_below, cuts_between, cuts-other, surveyed-cuts}
@@ -333,3 +334,6 @@ pub decision-marked : (p : ℕ) (v v1 : ℤ) (table : Option Survey) (cs : List 
     cs ≡ root_cuts (decision p v (marked_shape l) (marked_shape r)) → table ≡ worth (surveyed unsurveyed cs) →
     ((table ≡ tabled (decision p v1 (marked_shape l1) (marked_shape r1))) × (IsMarked l1 × IsMarked r1)) × (cs ≡ root_cuts (decision p v1 (marked_shape l1) (marked_shape r1)))
 decision-marked p v v1 table cs l l1 r r1 ev el er ml mr are is = rw (ev, el, er) ((is ∙ ap (λ xs. worth (surveyed unsurveyed xs)) are, (ml, mr)), are)
+
+pub size_of : {m n : Marked} → m ≡ n → size (marked_shape m) ≡ size (marked_shape n)
+size_of e = ap (λ m. size (marked_shape m)) e

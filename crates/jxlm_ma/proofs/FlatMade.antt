@@ -6,9 +6,12 @@ use Rattle.jxlm_ma.specs.FlatTree.{HasMultiplier}
 use Rattle.jxlm_ma.specs.Inner.Compiled.{IsCompiled}
 use Rattle.jxlm_ma.specs.Inner.FlatNodes.{Compiles, most_channels, sees_error}
 use Rattle.jxlm_ma.specs.Inner.FlatShapes.{size}
+use Rattle.jxlm_ma.specs.Inner.Marked.{AreMarks, IsMarked, marked_shape}
 use Rattle.jxlm_ma.specs.Inner.Pruned.{pruned}
 use Rattle.jxlm_ma.specs.Tree.{AllLeaves, Shape, leaf, decision, node_count}
 use Rattle.jxlm_ma.specs.declared.marks.Known.{Known}
+use Rattle.jxlm_ma.specs.declared.marks.Marked.{Marked}
+use Rattle.jxlm_ma.specs.declared.marks.Marks.{Marks}
 use Rattle.jxlm_ma.specs.declared.flat.FlatNode.{FlatNode}
 use Rattle.jxlm_ma.specs.declared.flat.Leaf.{Leaf}
 use Rattle.jxlm_ma.proofs.FlatWalks.{pruned-size}
@@ -24,6 +27,20 @@ room t known nodes none few =
     let s = pruned-size known t in
     let n = size-is t in
     omega arith
+
+-- the same, of a marked tree
+pub marked-room : (t : Shape Leaf) (known : Known) (nodes : List FlatNode) (m : Marked) → marked_shape m ≡ pruned known t → nodes ≡ [] → node_count t ≤ 2 ^ 26 →
+    length (reverse nodes) + size (marked_shape m) < 2 ^ 32
+marked-room t known nodes m same none few =
+    let s = ap (λ u. size u) same in
+    let r = room t known nodes none few in
+    omega arith
+
+pub compiles-as : (old new : List FlatNode) (i : ℕ) (t u : Shape Leaf) → t ≡ u → Compiles old new i t → Compiles old new i u
+compiles-as old new i t u same h = subst (λ s. Compiles old new i s) same h
+
+pub marked-of : (m : Marks) → AreMarks m → IsMarked m.tree
+marked-of m h = h.marked
 
 -- the value where nothing failed
 pub ok_at : {T E : Type 0} (P : T → Type 0) (r : Result T E) (x : T) → r ≡ Ok x → IfOk r P → P x

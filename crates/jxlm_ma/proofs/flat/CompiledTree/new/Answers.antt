@@ -1,4 +1,4 @@
-use Rattle.std.proofs.Common.{rules, tests, ◌≡◌, w32, ap, ◌∙◌, arith, SFits, Ok}
+use Rattle.std.proofs.Common.{rules, to_z, of_z, tests, ◌≡◌, w32, ap, ◌∙◌, arith, SFits, Ok}
 use Rattle.std.specs.List.{list_any}
 use Rattle.std.proofs.lemmas.Int.{to_z-of_z}
 use Rattle.std.proofs.lemmas.Grind.{common_steps}
@@ -6,11 +6,17 @@ use Rattle.std.proofs.lemmas.Iterator.{YieldsList-from_slice}
 use Rattle.std.proofs.lemmas.Iterator.Search.{any_from_yields_List}
 use Rattle.jxlm_ma.specs.Inner.FlatNodes.{most_channels, sees_error}
 use Rattle.jxlm_ma.specs.Inner.TreeShape.{shape_of}
-use Rattle.jxlm_ma.proofs.FlatMade.{room, ok_at, made_of, is_compiled}
+use Rattle.jxlm_ma.proofs.FlatMade.{known_by, marked-room, marked-of, compiles-as, ok_at, made_of, is_compiled}
 use Rattle.jxlm_ma.proofs.flat.CompiledTree.new.Goals as goal
 
 pub compile-requires : goal.compile-requires
-compile-requires c = room _ _ _ c.new-nodes.ensures.items c.requires.few
+compile-requires c =
+    let kept : c.mark.result ≡ Ok c.in_ok-marks.marks = grind (arith, common_steps, c.in_ok-marks.was, c.map_err.ensures.cases) in
+    let same = ok_at _ _ _ kept c.mark.ensures.tree in
+    record {
+      marked = marked-of _ (ok_at _ _ _ kept c.mark.ensures.marks);
+      room = marked-room (shape_of c.args.tree.now.root) (known_by (to_z w32 (of_z w32 c.read_as_signed.result)) (to_z w32 (of_z w32 c.read_as_signed-2.result)) c.args.prev_channels) _ _ same c.new-nodes.ensures.items c.requires.few;
+    }
 
 pub returns-clause-compiled : goal.returns-clause-compiled
 returns-clause-compiled c =
@@ -18,7 +24,9 @@ returns-clause-compiled c =
     let stream_fits : SFits w32 c.read_as_signed-2.result = search rules in
     let needs = any_from_yields_List sees_error _ _ c.any-need_self_correcting.result c.any-need_self_correcting.ensures.ran (YieldsList-from_slice c.deref.result.now cc) (λ x b q k. search (rules, tests)) in
     let named : c.fold-prev_channels_named.result ≡ most_channels c.compile.new.nodes.items = grind (arith, common_steps) in
-    let kept : c.compile.result ≡ Ok c.in_ok-root.root = grind (arith, common_steps, c.in_ok-root.was, c.map_err.ensures.cases) in
-    let compiles = ok_at _ _ _ kept c.compile.ensures in
+    let marked : c.mark.result ≡ Ok c.in_ok-marks.marks = grind (arith, common_steps, c.in_ok-marks.was, c.map_err.ensures.cases) in
+    let same = ok_at _ _ _ marked c.mark.ensures.tree in
+    let kept : c.compile.result ≡ Ok c.in_ok-root.root = grind (arith, common_steps, c.in_ok-root.was, c.map_err-2.ensures.cases) in
+    let compiles = compiles-as _ _ _ _ _ same (ok_at _ _ _ kept c.compile.ensures) in
     let made = made_of (shape_of c.args.tree.now.root) _ _ _ _ c.args.prev_channels _ c.compile.new.nodes.items _ c.new-nodes.ensures.items (to_z-of_z w32 c.read_as_signed.result channel_fits ∙ c.read_as_signed.ensures) (to_z-of_z w32 c.read_as_signed-2.result stream_fits ∙ c.read_as_signed-2.ensures) compiles in
     is_compiled _ _ c.compile.new.nodes.items _ _ _ c.requires.multipliers made (needs ∙ ap (list_any sees_error) c.deref.ensures.value) named
