@@ -94,3 +94,7 @@ pub side-split-at : (k p : ℕ) (v v1 : ℤ) (t a b : Shape Leaf) (i j : ℕ) (o
 side-split-at k p v v1 t a b i j old mid new e is ca cb =
     subst (λ (z : ℤ). CompilesSide k old new (record { property = p; value = z; above = i; rest = j }) t) (sym is)
     (subst (λ u. CompilesSide k old new (record { property = p; value = v; above = i; rest = j }) u) (sym e) (side-split k p v a b i j old mid new ca cb))
+
+pub side-named : (k p q : ℕ) (v : ℤ) (i j : ℕ) (old new : List FlatNode) (t : Shape Leaf) → q ≡ p → CompilesSide k old new (record { property = p; value = v; above = i; rest = j }) t →
+    CompilesSide k old new (record { property = q; value = v; above = i; rest = j }) t
+side-named k p q v i j old new t e h = subst (λ n. CompilesSide k old new (record { property = n; value = v; above = i; rest = j }) t) (sym e) h

@@ -9,6 +9,7 @@ ghost use Rattle.jxlm_ma.specs.Inner.Pruned.{least, greatest};
 
 use crate::flat::{FlatNode, Leaf, Side};
 use crate::marks::Marked;
+use jxlm_tree::place::AskedProperty;
 use std::alloc::{AllocError, Global};
 
 // Adds a node, and says where it stands.
@@ -47,7 +48,7 @@ pub fn compile(alloc: Global, tree: &Marked, nodes: &mut Vec<FlatNode>) -> Resul
                 add(
                     nodes,
                     FlatNode::Table {
-                        property: *property,
+                        property: AskedProperty::new(*property),
                         base: found.least,
                         entries,
                     },
@@ -59,7 +60,7 @@ pub fn compile(alloc: Global, tree: &Marked, nodes: &mut Vec<FlatNode>) -> Resul
                 add(
                     nodes,
                     FlatNode::Fused {
-                        property: *property,
+                        property: AskedProperty::new(*property),
                         value: *value,
                         left,
                         right,
@@ -96,7 +97,7 @@ fn compile_side(
                 let above = compile(alloc, left, nodes)?;
                 let rest = compile(alloc, right, nodes)?;
                 return Ok(Side {
-                    property: *property,
+                    property: AskedProperty::new(*property),
                     value: *value,
                     above,
                     rest,
@@ -106,7 +107,7 @@ fn compile_side(
     }
     let place = compile(alloc, tree, nodes)?;
     Ok(Side {
-        property: fallback,
+        property: AskedProperty::new(fallback),
         value: 0,
         above: place,
         rest: place,

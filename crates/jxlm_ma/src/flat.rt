@@ -24,7 +24,7 @@ use jxlm_base::decoder::Decoder;
 use jxlm_base::error::Result;
 use jxlm_base::grid::OutOfMemory;
 use jxlm_base::sample::Sealed;
-pub use jxlm_tree::place::PlaceProperties;
+pub use jxlm_tree::place::{AskedProperty, PlaceProperties};
 use jxlm_tree::predictor::Predictor;
 use jxlm_tree::reduced::read_as_signed;
 use std::alloc::Global;
@@ -58,10 +58,10 @@ impl Leaf {
 }
 
 /// One side of a fused node: the test of a property, and where the walk goes on.
-#[derive(Clone, Copy)]
+#[derive(Drop)]
 pub struct Side {
-    /// The number of the property, from 2 on.
-    pub property: u32,
+    /// The property, from 2 on.
+    pub property: AskedProperty,
     /// What the property is compared with.
     pub value: i32,
     /// The place of the next node where the property is greater than the value.
@@ -78,13 +78,13 @@ pub enum FlatNode {
     /// The walk goes on at the entry of a property's value: the first entry serves all values up to `base`, each
     /// other one the next greater value, and the last one all values from its own on.
     Table {
-        property: u32,
+        property: AskedProperty,
         base: i32,
         entries: Vec<u32>,
     },
     /// Two tests at once: that of the left side follows where the property is greater than the value.
     Fused {
-        property: u32,
+        property: AskedProperty,
         value: i32,
         left: Side,
         right: Side,
@@ -152,7 +152,7 @@ impl Side {
         requires { P.IsCurrent properties.now }
         ensures { EndsAt P.gives properties.now self.now result }
     {
-        if properties.property(self.property as usize) > self.value {
+        if properties.property(&self.property) > self.value {
             self.above
         } else {
             self.rest
@@ -174,13 +174,15 @@ impl FlatNode {
     {
         match self {
             FlatNode::Leaf(leaf) => leaf.predictor == Predictor::SelfCorrecting,
-            FlatNode::Table { property, .. } => *property == 15,
+            FlatNode::Table { property, .. } => property.number() == 15,
             FlatNode::Fused {
                 property,
                 left,
                 right,
                 ..
-            } => *property == 15 || left.property == 15 || right.property == 15,
+            } => property.number() == 15
+                || left.property.number() == 15
+                || right.property.number() == 15,
         }
     }
 
@@ -190,15 +192,15 @@ impl FlatNode {
     {
         match self {
             FlatNode::Leaf(_) => 0,
-            FlatNode::Table { property, .. } => earlier_of(*property),
+            FlatNode::Table { property, .. } => earlier_of(property.number()),
             FlatNode::Fused {
                 property,
                 left,
                 right,
                 ..
-            } => earlier_of(*property)
-                .max(earlier_of(left.property))
-                .max(earlier_of(right.property)),
+            } => earlier_of(property.number())
+                .max(earlier_of(left.property.number()))
+                .max(earlier_of(right.property.number())),
         }
     }
 }
@@ -272,7 +274,7 @@ impl CompiledTree {
                     base,
                     entries,
                 } => {
-                    let value = properties.property(*property as usize);
+                    let value = properties.property(property);
                     place = entries[entry_of(*base, entries.len() - 1, value)] as usize;
                 }
                 FlatNode::Fused {
@@ -281,7 +283,7 @@ impl CompiledTree {
                     left,
                     right,
                 } => {
-                    let goes_left = properties.property(*property as usize) > *value;
+                    let goes_left = properties.property(property) > *value;
                     let side = if goes_left { left } else { right };
                     place = side.end(properties) as usize;
                 }

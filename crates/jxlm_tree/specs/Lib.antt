@@ -1,4 +1,5 @@
 pub mod Around
+pub mod Asked
 pub mod Correcting
 pub mod EarlierRows
 pub mod Holding

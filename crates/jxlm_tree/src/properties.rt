@@ -12,7 +12,7 @@ ghost use Rattle.jxlm_tree.specs.Standing.{Setting, StandsAt, IsReady, IsInner, 
 
 use crate::around::Around;
 use crate::earlier::EarlierRow;
-use crate::place::PlaceProperties;
+use crate::place::{AskedProperty, Kind, PlaceProperties};
 use crate::reduced::{read_as_signed, reduced_absolute};
 use crate::self_correcting::PredictionResult;
 use crate::state::PredictorState;
@@ -167,8 +167,25 @@ impl<S: Sample> PlaceProperties for Properties<'_, S> {
         (surroundings s (store_meanings S.to_int (store_of p)) samples) k };
 
     #[inline(always)]
-    fn property(&self, number: usize) -> i32 {
-        self.get(number)
+    fn property(&self, asked: &AskedProperty) -> i32 {
+        match asked.kind {
+            Kind::Channel | Kind::Stream => 0,
+            Kind::Row => self.get(2),
+            Kind::Column => self.get(3),
+            Kind::NorthAbsolute => self.get(4),
+            Kind::WestAbsolute => self.get(5),
+            Kind::North => self.get(6),
+            Kind::West => self.get(7),
+            Kind::WestLessGradient => self.get(8),
+            Kind::Gradient => self.get(9),
+            Kind::WestLessNorthWest => self.get(10),
+            Kind::NorthWestLessNorth => self.get(11),
+            Kind::NorthLessNorthEast => self.get(12),
+            Kind::NorthLessNorthNorth => self.get(13),
+            Kind::WestLessWestWest => self.get(14),
+            Kind::MaximumError => self.get(15),
+            Kind::Earlier(number) => self.get(16 + number as usize),
+        }
     }
 }
 

@@ -5,7 +5,7 @@ use jxlm_base::bits::{Bitstream, BitstreamError};
 use jxlm_base::grid::{AlignedGrid, Region};
 use jxlm_base::region::region_set;
 use jxlm_base_tests::text::bytes;
-use jxlm_ma::flat::PlaceProperties;
+use jxlm_ma::flat::{AskedProperty, PlaceProperties};
 use jxlm_tree::eighths::{after_clamp, before_clamp};
 use jxlm_tree::predictor::{
     Predictor, PredictorState, WpHeader, self_correcting_stays_in_range, weights_are_read_exactly,
@@ -175,7 +175,10 @@ fn another_channel(rt: HostRuntime) -> Result<(), Fail> {
         assert_eq!(rt; first.get(property), 0, "at {property}");
     }
     assert_eq!(rt; [first.get(16), first.get(17)], [5, -5]);
-    assert_eq!(rt; [first.get(18), first.property(19)], [5, -5]);
+    assert_eq!(rt;
+        [first.get(18), first.property(&AskedProperty::new(19))],
+        [5, -5]
+    );
     assert_eq!(rt; first.get(20), 0);
     assert_eq!(rt; Predictor::SelfCorrecting.predict(&first), 0);
     Ok(())

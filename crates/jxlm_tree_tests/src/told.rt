@@ -1,6 +1,6 @@
 //! Properties as a test gives them.
 
-use jxlm_ma::flat::PlaceProperties;
+use jxlm_ma::flat::{AskedProperty, PlaceProperties};
 
 /// Properties of a cell, from property 2 on; those after the last are 0.
 #[derive(Clone, Copy)]
@@ -16,8 +16,8 @@ impl PlaceProperties for Told<'_> {
 
     ghost gives = { λ _ _ _. Unit {0} };
 
-    fn property(&self, number: usize) -> i32 {
-        let Some(index) = number.checked_sub(2) else {
+    fn property(&self, asked: &AskedProperty) -> i32 {
+        let Some(index) = (asked.number() as usize).checked_sub(2) else {
             return 0;
         };
         self.values.get(index).copied().unwrap_or(0)

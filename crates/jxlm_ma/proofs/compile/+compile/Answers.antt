@@ -11,7 +11,7 @@ use Rattle.jxlm_ma.specs.declared.flat.FlatNode.TheVariants as node
 use Rattle.jxlm_ma.proofs.FlatCuts.{size_of}
 use Rattle.jxlm_ma.proofs.FlatWalks.{chosen-other}
 use Rattle.jxlm_ma.proofs.FlatNodes.{fill-end, compiles-table, compiles-fused, side-shared, hanging-other, table-facts, TableFacts}
-use Rattle.jxlm_ma.proofs.FlatCasts.{on_ok, less, not_less, splits-at, fills-left, fills-right, fills-both, side-split-at, fills-table, no_table, added, on_ok3}
+use Rattle.jxlm_ma.proofs.FlatCasts.{on_ok, less, not_less, splits-at, fills-left, fills-right, fills-both, side-named, side-split-at, fills-table, no_table, added, on_ok3}
 use Rattle.jxlm_ma.proofs.compile.+compile.Goals.{fill-in-Leaf, fill-in-Decision+else-tested-property, compile_side-in-Leaf, compile_side-in-Decision+else-is_none}
 use Rattle.jxlm_ma.proofs.compile.+compile.Goals as goal
 
@@ -64,7 +64,8 @@ compile-returns-in_ok-fill-in-Some t c =
     let compiled = compiles-table c.in-Decision.property c.in-Decision.value (marked_shape c.in-Decision.left.value) (marked_shape c.in-Decision.right.value) c.in-Some.found _ _ c.fill.new.entries (sym parts.0 ∙ c.in-Some.is) (omega (arith, ints)) (omega (arith, ints)) filled in
     let cast : Compiles (reverse c.args.nodes.now.items) (node.Table c.in-Decision.property (to_z w32 (of_z w32 c.in-Some.found.least)) c.fill.new.entries ∷ reverse c.fill.new.nodes.items) (length (reverse c.fill.new.nodes.items)) (decision c.in-Decision.property c.in-Decision.value (marked_shape c.in-Decision.left.value) (marked_shape c.in-Decision.right.value)) =
     subst (λ b. Compiles (reverse c.args.nodes.now.items) (node.Table c.in-Decision.property b c.fill.new.entries ∷ reverse c.fill.new.nodes.items) (length (reverse c.fill.new.nodes.items)) (decision c.in-Decision.property c.in-Decision.value (marked_shape c.in-Decision.left.value) (marked_shape c.in-Decision.right.value))) (sym (to_z-of_z w32 c.in-Some.found.least fits_least)) compiled in
-    added c.add-in-Some.result _ _ _ _ _ _ e cast c.add-in-Some.ensures.place c.add-in-Some.ensures.items
+    let named = subst (λ p. Compiles (reverse c.args.nodes.now.items) (node.Table p (to_z w32 (of_z w32 c.in-Some.found.least)) c.fill.new.entries ∷ reverse c.fill.new.nodes.items) (length (reverse c.fill.new.nodes.items)) (decision c.in-Decision.property c.in-Decision.value (marked_shape c.in-Decision.left.value) (marked_shape c.in-Decision.right.value))) (sym c.new.ensures) cast in
+    added c.add-in-Some.result _ _ _ _ _ _ e named c.add-in-Some.ensures.place c.add-in-Some.ensures.items
 
 pub compile-returns-in_ok-right-in-None : goal.compile-returns-in_ok-right-in-None
 compile-returns-in_ok-right-in-None t c =
@@ -77,7 +78,8 @@ compile-returns-in_ok-right-in-None t c =
     let compiled = compiles-fused c.in-Decision.property c.in-Decision.value (marked_shape c.deref.result.now) (marked_shape c.deref-in-None.result.now) c.in_ok-left-in-None.left c.in_ok-right-in-None.right _ _ _ (no_table _ c.in-Decision.table (parts.0 ∙ ap tabled there) c.in-None.is) c.in_ok-left-in-None.ensures c.in_ok-right-in-None.ensures in
     let cast : Compiles (reverse c.args.nodes.now.items) (node.Fused c.in-Decision.property (to_z w32 (of_z w32 c.in-Decision.value)) c.in_ok-left-in-None.left c.in_ok-right-in-None.right ∷ reverse c.compile_side-in-None.new.nodes.items) (length (reverse c.compile_side-in-None.new.nodes.items)) (decision c.in-Decision.property c.in-Decision.value (marked_shape c.deref.result.now) (marked_shape c.deref-in-None.result.now)) =
     subst (λ b. Compiles (reverse c.args.nodes.now.items) (node.Fused c.in-Decision.property b c.in_ok-left-in-None.left c.in_ok-right-in-None.right ∷ reverse c.compile_side-in-None.new.nodes.items) (length (reverse c.compile_side-in-None.new.nodes.items)) (decision c.in-Decision.property c.in-Decision.value (marked_shape c.deref.result.now) (marked_shape c.deref-in-None.result.now))) (sym (to_z-of_z w32 c.in-Decision.value fits)) compiled in
-    added c.add-in-None.result _ _ _ _ _ _ e cast c.add-in-None.ensures.place c.add-in-None.ensures.items
+    let named = subst (λ p. Compiles (reverse c.args.nodes.now.items) (node.Fused p (to_z w32 (of_z w32 c.in-Decision.value)) c.in_ok-left-in-None.left c.in_ok-right-in-None.right ∷ reverse c.compile_side-in-None.new.nodes.items) (length (reverse c.compile_side-in-None.new.nodes.items)) (decision c.in-Decision.property c.in-Decision.value (marked_shape c.deref.result.now) (marked_shape c.deref-in-None.result.now))) (sym c.new-in-None.ensures) cast in
+    added c.add-in-None.result _ _ _ _ _ _ e named c.add-in-None.ensures.place c.add-in-None.ensures.items
 
 pub compile_side-compile-requires : goal.compile_side-compile-requires
 compile_side-compile-requires t c =
@@ -109,7 +111,7 @@ compile_side-returns t c =
       | compile_side-in-Leaf w ↦ inl (ap depth (ap marked_shape w.in-Leaf.is))
       | compile_side-in-Decision+else-is_none w ↦ inr (ap (λ t. is_some (tabled (marked_shape t))) w.in-Decision.is ∙ ap is_some (sym (subst IsMarked w.in-Decision.is c.requires.marked).0) ∙ w.is_none.ensures ∙ ap not w.if-is_none.false)
     ] in
-    side-shared c.args.fallback (marked_shape c.args.tree.now) c.in_ok-place.place _ _ kind c.in_ok-place.ensures
+    side-named _ _ _ _ _ _ _ _ _ c.new-2.ensures (side-shared c.args.fallback (marked_shape c.args.tree.now) c.in_ok-place.place _ _ kind c.in_ok-place.ensures)
 
 pub fill-fill-requires : goal.fill-fill-requires
 fill-fill-requires t c =
@@ -223,4 +225,4 @@ compile_side-returns-then-is_none t c =
     let at_right : c.deref-then-is_none.result.now ≡ c.in-Decision.right.value = c.deref-then-is_none.ensures in
     let e = ap marked_shape c.in-Decision.is ∙ ap (λ m. decision c.in-Decision.property c.in-Decision.value (marked_shape m) (marked_shape c.in-Decision.right.value)) (sym at_left) ∙ ap (λ m. decision c.in-Decision.property c.in-Decision.value (marked_shape c.deref.result.now) (marked_shape m)) (sym at_right) in
     let fits : SFits w32 c.in-Decision.value = search rules in
-    side-split-at c.args.fallback c.in-Decision.property c.in-Decision.value _ _ _ _ _ _ _ _ _ e (to_z-of_z w32 c.in-Decision.value fits) c.in_ok-above-in-Decision.ensures c.in_ok-rest-in-Decision.ensures
+    side-named _ _ _ _ _ _ _ _ _ c.new.ensures (side-split-at c.args.fallback c.in-Decision.property c.in-Decision.value _ _ _ _ _ _ _ _ _ e (to_z-of_z w32 c.in-Decision.value fits) c.in_ok-above-in-Decision.ensures c.in_ok-rest-in-Decision.ensures)
