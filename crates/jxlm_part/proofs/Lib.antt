@@ -14,6 +14,8 @@ pub mod RowsOn
 pub mod RowWrites
 pub mod Progress
 pub mod Starting
+pub mod RunTokens
+pub mod RunRows
 pub mod Samples
 pub mod Prefixes
 pub mod Places
