@@ -15,6 +15,7 @@ pub mod RowWrites
 pub mod Progress
 pub mod Starting
 pub mod RunTokens
+pub mod RunCells
 pub mod RunRows
 pub mod Samples
 pub mod Prefixes
