@@ -86,9 +86,12 @@ module _ {D X : Type 0} (c : PartCoding D) (d : Meaning D) (w : Width) (to_int :
         OnOk result (DecodesInRuns c d w to_int old now store new (place_of (part_of c) i 0 y) (place_of (part_of c) i 0 (y + 1)))
     by_read (Err e) result sets h = rw sets.1 tt
     by_read (Ok u) result sets h = rw sets.1 (λ steps single o.
-        let r = h c.widest single o in
-        (r.0, row_decoded c d w to_int i y store new row clusters here qy long (Ok u) (Ok u) (sets.0, refl) (source single old.bits) (source r.0 now.bits) steps steps (omega arith)
-        (leaf_reads c d w to_int store clusters i y here qy (gradient_at leaf) only R wide (source single old.bits) (source r.0 now.bits) r.1) (omega arith), r.2))
+        let r = h c.widest single o in (
+          r.0,
+          row_decoded c d w to_int i y store new row clusters here qy long (Ok u) (Ok u) (sets.0, refl) (source single old.bits) (source r.0 now.bits) steps steps (omega arith)
+              (leaf_reads c d w to_int store clusters i y here qy (gradient_at leaf) only R wide (source single old.bits) (source r.0 now.bits) r.1) (omega arith),
+          r.2,
+        ))
 
     pub row_in_runs : OnOk read (ReadsRunRow d w leaf above R old now) →
         OnOk result (DecodesInRuns c d w to_int old now store new (place_of (part_of c) i 0 y) (place_of (part_of c) i 0 (y + 1)))
@@ -99,9 +102,12 @@ module _ {D X : Type 0} (c : PartCoding D) (d : Meaning D) (w : Width) (to_int :
         IfErr result (FailsInRuns c d w to_int old now store new (place_of (part_of c) i 0 y))
     by_error (Ok u) result sets h = rw sets.1 tt
     by_error (Err e) result sets h = rw sets.1 (λ steps single o.
-        let r = h c.widest single o in
-        (r.0, row_failed c d w to_int i y store new row clusters here qy long (Err e) (Err e.error) (sets.0, refl) (source single old.bits) (source r.0 now.bits) steps steps (omega arith)
-        (leaf_fails c d w to_int store clusters i y here qy (gradient_at leaf) only R wide (source single old.bits) (source r.0 now.bits) e r.1) (omega arith), r.2))
+        let r = h c.widest single o in (
+          r.0,
+          row_failed c d w to_int i y store new row clusters here qy long (Err e) (Err e.error) (sets.0, refl) (source single old.bits) (source r.0 now.bits) steps steps (omega arith)
+              (leaf_fails c d w to_int store clusters i y here qy (gradient_at leaf) only R wide (source single old.bits) (source r.0 now.bits) e r.1) (omega arith),
+          r.2,
+        ))
 
     pub row_fails_in_runs : IfErr read (FailsRunRow d w leaf above R old now) →
         IfErr result (FailsInRuns c d w to_int old now store new (place_of (part_of c) i 0 y))

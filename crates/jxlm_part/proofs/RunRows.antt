@@ -41,14 +41,20 @@ module _ {D X : Type 0} (d : Meaning D) (w : Width) (to_int : X → ℤ) (leaf :
           ReadsCells d (path_rule d w (bytes_of old.bits) leaf widest Gradient above) (map to_int (slice_set row x v)) (x + 1) (source s old.bits) (source t new.bits))
       run_more token v takes value widest single o =
           let r = h widest single o in
-          let t = takes widest r.0 r.2 in
-          (t.0, leaf_more d lawful w to_int leaf widest (next_by Gradient above) (source single old.bits) (source r.0 now.bits) (source t.0 new.bits) row x
-          (known_single d lawful single old o leaf.cluster known) inside r.1 same token v t.1 value, t.2)
+          let t = takes widest r.0 r.2 in (
+            t.0,
+            leaf_more d lawful w to_int leaf widest (next_by Gradient above) (source single old.bits) (source r.0 now.bits) (source t.0 new.bits) row x
+                (known_single d lawful single old o leaf.cluster known) inside r.1 same token v t.1 value,
+            t.2,
+          )
 
       -- its read returned an error
       pub run_ends : (e : DecoderError) → TakesToken d leaf.cluster (Err e) now new → FailsRunRow d w leaf above (map to_int row) old new (record { column = x; error = e })
       run_ends e takes widest single o =
           let r = h widest single o in
-          let t = takes widest r.0 r.2 in
-          (t.0, leaf_ends d lawful w to_int leaf widest (next_by Gradient above) (source single old.bits) (source r.0 now.bits) (source t.0 new.bits) row x
-          (known_single d lawful single old o leaf.cluster known) inside r.1 same e t.1, t.2)
+          let t = takes widest r.0 r.2 in (
+            t.0,
+            leaf_ends d lawful w to_int leaf widest (next_by Gradient above) (source single old.bits) (source r.0 now.bits) (source t.0 new.bits) row x
+                (known_single d lawful single old o leaf.cluster known) inside r.1 same e t.1,
+            t.2,
+          )

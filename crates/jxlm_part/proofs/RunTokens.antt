@@ -62,13 +62,16 @@ module _ {S : Type 0} (d : Meaning S) where
         let within = known_single law v old h c known in
         let read = law.owed_read v bytes p c m within h.rle owes in
         let less = law.owed_next v h.rle owes in
-        let one : d.owed v ≡ suc (d.owed (d.next v)) = omega (arith, less) in
-        (d.next v, subst (λ k. d.read v bytes p c m ≡ Ok (record { value = k; state = d.next v; position = p })) h.last read, record {
-          rle = (law.next_keeps v h.rle owes).rle ∙ h.rle;
-          owed = let e = h.owed in omega (arith, e, less);
-          last = law.read_last v bytes p c m (record { value = d.last v; state = d.next v; position = p }) within h.rle read ∙ h.last;
-          ends = h.ends ∙ ap (λ n. iterate d.next n v) one;
-        })
+        let one : d.owed v ≡ suc (d.owed (d.next v)) = omega (arith, less) in (
+          d.next v,
+          subst (λ k. d.read v bytes p c m ≡ Ok (record { value = k; state = d.next v; position = p })) h.last read,
+          record {
+            rle = (law.next_keeps v h.rle owes).rle ∙ h.rle;
+            owed = let e = h.owed in omega (arith, e, less);
+            last = law.read_last v bytes p c m (record { value = d.last v; state = d.next v; position = p }) within h.rle read ∙ h.last;
+            ends = h.ends ∙ ap (λ n. iterate d.next n v) one;
+          },
+        )
 
     module _ (none : left ≡ 0) (t : S) (after : Bitstream) where
       abbrev q : ℕ
@@ -80,13 +83,16 @@ module _ {S : Type 0} (d : Meaning S) where
           let same = run_taken law single old h none in
           let within = known_single law single old h c known in
           let g = gives m in
-          let read : d.read single bytes p c m ≡ Ok (record { value = v; state = t; position = q }) = subst (λ z. d.read z bytes p c m ≡ Ok (record { value = v; state = t; position = q })) same g.0 in
-          (t, read, record {
-            rle = (law.read_keeps single bytes p c m (record { value = v; state = t; position = q }) within read).rle ∙ h.rle;
-            owed = g.1 ∙ sym none;
-            last = law.read_last single bytes p c m (record { value = v; state = t; position = q }) within h.rle read;
-            ends = sym (ap (λ n. iterate d.next n t) g.1);
-          })
+          let read : d.read single bytes p c m ≡ Ok (record { value = v; state = t; position = q }) = subst (λ z. d.read z bytes p c m ≡ Ok (record { value = v; state = t; position = q })) same g.0 in (
+            t,
+            read,
+            record {
+              rle = (law.read_keeps single bytes p c m (record { value = v; state = t; position = q }) within read).rle ∙ h.rle;
+              owed = g.1 ∙ sym none;
+              last = law.read_last single bytes p c m (record { value = v; state = t; position = q }) within h.rle read;
+              ends = sym (ap (λ n. iterate d.next n t) g.1);
+            },
+          )
 
       -- the first token of a run that was read
       pub first_token : (n : ℕ) → ((m : ℕ) → RunGives d (Ok (Repeat n)) s t p q (d.read s bytes p c m)) → TakesToken d c (Ok token) old (run_source t (run_of (n - 1) token) after)
@@ -97,13 +103,16 @@ module _ {S : Type 0} (d : Meaning S) where
           let value : d.last s ≡ token = ap d.last same ∙ h.last in
           let read : d.read single bytes p c m ≡ Ok (record { value = token; state = g.first; position = q }) =
           subst (λ z. d.read z bytes p c m ≡ Ok (record { value = token; state = g.first; position = q })) same
-          (subst (λ k. d.read s bytes p c m ≡ Ok (record { value = k; state = g.first; position = q })) value g.read) in
-          (g.first, read, record {
-            rle = (law.read_keeps single bytes p c m (record { value = token; state = g.first; position = q }) within read).rle ∙ h.rle;
-            owed = let e = g.owes in omega (arith, e);
-            last = law.read_last single bytes p c m (record { value = token; state = g.first; position = q }) within h.rle read;
-            ends = g.ends;
-          })
+          (subst (λ k. d.read s bytes p c m ≡ Ok (record { value = k; state = g.first; position = q })) value g.read) in (
+            g.first,
+            read,
+            record {
+              rle = (law.read_keeps single bytes p c m (record { value = token; state = g.first; position = q }) within read).rle ∙ h.rle;
+              owed = let e = g.owes in omega (arith, e);
+              last = law.read_last single bytes p c m (record { value = token; state = g.first; position = q }) within h.rle read;
+              ends = g.ends;
+            },
+          )
 
       -- the read returned an error
       pub no_token : (e : DecoderError) → ((m : ℕ) → RunGives d (Err e) s t p q (d.read s bytes p c m)) → TakesToken d c (Err e) old (run_source t (run_of left token) after)
