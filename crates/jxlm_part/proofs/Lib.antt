@@ -14,6 +14,9 @@ pub mod RowsOn
 pub mod RowWrites
 pub mod Progress
 pub mod Starting
+pub mod RunTokens
+pub mod RunCells
+pub mod RunRows
 pub mod Samples
 pub mod Prefixes
 pub mod Places

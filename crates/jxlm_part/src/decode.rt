@@ -1,6 +1,6 @@
 //! The loops that decode the samples of a part, in the order of its cells.
 
-ghost use Rattle.std.specs.Prelude.{◌≡◌, ◌+◌, ◌*◌, ◌<◌, ◌≤◌, [], OnOk, IfErr, ◌≢◌, length, map};
+ghost use Rattle.std.specs.Prelude.{◌≡◌, true, ◌+◌, ◌*◌, ◌<◌, ◌≤◌, [], OnOk, IfErr, ◌≢◌, length, map};
 ghost use Rattle.jxlm_base.specs.Bits.{bytes_of, position_of};
 ghost use Rattle.jxlm_base.specs.Regions.{AllLie, LieApart, store_meanings};
 ghost use Rattle.jxlm_part.specs.Part.{cells_before, cell_count};
@@ -8,12 +8,14 @@ ghost use Rattle.jxlm_part.specs.Progress.{DecodesAll, DecodesSome, KeepsOutside
 ghost use Rattle.jxlm_part.specs.Inner.Channels.{IsAfterChannel, region_at};
 ghost use Rattle.jxlm_part.specs.Inner.Progress.{DecodesCells, FailsInCells, moment, place_of};
 ghost use Rattle.jxlm_part.specs.Inner.Rows.{FailsRow, IsDecoding, IsDecodingPart, IsInRow, ReadsRow, rule_in};
+ghost use Rattle.jxlm_part.specs.Inner.Runs.{DecodesUpTo, HasBegun};
 ghost use Rattle.jxlm_part.specs.Inner.Source.{source};
 ghost use Rattle.jxlm_part.specs.Reading.{FindsClusters, HasRoom, IsCodingOf, IsRoomy, cost_of, part_of, regions_of};
 
 use crate::coding::{PartCoding, PartState, start_channel};
 use crate::leaves::{LeafPath, leaf_path, read_leaf_row};
 use crate::rows::{RowError, read_row, write_read};
+use crate::runs::{decode_runs, run_leaf};
 use jxlm_base::bits::Bitstream;
 use jxlm_base::decoder::{Decoder, DecoderError};
 use jxlm_base::grid::AlignedGrid;
@@ -180,6 +182,33 @@ fn decode_channels<S: Sample, D: Decoder>(
     Ok(())
 }
 
+/// Reads all cells of a part: run by run where its tokens come in runs and its tree has a path for them, else channel
+/// by channel. `scratch` has room for a row of each channel.
+fn decode_cells<S: Sample, D: Decoder>(
+    bits: &mut Bitstream<'_>,
+    decoder: &mut D,
+    state: &mut PredictorState<S>,
+    steps: &mut Steps,
+    store: &mut [AlignedGrid<S>],
+    coding: &PartCoding<'_, D>,
+    scratch: &mut [S],
+) -> Result<(), DecoderError>
+    requires part { IsDecodingPart coding.now store.old (D.meaning.cluster_map decoder.old) }
+    requires roomy { HasRoom coding.now state.old }
+    requires room { coding.now.widest ≤ length scratch.old }
+    requires begun { D.meaning.as_rle decoder.old ≡ true → HasBegun D.meaning decoder.old }
+    ensures ok { OnOk result (DecodesUpTo coding.now D.meaning S.width S.to_int
+        0 (cell_count (part_of coding.now).channels)
+        (moment decoder.old bits.old store.old steps.old) (moment decoder.new bits.new store.new steps.new)) }
+    ensures err { IfErr result (FailsInCells coding.now D.meaning S.width S.to_int 0
+        (moment decoder.old bits.old store.old steps.old) (moment decoder.new bits.new store.new steps.new)) }
+{
+    match run_leaf(decoder, coding) {
+        Some(leaf) => decode_runs(bits, decoder, store, coding, leaf, scratch),
+        None => decode_channels(bits, decoder, state, steps, store, coding, scratch),
+    }
+}
+
 /// Decodes all samples of a part (ISO/IEC 18181-1, Modular: decoding of samples): the decoder begins, the channels are
 /// read in order, and the decoder accepts the end.
 ///
@@ -214,7 +243,7 @@ pub fn decode_part<S: Sample, D: Decoder>(
 {
     decoder.begin(bits)?;
     let PartState { predictor, row } = state;
-    decode_channels(bits, decoder, predictor, steps, store, coding, row)?;
+    decode_cells(bits, decoder, predictor, steps, store, coding, row)?;
     decoder.finalize()?;
     Ok(())
 }

@@ -10,3 +10,4 @@ pub mod laws;
 mod leaves;
 pub mod part;
 mod rows;
+mod runs;

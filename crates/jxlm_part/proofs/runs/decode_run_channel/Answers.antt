@@ -1,0 +1,30 @@
+use Rattle.std.proofs.Common.{sym, arith}
+use Rattle.std.proofs.lemmas.List.{length-take-le}
+use Rattle.jxlm_part.specs.Inner.Channels.{region_at}
+use Rattle.jxlm_part.specs.Inner.Runs.{run_source}
+use Rattle.jxlm_part.specs.Reading.{part_of, regions_of}
+use Rattle.jxlm_part.proofs.Loops.{channel_empty}
+use Rattle.jxlm_part.proofs.RunCells.{none_in_runs}
+use Rattle.jxlm_part.proofs.Starting.{fits_widest}
+use Rattle.jxlm_part.proofs.runs.decode_run_channel.Goals as goal
+
+pub slice_bounds-row-end : goal.slice_bounds-row-end
+slice_bounds-row-end g c = let n = fits_widest c.args.coding.now c.requires.part.coding c.args.i c.requires.channel in omega (arith, n, c.requires.room)
+
+pub slice_bounds-row-end-2 : goal.slice_bounds-row-end-2
+slice_bounds-row-end-2 g c =
+    let n = fits_widest c.args.coding.now c.requires.part.coding c.args.i c.requires.channel in
+    sym (length-take-le (region_at (regions_of c.args.coding.now) c.args.i).width c.args.scratch.now (omega (arith, n, c.requires.room)))
+
+pub decode_run_rows-requires-clause-here : goal.decode_run_rows-requires-clause-here
+decode_run_rows-requires-clause-here g c κs within = record { part = c.requires.part; channel = c.requires.channel; columns = omega (arith, c.if-region-eq0.false) }
+
+pub decode_run_rows-requires-clause-long : goal.decode_run_rows-requires-clause-long
+decode_run_rows-requires-clause-long g c κs within =
+    let n = fits_widest c.args.coding.now c.requires.part.coding c.args.i c.requires.channel in
+    length-take-le (region_at (regions_of c.args.coding.now) c.args.i).width c.args.scratch.now (omega (arith, n, c.requires.room))
+
+pub returns-then-region-eq0-clause-ok : goal.returns-then-region-eq0-clause-ok
+returns-then-region-eq0-clause-ok g c =
+    none_in_runs c.args.coding.now g.D.Decoder.meaning g.S.Sealed.width g.S.Sealed.to_int (run_source c.args.decoder.now c.args.run.now c.args.bits.now) c.args.store.now _ _
+    (channel_empty (part_of c.args.coding.now) (regions_of c.args.coding.now) c.requires.part.coding.sizes c.args.i c.requires.channel c.if-region-eq0.true)

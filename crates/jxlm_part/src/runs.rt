@@ -1,0 +1,333 @@
+//! A part whose tokens come in runs: it is read run by run where its tree is one leaf that predicts by the clamped
+//! gradient.
+//!
+//! A run may go on over the end of a row or of a channel, and past the last cell of the part. No state of the
+//! predictors is needed.
+
+ghost use Rattle.std.specs.Prelude.{◌≡◌, ◌+◌, ◌<◌, ◌≤◌, ℕ, [], true, map, length, OnOk, IfErr, IfSome, Contains};
+ghost use Rattle.jxlm_base.specs.Bits.{bytes_of};
+ghost use Rattle.jxlm_base.specs.Regions.{Lies, grid_of, store_meanings};
+ghost use Rattle.jxlm_part.specs.Inner.Channels.{region_at};
+ghost use Rattle.jxlm_part.specs.Inner.Leaves.{IsOnlyLeaf, IsPlain, row_above};
+ghost use Rattle.jxlm_part.specs.Inner.Progress.{FailsInCells, moment, place_of};
+ghost use Rattle.jxlm_part.specs.Inner.Rows.{IsDecoding, IsDecodingPart};
+ghost use Rattle.jxlm_part.specs.Inner.Runs.{DecodesInRuns, DecodesUpTo, FailsInRuns, FailsRunRow, HasBegun, IsInRun, ReadsRunRow, TakesToken, gradient_at, run_source};
+ghost use Rattle.jxlm_part.specs.Part.{cells_before, cell_count};
+ghost use Rattle.jxlm_part.specs.Reading.{IsCodingOf, part_of, regions_of};
+
+use crate::coding::PartCoding;
+use crate::leaves::{Path, leaf_path};
+use crate::rows::{RowError, write_read};
+use jxlm_base::bits::Bitstream;
+use jxlm_base::decoder::{Decoder, DecoderError, RleToken};
+use jxlm_base::grid::{AlignedGrid, Region};
+use jxlm_base::region::region_row;
+use jxlm_base::sample::{Sample, Sealed};
+use jxlm_ma::flat::Leaf;
+
+/// The run that is being taken.
+#[derive(Drop)]
+pub(crate) struct Run {
+    /// How many of its tokens are left.
+    left: u32,
+    /// The last token, or 0 before the first one.
+    token: u32,
+}
+
+/// The next token of a cluster: of the run, or of a read once none is left.
+///
+/// # Errors
+///
+/// That of the read.
+#[inline(always)]
+fn next_token<D: Decoder>(
+    bits: &mut Bitstream<'_>,
+    decoder: &mut D,
+    run: &mut Run,
+    cluster: u8,
+) -> Result<u32, DecoderError>
+    requires cluster { Contains (D.meaning.cluster_map decoder.old) cluster }
+    requires run { IsInRun D.meaning (run_source decoder.old run.old bits.old) }
+    ensures gives { TakesToken D.meaning cluster result
+        (run_source decoder.old run.old bits.old) (run_source decoder.new run.new bits.new) }
+    ensures bytes { bytes_of bits.new ≡ bytes_of bits.old }
+{
+    if run.left > 0 {
+        run.left -= 1;
+        return Ok(run.token);
+    }
+    match decoder.read_varint_clustered(bits, cluster)? {
+        RleToken::Value(token) => {
+            run.token = token;
+            Ok(token)
+        }
+        RleToken::Repeat(count) => {
+            run.left = count - 1;
+            Ok(run.token)
+        }
+    }
+}
+
+/// Reads the first row of a channel.
+///
+/// # Errors
+///
+/// That of the read of one cell; the cells before are in the row then.
+fn first_run_row<S: Sample, D: Decoder>(
+    bits: &mut Bitstream<'_>,
+    decoder: &mut D,
+    run: &mut Run,
+    leaf: Leaf,
+    row: &mut [S],
+) -> Result<(), RowError>
+    requires plain { IsPlain leaf }
+    requires cluster { Contains (D.meaning.cluster_map decoder.old) leaf.cluster }
+    requires run { IsInRun D.meaning (run_source decoder.old run.old bits.old) }
+    ensures ok { OnOk result (ReadsRunRow D.meaning S.width leaf [] (map S.to_int row.new)
+        (run_source decoder.old run.old bits.old) (run_source decoder.new run.new bits.new)) }
+    ensures err { IfErr result (FailsRunRow D.meaning S.width leaf [] (map S.to_int row.new)
+        (run_source decoder.old run.old bits.old) (run_source decoder.new run.new bits.new)) }
+{
+    let mut w = S::from_i32(0);
+    for x in 0..row.len() {
+        let token = match next_token(bits, decoder, run, leaf.cluster) {
+            Ok(token) => token,
+            Err(error) => return Err(RowError { column: x, error }),
+        };
+        let value = S::unpack_signed_u32(token).add(S::grad_clamped(w, w, w));
+        row[x] = value;
+        w = value;
+    }
+    Ok(())
+}
+
+/// Reads a row below another.
+///
+/// # Errors
+///
+/// That of the read of one cell; the cells before are in the row then.
+#[inline(never)]
+fn lower_run_row<S: Sample, D: Decoder>(
+    bits: &mut Bitstream<'_>,
+    decoder: &mut D,
+    run: &mut Run,
+    leaf: Leaf,
+    above: &[S],
+    row: &mut [S],
+) -> Result<(), RowError>
+    requires plain { IsPlain leaf }
+    requires cluster { Contains (D.meaning.cluster_map decoder.old) leaf.cluster }
+    requires run { IsInRun D.meaning (run_source decoder.old run.old bits.old) }
+    requires columns { 0 < length row.old }
+    requires above { length above.now ≡ length row.old }
+    ensures ok { OnOk result (ReadsRunRow D.meaning S.width leaf (map S.to_int above.now) (map S.to_int row.new)
+        (run_source decoder.old run.old bits.old) (run_source decoder.new run.new bits.new)) }
+    ensures err { IfErr result (FailsRunRow D.meaning S.width leaf (map S.to_int above.now) (map S.to_int row.new)
+        (run_source decoder.old run.old bits.old) (run_source decoder.new run.new bits.new)) }
+{
+    let mut w = above[0];
+    let mut nw = w;
+    for x in 0..row.len() {
+        let n = above[x];
+        let token = match next_token(bits, decoder, run, leaf.cluster) {
+            Ok(token) => token,
+            Err(error) => return Err(RowError { column: x, error }),
+        };
+        let value = S::unpack_signed_u32(token).add(S::grad_clamped(n, w, nw));
+        row[x] = value;
+        w = value;
+        nw = n;
+    }
+    Ok(())
+}
+
+/// Reads row `y` of a region into `row`.
+///
+/// # Errors
+///
+/// That of the read of one cell; the cells before are in the row then.
+fn read_run_row<S: Sample, D: Decoder>(
+    bits: &mut Bitstream<'_>,
+    decoder: &mut D,
+    run: &mut Run,
+    leaf: Leaf,
+    store: &[AlignedGrid<S>],
+    region: Region,
+    y: usize,
+    row: &mut [S],
+) -> Result<(), RowError>
+    requires plain { IsPlain leaf }
+    requires cluster { Contains (D.meaning.cluster_map decoder.old) leaf.cluster }
+    requires run { IsInRun D.meaning (run_source decoder.old run.old bits.old) }
+    requires lies { Lies region store.now }
+    requires in_rows { y < region.height }
+    requires columns { 0 < region.width }
+    requires long { length row.old ≡ region.width }
+    ensures ok { OnOk result (ReadsRunRow D.meaning S.width leaf
+        (row_above (grid_of (store_meanings S.to_int store.now) region) y) (map S.to_int row.new)
+        (run_source decoder.old run.old bits.old) (run_source decoder.new run.new bits.new)) }
+    ensures err { IfErr result (FailsRunRow D.meaning S.width leaf
+        (row_above (grid_of (store_meanings S.to_int store.now) region) y) (map S.to_int row.new)
+        (run_source decoder.old run.old bits.old) (run_source decoder.new run.new bits.new)) }
+{
+    if y == 0 {
+        return first_run_row(bits, decoder, run, leaf, row);
+    }
+    let above = region_row(store, region, y - 1);
+    lower_run_row(bits, decoder, run, leaf, above, row)
+}
+
+/// Reads row `y` of channel `i` into the store; `row` is room for it.
+fn decode_run_row<S: Sample, D: Decoder>(
+    bits: &mut Bitstream<'_>,
+    decoder: &mut D,
+    run: &mut Run,
+    store: &mut [AlignedGrid<S>],
+    coding: &PartCoding<'_, D>,
+    leaf: Leaf,
+    row: &mut [S],
+    i: usize,
+    y: usize,
+) -> Result<(), DecoderError>
+    requires here { IsDecoding coding.now i store.old (D.meaning.cluster_map decoder.old) }
+    requires only { IsOnlyLeaf coding.now (gradient_at leaf) }
+    requires run { IsInRun D.meaning (run_source decoder.old run.old bits.old) }
+    requires in_rows { y < (region_at (regions_of coding.now) i).height }
+    requires long { length row.old ≡ (region_at (regions_of coding.now) i).width }
+    ensures ok { OnOk result (DecodesInRuns coding.now D.meaning S.width S.to_int
+        (run_source decoder.old run.old bits.old) (run_source decoder.new run.new bits.new) store.old store.new
+        (place_of (part_of coding.now) i 0 y) (place_of (part_of coding.now) i 0 (y + 1))) }
+    ensures err { IfErr result (FailsInRuns coding.now D.meaning S.width S.to_int
+        (run_source decoder.old run.old bits.old) (run_source decoder.new run.new bits.new) store.old store.new
+        (place_of (part_of coding.now) i 0 y)) }
+{
+    let region = coding.regions[i];
+    let read = read_run_row(bits, decoder, run, leaf, store, region, y, row);
+    write_read(store, region, y, row, read)
+}
+
+/// Reads the rows of channel `i`, which has columns; `row` is room for one.
+fn decode_run_rows<S: Sample, D: Decoder>(
+    bits: &mut Bitstream<'_>,
+    decoder: &mut D,
+    run: &mut Run,
+    store: &mut [AlignedGrid<S>],
+    coding: &PartCoding<'_, D>,
+    leaf: Leaf,
+    row: &mut [S],
+    i: usize,
+) -> Result<(), DecoderError>
+    requires here { IsDecoding coding.now i store.old (D.meaning.cluster_map decoder.old) }
+    requires only { IsOnlyLeaf coding.now (gradient_at leaf) }
+    requires run { IsInRun D.meaning (run_source decoder.old run.old bits.old) }
+    requires long { length row.old ≡ (region_at (regions_of coding.now) i).width }
+    ensures ok { OnOk result (DecodesInRuns coding.now D.meaning S.width S.to_int
+        (run_source decoder.old run.old bits.old) (run_source decoder.new run.new bits.new) store.old store.new
+        (cells_before (part_of coding.now).channels i) (cells_before (part_of coding.now).channels (i + 1))) }
+    ensures err { IfErr result (FailsInRuns coding.now D.meaning S.width S.to_int
+        (run_source decoder.old run.old bits.old) (run_source decoder.new run.new bits.new) store.old store.new
+        (cells_before (part_of coding.now).channels i)) }
+{
+    for y in 0..coding.regions[i].height {
+        decode_run_row(bits, decoder, run, store, coding, leaf, row, i, y)?;
+    }
+    Ok(())
+}
+
+/// Reads channel `i`, row by row; a channel without columns has no cell. `scratch` has room for a row.
+fn decode_run_channel<S: Sample, D: Decoder>(
+    bits: &mut Bitstream<'_>,
+    decoder: &mut D,
+    run: &mut Run,
+    store: &mut [AlignedGrid<S>],
+    coding: &PartCoding<'_, D>,
+    leaf: Leaf,
+    scratch: &mut [S],
+    i: usize,
+) -> Result<(), DecoderError>
+    requires part { IsDecodingPart coding.now store.old (D.meaning.cluster_map decoder.old) }
+    requires only { IsOnlyLeaf coding.now (gradient_at leaf) }
+    requires run { IsInRun D.meaning (run_source decoder.old run.old bits.old) }
+    requires channel { i < length (regions_of coding.now) }
+    requires room { coding.now.widest ≤ length scratch.old }
+    ensures ok { OnOk result (DecodesInRuns coding.now D.meaning S.width S.to_int
+        (run_source decoder.old run.old bits.old) (run_source decoder.new run.new bits.new) store.old store.new
+        (cells_before (part_of coding.now).channels i) (cells_before (part_of coding.now).channels (i + 1))) }
+    ensures err { IfErr result (FailsInRuns coding.now D.meaning S.width S.to_int
+        (run_source decoder.old run.old bits.old) (run_source decoder.new run.new bits.new) store.old store.new
+        (cells_before (part_of coding.now).channels i)) }
+{
+    let region = coding.regions[i];
+    if region.width == 0 {
+        return Ok(());
+    }
+    let row = &mut scratch[..region.width];
+    decode_run_rows(bits, decoder, run, store, coding, leaf, row, i)
+}
+
+/// Reads all channels of a part, in order. `scratch` has room for a row of each.
+fn decode_run_channels<S: Sample, D: Decoder>(
+    bits: &mut Bitstream<'_>,
+    decoder: &mut D,
+    run: &mut Run,
+    store: &mut [AlignedGrid<S>],
+    coding: &PartCoding<'_, D>,
+    leaf: Leaf,
+    scratch: &mut [S],
+) -> Result<(), DecoderError>
+    requires part { IsDecodingPart coding.now store.old (D.meaning.cluster_map decoder.old) }
+    requires only { IsOnlyLeaf coding.now (gradient_at leaf) }
+    requires run { IsInRun D.meaning (run_source decoder.old run.old bits.old) }
+    requires room { coding.now.widest ≤ length scratch.old }
+    ensures ok { OnOk result (DecodesInRuns coding.now D.meaning S.width S.to_int
+        (run_source decoder.old run.old bits.old) (run_source decoder.new run.new bits.new) store.old store.new
+        0 (cell_count (part_of coding.now).channels)) }
+    ensures err { IfErr result (FailsInRuns coding.now D.meaning S.width S.to_int
+        (run_source decoder.old run.old bits.old) (run_source decoder.new run.new bits.new) store.old store.new 0) }
+{
+    for i in 0..coding.regions.len() {
+        decode_run_channel(bits, decoder, run, store, coding, leaf, scratch, i)?;
+    }
+    Ok(())
+}
+
+/// Reads all channels of a part run by run, at the only leaf of its tree. `scratch` has room for a row of each.
+pub(crate) fn decode_runs<S: Sample, D: Decoder>(
+    bits: &mut Bitstream<'_>,
+    decoder: &mut D,
+    store: &mut [AlignedGrid<S>],
+    coding: &PartCoding<'_, D>,
+    leaf: Leaf,
+    scratch: &mut [S],
+) -> Result<(), DecoderError>
+    requires part { IsDecodingPart coding.now store.old (D.meaning.cluster_map decoder.old) }
+    requires only { IsOnlyLeaf coding.now (gradient_at leaf) }
+    requires rle { D.meaning.as_rle decoder.old ≡ true }
+    requires begun { HasBegun D.meaning decoder.old }
+    requires room { coding.now.widest ≤ length scratch.old }
+    ensures ok { OnOk result ((steps : ℕ) → DecodesUpTo coding.now D.meaning S.width S.to_int
+        0 (cell_count (part_of coding.now).channels)
+        (moment decoder.old bits.old store.old steps) (moment decoder.new bits.new store.new steps)) }
+    ensures err { IfErr result (λ e. (steps : ℕ) → FailsInCells coding.now D.meaning S.width S.to_int 0
+        (moment decoder.old bits.old store.old steps) (moment decoder.new bits.new store.new steps) e) }
+{
+    let mut run = Run { left: 0, token: 0 };
+    decode_run_channels(bits, decoder, &mut run, store, coding, leaf, scratch)
+}
+
+/// The only leaf of the tree, where the decoder's tokens come in runs, and the leaf predicts by the clamped gradient
+/// and adds nothing to it.
+pub(crate) fn run_leaf<D: Decoder>(decoder: &D, coding: &PartCoding<'_, D>) -> Option<Leaf>
+    requires coding { IsCodingOf coding.now }
+    ensures rle { IfSome result (λ _. D.meaning.as_rle decoder.now ≡ true) }
+    ensures only { IfSome result (λ leaf. IsOnlyLeaf coding.now (gradient_at leaf)) }
+{
+    if !decoder.as_rle() || coding.flats.is_empty() {
+        return None;
+    }
+    let at = leaf_path(&coding.flats[0].flat)?;
+    match at.path {
+        Path::Gradient => Some(at.leaf),
+        Path::Zero => None,
+    }
+}
