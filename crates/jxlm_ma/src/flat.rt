@@ -325,6 +325,7 @@ impl FlatMaTree {
     /// The leaf of the tree, where it has no other.
     pub fn only_leaf(&self) -> Option<Leaf>
         ensures some { IfSome result (λ l. self.now.tree ≡ leaf l) }
+        ensures multiplier { IfSome result HasMultiplier }
         ensures none { result ≡ None → 0 < depth self.now.tree }
     {
         match &self.tree.root {

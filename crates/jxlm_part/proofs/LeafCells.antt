@@ -1,10 +1,10 @@
 -- One more cell of a row is read at a leaf.
-use Rattle.std.proofs.Common.{◌≡◌, ℕ, zero, suc, ◌+◌, ◌<◌, List, [], Contains, length, take, map, Some, Ok, Err, refl, sym, ap, ◌∙◌, subst, arith, ℤ, pos, ◌+ℤ◌, ◌*ℤ◌}
-use Rattle.std.specs.Prelude.{get_or, slice_set}
+use Rattle.std.proofs.Common.{◌≡◌, ℕ, zero, suc, ◌+◌, ◌<◌, ◌≤◌, List, [], ◌∷◌, ◌++◌, Contains, length, take, map, Some, Ok, Err, refl, sym, ap, ◌∙◌, subst, arith, ℤ, pos, ◌+ℤ◌, ◌*ℤ◌}
+use Rattle.std.specs.Prelude.{get_or, replicate, slice_get, slice_set}
 use Rattle.std.specs.Int.{Width, w32, int_wrap}
 use Rattle.std.proofs.Math.IntN.{+ℤ_idr, *ℤ_comm, suc_ℤ-*ℤ, zero-*ℤ, +ℤ_idl}
 use Rattle.std.proofs.lemmas.Int.{int_wrap-add_left, int_wrap-add_right}
-use Rattle.std.proofs.lemmas.List.{get_or-map, get_or-set_same, get_or-take, length-map, length-take-le, map-set, take-set}
+use Rattle.std.proofs.lemmas.List.{get_or-map, get_or-set_same, get_or-take, length-map, length-replicate, length-take-le, map-set, replicate_more, take-set, take_more_set}
 use Rattle.jxlm_base.specs.Bits.{bytes_of, position_of}
 use Rattle.jxlm_base.specs.Decoding.{IsLawful, Meaning, ReadGives}
 use Rattle.jxlm_base.specs.Numbers.{clamped_gradient, unpack}
@@ -90,11 +90,47 @@ reduced_sample w l token g plain after =
     ∙ sym (int_wrap-add_right w u (int_wrap w32 g)) ∙ ap (λ z. int_wrap w (u +ℤ z)) (after g) ∙ int_wrap-add_right w u g
     ∙ sym (int_wrap-add_left w u g)
 
--- The sample of a token over the prediction 0.
-pub zero_sample : {X : Type 0} (w : Width) (to_int : X → ℤ) (from_int : ℤ → X) → ((n : ℤ) → to_int (from_int n) ≡ n) → (l : Leaf) → IsPlain l → (token : ℕ) (v : X) →
-    v ≡ from_int (int_wrap w (unpack token)) → to_int v ≡ sample_of w l (pos 0) token
-zero_sample w to_int from_int back l plain token v hv =
-    ap to_int hv ∙ back (int_wrap w (unpack token)) ∙ ap (int_wrap w) (sym (+ℤ_idr (unpack token))) ∙ sym (plain_sample w l token (pos 0) plain)
+-- ---- a row of one sample
+
+get_filled : (n k : ℕ) (v : ℤ) → k < n → slice_get (replicate n v) k ≡ Some v
+get_filled zero k v inside = absurd (omega arith)
+get_filled (suc n) zero v inside = refl
+get_filled (suc n) (suc k) v inside = get_filled n k v (omega arith)
+
+-- one cell more is filled
+pub fill_more : {X : Type 0} (to_int : X → ℤ) (row : List X) (x : ℕ) (v : X) (z : ℤ) → x < length row → take x (map to_int row) ≡ replicate x z → to_int v ≡ z →
+    take (x + 1) (map to_int (slice_set row x v)) ≡ replicate (x + 1) z
+fill_more to_int row x v z inside filled is =
+    let R = map to_int row in
+    let in_row : x < length R = let m = length-map row to_int in omega (arith, m, inside) in
+    let here : take (x + 1) (slice_set R x (to_int v)) ≡ replicate x z ++ to_int v ∷ [] = take_more_set R x (to_int v) in_row ∙ ap (λ r. r ++ to_int v ∷ []) filled in
+    ap (take (x + 1)) (map-set to_int row x v) ∙ here ∙ ap (λ y. replicate x z ++ y ∷ []) is ∙ replicate_more x z
+
+-- Where a cluster has one token, reading a row at a leaf that predicts by 0 fills the row with one sample.
+module _ {D : Type 0} (d : Meaning D) (lawful : IsLawful d) (w : Width) (l : Leaf) (widest : ℕ) (at : Source D) (token : ℕ) (known : Contains (d.cluster_map at.decoder) l.cluster)
+    (single : d.single_token at.decoder l.cluster ≡ Some token) where
+  abbrev fixed : Rule D
+  fixed = leaf_rule d w (bytes_of at.bits) l widest (λ row. pos 0)
+
+  abbrev cells : ℕ → List ℤ
+  cells n = replicate n (sample_of w l (pos 0) token)
+
+  fixed_cells : (n k : ℕ) → k ≤ n → CodedPrefix fixed (cells n) at.decoder (position_of at.bits) k at.decoder (position_of at.bits)
+  fixed_cells n zero le = (refl, refl)
+  fixed_cells n (suc k) le = (
+    at.decoder,
+    position_of at.bits,
+    token,
+    fixed_cells n k (omega arith),
+    lawful.single_read at.decoder (bytes_of at.bits) (position_of at.bits) l.cluster widest token known single,
+    get_filled n k (sample_of w l (pos 0) token) (omega arith),
+  )
+
+  pub fills_row : (n : ℕ) (R : List ℤ) → R ≡ cells n → ReadsRow d fixed R at at
+  fills_row n R is =
+      let long : length (cells n) ≡ n = length-replicate n (sample_of w l (pos 0) token) in
+      let all : ReadsRow d fixed (cells n) at at = record { reads = fixed_cells n (length (cells n)) (omega (arith, long)); clusters = refl; bytes = refl } in
+      subst (λ r. ReadsRow d fixed r at at) (sym is) all
 
 -- ---- neighbours
 

@@ -57,7 +57,7 @@ module _ {S : Type 0} (d : Meaning S) (w : Width) (part : Part) (bytes : List �
         ∙ ap (λ n. prediction (Some part.weights) (samples_of part.channels here n) (channel part.channels n).width l.leaf.predictor) sees.stands
         ∙ ap (λ n. prediction (Some part.weights) (samples_of part.channels here i) n l.leaf.predictor) (sym sees.wide)
         ∙ ap (λ xs. prediction (Some part.weights) xs reg.width l.leaf.predictor) sees.own_is
-        ∙ ap (prediction (Some part.weights) own reg.width) has.predictor
+        ∙ ap (prediction (Some part.weights) own reg.width) has.path.predictor
         ∙ path_is own_grid (IsFull-grid_of ints reg) y qy row short (Some part.weights) l.path
 
   -- a row that is read at the leaf is one of the part

@@ -24,7 +24,8 @@ use jxlm_tree::earlier::EarlierRow;
 use jxlm_tree::predictor::{PredictorState, Properties};
 
 /// The sample of a token: times the multiplier, plus the offset and the prediction.
-fn sample_from<S: Sample>(token: u32, leaf: Leaf, predicted: i32) -> S
+#[inline(always)]
+pub(crate) fn sample_from<S: Sample>(token: u32, leaf: Leaf, predicted: i32) -> S
     requires { leaf.multiplier < 2 ^ 31 }
     ensures { result ≡ S.from_int (int_wrap S.width (unpack token *ℤ pos leaf.multiplier +ℤ leaf.offset +ℤ predicted)) }
 {

@@ -1,15 +1,19 @@
-//! Rows of a channel whose tree is one leaf that adds nothing but its prediction.
+//! Rows of a channel whose tree is one leaf that predicts by 0, or by the clamped gradient and adds nothing more.
 //!
-//! No state of the predictors is needed for them: a row is read from the row above it.
+//! No state of the predictors is needed for them: a row is read from the row above it. Where the decoder has only one
+//! token for a leaf that predicts by 0, the row is filled.
 
-ghost use Rattle.std.specs.Prelude.{◌≡◌, ◌<◌, ℤ, List, [], map, length, OnOk, IfErr, IfSome, Contains};
+ghost use Rattle.std.specs.Prelude.{◌≡◌, ◌<◌, ℤ, pos, List, [], map, length, replicate, OnOk, IfErr, IfSome, None, Contains};
 ghost use Rattle.jxlm_base.specs.Bits.{bytes_of};
 ghost use Rattle.jxlm_base.specs.Regions.{Lies, grid_of, store_meanings};
+ghost use Rattle.jxlm_ma.specs.FlatTree.{HasMultiplier};
 ghost use Rattle.jxlm_ma.specs.Tree.{leaf as one_leaf};
-ghost use Rattle.jxlm_part.specs.Inner.Leaves.{HasPath, IsPlain, path_rule, predictor_of, row_above};
+ghost use Rattle.jxlm_part.specs.Coded.{sample_of};
+ghost use Rattle.jxlm_part.specs.Inner.Leaves.{Allows, HasPath, IsPlain, LacksPath, path_rule, row_above};
 ghost use Rattle.jxlm_part.specs.Inner.Rows.{FailsRow, ReadsRow};
 ghost use Rattle.jxlm_part.specs.Inner.Source.{source};
 
+use crate::cell::sample_from;
 use crate::rows::RowError;
 use jxlm_base::bits::Bitstream;
 use jxlm_base::decoder::Decoder;
@@ -37,28 +41,38 @@ pub(crate) struct LeafPath {
     pub(crate) path: Path,
 }
 
-/// The path of a predictor, where it has one.
-fn path_of(predictor: Predictor) -> Option<Path>
-    ensures { IfSome result (λ p. predictor ≡ predictor_of p) }
+/// The path of a leaf, where it has one.
+fn path_of(leaf: Leaf) -> Option<Path>
+    ensures some { IfSome result (Allows leaf) }
+    ensures none { result ≡ None → LacksPath leaf }
 {
-    match predictor {
+    match leaf.predictor {
         Predictor::Zero => Some(Path::Zero),
-        Predictor::Gradient => Some(Path::Gradient),
+        Predictor::Gradient if leaf.offset == 0 && leaf.multiplier == 1 => Some(Path::Gradient),
         _ => None,
     }
 }
 
-/// The only leaf of a tree, where it has no other, adds nothing but its prediction, and has a path.
+/// The only leaf of a tree, where it has no other and has a path.
 pub(crate) fn leaf_path(flat: &FlatMaTree) -> Option<LeafPath>
     ensures tree { IfSome result (λ l. flat.now.tree ≡ one_leaf l.leaf) }
-    ensures path { IfSome result (λ l. HasPath l) }
+    ensures path { IfSome result HasPath }
+    ensures none { result ≡ None → (l : Leaf) → flat.now.tree ≡ one_leaf l → LacksPath l }
 {
     let leaf = flat.only_leaf()?;
-    if leaf.offset != 0 || leaf.multiplier != 1 {
-        return None;
-    }
-    let path = path_of(leaf.predictor)?;
+    let path = path_of(leaf)?;
     Some(LeafPath { leaf, path })
+}
+
+/// Fills a row where each cell is predicted by 0 and has the same token.
+fn fill_row<S: Sample>(token: u32, leaf: Leaf, row: &mut [S])
+    requires multiplier { HasMultiplier leaf }
+    ensures { map S.to_int row.new ≡ replicate (length row.old) (sample_of S.width leaf (pos 0) token) }
+{
+    let value = sample_from(token, leaf, 0);
+    for x in 0..row.len() {
+        row[x] = value;
+    }
 }
 
 /// Reads a row where each cell is predicted by 0.
@@ -70,7 +84,7 @@ fn zero_row<S: Sample, D: Decoder>(
     widest: u32,
     row: &mut [S],
 ) -> Result<(), RowError>
-    requires plain { IsPlain leaf }
+    requires multiplier { HasMultiplier leaf }
     requires cluster { Contains (D.meaning.cluster_map decoder.old) leaf.cluster }
     ensures ok { OnOk result ((above : List ℤ) → ReadsRow D.meaning
         (path_rule D.meaning S.width (bytes_of bits.old) leaf widest Path.Zero above)
@@ -81,7 +95,7 @@ fn zero_row<S: Sample, D: Decoder>(
 {
     for x in 0..row.len() {
         match decoder.read_varint_with_multiplier_clustered(bits, leaf.cluster, widest) {
-            Ok(token) => row[x] = S::unpack_signed_u32(token),
+            Ok(token) => row[x] = sample_from(token, leaf, 0),
             Err(error) => return Err(RowError { column: x, error }),
         }
     }
@@ -163,7 +177,8 @@ fn gradient_row<S: Sample, D: Decoder>(
     Ok(())
 }
 
-/// Reads row `y` of a region into `row`, at a leaf with a path.
+/// Reads row `y` of a region into `row`, at a leaf with a path; where the decoder has only one token for a leaf that
+/// predicts by 0, nothing is read.
 ///
 /// # Errors
 ///
@@ -178,7 +193,7 @@ pub(crate) fn read_leaf_row<S: Sample, D: Decoder>(
     y: usize,
     row: &mut [S],
 ) -> Result<(), RowError>
-    requires plain { IsPlain at.leaf }
+    requires path { HasPath at }
     requires cluster { Contains (D.meaning.cluster_map decoder.old) at.leaf.cluster }
     requires lies { Lies region store.now }
     requires in_rows { y < region.height }
@@ -192,7 +207,13 @@ pub(crate) fn read_leaf_row<S: Sample, D: Decoder>(
         (map S.to_int row.new) (source decoder.old bits.old) (source decoder.new bits.new)) }
 {
     match at.path {
-        Path::Zero => zero_row(bits, decoder, at.leaf, widest, row),
+        Path::Zero => match decoder.single_token(at.leaf.cluster) {
+            Some(token) => {
+                fill_row(token, at.leaf, row);
+                Ok(())
+            }
+            None => zero_row(bits, decoder, at.leaf, widest, row),
+        },
         Path::Gradient if y == 0 => first_gradient_row(bits, decoder, at.leaf, widest, row),
         Path::Gradient => {
             let above = region_row(store, region, y - 1);

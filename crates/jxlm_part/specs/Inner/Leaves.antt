@@ -1,9 +1,10 @@
 -- Rows of a channel whose tree is one leaf.
-use Rattle.std.specs.Prelude.{◌≡◌, ℕ, zero, suc, ℤ, pos, List, [], length, get_or}
+use Rattle.std.specs.Prelude.{◌≡◌, ◌≢◌, ℕ, zero, suc, ℤ, pos, List, [], length, get_or}
 use Rattle.std.specs.Int.{Width, w32, int_wrap}
 use Rattle.jxlm_base.specs.Decoding.{Meaning}
 use Rattle.jxlm_base.specs.Grid.{Grid, row as grid_row}
 use Rattle.jxlm_base.specs.Numbers.{clamped_gradient}
+use Rattle.jxlm_ma.specs.FlatTree.{HasMultiplier}
 use Rattle.jxlm_ma.specs.Tree.{leaf}
 use Rattle.jxlm_ma.specs.declared.flat.Leaf.{Leaf}
 use Rattle.jxlm_tree.specs.declared.predictor.Predictor.{Predictor}
@@ -33,10 +34,20 @@ pub record IsPlain (l : Leaf) : Type 0 where
   pub offset : l.offset ≡ pos 0
   pub multiplier : l.multiplier ≡ 1
 
--- so is the leaf, and it predicts as the path says
+-- the leaf predicts as the path says; by the gradient it adds nothing more
+pub record Allows (l : Leaf) (path : Path) : Type 0 where
+  pub predictor : l.predictor ≡ predictor_of path
+  pub plain : path ≡ Gradient → IsPlain l
+
+-- so does the leaf by its own path, and its multiplier lies in its range
 pub record HasPath (l : LeafPath) : Type 0 where
-  pub plain : IsPlain l.leaf
-  pub predictor : l.leaf.predictor ≡ predictor_of l.path
+  pub path : Allows l.leaf l.path
+  pub multiplier : HasMultiplier l.leaf
+
+-- a leaf without a path: it does not predict by 0, and not by the gradient alone
+pub record LacksPath (l : Leaf) : Type 0 where
+  pub zero : l.predictor ≢ predictor.Zero
+  pub gradient : l.predictor ≡ predictor.Gradient → IsPlain l → ⊥
 
 -- it is the only leaf of the tree that a part is decoded with
 pub record IsOnlyLeaf {D : Type 0} (c : PartCoding D) (l : LeafPath) : Type 0 where
