@@ -110,6 +110,24 @@ const TWO_LEAVES: &str = "\
 3x1|82|entropy decoder error: unexpected end of input
 3x1||bitstream error: unexpected end of input";
 
+// Runs that go on over the end of a row, of a channel and of the picture, and after which the input ends.
+const RUNS_ACROSS: &str = "\
+3x1 3x1|c24008cc58148800280004004170404004|2 4 6 2 4 3 @126
+3x2 3x2|c24008cc58148800280004004170404004|2 4 6 4 6 5 -1 -2 -3 -2 -3 -4 @135
+2x2 2x2|c24008cc58148800280004004170404004|2 4 4 6 2 1 1 0 @135
+3x2 3x2|c24008cc581488002800040041704000|2 4 6 4 6 5 0 0 0 0 0 0 @126 entropy decoder error: unexpected end of input
+2x2|c24008cc58148800280004003150808002|-2 -4 -4 -6 @117
+2x2 2x2|c24008cc58148800280004003150808002|-2 -4 -4 -6 1 -2 0 0 @135 entropy decoder error: unexpected end of input";
+
+// Constants after a sum that does not count them.
+const SEALED_CONSTANTS: &str = "\
+2x2|c24008cc5814880000000810110000|1 1 1 1 @115
+2x2|c24008cc5814880000000810110800|1 1 1 1 @115 entropy decoder error: invalid code 4";
+
+// A table of four clusters by the sample of the earlier channel: three constants, and tokens of four bits.
+const CLUSTERS_BY_EARLIER: &str = "\
+4x1 4x1|c24008cc581488802480448004000000000000000000000003211331881044041040c80e|0 2 4 6 7 1 2 3 @284";
+
 // Two channels under the sample of the earlier one: above 2 a hundred more.
 const EARLIER: &str = "\
 2x1 2x1|0200000048241000000019000000000000000000900830000000|1 3 0 100 @206
@@ -220,7 +238,7 @@ const SQUEEZED: &str = "\
 4x1|66|bitstream error: unexpected end of input
 4x1||bitstream error: unexpected end of input";
 
-const ROWS: [&str; 12] = [
+const ROWS: [&str; 15] = [
     GRADIENT,
     CONSTANT,
     RUN,
@@ -229,6 +247,9 @@ const ROWS: [&str; 12] = [
     WRONG_SEAL,
     TWO_LEAVES,
     EARLIER,
+    RUNS_ACROSS,
+    SEALED_CONSTANTS,
+    CLUSTERS_BY_EARLIER,
     MAX_ERROR,
     SELF_CORRECTING,
     COLOUR,
