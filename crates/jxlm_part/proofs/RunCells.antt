@@ -1,5 +1,5 @@
 -- Cells of a part whose tokens are read in runs: a row more, a channel more, all channels.
-use Rattle.std.proofs.Common.{◌≡◌, ℕ, suc, ◌+◌, ◌*◌, ◌<◌, ◌≤◌, List, Contains, length, map, true, Ok, Err, refl, sym, ap, ◌∙◌, subst, arith, ℤ}
+use Rattle.std.proofs.Common.{◌≡◌, ℕ, ◌+◌, ◌<◌, List, length, map, true, Ok, Err, refl, sym, ◌∙◌, arith, ℤ}
 use Rattle.std.specs.Prelude.{Result, OnOk, IfErr}
 use Rattle.std.specs.Int.{Width}
 use Rattle.std.proofs.lemmas.List.{length-map}
@@ -10,9 +10,7 @@ use Rattle.jxlm_base.specs.declared.bits.Bitstream.{Bitstream}
 use Rattle.jxlm_base.specs.declared.decoder.DecoderError.{DecoderError}
 use Rattle.jxlm_ma.specs.declared.flat.Leaf.{Leaf}
 use Rattle.jxlm_part.specs.Inner.Channels.{region_at}
-use Rattle.jxlm_part.specs.Inner.Leaves.{HasPath, IsOnlyLeaf, predictor_of, row_above}
-use Rattle.jxlm_part.specs.declared.leaves.LeafPath.{LeafPath}
-use Rattle.jxlm_part.specs.declared.leaves.Path.TheVariants.{Gradient}
+use Rattle.jxlm_part.specs.Inner.Leaves.{IsOnlyLeaf, row_above}
 use Rattle.jxlm_part.specs.Inner.Progress.{FailsInCells, moment, place_of}
 use Rattle.jxlm_part.specs.Inner.Rows.{IsDecoding, IsDecodingPart, SetsRead}
 use Rattle.jxlm_part.specs.Inner.Runs.{DecodesInRuns, DecodesUpTo, FailsInRuns, FailsRunRow, HasBegun, IsInRun, ReadsRunRow, RunSource, gradient_at, run_source}
@@ -33,10 +31,6 @@ error_inside d w to_int leaf above row old now run (Err e) h =
     let inside = (h 0 run.0 run.1).1.inside in
     let m = length-map row to_int in
     omega (arith, m, inside)
-
--- a leaf with the path of the clamped gradient
-pub gradient_path : (l : LeafPath) → HasPath l → l.path ≡ Gradient → HasPath (gradient_at l.leaf)
-gradient_path l h is = record { plain = h.plain; predictor = h.predictor ∙ ap predictor_of is }
 
 module _ {D X : Type 0} (c : PartCoding D) (d : Meaning D) (w : Width) (to_int : X → ℤ) where
   -- ---- one after another

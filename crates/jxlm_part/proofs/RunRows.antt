@@ -1,5 +1,5 @@
 -- Rows whose tokens are read in runs.
-use Rattle.std.proofs.Common.{◌≡◌, ℕ, ◌+◌, ◌<◌, List, Contains, length, map, Ok, Err, refl, sym, ◌∙◌, subst, ℤ}
+use Rattle.std.proofs.Common.{◌≡◌, ℕ, ◌+◌, ◌<◌, List, Contains, length, map, Ok, Err, sym, ◌∙◌, subst, ℤ}
 use Rattle.std.specs.Prelude.{slice_set, take}
 use Rattle.std.specs.Int.{Width}
 use Rattle.jxlm_base.specs.Bits.{bytes_of}
