@@ -15,3 +15,4 @@ mod plain;
 #[cfg(test)]
 mod samples;
 pub mod text;
+pub mod ways;

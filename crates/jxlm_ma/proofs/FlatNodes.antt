@@ -353,7 +353,7 @@ compiles-table p v a b s old new entries e sl sg h =
           (let l = hanging-few p a in let r = hanging-few p b in let k = hanging-at p v a b in omega arith)
           h.grows (grows-add (node.Table p s.least entries) new leads_below);
       keeps = record { keeps = λ p' q zero l olds. (l.0, h.keeps.keeps p' q zero l olds) };
-      tops = record { node = node.Table p s.least entries; older = new; newest = refl; place = refl; table = λ is. λ j in'. h.each j (s.least +ℤ pos j) (omega (arith, ints)) (omega (arith, ints)) (omega (arith, ints)) };
+      tops = record { node = node.Table p s.least entries; older = new; newest = refl; place = refl; table = λ is. (eqb-same p, λ j in'. h.each j (s.least +ℤ pos j) (omega (arith, ints)) (omega (arith, ints)) (omega (arith, ints))) };
       serves = record {
         within = omega arith;
         leads = λ w f fits are.

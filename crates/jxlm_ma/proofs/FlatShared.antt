@@ -31,15 +31,18 @@ pub serves-here : (t : Shape Leaf) (c : CompiledTree) (channel stream earlier : 
 serves-here t c channel stream earlier s there =
     let same : pruned (known_at 0 0 (earlier_named t)) t ≡ pruned (known_at channel stream earlier) t =
     unpruned (known_at 0 0 (earlier_named t)) t s.no_place (omega arith) ∙ sym (unpruned (known_at channel stream earlier) t s.no_place there) in
-    let d = s.compiled in
+    let d = s.compiled.tree in
     record {
-      multipliers = d.multipliers;
-      sound = d.sound;
-      rooted = d.rooted;
-      serves = subst (Serves (reverse c.nodes.items) c.root) same d.serves;
-      tops = subst (Tops (reverse c.nodes.items) c.root) same d.tops;
-      keeps = subst (Keeps [] (reverse c.nodes.items)) same d.keeps;
-      few = d.few;
-      needs_is = d.needs_is;
-      named_is = d.named_is;
+      tree = record {
+        multipliers = d.multipliers;
+        sound = d.sound;
+        rooted = d.rooted;
+        serves = subst (Serves (reverse c.nodes.items) c.root) same d.serves;
+        tops = subst (Tops (reverse c.nodes.items) c.root) same d.tops;
+        keeps = subst (Keeps [] (reverse c.nodes.items)) same d.keeps;
+        few = d.few;
+        needs_is = d.needs_is;
+        named_is = d.named_is;
+      };
+      table = s.compiled.table;
     }

@@ -141,10 +141,10 @@ pub went : {P : Type 0} (gives : P → ℕ → ℤ → Type 0) (properties : P) 
     Ended gives properties (reverse c.nodes.items) c.root before now l → Went gives properties (flat_tree t channel stream earlier) before now l
 went gives properties t channel stream earlier c d before now l same of_tree ended =
     let e : Ended gives properties (reverse d.nodes.items) d.root before now l = subst (λ (u : CompiledTree). Ended gives properties (reverse u.nodes.items) u.root before now l) same ended in
-    let at_end = tells t (known_at channel stream earlier) d.nodes.items d.root d.need_self_correcting d.prev_channels_named e.answers of_tree e.fit in
+    let at_end = tells t (known_at channel stream earlier) d.nodes.items d.root d.need_self_correcting d.prev_channels_named e.answers of_tree.tree e.fit in
     let k = e.looks in
     record {
-      leaf = λ f are. sym e.leaf ∙ of_tree.serves.leads e.answers f e.fit (e.heard f are) ∙ walk-pruned t channel stream earlier f;
+      leaf = λ f are. sym e.leaf ∙ of_tree.tree.serves.leads e.answers f e.fit (e.heard f are) ∙ walk-pruned t channel stream earlier f;
       stands = subst (StandsAtLeaf t) e.leaf at_end.stands;
       multiplier = subst HasMultiplier e.leaf at_end.multiplier;
       cost = let m = at_end.most in omega arith;

@@ -69,10 +69,10 @@ alike-back : (x y : ℤ) (vs : List ℤ) → Each (Alike y x) vs → Each (Alike
 alike-back x y vs h = Each-map (Alike y x) (Alike x y) (λ v e. sym e) vs h
 
 -- values that no counted cut parts go the same way
-way_left : (x v : ℤ) (q : ℕ) (a b : Shape Leaf) → v <ℤ x → way x (decision q v a b) ≡ true ∷ way x a
+pub way_left : (x v : ℤ) (q : ℕ) (a b : Shape Leaf) → v <ℤ x → way x (decision q v a b) ≡ true ∷ way x a
 way_left x v q a b h = rw (above v x h)
 
-way_right : (x v : ℤ) (q : ℕ) (a b : Shape Leaf) → x ≤ℤ v → way x (decision q v a b) ≡ false ∷ way x b
+pub way_right : (x v : ℤ) (q : ℕ) (a b : Shape Leaf) → x ≤ℤ v → way x (decision q v a b) ≡ false ∷ way x b
 way_right x v q a b h = rw (not_above v x h)
 
 way-same : (p : ℕ) (low high x y : ℤ) (t : Shape Leaf) → TestsOnly p t → low ≤ℤ x → x ≤ℤ high → low ≤ℤ y → y ≤ℤ high → Each (Alike x y) (cuts p low high t) → way x t ≡ way y t
@@ -112,7 +112,7 @@ way-as_many p x y t only lx xg ly yg e = elim (int_lt-tells x y) [
   | inr more ↦ way-same p least greatest x y t only lx xg ly yg (alike-back x y (cuts p least greatest t) (below-alike y x (cuts p least greatest t) more.1 (sym e)))
 ]
 
-four_places : (a b c d n : ℕ) → a ≤ n → b ≤ n → c ≤ n → d ≤ n → (a ≡ b → ⊥) → (a ≡ c → ⊥) → (a ≡ d → ⊥) → (b ≡ c → ⊥) → (b ≡ d → ⊥) → (c ≡ d → ⊥) → 3 ≤ n
+pub four_places : (a b c d n : ℕ) → a ≤ n → b ≤ n → c ≤ n → d ≤ n → (a ≡ b → ⊥) → (a ≡ c → ⊥) → (a ≡ d → ⊥) → (b ≡ c → ⊥) → (b ≡ d → ⊥) → (c ≡ d → ⊥) → 3 ≤ n
 four_places a b c d n ha hb hc hd ab ac ad bc bd cd = grind arith
 
 -- four leaves need three cuts
@@ -188,14 +188,11 @@ enough n h = grind (arith, nat_tests)
 worth-it : (s : Survey) → 3 ≤ s.cuts → s.greatest ≤ℤ (s.least +ℤ pos 1022) → IsSome (worth s)
 worth-it s h k = rw (enough s.cuts h, not_above (s.least +ℤ pos 1022) s.greatest k) refl
 
--- such a tree is a table
-pub near-is_table : (p : ℕ) (t : Shape Leaf) → TestsOnly p t → CutsWithin 1022 t → Reaches 4 t → IsTable t
-near-is_table p (leaf l) only near r = absurd (r.1.1 0 1 (omega arith) (omega arith) refl)
-near-is_table p (decision q v a b) only near r =
-    let at_p : (k : ℕ) → k ≡ q → 3 ≤ length (cuts k least greatest (decision k v a b)) = λ k is.
-    let o : TestsOnly k (decision q v a b) = subst (λ m. TestsOnly m (decision q v a b)) (sym only.0 ∙ sym is) only in
-    subst (λ m. 3 ≤ length (cuts k least greatest (decision m v a b))) (sym is) (three_cuts k (decision q v a b) o r) in
-    let three = at_p q refl in
+-- a tree of one property with near cuts, three of them or more, is a table
+pub cuts-table : (p : ℕ) (t : Shape Leaf) → TestsOnly p t → CutsWithin 1022 t → 3 ≤ length (cuts p least greatest t) → IsTable t
+cuts-table p (leaf l) only near many = absurd (omega arith)
+cuts-table p (decision q v a b) only near many =
+    let three : 3 ≤ length (cuts q least greatest (decision q v a b)) = subst (λ k. 3 ≤ length (cuts k least greatest (decision q v a b))) (sym only.0) many in
     let own : TestsOnly q (decision q v a b) = subst (λ m. TestsOnly m (decision q v a b)) (sym only.0) only in
     let cs = cuts q least greatest (decision q v a b) in
     let near_cs = counted-are (λ u. (near.0 ≤ℤ u) × (u ≤ℤ (near.0 +ℤ pos 1022))) q least greatest (decision q v a b) own near.1 in
@@ -211,6 +208,10 @@ near-is_table p (decision q v a b) only near r =
     let i1 = inside.1 in
     let count = surveyed-cuts unsurveyed cs in
     worth-it (surveyed unsurveyed cs) (omega arith) (omega (arith, ints))
+
+-- such a tree is a table
+pub near-is_table : (p : ℕ) (t : Shape Leaf) → TestsOnly p t → CutsWithin 1022 t → Reaches 4 t → IsTable t
+near-is_table p t only near r = cuts-table p t only near (three_cuts p t only r)
 
 -- no such tree is pruned
 unknown : (pins : Known) (p : ℕ) → 2 ≤ p → p ≤ 15 → known pins p ≡ None

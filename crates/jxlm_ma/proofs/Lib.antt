@@ -20,3 +20,9 @@ pub mod FlatMade
 pub mod FlatSteps
 pub mod FlatAsks
 pub mod FlatShared
+pub mod ClusterTables
+pub mod FlatPaths
+pub mod FlatForced
+pub mod MostSteps
+pub mod PathSteps
+pub mod FewSteps

@@ -10,3 +10,4 @@ pub mod FlatShapes
 pub mod Marked
 pub mod Pruned
 pub mod SoundNodes
+pub mod Tables

@@ -6,3 +6,6 @@ pub mod TreeReading
 pub mod TreeStands
 pub mod Inner
 pub mod ShortTrees
+pub mod ClusterTables
+pub mod Paths
+pub mod Steps

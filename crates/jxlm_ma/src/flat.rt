@@ -1,13 +1,18 @@
 //! Trees as the samples of one channel walk them, and what a leaf says.
 
-ghost use Rattle.std.specs.Prelude.{◌≡◌, ◌≤◌, ◌<◌, ◌+◌, ◌^◌, ℕ, ℤ, pos, false, length, true, ◌/◌, IfOk, IfErr, IfSome, None};
+ghost use Rattle.std.specs.Prelude.{◌≡◌, ◌≤◌, ◌<◌, ◌+◌, ◌^◌, ℕ, ℤ, pos, false, length, true, ◌/◌, ◌⊎◌, IfOk, IfErr, IfSome, None};
 ghost use Rattle.std.proofs.Common.{reverse};
 ghost use Rattle.std.specs.Int.{w32, int_wrap};
 ghost use Rattle.jxlm_base.specs.Bits.{bytes_of};
 ghost use Rattle.jxlm_ma.specs.DecodingSamples.{SampleGives};
 ghost use Rattle.jxlm_ma.specs.FlatTree.{PropertiesAre, ClustersStandIn, FlatTree, GoesWithoutWeights, HasMultiplier, NamesEarlier, ReadsEarlierBelow, flat_tree, leaf_reached, needs_weights, residual_of};
 ghost use Rattle.jxlm_tree.specs.Properties.{Surroundings, place_property, property};
-ghost use Rattle.jxlm_ma.specs.Tree.{AllLeaves, StandsAtLeaf, depth, leaf, node_count, walk};
+ghost use Rattle.jxlm_ma.specs.ClusterTables.{LeavesAgree};
+ghost use Rattle.jxlm_ma.specs.Paths.{IsPlainGradient};
+ghost use Rattle.jxlm_ma.specs.Steps.{most_steps};
+ghost use Rattle.jxlm_ma.specs.Tree.{AllLeaves, Shape, StandsAtLeaf, depth, leaf, node_count, walk};
+ghost use Rattle.jxlm_ma.specs.declared.flat.Leaf.{Leaf};
+ghost use Rattle.jxlm_tree.specs.declared.predictor.Predictor.TheVariants.{Zero};
 ghost use Rattle.jxlm_ma.specs.ShortTrees.{CutsWithin, MeetsOnce, Reaches, TestsOnly};
 ghost use Rattle.jxlm_ma.specs.Inner.FlatNodes.{IsSound, channels_of, node_channels, sees_error, slot};
 ghost use Rattle.jxlm_ma.specs.Inner.Compiled.{IsCompiledFor, ServesAnywhere};
@@ -17,6 +22,7 @@ ghost use Rattle.jxlm_ma.specs.Inner.TreeShape.{shape_of};
 
 use crate::compile::compile;
 use crate::marks::{Known, mark};
+use crate::paths::ClusterTable;
 pub use crate::steps::Steps;
 use crate::tree::{MaTree, MaTreeNode};
 use jxlm_base::bits::Bitstream;
@@ -98,6 +104,7 @@ pub(crate) struct CompiledTree {
     pub(crate) root: u32,
     pub(crate) need_self_correcting: bool,
     pub(crate) prev_channels_named: u32,
+    pub(crate) table: Option<ClusterTable>,
 }
 
 /// A tree, compiled for the samples of one channel of one stream (ISO/IEC 18181-1, Modular:
@@ -135,7 +142,7 @@ impl Model for FlatMaTree {
 
 // The entry of a table that serves a value.
 #[inline(always)]
-fn entry_of(base: i32, last: usize, value: i32) -> usize
+pub(crate) fn entry_of(base: i32, last: usize, value: i32) -> usize
     ensures { result ≡ slot base last value }
 {
     if value <= base {
@@ -231,11 +238,13 @@ impl CompiledTree {
         let prev_channels_named = nodes
             .iter()
             .fold(0, |most: u32, node| most.max(node.earlier_named()));
+        let table = ClusterTable::of(alloc, &nodes, root).map_err(|_| OutOfMemory)?;
         Ok(CompiledTree {
             nodes,
             root,
             need_self_correcting,
             prev_channels_named,
+            table,
         })
     }
 
@@ -394,4 +403,14 @@ impl FlatMaTree {
 pub fn a_flat_tree_walks_by_properties()
     ensures { (t : FlatTree) (s : Surroundings) → length s.earlier ≤ t.prev_channels → leaf_reached t
         (place_property s) ≡ walk t.tree (property t.channel t.stream_idx s) }
+{}
+
+/// The steps of a sample are at most those of a walk of the whole tree; there are none for one leaf that predicts by
+/// `Zero`, or by `Gradient` with offset 0 and multiplier 1, and there is one where one property has near cuts and the
+/// leaves agree in all but the cluster.
+pub fn a_sample_takes_few_steps()
+    ensures most { (t : Shape Leaf) → most_steps t ≤ depth t + 1 }
+    ensures none { (l : Leaf) → (l.predictor ≡ Zero) ⊎ IsPlainGradient l → most_steps (leaf l) ≡ 0 }
+    ensures one { (t : Shape Leaf) (p : ℕ) → 2 ≤ p → p ≤ 15 → TestsOnly p t → CutsWithin 1022 t → Reaches 4 t
+        → LeavesAgree t → most_steps t ≡ 1 }
 {}

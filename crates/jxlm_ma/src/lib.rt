@@ -7,5 +7,6 @@ pub mod flat;
 pub mod ma;
 mod marks;
 mod nodes;
+pub mod paths;
 mod steps;
 mod tree;

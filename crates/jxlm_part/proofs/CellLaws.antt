@@ -1,5 +1,5 @@
 -- A cell of a part: what it holds, and what is read into it.
-use Rattle.std.proofs.Common.{◌≡◌, ◌≢◌, ℕ, zero, suc, ◌+◌, ◌*◌, ◌/◌, ◌<◌, ◌≤◌, ◌^◌, List, [], ◌∷◌, ◌++◌, length, take, Some, refl, sym, ap, ◌∙◌, subst, arith, ℤ, slice_index_or, Bool, true, false, ◌||◌}
+use Rattle.std.proofs.Common.{Bool, ◌≡◌, ◌≢◌, ℕ, zero, suc, ◌+◌, ◌*◌, ◌/◌, ◌<◌, ◌≤◌, ◌^◌, List, [], ◌∷◌, ◌++◌, length, take, Some, refl, sym, ap, ◌∙◌, subst, arith, ℤ, slice_index_or, Bool, true, false, ◌||◌}
 use Rattle.std.specs.Prelude.{slice_get, slice_set, Result, Err}
 use Rattle.std.specs.List.{All}
 use Rattle.std.specs.Int.{Width}
@@ -21,7 +21,7 @@ use Rattle.jxlm_tree.specs.EarlierRows.{AreRowsOf, HoldRows}
 use Rattle.jxlm_ma.specs.FlatTree.{ClustersStandIn, FlatTree, GoesWithoutWeights, ReadsEarlierBelow}
 use Rattle.jxlm_tree.specs.Neighbours.{row as line}
 use Rattle.jxlm_tree.specs.Standing.{HasSameRoom, HoldsRow, IsInner, IsReady, Setting, StandsAt, row_of}
-use Rattle.jxlm_ma.specs.Tree.{depth}
+use Rattle.jxlm_part.specs.Inner.Leaves.{steps_to}
 use Rattle.jxlm_tree.specs.declared.earlier.EarlierRow.{EarlierRow}
 use Rattle.jxlm_ma.specs.declared.flat.Leaf.{Leaf}
 use Rattle.jxlm_tree.specs.declared.state.PredictorState.{PredictorState}
@@ -97,10 +97,10 @@ module _ {D : Type 0} (c : PartCoding D) (coding : IsCodingOf c) (i : ℕ) (li :
   pub clusters_at : (other : ChannelTree) (clusters : List ℕ) → FindsClusters c clusters → ClustersStandIn clusters (slice_index_or c.flats.now i other).flat.tree
   clusters_at other clusters h = subst (λ (t : FlatTree). ClustersStandIn clusters t.tree) (sym (flat_at other)) h
 
-  pub cost_at : (other : ChannelTree) (before after : ℕ) → after ≤ before + depth (slice_index_or c.flats.now i other).flat.tree + 1 → after ≤ before + cost_of c
-  cost_at other before after h =
-      let same = ap (λ (t : FlatTree). depth t.tree) (flat_at other) in
-      omega (arith, same, h)
+  pub cost_at : (other : ChannelTree) (by : Bool) (before after : ℕ) → after ≤ before + steps_to by (slice_index_or c.flats.now i other).flat.tree → steps_to by c.config.now.tree ≤ cost_of c → after ≤ before + cost_of c
+  cost_at other by before after h bound =
+      let same = ap (λ (t : FlatTree). steps_to by t.tree) (flat_at other) in
+      omega (arith, same, h, bound)
 
   pub roomy_still : {X : Type 0} (old new : PredictorState X) → HasSameRoom old new → HasRoom c old → HasRoom c new
   roomy_still old new same h = record {

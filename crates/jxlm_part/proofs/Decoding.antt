@@ -1,6 +1,6 @@
 -- What the loops over rows and channels promise one another: a row more, a channel more.
 use Rattle.std.proofs.Common.{◌≡◌, ℕ, suc, ◌+◌, ◌*◌, ◌<◌, ◌≤◌, List, [], length, map, Ok, Err, Option, Some, None, refl, sym, ◌∙◌, subst, arith, ℤ}
-use Rattle.std.specs.Prelude.{Result, OnOk, IfErr, IfSome}
+use Rattle.std.specs.Prelude.{Result, OnOk, IfErr}
 use Rattle.std.specs.Int.{Width}
 use Rattle.std.proofs.lemmas.List.{length-map}
 use Rattle.jxlm_base.specs.Bits.{bytes_of, position_of}
@@ -10,18 +10,18 @@ use Rattle.jxlm_base.specs.Outside.{KeepsOutside}
 use Rattle.jxlm_base.specs.Regions.{store_meanings}
 use Rattle.jxlm_base.specs.declared.decoder.DecoderError.{DecoderError}
 use Rattle.jxlm_base.proofs.Outside.{all_lie_still, keeps_all, keeps_both}
-use Rattle.jxlm_ma.specs.Tree.{Shape, leaf}
 use Rattle.jxlm_ma.specs.declared.flat.Leaf.{Leaf}
 use Rattle.jxlm_tree.specs.declared.state.PredictorState.{PredictorState}
 use Rattle.jxlm_part.specs.Inner.Channels.{StandsAfter, StandsIn, region_at}
-use Rattle.jxlm_part.specs.Inner.Leaves.{HasPath}
+use Rattle.jxlm_part.specs.Inner.Leaves.{Leads, steps_by}
 use Rattle.jxlm_part.specs.Inner.Progress.{DecodesCells, FailsInCells, GoesOn, Moment, Stops, TakesSteps, moment, place_of}
 use Rattle.jxlm_part.specs.Inner.Rows.{FailsRow, IsDecoding, IsDecodingPart, IsInRow, ReadsRow, SetsRead, rule_in}
 use Rattle.jxlm_part.specs.Inner.Source.{Source}
 use Rattle.jxlm_part.specs.Part.{cells_before}
-use Rattle.jxlm_part.specs.Reading.{FindsClusters, HasRoom, IsCodingOf, cost_of, part_of, regions_of}
+use Rattle.jxlm_part.specs.Reading.{FindsClusters, HasRoom, IsCodingOf, cost_of, part_of, regions_of, tree_of}
 use Rattle.jxlm_part.specs.declared.coding.PartCoding.{PartCoding}
-use Rattle.jxlm_part.specs.declared.leaves.LeafPath.{LeafPath}
+use Rattle.jxlm_part.specs.declared.leaves.Way.{Way}
+use Rattle.jxlm_part.specs.declared.leaves.Way.TheVariants as way
 use Rattle.jxlm_part.specs.declared.rows.RowError.{RowError}
 use Rattle.jxlm_part.proofs.CellLaws.{begins_row}
 use Rattle.jxlm_part.proofs.Loops.{channel_begins, channel_done, goes_further, row_done, stays, stops_further, takes_further, takes_none, takes_some}
@@ -148,13 +148,15 @@ module _ {D X : Type 0} (c : PartCoding D) (d : Meaning D) (w : Width) (to_int :
     row_failed = row_failed_by read result sets
 
   -- the state is at the next row
-  pub row_below : (path : Option LeafPath) (state : PredictorState X) → OnOk read (IsInRow c to_int store i y path R state) → OnOk result (IsInRow c to_int new i (y + 1) path [] state)
-  row_below path state = below read result sets path where
-    below : (read : Result (Unit {0}) RowError) (result : Result (Unit {0}) DecoderError) → SetsRead (region_at (regions_of c) i) y row read store new result → (path : Option LeafPath) →
-        OnOk read (IsInRow c to_int store i y path R state) → OnOk result (IsInRow c to_int new i (y + 1) path [] state)
-    below (Err e) result sets path h = rw sets.1 tt
-    below (Ok u) result sets (Some l) h = rw sets.1 (record { stands = h.stands; roomy = h.roomy })
-    below (Ok u) result sets None h = rw sets.1 (record {
+  pub row_below : (by : Way) (state : PredictorState X) → OnOk read (IsInRow c to_int store i y by R state) → OnOk result (IsInRow c to_int new i (y + 1) by [] state)
+  row_below by state = below read result sets by where
+    below : (read : Result (Unit {0}) RowError) (result : Result (Unit {0}) DecoderError) → SetsRead (region_at (regions_of c) i) y row read store new result → (by : Way) →
+        OnOk read (IsInRow c to_int store i y by R state) → OnOk result (IsInRow c to_int new i (y + 1) by [] state)
+    below (Err e) result sets by h = rw sets.1 tt
+    below (Ok u) result sets (way.Leaf l) h = rw sets.1 (record { leads = h.leads; steps = h.steps; stands = h.stands; roomy = h.roomy })
+    below (Ok u) result sets (way.Cells t) h = rw sets.1 (record {
+      leads = h.leads;
+      steps = h.steps;
       stands = begins_row c i to_int new (y + 1) state
           (stands_below c i y to_int store new row state here.part.lie here.channel qy long sets.0 h.stands);
       roomy = h.roomy;
@@ -164,17 +166,17 @@ module _ {D X : Type 0} (c : PartCoding D) (d : Meaning D) (w : Width) (to_int :
 
 module _ {D X : Type 0} (c : PartCoding D) (i : ℕ) (to_int : X → ℤ) (store : List (Grid X)) (state : PredictorState X) where
   -- once it is started, the state is at its first row
-  pub at_first_row : (path : Option LeafPath) (tree : Shape Leaf) → tree ≡ (part_of c).tree → IfSome path (λ l. tree ≡ leaf l.leaf) → IfSome path HasPath →
-      StandsAfter c to_int store i 0 state → HasRoom c state → IsInRow c to_int store i 0 path [] state
-  at_first_row (Some l) tree same only path stands roomy =
-      record { stands = (record { tree = sym same ∙ only; path = path }, record { before = _; stands = stands }); roomy = roomy }
-  at_first_row None tree same only path stands roomy =
+  pub at_first_row : (by : Way) → Leads (tree_of c i) by → steps_by by c.config.now.tree ≤ cost_of c →
+      StandsAfter c to_int store i 0 state → HasRoom c state → IsInRow c to_int store i 0 by [] state
+  at_first_row (way.Leaf l) leads steps stands roomy =
+      record { leads = leads; steps = steps; stands = record { before = _; stands = stands }; roomy = roomy }
+  at_first_row (way.Cells t) leads steps stands roomy =
       let none : 0 ≡ 0 * (region_at (regions_of c) i).width = omega arith in
-      record { stands = begins_row c i to_int store 0 state (subst (λ n. StandsAfter c to_int store i n state) none stands); roomy = roomy }
+      record { leads = leads; steps = steps; stands = begins_row c i to_int store 0 state (subst (λ n. StandsAfter c to_int store i n state) none stands); roomy = roomy }
 
-  pub in_channel : (y : ℕ) (path : Option LeafPath) (row : List ℤ) → IsInRow c to_int store i y path row state → StandsIn c i state
-  in_channel y (Some l) row h = h.stands.1
-  in_channel y None row h = record { before = _; stands = h.stands }
+  pub in_channel : (y : ℕ) (by : Way) (row : List ℤ) → IsInRow c to_int store i y by row state → StandsIn c i state
+  in_channel y (way.Leaf l) row h = h.stands
+  in_channel y (way.Cells t) row h = record { before = _; stands = h.stands }
 
 module _ {D X : Type 0} (c : PartCoding D) (d : Meaning D) (w : Width) (to_int : X → ℤ) (coding : IsCodingOf c) (i : ℕ) (li : i < length (regions_of c)) (old new : Moment D X) where
   -- its rows are its cells

@@ -166,7 +166,7 @@ module _ (part : Part) (regions : List Region) (ints : List (Grid ℤ)) (i : ℕ
       omega (arith, a, b, c)
 
   -- with weights, the flat tree leads to the leaf of the part
-  leaf_with : leaf_reached (flat part.tree part.stream i) (place_property (seen_with (Some part.weights))) ≡ next_leaf part before
+  pub leaf_with : leaf_reached (flat part.tree part.stream i) (place_property (seen_with (Some part.weights))) ≡ next_leaf part before
   leaf_with =
       walks_by_properties (flat part.tree part.stream i) (seen_with (Some part.weights)) few
       ∙ sym (ap (λ (s : Surroundings). walk part.tree (property i part.stream s)) same_seen)

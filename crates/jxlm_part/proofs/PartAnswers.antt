@@ -10,7 +10,7 @@ use Rattle.jxlm_base.specs.declared.error.Error.{Error}
 use Rattle.jxlm_base.specs.declared.error.Error.TheVariants.{Decoder}
 use Rattle.jxlm_base.specs.declared.subgrid.Region.{Region}
 use Rattle.jxlm_transform.specs.Channels.{AreRegionsOf, Channel}
-use Rattle.jxlm_ma.specs.Tree.{depth}
+use Rattle.jxlm_ma.specs.Steps.{most_steps}
 use Rattle.jxlm_part.specs.Decode.{DecodeGives, MovesWithin, Standing}
 use Rattle.jxlm_part.specs.Inner.Ready.{IsReadyFor}
 use Rattle.jxlm_part.specs.Part.{Part, cell_count, max_width}
@@ -50,7 +50,7 @@ none_is (suc n) h = absurd (h (omega arith))
 module _ {S D : Type 0} (d : Meaning D) (w : Width) (to_int : S → ℤ) (bytes : List ℕ) (part : Part) (regions : List Region) (decoder : D)
     (old : List (Grid S)) (p : ℕ) (partial : Bool) where
   abbrev cost : ℕ
-  cost = depth part.tree + 1
+  cost = most_steps part.tree
 
   -- what is returned, and how many steps were taken
   abbrev Answers : Bool → List (Grid S) → ℕ → Bool → Result (Unit {0}) Error → ℕ → ℕ → Type 0

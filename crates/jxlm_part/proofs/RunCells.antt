@@ -20,7 +20,7 @@ use Rattle.jxlm_part.specs.Reading.{IsCodingOf, part_of, regions_of}
 use Rattle.jxlm_part.specs.declared.coding.PartCoding.{PartCoding}
 use Rattle.jxlm_part.specs.declared.rows.RowError.{RowError}
 use Rattle.jxlm_part.proofs.Decoding.{channel_decoded, channel_failed, decoded_further, failed_further, none_decoded, row_decoded, row_failed, still_decoding}
-use Rattle.jxlm_part.proofs.LeafRows.{leaf_fails, leaf_reads}
+use Rattle.jxlm_part.proofs.LeafRows.{leaf_fails, leaf_reads, only_leaf_of}
 use Rattle.jxlm_part.proofs.RunTokens.{begins_run, run_of, same_clusters, still_rle}
 
 -- the read that returned an error was of a cell of the row
@@ -83,7 +83,7 @@ module _ {D X : Type 0} (c : PartCoding D) (d : Meaning D) (w : Width) (to_int :
         let r = h c.widest single o in (
           r.0,
           row_decoded c d w to_int i y store new row clusters here qy long (Ok u) (Ok u) (sets.0, refl) (source single old.bits) (source r.0 now.bits) steps steps (omega arith)
-              (leaf_reads c d w to_int store clusters i y here qy (gradient_at leaf) only R wide (source single old.bits) (source r.0 now.bits) r.1) (omega arith),
+              (leaf_reads c d w to_int store clusters i y here qy (gradient_at leaf) (only_leaf_of c i (gradient_at leaf) only) only.path R wide (source single old.bits) (source r.0 now.bits) r.1) (omega arith),
           r.2,
         ))
 
@@ -99,7 +99,7 @@ module _ {D X : Type 0} (c : PartCoding D) (d : Meaning D) (w : Width) (to_int :
         let r = h c.widest single o in (
           r.0,
           row_failed c d w to_int i y store new row clusters here qy long (Err e) (Err e.error) (sets.0, refl) (source single old.bits) (source r.0 now.bits) steps steps (omega arith)
-              (leaf_fails c d w to_int store clusters i y here qy (gradient_at leaf) only R wide (source single old.bits) (source r.0 now.bits) e r.1) (omega arith),
+              (leaf_fails c d w to_int store clusters i y here qy (gradient_at leaf) (only_leaf_of c i (gradient_at leaf) only) only.path R wide (source single old.bits) (source r.0 now.bits) e r.1) (omega arith),
           r.2,
         ))
 

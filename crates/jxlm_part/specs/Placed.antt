@@ -6,7 +6,7 @@ use Rattle.jxlm_base.specs.Regions.{AllLie, LieApart, grids_in, store_meanings}
 use Rattle.jxlm_base.specs.declared.subgrid.Region.{Region}
 use Rattle.jxlm_transform.specs.Channels.{AreRegionsOf, IsNarrow}
 use Rattle.jxlm_tree.specs.SelfCorrecting.{IsHeader}
-use Rattle.jxlm_ma.specs.Tree.{depth}
+use Rattle.jxlm_ma.specs.Steps.{most_steps as most_steps_of}
 use Rattle.jxlm_part.specs.Decode.{Standing}
 use Rattle.jxlm_part.specs.Part.{Part}
 use Rattle.jxlm_part.specs.declared.part.PlacedPart.{PlacedPart}
@@ -18,7 +18,7 @@ module _ {D : Type 0} where
 
   -- the maximum number of steps to a leaf of its tree
   abbrev pub most_steps : PlacedPart D → ℕ
-  most_steps p = depth p.config.now.tree + 1
+  most_steps p = most_steps_of p.config.now.tree
 
   -- Its channels are narrow and at most 65536, and have the sizes of their regions, which lie in the store and share no
   -- cell; its weights are those of a header.

@@ -5,7 +5,8 @@ use Rattle.jxlm_base.specs.declared.subgrid.Region.{Region}
 use Rattle.jxlm_ma.specs.FlatTree.{FlatTree, ClustersStandIn, GoesWithoutWeights, ReadsEarlierBelow}
 use Rattle.jxlm_tree.specs.SelfCorrecting.{IsHeader}
 use Rattle.jxlm_tree.specs.Standing.{room_of, earlier_room_of, weights_of}
-use Rattle.jxlm_ma.specs.Tree.{Shape, depth}
+use Rattle.jxlm_ma.specs.Steps.{most_steps}
+use Rattle.jxlm_ma.specs.Tree.{Shape}
 use Rattle.jxlm_ma.specs.declared.flat.Leaf.{Leaf}
 use Rattle.jxlm_tree.specs.declared.predictor.WpHeader.{WpHeader}
 use Rattle.jxlm_tree.specs.declared.state.PredictorState.{PredictorState}
@@ -71,9 +72,13 @@ module _ {D : Type 0} where
   abbrev pub weights_used : PartCoding D → Option WpHeader
   weights_used c = if are_weighted c.flats.now then Some c.weights else None
 
+  -- its tree as channel i walks it
+  abbrev pub tree_of : PartCoding D → ℕ → FlatTree
+  tree_of c i = flat c.config.now.tree c.stream_index i
+
   -- the maximum number of steps to a leaf
   abbrev pub cost_of : PartCoding D → ℕ
-  cost_of c = depth c.config.now.tree + 1
+  cost_of c = most_steps c.config.now.tree
 
   module _ {X : Type 0} where
     -- the predictors' state has room for each channel, and the weights that are used

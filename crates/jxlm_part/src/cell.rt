@@ -1,18 +1,20 @@
 //! One cell of a part, and how it is read.
 
-ghost use Rattle.std.specs.Prelude.{◌≡◌, pos, ◌+ℤ◌, ◌*ℤ◌, ◌+◌, ◌^◌, ◌<◌, ◌≤◌, IfOk, OnOk, IfErr, ◌≢◌, false, length, map, take};
+ghost use Rattle.std.specs.Prelude.{◌≡◌, is_some, pos, ◌+ℤ◌, ◌*ℤ◌, ◌+◌, ◌^◌, ◌<◌, ◌≤◌, IfOk, OnOk, IfErr, ◌≢◌, false, length, map, take};
 ghost use Rattle.std.specs.Int.{int_wrap};
 ghost use Rattle.jxlm_base.specs.Bits.{bytes_of};
 ghost use Rattle.jxlm_base.specs.Numbers.{unpack};
 ghost use Rattle.jxlm_tree.specs.EarlierRows.{AreRowsOf};
-ghost use Rattle.jxlm_ma.specs.FlatTree.{ClustersStandIn};
+ghost use Rattle.jxlm_ma.specs.FlatTree.{ClustersStandIn, HasMultiplier};
 ghost use Rattle.jxlm_tree.specs.Holding.{IsCurrent};
-ghost use Rattle.jxlm_ma.specs.Tree.{depth};
-ghost use Rattle.jxlm_part.specs.Inner.Cells.{FailsSample, ReadsSample};
+ghost use Rattle.jxlm_ma.specs.Tree.{StandsAtLeaf};
+ghost use Rattle.jxlm_part.specs.Inner.Cells.{FailsSample, IsReached, ReadsSample};
 ghost use Rattle.jxlm_part.specs.Inner.Channels.{region_at, setting_of};
+ghost use Rattle.jxlm_part.specs.Inner.Leaves.{Leads, steps_to};
 ghost use Rattle.jxlm_part.specs.Inner.Rows.{FailsCell, IsAway, IsDecoding, ReadsCell, StandsInRow, rule_in};
 ghost use Rattle.jxlm_part.specs.Inner.Source.{source};
-ghost use Rattle.jxlm_part.specs.Reading.{HasRoom, cost_of, regions_of};
+ghost use Rattle.jxlm_part.specs.declared.leaves.Way.TheVariants as way;
+ghost use Rattle.jxlm_part.specs.Reading.{HasRoom, cost_of, regions_of, tree_of};
 
 use crate::coding::PartCoding;
 use jxlm_base::bits::Bitstream;
@@ -20,6 +22,7 @@ use jxlm_base::decoder::{Decoder, DecoderError};
 use jxlm_base::grid::AlignedGrid;
 use jxlm_base::sample::{Sample, Sealed};
 use jxlm_ma::flat::{FlatMaTree, Leaf, Steps};
+use jxlm_ma::paths::ClusterTable;
 use jxlm_tree::earlier::EarlierRow;
 use jxlm_tree::predictor::{PredictorState, Properties};
 
@@ -34,6 +37,28 @@ pub(crate) fn sample_from<S: Sample>(token: u32, leaf: Leaf, predicted: i32) -> 
         .add(S::from_i32(predicted))
 }
 
+/// The leaf to which these properties lead in this tree: by its table, where it has one.
+#[inline(always)]
+fn leaf_of<S: Sample>(
+    flat: &FlatMaTree,
+    table: Option<&ClusterTable>,
+    properties: &Properties<'_, S>,
+    steps: &mut Steps,
+) -> Leaf
+    requires current { IsCurrent properties.now }
+    requires leads { Leads flat.now (way.Cells table) }
+    ensures leaf { IsReached flat.now S.to_int properties.now result }
+    ensures stands { StandsAtLeaf flat.now.tree result }
+    ensures multiplier { HasMultiplier result }
+    ensures cost { steps.new ≤ steps.old + steps_to (is_some table.entry) flat.now.tree }
+    ensures more { steps.old ≤ steps.new }
+{
+    match table {
+        Some(table) => table.leaf_by(properties, steps),
+        None => *flat.leaf(properties, steps),
+    }
+}
+
 /// Reads the sample of the cell of these properties: at the leaf to which the tree leads, over that leaf's prediction.
 #[inline(always)]
 fn next_sample<S: Sample, D: Decoder>(
@@ -42,8 +67,10 @@ fn next_sample<S: Sample, D: Decoder>(
     steps: &mut Steps,
     properties: &Properties<'_, S>,
     flat: &FlatMaTree,
+    table: Option<&ClusterTable>,
     widest: u32,
 ) -> Result<S, DecoderError>
+    requires leads { Leads flat.now (way.Cells table) }
     requires current { IsCurrent properties.now }
     requires clusters { ClustersStandIn (D.meaning.cluster_map decoder.old) flat.now.tree }
     ensures ok { IfOk result (ReadsSample D.meaning S.to_int flat.now widest properties.now
@@ -53,10 +80,10 @@ fn next_sample<S: Sample, D: Decoder>(
     ensures clusters { OnOk result (D.meaning.cluster_map decoder.new ≡ D.meaning.cluster_map decoder.old) }
     ensures memory { IfErr result (λ e. e ≢ DecoderError.OutOfMemory) }
     ensures bytes { bytes_of bits.new ≡ bytes_of bits.old }
-    ensures cost { steps.new ≤ steps.old + depth flat.now.tree + 1 }
+    ensures cost { steps.new ≤ steps.old + steps_to (is_some table.entry) flat.now.tree }
     ensures more { steps.old ≤ steps.new }
 {
-    let leaf = *flat.leaf(properties, steps);
+    let leaf = leaf_of(flat, table, properties, steps);
     let token = decoder.read_varint_with_multiplier_clustered(bits, leaf.cluster, widest)?;
     let predicted = leaf.predictor.predict(properties);
     Ok(sample_from(token, leaf, predicted))
@@ -74,12 +101,15 @@ pub(crate) fn decode_cell<S: Sample, D: Decoder, const EDGE: bool>(
     store: &[AlignedGrid<S>],
     rows: &[EarlierRow<'_, S>],
     coding: &PartCoding<'_, D>,
+    table: Option<&ClusterTable>,
     row: &mut [S],
     i: usize,
     x: usize,
     y: usize,
 ) -> Result<(), DecoderError>
     requires here { IsDecoding coding.now i store.now (D.meaning.cluster_map decoder.old) }
+    requires leads { Leads (tree_of coding.now i) (way.Cells table) }
+    requires bound { steps_to (is_some table) coding.now.config.now.tree ≤ cost_of coding.now }
     requires column { x < (region_at (regions_of coding.now) i).width }
     requires in_rows { y < (region_at (regions_of coding.now) i).height }
     requires inner { EDGE ≡ false → IsAway x y (region_at (regions_of coding.now) i).width }
@@ -101,7 +131,15 @@ pub(crate) fn decode_cell<S: Sample, D: Decoder, const EDGE: bool>(
 {
     let properties = state.properties_by_rows::<EDGE>(store, rows);
     let flat = &coding.flats[i].flat;
-    let sample = next_sample(bits, decoder, steps, &properties, flat, coding.widest)?;
+    let sample = next_sample(
+        bits,
+        decoder,
+        steps,
+        &properties,
+        flat,
+        table,
+        coding.widest,
+    )?;
     properties.record(sample.to_i32());
     row[x] = sample;
     Ok(())

@@ -13,7 +13,7 @@ ghost use Rattle.jxlm_part.specs.Inner.Source.{source};
 ghost use Rattle.jxlm_part.specs.Reading.{FindsClusters, HasRoom, IsCodingOf, IsRoomy, cost_of, part_of, regions_of};
 
 use crate::coding::{PartCoding, PartState, start_channel};
-use crate::leaves::{LeafPath, leaf_path, read_leaf_row};
+use crate::leaves::{Way, read_leaf_row, way_of};
 use crate::rows::{RowError, read_row, write_read};
 use crate::runs::{decode_runs, run_leaf};
 use jxlm_base::bits::Bitstream;
@@ -23,7 +23,7 @@ use jxlm_base::sample::Sample;
 use jxlm_ma::flat::Steps;
 use jxlm_tree::predictor::PredictorState;
 
-/// Reads row `y` of channel `i` into `row`: at the only leaf of the tree where that has a path, else cell by cell.
+/// Reads row `y` of channel `i` into `row`, at a leaf or cell by cell.
 ///
 /// # Errors
 ///
@@ -35,7 +35,7 @@ fn read_any_row<S: Sample, D: Decoder>(
     steps: &mut Steps,
     store: &[AlignedGrid<S>],
     coding: &PartCoding<'_, D>,
-    path: Option<LeafPath>,
+    way: Way<'_>,
     row: &mut [S],
     i: usize,
     y: usize,
@@ -43,23 +43,23 @@ fn read_any_row<S: Sample, D: Decoder>(
     requires here { IsDecoding coding.now i store.now (D.meaning.cluster_map decoder.old) }
     requires in_rows { y < (region_at (regions_of coding.now) i).height }
     requires long { length row.old ≡ (region_at (regions_of coding.now) i).width }
-    requires at_row { IsInRow coding.now S.to_int store.now i y path [] state.old }
+    requires at_row { IsInRow coding.now S.to_int store.now i y way [] state.old }
     ensures ok { OnOk result (ReadsRow D.meaning
         (rule_in coding.now S.to_int store.now i y D.meaning S.width (bytes_of bits.old))
         (map S.to_int row.new) (source decoder.old bits.old) (source decoder.new bits.new)) }
     ensures err { IfErr result (FailsRow
         (rule_in coding.now S.to_int store.now i y D.meaning S.width (bytes_of bits.old))
         (map S.to_int row.new) (source decoder.old bits.old) (source decoder.new bits.new)) }
-    ensures at_row { OnOk result (IsInRow coding.now S.to_int store.now i y path (map S.to_int row.new) state.new) }
+    ensures at_row { OnOk result (IsInRow coding.now S.to_int store.now i y way.entry (map S.to_int row.new) state.new) }
     ensures cost { OnOk result
         (steps.new ≤ steps.old + (region_at (regions_of coding.now) i).width * cost_of coding.now) }
     ensures cost_so_far { IfErr result (λ r. steps.new ≤ steps.old + (r.column + 1) * cost_of coding.now) }
     ensures more { steps.old ≤ steps.new }
 {
     let region = coding.regions[i];
-    match path {
-        Some(at) => read_leaf_row(bits, decoder, at, coding.widest, store, region, y, row),
-        None => read_row(bits, decoder, state, steps, store, coding, row, i, y),
+    match way {
+        Way::Leaf(at) => read_leaf_row(bits, decoder, at, coding.widest, store, region, y, row),
+        Way::Cells(table) => read_row(bits, decoder, state, steps, store, coding, table, row, i, y),
     }
 }
 
@@ -71,7 +71,7 @@ fn decode_row<S: Sample, D: Decoder>(
     steps: &mut Steps,
     store: &mut [AlignedGrid<S>],
     coding: &PartCoding<'_, D>,
-    path: Option<LeafPath>,
+    way: Way<'_>,
     row: &mut [S],
     i: usize,
     y: usize,
@@ -79,16 +79,16 @@ fn decode_row<S: Sample, D: Decoder>(
     requires here { IsDecoding coding.now i store.old (D.meaning.cluster_map decoder.old) }
     requires in_rows { y < (region_at (regions_of coding.now) i).height }
     requires long { length row.old ≡ (region_at (regions_of coding.now) i).width }
-    requires at_row { IsInRow coding.now S.to_int store.old i y path [] state.old }
+    requires at_row { IsInRow coding.now S.to_int store.old i y way [] state.old }
     ensures ok { OnOk result (DecodesCells coding.now D.meaning S.width S.to_int
         (place_of (part_of coding.now) i 0 y) (place_of (part_of coding.now) i 0 (y + 1))
         (moment decoder.old bits.old store.old steps.old) (moment decoder.new bits.new store.new steps.new)) }
     ensures err { IfErr result (FailsInCells coding.now D.meaning S.width S.to_int
         (place_of (part_of coding.now) i 0 y)
         (moment decoder.old bits.old store.old steps.old) (moment decoder.new bits.new store.new steps.new)) }
-    ensures at_row { OnOk result (IsInRow coding.now S.to_int store.new i (y + 1) path [] state.new) }
+    ensures at_row { OnOk result (IsInRow coding.now S.to_int store.new i (y + 1) way.entry [] state.new) }
 {
-    let read = read_any_row(bits, decoder, state, steps, store, coding, path, row, i, y);
+    let read = read_any_row(bits, decoder, state, steps, store, coding, way, row, i, y);
     write_read(store, coding.regions[i], y, row, read)
 }
 
@@ -100,13 +100,13 @@ fn decode_rows<S: Sample, D: Decoder>(
     steps: &mut Steps,
     store: &mut [AlignedGrid<S>],
     coding: &PartCoding<'_, D>,
-    path: Option<LeafPath>,
+    way: Way<'_>,
     row: &mut [S],
     i: usize,
 ) -> Result<(), DecoderError>
     requires here { IsDecoding coding.now i store.old (D.meaning.cluster_map decoder.old) }
     requires long { length row.old ≡ (region_at (regions_of coding.now) i).width }
-    requires at_row { IsInRow coding.now S.to_int store.old i 0 path [] state.old }
+    requires at_row { IsInRow coding.now S.to_int store.old i 0 way [] state.old }
     ensures ok { OnOk result (DecodesCells coding.now D.meaning S.width S.to_int
         (cells_before (part_of coding.now).channels i) (cells_before (part_of coding.now).channels (i + 1))
         (moment decoder.old bits.old store.old steps.old) (moment decoder.new bits.new store.new steps.new)) }
@@ -114,10 +114,10 @@ fn decode_rows<S: Sample, D: Decoder>(
         (cells_before (part_of coding.now).channels i)
         (moment decoder.old bits.old store.old steps.old) (moment decoder.new bits.new store.new steps.new)) }
     ensures at_row { OnOk result (IsInRow coding.now S.to_int store.new i
-        (region_at (regions_of coding.now) i).height path [] state.new) }
+        (region_at (regions_of coding.now) i).height way.entry [] state.new) }
 {
     for y in 0..coding.regions[i].height {
-        decode_row(bits, decoder, state, steps, store, coding, path, row, i, y)?;
+        decode_row(bits, decoder, state, steps, store, coding, way, row, i, y)?;
     }
     Ok(())
 }
@@ -153,8 +153,8 @@ fn decode_channel<S: Sample, D: Decoder>(
     }
     start_channel(state, coding, i);
     let row = &mut scratch[..region.width];
-    let path = leaf_path(&coding.flats[i].flat);
-    decode_rows(bits, decoder, state, steps, store, coding, path, row, i)
+    let way = way_of(&coding.flats[i].flat, decoder);
+    decode_rows(bits, decoder, state, steps, store, coding, way, row, i)
 }
 
 /// Reads all channels of a part, in order. `scratch` has room for a row of each.

@@ -3,13 +3,14 @@
 //! No state of the predictors is needed for them: a row is read from the row above it. Where the decoder has only one
 //! token for a leaf that predicts by 0, the row is filled.
 
-ghost use Rattle.std.specs.Prelude.{◌≡◌, ◌<◌, ℤ, pos, List, [], map, length, replicate, OnOk, IfErr, IfSome, None, Contains};
+ghost use Rattle.std.specs.Prelude.{◌≡◌, ◌<◌, ◌≤◌, ℤ, pos, List, [], map, length, replicate, OnOk, IfErr, IfSome, None, Contains};
 ghost use Rattle.jxlm_base.specs.Bits.{bytes_of};
 ghost use Rattle.jxlm_base.specs.Regions.{Lies, grid_of, store_meanings};
-ghost use Rattle.jxlm_ma.specs.FlatTree.{HasMultiplier};
+ghost use Rattle.jxlm_ma.specs.FlatTree.{ClustersStandIn, HasMultiplier};
+ghost use Rattle.jxlm_ma.specs.Steps.{most_steps};
 ghost use Rattle.jxlm_ma.specs.Tree.{leaf as one_leaf};
 ghost use Rattle.jxlm_part.specs.Coded.{sample_of};
-ghost use Rattle.jxlm_part.specs.Inner.Leaves.{Allows, HasPath, IsPlain, LacksPath, path_rule, row_above};
+ghost use Rattle.jxlm_part.specs.Inner.Leaves.{Allows, HasPath, IsPlain, LacksPath, Leads, path_rule, row_above, steps_by};
 ghost use Rattle.jxlm_part.specs.Inner.Rows.{FailsRow, ReadsRow};
 ghost use Rattle.jxlm_part.specs.Inner.Source.{source};
 
@@ -21,6 +22,7 @@ use jxlm_base::grid::{AlignedGrid, Region};
 use jxlm_base::region::region_row;
 use jxlm_base::sample::{Sample, Sealed};
 use jxlm_ma::flat::{FlatMaTree, Leaf};
+use jxlm_ma::paths::{self, ClusterTable};
 use jxlm_tree::predictor::Predictor;
 
 /// How the cells of a row are predicted, from the row above and the cells before.
@@ -39,6 +41,37 @@ pub(crate) struct LeafPath {
     pub(crate) leaf: Leaf,
     /// How it predicts.
     pub(crate) path: Path,
+}
+
+/// How the rows of a channel are read.
+#[derive(Clone, Copy)]
+pub(crate) enum Way<'t> {
+    /// At one leaf.
+    Leaf(LeafPath),
+    /// Cell by cell, each at the leaf to which its properties lead: by a table, where there is one.
+    Cells(Option<&'t ClusterTable>),
+}
+
+/// How the rows of a channel with this tree are read.
+pub(crate) fn way_of<'t, D: Decoder>(flat: &'t FlatMaTree, decoder: &D) -> Way<'t>
+    requires clusters { ClustersStandIn (D.meaning.cluster_map decoder.now) flat.now.tree }
+    ensures leads { Leads flat.now result }
+    ensures steps { steps_by result flat.now.tree ≤ most_steps flat.now.tree }
+{
+    match flat.path_of(decoder) {
+        paths::Path::Constant(leaf) | paths::Path::Zero(leaf) => Way::Leaf(LeafPath {
+            leaf,
+            path: Path::Zero,
+        }),
+        paths::Path::Gradient(leaf) | paths::Path::Runs(leaf) => Way::Leaf(LeafPath {
+            leaf,
+            path: Path::Gradient,
+        }),
+        paths::Path::Clusters(table) | paths::Path::GradientClusters(table) => {
+            Way::Cells(Some(table))
+        }
+        paths::Path::Tree => Way::Cells(None),
+    }
 }
 
 /// The path of a leaf, where it has one.

@@ -1,13 +1,15 @@
 //! Rows of a channel: what the read of one returns, how it is read cell by cell, and how it is written.
 
-ghost use Rattle.std.specs.Prelude.{◌≡◌, ◌+◌, ◌*◌, ◌<◌, ◌≤◌, [], false, map, take, length, OnOk, IfErr};
+ghost use Rattle.std.specs.Prelude.{◌≡◌, is_some, ◌+◌, ◌*◌, ◌<◌, ◌≤◌, [], false, map, take, length, OnOk, IfErr};
 ghost use Rattle.jxlm_base.specs.Bits.{bytes_of};
 ghost use Rattle.jxlm_base.specs.Regions.{Lies};
 ghost use Rattle.jxlm_tree.specs.EarlierRows.{AreRowsOf};
 ghost use Rattle.jxlm_part.specs.Inner.Channels.{region_at, setting_of};
+ghost use Rattle.jxlm_part.specs.Inner.Leaves.{Leads, steps_to};
+ghost use Rattle.jxlm_part.specs.declared.leaves.Way.TheVariants as way;
 ghost use Rattle.jxlm_part.specs.Inner.Rows.{AreAway, FailsOn, FailsRow, IsDecoding, ReadsOn, ReadsRow, SetsRead, StandsInRow, rule_in};
 ghost use Rattle.jxlm_part.specs.Inner.Source.{source};
-ghost use Rattle.jxlm_part.specs.Reading.{HasRoom, cost_of, regions_of};
+ghost use Rattle.jxlm_part.specs.Reading.{HasRoom, cost_of, regions_of, tree_of};
 
 use crate::cell::decode_cell;
 use crate::coding::PartCoding;
@@ -17,6 +19,7 @@ use jxlm_base::grid::{AlignedGrid, Region};
 use jxlm_base::region::region_set_row;
 use jxlm_base::sample::Sample;
 use jxlm_ma::flat::Steps;
+use jxlm_ma::paths::ClusterTable;
 use jxlm_tree::earlier::{EarlierRow, EarlierRows};
 use jxlm_tree::predictor::PredictorState;
 
@@ -58,6 +61,7 @@ fn read_cells<S: Sample, D: Decoder, const EDGE: bool>(
     store: &[AlignedGrid<S>],
     rows: &[EarlierRow<'_, S>],
     coding: &PartCoding<'_, D>,
+    table: Option<&ClusterTable>,
     row: &mut [S],
     i: usize,
     y: usize,
@@ -65,6 +69,8 @@ fn read_cells<S: Sample, D: Decoder, const EDGE: bool>(
     to: usize,
 ) -> Result<(), RowError>
     requires here { IsDecoding coding.now i store.now (D.meaning.cluster_map decoder.old) }
+    requires leads { Leads (tree_of coding.now i) (way.Cells table) }
+    requires bound { steps_to (is_some table) coding.now.config.now.tree ≤ cost_of coding.now }
     requires in_rows { y < (region_at (regions_of coding.now) i).height }
     requires order { from ≤ to }
     requires in_row { to ≤ (region_at (regions_of coding.now) i).width }
@@ -88,7 +94,7 @@ fn read_cells<S: Sample, D: Decoder, const EDGE: bool>(
 {
     for x in from..to {
         match decode_cell::<S, D, EDGE>(
-            bits, decoder, state, steps, store, rows, coding, row, i, x, y,
+            bits, decoder, state, steps, store, rows, coding, table, row, i, x, y,
         ) {
             Ok(()) => (),
             Err(error) => return Err(RowError { column: x, error }),
@@ -109,11 +115,14 @@ pub(crate) fn read_row<S: Sample, D: Decoder>(
     steps: &mut Steps,
     store: &[AlignedGrid<S>],
     coding: &PartCoding<'_, D>,
+    table: Option<&ClusterTable>,
     row: &mut [S],
     i: usize,
     y: usize,
 ) -> Result<(), RowError>
     requires here { IsDecoding coding.now i store.now (D.meaning.cluster_map decoder.old) }
+    requires leads { Leads (tree_of coding.now i) (way.Cells table) }
+    requires bound { steps_to (is_some table) coding.now.config.now.tree ≤ cost_of coding.now }
     requires in_rows { y < (region_at (regions_of coding.now) i).height }
     requires long { length row.old ≡ (region_at (regions_of coding.now) i).width }
     requires stands { StandsInRow coding.now S.to_int store.now i y [] state.old }
@@ -136,13 +145,13 @@ pub(crate) fn read_row<S: Sample, D: Decoder>(
     let rows = earlier.rows();
     let (from, to) = inner_columns(width, y);
     read_cells::<S, D, true>(
-        bits, decoder, state, steps, store, rows, coding, row, i, y, 0, from,
+        bits, decoder, state, steps, store, rows, coding, table, row, i, y, 0, from,
     )?;
     read_cells::<S, D, false>(
-        bits, decoder, state, steps, store, rows, coding, row, i, y, from, to,
+        bits, decoder, state, steps, store, rows, coding, table, row, i, y, from, to,
     )?;
     read_cells::<S, D, true>(
-        bits, decoder, state, steps, store, rows, coding, row, i, y, to, width,
+        bits, decoder, state, steps, store, rows, coding, table, row, i, y, to, width,
     )?;
     Ok(())
 }

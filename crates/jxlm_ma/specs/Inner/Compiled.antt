@@ -7,6 +7,7 @@ use Rattle.jxlm_ma.specs.FlatTree.{HasMultiplier}
 use Rattle.jxlm_ma.specs.Inner.FlatShapes.{earlier_named, size}
 use Rattle.jxlm_ma.specs.Inner.FlatNodes.{IsSound, Keeps, Tops, Serves, most_channels, sees_error}
 use Rattle.jxlm_ma.specs.Inner.Pruned.{pruned, tests_place}
+use Rattle.jxlm_ma.specs.Inner.Tables.{TableAt}
 use Rattle.jxlm_ma.specs.Tree.{AllLeaves, Shape}
 use Rattle.jxlm_ma.specs.declared.marks.Known.{Known}
 use Rattle.jxlm_ma.specs.declared.flat.CompiledTree.{CompiledTree}
@@ -32,10 +33,10 @@ pub record IsCompiled (t : Shape Leaf) (known : Known) (nodes : List FlatNode) (
   pub needs_is : needs ≡ list_any sees_error nodes
   pub named_is : named ≡ most_channels nodes
 
--- the tree is compiled for this channel of this stream, with so many earlier channels
-abbrev pub IsCompiledFor : Shape Leaf → ℕ → ℕ → ℕ → CompiledTree → Type 0
-IsCompiledFor t channel stream earlier c =
-    IsCompiled t (known_at channel stream earlier) c.nodes.items c.root c.need_self_correcting c.prev_channels_named
+-- the tree is compiled for this channel of this stream, with so many earlier channels, and its table is that of the root
+pub record IsCompiledFor (t : Shape Leaf) (channel stream earlier : ℕ) (c : CompiledTree) : Type 0 where
+  pub tree : IsCompiled t (known_at channel stream earlier) c.nodes.items c.root c.need_self_correcting c.prev_channels_named
+  pub table : TableAt c.nodes.items c.root c.table
 
 -- The tree is compiled for every channel of every stream, where no earlier channel that it names is missing: it asks
 -- for neither channel nor stream.

@@ -1,19 +1,17 @@
 -- Lists of flat nodes, and the walk over them.
-use Rattle.std.specs.Prelude.{◌≡◌, ℕ, ◌+◌, ◌-◌, ◌*◌, ◌<◌, ◌≤◌, min, ◌==◌, nat_lt, ℤ, pos, ◌+ℤ◌, ◌-ℤ◌, ◌≤ℤ◌, int_lt, unsigned_abs, if◌then◌else◌, List, [], ◌∷◌, ◌++◌, length, slice_index, IsSome, Bool, false, ◌||◌, max, fold, ◌/◌}
+use Rattle.std.specs.Prelude.{◌≡◌, ℕ, ◌+◌, ◌-◌, ◌*◌, ◌<◌, ◌≤◌, min, ◌==◌, nat_lt, ℤ, pos, ◌+ℤ◌, ◌-ℤ◌, ◌≤ℤ◌, int_lt, unsigned_abs, if◌then◌else◌, List, [], ◌∷◌, ◌++◌, length, slice_index, IsSome, Bool, true, false, ◌||◌, max, fold, ◌/◌}
 use Rattle.jxlm_ma.specs.declared.flat.Leaf.{Leaf}
 use Rattle.jxlm_ma.specs.declared.flat.Side.{Side}
 use Rattle.jxlm_ma.specs.declared.flat.FlatNode.{FlatNode}
 use Rattle.jxlm_ma.specs.declared.flat.FlatNode.TheVariants as node
 use Rattle.jxlm_tree.specs.declared.predictor.Predictor.TheVariants.{Zero}
 use Rattle.jxlm_ma.specs.FlatTree.{is_self_correcting}
+pub use Rattle.jxlm_ma.specs.ClusterTables.{slot}
 use Rattle.jxlm_ma.specs.Tree.{Shape, StandsAtLeaf, walk, depth}
 use Rattle.jxlm_ma.specs.Inner.FlatShapes.{size, Lacks}
 use Rattle.jxlm_ma.specs.ShortTrees.{MeetsOnce, TestsOnly, Fits}
+use Rattle.jxlm_ma.specs.Inner.Marked.{asks_for}
 use Rattle.jxlm_ma.specs.Inner.Pruned.{chosen, tabled, hanging}
-
--- the entry of a table that serves x: the first up to the base, then one for each value, and the last for all beyond
-abbrev pub slot : ℤ → ℕ → ℤ → ℕ
-slot base last x = if int_lt base x then min (unsigned_abs (x -ℤ base)) last else 0
 
 -- the end of a side, where y answers its question
 abbrev pub side_end : Side → ℤ → ℕ
@@ -140,9 +138,10 @@ pub record Grows (old new : List FlatNode) (more : ℕ) : Type 0 where
   pub sound : IsSound old → IsSound new
   pub same : (i : ℕ) (a : ℕ → Answers) → i < length old → reached new i a ≡ reached old i a
 
--- a table node for a decision: its entry j serves what base + j chooses
+-- a table node for a decision on its property: its entry j serves what base + j chooses
 abbrev pub IsTableOf : FlatNode → List FlatNode → Shape Leaf → Type 0
-IsTableOf (node.Table q base entries) older t = (j : ℕ) → j < length entries.items → Serves older (slice_index entries.items j) (chosen q (base +ℤ pos j) t)
+IsTableOf (node.Table q base entries) older t =
+    (asks_for q t ≡ true) × ((j : ℕ) → j < length entries.items → Serves older (slice_index entries.items j) (chosen q (base +ℤ pos j) t))
 IsTableOf (node.Leaf l) older t = ⊥
 IsTableOf (node.Fused property value left right) older t = ⊥
 

@@ -34,6 +34,11 @@ pub record FailsNext {S : Type 0} (s t : S) (p q : ℕ) (e : DecoderError)
 abbrev pub leaf_at : FlatTree → Setting → List (Grid ℤ) → List ℤ → Leaf
 leaf_at flat s store samples = leaf_reached flat (place_property (surroundings s store samples))
 
+-- the leaf to which the tree leads at a cell with these properties, wherever the state is at that cell
+abbrev pub IsReached : {X : Type 0} → FlatTree → (X → ℤ) → Properties X → Leaf → Type 0
+IsReached flat to_int properties l = (s : Setting) (samples : List ℤ) → StandsAt (state_of properties) s samples →
+    l ≡ leaf_at flat s (store_meanings to_int (store_of properties)) samples
+
 -- the prediction there
 abbrev pub predicted_at : FlatTree → Setting → List (Grid ℤ) → List ℤ → ℤ
 predicted_at flat s store samples = prediction s.weights samples s.width (leaf_at flat s store samples).predictor

@@ -1,11 +1,13 @@
 -- Rows of a channel whose tree is one leaf.
-use Rattle.std.specs.Prelude.{◌≡◌, ◌≢◌, ℕ, zero, suc, ℤ, pos, List, [], length, get_or}
+use Rattle.std.specs.Prelude.{Bool, true, false, is_some, None, Some, ◌+◌, ◌≡◌, ◌≢◌, ℕ, zero, suc, ℤ, pos, List, [], length, get_or}
 use Rattle.std.specs.Int.{Width, w32, int_wrap}
 use Rattle.jxlm_base.specs.Decoding.{Meaning}
 use Rattle.jxlm_base.specs.Grid.{Grid, row as grid_row}
 use Rattle.jxlm_base.specs.Numbers.{clamped_gradient}
-use Rattle.jxlm_ma.specs.FlatTree.{HasMultiplier}
-use Rattle.jxlm_ma.specs.Tree.{leaf}
+use Rattle.jxlm_ma.specs.FlatTree.{FlatTree, HasMultiplier}
+use Rattle.jxlm_ma.specs.ClusterTables.{IsTableOf}
+use Rattle.jxlm_ma.specs.Paths.{IsLeafOf}
+use Rattle.jxlm_ma.specs.Tree.{Shape, depth, leaf}
 use Rattle.jxlm_ma.specs.declared.flat.Leaf.{Leaf}
 use Rattle.jxlm_tree.specs.declared.predictor.Predictor.{Predictor}
 use Rattle.jxlm_tree.specs.declared.predictor.Predictor.TheVariants as predictor
@@ -14,6 +16,8 @@ use Rattle.jxlm_part.specs.Reading.{part_of}
 use Rattle.jxlm_part.specs.Rule.{Rule}
 use Rattle.jxlm_part.specs.declared.coding.PartCoding.{PartCoding}
 use Rattle.jxlm_part.specs.declared.leaves.LeafPath.{LeafPath}
+use Rattle.jxlm_part.specs.declared.leaves.Way.{Way}
+use Rattle.jxlm_part.specs.declared.leaves.Way.TheVariants as way
 use Rattle.jxlm_part.specs.declared.leaves.Path.{Path}
 use Rattle.jxlm_part.specs.declared.leaves.Path.TheVariants.{Zero, Gradient}
 
@@ -43,6 +47,22 @@ pub record Allows (l : Leaf) (path : Path) : Type 0 where
 pub record HasPath (l : LeafPath) : Type 0 where
   pub path : Allows l.leaf l.path
   pub multiplier : HasMultiplier l.leaf
+
+-- the tree's walks lead where the rows are read
+abbrev pub Leads : FlatTree → Way → Type 0
+Leads t (way.Leaf l) = IsLeafOf t l.leaf × HasPath l
+Leads t (way.Cells None) = Unit {0}
+Leads t (way.Cells (Some c)) = IsTableOf t c.now
+
+-- the steps to the leaf of a cell at most: by a table, or by the walk of the tree
+abbrev pub steps_to : Bool → Shape Leaf → ℕ
+steps_to true t = 1
+steps_to false t = depth t + 1
+
+-- the steps of a cell at most
+abbrev pub steps_by : Way → Shape Leaf → ℕ
+steps_by (way.Leaf l) t = 0
+steps_by (way.Cells c) t = steps_to (is_some c) t
 
 -- a leaf without a path: it does not predict by 0, and not by the gradient alone
 pub record LacksPath (l : Leaf) : Type 0 where

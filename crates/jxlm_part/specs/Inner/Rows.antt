@@ -13,14 +13,15 @@ use Rattle.jxlm_tree.specs.Standing.{StandsAt}
 use Rattle.jxlm_tree.specs.declared.state.PredictorState.{PredictorState}
 use Rattle.jxlm_part.specs.Coded.{part_rule}
 use Rattle.jxlm_part.specs.Part.{Part}
-use Rattle.jxlm_part.specs.Reading.{FindsClusters, HasRoom, IsCodingOf, part_of, regions_of}
+use Rattle.jxlm_part.specs.Reading.{FindsClusters, HasRoom, IsCodingOf, cost_of, part_of, regions_of, tree_of}
 use Rattle.jxlm_part.specs.Rule.{Rule, CodedPrefix}
 use Rattle.jxlm_part.specs.Inner.Channels.{StandsIn, region_at, setting_of}
-use Rattle.jxlm_part.specs.Inner.Leaves.{IsOnlyLeaf}
+use Rattle.jxlm_part.specs.Inner.Leaves.{Leads, steps_by}
 use Rattle.jxlm_part.specs.Inner.Progress.{preceding_cells}
 use Rattle.jxlm_part.specs.Inner.Source.{Source}
 use Rattle.jxlm_part.specs.declared.coding.PartCoding.{PartCoding}
-use Rattle.jxlm_part.specs.declared.leaves.LeafPath.{LeafPath}
+use Rattle.jxlm_part.specs.declared.leaves.Way.{Way}
+use Rattle.jxlm_part.specs.declared.leaves.Way.TheVariants as way
 use Rattle.jxlm_part.specs.declared.rows.RowError.{RowError}
 
 -- a rule, for the cells that come after these
@@ -140,12 +141,14 @@ module _ {D X : Type 0} (c : PartCoding D) (to_int : X → ℤ) (store : List (G
       let r : Region = region_at (regions_of c) i in
       StandsAt state (setting_of c i) (take (y * r.width) (grid_of (store_meanings to_int store) r).cells ++ row)
 
-  -- the same; where the tree is one leaf with a path, the state is anywhere in channel i
-  abbrev pub StandsBy : Option LeafPath → List ℤ → PredictorState X → Type 0
-  StandsBy (Some l) row state = IsOnlyLeaf c l × StandsIn c i state
-  StandsBy None row state = StandsInRow row state
+  -- the same; where rows are read at a leaf, the state is anywhere in channel i
+  abbrev pub StandsBy : Way → List ℤ → PredictorState X → Type 0
+  StandsBy (way.Leaf l) row state = StandsIn c i state
+  StandsBy (way.Cells t) row state = StandsInRow row state
 
-  -- so it is, and there is room for each channel
-  pub record IsInRow (path : Option LeafPath) (row : List ℤ) (state : PredictorState X) : Type 0 where
-    pub stands : StandsBy path row state
+  -- so it is, and the tree leads where rows are read, in so many steps; there is room for each channel
+  pub record IsInRow (by : Way) (row : List ℤ) (state : PredictorState X) : Type 0 where
+    pub leads : Leads (tree_of c i) by
+    pub steps : steps_by by c.config.now.tree ≤ cost_of c
+    pub stands : StandsBy by row state
     pub roomy : HasRoom c state

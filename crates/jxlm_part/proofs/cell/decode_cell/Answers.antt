@@ -1,12 +1,14 @@
-use Rattle.std.proofs.Common.{◌*◌, ◌++◌, map, take, ◌∙◌, rules, w32, FitsSigned}
+use Rattle.std.proofs.Common.{subst, sym, ◌*◌, ◌++◌, map, take, ◌∙◌, rules, w32, FitsSigned}
 use Rattle.std.proofs.lemmas.Int.{to_z-of_z}
 use Rattle.std.proofs.lemmas.List.{length-map, map-set}
 use Rattle.std.proofs.lemmas.Result.{err_from_is_err_and}
 use Rattle.jxlm_base.specs.Regions.{grid_of, store_meanings}
+use Rattle.jxlm_part.specs.Inner.Leaves.{Leads}
+use Rattle.jxlm_part.specs.declared.leaves.Way.TheVariants as way
 use Rattle.jxlm_part.specs.Inner.Source.{source}
 use Rattle.jxlm_part.specs.Reading.{regions_of}
 use Rattle.jxlm_part.specs.Inner.Channels.{region_at, setting_of}
-use Rattle.jxlm_part.proofs.CellLaws.{clusters_at, cost_at, is_inner, is_ready, reads_cell, fails_cell, room_so, roomy_still, rows_held, stands_further, stands_so}
+use Rattle.jxlm_part.proofs.CellLaws.{clusters_at, cost_at, flat_at, is_inner, is_ready, reads_cell, fails_cell, room_so, roomy_still, rows_held, stands_further, stands_so}
 use Rattle.jxlm_part.proofs.cell.decode_cell.Goals as goal
 
 pub properties_by_rows-properties-requires-clause-ready : goal.properties_by_rows-properties-requires-clause-ready
@@ -27,6 +29,10 @@ properties_by_rows-properties-requires-clause-rows g c =
 pub next_sample-requires-clause-clusters : goal.next_sample-requires-clause-clusters
 next_sample-requires-clause-clusters g c κs within = clusters_at c.args.coding.now c.requires.here.part.coding c.args.i c.requires.here.channel _ _ c.requires.here.part.clusters_found
 
+pub next_sample-requires-clause-leads : goal.next_sample-requires-clause-leads
+next_sample-requires-clause-leads g c κs within =
+    subst (λ t. Leads t (way.Cells c.args.table)) (sym (flat_at c.args.coding.now c.requires.here.part.coding c.args.i c.requires.here.channel _)) c.requires.leads
+
 pub returns-in_err-sample-clause-err : goal.returns-in_err-sample-clause-err
 returns-in_err-sample-clause-err g c =
     let p = err_from_is_err_and c.from_residual.result c.from_residual.ensures.1 in
@@ -43,7 +49,7 @@ returns-in_err-sample-clause-err g c =
     g.D.Decoder.meaning g.S.Sealed.width old _ new _ refuses c.in_err-sample.ensures.memory c.in_err-sample.ensures.bytes)
 
 pub returns-in_err-sample-clause-cost : goal.returns-in_err-sample-clause-cost
-returns-in_err-sample-clause-cost g c = cost_at c.args.coding.now c.requires.here.part.coding c.args.i c.requires.here.channel _ _ _ c.in_err-sample.ensures.cost
+returns-in_err-sample-clause-cost g c = cost_at c.args.coding.now c.requires.here.part.coding c.args.i c.requires.here.channel _ _ _ _ c.in_err-sample.ensures.cost c.requires.bound
 
 pub returns-clause-ok : goal.returns-clause-ok
 returns-clause-ok g c =
@@ -78,4 +84,4 @@ returns-clause-roomy g c =
     roomy_still c.args.coding.now c.requires.here.part.coding c.args.i c.requires.here.channel c.args.state.now _ (room_so c.args.state.now _ _ (search rules) same) c.requires.roomy
 
 pub returns-clause-cost : goal.returns-clause-cost
-returns-clause-cost g c = cost_at c.args.coding.now c.requires.here.part.coding c.args.i c.requires.here.channel _ _ _ c.in_ok-sample.ensures.cost
+returns-clause-cost g c = cost_at c.args.coding.now c.requires.here.part.coding c.args.i c.requires.here.channel _ _ _ _ c.in_ok-sample.ensures.cost c.requires.bound

@@ -1,10 +1,12 @@
-use Rattle.std.proofs.Common.{sym, ap, arith}
+use Rattle.std.proofs.Common.{◌≤◌, sym, ap, subst, arith}
 use Rattle.std.proofs.lemmas.List.{length-take-le}
 use Rattle.jxlm_ma.specs.FlatTree.{FlatTree}
+use Rattle.jxlm_ma.specs.Steps.{most_steps}
 use Rattle.jxlm_part.specs.Inner.Channels.{region_at}
+use Rattle.jxlm_part.specs.Inner.Leaves.{Leads, steps_by}
 use Rattle.jxlm_part.specs.Inner.Progress.{moment}
 use Rattle.jxlm_part.specs.Reading.{part_of, regions_of}
-use Rattle.jxlm_part.proofs.CellLaws.{flat_at}
+use Rattle.jxlm_part.proofs.CellLaws.{clusters_at, flat_at}
 use Rattle.jxlm_part.proofs.Decoding.{at_first_row, in_channel, none_decoded}
 use Rattle.jxlm_part.proofs.Loops.{channel_empty, ok_so}
 use Rattle.jxlm_part.proofs.Starting.{after_channel, fits_widest}
@@ -28,9 +30,14 @@ decode_rows-requires-clause-long g c κs within =
 
 pub decode_rows-requires-clause-at_row : goal.decode_rows-requires-clause-at_row
 decode_rows-requires-clause-at_row g c κs within =
-    at_first_row c.args.coding.now c.args.i g.S.Sealed.to_int c.args.store.now c.start_channel.new.state c.leaf_path-path.result _
-    (ap (λ (t : FlatTree). t.tree) (flat_at c.args.coding.now c.requires.part.coding c.args.i c.requires.channel _)) c.leaf_path-path.ensures.tree c.leaf_path-path.ensures.path
+    let same = flat_at c.args.coding.now c.requires.part.coding c.args.i c.requires.channel _ in
+    at_first_row c.args.coding.now c.args.i g.S.Sealed.to_int c.args.store.now c.start_channel.new.state c.way_of-way.result
+    (subst (λ t. Leads t c.way_of-way.result) same c.way_of-way.ensures.leads)
+    (subst (λ (t : FlatTree). steps_by c.way_of-way.result t.tree ≤ most_steps t.tree) same c.way_of-way.ensures.steps)
     (c.start_channel.ensures.stands c.args.store.now) c.start_channel.ensures.roomy
+
+pub way_of-way-requires : goal.way_of-way-requires
+way_of-way-requires g c = record { clusters = clusters_at c.args.coding.now c.requires.part.coding c.args.i c.requires.channel _ _ c.requires.part.clusters_found }
 
 pub returns-then-region-eq0-clause-ok : goal.returns-then-region-eq0-clause-ok
 returns-then-region-eq0-clause-ok g c =

@@ -21,4 +21,4 @@ pub returns-clause-at_row : goal.returns-clause-at_row
 returns-clause-at_row g c =
     row_below c.args.coding.now g.D.Decoder.meaning g.S.Sealed.width g.S.Sealed.to_int c.args.i c.args.y c.args.store.now c.write_read.new.store c.read_any_row-read.new.row _
     c.requires.here c.requires.in_rows (c.read_any_row-read.auto.row ∙ c.requires.long) c.read_any_row-read.result _ c.write_read.ensures
-    c.args.path c.read_any_row-read.new.state c.read_any_row-read.ensures.at_row
+    c.args.way c.read_any_row-read.new.state c.read_any_row-read.ensures.at_row

@@ -54,4 +54,4 @@ returns-clause-ok g c =
 pub returns-clause-at_row : goal.returns-clause-at_row
 returns-clause-at_row g c =
     let all : c.loop-y.y ≡ (region_at (regions_of c.args.coding.now) c.args.i).height = let end = c.loop-y.auto.y-end in omega (arith, end, c.loop-y-test.false) in
-    subst (λ n. IsInRow c.args.coding.now g.S.Sealed.to_int c.loop-y.store c.args.i n c.args.path [] c.loop-y.state) all c.loop-y.invariant.at_row
+    subst (λ n. IsInRow c.args.coding.now g.S.Sealed.to_int c.loop-y.store c.args.i n c.args.way [] c.loop-y.state) all c.loop-y.invariant.at_row

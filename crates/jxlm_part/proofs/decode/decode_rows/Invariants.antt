@@ -9,6 +9,6 @@ abbrev pub invariant-loop-y : goal.invariant-loop-y
 invariant-loop-y g l = record {
   goes : DecodesCells l.coding g.D.Decoder.meaning g.S.Sealed.width g.S.Sealed.to_int (place_of (part_of l.coding) l.i 0 0) (place_of (part_of l.coding) l.i 0 l.y)
       (moment l.fn.decoder l.fn.bits l.fn.store l.fn.steps) (moment l.decoder l.bits l.store l.steps);
-  at_row : IsInRow l.coding g.S.Sealed.to_int l.store l.i l.y l.path [] l.state;
+  at_row : IsInRow l.coding g.S.Sealed.to_int l.store l.i l.y l.way [] l.state;
   long : length l.row ≡ (region_at (regions_of l.coding) l.i).width;
 }

@@ -1,11 +1,13 @@
-use Rattle.std.proofs.Common.{rules, to_z, of_z, tests, ◌≡◌, w32, ap, ◌∙◌, arith, SFits, Ok}
+use Rattle.std.proofs.Common.{rules, to_z, of_z, tests, ◌≡◌, w32, ap, ◌∙◌, arith, SFits, Ok, List, subst}
 use Rattle.std.specs.List.{list_any}
 use Rattle.std.proofs.lemmas.Int.{to_z-of_z}
 use Rattle.std.proofs.lemmas.Grind.{common_steps}
 use Rattle.std.proofs.lemmas.Iterator.{YieldsList-from_slice}
 use Rattle.std.proofs.lemmas.Iterator.Search.{any_from_yields_List}
 use Rattle.jxlm_ma.specs.Inner.FlatNodes.{most_channels, sees_error}
+use Rattle.jxlm_ma.specs.Inner.Tables.{TableAt}
 use Rattle.jxlm_ma.specs.Inner.TreeShape.{shape_of}
+use Rattle.jxlm_ma.specs.declared.flat.FlatNode.{FlatNode}
 use Rattle.jxlm_ma.proofs.FlatMade.{known_by, marked-room, marked-of, compiles-as, ok_at, made_of, is_compiled}
 use Rattle.jxlm_ma.proofs.flat.CompiledTree.new.Goals as goal
 
@@ -29,4 +31,8 @@ returns-clause-compiled c =
     let kept : c.compile.result ≡ Ok c.in_ok-root.root = grind (arith, common_steps, c.in_ok-root.was, c.map_err-2.ensures.cases) in
     let compiles = compiles-as _ _ _ _ _ same (ok_at _ _ _ kept c.compile.ensures) in
     let made = made_of (shape_of c.args.tree.now.root) _ _ _ _ c.args.prev_channels _ c.compile.new.nodes.items _ c.new-nodes.ensures.items (to_z-of_z w32 c.read_as_signed.result channel_fits ∙ c.read_as_signed.ensures) (to_z-of_z w32 c.read_as_signed-2.result stream_fits ∙ c.read_as_signed-2.ensures) compiles in
-    is_compiled _ _ c.compile.new.nodes.items _ _ _ c.requires.multipliers made (needs ∙ ap (list_any sees_error) c.deref.ensures.value) named
+    let found : c.of.result ≡ Ok c.in_ok-table.table = grind (arith, common_steps, c.in_ok-table.was, c.map_err-3.ensures.cases) in
+    record {
+      tree = is_compiled _ _ c.compile.new.nodes.items _ _ _ c.requires.multipliers made (needs ∙ ap (list_any sees_error) c.deref.ensures.value) named;
+      table = subst (λ (ns : List FlatNode). TableAt ns c.in_ok-root.root c.in_ok-table.table) c.deref-3.ensures.value (ok_at _ _ _ found c.of.ensures);
+    }

@@ -10,11 +10,11 @@ returns-clause-need c = λ yes.
     let t = c.self.inside in
     let d = c.deref.result.now in
     let is = subst (IsCompiledFor (shape_of t.tree.value.root) t.channel t.stream_idx t.prev_channels) (sym c.deref.ensures) c.self.invariant in
-    subst (λ (u : FlatTree). needs_weights u.tree ≡ true) c.self.view_is (needs_only (shape_of t.tree.value.root) t.channel t.stream_idx t.prev_channels d.nodes.items d.root d.need_self_correcting d.prev_channels_named is yes)
+    subst (λ (u : FlatTree). needs_weights u.tree ≡ true) c.self.view_is (needs_only (shape_of t.tree.value.root) t.channel t.stream_idx t.prev_channels d.nodes.items d.root d.need_self_correcting d.prev_channels_named is.tree yes)
 
 pub returns-clause-without : goal.returns-clause-without
 returns-clause-without c = λ no.
     let t = c.self.inside in
     let d = c.deref.result.now in
     let is = subst (IsCompiledFor (shape_of t.tree.value.root) t.channel t.stream_idx t.prev_channels) (sym c.deref.ensures) c.self.invariant in
-    subst GoesWithoutWeights c.self.view_is (goes_without (shape_of t.tree.value.root) t.channel t.stream_idx t.prev_channels d.nodes.items d.root d.need_self_correcting d.prev_channels_named is no)
+    subst GoesWithoutWeights c.self.view_is (goes_without (shape_of t.tree.value.root) t.channel t.stream_idx t.prev_channels d.nodes.items d.root d.need_self_correcting d.prev_channels_named is.tree no)

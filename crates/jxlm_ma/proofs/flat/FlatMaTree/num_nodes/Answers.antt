@@ -8,7 +8,7 @@ use Rattle.jxlm_ma.proofs.flat.FlatMaTree.num_nodes.Goals as goal
 
 pub returns-clause-most : goal.returns-clause-most
 returns-clause-most c =
-    let few = c.self.invariant.few in
+    let few = c.self.invariant.tree.few in
     let is = size-is (shape_of c.self.inside.tree.value.root) in
     let same = ap (λ (u : FlatTree). node_count u.tree) c.self.view_is in
     let l = c.self.inside.compiled.value.nodes.len in

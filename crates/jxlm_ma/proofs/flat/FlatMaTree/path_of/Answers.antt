@@ -1,0 +1,43 @@
+use Rattle.std.specs.Prelude.{Contains}
+use Rattle.jxlm_ma.specs.Inner.TreeShape.{shape_of}
+use Rattle.jxlm_ma.specs.declared.flat.Leaf.{Leaf}
+use Rattle.jxlm_ma.proofs.FlatPaths.{gives-leaf, gives-table, leaf-here, table-here}
+use Rattle.jxlm_ma.proofs.FlatTrees.{standing_leaf}
+use Rattle.jxlm_ma.proofs.PathSteps.{leaf-steps, table-steps, tree-steps}
+use Rattle.jxlm_ma.proofs.flat.FlatMaTree.path_of.Goals as goal
+
+pub path-requires : goal.path-requires
+path-requires g c =
+    let t = c.self.inside in
+    let of = leaf-here (shape_of t.tree.value.root) t.channel t.stream_idx t.prev_channels c.args.self.now c.deref.result.now c.deref-2.result.now t.compiled.value c.index.result.now c.in-Leaf.only c.self.invariant c.deref.ensures c.deref-2.ensures c.index.ensures c.in-Leaf.is c.self.view_is in
+    record { cluster = standing_leaf (λ (l : Leaf). Contains (g.D.Decoder.meaning.cluster_map c.args.decoder.now) l.cluster) c.args.self.now.tree c.in-Leaf.only c.requires.clusters of.stands }
+
+pub returns-in-Leaf-clause-gives : goal.returns-in-Leaf-clause-gives
+returns-in-Leaf-clause-gives g c =
+    let t = c.self.inside in
+    let of = leaf-here (shape_of t.tree.value.root) t.channel t.stream_idx t.prev_channels c.args.self.now c.deref.result.now c.deref-2.result.now t.compiled.value c.index.result.now c.in-Leaf.only c.self.invariant c.deref.ensures c.deref-2.ensures c.index.ensures c.in-Leaf.is c.self.view_is in
+    gives-leaf c.args.self.now c.in-Leaf.only c.path.result c.path.ensures.leaf of
+
+pub returns-in-Leaf-clause-steps : goal.returns-in-Leaf-clause-steps
+returns-in-Leaf-clause-steps g c =
+    let t = c.self.inside in
+    leaf-steps (shape_of t.tree.value.root) t.channel t.stream_idx t.prev_channels c.args.self.now c.deref.result.now c.deref-2.result.now t.compiled.value c.index.result.now c.in-Leaf.only c.path.result c.self.invariant c.deref.ensures c.deref-2.ensures c.index.ensures c.in-Leaf.is c.self.view_is c.path.ensures.leaf
+
+pub returns-in-Some : goal.returns-in-Some
+returns-in-Some g c =
+    let t = c.self.inside in
+    let of = table-here (shape_of t.tree.value.root) t.channel t.stream_idx t.prev_channels c.args.self.now c.deref-3.result.now t.compiled.value c.in-Some.table c.self.invariant c.deref-3.ensures c.in-Some.is c.self.view_is in
+    record {
+      gives = gives-table c.args.self.now c.in-Some.table c.path-in-Some.result c.path-in-Some.ensures.table of;
+      named = c.path-in-Some.ensures.named;
+      steps = table-steps (shape_of t.tree.value.root) t.channel t.stream_idx t.prev_channels c.args.self.now c.deref.result.now c.deref-2.result.now t.compiled.value c.index.result.now c.in-Some.table c.path-in-Some.result c.self.invariant c.deref.ensures c.deref-2.ensures c.index.ensures c.in_default.not-Leaf c.self.view_is c.path-in-Some.ensures.table;
+    }
+
+pub returns-in-None : goal.returns-in-None
+returns-in-None g c =
+    let t = c.self.inside in
+    record {
+      gives = tt;
+      named = tt;
+      steps = tree-steps (shape_of t.tree.value.root) t.channel t.stream_idx t.prev_channels c.args.self.now c.deref.result.now c.deref-2.result.now c.deref-3.result.now t.compiled.value c.index.result.now c.self.invariant c.deref.ensures c.deref-2.ensures c.deref-3.ensures c.index.ensures c.in_default.not-Leaf c.in-None.is c.self.view_is;
+    }
