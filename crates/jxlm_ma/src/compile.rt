@@ -5,6 +5,7 @@ ghost use Rattle.std.proofs.Common.{reverse};
 ghost use Rattle.jxlm_ma.specs.Inner.FlatNodes.{Compiles, CompilesSide, Fills};
 ghost use Rattle.jxlm_ma.specs.Inner.FlatShapes.{size};
 ghost use Rattle.jxlm_ma.specs.Inner.Marked.{IsMarked, marked_shape};
+ghost use Rattle.jxlm_ma.specs.declared.flat.FlatNode.TheVariants.{Fused, Table};
 ghost use Rattle.jxlm_ma.specs.Inner.Pruned.{least, greatest};
 
 use crate::flat::{FlatNode, Leaf, Side};
@@ -21,6 +22,52 @@ fn add(nodes: &mut Vec<FlatNode>, node: FlatNode) -> Result<u32, AllocError>
     let place = nodes.len() as u32;
     nodes.push(node)?;
     Ok(place)
+}
+
+// Adds the node of a table. It is put together here, and not in `compile`, whose frame stays small so.
+#[inline(never)]
+fn add_table(
+    nodes: &mut Vec<FlatNode>,
+    property: AskedProperty,
+    base: i32,
+    entries: Vec<u32>,
+) -> Result<u32, AllocError>
+    requires { length (reverse nodes.old.items) < 2 ^ 32 }
+    ensures place { IfOk result (λ i. i ≡ length (reverse nodes.old.items)) }
+    ensures items { OnOk result (reverse nodes.new.items ≡ Table property base entries ∷ reverse nodes.old.items) }
+{
+    add(
+        nodes,
+        FlatNode::Table {
+            property,
+            base,
+            entries,
+        },
+    )
+}
+
+// Adds a fused node, which is put together here like a table.
+#[inline(never)]
+fn add_fused(
+    nodes: &mut Vec<FlatNode>,
+    property: AskedProperty,
+    value: i32,
+    left: Side,
+    right: Side,
+) -> Result<u32, AllocError>
+    requires { length (reverse nodes.old.items) < 2 ^ 32 }
+    ensures place { IfOk result (λ i. i ≡ length (reverse nodes.old.items)) }
+    ensures items { OnOk result (reverse nodes.new.items ≡ Fused property value left right ∷ reverse nodes.old.items) }
+{
+    add(
+        nodes,
+        FlatNode::Fused {
+            property,
+            value,
+            left,
+            right,
+        },
+    )
 }
 
 // Adds the nodes of a tree, its root last.
@@ -45,27 +92,12 @@ pub fn compile(alloc: Global, tree: &Marked, nodes: &mut Vec<FlatNode>) -> Resul
                 let low = i64::from(found.least);
                 let high = i64::from(found.greatest) + 1;
                 fill(alloc, tree, *property, low, high, nodes, &mut entries)?;
-                add(
-                    nodes,
-                    FlatNode::Table {
-                        property: AskedProperty::new(*property),
-                        base: found.least,
-                        entries,
-                    },
-                )
+                add_table(nodes, AskedProperty::new(*property), found.least, entries)
             }
             None => {
                 let left = compile_side(alloc, left, *property, nodes)?;
                 let right = compile_side(alloc, right, *property, nodes)?;
-                add(
-                    nodes,
-                    FlatNode::Fused {
-                        property: AskedProperty::new(*property),
-                        value: *value,
-                        left,
-                        right,
-                    },
-                )
+                add_fused(nodes, AskedProperty::new(*property), *value, left, right)
             }
         },
     }

@@ -218,13 +218,43 @@ impl Marks {
     }
 }
 
-/// The tree once known decisions are taken, with the tables of the others.
-pub fn mark(alloc: Global, tree: &MaTreeNode, known: &Known) -> Result<Marks, AllocError>
-    ensures marks { IfOk result AreMarks }
-    ensures tree { IfOk result (λ m. marked_shape m.tree ≡ pruned known.now (shape_of tree.now)) }
+// The marks of a tree of one leaf, in a box.
+#[inline(never)]
+fn boxed_leaf(alloc: Global, leaf: Leaf) -> Result<Box<Marks>, AllocError>
+    ensures marks { IfOk result (λ b. AreMarks b.value) }
+    ensures tree { IfOk result (λ b. marked_shape b.value.tree ≡ leaf_shape leaf) }
+{
+    Ok(Box::new(alloc, Marks::leaf(alloc, leaf))?)
+}
+
+// The marks of a decision over two trees, in boxes.
+#[inline(never)]
+fn boxed_decision(
+    alloc: Global,
+    property: u32,
+    value: i32,
+    left: Box<Marks>,
+    right: Box<Marks>,
+) -> Result<Box<Marks>, AllocError>
+    requires left { AreMarks left.value }
+    requires right { AreMarks right.value }
+    ensures marks { IfOk result (λ b. AreMarks b.value) }
+    ensures tree { IfOk result (λ b. marked_shape b.value.tree
+        ≡ decision_shape property value (marked_shape left.value.tree) (marked_shape right.value.tree)) }
+{
+    let left = Box::into_inner(left);
+    let right = Box::into_inner(right);
+    let marks = Marks::decision(alloc, property, value, left, right)?;
+    Ok(Box::new(alloc, marks)?)
+}
+
+// What `mark` returns, in a box: trees are up to 2,048 decisions deep, so that the frame of each is kept small.
+fn boxed_marks(alloc: Global, tree: &MaTreeNode, known: &Known) -> Result<Box<Marks>, AllocError>
+    ensures marks { IfOk result (λ b. AreMarks b.value) }
+    ensures tree { IfOk result (λ b. marked_shape b.value.tree ≡ pruned known.now (shape_of tree.now)) }
 {
     match tree {
-        MaTreeNode::Leaf(leaf) => Ok(Marks::leaf(alloc, *leaf)),
+        MaTreeNode::Leaf(leaf) => boxed_leaf(alloc, *leaf),
         MaTreeNode::Decision {
             property,
             value,
@@ -232,17 +262,25 @@ pub fn mark(alloc: Global, tree: &MaTreeNode, known: &Known) -> Result<Marks, Al
             right,
         } => match known_value(known, *property) {
             None => {
-                let left = mark(alloc, left, known)?;
-                let right = mark(alloc, right, known)?;
-                Marks::decision(alloc, *property, *value, left, right)
+                let left = boxed_marks(alloc, left, known)?;
+                let right = boxed_marks(alloc, right, known)?;
+                boxed_decision(alloc, *property, *value, left, right)
             }
             Some(x) => {
                 if x > *value {
-                    mark(alloc, left, known)
+                    boxed_marks(alloc, left, known)
                 } else {
-                    mark(alloc, right, known)
+                    boxed_marks(alloc, right, known)
                 }
             }
         },
     }
+}
+
+/// The tree once known decisions are taken, with the tables of the others.
+pub fn mark(alloc: Global, tree: &MaTreeNode, known: &Known) -> Result<Marks, AllocError>
+    ensures marks { IfOk result AreMarks }
+    ensures tree { IfOk result (λ m. marked_shape m.tree ≡ pruned known.now (shape_of tree.now)) }
+{
+    Ok(Box::into_inner(boxed_marks(alloc, tree, known)?))
 }

@@ -28,8 +28,8 @@ compile-fill-requires t c =
     let empty = ap length c.new-entries.ensures.items in
     (omega arith, (c.requires.marked, (omega arith, (omega (arith, ints), (omega (arith, ints), (omega (arith, ints), omega (arith, ints)))))))
 
-pub compile-add-requires-in-Some : goal.compile-add-requires-in-Some
-compile-add-requires-in-Some t c =
+pub compile-add_table-requires : goal.compile-add_table-requires
+compile-add_table-requires t c =
     let e = ap marked_shape c.in-Decision.is in
     let s = splits-at c.in-Decision.property c.in-Decision.property c.in-Decision.value (marked_shape c.args.tree.now) (marked_shape c.in-Decision.left.value) (marked_shape c.in-Decision.right.value) e refl in
     let g = (c.in_ok-fill-in-Some.ensures).grows.few in omega arith
@@ -65,7 +65,7 @@ compile-returns-in_ok-fill-in-Some t c =
     let cast : Compiles (reverse c.args.nodes.now.items) (node.Table c.in-Decision.property (to_z w32 (of_z w32 c.in-Some.found.least)) c.fill.new.entries ∷ reverse c.fill.new.nodes.items) (length (reverse c.fill.new.nodes.items)) (decision c.in-Decision.property c.in-Decision.value (marked_shape c.in-Decision.left.value) (marked_shape c.in-Decision.right.value)) =
     subst (λ b. Compiles (reverse c.args.nodes.now.items) (node.Table c.in-Decision.property b c.fill.new.entries ∷ reverse c.fill.new.nodes.items) (length (reverse c.fill.new.nodes.items)) (decision c.in-Decision.property c.in-Decision.value (marked_shape c.in-Decision.left.value) (marked_shape c.in-Decision.right.value))) (sym (to_z-of_z w32 c.in-Some.found.least fits_least)) compiled in
     let named = subst (λ p. Compiles (reverse c.args.nodes.now.items) (node.Table p (to_z w32 (of_z w32 c.in-Some.found.least)) c.fill.new.entries ∷ reverse c.fill.new.nodes.items) (length (reverse c.fill.new.nodes.items)) (decision c.in-Decision.property c.in-Decision.value (marked_shape c.in-Decision.left.value) (marked_shape c.in-Decision.right.value))) (sym c.new.ensures) cast in
-    added c.add-in-Some.result _ _ _ _ _ _ e named c.add-in-Some.ensures.place c.add-in-Some.ensures.items
+    added c.add_table.result _ _ _ _ _ _ e named c.add_table.ensures.place c.add_table.ensures.items
 
 pub compile-returns-in_ok-right-in-None : goal.compile-returns-in_ok-right-in-None
 compile-returns-in_ok-right-in-None t c =
@@ -79,7 +79,7 @@ compile-returns-in_ok-right-in-None t c =
     let cast : Compiles (reverse c.args.nodes.now.items) (node.Fused c.in-Decision.property (to_z w32 (of_z w32 c.in-Decision.value)) c.in_ok-left-in-None.left c.in_ok-right-in-None.right ∷ reverse c.compile_side-in-None.new.nodes.items) (length (reverse c.compile_side-in-None.new.nodes.items)) (decision c.in-Decision.property c.in-Decision.value (marked_shape c.deref.result.now) (marked_shape c.deref-in-None.result.now)) =
     subst (λ b. Compiles (reverse c.args.nodes.now.items) (node.Fused c.in-Decision.property b c.in_ok-left-in-None.left c.in_ok-right-in-None.right ∷ reverse c.compile_side-in-None.new.nodes.items) (length (reverse c.compile_side-in-None.new.nodes.items)) (decision c.in-Decision.property c.in-Decision.value (marked_shape c.deref.result.now) (marked_shape c.deref-in-None.result.now))) (sym (to_z-of_z w32 c.in-Decision.value fits)) compiled in
     let named = subst (λ p. Compiles (reverse c.args.nodes.now.items) (node.Fused p (to_z w32 (of_z w32 c.in-Decision.value)) c.in_ok-left-in-None.left c.in_ok-right-in-None.right ∷ reverse c.compile_side-in-None.new.nodes.items) (length (reverse c.compile_side-in-None.new.nodes.items)) (decision c.in-Decision.property c.in-Decision.value (marked_shape c.deref.result.now) (marked_shape c.deref-in-None.result.now))) (sym c.new-in-None.ensures) cast in
-    added c.add-in-None.result _ _ _ _ _ _ e named c.add-in-None.ensures.place c.add-in-None.ensures.items
+    added c.add_fused.result _ _ _ _ _ _ e named c.add_fused.ensures.place c.add_fused.ensures.items
 
 pub compile_side-compile-requires : goal.compile_side-compile-requires
 compile_side-compile-requires t c =
