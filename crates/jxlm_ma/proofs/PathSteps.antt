@@ -1,12 +1,12 @@
 -- How many steps a sample takes on the path that is found.
-use Rattle.std.proofs.Common.{◌≡◌, ℕ, ◌+◌, ◌≤◌, Bool, List, Some, None, false, length, get_or, refl, sym, ap, ◌∙◌, subst, arith}
+use Rattle.std.proofs.Common.{◌≡◌, ℕ, ◌+◌, ◌<◌, ◌≤◌, Bool, List, Some, None, false, length, get_or, refl, sym, ap, ◌∙◌, subst, arith}
 use Rattle.std.proofs.lemmas.Option.{slice_get_read}
 use Rattle.std.specs.Prelude.{◌==◌, ◌||◌}
 use Rattle.jxlm_ma.specs.FlatTree.{FlatTree, flat_tree}
 use Rattle.jxlm_ma.specs.ClusterTables.{Clusters}
 use Rattle.jxlm_ma.specs.Paths.{steps_on}
 use Rattle.jxlm_ma.specs.Steps.{is_tabular, most_steps, number_of, plain_gradient}
-use Rattle.jxlm_ma.specs.Tree.{Shape, StandsAtLeaf, leaf, depth}
+use Rattle.jxlm_ma.specs.Tree.{Shape, StandsAtLeaf, leaf, decision, depth}
 use Rattle.jxlm_ma.specs.Inner.Compiled.{IsCompiledFor}
 use Rattle.jxlm_ma.specs.Inner.Tables.{IsPathOfLeaf, IsPathOfTable, TableAt}
 use Rattle.jxlm_ma.specs.declared.flat.CompiledTree.{CompiledTree}
@@ -51,6 +51,17 @@ never-leaf : (t : Shape Leaf) (channel stream earlier : ℕ) (e : CompiledTree) 
 never-leaf t channel stream earlier e n c here never l is =
     let x = root-of_leaf t channel stream earlier e.root e.prev_channels_named e.nodes.items e.need_self_correcting n l c.tree here is in
     never x.0 x.1
+
+-- a tree that is no leaf has a decision
+deep : (t : Shape Leaf) → ((l : Leaf) → t ≡ leaf l → ⊥) → 0 < depth t
+deep (leaf l) never = absurd (never l refl)
+deep (decision p value left right) never = omega arith
+
+-- where the root is no leaf, the tree has a decision
+pub decision-here : (t : Shape Leaf) (channel stream earlier : ℕ) (v : FlatTree) (d1 d2 e : CompiledTree) (n : FlatNode) → IsCompiledFor t channel stream earlier e → d1 ≡ e → d2 ≡ e → n ≡ get_or d1.nodes.items d2.root n →
+    ((x : Leaf) → n ≡ node.Leaf x → ⊥) → flat_tree t channel stream earlier ≡ v → 0 < depth v.tree
+decision-here t channel stream earlier v d1 d2 e n c is1 is2 at never same =
+    subst (λ (u : FlatTree). 0 < depth u.tree) same (deep t (never-leaf t channel stream earlier e n c (root-at d1 d2 e n is1 is2 at) never))
 
 pub table-steps : (t : Shape Leaf) (channel stream earlier : ℕ) (v : FlatTree) (d1 d2 e : CompiledTree) (n : FlatNode) (k : Clusters) (p : Path) → IsCompiledFor t channel stream earlier e → d1 ≡ e → d2 ≡ e →
     n ≡ get_or d1.nodes.items d2.root n → ((x : Leaf) → n ≡ node.Leaf x → ⊥) → flat_tree t channel stream earlier ≡ v → IsPathOfTable k p → steps_on p v.tree ≤ most_steps v.tree

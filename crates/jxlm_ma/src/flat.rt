@@ -8,7 +8,7 @@ ghost use Rattle.jxlm_ma.specs.DecodingSamples.{SampleGives};
 ghost use Rattle.jxlm_ma.specs.FlatTree.{PropertiesAre, ClustersStandIn, FlatTree, GoesWithoutWeights, HasMultiplier, NamesEarlier, ReadsEarlierBelow, flat_tree, leaf_reached, needs_weights, residual_of};
 ghost use Rattle.jxlm_tree.specs.Properties.{Surroundings, place_property, property};
 ghost use Rattle.jxlm_ma.specs.ClusterTables.{LeavesAgree};
-ghost use Rattle.jxlm_ma.specs.Paths.{IsPlainGradient};
+ghost use Rattle.jxlm_ma.specs.Paths.{IsLeafOf, IsPlainGradient};
 ghost use Rattle.jxlm_ma.specs.Steps.{most_steps};
 ghost use Rattle.jxlm_ma.specs.Tree.{AllLeaves, Shape, StandsAtLeaf, depth, leaf, node_count, walk};
 ghost use Rattle.jxlm_ma.specs.declared.flat.Leaf.{Leaf};
@@ -331,14 +331,13 @@ impl FlatMaTree {
         self.compiled.prev_channels_named as usize
     }
 
-    /// The leaf of the tree, where it has no other.
+    /// The leaf to which every walk leads, where no decision is left once those that are known beforehand are taken.
     pub fn only_leaf(&self) -> Option<Leaf>
-        ensures some { IfSome result (λ l. self.now.tree ≡ leaf l) }
-        ensures multiplier { IfSome result HasMultiplier }
+        ensures some { IfSome result (IsLeafOf self.now) }
         ensures none { result ≡ None → 0 < depth self.now.tree }
     {
-        match &self.tree.root {
-            MaTreeNode::Leaf(only) => Some(*only),
+        match &self.compiled.nodes[self.compiled.root as usize] {
+            FlatNode::Leaf(only) => Some(*only),
             _ => None,
         }
     }
