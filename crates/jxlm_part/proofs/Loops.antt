@@ -124,13 +124,21 @@ module _ (part : Part) (regions : List Region) (sizes : AreRegionsOf part.channe
       let count = same_count part.channels regions sizes in
       ap (λ n. place_of part i 0 n) (same_size part.channels regions i sizes li).1 ∙ channel_ends part i (omega (arith, count))
 
-  pub channel_empty : (i : ℕ) → i < length regions → (region_at regions i).width ≡ 0 → cells_before part.channels i ≡ cells_before part.channels (i + 1)
-  channel_empty i li none =
+  no_area : (i : ℕ) → i < length regions → area (channel part.channels i) ≡ 0 → cells_before part.channels i ≡ cells_before part.channels (i + 1)
+  no_area i li none =
       let count = same_count part.channels regions sizes in
       let e = ends_list part.channels i (omega (arith, count)) in
+      omega (arith, e, none)
+
+  pub channel_empty : (i : ℕ) → i < length regions → (region_at regions i).width ≡ 0 → cells_before part.channels i ≡ cells_before part.channels (i + 1)
+  channel_empty i li none =
       let z : (channel part.channels i).width ≡ 0 = sym (same_size part.channels regions i sizes li).0 ∙ none in
-      let n : area (channel part.channels i) ≡ 0 = ap (λ n. n * (channel part.channels i).height) z ∙ omega arith in
-      omega (arith, e, n)
+      no_area i li (ap (λ n. n * (channel part.channels i).height) z ∙ omega arith)
+
+  pub channel_flat : (i : ℕ) → i < length regions → (region_at regions i).height ≡ 0 → cells_before part.channels i ≡ cells_before part.channels (i + 1)
+  channel_flat i li none =
+      let z : (channel part.channels i).height ≡ 0 = sym (same_size part.channels regions i sizes li).1 ∙ none in
+      no_area i li (ap (λ n. (channel part.channels i).width * n) z ∙ omega arith)
 
   pub all_done : cells_before part.channels (length regions) ≡ cell_count part.channels
   all_done = ap (cells_before part.channels) (sym (same_count part.channels regions sizes)) ∙ ap cell_count (take-length part.channels)

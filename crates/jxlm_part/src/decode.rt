@@ -15,7 +15,7 @@ ghost use Rattle.jxlm_part.specs.Reading.{FindsClusters, HasRoom, IsCodingOf, Is
 use crate::coding::{PartCoding, PartState, start_channel};
 use crate::leaves::{Way, read_leaf_row, way_of};
 use crate::rows::{RowError, read_row, write_read};
-use crate::runs::{decode_runs, run_leaf};
+use crate::runs::{comes_in_runs, decode_runs};
 use jxlm_base::bits::Bitstream;
 use jxlm_base::decoder::{Decoder, DecoderError};
 use jxlm_base::grid::AlignedGrid;
@@ -182,8 +182,8 @@ fn decode_channels<S: Sample, D: Decoder>(
     Ok(())
 }
 
-/// Reads all cells of a part: run by run where its tokens come in runs and its tree has a path for them, else channel
-/// by channel. `scratch` has room for a row of each channel.
+/// Reads all cells of a part: run by run where its tokens come in runs and each channel can be read so, else channel by
+/// channel. `scratch` has room for a row of each channel.
 fn decode_cells<S: Sample, D: Decoder>(
     bits: &mut Bitstream<'_>,
     decoder: &mut D,
@@ -203,9 +203,10 @@ fn decode_cells<S: Sample, D: Decoder>(
     ensures err { IfErr result (FailsInCells coding.now D.meaning S.width S.to_int 0
         (moment decoder.old bits.old store.old steps.old) (moment decoder.new bits.new store.new steps.new)) }
 {
-    match run_leaf(decoder, coding) {
-        Some(leaf) => decode_runs(bits, decoder, store, coding, leaf, scratch),
-        None => decode_channels(bits, decoder, state, steps, store, coding, scratch),
+    if comes_in_runs(decoder, coding) {
+        decode_runs(bits, decoder, store, coding, scratch)
+    } else {
+        decode_channels(bits, decoder, state, steps, store, coding, scratch)
     }
 }
 

@@ -3,14 +3,13 @@
 //! No state of the predictors is needed for them: a row is read from the row above it. Where the decoder has only one
 //! token for a leaf that predicts by 0, the row is filled.
 
-ghost use Rattle.std.specs.Prelude.{◌≡◌, ◌<◌, ◌≤◌, ℤ, pos, List, [], map, length, replicate, OnOk, IfErr, IfSome, None, Contains};
+ghost use Rattle.std.specs.Prelude.{◌≡◌, ◌<◌, ◌≤◌, ℤ, pos, List, [], map, length, replicate, OnOk, IfErr, Contains};
 ghost use Rattle.jxlm_base.specs.Bits.{bytes_of};
 ghost use Rattle.jxlm_base.specs.Regions.{Lies, grid_of, store_meanings};
 ghost use Rattle.jxlm_ma.specs.FlatTree.{ClustersStandIn, HasMultiplier};
 ghost use Rattle.jxlm_ma.specs.Steps.{most_steps};
-ghost use Rattle.jxlm_ma.specs.Tree.{leaf as one_leaf};
 ghost use Rattle.jxlm_part.specs.Coded.{sample_of};
-ghost use Rattle.jxlm_part.specs.Inner.Leaves.{Allows, HasPath, IsPlain, LacksPath, Leads, path_rule, row_above, steps_by};
+ghost use Rattle.jxlm_part.specs.Inner.Leaves.{HasPath, IsPlain, Leads, path_rule, row_above, steps_by};
 ghost use Rattle.jxlm_part.specs.Inner.Rows.{FailsRow, ReadsRow};
 ghost use Rattle.jxlm_part.specs.Inner.Source.{source};
 
@@ -23,7 +22,6 @@ use jxlm_base::region::region_row;
 use jxlm_base::sample::{Sample, Sealed};
 use jxlm_ma::flat::{FlatMaTree, Leaf};
 use jxlm_ma::paths::{self, ClusterTable};
-use jxlm_tree::predictor::Predictor;
 
 /// How the cells of a row are predicted, from the row above and the cells before.
 #[derive(Clone, Copy)]
@@ -72,29 +70,6 @@ pub(crate) fn way_of<'t, D: Decoder>(flat: &'t FlatMaTree, decoder: &D) -> Way<'
         }
         paths::Path::Tree => Way::Cells(None),
     }
-}
-
-/// The path of a leaf, where it has one.
-fn path_of(leaf: Leaf) -> Option<Path>
-    ensures some { IfSome result (Allows leaf) }
-    ensures none { result ≡ None → LacksPath leaf }
-{
-    match leaf.predictor {
-        Predictor::Zero => Some(Path::Zero),
-        Predictor::Gradient if leaf.offset == 0 && leaf.multiplier == 1 => Some(Path::Gradient),
-        _ => None,
-    }
-}
-
-/// The only leaf of a tree, where it has no other and has a path.
-pub(crate) fn leaf_path(flat: &FlatMaTree) -> Option<LeafPath>
-    ensures tree { IfSome result (λ l. flat.now.tree ≡ one_leaf l.leaf) }
-    ensures path { IfSome result HasPath }
-    ensures none { result ≡ None → (l : Leaf) → flat.now.tree ≡ one_leaf l → LacksPath l }
-{
-    let leaf = flat.only_leaf()?;
-    let path = path_of(leaf)?;
-    Some(LeafPath { leaf, path })
 }
 
 /// Fills a row where each cell is predicted by 0 and has the same token.

@@ -1,5 +1,5 @@
-//! A part whose tokens come in runs: it is read run by run where its tree is one leaf that predicts by the clamped
-//! gradient.
+//! A part whose tokens come in runs: it is read run by run where each of its channels has one leaf, which predicts by
+//! the clamped gradient.
 //!
 //! A run may go on over the end of a row or of a channel, and past the last cell of the part. No state of the
 //! predictors is needed.
@@ -8,15 +8,14 @@ ghost use Rattle.std.specs.Prelude.{◌≡◌, ◌+◌, ◌<◌, ◌≤◌, ℕ,
 ghost use Rattle.jxlm_base.specs.Bits.{bytes_of};
 ghost use Rattle.jxlm_base.specs.Regions.{Lies, grid_of, store_meanings};
 ghost use Rattle.jxlm_part.specs.Inner.Channels.{region_at};
-ghost use Rattle.jxlm_part.specs.Inner.Leaves.{IsOnlyLeaf, IsPlain, row_above};
+ghost use Rattle.jxlm_part.specs.Inner.Leaves.{IsPlain, row_above};
 ghost use Rattle.jxlm_part.specs.Inner.Progress.{FailsInCells, moment, place_of};
 ghost use Rattle.jxlm_part.specs.Inner.Rows.{IsDecoding, IsDecodingPart};
-ghost use Rattle.jxlm_part.specs.Inner.Runs.{DecodesInRuns, DecodesUpTo, FailsInRuns, FailsRunRow, HasBegun, IsInRun, ReadsRunRow, TakesToken, gradient_at, run_source};
+ghost use Rattle.jxlm_part.specs.Inner.Runs.{DecodesInRuns, DecodesUpTo, FailsInRuns, FailsRunRow, HasBegun, HaveRunLeaves, IsInRun, ReadsRunRow, TakesToken, run_source};
 ghost use Rattle.jxlm_part.specs.Part.{cells_before, cell_count};
-ghost use Rattle.jxlm_part.specs.Reading.{IsCodingOf, part_of, regions_of};
+ghost use Rattle.jxlm_part.specs.Reading.{IsCodingOf, IsRunLeaf, part_of, regions_of, tree_of};
 
 use crate::coding::PartCoding;
-use crate::leaves::{Path, leaf_path};
 use crate::rows::{RowError, write_read};
 use jxlm_base::bits::Bitstream;
 use jxlm_base::decoder::{Decoder, DecoderError, RleToken};
@@ -190,7 +189,7 @@ fn decode_run_row<S: Sample, D: Decoder>(
     y: usize,
 ) -> Result<(), DecoderError>
     requires here { IsDecoding coding.now i store.old (D.meaning.cluster_map decoder.old) }
-    requires only { IsOnlyLeaf coding.now (gradient_at leaf) }
+    requires only { IsRunLeaf (tree_of coding.now i) leaf }
     requires run { IsInRun D.meaning (run_source decoder.old run.old bits.old) }
     requires in_rows { y < (region_at (regions_of coding.now) i).height }
     requires long { length row.old ≡ (region_at (regions_of coding.now) i).width }
@@ -218,7 +217,7 @@ fn decode_run_rows<S: Sample, D: Decoder>(
     i: usize,
 ) -> Result<(), DecoderError>
     requires here { IsDecoding coding.now i store.old (D.meaning.cluster_map decoder.old) }
-    requires only { IsOnlyLeaf coding.now (gradient_at leaf) }
+    requires only { IsRunLeaf (tree_of coding.now i) leaf }
     requires run { IsInRun D.meaning (run_source decoder.old run.old bits.old) }
     requires long { length row.old ≡ (region_at (regions_of coding.now) i).width }
     ensures ok { OnOk result (DecodesInRuns coding.now D.meaning S.width S.to_int
@@ -234,19 +233,18 @@ fn decode_run_rows<S: Sample, D: Decoder>(
     Ok(())
 }
 
-/// Reads channel `i`, row by row; a channel without columns has no cell. `scratch` has room for a row.
+/// Reads channel `i`, row by row, at its leaf; one without columns or rows has no cell. `scratch` has room for a row.
 fn decode_run_channel<S: Sample, D: Decoder>(
     bits: &mut Bitstream<'_>,
     decoder: &mut D,
     run: &mut Run,
     store: &mut [AlignedGrid<S>],
     coding: &PartCoding<'_, D>,
-    leaf: Leaf,
     scratch: &mut [S],
     i: usize,
 ) -> Result<(), DecoderError>
     requires part { IsDecodingPart coding.now store.old (D.meaning.cluster_map decoder.old) }
-    requires only { IsOnlyLeaf coding.now (gradient_at leaf) }
+    requires only { HaveRunLeaves coding.now (length (regions_of coding.now)) }
     requires run { IsInRun D.meaning (run_source decoder.old run.old bits.old) }
     requires channel { i < length (regions_of coding.now) }
     requires room { coding.now.widest ≤ length scratch.old }
@@ -258,9 +256,12 @@ fn decode_run_channel<S: Sample, D: Decoder>(
         (cells_before (part_of coding.now).channels i)) }
 {
     let region = coding.regions[i];
-    if region.width == 0 {
+    if region.width == 0 || region.height == 0 {
         return Ok(());
     }
+    let Some(leaf) = coding.flats[i].run else {
+        unreachable!()
+    };
     let row = &mut scratch[..region.width];
     decode_run_rows(bits, decoder, run, store, coding, leaf, row, i)
 }
@@ -272,11 +273,10 @@ fn decode_run_channels<S: Sample, D: Decoder>(
     run: &mut Run,
     store: &mut [AlignedGrid<S>],
     coding: &PartCoding<'_, D>,
-    leaf: Leaf,
     scratch: &mut [S],
 ) -> Result<(), DecoderError>
     requires part { IsDecodingPart coding.now store.old (D.meaning.cluster_map decoder.old) }
-    requires only { IsOnlyLeaf coding.now (gradient_at leaf) }
+    requires only { HaveRunLeaves coding.now (length (regions_of coding.now)) }
     requires run { IsInRun D.meaning (run_source decoder.old run.old bits.old) }
     requires room { coding.now.widest ≤ length scratch.old }
     ensures ok { OnOk result (DecodesInRuns coding.now D.meaning S.width S.to_int
@@ -286,22 +286,21 @@ fn decode_run_channels<S: Sample, D: Decoder>(
         (run_source decoder.old run.old bits.old) (run_source decoder.new run.new bits.new) store.old store.new 0) }
 {
     for i in 0..coding.regions.len() {
-        decode_run_channel(bits, decoder, run, store, coding, leaf, scratch, i)?;
+        decode_run_channel(bits, decoder, run, store, coding, scratch, i)?;
     }
     Ok(())
 }
 
-/// Reads all channels of a part run by run, at the only leaf of its tree. `scratch` has room for a row of each.
+/// Reads all channels of a part run by run, each at its leaf. `scratch` has room for a row of each.
 pub(crate) fn decode_runs<S: Sample, D: Decoder>(
     bits: &mut Bitstream<'_>,
     decoder: &mut D,
     store: &mut [AlignedGrid<S>],
     coding: &PartCoding<'_, D>,
-    leaf: Leaf,
     scratch: &mut [S],
 ) -> Result<(), DecoderError>
     requires part { IsDecodingPart coding.now store.old (D.meaning.cluster_map decoder.old) }
-    requires only { IsOnlyLeaf coding.now (gradient_at leaf) }
+    requires only { HaveRunLeaves coding.now (length (regions_of coding.now)) }
     requires rle { D.meaning.as_rle decoder.old ≡ true }
     requires begun { HasBegun D.meaning decoder.old }
     requires room { coding.now.widest ≤ length scratch.old }
@@ -312,22 +311,23 @@ pub(crate) fn decode_runs<S: Sample, D: Decoder>(
         (moment decoder.old bits.old store.old steps) (moment decoder.new bits.new store.new steps) e) }
 {
     let mut run = Run { left: 0, token: 0 };
-    decode_run_channels(bits, decoder, &mut run, store, coding, leaf, scratch)
+    decode_run_channels(bits, decoder, &mut run, store, coding, scratch)
 }
 
-/// The only leaf of the tree, where the decoder's tokens come in runs, and the leaf predicts by the clamped gradient
-/// and adds nothing to it.
-pub(crate) fn run_leaf<D: Decoder>(decoder: &D, coding: &PartCoding<'_, D>) -> Option<Leaf>
+/// Whether the decoder's tokens come in runs, and each channel with cells has a leaf at which they can be taken so.
+pub(crate) fn comes_in_runs<D: Decoder>(decoder: &D, coding: &PartCoding<'_, D>) -> bool
     requires coding { IsCodingOf coding.now }
-    ensures rle { IfSome result (λ _. D.meaning.as_rle decoder.now ≡ true) }
-    ensures only { IfSome result (λ leaf. IsOnlyLeaf coding.now (gradient_at leaf)) }
+    ensures rle { result ≡ true → D.meaning.as_rle decoder.now ≡ true }
+    ensures only { result ≡ true → HaveRunLeaves coding.now (length (regions_of coding.now)) }
 {
-    if !decoder.as_rle() || coding.flats.is_empty() {
-        return None;
+    if !decoder.as_rle() {
+        return false;
     }
-    let at = leaf_path(&coding.flats[0].flat)?;
-    match at.path {
-        Path::Gradient => Some(at.leaf),
-        Path::Zero => None,
+    for i in 0..coding.regions.len() {
+        let region = coding.regions[i];
+        if region.width > 0 && region.height > 0 && coding.flats[i].run.is_none() {
+            return false;
+        }
     }
+    true
 }

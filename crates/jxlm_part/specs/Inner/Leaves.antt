@@ -64,16 +64,6 @@ abbrev pub steps_by : Way → Shape Leaf → ℕ
 steps_by (way.Leaf l) t = 0
 steps_by (way.Cells c) t = steps_to (is_some c) t
 
--- a leaf without a path: it does not predict by 0, and not by the gradient alone
-pub record LacksPath (l : Leaf) : Type 0 where
-  pub zero : l.predictor ≢ predictor.Zero
-  pub gradient : l.predictor ≡ predictor.Gradient → IsPlain l → ⊥
-
--- it is the only leaf of the tree that a part is decoded with
-pub record IsOnlyLeaf {D : Type 0} (c : PartCoding D) (l : LeafPath) : Type 0 where
-  pub tree : (part_of c).tree ≡ leaf l.leaf
-  pub path : HasPath l
-
 -- The neighbours in column x of a row, from the row above (none above the first row) and the cells of the row before
 -- it (ISO/IEC 18181-1, Modular: neighbouring samples).
 module _ (above row : List ℤ) where

@@ -1,5 +1,5 @@
 -- Tokens that are read in runs, and the state in which single reads would be.
-use Rattle.std.specs.Prelude.{◌≡◌, ℕ, ℤ, List, true, Result}
+use Rattle.std.specs.Prelude.{◌≡◌, ℕ, ◌<◌, ℤ, List, get_or, true, IsSome, Result}
 use Rattle.std.specs.Int.{Width}
 use Rattle.jxlm_base.specs.Bits.{bytes_of, position_of}
 use Rattle.jxlm_base.specs.Decoding.{Meaning, ReadGives, iterate}
@@ -7,10 +7,13 @@ use Rattle.jxlm_base.specs.Grid.{Grid}
 use Rattle.jxlm_base.specs.declared.bits.Bitstream.{Bitstream}
 use Rattle.jxlm_base.specs.declared.decoder.DecoderError.{DecoderError}
 use Rattle.jxlm_ma.specs.declared.flat.Leaf.{Leaf}
+use Rattle.jxlm_part.specs.Inner.Channels.{region_at}
 use Rattle.jxlm_part.specs.Inner.Leaves.{path_rule}
 use Rattle.jxlm_part.specs.Inner.Progress.{DecodesCells, FailsInCells, Moment, moment}
 use Rattle.jxlm_part.specs.Inner.Rows.{FailsRow, ReadsRow}
 use Rattle.jxlm_part.specs.Inner.Source.{source}
+use Rattle.jxlm_part.specs.Reading.{regions_of}
+use Rattle.jxlm_part.specs.declared.coding.ChannelTree.{ChannelTree}
 use Rattle.jxlm_part.specs.declared.coding.PartCoding.{PartCoding}
 use Rattle.jxlm_part.specs.declared.leaves.LeafPath.{LeafPath}
 use Rattle.jxlm_part.specs.declared.leaves.Path.TheVariants.{Gradient}
@@ -70,6 +73,11 @@ module _ {S : Type 0} (d : Meaning S) where
 -- this leaf, by the clamped gradient
 abbrev pub gradient_at : Leaf → LeafPath
 gradient_at leaf = record { leaf = leaf; path = Gradient }
+
+-- each of the first n channels that has cells has a leaf for runs at hand
+abbrev pub HaveRunLeaves : {D : Type 0} → PartCoding D → ℕ → Type 0
+HaveRunLeaves c n = (i : ℕ) → i < n → 0 < (region_at (regions_of c) i).width → 0 < (region_at (regions_of c) i).height →
+    (other : ChannelTree) → IsSome (get_or c.flats.now i other).run
 
 -- Cells of a part, without a step in its tree.
 module _ {D X : Type 0} (c : PartCoding D) (d : Meaning D) (w : Width) (to_int : X → ℤ) where
