@@ -86,7 +86,7 @@ module _ {D : Type 0} (c : PartCoding D) (coding : IsCodingOf c) (i : ℕ) (li :
 
   -- a channel tree, any of them
   any_tree : ChannelTree
-  any_tree = record { flat = flat c.config.now.tree c.stream_index i; weighted = true; asked = 0 }
+  any_tree = record { flat = flat c.config.now.tree c.stream_index i; weighted = true; asked = 0; run = None }
 
   reads_below : ReadsEarlierBelow (flat c.config.now.tree c.stream_index i) (asked_at c i)
   reads_below = subst (ReadsEarlierBelow (flat c.config.now.tree c.stream_index i)) (sym (asked_is any_tree)) (tree_at any_tree).below

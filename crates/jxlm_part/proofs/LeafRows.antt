@@ -8,15 +8,13 @@ use Rattle.jxlm_base.specs.Regions.{grid_of, store_meanings}
 use Rattle.jxlm_base.specs.declared.subgrid.Region.{Region}
 use Rattle.jxlm_base.proofs.Regions.{IsFull-grid_of}
 use Rattle.jxlm_tree.specs.Predictions.{prediction}
-use Rattle.jxlm_ma.specs.FlatTree.{FlatTree}
 use Rattle.jxlm_ma.specs.Paths.{IsLeafOf}
 use Rattle.jxlm_ma.specs.declared.flat.Leaf.{Leaf}
 use Rattle.jxlm_part.specs.Coded.{next_prediction, sample_of}
 use Rattle.jxlm_part.specs.Inner.Leaves.{HasPath, next_by, path_rule, row_above}
 use Rattle.jxlm_part.specs.Inner.Rows.{AreAlike, FailsRow, IsDecoding, ReadsRow, row_rule, rule_in}
-use Rattle.jxlm_part.specs.Inner.Runs.{gradient_at}
 use Rattle.jxlm_part.specs.Inner.Source.{Source}
-use Rattle.jxlm_part.specs.Reading.{IsRunLeaf, flat, part_of, regions_of, tree_of}
+use Rattle.jxlm_part.specs.Reading.{flat, part_of, regions_of, tree_of}
 use Rattle.jxlm_part.specs.Rule.{Rule}
 use Rattle.jxlm_part.specs.declared.coding.PartCoding.{PartCoding}
 use Rattle.jxlm_part.specs.declared.rows.RowError.{RowError}
@@ -67,13 +65,6 @@ module _ {S : Type 0} (d : Meaning S) (w : Width) (part : Part) (bytes : List �
     (λ s p. ap (λ (k : Leaf). d.read s bytes p k.cluster (max_width part.channels)) (sym (leaf_is row short))),
     (λ token. ap (λ z. sample_of w l.leaf z token) (sym (predicted_is row short)) ∙ ap (λ (k : Leaf). sample_of w k (next_prediction part (here row short)) token) (sym (leaf_is row short))),
   )
-
--- a leaf for runs has a path
-pub run_path : (t : FlatTree) (l : Leaf) → IsRunLeaf t l → HasPath (gradient_at l)
-run_path t l only = record {
-  path = record { predictor = only.plain.0; plain = λ e. record { offset = only.plain.1.0; multiplier = only.plain.1.1 } };
-  multiplier = only.leaf.multiplier;
-}
 
 -- What is read at the leaf of a channel is what the part reads.
 module _ {D X : Type 0} (c : PartCoding D) (d : Meaning D) (w : Width) (to_int : X → ℤ) (store : List (Grid X)) (clusters : List ℕ) (i y : ℕ) (here : IsDecoding c i store clusters)

@@ -22,3 +22,4 @@ pub mod Prefixes
 pub mod Places
 pub mod TokenLaw
 pub mod Whole
+pub mod Ways

@@ -21,8 +21,9 @@ use Rattle.jxlm_part.specs.declared.coding.ChannelTree.{ChannelTree}
 use Rattle.jxlm_part.specs.declared.coding.PartCoding.{PartCoding}
 use Rattle.jxlm_part.specs.declared.rows.RowError.{RowError}
 use Rattle.jxlm_part.proofs.Decoding.{channel_decoded, channel_failed, decoded_further, failed_further, none_decoded, row_decoded, row_failed, still_decoding}
-use Rattle.jxlm_part.proofs.LeafRows.{leaf_fails, leaf_reads, run_path}
+use Rattle.jxlm_part.proofs.LeafRows.{leaf_fails, leaf_reads}
 use Rattle.jxlm_part.proofs.RunTokens.{begins_run, run_of, same_clusters, still_rle}
+use Rattle.jxlm_part.proofs.Ways.{leads_gradient}
 
 -- the read that returned an error was of a cell of the row
 pub error_inside : {D X : Type 0} (d : Meaning D) (w : Width) (to_int : X → ℤ) (leaf : Leaf) (above : List ℤ) (row : List X) (old now : RunSource D) → IsInRun d old → (read : Result (Unit {0}) RowError) →
@@ -84,7 +85,7 @@ module _ {D X : Type 0} (c : PartCoding D) (d : Meaning D) (w : Width) (to_int :
         let r = h c.widest single o in (
           r.0,
           row_decoded c d w to_int i y store new row clusters here qy long (Ok u) (Ok u) (sets.0, refl) (source single old.bits) (source r.0 now.bits) steps steps (omega arith)
-              (leaf_reads c d w to_int store clusters i y here qy (gradient_at leaf) only.leaf (run_path (tree_of c i) leaf only) R wide (source single old.bits) (source r.0 now.bits) r.1) (omega arith),
+              (leaf_reads c d w to_int store clusters i y here qy (gradient_at leaf) only.leaf (leads_gradient (tree_of c i) leaf only.leaf only.plain).1 R wide (source single old.bits) (source r.0 now.bits) r.1) (omega arith),
           r.2,
         ))
 
@@ -100,7 +101,7 @@ module _ {D X : Type 0} (c : PartCoding D) (d : Meaning D) (w : Width) (to_int :
         let r = h c.widest single o in (
           r.0,
           row_failed c d w to_int i y store new row clusters here qy long (Err e) (Err e.error) (sets.0, refl) (source single old.bits) (source r.0 now.bits) steps steps (omega arith)
-              (leaf_fails c d w to_int store clusters i y here qy (gradient_at leaf) only.leaf (run_path (tree_of c i) leaf only) R wide (source single old.bits) (source r.0 now.bits) e r.1) (omega arith),
+              (leaf_fails c d w to_int store clusters i y here qy (gradient_at leaf) only.leaf (leads_gradient (tree_of c i) leaf only.leaf only.plain).1 R wide (source single old.bits) (source r.0 now.bits) e r.1) (omega arith),
           r.2,
         ))
 

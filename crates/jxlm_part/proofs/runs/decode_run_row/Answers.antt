@@ -1,11 +1,20 @@
-use Rattle.std.proofs.Common.{◌∙◌}
+use Rattle.std.proofs.Common.{Contains, ◌∙◌}
 use Rattle.jxlm_base.specs.Regions.{grid_of, store_meanings}
+use Rattle.jxlm_ma.specs.declared.flat.Leaf.{Leaf}
+use Rattle.jxlm_ma.proofs.FlatTrees.{standing_leaf}
 use Rattle.jxlm_part.specs.Inner.Channels.{region_at}
 use Rattle.jxlm_part.specs.Inner.Leaves.{row_above}
 use Rattle.jxlm_part.specs.Inner.Runs.{run_source}
 use Rattle.jxlm_part.specs.Reading.{regions_of}
 use Rattle.jxlm_part.proofs.RunCells.{error_inside, row_fails_in_runs, row_in_runs}
 use Rattle.jxlm_part.proofs.runs.decode_run_row.Goals as goal
+
+pub read_run_row-requires-clause-plain : goal.read_run_row-requires-clause-plain
+read_run_row-requires-clause-plain g c κs within = record { offset = c.requires.only.plain.1.0; multiplier = c.requires.only.plain.1.1 }
+
+pub read_run_row-requires-clause-cluster : goal.read_run_row-requires-clause-cluster
+read_run_row-requires-clause-cluster g c κs within =
+    standing_leaf (λ (l : Leaf). Contains (g.D.Decoder.meaning.cluster_map c.args.decoder.now) l.cluster) c.args.coding.now.config.now.tree c.args.leaf c.requires.here.part.clusters_found c.requires.only.leaf.stands
 
 pub write_read-requires-clause-inside : goal.write_read-requires-clause-inside
 write_read-requires-clause-inside g c =
