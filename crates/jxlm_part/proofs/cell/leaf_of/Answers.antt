@@ -11,16 +11,7 @@ returns-in-Some-clause-leaf g c s samples stands =
     let leads = subst (λ t. Leads c.args.flat.now (way.Cells t)) c.in-Some.is c.requires.leads in
     c.leaf_by.ensures.leaf c.args.flat.now (place_property (surroundings s (store_meanings g.S.Sealed.to_int (store_of c.args.properties.now)) samples)) leads (λ k v gives. gives s samples stands)
 
-pub returns-in-Some-clause-stands : goal.returns-in-Some-clause-stands
-returns-in-Some-clause-stands g c =
-    let leads = subst (λ t. Leads c.args.flat.now (way.Cells t)) c.in-Some.is c.requires.leads in
-    c.leaf_by.ensures.stands c.args.flat.now leads
-
 pub returns-in-Some-clause-multiplier : goal.returns-in-Some-clause-multiplier
 returns-in-Some-clause-multiplier g c =
     let leads = subst (λ t. Leads c.args.flat.now (way.Cells t)) c.in-Some.is c.requires.leads in
     c.leaf_by.ensures.multiplier c.args.flat.now leads
-
-pub returns-in-None-clause-leaf : goal.returns-in-None-clause-leaf
-returns-in-None-clause-leaf g c s samples stands =
-    c.leaf.ensures.leaf (place_property (surroundings s (store_meanings g.S.Sealed.to_int (store_of c.args.properties.now)) samples)) (λ k v gives. gives s samples stands)
