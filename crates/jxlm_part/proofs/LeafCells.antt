@@ -90,6 +90,12 @@ reduced_sample w l token g plain after =
     ∙ sym (int_wrap-add_right w u (int_wrap w32 g)) ∙ ap (λ z. int_wrap w (u +ℤ z)) (after g) ∙ int_wrap-add_right w u g
     ∙ sym (int_wrap-add_left w u g)
 
+-- over 0 the sample is the token's number
+pub zero_sample : {X : Type 0} (w : Width) (to_int : X → ℤ) (from_int : ℤ → X) → ((n : ℤ) → to_int (from_int n) ≡ n) → (l : Leaf) → IsPlain l → (token : ℕ) (v : X) →
+    v ≡ from_int (int_wrap w (unpack token)) → to_int v ≡ sample_of w l (pos 0) token
+zero_sample w to_int from_int back l plain token v is =
+    ap to_int is ∙ back (int_wrap w (unpack token)) ∙ sym (plain_sample w l token (pos 0) plain ∙ ap (int_wrap w) (+ℤ_idr (unpack token)))
+
 -- ---- a row of one sample
 
 get_filled : (n k : ℕ) (v : ℤ) → k < n → slice_get (replicate n v) k ≡ Some v

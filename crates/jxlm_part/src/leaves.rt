@@ -83,9 +83,9 @@ fn fill_row<S: Sample>(token: u32, leaf: Leaf, row: &mut [S])
     }
 }
 
-/// Reads a row where each cell is predicted by 0.
+/// Reads a row where each cell is predicted by 0, at a leaf with any offset and multiplier.
 #[inline(never)]
-fn zero_row<S: Sample, D: Decoder>(
+fn scaled_zero_row<S: Sample, D: Decoder>(
     bits: &mut Bitstream<'_>,
     decoder: &mut D,
     leaf: Leaf,
@@ -108,6 +108,57 @@ fn zero_row<S: Sample, D: Decoder>(
         }
     }
     Ok(())
+}
+
+/// Reads a row where each cell is predicted by 0, at a leaf that adds nothing more.
+#[inline(never)]
+fn plain_zero_row<S: Sample, D: Decoder>(
+    bits: &mut Bitstream<'_>,
+    decoder: &mut D,
+    leaf: Leaf,
+    widest: u32,
+    row: &mut [S],
+) -> Result<(), RowError>
+    requires plain { IsPlain leaf }
+    requires cluster { Contains (D.meaning.cluster_map decoder.old) leaf.cluster }
+    ensures ok { OnOk result ((above : List ℤ) → ReadsRow D.meaning
+        (path_rule D.meaning S.width (bytes_of bits.old) leaf widest Path.Zero above)
+        (map S.to_int row.new) (source decoder.old bits.old) (source decoder.new bits.new)) }
+    ensures err { IfErr result (λ r. (above : List ℤ) →
+        FailsRow (path_rule D.meaning S.width (bytes_of bits.old) leaf widest Path.Zero above)
+        (map S.to_int row.new) (source decoder.old bits.old) (source decoder.new bits.new) r) }
+{
+    for x in 0..row.len() {
+        match decoder.read_varint_with_multiplier_clustered(bits, leaf.cluster, widest) {
+            Ok(token) => row[x] = S::unpack_signed_u32(token),
+            Err(error) => return Err(RowError { column: x, error }),
+        }
+    }
+    Ok(())
+}
+
+/// Reads a row where each cell is predicted by 0.
+fn zero_row<S: Sample, D: Decoder>(
+    bits: &mut Bitstream<'_>,
+    decoder: &mut D,
+    leaf: Leaf,
+    widest: u32,
+    row: &mut [S],
+) -> Result<(), RowError>
+    requires multiplier { HasMultiplier leaf }
+    requires cluster { Contains (D.meaning.cluster_map decoder.old) leaf.cluster }
+    ensures ok { OnOk result ((above : List ℤ) → ReadsRow D.meaning
+        (path_rule D.meaning S.width (bytes_of bits.old) leaf widest Path.Zero above)
+        (map S.to_int row.new) (source decoder.old bits.old) (source decoder.new bits.new)) }
+    ensures err { IfErr result (λ r. (above : List ℤ) →
+        FailsRow (path_rule D.meaning S.width (bytes_of bits.old) leaf widest Path.Zero above)
+        (map S.to_int row.new) (source decoder.old bits.old) (source decoder.new bits.new) r) }
+{
+    if leaf.offset == 0 && leaf.multiplier == 1 {
+        plain_zero_row(bits, decoder, leaf, widest, row)
+    } else {
+        scaled_zero_row(bits, decoder, leaf, widest, row)
+    }
 }
 
 /// Reads the first row of a channel where each cell is predicted by the clamped gradient.
@@ -144,7 +195,8 @@ fn first_gradient_row<S: Sample, D: Decoder>(
     Ok(())
 }
 
-/// Reads a row below another where each cell is predicted by the clamped gradient.
+/// Reads a row below another where each cell is predicted by the clamped gradient. The reader is a local variable for
+/// the length of the row.
 #[inline(never)]
 fn gradient_row<S: Sample, D: Decoder>(
     bits: &mut Bitstream<'_>,
@@ -165,23 +217,28 @@ fn gradient_row<S: Sample, D: Decoder>(
         (path_rule D.meaning S.width (bytes_of bits.old) leaf widest Path.Gradient (map S.to_int above.now))
         (map S.to_int row.new) (source decoder.old bits.old) (source decoder.new bits.new)) }
 {
+    let mut reader = *bits;
     let mut w = above[0];
     let mut nw = w;
     for x in 0..row.len() {
         let n = above[x];
         let token = match decoder.read_varint_with_multiplier_clustered(
-            bits,
+            &mut reader,
             leaf.cluster,
             widest,
         ) {
             Ok(token) => token,
-            Err(error) => return Err(RowError { column: x, error }),
+            Err(error) => {
+                *bits = reader;
+                return Err(RowError { column: x, error });
+            }
         };
         let value = S::unpack_signed_u32(token).add(S::grad_clamped(n, w, nw));
         row[x] = value;
         w = value;
         nw = n;
     }
+    *bits = reader;
     Ok(())
 }
 

@@ -27,7 +27,7 @@ loop-x-preserved g c =
     record {
       len = search rules;
       reads = leaf_more g.D.Decoder.meaning g.met.D.Decoder.lawful g.S.Sealed.width to_int c.args.leaf c.args.widest (next_by Gradient (map to_int above))
-          (source c.args.decoder.now c.args.bits.now) (source c.loop-x.decoder c.loop-x.bits) (source c.read_varint_with_multiplier_clustered.new.self c.read_varint_with_multiplier_clustered.new.bits)
+          (source c.args.decoder.now c.args.bits.now) (source c.loop-x.decoder c.loop-x.reader) (source c.read_varint_with_multiplier_clustered.new.self c.read_varint_with_multiplier_clustered.new.bits)
           row x c.requires.cluster inside c.loop-x.invariant.reads c.in-Ok.ensures.bytes c.in-Ok.token v c.in-Ok.ensures.gives value;
       west = subst (λ r. to_int v ≡ west_in (map to_int above) r (x + 1)) written (west_next (map to_int above) (map to_int row) x (to_int v) in_row);
       north_west = north_west_next (map to_int above) (map to_int (slice_set row x v)) x (to_int c.index-above-x.result)
@@ -38,7 +38,7 @@ pub returns-in-Err-clause-err : goal.returns-in-Err-clause-err
 returns-in-Err-clause-err g c =
     let same = c.loop-x.invariant.len in
     leaf_ends g.D.Decoder.meaning g.met.D.Decoder.lawful g.S.Sealed.width g.S.Sealed.to_int c.args.leaf c.args.widest (next_by Gradient (map g.S.Sealed.to_int c.args.above.now))
-    (source c.args.decoder.now c.args.bits.now) (source c.loop-x.decoder c.loop-x.bits) (source c.read_varint_with_multiplier_clustered.new.self c.read_varint_with_multiplier_clustered.new.bits)
+    (source c.args.decoder.now c.args.bits.now) (source c.loop-x.decoder c.loop-x.reader) (source c.read_varint_with_multiplier_clustered.new.self c.read_varint_with_multiplier_clustered.new.bits)
     c.loop-x.row c.loop-x.x c.requires.cluster (omega (arith, same, c.loop-x-test.true)) c.loop-x.invariant.reads c.in-Err.ensures.bytes _ c.in-Err.ensures.gives
 
 pub returns-clause-ok : goal.returns-clause-ok
@@ -46,4 +46,4 @@ returns-clause-ok g c =
     let end = c.loop-x.auto.x-end in
     let same = c.loop-x.invariant.len in
     leaf_whole g.D.Decoder.meaning (path_rule g.D.Decoder.meaning g.S.Sealed.width (bytes_of c.args.bits.now) c.args.leaf c.args.widest Gradient (map g.S.Sealed.to_int c.args.above.now)) g.S.Sealed.to_int
-    (source c.args.decoder.now c.args.bits.now) (source c.loop-x.decoder c.loop-x.bits) c.loop-x.row c.loop-x.x c.loop-x.invariant.reads (omega (arith, end, same, c.loop-x-test.false))
+    (source c.args.decoder.now c.args.bits.now) (source c.loop-x.decoder c.loop-x.reader) c.loop-x.row c.loop-x.x c.loop-x.invariant.reads (omega (arith, end, same, c.loop-x-test.false))

@@ -12,7 +12,7 @@ invariant-loop-x g l =
     record {
       len : length l.row ≡ length l.fn.row;
       reads : ReadsCells g.D.Decoder.meaning (path_rule g.D.Decoder.meaning g.S.Sealed.width (bytes_of l.fn.bits) l.leaf l.widest Gradient (map to_int l.above))
-          (map to_int l.row) l.x (source l.fn.decoder l.fn.bits) (source l.decoder l.bits);
+          (map to_int l.row) l.x (source l.fn.decoder l.fn.bits) (source l.decoder l.reader);
       west : to_int l.w ≡ west_in (map to_int l.above) (map to_int l.row) l.x;
       north_west : to_int l.nw ≡ north_west_in (map to_int l.above) (map to_int l.row) l.x;
     }
