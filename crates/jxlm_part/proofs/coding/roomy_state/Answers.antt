@@ -1,9 +1,8 @@
-use Rattle.std.proofs.Common.{rules, tests, arith, length, ◌≡◌, Bool, true, false, if◌then◌else◌, Option, Some, None, sym, ap, ◌∙◌}
+use Rattle.std.proofs.Common.{rules, tests, arith, length, ◌≡◌, Bool, if◌then◌else◌, Some, None, sym, ap, ◌∙◌}
 use Rattle.std.specs.Option.{option_copied}
 use Rattle.std.proofs.lemmas.Grind.{common_steps}
 use Rattle.std.proofs.lemmas.Iterator.{YieldsList-from_slice}
 use Rattle.std.proofs.lemmas.Iterator.Search.{any_from_yields_List}
-use Rattle.jxlm_tree.specs.declared.predictor.WpHeader.{WpHeader}
 use Rattle.jxlm_part.specs.Reading.{are_weighted}
 use Rattle.jxlm_part.specs.declared.coding.ChannelTree.{ChannelTree}
 use Rattle.jxlm_part.proofs.coding.roomy_state.Goals.{then-any, else-any}

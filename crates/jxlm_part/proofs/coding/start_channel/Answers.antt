@@ -1,6 +1,5 @@
-use Rattle.std.proofs.Common.{◌≡◌, ◌+◌, ◌-◌, ◌<◌, ◌≤◌, [], length, arith, rules, slice_index_or}
+use Rattle.std.proofs.Common.{◌-◌, ◌<◌, [], arith, rules, slice_index_or}
 use Rattle.jxlm_part.specs.Inner.Channels.{asked_at}
-use Rattle.jxlm_part.specs.Reading.{regions_of}
 use Rattle.jxlm_part.proofs.CellLaws.{asked_is, narrow_at}
 use Rattle.jxlm_part.proofs.Starting.{as_many_channels, comes_after_alike, fits_widest, is_later, room_for_last, set_by_last, set_for_all, set_for_none, somewhere}
 use Rattle.jxlm_part.proofs.coding.start_channel.Goals as goal

@@ -1,11 +1,23 @@
-use Rattle.std.proofs.Common.{[], map, ◌∙◌, subst}
+use Rattle.std.proofs.Common.{Contains, map, ◌∙◌, subst}
 use Rattle.std.proofs.lemmas.List.{length-map}
+use Rattle.jxlm_ma.specs.declared.flat.Leaf.{Leaf}
+use Rattle.jxlm_ma.proofs.FlatTrees.{standing_leaf}
 use Rattle.jxlm_part.specs.Inner.Leaves.{Leads}
 use Rattle.jxlm_part.specs.Inner.Source.{source}
 use Rattle.jxlm_part.specs.Reading.{tree_of}
 use Rattle.jxlm_part.proofs.LeafRows.{leaf_fails, leaf_reads}
 use Rattle.jxlm_part.proofs.Loops.{err_so, ok_so}
 use Rattle.jxlm_part.proofs.decode.read_any_row.Goals as goal
+
+pub read_leaf_row-requires-clause-path : goal.read_leaf_row-requires-clause-path
+read_leaf_row-requires-clause-path g c κs within =
+    let leads = subst (Leads (tree_of c.args.coding.now c.args.i)) c.in-Leaf.is c.requires.at_row.leads in
+    leads.1
+
+pub read_leaf_row-requires-clause-cluster : goal.read_leaf_row-requires-clause-cluster
+read_leaf_row-requires-clause-cluster g c κs within =
+    let leads = subst (Leads (tree_of c.args.coding.now c.args.i)) c.in-Leaf.is c.requires.at_row.leads in
+    standing_leaf (λ (l : Leaf). Contains (g.D.Decoder.meaning.cluster_map c.args.decoder.now) l.cluster) c.args.coding.now.config.now.tree c.in-Leaf.at.leaf c.requires.here.part.clusters_found leads.0.stands
 
 pub returns-in-Leaf-clause-ok : goal.returns-in-Leaf-clause-ok
 returns-in-Leaf-clause-ok g c =
