@@ -4,8 +4,10 @@
 //! A run may go on over the end of a row or of a channel, and past the last cell of the part. No state of the
 //! predictors is needed.
 
-ghost use Rattle.std.specs.Prelude.{◌≡◌, ◌+◌, ◌<◌, ◌≤◌, ℕ, [], true, map, length, OnOk, IfErr, IfSome, Contains};
+ghost use Rattle.std.specs.Prelude.{◌≡◌, ◌+◌, ◌<◌, ◌≤◌, ℕ, [], true, Ok, Err, map, length, OnOk, IfErr, IfSome, Contains};
+ghost use Rattle.std.specs.Int.{int_wrap};
 ghost use Rattle.jxlm_base.specs.Bits.{bytes_of};
+ghost use Rattle.jxlm_base.specs.Numbers.{unpack};
 ghost use Rattle.jxlm_base.specs.Regions.{Lies, grid_of, store_meanings};
 ghost use Rattle.jxlm_part.specs.Inner.Channels.{region_at};
 ghost use Rattle.jxlm_part.specs.Inner.Leaves.{IsPlain, row_above};
@@ -25,7 +27,7 @@ use jxlm_base::sample::{Sample, Sealed};
 use jxlm_ma::flat::Leaf;
 
 /// The run that is being taken.
-#[derive(Drop)]
+#[derive(Clone, Copy)]
 pub(crate) struct Run {
     /// How many of its tokens are left.
     left: u32,
@@ -33,36 +35,43 @@ pub(crate) struct Run {
     token: u32,
 }
 
-/// The next token of a cluster: of the run, or of a read once none is left.
+/// Takes the next token of a cluster: of the run, or of a read once none is left. It is the run's token afterwards, and
+/// `residual` is the number that this stands for, before as after.
 ///
 /// # Errors
 ///
 /// That of the read.
 #[inline(always)]
-fn next_token<D: Decoder>(
+fn take_token<S: Sample, D: Decoder>(
     bits: &mut Bitstream<'_>,
     decoder: &mut D,
     run: &mut Run,
+    residual: &mut S,
     cluster: u8,
-) -> Result<u32, DecoderError>
+) -> Result<(), DecoderError>
     requires cluster { Contains (D.meaning.cluster_map decoder.old) cluster }
     requires run { IsInRun D.meaning (run_source decoder.old run.old bits.old) }
-    ensures gives { TakesToken D.meaning cluster result
-        (run_source decoder.old run.old bits.old) (run_source decoder.new run.new bits.new) }
+    requires residual { residual.old ≡ S.from_int (int_wrap S.width (unpack run.old.token)) }
+    ensures ok { OnOk result (TakesToken D.meaning cluster (Ok run.new.token)
+        (run_source decoder.old run.old bits.old) (run_source decoder.new run.new bits.new)) }
+    ensures err { IfErr result (λ e. TakesToken D.meaning cluster (Err e)
+        (run_source decoder.old run.old bits.old) (run_source decoder.new run.new bits.new)) }
+    ensures residual { residual.new ≡ S.from_int (int_wrap S.width (unpack run.new.token)) }
     ensures bytes { bytes_of bits.new ≡ bytes_of bits.old }
 {
     if run.left > 0 {
         run.left -= 1;
-        return Ok(run.token);
+        return Ok(());
     }
     match decoder.read_varint_clustered(bits, cluster)? {
         RleToken::Value(token) => {
             run.token = token;
-            Ok(token)
+            *residual = S::unpack_signed_u32(token);
+            Ok(())
         }
         RleToken::Repeat(count) => {
             run.left = count - 1;
-            Ok(run.token)
+            Ok(())
         }
     }
 }
@@ -87,20 +96,20 @@ fn first_run_row<S: Sample, D: Decoder>(
     ensures err { IfErr result (FailsRunRow D.meaning S.width leaf [] (map S.to_int row.new)
         (run_source decoder.old run.old bits.old) (run_source decoder.new run.new bits.new)) }
 {
+    let mut residual = S::unpack_signed_u32(run.token);
     let mut w = S::from_i32(0);
     for x in 0..row.len() {
-        let token = match next_token(bits, decoder, run, leaf.cluster) {
-            Ok(token) => token,
-            Err(error) => return Err(RowError { column: x, error }),
-        };
-        let value = S::unpack_signed_u32(token).add(S::grad_clamped(w, w, w));
+        if let Err(error) = take_token(bits, decoder, run, &mut residual, leaf.cluster) {
+            return Err(RowError { column: x, error });
+        }
+        let value = residual.add(S::grad_clamped(w, w, w));
         row[x] = value;
         w = value;
     }
     Ok(())
 }
 
-/// Reads a row below another.
+/// Reads a row below another. The run is a local variable for the length of the row.
 ///
 /// # Errors
 ///
@@ -124,19 +133,22 @@ fn lower_run_row<S: Sample, D: Decoder>(
     ensures err { IfErr result (FailsRunRow D.meaning S.width leaf (map S.to_int above.now) (map S.to_int row.new)
         (run_source decoder.old run.old bits.old) (run_source decoder.new run.new bits.new)) }
 {
+    let mut now = *run;
+    let mut residual = S::unpack_signed_u32(now.token);
     let mut w = above[0];
     let mut nw = w;
     for x in 0..row.len() {
         let n = above[x];
-        let token = match next_token(bits, decoder, run, leaf.cluster) {
-            Ok(token) => token,
-            Err(error) => return Err(RowError { column: x, error }),
-        };
-        let value = S::unpack_signed_u32(token).add(S::grad_clamped(n, w, nw));
+        if let Err(error) = take_token(bits, decoder, &mut now, &mut residual, leaf.cluster) {
+            *run = now;
+            return Err(RowError { column: x, error });
+        }
+        let value = residual.add(S::grad_clamped(n, w, nw));
         row[x] = value;
         w = value;
         nw = n;
     }
+    *run = now;
     Ok(())
 }
 

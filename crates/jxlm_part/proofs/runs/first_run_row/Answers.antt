@@ -8,13 +8,13 @@ use Rattle.jxlm_part.proofs.RunRows.{known_in_run, run_ends, run_more, run_whole
 use Rattle.jxlm_part.proofs.RunTokens.{in_run_then}
 use Rattle.jxlm_part.proofs.runs.first_run_row.Goals as goal
 
-pub next_token-requires-clause-cluster : goal.next_token-requires-clause-cluster
-next_token-requires-clause-cluster g c =
+pub take_token-requires-clause-cluster : goal.take_token-requires-clause-cluster
+take_token-requires-clause-cluster g c lives within =
     known_in_run g.D.Decoder.meaning g.S.Sealed.width g.S.Sealed.to_int c.args.leaf [] (run_source c.args.decoder.now c.args.run.now c.args.bits.now) (run_source c.loop-x.decoder c.loop-x.run c.loop-x.bits)
     c.loop-x.row c.loop-x.x g.met.D.Decoder.lawful c.requires.cluster c.loop-x.invariant.reads c.requires.run
 
-pub next_token-requires-clause-run : goal.next_token-requires-clause-run
-next_token-requires-clause-run g c =
+pub take_token-requires-clause-run : goal.take_token-requires-clause-run
+take_token-requires-clause-run g c lives within =
     in_run_then g.D.Decoder.meaning (run_source c.args.decoder.now c.args.run.now c.args.bits.now) (run_source c.loop-x.decoder c.loop-x.run c.loop-x.bits) _ c.requires.run (c.loop-x.invariant.reads 0)
 
 pub loop-x-preserved : goal.loop-x-preserved
@@ -28,14 +28,15 @@ loop-x-preserved g c =
     let in_row : x < length (map to_int row) = let m = length-map row to_int in omega (arith, m) in
     let written : slice_set (map to_int row) x (to_int v) ≡ map to_int (slice_set row x v) = sym (map-set to_int row x v) in
     let value = gradient_sample g.S.Sealed.width to_int g.S.Sealed.from_int g.met.S.Sealed.to_int_from_int g.met.S.Sealed.wraps_after_i32 c.args.leaf c.requires.plain [] (map to_int row) x in_row
-    c.in-Ok.token c.loop-x.w c.loop-x.w c.loop-x.w c.unpack_signed_u32.result c.grad_clamped.result v
+    c.take_token.new.run.token c.loop-x.w c.loop-x.w c.loop-x.w c.take_token.new.residual c.grad_clamped.result v
     c.loop-x.invariant.west c.loop-x.invariant.west (c.loop-x.invariant.west ∙ first_north_west (map to_int row) x)
-    c.unpack_signed_u32.ensures c.grad_clamped.ensures c.add-value.ensures in
+    c.take_token.ensures.residual c.grad_clamped.ensures c.add-value.ensures in
     record {
       len = search rules;
+      residual = c.take_token.ensures.residual;
       reads = run_more g.D.Decoder.meaning g.S.Sealed.width to_int c.args.leaf [] (run_source c.args.decoder.now c.args.run.now c.args.bits.now) (run_source c.loop-x.decoder c.loop-x.run c.loop-x.bits)
-          row x g.met.D.Decoder.lawful c.requires.cluster c.loop-x.invariant.reads (run_source c.next_token.new.decoder c.next_token.new.run c.next_token.new.bits) inside c.in-Ok.ensures.bytes
-          c.in-Ok.token v c.in-Ok.ensures.gives value;
+          row x g.met.D.Decoder.lawful c.requires.cluster c.loop-x.invariant.reads (run_source c.take_token.new.decoder c.take_token.new.run c.take_token.new.bits) inside c.take_token.ensures.bytes
+          c.take_token.new.run.token v c.in_default.ensures.ok value;
       west = subst (λ r. to_int v ≡ west_in [] r (x + 1)) written (west_next [] (map to_int row) x (to_int v) in_row);
     }
 
@@ -43,8 +44,8 @@ pub returns-in-Err-clause-err : goal.returns-in-Err-clause-err
 returns-in-Err-clause-err g c =
     let same = c.loop-x.invariant.len in
     run_ends g.D.Decoder.meaning g.S.Sealed.width g.S.Sealed.to_int c.args.leaf [] (run_source c.args.decoder.now c.args.run.now c.args.bits.now) (run_source c.loop-x.decoder c.loop-x.run c.loop-x.bits)
-    c.loop-x.row c.loop-x.x g.met.D.Decoder.lawful c.requires.cluster c.loop-x.invariant.reads (run_source c.next_token.new.decoder c.next_token.new.run c.next_token.new.bits)
-    (omega (arith, same, c.loop-x-test.true)) c.in-Err.ensures.bytes _ c.in-Err.ensures.gives
+    c.loop-x.row c.loop-x.x g.met.D.Decoder.lawful c.requires.cluster c.loop-x.invariant.reads (run_source c.take_token.new.decoder c.take_token.new.run c.take_token.new.bits)
+    (omega (arith, same, c.loop-x-test.true)) c.take_token.ensures.bytes _ c.in-Err.ensures.err
 
 pub returns-clause-ok : goal.returns-clause-ok
 returns-clause-ok g c =

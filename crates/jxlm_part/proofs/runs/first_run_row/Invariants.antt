@@ -1,3 +1,5 @@
+use Rattle.std.specs.Int.{int_wrap}
+use Rattle.jxlm_base.specs.Numbers.{unpack}
 use Rattle.std.proofs.Common.{◌≡◌, [], map, length}
 use Rattle.jxlm_part.specs.Inner.Leaves.{west_in}
 use Rattle.jxlm_part.specs.Inner.Runs.{run_source}
@@ -10,5 +12,6 @@ invariant-loop-x g l =
     record {
       len : length l.row ≡ length l.fn.row;
       reads : ReadsRunCells g.D.Decoder.meaning g.S.Sealed.width to_int l.leaf [] (run_source l.fn.decoder l.fn.run l.fn.bits) (run_source l.decoder l.run l.bits) l.row l.x;
+      residual : l.residual ≡ g.S.Sealed.from_int (int_wrap g.S.Sealed.width (unpack l.run.token));
       west : to_int l.w ≡ west_in [] (map to_int l.row) l.x;
     }
