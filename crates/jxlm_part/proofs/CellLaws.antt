@@ -1,5 +1,5 @@
 -- A cell of a part: what it holds, and what is read into it.
-use Rattle.std.proofs.Common.{Bool, ◌≡◌, ◌≢◌, ℕ, zero, suc, ◌+◌, ◌*◌, ◌/◌, ◌<◌, ◌≤◌, ◌^◌, List, [], ◌∷◌, ◌++◌, length, take, Some, refl, sym, ap, ◌∙◌, subst, arith, ℤ, slice_index_or, Bool, true, false, ◌||◌}
+use Rattle.std.proofs.Common.{Bool, ◌≡◌, ◌≢◌, ℕ, zero, suc, ◌+◌, ◌*◌, ◌/◌, ◌<◌, ◌≤◌, ◌^◌, List, [], ◌∷◌, ◌++◌, length, take, Some, refl, sym, ap, ◌∙◌, subst, arith, ℤ, slice_index_or, Bool, true, false, ◌||◌, None}
 use Rattle.std.specs.Prelude.{slice_get, slice_set, Result, Err}
 use Rattle.std.specs.List.{All}
 use Rattle.std.specs.Int.{Width}

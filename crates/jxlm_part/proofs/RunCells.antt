@@ -1,6 +1,6 @@
 -- Cells of a part whose tokens are read in runs: a row more, a channel more, all channels.
-use Rattle.std.proofs.Common.{◌≡◌, ℕ, ◌+◌, ◌<◌, List, length, map, get_or, true, Ok, Err, Some, None, refl, sym, ap, ◌∙◌, subst, arith, ℤ}
-use Rattle.std.specs.Prelude.{Result, OnOk, IfErr, IfSome, IsSome}
+use Rattle.std.proofs.Common.{◌≡◌, ℕ, ◌+◌, ◌<◌, List, length, map, true, Ok, Err, refl, sym, ◌∙◌, arith, ℤ}
+use Rattle.std.specs.Prelude.{Result, OnOk, IfErr}
 use Rattle.std.specs.Int.{Width}
 use Rattle.std.proofs.lemmas.List.{length-map}
 use Rattle.jxlm_base.specs.Decoding.{IsLawful, Meaning}
@@ -13,11 +13,10 @@ use Rattle.jxlm_part.specs.Inner.Channels.{region_at}
 use Rattle.jxlm_part.specs.Inner.Leaves.{row_above}
 use Rattle.jxlm_part.specs.Inner.Progress.{FailsInCells, moment, place_of}
 use Rattle.jxlm_part.specs.Inner.Rows.{IsDecoding, IsDecodingPart, SetsRead}
-use Rattle.jxlm_part.specs.Inner.Runs.{DecodesInRuns, DecodesUpTo, FailsInRuns, FailsRunRow, HasBegun, HaveRunLeaves, IsInRun, ReadsRunRow, RunSource, gradient_at, run_source}
+use Rattle.jxlm_part.specs.Inner.Runs.{DecodesInRuns, DecodesUpTo, FailsInRuns, FailsRunRow, HasBegun, IsInRun, ReadsRunRow, RunSource, gradient_at, run_source}
 use Rattle.jxlm_part.specs.Inner.Source.{source}
 use Rattle.jxlm_part.specs.Part.{cells_before}
 use Rattle.jxlm_part.specs.Reading.{IsCodingOf, IsRunLeaf, part_of, regions_of, tree_of}
-use Rattle.jxlm_part.specs.declared.coding.ChannelTree.{ChannelTree}
 use Rattle.jxlm_part.specs.declared.coding.PartCoding.{PartCoding}
 use Rattle.jxlm_part.specs.declared.rows.RowError.{RowError}
 use Rattle.jxlm_part.proofs.Decoding.{channel_decoded, channel_failed, decoded_further, failed_further, none_decoded, row_decoded, row_failed, still_decoding}
@@ -141,13 +140,3 @@ module _ {D X : Type 0} (c : PartCoding D) (d : Meaning D) (w : Width) (to_int :
     runs_fail e h steps =
         let a = (h steps s (begins_run d s bits rle begun)).1 in
         record { stops = a.stops; more = a.more; keeps = a.keeps; memory = a.memory; bytes = a.bytes }
-
--- what is at hand for a channel is its leaf for runs
-module _ {D : Type 0} (c : PartCoding D) (coding : IsCodingOf c) (i : ℕ) (li : i < length (regions_of c)) (t other : ChannelTree) (at : t ≡ get_or c.flats.now i other) where
-  pub run_leaf_at : (l : Leaf) → t.run ≡ Some l → IsRunLeaf (tree_of c i) l
-  run_leaf_at l is =
-      subst (λ o. IfSome o (IsRunLeaf (tree_of c i))) (sym (ap (λ (u : ChannelTree). u.run) at) ∙ is) (coding.flats.each i other li).run
-
-  pub has_run_leaf : HaveRunLeaves c (length (regions_of c)) → 0 < (region_at (regions_of c) i).width → 0 < (region_at (regions_of c) i).height → t.run ≡ None → ⊥
-  has_run_leaf have columns rows is =
-      subst (λ o. IsSome o) (sym (ap (λ (u : ChannelTree). u.run) at) ∙ is) (have i li columns rows other)

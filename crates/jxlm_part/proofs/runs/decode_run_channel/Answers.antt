@@ -3,9 +3,10 @@ use Rattle.std.proofs.lemmas.List.{length-take-le}
 use Rattle.jxlm_part.specs.Inner.Channels.{region_at}
 use Rattle.jxlm_part.specs.Inner.Runs.{run_source}
 use Rattle.jxlm_part.specs.Reading.{part_of, regions_of}
-use Rattle.jxlm_part.proofs.Loops.{channel_empty}
+use Rattle.jxlm_part.proofs.Loops.{channel_empty, channel_flat}
 use Rattle.jxlm_part.proofs.RunCells.{none_in_runs}
 use Rattle.jxlm_part.proofs.Starting.{fits_widest}
+use Rattle.jxlm_part.proofs.runs.decode_run_channel.Goals.{then-region-eq0-via-then-region-eq0, then-region-eq0-via-else-region-eq0+then-region-eq0-2}
 use Rattle.jxlm_part.proofs.runs.decode_run_channel.Goals as goal
 
 pub slice_bounds-row-end : goal.slice_bounds-row-end
@@ -26,5 +27,11 @@ decode_run_rows-requires-clause-long g c κs within =
 
 pub returns-then-region-eq0-clause-ok : goal.returns-then-region-eq0-clause-ok
 returns-then-region-eq0-clause-ok g c =
+    let part = part_of c.args.coding.now in
+    let regions = regions_of c.args.coding.now in
+    let sizes = c.requires.part.coding.sizes in
     none_in_runs c.args.coding.now g.D.Decoder.meaning g.S.Sealed.width g.S.Sealed.to_int (run_source c.args.decoder.now c.args.run.now c.args.bits.now) c.args.store.now _ _
-    (channel_empty (part_of c.args.coding.now) (regions_of c.args.coding.now) c.requires.part.coding.sizes c.args.i c.requires.channel c.if-region-eq0.true)
+    (elim c.then-region-eq0.branch [
+      | then-region-eq0-via-then-region-eq0 w ↦ channel_empty part regions sizes c.args.i c.requires.channel w.if-region-eq0.true
+      | then-region-eq0-via-else-region-eq0+then-region-eq0-2 w ↦ channel_flat part regions sizes c.args.i c.requires.channel w.if-region-eq0-2.true
+    ])

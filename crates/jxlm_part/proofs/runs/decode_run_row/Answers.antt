@@ -9,11 +9,8 @@ use Rattle.jxlm_part.specs.Reading.{regions_of}
 use Rattle.jxlm_part.proofs.RunCells.{error_inside, row_fails_in_runs, row_in_runs}
 use Rattle.jxlm_part.proofs.runs.decode_run_row.Goals as goal
 
-pub read_run_row-requires-clause-plain : goal.read_run_row-requires-clause-plain
-read_run_row-requires-clause-plain g c κs within = record { offset = c.requires.only.plain.1.0; multiplier = c.requires.only.plain.1.1 }
-
-pub read_run_row-requires-clause-cluster : goal.read_run_row-requires-clause-cluster
-read_run_row-requires-clause-cluster g c κs within =
+pub read_run_row-read-requires-clause-cluster : goal.read_run_row-read-requires-clause-cluster
+read_run_row-read-requires-clause-cluster g c κs within =
     standing_leaf (λ (l : Leaf). Contains (g.D.Decoder.meaning.cluster_map c.args.decoder.now) l.cluster) c.args.coding.now.config.now.tree c.args.leaf c.requires.here.part.clusters_found c.requires.only.leaf.stands
 
 pub write_read-requires-clause-inside : goal.write_read-requires-clause-inside
