@@ -9,7 +9,6 @@ use Rattle.jxlm_base.specs.Bits.{bytes_of, position_of}
 use Rattle.jxlm_base.specs.Decoding.{IsLawful, Meaning, ReadGives}
 use Rattle.jxlm_base.specs.Numbers.{clamped_gradient, unpack}
 use Rattle.jxlm_base.specs.declared.decoder.DecoderError.{DecoderError}
-use Rattle.jxlm_base.proofs.Cells.{slice_get-set_same}
 use Rattle.jxlm_ma.specs.declared.flat.Leaf.{Leaf}
 use Rattle.jxlm_part.specs.Coded.{sample_of}
 use Rattle.jxlm_part.specs.Inner.Leaves.{IsPlain, gradient_in, leaf_rule, next_by, north_in, north_west_in, west_in}
@@ -17,7 +16,7 @@ use Rattle.jxlm_part.specs.declared.leaves.Path.TheVariants.{Gradient}
 use Rattle.jxlm_part.specs.Inner.Rows.{FailsRow, ReadsCells, ReadsRow}
 use Rattle.jxlm_part.specs.Inner.Source.{Source}
 use Rattle.jxlm_part.specs.Rule.{Rule, CodedPrefix}
-use Rattle.jxlm_part.proofs.Prefixes.{prefix_more}
+use Rattle.jxlm_part.proofs.ClusterCells.{cell_ends, cell_read}
 
 -- ---- any path that reads at one leaf
 
@@ -28,45 +27,16 @@ module _ {D X : Type 0} (d : Meaning D) (lawful : IsLawful d) (w : Width) (to_in
   abbrev rule : Rule D
   rule = leaf_rule d w (bytes_of old.bits) l widest predicted
 
-  abbrev R : List ℤ
-  R = map to_int row
-
-  module _ (h : ReadsCells d rule R x old now) (same : bytes_of new.bits ≡ bytes_of now.bits) where
-    known_now : Contains (d.cluster_map now.decoder) l.cluster
-    known_now = subst (λ clusters. Contains clusters l.cluster) (sym h.clusters) known
-
-    in_row : x < length R
-    in_row = let m = length-map row to_int in omega (arith, m, inside)
-
+  module _ (h : ReadsCells d rule (map to_int row) x old now) (same : bytes_of new.bits ≡ bytes_of now.bits) where
     -- one more was read, and its sample written
     pub leaf_more : (token : ℕ) (v : X) → d.read now.decoder (bytes_of now.bits) (position_of now.bits) l.cluster widest ≡ Ok (record { value = token; state = new.decoder; position = position_of new.bits }) →
-        to_int v ≡ sample_of w l (predicted (take x R)) token → ReadsCells d rule (map to_int (slice_set row x v)) (x + 1) old new
-    leaf_more token v read is =
-        let z : ℤ = to_int v in
-        let next : suc x ≡ x + 1 = omega arith in
-        let read_here = subst (λ bytes. d.read now.decoder bytes (position_of now.bits) l.cluster widest ≡ Ok (record { value = token; state = new.decoder; position = position_of new.bits })) h.bytes read in
-        let reads : CodedPrefix rule (slice_set R x z) old.decoder (position_of old.bits) (x + 1) new.decoder (position_of new.bits) =
-        subst (λ n. CodedPrefix rule (slice_set R x z) old.decoder (position_of old.bits) n new.decoder (position_of new.bits)) next
-        (prefix_more rule old.decoder (position_of old.bits) R (slice_set R x z) x now.decoder (position_of now.bits) token new.decoder (position_of new.bits) (sym (take-set R x z)) h.reads read_here
-        (slice_get-set_same R x z in_row ∙ ap Some (is ∙ ap (λ r. sample_of w l (predicted r) token) (sym (take-set R x z))))) in
-        record {
-          reads = subst (λ r. CodedPrefix rule r old.decoder (position_of old.bits) (x + 1) new.decoder (position_of new.bits)) (sym (map-set to_int row x v)) reads;
-          clusters = (lawful.read_keeps now.decoder (bytes_of now.bits) (position_of now.bits) l.cluster widest _ known_now read).clusters ∙ h.clusters;
-          bytes = same ∙ h.bytes;
-        }
+        to_int v ≡ sample_of w l (predicted (take x (map to_int row))) token → ReadsCells d rule (map to_int (slice_set row x v)) (x + 1) old new
+    leaf_more = cell_read d lawful to_int widest (λ before. l.cluster) (λ before token. sample_of w l (predicted before) token) old now new row x known inside h same
 
     -- the read returned an error
     pub leaf_ends : (e : DecoderError) → ReadGives (Err e) now.decoder new.decoder (position_of now.bits) (position_of new.bits) (d.read now.decoder (bytes_of now.bits) (position_of now.bits) l.cluster widest) →
-        FailsRow rule R old new (record { column = x; error = e })
-    leaf_ends e gives = record {
-      state = now.decoder;
-      inside = in_row;
-      reads = subst (λ q. CodedPrefix rule R old.decoder (position_of old.bits) x now.decoder q) (sym gives.2) h.reads;
-      error = subst (λ q. d.read now.decoder (bytes_of old.bits) q l.cluster widest ≡ Err e) (sym gives.2)
-          (subst (λ bytes. d.read now.decoder bytes (position_of now.bits) l.cluster widest ≡ Err e) h.bytes gives.0);
-      memory = λ is. lawful.read_memory now.decoder (bytes_of now.bits) (position_of now.bits) l.cluster widest known_now (gives.0 ∙ ap Err is);
-      bytes = same ∙ h.bytes;
-    }
+        FailsRow rule (map to_int row) old new (record { column = x; error = e })
+    leaf_ends = cell_ends d lawful to_int widest (λ before. l.cluster) (λ before token. sample_of w l (predicted before) token) old now new row x known inside h same
 
 -- all of them were read
 pub leaf_whole : {D X : Type 0} (d : Meaning D) (rule : Rule D) (to_int : X → ℤ) (old now : Source D) (row : List X) (x : ℕ) → ReadsCells d rule (map to_int row) x old now → x ≡ length row →
@@ -142,7 +112,7 @@ module _ {D : Type 0} (d : Meaning D) (lawful : IsLawful d) (w : Width) (l : Lea
 
 module _ (above row : List ℤ) where
   -- they depend on the cells before alone
-  west_before : (x : ℕ) → west_in above (take x row) x ≡ west_in above row x
+  pub west_before : (x : ℕ) → west_in above (take x row) x ≡ west_in above row x
   west_before zero = refl
   west_before (suc x) = get_or-take (suc x) row x (pos 0) (omega arith)
 

@@ -1,5 +1,6 @@
 pub mod AlikeRules
 pub mod CellLaws
+pub mod ClusterCells
 pub mod Counts
 pub mod Decoding
 pub mod Earlier
@@ -18,6 +19,8 @@ pub mod RunTokens
 pub mod RunCells
 pub mod RunRows
 pub mod Samples
+pub mod TableCells
+pub mod TableRows
 pub mod Prefixes
 pub mod Places
 pub mod TokenLaw

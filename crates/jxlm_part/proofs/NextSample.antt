@@ -102,7 +102,7 @@ either-fit true b x y = (omega (arith, ints), omega (arith, ints))
 either-fit false true x y = wraps-fit x
 either-fit false false x y = wraps-fit y
 
-place-fit : (s : Surroundings) → Fits (place_property s)
+pub place-fit : (s : Surroundings) → Fits (place_property s)
 place-fit s = record {
   low = λ k. (either-fit (nat_lt k 2) (nat_lt k 16) _ _).0;
   high = λ k. (either-fit (nat_lt k 2) (nat_lt k 16) _ _).1;
@@ -139,7 +139,7 @@ module _ (part : Part) (regions : List Region) (ints : List (Grid ℤ)) (i : ℕ
   abbrev earlier : List Region
   earlier = map (region_at regions) (earlier_alike part.channels i)
 
-  abbrev seen_with : Option WpHeader → Surroundings
+  abbrev pub seen_with : Option WpHeader → Surroundings
   seen_with weights = surroundings_of (setting reg.width weights earlier) ints own
 
   abbrev made : ℕ → List ℤ → List (Grid ℤ) → Surroundings

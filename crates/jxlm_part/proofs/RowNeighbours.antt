@@ -1,5 +1,5 @@
 -- The neighbours of a cell of a row are those of the samples before it.
-use Rattle.std.proofs.Common.{◌≡◌, ℕ, zero, suc, ◌+◌, ◌*◌, ◌-◌, ◌/◌, ◌%◌, ◌<◌, List, [], ◌++◌, length, take, map, Option, Some, refl, sym, ap, ◌∙◌, subst, arith, ℤ, pos}
+use Rattle.std.proofs.Common.{◌≡◌, ℕ, zero, suc, ◌+◌, ◌*◌, ◌-◌, ◌/◌, ◌%◌, ◌<◌, List, [], ◌++◌, length, take, map, Option, Some, refl, sym, ap, ◌∙◌, subst, arith, ℤ, pos, ◌+ℤ◌, ◌-ℤ◌}
 use Rattle.std.specs.Prelude.{get_or, slice_get}
 use Rattle.std.specs.Int.{w32, int_wrap}
 use Rattle.std.proofs.lemmas.List.{get_or-append-add, get_or-take, get_or_append_left, get_or_default, length-append, length-map, length-take-le, same_lists}
@@ -12,10 +12,12 @@ use Rattle.jxlm_base.specs.declared.subgrid.Region.{Region}
 use Rattle.jxlm_base.proofs.Outside.{number_of_row}
 use Rattle.jxlm_base.proofs.RegionRows.{get_row, length-row}
 use Rattle.jxlm_base.proofs.Regions.{IsFull-grid_of, cell-grid_of}
-use Rattle.jxlm_tree.specs.Neighbours.{at, neighbours, north, north_west, west}
+use Rattle.jxlm_tree.specs.Neighbours.{at, column, neighbours, north, north_west, row as line, west}
 use Rattle.jxlm_tree.specs.Predictions.{prediction}
+use Rattle.jxlm_tree.specs.Properties.{gradient_at}
 use Rattle.jxlm_tree.specs.declared.predictor.WpHeader.{WpHeader}
 use Rattle.jxlm_part.specs.Inner.Leaves.{gradient_in, next_by, north_in, north_west_in, predictor_of, row_above, west_in}
+use Rattle.jxlm_part.specs.Inner.TableRows.{property_9_in}
 use Rattle.jxlm_part.specs.declared.leaves.Path.{Path}
 use Rattle.jxlm_part.specs.declared.leaves.Path.TheVariants.{Zero, Gradient}
 
@@ -62,16 +64,17 @@ module _ (samples A row : List ℤ) (W : ℕ) where
   north_west_is (suc x) zero px none above own = west_is (suc x) zero px none above own ∙ sym (ap (λ as'. get_or as' x (west_in A row (suc x))) (none refl))
   north_west_is (suc x) (suc z) px none above own = above z refl x (west_in A row (suc x)) (omega arith)
 
-  gradient_is : (x y : ℕ) → length samples ≡ y * W + x → x < W → NoneAbove y → IsAbove y → IsOwn y →
-      int_wrap w32 (clamped_gradient (neighbours samples W).n (neighbours samples W).w (neighbours samples W).nw) ≡ gradient_in A row x
-  gradient_is x y long px none above own =
+  -- what is computed from the three
+  from_three : (f : ℤ → ℤ → ℤ → ℤ) (x y : ℕ) → length samples ≡ y * W + x → x < W → NoneAbove y → IsAbove y → IsOwn y →
+      f (neighbours samples W).n (neighbours samples W).w (neighbours samples W).nw ≡ f (north_in A row x) (west_in A row x) (north_west_in A row x)
+  from_three f x y long px none above own =
       let col : length samples % W ≡ x = ap (λ n. n % W) long ∙ mod-mul-add y W x px in
       let line : length samples / W ≡ y = ap (λ n. n / W) long ∙ div-mul-add y W x px in
-      ap (λ c. int_wrap w32 (clamped_gradient (north samples W c (length samples / W)) (west samples W c (length samples / W)) (north_west samples W c (length samples / W)))) col
-      ∙ ap (λ r. int_wrap w32 (clamped_gradient (north samples W x r) (west samples W x r) (north_west samples W x r))) line
-      ∙ ap (λ z. int_wrap w32 (clamped_gradient z (west samples W x y) (north_west samples W x y))) (north_is x y px none above own)
-      ∙ ap (λ z. int_wrap w32 (clamped_gradient (north_in A row x) z (north_west samples W x y))) (west_is x y px none above own)
-      ∙ ap (λ z. int_wrap w32 (clamped_gradient (north_in A row x) (west_in A row x) z)) (north_west_is x y px none above own)
+      ap (λ c. f (north samples W c (length samples / W)) (west samples W c (length samples / W)) (north_west samples W c (length samples / W))) col
+      ∙ ap (λ r. f (north samples W x r) (west samples W x r) (north_west samples W x r)) line
+      ∙ ap (λ z. f z (west samples W x y) (north_west samples W x y)) (north_is x y px none above own)
+      ∙ ap (λ z. f (north_in A row x) z (north_west samples W x y)) (west_is x y px none above own)
+      ∙ ap (λ z. f (north_in A row x) (west_in A row x) z) (north_west_is x y px none above own)
 
 zero_reduced : int_wrap w32 (pos 0) ≡ pos 0
 unfolding int_wrap
@@ -113,4 +116,8 @@ module _ (g : Grid ℤ) (full : IsFull g) (y : ℕ) (below : y < g.height) (row 
   -- the prediction of a path from the row is that from the samples
   pub path_is : (weights : Option WpHeader) (path : Path) → prediction weights samples g.width (predictor_of path) ≡ next_by path (row_above g y) row
   path_is weights Zero = zero_reduced
-  path_is weights Gradient = gradient_is samples (row_above g y) row g.width (length row) y samples_long short none_over over own
+  path_is weights Gradient = from_three samples (row_above g y) row g.width (λ n w nw. int_wrap w32 (clamped_gradient n w nw)) (length row) y samples_long short none_over over own
+
+  -- and so is property 9
+  pub property_9_seen : gradient_at samples g.width (column samples g.width) (line samples g.width) ≡ property_9_in (row_above g y) row (length row)
+  property_9_seen = from_three samples (row_above g y) row g.width (λ n w nw. int_wrap w32 (w -ℤ nw +ℤ n)) (length row) y samples_long short none_over over own

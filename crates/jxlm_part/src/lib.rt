@@ -11,3 +11,4 @@ mod leaves;
 pub mod part;
 mod rows;
 mod runs;
+mod tables;

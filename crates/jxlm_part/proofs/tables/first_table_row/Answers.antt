@@ -1,0 +1,63 @@
+use Rattle.std.proofs.Common.{rules, ◌≡◌, ◌<◌, [], map, length, ◌+◌, ◌∙◌, arith, ap, subst, sym, w32, FitsSigned}
+use Rattle.std.specs.Prelude.{slice_set}
+use Rattle.std.proofs.lemmas.Int.{to_z-of_z}
+use Rattle.std.proofs.lemmas.List.{length-map, map-set}
+use Rattle.jxlm_base.specs.Bits.{bytes_of}
+use Rattle.jxlm_ma.specs.ClusterTables.{table_leaf}
+use Rattle.jxlm_part.specs.Inner.Leaves.{IsPlain, west_in}
+use Rattle.jxlm_part.specs.Inner.Source.{source}
+use Rattle.jxlm_part.specs.Inner.TableRows.{property_9_in, table_rule}
+use Rattle.jxlm_part.proofs.LeafCells.{first_north_west, gradient_sample, leaf_whole, west_next}
+use Rattle.jxlm_part.proofs.TableCells.{first_property_9_is, table_ends, table_more}
+use Rattle.jxlm_part.proofs.tables.first_table_row.Goals as goal
+
+pub loop-x-preserved : goal.loop-x-preserved
+loop-x-preserved g c =
+    let to_int = g.S.Sealed.to_int in
+    let row = c.loop-x.row in
+    let x = c.loop-x.x in
+    let v = c.add-value.result in
+    let p = c.to_i32.result in
+    let same = c.loop-x.invariant.len in
+    let inside : x < length row = omega (arith, same, c.loop-x-test.true) in
+    let in_row : x < length (map to_int row) = let m = length-map row to_int in omega (arith, m) in
+    let written : slice_set (map to_int row) x (to_int v) ≡ map to_int (slice_set row x v) = sym (map-set to_int row x v) in
+    let leaf = c.args.table.now.leaf in
+    let plain : IsPlain leaf = record { offset = c.requires.table.1.1.0; multiplier = c.requires.table.1.1.1 } in
+    let fits : FitsSigned w32 p = search rules in
+    let property : p ≡ property_9_in [] (map to_int row) x = first_property_9_is (map to_int row) x p fits (c.to_i32.ensures.value ∙ c.loop-x.invariant.west) in
+    let value = gradient_sample g.S.Sealed.width to_int g.S.Sealed.from_int g.met.S.Sealed.to_int_from_int g.met.S.Sealed.wraps_after_i32 leaf plain [] (map to_int row) x in_row
+    c.in-Ok.token c.loop-x.w c.loop-x.w c.loop-x.w c.unpack_signed_u32.result c.grad_clamped.result v
+    c.loop-x.invariant.west c.loop-x.invariant.west (c.loop-x.invariant.west ∙ first_north_west (map to_int row) x)
+    c.unpack_signed_u32.ensures c.grad_clamped.ensures c.add-value.ensures in
+    record {
+      len = search rules;
+      reads = table_more g.D.Decoder.meaning g.met.D.Decoder.lawful g.S.Sealed.width to_int c.args.table.now c.args.widest []
+          (source c.args.decoder.now c.args.bits.now) (source c.loop-x.decoder c.loop-x.reader) row x c.requires.clusters inside c.loop-x.invariant.reads p c.cluster-cluster.result property
+          (c.cluster-cluster.ensures.cluster ∙ ap (λ z. (table_leaf c.args.table.now z).cluster) (to_z-of_z w32 p fits))
+          (source c.read_varint_with_multiplier_clustered.new.self c.read_varint_with_multiplier_clustered.new.bits) c.in-Ok.ensures.bytes c.in-Ok.token v c.in-Ok.ensures.gives value;
+      west = subst (λ r. to_int v ≡ west_in [] r (x + 1)) written (west_next [] (map to_int row) x (to_int v) in_row);
+      steps = omega (arith, c.cluster-cluster.ensures.cost);
+    }
+
+pub returns-in-Err-clause-err : goal.returns-in-Err-clause-err
+returns-in-Err-clause-err g c =
+    let to_int = g.S.Sealed.to_int in
+    let row = c.loop-x.row in
+    let x = c.loop-x.x in
+    let p = c.to_i32.result in
+    let same = c.loop-x.invariant.len in
+    let inside : x < length row = omega (arith, same, c.loop-x-test.true) in
+    let fits : FitsSigned w32 p = search rules in
+    let property : p ≡ property_9_in [] (map to_int row) x = first_property_9_is (map to_int row) x p fits (c.to_i32.ensures.value ∙ c.loop-x.invariant.west) in
+    table_ends g.D.Decoder.meaning g.met.D.Decoder.lawful g.S.Sealed.width to_int c.args.table.now c.args.widest []
+    (source c.args.decoder.now c.args.bits.now) (source c.loop-x.decoder c.loop-x.reader) row x c.requires.clusters inside c.loop-x.invariant.reads p c.cluster-cluster.result property
+    (c.cluster-cluster.ensures.cluster ∙ ap (λ z. (table_leaf c.args.table.now z).cluster) (to_z-of_z w32 p fits))
+    (source c.read_varint_with_multiplier_clustered.new.self c.read_varint_with_multiplier_clustered.new.bits) c.in-Err.ensures.bytes _ c.in-Err.ensures.gives
+
+pub returns-clause-ok : goal.returns-clause-ok
+returns-clause-ok g c =
+    let end = c.loop-x.auto.x-end in
+    let same = c.loop-x.invariant.len in
+    leaf_whole g.D.Decoder.meaning (table_rule g.D.Decoder.meaning g.S.Sealed.width (bytes_of c.args.bits.now) c.args.table.now c.args.widest []) g.S.Sealed.to_int
+    (source c.args.decoder.now c.args.bits.now) (source c.loop-x.decoder c.loop-x.reader) c.loop-x.row c.loop-x.x c.loop-x.invariant.reads (omega (arith, end, same, c.loop-x-test.false))
