@@ -1,5 +1,5 @@
 -- Rows that are read at one leaf with a path are those of a part whose tree leads to it in the channel.
-use Rattle.std.proofs.Common.{refl, ◌≡◌, ℕ, ◌<◌, List, ◌++◌, length, Some, sym, ap, ◌∙◌, subst, ℤ}
+use Rattle.std.proofs.Common.{◌≡◌, ℕ, ◌<◌, List, ◌++◌, length, Some, sym, ap, ◌∙◌, subst, ℤ}
 use Rattle.std.specs.Int.{Width}
 use Rattle.jxlm_base.specs.Bits.{bytes_of}
 use Rattle.jxlm_base.specs.Decoding.{Meaning}

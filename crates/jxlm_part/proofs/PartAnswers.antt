@@ -1,17 +1,17 @@
 -- What decoding a part that lies in a store returns.
-use Rattle.std.proofs.Common.{◌≡◌, ◌≢◌, ℕ, zero, suc, ◌+◌, ◌*◌, ◌<◌, ◌≤◌, List, [], ◌∷◌, length, Bool, true, false, refl, ap, ◌∙◌, sym, subst, arith, ℤ, inl, inr, Result, Ok, Err}
+use Rattle.std.proofs.Common.{◌≡◌, ◌≢◌, ℕ, zero, suc, ◌+◌, ◌*◌, ◌<◌, ◌≤◌, List, length, Bool, true, false, refl, ap, ◌∙◌, sym, arith, ℤ, inl, inr, Result, Ok, Err}
 use Rattle.std.specs.Int.{Width}
 use Rattle.jxlm_base.specs.Decoding.{Meaning}
 use Rattle.jxlm_base.specs.Grid.{Grid}
-use Rattle.jxlm_base.specs.Regions.{grids_in, store_meanings}
+use Rattle.jxlm_base.specs.Regions.{store_meanings}
 use Rattle.jxlm_base.specs.declared.decoder.DecoderError.{DecoderError}
 use Rattle.jxlm_base.specs.declared.decoder.DecoderError.TheVariants.{UnexpectedEof, Invalid, OutOfMemory}
 use Rattle.jxlm_base.specs.declared.error.Error.{Error}
 use Rattle.jxlm_base.specs.declared.error.Error.TheVariants.{Decoder}
 use Rattle.jxlm_base.specs.declared.subgrid.Region.{Region}
-use Rattle.jxlm_transform.specs.Channels.{AreRegionsOf, Channel}
+use Rattle.jxlm_transform.specs.Channels.{AreRegionsOf}
 use Rattle.jxlm_ma.specs.Steps.{most_steps}
-use Rattle.jxlm_part.specs.Decode.{DecodeGives, MovesWithin, Standing}
+use Rattle.jxlm_part.specs.Decode.{DecodeGives, MovesWithin}
 use Rattle.jxlm_part.specs.Inner.Ready.{IsReadyFor}
 use Rattle.jxlm_part.specs.Part.{Part, cell_count, max_width}
 use Rattle.jxlm_part.specs.Placed.{PartLies, standing_in}

@@ -1,5 +1,5 @@
 -- A part whose channels lie in a store of grids.
-use Rattle.std.specs.Prelude.{◌≡◌, ◌≤◌, ℕ, ◌+◌, ℤ, List, length, Bool}
+use Rattle.std.specs.Prelude.{◌≤◌, ℕ, ℤ, List, length, Bool}
 use Rattle.std.specs.List.{All}
 use Rattle.jxlm_base.specs.Grid.{Grid}
 use Rattle.jxlm_base.specs.Regions.{AllLie, LieApart, grids_in, store_meanings}

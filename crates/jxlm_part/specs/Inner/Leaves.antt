@@ -1,5 +1,5 @@
 -- Rows of a channel whose tree is one leaf.
-use Rattle.std.specs.Prelude.{Bool, true, false, is_some, None, Some, ◌+◌, ◌≡◌, ◌≢◌, ℕ, zero, suc, ℤ, pos, List, [], length, get_or}
+use Rattle.std.specs.Prelude.{Bool, true, false, is_some, None, Some, ◌+◌, ◌≡◌, ℕ, zero, suc, ℤ, pos, List, [], length, get_or}
 use Rattle.std.specs.Int.{Width, w32, int_wrap}
 use Rattle.jxlm_base.specs.Decoding.{Meaning}
 use Rattle.jxlm_base.specs.Grid.{Grid, row as grid_row}
@@ -7,14 +7,12 @@ use Rattle.jxlm_base.specs.Numbers.{clamped_gradient}
 use Rattle.jxlm_ma.specs.FlatTree.{FlatTree, HasMultiplier}
 use Rattle.jxlm_ma.specs.ClusterTables.{IsTableOf}
 use Rattle.jxlm_ma.specs.Paths.{IsLeafOf, IsOnGradient}
-use Rattle.jxlm_ma.specs.Tree.{Shape, depth, leaf}
+use Rattle.jxlm_ma.specs.Tree.{Shape, depth}
 use Rattle.jxlm_ma.specs.declared.flat.Leaf.{Leaf}
 use Rattle.jxlm_tree.specs.declared.predictor.Predictor.{Predictor}
 use Rattle.jxlm_tree.specs.declared.predictor.Predictor.TheVariants as predictor
 use Rattle.jxlm_part.specs.Coded.{sample_of}
-use Rattle.jxlm_part.specs.Reading.{part_of}
 use Rattle.jxlm_part.specs.Rule.{Rule}
-use Rattle.jxlm_part.specs.declared.coding.PartCoding.{PartCoding}
 use Rattle.jxlm_part.specs.declared.leaves.LeafPath.{LeafPath}
 use Rattle.jxlm_part.specs.declared.leaves.Way.{Way}
 use Rattle.jxlm_part.specs.declared.leaves.Way.TheVariants as way

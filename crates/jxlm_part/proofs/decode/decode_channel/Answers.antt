@@ -1,4 +1,4 @@
-use Rattle.std.proofs.Common.{◌≤◌, sym, ap, subst, arith}
+use Rattle.std.proofs.Common.{◌≤◌, sym, subst, arith}
 use Rattle.std.proofs.lemmas.List.{length-take-le}
 use Rattle.jxlm_ma.specs.FlatTree.{FlatTree}
 use Rattle.jxlm_ma.specs.Steps.{most_steps}

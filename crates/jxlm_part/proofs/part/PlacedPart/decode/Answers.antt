@@ -1,4 +1,4 @@
-use Rattle.std.proofs.Common.{◌≡◌, Bool, true, false, refl, sym, ap, ◌∙◌, arith, subst}
+use Rattle.std.proofs.Common.{refl}
 use Rattle.jxlm_base.specs.Bits.{bytes_of, position_of}
 use Rattle.jxlm_part.specs.Placed.{part_placed}
 use Rattle.jxlm_part.proofs.PartAnswers.{answers_empty, answers_error, answers_partial, answers_whole, placed_coding, placed_roomy}
