@@ -1,5 +1,5 @@
 -- What the loops over rows and channels promise one another: a row more, a channel more.
-use Rattle.std.proofs.Common.{◌≡◌, ℕ, suc, ◌+◌, ◌*◌, ◌<◌, ◌≤◌, List, [], length, map, Ok, Err, Option, Some, None, refl, sym, ◌∙◌, subst, arith, ℤ}
+use Rattle.std.proofs.Common.{◌≡◌, ℕ, suc, ◌+◌, ◌*◌, ◌<◌, ◌≤◌, List, [], length, map, Ok, Err, refl, sym, ◌∙◌, subst, arith, ℤ}
 use Rattle.std.specs.Prelude.{Result, OnOk, IfErr}
 use Rattle.std.specs.Int.{Width}
 use Rattle.std.proofs.lemmas.List.{length-map}
@@ -10,7 +10,6 @@ use Rattle.jxlm_base.specs.Outside.{KeepsOutside}
 use Rattle.jxlm_base.specs.Regions.{store_meanings}
 use Rattle.jxlm_base.specs.declared.decoder.DecoderError.{DecoderError}
 use Rattle.jxlm_base.proofs.Outside.{all_lie_still, keeps_all, keeps_both}
-use Rattle.jxlm_ma.specs.declared.flat.Leaf.{Leaf}
 use Rattle.jxlm_tree.specs.declared.state.PredictorState.{PredictorState}
 use Rattle.jxlm_part.specs.Inner.Channels.{StandsAfter, StandsIn, region_at}
 use Rattle.jxlm_part.specs.Inner.Leaves.{Leads, steps_by}
@@ -154,6 +153,7 @@ module _ {D X : Type 0} (c : PartCoding D) (d : Meaning D) (w : Width) (to_int :
         OnOk read (IsInRow c to_int store i y by R state) → OnOk result (IsInRow c to_int new i (y + 1) by [] state)
     below (Err e) result sets by h = rw sets.1 tt
     below (Ok u) result sets (way.Leaf l) h = rw sets.1 (record { leads = h.leads; steps = h.steps; stands = h.stands; roomy = h.roomy })
+    below (Ok u) result sets (way.Table t) h = rw sets.1 (record { leads = h.leads; steps = h.steps; stands = h.stands; roomy = h.roomy })
     below (Ok u) result sets (way.Cells t) h = rw sets.1 (record {
       leads = h.leads;
       steps = h.steps;
@@ -170,12 +170,15 @@ module _ {D X : Type 0} (c : PartCoding D) (i : ℕ) (to_int : X → ℤ) (store
       StandsAfter c to_int store i 0 state → HasRoom c state → IsInRow c to_int store i 0 by [] state
   at_first_row (way.Leaf l) leads steps stands roomy =
       record { leads = leads; steps = steps; stands = record { before = _; stands = stands }; roomy = roomy }
+  at_first_row (way.Table t) leads steps stands roomy =
+      record { leads = leads; steps = steps; stands = record { before = _; stands = stands }; roomy = roomy }
   at_first_row (way.Cells t) leads steps stands roomy =
       let none : 0 ≡ 0 * (region_at (regions_of c) i).width = omega arith in
       record { leads = leads; steps = steps; stands = begins_row c i to_int store 0 state (subst (λ n. StandsAfter c to_int store i n state) none stands); roomy = roomy }
 
   pub in_channel : (y : ℕ) (by : Way) (row : List ℤ) → IsInRow c to_int store i y by row state → StandsIn c i state
   in_channel y (way.Leaf l) row h = h.stands
+  in_channel y (way.Table t) row h = h.stands
   in_channel y (way.Cells t) row h = record { before = _; stands = h.stands }
 
 module _ {D X : Type 0} (c : PartCoding D) (d : Meaning D) (w : Width) (to_int : X → ℤ) (coding : IsCodingOf c) (i : ℕ) (li : i < length (regions_of c)) (old new : Moment D X) where

@@ -4,7 +4,7 @@ use Rattle.std.specs.Prelude.{get_or, replicate, slice_get, slice_set}
 use Rattle.std.specs.Int.{Width, w32, int_wrap}
 use Rattle.std.proofs.Math.IntN.{+ℤ_idr, *ℤ_comm, suc_ℤ-*ℤ, zero-*ℤ, +ℤ_idl}
 use Rattle.std.proofs.lemmas.Int.{int_wrap-add_left, int_wrap-add_right}
-use Rattle.std.proofs.lemmas.List.{get_or-map, get_or-set_same, get_or-take, length-map, length-replicate, length-take-le, map-set, replicate_more, take-set, take_more_set}
+use Rattle.std.proofs.lemmas.List.{get_or-map, get_or-set_same, get_or-take, length-map, length-replicate, length-take-le, map-set, replicate_more, take_more_set}
 use Rattle.jxlm_base.specs.Bits.{bytes_of, position_of}
 use Rattle.jxlm_base.specs.Decoding.{IsLawful, Meaning, ReadGives}
 use Rattle.jxlm_base.specs.Numbers.{clamped_gradient, unpack}

@@ -16,7 +16,7 @@ use Rattle.jxlm_tree.specs.Neighbours.{at, column, neighbours, north, north_west
 use Rattle.jxlm_tree.specs.Predictions.{prediction}
 use Rattle.jxlm_tree.specs.Properties.{gradient_at}
 use Rattle.jxlm_tree.specs.declared.predictor.WpHeader.{WpHeader}
-use Rattle.jxlm_part.specs.Inner.Leaves.{gradient_in, next_by, north_in, north_west_in, predictor_of, row_above, west_in}
+use Rattle.jxlm_part.specs.Inner.Leaves.{next_by, north_in, north_west_in, predictor_of, row_above, west_in}
 use Rattle.jxlm_part.specs.Inner.TableRows.{property_9_in}
 use Rattle.jxlm_part.specs.declared.leaves.Path.{Path}
 use Rattle.jxlm_part.specs.declared.leaves.Path.TheVariants.{Zero, Gradient}

@@ -1,7 +1,7 @@
 -- Rows that are read by a table of clusters are those of a part whose tree it stands for in the channel.
-use Rattle.std.proofs.Common.{◌≡◌, ℕ, ◌<◌, List, ◌++◌, length, Some, sym, ap, ◌∙◌, subst, arith, ℤ, pos}
-use Rattle.std.specs.Prelude.{Contains, FitsSigned}
-use Rattle.std.specs.Int.{Width, w32, int_wrap}
+use Rattle.std.proofs.Common.{◌≡◌, ℕ, ◌<◌, List, ◌++◌, length, Some, sym, ap, ◌∙◌, subst, arith, ℤ}
+use Rattle.std.specs.Prelude.{Contains}
+use Rattle.std.specs.Int.{Width, w32}
 use Rattle.std.proofs.lemmas.Int.{SFits-int_wrap, int_wrap_fits, ints}
 use Rattle.jxlm_base.specs.Bits.{bytes_of}
 use Rattle.jxlm_base.specs.Decoding.{Meaning}

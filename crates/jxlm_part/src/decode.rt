@@ -16,6 +16,7 @@ use crate::coding::{PartCoding, PartState, start_channel};
 use crate::leaves::{Way, read_leaf_row, way_of};
 use crate::rows::{RowError, read_row, write_read};
 use crate::runs::{decode_runs, run_leaf};
+use crate::tables::read_table_row;
 use jxlm_base::bits::Bitstream;
 use jxlm_base::decoder::{Decoder, DecoderError};
 use jxlm_base::grid::AlignedGrid;
@@ -23,7 +24,7 @@ use jxlm_base::sample::Sample;
 use jxlm_ma::flat::Steps;
 use jxlm_tree::predictor::PredictorState;
 
-/// Reads row `y` of channel `i` into `row`, at a leaf or cell by cell.
+/// Reads row `y` of channel `i` into `row`: at a leaf, by a table, or cell by cell.
 ///
 /// # Errors
 ///
@@ -59,6 +60,17 @@ fn read_any_row<S: Sample, D: Decoder>(
     let region = coding.regions[i];
     match way {
         Way::Leaf(at) => read_leaf_row(bits, decoder, at, coding.widest, store, region, y, row),
+        Way::Table(table) => read_table_row(
+            bits,
+            decoder,
+            steps,
+            table,
+            coding.widest,
+            store,
+            region,
+            y,
+            row,
+        ),
         Way::Cells(table) => read_row(bits, decoder, state, steps, store, coding, table, row, i, y),
     }
 }

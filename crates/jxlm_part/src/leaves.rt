@@ -48,6 +48,8 @@ pub(crate) struct LeafPath {
 pub(crate) enum Way<'t> {
     /// At one leaf.
     Leaf(LeafPath),
+    /// By a table of clusters on property 9, for leaves that predict by the clamped gradient and add nothing more.
+    Table(&'t ClusterTable),
     /// Cell by cell, each at the leaf to which its properties lead: by a table, where there is one.
     Cells(Option<&'t ClusterTable>),
 }
@@ -67,9 +69,8 @@ pub(crate) fn way_of<'t, D: Decoder>(flat: &'t FlatMaTree, decoder: &D) -> Way<'
             leaf,
             path: Path::Gradient,
         }),
-        paths::Path::Clusters(table) | paths::Path::GradientClusters(table) => {
-            Way::Cells(Some(table))
-        }
+        paths::Path::GradientClusters(table) => Way::Table(table),
+        paths::Path::Clusters(table) => Way::Cells(Some(table)),
         paths::Path::Tree => Way::Cells(None),
     }
 }

@@ -6,7 +6,7 @@ use Rattle.jxlm_base.specs.Grid.{Grid, row as grid_row}
 use Rattle.jxlm_base.specs.Numbers.{clamped_gradient}
 use Rattle.jxlm_ma.specs.FlatTree.{FlatTree, HasMultiplier}
 use Rattle.jxlm_ma.specs.ClusterTables.{IsTableOf}
-use Rattle.jxlm_ma.specs.Paths.{IsLeafOf}
+use Rattle.jxlm_ma.specs.Paths.{IsLeafOf, IsOnGradient}
 use Rattle.jxlm_ma.specs.Tree.{Shape, depth, leaf}
 use Rattle.jxlm_ma.specs.declared.flat.Leaf.{Leaf}
 use Rattle.jxlm_tree.specs.declared.predictor.Predictor.{Predictor}
@@ -51,6 +51,7 @@ pub record HasPath (l : LeafPath) : Type 0 where
 -- the tree's walks lead where the rows are read
 abbrev pub Leads : FlatTree → Way → Type 0
 Leads t (way.Leaf l) = IsLeafOf t l.leaf × HasPath l
+Leads t (way.Table c) = IsTableOf t c.now × IsOnGradient c.now
 Leads t (way.Cells None) = Unit {0}
 Leads t (way.Cells (Some c)) = IsTableOf t c.now
 
@@ -62,6 +63,7 @@ steps_to false t = depth t + 1
 -- the steps of a cell at most
 abbrev pub steps_by : Way → Shape Leaf → ℕ
 steps_by (way.Leaf l) t = 0
+steps_by (way.Table c) t = 1
 steps_by (way.Cells c) t = steps_to (is_some c) t
 
 -- a leaf without a path: it does not predict by 0, and not by the gradient alone

@@ -1,5 +1,5 @@
 -- Rows of cells that are read one after another.
-use Rattle.std.specs.Prelude.{◌≡◌, ◌≢◌, ℕ, ◌+◌, ◌*◌, ◌<◌, ◌≤◌, ℤ, List, ◌++◌, length, take, slice_set, Option, None, Some, Result, Ok, Err}
+use Rattle.std.specs.Prelude.{◌≡◌, ◌≢◌, ℕ, ◌+◌, ◌*◌, ◌<◌, ◌≤◌, ℤ, List, ◌++◌, length, take, slice_set, Result, Ok, Err}
 use Rattle.std.specs.Int.{Width}
 use Rattle.jxlm_base.specs.Bits.{bytes_of, position_of}
 use Rattle.jxlm_base.specs.Decoding.{Meaning}
@@ -141,9 +141,10 @@ module _ {D X : Type 0} (c : PartCoding D) (to_int : X → ℤ) (store : List (G
       let r : Region = region_at (regions_of c) i in
       StandsAt state (setting_of c i) (take (y * r.width) (grid_of (store_meanings to_int store) r).cells ++ row)
 
-  -- the same; where rows are read at a leaf, the state is anywhere in channel i
+  -- the same; where rows are read at a leaf or from the row above, the state is anywhere in channel i
   abbrev pub StandsBy : Way → List ℤ → PredictorState X → Type 0
   StandsBy (way.Leaf l) row state = StandsIn c i state
+  StandsBy (way.Table t) row state = StandsIn c i state
   StandsBy (way.Cells t) row state = StandsInRow row state
 
   -- so it is, and the tree leads where rows are read, in so many steps; there is room for each channel

@@ -1,6 +1,6 @@
-use Rattle.std.proofs.Common.{◌≡◌, ◌∙◌, ap, sym, ℤ, ◌+ℤ◌, ◌-ℤ◌, ◌+◌, ◌-◌, ◌%◌, to_z, of_z, FitsSigned, rules, w32}
+use Rattle.std.proofs.Common.{◌≡◌, ◌∙◌, ap, ℤ, ◌+ℤ◌, ◌-ℤ◌, ◌+◌, ◌-◌, ◌%◌, to_z, of_z, FitsSigned, rules, w32}
 use Rattle.std.specs.Int.{int_wrap}
-use Rattle.std.proofs.lemmas.Int.{int_wrap-add_left, wraps}
+use Rattle.std.proofs.lemmas.Int.{wraps}
 use Rattle.jxlm_part.proofs.tables.property_9.Goals as goal
 
 -- the sum that the code computes
