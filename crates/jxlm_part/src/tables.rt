@@ -120,8 +120,8 @@ fn table_row<S: Sample, D: Decoder>(
     Ok(())
 }
 
-/// Reads row `y` of a region into `row`: each cell from the cluster that the table gives, over the clamped gradient. Each
-/// read takes one step.
+/// Reads row `y` of a region into `row`: each cell from the cluster that the table gives, over the clamped gradient.
+/// Each read takes one step.
 ///
 /// # Errors
 ///
