@@ -14,5 +14,7 @@ pub mod pictures;
 mod plain;
 #[cfg(test)]
 mod samples;
+pub mod seed;
 pub mod text;
 pub mod ways;
+pub mod writer;

@@ -10,6 +10,8 @@ mod follow;
 #[cfg(test)]
 mod generated;
 #[cfg(test)]
+mod generated_narrow;
+#[cfg(test)]
 mod nested;
 #[cfg(test)]
 mod nested_narrow;

@@ -6,6 +6,8 @@ pub mod bytewise;
 #[cfg(test)]
 mod calls;
 #[cfg(test)]
+mod drawn;
+#[cfg(test)]
 mod earlier;
 #[cfg(test)]
 mod generated;
@@ -18,6 +20,8 @@ mod outcome;
 #[cfg(test)]
 mod parts;
 #[cfg(test)]
+mod paths;
+#[cfg(test)]
 mod pictures;
 #[cfg(test)]
 mod prefixes;
@@ -29,3 +33,5 @@ mod surface;
 mod table;
 #[cfg(test)]
 mod transformed;
+#[cfg(test)]
+mod tree_bits;

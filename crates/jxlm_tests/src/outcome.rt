@@ -6,7 +6,7 @@ use jxl_modular::decoder::Decoder;
 use jxl_modular::error::Error;
 use jxl_modular::flat::Steps;
 use jxl_modular::image::ModularImageDestination;
-use jxl_modular::{Modular, ModularChannelParams, ModularParams, Sample, decode_picture};
+use jxl_modular::{MaConfig, Modular, ModularChannelParams, ModularParams, Sample, decode_picture};
 use std::alloc::Global;
 use std::process::Abort;
 use std::test::Fail;
@@ -70,17 +70,14 @@ fn finished<S: Sample, D: Decoder>(
     Ok((answer.err(), whole))
 }
 
-/// Reads, decodes and finishes a picture of this bit depth and these channels, each by its own call; samples that end
-/// early may be allowed.
-pub fn by_calls<S: Sample, D: Decoder>(
+// Reads, decodes and finishes a picture, each by its own call.
+fn read_by_calls<S: Sample, D: Decoder>(
     rt: &impl Abort,
     alloc: Global,
     bytes: &[u8],
-    depth: u32,
-    channels: &[ModularChannelParams],
+    params: ModularParams<'_, D>,
     allow_partial: bool,
 ) -> Result<Outcome, Fail> {
-    let params = params::<D>(alloc, depth, channels)?;
     assert!(rt; params.is_valid());
     let mut bits = Bitstream::new(bytes);
     let mut outcome = Outcome {
@@ -106,6 +103,33 @@ pub fn by_calls<S: Sample, D: Decoder>(
     }
     outcome.position = bits.position();
     Ok(outcome)
+}
+
+/// Reads, decodes and finishes a picture of this bit depth and these channels, each by its own call; samples that end
+/// early may be allowed.
+pub fn by_calls<S: Sample, D: Decoder>(
+    rt: &impl Abort,
+    alloc: Global,
+    bytes: &[u8],
+    depth: u32,
+    channels: &[ModularChannelParams],
+    allow_partial: bool,
+) -> Result<Outcome, Fail> {
+    let params = params::<D>(alloc, depth, channels)?;
+    read_by_calls::<S, D>(rt, alloc, bytes, params, allow_partial)
+}
+
+/// The same of 8 bits with a global tree.
+pub fn with_tree<S: Sample, D: Decoder>(
+    rt: &impl Abort,
+    alloc: Global,
+    bytes: &[u8],
+    channels: Vec<ModularChannelParams>,
+    tree: &MaConfig<D>,
+    allow_partial: bool,
+) -> Result<Outcome, Fail> {
+    let params = ModularParams::with_channels(256, 8, channels, Some(tree));
+    read_by_calls::<S, D>(rt, alloc, bytes, params, allow_partial)
 }
 
 /// A picture, read by one call.

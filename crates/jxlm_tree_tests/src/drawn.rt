@@ -3,6 +3,7 @@
 
 use crate::listing::{Node, read};
 use crate::told::Told;
+use jxlm_base_tests::seed::Seed;
 use jxlm_ma::flat::{FlatMaTree, Steps};
 use std::alloc::{AllocError, Global};
 use std::process::Abort;
@@ -194,49 +195,28 @@ fn spread_of_a_table(rt: HostRuntime) -> Result<(), Fail> {
     Ok(())
 }
 
-#[derive(Drop)]
-struct Seed {
-    number: u32,
+// A number: near others, small, or at an end.
+fn value(seed: &mut Seed, near: bool) -> i32 {
+    if near {
+        return seed.number(100, 40);
+    }
+    match seed.below(12) {
+        0 => i32::MAX,
+        1 => i32::MIN,
+        2 => i32::MAX - 1,
+        3 => i32::MIN + 1,
+        4 => seed.number(1000, 60),
+        5 => seed.number(-1000, 2000),
+        _ => seed.number(-5, 12),
+    }
 }
 
-impl Seed {
-    fn next(&mut self) -> u32 {
-        self.number = self.number.wrapping_mul(1664525).wrapping_add(1013904223);
-        self.number >> 16
+fn values(seed: &mut Seed, near: bool) -> [i32; 30] {
+    let mut values = [0; 30];
+    for at in &mut values {
+        *at = value(seed, near);
     }
-
-    fn below(&mut self, n: u32) -> u32 {
-        self.next().checked_rem(n).unwrap_or(0)
-    }
-
-    // A number from `least` on, one of n.
-    fn number(&mut self, least: i32, n: u32) -> i32 {
-        least.wrapping_add(self.below(n).cast_signed())
-    }
-
-    // A number: near others, small, or at an end.
-    fn value(&mut self, near: bool) -> i32 {
-        if near {
-            return self.number(100, 40);
-        }
-        match self.below(12) {
-            0 => i32::MAX,
-            1 => i32::MIN,
-            2 => i32::MAX - 1,
-            3 => i32::MIN + 1,
-            4 => self.number(1000, 60),
-            5 => self.number(-1000, 2000),
-            _ => self.number(-5, 12),
-        }
-    }
-
-    fn values(&mut self, near: bool) -> [i32; 30] {
-        let mut values = [0; 30];
-        for at in &mut values {
-            *at = self.value(near);
-        }
-        values
-    }
+    values
 }
 
 // How trees are drawn: which properties they test, one leaf in how many nodes, at most how many nodes, and whether
@@ -303,7 +283,7 @@ fn drawn(alloc: Global, seed: &mut Seed, manner: Manner) -> Result<Vec<Node>, Al
         } else {
             let (first, count) = manner.properties;
             let property = first.wrapping_add(seed.below(count));
-            nodes.push(cut(property, seed.value(manner.near), next as usize))?;
+            nodes.push(cut(property, value(seed, manner.near), next as usize))?;
             next = next.saturating_add(2);
         }
     }
@@ -353,24 +333,24 @@ fn check_drawn(
 ) -> Result<(), Fail> {
     let nodes = drawn(alloc, seed, manner)?;
     let place = Place {
-        channel: seed.value(manner.near),
-        stream: seed.value(manner.near),
+        channel: value(seed, manner.near),
+        stream: value(seed, manner.near),
         earlier: seed.below(4),
     };
     let flat = flat_of(alloc, &nodes, place)?;
     assert!(rt; flat.num_nodes() <= nodes.len());
     assert!(rt; flat.max_prev_channel_depth() <= place.earlier as usize);
-    check_walk(rt, &flat, &nodes, place, &seed.values(manner.near))?;
+    check_walk(rt, &flat, &nodes, place, &values(seed, manner.near))?;
     for node in &nodes {
-        let values = seed.values(manner.near);
-        check_cut(rt, &flat, &nodes, place, *node, values)?;
+        let drawn = values(seed, manner.near);
+        check_cut(rt, &flat, &nodes, place, *node, drawn)?;
     }
     Ok(())
 }
 
 #[test]
 fn two_thousand_trees(rt: HostRuntime) -> Result<(), Fail> {
-    let mut seed = Seed { number: 7 };
+    let mut seed = Seed::new(7);
     for _ in 0..334u32 {
         for manner in MANNERS {
             check_drawn(&rt, rt.alloc(), &mut seed, manner)?;

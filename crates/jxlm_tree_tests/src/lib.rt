@@ -5,6 +5,8 @@
 mod drawn;
 #[cfg(test)]
 mod listing;
+#[cfg(test)]
+mod path_rows;
 pub mod pictures;
 #[cfg(test)]
 mod place_rows;

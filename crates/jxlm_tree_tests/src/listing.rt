@@ -1,6 +1,7 @@
 //! Trees that tests make, as streams from which they are read.
 
 use jxlm_base::bits::Bitstream;
+use jxlm_base_tests::writer::Writer;
 use jxlm_ma::ma::{MaConfig, MaConfigParams};
 use jxlm_plain::plain::PlainDecoder;
 use std::alloc::{AllocError, Global};
@@ -18,38 +19,6 @@ pub enum Node {
         value: i32,
         left: usize,
     },
-}
-
-// Bits, the least significant of a byte first.
-#[derive(Drop)]
-struct Writer {
-    bytes: Vec<u8>,
-    held: u8,
-    count: u32,
-}
-
-impl Writer {
-    fn bit(&mut self, bit: bool) -> Result<(), AllocError> {
-        self.held = self.held / 2 + if bit { 128 } else { 0 };
-        self.count = self.count.wrapping_add(1);
-        if self.count % 8 == 0 {
-            self.bytes.push(self.held)?;
-        }
-        Ok(())
-    }
-
-    fn put(&mut self, value: u32, n: u32) -> Result<(), AllocError> {
-        for i in 0..n {
-            self.bit(value.wrapping_shr(i) % 2 == 1)?;
-        }
-        Ok(())
-    }
-
-    // A signed number, packed, as a token of 32 bits.
-    fn signed(&mut self, value: i32) -> Result<(), AllocError> {
-        let twice = value.cast_unsigned().wrapping_mul(2);
-        self.put(if value < 0 { !twice } else { twice }, 32)
-    }
 }
 
 // The decoder of a tree's nodes: numbers of 32 bits in contexts 0 and 3, of 8 bits in 1 and 2, and 0 in 4 and 5.
@@ -97,11 +66,7 @@ fn is_leaf(node: &Node) -> bool {
 
 /// The bytes of a tree's nodes, and of a decoder that has one cluster for all leaves.
 pub fn listed(alloc: Global, nodes: &[Node]) -> Result<Vec<u8>, AllocError> {
-    let mut writer = Writer {
-        bytes: Vec::new(alloc),
-        held: 0,
-        count: 0,
-    };
+    let mut writer = Writer::new(alloc);
     for (value, n) in DECODER {
         writer.put(value, n)?;
     }
@@ -112,8 +77,8 @@ pub fn listed(alloc: Global, nodes: &[Node]) -> Result<Vec<u8>, AllocError> {
     for _ in nodes.iter().filter(|node| is_leaf(node)) {
         writer.put(0, 4)?;
     }
-    writer.put(0, 14)?;
-    Ok(writer.bytes)
+    writer.put(0, 7)?;
+    writer.bytes()
 }
 
 /// The tree of these nodes.

@@ -1,0 +1,193 @@
+// What the samples of a channel are decoded by: each path by its name, with its leaf or its table.
+//
+// A row has the bits before the tree, the channel, the stream and how many earlier channels there are; the bytes; and
+// what is expected: the path's name, and the cluster, predictor, offset and multiplier of its leaf; or of a table the
+// property, what the leaves agree in, and the clusters at some values.
+//
+// Bytes and paths were written and computed by an independent program: leaves, cuts and clusters are few and small, and
+// each cluster is that of the leaf to which a plain walk of the tree leads.
+
+use crate::told::Told;
+use jxlm_base::bits::Bitstream;
+use jxlm_base_tests::text::{bytes, pair};
+use jxlm_ma::flat::{FlatMaTree, Leaf, Steps};
+use jxlm_ma::ma::{MaConfig, MaConfigParams};
+use jxlm_ma::paths::{ClusterTable, Path};
+use jxlm_plain::plain::PlainDecoder;
+use std::alloc::Global;
+use std::process::Abort;
+use std::test::Fail;
+
+// The seven paths: a constant, `Zero`, `Gradient`, `Gradient` in runs, a table, a table on property 9 for `Gradient`,
+// and a tree of two leaves.
+#[cfg(test)]
+const NAMES: &str = "\
+4 0 0 0|8200408004123a084061|constant 0 Zero 5 2
+21 0 0 0|6630000000000800c0a0500000|zero 0 Zero 0 1
+4 0 0 0|42000400040e05c02006|gradient 0 Gradient 0 1
+4 0 0 0|42000400040e0dc0408f01|runs 0 Gradient 0 1
+4 1 0 1|c24008cc581488802480448004000000000000000000000003211331881044041040c80e|clusters by 17 Zero 0 1: 3 3 3 2 2 1 \
+    1 0 0 0 0 0 0 0 0 0 0 0
+4 0 0 0|c28c0400000c08852a754aa150a81a28148290218481200000|gradient clusters by 9 Gradient 0 1: 4 4 4 4 4 4 3 3 1 1 0 \
+    0 0 0 0 0 0 0
+4 0 0 0|82400800040c02221010868315|tree";
+
+// What is beside them. One leaf: other predictors, `Gradient` with an offset or a multiplier; in runs `Zero`; and
+// `Gradient` with a constant. Two channels with a leaf each, and a channel that has a leaf where another has a table.
+// Tables: three ranges, and four of which one is empty; cuts as far apart as they may be, and one farther; with a
+// multiplier, an offset, on another property, for other predictors; leaves that differ in predictor, offset or
+// multiplier; an entry that leads to another test. Two tests with one leaf; and a tree that asks for the stream.
+#[cfg(test)]
+const BESIDE: &str = "\
+4 0 0 0|420004000004013000|tree
+4 0 0 0|820048000008860a8001|tree
+4 0 0 0|820008400004860ec000|tree
+4 0 0 0|820080400008861a8001|zero 0 Zero -3 3
+4 0 0 0|42000400000c25427028|gradient 1 Gradient 0 1
+4 0 0 0|824008000004860a05840101|zero 1 Zero 0 1
+4 1 0 1|824008000004860a05840101|runs 0 Gradient 0 1
+4 4294967295 0 9|824008000004860a05840101|zero 1 Zero 0 1
+4 0 0 0|c24008cc581488802480448004000000000000000000000003211331881044041040c80e|zero 3 Zero 0 1
+4 0 0 0|82880400000c0865a81214ca400840403000|tree
+4 0 0 0|82880400000c0825a83254050a65206400028201|tree
+4 0 0 0|c28c0400000c088bf21faa0c802a00a0d006420620201800|gradient clusters by 9 Gradient 0 1: 3 3 3 2 2 2 2 2 2 1 1 1 \
+    1 1 1 1 0 0
+4 0 0 0|c28c0400000c088bfa1faa0c802a00a0d006420620201800|tree
+4 0 0 0|c2cc08400004068432b41ab402343403210310100c|clusters by 9 Gradient 0 2: 3 3 3 2 2 2 1 1 1 0 0 0 0 0 0 0 0 0
+4 0 0 0|c2cc48000004068432b41ab402343403210310100c|clusters by 9 Gradient -1 1: 3 3 3 2 2 2 1 1 1 0 0 0 0 0 0 0 0 0
+4 0 0 0|82880400000c8864681a34010a65206400028201|clusters by 8 Gradient 0 1: 3 3 3 2 2 2 1 1 1 0 0 0 0 0 0 0 0 0
+4 0 0 0|8288040000040865a806152064206400028201|clusters by 9 West 0 1: 3 3 3 2 2 2 1 1 1 0 0 0 0 0 0 0 0 0
+4 0 0 0|020dc904000806840232300e0d1887008c03e3cc000840403000|clusters by 15 SelfCorrecting 4 8: 2 2 2 0 0 0 0 0 0 3 3 \
+    3 3 3 3 3 3 3
+4 0 0 0|82880400000c0865a81a54010265206400028201|tree
+4 0 0 0|824840000008881936180019081980806000|tree
+4 0 0 0|c28c0040000404c48c0d03c840c800040403|tree
+4 0 0 0|82880400000c0865a81a54019a00853210320310100c|tree
+4 0 0 0|8240080000088629650000028201|tree
+4 0 5 0|c2c80400000c088540c21100888182021000006000226400028201|clusters by 3 Zero 0 1: 3 3 3 2 2 2 1 1 1 0 0 0 0 0 0 \
+    0 0 0
+4 0 4294967295 0|c2c80400000c088540c21100888182021000006000226400028201|gradient 1 Gradient 0 1
+4 3 0 3|c2c80400000c088540c21100888182021000006000226400028201|tree";
+
+// The values at which a table is asked.
+const VALUES: [i32; 18] = [
+    i32::MIN,
+    -1,
+    0,
+    1,
+    2,
+    3,
+    4,
+    5,
+    6,
+    7,
+    8,
+    9,
+    10,
+    11,
+    1021,
+    1022,
+    1023,
+    i32::MAX,
+];
+
+// What leaves agree in that differ in the cluster alone.
+fn rest_of(alloc: Global, leaf: &Leaf) -> Result<String, Fail> {
+    let (predictor, offset, multiplier) = (leaf.predictor, leaf.offset, leaf.multiplier);
+    Ok(format!(in alloc; "{predictor:?} {offset} {multiplier}")?)
+}
+
+fn by_leaf(alloc: Global, name: &str, leaf: &Leaf) -> Result<String, Fail> {
+    let (cluster, rest) = (leaf.cluster, rest_of(alloc, leaf)?);
+    Ok(format!(in alloc; "{name} {cluster} {rest}")?)
+}
+
+// The cluster of a table at a value; the leaf is that to which the tree leads, and each is found in one step.
+fn cluster_at(
+    rt: &impl Abort,
+    flat: &FlatMaTree,
+    table: &ClusterTable,
+    value: i32,
+) -> Result<u8, Fail> {
+    let mut values = [0; 30];
+    let place = table.property().saturating_sub(2) as usize;
+    *values.get_mut(place).ok_or("a property of no value")? = value;
+    let told = Told { values: &values };
+    let mut steps = Steps::new();
+    let leaf = *flat.leaf(&told, &mut steps);
+    assert!(rt; leaf == table.leaf_by(&told, &mut steps));
+    assert_eq!(rt; leaf.cluster, table.cluster(value, &mut steps));
+    Ok(leaf.cluster)
+}
+
+fn by_table(
+    rt: &impl Abort,
+    alloc: Global,
+    name: &str,
+    flat: &FlatMaTree,
+    table: &ClusterTable,
+) -> Result<String, Fail> {
+    let (property, rest) = (table.property(), rest_of(alloc, &table.leaf())?);
+    let mut text = format!(in alloc; "{name} by {property} {rest}:")?;
+    for value in VALUES {
+        write!(text, " {}", cluster_at(rt, flat, table, value)?)?;
+    }
+    Ok(text)
+}
+
+// A path in the words of a row.
+fn told(rt: &impl Abort, alloc: Global, flat: &FlatMaTree, path: Path<'_>) -> Result<String, Fail> {
+    match path {
+        Path::Constant(leaf) => by_leaf(alloc, "constant", &leaf),
+        Path::Zero(leaf) => by_leaf(alloc, "zero", &leaf),
+        Path::Gradient(leaf) => by_leaf(alloc, "gradient", &leaf),
+        Path::Runs(leaf) => by_leaf(alloc, "runs", &leaf),
+        Path::Clusters(table) => by_table(rt, alloc, "clusters", flat, table),
+        Path::GradientClusters(table) => by_table(rt, alloc, "gradient clusters", flat, table),
+        Path::Tree => Ok(format!(in alloc; "tree")?),
+    }
+}
+
+// The tree after n bits.
+fn tree_after(alloc: Global, bytes: &[u8], n: u32) -> Result<MaConfig<PlainDecoder>, Fail> {
+    let mut bits = Bitstream::new(bytes);
+    for _ in 0..n {
+        bits.read_bits(1)?;
+    }
+    let limits = MaConfigParams {
+        node_limit: 1 << 26,
+        depth_limit: 2048,
+    };
+    Ok(MaConfig::parse(alloc, &mut bits, limits)?)
+}
+
+// The bits before the tree, and the tree as a channel of a stream walks it that has so many earlier channels.
+fn place(text: &str) -> Result<(u32, [u32; 3]), Fail> {
+    let (before, rest) = pair(text, ' ')?;
+    let (channel, rest) = pair(rest, ' ')?;
+    let (stream, earlier) = pair(rest, ' ')?;
+    let place = [channel.parse()?, stream.parse()?, earlier.parse()?];
+    Ok((before.parse()?, place))
+}
+
+fn check_path(rt: &impl Abort, alloc: Global, row: &str) -> Result<(), Fail> {
+    let (words, rest) = pair(row, '|')?;
+    let (digits, expected) = pair(rest, '|')?;
+    let (before, [channel, stream, earlier]) = place(words)?;
+    let config = tree_after(alloc, &bytes(alloc, digits)?, before)?;
+    let flat = config.make_flat_tree(alloc, channel, stream, earlier)?;
+    let path = flat.path_of(config.decoder());
+    let seen = told(rt, alloc, &flat, path)?;
+    assert_eq!(rt; seen.as_str(), expected, "{row}");
+    Ok(())
+}
+
+#[test]
+fn names_of_paths(rt: HostRuntime) -> Result<(), Fail> {
+    for table in [NAMES, BESIDE] {
+        for row in table.lines() {
+            check_path(&rt, rt.alloc(), row)?;
+        }
+    }
+    Ok(())
+}
