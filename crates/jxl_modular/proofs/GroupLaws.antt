@@ -147,7 +147,7 @@ module _ {S D : Type 0} (d : Meaning D) (w : Width) (to_int : S → ℤ) (bytes 
       subst (λ (r : Result Bool Error). NestedGives d w to_int nought (image_of x) (passes_in x) global bytes p (section_part part) stream allow r (image_of x).store (image_of x).store (steps_of x part) (state_in progress part).steps) (sym is)
       (subst (λ (n : ℕ). NestedGives d w to_int nought (image_of x) (passes_in x) global bytes p (section_part part) stream allow (Err e) (image_of x).store (image_of x).store (steps_of x part) n)
       (sym (ap (λ (o : Option PartState). (or_new o).steps) same)) (
-        record { position = p; partial = false; tried = 0; cost = 0 },
+        record { position = p; partial = false; tried = 0; tree = (image_of x).config.tree },
         inl (record { fails = rw memory tt; unchanged = refl; tries = refl }),
         (omega arith, omega arith),
       ))

@@ -16,7 +16,7 @@ use Rattle.jxlm_part.specs.Part.{Part, cell_count}
 use Rattle.jxlm_part.specs.Placed.{PartLies, standing_in}
 use Rattle.jxlm_part.specs.declared.part.PlacedPart.{PlacedPart}
 use Rattle.jxlm_transform.specs.Channels.{Channel}
-use Rattle.jxlm_ma.specs.Tree.{depth}
+use Rattle.jxlm_ma.specs.Steps.{most_steps}
 use Rattle.jxl_modular.specs.Inner.NestedCode.{CanFill, Decodes, DecodesTo, Fills, FillsIn, WithSteps, nested_channels, regions_in, with_own_tables}
 use Rattle.jxl_modular.specs.Nested.{Turn}
 use Rattle.jxl_modular.specs.declared.nested.NestedPart.{NestedPart}
@@ -67,10 +67,10 @@ module _ {S D : Type 0} (d : Meaning D) (w : Width) (to_int : S → ℤ) (bytes 
     abbrev Gives : Result (Unit {0}) Error → Type 0
     Gives r =
         (tried : ℕ) × DecodeGives d w part bytes n.config.decoder (standing_in to_int rs old p begins) (standing_in to_int rs now q still) partly r tried
-        × MovesWithin before after (tried * (depth n.config.tree + 1))
+        × MovesWithin before after (tried * most_steps n.config.tree)
 
     abbrev turn_with : ℕ → Turn
-    turn_with tried = record { position = q; partial = still; tried = tried; cost = depth n.config.tree + 1 }
+    turn_with tried = record { position = q; partial = still; tried = tried; tree = n.config.tree }
 
     decodes_of : (r : Result (Unit {0}) Error) (gives : Gives r) → Decodes d w to_int bytes stream p n partly r (turn_with gives.0) old now
     decodes_of r gives =
@@ -78,7 +78,7 @@ module _ {S D : Type 0} (d : Meaning D) (w : Width) (to_int : S → ℤ) (bytes 
         record {
           answers = rw (channels, regions, as_test begins (cell_count (nested_channels n)) own) at gives.1;
           outside = subst (λ (rs : List Region). KeepsOutside rs old now) regions outside;
-          costs = refl;
+          tree = refl;
         }
 
     pub decoded_ok : Gives (Ok tt) → Decoded (Ok (not still)) old now
@@ -102,4 +102,4 @@ module _ {S D : Type 0} (d : Meaning D) (w : Width) (to_int : S → ℤ) (bytes 
 
     -- out of memory for its tables
     pub no_tables : (e : Error) → kind_of e ≡ NoMemory → new ≡ old → after ≡ before → FilledIn zero bit_depth (Err e) old new
-    no_tables e memory same steps = (record { position = p; partial = partly; tried = 0; cost = 0 }, inl (memory, same, refl), (omega (arith, steps), omega (arith, steps)))
+    no_tables e memory same steps = (record { position = p; partial = partly; tried = 0; tree = n.config.tree }, inl (memory, same, refl), (omega (arith, steps), omega (arith, steps)))

@@ -79,7 +79,7 @@ module _ {S D : Type 0} (x : Image S D) (laid : IsLaidOut x) (passes : List Pass
         UnlessMemory (kind_of e) (IsErrorAt (opened global bytes (nested_list its_channels) p) (kind_of e) q ⊎ IsTreeErrorAt d global bytes (nested_list its_channels) p (kind_of e) q) →
         Gives (Err e) x.store n n
     not_begun e q n fails = (
-      record { position = q; partial = false; tried = 0; cost = 0 },
+      record { position = q; partial = false; tried = 0; tree = x.config.tree },
       inl (record { fails = fails; unchanged = refl; tries = refl }),
       (omega arith, omega arith),
     )

@@ -199,7 +199,7 @@ module _ {S D : Type 0} (d : Meaning D) (w : Width) (to_int : S → ℤ) (zero :
   decodes partly result t now h = record {
     answers = subst (λ (rs : List Region). Answers partly result t now rs begun) regions_are (subst (λ (store : List (Grid S)). Answers partly result t now (regions_in n) store) tables_are h.answers);
     outside = subst (λ (rs : List Region). KeepsOutside rs begun now) regions_are (subst (λ (store : List (Grid S)). KeepsOutside (regions_in n) store now) tables_are h.outside);
-    costs = h.costs;
+    tree = h.tree;
   }
 
   -- Decoded and undone, the part has the only image of its samples.

@@ -1,7 +1,8 @@
 -- The first coded channels of an image, as a part.
-use Rattle.std.proofs.Common.{◌≡◌, ◌↔◌, ℕ, ◌*◌, ◌<◌, List, ◌++◌, length, take, drop, Bool, true, false, Result, refl, sym, ap, ◌∙◌, subst, arith, ℤ}
+use Rattle.std.proofs.Common.{◌≡◌, ◌↔◌, ℕ, ◌+◌, ◌*◌, ◌<◌, List, ◌++◌, length, take, drop, Bool, true, false, Result, refl, sym, ap, ◌∙◌, subst, arith, ℤ}
 use Rattle.std.specs.Prelude.{nat_lt, IsTrue}
 use Rattle.std.proofs.lemmas.Bool.{lt-ltb, ltb-true}
+use Rattle.std.proofs.Math.Nat.{mul-le-mul_left}
 use Rattle.std.proofs.Math.Seq.{take-append_seam}
 use Rattle.std.proofs.lemmas.List.{length-take, take_all}
 use Rattle.std.proofs.lemmas.List.Elements.{All-take}
@@ -12,8 +13,10 @@ use Rattle.jxlm_base.specs.declared.error.Error.{Error}
 use Rattle.jxlm_base.specs.declared.subgrid.Region.{Region}
 use Rattle.jxlm_chain.proofs.ListsApart.{pairs_take, zip_take}
 use Rattle.jxlm_transform.specs.Channels.{Channel, IsNarrow}
-use Rattle.jxlm_ma.specs.Tree.{Shape}
+use Rattle.jxlm_ma.specs.Steps.{most_steps}
+use Rattle.jxlm_ma.specs.Tree.{Shape, depth}
 use Rattle.jxlm_ma.specs.declared.flat.Leaf.{Leaf}
+use Rattle.jxlm_ma.proofs.FewSteps.{no_more_steps}
 use Rattle.jxlm_tree.specs.declared.predictor.WpHeader.{WpHeader}
 use Rattle.jxlm_part.specs.Decode.{DecodeGives, MovesWithin}
 use Rattle.jxlm_part.specs.Part.{Part}
@@ -38,6 +41,12 @@ as_test false n h = no (nat_lt 0 n) refl where
   no : (c : Bool) → nat_lt 0 n ≡ c → false ≡ c
   no true e = h.1 (ltb-true 0 n e)
   no false e = refl
+
+-- for each sample no more steps than the tree is deep, and one more
+pub by_depth : (before after tried : ℕ) (t : Shape Leaf) → MovesWithin before after (tried * most_steps t) → MovesWithin before after (tried * (depth t + 1))
+by_depth before after tried t (more, few) =
+    let most = mul-le-mul_left tried (no_more_steps t) in
+    (more, omega (arith, few, most))
 
 abbrev part_with : List Channel → WpHeader → Shape Leaf → ℕ → Part
 part_with channels weights tree stream = record { channels = channels; weights = weights; tree = tree; stream = stream }
@@ -79,5 +88,5 @@ module _ {S D : Type 0} (d : Meaning D) (w : Width) (to_int : S → ℤ) (bytes 
         (ap (λ k. front_part k old stream) is ∙ all_is_whole old laid stream)
         (subst (λ (rs : List Region). DecodeGives d w (front_part n old stream) bytes old.config.decoder (standing_in to_int rs old.store p partial) (standing_in to_int rs new.store q still) allow result h.0)
         (ap (λ k. front_regions k old) is ∙ all_regions old laid) h.1),
-    h.2,
+    by_depth before after h.0 old.config.tree h.2,
   )

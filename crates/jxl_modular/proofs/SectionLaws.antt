@@ -34,7 +34,7 @@ use Rattle.jxl_modular.specs.Groups.{channels_in, held_in, pieces_of}
 use Rattle.jxl_modular.specs.Image.{Image, coded_list}
 use Rattle.jxl_modular.specs.Inner.Laid.{IsLaidOut}
 use Rattle.jxl_modular.specs.Nested.{nested_regions}
-use Rattle.jxlm_ma.specs.Tree.{Config}
+use Rattle.jxlm_ma.specs.Tree.{Config, depth}
 use Rattle.jxl_modular.specs.Sections.{AllTurn, AllWhole, AreDecoded, AreUnlike, CodesNested, CodesPart, CodesPlain, IsNone, NestedOk, PlainTurn, Section, SectionsFit, SectionsLeave, Turn, Turned, most}
 use Rattle.jxl_modular.proofs.Laid.{coded_apart, coded_lie, coded_sizes}
 
@@ -134,7 +134,7 @@ module _ {S D : Type 0} (d : Meaning D) (w : Width) (to_int : S → ℤ) (zero :
         end = t.position;
         coded = whole.coded;
         sizes = whole.fits;
-        costs = ap (λ n. n * t.cost) whole.tries ∙ ap (λ n. cell_count (channels_in x passes s.part) * n) h.costs;
+        costs = ap (λ n. n * (depth t.tree + 1)) whole.tries ∙ ap (λ tree. cell_count (channels_in x passes s.part) * (depth tree + 1)) h.tree;
       }
 
   whole_nested : (partly : Bool) (s : Section) (t : Turn) (old new : List (Grid S)) → t.partial ≡ false → NestedOk d w to_int zero x passes global partly s t old new →
@@ -151,7 +151,7 @@ module _ {S D : Type 0} (d : Meaning D) (w : Width) (to_int : S → ℤ) (zero :
         coded = whole.coded;
         sizes = whole.fits;
         only = h.only;
-        costs = ap (λ n. n * t.cost) whole.tries ∙ ap (λ n. cell_count h.start.head.coded.list.channels * n) h.decoded.costs;
+        costs = ap (λ n. n * (depth t.tree + 1)) whole.tries ∙ ap (λ tree. cell_count h.start.head.coded.list.channels * (depth tree + 1)) h.decoded.tree;
       }
 
   whole_turn : (partly : Bool) (s : Section) (t : Turn) (old new : List (Grid S)) → t.partial ≡ false → Turned d w to_int zero x passes global partly s t old new → Codes s (stand s.part new) (most t)

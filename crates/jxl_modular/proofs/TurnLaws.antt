@@ -17,13 +17,14 @@ use Rattle.jxlm_cut.specs.declared.pass.Pass.{Pass}
 use Rattle.jxlm_part.specs.Decode.{MovesWithin}
 use Rattle.jxlm_part.specs.Part.{cell_count}
 use Rattle.jxlm_ma.specs.Tree.{Config}
-use Rattle.jxl_modular.specs.Image.{Image, IsOnlyImage, coded_grids, cost_of, image_grids}
+use Rattle.jxl_modular.specs.Image.{Image, IsOnlyImage, coded_grids, image_grids}
 use Rattle.jxl_modular.specs.Inner.Turns.{HasStopped, HasTurned, PlainGives, TurnGives}
 use Rattle.jxl_modular.specs.SameButCells.{SameButCells}
 use Rattle.jxl_modular.proofs.Filling.{only_of}
 use Rattle.jxl_modular.proofs.Laid.{same_but_store}
-use Rattle.jxl_modular.proofs.PartLaws.{as_test}
+use Rattle.jxl_modular.proofs.PartLaws.{as_test, by_depth}
 use Rattle.jxl_modular.specs.Groups.{PartOfGives, channels_in, held_in}
+use Rattle.jxl_modular.specs.NestedTurns.{NestedGives}
 use Rattle.jxl_modular.specs.Sections.{AllTurn, AllWhole, EndsAt, IsComplete, PlainTurn, Section, SectionsLeave, SectionsStop, Turn, TurnFails, Turned, most}
 
 -- ---- images that differ in cells alone
@@ -102,20 +103,20 @@ module _ {S D : Type 0} (d : Meaning D) (w : Width) (to_int : S → ℤ) (x : Im
   Gives r = PartOfGives d w to_int (bytes_of s.bits) s.stream_index passes s.part x (position_of s.bits) begins before new p still after partly r
 
   abbrev turn_with : ℕ → Turn
-  turn_with tried = record { position = p; partial = still; tried = tried; cost = cost_of x }
+  turn_with tried = record { position = p; partial = still; tried = tried; tree = x.config.tree }
 
   turn_of : (r : Result (Unit {0}) Error) (gives : Gives r) → PlainTurn d w to_int x passes partly s r (turn_with gives.0) x.store new.store
   turn_of r gives = record {
     answers = rw (as_test begins (cell_count (channels_in x passes s.part)) there) at gives.1;
     outside = outside;
-    costs = refl;
+    tree = refl;
   }
 
   pub plain_ok : Gives (Ok tt) → PlainGives d w to_int x passes partly s (Ok (not still)) x.store new.store before after
-  plain_ok gives = (turn_with gives.0, (turn_of (Ok tt) gives, refl), gives.2)
+  plain_ok gives = (turn_with gives.0, (turn_of (Ok tt) gives, refl), by_depth before after gives.0 x.config.tree gives.2)
 
   pub plain_err : (e : Error) → Gives (Err e) → PlainGives d w to_int x passes partly s (Err e) x.store new.store before after
-  plain_err e gives = (turn_with gives.0, turn_of (Err e) gives, gives.2)
+  plain_err e gives = (turn_with gives.0, turn_of (Err e) gives, by_depth before after gives.0 x.config.tree gives.2)
 
 -- ---- one turn more
 
@@ -130,7 +131,7 @@ module _ {S D : Type 0} (d : Meaning D) (w : Width) (to_int : S → ℤ) (zero :
 
   plain_of_store : (store : List (Grid S)) (s : Section) (r : Result (Unit {0}) Error) (t : Turn) (old new : List (Grid S)) →
       PlainTurn d w to_int (record x { store = store }) passes partly s r t old new → PlainTurn d w to_int x passes partly s r t old new
-  plain_of_store store s r t old new h = record { answers = h.answers; outside = h.outside; costs = h.costs }
+  plain_of_store store s r t old new h = record { answers = h.answers; outside = h.outside; tree = h.tree }
 
   ok_of_image : (y : Image S D) (s : Section) (t : Turn) (old new : List (Grid S)) → SameButCells x y →
       Turned d w to_int zero y passes global partly s t old new → Turned d w to_int zero x passes global partly s t old new
@@ -143,6 +144,17 @@ module _ {S D : Type 0} (d : Meaning D) (w : Width) (to_int : S → ℤ) (zero :
   err_of_image y s e t old new same h =
       match_both s.nested (λ n. n) (plain_of_store y.store s (Err e) t old new)
       (subst (λ (z : Image S D). TurnFails d w to_int zero z passes global partly s e t old new) (sym (with_store x y same)) h)
+
+  -- a section with a header of its own: what decoding its part gives is its turn
+  match_true : {P : Type 0} (Q : Type 0) (b : Bool) → b ≡ true → P → MatchBool b P Q
+  match_true Q true is h = h
+  match_true Q false is h = absurd cc
+
+  pub nested_turn : (s : Section) (r : Result Bool Error) (old new : List (Grid S)) (before after : ℕ) → s.nested ≡ true →
+      NestedGives d w to_int zero x passes global (bytes_of s.bits) (position_of s.bits) s.part s.stream_index partly r old new before after →
+      TurnGives d w to_int zero x passes global partly s r old new before after
+  nested_turn s (Ok whole) old new before after is (t, turn, moves) = (t, (match_true _ s.nested is turn.0, turn.1), by_depth before after t.tried t.tree moves)
+  nested_turn s (Err e) old new before after is (t, turn, moves) = (t, match_true _ s.nested is turn, by_depth before after t.tried t.tree moves)
 
   left_next : (ss : List Section) (ts : List Turn) (s : Section) (t : Turn) (old between new : List (Grid S)) → Left ss ts old between →
       Turned d w to_int zero x passes global partly s t between new → Left (ss ++ s ∷ []) (ts ++ t ∷ []) old new
@@ -214,7 +226,7 @@ module _ {S D : Type 0} (d : Meaning D) (w : Width) (to_int : S → ℤ) (zero :
 
   -- a turn in which nothing is done
   abbrev no_turn : Turn
-  no_turn = record { position = 0; partial = false; tried = 0; cost = 0 }
+  no_turn = record { position = 0; partial = false; tried = 0; tree = x.config.tree }
 
   not_begun : (ss : List Section) (e : Error) (old : List (Grid S)) → kind_of e ≡ NoMemory → EndsAt d w to_int zero x passes global partly ss e no_turn old old
   not_begun [] e old memory = record { memory = memory; unchanged = refl; tries = refl }

@@ -12,7 +12,7 @@ use Rattle.jxlm_part.specs.Part.{Part}
 use Rattle.jxlm_transform.specs.Channels.{Channel, ChannelList}
 use Rattle.jxlm_transform.specs.ChannelSteps.{Step}
 use Rattle.jxlm_transform.specs.Steps.{tables_of}
-use Rattle.jxlm_ma.specs.Tree.{Config, depth}
+use Rattle.jxlm_ma.specs.Tree.{Config}
 use Rattle.jxl_modular.specs.Image.{Image}
 use Rattle.jxl_modular.specs.Picture.{coded_part}
 
@@ -47,10 +47,6 @@ module _ {S D : Type 0} where
   -- what is coded, read with this stream index
   abbrev pub part_of : Layer S D → ℕ → Part
   part_of l stream = coded_part stream l.head l.config
-
-  -- how many nodes of its tree a walk may look at
-  abbrev pub cost_of : Layer S D → ℕ
-  cost_of l = depth l.config.tree + 1
 
   -- the tables of headers around it
   abbrev pub outer_tables : Layer S D → List (Grid S)

@@ -19,23 +19,24 @@ use Rattle.jxlm_part.specs.Placed.{standing_in}
 use Rattle.jxlm_transform.specs.Channels.{ChannelList}
 use Rattle.jxlm_transform.specs.ChannelSteps.{Step}
 use Rattle.jxlm_transform.specs.Steps.{tables_of}
-use Rattle.jxlm_ma.specs.Tree.{Config, depth}
+use Rattle.jxlm_ma.specs.Tree.{Config, Shape, depth}
 use Rattle.jxlm_ma.specs.TreeReading.{IsOutOfMemory}
+use Rattle.jxlm_ma.specs.declared.flat.Leaf.{Leaf}
 use Rattle.jxl_modular.specs.Fresh.{zeros}
 use Rattle.jxl_modular.specs.Parsing.{IsStartAt, IsTreeErrorAt, opened}
 use Rattle.jxl_modular.specs.Picture.{coded_part}
 
 -- what the decoding of a part shows beside samples: where its reader is afterwards, whether samples are missing, for how
--- many samples a read was tried, and how many nodes of a tree each may take
+-- many samples a read was tried, and by which tree
 pub record Turn : Type 0 where
   pub position : ℕ
   pub partial : Bool
   pub tried : ℕ
-  pub cost : ℕ
+  pub tree : Shape Leaf
 
--- the maximum number of nodes that a turn may take
+-- the nodes of a turn: for each sample tried as many as the tree is deep, and one more
 abbrev pub most : Turn → ℕ
-most t = t.tried * t.cost
+most t = t.tried * (depth t.tree + 1)
 
 -- where the channels of a header within a part lie: in the part's regions of a store, and in tables after its buffers
 abbrev pub nested_regions : {S : Type 0} → List Region → List Step → List (Grid S) → List Region
@@ -60,7 +61,7 @@ module _ {S D : Type 0} (d : Meaning D) (w : Width) (to_int : S → ℤ) (zero :
         (standing_in to_int (nested_regions held s.head.coded.steps store) (with_tables zero s.head.coded.steps store) s.samples_at (nat_lt 0 (cell_count s.head.coded.list.channels)))
         (standing_in to_int (nested_regions held s.head.coded.steps store) now t.position t.partial) partly result t.tried
     pub outside : KeepsOutside (nested_regions held s.head.coded.steps store) (with_tables zero s.head.coded.steps store) now
-    pub costs : t.cost ≡ depth s.config.tree + 1
+    pub tree : t.tree ≡ s.config.tree
 
   -- Ok: its samples were decoded, and what the part has then is the only image that the transforms turn into them.
   pub record NestedTurn (partly : Bool) (t : Turn) (old new : List (Grid S)) : Type 0 where

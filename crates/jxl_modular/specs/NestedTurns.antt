@@ -1,6 +1,6 @@
 -- The turn of a part that has a header of its own, with transforms and a tree
 -- (ISO/IEC 18181-1, Modular: group sub-bitstreams).
-use Rattle.std.specs.Prelude.{◌≡◌, ℕ, ℤ, List, not, Bool, Option, Result, Ok, Err}
+use Rattle.std.specs.Prelude.{◌≡◌, ℕ, ◌*◌, ℤ, List, not, Bool, Option, Result, Ok, Err}
 use Rattle.std.specs.Int.{Width}
 use Rattle.jxlm_base.specs.Decoding.{Meaning}
 use Rattle.jxlm_base.specs.Grid.{Grid}
@@ -8,10 +8,11 @@ use Rattle.jxlm_base.specs.declared.error.Error.{Error}
 use Rattle.jxlm_cut.specs.declared.pass.Pass.{Pass}
 use Rattle.jxlm_cut.specs.declared.part.SectionPart.{SectionPart}
 use Rattle.jxlm_part.specs.Decode.{MovesWithin}
+use Rattle.jxlm_ma.specs.Steps.{most_steps}
 use Rattle.jxlm_ma.specs.Tree.{Config}
 use Rattle.jxl_modular.specs.Groups.{held_in}
 use Rattle.jxl_modular.specs.Image.{Image}
-use Rattle.jxl_modular.specs.Nested.{NestedFails, NestedTurn, Turn, most}
+use Rattle.jxl_modular.specs.Nested.{NestedFails, NestedTurn, Turn}
 use Rattle.jxl_modular.specs.Sections.{list_in}
 
 -- a part that begins at bit position p
@@ -26,6 +27,7 @@ module _ {S D : Type 0} (d : Meaning D) (w : Width) (to_int : S → ℤ) (zero :
       NestedFails d w to_int zero x.bit_depth global bytes p (list_in x passes part) (held_in x passes part) stream
       partly e t old new
 
-  -- and what it took of steps
+  -- and what it took of steps: for each sample whose read was tried, no more than `most_steps` of the tree
   abbrev pub NestedGives : Result Bool Error → List (Grid S) → List (Grid S) → ℕ → ℕ → Type 0
-  NestedGives result old new before after = (t : Turn) × NestedTurns result t old new × MovesWithin before after (most t)
+  NestedGives result old new before after =
+      (t : Turn) × NestedTurns result t old new × MovesWithin before after (t.tried * most_steps t.tree)

@@ -6,20 +6,21 @@ use Rattle.jxlm_base.specs.Decoding.{Meaning}
 use Rattle.jxlm_base.specs.declared.error.Error.{Error}
 use Rattle.jxlm_base.specs.declared.subgrid.Region.{Region}
 use Rattle.jxlm_transform.specs.Channels.{Channel}
+use Rattle.jxlm_ma.specs.Steps.{most_steps}
 use Rattle.jxlm_part.specs.Decode.{DecodeGives, MovesWithin}
 use Rattle.jxlm_part.specs.Part.{Part, cell_count}
 use Rattle.jxlm_part.specs.Placed.{standing_in}
-use Rattle.jxl_modular.specs.Image.{Image, cost_of, front_channels, front_part, front_regions}
+use Rattle.jxl_modular.specs.Image.{Image, front_channels, front_part, front_regions}
 use Rattle.jxl_modular.specs.declared.image.TransformedModularSubimage.{TransformedModularSubimage}
 
 -- What decoding a part of an image returns, whose channels lie in these regions, with what is before and after: the
 -- image, the reader's position, whether samples are still to be decoded, and the steps. For each sample whose read was
--- tried, at most as many nodes were looked at as the tree is deep, and one more.
+-- tried, no more nodes were looked at than `most_steps` of the tree.
 abbrev pub HeldGives : {S D : Type 0} → Meaning D → Width → (S → ℤ) → List ℕ → Part → List Region → Image S D → ℕ → Bool → ℕ → Image S D → ℕ → Bool → ℕ → Bool → Result (Unit {0}) Error → Type 0
 HeldGives d w to_int bytes part regions old p partial before new q still after allow result =
     (tried : ℕ) × DecodeGives d w part bytes old.config.decoder
     (standing_in to_int regions old.store p partial) (standing_in to_int regions new.store q still) allow result tried
-    × MovesWithin before after (tried * cost_of old)
+    × MovesWithin before after (tried * most_steps old.config.tree)
 
 -- the same of its first n coded channels
 abbrev pub FrontGives : {S D : Type 0} → Meaning D → Width → (S → ℤ) → List ℕ → ℕ → ℕ → Image S D → ℕ → Bool → ℕ → Image S D → ℕ → Bool → ℕ → Bool → Result (Unit {0}) Error → Type 0

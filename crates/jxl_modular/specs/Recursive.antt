@@ -16,9 +16,10 @@ use Rattle.jxlm_part.specs.Decode.{DecodeGives, MovesWithin}
 use Rattle.jxlm_part.specs.Part.{cell_count}
 use Rattle.jxlm_part.specs.Placed.{standing_in}
 use Rattle.jxlm_transform.specs.Channels.{Channel}
+use Rattle.jxlm_ma.specs.Steps.{most_steps}
 use Rattle.jxlm_ma.specs.Tree.{Config}
 use Rattle.jxl_modular.specs.Image.{Image}
-use Rattle.jxl_modular.specs.Layers.{IsOnlyPart, Layer, SameButTables, coded_channels, coded_grids, cost_of, list_within, outer_tables, part_of, store_of, transforms_of}
+use Rattle.jxl_modular.specs.Layers.{IsOnlyPart, Layer, SameButTables, coded_channels, coded_grids, list_within, outer_tables, part_of, store_of, transforms_of}
 use Rattle.jxl_modular.specs.Nested.{nested_regions, with_tables}
 use Rattle.jxl_modular.specs.Parsing.{IsStartAt, IsTreeErrorAt, opened}
 use Rattle.jxl_modular.specs.SameButCells.{SameButIn}
@@ -49,7 +50,7 @@ module _ {S D : Type 0} (d : Meaning D) (w : Width) (to_int : S → ℤ) where
   LayerGives bytes stream l old p partial before m new q still after allow result =
       (tried : ℕ) × DecodeGives d w (part_of l stream) bytes l.config.decoder
       (standing_in to_int l.coded (store_of l old) p partial) (standing_in to_int l.coded (store_of m new) q still) allow result tried
-      × MovesWithin before after (tried * cost_of l)
+      × MovesWithin before after (tried * most_steps l.config.tree)
 
 -- only samples of the part, and cells of its own tables, may differ
 pub record SameButPart {S D : Type 0} (l m : Layer S D) (old new : Image S D) : Type 0 where

@@ -85,7 +85,7 @@ module _ {S D : Type 0} (d : Meaning D) (w : Width) (to_int : S → ℤ) (x : Im
         (nat_lt 0 (cell_count (channels_in x passes s.part))))
         (standing_in to_int (held_in x passes s.part) new t.position t.partial) partly result t.tried
     pub outside : KeepsOutside (held_in x passes s.part) old new
-    pub costs : t.cost ≡ cost_of x
+    pub tree : t.tree ≡ x.config.tree
 
 -- all that is decoded: with it which sample is 0, and the global tree, where there is one
 module _ {S D : Type 0} (d : Meaning D) (w : Width) (to_int : S → ℤ) (zero : S) (x : Image S D) (passes : List Pass)

@@ -257,8 +257,8 @@ impl<'dest, S: Sample, D: Decoder> TransformedGlobalModular<'dest, S, D> {
         !self.is_empty(part) && self.progress.is_partial(part)
     }
 
-    /// How many nodes of trees were looked at by the decodes of the part, as contracts see it: 0 at first, and each
-    /// `decode` moves it by at most the tree's depth and one more for each sample whose read it tried.
+    /// How many nodes of trees were looked at by the decodes of the part, as contracts see it: 0 at first, and
+    /// [`decode`](Self::decode) and [`decode_nested`](Self::decode_nested) say how far each moves it.
     pub fn steps(&self, part: Part) -> &Steps
         ensures { result.now ≡ steps_of self.now part }
     {
@@ -276,6 +276,12 @@ impl<'dest, S: Sample, D: Decoder> TransformedGlobalModular<'dest, S, D> {
     /// All memory is taken before the first bit is read: a note of the part at its first decode, the part's channels, a
     /// clone of the decoder, a tree for each of the channels, which shares its nodes, and room for two rows of the
     /// maximum width.
+    ///
+    /// # Steps
+    ///
+    /// For each sample whose read was tried, [`steps`](Self::steps) goes on by no step where the tree is one leaf that
+    /// predicts by `Zero`, or by `Gradient` with nothing added and multiplier 1; by at most one where a table of
+    /// clusters serves; and else by at most the tree's depth and one more.
     ///
     /// # Errors
     ///
@@ -380,6 +386,11 @@ impl<'dest, S: Sample, D: Decoder> TransformedGlobalModular<'dest, S, D> {
     ///
     /// A note of the part at its first decode, what reading an image takes but the channels' grids, what a part's
     /// `decode` takes, and what `finish` takes.
+    ///
+    /// # Steps
+    ///
+    /// As of [`decode`](Self::decode), by the tree of the header, for each sample of the header's channels whose read
+    /// was tried.
     ///
     /// # Errors
     ///

@@ -11,7 +11,7 @@ ghost use Rattle.jxlm_chain.specs.Undoings.{undos_of};
 ghost use Rattle.jxlm_part.specs.Decode.{DecodeGives, MovesWithin};
 ghost use Rattle.jxlm_part.specs.Part.{cell_count};
 ghost use Rattle.jxlm_part.specs.Placed.{standing_in};
-ghost use Rattle.jxlm_ma.specs.Tree.{depth};
+ghost use Rattle.jxlm_ma.specs.Steps.{most_steps};
 ghost use Rattle.jxl_modular.specs.Inner.NestedCode.{CanFill, head_of, nested_channels, regions_in};
 ghost use Rattle.jxl_modular.specs.Layers.{StandsIn};
 ghost use Rattle.jxl_modular.specs.Picture.{coded_part};
@@ -69,7 +69,7 @@ impl<D: Decoder> NestedPart<D> {
             (coded_part stream_index (head_of self.now) self.now.config) (bytes_of bits.old) self.now.config.decoder
             (standing_in S.to_int (regions_in self.now) store.old (position_of bits.old) partial.old)
             (standing_in S.to_int (regions_in self.now) store.new (position_of bits.new) partial.new)
-            allow_partial result tried × MovesWithin steps.old steps.new (tried * (depth self.now.config.tree + 1)) }
+            allow_partial result tried × MovesWithin steps.old steps.new (tried * most_steps self.now.config.tree) }
         ensures keeps { KeepsOutside (regions_in self.now) store.old store.new }
         ensures bytes { bytes_of bits.new ≡ bytes_of bits.old }
     {
@@ -103,7 +103,7 @@ impl<D: Decoder> NestedPart<D> {
             partial.old)
             (standing_in S.to_int (regions_in self.now) (store.new.items ++ tables.new.items) (position_of bits.new)
             partial.new)
-            allow_partial result tried × MovesWithin steps.old steps.new (tried * (depth self.now.config.tree + 1)) }
+            allow_partial result tried × MovesWithin steps.old steps.new (tried * most_steps self.now.config.tree) }
         ensures empty { cell_count (nested_channels self.now) ≡ 0 → IsOk result }
         ensures keeps { KeepsOutside (regions_in self.now) (store.old.items ++ tables.old.items)
             (store.new.items ++ tables.new.items) }
@@ -309,8 +309,8 @@ impl<'dest, S: Sample, D: Decoder> NestedSubimage<'dest, S, D> {
         self.partial
     }
 
-    /// How many nodes of trees were looked at by its decodes, as contracts see it: 0 at first, and each `decode` moves
-    /// it by at most the tree's depth and one more for each sample whose read it tried.
+    /// How many nodes of trees were looked at by its decodes, as contracts see it: 0 at first, and
+    /// [`decode`](Self::decode) says how far each moves it.
     pub fn steps(&self) -> &Steps
         ensures { result.now ≡ steps_of self.now }
     {
@@ -335,6 +335,12 @@ impl<'dest, S: Sample, D: Decoder> NestedSubimage<'dest, S, D> {
     ///
     /// All memory is taken before the first bit is read: what the `decode` of a part takes, and room for the header's
     /// tables in the image's list of buffers.
+    ///
+    /// # Steps
+    ///
+    /// For each sample whose read was tried, [`steps`](Self::steps) goes on by no step where the header's tree is one
+    /// leaf that predicts by `Zero`, or by `Gradient` with nothing added and multiplier 1; by at most one where a table
+    /// of clusters serves; and else by at most the tree's depth and one more.
     ///
     /// # Errors
     ///

@@ -1,5 +1,5 @@
 -- A part with a header of its own, as a program keeps it.
-use Rattle.std.specs.Prelude.{◌≡◌, ◌≤◌, ◌⊎◌, ℕ, ◌+◌, ℤ, List, ◌++◌, length, take, Bool, not, nat_lt, Option, Some, Result, Ok, Err}
+use Rattle.std.specs.Prelude.{◌≡◌, ◌≤◌, ◌⊎◌, ℕ, ◌*◌, ℤ, List, ◌++◌, length, take, Bool, not, nat_lt, Option, Some, Result, Ok, Err}
 use Rattle.std.specs.List.{All}
 use Rattle.std.specs.Int.{Width}
 use Rattle.jxlm_base.specs.Decoding.{Meaning}
@@ -20,10 +20,11 @@ use Rattle.jxlm_part.specs.Part.{cell_count}
 use Rattle.jxlm_part.specs.Placed.{standing_in}
 use Rattle.jxlm_transform.specs.Channels.{AreRegionsOf, Channel, ChannelList, IsNarrow}
 use Rattle.jxlm_tree.specs.SelfCorrecting.{IsHeader}
-use Rattle.jxlm_ma.specs.Tree.{Config, depth}
+use Rattle.jxlm_ma.specs.Steps.{most_steps}
+use Rattle.jxlm_ma.specs.Tree.{Config}
 use Rattle.jxl_modular.specs.Fresh.{zeros}
 use Rattle.jxl_modular.specs.Inner.Opened.{IsOpened, opened_of, steps_of_header}
-use Rattle.jxl_modular.specs.Nested.{Turn, most}
+use Rattle.jxl_modular.specs.Nested.{Turn}
 use Rattle.jxl_modular.specs.Parsing.{IsStartAt}
 use Rattle.jxl_modular.specs.Picture.{coded_part}
 use Rattle.jxl_modular.specs.declared.nested.NestedPart.{NestedPart}
@@ -77,7 +78,7 @@ module _ {S D : Type 0} (d : Meaning D) (w : Width) (to_int : S → ℤ) (bytes 
         (standing_in to_int (regions_in n) old p (nat_lt 0 (cell_count (nested_channels n))))
         (standing_in to_int (regions_in n) now t.position t.partial) partly result t.tried
     pub outside : KeepsOutside (regions_in n) old now
-    pub costs : t.cost ≡ depth n.config.tree + 1
+    pub tree : t.tree ≡ n.config.tree
 
   -- the same, and whether all samples were decoded
   abbrev pub DecodesTo : Result Bool Error → Turn → List (Grid S) → List (Grid S) → Type 0
@@ -100,4 +101,4 @@ module _ {S D : Type 0} (d : Meaning D) (w : Width) (to_int : S → ℤ) (bytes 
 
 -- what it took of steps
 abbrev pub WithSteps : (Turn → Type 0) → ℕ → ℕ → Type 0
-WithSteps P before after = (t : Turn) × P t × MovesWithin before after (most t)
+WithSteps P before after = (t : Turn) × P t × MovesWithin before after (t.tried * most_steps t.tree)
