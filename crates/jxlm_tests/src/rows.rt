@@ -128,6 +128,27 @@ const SEALED_CONSTANTS: &str = "\
 const CLUSTERS_BY_EARLIER: &str = "\
 4x1 4x1|c24008cc581488802480448004000000000000000000000003211331881044041040c80e|0 2 4 6 7 1 2 3 @284";
 
+// Pictures of one leaf and of a table, from here and from below, whose tree stands twice below a decision on the row,
+// so that it is walked: samples, errors, and how many bits are read after the tree are those of the picture with the
+// tree alone.
+const WALKED: &str = "\
+2x2|c288c004000404c4a0d1004061|1 1 1 1 @103
+4x1|663000910000001020030000c0a0500000|10 11 20 20 @131
+1x1 1x1 1x1|06009100000010200300000041a66000|102 103 92 @123
+2x2|c24c0800000806c5805200c02006|1 3 0 2 @112
+2x2|c24c0800000806c5805200c020|1 0 0 0 @103 entropy decoder error: unexpected end of input
+2x2|c24c0800000806c5805201c0702006|1 3 0 2 @120
+2x2|c24c0800000806c5805201c0802006|1 3 0 2 @120 entropy decoder error: invalid code 4
+2x2|c24c0800000806c580d200c0408f01|1 2 2 3 @113
+2x2|c24c0800000806c580d200c0408f|1 0 0 0 @104 entropy decoder error: unexpected end of input
+2x2|c24c0800000806c580d200c07000|0 0 0 0 @109
+3x1 3x1|82480800000886416900004170404004|2 4 6 2 4 3 @118
+3x2 3x2|82480800000886416900004170404004|2 4 6 4 6 5 -1 -2 -3 -2 -3 -4 @127
+2x2 2x2|82480800000886416900003150808002|-2 -4 -4 -6 1 -2 0 0 @127 entropy decoder error: unexpected end of input
+2x2|424000000008830010110000|1 1 1 1 @91
+2x2|424000000008830010110800|1 1 1 1 @91 entropy decoder error: invalid code 4
+4x1 4x1|8284000000108a01922449942051020000000000032103211331881044041040c80e|0 2 4 6 7 1 2 3 @268";
+
 // Two channels under the sample of the earlier one: above 2 a hundred more.
 const EARLIER: &str = "\
 2x1 2x1|0200000048241000000019000000000000000000900830000000|1 3 0 100 @206
@@ -238,7 +259,7 @@ const SQUEEZED: &str = "\
 4x1|66|bitstream error: unexpected end of input
 4x1||bitstream error: unexpected end of input";
 
-const ROWS: [&str; 15] = [
+const ROWS: [&str; 16] = [
     GRADIENT,
     CONSTANT,
     RUN,
@@ -250,6 +271,7 @@ const ROWS: [&str; 15] = [
     RUNS_ACROSS,
     SEALED_CONSTANTS,
     CLUSTERS_BY_EARLIER,
+    WALKED,
     MAX_ERROR,
     SELF_CORRECTING,
     COLOUR,
