@@ -16,6 +16,7 @@ ghost use Rattle.jxlm_tree.specs.declared.predictor.Predictor.TheVariants.{Zero}
 ghost use Rattle.jxlm_ma.specs.ShortTrees.{CutsWithin, MeetsOnce, Reaches, TestsOnly};
 ghost use Rattle.jxlm_ma.specs.Inner.FlatNodes.{IsSound, channels_of, node_channels, sees_error, slot};
 ghost use Rattle.jxlm_ma.specs.Inner.Compiled.{IsCompiledFor, ServesAnywhere};
+ghost use Rattle.jxlm_ma.specs.Inner.Pruned.{tests_place};
 ghost use Rattle.jxlm_ma.specs.Inner.Walking.{Ended, EndsAt};
 ghost use Rattle.jxlm_base.specs.ErrorKind.{NoMemory, kind_of};
 ghost use Rattle.jxlm_ma.specs.Inner.TreeShape.{shape_of};
@@ -254,6 +255,7 @@ impl CompiledTree {
         requires multipliers { AllLeaves HasMultiplier (shape_of tree.now.root) }
         requires few { node_count (shape_of tree.now.root) ≤ 2 ^ 26 }
         ensures serves { IfOk result (λ o. IfSome o (λ c. ServesAnywhere (shape_of tree.now.root) c.value)) }
+        ensures none { IfOk result (λ o. o ≡ None → tests_place (shape_of tree.now.root) ≡ true) }
         ensures err { IfErr result (λ e. kind_of e ≡ NoMemory) }
     {
         if tree.tests_place {
