@@ -209,100 +209,105 @@ mod tests {
         Ok(Command::parse(&words))
     }
 
-    fn decode(width: u32, height: u32, channels: u32, bit_depth: u32) -> Option<Command> {
-        Some(Command::Decode {
-            width,
-            height,
-            channels,
-            bit_depth,
-            samples: Samples::I32,
-        })
-    }
+    const DIGITS: &[(&str, u32)] = &[
+        ("0", 0),
+        ("7", 7),
+        ("007", 7),
+        ("00000000000000000000001", 1),
+        ("4294967295", 4294967295),
+    ];
+
+    const NO_NUMBERS: &[&str] = &[
+        "",
+        "+1",
+        "-1",
+        "1 ",
+        " 1",
+        "1x",
+        "0x1",
+        "4294967296",
+        "18446744073709551616",
+    ];
 
     #[test]
     fn numbers_are_decimal_digits(rt: HostRuntime) {
-        for (text, number) in [
-            ("0", 0),
-            ("7", 7),
-            ("007", 7),
-            ("00000000000000000000001", 1),
-            ("4294967295", 4294967295),
-        ] {
-            assert_eq!(rt; super::number(text), Some(number), "{text}");
+        for (text, value) in DIGITS {
+            assert_eq!(rt; number(text), Some(*value), "{text}");
         }
-        for text in [
-            "",
-            "+1",
-            "-1",
-            "1 ",
-            " 1",
-            "1x",
-            "0x1",
-            "4294967296",
-            "18446744073709551616",
-        ] {
-            assert_eq!(rt; super::number(text), None, "{text}");
+        for text in NO_NUMBERS {
+            assert_eq!(rt; number(text), None, "{text}");
         }
     }
 
+    const SMALL: Command = Command::Decode {
+        width: 4,
+        height: 1,
+        channels: 1,
+        bit_depth: 8,
+        samples: Samples::I16,
+    };
+
+    // Words for samples of 32 bits: the width, the height, how many channels, and the bit depth.
+    const TAKEN: &[(&str, [u32; 4])] = &[
+        ("decode 2 3 1 8 i32", [2, 3, 1, 8]),
+        ("decode 02 003 01 08 i32", [2, 3, 1, 8]),
+        ("decode 0 0 1 0 i32", [0, 0, 1, 0]),
+        (
+            "decode 1073741824 1073741824 1048576 32 i32",
+            [1 << 30, 1 << 30, 1 << 20, 32],
+        ),
+        (
+            "decode 4294967295 4294967295 0 32 i32",
+            [u32::MAX, u32::MAX, 0, 32],
+        ),
+    ];
+
+    const WRONG: &[&str] = &[
+        "",
+        "decode",
+        "decode 2 2 1 8",
+        "decode 2 2 1 8 i32 256",
+        "Decode 2 2 1 8 i32",
+        "encode 2 2 1 8 i32",
+        "sections 2 2 1 8 i32",
+        "sections 3 1 1 8 i32 1",
+        "sections 3 1 1 8 i32 3",
+        "sections 3 1 1 8 i32 2097152",
+        "decode  2 1 8 i32",
+        "decode 2 +2 1 8 i32",
+        "decode 2 2 -1 8 i32",
+        "decode 2 2 1 8 i64",
+        "decode 2 2 1 8 i8",
+        "decode 2 2 1 8 I32",
+        "decode 2 2 1 8 u32",
+        "decode 2 2 1 8 ",
+        "decode 2 2 1048577 8 i32",
+        "decode 1073741825 2 1 8 i32",
+        "decode 2 1073741825 1 8 i32",
+        "decode 2 2 1 33 i32",
+        "decode 2 2 0 33 i32",
+        "decode 4294967296 2 0 8 i32",
+    ];
+
     #[test]
-    fn samples_are_named(rt: HostRuntime) {
-        assert_eq!(rt; Samples::parse("i16"), Some(Samples::I16));
-        assert_eq!(rt; Samples::parse("i32"), Some(Samples::I32));
-        for word in ["", "i8", "I32", "i32 ", "u32"] {
-            assert_eq!(rt; Samples::parse(word), None, "{word}");
+    fn words_ask_for_commands(rt: HostRuntime) -> Result<(), Fail> {
+        for (line, numbers) in TAKEN {
+            let [width, height, channels, bit_depth] = *numbers;
+            let command = Command::Decode {
+                width,
+                height,
+                channels,
+                bit_depth,
+                samples: Samples::I32,
+            };
+            assert_eq!(rt; asked(&rt, line)?, Some(command), "{line}");
         }
-    }
-
-    #[test]
-    fn commands_within_the_limits_are_taken(rt: HostRuntime) -> Result<(), Fail> {
-        assert_eq!(rt; asked(&rt, "decode 2 3 1 8 i32")?, decode(2, 3, 1, 8));
-        assert_eq!(rt; asked(&rt, "decode 02 003 01 08 i32")?, decode(2, 3, 1, 8));
-        assert_eq!(rt; asked(&rt, "decode 0 0 1 0 i32")?, decode(0, 0, 1, 0));
-        let largest = "decode 1073741824 1073741824 1048576 32 i32";
-        assert_eq!(rt; asked(&rt, largest)?, decode(1 << 30, 1 << 30, 1 << 20, 32));
-        let no_channels = "decode 4294967295 4294967295 0 32 i32";
-        assert_eq!(rt; asked(&rt, no_channels)?, decode(u32::MAX, u32::MAX, 0, 32));
-        let small = Command::Decode {
-            width: 4,
-            height: 1,
-            channels: 1,
-            bit_depth: 8,
-            samples: Samples::I16,
-        };
-        assert_eq!(rt; asked(&rt, "decode 4 1 1 8 i16")?, Some(small));
-        assert_eq!(rt; small.channels(), 1);
-        Ok(())
-    }
-
-    #[test]
-    fn wrong_words_are_not_taken(rt: HostRuntime) -> Result<(), Fail> {
-        for line in [
-            "",
-            "decode",
-            "decode 2 2 1 8",
-            "decode 2 2 1 8 i32 256",
-            "Decode 2 2 1 8 i32",
-            "encode 2 2 1 8 i32",
-            "sections 2 2 1 8 i32",
-            "sections 3 1 1 8 i32 1",
-            "sections 3 1 1 8 i32 3",
-            "sections 3 1 1 8 i32 2097152",
-            "decode  2 1 8 i32",
-            "decode 2 +2 1 8 i32",
-            "decode 2 2 -1 8 i32",
-            "decode 2 2 1 8 i64",
-            "decode 2 2 1 8 ",
-            "decode 2 2 1048577 8 i32",
-            "decode 1073741825 2 1 8 i32",
-            "decode 2 1073741825 1 8 i32",
-            "decode 2 2 1 33 i32",
-            "decode 2 2 0 33 i32",
-            "decode 4294967296 2 0 8 i32",
-        ] {
+        for line in WRONG {
             assert_eq!(rt; asked(&rt, line)?, None, "{line}");
         }
-        assert_eq!(rt; Command::parse(&Vec::new(rt.alloc())), None);
+        assert_eq!(rt; asked(&rt, "decode 4 1 1 8 i16")?, Some(SMALL));
+        assert_eq!(rt; Command::parse(&[]), None);
+        assert_eq!(rt; SMALL.channels(), 1);
         Ok(())
     }
 }

@@ -57,6 +57,7 @@ fn append_row<S: Sample>(text: &mut String, row: &[S]) -> Result<(), OutOfMemory
 #[cfg(test)]
 mod tests {
     use super::*;
+    use std::process::Abort;
     use std::test::Fail;
 
     // The grid of these rows, which are as wide as the first; one of no rows is `width` wide.
@@ -77,52 +78,51 @@ mod tests {
         Ok(grid)
     }
 
+    // Prints channels of these widths and rows, and compares the text.
+    fn check<S: Sample>(
+        rt: &impl Abort,
+        alloc: Global,
+        channels: &[(usize, &[&[i32]])],
+        text: &str,
+    ) -> Result<(), Fail> {
+        let mut grids = Vec::new(alloc);
+        for (width, rows) in channels {
+            grids.push(grid::<S>(alloc, *width, rows)?)?;
+        }
+        let printed = print_image(alloc, &grids)?;
+        assert_eq!(rt; printed.as_str(), text);
+        Ok(())
+    }
+
+    // Rows of numbers, channels without cells, and no channel.
     #[test]
     fn prints_each_channel(rt: HostRuntime) -> Result<(), Fail> {
         let alloc = rt.alloc();
-        let mut channels = Vec::new(alloc);
-        channels.push(grid::<i32>(alloc, 2, &[&[1, 3], &[0, 2]])?)?;
-        channels.push(grid::<i32>(alloc, 1, &[&[i32::MIN]])?)?;
-        let text = print_image(alloc, &channels)?;
-        assert_eq!(rt;
-            text.as_str(),
-            "channel 0 2x2\n1 3\n0 2\nchannel 1 1x1\n-2147483648\n"
-        );
-        Ok(())
+        check::<i32>(
+            &rt,
+            alloc,
+            &[(2, &[&[1, 3], &[0, 2]]), (1, &[&[i32::MIN]])],
+            "channel 0 2x2\n1 3\n0 2\nchannel 1 1x1\n-2147483648\n",
+        )?;
+        check::<i32>(
+            &rt,
+            alloc,
+            &[(0, &[&[], &[], &[]]), (5, &[]), (0, &[])],
+            "channel 0 0x3\n\n\n\nchannel 1 5x0\nchannel 2 0x0\n",
+        )?;
+        check::<i32>(&rt, alloc, &[], "")
     }
 
     #[test]
     fn prints_the_smaller_type(rt: HostRuntime) -> Result<(), Fail> {
-        let alloc = rt.alloc();
-        let mut channels = Vec::new(alloc);
-        channels.push(grid::<i16>(alloc, 2, &[&[32767, 0], &[-32768, -16384]])?)?;
-        channels.push(grid::<i16>(alloc, 4, &[&[10, 11, 20, 20]])?)?;
-        let text = print_image(alloc, &channels)?;
-        let lines = "channel 0 2x2\n32767 0\n-32768 -16384\nchannel 1 4x1\n10 11 20 20\n";
-        assert_eq!(rt; text.as_str(), lines);
-        Ok(())
-    }
-
-    #[test]
-    fn prints_channels_without_cells(rt: HostRuntime) -> Result<(), Fail> {
-        let alloc = rt.alloc();
-        let mut channels = Vec::new(alloc);
-        channels.push(grid::<i32>(alloc, 0, &[&[], &[], &[]])?)?;
-        channels.push(grid::<i32>(alloc, 5, &[])?)?;
-        channels.push(grid::<i32>(alloc, 0, &[])?)?;
-        let text = print_image(alloc, &channels)?;
-        assert_eq!(rt;
-            text.as_str(),
-            "channel 0 0x3\n\n\n\nchannel 1 5x0\nchannel 2 0x0\n"
-        );
-        Ok(())
-    }
-
-    #[test]
-    fn prints_nothing_of_no_channels(rt: HostRuntime) -> Result<(), Fail> {
-        let channels: Vec<AlignedGrid<i32>> = Vec::new(rt.alloc());
-        let text = print_image(rt.alloc(), &channels)?;
-        assert_eq!(rt; text.as_str(), "");
-        Ok(())
+        check::<i16>(
+            &rt,
+            rt.alloc(),
+            &[
+                (2, &[&[32767, 0], &[-32768, -16384]]),
+                (4, &[&[10, 11, 20, 20]]),
+            ],
+            "channel 0 2x2\n32767 0\n-32768 -16384\nchannel 1 4x1\n10 11 20 20\n",
+        )
     }
 }

@@ -218,8 +218,6 @@ fn all_but_first(alloc: Global, all: Args) -> Result<Vec<String>, AllocError>
 }
 
 #[cfg(test)]
-mod cut_rows;
-#[cfg(test)]
 mod rows;
 #[cfg(test)]
 mod tests;

@@ -109,141 +109,135 @@ impl Print for Fails {
     }
 }
 
+const DECODE: &str = "decode 2 2 1 8 i32";
+
+// The status that the program ends with on these words, and what it writes on standard error.
+fn ended<R: Read, W: Write, P: Print>(
+    alloc: Global,
+    line: &str,
+    input: &mut R,
+    output: &mut W,
+    printer: &P,
+) -> Result<(u8, Vec<u8>), Fail> {
+    let words = words(alloc, line)?;
+    let mut errors = Vec::new(alloc);
+    let status = run_with(alloc, &words, input, output, &mut errors, printer);
+    Ok((status, errors))
+}
+
+// The reader that gives these bytes and then fails.
+fn cut_reader(bytes: &[u8]) -> CutReader<'_> {
+    CutReader {
+        bytes,
+        has_failed: false,
+    }
+}
+
 #[test]
 fn writes_the_text(rt: HostRuntime) -> Result<(), Fail> {
-    let alloc = rt.alloc();
-    let words = words(alloc, "decode 2 2 1 8 i32")?;
-    let mut input = b"channel 0 1x1\n5\n".as_slice();
-    let mut output = Vec::new(alloc);
-    let mut errors = Vec::new(alloc);
-    let status = run_with(alloc, &words, &mut input, &mut output, &mut errors, &Echo);
-    assert_eq!(rt; status, 0);
-    assert_eq!(rt; output.as_slice(), b"channel 0 1x1\n5\n".as_slice());
-    assert_eq!(rt; errors.len(), 0);
+    let text = b"channel 0 1x1\n5\n".as_slice();
+    let mut input = text;
+    let mut output = Vec::new(rt.alloc());
+    let (status, errors) = ended(rt.alloc(), DECODE, &mut input, &mut output, &Echo)?;
+    assert_eq!(rt; output.as_slice(), text);
+    assert_eq!(rt; (status, errors.len()), (0, 0));
     Ok(())
 }
 
+// Nothing is read for no channels, nor for wrong words, which come first.
 #[test]
-fn reads_nothing_for_no_channels(rt: HostRuntime) -> Result<(), Fail> {
-    let alloc = rt.alloc();
-    let words = words(alloc, "decode 4294967295 2 0 8 i32")?;
-    let mut input = CutReader {
-        bytes: b"",
-        has_failed: false,
-    };
-    let mut output = Vec::new(alloc);
-    let mut errors = Vec::new(alloc);
-    let status = run_with(alloc, &words, &mut input, &mut output, &mut errors, &Echo);
-    assert_eq!(rt; (status, output.len(), errors.len()), (0, 0, 0));
-    Ok(())
-}
-
-#[test]
-fn wrong_words_come_first(rt: HostRuntime) -> Result<(), Fail> {
-    let alloc = rt.alloc();
-    for line in ["", "decode", "decode 2 2 1 8 i64", "sections 3 1 1 8 i32 3"] {
-        let words = words(alloc, line)?;
-        let mut input = CutReader {
-            bytes: b"",
-            has_failed: false,
-        };
-        let mut output = Vec::new(alloc);
-        let mut errors = Vec::new(alloc);
-        let status = run_with(alloc, &words, &mut input, &mut output, &mut errors, &Echo);
-        assert_eq!(rt; (status, output.len()), (2, 0), "{line}");
-        assert_eq!(rt; errors.as_slice(), USAGE_LINE.as_bytes(), "{line}");
+fn nothing_is_read(rt: HostRuntime) -> Result<(), Fail> {
+    for (line, status, text) in [
+        ("decode 4294967295 2 0 8 i32", 0, ""),
+        ("", 2, USAGE_LINE),
+        ("decode", 2, USAGE_LINE),
+        ("decode 2 2 1 8 i64", 2, USAGE_LINE),
+        ("sections 3 1 1 8 i32 3", 2, USAGE_LINE),
+    ] {
+        let mut input = cut_reader(b"");
+        let mut output = Vec::new(rt.alloc());
+        let (seen, errors) = ended(rt.alloc(), line, &mut input, &mut output, &Echo)?;
+        assert_eq!(rt; (seen, output.len()), (status, 0), "{line}");
+        assert_eq!(rt; errors.as_slice(), text.as_bytes(), "{line}");
     }
     Ok(())
 }
 
 #[test]
 fn input_that_breaks_off_is_an_error(rt: HostRuntime) -> Result<(), Fail> {
-    let alloc = rt.alloc();
-    let words = words(alloc, "decode 2 2 1 8 i32")?;
     for bytes in [b"".as_slice(), b"channel".as_slice()] {
-        let mut input = CutReader {
-            bytes,
-            has_failed: false,
-        };
-        let mut output = Vec::new(alloc);
-        let mut errors = Vec::new(alloc);
-        let status = run_with(alloc, &words, &mut input, &mut output, &mut errors, &Echo);
+        let mut input = cut_reader(bytes);
+        let mut output = Vec::new(rt.alloc());
+        let (status, errors) = ended(rt.alloc(), DECODE, &mut input, &mut output, &Echo)?;
         assert_eq!(rt; (status, output.len()), (1, 0));
         assert_eq!(rt; (input.bytes.len(), input.has_failed), (0, true));
-        assert_eq!(rt;
-            errors.as_slice(),
-            b"error: cannot read standard input\n".as_slice()
-        );
+        let line = b"error: cannot read standard input\n".as_slice();
+        assert_eq!(rt; errors.as_slice(), line);
     }
     Ok(())
 }
 
 #[test]
 fn output_that_is_full_is_an_error(rt: HostRuntime) -> Result<(), Fail> {
-    let alloc = rt.alloc();
-    let words = words(alloc, "decode 2 2 1 8 i32")?;
     for (room, status) in [(0, 1), (3, 1), (4, 0)] {
         let mut input = b"1 2\n".as_slice();
-        let taken = Vec::new(alloc);
+        let taken = Vec::new(rt.alloc());
         let mut output = SmallWriter { taken, room };
-        let mut errors = Vec::new(alloc);
-        let ended = run_with(alloc, &words, &mut input, &mut output, &mut errors, &Echo);
-        assert_eq!(rt; (ended, output.taken.len()), (status, room));
-        assert_eq!(rt; errors.len(), 0);
+        let (seen, errors) = ended(rt.alloc(), DECODE, &mut input, &mut output, &Echo)?;
+        assert_eq!(rt; (seen, output.taken.len(), errors.len()), (status, room, 0));
     }
     Ok(())
 }
 
 #[test]
 fn output_that_cannot_be_flushed_is_an_error(rt: HostRuntime) -> Result<(), Fail> {
-    let alloc = rt.alloc();
-    let words = words(alloc, "decode 2 2 1 8 i32")?;
-    let mut input = b"1 2\n".as_slice();
-    let taken = Vec::new(alloc);
+    let text = b"1 2\n".as_slice();
+    let mut input = text;
+    let taken = Vec::new(rt.alloc());
     let mut output = StuckWriter { taken };
-    let mut errors = Vec::new(alloc);
-    let status = run_with(alloc, &words, &mut input, &mut output, &mut errors, &Echo);
+    let (status, errors) = ended(rt.alloc(), DECODE, &mut input, &mut output, &Echo)?;
     assert_eq!(rt; (status, errors.len()), (1, 0));
-    assert_eq!(rt; output.taken.as_slice(), b"1 2\n".as_slice());
+    assert_eq!(rt; output.taken.as_slice(), text);
     Ok(())
 }
 
+const BAD_ENUM: BitstreamError = BitstreamError::InvalidEnum {
+    name: "TransformId",
+    value: 3,
+};
+
+// Errors and their lines.
+const LINES: &[(Error, &str)] = &[
+    (
+        Error::InvalidRctParams,
+        "error: invalid Rct transform parameters\n",
+    ),
+    (
+        Error::Bitstream(BitstreamError::UnexpectedEof),
+        "error: bitstream error: unexpected end of input\n",
+    ),
+    (
+        Error::Bitstream(BAD_ENUM),
+        "error: bitstream error: invalid enum value 3 for TransformId\n",
+    ),
+    (
+        Error::Decoder(DecoderError::UnexpectedEof),
+        "error: entropy decoder error: unexpected end of input\n",
+    ),
+    (
+        Error::Decoder(DecoderError::Invalid(4)),
+        "error: entropy decoder error: invalid code 4\n",
+    ),
+    (Error::Buffer(OutOfMemory), "error: out of memory\n"),
+];
+
 #[test]
 fn each_error_is_one_line(rt: HostRuntime) -> Result<(), Fail> {
-    let alloc = rt.alloc();
-    let words = words(alloc, "decode 2 2 1 8 i32")?;
-    let bad_enum = BitstreamError::InvalidEnum {
-        name: "TransformId",
-        value: 3,
-    };
-    for (error, line) in [
-        (
-            Error::InvalidRctParams,
-            "error: invalid Rct transform parameters\n",
-        ),
-        (
-            Error::Bitstream(BitstreamError::UnexpectedEof),
-            "error: bitstream error: unexpected end of input\n",
-        ),
-        (
-            Error::Bitstream(bad_enum),
-            "error: bitstream error: invalid enum value 3 for TransformId\n",
-        ),
-        (
-            Error::Decoder(DecoderError::UnexpectedEof),
-            "error: entropy decoder error: unexpected end of input\n",
-        ),
-        (
-            Error::Decoder(DecoderError::Invalid(4)),
-            "error: entropy decoder error: invalid code 4\n",
-        ),
-        (Error::Buffer(OutOfMemory), "error: out of memory\n"),
-    ] {
+    for (error, line) in LINES {
         let mut input = b"".as_slice();
-        let mut output = Vec::new(alloc);
-        let mut errors = Vec::new(alloc);
-        let fails = Fails { error };
-        let status = run_with(alloc, &words, &mut input, &mut output, &mut errors, &fails);
+        let mut output = Vec::new(rt.alloc());
+        let fails = Fails { error: *error };
+        let (status, errors) = ended(rt.alloc(), DECODE, &mut input, &mut output, &fails)?;
         assert_eq!(rt; (status, output.len()), (1, 0), "{line}");
         assert_eq!(rt; errors.as_slice(), line.as_bytes(), "{line}");
     }
