@@ -129,6 +129,11 @@ module _ (above row : List ℤ) where
       let next : suc x ≡ x + 1 = omega arith in
       subst (λ n. v ≡ west_in above (slice_set row x v) n) next (sym (get_or-set_same row x v (pos 0) inside))
 
+  pub north_west_is : (x : ℕ) (m v : ℤ) → m ≡ get_or above x v → v ≡ west_in above row (x + 1) → m ≡ north_west_in above row (x + 1)
+  north_west_is x m v is at =
+      let next : suc x ≡ x + 1 = omega arith in
+      subst (λ n. v ≡ west_in above row n → m ≡ north_west_in above row n) next (λ h. is ∙ ap (get_or above x) h) at
+
   pub north_west_next : (x : ℕ) (m : ℤ) → ((e : ℤ) → m ≡ get_or above x e) → m ≡ north_west_in above row (x + 1)
   north_west_next x m is =
       let next : suc x ≡ x + 1 = omega arith in
@@ -142,6 +147,12 @@ first_north_west R (suc x) = refl
 -- a cell of the row above, as the code has it
 pub above_is : {X : Type 0} (to_int : X → ℤ) (above : List X) (x : ℕ) (n : X) (e : ℤ) → x < length above → n ≡ get_or above x n → to_int n ≡ get_or (map to_int above) x e
 above_is to_int above x n e inside is = ap to_int is ∙ sym (get_or-map to_int above x n e inside)
+
+-- the same, where the first row has none above it
+pub sample_above_is : {X : Type 0} (to_int : X → ℤ) (above : List X) (x : ℕ) (n other : X) (e : ℤ) → n ≡ get_or above x other → to_int other ≡ e → to_int n ≡ get_or (map to_int above) x e
+sample_above_is to_int [] x n other e is at = ap to_int is ∙ at
+sample_above_is to_int (a ∷ above) zero n other e is at = ap to_int is
+sample_above_is to_int (a ∷ above) (suc x) n other e is at = sample_above_is to_int above x n other e is at
 
 module _ {X : Type 0} (w : Width) (to_int : X → ℤ) (from_int : ℤ → X) (back : (n : ℤ) → to_int (from_int n) ≡ n) (after : (z : ℤ) → int_wrap w (int_wrap w32 z) ≡ int_wrap w z)
     (l : Leaf) (plain : IsPlain l) (A R : List ℤ) (x : ℕ) (inside : x < length R) where

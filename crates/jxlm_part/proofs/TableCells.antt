@@ -42,18 +42,6 @@ module _ (above row : List ℤ) where
       ap (λ z. int_wrap w32 (z -ℤ nw +ℤ n)) hw ∙ ap (λ z. int_wrap w32 (west_in above row x -ℤ z +ℤ n)) hnw
       ∙ ap (λ z. int_wrap w32 (west_in above row x -ℤ north_west_in above row x +ℤ z)) hn
 
--- in the first row it is the cell to the left
-first_property_9 : (row : List ℤ) (x : ℕ) → property_9_in [] row x ≡ int_wrap w32 (west_in [] row x -ℤ west_in [] row x +ℤ west_in [] row x)
-first_property_9 row zero = refl
-first_property_9 row (suc x) = refl
-
-pub first_property_9_is : (row : List ℤ) (x : ℕ) (w : ℤ) → FitsSigned w32 w → w ≡ west_in [] row x → w ≡ property_9_in [] row x
-first_property_9_is row x w fits is =
-    let z = west_in [] row x in
-    let same : z -ℤ z +ℤ z ≡ z = omega (arith, ints) in
-    let wide : FitsSigned w32 z = subst (FitsSigned w32) is fits in
-    is ∙ sym (int_wrap_fits w32 z wide) ∙ sym (ap (int_wrap w32) same) ∙ sym (first_property_9 row x)
-
 -- ---- the loop over the cells of a row
 
 -- `old` is where the row began, `now` where the reader is at column x, `new` where it is after the next read.

@@ -2,6 +2,7 @@
 //! 18181-1, Modular: decoding of samples).
 #![tactic(auto)]
 
+mod above;
 mod cell;
 pub mod channels;
 pub mod coding;

@@ -9,11 +9,11 @@ returns-else-y-eq0-clause-ok g c =
     let later : 0 < c.args.y = omega (arith, c.if-y-eq0.false) in
     let above : map g.S.Sealed.to_int c.region_row-above.result.now ≡ row_above (grid_of (store_meanings g.S.Sealed.to_int c.args.store.now) c.args.region) c.args.y =
     row_above_is g.S.Sealed.to_int c.args.store.now c.args.region c.args.y c.region_row-above.result.now later c.requires.in_rows c.region_row-above.ensures.len c.region_row-above.ensures.cells in
-    rw (← above) c.table_row.ensures.ok
+    rw (← above) c.table_row-else-y-eq0.ensures.ok
 
 pub returns-else-y-eq0-clause-err : goal.returns-else-y-eq0-clause-err
 returns-else-y-eq0-clause-err g c =
     let later : 0 < c.args.y = omega (arith, c.if-y-eq0.false) in
     let above : map g.S.Sealed.to_int c.region_row-above.result.now ≡ row_above (grid_of (store_meanings g.S.Sealed.to_int c.args.store.now) c.args.region) c.args.y =
     row_above_is g.S.Sealed.to_int c.args.store.now c.args.region c.args.y c.region_row-above.result.now later c.requires.in_rows c.region_row-above.ensures.len c.region_row-above.ensures.cells in
-    rw (← above) c.table_row.ensures.err
+    rw (← above) c.table_row-else-y-eq0.ensures.err

@@ -1,4 +1,4 @@
-use Rattle.std.proofs.Common.{rules, ◌≡◌, ◌<◌, map, length, ◌+◌, ◌∙◌, arith, ap, subst, sym, w32, FitsSigned}
+use Rattle.std.proofs.Common.{rules, ◌≡◌, ◌<◌, map, length, ◌+◌, ◌∙◌, arith, ap, refl, subst, sym, w32, FitsSigned}
 use Rattle.std.specs.Prelude.{slice_set}
 use Rattle.std.proofs.lemmas.Int.{to_z-of_z}
 use Rattle.std.proofs.lemmas.List.{length-map, map-set}
@@ -7,7 +7,7 @@ use Rattle.jxlm_ma.specs.ClusterTables.{table_leaf}
 use Rattle.jxlm_part.specs.Inner.Leaves.{IsPlain, west_in}
 use Rattle.jxlm_part.specs.Inner.Source.{source}
 use Rattle.jxlm_part.specs.Inner.TableRows.{property_9_in, table_rule}
-use Rattle.jxlm_part.proofs.LeafCells.{above_is, gradient_sample, leaf_whole, north_west_next, west_next}
+use Rattle.jxlm_part.proofs.LeafCells.{gradient_sample, leaf_whole, north_west_is, sample_above_is, west_next}
 use Rattle.jxlm_part.proofs.TableCells.{property_9_is, table_ends, table_more}
 use Rattle.jxlm_part.proofs.tables.table_row.Goals as goal
 
@@ -22,26 +22,26 @@ loop-x-preserved g c =
     let inside : x < length row = omega (arith, same, c.loop-x-test.true) in
     let in_row : x < length (map to_int row) = let m = length-map row to_int in omega (arith, m) in
     let written : slice_set (map to_int row) x (to_int v) ≡ map to_int (slice_set row x v) = sym (map-set to_int row x v) in
-    let above = c.args.above.now in
-    let long : length above ≡ length row = c.requires.above ∙ sym same in
+    let above = map to_int c.args.above.now in
     let leaf = c.args.table.now.leaf in
     let plain : IsPlain leaf = record { offset = c.requires.table.1.1.0; multiplier = c.requires.table.1.1.1 } in
-    let north = above_is to_int above x c.index-above-x.result (west_in (map to_int above) (map to_int row) x) (omega (arith, long)) c.index-above-x.is in
+    let north = sample_above_is to_int c.args.above.now x c.sample_above-n.result c.loop-x.w (west_in above (map to_int row) x) c.sample_above-n.ensures c.loop-x.invariant.west in
     let fits : FitsSigned w32 p = search rules in
-    let property : p ≡ property_9_in (map to_int above) (map to_int row) x =
-    c.property_9.ensures ∙ property_9_is (map to_int above) (map to_int row) x (to_int c.index-above-x.result) (to_int c.loop-x.w) (to_int c.loop-x.nw) north c.loop-x.invariant.west c.loop-x.invariant.north_west in
-    let value = gradient_sample g.S.Sealed.width to_int g.S.Sealed.from_int g.met.S.Sealed.to_int_from_int g.met.S.Sealed.wraps_after_i32 leaf plain (map to_int above) (map to_int row) x in_row
-    c.in-Ok.token c.index-above-x.result c.loop-x.w c.loop-x.nw c.unpack_signed_u32.result c.grad_clamped.result v
+    let property : p ≡ property_9_in above (map to_int row) x =
+    c.property_9.ensures ∙ property_9_is above (map to_int row) x (to_int c.sample_above-n.result) (to_int c.loop-x.w) (to_int c.loop-x.nw) north c.loop-x.invariant.west c.loop-x.invariant.north_west in
+    let value = gradient_sample g.S.Sealed.width to_int g.S.Sealed.from_int g.met.S.Sealed.to_int_from_int g.met.S.Sealed.wraps_after_i32 leaf plain above (map to_int row) x in_row
+    c.in-Ok.token c.sample_above-n.result c.loop-x.w c.loop-x.nw c.unpack_signed_u32.result c.grad_clamped.result v
     north c.loop-x.invariant.west c.loop-x.invariant.north_west c.unpack_signed_u32.ensures c.grad_clamped.ensures c.add-value.ensures in
+    let west : to_int v ≡ west_in above (map to_int (slice_set row x v)) (x + 1) =
+    subst (λ r. to_int v ≡ west_in above r (x + 1)) written (west_next above (map to_int row) x (to_int v) in_row) in
     record {
       len = search rules;
-      reads = table_more g.D.Decoder.meaning g.met.D.Decoder.lawful g.S.Sealed.width to_int c.args.table.now c.args.widest (map to_int above)
+      reads = table_more g.D.Decoder.meaning g.met.D.Decoder.lawful g.S.Sealed.width to_int c.args.table.now c.args.widest above
           (source c.args.decoder.now c.args.bits.now) (source c.loop-x.decoder c.loop-x.reader) row x c.requires.clusters inside c.loop-x.invariant.reads p c.cluster-cluster.result property
           (c.cluster-cluster.ensures.cluster ∙ ap (λ z. (table_leaf c.args.table.now z).cluster) (to_z-of_z w32 p fits))
           (source c.read_varint_with_multiplier_clustered.new.self c.read_varint_with_multiplier_clustered.new.bits) c.in-Ok.ensures.bytes c.in-Ok.token v c.in-Ok.ensures.gives value;
-      west = subst (λ r. to_int v ≡ west_in (map to_int above) r (x + 1)) written (west_next (map to_int above) (map to_int row) x (to_int v) in_row);
-      north_west = north_west_next (map to_int above) (map to_int (slice_set row x v)) x (to_int c.index-above-x.result)
-          (λ e. above_is to_int above x c.index-above-x.result e (omega (arith, long)) c.index-above-x.is);
+      west = west;
+      north_west = north_west_is above (map to_int (slice_set row x v)) x (to_int c.sample_above-nw.result) (to_int v) (sample_above_is to_int c.args.above.now x c.sample_above-nw.result v (to_int v) c.sample_above-nw.ensures refl) west;
       steps = omega (arith, c.cluster-cluster.ensures.cost);
     }
 
@@ -52,14 +52,13 @@ returns-in-Err-clause-err g c =
     let x = c.loop-x.x in
     let p = c.property_9.result in
     let same = c.loop-x.invariant.len in
-    let above = c.args.above.now in
-    let long : length above ≡ length row = c.requires.above ∙ sym same in
+    let above = map to_int c.args.above.now in
     let inside : x < length row = omega (arith, same, c.loop-x-test.true) in
-    let north = above_is to_int above x c.index-above-x.result (west_in (map to_int above) (map to_int row) x) (omega (arith, long)) c.index-above-x.is in
+    let north = sample_above_is to_int c.args.above.now x c.sample_above-n.result c.loop-x.w (west_in above (map to_int row) x) c.sample_above-n.ensures c.loop-x.invariant.west in
     let fits : FitsSigned w32 p = search rules in
-    let property : p ≡ property_9_in (map to_int above) (map to_int row) x =
-    c.property_9.ensures ∙ property_9_is (map to_int above) (map to_int row) x (to_int c.index-above-x.result) (to_int c.loop-x.w) (to_int c.loop-x.nw) north c.loop-x.invariant.west c.loop-x.invariant.north_west in
-    table_ends g.D.Decoder.meaning g.met.D.Decoder.lawful g.S.Sealed.width to_int c.args.table.now c.args.widest (map to_int above)
+    let property : p ≡ property_9_in above (map to_int row) x =
+    c.property_9.ensures ∙ property_9_is above (map to_int row) x (to_int c.sample_above-n.result) (to_int c.loop-x.w) (to_int c.loop-x.nw) north c.loop-x.invariant.west c.loop-x.invariant.north_west in
+    table_ends g.D.Decoder.meaning g.met.D.Decoder.lawful g.S.Sealed.width to_int c.args.table.now c.args.widest above
     (source c.args.decoder.now c.args.bits.now) (source c.loop-x.decoder c.loop-x.reader) row x c.requires.clusters inside c.loop-x.invariant.reads p c.cluster-cluster.result property
     (c.cluster-cluster.ensures.cluster ∙ ap (λ z. (table_leaf c.args.table.now z).cluster) (to_z-of_z w32 p fits))
     (source c.read_varint_with_multiplier_clustered.new.self c.read_varint_with_multiplier_clustered.new.bits) c.in-Err.ensures.bytes _ c.in-Err.ensures.gives
