@@ -3,7 +3,7 @@
 //! No state of the predictors is needed for them: a row is read from the row above it. Where the decoder has only one
 //! token for a leaf that predicts by 0, the row is filled.
 
-ghost use Rattle.std.specs.Prelude.{◌≡◌, ◌<◌, ◌≤◌, ℤ, pos, List, [], map, length, replicate, OnOk, IfErr, Contains};
+ghost use Rattle.std.specs.Prelude.{◌≡◌, ◌<◌, ◌≤◌, ℤ, pos, List, true, false, [], map, length, replicate, OnOk, IfErr, Contains};
 ghost use Rattle.jxlm_base.specs.Bits.{bytes_of};
 ghost use Rattle.jxlm_base.specs.Regions.{Lies, grid_of, store_meanings};
 ghost use Rattle.jxlm_ma.specs.FlatTree.{ClustersStandIn, HasMultiplier};
@@ -13,6 +13,7 @@ ghost use Rattle.jxlm_part.specs.Inner.Leaves.{HasPath, IsPlain, Leads, path_rul
 ghost use Rattle.jxlm_part.specs.Inner.Rows.{FailsRow, ReadsRow};
 ghost use Rattle.jxlm_part.specs.Inner.Source.{source};
 
+use crate::above::sample_above;
 use crate::cell::sample_from;
 use crate::rows::RowError;
 use jxlm_base::bits::Bitstream;
@@ -162,44 +163,10 @@ fn zero_row<S: Sample, D: Decoder>(
     }
 }
 
-/// Reads the first row of a channel where each cell is predicted by the clamped gradient.
-fn first_gradient_row<S: Sample, D: Decoder>(
-    bits: &mut Bitstream<'_>,
-    decoder: &mut D,
-    leaf: Leaf,
-    widest: u32,
-    row: &mut [S],
-) -> Result<(), RowError>
-    requires plain { IsPlain leaf }
-    requires cluster { Contains (D.meaning.cluster_map decoder.old) leaf.cluster }
-    ensures ok { OnOk result (ReadsRow D.meaning
-        (path_rule D.meaning S.width (bytes_of bits.old) leaf widest Path.Gradient [])
-        (map S.to_int row.new) (source decoder.old bits.old) (source decoder.new bits.new)) }
-    ensures err { IfErr result (FailsRow
-        (path_rule D.meaning S.width (bytes_of bits.old) leaf widest Path.Gradient [])
-        (map S.to_int row.new) (source decoder.old bits.old) (source decoder.new bits.new)) }
-{
-    let mut w = S::from_i32(0);
-    for x in 0..row.len() {
-        let token = match decoder.read_varint_with_multiplier_clustered(
-            bits,
-            leaf.cluster,
-            widest,
-        ) {
-            Ok(token) => token,
-            Err(error) => return Err(RowError { column: x, error }),
-        };
-        let value = S::unpack_signed_u32(token).add(S::grad_clamped(w, w, w));
-        row[x] = value;
-        w = value;
-    }
-    Ok(())
-}
-
-/// Reads a row below another where each cell is predicted by the clamped gradient. The reader is a local variable for
-/// the length of the row.
+/// Reads a row below another, or the first one, where each cell is predicted by the clamped gradient. The reader is a
+/// local variable for the length of the row.
 #[inline(never)]
-fn gradient_row<S: Sample, D: Decoder>(
+fn gradient_row<S: Sample, D: Decoder, const FIRST: bool>(
     bits: &mut Bitstream<'_>,
     decoder: &mut D,
     leaf: Leaf,
@@ -210,7 +177,8 @@ fn gradient_row<S: Sample, D: Decoder>(
     requires plain { IsPlain leaf }
     requires cluster { Contains (D.meaning.cluster_map decoder.old) leaf.cluster }
     requires columns { 0 < length row.old }
-    requires above { length above.now ≡ length row.old }
+    requires first { FIRST ≡ true → above.now ≡ [] }
+    requires above { FIRST ≡ false → length above.now ≡ length row.old }
     ensures ok { OnOk result (ReadsRow D.meaning
         (path_rule D.meaning S.width (bytes_of bits.old) leaf widest Path.Gradient (map S.to_int above.now))
         (map S.to_int row.new) (source decoder.old bits.old) (source decoder.new bits.new)) }
@@ -219,10 +187,10 @@ fn gradient_row<S: Sample, D: Decoder>(
         (map S.to_int row.new) (source decoder.old bits.old) (source decoder.new bits.new)) }
 {
     let mut reader = *bits;
-    let mut w = above[0];
+    let mut w = sample_above::<S, FIRST>(above, 0, S::from_i32(0));
     let mut nw = w;
     for x in 0..row.len() {
-        let n = above[x];
+        let n = sample_above::<S, FIRST>(above, x, w);
         let token = match decoder.read_varint_with_multiplier_clustered(
             &mut reader,
             leaf.cluster,
@@ -237,7 +205,7 @@ fn gradient_row<S: Sample, D: Decoder>(
         let value = S::unpack_signed_u32(token).add(S::grad_clamped(n, w, nw));
         row[x] = value;
         w = value;
-        nw = n;
+        nw = sample_above::<S, FIRST>(above, x, value);
     }
     *bits = reader;
     Ok(())
@@ -280,10 +248,12 @@ pub(crate) fn read_leaf_row<S: Sample, D: Decoder>(
             }
             None => zero_row(bits, decoder, at.leaf, widest, row),
         },
-        Path::Gradient if y == 0 => first_gradient_row(bits, decoder, at.leaf, widest, row),
+        Path::Gradient if y == 0 => {
+            gradient_row::<S, D, true>(bits, decoder, at.leaf, widest, &[], row)
+        }
         Path::Gradient => {
             let above = region_row(store, region, y - 1);
-            gradient_row(bits, decoder, at.leaf, widest, above, row)
+            gradient_row::<S, D, false>(bits, decoder, at.leaf, widest, above, row)
         }
     }
 }

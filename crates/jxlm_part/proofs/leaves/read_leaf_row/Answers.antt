@@ -29,11 +29,11 @@ returns-in-None-clause-err g c =
 
 pub returns-in-Gradient-clause-ok : goal.returns-in-Gradient-clause-ok
 returns-in-Gradient-clause-ok g c =
-    let path : c.args.at.path ≡ Gradient = c.in-Gradient.is in let first : c.args.y ≡ 0 = c.if-y-eq0.true in rw (path, first) c.first_gradient_row.ensures.ok
+    let path : c.args.at.path ≡ Gradient = c.in-Gradient.is in let first : c.args.y ≡ 0 = c.if-y-eq0.true in rw (path, first) c.gradient_row.ensures.ok
 
 pub returns-in-Gradient-clause-err : goal.returns-in-Gradient-clause-err
 returns-in-Gradient-clause-err g c =
-    let path : c.args.at.path ≡ Gradient = c.in-Gradient.is in let first : c.args.y ≡ 0 = c.if-y-eq0.true in rw (path, first) c.first_gradient_row.ensures.err
+    let path : c.args.at.path ≡ Gradient = c.in-Gradient.is in let first : c.args.y ≡ 0 = c.if-y-eq0.true in rw (path, first) c.gradient_row.ensures.err
 
 pub returns-in-Gradient-2-clause-ok : goal.returns-in-Gradient-2-clause-ok
 returns-in-Gradient-2-clause-ok g c =
@@ -41,7 +41,7 @@ returns-in-Gradient-2-clause-ok g c =
     let later : 0 < c.args.y = omega (arith, c.if-y-eq0.false) in
     let above : map g.S.Sealed.to_int c.region_row-above.result.now ≡ row_above (grid_of (store_meanings g.S.Sealed.to_int c.args.store.now) c.args.region) c.args.y =
     row_above_is g.S.Sealed.to_int c.args.store.now c.args.region c.args.y c.region_row-above.result.now later c.requires.in_rows c.region_row-above.ensures.len c.region_row-above.ensures.cells in
-    rw (path, ← above) c.gradient_row.ensures.ok
+    rw (path, ← above) c.gradient_row-in-Gradient-2.ensures.ok
 
 pub returns-in-Gradient-2-clause-err : goal.returns-in-Gradient-2-clause-err
 returns-in-Gradient-2-clause-err g c =
@@ -49,4 +49,4 @@ returns-in-Gradient-2-clause-err g c =
     let later : 0 < c.args.y = omega (arith, c.if-y-eq0.false) in
     let above : map g.S.Sealed.to_int c.region_row-above.result.now ≡ row_above (grid_of (store_meanings g.S.Sealed.to_int c.args.store.now) c.args.region) c.args.y =
     row_above_is g.S.Sealed.to_int c.args.store.now c.args.region c.args.y c.region_row-above.result.now later c.requires.in_rows c.region_row-above.ensures.len c.region_row-above.ensures.cells in
-    rw (path, ← above) c.gradient_row.ensures.err
+    rw (path, ← above) c.gradient_row-in-Gradient-2.ensures.err
