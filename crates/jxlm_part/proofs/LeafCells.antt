@@ -3,8 +3,9 @@ use Rattle.std.proofs.Common.{◌≡◌, ℕ, zero, suc, ◌+◌, ◌<◌, ◌�
 use Rattle.std.specs.Prelude.{get_or, replicate, slice_get, slice_set}
 use Rattle.std.specs.Int.{Width, w32, int_wrap}
 use Rattle.std.proofs.Math.IntN.{+ℤ_idr, *ℤ_comm, suc_ℤ-*ℤ, zero-*ℤ, +ℤ_idl}
+use Rattle.std.proofs.Math.ListN.{get_or-map}
 use Rattle.std.proofs.lemmas.Int.{int_wrap-add_left, int_wrap-add_right}
-use Rattle.std.proofs.lemmas.List.{get_or-map, get_or-set_same, get_or-take, length-map, length-replicate, length-take-le, map-set, replicate_more, take_more_set}
+use Rattle.std.proofs.lemmas.List.{get_or-set_same, get_or-take, length-map, length-replicate, length-take-le, map-set, replicate_more, take_more_set}
 use Rattle.jxlm_base.specs.Bits.{bytes_of, position_of}
 use Rattle.jxlm_base.specs.Decoding.{IsLawful, Meaning, ReadGives}
 use Rattle.jxlm_base.specs.Numbers.{clamped_gradient, unpack}
@@ -134,25 +135,9 @@ module _ (above row : List ℤ) where
       let next : suc x ≡ x + 1 = omega arith in
       subst (λ n. v ≡ west_in above row n → m ≡ north_west_in above row n) next (λ h. is ∙ ap (get_or above x) h) at
 
-  pub north_west_next : (x : ℕ) (m : ℤ) → ((e : ℤ) → m ≡ get_or above x e) → m ≡ north_west_in above row (x + 1)
-  north_west_next x m is =
-      let next : suc x ≡ x + 1 = omega arith in
-      subst (λ n. m ≡ north_west_in above row n) next (is (west_in above row (suc x)))
-
--- in the first row they are all the cell to the left
-pub first_north_west : (R : List ℤ) (x : ℕ) → west_in [] R x ≡ north_west_in [] R x
-first_north_west R zero = refl
-first_north_west R (suc x) = refl
-
--- a cell of the row above, as the code has it
-pub above_is : {X : Type 0} (to_int : X → ℤ) (above : List X) (x : ℕ) (n : X) (e : ℤ) → x < length above → n ≡ get_or above x n → to_int n ≡ get_or (map to_int above) x e
-above_is to_int above x n e inside is = ap to_int is ∙ sym (get_or-map to_int above x n e inside)
-
--- the same, where the first row has none above it
+-- a sample of the row above, or another in the first row, as the code has it
 pub sample_above_is : {X : Type 0} (to_int : X → ℤ) (above : List X) (x : ℕ) (n other : X) (e : ℤ) → n ≡ get_or above x other → to_int other ≡ e → to_int n ≡ get_or (map to_int above) x e
-sample_above_is to_int [] x n other e is at = ap to_int is ∙ at
-sample_above_is to_int (a ∷ above) zero n other e is at = ap to_int is
-sample_above_is to_int (a ∷ above) (suc x) n other e is at = sample_above_is to_int above x n other e is at
+sample_above_is to_int above x n other e is at = ap to_int is ∙ sym (get_or-map to_int above x other) ∙ ap (get_or (map to_int above) x) at
 
 module _ {X : Type 0} (w : Width) (to_int : X → ℤ) (from_int : ℤ → X) (back : (n : ℤ) → to_int (from_int n) ≡ n) (after : (z : ℤ) → int_wrap w (int_wrap w32 z) ≡ int_wrap w z)
     (l : Leaf) (plain : IsPlain l) (A R : List ℤ) (x : ℕ) (inside : x < length R) where

@@ -4,7 +4,7 @@
 //! A run may go on over the end of a row or of a channel, and past the last cell of the part. No state of the
 //! predictors is needed.
 
-ghost use Rattle.std.specs.Prelude.{◌≡◌, ◌+◌, ◌<◌, ◌≤◌, ℕ, [], true, Ok, Err, map, length, OnOk, IfErr, IfSome, Contains};
+ghost use Rattle.std.specs.Prelude.{◌≡◌, ◌+◌, ◌<◌, ◌≤◌, ℕ, [], true, false, Ok, Err, map, length, OnOk, IfErr, IfSome, Contains};
 ghost use Rattle.std.specs.Int.{int_wrap};
 ghost use Rattle.jxlm_base.specs.Bits.{bytes_of};
 ghost use Rattle.jxlm_base.specs.Numbers.{unpack};
@@ -17,6 +17,7 @@ ghost use Rattle.jxlm_part.specs.Inner.Runs.{DecodesInRuns, DecodesUpTo, FailsIn
 ghost use Rattle.jxlm_part.specs.Part.{cells_before, cell_count};
 ghost use Rattle.jxlm_part.specs.Reading.{IsCodingOf, IsRunLeaf, part_of, regions_of, tree_of};
 
+use crate::above::sample_above;
 use crate::coding::PartCoding;
 use crate::rows::{RowError, write_read};
 use jxlm_base::bits::Bitstream;
@@ -76,46 +77,13 @@ fn take_token<S: Sample, D: Decoder>(
     }
 }
 
-/// Reads the first row of a channel.
-///
-/// # Errors
-///
-/// That of the read of one cell; the cells before are in the row then.
-fn first_run_row<S: Sample, D: Decoder>(
-    bits: &mut Bitstream<'_>,
-    decoder: &mut D,
-    run: &mut Run,
-    leaf: Leaf,
-    row: &mut [S],
-) -> Result<(), RowError>
-    requires plain { IsPlain leaf }
-    requires cluster { Contains (D.meaning.cluster_map decoder.old) leaf.cluster }
-    requires run { IsInRun D.meaning (run_source decoder.old run.old bits.old) }
-    ensures ok { OnOk result (ReadsRunRow D.meaning S.width leaf [] (map S.to_int row.new)
-        (run_source decoder.old run.old bits.old) (run_source decoder.new run.new bits.new)) }
-    ensures err { IfErr result (FailsRunRow D.meaning S.width leaf [] (map S.to_int row.new)
-        (run_source decoder.old run.old bits.old) (run_source decoder.new run.new bits.new)) }
-{
-    let mut residual = S::unpack_signed_u32(run.token);
-    let mut w = S::from_i32(0);
-    for x in 0..row.len() {
-        if let Err(error) = take_token(bits, decoder, run, &mut residual, leaf.cluster) {
-            return Err(RowError { column: x, error });
-        }
-        let value = residual.add(S::grad_clamped(w, w, w));
-        row[x] = value;
-        w = value;
-    }
-    Ok(())
-}
-
-/// Reads a row below another. The run is a local variable for the length of the row.
+/// Reads a row below another, or the first one. The run is a local variable for the length of the row.
 ///
 /// # Errors
 ///
 /// That of the read of one cell; the cells before are in the row then.
 #[inline(never)]
-fn lower_run_row<S: Sample, D: Decoder>(
+fn run_row<S: Sample, D: Decoder, const FIRST: bool>(
     bits: &mut Bitstream<'_>,
     decoder: &mut D,
     run: &mut Run,
@@ -127,7 +95,8 @@ fn lower_run_row<S: Sample, D: Decoder>(
     requires cluster { Contains (D.meaning.cluster_map decoder.old) leaf.cluster }
     requires run { IsInRun D.meaning (run_source decoder.old run.old bits.old) }
     requires columns { 0 < length row.old }
-    requires above { length above.now ≡ length row.old }
+    requires first { FIRST ≡ true → above.now ≡ [] }
+    requires above { FIRST ≡ false → length above.now ≡ length row.old }
     ensures ok { OnOk result (ReadsRunRow D.meaning S.width leaf (map S.to_int above.now) (map S.to_int row.new)
         (run_source decoder.old run.old bits.old) (run_source decoder.new run.new bits.new)) }
     ensures err { IfErr result (FailsRunRow D.meaning S.width leaf (map S.to_int above.now) (map S.to_int row.new)
@@ -135,10 +104,10 @@ fn lower_run_row<S: Sample, D: Decoder>(
 {
     let mut now = *run;
     let mut residual = S::unpack_signed_u32(now.token);
-    let mut w = above[0];
+    let mut w = sample_above::<S, FIRST>(above, 0, S::from_i32(0));
     let mut nw = w;
     for x in 0..row.len() {
-        let n = above[x];
+        let n = sample_above::<S, FIRST>(above, x, w);
         if let Err(error) = take_token(bits, decoder, &mut now, &mut residual, leaf.cluster) {
             *run = now;
             return Err(RowError { column: x, error });
@@ -146,7 +115,7 @@ fn lower_run_row<S: Sample, D: Decoder>(
         let value = residual.add(S::grad_clamped(n, w, nw));
         row[x] = value;
         w = value;
-        nw = n;
+        nw = sample_above::<S, FIRST>(above, x, value);
     }
     *run = now;
     Ok(())
@@ -182,10 +151,10 @@ fn read_run_row<S: Sample, D: Decoder>(
         (run_source decoder.old run.old bits.old) (run_source decoder.new run.new bits.new)) }
 {
     if y == 0 {
-        return first_run_row(bits, decoder, run, leaf, row);
+        return run_row::<S, D, true>(bits, decoder, run, leaf, &[], row);
     }
     let above = region_row(store, region, y - 1);
-    lower_run_row(bits, decoder, run, leaf, above, row)
+    run_row::<S, D, false>(bits, decoder, run, leaf, above, row)
 }
 
 /// Reads row `y` of channel `i` into the store; `row` is room for it.

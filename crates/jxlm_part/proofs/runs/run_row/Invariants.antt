@@ -4,7 +4,7 @@ use Rattle.std.proofs.Common.{◌≡◌, map, length}
 use Rattle.jxlm_part.specs.Inner.Leaves.{north_west_in, west_in}
 use Rattle.jxlm_part.specs.Inner.Runs.{run_source}
 use Rattle.jxlm_part.proofs.RunRows.{ReadsRunCells}
-use Rattle.jxlm_part.proofs.runs.lower_run_row.Given as goal
+use Rattle.jxlm_part.proofs.runs.run_row.Given as goal
 
 abbrev pub invariant-loop-x : goal.invariant-loop-x
 invariant-loop-x g l =
