@@ -45,7 +45,7 @@ pub leaf_whole : {D X : Type 0} (d : Meaning D) (rule : Rule D) (to_int : X → 
 leaf_whole d rule to_int old now row x h all = subst (λ n. ReadsCells d rule (map to_int row) n old now) (all ∙ sym (length-map row to_int)) h
 
 -- at a leaf that adds nothing more, tokens and predictions are added as samples
-pub plain_sample : (w : Width) (l : Leaf) (token : ℕ) (g : ℤ) → IsPlain l → sample_of w l g token ≡ int_wrap w (unpack token +ℤ g)
+plain_sample : (w : Width) (l : Leaf) (token : ℕ) (g : ℤ) → IsPlain l → sample_of w l g token ≡ int_wrap w (unpack token +ℤ g)
 plain_sample w l token g plain =
     let u : ℤ = unpack token in
     let one : u *ℤ pos 1 ≡ u = *ℤ_comm u (pos 1) ∙ suc_ℤ-*ℤ (pos 0) u ∙ ap (λ z. z +ℤ u) (zero-*ℤ u) ∙ +ℤ_idl u in
@@ -60,12 +60,6 @@ reduced_sample w l token g plain after =
     plain_sample w l token (int_wrap w32 g) plain
     ∙ sym (int_wrap-add_right w u (int_wrap w32 g)) ∙ ap (λ z. int_wrap w (u +ℤ z)) (after g) ∙ int_wrap-add_right w u g
     ∙ sym (int_wrap-add_left w u g)
-
--- over 0 the sample is the token's number
-pub zero_sample : {X : Type 0} (w : Width) (to_int : X → ℤ) (from_int : ℤ → X) → ((n : ℤ) → to_int (from_int n) ≡ n) → (l : Leaf) → IsPlain l → (token : ℕ) (v : X) →
-    v ≡ from_int (int_wrap w (unpack token)) → to_int v ≡ sample_of w l (pos 0) token
-zero_sample w to_int from_int back l plain token v is =
-    ap to_int is ∙ back (int_wrap w (unpack token)) ∙ sym (plain_sample w l token (pos 0) plain ∙ ap (int_wrap w) (+ℤ_idr (unpack token)))
 
 -- ---- a row of one sample
 

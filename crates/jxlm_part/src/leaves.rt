@@ -85,9 +85,23 @@ fn fill_row<S: Sample>(token: u32, leaf: Leaf, row: &mut [S])
     }
 }
 
-/// Reads a row where each cell is predicted by 0, at a leaf with any offset and multiplier.
+/// The sample of a token over a prediction of 0: the token's number at a leaf that adds nothing more (`PLAIN`).
+#[inline(always)]
+fn sample_over_zero<S: Sample, const PLAIN: bool>(token: u32, leaf: Leaf) -> S
+    requires multiplier { HasMultiplier leaf }
+    requires plain { PLAIN ≡ true → IsPlain leaf }
+    ensures { S.to_int result ≡ sample_of S.width leaf (pos 0) token }
+{
+    if PLAIN {
+        S::unpack_signed_u32(token)
+    } else {
+        sample_from(token, leaf, 0)
+    }
+}
+
+/// Reads the cells of a row where each is predicted by 0; with `PLAIN` the leaf adds nothing more.
 #[inline(never)]
-fn scaled_zero_row<S: Sample, D: Decoder>(
+fn zero_cells<S: Sample, D: Decoder, const PLAIN: bool>(
     bits: &mut Bitstream<'_>,
     decoder: &mut D,
     leaf: Leaf,
@@ -95,6 +109,7 @@ fn scaled_zero_row<S: Sample, D: Decoder>(
     row: &mut [S],
 ) -> Result<(), RowError>
     requires multiplier { HasMultiplier leaf }
+    requires plain { PLAIN ≡ true → IsPlain leaf }
     requires cluster { Contains (D.meaning.cluster_map decoder.old) leaf.cluster }
     ensures ok { OnOk result ((above : List ℤ) → ReadsRow D.meaning
         (path_rule D.meaning S.width (bytes_of bits.old) leaf widest Path.Zero above)
@@ -105,34 +120,7 @@ fn scaled_zero_row<S: Sample, D: Decoder>(
 {
     for x in 0..row.len() {
         match decoder.read_varint_with_multiplier_clustered(bits, leaf.cluster, widest) {
-            Ok(token) => row[x] = sample_from(token, leaf, 0),
-            Err(error) => return Err(RowError { column: x, error }),
-        }
-    }
-    Ok(())
-}
-
-/// Reads a row where each cell is predicted by 0, at a leaf that adds nothing more.
-#[inline(never)]
-fn plain_zero_row<S: Sample, D: Decoder>(
-    bits: &mut Bitstream<'_>,
-    decoder: &mut D,
-    leaf: Leaf,
-    widest: u32,
-    row: &mut [S],
-) -> Result<(), RowError>
-    requires plain { IsPlain leaf }
-    requires cluster { Contains (D.meaning.cluster_map decoder.old) leaf.cluster }
-    ensures ok { OnOk result ((above : List ℤ) → ReadsRow D.meaning
-        (path_rule D.meaning S.width (bytes_of bits.old) leaf widest Path.Zero above)
-        (map S.to_int row.new) (source decoder.old bits.old) (source decoder.new bits.new)) }
-    ensures err { IfErr result (λ r. (above : List ℤ) →
-        FailsRow (path_rule D.meaning S.width (bytes_of bits.old) leaf widest Path.Zero above)
-        (map S.to_int row.new) (source decoder.old bits.old) (source decoder.new bits.new) r) }
-{
-    for x in 0..row.len() {
-        match decoder.read_varint_with_multiplier_clustered(bits, leaf.cluster, widest) {
-            Ok(token) => row[x] = S::unpack_signed_u32(token),
+            Ok(token) => row[x] = sample_over_zero::<S, PLAIN>(token, leaf),
             Err(error) => return Err(RowError { column: x, error }),
         }
     }
@@ -157,9 +145,9 @@ fn zero_row<S: Sample, D: Decoder>(
         (map S.to_int row.new) (source decoder.old bits.old) (source decoder.new bits.new) r) }
 {
     if leaf.offset == 0 && leaf.multiplier == 1 {
-        plain_zero_row(bits, decoder, leaf, widest, row)
+        zero_cells::<S, D, true>(bits, decoder, leaf, widest, row)
     } else {
-        scaled_zero_row(bits, decoder, leaf, widest, row)
+        zero_cells::<S, D, false>(bits, decoder, leaf, widest, row)
     }
 }
 

@@ -4,7 +4,7 @@ use Rattle.jxlm_part.specs.Inner.Leaves.{path_rule}
 use Rattle.jxlm_part.specs.Inner.Rows.{ReadsCells}
 use Rattle.jxlm_part.specs.Inner.Source.{source}
 use Rattle.jxlm_part.specs.declared.leaves.Path.TheVariants.{Zero}
-use Rattle.jxlm_part.proofs.leaves.plain_zero_row.Given as goal
+use Rattle.jxlm_part.proofs.leaves.zero_cells.Given as goal
 
 abbrev pub invariant-loop-x : goal.invariant-loop-x
 invariant-loop-x g l =
