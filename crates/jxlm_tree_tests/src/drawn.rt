@@ -1,10 +1,10 @@
 // Compiled trees against a plain walk: of worked trees, of long chains, and of two thousand drawn ones, each on its
 // cuts, beside them, and at both ends of the numbers.
 
+use crate::calls::{flat_tree, leaf_at, size_of};
 use crate::listing::{Node, read};
-use crate::told::Told;
 use jxlm_base_tests::seed::Seed;
-use jxlm_ma::flat::{FlatMaTree, Steps};
+use jxlm_ma::flat::FlatMaTree;
 use std::alloc::{AllocError, Global};
 use std::process::Abort;
 use std::test::Fail;
@@ -56,22 +56,20 @@ fn walked(nodes: &[Node], place: Place, values: &[i32; 30]) -> Option<i32> {
 }
 
 fn flat_of(alloc: Global, nodes: &[Node], place: Place) -> Result<FlatMaTree, Fail> {
-    let config = read(alloc, nodes)?;
     let (channel, stream) = (place.channel.cast_unsigned(), place.stream.cast_unsigned());
-    Ok(config.make_flat_tree(alloc, channel, stream, place.earlier)?)
+    let config = read(alloc, nodes)?;
+    Ok(flat_tree(alloc, &config, [channel, stream, place.earlier])?)
 }
 
 fn offset_of(flat: &FlatMaTree, values: &[i32; 30]) -> i32 {
-    flat.leaf(&Told { values }, &mut Steps::new()).offset
+    leaf_at(flat, values).offset
 }
 
-// The properties that are all 0 but one, from 2 on.
-fn one_property(number: usize, value: i32) -> [i32; 30] {
-    let mut values = [0; 30];
-    if let Some(place) = number.checked_sub(2) {
-        if let Some(at) = values.get_mut(place) {
-            *at = value;
-        }
+// These properties, from 2 on, with another value of one.
+fn with_value(values: [i32; 30], number: usize, value: i32) -> [i32; 30] {
+    let mut values = values;
+    if let Some(at) = values.get_mut(number.wrapping_sub(2)) {
+        *at = value;
     }
     values
 }
@@ -97,11 +95,28 @@ const fn cut(property: u32, value: i32, left: usize) -> Node {
     }
 }
 
+// Compiles a tree for a place, and compares the offsets of the leaves at values of one property, while the others are 0;
+// returns how large the tree is.
+fn check_leaves(
+    rt: &impl Abort,
+    alloc: Global,
+    nodes: &[Node],
+    place: Place,
+    number: usize,
+    rows: &[(i32, i32)],
+) -> Result<(usize, usize), Fail> {
+    let flat = flat_of(alloc, nodes, place)?;
+    for (value, expected) in rows {
+        let offset = offset_of(&flat, &with_value([0; 30], number, *value));
+        assert_eq!(rt; offset, *expected, "{value}");
+    }
+    Ok(size_of(&flat))
+}
+
 // Four cuts of one property, one within the other: a table serves them, with four of the five leaves, since no value is
 // above 10 and at most 5.
 #[test]
 fn cuts_of_one_property(rt: HostRuntime) -> Result<(), Fail> {
-    let alloc = rt.alloc();
     let nodes = [
         cut(9, 5, 1),
         cut(9, 7, 3),
@@ -113,84 +128,110 @@ fn cuts_of_one_property(rt: HostRuntime) -> Result<(), Fail> {
         Node::Leaf(5),
         Node::Leaf(6),
     ];
-    let flat = flat_of(alloc, &nodes, FIRST)?;
-    assert_eq!(rt; flat.num_nodes(), 5);
-    let expected = [6, 6, 6, 6, 5, 5, 4, 4, 3, 3, 3, 3];
-    for (value, offset) in expected.iter().enumerate() {
-        let values = one_property(9, value as i32);
-        assert_eq!(rt; offset_of(&flat, &values), *offset, "{value}");
+    let rows = [
+        (0, 6),
+        (1, 6),
+        (2, 6),
+        (3, 6),
+        (4, 5),
+        (5, 5),
+        (6, 4),
+        (7, 4),
+        (8, 3),
+        (9, 3),
+        (10, 3),
+        (11, 3),
+    ];
+    let size = check_leaves(&rt, rt.alloc(), &nodes, FIRST, 9, &rows)?;
+    assert_eq!(rt; size, (5, 0));
+    Ok(())
+}
+
+const fn at(stream: i32, channel: i32) -> Place {
+    Place {
+        channel,
+        stream,
+        earlier: 0,
     }
+}
+
+// A decision of which the outcome is known when a tree is compiled.
+fn check_known(
+    rt: &impl Abort,
+    alloc: Global,
+    property: u32,
+    place: Place,
+    offset: i32,
+) -> Result<(), Fail> {
+    let nodes = [cut(property, -1, 1), Node::Leaf(1), Node::Leaf(2)];
+    let size = check_leaves(rt, alloc, &nodes, place, 17, &[(-5, offset)])?;
+    assert_eq!(rt; size, (1, 0));
     Ok(())
 }
 
 // What is known when a tree is compiled: a property of an earlier channel that is not there, the stream, the channel.
 #[test]
 fn known_decisions(rt: HostRuntime) -> Result<(), Fail> {
-    let alloc = rt.alloc();
-    let below_0 = |stream: i32, channel: i32| Place {
-        channel,
-        stream,
-        earlier: 0,
-    };
     let rows = [
         (17, FIRST, 1),
-        (1, below_0(-1, 0), 2),
+        (1, at(-1, 0), 2),
         (1, FIRST, 1),
-        (0, below_0(0, i32::MIN), 2),
-        (0, below_0(0, i32::MAX), 1),
+        (0, at(0, i32::MIN), 2),
+        (0, at(0, i32::MAX), 1),
     ];
-    for (property, place, expected) in rows {
-        let nodes = [cut(property, -1, 1), Node::Leaf(1), Node::Leaf(2)];
-        let flat = flat_of(alloc, &nodes, place)?;
-        assert_eq!(rt; flat.num_nodes(), 1);
-        assert_eq!(rt; flat.max_prev_channel_depth(), 0);
-        assert_eq!(rt; offset_of(&flat, &one_property(17, -5)), expected);
+    for (property, place, offset) in rows {
+        check_known(&rt, rt.alloc(), property, place, offset)?;
     }
     Ok(())
 }
 
-// The minimum and the maximum of 32 bits, and the numbers beside them.
-const ENDS: [i32; 4] = [i32::MIN, i32::MIN + 1, i32::MAX - 1, i32::MAX];
-
+// One cut, at the minimum or the maximum of 32 bits or beside them, and the leaves at these four numbers.
 #[test]
 fn cuts_at_the_ends(rt: HostRuntime) -> Result<(), Fail> {
-    let alloc = rt.alloc();
-    let above = [
-        [false, true, true, true],
-        [false, false, true, true],
-        [false, false, false, true],
-        [false; 4],
+    let rows = [
+        (i32::MIN, [2, 1, 1, 1]),
+        (i32::MIN + 1, [2, 2, 1, 1]),
+        (i32::MAX - 1, [2, 2, 2, 1]),
+        (i32::MAX, [2; 4]),
     ];
-    for (end, rows) in ENDS.iter().zip(above) {
-        let nodes = [cut(3, *end, 1), Node::Leaf(1), Node::Leaf(2)];
-        let flat = flat_of(alloc, &nodes, FIRST)?;
-        for (value, is_above) in ENDS.iter().zip(rows) {
-            let expected = if is_above { 1 } else { 2 };
-            assert_eq!(rt; offset_of(&flat, &one_property(3, *value)), expected);
-        }
+    for (end, [least, second, third, most]) in rows {
+        let nodes = [cut(3, end, 1), Node::Leaf(1), Node::Leaf(2)];
+        let leaves = [
+            (i32::MIN, least),
+            (i32::MIN + 1, second),
+            (i32::MAX - 1, third),
+            (i32::MAX, most),
+        ];
+        check_leaves(&rt, rt.alloc(), &nodes, FIRST, 3, &leaves)?;
     }
+    Ok(())
+}
+
+// Three cuts with this spread.
+fn check_spread(rt: &impl Abort, alloc: Global, spread: i32) -> Result<(), Fail> {
+    let nodes = [
+        cut(9, spread, 1),
+        Node::Leaf(4),
+        cut(9, 7, 3),
+        Node::Leaf(3),
+        cut(9, 0, 5),
+        Node::Leaf(2),
+        Node::Leaf(1),
+    ];
+    let flat = flat_of(alloc, &nodes, FIRST)?;
+    let beside = spread.saturating_add(1);
+    for value in [i32::MIN, -1, 0, 1, 6, 7, 8, spread, beside, i32::MAX] {
+        check_walk(rt, &flat, &nodes, FIRST, &with_value([0; 30], 9, value))?;
+    }
+    assert_eq!(rt; size_of(&flat).0, if spread <= 1022 { 5 } else { 6 });
     Ok(())
 }
 
 // Three cuts as far apart as a table allows, and one farther.
 #[test]
 fn spread_of_a_table(rt: HostRuntime) -> Result<(), Fail> {
-    let alloc = rt.alloc();
     for spread in 1020..1026i32 {
-        let nodes = [
-            cut(9, spread, 1),
-            Node::Leaf(4),
-            cut(9, 7, 3),
-            Node::Leaf(3),
-            cut(9, 0, 5),
-            Node::Leaf(2),
-            Node::Leaf(1),
-        ];
-        let flat = flat_of(alloc, &nodes, FIRST)?;
-        assert_eq!(rt; flat.num_nodes(), if spread <= 1022 { 5 } else { 6 });
-        for value in [i32::MIN, -1, 0, 1, 6, 7, 8, spread, spread + 1, i32::MAX] {
-            check_walk(&rt, &flat, &nodes, FIRST, &one_property(9, value))?;
-        }
+        check_spread(&rt, rt.alloc(), spread)?;
     }
     Ok(())
 }
@@ -315,13 +356,40 @@ fn check_cut(
         i32::MIN,
     ];
     for value in beside {
-        let mut values = drawn;
-        if let Some(at) = values.get_mut((property as usize).wrapping_sub(2)) {
-            *at = value;
-        }
+        let values = with_value(drawn, property as usize, value);
         check_walk(rt, flat, nodes, place, &values)?;
     }
     Ok(())
+}
+
+// Checks a tree on each of its cuts, with drawn values of the other properties.
+fn check_cuts(
+    rt: &impl Abort,
+    flat: &FlatMaTree,
+    nodes: &[Node],
+    place: Place,
+    seed: &mut Seed,
+    near: bool,
+) -> Result<(), Fail> {
+    for node in nodes {
+        check_cut(rt, flat, nodes, place, *node, values(seed, near))?;
+    }
+    Ok(())
+}
+
+fn drawn_place(seed: &mut Seed, near: bool) -> Place {
+    Place {
+        channel: value(seed, near),
+        stream: value(seed, near),
+        earlier: seed.below(4),
+    }
+}
+
+// Compares a compiled tree with the nodes and the place that it is of: there are no more nodes, and it names no earlier
+// channel that is not there.
+fn check_size(rt: &impl Abort, flat: &FlatMaTree, nodes: &[Node], place: Place) {
+    let (count, named) = size_of(flat);
+    assert!(rt; count <= nodes.len() && named <= place.earlier as usize);
 }
 
 // Checks one drawn tree on each of its cuts.
@@ -332,20 +400,11 @@ fn check_drawn(
     manner: Manner,
 ) -> Result<(), Fail> {
     let nodes = drawn(alloc, seed, manner)?;
-    let place = Place {
-        channel: value(seed, manner.near),
-        stream: value(seed, manner.near),
-        earlier: seed.below(4),
-    };
+    let place = drawn_place(seed, manner.near);
     let flat = flat_of(alloc, &nodes, place)?;
-    assert!(rt; flat.num_nodes() <= nodes.len());
-    assert!(rt; flat.max_prev_channel_depth() <= place.earlier as usize);
+    check_size(rt, &flat, &nodes, place);
     check_walk(rt, &flat, &nodes, place, &values(seed, manner.near))?;
-    for node in &nodes {
-        let drawn = values(seed, manner.near);
-        check_cut(rt, &flat, &nodes, place, *node, drawn)?;
-    }
-    Ok(())
+    check_cuts(rt, &flat, &nodes, place, seed, manner.near)
 }
 
 #[test]
@@ -379,15 +438,21 @@ fn link(kind: Chain, i: u16) -> (u32, i32) {
     }
 }
 
-// The nodes of a chain of 2048 decisions: each has a leaf at its left.
+// The node at an index of a chain of 2048 decisions: each has a leaf at its left.
+fn chain_node(kind: Chain, index: u16) -> Node {
+    let i = index / 2;
+    if index == 4096 || index % 2 == 1 {
+        return Node::Leaf(i32::from(i));
+    }
+    let (property, value) = link(kind, i);
+    cut(property, value, usize::from(index) + 1)
+}
+
 fn chain_of(alloc: Global, kind: Chain) -> Result<Vec<Node>, AllocError> {
     let mut nodes = Vec::new(alloc);
-    for i in 0..2048u16 {
-        let (property, value) = link(kind, i);
-        nodes.push(cut(property, value, 2 * usize::from(i) + 1))?;
-        nodes.push(Node::Leaf(i32::from(i)))?;
+    for index in 0..4097u16 {
+        nodes.push(chain_node(kind, index))?;
     }
-    nodes.push(Node::Leaf(2048))?;
     Ok(nodes)
 }
 

@@ -1,8 +1,9 @@
 //! Trees that tests make, as streams from which they are read.
 
+use crate::calls::tree_in;
 use jxlm_base::bits::Bitstream;
 use jxlm_base_tests::writer::Writer;
-use jxlm_ma::ma::{MaConfig, MaConfigParams};
+use jxlm_ma::ma::MaConfig;
 use jxlm_plain::plain::PlainDecoder;
 use std::alloc::{AllocError, Global};
 use std::test::Fail;
@@ -84,9 +85,5 @@ pub fn listed(alloc: Global, nodes: &[Node]) -> Result<Vec<u8>, AllocError> {
 /// The tree of these nodes.
 pub fn read(alloc: Global, nodes: &[Node]) -> Result<MaConfig<PlainDecoder>, Fail> {
     let bytes = listed(alloc, nodes)?;
-    let limits = MaConfigParams {
-        node_limit: 1 << 26,
-        depth_limit: 2048,
-    };
-    Ok(MaConfig::parse(alloc, &mut Bitstream::new(&bytes), limits)?)
+    Ok(tree_in(alloc, &mut Bitstream::new(&bytes), 1 << 26, 2048)?)
 }

@@ -7,11 +7,14 @@
 // Bytes and paths were written and computed by an independent program: leaves, cuts and clusters are few and small, and
 // each cluster is that of the leaf to which a plain walk of the tree leads.
 
+use crate::calls::{compare, skip, tree_at, tree_in};
 use crate::told::Told;
+use crate::trees::three;
 use jxlm_base::bits::Bitstream;
+use jxlm_base::decoder::Decoder;
 use jxlm_base_tests::text::{bytes, pair};
 use jxlm_ma::flat::{FlatMaTree, Leaf, Steps};
-use jxlm_ma::ma::{MaConfig, MaConfigParams};
+use jxlm_ma::ma::MaConfig;
 use jxlm_ma::paths::{ClusterTable, Path};
 use jxlm_plain::plain::PlainDecoder;
 use std::alloc::Global;
@@ -148,46 +151,51 @@ fn told(rt: &impl Abort, alloc: Global, flat: &FlatMaTree, path: Path<'_>) -> Re
     }
 }
 
-// The tree after n bits.
-fn tree_after(alloc: Global, bytes: &[u8], n: u32) -> Result<MaConfig<PlainDecoder>, Fail> {
-    let mut bits = Bitstream::new(bytes);
-    for _ in 0..n {
-        bits.read_bits(1)?;
-    }
-    let limits = MaConfigParams {
-        node_limit: 1 << 26,
-        depth_limit: 2048,
-    };
-    Ok(MaConfig::parse(alloc, &mut bits, limits)?)
+// The path of a tree for a channel, in the words of a row.
+fn path_at<D: Decoder>(
+    rt: &impl Abort,
+    alloc: Global,
+    config: &MaConfig<D>,
+    place: [u32; 3],
+) -> Result<String, Fail> {
+    let flat = tree_at(alloc, config, place)?;
+    told(rt, alloc, &flat, flat.path_of(config.decoder()))
 }
 
-// The bits before the tree, and the tree as a channel of a stream walks it that has so many earlier channels.
-fn place(text: &str) -> Result<(u32, [u32; 3]), Fail> {
-    let (before, rest) = pair(text, ' ')?;
-    let (channel, rest) = pair(rest, ' ')?;
-    let (stream, earlier) = pair(rest, ' ')?;
-    let place = [channel.parse()?, stream.parse()?, earlier.parse()?];
-    Ok((before.parse()?, place))
-}
-
-fn check_path(rt: &impl Abort, alloc: Global, row: &str) -> Result<(), Fail> {
+// A row's parts: the bits before the tree, the channel, the stream and how many earlier channels there are, the bytes,
+// and what is expected.
+fn parts(row: &str) -> Result<(u32, [u32; 3], &str, &str), Fail> {
     let (words, rest) = pair(row, '|')?;
+    let (before, place) = pair(words, ' ')?;
     let (digits, expected) = pair(rest, '|')?;
-    let (before, [channel, stream, earlier]) = place(words)?;
-    let config = tree_after(alloc, &bytes(alloc, digits)?, before)?;
-    let flat = config.make_flat_tree(alloc, channel, stream, earlier)?;
-    let path = flat.path_of(config.decoder());
-    let seen = told(rt, alloc, &flat, path)?;
-    assert_eq!(rt; seen.as_str(), expected, "{row}");
+    Ok((before.parse()?, three(place)?, digits, expected))
+}
+
+// The tree after n bits.
+fn tree_after<D: Decoder>(alloc: Global, bytes: &[u8], n: u32) -> Result<MaConfig<D>, Fail> {
+    let mut bits = Bitstream::new(bytes);
+    skip(&mut bits, n)?;
+    Ok(tree_in(alloc, &mut bits, 1 << 26, 2048)?)
+}
+
+fn check_path<D: Decoder>(rt: &impl Abort, alloc: Global, row: &str) -> Result<(), Fail> {
+    let (before, place, digits, expected) = parts(row)?;
+    let bytes = bytes(alloc, digits)?;
+    let config = tree_after::<D>(alloc, &bytes, before)?;
+    let seen = path_at(rt, alloc, &config, place)?;
+    compare(rt, seen.as_str(), expected, row);
+    Ok(())
+}
+
+fn check_paths<D: Decoder>(rt: &impl Abort, alloc: Global, table: &str) -> Result<(), Fail> {
+    for row in table.lines() {
+        check_path::<D>(rt, alloc, row)?;
+    }
     Ok(())
 }
 
 #[test]
 fn names_of_paths(rt: HostRuntime) -> Result<(), Fail> {
-    for table in [NAMES, BESIDE] {
-        for row in table.lines() {
-            check_path(&rt, rt.alloc(), row)?;
-        }
-    }
-    Ok(())
+    check_paths::<PlainDecoder>(&rt, rt.alloc(), NAMES)?;
+    check_paths::<PlainDecoder>(&rt, rt.alloc(), BESIDE)
 }

@@ -1,17 +1,18 @@
 // Tables of cells of a channel, each with the samples before it and what is expected of it.
 
-ghost use Rattle.std.specs.Prelude.{◌≡◌, ◌+◌, ◌<◌, ◌≤◌, ◌^◌, ◌/◌, ◌%◌, All, IfOk, true, vec_len};
+ghost use Rattle.std.specs.Prelude.{◌≡◌, ◌+◌, ◌<◌, ◌≤◌, ◌^◌, ◌/◌, ◌%◌, All, IfOk, length, true, vec_len};
 ghost use Rattle.std.specs.Option.{ForSome};
 ghost use Rattle.jxlm_tree_tests.specs.Inner.Places.{StandsAfter};
 ghost use Rattle.jxlm_tree.specs.Holding.{IsCurrent};
 ghost use Rattle.jxlm_tree.specs.SelfCorrecting.{IsHeader};
 ghost use Rattle.jxlm_tree.specs.Standing.{HoldsRow, setting};
 
+use crate::calls::compare;
 use jxlm_base::bits::Bitstream;
 use jxlm_base::error::Error;
 use jxlm_base::grid::{AlignedGrid, OutOfMemory, Region};
 use jxlm_base::sample::Sample;
-use jxlm_base_tests::text::{bytes, signed};
+use jxlm_base_tests::text::{bytes, pair, signed};
 use jxlm_tree::eighths::{after_clamp, before_clamp};
 use jxlm_tree::predictor::{Predictor, PredictorState, Properties, WpHeader};
 use std::alloc::Global;
@@ -32,6 +33,13 @@ struct Place {
     ghost few: { vec_len before < 2 ^ 30 },
 }
 
+/// The weights that a header lists.
+pub fn header_in(bits: &mut Bitstream<'_>) -> Result<WpHeader, Error>
+    ensures { IfOk result IsHeader }
+{
+    WpHeader::parse(bits)
+}
+
 // The weights that a header's digits say; none where there are no digits.
 fn weights(alloc: Global, digits: &str) -> Result<Option<WpHeader>, Fail>
     ensures { IfOk result (λ w. ForSome w IsHeader) }
@@ -40,32 +48,60 @@ fn weights(alloc: Global, digits: &str) -> Result<Option<WpHeader>, Fail>
         return Ok(None);
     }
     let bytes = bytes(alloc, digits)?;
-    Ok(Some(WpHeader::parse(&mut Bitstream::new(&bytes))?))
+    Ok(Some(header_in(&mut Bitstream::new(&bytes))?))
 }
 
-// A line's cell: its width, the digits of the weights, the samples before it, and the earlier channels' samples with
-// semicolons between.
-fn read_place(alloc: Global, line: &str) -> Result<Place, Fail> {
-    let mut fields = line.split('|');
-    let width = fields.next().ok_or("no width")?.parse::<u32>()?;
-    let weights = weights(alloc, fields.next().ok_or("no weights")?)?;
-    let before = signed(alloc, fields.next().ok_or("no samples")?)?;
-    let mut earlier = Vec::new(alloc);
-    for channel in fields
-        .next()
-        .ok_or("no earlier channels")?
-        .split_terminator(';')
-    {
-        earlier.push(signed(alloc, channel)?)?;
+fn width(text: &str) -> Result<u32, Fail>
+    ensures some { IfOk result (λ w. 0 < w) }
+    ensures narrow { IfOk result (λ w. w ≤ 2 ^ 30) }
+{
+    let width = text.parse::<u32>()?;
+    if width == 0 || width > 1 << 30 {
+        return Err("no such width".into());
     }
-    if width == 0 || width > 1 << 30 || before.len() >= 1 << 30 {
+    Ok(width)
+}
+
+fn are_few(samples: &[i32]) -> bool
+    ensures { result ≡ true → length samples.now < 2 ^ 30 }
+{
+    samples.len() < 1 << 30
+}
+
+fn samples(alloc: Global, text: &str) -> Result<Vec<i32>, Fail>
+    ensures { IfOk result (λ v. vec_len v < 2 ^ 30) }
+{
+    let samples = signed(alloc, text)?;
+    if !are_few(&samples) {
         return Err("a place too far away".into());
     }
+    Ok(samples)
+}
+
+// The earlier channels' samples, with semicolons between.
+fn channels(alloc: Global, text: &str) -> Result<Vec<Vec<i32>>, Fail> {
+    let mut channels = Vec::new(alloc);
+    for channel in text.split_terminator(';') {
+        channels.push(signed(alloc, channel)?)?;
+    }
+    Ok(channels)
+}
+
+fn parts(line: &str) -> Result<(&str, &str, &str, &str), Fail> {
+    let (width, rest) = pair(line, '|')?;
+    let (digits, rest) = pair(rest, '|')?;
+    let (before, earlier) = pair(rest, '|')?;
+    Ok((width, digits, before, earlier))
+}
+
+// A line's cell: its width, the digits of the weights, the samples before it, and the earlier channels' samples.
+fn read_place(alloc: Global, line: &str) -> Result<Place, Fail> {
+    let (columns, digits, before, earlier) = parts(line)?;
     Ok(Place {
-        width,
-        weights,
-        before,
-        earlier,
+        width: width(columns)?,
+        weights: weights(alloc, digits)?,
+        before: samples(alloc, before)?,
+        earlier: channels(alloc, earlier)?,
     })
 }
 
@@ -90,6 +126,11 @@ impl Place {
             × (vec_len self.now.before % self.now.width + 2 < self.now.width) }
     {
         self.row() >= 2 && self.column() >= 2 && self.column() + 2 < self.width as usize
+    }
+
+    // Below which number properties are asked for: four more than there are.
+    fn below(&self) -> usize {
+        self.earlier.len().saturating_mul(4).saturating_add(20)
     }
 
     // A buffer for each earlier channel, whose samples are from column 1 of row 2 on.
@@ -143,8 +184,8 @@ impl Place {
     }
 }
 
-// Whether the region lies in the store, is so wide and holds the row.
-fn holds_row<S: Copy>(store: &[AlignedGrid<S>], region: Region, width: u32, y: usize) -> bool
+/// Whether the region lies in the store, is so wide and holds the row.
+pub fn holds_row<S: Copy>(store: &[AlignedGrid<S>], region: Region, width: u32, y: usize) -> bool
     ensures { result ≡ true → HoldsRow region store.now width y }
 {
     let Some(grid) = store.get(region.buffer) else {
@@ -159,9 +200,18 @@ fn holds_row<S: Copy>(store: &[AlignedGrid<S>], region: Region, width: u32, y: u
         && y < region.height
 }
 
-// The properties from 2 on, below this number, and after a bar what each predictor makes of the cell: the weighted
-// one only where it is asked for.
-fn told<S: Sample>(
+// Whether each region does.
+fn hold_row<S: Copy>(store: &[AlignedGrid<S>], regions: &[Region], width: u32, y: usize) -> bool
+    ensures { result ≡ true → All (λ r. HoldsRow r store.now width y) regions.now }
+{
+    regions
+        .iter()
+        .all(|region| holds_row(store, *region, width, y))
+}
+
+/// The properties from 2 on, below this number, and after a bar what each predictor makes of the cell: the weighted
+/// one only where it is asked for.
+pub fn told<S: Sample>(
     alloc: Global,
     properties: &Properties<'_, S>,
     below: usize,
@@ -191,14 +241,17 @@ impl Place {
         state: &mut PredictorState<S>,
         store: &[AlignedGrid<S>],
         regions: &[Region],
-        below: usize,
-        corrects: bool,
     ) -> Result<String, Fail>
         requires { All (λ r. HoldsRow r store.now self.now.width (vec_len self.now.before / self.now.width))
             regions.now }
     {
         self.stand(state, store, regions)?;
-        told(alloc, &state.properties::<true>(store), below, corrects)
+        told(
+            alloc,
+            &state.properties::<true>(store),
+            self.below(),
+            self.weights.is_some(),
+        )
     }
 
     // The same at a place that is inside, by `properties` without edges.
@@ -208,8 +261,6 @@ impl Place {
         state: &mut PredictorState<S>,
         store: &[AlignedGrid<S>],
         regions: &[Region],
-        below: usize,
-        corrects: bool,
     ) -> Result<String, Fail>
         requires hold { All (λ r. HoldsRow r store.now self.now.width (vec_len self.now.before / self.now.width))
             regions.now }
@@ -218,7 +269,43 @@ impl Place {
         requires right { vec_len self.now.before % self.now.width + 2 < self.now.width }
     {
         self.stand(state, store, regions)?;
-        told(alloc, &state.properties::<false>(store), below, corrects)
+        told(
+            alloc,
+            &state.properties::<false>(store),
+            self.below(),
+            self.weights.is_some(),
+        )
+    }
+}
+
+impl Place {
+    // The text of the properties at the place; where it is inside and that is asked for, by `properties` without edges.
+    fn told_in<S: Sample>(
+        &self,
+        alloc: Global,
+        state: &mut PredictorState<S>,
+        is_inside: bool,
+    ) -> Result<String, Fail> {
+        let (store, regions) = (self.store::<S>(alloc)?, self.regions(alloc)?);
+        if !hold_row(&store, &regions, self.width, self.row()) {
+            return Err("an earlier channel without the row".into());
+        }
+        if is_inside && self.is_inner() {
+            self.told_inside(alloc, state, &store, &regions)
+        } else {
+            self.told_at(alloc, state, &store, &regions)
+        }
+    }
+
+    // The text of the weighted prediction at the place.
+    fn eighths_in<S: Sample>(
+        &self,
+        alloc: Global,
+        state: &mut PredictorState<S>,
+    ) -> Result<String, Fail> {
+        let store = self.store::<S>(alloc)?;
+        self.stand(state, &store, &[])?;
+        eighths(alloc, &state.properties::<true>(&store))
     }
 }
 
@@ -226,8 +313,7 @@ impl Place {
 pub fn check<S: Sample>(rt: &impl Abort, alloc: Global, table: &str) -> Result<(), Fail> {
     let mut state = PredictorState::<S>::new(alloc);
     for line in table.lines() {
-        let (put, expected) = line.split_once("|:").ok_or("nothing expected")?;
-        check_place(rt, alloc, &mut state, put, expected)?;
+        check_place(rt, alloc, &mut state, line)?;
     }
     Ok(())
 }
@@ -236,24 +322,22 @@ fn check_place<S: Sample>(
     rt: &impl Abort,
     alloc: Global,
     state: &mut PredictorState<S>,
-    put: &str,
-    expected: &str,
+    line: &str,
 ) -> Result<(), Fail> {
+    let (put, expected) = line.split_once("|:").ok_or("nothing expected")?;
     let place = read_place(alloc, put)?;
-    let (store, regions) = (place.store::<S>(alloc)?, place.regions(alloc)?);
-    let (row, width) = (place.row(), place.width);
-    assert!(rt;
-        regions
-            .iter()
-            .all(|region| holds_row(&store, *region, width, row))
+    compare(
+        rt,
+        place.told_in(alloc, state, false)?.as_str(),
+        expected,
+        put,
     );
-    let (below, corrects) = (20 + 4 * regions.len(), place.weights.is_some());
-    let seen = place.told_at(alloc, state, &store, &regions, below, corrects)?;
-    assert_eq!(rt; seen.as_str(), expected, "{put}");
-    if place.is_inner() {
-        let seen = place.told_inside(alloc, state, &store, &regions, below, corrects)?;
-        assert_eq!(rt; seen.as_str(), expected, "{put}");
-    }
+    compare(
+        rt,
+        place.told_in(alloc, state, true)?.as_str(),
+        expected,
+        put,
+    );
     Ok(())
 }
 
@@ -262,13 +346,13 @@ fn check_place<S: Sample>(
 pub fn check_eighths<S: Sample>(rt: &impl Abort, alloc: Global, table: &str) -> Result<(), Fail> {
     let mut state = PredictorState::<S>::new(alloc);
     for line in table.lines() {
-        let (put, expected) = line.split_once("|:").ok_or("nothing expected")?;
-        check_eighths_at(rt, alloc, &mut state, put, expected)?;
+        check_eighths_at(rt, alloc, &mut state, line)?;
     }
     Ok(())
 }
 
-fn eighths<S: Sample>(alloc: Global, properties: &Properties<'_, S>) -> Result<String, Fail>
+/// The weighted prediction: in eighths before its clamp and after it, property 15, and the sample.
+pub fn eighths<S: Sample>(alloc: Global, properties: &Properties<'_, S>) -> Result<String, Fail>
     requires { IsCurrent properties.now }
 {
     let (before, after) = (before_clamp(properties), after_clamp(properties));
@@ -283,13 +367,10 @@ fn check_eighths_at<S: Sample>(
     rt: &impl Abort,
     alloc: Global,
     state: &mut PredictorState<S>,
-    put: &str,
-    expected: &str,
+    line: &str,
 ) -> Result<(), Fail> {
-    let place = read_place(alloc, put)?;
-    let store = place.store::<S>(alloc)?;
-    place.stand(state, &store, &[])?;
-    let seen = eighths(alloc, &state.properties::<true>(&store))?;
-    assert_eq!(rt; seen.as_str(), expected, "{put}");
+    let (put, expected) = line.split_once("|:").ok_or("nothing expected")?;
+    let seen = read_place(alloc, put)?.eighths_in(alloc, state)?;
+    compare(rt, seen.as_str(), expected, put);
     Ok(())
 }

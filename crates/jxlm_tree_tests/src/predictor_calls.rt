@@ -1,40 +1,45 @@
 // Predictors by number, weights, and cells that a state with room comes to.
 
-use crate::places::{check, check_eighths};
+ghost use Rattle.jxlm_tree.specs.Holding.{IsCurrent};
+ghost use Rattle.jxlm_tree.specs.Standing.{HoldsRow};
+
+use crate::calls::compare;
+use crate::places::{check, check_eighths, eighths, header_in, holds_row, told};
 use jxlm_base::bits::{Bitstream, BitstreamError};
 use jxlm_base::grid::{AlignedGrid, Region};
-use jxlm_base::region::region_set;
-use jxlm_base_tests::text::bytes;
+use jxlm_base::sample::Sample;
+use jxlm_base_tests::text::{bytes, pair};
 use jxlm_ma::flat::{AskedProperty, PlaceProperties};
-use jxlm_tree::eighths::{after_clamp, before_clamp};
 use jxlm_tree::predictor::{
-    Predictor, PredictorState, WpHeader, self_correcting_stays_in_range, weights_are_read_exactly,
+    Predictor, PredictorState, Properties, WpHeader, self_correcting_stays_in_range,
+    weights_are_read_exactly,
 };
 use std::alloc::Global;
 use std::process::Abort;
 use std::test::Fail;
 
+fn predictor_of(number: u32) -> Result<Predictor, BitstreamError> {
+    Predictor::try_from(number)
+}
+
+fn check_number(rt: &impl Abort, number: u32, expected: Result<Predictor, BitstreamError>) {
+    assert_eq!(rt; predictor_of(number), expected, "{number}");
+}
+
 #[test]
 fn predictors_by_number(rt: HostRuntime) {
-    for (number, predictor) in [
-        (0, Predictor::Zero),
-        (5, Predictor::Gradient),
-        (13, Predictor::AvgAll),
-    ] {
-        assert_eq!(rt; Predictor::try_from(number), Ok(predictor));
-    }
+    check_number(&rt, 0, Ok(Predictor::Zero));
+    check_number(&rt, 5, Ok(Predictor::Gradient));
+    check_number(&rt, 13, Ok(Predictor::AvgAll));
     for value in [14, u32::MAX] {
-        let unknown = BitstreamError::InvalidEnum {
-            name: "MaProperty",
-            value,
-        };
-        assert_eq!(rt; Predictor::try_from(value), Err(unknown));
+        let name = "MaProperty";
+        check_number(&rt, value, Err(BitstreamError::InvalidEnum { name, value }));
     }
     assert_eq!(rt; Predictor::default(), Predictor::Zero);
 }
 
 // Whether the weights are the default ones, and their numbers in order.
-fn told(alloc: Global, header: &WpHeader) -> Result<String, Fail> {
+fn told_weights(alloc: Global, header: &WpHeader) -> Result<String, Fail> {
     let WpHeader {
         default_wp,
         wp_p1,
@@ -49,9 +54,13 @@ fn told(alloc: Global, header: &WpHeader) -> Result<String, Fail> {
         wp_w2,
         wp_w3,
     } = *header;
-    Ok(format!(in alloc;
-        "{default_wp} {wp_p1} {wp_p2} {wp_p3a} {wp_p3b} {wp_p3c} {wp_p3d} {wp_p3e} {wp_w0} {wp_w1} {wp_w2} {wp_w3}"
-    )?)
+    let mut text = format!(in alloc; "{default_wp}")?;
+    for number in [
+        wp_p1, wp_p2, wp_p3a, wp_p3b, wp_p3c, wp_p3d, wp_p3e, wp_w0, wp_w1, wp_w2, wp_w3,
+    ] {
+        write!(text, " {number}")?;
+    }
+    Ok(text)
 }
 
 const DEFAULT: &str = "true 16 10 7 7 7 0 0 13 12 12 12";
@@ -64,30 +73,32 @@ const HEADERS: &str = "\
 7e108314|bitstream error: unexpected end of input @31
 |bitstream error: unexpected end of input @0";
 
-fn check_header(rt: &impl Abort, alloc: Global, line: &str) -> Result<(), Fail> {
-    let (digits, expected) = line.split_once('|').ok_or("nothing expected")?;
-    let bytes = bytes(alloc, digits)?;
-    let mut bits = Bitstream::new(&bytes);
-    let parsed = WpHeader::parse(&mut bits);
-    let position = bits.position();
-    let seen = match parsed {
-        Ok(header) => {
-            let numbers = told(alloc, &header)?;
-            format!(in alloc; "{numbers} @{position}")?
-        }
-        Err(error) => format!(in alloc; "{error} @{position}")?,
+// The weights in these bytes, or an error, and the reader's position.
+fn told_header(alloc: Global, bytes: &[u8]) -> Result<String, Fail> {
+    let mut bits = Bitstream::new(bytes);
+    let header = header_in(&mut bits);
+    let mut text = match header {
+        Ok(header) => told_weights(alloc, &header)?,
+        Err(error) => format!(in alloc; "{error}")?,
     };
-    assert_eq!(rt; seen.as_str(), expected, "{digits}");
+    write!(text, " @{}", bits.position())?;
+    Ok(text)
+}
+
+fn check_header(rt: &impl Abort, alloc: Global, row: &str) -> Result<(), Fail> {
+    let (digits, expected) = pair(row, '|')?;
+    let bytes = bytes(alloc, digits)?;
+    compare(rt, told_header(alloc, &bytes)?.as_str(), expected, row);
     Ok(())
 }
 
 #[test]
 fn weights(rt: HostRuntime) -> Result<(), Fail> {
-    for line in HEADERS.lines() {
-        check_header(&rt, rt.alloc(), line)?;
+    for row in HEADERS.lines() {
+        check_header(&rt, rt.alloc(), row)?;
     }
-    let usual = told(rt.alloc(), &WpHeader::default())?;
-    assert_eq!(rt; usual.as_str(), DEFAULT);
+    let usual = told_weights(rt.alloc(), &WpHeader::default())?;
+    compare(&rt, usual.as_str(), DEFAULT, "the default weights");
     Ok(())
 }
 
@@ -127,31 +138,57 @@ fn clamps(rt: HostRuntime) -> Result<(), Fail> {
     check_eighths::<i32>(&rt, rt.alloc(), EIGHTHS)
 }
 
+// Properties and predictions as in a table of cells; after a colon the weighted prediction, and property 19 as decisions
+// ask for it.
+fn told_all<S: Sample>(alloc: Global, properties: &Properties<'_, S>) -> Result<String, Fail>
+    requires { IsCurrent properties.now }
+{
+    let asked = properties.property(&AskedProperty::new(19));
+    let cell = told(alloc, properties, 21, true)?;
+    let weighted = eighths(alloc, properties)?;
+    Ok(format!(in alloc; "{cell}: {weighted} {asked}")?)
+}
+
 // Width 3 and the default weights, in a state with more room: the cell after a sample of 1.
-#[test]
-fn a_state_with_more_room(rt: HostRuntime) -> Result<(), Fail> {
+fn second_cell<S: Sample>(alloc: Global) -> Result<String, Fail> {
     let header = WpHeader::default();
-    let mut state: PredictorState<i32> = PredictorState::with_room(
-        rt.alloc(),
-        5,
-        0,
-        Some(&header),
-    )?;
+    let mut state: PredictorState<S> = PredictorState::with_room(alloc, 5, 0, Some(&header))?;
     state.restart(3);
     state.properties::<true>(&[]).record(1);
-    let second = state.properties::<true>(&[]);
-    assert_eq!(rt; [second.get(2), second.get(3), second.get(15)], [0, 1, -8]);
-    assert_eq!(rt; [before_clamp(&second), after_clamp(&second)], [10, 8]);
-    assert_eq!(rt; Predictor::SelfCorrecting.predict(&second), 1);
+    told_all(alloc, &state.properties::<true>(&[]))
+}
+
+#[test]
+fn a_state_with_more_room(rt: HostRuntime) -> Result<(), Fail> {
+    let expected =
+        "0 1 1 1 1 1 1 1 0 0 0 0 0 -8 0 0 0 0 0 | 0 1 1 1 1 1 1 1 1 1 1 1 1 1: 10 8 -8 1 0";
+    let seen = second_cell::<i32>(rt.alloc())?;
+    compare(&rt, seen.as_str(), expected, "after a sample of 1");
     Ok(())
 }
 
-// After a channel of width 3 one of width 4, beside an earlier one whose first cell is -5: nothing of the first is
-// left.
-#[test]
-fn another_channel(rt: HostRuntime) -> Result<(), Fail> {
+// After a channel of width 3 one of width 4 and with the default weights, beside this earlier one.
+fn first_cell<S: Sample>(
+    alloc: Global,
+    store: &[AlignedGrid<S>],
+    region: Region,
+) -> Result<String, Fail>
+    requires { HoldsRow region store.now 4 0 }
+{
     let header = WpHeader::default();
-    let mut store = vec![in rt.alloc(); AlignedGrid::<i32>::new(rt.alloc(), 4, 1)?]?;
+    let mut state: PredictorState<S> = PredictorState::with_room(alloc, 4, 1, Some(&header))?;
+    state.restart(3);
+    state.properties::<true>(&[]).record(-1000);
+    state.restart(4);
+    state.add_earlier(region);
+    told_all(alloc, &state.properties::<true>(store))
+}
+
+// The same beside a channel whose first cell is -5.
+fn beside_another<S: Sample>(alloc: Global) -> Result<String, Fail> {
+    let mut grid = AlignedGrid::<S>::new(alloc, 4, 1)?;
+    *grid.get_mut(0, 0) = S::from_i32(-5);
+    let store = vec![in alloc; grid]?;
     let region = Region {
         buffer: 0,
         x: 0,
@@ -159,28 +196,19 @@ fn another_channel(rt: HostRuntime) -> Result<(), Fail> {
         width: 4,
         height: 1,
     };
-    region_set(&mut store, region, 0, 0, -5);
-    let mut state: PredictorState<i32> = PredictorState::with_room(
-        rt.alloc(),
-        4,
-        1,
-        Some(&header),
-    )?;
-    state.restart(3);
-    state.properties::<true>(&[]).record(-1000);
-    state.restart(4);
-    state.add_earlier(region);
-    let first = state.properties::<true>(&store);
-    for property in 2..16 {
-        assert_eq!(rt; first.get(property), 0, "at {property}");
+    if !holds_row(&store, region, 4, 0) {
+        return Err("an earlier channel without the row".into());
     }
-    assert_eq!(rt; [first.get(16), first.get(17)], [5, -5]);
-    assert_eq!(rt;
-        [first.get(18), first.property(&AskedProperty::new(19))],
-        [5, -5]
-    );
-    assert_eq!(rt; first.get(20), 0);
-    assert_eq!(rt; Predictor::SelfCorrecting.predict(&first), 0);
+    first_cell(alloc, &store, region)
+}
+
+// Nothing of the first channel is left.
+#[test]
+fn another_channel(rt: HostRuntime) -> Result<(), Fail> {
+    let expected =
+        "0 0 0 0 0 0 0 0 0 0 0 0 0 0 5 -5 5 -5 0 | 0 0 0 0 0 0 0 0 0 0 0 0 0 0: 0 0 0 0 -5";
+    let seen = beside_another::<i32>(rt.alloc())?;
+    compare(&rt, seen.as_str(), expected, "beside a cell of -5");
     Ok(())
 }
 

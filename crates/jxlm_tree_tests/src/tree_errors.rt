@@ -1,12 +1,13 @@
 // Small trees, whole and with errors, and the deepest ones. What is expected of them was computed from the format's
 // definitions.
 
-use crate::told::Told;
+use crate::calls::{leaf_at, size_of, tree_at};
 use crate::trees::{check, read_tree};
 use jxlm_base::bits::Bitstream;
 use jxlm_base::decoder::Decoder;
 use jxlm_base::error::Error;
-use jxlm_ma::flat::{Steps, a_flat_tree_walks_by_properties};
+use jxlm_base_tests::text::pair;
+use jxlm_ma::flat::a_flat_tree_walks_by_properties;
 use jxlm_ma::ma::{
     MaConfig, each_listing_is_of_a_tree, each_tree_is_read_exactly, no_two_trees_share_a_listing,
 };
@@ -69,47 +70,49 @@ const SEVEN_NODES: &[u8] = &[
 fn facts<D: Decoder>(
     alloc: Global,
     config: &MaConfig<D>,
-    channel: u32,
-    stream: u32,
-    earlier: u32,
+    place: [u32; 3],
 ) -> Result<(u8, usize, usize, bool), Error> {
-    let flat = config.make_flat_tree(alloc, channel, stream, earlier)?;
-    let cluster = flat.leaf(&Told { values: &[] }, &mut Steps::new()).cluster;
-    let (nodes, named) = (flat.num_nodes(), flat.max_prev_channel_depth());
+    let flat = tree_at(alloc, config, place)?;
+    let (nodes, named) = size_of(&flat);
+    let cluster = leaf_at(&flat, &[]).cluster;
     Ok((cluster, nodes, named, flat.need_self_correcting()))
 }
 
 // A tree under these limits, of which this is expected.
-fn tree(
+fn tree<D: Decoder>(
     rt: &impl Abort,
     alloc: Global,
     bytes: &[u8],
     limits: &str,
     expected: &str,
-) -> Result<MaConfig<PlainDecoder>, Fail> {
+) -> Result<MaConfig<D>, Fail> {
     let mut bits = Bitstream::new(bytes);
-    let config = read_tree::<PlainDecoder>(rt, alloc, &mut bits, limits, expected)?;
+    let config = read_tree::<D>(rt, alloc, &mut bits, limits, expected)?;
     Ok(config.ok_or("no tree")?)
+}
+
+// The cluster of each context of a tree's leaves.
+fn check_clusters<D: Decoder>(rt: &impl Abort, alloc: Global) -> Result<(), Fail> {
+    let config = tree::<D>(rt, alloc, WEST, "0 0 0", "1 nodes, depth 0 @143")?;
+    assert_eq!(rt; config.decoder().cluster_map(), [1].as_slice());
+    Ok(())
 }
 
 // The root tests property 3. On its left property 17 leads to a leaf of `Zero`, or else to one that needs weights; on
 // its right property 1 leads to a leaf, which is known. Without an earlier channel property 17 is known too.
-#[test]
-fn questions(rt: HostRuntime) -> Result<(), Fail> {
-    let config = tree(&rt, rt.alloc(), WEST, "0 0 0", "1 nodes, depth 0 @143")?;
-    assert_eq!(rt; config.decoder().cluster_map(), [1].as_slice());
-    let config = tree(
-        &rt,
-        rt.alloc(),
-        SEVEN_NODES,
-        "0 6 2",
-        "7 nodes, depth 2 @231",
-    )?;
+fn check_questions<D: Decoder>(rt: &impl Abort, alloc: Global) -> Result<(), Fail> {
+    let config = tree::<D>(rt, alloc, SEVEN_NODES, "0 6 2", "7 nodes, depth 2 @231")?;
     for (earlier, expected) in [(0, (3, 0, false)), (1, (4, 1, true)), (2, (4, 1, true))] {
-        let (_, nodes, named, weights) = facts(rt.alloc(), &config, 0, 0, earlier)?;
+        let (_, nodes, named, weights) = facts(alloc, &config, [0, 0, earlier])?;
         assert_eq!(rt; (nodes, named, weights), expected);
     }
     Ok(())
+}
+
+#[test]
+fn questions(rt: HostRuntime) -> Result<(), Fail> {
+    check_clusters::<PlainDecoder>(&rt, rt.alloc())?;
+    check_questions::<PlainDecoder>(&rt, rt.alloc())
 }
 
 fn set(bytes: &mut [u8; 1546], place: usize) {
@@ -141,41 +144,47 @@ fn chain(depth: u16) -> [u8; 1546] {
 }
 
 // One more decision is too deep, also where the limit of nodes is just reached; where that is passed, it comes first.
+const TOO_DEEP: &str = "\
+0 67108864 2048|bitstream error: decoded MA tree is too deep @12363
+0 4098 2048|bitstream error: decoded MA tree is too deep @12363
+0 4097 2048|bitstream error: MA tree limit exceeded @4142";
+
+fn check_no_tree<D: Decoder>(
+    rt: &impl Abort,
+    alloc: Global,
+    bytes: &[u8],
+    row: &str,
+) -> Result<(), Fail> {
+    let (limits, expected) = pair(row, '|')?;
+    let tree = read_tree::<D>(rt, alloc, &mut Bitstream::new(bytes), limits, expected)?;
+    assert!(rt; tree.is_none(), "{row}");
+    Ok(())
+}
+
 #[test]
 fn too_deep(rt: HostRuntime) -> Result<(), Fail> {
     let bytes = chain(2049);
-    for (limits, expected) in [
-        (
-            "0 67108864 2048",
-            "bitstream error: decoded MA tree is too deep @12363",
-        ),
-        (
-            "0 4098 2048",
-            "bitstream error: decoded MA tree is too deep @12363",
-        ),
-        (
-            "0 4097 2048",
-            "bitstream error: MA tree limit exceeded @4142",
-        ),
-    ] {
-        let mut bits = Bitstream::new(&bytes);
-        let tree = read_tree::<PlainDecoder>(&rt, rt.alloc(), &mut bits, limits, expected)?;
-        assert!(rt; tree.is_none());
+    for row in TOO_DEEP.lines() {
+        check_no_tree::<PlainDecoder>(&rt, rt.alloc(), &bytes, row)?;
     }
     Ok(())
 }
 
 // The deepest tree, of decisions on the channel, is compiled to one leaf for each, and dropped with what shares it.
-#[test]
-fn the_deepest_tree(rt: HostRuntime) -> Result<(), Fail> {
+fn check_deepest<D: Decoder>(rt: &impl Abort, alloc: Global) -> Result<(), Fail> {
     let bytes = chain(2048);
     let expected = "4097 nodes, depth 2048 @12357";
-    let config = tree(&rt, rt.alloc(), &bytes, "0 67108864 2048", expected)?;
-    let copy = config.try_clone(rt.alloc())?;
-    assert_eq!(rt; facts(rt.alloc(), &config, 0, 7, 3)?, (1, 1, 0, false));
+    let config = tree::<D>(rt, alloc, &bytes, "0 67108864 2048", expected)?;
+    let copy = config.try_clone(alloc)?;
+    assert_eq!(rt; facts(alloc, &config, [0, 7, 3])?, (1, 1, 0, false));
     drop(config);
-    assert_eq!(rt; facts(rt.alloc(), &copy, 1, 7, 0)?.0, 0);
+    assert_eq!(rt; facts(alloc, &copy, [1, 7, 0])?.0, 0);
     Ok(())
+}
+
+#[test]
+fn the_deepest_tree(rt: HostRuntime) -> Result<(), Fail> {
+    check_deepest::<PlainDecoder>(&rt, rt.alloc())
 }
 
 #[test]

@@ -1,53 +1,58 @@
 // Tables of trees, each with what its reading comes to, and walks through it.
 
-ghost use Rattle.std.specs.Prelude.{◌≡◌, ◌≤◌, ◌^◌, IfOk};
+ghost use Rattle.std.specs.Prelude.{◌≡◌, IfOk};
 ghost use Rattle.jxlm_ma.specs.FlatTree.{ClustersStandIn};
 
+use crate::calls::{compare, leaf_at, skip, tree_at, tree_in};
 use crate::told::Told;
 use jxlm_base::bits::Bitstream;
 use jxlm_base::decoder::Decoder;
 use jxlm_base::error::Error;
 use jxlm_base_tests::text::{bytes, pair, signed};
-use jxlm_ma::flat::{FlatMaTree, Steps};
-use jxlm_ma::ma::{MaConfig, MaConfigParams};
+use jxlm_ma::flat::{FlatMaTree, Leaf};
+use jxlm_ma::ma::MaConfig;
+use jxlm_tree::predictor::Predictor;
 use std::alloc::Global;
 use std::process::Abort;
 use std::test::Fail;
 
-// How many bits come before the tree, and its limits, by the numbers of a line.
-fn limits(place: &str) -> Result<(u32, MaConfigParams), Fail>
-    ensures nodes { IfOk result (λ p. p.1.node_limit ≤ 2 ^ 26) }
-    ensures depth { IfOk result (λ p. p.1.depth_limit ≤ 2048) }
-{
-    let (start, rest) = pair(place, ' ')?;
-    let (node_limit, depth_limit) = pair(rest, ' ')?;
-    let start = start.parse::<u32>()?;
-    let limits = MaConfigParams {
-        node_limit: node_limit.parse::<usize>()?.min(1 << 26),
-        depth_limit: depth_limit.parse::<usize>()?.min(2048),
-    };
-    Ok((start, limits))
+/// Three numbers with spaces between.
+pub fn three(text: &str) -> Result<[u32; 3], Fail> {
+    let (first, rest) = pair(text, ' ')?;
+    let (second, third) = pair(rest, ' ')?;
+    let first = first.parse::<u32>()?;
+    let (second, third) = (second.parse::<u32>()?, third.parse::<u32>()?);
+    Ok([first, second, third])
+}
+
+// A row's parts: the bits before the tree and its limits, the bytes, what is expected, and the walks; none where no
+// tree is expected.
+fn parts(row: &str) -> Result<(&str, &str, &str, &str), Fail> {
+    let (place, rest) = pair(row, '|')?;
+    let (digits, rest) = pair(rest, '|')?;
+    let (expected, walks) = rest.split_once('|').unwrap_or((rest, ""));
+    Ok((place, digits, expected, walks))
 }
 
 /// Reads each tree of a table, and walks it.
 pub fn check<D: Decoder>(rt: &impl Abort, alloc: Global, table: &str) -> Result<(), Fail> {
-    for line in table.lines() {
-        let mut fields = line.split('|');
-        let place = fields.next().ok_or("no place")?;
-        let bytes = bytes(alloc, fields.next().ok_or("no bytes")?)?;
-        let expected = fields.next().ok_or("nothing expected")?;
-        let mut bits = Bitstream::new(&bytes);
-        if let Some(config) = read_tree::<D>(rt, alloc, &mut bits, place, expected)? {
-            walk_all(
-                rt,
-                alloc,
-                &config,
-                &mut bits,
-                fields.next().ok_or("no walks")?,
-            )?;
-        }
+    for row in table.lines() {
+        check_row::<D>(rt, alloc, row)?;
     }
     Ok(())
+}
+
+fn check_row<D: Decoder>(rt: &impl Abort, alloc: Global, row: &str) -> Result<(), Fail> {
+    let (place, digits, expected, walks) = parts(row)?;
+    let bytes = bytes(alloc, digits)?;
+    let mut bits = Bitstream::new(&bytes);
+    let Some(config) = read_tree::<D>(rt, alloc, &mut bits, place, expected)? else {
+        return Ok(());
+    };
+    if walks.is_empty() {
+        return Err("no walks".into());
+    }
+    walk_all(rt, alloc, &config, &mut bits, walks)
 }
 
 // How large a tree is, or its error, and the reader's position after it.
@@ -65,6 +70,17 @@ fn size<D: Decoder>(
     })
 }
 
+// The tree after n bits under these limits, or its error.
+fn tree_after<D: Decoder>(
+    alloc: Global,
+    bits: &mut Bitstream<'_>,
+    place: &str,
+) -> Result<Result<MaConfig<D>, Error>, Fail> {
+    let [start, nodes, depth] = three(place)?;
+    skip(bits, start)?;
+    Ok(tree_in(alloc, bits, nodes as usize, depth as usize))
+}
+
 /// Reads the tree after n bits under these limits, and compares what is expected of it: how large it is, or its
 /// error, and the reader's position then.
 pub fn read_tree<D: Decoder>(
@@ -74,13 +90,9 @@ pub fn read_tree<D: Decoder>(
     place: &str,
     expected: &str,
 ) -> Result<Option<MaConfig<D>>, Fail> {
-    let (start, limits) = limits(place)?;
-    for _ in 0..start {
-        bits.read_bits(1)?;
-    }
-    let parsed = MaConfig::<D>::parse(alloc, bits, limits);
+    let parsed = tree_after::<D>(alloc, bits, place)?;
     let seen = size(alloc, &parsed, bits.position())?;
-    assert_eq!(rt; seen.as_str(), expected, "{place}");
+    compare(rt, seen.as_str(), expected, place);
     Ok(parsed.ok())
 }
 
@@ -100,37 +112,57 @@ fn walk_all<D: Decoder>(
     Ok(())
 }
 
-// A channel, a stream, and a count of earlier channels.
-fn place(text: &str) -> Result<(u32, u32, u32), Fail> {
-    let (channel, rest) = pair(text, ' ')?;
-    let (stream, earlier) = pair(rest, ' ')?;
-    Ok((
-        channel.parse::<u32>()?,
-        stream.parse::<u32>()?,
-        earlier.parse::<u32>()?,
-    ))
+// The sample of the next token before its prediction, and its predictor.
+fn token<D: Decoder>(
+    flat: &FlatMaTree,
+    decoder: &mut D,
+    bits: &mut Bitstream<'_>,
+    values: &[i32],
+) -> Result<(i32, Predictor), Error>
+    requires { ClustersStandIn (D.meaning.cluster_map decoder.old) flat.now.tree }
+    ensures { IfOk result (λ _. D.meaning.cluster_map decoder.new ≡ D.meaning.cluster_map decoder.old) }
+{
+    flat.decode_sample(bits, decoder, &Told { values }, 0)
+}
+
+// The leaf to which a walk leads, the sample of its token, and the reader's position then; the sample's predictor is
+// the leaf's.
+fn told(
+    alloc: Global,
+    leaf: &Leaf,
+    token: (i32, Predictor),
+    position: u64,
+) -> Result<String, Fail> {
+    let (sample, predictor) = token;
+    if leaf.predictor != predictor {
+        return Err("the leaf's predictor is another".into());
+    }
+    let (cluster, offset, multiplier) = (leaf.cluster, leaf.offset, leaf.multiplier);
+    Ok(format!(in alloc; "{cluster} {predictor:?} {offset} {multiplier} {sample} @{position}")?)
 }
 
 // The leaf of these properties, the sample of its token before its prediction, and the reader's position then.
 fn walked<D: Decoder>(
     alloc: Global,
-    flat: &FlatMaTree,
+    config: &MaConfig<D>,
     decoder: &mut D,
     bits: &mut Bitstream<'_>,
+    place: [u32; 3],
     values: &[i32],
 ) -> Result<String, Fail>
-    requires { ClustersStandIn (D.meaning.cluster_map decoder.old) flat.now.tree }
+    requires { D.meaning.cluster_map decoder.old ≡ D.meaning.cluster_map config.now.decoder }
     ensures { IfOk result (λ _. D.meaning.cluster_map decoder.new ≡ D.meaning.cluster_map decoder.old) }
 {
-    let told = Told { values };
-    let leaf = flat.leaf(&told, &mut Steps::new());
-    let (cluster, offset, multiplier) = (leaf.cluster, leaf.offset, leaf.multiplier);
-    let (sample, predictor) = flat.decode_sample(bits, decoder, &told, 0)?;
-    if leaf.predictor != predictor {
-        return Err("the leaf's predictor is another".into());
-    }
-    let position = bits.position();
-    Ok(format!(in alloc; "{cluster} {predictor:?} {offset} {multiplier} {sample} @{position}")?)
+    let flat = tree_at(alloc, config, place)?;
+    let token = token(&flat, decoder, bits, values)?;
+    told(alloc, &leaf_at(&flat, values), token, bits.position())
+}
+
+// A walk's place, its properties, and what is expected.
+fn words(walk: &str) -> Result<([u32; 3], &str, &str), Fail> {
+    let (put, expected) = pair(walk, '=')?;
+    let (place, values) = pair(put, ':')?;
+    Ok((three(place)?, values, expected))
 }
 
 // Walks by a channel, a stream, a count of earlier channels and, after a colon, the properties from 2 on; and
@@ -144,14 +176,11 @@ fn walk_once<D: Decoder>(
     walk: &str,
 ) -> Result<(), Fail>
     requires { D.meaning.cluster_map decoder.old ≡ D.meaning.cluster_map config.now.decoder }
-    ensures { IfOk result (λ _. D.meaning.cluster_map decoder.new ≡ D.meaning.cluster_map config.now.decoder) }
+    ensures { IfOk result (λ _. D.meaning.cluster_map decoder.new ≡ D.meaning.cluster_map decoder.old) }
 {
-    let (put, expected) = pair(walk, '=')?;
-    let (words, values) = pair(put, ':')?;
-    let (channel, stream, earlier) = place(words)?;
+    let (place, values, expected) = words(walk)?;
     let values = signed(alloc, values)?;
-    let flat = config.make_flat_tree(alloc, channel, stream, earlier)?;
-    let seen = walked(alloc, &flat, decoder, bits, &values)?;
-    assert_eq!(rt; seen.as_str(), expected, "{walk}");
+    let seen = walked(alloc, config, decoder, bits, place, &values)?;
+    compare(rt, seen.as_str(), expected, walk);
     Ok(())
 }
