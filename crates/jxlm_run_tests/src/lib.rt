@@ -29,4 +29,6 @@ mod rows;
 mod run;
 #[cfg(test)]
 mod surface;
+#[cfg(test)]
+mod tables;
 pub mod viewer;

@@ -152,39 +152,92 @@ fn run<S: Sample, D: Decoder>(
     }
 }
 
+// The fields of a line.
+#[derive(Clone, Copy)]
+struct Line<'t> {
+    channels: &'t str,
+    group_dim: &'t str,
+    depth: &'t str,
+    passes: &'t str,
+    header: &'t str,
+    trees: &'t str,
+    sections: &'t str,
+    expected: &'t str,
+}
+
+fn fields(line: &str) -> Result<Line<'_>, Fail> {
+    let (channels, rest) = pair(line, '|')?;
+    let (setting, rest) = pair(rest, '|')?;
+    let (header, rest) = pair(rest, '|')?;
+    let (sections, expected) = pair(rest, '|')?;
+    let (group_dim, rest) = pair(setting, ' ')?;
+    let (depth, passes) = rest.split_once(' ').unwrap_or((rest, ""));
+    let (header, trees) = header.split_once(' ').unwrap_or((header, ""));
+    Ok(Line {
+        channels,
+        group_dim,
+        depth,
+        passes,
+        header,
+        trees,
+        sections,
+        expected,
+    })
+}
+
+// What comes of a run of these parameters, which are valid, and these sections.
+fn run_sections<S: Sample, D: Decoder>(
+    alloc: Global,
+    params: ModularParams<'_, D>,
+    line: Line<'_>,
+    sections: &[Section<'_>],
+    way: Way,
+) -> Result<String, Fail>
+    requires { IsValidParams params }
+{
+    let header = bytes(alloc, line.header)?;
+    let passes = passes(alloc, line.passes)?;
+    let inner = global::<D>(alloc, line.trees, 's')?;
+    run::<S, D>(
+        alloc,
+        params,
+        &passes,
+        &header,
+        sections,
+        inner.as_ref(),
+        way,
+    )
+}
+
 /// What comes of a run that is decoded by one call, or by a call for each part, and what is expected of it. Its
 /// sections can be cut off: after as many whole ones, and as many bytes of the next.
 pub fn seen<'t, S: Sample, D: Decoder>(
     rt: &impl Abort,
     alloc: Global,
-    line: &'t str,
+    text: &'t str,
     by_parts: bool,
     partial: bool,
     end: Option<(usize, usize)>,
 ) -> Result<(String, &'t str), Fail> {
-    let (channels, rest) = pair(line, '|')?;
-    let (setting, rest) = pair(rest, '|')?;
-    let (header, rest) = pair(rest, '|')?;
-    let (sections_text, expected) = pair(rest, '|')?;
-    let (group_dim, rest) = pair(setting, ' ')?;
-    let (depth, passes_text) = rest.split_once(' ').unwrap_or((rest, ""));
-    let (header, trees) = header.split_once(' ').unwrap_or((header, ""));
-    let outer = global::<D>(alloc, trees, 'p')?;
-    let params = params::<D>(alloc, channels, group_dim, depth, outer.as_ref())?;
-    assert!(rt; params.is_valid(), "{line}");
-    let header = bytes(alloc, header)?;
-    let inner = global::<D>(alloc, trees, 's')?;
-    let passes = passes(alloc, passes_text)?;
-    let pieces = pieces(alloc, sections_text)?;
+    let line = fields(text)?;
+    let outer = global::<D>(alloc, line.trees, 'p')?;
+    let params = params::<D>(
+        alloc,
+        line.channels,
+        line.group_dim,
+        line.depth,
+        outer.as_ref(),
+    )?;
+    assert!(rt; params.is_valid(), "{text}");
+    let pieces = pieces(alloc, line.sections)?;
     let sections = sections(alloc, &pieces, end)?;
     let way = Way {
         by_parts,
-        summed: expected.contains('#'),
+        summed: line.expected.contains('#'),
         partial,
     };
-    let inner = inner.as_ref();
-    let seen = run::<S, D>(alloc, params, &passes, &header, &sections, inner, way)?;
-    Ok((seen, expected))
+    let seen = run_sections::<S, D>(alloc, params, line, &sections, way)?;
+    Ok((seen, line.expected))
 }
 
 // Decodes a run by one call, or by a call for each part, and compares what is expected of it.

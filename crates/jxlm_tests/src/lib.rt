@@ -10,8 +10,6 @@ mod drawn;
 #[cfg(test)]
 mod earlier;
 #[cfg(test)]
-mod generated;
-#[cfg(test)]
 mod headers;
 #[cfg(test)]
 mod long_header;
@@ -32,6 +30,6 @@ mod surface;
 #[cfg(test)]
 mod table;
 #[cfg(test)]
-mod transformed;
+mod tables;
 #[cfg(test)]
 mod tree_bits;

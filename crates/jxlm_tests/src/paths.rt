@@ -168,44 +168,30 @@ fn check(
 // How many pictures are drawn for each path.
 const PICTURES: u32 = 2000;
 
-#[test]
-fn constants(rt: HostRuntime) -> Result<(), Fail> {
-    let tally = check(&rt, rt.alloc(), Kind::Constant, 1, PICTURES)?;
-    assert!(rt; tally.whole > 0 && tally.ended > 0 && tally.wrong > 0);
+// Checks what is drawn of some kinds, each from a seed; and whether sums can be wrong, which there are not under runs.
+fn check_kinds_of(rt: &impl Abort, alloc: Global, drawn: &[(Kind, u32, bool)]) -> Result<(), Fail> {
+    for (kind, number, sums) in drawn {
+        let tally = check(rt, alloc, *kind, *number, PICTURES)?;
+        assert!(rt; tally.whole > 0 && tally.ended > 0, "{kind:?}");
+        assert_eq!(rt; tally.wrong > 0, *sums, "{kind:?}");
+    }
     Ok(())
 }
 
 #[test]
-fn zeros(rt: HostRuntime) -> Result<(), Fail> {
-    let tally = check(&rt, rt.alloc(), Kind::Zero, 2, PICTURES)?;
-    assert!(rt; tally.whole > 0 && tally.ended > 0 && tally.wrong > 0);
-    Ok(())
+fn leaves_by_zero(rt: HostRuntime) -> Result<(), Fail> {
+    let drawn = [(Kind::Constant, 1, true), (Kind::Zero, 2, true)];
+    check_kinds_of(&rt, rt.alloc(), &drawn)
 }
 
 #[test]
-fn gradients(rt: HostRuntime) -> Result<(), Fail> {
-    let tally = check(&rt, rt.alloc(), Kind::Gradient, 3, PICTURES)?;
-    assert!(rt; tally.whole > 0 && tally.ended > 0 && tally.wrong > 0);
-    Ok(())
+fn leaves_by_the_gradient(rt: HostRuntime) -> Result<(), Fail> {
+    let drawn = [(Kind::Gradient, 3, true), (Kind::Runs, 4, false)];
+    check_kinds_of(&rt, rt.alloc(), &drawn)
 }
 
 #[test]
-fn runs(rt: HostRuntime) -> Result<(), Fail> {
-    let tally = check(&rt, rt.alloc(), Kind::Runs, 4, PICTURES)?;
-    assert!(rt; tally.whole > 0 && tally.ended > 0);
-    Ok(())
-}
-
-#[test]
-fn clusters(rt: HostRuntime) -> Result<(), Fail> {
-    let tally = check(&rt, rt.alloc(), Kind::Clusters, 5, PICTURES)?;
-    assert!(rt; tally.whole > 0 && tally.ended > 0 && tally.wrong > 0);
-    Ok(())
-}
-
-#[test]
-fn gradient_clusters(rt: HostRuntime) -> Result<(), Fail> {
-    let tally = check(&rt, rt.alloc(), Kind::GradientClusters, 6, PICTURES)?;
-    assert!(rt; tally.whole > 0 && tally.ended > 0 && tally.wrong > 0);
-    Ok(())
+fn tables_of_clusters(rt: HostRuntime) -> Result<(), Fail> {
+    let drawn = [(Kind::Clusters, 5, true), (Kind::GradientClusters, 6, true)];
+    check_kinds_of(&rt, rt.alloc(), &drawn)
 }
