@@ -3,7 +3,8 @@
 # groups: the same on examples/groups.hex, a picture of two groups; it prints the samples.
 # build: proves and builds the program, and prints where it lies.
 # docs: looks up each name that the documents cite.
-# test: docs, and then every proof, every edit that the prover must refuse, every test and the program's run.
+# test: docs, and then every proof, every edit that the prover must refuse, every test and the program's run: four at a
+# time, each of which takes up to 4 GB.
 
 .PHONY: run triangle groups build docs test
 
@@ -26,4 +27,4 @@ docs:
 	@sh scripts/check_docs.sh
 
 test: docs
-	rt ci
+	RT_JOBS=$${RT_JOBS:-4} rt ci
