@@ -3,6 +3,7 @@
 ghost use Rattle.std.specs.Prelude.{length, IfOk};
 ghost use Rattle.jxlm_transform.specs.Channels.{HasSides};
 
+use crate::calls::{compare, compare_samples};
 use jxlm_base::error::Error;
 use jxlm_base::grid::{AlignedGrid, OutOfMemory, Region};
 use jxlm_base::sample::Sample;
@@ -14,7 +15,8 @@ use jxlm_transform::channels::ModularChannelInfo;
 use jxlm_transform::param::ChannelShift;
 use jxlm_transform::transform::{Palette, TransformInfo};
 use jxlm_tree::predictor::{Predictor, WpHeader};
-use std::alloc::Global;
+use std::alloc::{AllocError, Global};
+use std::process::Abort;
 use std::test::Fail;
 
 // A channel of one sample.
@@ -69,11 +71,20 @@ fn unsqueezed<S: Sample>(alloc: Global) -> Result<[i32; 4], Error> {
     Ok([read(row, 0), read(row, 1), read(row, 2), read(row, 3)])
 }
 
+fn check_row<S: Sample>(rt: &impl Abort, alloc: Global) -> Result<(), Fail> {
+    compare_samples(
+        rt,
+        &unsqueezed::<S>(alloc)?,
+        &[10, 11, 20, 20],
+        "a squeezed row",
+    );
+    Ok(())
+}
+
 #[test]
 fn a_squeezed_row(rt: HostRuntime) -> Result<(), Fail> {
-    assert_eq!(rt; unsqueezed::<i32>(rt.alloc())?, [10, 11, 20, 20]);
-    assert_eq!(rt; unsqueezed::<i16>(rt.alloc())?, [10, 11, 20, 20]);
-    Ok(())
+    check_row::<i32>(&rt, rt.alloc())?;
+    check_row::<i16>(&rt, rt.alloc())
 }
 
 // A palette of the first two channels, with a table of two colours.
@@ -97,23 +108,22 @@ const NEXT_TWO: Palette = Palette {
 };
 
 // Writes a channel as its buffer, and one of indices as its own with those that it stands for.
-fn show(grid: &TransformedGrid, text: &mut String) -> Result<(), Fail> {
+fn show(grid: &TransformedGrid, text: &mut String) -> Result<(), AllocError> {
     match grid {
-        TransformedGrid::Single(region) => write!(text, "{}", region.buffer)?,
+        TransformedGrid::Single(region) => write!(text, "{}", region.buffer),
         TransformedGrid::Merged { leader, members } => {
             write!(text, "{}(", leader.buffer)?;
             for member in members {
                 show(member, text)?;
                 text.push(';')?;
             }
-            text.push(')')?;
+            text.push(')')
         }
     }
-    Ok(())
 }
 
 // The channels of palettes, as text.
-fn palettes(alloc: Global, undoings: &[Undoing]) -> Result<String, Fail> {
+fn palettes(alloc: Global, undoings: &[Undoing]) -> Result<String, AllocError> {
     let mut text = String::new(alloc);
     for undoing in undoings {
         if let Undoing::Palette { index, .. } = undoing {
@@ -124,42 +134,62 @@ fn palettes(alloc: Global, undoings: &[Undoing]) -> Result<String, Fail> {
     Ok(text)
 }
 
-#[test]
-fn undoings_hold_merged_channels(rt: HostRuntime) -> Result<(), Fail> {
-    let mut listed = vec![in rt.alloc();
+// Three channels of one sample with a palette of the first two, and then one of the next two.
+fn two_palettes(alloc: Global) -> Result<PlacedChannels, Fail> {
+    let mut listed = vec![in alloc;
         TransformInfo::Palette(TWO),
         TransformInfo::Palette(NEXT_TWO),
     ]?;
-    let mut placed = PlacedChannels::whole(rt.alloc(), &[POINT, POINT, POINT])?;
-    placed.apply(rt.alloc(), &mut listed)?;
-    let text = palettes(rt.alloc(), &placed.undoings)?;
-    assert_eq!(rt; text.as_str(), "0(0;1;) 0(0(0;1;);2;) ");
-    Ok(())
+    let mut placed = PlacedChannels::whole(alloc, &[POINT, POINT, POINT])?;
+    placed.apply(alloc, &mut listed)?;
+    Ok(placed)
 }
 
 #[test]
-fn leaders_and_clones(rt: HostRuntime) -> Result<(), Fail> {
-    let at = |buffer: usize| Region {
+fn undoings_hold_merged_channels(rt: HostRuntime) -> Result<(), Fail> {
+    let text = palettes(rt.alloc(), &two_palettes(rt.alloc())?.undoings)?;
+    compare(&rt, text.as_str(), "0(0;1;) 0(0(0;1;);2;) ", "two palettes");
+    Ok(())
+}
+
+const fn at(buffer: usize) -> Region {
+    Region {
         buffer,
         x: 0,
         y: 0,
         width: 2,
         height: 2,
-    };
-    let alone = TransformedGrid::from(at(3));
-    assert_eq!(rt; alone.leader().buffer, 3);
-    let pair = vec![in rt.alloc(); alone, TransformedGrid::from(at(4))]?;
+    }
+}
+
+// A channel that stands for two, with the leader in buffer 3.
+fn merged(
+    alloc: Global,
+    first: TransformedGrid,
+    second: TransformedGrid,
+) -> Result<TransformedGrid, AllocError> {
+    let members = vec![in alloc; first, second]?;
     let leader = at(3);
-    let inner = TransformedGrid::Merged {
-        leader,
-        members: pair,
-    };
-    let members = vec![in rt.alloc(); inner, TransformedGrid::from(at(5))]?;
-    let outer = TransformedGrid::Merged { leader, members };
-    let clone = outer.try_clone(rt.alloc())?;
+    Ok(TransformedGrid::Merged { leader, members })
+}
+
+// One of buffers 3 and 4, merged with buffer 5.
+fn merged_twice(alloc: Global) -> Result<TransformedGrid, AllocError> {
+    let inner = merged(
+        alloc,
+        TransformedGrid::from(at(3)),
+        TransformedGrid::from(at(4)),
+    )?;
+    merged(alloc, inner, TransformedGrid::from(at(5)))
+}
+
+#[test]
+fn leaders_and_clones(rt: HostRuntime) -> Result<(), Fail> {
+    assert_eq!(rt; TransformedGrid::from(at(3)).leader().buffer, 3);
+    let clone = merged_twice(rt.alloc())?.try_clone(rt.alloc())?;
     assert_eq!(rt; clone.leader().buffer, 3);
     let mut text = String::new(rt.alloc());
     show(&clone, &mut text)?;
-    assert_eq!(rt; text.as_str(), "3(3(3;4;);5;)");
+    compare(&rt, text.as_str(), "3(3(3;4;);5;)", "a clone");
     Ok(())
 }

@@ -4,6 +4,7 @@ ghost use Rattle.std.specs.Prelude.{◌≤◌, IfOk};
 ghost use Rattle.jxlm_transform.specs.Channels.{HasItsMeta, list_of};
 ghost use Rattle.jxlm_transform.specs.Transforms.{HasChannels, transform_of};
 
+use crate::calls::compare;
 use jxlm_base::error::Error;
 use jxlm_plain::plain::PlainDecoder;
 use jxlm_transform::channels::{ModularChannelInfo, ModularChannels};
@@ -11,50 +12,60 @@ use jxlm_transform::param::{ChannelShift, ModularChannelParams, ModularParams};
 use jxlm_transform::transform::{Palette, Rct, Squeeze, SqueezeParams, TransformInfo};
 use jxlm_tree::predictor::Predictor;
 use jxlm_tree_tests::text::pair;
-use std::alloc::Global;
+use std::alloc::{AllocError, Global};
 use std::process::Abort;
 use std::result::Result;
 use std::test::Fail;
 
+fn sides(text: &str) -> Result<(u32, u32), Fail> {
+    let (width, height) = pair(text, 'x')?;
+    Ok((width.parse::<u32>()?, height.parse::<u32>()?))
+}
+
+fn shifts(text: &str) -> Result<(i32, i32), Fail> {
+    let (hshift, vshift) = pair(text, ',')?;
+    Ok((hshift.parse::<i32>()?, vshift.parse::<i32>()?))
+}
+
 // A channel by its sides, as `3x2`, and after a colon its shifts, where they are not 0, as `3x2:1,0`.
 fn channel(text: &str) -> Result<ModularChannelInfo, Fail> {
-    let (sides, shifts) = text.split_once(':').unwrap_or((text, "0,0"));
-    let (width, height) = pair(sides, 'x')?;
-    let (hshift, vshift) = pair(shifts, ',')?;
-    let (width, height) = (width.parse::<u32>()?, height.parse::<u32>()?);
+    let (words, rest) = text.split_once(':').unwrap_or((text, "0,0"));
+    let ((width, height), (hshift, vshift)) = (sides(words)?, shifts(rest)?);
     Ok(ModularChannelInfo {
         width,
         height,
         original_width: width,
         original_height: height,
-        hshift: hshift.parse::<i32>()?,
-        vshift: vshift.parse::<i32>()?,
+        hshift,
+        vshift,
         original_shift: ChannelShift::Shifts(0),
     })
+}
+
+fn infos(alloc: Global, words: &str) -> Result<Vec<ModularChannelInfo>, Fail> {
+    let mut infos = Vec::new(alloc);
+    for word in words.split_whitespace() {
+        infos.push(channel(word)?)?;
+    }
+    Ok(infos)
 }
 
 // A list: how many meta channels it has, and its channels.
 fn list(alloc: Global, text: &str) -> Result<ModularChannels, Fail>
     ensures { IfOk result (λ l. HasItsMeta (list_of l)) }
 {
-    let mut words = text.split(' ');
-    let nb_meta = words.next().ok_or("no number of meta channels")?;
-    let mut info = Vec::new(alloc);
-    for word in words {
-        info.push(channel(word)?)?;
-    }
-    let nb_meta_channels = nb_meta.parse::<usize>()?.min(info.len());
+    let (nb_meta, words) = text.split_once(' ').unwrap_or((text, ""));
+    let nb_meta = nb_meta.parse::<usize>()?;
+    let info = infos(alloc, words)?;
     Ok(ModularChannels {
+        nb_meta_channels: nb_meta.min(info.len()),
         info,
-        nb_meta_channels,
     })
 }
 
 // The same the other way round.
-fn list_text(alloc: Global, list: &ModularChannels) -> Result<String, Fail> {
-    let mut text = String::new(alloc);
-    let nb_meta = list.nb_meta_channels;
-    write!(text, "{nb_meta}")?;
+fn list_text(alloc: Global, list: &ModularChannels) -> Result<String, AllocError> {
+    let mut text = format!(in alloc; "{}", list.nb_meta_channels)?;
     for channel in &list.info {
         let (width, height) = (channel.width, channel.height);
         let (hshift, vshift) = (channel.hshift, channel.vshift);
@@ -140,32 +151,44 @@ fn apply(
     }
 }
 
-// What transforms leave of a list, in words, or the error of one. Each is applied by `prepare_transform_info`, or by
-// the call of its own type.
+// Applies a transform by `prepare_transform_info`, or by the call of its own type.
+fn applied(
+    alloc: Global,
+    transform: &mut TransformInfo,
+    list: &mut ModularChannels,
+    prepared: bool,
+) -> Result<(), Error>
+    requires channels { HasChannels (transform_of transform.old) }
+    requires meta { HasItsMeta (list_of list.old) }
+    ensures { IfOk result (λ _. HasItsMeta (list_of list.new)) }
+{
+    if prepared {
+        transform.prepare_transform_info(alloc, list)
+    } else {
+        apply(alloc, transform, list)
+    }
+}
+
+// What transforms leave of a list, in words, or the error of one.
 fn outcome(alloc: Global, given: &str, transforms: &str, prepared: bool) -> Result<String, Fail> {
     let mut list = list(alloc, given)?;
     for text in transforms.split(';') {
         let mut transform = transform(alloc, text)?;
-        let applied = if prepared {
-            transform.prepare_transform_info(alloc, &mut list)
-        } else {
-            apply(alloc, &mut transform, &mut list)
-        };
-        if let Err(error) = applied {
+        if let Err(error) = applied(alloc, &mut transform, &mut list, prepared) {
             return Ok(format!(in alloc; "{error}")?);
         }
     }
-    list_text(alloc, &list)
+    Ok(list_text(alloc, &list)?)
 }
 
 // Compares what transforms leave of a list.
 fn check(rt: &impl Abort, alloc: Global, row: &str) -> Result<(), Fail> {
     let (given, rest) = pair(row, '|')?;
     let (transforms, expected) = pair(rest, '|')?;
-    let found = outcome(alloc, given, transforms, true)?;
-    assert_eq!(rt; found.as_str(), expected, "{row}");
-    let found = outcome(alloc, given, transforms, false)?;
-    assert_eq!(rt; found.as_str(), expected, "{row}");
+    for prepared in [true, false] {
+        let found = outcome(alloc, given, transforms, prepared)?;
+        compare(rt, found.as_str(), expected, row);
+    }
     Ok(())
 }
 
@@ -210,38 +233,52 @@ fn channels_after_transforms(rt: HostRuntime) -> Result<(), Fail> {
     Ok(())
 }
 
+// How many steps a squeeze has, once those of the default one are set where it lists none.
+fn steps(alloc: Global, given: &str, squeeze: Squeeze) -> Result<usize, Fail> {
+    let mut squeeze = squeeze;
+    squeeze.set_default_params(&list(alloc, given)?)?;
+    Ok(squeeze.sp.len())
+}
+
+fn check_default(rt: &impl Abort, alloc: Global, given: &str, count: usize) -> Result<(), Fail> {
+    let default = Squeeze {
+        sp: Vec::new(alloc),
+    };
+    assert_eq!(rt; steps(alloc, given, default)?, count, "{given}");
+    Ok(())
+}
+
 // The default squeeze lists its steps; a squeeze that lists some keeps them, whatever the channels are.
 #[test]
 fn steps_of_squeezes(rt: HostRuntime) -> Result<(), Fail> {
-    for (given, count) in [
-        ("0 16x16", 2),
-        ("0 33x5", 3),
-        ("0 8x8", 0),
-        ("0 16x16 16x16 16x16", 4),
-    ] {
-        let mut default = Squeeze {
-            sp: Vec::new(rt.alloc()),
-        };
-        default.set_default_params(&list(rt.alloc(), given)?)?;
-        assert_eq!(rt; default.sp.len(), count, "{given}");
-    }
-    let mut listed = squeeze(rt.alloc(), "across inside 0 1")?;
-    listed.set_default_params(&list(rt.alloc(), "0")?)?;
-    assert_eq!(rt; listed.sp.len(), 1);
+    check_default(&rt, rt.alloc(), "0 16x16", 2)?;
+    check_default(&rt, rt.alloc(), "0 33x5", 3)?;
+    check_default(&rt, rt.alloc(), "0 8x8", 0)?;
+    check_default(&rt, rt.alloc(), "0 16x16 16x16 16x16", 4)?;
+    let listed = squeeze(rt.alloc(), "across inside 0 1")?;
+    assert_eq!(rt; steps(rt.alloc(), "0", listed)?, 1);
     Ok(())
+}
+
+// The channels of an image of one channel.
+fn channels_of(alloc: Global, given: ModularChannelParams) -> Result<ModularChannels, Fail> {
+    let given = vec![in alloc; given]?;
+    let params = ModularParams::<PlainDecoder>::with_channels(256, 8, given, None);
+    if !params.is_valid() {
+        return Err(Fail::new("an image that is not valid"));
+    }
+    Ok(ModularChannels::new(alloc, &params.channels)?)
 }
 
 #[test]
 fn what_channels_came_with(rt: HostRuntime) -> Result<(), Fail> {
     let given = ModularChannelParams::with_shift(9, 4, ChannelShift::Shifts(2));
-    let given = vec![in rt.alloc(); given]?;
-    let params = ModularParams::<PlainDecoder>::with_channels(256, 8, given, None);
-    assert!(rt; params.is_valid());
-    let list = ModularChannels::new(rt.alloc(), &params.channels)?;
+    let list = channels_of(rt.alloc(), given)?;
     assert_eq!(rt; (list.info.len(), list.nb_meta_channels), (1, 0));
-    assert_eq!(rt; (list.info[0].width, list.info[0].height), (3, 1));
-    assert_eq!(rt; list.info[0].original_size(), (9, 4));
-    assert_eq!(rt; list.info[0].shift(), ChannelShift::Shifts(2));
+    let channel = list.info.first().ok_or("no channel")?;
+    let sides = [(channel.width, channel.height), channel.original_size()];
+    assert_eq!(rt; sides, [(3, 1), (9, 4)]);
+    assert_eq!(rt; channel.shift(), ChannelShift::Shifts(2));
     Ok(())
 }
 

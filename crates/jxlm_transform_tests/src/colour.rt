@@ -5,6 +5,7 @@ ghost use Rattle.jxlm_base.specs.Outside.{KeepsOutside};
 ghost use Rattle.jxlm_base.specs.Regions.{AllLie, LieApart};
 ghost use Rattle.jxlm_transform.specs.Recoloured.{HaveOneSize};
 
+use crate::calls::compare_samples;
 use crate::cells::{read, write};
 use crate::colour_rows::{NARROW, WIDE, WORKED};
 use jxlm_base::error::Error;
@@ -101,27 +102,35 @@ fn undone<S: Sample>(
     Ok(numbers)
 }
 
-// Compares what three channels become.
-fn check_row<S: Sample>(rt: &impl Abort, alloc: Global, line: &str) -> Result<(), Fail> {
-    let (head, rest) = pair(line, '|')?;
-    let (coded, expected) = pair(rest, '|')?;
-    let (head, coded, expected) = (
-        signed(alloc, head)?,
-        signed(alloc, coded)?,
-        signed(alloc, expected)?,
-    );
-    let [kind, width, height] = head.as_slice() else {
+// The type, and the sides.
+fn head(alloc: Global, text: &str) -> Result<(u32, usize, usize), Fail> {
+    let numbers = signed(alloc, text)?;
+    let [kind, width, height] = numbers.as_slice() else {
         return Err(Fail::new("not three numbers"));
     };
-    let (kind, width, height) = (
-        kind.cast_unsigned(),
-        width.cast_unsigned() as usize,
-        height.cast_unsigned() as usize,
-    );
+    let (width, height) = (width.cast_unsigned(), height.cast_unsigned());
+    Ok((kind.cast_unsigned(), width as usize, height as usize))
+}
+
+// What three channels become, one after another as they are coded.
+fn undone_thirds<S: Sample>(
+    alloc: Global,
+    head: (u32, usize, usize),
+    coded: &[i32],
+) -> Result<Vec<i32>, Error> {
+    let (kind, width, height) = head;
     let (first, rest) = coded.split_at(coded.len() / 3);
     let (second, third) = rest.split_at(rest.len() / 2);
-    let found = undone::<S>(alloc, kind, width, height, [first, second, third])?;
-    assert_eq!(rt; found.as_slice(), expected.as_slice(), "{line}");
+    undone::<S>(alloc, kind, width, height, [first, second, third])
+}
+
+// Compares what three channels become.
+fn check_row<S: Sample>(rt: &impl Abort, alloc: Global, line: &str) -> Result<(), Fail> {
+    let (words, rest) = pair(line, '|')?;
+    let (coded, expected) = pair(rest, '|')?;
+    let coded = signed(alloc, coded)?;
+    let found = undone_thirds::<S>(alloc, head(alloc, words)?, &coded)?;
+    compare_samples(rt, &found, &signed(alloc, expected)?, line);
     Ok(())
 }
 

@@ -1,17 +1,18 @@
 // Transforms as a header has them.
 
+use crate::calls::compare;
 use jxlm_base::bits::Bitstream;
 use jxlm_base::error::Error;
 use jxlm_transform::transform::{Palette, Rct, Squeeze, SqueezeParams, TransformInfo};
 use jxlm_tree::predictor::WpHeader;
 use jxlm_tree_tests::text::{bytes, pair};
-use std::alloc::Global;
+use std::alloc::{AllocError, Global};
 use std::process::Abort;
 use std::result::Result;
 use std::test::Fail;
 
 // A palette in words.
-fn palette_text(alloc: Global, t: &Palette) -> Result<String, Fail> {
+fn palette_text(alloc: Global, t: &Palette) -> Result<String, AllocError> {
     let (begin, count, predictor) = (t.begin_c, t.num_c, t.d_pred);
     let (colours, deltas) = (t.nb_colours, t.nb_deltas);
     let weights = if t.wp_header.is_some() {
@@ -19,16 +20,12 @@ fn palette_text(alloc: Global, t: &Palette) -> Result<String, Fail> {
     } else {
         ""
     };
-    let text = format!(in alloc;
-        "palette {begin} {count} {colours} {deltas} {predictor:?}{weights}"
-    )?;
-    Ok(text)
+    format!(in alloc; "palette {begin} {count} {colours} {deltas} {predictor:?}{weights}")
 }
 
 // The steps of a squeeze in words.
-fn squeeze_text(alloc: Global, steps: &[SqueezeParams]) -> Result<String, Fail> {
-    let mut text = String::new(alloc);
-    write!(text, "squeeze")?;
+fn squeeze_text(alloc: Global, steps: &[SqueezeParams]) -> Result<String, AllocError> {
+    let mut text = format!(in alloc; "squeeze")?;
     for step in steps {
         let side = if step.horizontal { "across" } else { "down" };
         let place = if step.in_place { "inside" } else { "end" };
@@ -39,15 +36,35 @@ fn squeeze_text(alloc: Global, steps: &[SqueezeParams]) -> Result<String, Fail> 
 }
 
 // A transform in words.
-fn told(alloc: Global, transform: &TransformInfo) -> Result<String, Fail> {
+fn told(alloc: Global, transform: &TransformInfo) -> Result<String, AllocError> {
     match transform {
         TransformInfo::Rct(t) => {
             let (begin, kind) = (t.begin_c, t.rct_type);
-            Ok(format!(in alloc; "colour {begin} {kind}")?)
+            format!(in alloc; "colour {begin} {kind}")
         }
         TransformInfo::Palette(t) => palette_text(alloc, t),
         TransformInfo::Squeeze(t) => squeeze_text(alloc, &t.sp),
     }
+}
+
+fn read_colour(bits: &mut Bitstream<'_>) -> Result<TransformInfo, Error> {
+    Ok(TransformInfo::Rct(Rct::parse(bits)?))
+}
+
+fn read_palette(bits: &mut Bitstream<'_>, weights: &WpHeader) -> Result<TransformInfo, Error> {
+    Ok(TransformInfo::Palette(Palette::parse(bits, weights)?))
+}
+
+fn read_squeeze(alloc: Global, bits: &mut Bitstream<'_>) -> Result<TransformInfo, Error> {
+    Ok(TransformInfo::Squeeze(Squeeze::parse(alloc, bits)?))
+}
+
+fn read_any(
+    alloc: Global,
+    bits: &mut Bitstream<'_>,
+    weights: &WpHeader,
+) -> Result<TransformInfo, Error> {
+    TransformInfo::parse(alloc, bits, weights)
 }
 
 // What is read: any transform, or one of this kind.
@@ -57,16 +74,12 @@ fn read(
     bits: &mut Bitstream<'_>,
     weights: &WpHeader,
 ) -> Result<TransformInfo, Error> {
-    if kind == "colour" {
-        return Ok(TransformInfo::Rct(Rct::parse(bits)?));
+    match kind {
+        "colour" => read_colour(bits),
+        "palette" => read_palette(bits, weights),
+        "squeeze" => read_squeeze(alloc, bits),
+        _ => read_any(alloc, bits, weights),
     }
-    if kind == "palette" {
-        return Ok(TransformInfo::Palette(Palette::parse(bits, weights)?));
-    }
-    if kind == "squeeze" {
-        return Ok(TransformInfo::Squeeze(Squeeze::parse(alloc, bits)?));
-    }
-    TransformInfo::parse(alloc, bits, weights)
 }
 
 // A transform in words, if it says of itself what kind it is.
@@ -82,29 +95,40 @@ fn named(alloc: Global, transform: &TransformInfo) -> Result<String, Fail> {
     Ok(text)
 }
 
+// What was read, or its error, and the position of the reader then.
+fn told_answer(
+    alloc: Global,
+    answer: Result<TransformInfo, Error>,
+    position: u64,
+) -> Result<String, Fail> {
+    let mut text = match answer {
+        Ok(transform) => named(alloc, &transform)?,
+        Err(error) => format!(in alloc; "{error}")?,
+    };
+    write!(text, " @{position}")?;
+    Ok(text)
+}
+
+fn weights_in(bytes: &[u8]) -> Result<WpHeader, Error> {
+    WpHeader::parse(&mut Bitstream::new(bytes))
+}
+
 // What is read after n bits, with the weights of the byte 01, and the position of the reader then.
-fn outcome(alloc: Global, kind: &str, bytes: &[u8]) -> Result<String, Fail> {
-    let (kind, skipped) = pair(kind, ' ')?;
-    let weights = WpHeader::parse(&mut Bitstream::new(&[0x01]))?;
+fn outcome(alloc: Global, kind: &str, bytes: &[u8], n: u32) -> Result<String, Fail> {
+    let weights = weights_in(&[0x01])?;
     let mut bits = Bitstream::new(bytes);
-    bits.read_bits(u32::from(skipped.parse::<u8>()?.min(8)))?;
+    bits.read_bits(n.min(8))?;
     let answer = read(alloc, kind, &mut bits, &weights);
-    let position = bits.position();
-    Ok(match answer {
-        Ok(transform) => {
-            let text = named(alloc, &transform)?;
-            format!(in alloc; "{text} @{position}")?
-        }
-        Err(error) => format!(in alloc; "{error} @{position}")?,
-    })
+    told_answer(alloc, answer, bits.position())
 }
 
 fn check(rt: &impl Abort, alloc: Global, row: &str) -> Result<(), Fail> {
-    let (kind, rest) = pair(row, '|')?;
+    let (words, rest) = pair(row, '|')?;
     let (digits, expected) = pair(rest, '|')?;
+    let (kind, skipped) = pair(words, ' ')?;
     let bytes = bytes(alloc, digits)?;
-    let found = outcome(alloc, kind, &bytes)?;
-    assert_eq!(rt; found.as_str(), expected, "{row}");
+    let found = outcome(alloc, kind, &bytes, skipped.parse::<u32>()?)?;
+    compare(rt, found.as_str(), expected, row);
     Ok(())
 }
 

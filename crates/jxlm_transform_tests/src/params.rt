@@ -1,9 +1,11 @@
 // What an image is read by: sizes, shifts and limits.
 
+use crate::calls::compare;
+use jxlm_base::error::Error;
 use jxlm_plain::plain::PlainDecoder;
 use jxlm_transform::param::{ChannelShift, ModularChannelParams, ModularParams};
 use jxlm_tree_tests::text::pair;
-use std::alloc::Global;
+use std::alloc::{AllocError, Global};
 use std::process::Abort;
 use std::result::Result;
 use std::test::Fail;
@@ -13,16 +15,13 @@ fn flag(word: &str) -> bool {
     word == "1"
 }
 
-// A shift: `s,S` for both sides, `r,H,V` for each, and `j,A,H,B,V` for a JPEG channel, with 0 and 1 for its flags.
-fn shift(text: &str) -> Result<ChannelShift, Fail> {
-    let (kind, words) = pair(text, ',')?;
-    if kind == "s" {
-        return Ok(ChannelShift::from_shift(words.parse::<u32>()?));
-    }
+fn raw(words: &str) -> Result<ChannelShift, Fail> {
+    let (across, down) = pair(words, ',')?;
+    Ok(ChannelShift::Raw(across.parse::<i32>()?, down.parse::<i32>()?))
+}
+
+fn jpeg(words: &str) -> Result<ChannelShift, Fail> {
     let (first, rest) = pair(words, ',')?;
-    if kind == "r" {
-        return Ok(ChannelShift::Raw(first.parse::<i32>()?, rest.parse::<i32>()?));
-    }
     let (across, rest) = pair(rest, ',')?;
     let (second, down) = pair(rest, ',')?;
     Ok(ChannelShift::JpegUpsampling {
@@ -33,14 +32,24 @@ fn shift(text: &str) -> Result<ChannelShift, Fail> {
     })
 }
 
+// A shift: `s,S` for both sides, `r,H,V` for each, and `j,A,H,B,V` for a JPEG channel, with 0 and 1 for its flags.
+fn shift(text: &str) -> Result<ChannelShift, Fail> {
+    let (kind, words) = pair(text, ',')?;
+    match kind {
+        "s" => Ok(ChannelShift::from_shift(words.parse::<u32>()?)),
+        "r" => raw(words),
+        _ => jpeg(words),
+    }
+}
+
 // The sides of a channel and its shifts, where it is valid.
-fn channel_text(alloc: Global, channel: &ModularChannelParams) -> Result<String, Fail> {
+fn channel_text(alloc: Global, channel: &ModularChannelParams) -> Result<String, AllocError> {
     if !channel.is_valid() {
-        return Ok(format!(in alloc; "invalid")?);
+        return format!(in alloc; "invalid");
     }
     let (width, height) = channel.shift.shift_size((channel.width, channel.height));
     let (hshift, vshift) = (channel.shift.hshift(), channel.shift.vshift());
-    Ok(format!(in alloc; "{width}x{height} {hshift} {vshift}")?)
+    format!(in alloc; "{width}x{height} {hshift} {vshift}")
 }
 
 // A channel by the sides of a picture and a shift.
@@ -51,18 +60,31 @@ fn channel(text: &str) -> Result<ModularChannelParams, Fail> {
     Ok(ModularChannelParams::with_shift(width, height, shift(words)?))
 }
 
+fn is_valid_image(group_dim: u32, bit_depth: u32, channels: Vec<ModularChannelParams>) -> bool {
+    ModularParams::<PlainDecoder>::with_channels(group_dim, bit_depth, channels, None).is_valid()
+}
+
+// Compares whether an image of that channel alone is valid, and whether its shift may be where it is.
+fn check_valid(
+    rt: &impl Abort,
+    alloc: Global,
+    channel: ModularChannelParams,
+    valid: bool,
+    row: &str,
+) -> Result<(), Fail> {
+    assert!(rt; channel.shift.is_valid() || !valid, "{row}");
+    let channels = vec![in alloc; channel]?;
+    assert_eq!(rt; is_valid_image(256, 8, channels), valid, "{row}");
+    Ok(())
+}
+
 // Compares the sides and shifts of a channel, and whether an image of it alone is valid.
 fn check_channel(rt: &impl Abort, alloc: Global, row: &str) -> Result<(), Fail> {
     let (given, expected) = pair(row, '|')?;
     let channel = channel(given)?;
     let found = channel_text(alloc, &channel)?;
-    assert_eq!(rt; found.as_str(), expected, "{row}");
-    let valid = expected != "invalid";
-    assert!(rt; channel.shift.is_valid() || !valid, "{row}");
-    let channels = vec![in alloc; channel]?;
-    let params = ModularParams::<PlainDecoder>::with_channels(256, 8, channels, None);
-    assert_eq!(rt; params.is_valid(), valid, "{row}");
-    Ok(())
+    compare(rt, found.as_str(), expected, row);
+    check_valid(rt, alloc, channel, expected != "invalid", row)
 }
 
 // The sides of a picture and a shift, and the sides and shifts of the channel.
@@ -111,9 +133,12 @@ fn channels_of_jpeg_pictures(rt: HostRuntime) {
     let first = ChannelShift::from_jpeg_upsampling([1, 2, 0], 0);
     let second = ChannelShift::from_jpeg_upsampling([1, 2, 0], 1);
     let third = ModularChannelParams::jpeg(5, 7, [1, 2, 0], 2);
-    assert_eq!(rt; first.shift_size((5, 7)), (6, 8));
-    assert_eq!(rt; second.shift_size((5, 7)), (6, 4));
-    assert_eq!(rt; third.shift.shift_size((third.width, third.height)), (3, 4));
+    let sizes = [
+        first.shift_size((5, 7)),
+        second.shift_size((5, 7)),
+        third.shift.shift_size((third.width, third.height)),
+    ];
+    assert_eq!(rt; sizes, [(6, 8), (6, 4), (3, 4)]);
     assert_eq!(rt; (second.hshift(), second.vshift()), (0, 1));
 }
 
@@ -126,18 +151,20 @@ fn numbers(alloc: Global, text: &str) -> Result<Vec<u32>, Fail> {
     Ok(numbers)
 }
 
-// Compares whether an image of n channels of one sample is valid.
+// Whether an image of n channels of one sample is valid.
+fn is_valid_of(alloc: Global, group_dim: u32, bit_depth: u32, n: u32) -> Result<bool, AllocError> {
+    let channels = vec![in alloc; ModularChannelParams::new(1, 1); n as usize]?;
+    Ok(is_valid_image(group_dim, bit_depth, channels))
+}
+
 fn check_image(rt: &impl Abort, alloc: Global, row: &str) -> Result<(), Fail> {
     let (given, expected) = pair(row, '|')?;
     let given = numbers(alloc, given)?;
     let [group_dim, bit_depth, count] = given.as_slice() else {
         return Err(Fail::new("not three numbers"));
     };
-    let channels = vec![in alloc; ModularChannelParams::new(1, 1); *count as usize]?;
-    let params = ModularParams::<PlainDecoder>::with_channels(
-        *group_dim, *bit_depth, channels, None,
-    );
-    assert_eq!(rt; params.is_valid(), expected == "valid", "{row}");
+    let is_valid = is_valid_of(alloc, *group_dim, *bit_depth, *count)?;
+    assert_eq!(rt; is_valid, expected == "valid", "{row}");
     Ok(())
 }
 
@@ -162,14 +189,22 @@ fn limits_of_images(rt: HostRuntime) -> Result<(), Fail> {
     Ok(())
 }
 
+fn one_picture(
+    alloc: Global,
+    shifts: Vec<ChannelShift>,
+) -> Result<ModularParams<'static, PlainDecoder>, Error> {
+    ModularParams::new(alloc, 5, 3, 2, 8, shifts, None)
+}
+
 #[test]
 fn one_picture_of_all_channels(rt: HostRuntime) -> Result<(), Fail> {
     let shifts = vec![in rt.alloc(); ChannelShift::Shifts(0), ChannelShift::Raw(1, 0)]?;
-    let params = ModularParams::<PlainDecoder>::new(rt.alloc(), 5, 3, 2, 8, shifts, None)?;
-    assert_eq!(rt; params.channels.len(), 2);
-    let second = params.channels[1];
-    assert_eq!(rt; (second.width, second.height), (5, 3));
-    assert_eq!(rt; second.shift, ChannelShift::Raw(1, 0));
+    let params = one_picture(rt.alloc(), shifts)?;
+    let [_, second] = params.channels.as_slice() else {
+        return Err(Fail::new("not two channels"));
+    };
+    let found = (second.width, second.height, second.shift);
+    assert_eq!(rt; found, (5, 3, ChannelShift::Raw(1, 0)));
     assert!(rt; params.is_valid());
     Ok(())
 }

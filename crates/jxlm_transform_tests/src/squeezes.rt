@@ -1,5 +1,6 @@
 // Squeeze steps undone: rows, columns and regions, as listed and as a squeeze of these tests' own makes them.
 
+use crate::calls::compare_samples;
 use crate::cells::{read, write};
 use jxlm_base::error::Result;
 use jxlm_base::grid::{AlignedGrid, MutableSubgrid, OutOfMemory, Region};
@@ -50,28 +51,38 @@ fn place(across: bool, line: usize, i: usize) -> (usize, usize) {
     if across { (i, line) } else { (line, i) }
 }
 
-// The row, or the column, that these averages and residuals come from.
-fn undone<S: Sample>(alloc: Global, across: bool, coded: &[i32]) -> Result<Vec<i32>> {
-    let (width, height) = if across {
-        (coded.len(), 1)
-    } else {
-        (1, coded.len())
-    };
-    let mut grid = room::<S>(alloc, width, height)?;
-    for (i, sample) in coded.iter().enumerate() {
-        let (x, y) = place(across, 0, i);
-        set(&mut grid, x, y, S::from_i32(*sample));
+// Writes a line of samples.
+fn write_line<S: Sample>(across: bool, grid: &mut AlignedGrid<S>, line: usize, samples: &[i32]) {
+    for (i, sample) in samples.iter().enumerate() {
+        let (x, y) = place(across, line, i);
+        set(grid, x, y, S::from_i32(*sample));
     }
-    undo(alloc, across, &mut grid)?;
+}
+
+// The first line, of so many samples.
+fn first_line<S: Sample>(
+    alloc: Global,
+    across: bool,
+    grid: &AlignedGrid<S>,
+    len: usize,
+) -> Result<Vec<i32>> {
     let mut samples = Vec::new(alloc);
-    for y in 1..height.saturating_add(1) {
-        for x in 1..width.saturating_add(1) {
-            samples
-                .push(reduced::<i32>(get(&grid, x, y)))
-                .map_err(|_| OutOfMemory)?;
-        }
+    for i in 0..len {
+        let (x, y) = place(across, 0, i);
+        let sample = reduced::<i32>(get(grid, x, y));
+        samples.push(sample).map_err(|_| OutOfMemory)?;
     }
     Ok(samples)
+}
+
+// The row, or the column, that these averages and residuals come from.
+fn undone<S: Sample>(alloc: Global, across: bool, coded: &[i32]) -> Result<Vec<i32>> {
+    let len = coded.len();
+    let (width, height) = if across { (len, 1) } else { (1, len) };
+    let mut grid = room::<S>(alloc, width, height)?;
+    write_line(across, &mut grid, 0, coded);
+    undo(alloc, across, &mut grid)?;
+    first_line(alloc, across, &grid, len)
 }
 
 // What a grid of 7 by 6 cells becomes, as the second of a store, where all but its outer cells are undone.
@@ -259,62 +270,93 @@ fn comes_back<S: Sample>(
     Ok(is_generated(&grid, kind))
 }
 
-#[test]
-fn every_width_and_height(rt: HostRuntime) -> std::result::Result<(), Fail> {
-    for width in 0..41 {
-        for height in 0..41 {
-            for across in [true, false] {
-                let kind = if width % 2 == 0 { 5 } else { 11 };
-                assert!(rt; comes_back::<i16>(rt.alloc(), across, (width, height), kind)?);
-                if width < 21 && height < 21 {
-                    assert!(rt; comes_back::<i32>(rt.alloc(), across, (width, height), kind)?);
-                }
-            }
+fn check_back<S: Sample>(
+    rt: &impl Abort,
+    alloc: Global,
+    across: bool,
+    sides: (usize, usize),
+    kind: u32,
+) -> std::result::Result<(), Fail> {
+    let (width, height) = sides;
+    assert!(rt;
+        comes_back::<S>(alloc, across, sides, kind)?,
+        "{width} by {height}"
+    );
+    Ok(())
+}
+
+// Pictures of that width and all heights.
+fn check_heights(
+    rt: &impl Abort,
+    alloc: Global,
+    across: bool,
+    width: usize,
+) -> std::result::Result<(), Fail> {
+    let kind = if width % 2 == 0 { 5 } else { 11 };
+    for height in 0..41 {
+        check_back::<i16>(rt, alloc, across, (width, height), kind)?;
+        if width < 21 && height < 21 {
+            check_back::<i32>(rt, alloc, across, (width, height), kind)?;
         }
-    }
-    // more columns, or rows, than are undone at a time
-    for across in [true, false] {
-        assert!(rt; comes_back::<i16>(rt.alloc(), across, (300, 9), 2)?);
-        assert!(rt; comes_back::<i32>(rt.alloc(), across, (270, 12), 3)?);
-        assert!(rt; comes_back::<i16>(rt.alloc(), across, (9, 71), 2)?);
-        assert!(rt; comes_back::<i32>(rt.alloc(), across, (12, 100), 3)?);
     }
     Ok(())
 }
 
-// Writes nine equal lines.
-fn write_lines<S: Sample>(across: bool, grid: &mut AlignedGrid<S>, samples: &[i32]) {
-    for line in 0..9 {
-        for (i, sample) in samples.iter().enumerate() {
-            let (x, y) = place(across, line, i);
-            set(grid, x, y, S::from_i32(*sample));
-        }
+#[test]
+fn every_width_and_height(rt: HostRuntime) -> std::result::Result<(), Fail> {
+    for width in 0..41 {
+        check_heights(&rt, rt.alloc(), true, width)?;
+        check_heights(&rt, rt.alloc(), false, width)?;
     }
+    Ok(())
 }
 
-// Whether there are nine lines of these samples.
-fn are_lines<S: Sample>(across: bool, grid: &AlignedGrid<S>, samples: &[i32]) -> bool {
+// More columns, or rows, than are undone at a time.
+#[test]
+fn long_lines(rt: HostRuntime) -> std::result::Result<(), Fail> {
+    for across in [true, false] {
+        check_back::<i16>(&rt, rt.alloc(), across, (300, 9), 2)?;
+        check_back::<i32>(&rt, rt.alloc(), across, (270, 12), 3)?;
+        check_back::<i16>(&rt, rt.alloc(), across, (9, 71), 2)?;
+        check_back::<i32>(&rt, rt.alloc(), across, (12, 100), 3)?;
+    }
+    Ok(())
+}
+
+// Whether a line is of these samples.
+fn is_line<S: Sample>(across: bool, grid: &AlignedGrid<S>, line: usize, samples: &[i32]) -> bool {
     let mut same = true;
-    for line in 0..9 {
-        for (i, sample) in samples.iter().enumerate() {
-            let (x, y) = place(across, line, i);
-            same = same && get(grid, x, y) == i64::from(*sample);
-        }
+    for (i, sample) in samples.iter().enumerate() {
+        let (x, y) = place(across, line, i);
+        same = same && get(grid, x, y) == i64::from(*sample);
     }
     same
 }
 
-#[test]
-fn nine_steep_lines(rt: HostRuntime) -> std::result::Result<(), Fail> {
-    for across in [true, false] {
-        let (width, height) = if across { (6, 9) } else { (9, 6) };
-        let mut grid = room::<i16>(rt.alloc(), width, height)?;
-        write_lines(across, &mut grid, &[12000, 0, -12000, 0, 0, 0]);
-        undo(rt.alloc(), across, &mut grid)?;
+// Nine equal lines, squeezed.
+fn steep_lines(alloc: Global, across: bool) -> Result<AlignedGrid<i16>> {
+    let (width, height) = if across { (6, 9) } else { (9, 6) };
+    let mut grid = room::<i16>(alloc, width, height)?;
+    for line in 0..9 {
+        write_line(across, &mut grid, line, &[12000, 0, -12000, 0, 0, 0]);
+    }
+    Ok(grid)
+}
+
+fn check_steep(rt: &impl Abort, alloc: Global, across: bool) -> std::result::Result<(), Fail> {
+    let mut grid = steep_lines(alloc, across)?;
+    undo(alloc, across, &mut grid)?;
+    for line in 0..9 {
         let samples = [12000, 11999, 3500, -3500, -12000, -12000];
-        assert!(rt; are_lines(across, &grid, &samples));
+        assert!(rt; is_line(across, &grid, line, &samples), "{line}");
     }
     Ok(())
+}
+
+#[test]
+fn nine_steep_lines(rt: HostRuntime) -> std::result::Result<(), Fail> {
+    check_steep(&rt, rt.alloc(), true)?;
+    check_steep(&rt, rt.alloc(), false)
 }
 
 // Averages, then residuals, and the row that they come from, in both widths.
@@ -357,18 +399,27 @@ const WIDE: &str = "\
     1520376505 857958998 -857958960 2147483637 -2147483639 -2092285801 2092285800 1428885954";
 
 // Undoes a row, and a column.
+fn check_row<S: Sample>(
+    rt: &impl Abort,
+    alloc: Global,
+    line: &str,
+) -> std::result::Result<(), Fail> {
+    let (coded, expected) = pair(line, '|')?;
+    let (coded, expected) = (signed(alloc, coded)?, signed(alloc, expected)?);
+    for across in [true, false] {
+        let found = undone::<S>(alloc, across, &coded)?;
+        compare_samples(rt, &found, &expected, line);
+    }
+    Ok(())
+}
+
 fn check_rows<S: Sample>(
     rt: &impl Abort,
     alloc: Global,
     table: &str,
 ) -> std::result::Result<(), Fail> {
     for line in table.lines() {
-        let (coded, expected) = pair(line, '|')?;
-        let (coded, expected) = (signed(alloc, coded)?, signed(alloc, expected)?);
-        for across in [true, false] {
-            let found = undone::<S>(alloc, across, &coded)?;
-            assert_eq!(rt; found.as_slice(), expected.as_slice(), "{line}");
-        }
+        check_row::<S>(rt, alloc, line)?;
     }
     Ok(())
 }
@@ -404,15 +455,22 @@ const COLUMNS_UNDONE: &str = "9 8 7 6 5 4 3
 4 11967 -15 -12004 0 -1 -4
 2 1 0 -1 -2 -3 -4";
 
+fn check_region<S: Sample>(
+    rt: &impl Abort,
+    alloc: Global,
+    across: bool,
+    expected: &str,
+) -> std::result::Result<(), Fail> {
+    let found = undone_inside::<S>(alloc, across, &signed(alloc, CODED)?)?;
+    compare_samples(rt, &found, &signed(alloc, expected)?, "a region of a store");
+    Ok(())
+}
+
 #[test]
 fn regions_of_a_store(rt: HostRuntime) -> std::result::Result<(), Fail> {
-    let coded = signed(rt.alloc(), CODED)?;
     for (across, expected) in [(true, ROWS_UNDONE), (false, COLUMNS_UNDONE)] {
-        let expected = signed(rt.alloc(), expected)?;
-        let found = undone_inside::<i16>(rt.alloc(), across, &coded)?;
-        assert_eq!(rt; found.as_slice(), expected.as_slice());
-        let found = undone_inside::<i32>(rt.alloc(), across, &coded)?;
-        assert_eq!(rt; found.as_slice(), expected.as_slice());
+        check_region::<i16>(&rt, rt.alloc(), across, expected)?;
+        check_region::<i32>(&rt, rt.alloc(), across, expected)?;
     }
     Ok(())
 }
