@@ -4,7 +4,11 @@
 // runs it kept 300 at both widths: those of short lines, and longer ones that show something that fewer than three
 // before them show.
 
-pub const RUNS: &str = "\
+use crate::run::check;
+use jxl_modular::plain::PlainDecoder;
+use std::test::Fail;
+
+const RUNS: &str = "\
 11x40/2,0 11x40/2,3 11x40/2,1|8 8 0:0,3|e4bc0ca6bf790a220002c21040e1a722926e1058820e0000000241a440301a0000142c1ec200\
     |g@3025030665= p0.0@4051339829+37=38e8ff15d5417b4d6400 p0.1@22=085b07 p0.3@38=09fd09 p0.4@2051047278=0d5b712c01 \
     p0.8@1936470979=0d44a7ec03|0/1 0:10|entropy decoder error: invalid code 4|#709197959
@@ -432,3 +436,8 @@ pub const RUNS: &str = "\
 0x5/1,1 0x5/1 0x5/2|32 19 0:2,3 1:1,2 2:0,1|42040404000c850014||0/3|true|
 5x3/2|2 8 0:2,3 1:1,2 2:0,1|60d90f39a47d2e030102000000b00000000000010000a0ffffff1f00000000000000400001|g@14=0102|0/3\
     |true|-2147483647 1";
+
+#[test]
+fn runs_at_32_bits(rt: HostRuntime) -> Result<(), Fail> {
+    check::<i32, PlainDecoder>(&rt, rt.alloc(), RUNS)
+}

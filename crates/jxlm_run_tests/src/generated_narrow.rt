@@ -4,7 +4,11 @@
 // runs it kept 300 at both widths: those of short lines, and longer ones that show something that fewer than three
 // before them show.
 
-pub const RUNS: &str = "\
+use crate::run::check;
+use jxl_modular::plain::PlainDecoder;
+use std::test::Fail;
+
+const RUNS: &str = "\
 21x5|4 8 0:1,3 1:0,1|26ce800484c28750fcde29cca92004000000e0fffff70f000000000000000000739c03020000000000000000c000000\
     00000000000000c0000000000000000a72800160000000000000000200100000000000000000c000000101a000000000000008001|p1.8@9\
     =c801 p1.9@10=1604 p1.5@6=af08 p1.2@3=b0601eda3912 p1.10@11=6e0f p1.1@2=86cb25baf5db p1.6@7+2=713500 p1.4@5=3c34\
@@ -504,3 +508,8 @@ pub const RUNS: &str = "\
     m parameters|invalid Squeeze transform parameters
 10x5|16 10 2:0,1 7:-4,2 255:1,9|d4ce2ca57eb9890c42860a02300000401015000000004002001003|g@1902851302+213=d4ce2ca57eb9\
     890c42860a0230000040101500000000400200100300000060|0/256|entropy decoder error: unexpected end of input|#0";
+
+#[test]
+fn runs_at_16_bits(rt: HostRuntime) -> Result<(), Fail> {
+    check::<i16, PlainDecoder>(&rt, rt.alloc(), RUNS)
+}

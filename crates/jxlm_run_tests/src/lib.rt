@@ -29,6 +29,4 @@ mod rows;
 mod run;
 #[cfg(test)]
 mod surface;
-#[cfg(test)]
-mod tables;
 pub mod viewer;

@@ -2,7 +2,11 @@
 // 32 bits: generated and computed as the others, with seeds 7 and 8. Of all 1767 runs it kept 300 at both widths: those
 // of short lines, and longer ones that show something that fewer than three before them show.
 
-pub const RUNS: &str = "\
+use crate::run::check;
+use jxl_modular::plain::PlainDecoder;
+use std::test::Fail;
+
+const RUNS: &str = "\
 2x14 2x14|32 8 0:2,3 1:1,2 2:0,1|03 p26,6,1a840c95c380001a78844023adf3d77557fcc10200000000000000f0ce4f14000000800000000\
     0eb601300000000000000ac710a060000000000000000010000000000000000040000000025852418f500000000000000000500000000000000\
     c048887800000000000000140000000036000000df610000000000000000a001000000158989086000000000000000003005000000000000000\
@@ -631,3 +635,8 @@ pub const RUNS: &str = "\
     g@2643008508+238=6241c85015041caa00002a2a2f04c2e02800000168482c04081408180c11|0/256|true|#822697280
 17x13/1,1,1,1 17x13/1,0,1,0|8 8 256:0,3|27 p0,0,00000000020a007801020f2710164a010020140805e0f08301 s0,0,00000000020a007\
     801020f2710164a010020140805e0f08301|g@2147483648=|no groups|unfit";
+
+#[test]
+fn nested_runs_at_32_bits(rt: HostRuntime) -> Result<(), Fail> {
+    check::<i32, PlainDecoder>(&rt, rt.alloc(), RUNS)
+}

@@ -2,7 +2,11 @@
 // 16 bits: generated and computed as the others, with seeds 7 and 8. Of all 1767 runs it kept 300 at both widths: those
 // of short lines, and longer ones that show something that fewer than three before them show.
 
-pub const RUNS: &str = "\
+use crate::run::check;
+use jxl_modular::plain::PlainDecoder;
+use std::test::Fail;
+
+const RUNS: &str = "\
 10x9|4 8 0:1,2 1:0,3|02000000000500000028000000000000000a00000000000000000000000000000004000000da00000004000000cc000000\
     04000000ae00000004000000ea000000000000000a00000000000000000000000000000004000000c4000000000000000a00000000000000000\
     000000000000004000000ac000000040000008a000000000000000a000000000000000000000000000000000000000a00000000000000000000\
@@ -708,3 +712,8 @@ pub const RUNS: &str = "\
     d end of input
 6x7/3|2 8 0:0,2 1:0,3 2:2,3|e241c850459402800302810001200011|g@1570833539+32:7c0016876cb79a7eb7e3000e|0/3|entropy decod\
     er error: unexpected end of input|0";
+
+#[test]
+fn nested_runs_at_16_bits(rt: HostRuntime) -> Result<(), Fail> {
+    check::<i16, PlainDecoder>(&rt, rt.alloc(), RUNS)
+}

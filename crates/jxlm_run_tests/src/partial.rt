@@ -4,25 +4,45 @@
 // others sections that do not fit the image: these are left out. Of the rest 300 of short lines are kept. Runs with
 // headers within sections stand in a table of their own.
 
-pub mod narrow;
-pub mod nested;
-pub mod wide;
+mod narrow;
+mod nested;
+mod wide;
 
+use crate::run::check_partial;
 use jxl_modular::bits::Bitstream;
 use jxl_modular::plain::PlainDecoder;
 use jxl_modular::{Modular, ModularChannelParams, ModularParams};
+use narrow::NARROW;
 use std::test::Fail;
+use wide::WIDE;
 
 // Four samples by the clamped gradient, truncated in the second token, and whole; two groups, of which one has no
 // token; and of which one is left out. At last a header within the global part of a 0x1 image, with a palette of one
 // colour: its bits end before the table's only token, and after it.
-pub const WORKED: &str = "\
+const WORKED: &str = "\
 2x2|256 8 0:0,3|42000400040e05c020|g@0+68=42000400040e05c020|0/1|false|1 0 0 0
 2x2|256 8 0:0,3|42000400040e05c020|g@0+68=42000400040e05c02006|0/1|true|1 3 0 2
 3x1|2 8 0:0,3|42000400040e05c000|g@0= p0.0@1=22 p0.1@2=|0/1 0:2|false|1 3 0
 3x1|2 8 0:0,3|42000400040e05c000|p0.1@2=|0/1 0:2|false|0 0 0
 0x1|256 8 0:0,3|42000400040e05c020|g@0+3:b000040004400040e050000c|0/1|false|
 0x1|256 8 0:0,3|42000400040e05c020|g@0:16800080000800081c0a8041|0/1|true|";
+
+#[test]
+fn worked(rt: HostRuntime) -> Result<(), Fail> {
+    check_partial::<i32, PlainDecoder>(&rt, rt.alloc(), WORKED)
+}
+
+#[test]
+fn partial_at_32_bits(rt: HostRuntime) -> Result<(), Fail> {
+    check_partial::<i32, PlainDecoder>(&rt, rt.alloc(), WIDE)?;
+    check_partial::<i32, PlainDecoder>(&rt, rt.alloc(), nested::WIDE)
+}
+
+#[test]
+fn partial_at_16_bits(rt: HostRuntime) -> Result<(), Fail> {
+    check_partial::<i16, PlainDecoder>(&rt, rt.alloc(), NARROW)?;
+    check_partial::<i16, PlainDecoder>(&rt, rt.alloc(), nested::NARROW)
+}
 
 // Nine bytes of a picture of ten, by calls of its own: the reader is before the token that ends early, and the part is
 // finished as it stands.

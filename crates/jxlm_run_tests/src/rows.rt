@@ -1,6 +1,10 @@
 // Runs worked by hand. Their samples are unsigned tokens of four bits, 2n - 1 for a sample n, one more than the number
 // of its group.
 
+use crate::run::check;
+use jxl_modular::plain::PlainDecoder;
+use std::test::Fail;
+
 // Which passes an image can be cut by: one pass of all shifts, or two; not without shift 2, nor without a pass, nor
 // with a pass of number 256; and not where its channels are of unlike pictures.
 const POSSIBLE: &str = "\
@@ -63,12 +67,18 @@ const TOO_SMALL: &str = "\
 const GRADIENT: &str = "\
 3x1|2 8 0:0,3|42000400040e05c000|g@0= p0.0@1=22 p0.1@2=01|0/1 0:2|true|1 3 -1";
 
-/// All of them.
-pub const WORKED: &[&str] = &[
-    POSSIBLE,
-    SIX_GROUPS,
-    SQUEEZED,
-    LOW_FREQUENCY,
-    TOO_SMALL,
-    GRADIENT,
-];
+#[test]
+fn worked_runs(rt: HostRuntime) -> Result<(), Fail> {
+    for table in [
+        POSSIBLE,
+        SIX_GROUPS,
+        SQUEEZED,
+        LOW_FREQUENCY,
+        TOO_SMALL,
+        GRADIENT,
+    ] {
+        check::<i32, PlainDecoder>(&rt, rt.alloc(), table)?;
+        check::<i16, PlainDecoder>(&rt, rt.alloc(), table)?;
+    }
+    Ok(())
+}

@@ -10,6 +10,8 @@ mod drawn;
 #[cfg(test)]
 mod earlier;
 #[cfg(test)]
+mod generated;
+#[cfg(test)]
 mod headers;
 #[cfg(test)]
 mod long_header;
@@ -30,6 +32,6 @@ mod surface;
 #[cfg(test)]
 mod table;
 #[cfg(test)]
-mod tables;
+mod transformed;
 #[cfg(test)]
 mod tree_bits;

@@ -3,9 +3,14 @@
 // A model of the definitions in Python generated them with seed 1, and computed what is expected by coordinates: for
 // given sides of the channels it picks a tree of one leaf and tokens.
 
+use crate::bytewise::Bytewise;
+use crate::table::check;
+use jxl_modular::plain::PlainDecoder;
+use std::test::Fail;
+
 // Zero, west and the gradient; every second picture has samples at both ends of 32 bits; one channel and more;
 // channels with no samples.
-pub const PLAIN_32: &str = "\
+const PLAIN_32: &str = "\
 6x1|a803b2e67075130a42860a01180c080c0000b0ffffff3f0000002000000080000000a00000004000000000|-2147483647 -2147483648 \
     2147483647 -2147483647 2147483646 2147483647 @341
 3x3|0200000000010000000a000000f8ffffff010000000000000000309456f21e|2147483643 -5 2147483644 -6 2147483639 -7 \
@@ -40,7 +45,7 @@ pub const PLAIN_32: &str = "\
     2147483647 -2147483647 @424";
 
 // The same of 16 bits.
-pub const PLAIN_16: &str = "\
+const PLAIN_16: &str = "\
 6x1|c240808808024100000080473600a0feff01000280008000800000|-32767 32767 -32767 -32768 32767 32766 @215
 3x3|288ad4d3f23a1704424082142080e50c00240c|26415 26415 26415 26415 26415 26415 26415 26415 26415 @149
 1x1|02000000000000f9ff03|32767 @74
@@ -67,7 +72,7 @@ pub const PLAIN_16: &str = "\
     32766 32767 32767 32767 32767 @285";
 
 // Tokens that are bytes; a factor of 2^31; and all that the first picture is truncated to.
-pub const BYTES_32: &str = "\
+const BYTES_32: &str = "\
 2x2|0210f07f00e01f00e00f|16128 15872 16000 32128 @76
 3x2|0250001000e02f10e00f2000|254 256 254 508 508 508 @92
 2x2 1x2|0250100000f0f78ff0aff007|-65 -194 -62 -320 4 -61 @92
@@ -87,7 +92,7 @@ pub const BYTES_32: &str = "\
 2x2||bitstream error: unexpected end of input";
 
 // The same bytes at 16 bits.
-pub const BYTES_16: &str = "\
+const BYTES_16: &str = "\
 2x2|0210f07f00e01f00e00f|16128 15872 16000 32128 @76
 3x2|0250001000e02f10e00f2000|254 256 254 508 508 508 @92
 2x2 1x2|0250100000f0f78ff0aff007|-65 -194 -62 -320 4 -61 @92
@@ -105,3 +110,23 @@ pub const BYTES_16: &str = "\
 2x2|0210|entropy decoder error: unexpected end of input
 2x2|02|entropy decoder error: unexpected end of input
 2x2||bitstream error: unexpected end of input";
+
+#[test]
+fn plain_tokens_of_32_bits(rt: HostRuntime) -> Result<(), Fail> {
+    check::<i32, PlainDecoder>(&rt, rt.alloc(), PLAIN_32)
+}
+
+#[test]
+fn plain_tokens_of_16_bits(rt: HostRuntime) -> Result<(), Fail> {
+    check::<i16, PlainDecoder>(&rt, rt.alloc(), PLAIN_16)
+}
+
+#[test]
+fn bytes_as_tokens_of_32_bits(rt: HostRuntime) -> Result<(), Fail> {
+    check::<i32, Bytewise>(&rt, rt.alloc(), BYTES_32)
+}
+
+#[test]
+fn bytes_as_tokens_of_16_bits(rt: HostRuntime) -> Result<(), Fail> {
+    check::<i16, Bytewise>(&rt, rt.alloc(), BYTES_16)
+}

@@ -1,6 +1,10 @@
 // Small pictures, each with all that it is truncated to. Samples, positions and errors of the first six were computed
 // by hand; all were computed by an independent program.
 
+use crate::table::check;
+use jxl_modular::plain::PlainDecoder;
+use std::test::Fail;
+
 // The clamped gradient; tokens of three bits 2, 4, 1 and 0, from bit 68 on.
 #[cfg(test)]
 const GRADIENT: &str = "\
@@ -255,7 +259,7 @@ const SQUEEZED: &str = "\
 4x1|66|bitstream error: unexpected end of input
 4x1||bitstream error: unexpected end of input";
 
-pub const ROWS: [&str; 16] = [
+const ROWS: [&str; 16] = [
     GRADIENT,
     CONSTANT,
     RUN,
@@ -273,3 +277,19 @@ pub const ROWS: [&str; 16] = [
     COLOUR,
     SQUEEZED,
 ];
+
+#[test]
+fn rows_of_32_bits(rt: HostRuntime) -> Result<(), Fail> {
+    for row in ROWS {
+        check::<i32, PlainDecoder>(&rt, rt.alloc(), row)?;
+    }
+    Ok(())
+}
+
+#[test]
+fn rows_of_16_bits(rt: HostRuntime) -> Result<(), Fail> {
+    for row in ROWS {
+        check::<i16, PlainDecoder>(&rt, rt.alloc(), row)?;
+    }
+    Ok(())
+}
