@@ -95,8 +95,13 @@ const fn cut(property: u32, value: i32, left: usize) -> Node {
     }
 }
 
-// Compiles a tree for a place, and compares the offsets of the leaves at values of one property, while the others are 0;
-// returns how large the tree is.
+// Compares the offset of the leaf at a value of one property, where the others are 0.
+fn check_leaf(rt: &impl Abort, flat: &FlatMaTree, number: usize, value: i32, expected: i32) {
+    let values = with_value([0; 30], number, value);
+    assert_eq!(rt; offset_of(flat, &values), expected, "{value}");
+}
+
+// Compiles a tree for a place, and compares the leaves at values of one property; returns how large the tree is.
 fn check_leaves(
     rt: &impl Abort,
     alloc: Global,
@@ -106,9 +111,8 @@ fn check_leaves(
     rows: &[(i32, i32)],
 ) -> Result<(usize, usize), Fail> {
     let flat = flat_of(alloc, nodes, place)?;
-    for (value, expected) in rows {
-        let offset = offset_of(&flat, &with_value([0; 30], number, *value));
-        assert_eq!(rt; offset, *expected, "{value}");
+    for row in rows {
+        check_leaf(rt, &flat, number, row.0, row.1);
     }
     Ok(size_of(&flat))
 }

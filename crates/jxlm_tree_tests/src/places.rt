@@ -15,7 +15,7 @@ use jxlm_base::sample::Sample;
 use jxlm_base_tests::text::{bytes, pair, signed};
 use jxlm_tree::eighths::{after_clamp, before_clamp};
 use jxlm_tree::predictor::{Predictor, PredictorState, Properties, WpHeader};
-use std::alloc::Global;
+use std::alloc::{AllocError, Global};
 use std::process::Abort;
 use std::test::Fail;
 
@@ -305,7 +305,7 @@ impl Place {
     ) -> Result<String, Fail> {
         let store = self.store::<S>(alloc)?;
         self.stand(state, &store, &[])?;
-        eighths(alloc, &state.properties::<true>(&store))
+        Ok(eighths(alloc, &state.properties::<true>(&store))?)
     }
 }
 
@@ -352,7 +352,10 @@ pub fn check_eighths<S: Sample>(rt: &impl Abort, alloc: Global, table: &str) -> 
 }
 
 /// The weighted prediction: in eighths before its clamp and after it, property 15, and the sample.
-pub fn eighths<S: Sample>(alloc: Global, properties: &Properties<'_, S>) -> Result<String, Fail>
+pub fn eighths<S: Sample>(
+    alloc: Global,
+    properties: &Properties<'_, S>,
+) -> Result<String, AllocError>
     requires { IsCurrent properties.now }
 {
     let (before, after) = (before_clamp(properties), after_clamp(properties));
@@ -360,7 +363,7 @@ pub fn eighths<S: Sample>(alloc: Global, properties: &Properties<'_, S>) -> Resu
         properties.get(15),
         Predictor::SelfCorrecting.predict(properties),
     );
-    Ok(format!(in alloc; "{before} {after} {error} {sample}")?)
+    format!(in alloc; "{before} {after} {error} {sample}")
 }
 
 fn check_eighths_at<S: Sample>(

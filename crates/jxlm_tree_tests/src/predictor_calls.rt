@@ -1,11 +1,13 @@
 // Predictors by number, weights, and cells that a state with room comes to.
 
 ghost use Rattle.jxlm_tree.specs.Holding.{IsCurrent};
-ghost use Rattle.jxlm_tree.specs.Standing.{HoldsRow};
+ghost use Rattle.std.specs.Prelude.{◌≡◌, ◌≤◌, ◌^◌, IfOk};
+ghost use Rattle.jxlm_tree.specs.Standing.{HoldsRow, earlier_room_of, room_of};
 
 use crate::calls::compare;
 use crate::places::{check, check_eighths, eighths, header_in, holds_row, told};
 use jxlm_base::bits::{Bitstream, BitstreamError};
+use jxlm_base::error::Error;
 use jxlm_base::grid::{AlignedGrid, Region};
 use jxlm_base::sample::Sample;
 use jxlm_base_tests::text::{bytes, pair};
@@ -14,7 +16,7 @@ use jxlm_tree::predictor::{
     Predictor, PredictorState, Properties, WpHeader, self_correcting_stays_in_range,
     weights_are_read_exactly,
 };
-use std::alloc::Global;
+use std::alloc::{AllocError, Global};
 use std::process::Abort;
 use std::test::Fail;
 
@@ -39,7 +41,7 @@ fn predictors_by_number(rt: HostRuntime) {
 }
 
 // Whether the weights are the default ones, and their numbers in order.
-fn told_weights(alloc: Global, header: &WpHeader) -> Result<String, Fail> {
+fn told_weights(alloc: Global, header: &WpHeader) -> Result<String, AllocError> {
     let WpHeader {
         default_wp,
         wp_p1,
@@ -74,7 +76,7 @@ const HEADERS: &str = "\
 |bitstream error: unexpected end of input @0";
 
 // The weights in these bytes, or an error, and the reader's position.
-fn told_header(alloc: Global, bytes: &[u8]) -> Result<String, Fail> {
+fn told_header(alloc: Global, bytes: &[u8]) -> Result<String, AllocError> {
     let mut bits = Bitstream::new(bytes);
     let header = header_in(&mut bits);
     let mut text = match header {
@@ -138,8 +140,8 @@ fn clamps(rt: HostRuntime) -> Result<(), Fail> {
     check_eighths::<i32>(&rt, rt.alloc(), EIGHTHS)
 }
 
-// Properties and predictions as in a table of cells; after a colon the weighted prediction, and property 19 as decisions
-// ask for it.
+// Properties and predictions as in a table of cells; after a colon the weighted prediction, and property 19 as
+// decisions ask for it.
 fn told_all<S: Sample>(alloc: Global, properties: &Properties<'_, S>) -> Result<String, Fail>
     requires { IsCurrent properties.now }
 {
@@ -149,10 +151,18 @@ fn told_all<S: Sample>(alloc: Global, properties: &Properties<'_, S>) -> Result<
     Ok(format!(in alloc; "{cell}: {weighted} {asked}")?)
 }
 
+// A state with room for channels of this width and for so many earlier ones, and with the default weights.
+fn roomy<S: Sample>(alloc: Global, widest: u32, earlier: usize) -> Result<PredictorState<S>, Error>
+    requires { widest ≤ 2 ^ 30 }
+    ensures room { IfOk result (λ s. room_of s ≡ widest) }
+    ensures earlier_room { IfOk result (λ s. earlier_room_of s ≡ earlier) }
+{
+    PredictorState::with_room(alloc, widest, earlier, Some(&WpHeader::default()))
+}
+
 // Width 3 and the default weights, in a state with more room: the cell after a sample of 1.
 fn second_cell<S: Sample>(alloc: Global) -> Result<String, Fail> {
-    let header = WpHeader::default();
-    let mut state: PredictorState<S> = PredictorState::with_room(alloc, 5, 0, Some(&header))?;
+    let mut state = roomy::<S>(alloc, 5, 0)?;
     state.restart(3);
     state.properties::<true>(&[]).record(1);
     told_all(alloc, &state.properties::<true>(&[]))
@@ -175,8 +185,7 @@ fn first_cell<S: Sample>(
 ) -> Result<String, Fail>
     requires { HoldsRow region store.now 4 0 }
 {
-    let header = WpHeader::default();
-    let mut state: PredictorState<S> = PredictorState::with_room(alloc, 4, 1, Some(&header))?;
+    let mut state = roomy::<S>(alloc, 4, 1)?;
     state.restart(3);
     state.properties::<true>(&[]).record(-1000);
     state.restart(4);

@@ -98,15 +98,26 @@ fn check_clusters<D: Decoder>(rt: &impl Abort, alloc: Global) -> Result<(), Fail
     Ok(())
 }
 
+// Compares how many nodes there are, how many earlier channels are named, and whether weights are needed.
+fn check_facts<D: Decoder>(
+    rt: &impl Abort,
+    alloc: Global,
+    config: &MaConfig<D>,
+    earlier: u32,
+    expected: (usize, usize, bool),
+) -> Result<(), Fail> {
+    let (_, nodes, named, weights) = facts(alloc, config, [0, 0, earlier])?;
+    assert_eq!(rt; (nodes, named, weights), expected, "{earlier}");
+    Ok(())
+}
+
 // The root tests property 3. On its left property 17 leads to a leaf of `Zero`, or else to one that needs weights; on
 // its right property 1 leads to a leaf, which is known. Without an earlier channel property 17 is known too.
 fn check_questions<D: Decoder>(rt: &impl Abort, alloc: Global) -> Result<(), Fail> {
     let config = tree::<D>(rt, alloc, SEVEN_NODES, "0 6 2", "7 nodes, depth 2 @231")?;
-    for (earlier, expected) in [(0, (3, 0, false)), (1, (4, 1, true)), (2, (4, 1, true))] {
-        let (_, nodes, named, weights) = facts(alloc, &config, [0, 0, earlier])?;
-        assert_eq!(rt; (nodes, named, weights), expected);
-    }
-    Ok(())
+    check_facts(rt, alloc, &config, 0, (3, 0, false))?;
+    check_facts(rt, alloc, &config, 1, (4, 1, true))?;
+    check_facts(rt, alloc, &config, 2, (4, 1, true))
 }
 
 #[test]

@@ -12,7 +12,7 @@ use jxlm_base_tests::text::{bytes, pair, signed};
 use jxlm_ma::flat::{FlatMaTree, Leaf};
 use jxlm_ma::ma::MaConfig;
 use jxlm_tree::predictor::Predictor;
-use std::alloc::Global;
+use std::alloc::{AllocError, Global};
 use std::process::Abort;
 use std::test::Fail;
 
@@ -60,14 +60,14 @@ fn size<D: Decoder>(
     alloc: Global,
     parsed: &Result<MaConfig<D>, Error>,
     position: u64,
-) -> Result<String, Fail> {
-    Ok(match parsed {
+) -> Result<String, AllocError> {
+    match parsed {
         Ok(config) => {
             let (nodes, depth) = (config.num_tree_nodes(), config.tree_depth());
-            format!(in alloc; "{nodes} nodes, depth {depth} @{position}")?
+            format!(in alloc; "{nodes} nodes, depth {depth} @{position}")
         }
-        Err(error) => format!(in alloc; "{error} @{position}")?,
-    })
+        Err(error) => format!(in alloc; "{error} @{position}"),
+    }
 }
 
 // The tree after n bits under these limits, or its error.
