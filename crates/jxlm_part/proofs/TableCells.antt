@@ -1,8 +1,8 @@
 -- One more cell of a row is read by a table of clusters.
-use Rattle.std.proofs.Common.{◌≡◌, ℕ, zero, suc, ◌+◌, ◌<◌, List, [], Contains, length, take, map, Ok, Err, refl, sym, ap, ◌∙◌, subst, arith, ℤ, ◌+ℤ◌, ◌-ℤ◌}
-use Rattle.std.specs.Prelude.{FitsSigned, get_or, slice_set}
+use Rattle.std.proofs.Common.{◌≡◌, ℕ, zero, suc, ◌+◌, ◌<◌, List, Contains, length, take, map, Ok, Err, refl, sym, ap, ◌∙◌, subst, arith, ℤ, ◌+ℤ◌, ◌-ℤ◌}
+use Rattle.std.specs.Prelude.{get_or, slice_set}
 use Rattle.std.specs.Int.{Width, w32, int_wrap}
-use Rattle.std.proofs.lemmas.Int.{SFits-int_wrap, int_wrap_fits, ints}
+use Rattle.std.proofs.lemmas.Int.{SFits-int_wrap}
 use Rattle.std.proofs.lemmas.List.{length-map, length-take-le}
 use Rattle.jxlm_base.specs.Bits.{bytes_of, position_of}
 use Rattle.jxlm_base.specs.Decoding.{IsLawful, Meaning, ReadGives}
