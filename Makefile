@@ -3,8 +3,7 @@
 # groups: the same on examples/groups.hex, a picture of two groups; it prints the samples.
 # build: proves and builds the program, and prints where it lies.
 # docs: looks up each name that the documents cite.
-# test: docs, and then every proof, every edit that the prover must refuse, every test and the program's run: four at a
-# time, each of which takes up to 4 GB.
+# test: docs, and then every proof, every edit that the prover must refuse, every test and the program's run.
 
 .PHONY: run triangle groups build docs test
 
@@ -27,4 +26,4 @@ docs:
 	@sh scripts/check_docs.sh
 
 test: docs
-	RT_JOBS=$${RT_JOBS:-4} rt ci
+	rt ci
