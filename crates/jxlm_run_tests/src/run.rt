@@ -14,7 +14,7 @@ use jxl_modular::flat::Steps;
 use jxl_modular::image::ModularImageDestination;
 use jxl_modular::sections::{Section, decode_sections, sections_fit};
 use jxl_modular::{MaConfig, Modular, ModularParams, Sample};
-use jxlm_base_tests::text::{bytes, pair};
+use jxlm_base_tests::text::bytes;
 use std::alloc::Global;
 use std::collections::BTreeMap;
 use std::process::Abort;
@@ -165,15 +165,15 @@ struct Line<'t> {
     expected: &'t str,
 }
 
-fn fields(line: &str) -> Result<Line<'_>, Fail> {
-    let (channels, rest) = pair(line, '|')?;
-    let (setting, rest) = pair(rest, '|')?;
-    let (header, rest) = pair(rest, '|')?;
-    let (sections, expected) = pair(rest, '|')?;
-    let (group_dim, rest) = pair(setting, ' ')?;
+fn fields(line: &str) -> Option<Line<'_>> {
+    let (channels, rest) = line.split_once('|')?;
+    let (setting, rest) = rest.split_once('|')?;
+    let (header, rest) = rest.split_once('|')?;
+    let (sections, expected) = rest.split_once('|')?;
+    let (group_dim, rest) = setting.split_once(' ')?;
     let (depth, passes) = rest.split_once(' ').unwrap_or((rest, ""));
     let (header, trees) = header.split_once(' ').unwrap_or((header, ""));
-    Ok(Line {
+    Some(Line {
         channels,
         group_dim,
         depth,
@@ -219,7 +219,7 @@ pub fn seen<'t, S: Sample, D: Decoder>(
     partial: bool,
     end: Option<(usize, usize)>,
 ) -> Result<(String, &'t str), Fail> {
-    let line = fields(text)?;
+    let line = fields(text).ok_or("a line without its fields")?;
     let outer = global::<D>(alloc, line.trees, 'p')?;
     let params = params::<D>(
         alloc,

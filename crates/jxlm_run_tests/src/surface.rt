@@ -27,10 +27,7 @@ use std::test::Fail;
 // No transforms, a tree of one leaf up to bit 68, and samples after it.
 const PICTURE: [u8; 10] = [0x42, 0x00, 0x04, 0x00, 0x04, 0x0E, 0x05, 0xC0, 0x20, 0x06];
 
-fn read<S: Sample>(
-    alloc: Global,
-    params: ModularParams<'_, PlainDecoder>,
-) -> Result<Modular<S, PlainDecoder>>
+fn read<S: Sample, D: Decoder>(alloc: Global, params: ModularParams<'_, D>) -> Result<Modular<S, D>>
     requires valid { IsValidParams params }
     requires alone { params.ma_config ≡ None }
 {
@@ -187,7 +184,7 @@ fn values(rt: HostRuntime) -> std::result::Result<(), Fail> {
     let alloc = rt.alloc();
     let params = params(alloc)?;
     assert!(rt; params.is_valid());
-    let modular = read::<i16>(alloc, params)?;
+    let modular = read::<i16, PlainDecoder>(alloc, params)?;
     assert_eq!(rt; questions(alloc, &modular)?, ([false; 2], [false; 2]));
     let empty = Modular::<i16, PlainDecoder>::empty();
     assert_eq!(rt; questions(alloc, &empty)?, ([false; 2], [false; 2]));
@@ -215,7 +212,9 @@ fn parts_and_sections(rt: HostRuntime) -> std::result::Result<(), Fail> {
     let params = params(alloc)?;
     assert!(rt; params.is_valid());
     let global = params.ma_config;
-    let mut image = read::<i32>(alloc, params)?.into_image().ok_or("no image")?;
+    let mut image = read::<i32, PlainDecoder>(alloc, params)?
+        .into_image()
+        .ok_or("no image")?;
     let mut bits = Bitstream::new(&PICTURE);
     let mut own = bits;
     assert_eq!(rt;
