@@ -280,6 +280,7 @@ mod tests {
         "decode 2 2 1 8 i8",
         "decode 2 2 1 8 I32",
         "decode 2 2 1 8 u32",
+        "decode 2 2 1 8 i32 ",
         "decode 2 2 1 8 ",
         "decode 2 2 1048577 8 i32",
         "decode 1073741825 2 1 8 i32",
