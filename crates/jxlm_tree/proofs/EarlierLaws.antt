@@ -1,15 +1,16 @@
 -- Rows of earlier channels.
-use Rattle.std.proofs.Common.{◌≡◌, ℕ, zero, suc, ℤ, ◌-◌, ◌<◌, ◌≤◌, List, [], ◌∷◌, length, reverse, get_or, take, sym, subst, ◌∙◌, arith, length-take-le, get_or-take}
+use Rattle.std.proofs.Common.{◌≡◌, ℕ, zero, suc, ℤ, ◌-◌, ◌<◌, ◌≤◌, List, [], ◌∷◌, length, reverse, get_or, take, ap, sym, subst, ◌∙◌, arith, length-take-le, get_or-take}
 use Rattle.std.proofs.lemmas.List.{length-reverse, reverse-reverse}
 use Rattle.std.proofs.lemmas.Option.{get_or_from_slice_get}
 use Rattle.jxlm_base.specs.Grid.{Grid}
-use Rattle.jxlm_base.specs.Regions.{region}
+use Rattle.jxlm_base.specs.Regions.{Lies, region}
 use Rattle.jxlm_base.specs.declared.subgrid.Region.{Region}
 use Rattle.jxlm_tree.specs.EarlierRows.{AreRowsOf, HoldRows, IsRowOf}
-use Rattle.jxlm_tree.specs.Standing.{IsReady, Setting, StandsAt, column_of, earlier_held, row_of}
+use Rattle.jxlm_tree.specs.Neighbours.{row}
+use Rattle.jxlm_tree.specs.Standing.{HoldsRow, IsReady, Setting, StandsAt, column_of, earlier_held, row_of}
 use Rattle.jxlm_tree.specs.declared.earlier.EarlierRow.{EarlierRow}
 use Rattle.jxlm_tree.specs.declared.state.PredictorState.{PredictorState}
-use Rattle.jxlm_tree.proofs.StandingLaws.{reversed_at, stands_earlier_held}
+use Rattle.jxlm_tree.proofs.StandingLaws.{reversed_at, stands_earlier, stands_earlier_held, stands_in_row, stands_row}
 
 -- earlier channel k of a state
 pub earlier_at : {S : Type 0} (state : PredictorState S) (k : ℕ) (v r : Region) → k < state.earlier.len → v ≡ get_or state.earlier.items (state.earlier.len - 1 - k) v → get_or (earlier_held state) k r ≡ v
@@ -18,6 +19,17 @@ earlier_at state k v r near read =
     let back = sym (reverse-reverse state.earlier.items) in
     let long = state.earlier.ok.0 ∙ sym (length-reverse state.earlier.items) in
     get_or_from_slice_get xs k v r (reversed_at xs state.earlier.items state.earlier.len k v back long (omega (arith, long, near)) read)
+
+-- its region lies in the store and holds the state's cell
+pub earlier_holds : {S : Type 0} (state : PredictorState S) (store : List (Grid S)) (k : ℕ) (v : Region) → IsReady state store → k < state.earlier.len → v ≡ get_or state.earlier.items (state.earlier.len - 1 - k) v →
+    Lies v store × (row_of state < v.height) × (column_of state < v.width)
+earlier_holds state store k v ready near read =
+    let s = ready.where_set in
+    let long = stands_earlier state s ready.before ready.stands in
+    let there : k < length s.earlier = omega (arith, long, near) in
+    let same : get_or s.earlier k v ≡ v = ap (λ l. get_or l k v) (sym (stands_earlier_held state s ready.before ready.stands)) ∙ earlier_at state k v v near read in
+    let holds = subst (λ r. HoldsRow r store s.width (row ready.before s.width)) same (ready.earlier_hold k v there) in
+    (holds.lies, subst (λ y. y < v.height) (stands_row state s ready.before ready.stands) holds.below, subst (λ w. column_of state < w) (sym holds.as_wide) (stands_in_row state s ready.before ready.stands))
 
 module _ {S : Type 0} (earlier : List Region) (store : List (Grid S)) (y : ℕ) where
   -- what a row of channel k must be, where it is one of the first `count`

@@ -6,4 +6,5 @@ pub mod PropertiesLaws
 pub mod Ranges
 pub mod Rolling
 pub mod StandingLaws
+pub mod Sums
 pub mod WeightsLaws

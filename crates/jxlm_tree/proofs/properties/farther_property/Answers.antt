@@ -8,6 +8,7 @@ use Rattle.std.proofs.lemmas.List.{length-map}
 use Rattle.std.proofs.lemmas.Option.{slice_get-map}
 use Rattle.jxlm_base.specs.Regions.{grid_of, store_meanings}
 use Rattle.jxlm_tree.specs.Holding.{surroundings}
+use Rattle.jxlm_tree.proofs.EarlierLaws.{earlier_holds}
 use Rattle.jxlm_tree.proofs.PropertiesLaws.{earlier-none, earlier-some, zero_wraps}
 use Rattle.jxlm_tree.proofs.StandingLaws.{reversed_at, stands_column, stands_earlier, stands_row}
 use Rattle.jxlm_tree.proofs.properties.farther_property.Goals as goal
@@ -33,3 +34,35 @@ returns-else-nearer-len g c = λ s samples stands.
     let long = stands_earlier state s samples stands in
     let past : length s.earlier ≤ c.args.number / 4 = omega (arith, long, c.if-nearer-len.false, c.len.ensures) in
     sym (ap (int_wrap w32) (earlier-none (surroundings s store samples) c.args.number (omega (arith, length-map s.earlier (grid_of store), past))) ∙ zero_wraps)
+
+pub of-requires-clause-lies : goal.of-requires-clause-lies
+of-requires-clause-lies g c κs within =
+    let state = c.args.state.now in
+    let v = c.index-region.result.now in
+    let read = subst (λ n. v ≡ get_or state.earlier.items (n - 1 - c.args.number / 4) v) c.len-then-nearer-len.ensures c.index-region.ensures in
+    let near : c.args.number / 4 < state.earlier.len = omega (arith, c.if-nearer-len.true, c.len.ensures) in
+    (earlier_holds state c.args.store.now (c.args.number / 4) v c.requires near read).0
+
+pub of-requires-clause-in_rows : goal.of-requires-clause-in_rows
+of-requires-clause-in_rows g c κs within =
+    let state = c.args.state.now in
+    let v = c.index-region.result.now in
+    let read = subst (λ n. v ≡ get_or state.earlier.items (n - 1 - c.args.number / 4) v) c.len-then-nearer-len.ensures c.index-region.ensures in
+    let near : c.args.number / 4 < state.earlier.len = omega (arith, c.if-nearer-len.true, c.len.ensures) in
+    (earlier_holds state c.args.store.now (c.args.number / 4) v c.requires near read).1
+
+pub property-requires-clause-column : goal.property-requires-clause-column
+property-requires-clause-column g c κs within =
+    let state = c.args.state.now in
+    let v = c.index-region.result.now in
+    let read = subst (λ n. v ≡ get_or state.earlier.items (n - 1 - c.args.number / 4) v) c.len-then-nearer-len.ensures c.index-region.ensures in
+    let near : c.args.number / 4 < state.earlier.len = omega (arith, c.if-nearer-len.true, c.len.ensures) in
+    subst (λ n. state.x < n) (sym c.of.ensures.row_long) (earlier_holds state c.args.store.now (c.args.number / 4) v c.requires near read).2
+
+pub property-requires-clause-above : goal.property-requires-clause-above
+property-requires-clause-above g c κs within =
+    let state = c.args.state.now in
+    let v = c.index-region.result.now in
+    let read = subst (λ n. v ≡ get_or state.earlier.items (n - 1 - c.args.number / 4) v) c.len-then-nearer-len.ensures c.index-region.ensures in
+    let near : c.args.number / 4 < state.earlier.len = omega (arith, c.if-nearer-len.true, c.len.ensures) in
+    subst (λ n. state.x < n) (sym c.of.ensures.above_long) (earlier_holds state c.args.store.now (c.args.number / 4) v c.requires near read).2

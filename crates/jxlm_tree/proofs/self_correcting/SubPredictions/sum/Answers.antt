@@ -1,153 +1,72 @@
-use Rattle.std.proofs.Common.{◌≡◌, ◌*◌, ◌≤◌, ◌^◌, ◌-◌, ◌/◌, ◌+◌, pos, ◌+ℤ◌, unsigned_abs, FitsSigned, refl, arith, rules, to_z}
+use Rattle.std.proofs.Common.{◌≡◌, ℕ, ℤ, ◌*◌, ◌<◌, ◌≤◌, ◌^◌, ◌-◌, ◌/◌, pos, ◌*ℤ◌, unsigned_abs, ◌∙◌, refl, arith, to_z, of_z}
 use Rattle.std.specs.Int.{w64}
-use Rattle.std.proofs.lemmas.Int.{to_z-of_z, to_z_pos, fits_signed_from_abs}
 use Rattle.jxlm_tree.specs.Correcting.{predicted_by, counted}
-use Rattle.jxlm_tree.proofs.Ranges.{abs_add, weighted}
+use Rattle.jxlm_tree.specs.SelfCorrecting.{total}
+use Rattle.jxlm_tree.specs.declared.self_correcting.Counts.{Counts}
+use Rattle.jxlm_tree.proofs.Ranges.{weighted}
+use Rattle.jxlm_tree.proofs.Sums.{IsNear, natural_near, scaled_is, scaled_near, sum_fits, sum_near}
 use Rattle.jxlm_tree.proofs.self_correcting.SubPredictions.sum.Goals as goal
+
+-- a sub-prediction times its weight
+module _ (v r : ℤ) (below : unsigned_abs v < 2 ^ 37) where
+  near : unsigned_abs v ≤ 2 ^ 37
+  near = omega (arith, below)
+
+  part : unsigned_abs r ≤ 31 * unsigned_abs (to_z w64 (of_z w64 v)) → IsNear (to_z w64 (of_z w64 r)) r (31 * 2 ^ 37)
+  part bound = scaled_near v r (2 ^ 37) near (omega arith) bound
+
+  part_is : (weight : ℕ) → r ≡ to_z w64 (of_z w64 v) *ℤ pos weight → r ≡ v *ℤ pos weight
+  part_is weight value = scaled_is v r (2 ^ 37) near (omega arith) weight value
+
+-- half the sum of the weights, less 1
+half : (weights : Counts) (n : ℕ) → n ≡ total (counted weights) → total (counted weights) ≤ 31 → IsNear (to_z w64 (n / 2 - 1)) (pos (n / 2 - 1)) 31
+half weights n same most = natural_near (n / 2 - 1) 31 (omega (arith, same, most)) (omega arith)
+
+pub overflow_add-result : goal.overflow_add-result
+overflow_add-result c =
+    let h = half c.args.weights.now c.total.result c.total.ensures c.requires.greatest in
+    let t0 = part c.args.self.now.s0 c.scaled.result c.args.self.now.below0 c.scaled.ensures.bound in
+    sum_fits _ _ _ _ _ _ h t0 (omega arith)
 
 pub overflow_add-result-2 : goal.overflow_add-result-2
 overflow_add-result-2 c =
-    let t = c.total.ensures in
-    let l = c.requires.least in
-    let u = c.requires.greatest in
-    let e0 : to_z w64 (c.total.result / 2 - 1) ≡ pos (c.total.result / 2 - 1) = to_z_pos w64 _ (omega (arith, t, u)) in
-    let h0 : FitsSigned w64 (pos (c.total.result / 2 - 1)) = fits_signed_from_abs w64 _ (omega (arith, t, u)) in
-    let s0 : FitsSigned w64 c.args.self.now.s0 = search rules in
-    let r0 : FitsSigned w64 c.scaled.result = search rules in
-    let q0 = simp to_z-of_z at c.scaled.ensures.bound in
-    let m0 = c.args.self.now.below0 in
-    let b0 : unsigned_abs c.scaled.result ≤ 31 * 2 ^ 37 = omega (arith, q0, m0) in
-    let a0 = abs_add (pos (c.total.result / 2 - 1)) c.scaled.result in
-    let l0 : unsigned_abs (pos (c.total.result / 2 - 1) +ℤ c.scaled.result) ≤ 31 + 1 * (31 * 2 ^ 37) = omega (arith, t, u, b0, a0) in
-    let h1 : FitsSigned w64 (pos (c.total.result / 2 - 1) +ℤ c.scaled.result) = fits_signed_from_abs w64 _ (omega (arith, l0)) in
-    let s1 : FitsSigned w64 c.args.self.now.s1 = search rules in
-    let r1 : FitsSigned w64 c.scaled-2.result = search rules in
-    let q1 = simp to_z-of_z at c.scaled-2.ensures.bound in
-    let m1 = c.args.self.now.below1 in
-    let b1 : unsigned_abs c.scaled-2.result ≤ 31 * 2 ^ 37 = omega (arith, q1, m1) in
-    let a1 = abs_add (pos (c.total.result / 2 - 1) +ℤ c.scaled.result) c.scaled-2.result in
-    let l1 : unsigned_abs (pos (c.total.result / 2 - 1) +ℤ c.scaled.result +ℤ c.scaled-2.result) ≤ 31 + 2 * (31 * 2 ^ 37) = omega (arith, t, u, b1, a1, l0) in
-    let h2 : FitsSigned w64 (pos (c.total.result / 2 - 1) +ℤ c.scaled.result +ℤ c.scaled-2.result) = fits_signed_from_abs w64 _ (omega (arith, l1)) in
-    simp (to_z-of_z, e0) h2
+    let h = half c.args.weights.now c.total.result c.total.ensures c.requires.greatest in
+    let t0 = part c.args.self.now.s0 c.scaled.result c.args.self.now.below0 c.scaled.ensures.bound in
+    let t1 = part c.args.self.now.s1 c.scaled-2.result c.args.self.now.below1 c.scaled-2.ensures.bound in
+    sum_fits _ _ _ _ _ _ (sum_near _ _ _ _ _ _ h t0 (omega arith)) t1 (omega arith)
 
 pub overflow_add-result-3 : goal.overflow_add-result-3
 overflow_add-result-3 c =
-    let t = c.total.ensures in
-    let l = c.requires.least in
-    let u = c.requires.greatest in
-    let e0 : to_z w64 (c.total.result / 2 - 1) ≡ pos (c.total.result / 2 - 1) = to_z_pos w64 _ (omega (arith, t, u)) in
-    let h0 : FitsSigned w64 (pos (c.total.result / 2 - 1)) = fits_signed_from_abs w64 _ (omega (arith, t, u)) in
-    let s0 : FitsSigned w64 c.args.self.now.s0 = search rules in
-    let r0 : FitsSigned w64 c.scaled.result = search rules in
-    let q0 = simp to_z-of_z at c.scaled.ensures.bound in
-    let m0 = c.args.self.now.below0 in
-    let b0 : unsigned_abs c.scaled.result ≤ 31 * 2 ^ 37 = omega (arith, q0, m0) in
-    let a0 = abs_add (pos (c.total.result / 2 - 1)) c.scaled.result in
-    let l0 : unsigned_abs (pos (c.total.result / 2 - 1) +ℤ c.scaled.result) ≤ 31 + 1 * (31 * 2 ^ 37) = omega (arith, t, u, b0, a0) in
-    let h1 : FitsSigned w64 (pos (c.total.result / 2 - 1) +ℤ c.scaled.result) = fits_signed_from_abs w64 _ (omega (arith, l0)) in
-    let s1 : FitsSigned w64 c.args.self.now.s1 = search rules in
-    let r1 : FitsSigned w64 c.scaled-2.result = search rules in
-    let q1 = simp to_z-of_z at c.scaled-2.ensures.bound in
-    let m1 = c.args.self.now.below1 in
-    let b1 : unsigned_abs c.scaled-2.result ≤ 31 * 2 ^ 37 = omega (arith, q1, m1) in
-    let a1 = abs_add (pos (c.total.result / 2 - 1) +ℤ c.scaled.result) c.scaled-2.result in
-    let l1 : unsigned_abs (pos (c.total.result / 2 - 1) +ℤ c.scaled.result +ℤ c.scaled-2.result) ≤ 31 + 2 * (31 * 2 ^ 37) = omega (arith, t, u, b1, a1, l0) in
-    let h2 : FitsSigned w64 (pos (c.total.result / 2 - 1) +ℤ c.scaled.result +ℤ c.scaled-2.result) = fits_signed_from_abs w64 _ (omega (arith, l1)) in
-    let s2 : FitsSigned w64 c.args.self.now.s2 = search rules in
-    let r2 : FitsSigned w64 c.scaled-3.result = search rules in
-    let q2 = simp to_z-of_z at c.scaled-3.ensures.bound in
-    let m2 = c.args.self.now.below2 in
-    let b2 : unsigned_abs c.scaled-3.result ≤ 31 * 2 ^ 37 = omega (arith, q2, m2) in
-    let a2 = abs_add (pos (c.total.result / 2 - 1) +ℤ c.scaled.result +ℤ c.scaled-2.result) c.scaled-3.result in
-    let l2 : unsigned_abs (pos (c.total.result / 2 - 1) +ℤ c.scaled.result +ℤ c.scaled-2.result +ℤ c.scaled-3.result) ≤ 31 + 3 * (31 * 2 ^ 37) = omega (arith, t, u, b2, a2, l1) in
-    let h3 : FitsSigned w64 (pos (c.total.result / 2 - 1) +ℤ c.scaled.result +ℤ c.scaled-2.result +ℤ c.scaled-3.result) = fits_signed_from_abs w64 _ (omega (arith, l2)) in
-    simp (to_z-of_z, e0) h3
+    let h = half c.args.weights.now c.total.result c.total.ensures c.requires.greatest in
+    let t0 = part c.args.self.now.s0 c.scaled.result c.args.self.now.below0 c.scaled.ensures.bound in
+    let t1 = part c.args.self.now.s1 c.scaled-2.result c.args.self.now.below1 c.scaled-2.ensures.bound in
+    let t2 = part c.args.self.now.s2 c.scaled-3.result c.args.self.now.below2 c.scaled-3.ensures.bound in
+    sum_fits _ _ _ _ _ _ (sum_near _ _ _ _ _ _ (sum_near _ _ _ _ _ _ h t0 (omega arith)) t1 (omega arith)) t2 (omega arith)
 
 pub overflow_add-result-4 : goal.overflow_add-result-4
 overflow_add-result-4 c =
-    let t = c.total.ensures in
-    let l = c.requires.least in
-    let u = c.requires.greatest in
-    let e0 : to_z w64 (c.total.result / 2 - 1) ≡ pos (c.total.result / 2 - 1) = to_z_pos w64 _ (omega (arith, t, u)) in
-    let h0 : FitsSigned w64 (pos (c.total.result / 2 - 1)) = fits_signed_from_abs w64 _ (omega (arith, t, u)) in
-    let s0 : FitsSigned w64 c.args.self.now.s0 = search rules in
-    let r0 : FitsSigned w64 c.scaled.result = search rules in
-    let q0 = simp to_z-of_z at c.scaled.ensures.bound in
-    let m0 = c.args.self.now.below0 in
-    let b0 : unsigned_abs c.scaled.result ≤ 31 * 2 ^ 37 = omega (arith, q0, m0) in
-    let a0 = abs_add (pos (c.total.result / 2 - 1)) c.scaled.result in
-    let l0 : unsigned_abs (pos (c.total.result / 2 - 1) +ℤ c.scaled.result) ≤ 31 + 1 * (31 * 2 ^ 37) = omega (arith, t, u, b0, a0) in
-    let h1 : FitsSigned w64 (pos (c.total.result / 2 - 1) +ℤ c.scaled.result) = fits_signed_from_abs w64 _ (omega (arith, l0)) in
-    let s1 : FitsSigned w64 c.args.self.now.s1 = search rules in
-    let r1 : FitsSigned w64 c.scaled-2.result = search rules in
-    let q1 = simp to_z-of_z at c.scaled-2.ensures.bound in
-    let m1 = c.args.self.now.below1 in
-    let b1 : unsigned_abs c.scaled-2.result ≤ 31 * 2 ^ 37 = omega (arith, q1, m1) in
-    let a1 = abs_add (pos (c.total.result / 2 - 1) +ℤ c.scaled.result) c.scaled-2.result in
-    let l1 : unsigned_abs (pos (c.total.result / 2 - 1) +ℤ c.scaled.result +ℤ c.scaled-2.result) ≤ 31 + 2 * (31 * 2 ^ 37) = omega (arith, t, u, b1, a1, l0) in
-    let h2 : FitsSigned w64 (pos (c.total.result / 2 - 1) +ℤ c.scaled.result +ℤ c.scaled-2.result) = fits_signed_from_abs w64 _ (omega (arith, l1)) in
-    let s2 : FitsSigned w64 c.args.self.now.s2 = search rules in
-    let r2 : FitsSigned w64 c.scaled-3.result = search rules in
-    let q2 = simp to_z-of_z at c.scaled-3.ensures.bound in
-    let m2 = c.args.self.now.below2 in
-    let b2 : unsigned_abs c.scaled-3.result ≤ 31 * 2 ^ 37 = omega (arith, q2, m2) in
-    let a2 = abs_add (pos (c.total.result / 2 - 1) +ℤ c.scaled.result +ℤ c.scaled-2.result) c.scaled-3.result in
-    let l2 : unsigned_abs (pos (c.total.result / 2 - 1) +ℤ c.scaled.result +ℤ c.scaled-2.result +ℤ c.scaled-3.result) ≤ 31 + 3 * (31 * 2 ^ 37) = omega (arith, t, u, b2, a2, l1) in
-    let h3 : FitsSigned w64 (pos (c.total.result / 2 - 1) +ℤ c.scaled.result +ℤ c.scaled-2.result +ℤ c.scaled-3.result) = fits_signed_from_abs w64 _ (omega (arith, l2)) in
-    let s3 : FitsSigned w64 c.args.self.now.s3 = search rules in
-    let r3 : FitsSigned w64 c.scaled-4.result = search rules in
-    let q3 = simp to_z-of_z at c.scaled-4.ensures.bound in
-    let m3 = c.args.self.now.below3 in
-    let b3 : unsigned_abs c.scaled-4.result ≤ 31 * 2 ^ 37 = omega (arith, q3, m3) in
-    let a3 = abs_add (pos (c.total.result / 2 - 1) +ℤ c.scaled.result +ℤ c.scaled-2.result +ℤ c.scaled-3.result) c.scaled-4.result in
-    let l3 : unsigned_abs (pos (c.total.result / 2 - 1) +ℤ c.scaled.result +ℤ c.scaled-2.result +ℤ c.scaled-3.result +ℤ c.scaled-4.result) ≤ 31 + 4 * (31 * 2 ^ 37) = omega (arith, t, u, b3, a3, l2) in
-    let h4 : FitsSigned w64 (pos (c.total.result / 2 - 1) +ℤ c.scaled.result +ℤ c.scaled-2.result +ℤ c.scaled-3.result +ℤ c.scaled-4.result) = fits_signed_from_abs w64 _ (omega (arith, l3)) in
-    simp (to_z-of_z, e0) h4
+    let h = half c.args.weights.now c.total.result c.total.ensures c.requires.greatest in
+    let t0 = part c.args.self.now.s0 c.scaled.result c.args.self.now.below0 c.scaled.ensures.bound in
+    let t1 = part c.args.self.now.s1 c.scaled-2.result c.args.self.now.below1 c.scaled-2.ensures.bound in
+    let t2 = part c.args.self.now.s2 c.scaled-3.result c.args.self.now.below2 c.scaled-3.ensures.bound in
+    let t3 = part c.args.self.now.s3 c.scaled-4.result c.args.self.now.below3 c.scaled-4.ensures.bound in
+    sum_fits _ _ _ _ _ _ (sum_near _ _ _ _ _ _ (sum_near _ _ _ _ _ _ (sum_near _ _ _ _ _ _ h t0 (omega arith)) t1 (omega arith)) t2 (omega arith)) t3 (omega arith)
 
 pub returns-clause-value : goal.returns-clause-value
 returns-clause-value c =
-    let t = c.total.ensures in
-    let l = c.requires.least in
-    let u = c.requires.greatest in
-    let e0 : to_z w64 (c.total.result / 2 - 1) ≡ pos (c.total.result / 2 - 1) = to_z_pos w64 _ (omega (arith, t, u)) in
-    let h0 : FitsSigned w64 (pos (c.total.result / 2 - 1)) = fits_signed_from_abs w64 _ (omega (arith, t, u)) in
-    let s0 : FitsSigned w64 c.args.self.now.s0 = search rules in
-    let r0 : FitsSigned w64 c.scaled.result = search rules in
-    let q0 = simp to_z-of_z at c.scaled.ensures.bound in
-    let m0 = c.args.self.now.below0 in
-    let b0 : unsigned_abs c.scaled.result ≤ 31 * 2 ^ 37 = omega (arith, q0, m0) in
-    let a0 = abs_add (pos (c.total.result / 2 - 1)) c.scaled.result in
-    let l0 : unsigned_abs (pos (c.total.result / 2 - 1) +ℤ c.scaled.result) ≤ 31 + 1 * (31 * 2 ^ 37) = omega (arith, t, u, b0, a0) in
-    let h1 : FitsSigned w64 (pos (c.total.result / 2 - 1) +ℤ c.scaled.result) = fits_signed_from_abs w64 _ (omega (arith, l0)) in
-    let s1 : FitsSigned w64 c.args.self.now.s1 = search rules in
-    let r1 : FitsSigned w64 c.scaled-2.result = search rules in
-    let q1 = simp to_z-of_z at c.scaled-2.ensures.bound in
-    let m1 = c.args.self.now.below1 in
-    let b1 : unsigned_abs c.scaled-2.result ≤ 31 * 2 ^ 37 = omega (arith, q1, m1) in
-    let a1 = abs_add (pos (c.total.result / 2 - 1) +ℤ c.scaled.result) c.scaled-2.result in
-    let l1 : unsigned_abs (pos (c.total.result / 2 - 1) +ℤ c.scaled.result +ℤ c.scaled-2.result) ≤ 31 + 2 * (31 * 2 ^ 37) = omega (arith, t, u, b1, a1, l0) in
-    let h2 : FitsSigned w64 (pos (c.total.result / 2 - 1) +ℤ c.scaled.result +ℤ c.scaled-2.result) = fits_signed_from_abs w64 _ (omega (arith, l1)) in
-    let s2 : FitsSigned w64 c.args.self.now.s2 = search rules in
-    let r2 : FitsSigned w64 c.scaled-3.result = search rules in
-    let q2 = simp to_z-of_z at c.scaled-3.ensures.bound in
-    let m2 = c.args.self.now.below2 in
-    let b2 : unsigned_abs c.scaled-3.result ≤ 31 * 2 ^ 37 = omega (arith, q2, m2) in
-    let a2 = abs_add (pos (c.total.result / 2 - 1) +ℤ c.scaled.result +ℤ c.scaled-2.result) c.scaled-3.result in
-    let l2 : unsigned_abs (pos (c.total.result / 2 - 1) +ℤ c.scaled.result +ℤ c.scaled-2.result +ℤ c.scaled-3.result) ≤ 31 + 3 * (31 * 2 ^ 37) = omega (arith, t, u, b2, a2, l1) in
-    let h3 : FitsSigned w64 (pos (c.total.result / 2 - 1) +ℤ c.scaled.result +ℤ c.scaled-2.result +ℤ c.scaled-3.result) = fits_signed_from_abs w64 _ (omega (arith, l2)) in
-    let s3 : FitsSigned w64 c.args.self.now.s3 = search rules in
-    let r3 : FitsSigned w64 c.scaled-4.result = search rules in
-    let q3 = simp to_z-of_z at c.scaled-4.ensures.bound in
-    let m3 = c.args.self.now.below3 in
-    let b3 : unsigned_abs c.scaled-4.result ≤ 31 * 2 ^ 37 = omega (arith, q3, m3) in
-    let a3 = abs_add (pos (c.total.result / 2 - 1) +ℤ c.scaled.result +ℤ c.scaled-2.result +ℤ c.scaled-3.result) c.scaled-4.result in
-    let l3 : unsigned_abs (pos (c.total.result / 2 - 1) +ℤ c.scaled.result +ℤ c.scaled-2.result +ℤ c.scaled-3.result +ℤ c.scaled-4.result) ≤ 31 + 4 * (31 * 2 ^ 37) = omega (arith, t, u, b3, a3, l2) in
-    let h4 : FitsSigned w64 (pos (c.total.result / 2 - 1) +ℤ c.scaled.result +ℤ c.scaled-2.result +ℤ c.scaled-3.result +ℤ c.scaled-4.result) = fits_signed_from_abs w64 _ (omega (arith, l3)) in
-    let v0 = simp to_z-of_z at c.scaled.ensures.value in
-    let v1 = simp to_z-of_z at c.scaled-2.ensures.value in
-    let v2 = simp to_z-of_z at c.scaled-3.ensures.value in
-    let v3 = simp to_z-of_z at c.scaled-4.ensures.value in
-    simp (to_z-of_z, e0) (rw (c.total.ensures, v0, v1, v2, v3) refl)
+    let h = half c.args.weights.now c.total.result c.total.ensures c.requires.greatest in
+    let t0 = part c.args.self.now.s0 c.scaled.result c.args.self.now.below0 c.scaled.ensures.bound in
+    let t1 = part c.args.self.now.s1 c.scaled-2.result c.args.self.now.below1 c.scaled-2.ensures.bound in
+    let t2 = part c.args.self.now.s2 c.scaled-3.result c.args.self.now.below2 c.scaled-3.ensures.bound in
+    let t3 = part c.args.self.now.s3 c.scaled-4.result c.args.self.now.below3 c.scaled-4.ensures.bound in
+    let s = (sum_near _ _ _ _ _ _ (sum_near _ _ _ _ _ _ (sum_near _ _ _ _ _ _ (sum_near _ _ _ _ _ _ h t0 (omega arith)) t1 (omega arith)) t2 (omega arith)) t3 (omega arith)) in
+    s.is ∙ rw (
+      c.total.ensures,
+      part_is c.args.self.now.s0 c.scaled.result c.args.self.now.below0 c.args.weights.now.s0 c.scaled.ensures.value,
+      part_is c.args.self.now.s1 c.scaled-2.result c.args.self.now.below1 c.args.weights.now.s1 c.scaled-2.ensures.value,
+      part_is c.args.self.now.s2 c.scaled-3.result c.args.self.now.below2 c.args.weights.now.s2 c.scaled-3.ensures.value,
+      part_is c.args.self.now.s3 c.scaled-4.result c.args.self.now.below3 c.args.weights.now.s3 c.scaled-4.ensures.value,
+    ) refl
 
 pub returns-clause-bound : goal.returns-clause-bound
 returns-clause-bound c =
