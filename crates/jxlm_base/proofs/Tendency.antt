@@ -1,8 +1,8 @@
 -- Tendencies and pairs in machine numbers.
-use Rattle.std.proofs.Common.{◌≡◌, ℕ, ◌+◌, ◌-◌, ◌*◌, ◌/◌, ◌%◌, ◌<◌, ◌≤◌, ◌^◌, Bool, true, false, ◌&&◌, cond, nat_lt, inl, inr, ℤ, pos, ◌+ℤ◌, ◌-ℤ◌, neg_ℤ, int_le, int_div, ◌<ℤ◌, unsigned_abs, FitsSigned, to_z, of_z, sym, refl, ap, ◌∙◌, subst, arith}
+use Rattle.std.proofs.Common.{◌≡◌, ℕ, ◌+◌, ◌-◌, ◌*◌, ◌/◌, ◌%◌, ◌<◌, ◌≤◌, Bool, true, false, ◌&&◌, cond, nat_lt, inl, inr, ℤ, pos, ◌+ℤ◌, ◌-ℤ◌, neg_ℤ, int_le, int_div, ◌<ℤ◌, unsigned_abs, FitsSigned, to_z, of_z, sym, refl, ap, ◌∙◌, subst, arith}
 use Rattle.std.specs.Int.{Width, w16, w32, int_wrap, int_wrapping_add, cast_signed}
 use Rattle.std.proofs.lemmas.Bool.{cases_lt}
-use Rattle.std.proofs.lemmas.Int.{ints, to_z-of_z, to_z_pos, wrapping_add_is, wrapping_sub-bits, quot_fits, SFits-int_wrap}
+use Rattle.std.proofs.lemmas.Int.{fits_signed_from_abs, ints, to_z-of_z, to_z_pos, wrapping_add_is, wrapping_sub-bits, quot_fits, SFits-int_wrap}
 use Rattle.jxlm_base.specs.Squeeze.{slope, tendency}
 use Rattle.jxlm_base.specs.Inner.Unsqueeze.{pair_difference, first_of, second_of}
 use Rattle.jxlm_base.proofs.SqueezeLaws.{if_lt, if_ge}
@@ -26,6 +26,14 @@ pub tendency_rises : (a b c : ℤ) → (int_le b a && int_le c b) ≡ false → 
     neg_ℤ (pos (slope (unsigned_abs (a -ℤ b)) (unsigned_abs (b -ℤ c)))) ≡ tendency a b c
 tendency_rises a b c s t = rw (s, t) refl
 
+-- where they fall
+pub tendency_falls : (a b c : ℤ) → (int_le b a && int_le c b) ≡ true → pos (slope (unsigned_abs (a -ℤ b)) (unsigned_abs (b -ℤ c))) ≡ tendency a b c
+tendency_falls a b c s = rw s refl
+
+-- where they do neither
+pub tendency_turns : (a b c : ℤ) → (int_le b a && int_le c b) ≡ false → (int_le a b && int_le b c) ≡ false → pos 0 ≡ tendency a b c
+tendency_turns a b c s t = rw (s, t) refl
+
 capped_left : (x p : ℕ) → cond (nat_lt (2 * p) (x - x % 2)) (2 * p + 1) x ≤ x
 capped_left x p =
     elim (cases_lt (2 * p) (x - x % 2)) [
@@ -47,45 +55,78 @@ slope_small p q =
     let first : y ≤ x = capped_left x p in
     let second : slope p q ≤ y = capped_right y q in omega arith
 
-le_from : (a b : ℤ) → int_le a b ≡ true → (d : ℕ) × (b -ℤ a ≡ pos d)
-le_from a b h = (unsigned_abs (b -ℤ a), grind (arith, ints))
+-- where three rise or fall, what is between them adds up
+rise_adds : (a b c : ℤ) → int_le a b ≡ true → int_le b c ≡ true → unsigned_abs (a -ℤ b) + unsigned_abs (b -ℤ c) ≡ unsigned_abs (a -ℤ c)
+rise_adds a b c s t = grind (arith, ints)
 
-abbrev pub rising_slope : ℤ → ℤ → ℤ → ℕ
-rising_slope a b c = slope (unsigned_abs (a -ℤ b)) (unsigned_abs (b -ℤ c))
+fall_adds : (a b c : ℤ) → int_le b a ≡ true → int_le c b ≡ true → unsigned_abs (a -ℤ b) + unsigned_abs (b -ℤ c) ≡ unsigned_abs (a -ℤ c)
+fall_adds a b c s t = grind (arith, ints)
 
--- and the whole rise fits, as does a whole fall
-pub narrow_sum : (a b c : ℤ) → FitsSigned w16 a → FitsSigned w16 b → FitsSigned w16 c → int_le a b ≡ true → int_le b c ≡ true → unsigned_abs (a -ℤ b) + unsigned_abs (b -ℤ c) < 2 ^ 16
-narrow_sum a b c fa fb fc s t =
-    let p : ℕ = unsigned_abs (a -ℤ b) in
-    let q : ℕ = unsigned_abs (b -ℤ c) in
-    let sum : p + q < 2 ^ 16 = grind (arith, ints) in sum
+-- numbers nearer to 0 than half the range fit; and so does what is between two of them in the whole range
+pub record IsWidth (w : Width) (half : ℕ) : Type 0 where
+  pub some : 1 ≤ half
+  pub near : (z : ℤ) → unsigned_abs z < half → FitsSigned w z
+  pub natural : (n : ℕ) → n < half → to_z w n ≡ pos n
+  pub apart : (a c : ℤ) → FitsSigned w a → FitsSigned w c → unsigned_abs (a -ℤ c) < 2 * half
 
-pub narrow_small : (a b c : ℤ) → FitsSigned w16 a → FitsSigned w16 b → FitsSigned w16 c → int_le a b ≡ true → int_le b c ≡ true → rising_slope a b c < 2 ^ 15
-narrow_small a b c fa fb fc s t =
-    let p : ℕ = unsigned_abs (a -ℤ b) in
-    let q : ℕ = unsigned_abs (b -ℤ c) in
-    let sum : p + q < 2 ^ 16 = narrow_sum a b c fa fb fc s t in
-    let small = slope_small p q in omega arith
+pub narrow : IsWidth w16 32768
+narrow = record { some = omega arith; near = λ z h. fits_signed_from_abs w16 z h; natural = λ n h. to_z_pos w16 n h; apart = λ a c f g. omega (arith, ints) }
 
--- and the whole rise fits, as does a whole fall
-pub wide_sum : (a b c : ℤ) → FitsSigned w32 a → FitsSigned w32 b → FitsSigned w32 c → int_le a b ≡ true → int_le b c ≡ true → unsigned_abs (a -ℤ b) + unsigned_abs (b -ℤ c) < 2 ^ 32
-wide_sum a b c fa fb fc s t =
-    let p : ℕ = unsigned_abs (a -ℤ b) in
-    let q : ℕ = unsigned_abs (b -ℤ c) in
-    let sum : p + q < 2 ^ 32 = grind (arith, ints) in sum
+pub wide : IsWidth w32 2147483648
+wide = record { some = omega arith; near = λ z h. fits_signed_from_abs w32 z h; natural = λ n h. to_z_pos w32 n h; apart = λ a c f g. omega (arith, ints) }
 
-pub wide_small : (a b c : ℤ) → FitsSigned w32 a → FitsSigned w32 b → FitsSigned w32 c → int_le a b ≡ true → int_le b c ≡ true → rising_slope a b c < 2 ^ 31
-wide_small a b c fa fb fc s t =
-    let p : ℕ = unsigned_abs (a -ℤ b) in
-    let q : ℕ = unsigned_abs (b -ℤ c) in
-    let sum : p + q < 2 ^ 32 = wide_sum a b c fa fb fc s t in
-    let small = slope_small p q in omega arith
+opposite : (n : ℕ) → pos 0 -ℤ pos n ≡ neg_ℤ (pos n)
+opposite n = omega (arith, ints)
 
-pub narrow_negated : (n : ℕ) → n < 2 ^ 15 → to_z w16 (of_z w16 (pos 0 -ℤ to_z w16 n)) ≡ neg_ℤ (pos n)
-narrow_negated n h = ap (λ z. to_z w16 (of_z w16 (pos 0 -ℤ z))) (to_z_pos w16 n (omega arith)) ∙ omega (arith, ints)
+opposite_abs : (n : ℕ) → unsigned_abs (neg_ℤ (pos n)) ≡ n
+opposite_abs n = omega (arith, ints)
 
-pub wide_negated : (n : ℕ) → n < 2 ^ 31 → to_z w32 (of_z w32 (pos 0 -ℤ to_z w32 n)) ≡ neg_ℤ (pos n)
-wide_negated n h = ap (λ z. to_z w32 (of_z w32 (pos 0 -ℤ z))) (to_z_pos w32 n (omega arith)) ∙ omega (arith, ints)
+-- the tendency of a, b and c, which are p and q apart, from a number n that is the slope where p and q fit together
+module _ (w : Width) (half : ℕ) (range : IsWidth w half) (a b c : ℤ) (fa : FitsSigned w a) (fb : FitsSigned w b) (fc : FitsSigned w c) (p q n : ℕ)
+    (first : p ≡ unsigned_abs (to_z w (of_z w a) -ℤ to_z w (of_z w b))) (second : q ≡ unsigned_abs (to_z w (of_z w b) -ℤ to_z w (of_z w c)))
+    (sloped : p + q < 2 * half → n ≡ slope p q) where
+  p_is : p ≡ unsigned_abs (a -ℤ b)
+  p_is = first ∙ rw (to_z-of_z w a fa, to_z-of_z w b fb) refl
+
+  q_is : q ≡ unsigned_abs (b -ℤ c)
+  q_is = second ∙ rw (to_z-of_z w b fb, to_z-of_z w c fc) refl
+
+  fits_together : unsigned_abs (a -ℤ b) + unsigned_abs (b -ℤ c) ≡ unsigned_abs (a -ℤ c) → p + q < 2 * half
+  fits_together adds = let d = range.apart a c fa fc in let e = p_is in let f = q_is in omega (arith, d, e, f, adds)
+
+  slope_is : p + q < 2 * half → n ≡ slope (unsigned_abs (a -ℤ b)) (unsigned_abs (b -ℤ c))
+  slope_is h = sloped h ∙ ap (λ p. slope p q) p_is ∙ ap (slope (unsigned_abs (a -ℤ b))) q_is
+
+  slope_near : p + q < 2 * half → n < half
+  slope_near h = let e = sloped h in let s = slope_small p q in let some = range.some in omega (arith, e, s, some, h)
+
+  module _ (s : int_le (to_z w (of_z w b)) (to_z w (of_z w a)) ≡ true) (t : int_le (to_z w (of_z w c)) (to_z w (of_z w b)) ≡ true) where
+    fall_fits : p + q < 2 * half
+    fall_fits = fits_together (fall_adds a b c (le_is w b a true fb fa s) (le_is w c b true fc fb t))
+
+    pub falls_fit : FitsSigned w (pos n)
+    falls_fit = range.near (pos n) (slope_near fall_fits)
+
+    pub falls : to_z w n ≡ tendency a b c
+    falls = range.natural n (slope_near fall_fits) ∙ ap pos (slope_is fall_fits) ∙ tendency_falls a b c (both_true _ _ (le_is w b a true fb fa s) (le_is w c b true fc fb t))
+
+  module _ (s : int_le (to_z w (of_z w a)) (to_z w (of_z w b)) ≡ true) (t : int_le (to_z w (of_z w b)) (to_z w (of_z w c)) ≡ true) where
+    rise_fits : p + q < 2 * half
+    rise_fits = fits_together (rise_adds a b c (le_is w a b true fa fb s) (le_is w b c true fb fc t))
+
+    pub rises_fit : FitsSigned w (pos n)
+    rises_fit = range.near (pos n) (slope_near rise_fits)
+
+    negated : pos 0 -ℤ to_z w n ≡ neg_ℤ (pos n)
+    negated = ap (λ z. pos 0 -ℤ z) (range.natural n (slope_near rise_fits)) ∙ opposite n
+
+    pub negated_fits : FitsSigned w (pos 0 -ℤ to_z w n)
+    negated_fits = rw negated (range.near (neg_ℤ (pos n)) (rw (opposite_abs n) (slope_near rise_fits)))
+
+    pub rises : (int_le b a && int_le c b) ≡ false → to_z w (of_z w (pos 0 -ℤ to_z w n)) ≡ tendency a b c
+    rises not =
+        to_z-of_z w (pos 0 -ℤ to_z w n) negated_fits ∙ negated ∙ ap (λ n. neg_ℤ (pos n)) (slope_is rise_fits)
+        ∙ tendency_rises a b c not (both_true _ _ (le_is w a b true fa fb s) (le_is w b c true fb fc t))
 
 -- ---- a pair, by wrapping sums
 
