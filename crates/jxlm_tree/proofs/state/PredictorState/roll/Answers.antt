@@ -1,9 +1,18 @@
-use Rattle.std.proofs.Common.{◌≡◌, ◌+◌, ◌-◌, ◌%◌, ◌<◌, ◌≤◌, pos, ◌+ℤ◌, ◌-ℤ◌, length, FitsSigned, get_or, set, ap, ◌∙◌, arith, rules, to_z, of_z}
+use Rattle.std.proofs.Common.{◌≡◌, ◌+◌, ◌-◌, ◌%◌, ◌<◌, ◌≤◌, ℤ, pos, ◌+ℤ◌, ◌-ℤ◌, length, FitsSigned, get_or, set, ap, ◌∙◌, arith, rules, to_z, of_z}
 use Rattle.std.specs.Int.{w32, int_wrap}
 use Rattle.std.proofs.lemmas.Int.{to_z-of_z, wraps}
 use Rattle.std.proofs.lemmas.List.{get_or_read_under}
+use Rattle.jxlm_tree.specs.declared.state.PredictorState.{PredictorState}
 use Rattle.jxlm_tree.proofs.Rolling.{Rolls_first, Rolls_row, Rolls_end}
 use Rattle.jxlm_tree.proofs.state.PredictorState.roll.Goals as goal
+
+-- property 9, by sums that wrap
+gradient_wraps : (w n nw : ℤ) → FitsSigned w32 w → FitsSigned w32 n → FitsSigned w32 nw →
+    to_z w32 (((of_z w32 w + (4294967296 - of_z w32 nw)) % 4294967296 + of_z w32 n) % 4294967296) ≡ int_wrap w32 (w -ℤ nw +ℤ n)
+gradient_wraps w n nw fw fn fnw = search (rules, wraps)
+
+current_long : {S : Type 0} (state : PredictorState S) → state.width ≤ length state.current.items
+current_long state = let h = state.current_len in let r = state.within_room in let l = state.current.ok.0 in omega (arith, h, r, l)
 
 pub returns-then-self-eq0-clause-rolls : goal.returns-then-self-eq0-clause-rolls
 returns-then-self-eq0-clause-rolls g c = λ samples rolls.
@@ -11,8 +20,8 @@ returns-then-self-eq0-clause-rolls g c = λ samples rolls.
     let w : FitsSigned w32 c.args.self.now.w = search rules in
     let n : FitsSigned w32 c.args.self.now.n = search rules in
     let nw : FitsSigned w32 c.args.self.now.nw = search rules in
-    let len : c.args.self.now.width ≤ length c.args.self.now.current.items = let h = c.args.self.now.current_len in let r = c.args.self.now.within_room in omega (arith, c.args.self.now.current.ok.0) in
-    let p9 : to_z w32 (((of_z w32 c.args.self.now.w + (4294967296 - of_z w32 c.args.self.now.nw)) % 4294967296 + of_z w32 c.args.self.now.n) % 4294967296) ≡ int_wrap w32 (c.args.self.now.w -ℤ c.args.self.now.nw +ℤ c.args.self.now.n) = search (rules, wraps) in
+    let len = current_long c.args.self.now in
+    let p9 = gradient_wraps c.args.self.now.w c.args.self.now.n c.args.self.now.nw w n nw in
     rw (to_z-of_z w32 c.args.sample s) (Rolls_first c.args.self.now.width c.args.self.now.x c.args.self.now.y _ _ _ _ c.args.sample _ _ c.args.self.now.current.items samples rolls len (omega arith) c.if-self-eq0.true p9)
 
 pub returns-else-self-eq0-clause-rolls : goal.returns-else-self-eq0-clause-rolls
@@ -21,8 +30,8 @@ returns-else-self-eq0-clause-rolls g c = λ samples rolls.
     let w : FitsSigned w32 c.args.self.now.w = search rules in
     let n : FitsSigned w32 c.args.self.now.n = search rules in
     let nw : FitsSigned w32 c.args.self.now.nw = search rules in
-    let len : c.args.self.now.width ≤ length c.args.self.now.current.items = let h = c.args.self.now.current_len in let r = c.args.self.now.within_room in omega (arith, c.args.self.now.current.ok.0) in
-    let p9 : to_z w32 (((of_z w32 c.args.self.now.w + (4294967296 - of_z w32 c.args.self.now.nw)) % 4294967296 + of_z w32 c.args.self.now.n) % 4294967296) ≡ int_wrap w32 (c.args.self.now.w -ℤ c.args.self.now.nw +ℤ c.args.self.now.n) = search (rules, wraps) in
+    let len = current_long c.args.self.now in
+    let p9 = gradient_wraps c.args.self.now.w c.args.self.now.n c.args.self.now.nw w n nw in
     let above : FitsSigned w32 c.index.result.now = search rules in
     let is : c.index.result.now ≡ get_or c.args.self.now.previous.items (c.args.self.now.x + 1) (pos 0) =
     get_or_read_under c.args.self.now.previous.items (c.args.self.now.x + 1) c.args.self.now.previous.len c.index.result.now (pos 0) c.index.ensures (omega (arith, c.args.self.now.previous_len, c.args.self.now.within_room)) c.args.self.now.previous.ok.0 in
@@ -32,7 +41,7 @@ returns-else-self-eq0-clause-rolls g c = λ samples rolls.
 pub returns-else-self-clause-rolls : goal.returns-else-self-clause-rolls
 returns-else-self-clause-rolls g c = λ samples rolls.
     let s : FitsSigned w32 c.args.sample = c.ranges.sample in
-    let len : c.args.self.now.width ≤ length c.args.self.now.current.items = let h = c.args.self.now.current_len in let r = c.args.self.now.within_room in omega (arith, c.args.self.now.current.ok.0) in
+    let len = current_long c.args.self.now in
     let above : FitsSigned w32 c.index-above.result.now = search rules in
     let current_is : c.swap.new.x.items ≡ set c.args.self.now.current.items c.args.self.now.x c.args.sample = ap (λ (v : _). v.items) c.swap.ensures.x_after ∙ ap (set c.args.self.now.current.items c.args.self.now.x) (to_z-of_z w32 c.args.sample s) in
     let long : c.swap.new.x.len ≡ c.args.self.now.current.len = ap (λ (v : _). v.len) c.swap.ensures.x_after in
