@@ -2,6 +2,7 @@ mod Examples
 pub mod Causal
 pub mod Correcting
 pub mod EarlierLaws
+pub mod ListedWeights
 pub mod PropertiesLaws
 pub mod Ranges
 pub mod Rolling

@@ -4,6 +4,7 @@ ghost use Rattle.std.specs.Prelude.{◌≡◌, ◌≤◌, ◌<◌, ◌^◌, IfOk
 ghost use Rattle.jxlm_base.specs.Bits.{bytes_of, position_of};
 ghost use Rattle.jxlm_base.specs.Grammar.{IsExact, Reads, number};
 ghost use Rattle.jxlm_tree.specs.Holding.{IsCurrent, IsOfPlace};
+ghost use Rattle.jxlm_tree.specs.Inner.ListedWeights.{HasFactors, listed_counts};
 ghost use Rattle.jxlm_tree.specs.Predictions.{prediction};
 ghost use Rattle.jxlm_tree.specs.SelfCorrecting.{IsHeader};
 ghost use Rattle.jxlm_tree.specs.SelfCorrectingRanges.{AlwaysInRange};
@@ -188,7 +189,7 @@ impl WpHeader {
         ensures ranges { IfOk result (λ h. IsHeader h) }
         ensures bytes { bytes_of bits.new ≡ bytes_of bits.old }
     {
-        Ok(WpHeader {
+        let factors = WpHeader {
             default_wp: false,
             wp_p1: WpHeader::field(bits, 5)?,
             wp_p2: WpHeader::field(bits, 5)?,
@@ -197,6 +198,30 @@ impl WpHeader {
             wp_p3c: WpHeader::field(bits, 5)?,
             wp_p3d: WpHeader::field(bits, 5)?,
             wp_p3e: WpHeader::field(bits, 5)?,
+            wp_w0: 0,
+            wp_w1: 0,
+            wp_w2: 0,
+            wp_w3: 0,
+        };
+        factors.with_counts(bits)
+    }
+
+    // The header with its last four fields, which are read.
+    fn with_counts(self, bits: &mut Bitstream<'_>) -> std::result::Result<WpHeader, BitstreamError>
+        ensures gives { Reads (λ h. h) result (position_of bits.new)
+            ((listed_counts self).read (bytes_of bits.old) (position_of bits.old)) }
+        ensures ranges { HasFactors self → IfOk result (λ h. IsHeader h) }
+        ensures bytes { bytes_of bits.new ≡ bytes_of bits.old }
+    {
+        Ok(WpHeader {
+            default_wp: self.default_wp,
+            wp_p1: self.wp_p1,
+            wp_p2: self.wp_p2,
+            wp_p3a: self.wp_p3a,
+            wp_p3b: self.wp_p3b,
+            wp_p3c: self.wp_p3c,
+            wp_p3d: self.wp_p3d,
+            wp_p3e: self.wp_p3e,
             wp_w0: WpHeader::field(bits, 4)?,
             wp_w1: WpHeader::field(bits, 4)?,
             wp_w2: WpHeader::field(bits, 4)?,
