@@ -10,7 +10,7 @@ import pathlib
 import random
 import sys
 
-GRADIENT, ZERO, WEIGHTED = 5, 0, 6
+GRADIENT, ZERO, WEST, WEIGHTED = 5, 0, 1, 6
 COLOUR = [(2, 0), (2, 0), (3, 0), (2, 0)]  # channels 0 to 2, type 6
 PALETTE = [(2, 1), (2, 0), (3, 0), (2, 1), (2, 1), (10, 0), (2, 0), (4, 0)]  # 256 colours of channels 0 to 2, no deltas
 SQUEEZE = [(2, 2), (2, 0)]  # the default steps
@@ -143,6 +143,8 @@ def pictures(side):
     mixed = [leaf(p, i % 4) for i, p in enumerate((1, 2, 3, 4, 5, 7, 8, 9, 10, 11, 12, 13, 5, 4, 3, 5))]
     errors, earlier = around_zero(p15=128, p9=512), around_zero(p17=128, p10=32, p6=256, p14=32)
     fused, tables = (15, 9, 15, 9, 15), (15, 15, 15, 9, 9)
+    west, gradient = ([leaf(predictor, i % 4) for i in range(8)] for predictor in (WEST, GRADIENT))
+    on_west, on_gradient = (halving(3 * (p,), {p: (-64, 64)}, iter(row)) for p, row in ((10, west), (9, gradient)))
     one = tree(leaf(GRADIENT))
     zero = tree(leaf(ZERO))
     yield "gradient", packed(header() + one, tokens)
@@ -153,6 +155,8 @@ def pictures(side):
     yield "weighted-turns", packed(header() + tree(halving(fused, errors, iter(weighted)), clusters=4), tokens)
     yield "zero", packed(header() + zero, tokens)
     yield "fill", packed(header() + tree(leaf(ZERO), constant=6))
+    yield "clusters", packed(header() + tree(on_west, clusters=4), tokens)
+    yield "gradient-clusters", packed(header() + tree(on_gradient, clusters=4), tokens)
     yield "gradient-cut", cut(side, header() + one, tokens)
     yield "zero-cut", cut(side, header() + zero, tokens)
     yield "palette", packed(header(PALETTE) + zero, bytes(token & 254 for token in tokens))

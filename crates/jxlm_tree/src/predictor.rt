@@ -4,7 +4,7 @@ ghost use Rattle.std.specs.Prelude.{◌≡◌, ◌≤◌, ◌<◌, ◌^◌, IfOk
 ghost use Rattle.jxlm_base.specs.Bits.{bytes_of, position_of};
 ghost use Rattle.jxlm_base.specs.Grammar.{IsExact, Reads, number};
 ghost use Rattle.jxlm_tree.specs.Holding.{IsCurrent, IsOfPlace};
-ghost use Rattle.jxlm_tree.specs.Inner.ListedWeights.{HasFactors, listed_counts};
+ghost use Rattle.jxlm_tree.specs.Inner.ListedWeights.{HasFactors, last_weights};
 ghost use Rattle.jxlm_tree.specs.Predictions.{prediction};
 ghost use Rattle.jxlm_tree.specs.SelfCorrecting.{IsHeader};
 ghost use Rattle.jxlm_tree.specs.SelfCorrectingRanges.{AlwaysInRange};
@@ -189,7 +189,7 @@ impl WpHeader {
         ensures ranges { IfOk result (λ h. IsHeader h) }
         ensures bytes { bytes_of bits.new ≡ bytes_of bits.old }
     {
-        let factors = WpHeader {
+        let first = WpHeader {
             default_wp: false,
             wp_p1: WpHeader::field(bits, 5)?,
             wp_p2: WpHeader::field(bits, 5)?,
@@ -203,13 +203,16 @@ impl WpHeader {
             wp_w2: 0,
             wp_w3: 0,
         };
-        factors.with_counts(bits)
+        first.with_last_weights(bits)
     }
 
     // The header with its last four fields, which are read.
-    fn with_counts(self, bits: &mut Bitstream<'_>) -> std::result::Result<WpHeader, BitstreamError>
+    fn with_last_weights(
+        self,
+        bits: &mut Bitstream<'_>,
+    ) -> std::result::Result<WpHeader, BitstreamError>
         ensures gives { Reads (λ h. h) result (position_of bits.new)
-            ((listed_counts self).read (bytes_of bits.old) (position_of bits.old)) }
+            ((last_weights self).read (bytes_of bits.old) (position_of bits.old)) }
         ensures ranges { HasFactors self → IfOk result (λ h. IsHeader h) }
         ensures bytes { bytes_of bits.new ≡ bytes_of bits.old }
     {

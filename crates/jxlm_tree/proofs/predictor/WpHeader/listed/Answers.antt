@@ -1,6 +1,6 @@
 use Rattle.std.proofs.Common.{false, ap, sym, refl, ◌∙◌}
 use Rattle.jxlm_base.specs.Bits.{position_of}
-use Rattle.jxlm_tree.specs.Inner.ListedWeights.{listed_counts}
+use Rattle.jxlm_tree.specs.Inner.ListedWeights.{last_weights}
 use Rattle.jxlm_tree.specs.declared.predictor.WpHeader.{WpHeader}
 use Rattle.jxlm_tree.proofs.ListedWeights.{after, ended, no_header, read_on, refused}
 use Rattle.jxlm_tree.proofs.predictor.WpHeader.listed.Goals as goal
@@ -86,7 +86,7 @@ pub returns : goal.returns
 returns c =
     let h : WpHeader = record { default_wp = false; wp_p1 = c.in_ok-field.field-0; wp_p2 = c.in_ok-field-2.field-0; wp_p3a = c.in_ok-field-3.field-0; wp_p3b = c.in_ok-field-4.field-0; wp_p3c = c.in_ok-field-5.field-0; wp_p3d = c.in_ok-field-6.field-0; wp_p3e = c.in_ok-field-7.field-0; wp_w0 = 0; wp_w1 = 0; wp_w2 = 0; wp_w3 = 0 } in
     record {
-      gives = read_on c.with_counts.result _ _ _ (
+      gives = read_on c.with_last_weights.result _ _ _ (
           after 5 _ _ refl c.in_ok-field.ensures.gives c.field.ensures.bytes (λ s1.
           after 5 _ _ s1 c.in_ok-field-2.ensures.gives c.field-2.ensures.bytes (λ s2.
           after 5 _ _ s2 c.in_ok-field-3.ensures.gives c.field-3.ensures.bytes (λ s3.
@@ -94,7 +94,7 @@ returns c =
           after 5 _ _ s4 c.in_ok-field-5.ensures.gives c.field-5.ensures.bytes (λ s5.
           after 5 _ _ s5 c.in_ok-field-6.ensures.gives c.field-6.ensures.bytes (λ s6.
           after 5 _ _ s6 c.in_ok-field-7.ensures.gives c.field-7.ensures.bytes (λ s7.
-          ap (λ l. (listed_counts h).read l (position_of c.field-7.new.bits)) (sym s7))))))))) c.with_counts.ensures.gives;
-      ranges = c.with_counts.ensures.ranges (record { p1 = c.in_ok-field.ensures.below; p2 = c.in_ok-field-2.ensures.below; p3a = c.in_ok-field-3.ensures.below; p3b = c.in_ok-field-4.ensures.below; p3c = c.in_ok-field-5.ensures.below; p3d = c.in_ok-field-6.ensures.below; p3e = c.in_ok-field-7.ensures.below });
-      bytes = c.with_counts.ensures.bytes ∙ c.field-7.ensures.bytes ∙ c.field-6.ensures.bytes ∙ c.field-5.ensures.bytes ∙ c.field-4.ensures.bytes ∙ c.field-3.ensures.bytes ∙ c.field-2.ensures.bytes ∙ c.field.ensures.bytes;
+          ap (λ l. (last_weights h).read l (position_of c.field-7.new.bits)) (sym s7))))))))) c.with_last_weights.ensures.gives;
+      ranges = c.with_last_weights.ensures.ranges (record { p1 = c.in_ok-field.ensures.below; p2 = c.in_ok-field-2.ensures.below; p3a = c.in_ok-field-3.ensures.below; p3b = c.in_ok-field-4.ensures.below; p3c = c.in_ok-field-5.ensures.below; p3d = c.in_ok-field-6.ensures.below; p3e = c.in_ok-field-7.ensures.below });
+      bytes = c.with_last_weights.ensures.bytes ∙ c.field-7.ensures.bytes ∙ c.field-6.ensures.bytes ∙ c.field-5.ensures.bytes ∙ c.field-4.ensures.bytes ∙ c.field-3.ensures.bytes ∙ c.field-2.ensures.bytes ∙ c.field.ensures.bytes;
     }

@@ -1,6 +1,6 @@
 use Rattle.std.proofs.Common.{refl, ◌∙◌}
 use Rattle.jxlm_tree.proofs.ListedWeights.{after, ended, refused, no_header}
-use Rattle.jxlm_tree.proofs.predictor.WpHeader.with_counts.Goals as goal
+use Rattle.jxlm_tree.proofs.predictor.WpHeader.with_last_weights.Goals as goal
 
 pub returns-in_err-field : goal.returns-in_err-field
 returns-in_err-field c = record {
