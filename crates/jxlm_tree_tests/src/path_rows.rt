@@ -7,12 +7,12 @@
 // Bytes and paths were written and computed by an independent program: leaves, cuts and clusters are few and small, and
 // each cluster is that of the leaf to which a plain walk of the tree leads.
 
-use crate::calls::{compare, skip, tree_at, tree_in};
+use crate::calls::{compare, cut, skip, tree_at, tree_in};
 use crate::told::Told;
 use crate::trees::three;
 use jxlm_base::bits::Bitstream;
 use jxlm_base::decoder::Decoder;
-use jxlm_base_tests::text::{bytes, pair};
+use jxlm_base_tests::text::bytes;
 use jxlm_ma::flat::{FlatMaTree, Leaf, Steps};
 use jxlm_ma::ma::MaConfig;
 use jxlm_ma::paths::{ClusterTable, Path};
@@ -118,9 +118,11 @@ fn cluster_at(
     let told = Told { values: &values };
     let mut steps = Steps::new();
     let leaf = *flat.leaf(&told, &mut steps);
-    assert!(rt; leaf == table.leaf_by(&told, &mut steps));
-    assert_eq!(rt; leaf.cluster, table.cluster(value, &mut steps));
-    Ok(leaf.cluster)
+    let is_same = leaf == table.leaf_by(&told, &mut steps);
+    compare(rt, is_same, true, "whether the leaves are the same");
+    let cluster = table.cluster(value, &mut steps);
+    compare(rt, cluster, leaf.cluster, "the cluster of a table");
+    Ok(cluster)
 }
 
 fn by_table(
@@ -165,9 +167,9 @@ fn path_at<D: Decoder>(
 // A row's parts: the bits before the tree, the channel, the stream and how many earlier channels there are, the bytes,
 // and what is expected.
 fn parts(row: &str) -> Result<(u32, [u32; 3], &str, &str), Fail> {
-    let (words, rest) = pair(row, '|')?;
-    let (before, place) = pair(words, ' ')?;
-    let (digits, expected) = pair(rest, '|')?;
+    let (words, rest) = cut(row, '|');
+    let (before, place) = cut(words, ' ');
+    let (digits, expected) = cut(rest, '|');
     Ok((before.parse()?, three(place)?, digits, expected))
 }
 
