@@ -17,7 +17,7 @@ use jxlm_ma::flat::{FlatMaTree, Leaf, Steps};
 use jxlm_ma::ma::MaConfig;
 use jxlm_ma::paths::{ClusterTable, Path};
 use jxlm_plain::plain::PlainDecoder;
-use std::alloc::Global;
+use std::alloc::{AllocError, Global};
 use std::process::Abort;
 use std::test::Fail;
 
@@ -94,15 +94,10 @@ const VALUES: [i32; 18] = [
     i32::MAX,
 ];
 
-// What leaves agree in that differ in the cluster alone.
-fn rest_of(alloc: Global, leaf: &Leaf) -> Result<String, Fail> {
+// A path by its name and by a leaf: its cluster, or the property that chooses one, and the rest of it.
+fn by_leaf(alloc: Global, name: &str, choice: u32, leaf: &Leaf) -> Result<String, AllocError> {
     let (predictor, offset, multiplier) = (leaf.predictor, leaf.offset, leaf.multiplier);
-    Ok(format!(in alloc; "{predictor:?} {offset} {multiplier}")?)
-}
-
-fn by_leaf(alloc: Global, name: &str, leaf: &Leaf) -> Result<String, Fail> {
-    let (cluster, rest) = (leaf.cluster, rest_of(alloc, leaf)?);
-    Ok(format!(in alloc; "{name} {cluster} {rest}")?)
+    format!(in alloc; "{name} {choice} {predictor:?} {offset} {multiplier}")
 }
 
 // The cluster of a table at a value; the leaf is that to which the tree leads, and each is found in one step.
@@ -132,35 +127,52 @@ fn by_table(
     flat: &FlatMaTree,
     table: &ClusterTable,
 ) -> Result<String, Fail> {
-    let (property, rest) = (table.property(), rest_of(alloc, &table.leaf())?);
-    let mut text = format!(in alloc; "{name} by {property} {rest}:")?;
-    for value in VALUES {
-        write!(text, " {}", cluster_at(rt, flat, table, value)?)?;
-    }
+    let mut text = by_leaf(alloc, name, table.property(), &table.leaf())?;
+    text.push(':')?;
+    put_clusters(rt, &mut text, flat, table)?;
     Ok(text)
+}
+
+// Adds the clusters of a table at some values.
+fn put_clusters(
+    rt: &impl Abort,
+    text: &mut String,
+    flat: &FlatMaTree,
+    table: &ClusterTable,
+) -> Result<(), Fail> {
+    for value in VALUES {
+        let cluster = cluster_at(rt, flat, table, value)?;
+        write!(text, " {cluster}")?;
+    }
+    Ok(())
 }
 
 // A path in the words of a row.
 fn told(rt: &impl Abort, alloc: Global, flat: &FlatMaTree, path: Path<'_>) -> Result<String, Fail> {
-    match path {
-        Path::Constant(leaf) => by_leaf(alloc, "constant", &leaf),
-        Path::Zero(leaf) => by_leaf(alloc, "zero", &leaf),
-        Path::Gradient(leaf) => by_leaf(alloc, "gradient", &leaf),
-        Path::Runs(leaf) => by_leaf(alloc, "runs", &leaf),
-        Path::Clusters(table) => by_table(rt, alloc, "clusters", flat, table),
-        Path::GradientClusters(table) => by_table(rt, alloc, "gradient clusters", flat, table),
-        Path::Tree => Ok(format!(in alloc; "tree")?),
-    }
+    let (name, leaf) = match path {
+        Path::Constant(leaf) => ("constant", leaf),
+        Path::Zero(leaf) => ("zero", leaf),
+        Path::Gradient(leaf) => ("gradient", leaf),
+        Path::Runs(leaf) => ("runs", leaf),
+        Path::Clusters(table) => return by_table(rt, alloc, "clusters by", flat, table),
+        Path::GradientClusters(table) => {
+            return by_table(rt, alloc, "gradient clusters by", flat, table);
+        }
+        Path::Tree => return Ok(format!(in alloc; "tree")?),
+    };
+    Ok(by_leaf(alloc, name, u32::from(leaf.cluster), &leaf)?)
 }
 
-// The path of a tree for a channel, in the words of a row.
+// The path of the tree after n bits for a channel, in the words of a row.
 fn path_at<D: Decoder>(
     rt: &impl Abort,
     alloc: Global,
-    config: &MaConfig<D>,
+    bytes: &[u8],
+    n: u32,
     place: [u32; 3],
 ) -> Result<String, Fail> {
-    let flat = tree_at(alloc, config, place)?;
+    let config = tree_after::<D>(alloc, bytes, n)?;
+    let flat = tree_at(alloc, &config, place)?;
     told(rt, alloc, &flat, flat.path_of(config.decoder()))
 }
 
@@ -183,8 +195,7 @@ fn tree_after<D: Decoder>(alloc: Global, bytes: &[u8], n: u32) -> Result<MaConfi
 fn check_path<D: Decoder>(rt: &impl Abort, alloc: Global, row: &str) -> Result<(), Fail> {
     let (before, place, digits, expected) = parts(row)?;
     let bytes = bytes(alloc, digits)?;
-    let config = tree_after::<D>(alloc, &bytes, before)?;
-    let seen = path_at(rt, alloc, &config, place)?;
+    let seen = path_at::<D>(rt, alloc, &bytes, before, place)?;
     compare(rt, seen.as_str(), expected, row);
     Ok(())
 }

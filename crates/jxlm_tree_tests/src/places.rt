@@ -297,7 +297,8 @@ impl Place {
         state: &mut PredictorState<S>,
         is_inside: bool,
     ) -> Result<String, Fail> {
-        let (store, regions) = (self.store::<S>(alloc)?, self.regions(alloc)?);
+        let store = self.store::<S>(alloc)?;
+        let regions = self.regions(alloc)?;
         if !hold_row(&store, &regions, self.width, self.row()) {
             return Err("an earlier channel without the row".into());
         }
@@ -337,18 +338,10 @@ fn check_place<S: Sample>(
 ) -> Result<(), Fail> {
     let (put, expected) = line.split_once("|:").ok_or("nothing expected")?;
     let place = read_place(alloc, put)?;
-    compare(
-        rt,
-        place.told_in(alloc, state, false)?.as_str(),
-        expected,
-        put,
-    );
-    compare(
-        rt,
-        place.told_in(alloc, state, true)?.as_str(),
-        expected,
-        put,
-    );
+    for is_inside in [false, true] {
+        let seen = place.told_in(alloc, state, is_inside)?;
+        compare(rt, seen.as_str(), expected, put);
+    }
     Ok(())
 }
 
