@@ -77,7 +77,7 @@ fn check_sides<S: Sample>(rt: &impl Abort, alloc: Global) {
 fn written_cell<S: Sample>(alloc: Global) -> Result<[i32; 3], OutOfMemory> {
     let first = AlignedGrid::<S>::new(alloc, 4, 3)?;
     let second = AlignedGrid::<S>::new(alloc, 5, 4)?;
-    let mut store = vec![in alloc; first, second]?;
+    let mut store = [first, second];
     let region = Region {
         buffer: 1,
         x: 2,
@@ -97,7 +97,7 @@ fn written_cell<S: Sample>(alloc: Global) -> Result<[i32; 3], OutOfMemory> {
 fn written_row<S: Sample>(alloc: Global) -> Result<Vec<i32>, OutOfMemory> {
     let first = AlignedGrid::<S>::new(alloc, 4, 3)?;
     let second = AlignedGrid::<S>::new(alloc, 4, 2)?;
-    let mut store = vec![in alloc; first, second]?;
+    let mut store = [first, second];
     let region = Region {
         buffer: 1,
         x: 1,

@@ -43,8 +43,8 @@ fn ask<D: Decoder>(
     let answer = match word {
         "at" => return write!(text, "@{} ", bits.position()),
         "about" => return about(text, decoder),
-        "begin" => decoder.begin(bits).map(|()| 0),
-        "end" => decoder.finalize().map(|()| 0),
+        "begin" => decoder.begin(bits).and(Ok(0)),
+        "end" => decoder.finalize().and(Ok(0)),
         _ => token(decoder, bits, word.parse::<u32>().unwrap_or(99)),
     };
     match answer {
