@@ -1,8 +1,9 @@
 // Reads of bits, numbers and flags, each with what it returns.
 
-use crate::text::{bytes, pair};
+use crate::calls::{compare, parts};
+use crate::text::bytes;
 use jxlm_base::bits::{Bitstream, BitstreamError, U32Spec};
-use std::alloc::Global;
+use std::alloc::{AllocError, Global};
 use std::process::Abort;
 use std::test::Fail;
 
@@ -20,42 +21,36 @@ fn ask(bits: &mut Bitstream<'_>, word: &str) -> Result<u32, BitstreamError> {
     }
 }
 
-// What each word gives: a number, or `end` for the end of input, and the reader's position after an @.
-fn answers(alloc: Global, bytes: &[u8], words: &str) -> Result<String, Fail> {
+// What each word gives, and the reader's position after an @.
+fn answers(alloc: Global, bytes: &[u8], words: &str) -> Result<String, AllocError> {
     let mut bits = Bitstream::new(bytes);
     let mut text = String::new(alloc);
     for word in words.split(' ') {
         let answer = ask(&mut bits, word);
-        let position = bits.position();
-        match answer {
-            Ok(number) => write!(text, "{number}@{position} ")?,
-            Err(BitstreamError::UnexpectedEof) => write!(text, "end@{position} ")?,
-            Err(error) => write!(text, "{error} ")?,
-        }
+        write!(text, "{answer:?}@{} ", bits.position())?;
     }
     Ok(text)
 }
 
 fn check(rt: &impl Abort, alloc: Global, line: &str) -> Result<(), Fail> {
-    let (digits, rest) = pair(line, '|')?;
-    let (words, expected) = pair(rest, '|')?;
+    let (digits, words, expected) = parts(line)?;
     let bytes = bytes(alloc, digits)?;
     let seen = answers(alloc, &bytes, words)?;
-    assert_eq!(rt; seen.as_str().trim_end(), expected, "{line}");
+    compare(rt, seen.as_str().trim_end(), expected, line);
     Ok(())
 }
 
 // Bytes, what is read of them, and what that gives. Least significant bits come first, also across bytes; two bits
 // choose one of four parts; a truncated field leaves the reader.
 const READS: &str = "\
-a53cff00817e123456789a|flag 3 4 0 8 5 32 3 flag 32 31 0 flag|1@1 2@4 10@8 0@8 60@16 31@21 2482243591@53 0@56 0@57 \
-    end@57 1295788826@88 0@88 end@88
-00|count|0@2
-01|count|1@2
-2a|count|12@6
-6b02|count|172@10
-|count|end@0
-c7|6 count|7@6 end@6";
+a53cff00817e123456789a|flag 3 4 0 8 5 32 3 flag 32 31 0 flag|Ok(1)@1 Ok(2)@4 Ok(10)@8 Ok(0)@8 Ok(60)@16 Ok(31)@21 \
+    Ok(2482243591)@53 Ok(0)@56 Ok(0)@57 Err(UnexpectedEof)@57 Ok(1295788826)@88 Ok(0)@88 Err(UnexpectedEof)@88
+00|count|Ok(0)@2
+01|count|Ok(1)@2
+2a|count|Ok(12)@6
+6b02|count|Ok(172)@10
+|count|Err(UnexpectedEof)@0
+c7|6 count|Ok(7)@6 Err(UnexpectedEof)@6";
 
 #[test]
 fn reads(rt: HostRuntime) -> Result<(), Fail> {

@@ -1,9 +1,11 @@
 // Grids, and regions of a store, at both widths.
 
+use crate::calls::compare;
 use jxlm_base::grid::{AlignedGrid, OutOfMemory, Region};
 use jxlm_base::region::{region_get, region_row, region_set, region_set_row};
 use jxlm_base::sample::{Sample, Sealed};
 use std::alloc::Global;
+use std::process::Abort;
 use std::test::Fail;
 
 // The samples, row by row.
@@ -17,8 +19,19 @@ fn samples<S: Sample>(alloc: Global, grid: &AlignedGrid<S>) -> Result<Vec<i32>, 
     Ok(samples)
 }
 
-// The samples of a grid after writes, and of a copy that was made between them.
-fn written<S: Sample>(alloc: Global) -> Result<(Vec<i32>, Vec<i32>), OutOfMemory> {
+fn check_samples<S: Sample>(
+    rt: &impl Abort,
+    alloc: Global,
+    grid: &AlignedGrid<S>,
+    expected: &[i32],
+) -> Result<(), OutOfMemory> {
+    let seen = samples(alloc, grid)?;
+    compare(rt, seen.as_slice(), expected, "a grid");
+    Ok(())
+}
+
+// A grid after writes, and a copy that was made between them.
+fn check_writes<S: Sample>(rt: &impl Abort, alloc: Global) -> Result<(), OutOfMemory> {
     let mut grid = AlignedGrid::<S>::new(alloc, 3, 2)?;
     for cell in grid.get_row_mut(1) {
         *cell = S::from_i32(5);
@@ -26,16 +39,8 @@ fn written<S: Sample>(alloc: Global) -> Result<(Vec<i32>, Vec<i32>), OutOfMemory
     *grid.get_mut(2, 1) = S::from_i32(-7);
     let copy = grid.try_clone(alloc)?;
     *grid.get_mut(0, 0) = grid.get(2, 1);
-    Ok((samples(alloc, &grid)?, samples(alloc, &copy)?))
-}
-
-#[test]
-fn writes_and_copies(rt: HostRuntime) -> Result<(), Fail> {
-    for (grid, copy) in [written::<i32>(rt.alloc())?, written::<i16>(rt.alloc())?] {
-        assert_eq!(rt; grid.as_slice(), [-7, 0, 0, 5, 5, -7].as_slice());
-        assert_eq!(rt; copy.as_slice(), [0, 0, 0, 5, 5, -7].as_slice());
-    }
-    Ok(())
+    check_samples(rt, alloc, &grid, &[-7, 0, 0, 5, 5, -7])?;
+    check_samples(rt, alloc, &copy, &[0, 0, 0, 5, 5, -7])
 }
 
 // The sides of a grid, or why there is none.
@@ -48,29 +53,31 @@ fn sides<S: Sample>(
     Ok((grid.width(), grid.height()))
 }
 
-#[test]
-fn sides_of_grids(rt: HostRuntime) {
-    for (width, height) in [(0, 0), (5, 0), (usize::MAX, 0), (0, 9), (1, 7)] {
-        let expected = Ok((width, height));
-        assert_eq!(rt; sides::<i32>(rt.alloc(), width, height), expected);
-        assert_eq!(rt; sides::<i16>(rt.alloc(), width, height), expected);
+// Grids that there are, and some of too many cells.
+fn check_sides<S: Sample>(rt: &impl Abort, alloc: Global) {
+    for side in [(0, 0), (5, 0), (usize::MAX, 0), (0, 9), (1, 7)] {
+        compare(rt, sides::<S>(alloc, side.0, side.1), Ok(side), "a grid");
     }
-    for (width, height) in [
+    for side in [
         (usize::MAX, 2),
         (2, usize::MAX),
         (usize::MAX, 1),
         (4294967296, 4294967296),
     ] {
-        assert_eq!(rt; sides::<i32>(rt.alloc(), width, height), Err(OutOfMemory));
-        assert_eq!(rt; sides::<i16>(rt.alloc(), width, height), Err(OutOfMemory));
+        compare(
+            rt,
+            sides::<S>(alloc, side.0, side.1),
+            Err(OutOfMemory),
+            "none",
+        );
     }
 }
 
 // What is in a store after a write through a region of it.
-fn written_cell<S: Sample>(alloc: Global) -> Result<(i32, i32, i32), OutOfMemory> {
+fn written_cell<S: Sample>(alloc: Global) -> Result<[i32; 3], OutOfMemory> {
     let first = AlignedGrid::<S>::new(alloc, 4, 3)?;
     let second = AlignedGrid::<S>::new(alloc, 5, 4)?;
-    let mut store = vec![in alloc; first, second]?;
+    let mut store = [first, second];
     let region = Region {
         buffer: 1,
         x: 2,
@@ -79,18 +86,18 @@ fn written_cell<S: Sample>(alloc: Global) -> Result<(i32, i32, i32), OutOfMemory
         height: 3,
     };
     region_set(&mut store, region, 1, 2, S::from_i32(-4));
-    Ok((
+    Ok([
         region_get(&store, region, 1, 2).to_i32(),
         region_get(&store, region, 0, 2).to_i32(),
         store[1].get(3, 3).to_i32(),
-    ))
+    ])
 }
 
 // What is in the second grid of a store after a row of a region was written, and then that row.
 fn written_row<S: Sample>(alloc: Global) -> Result<Vec<i32>, OutOfMemory> {
     let first = AlignedGrid::<S>::new(alloc, 4, 3)?;
     let second = AlignedGrid::<S>::new(alloc, 4, 2)?;
-    let mut store = vec![in alloc; first, second]?;
+    let mut store = [first, second];
     let region = Region {
         buffer: 1,
         x: 1,
@@ -106,21 +113,20 @@ fn written_row<S: Sample>(alloc: Global) -> Result<Vec<i32>, OutOfMemory> {
     Ok(cells)
 }
 
-#[test]
-fn a_row_through_a_region(rt: HostRuntime) -> Result<(), Fail> {
+fn check<S: Sample>(rt: &impl Abort, alloc: Global) -> Result<(), OutOfMemory> {
+    check_writes::<S>(rt, alloc)?;
+    check_sides::<S>(rt, alloc);
+    let cells = written_cell::<S>(alloc)?;
+    compare(rt, cells.as_slice(), &[-4, 0, -4], "a cell");
+    let row = written_row::<S>(alloc)?;
     let expected = [0, 0, 0, 0, 0, 7, -4, 0, 7, -4];
-    for row in [
-        written_row::<i32>(rt.alloc())?,
-        written_row::<i16>(rt.alloc())?,
-    ] {
-        assert_eq!(rt; row.as_slice(), expected.as_slice());
-    }
+    compare(rt, row.as_slice(), &expected, "a row");
     Ok(())
 }
 
 #[test]
-fn a_write_through_a_region(rt: HostRuntime) -> Result<(), Fail> {
-    assert_eq!(rt; written_cell::<i32>(rt.alloc())?, (-4, 0, -4));
-    assert_eq!(rt; written_cell::<i16>(rt.alloc())?, (-4, 0, -4));
+fn grids_and_regions(rt: HostRuntime) -> Result<(), Fail> {
+    check::<i32>(&rt, rt.alloc())?;
+    check::<i16>(&rt, rt.alloc())?;
     Ok(())
 }

@@ -4,6 +4,8 @@
 #[cfg(test)]
 mod bits;
 #[cfg(test)]
+mod calls;
+#[cfg(test)]
 mod errors;
 #[cfg(test)]
 mod grids;

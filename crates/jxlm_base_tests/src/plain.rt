@@ -1,23 +1,23 @@
 // Plain decoders, by what is asked of them in turn.
 
+use crate::calls::{compare, parts};
 use crate::text::{bytes, pair};
-use jxlm_base::bits::Bitstream;
+use jxlm_base::bits::{Bitstream, BitstreamError};
 use jxlm_base::decoder::{Decoder, DecoderError, RleToken};
 use jxlm_plain::plain::PlainDecoder;
-use std::alloc::Global;
+use std::alloc::{AllocError, Global};
 use std::process::Abort;
 use std::test::Fail;
 
 // The clusters of a decoder's contexts, whether its tokens come in runs, and the single token of each context.
-fn about<D: Decoder>(alloc: Global, decoder: &D) -> Result<String, Fail> {
+fn about<D: Decoder>(text: &mut String, decoder: &D) -> Result<(), AllocError> {
     let clusters = decoder.cluster_map();
-    let rle = decoder.as_rle();
-    let mut text = format!(in alloc; "{clusters:?} {rle}")?;
-    for k in 0..clusters.len() {
-        let single = decoder.single_token(clusters[k]);
-        write!(text, " {single:?}")?;
+    write!(text, "{clusters:?} {} ", decoder.as_rle())?;
+    for cluster in clusters {
+        let single = decoder.single_token(*cluster);
+        write!(text, "{single:?} ")?;
     }
-    Ok(text)
+    Ok(())
 }
 
 // A token of a context, or its error.
@@ -32,41 +32,41 @@ fn token<D: Decoder>(
     decoder.read_varint(bits, context)
 }
 
-// What a word asks of a decoder, and what comes of it: to begin, to end, what it is, or a token of a context.
+// Adds what a word asks of a decoder: to begin, to end, what it is, or a token of a context; `at` is the reader's
+// position.
 fn ask<D: Decoder>(
-    alloc: Global,
+    text: &mut String,
     decoder: &mut D,
     bits: &mut Bitstream<'_>,
     word: &str,
-) -> Result<String, Fail> {
+) -> Result<(), AllocError> {
     let answer = match word {
-        "begin" => decoder.begin(bits).map(|()| 0),
-        "end" => decoder.finalize().map(|()| 0),
-        "about" => return about(alloc, decoder),
+        "at" => return write!(text, "@{} ", bits.position()),
+        "about" => return about(text, decoder),
+        "begin" => decoder.begin(bits).and(Ok(0)),
+        "end" => decoder.finalize().and(Ok(0)),
         _ => token(decoder, bits, word.parse::<u32>().unwrap_or(99)),
     };
-    Ok(match answer {
-        Ok(number) => format!(in alloc; "{number}")?,
-        Err(error) => format!(in alloc; "{error}")?,
-    })
+    match answer {
+        Ok(number) => write!(text, "{number} "),
+        Err(error) => write!(text, "{error} "),
+    }
 }
 
-// What all words give. After `clone` a clone goes on, and after `back` the reader is where the decoder ended; `at` is
-// the reader's position.
+// What all words give. After `clone` a clone goes on, and after `back` the reader is where the decoder ended.
 fn answers<D: Decoder>(
     alloc: Global,
     mut decoder: D,
     mut bits: Bitstream<'_>,
     words: &str,
-) -> Result<String, Fail> {
+) -> Result<String, DecoderError> {
     let start = bits;
     let mut text = String::new(alloc);
     for word in words.split(' ') {
         match word {
             "clone" => decoder = decoder.try_clone(alloc)?,
             "back" => bits = start,
-            "at" => write!(text, "@{} ", bits.position())?,
-            _ => write!(text, "{} ", ask(alloc, &mut decoder, &mut bits, word)?)?,
+            _ => ask(&mut text, &mut decoder, &mut bits, word)?,
         }
     }
     Ok(text)
@@ -75,34 +75,41 @@ fn answers<D: Decoder>(
 // A line has how many contexts there are, how many bits come before the decoder, and the bytes; what is asked; and
 // what that gives, or the error of the decoder.
 fn check(rt: &impl Abort, alloc: Global, line: &str) -> Result<(), Fail> {
-    let (head, rest) = pair(line, '|')?;
-    let (words, expected) = pair(rest, '|')?;
-    let (contexts, head) = pair(head, ' ')?;
-    let (skipped, digits) = pair(head, ' ')?;
-    let (contexts, skipped) = (contexts.parse::<u32>()?, skipped.parse::<u32>()?);
-    check_decoder(rt, alloc, contexts, skipped, digits, words, expected)
-}
-
-fn check_decoder(
-    rt: &impl Abort,
-    alloc: Global,
-    contexts: u32,
-    skipped: u32,
-    digits: &str,
-    words: &str,
-    expected: &str,
-) -> Result<(), Fail> {
+    let (head, words, expected) = parts(line)?;
+    let (contexts, skipped, digits) = numbers(head)?;
     let bytes = bytes(alloc, digits)?;
     let mut bits = Bitstream::new(&bytes);
-    for _ in 0..skipped {
+    skip(&mut bits, skipped)?;
+    let seen = seen(alloc, bits, contexts, words)?;
+    compare(rt, seen.as_str().trim_end(), expected, line);
+    Ok(())
+}
+
+// Two numbers and a word.
+fn numbers(head: &str) -> Result<(u32, u32, &str), Fail> {
+    let (first, rest) = pair(head, ' ')?;
+    let (second, word) = pair(rest, ' ')?;
+    Ok((first.parse()?, second.parse()?, word))
+}
+
+fn skip(bits: &mut Bitstream<'_>, n: u32) -> Result<(), BitstreamError> {
+    for _ in 0..n {
         bits.read_bits(1)?;
     }
-    let seen = match PlainDecoder::parse(alloc, &mut bits, contexts) {
-        Ok(decoder) => answers(alloc, decoder, bits, words)?,
-        Err(error) => format!(in alloc; "{error}")?,
-    };
-    assert_eq!(rt; seen.as_str().trim_end(), expected, "{digits}");
     Ok(())
+}
+
+// What all words give of the decoder that stands in the bits, or its error.
+fn seen(
+    alloc: Global,
+    mut bits: Bitstream<'_>,
+    contexts: u32,
+    words: &str,
+) -> Result<String, DecoderError> {
+    match PlainDecoder::parse(alloc, &mut bits, contexts) {
+        Ok(decoder) => answers(alloc, decoder, bits, words),
+        Err(error) => Ok(format!(in alloc; "{error}")?),
+    }
 }
 
 // Clusters 2, 0, 1 of three contexts: codes fixed 3, constant 19 of 5 bits, fixed 0; tokens 5, 6.
@@ -177,23 +184,31 @@ fn runs<D: Decoder>(
 }
 
 // The runs of the table above, whole and in a decoder that has read before.
-#[test]
-fn runs_at_once(rt: HostRuntime) -> Result<(), Fail> {
-    let bytes = [0x05, 0x84, 0x01, 0x12, 0x40, 0x0B, 0x40, 0x06];
-    let mut bits = Bitstream::new(&bytes);
-    let mut decoder = PlainDecoder::parse(rt.alloc(), &mut bits, 2)?;
+fn check_runs<D: Decoder>(
+    rt: &impl Abort,
+    alloc: Global,
+    decoder: &mut D,
+    mut bits: Bitstream<'_>,
+) -> Result<(), DecoderError> {
+    let read = runs(alloc, decoder, &mut bits, &[0, 0, 0, 1])?;
     let expected = [
         RleToken::Repeat(1),
         RleToken::Value(5),
         RleToken::Repeat(3),
         RleToken::Value(200),
     ];
-    for _ in 0..2 {
-        let mut again = bits;
-        let read = runs(rt.alloc(), &mut decoder, &mut again, &[0, 0, 0, 1])?;
-        assert_eq!(rt; read.as_slice(), expected.as_slice());
-        assert_eq!(rt; again.position(), 59);
-    }
-    assert_eq!(rt; decoder.finalize(), Ok(()));
+    compare(rt, read.as_slice(), &expected, "runs");
+    compare(rt, bits.position(), 59, "the position after them");
+    Ok(())
+}
+
+#[test]
+fn runs_at_once(rt: HostRuntime) -> Result<(), Fail> {
+    let bytes = [0x05, 0x84, 0x01, 0x12, 0x40, 0x0B, 0x40, 0x06];
+    let mut bits = Bitstream::new(&bytes);
+    let mut decoder = PlainDecoder::parse(rt.alloc(), &mut bits, 2)?;
+    check_runs(&rt, rt.alloc(), &mut decoder, bits)?;
+    check_runs(&rt, rt.alloc(), &mut decoder, bits)?;
+    decoder.finalize()?;
     Ok(())
 }

@@ -16,8 +16,10 @@ pub fn signed(alloc: Global, text: &str) -> Result<Vec<i32>, Fail> {
 
 /// Two words with a mark between.
 pub fn pair<'a>(text: &'a str, mark: char) -> Result<(&'a str, &'a str), Fail> {
-    let pair = text.split_once(mark).ok_or("a word is missing")?;
-    Ok(pair)
+    match text.split_once(mark) {
+        Some(pair) => Ok(pair),
+        None => Err("a word is missing".into()),
+    }
 }
 
 fn digit(c: u8) -> u8

@@ -1,13 +1,14 @@
 // What many tests compare by.
 
+use std::fmt::Debug;
 use std::process::Abort;
 
 /// Compares what a row comes to with what is expected of it.
-pub fn compare(rt: &impl Abort, seen: &str, expected: &str, row: &str) {
+pub fn compare<T: PartialEq + Debug + Copy>(rt: &impl Abort, seen: T, expected: T, row: &str) {
     assert_eq!(rt; seen, expected, "{row}");
 }
 
-/// The same of samples.
-pub fn compare_samples(rt: &impl Abort, seen: &[i32], expected: &[i32], row: &str) {
-    assert_eq!(rt; seen, expected, "{row}");
+/// A text up to a mark, and what is after it: nothing where there is no mark.
+pub fn cut(text: &str, mark: char) -> (&str, &str) {
+    text.split_once(mark).unwrap_or((text, ""))
 }

@@ -3,7 +3,7 @@
 ghost use Rattle.std.specs.Prelude.{length, IfOk};
 ghost use Rattle.jxlm_transform.specs.Channels.{HasSides};
 
-use crate::calls::{compare, compare_samples};
+use crate::calls::compare;
 use jxlm_base::error::Error;
 use jxlm_base::grid::{AlignedGrid, OutOfMemory, Region};
 use jxlm_base::sample::Sample;
@@ -72,12 +72,8 @@ fn unsqueezed<S: Sample>(alloc: Global) -> Result<[i32; 4], Error> {
 }
 
 fn check_row<S: Sample>(rt: &impl Abort, alloc: Global) -> Result<(), Fail> {
-    compare_samples(
-        rt,
-        &unsqueezed::<S>(alloc)?,
-        &[10, 11, 20, 20],
-        "a squeezed row",
-    );
+    let seen = unsqueezed::<S>(alloc)?;
+    compare(rt, seen.as_slice(), &[10, 11, 20, 20], "a squeezed row");
     Ok(())
 }
 
@@ -185,9 +181,10 @@ fn merged_twice(alloc: Global) -> Result<TransformedGrid, AllocError> {
 
 #[test]
 fn leaders_and_clones(rt: HostRuntime) -> Result<(), Fail> {
-    assert_eq!(rt; TransformedGrid::from(at(3)).leader().buffer, 3);
+    let single = TransformedGrid::from(at(3)).leader().buffer;
+    compare(&rt, single, 3, "a leader");
     let clone = merged_twice(rt.alloc())?.try_clone(rt.alloc())?;
-    assert_eq!(rt; clone.leader().buffer, 3);
+    compare(&rt, clone.leader().buffer, 3, "the leader of a clone");
     let mut text = String::new(rt.alloc());
     show(&clone, &mut text)?;
     compare(&rt, text.as_str(), "3(3(3;4;);5;)", "a clone");

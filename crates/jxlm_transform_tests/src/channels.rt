@@ -4,27 +4,26 @@ ghost use Rattle.std.specs.Prelude.{◌≤◌, IfOk};
 ghost use Rattle.jxlm_transform.specs.Channels.{HasItsMeta, list_of};
 ghost use Rattle.jxlm_transform.specs.Transforms.{HasChannels, transform_of};
 
-use crate::calls::compare;
+use crate::calls::{compare, cut};
 use jxlm_base::error::Error;
 use jxlm_plain::plain::PlainDecoder;
 use jxlm_transform::channels::{ModularChannelInfo, ModularChannels};
 use jxlm_transform::param::{ChannelShift, ModularChannelParams, ModularParams};
 use jxlm_transform::transform::{Palette, Rct, Squeeze, SqueezeParams, TransformInfo};
 use jxlm_tree::predictor::Predictor;
-use jxlm_tree_tests::text::pair;
 use std::alloc::{AllocError, Global};
 use std::process::Abort;
 use std::result::Result;
 use std::test::Fail;
 
 fn sides(text: &str) -> Result<(u32, u32), Fail> {
-    let (width, height) = pair(text, 'x')?;
-    Ok((width.parse::<u32>()?, height.parse::<u32>()?))
+    let (width, height) = cut(text, 'x');
+    Ok((width.parse()?, height.parse()?))
 }
 
 fn shifts(text: &str) -> Result<(i32, i32), Fail> {
-    let (hshift, vshift) = pair(text, ',')?;
-    Ok((hshift.parse::<i32>()?, vshift.parse::<i32>()?))
+    let (hshift, vshift) = cut(text, ',');
+    Ok((hshift.parse()?, vshift.parse()?))
 }
 
 // A channel by its sides, as `3x2`, and after a colon its shifts, where they are not 0, as `3x2:1,0`.
@@ -54,7 +53,7 @@ fn infos(alloc: Global, words: &str) -> Result<Vec<ModularChannelInfo>, Fail> {
 fn list(alloc: Global, text: &str) -> Result<ModularChannels, Fail>
     ensures { IfOk result (λ l. HasItsMeta (list_of l)) }
 {
-    let (nb_meta, words) = text.split_once(' ').unwrap_or((text, ""));
+    let (nb_meta, words) = cut(text, ' ');
     let nb_meta = nb_meta.parse::<usize>()?;
     let info = infos(alloc, words)?;
     Ok(ModularChannels {
@@ -78,8 +77,8 @@ fn list_text(alloc: Global, list: &ModularChannels) -> Result<String, AllocError
 fn palette(words: &str) -> Result<Palette, Fail>
     ensures { IfOk result (λ t. 1 ≤ t.num_c) }
 {
-    let (begin, rest) = pair(words, ' ')?;
-    let (count, colours) = pair(rest, ' ')?;
+    let (begin, rest) = cut(words, ' ');
+    let (count, colours) = cut(rest, ' ');
     Ok(Palette {
         begin_c: begin.parse::<u32>()?,
         num_c: count.parse::<u32>()?.max(1),
@@ -92,9 +91,9 @@ fn palette(words: &str) -> Result<Palette, Fail>
 
 // A squeeze of one step, by its direction, where its residuals go, its first channel, and how many it has.
 fn squeeze(alloc: Global, words: &str) -> Result<Squeeze, Fail> {
-    let (side, rest) = pair(words, ' ')?;
-    let (place, rest) = pair(rest, ' ')?;
-    let (begin, count) = pair(rest, ' ')?;
+    let (side, rest) = cut(words, ' ');
+    let (place, rest) = cut(rest, ' ');
+    let (begin, count) = cut(rest, ' ');
     let step = SqueezeParams {
         horizontal: side == "across",
         in_place: place == "inside",
@@ -110,7 +109,7 @@ fn squeeze(alloc: Global, words: &str) -> Result<Squeeze, Fail> {
 fn transform(alloc: Global, text: &str) -> Result<TransformInfo, Fail>
     ensures { IfOk result (λ t. HasChannels (transform_of t)) }
 {
-    let (name, words) = text.split_once(' ').unwrap_or((text, ""));
+    let (name, words) = cut(text, ' ');
     if name == "colour" {
         return Ok(TransformInfo::Rct(Rct {
             begin_c: words.parse::<u32>()?,
@@ -183,8 +182,8 @@ fn outcome(alloc: Global, given: &str, transforms: &str, prepared: bool) -> Resu
 
 // Compares what transforms leave of a list.
 fn check(rt: &impl Abort, alloc: Global, row: &str) -> Result<(), Fail> {
-    let (given, rest) = pair(row, '|')?;
-    let (transforms, expected) = pair(rest, '|')?;
+    let (given, rest) = cut(row, '|');
+    let (transforms, expected) = cut(rest, '|');
     for prepared in [true, false] {
         let found = outcome(alloc, given, transforms, prepared)?;
         compare(rt, found.as_str(), expected, row);
@@ -244,19 +243,23 @@ fn check_default(rt: &impl Abort, alloc: Global, given: &str, count: usize) -> R
     let default = Squeeze {
         sp: Vec::new(alloc),
     };
-    assert_eq!(rt; steps(alloc, given, default)?, count, "{given}");
+    compare(rt, steps(alloc, given, default)?, count, given);
     Ok(())
 }
 
 // The default squeeze lists its steps; a squeeze that lists some keeps them, whatever the channels are.
 #[test]
 fn steps_of_squeezes(rt: HostRuntime) -> Result<(), Fail> {
-    check_default(&rt, rt.alloc(), "0 16x16", 2)?;
-    check_default(&rt, rt.alloc(), "0 33x5", 3)?;
-    check_default(&rt, rt.alloc(), "0 8x8", 0)?;
-    check_default(&rt, rt.alloc(), "0 16x16 16x16 16x16", 4)?;
+    for (given, count) in [
+        ("0 16x16", 2),
+        ("0 33x5", 3),
+        ("0 8x8", 0),
+        ("0 16x16 16x16 16x16", 4),
+    ] {
+        check_default(&rt, rt.alloc(), given, count)?;
+    }
     let listed = squeeze(rt.alloc(), "across inside 0 1")?;
-    assert_eq!(rt; steps(rt.alloc(), "0", listed)?, 1);
+    compare(&rt, steps(rt.alloc(), "0", listed)?, 1, "a listed step");
     Ok(())
 }
 
@@ -274,11 +277,12 @@ fn channels_of(alloc: Global, given: ModularChannelParams) -> Result<ModularChan
 fn what_channels_came_with(rt: HostRuntime) -> Result<(), Fail> {
     let given = ModularChannelParams::with_shift(9, 4, ChannelShift::Shifts(2));
     let list = channels_of(rt.alloc(), given)?;
-    assert_eq!(rt; (list.info.len(), list.nb_meta_channels), (1, 0));
+    let counts = (list.info.len(), list.nb_meta_channels);
+    compare(&rt, counts, (1, 0), "how many there are");
     let channel = list.info.first().ok_or("no channel")?;
-    let sides = [(channel.width, channel.height), channel.original_size()];
-    assert_eq!(rt; sides, [(3, 1), (9, 4)]);
-    assert_eq!(rt; channel.shift(), ChannelShift::Shifts(2));
+    compare(&rt, (channel.width, channel.height), (3, 1), "its sides");
+    compare(&rt, channel.original_size(), (9, 4), "its given sides");
+    compare(&rt, channel.shift(), ChannelShift::Shifts(2), "its shift");
     Ok(())
 }
 
@@ -287,6 +291,6 @@ fn what_a_table_came_with(rt: HostRuntime) -> Result<(), Fail> {
     let mut list = list(rt.alloc(), "0 16x16 16x16 16x16")?;
     palette("0 3 5")?.transform_channel_info(rt.alloc(), &mut list)?;
     let table = list.info.first().ok_or("no table")?;
-    assert_eq!(rt; table.original_size(), (5, 3));
+    compare(&rt, table.original_size(), (5, 3), "a table");
     Ok(())
 }

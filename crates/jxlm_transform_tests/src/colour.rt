@@ -5,14 +5,14 @@ ghost use Rattle.jxlm_base.specs.Outside.{KeepsOutside};
 ghost use Rattle.jxlm_base.specs.Regions.{AllLie, LieApart};
 ghost use Rattle.jxlm_transform.specs.Recoloured.{HaveOneSize};
 
-use crate::calls::compare_samples;
+use crate::calls::{compare, cut};
 use crate::cells::{read, write};
 use crate::colour_rows::{NARROW, WIDE, WORKED};
 use jxlm_base::error::Error;
 use jxlm_base::grid::{AlignedGrid, Region};
 use jxlm_base::sample::Sample;
 use jxlm_transform::rct::inverse_rct;
-use jxlm_tree_tests::text::{pair, signed};
+use jxlm_tree_tests::text::signed;
 use std::alloc::Global;
 use std::process::Abort;
 use std::result::Result;
@@ -126,11 +126,12 @@ fn undone_thirds<S: Sample>(
 
 // Compares what three channels become.
 fn check_row<S: Sample>(rt: &impl Abort, alloc: Global, line: &str) -> Result<(), Fail> {
-    let (words, rest) = pair(line, '|')?;
-    let (coded, expected) = pair(rest, '|')?;
+    let (words, rest) = cut(line, '|');
+    let (coded, expected) = cut(rest, '|');
     let coded = signed(alloc, coded)?;
     let found = undone_thirds::<S>(alloc, head(alloc, words)?, &coded)?;
-    compare_samples(rt, &found, &signed(alloc, expected)?, line);
+    let expected = signed(alloc, expected)?;
+    compare(rt, found.as_slice(), expected.as_slice(), line);
     Ok(())
 }
 

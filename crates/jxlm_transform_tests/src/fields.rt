@@ -1,11 +1,11 @@
 // Transforms as a header has them.
 
-use crate::calls::compare;
+use crate::calls::{compare, cut};
 use jxlm_base::bits::Bitstream;
 use jxlm_base::error::Error;
 use jxlm_transform::transform::{Palette, Rct, Squeeze, SqueezeParams, TransformInfo};
 use jxlm_tree::predictor::WpHeader;
-use jxlm_tree_tests::text::{bytes, pair};
+use jxlm_tree_tests::text::bytes;
 use std::alloc::{AllocError, Global};
 use std::process::Abort;
 use std::result::Result;
@@ -123,9 +123,9 @@ fn outcome(alloc: Global, kind: &str, bytes: &[u8], n: u32) -> Result<String, Fa
 }
 
 fn check(rt: &impl Abort, alloc: Global, row: &str) -> Result<(), Fail> {
-    let (words, rest) = pair(row, '|')?;
-    let (digits, expected) = pair(rest, '|')?;
-    let (kind, skipped) = pair(words, ' ')?;
+    let (words, rest) = cut(row, '|');
+    let (digits, expected) = cut(rest, '|');
+    let (kind, skipped) = cut(words, ' ');
     let bytes = bytes(alloc, digits)?;
     let found = outcome(alloc, kind, &bytes, skipped.parse::<u32>()?)?;
     compare(rt, found.as_str(), expected, row);

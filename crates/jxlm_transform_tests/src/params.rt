@@ -1,10 +1,9 @@
 // What an image is read by: sizes, shifts and limits.
 
-use crate::calls::compare;
+use crate::calls::{compare, cut};
 use jxlm_base::error::Error;
 use jxlm_plain::plain::PlainDecoder;
 use jxlm_transform::param::{ChannelShift, ModularChannelParams, ModularParams};
-use jxlm_tree_tests::text::pair;
 use std::alloc::{AllocError, Global};
 use std::process::Abort;
 use std::result::Result;
@@ -16,29 +15,29 @@ fn flag(word: &str) -> bool {
 }
 
 fn raw(words: &str) -> Result<ChannelShift, Fail> {
-    let (across, down) = pair(words, ',')?;
-    Ok(ChannelShift::Raw(across.parse::<i32>()?, down.parse::<i32>()?))
+    let (across, down) = cut(words, ',');
+    Ok(ChannelShift::Raw(across.parse()?, down.parse()?))
 }
 
-fn jpeg(words: &str) -> Result<ChannelShift, Fail> {
-    let (first, rest) = pair(words, ',')?;
-    let (across, rest) = pair(rest, ',')?;
-    let (second, down) = pair(rest, ',')?;
-    Ok(ChannelShift::JpegUpsampling {
+fn jpeg(words: &str) -> ChannelShift {
+    let (first, rest) = cut(words, ',');
+    let (across, rest) = cut(rest, ',');
+    let (second, down) = cut(rest, ',');
+    ChannelShift::JpegUpsampling {
         has_h_subsample: flag(first),
         h_subsample: flag(across),
         has_v_subsample: flag(second),
         v_subsample: flag(down),
-    })
+    }
 }
 
 // A shift: `s,S` for both sides, `r,H,V` for each, and `j,A,H,B,V` for a JPEG channel, with 0 and 1 for its flags.
 fn shift(text: &str) -> Result<ChannelShift, Fail> {
-    let (kind, words) = pair(text, ',')?;
+    let (kind, words) = cut(text, ',');
     match kind {
         "s" => Ok(ChannelShift::from_shift(words.parse::<u32>()?)),
         "r" => raw(words),
-        _ => jpeg(words),
+        _ => Ok(jpeg(words)),
     }
 }
 
@@ -54,9 +53,9 @@ fn channel_text(alloc: Global, channel: &ModularChannelParams) -> Result<String,
 
 // A channel by the sides of a picture and a shift.
 fn channel(text: &str) -> Result<ModularChannelParams, Fail> {
-    let (sides, words) = pair(text, ' ')?;
-    let (width, height) = pair(sides, 'x')?;
-    let (width, height) = (width.parse::<u32>()?, height.parse::<u32>()?);
+    let (sides, words) = cut(text, ' ');
+    let (width, height) = cut(sides, 'x');
+    let (width, height) = (width.parse()?, height.parse()?);
     Ok(ModularChannelParams::with_shift(width, height, shift(words)?))
 }
 
@@ -72,15 +71,16 @@ fn check_valid(
     valid: bool,
     row: &str,
 ) -> Result<(), Fail> {
-    assert!(rt; channel.shift.is_valid() || !valid, "{row}");
+    compare(rt, channel.shift.is_valid() || !valid, true, row);
     let channels = vec![in alloc; channel]?;
-    assert_eq!(rt; is_valid_image(256, 8, channels), valid, "{row}");
+    let seen = is_valid_image(256, 8, channels);
+    compare(rt, seen, valid, row);
     Ok(())
 }
 
 // Compares the sides and shifts of a channel, and whether an image of it alone is valid.
 fn check_channel(rt: &impl Abort, alloc: Global, row: &str) -> Result<(), Fail> {
-    let (given, expected) = pair(row, '|')?;
+    let (given, expected) = cut(row, '|');
     let channel = channel(given)?;
     let found = channel_text(alloc, &channel)?;
     compare(rt, found.as_str(), expected, row);
@@ -118,12 +118,11 @@ fn sides_and_shifts(rt: HostRuntime) -> Result<(), Fail> {
     for row in CHANNELS.lines() {
         check_channel(&rt, rt.alloc(), row)?;
     }
-    assert_eq!(rt; ChannelShift::from_shift(4294967295).hshift(), -1);
+    let shift = ChannelShift::from_shift(4294967295).hshift();
+    compare(&rt, shift, -1, "the largest shift");
     let plain = ModularChannelParams::new(9, 4);
-    assert_eq!(rt;
-        (plain.width, plain.height, plain.shift),
-        (9, 4, ChannelShift::Shifts(0))
-    );
+    compare(&rt, (plain.width, plain.height), (9, 4), "its sides");
+    compare(&rt, plain.shift, ChannelShift::Shifts(0), "its shift");
     Ok(())
 }
 
@@ -133,13 +132,12 @@ fn channels_of_jpeg_pictures(rt: HostRuntime) {
     let first = ChannelShift::from_jpeg_upsampling([1, 2, 0], 0);
     let second = ChannelShift::from_jpeg_upsampling([1, 2, 0], 1);
     let third = ModularChannelParams::jpeg(5, 7, [1, 2, 0], 2);
-    let sizes = [
-        first.shift_size((5, 7)),
-        second.shift_size((5, 7)),
-        third.shift.shift_size((third.width, third.height)),
-    ];
-    assert_eq!(rt; sizes, [(6, 8), (6, 4), (3, 4)]);
-    assert_eq!(rt; (second.hshift(), second.vshift()), (0, 1));
+    let sides = third.shift.shift_size((third.width, third.height));
+    compare(&rt, first.shift_size((5, 7)), (6, 8), "the first");
+    compare(&rt, second.shift_size((5, 7)), (6, 4), "the second");
+    compare(&rt, sides, (3, 4), "the third");
+    let shifts = (second.hshift(), second.vshift());
+    compare(&rt, shifts, (0, 1), "the second's shifts");
 }
 
 // Numbers with spaces between.
@@ -158,13 +156,13 @@ fn is_valid_of(alloc: Global, group_dim: u32, bit_depth: u32, n: u32) -> Result<
 }
 
 fn check_image(rt: &impl Abort, alloc: Global, row: &str) -> Result<(), Fail> {
-    let (given, expected) = pair(row, '|')?;
+    let (given, expected) = cut(row, '|');
     let given = numbers(alloc, given)?;
     let [group_dim, bit_depth, count] = given.as_slice() else {
         return Err(Fail::new("not three numbers"));
     };
     let is_valid = is_valid_of(alloc, *group_dim, *bit_depth, *count)?;
-    assert_eq!(rt; is_valid, expected == "valid", "{row}");
+    compare(rt, is_valid, expected == "valid", row);
     Ok(())
 }
 
@@ -203,8 +201,8 @@ fn one_picture_of_all_channels(rt: HostRuntime) -> Result<(), Fail> {
     let [_, second] = params.channels.as_slice() else {
         return Err(Fail::new("not two channels"));
     };
-    let found = (second.width, second.height, second.shift);
-    assert_eq!(rt; found, (5, 3, ChannelShift::Raw(1, 0)));
-    assert!(rt; params.is_valid());
+    compare(&rt, (second.width, second.height), (5, 3), "its sides");
+    compare(&rt, second.shift, ChannelShift::Raw(1, 0), "its shift");
+    compare(&rt, params.is_valid(), true, "whether it is valid");
     Ok(())
 }

@@ -1,12 +1,12 @@
 // Squeeze steps undone: rows, columns and regions, as listed and as a squeeze of these tests' own makes them.
 
-use crate::calls::compare_samples;
+use crate::calls::{compare, cut};
 use crate::cells::{read, write};
 use jxlm_base::error::Result;
 use jxlm_base::grid::{AlignedGrid, MutableSubgrid, OutOfMemory, Region};
 use jxlm_base::sample::Sample;
 use jxlm_transform::squeeze::{inverse_h, inverse_v, unsqueeze};
-use jxlm_tree_tests::text::{pair, signed};
+use jxlm_tree_tests::text::signed;
 use std::alloc::Global;
 use std::process::Abort;
 use std::test::Fail;
@@ -65,12 +65,12 @@ fn first_line<S: Sample>(
     across: bool,
     grid: &AlignedGrid<S>,
     len: usize,
-) -> Result<Vec<i32>> {
+) -> std::result::Result<Vec<i32>, OutOfMemory> {
     let mut samples = Vec::new(alloc);
     for i in 0..len {
         let (x, y) = place(across, 0, i);
         let sample = reduced::<i32>(get(grid, x, y));
-        samples.push(sample).map_err(|_| OutOfMemory)?;
+        samples.push(sample)?;
     }
     Ok(samples)
 }
@@ -82,7 +82,7 @@ fn undone<S: Sample>(alloc: Global, across: bool, coded: &[i32]) -> Result<Vec<i
     let mut grid = room::<S>(alloc, width, height)?;
     write_line(across, &mut grid, 0, coded);
     undo(alloc, across, &mut grid)?;
-    first_line(alloc, across, &grid, len)
+    Ok(first_line(alloc, across, &grid, len)?)
 }
 
 // What a grid of 7 by 6 cells becomes, as the second of a store, where all but its outer cells are undone.
@@ -178,13 +178,13 @@ fn residual<S: Sample>(row: &[S], k: usize) -> S {
 }
 
 // The row of these samples, squeezed.
-fn squeezed<S: Sample>(alloc: Global, row: &[S]) -> Result<Vec<S>> {
+fn squeezed<S: Sample>(alloc: Global, row: &[S]) -> std::result::Result<Vec<S>, OutOfMemory> {
     let mut coded = Vec::new(alloc);
     for k in 0..row.len().div_ceil(2) {
-        coded.push(average(row, k)).map_err(|_| OutOfMemory)?;
+        coded.push(average(row, k))?;
     }
     for k in 0..row.len() / 2 {
-        coded.push(residual(row, k)).map_err(|_| OutOfMemory)?;
+        coded.push(residual(row, k))?;
     }
     Ok(coded)
 }
@@ -234,12 +234,11 @@ fn squeeze_line<S: Sample>(
     line: usize,
     len: usize,
     kind: u32,
-) -> Result<()> {
+) -> std::result::Result<(), OutOfMemory> {
     let mut row = Vec::new(alloc);
     for i in 0..len {
         let (x, y) = place(across, line, i);
-        row.push(generated::<S>(x, y, kind))
-            .map_err(|_| OutOfMemory)?;
+        row.push(generated::<S>(x, y, kind))?;
     }
     for (i, sample) in squeezed(alloc, &row)?.iter().enumerate() {
         let (x, y) = place(across, line, i);
@@ -404,11 +403,11 @@ fn check_row<S: Sample>(
     alloc: Global,
     line: &str,
 ) -> std::result::Result<(), Fail> {
-    let (coded, expected) = pair(line, '|')?;
+    let (coded, expected) = cut(line, '|');
     let (coded, expected) = (signed(alloc, coded)?, signed(alloc, expected)?);
     for across in [true, false] {
         let found = undone::<S>(alloc, across, &coded)?;
-        compare_samples(rt, &found, &expected, line);
+        compare(rt, found.as_slice(), expected.as_slice(), line);
     }
     Ok(())
 }
@@ -462,7 +461,13 @@ fn check_region<S: Sample>(
     expected: &str,
 ) -> std::result::Result<(), Fail> {
     let found = undone_inside::<S>(alloc, across, &signed(alloc, CODED)?)?;
-    compare_samples(rt, &found, &signed(alloc, expected)?, "a region of a store");
+    let expected = signed(alloc, expected)?;
+    compare(
+        rt,
+        found.as_slice(),
+        expected.as_slice(),
+        "a region of a store",
+    );
     Ok(())
 }
 

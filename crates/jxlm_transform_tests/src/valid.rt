@@ -3,7 +3,7 @@
 ghost use Rattle.std.specs.Prelude.{◌≡◌, ◌≤◌, ◌^◌, None, IfOk};
 ghost use Rattle.jxlm_transform.specs.Params.{IsSide, IsValidParams};
 
-use jxlm_base::error::Result;
+use crate::calls::compare;
 use jxlm_base::grid::OutOfMemory;
 use jxlm_plain::plain::PlainDecoder;
 use jxlm_transform::param::{ModularChannelParams, ModularParams, channels_of_one_size_are_valid};
@@ -16,7 +16,7 @@ fn channels_of_one_size(
     width: u32,
     height: u32,
     count: usize,
-) -> Result<ModularParams<'static, PlainDecoder>>
+) -> Result<ModularParams<'static, PlainDecoder>, OutOfMemory>
     requires width { IsSide width }
     requires height { IsSide height }
     requires count { count ≤ 2 ^ 20 }
@@ -25,14 +25,14 @@ fn channels_of_one_size(
 {
     channels_of_one_size_are_valid::<PlainDecoder>();
     let channel = ModularChannelParams::new(width, height);
-    let channels = vec![in alloc; channel; count].map_err(|_| OutOfMemory)?;
+    let channels = vec![in alloc; channel; count]?;
     Ok(ModularParams::with_channels(256, 8, channels, None))
 }
 
 #[test]
-fn channels_of_one_size_need_no_check(rt: HostRuntime) -> std::result::Result<(), Fail> {
+fn channels_of_one_size_need_no_check(rt: HostRuntime) -> Result<(), Fail> {
     let params = channels_of_one_size(rt.alloc(), 5, 3, 2)?;
-    assert_eq!(rt; params.channels.len(), 2);
-    assert!(rt; params.is_valid());
+    compare(&rt, params.channels.len(), 2, "how many there are");
+    compare(&rt, params.is_valid(), true, "whether they are valid");
     Ok(())
 }

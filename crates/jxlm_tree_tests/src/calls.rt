@@ -10,6 +10,7 @@ use jxlm_base::error::Error;
 use jxlm_ma::flat::{FlatMaTree, Leaf, Steps};
 use jxlm_ma::ma::{MaConfig, MaConfigParams};
 use std::alloc::Global;
+use std::fmt::Debug;
 use std::process::Abort;
 
 /// Goes past n bits.
@@ -66,6 +67,11 @@ pub fn size_of(flat: &FlatMaTree) -> (usize, usize) {
 }
 
 /// Compares what a row comes to with what is expected of it.
-pub fn compare(rt: &impl Abort, seen: &str, expected: &str, row: &str) {
+pub fn compare<T: PartialEq + Debug + Copy>(rt: &impl Abort, seen: T, expected: T, row: &str) {
     assert_eq!(rt; seen, expected, "{row}");
+}
+
+/// A text up to a mark, and what is after it: nothing where there is no mark.
+pub fn cut(text: &str, mark: char) -> (&str, &str) {
+    text.split_once(mark).unwrap_or((text, ""))
 }

@@ -1,7 +1,7 @@
 // Compiled trees against a plain walk: of worked trees, of long chains, and of two thousand drawn ones, each on its
 // cuts, beside them, and at both ends of the numbers.
 
-use crate::calls::{flat_tree, leaf_at, size_of};
+use crate::calls::{compare, flat_tree, leaf_at, size_of};
 use crate::listing::{Node, read};
 use jxlm_base_tests::seed::Seed;
 use jxlm_ma::flat::FlatMaTree;
@@ -83,7 +83,7 @@ fn check_walk(
     values: &[i32; 30],
 ) -> Result<(), Fail> {
     let expected = walked(nodes, place, values).ok_or("a walk without an end")?;
-    assert_eq!(rt; offset_of(flat, values), expected);
+    compare(rt, offset_of(flat, values), expected, "a leaf");
     Ok(())
 }
 
@@ -98,7 +98,7 @@ const fn cut(property: u32, value: i32, left: usize) -> Node {
 // Compares the offset of the leaf at a value of one property, where the others are 0.
 fn check_leaf(rt: &impl Abort, flat: &FlatMaTree, number: usize, value: i32, expected: i32) {
     let values = with_value([0; 30], number, value);
-    assert_eq!(rt; offset_of(flat, &values), expected, "{value}");
+    compare(rt, offset_of(flat, &values), expected, "a leaf");
 }
 
 // Compiles a tree for a place, and compares the leaves at values of one property; returns how large the tree is.
@@ -147,7 +147,7 @@ fn cuts_of_one_property(rt: HostRuntime) -> Result<(), Fail> {
         (11, 3),
     ];
     let size = check_leaves(&rt, rt.alloc(), &nodes, FIRST, 9, &rows)?;
-    assert_eq!(rt; size, (5, 0));
+    compare(&rt, size, (5, 0), "its size");
     Ok(())
 }
 
@@ -169,7 +169,7 @@ fn check_known(
 ) -> Result<(), Fail> {
     let nodes = [cut(property, -1, 1), Node::Leaf(1), Node::Leaf(2)];
     let size = check_leaves(rt, alloc, &nodes, place, 17, &[(-5, offset)])?;
-    assert_eq!(rt; size, (1, 0));
+    compare(rt, size, (1, 0), "its size");
     Ok(())
 }
 
@@ -227,7 +227,8 @@ fn check_spread(rt: &impl Abort, alloc: Global, spread: i32) -> Result<(), Fail>
     for value in [i32::MIN, -1, 0, 1, 6, 7, 8, spread, beside, i32::MAX] {
         check_walk(rt, &flat, &nodes, FIRST, &with_value([0; 30], 9, value))?;
     }
-    assert_eq!(rt; size_of(&flat).0, if spread <= 1022 { 5 } else { 6 });
+    let count = if spread <= 1022 { 5 } else { 6 };
+    compare(rt, size_of(&flat).0, count, "its size");
     Ok(())
 }
 
@@ -393,7 +394,8 @@ fn drawn_place(seed: &mut Seed, near: bool) -> Place {
 // channel that is not there.
 fn check_size(rt: &impl Abort, flat: &FlatMaTree, nodes: &[Node], place: Place) {
     let (count, named) = size_of(flat);
-    assert!(rt; count <= nodes.len() && named <= place.earlier as usize);
+    let is_small = count <= nodes.len() && named <= place.earlier as usize;
+    compare(rt, is_small, true, "its size");
 }
 
 // Checks one drawn tree on each of its cuts.

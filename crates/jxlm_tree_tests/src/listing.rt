@@ -58,27 +58,33 @@ fn put_node(writer: &mut Writer, node: Node) -> Result<(), AllocError> {
     }
 }
 
-fn is_leaf(node: &Node) -> bool {
-    match node {
-        Node::Leaf(_) => true,
-        Node::Decision { .. } => false,
+// Writes the nodes, after their decoder.
+fn put_nodes(writer: &mut Writer, nodes: &[Node]) -> Result<(), AllocError> {
+    for (value, n) in DECODER {
+        writer.put(value, n)?;
     }
+    for node in nodes {
+        put_node(writer, *node)?;
+    }
+    Ok(())
+}
+
+// Writes a decoder that has one cluster for all leaves.
+fn put_decoder(writer: &mut Writer, nodes: &[Node]) -> Result<(), AllocError> {
+    writer.put(0, 6)?;
+    for node in nodes {
+        if let Node::Leaf(_) = node {
+            writer.put(0, 4)?;
+        }
+    }
+    writer.put(0, 7)
 }
 
 /// The bytes of a tree's nodes, and of a decoder that has one cluster for all leaves.
 pub fn listed(alloc: Global, nodes: &[Node]) -> Result<Vec<u8>, AllocError> {
     let mut writer = Writer::new(alloc);
-    for (value, n) in DECODER {
-        writer.put(value, n)?;
-    }
-    for node in nodes {
-        put_node(&mut writer, *node)?;
-    }
-    writer.put(0, 6)?;
-    for _ in nodes.iter().filter(|node| is_leaf(node)) {
-        writer.put(0, 4)?;
-    }
-    writer.put(0, 7)?;
+    put_nodes(&mut writer, nodes)?;
+    put_decoder(&mut writer, nodes)?;
     writer.bytes()
 }
 

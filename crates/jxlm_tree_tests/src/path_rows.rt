@@ -7,17 +7,17 @@
 // Bytes and paths were written and computed by an independent program: leaves, cuts and clusters are few and small, and
 // each cluster is that of the leaf to which a plain walk of the tree leads.
 
-use crate::calls::{compare, skip, tree_at, tree_in};
+use crate::calls::{compare, cut, skip, tree_at, tree_in};
 use crate::told::Told;
 use crate::trees::three;
 use jxlm_base::bits::Bitstream;
 use jxlm_base::decoder::Decoder;
-use jxlm_base_tests::text::{bytes, pair};
+use jxlm_base_tests::text::bytes;
 use jxlm_ma::flat::{FlatMaTree, Leaf, Steps};
 use jxlm_ma::ma::MaConfig;
 use jxlm_ma::paths::{ClusterTable, Path};
 use jxlm_plain::plain::PlainDecoder;
-use std::alloc::Global;
+use std::alloc::{AllocError, Global};
 use std::process::Abort;
 use std::test::Fail;
 
@@ -94,15 +94,10 @@ const VALUES: [i32; 18] = [
     i32::MAX,
 ];
 
-// What leaves agree in that differ in the cluster alone.
-fn rest_of(alloc: Global, leaf: &Leaf) -> Result<String, Fail> {
+// A path by its name and by a leaf: its cluster, or the property that chooses one, and the rest of it.
+fn by_leaf(alloc: Global, name: &str, choice: u32, leaf: &Leaf) -> Result<String, AllocError> {
     let (predictor, offset, multiplier) = (leaf.predictor, leaf.offset, leaf.multiplier);
-    Ok(format!(in alloc; "{predictor:?} {offset} {multiplier}")?)
-}
-
-fn by_leaf(alloc: Global, name: &str, leaf: &Leaf) -> Result<String, Fail> {
-    let (cluster, rest) = (leaf.cluster, rest_of(alloc, leaf)?);
-    Ok(format!(in alloc; "{name} {cluster} {rest}")?)
+    format!(in alloc; "{name} {choice} {predictor:?} {offset} {multiplier}")
 }
 
 // The cluster of a table at a value; the leaf is that to which the tree leads, and each is found in one step.
@@ -118,9 +113,11 @@ fn cluster_at(
     let told = Told { values: &values };
     let mut steps = Steps::new();
     let leaf = *flat.leaf(&told, &mut steps);
-    assert!(rt; leaf == table.leaf_by(&told, &mut steps));
-    assert_eq!(rt; leaf.cluster, table.cluster(value, &mut steps));
-    Ok(leaf.cluster)
+    let is_same = leaf == table.leaf_by(&told, &mut steps);
+    compare(rt, is_same, true, "whether the leaves are the same");
+    let cluster = table.cluster(value, &mut steps);
+    compare(rt, cluster, leaf.cluster, "the cluster of a table");
+    Ok(cluster)
 }
 
 fn by_table(
@@ -130,44 +127,61 @@ fn by_table(
     flat: &FlatMaTree,
     table: &ClusterTable,
 ) -> Result<String, Fail> {
-    let (property, rest) = (table.property(), rest_of(alloc, &table.leaf())?);
-    let mut text = format!(in alloc; "{name} by {property} {rest}:")?;
-    for value in VALUES {
-        write!(text, " {}", cluster_at(rt, flat, table, value)?)?;
-    }
+    let mut text = by_leaf(alloc, name, table.property(), &table.leaf())?;
+    text.push(':')?;
+    put_clusters(rt, &mut text, flat, table)?;
     Ok(text)
+}
+
+// Adds the clusters of a table at some values.
+fn put_clusters(
+    rt: &impl Abort,
+    text: &mut String,
+    flat: &FlatMaTree,
+    table: &ClusterTable,
+) -> Result<(), Fail> {
+    for value in VALUES {
+        let cluster = cluster_at(rt, flat, table, value)?;
+        write!(text, " {cluster}")?;
+    }
+    Ok(())
 }
 
 // A path in the words of a row.
 fn told(rt: &impl Abort, alloc: Global, flat: &FlatMaTree, path: Path<'_>) -> Result<String, Fail> {
-    match path {
-        Path::Constant(leaf) => by_leaf(alloc, "constant", &leaf),
-        Path::Zero(leaf) => by_leaf(alloc, "zero", &leaf),
-        Path::Gradient(leaf) => by_leaf(alloc, "gradient", &leaf),
-        Path::Runs(leaf) => by_leaf(alloc, "runs", &leaf),
-        Path::Clusters(table) => by_table(rt, alloc, "clusters", flat, table),
-        Path::GradientClusters(table) => by_table(rt, alloc, "gradient clusters", flat, table),
-        Path::Tree => Ok(format!(in alloc; "tree")?),
-    }
+    let (name, leaf) = match path {
+        Path::Constant(leaf) => ("constant", leaf),
+        Path::Zero(leaf) => ("zero", leaf),
+        Path::Gradient(leaf) => ("gradient", leaf),
+        Path::Runs(leaf) => ("runs", leaf),
+        Path::Clusters(table) => return by_table(rt, alloc, "clusters by", flat, table),
+        Path::GradientClusters(table) => {
+            return by_table(rt, alloc, "gradient clusters by", flat, table);
+        }
+        Path::Tree => return Ok(format!(in alloc; "tree")?),
+    };
+    Ok(by_leaf(alloc, name, u32::from(leaf.cluster), &leaf)?)
 }
 
-// The path of a tree for a channel, in the words of a row.
+// The path of the tree after n bits for a channel, in the words of a row.
 fn path_at<D: Decoder>(
     rt: &impl Abort,
     alloc: Global,
-    config: &MaConfig<D>,
+    bytes: &[u8],
+    n: u32,
     place: [u32; 3],
 ) -> Result<String, Fail> {
-    let flat = tree_at(alloc, config, place)?;
+    let config = tree_after::<D>(alloc, bytes, n)?;
+    let flat = tree_at(alloc, &config, place)?;
     told(rt, alloc, &flat, flat.path_of(config.decoder()))
 }
 
 // A row's parts: the bits before the tree, the channel, the stream and how many earlier channels there are, the bytes,
 // and what is expected.
 fn parts(row: &str) -> Result<(u32, [u32; 3], &str, &str), Fail> {
-    let (words, rest) = pair(row, '|')?;
-    let (before, place) = pair(words, ' ')?;
-    let (digits, expected) = pair(rest, '|')?;
+    let (words, rest) = cut(row, '|');
+    let (before, place) = cut(words, ' ');
+    let (digits, expected) = cut(rest, '|');
     Ok((before.parse()?, three(place)?, digits, expected))
 }
 
@@ -181,8 +195,7 @@ fn tree_after<D: Decoder>(alloc: Global, bytes: &[u8], n: u32) -> Result<MaConfi
 fn check_path<D: Decoder>(rt: &impl Abort, alloc: Global, row: &str) -> Result<(), Fail> {
     let (before, place, digits, expected) = parts(row)?;
     let bytes = bytes(alloc, digits)?;
-    let config = tree_after::<D>(alloc, &bytes, before)?;
-    let seen = path_at(rt, alloc, &config, place)?;
+    let seen = path_at::<D>(rt, alloc, &bytes, before, place)?;
     compare(rt, seen.as_str(), expected, row);
     Ok(())
 }

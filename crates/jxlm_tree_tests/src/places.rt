@@ -7,12 +7,12 @@ ghost use Rattle.jxlm_tree.specs.Holding.{IsCurrent};
 ghost use Rattle.jxlm_tree.specs.SelfCorrecting.{IsHeader};
 ghost use Rattle.jxlm_tree.specs.Standing.{HoldsRow, setting};
 
-use crate::calls::compare;
+use crate::calls::{compare, cut};
 use jxlm_base::bits::Bitstream;
 use jxlm_base::error::Error;
 use jxlm_base::grid::{AlignedGrid, OutOfMemory, Region};
 use jxlm_base::sample::Sample;
-use jxlm_base_tests::text::{bytes, pair, signed};
+use jxlm_base_tests::text::{bytes, signed};
 use jxlm_tree::eighths::{after_clamp, before_clamp};
 use jxlm_tree::predictor::{Predictor, PredictorState, Properties, WpHeader};
 use std::alloc::{AllocError, Global};
@@ -87,16 +87,16 @@ fn channels(alloc: Global, text: &str) -> Result<Vec<Vec<i32>>, Fail> {
     Ok(channels)
 }
 
-fn parts(line: &str) -> Result<(&str, &str, &str, &str), Fail> {
-    let (width, rest) = pair(line, '|')?;
-    let (digits, rest) = pair(rest, '|')?;
-    let (before, earlier) = pair(rest, '|')?;
-    Ok((width, digits, before, earlier))
+fn parts(line: &str) -> (&str, &str, &str, &str) {
+    let (width, rest) = cut(line, '|');
+    let (digits, rest) = cut(rest, '|');
+    let (before, earlier) = cut(rest, '|');
+    (width, digits, before, earlier)
 }
 
 // A line's cell: its width, the digits of the weights, the samples before it, and the earlier channels' samples.
 fn read_place(alloc: Global, line: &str) -> Result<Place, Fail> {
-    let (columns, digits, before, earlier) = parts(line)?;
+    let (columns, digits, before, earlier) = parts(line);
     Ok(Place {
         width: width(columns)?,
         weights: weights(alloc, digits)?,
@@ -223,14 +223,25 @@ pub fn told<S: Sample>(
     for number in 2..below {
         write!(text, "{} ", properties.get(number))?;
     }
-    write!(text, "|")?;
+    text.push('|')?;
     for number in 0..14 {
         let predictor = Predictor::try_from(number)?;
         if corrects || predictor != Predictor::SelfCorrecting {
-            write!(text, " {}", predictor.predict(properties))?;
+            put_prediction(&mut text, properties, predictor)?;
         }
     }
     Ok(text)
+}
+
+// Adds what a predictor makes of the cell.
+fn put_prediction<S: Sample>(
+    text: &mut String,
+    properties: &Properties<'_, S>,
+    predictor: Predictor,
+) -> Result<(), AllocError>
+    requires { IsCurrent properties.now }
+{
+    write!(text, " {}", predictor.predict(properties))
 }
 
 impl Place {
@@ -286,7 +297,8 @@ impl Place {
         state: &mut PredictorState<S>,
         is_inside: bool,
     ) -> Result<String, Fail> {
-        let (store, regions) = (self.store::<S>(alloc)?, self.regions(alloc)?);
+        let store = self.store::<S>(alloc)?;
+        let regions = self.regions(alloc)?;
         if !hold_row(&store, &regions, self.width, self.row()) {
             return Err("an earlier channel without the row".into());
         }
@@ -326,18 +338,10 @@ fn check_place<S: Sample>(
 ) -> Result<(), Fail> {
     let (put, expected) = line.split_once("|:").ok_or("nothing expected")?;
     let place = read_place(alloc, put)?;
-    compare(
-        rt,
-        place.told_in(alloc, state, false)?.as_str(),
-        expected,
-        put,
-    );
-    compare(
-        rt,
-        place.told_in(alloc, state, true)?.as_str(),
-        expected,
-        put,
-    );
+    for is_inside in [false, true] {
+        let seen = place.told_in(alloc, state, is_inside)?;
+        compare(rt, seen.as_str(), expected, put);
+    }
     Ok(())
 }
 

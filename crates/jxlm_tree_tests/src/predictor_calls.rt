@@ -4,13 +4,13 @@ ghost use Rattle.jxlm_tree.specs.Holding.{IsCurrent};
 ghost use Rattle.std.specs.Prelude.{◌≡◌, ◌≤◌, ◌^◌, IfOk};
 ghost use Rattle.jxlm_tree.specs.Standing.{HoldsRow, earlier_room_of, room_of};
 
-use crate::calls::compare;
+use crate::calls::{compare, cut};
 use crate::places::{check, check_eighths, eighths, header_in, holds_row, told};
 use jxlm_base::bits::{Bitstream, BitstreamError};
 use jxlm_base::error::Error;
 use jxlm_base::grid::{AlignedGrid, Region};
 use jxlm_base::sample::Sample;
-use jxlm_base_tests::text::{bytes, pair};
+use jxlm_base_tests::text::bytes;
 use jxlm_ma::flat::{AskedProperty, PlaceProperties};
 use jxlm_tree::predictor::{
     Predictor, PredictorState, Properties, WpHeader, self_correcting_stays_in_range,
@@ -25,7 +25,7 @@ fn predictor_of(number: u32) -> Result<Predictor, BitstreamError> {
 }
 
 fn check_number(rt: &impl Abort, number: u32, expected: Result<Predictor, BitstreamError>) {
-    assert_eq!(rt; predictor_of(number), expected, "{number}");
+    compare(rt, predictor_of(number), expected, "a number");
 }
 
 #[test]
@@ -37,7 +37,7 @@ fn predictors_by_number(rt: HostRuntime) {
         let name = "MaProperty";
         check_number(&rt, value, Err(BitstreamError::InvalidEnum { name, value }));
     }
-    assert_eq!(rt; Predictor::default(), Predictor::Zero);
+    compare(&rt, Predictor::default(), Predictor::Zero, "the default");
 }
 
 // Whether the weights are the default ones, and their numbers in order.
@@ -75,22 +75,21 @@ const HEADERS: &str = "\
 7e108314|bitstream error: unexpected end of input @31
 |bitstream error: unexpected end of input @0";
 
-// The weights in these bytes, or an error, and the reader's position.
-fn told_header(alloc: Global, bytes: &[u8]) -> Result<String, AllocError> {
-    let mut bits = Bitstream::new(bytes);
-    let header = header_in(&mut bits);
-    let mut text = match header {
-        Ok(header) => told_weights(alloc, &header)?,
-        Err(error) => format!(in alloc; "{error}")?,
-    };
-    write!(text, " @{}", bits.position())?;
-    Ok(text)
+// The weights in these bits, or an error.
+fn told_header(alloc: Global, bits: &mut Bitstream<'_>) -> Result<String, AllocError> {
+    match header_in(bits) {
+        Ok(header) => told_weights(alloc, &header),
+        Err(error) => format!(in alloc; "{error}"),
+    }
 }
 
 fn check_header(rt: &impl Abort, alloc: Global, row: &str) -> Result<(), Fail> {
-    let (digits, expected) = pair(row, '|')?;
+    let (digits, expected) = cut(row, '|');
     let bytes = bytes(alloc, digits)?;
-    compare(rt, told_header(alloc, &bytes)?.as_str(), expected, row);
+    let mut bits = Bitstream::new(&bytes);
+    let mut seen = told_header(alloc, &mut bits)?;
+    write!(seen, " @{}", bits.position())?;
+    compare(rt, seen.as_str(), expected, row);
     Ok(())
 }
 

@@ -1,12 +1,11 @@
 // Small trees, whole and with errors, and the deepest ones. What is expected of them was computed from the format's
 // definitions.
 
-use crate::calls::{leaf_at, size_of, tree_at};
+use crate::calls::{compare, cut, leaf_at, size_of, tree_at};
 use crate::trees::{check, read_tree};
 use jxlm_base::bits::Bitstream;
 use jxlm_base::decoder::Decoder;
 use jxlm_base::error::Error;
-use jxlm_base_tests::text::pair;
 use jxlm_ma::flat::a_flat_tree_walks_by_properties;
 use jxlm_ma::ma::{
     MaConfig, each_listing_is_of_a_tree, each_tree_is_read_exactly, no_two_trees_share_a_listing,
@@ -94,7 +93,8 @@ fn tree<D: Decoder>(
 // The cluster of each context of a tree's leaves.
 fn check_clusters<D: Decoder>(rt: &impl Abort, alloc: Global) -> Result<(), Fail> {
     let config = tree::<D>(rt, alloc, WEST, "0 0 0", "1 nodes, depth 0 @143")?;
-    assert_eq!(rt; config.decoder().cluster_map(), [1].as_slice());
+    let clusters = config.decoder().cluster_map();
+    compare(rt, clusters, [1].as_slice(), "the clusters");
     Ok(())
 }
 
@@ -107,7 +107,7 @@ fn check_facts<D: Decoder>(
     expected: (usize, usize, bool),
 ) -> Result<(), Fail> {
     let (_, nodes, named, weights) = facts(alloc, config, [0, 0, earlier])?;
-    assert_eq!(rt; (nodes, named, weights), expected, "{earlier}");
+    compare(rt, (nodes, named, weights), expected, "a tree");
     Ok(())
 }
 
@@ -166,9 +166,9 @@ fn check_no_tree<D: Decoder>(
     bytes: &[u8],
     row: &str,
 ) -> Result<(), Fail> {
-    let (limits, expected) = pair(row, '|')?;
+    let (limits, expected) = cut(row, '|');
     let tree = read_tree::<D>(rt, alloc, &mut Bitstream::new(bytes), limits, expected)?;
-    assert!(rt; tree.is_none(), "{row}");
+    compare(rt, tree.is_none(), true, row);
     Ok(())
 }
 
@@ -187,9 +187,16 @@ fn check_deepest<D: Decoder>(rt: &impl Abort, alloc: Global) -> Result<(), Fail>
     let expected = "4097 nodes, depth 2048 @12357";
     let config = tree::<D>(rt, alloc, &bytes, "0 67108864 2048", expected)?;
     let copy = config.try_clone(alloc)?;
-    assert_eq!(rt; facts(alloc, &config, [0, 7, 3])?, (1, 1, 0, false));
+    let (cluster, nodes, named, weights) = facts(alloc, &config, [0, 7, 3])?;
+    compare(rt, cluster, 1, "a cluster");
+    compare(
+        rt,
+        (nodes, named, weights),
+        (1, 0, false),
+        "the deepest tree",
+    );
     drop(config);
-    assert_eq!(rt; facts(alloc, &copy, [1, 7, 0])?.0, 0);
+    compare(rt, facts(alloc, &copy, [1, 7, 0])?.0, 0, "a cluster");
     Ok(())
 }
 

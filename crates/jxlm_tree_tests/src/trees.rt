@@ -3,12 +3,12 @@
 ghost use Rattle.std.specs.Prelude.{◌≡◌, IfOk};
 ghost use Rattle.jxlm_ma.specs.FlatTree.{ClustersStandIn};
 
-use crate::calls::{compare, leaf_at, skip, tree_at, tree_in};
+use crate::calls::{compare, cut, leaf_at, skip, tree_at, tree_in};
 use crate::told::Told;
 use jxlm_base::bits::Bitstream;
 use jxlm_base::decoder::Decoder;
 use jxlm_base::error::Error;
-use jxlm_base_tests::text::{bytes, pair, signed};
+use jxlm_base_tests::text::{bytes, signed};
 use jxlm_ma::flat::{FlatMaTree, Leaf};
 use jxlm_ma::ma::MaConfig;
 use jxlm_tree::predictor::Predictor;
@@ -18,20 +18,18 @@ use std::test::Fail;
 
 /// Three numbers with spaces between.
 pub fn three(text: &str) -> Result<[u32; 3], Fail> {
-    let (first, rest) = pair(text, ' ')?;
-    let (second, third) = pair(rest, ' ')?;
-    let first = first.parse::<u32>()?;
-    let (second, third) = (second.parse::<u32>()?, third.parse::<u32>()?);
-    Ok([first, second, third])
+    let (first, rest) = cut(text, ' ');
+    let (second, third) = cut(rest, ' ');
+    Ok([first.parse()?, second.parse()?, third.parse()?])
 }
 
 // A row's parts: the bits before the tree and its limits, the bytes, what is expected, and the walks; none where no
 // tree is expected.
-fn parts(row: &str) -> Result<(&str, &str, &str, &str), Fail> {
-    let (place, rest) = pair(row, '|')?;
-    let (digits, rest) = pair(rest, '|')?;
-    let (expected, walks) = rest.split_once('|').unwrap_or((rest, ""));
-    Ok((place, digits, expected, walks))
+fn parts(row: &str) -> (&str, &str, &str, &str) {
+    let (place, rest) = cut(row, '|');
+    let (digits, rest) = cut(rest, '|');
+    let (expected, walks) = cut(rest, '|');
+    (place, digits, expected, walks)
 }
 
 /// Reads each tree of a table, and walks it.
@@ -43,7 +41,7 @@ pub fn check<D: Decoder>(rt: &impl Abort, alloc: Global, table: &str) -> Result<
 }
 
 fn check_row<D: Decoder>(rt: &impl Abort, alloc: Global, row: &str) -> Result<(), Fail> {
-    let (place, digits, expected, walks) = parts(row)?;
+    let (place, digits, expected, walks) = parts(row);
     let bytes = bytes(alloc, digits)?;
     let mut bits = Bitstream::new(&bytes);
     let Some(config) = read_tree::<D>(rt, alloc, &mut bits, place, expected)? else {
@@ -160,8 +158,8 @@ fn walked<D: Decoder>(
 
 // A walk's place, its properties, and what is expected.
 fn words(walk: &str) -> Result<([u32; 3], &str, &str), Fail> {
-    let (put, expected) = pair(walk, '=')?;
-    let (place, values) = pair(put, ':')?;
+    let (put, expected) = cut(walk, '=');
+    let (place, values) = cut(put, ':');
     Ok((three(place)?, values, expected))
 }
 
