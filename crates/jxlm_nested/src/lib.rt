@@ -1,5 +1,5 @@
-//! Parts of a Modular image that have a header of their own: header and tree read, samples decoded and transforms undone,
-//! over a store of grids (ISO/IEC 18181-1, Modular: group sub-bitstreams).
+//! Parts of a Modular image that have a header of their own, over a store of grids: header and tree read, samples
+//! decoded, transforms undone (ISO/IEC 18181-1, Modular: group sub-bitstreams).
 #![tactic(auto)]
 
 mod held;
