@@ -11,7 +11,7 @@ use Rattle.jxlm_chain.specs.Placed.{sides_in}
 use Rattle.jxlm_chain.specs.Steps.{IsNarrowStore}
 use Rattle.jxlm_transform.specs.Channels.{Channel, IsNarrow}
 use Rattle.jxlm_transform.specs.ChannelSteps.{Step}
-use Rattle.jxl_modular.specs.Fresh.{zeros}
+use Rattle.jxlm_nested.specs.Zeros.{zeros}
 
 -- grids of zeros have their sides
 pub zeros_fit : {S : Type 0} (zero : S) (sides : List Sides) → HasBuffers sides (zeros zero sides)

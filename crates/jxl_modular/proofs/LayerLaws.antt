@@ -26,15 +26,13 @@ use Rattle.jxlm_chain.proofs.Undone.{chain_of}
 use Rattle.jxlm_cut.specs.Parts.{HaveCell}
 use Rattle.jxlm_cut.specs.declared.pieces.Pieces.{Pieces}
 use Rattle.jxlm_cut.proofs.Outside.{all_inside, finish_outside, never_has, none_has}
-use Rattle.jxlm_part.specs.Placed.{PartLies}
-use Rattle.jxlm_part.specs.declared.part.PlacedPart.{PlacedPart}
 use Rattle.jxlm_transform.specs.Channels.{AreRegionsOf, ChannelList, HasSides}
 use Rattle.jxlm_transform.specs.ChannelSteps.{Step, RctStep, PaletteStep, SqueezeStep}
 use Rattle.jxlm_transform.specs.Steps.{tables_of}
 use Rattle.jxl_modular.specs.Inner.LayerCode.{IsLayer}
-use Rattle.jxl_modular.specs.Inner.NestedCode.{CanFill, nested_channels, nested_list, nested_places, regions_in}
-use Rattle.jxl_modular.specs.Inner.Opened.{steps_of_header}
-use Rattle.jxl_modular.specs.declared.nested.NestedPart.{NestedPart}
+use Rattle.jxlm_nested.specs.NestedParts.{CanFill, nested_channels, nested_list, nested_places, regions_in}
+use Rattle.jxlm_nested.specs.Opened.{steps_of_header}
+use Rattle.jxlm_nested.specs.declared.nested.NestedPart.{NestedPart}
 use Rattle.jxl_modular.proofs.NestedLaws.{cut_back}
 use Rattle.jxl_modular.proofs.Suits.{steps_suit}
 
@@ -118,17 +116,6 @@ layout_count [] l = omega arith
 layout_count (RctStep t ∷ ss) l = layout_count ss l
 layout_count (PaletteStep t ∷ ss) l = layout_count ss (layout_after (PaletteStep t) l) ∙ omega arith
 layout_count (SqueezeStep t ∷ ss) l = layout_count ss (layout_after (SqueezeStep t) l)
-
--- a part by its own header that can be filled in a store can be decoded there
-pub fill_lies : {S D : Type 0} (n : NestedPart D) (store : List (Grid S)) → CanFill n store → (p : PlacedPart D) → p.channels.now ≡ nested_channels n → p.regions.now ≡ regions_in n → p.weights ≡ n.header.wp_params → PartLies p store
-fill_lies n store can p channels regions weights = record {
-  sizes = rw (channels, regions) can.sizes;
-  narrow = rw channels can.narrow;
-  few = rw channels can.few;
-  weights = rw weights can.weights;
-  lie = rw regions can.lie;
-  apart = rw regions can.apart;
-}
 
 -- ---- a header that is held, beside these buffers
 

@@ -12,8 +12,8 @@ use Rattle.jxlm_transform.specs.Channels.{AreRegionsOf, Channel, IsNarrow}
 use Rattle.jxl_modular.specs.Image.{Image, front_channels, front_regions}
 use Rattle.jxl_modular.specs.Inner.Laid.{IsLaidOut}
 use Rattle.jxl_modular.specs.Inner.LayerCode.{CanNest, IsLayer}
-use Rattle.jxl_modular.specs.Inner.NestedCode.{nested_channels, regions_in}
-use Rattle.jxl_modular.specs.declared.nested.NestedPart.{NestedPart}
+use Rattle.jxlm_nested.specs.NestedParts.{nested_channels, regions_in}
+use Rattle.jxlm_nested.specs.declared.nested.NestedPart.{NestedPart}
 use Rattle.jxl_modular.proofs.Laid.{coded_apart, coded_lie as image_lie, coded_sizes}
 use Rattle.jxl_modular.proofs.LayerLaws.{coded_lie, regions_are}
 

@@ -17,12 +17,12 @@ use Rattle.jxlm_transform.specs.Channels.{Channel}
 use Rattle.jxlm_transform.specs.ChannelSteps.{Step}
 use Rattle.jxlm_transform.specs.Steps.{Sides, tables_of}
 use Rattle.jxlm_ma.specs.Tree.{Config}
-use Rattle.jxl_modular.specs.Fresh.{zeros}
+use Rattle.jxlm_nested.specs.Zeros.{zeros}
 use Rattle.jxl_modular.specs.Inner.LayerCode.{CanNest, IsLayer}
-use Rattle.jxl_modular.specs.Inner.NestedCode.{IsNested, nested_list, nested_places, regions_in}
-use Rattle.jxl_modular.specs.Inner.Opened.{IsOpened, steps_of_header}
-use Rattle.jxl_modular.specs.Nested.{nested_regions, with_tables}
-use Rattle.jxl_modular.specs.declared.nested.NestedPart.{NestedPart}
+use Rattle.jxlm_nested.specs.NestedParts.{IsNested, nested_list, nested_places, regions_in}
+use Rattle.jxlm_nested.specs.Opened.{IsOpened, steps_of_header}
+use Rattle.jxlm_nested.specs.Nested.{nested_regions, with_tables}
+use Rattle.jxlm_nested.specs.declared.nested.NestedPart.{NestedPart}
 use Rattle.jxl_modular.proofs.LayerLaws.{layout_count}
 use Rattle.jxl_modular.proofs.NestedLaws.{lies_more, tables_behind}
 

@@ -16,12 +16,12 @@ use Rattle.jxlm_cut.specs.declared.pieces.Pieces.{Pieces}
 use Rattle.jxlm_transform.specs.Steps.{tables_of}
 use Rattle.jxl_modular.specs.Image.{Image}
 use Rattle.jxl_modular.specs.Inner.LayerCode.{IsLayer, layer_kept}
-use Rattle.jxl_modular.specs.Inner.NestedCode.{nested_list, regions_in}
-use Rattle.jxl_modular.specs.Inner.Opened.{steps_of_header}
+use Rattle.jxlm_nested.specs.NestedParts.{nested_list, regions_in}
+use Rattle.jxlm_nested.specs.Opened.{steps_of_header}
 use Rattle.jxl_modular.specs.Layers.{StandsIn}
 use Rattle.jxl_modular.specs.Recursive.{IsUndone}
 use Rattle.jxl_modular.specs.SameButCells.{SameButCells, SameButIn}
-use Rattle.jxl_modular.specs.declared.nested.NestedPart.{NestedPart}
+use Rattle.jxlm_nested.specs.declared.nested.NestedPart.{NestedPart}
 use Rattle.jxl_modular.proofs.LayerLaws.{base_is, held_only, shape_left, tables_count, undone_outside}
 use Rattle.jxl_modular.proofs.NestedLaws.{grids_front}
 

@@ -10,7 +10,6 @@ pub mod PieceLies
 pub mod PictureLaws
 pub mod Filling
 pub mod FreshLaws
-pub mod NestedFills
 pub mod NestedImage
 pub mod NestedLaws
 pub mod LayerLaws

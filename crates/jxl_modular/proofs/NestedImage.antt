@@ -25,16 +25,16 @@ use Rattle.jxlm_part.proofs.Loops.{same_count}
 use Rattle.jxlm_transform.specs.Channels.{AreRegionsOf, Channel, IsNarrow}
 use Rattle.jxlm_transform.specs.Steps.{Sides, tables_of}
 use Rattle.jxlm_ma.specs.Tree.{Config}
-use Rattle.jxl_modular.specs.Fresh.{zeros}
+use Rattle.jxlm_nested.specs.Zeros.{zeros}
 use Rattle.jxl_modular.specs.Groups.{channels_in, held_in, pieces_of}
 use Rattle.jxl_modular.specs.Image.{Image, coded_list}
 use Rattle.jxl_modular.specs.Inner.Laid.{IsLaidOut}
-use Rattle.jxl_modular.specs.Inner.NestedCode.{CanFill, FillsIn, IsNested, WithSteps, nested_list, nested_places, with_own_tables}
-use Rattle.jxl_modular.specs.Inner.Opened.{steps_of_header}
+use Rattle.jxlm_nested.specs.NestedParts.{CanFill, FillsIn, IsNested, WithSteps, nested_list, nested_places, with_own_tables}
+use Rattle.jxlm_nested.specs.Opened.{steps_of_header}
 use Rattle.jxl_modular.specs.NestedTurns.{NestedGives}
-use Rattle.jxl_modular.specs.Nested.{with_tables}
-use Rattle.jxl_modular.specs.Parsing.{IsTreeErrorAt, opened}
-use Rattle.jxl_modular.specs.declared.nested.NestedPart.{NestedPart}
+use Rattle.jxlm_nested.specs.Nested.{with_tables}
+use Rattle.jxlm_nested.specs.Starts.{IsTreeErrorAt, opened}
+use Rattle.jxlm_nested.specs.declared.nested.NestedPart.{NestedPart}
 use Rattle.jxl_modular.proofs.Laid.{coded_apart}
 use Rattle.jxl_modular.proofs.NestedLaws.{can_fill, stops_outside, turned_err, turned_ok}
 use Rattle.jxl_modular.proofs.PieceLies.{held_inside, held_lie}

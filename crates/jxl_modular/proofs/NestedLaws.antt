@@ -38,12 +38,12 @@ use Rattle.jxlm_transform.specs.ChannelSteps.{Step}
 use Rattle.jxlm_transform.specs.Steps.{Sides, tables_of}
 use Rattle.jxlm_ma.specs.Tree.{Config}
 use Rattle.jxlm_ma.specs.TreeReading.{IsOutOfMemory}
-use Rattle.jxl_modular.specs.Fresh.{zeros}
-use Rattle.jxl_modular.specs.Inner.NestedCode.{CanFill, Decodes, FillsIn, IsNested, head_of, nested_channels, nested_places, regions_in, with_own_tables}
-use Rattle.jxl_modular.specs.Inner.Opened.{steps_of_header}
-use Rattle.jxl_modular.specs.Nested.{NestedDecodes, NestedFails, NestedStart, NestedStops, NestedTurn, Turn, nested_regions, with_tables}
-use Rattle.jxl_modular.specs.Picture.{coded_part}
-use Rattle.jxl_modular.specs.declared.nested.NestedPart.{NestedPart}
+use Rattle.jxlm_nested.specs.Zeros.{zeros}
+use Rattle.jxlm_nested.specs.NestedParts.{CanFill, Decodes, FillsIn, IsNested, head_of, nested_channels, nested_places, regions_in, with_own_tables}
+use Rattle.jxlm_nested.specs.Opened.{steps_of_header}
+use Rattle.jxlm_nested.specs.Nested.{NestedDecodes, NestedFails, NestedStart, NestedStops, NestedTurn, Turn, nested_regions, with_tables}
+use Rattle.jxlm_nested.specs.Starts.{coded_part}
+use Rattle.jxlm_nested.specs.declared.nested.NestedPart.{NestedPart}
 use Rattle.jxl_modular.proofs.FreshLaws.{zeros_fit}
 use Rattle.jxl_modular.proofs.PictureLaws.{no_memory}
 use Rattle.jxl_modular.proofs.Suits.{steps_suit}

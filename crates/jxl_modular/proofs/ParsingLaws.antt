@@ -1,25 +1,24 @@
 -- What reading an image returns, from what its steps return.
-use Rattle.std.proofs.Common.{◌≡◌, ℕ, zero, suc, false, ◌<◌, List, [], ◌∷◌, length, Ok, Err, inl, inr, refl, ap, ◌∙◌, arith}
-use Rattle.std.specs.Prelude.{◌⊎◌, ◌==◌, Option, None, Some, Result, is_some}
-use Rattle.std.specs.Borrow.{Bor}
+use Rattle.std.proofs.Common.{◌≡◌, ℕ, zero, suc, false, ◌<◌, List, [], ◌∷◌, length, Ok, Err, refl, ap, ◌∙◌, arith}
+use Rattle.std.specs.Prelude.{◌⊎◌, ◌==◌, Option, Some, Result}
 use Rattle.std.specs.Option.{option_copied}
 use Rattle.jxlm_base.specs.Decoding.{Meaning}
-use Rattle.jxlm_base.specs.ErrorKind.{UnlessMemory, UnlessNoMemory, kind_of}
+use Rattle.jxlm_base.specs.ErrorKind.{UnlessMemory, kind_of}
 use Rattle.jxlm_base.specs.Grammar.{IsErrorAt}
 use Rattle.jxlm_base.specs.declared.error.Error.{Error}
 use Rattle.jxlm_transform.specs.Channels.{Channel, ChannelList, image_list, list_of}
 use Rattle.jxlm_transform.specs.declared.channels.ModularChannels.{ModularChannels}
 use Rattle.jxlm_transform.specs.declared.param.ModularChannelParams.{ModularChannelParams}
 use Rattle.jxlm_transform.specs.declared.param.ModularParams.{ModularParams}
-use Rattle.jxlm_transform.proofs.Failures.{unless_memory}
-use Rattle.jxlm_ma.proofs.Memory.{unless_so}
 use Rattle.jxlm_ma.specs.Tree.{Config}
 use Rattle.jxl_modular.specs.Fresh.{fresh}
 use Rattle.jxl_modular.specs.Image.{Image}
-use Rattle.jxl_modular.specs.Inner.Opened.{TreeOfGives, opened_of}
+use Rattle.jxlm_nested.specs.Opened.{TreeOfGives, opened_of}
 use Rattle.jxlm_chain.specs.declared.placed.PlacedChannels.{PlacedChannels}
-use Rattle.jxl_modular.specs.Parsing.{IsImageAt, IsStartAt, IsTreeErrorAt, ParseGives, opened}
+use Rattle.jxl_modular.specs.Parsing.{IsImageAt, ParseGives}
+use Rattle.jxlm_nested.specs.Starts.{IsTreeErrorAt, opened}
 use Rattle.jxlm_header.specs.declared.header.ModularHeader.{ModularHeader}
+use Rattle.jxlm_nested.proofs.StartLaws.{no_tree, starts}
 
 -- a number that is not 0
 pub not_zero : (n : ℕ) → (n == 0) ≡ false → 0 < n
@@ -31,34 +30,6 @@ pub same_list : (copied : List Channel) (l : ModularChannels) (ps : List Modular
     ◌≡◌ {A = ChannelList} (record { channels = copied; nb_meta = 0 }) (image_list ps)
 same_list copied l ps same is =
     ap (λ (cs : List Channel). record { channels = cs; nb_meta = 0 }) same ∙ ap (λ (m : ChannelList). record { channels = m.channels; nb_meta = 0 }) is
-
--- whether there is a tree does not depend on its being lent
-pub lent_some : {A : Type 0} (o : Option (Bor A)) → is_some (option_copied o) ≡ is_some o
-lent_some None = refl
-lent_some (Some x) = refl
-
--- header and tree for channels of any list
-module _ {D : Type 0} (d : Meaning D) (global : Option (Config D)) (bytes : List ℕ) (given : ChannelList) (p : ℕ) where
-  -- where the header gives an error, there is no start
-  pub no_header : (e : Error) (q : ℕ) → UnlessNoMemory (kind_of e) (IsErrorAt (opened global bytes given p) (kind_of e) q) →
-      UnlessMemory (kind_of e) (IsErrorAt (opened global bytes given p) (kind_of e) q ⊎ IsTreeErrorAt d global bytes given p (kind_of e) q)
-  no_header e q fails = unless_so (kind_of e) (λ h. inl h) (unless_memory (kind_of e) (IsErrorAt (opened global bytes given p) (kind_of e) q) fails)
-
-  module _ (o : ModularHeader × PlacedChannels) (m : ℕ) (opens : opened global bytes given p ≡ Ok (record { value = opened_of o; position = m })) where
-    -- where the header's tree stands, there is one
-    pub starts : (config : Config D) (q : ℕ) → TreeOfGives d global bytes o.0.use_global_tree o.1.channels.info.items m (Ok config) q → IsStartAt d global bytes given p (opened_of o) config q
-    starts config q tree = record { tree_at = m; header = opens; tree = tree }
-
-    -- where the tree gives an error, there is none
-    pub no_tree : (e : Error) (q : ℕ) → TreeOfGives d global bytes o.0.use_global_tree o.1.channels.info.items m (Err e) q →
-        UnlessMemory (kind_of e) (IsErrorAt (opened global bytes given p) (kind_of e) q ⊎ IsTreeErrorAt d global bytes given p (kind_of e) q)
-    no_tree e q gives =
-        unless_so (kind_of e) (λ tree. inr (record {
-          head = opened_of o;
-          tree_at = m;
-          header = opens;
-          tree = tree;
-        })) gives
 
 module _ {S D : Type 0} (d : Meaning D) (zero : S) (bytes : List ℕ) (p : ℕ) (params : ModularParams D) where
   abbrev given : ChannelList

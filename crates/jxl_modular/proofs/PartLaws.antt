@@ -1,9 +1,6 @@
 -- The first coded channels of an image, as a part.
-use Rattle.std.proofs.Common.{◌≡◌, ◌↔◌, ℕ, ◌+◌, ◌*◌, ◌<◌, List, ◌++◌, length, take, drop, Bool, true, false, Result, refl, sym, ap, ◌∙◌, subst, arith, ℤ}
-use Rattle.std.specs.Prelude.{nat_lt, IsTrue}
-use Rattle.std.proofs.lemmas.Bool.{lt-ltb, ltb-true}
+use Rattle.std.proofs.Common.{◌≡◌, ℕ, ◌+◌, ◌*◌, List, length, Bool, Result, ap, ◌∙◌, subst, arith, ℤ}
 use Rattle.std.proofs.Math.Nat.{mul-le-mul_left}
-use Rattle.std.proofs.Math.Seq.{take-append_seam}
 use Rattle.std.proofs.lemmas.List.{length-take, take_all}
 use Rattle.std.proofs.lemmas.List.Elements.{All-take}
 use Rattle.std.specs.Int.{Width}
@@ -28,19 +25,6 @@ use Rattle.jxl_modular.specs.Inner.Filled.{whole_part}
 use Rattle.jxl_modular.specs.Inner.Laid.{IsLaidOut}
 use Rattle.jxl_modular.specs.Parts.{FrontGives}
 use Rattle.jxl_modular.proofs.Laid.{coded_apart, coded_lie, coded_sizes}
-
--- a list written over whole
-pub refilled : {X : Type 0} (n : ℕ) (xs ys : List X) → n ≡ length ys → length xs ≡ length ys → take n (xs ++ drop (length xs) ys) ≡ xs
-refilled n xs ys a b =
-    ap (λ k. take k (xs ++ drop (length xs) ys)) (a ∙ sym b) ∙ take-append_seam xs (drop (length xs) ys)
-
--- the test of whether a part has samples
-pub as_test : (b : Bool) (n : ℕ) → IsTrue b ↔ (0 < n) → b ≡ nat_lt 0 n
-as_test true n h = sym (lt-ltb 0 n (h.0 refl))
-as_test false n h = no (nat_lt 0 n) refl where
-  no : (c : Bool) → nat_lt 0 n ≡ c → false ≡ c
-  no true e = h.1 (ltb-true 0 n e)
-  no false e = refl
 
 -- for each sample no more steps than the tree is deep, and one more
 pub by_depth : (before after tried : ℕ) (t : Shape Leaf) → MovesWithin before after (tried * most_steps t) → MovesWithin before after (tried * (depth t + 1))

@@ -33,7 +33,7 @@ use Rattle.jxlm_part.proofs.Loops.{fits_in}
 use Rattle.jxl_modular.specs.Groups.{channels_in, held_in, pieces_of}
 use Rattle.jxl_modular.specs.Image.{Image, coded_list}
 use Rattle.jxl_modular.specs.Inner.Laid.{IsLaidOut}
-use Rattle.jxl_modular.specs.Nested.{nested_regions}
+use Rattle.jxlm_nested.specs.Nested.{nested_regions}
 use Rattle.jxlm_ma.specs.Tree.{Config, depth}
 use Rattle.jxl_modular.specs.Sections.{AllTurn, AllWhole, AreDecoded, AreUnlike, CodesNested, CodesPart, CodesPlain, IsNone, NestedOk, PlainTurn, Section, SectionsFit, SectionsLeave, Turn, Turned, most}
 use Rattle.jxl_modular.proofs.Laid.{coded_apart, coded_lie, coded_sizes}

@@ -22,7 +22,8 @@ use Rattle.jxl_modular.specs.Inner.Turns.{HasStopped, HasTurned, PlainGives, Tur
 use Rattle.jxl_modular.specs.SameButCells.{SameButCells}
 use Rattle.jxl_modular.proofs.Filling.{only_of}
 use Rattle.jxl_modular.proofs.Laid.{same_but_store}
-use Rattle.jxl_modular.proofs.PartLaws.{as_test, by_depth}
+use Rattle.jxl_modular.proofs.PartLaws.{by_depth}
+use Rattle.jxlm_nested.proofs.PartFacts.{as_test}
 use Rattle.jxl_modular.specs.Groups.{PartOfGives, channels_in, held_in}
 use Rattle.jxl_modular.specs.NestedTurns.{NestedGives}
 use Rattle.jxl_modular.specs.Sections.{AllTurn, AllWhole, EndsAt, IsComplete, PlainTurn, Section, SectionsLeave, SectionsStop, Turn, TurnFails, Turned, most}

@@ -10,7 +10,7 @@ use Rattle.jxl_modular.specs.Image.{Image, IsOnlyImage, coded_grids, given_list,
 use Rattle.jxl_modular.specs.Inner.Laid.{IsLaidOut}
 use Rattle.jxl_modular.specs.SameButCells.{SameButCells}
 use Rattle.jxl_modular.proofs.Laid.{only_image, same_but_store, still_laid}
-use Rattle.jxl_modular.proofs.PartLaws.{refilled}
+use Rattle.jxlm_nested.proofs.PartFacts.{refilled}
 
 module _ {S D : Type 0} (to_int : S → ℤ) (w : Width) {x : Image S D} (laid : IsLaidOut x) (n : ℕ) (len : n ≡ length x.store)
     (undos : List Undo) (are : undos ≡ undo_of_all x.steps (first_layout (given_list x).channels))

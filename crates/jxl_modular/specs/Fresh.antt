@@ -1,16 +1,11 @@
 -- An image before any of its samples is decoded.
-use Rattle.std.specs.Prelude.{ℕ, List, map}
-use Rattle.jxlm_base.specs.Grid.{Grid, filled}
+use Rattle.std.specs.Prelude.{ℕ}
 use Rattle.jxlm_chain.specs.Layout.{buffers_of, first_layout, layout_after_all}
-use Rattle.jxlm_transform.specs.Steps.{Sides}
 use Rattle.jxlm_ma.specs.Tree.{Config}
 use Rattle.jxlm_transform.specs.Channels.{ChannelList}
 use Rattle.jxl_modular.specs.Image.{Image}
 use Rattle.jxlm_header.specs.Opening.{Opening}
-
--- for each buffer a grid of its sides, whose cells are 0
-abbrev pub zeros : {S : Type 0} → S → List Sides → List (Grid S)
-zeros zero sides = map (λ s. filled s.width s.height zero) sides
+use Rattle.jxlm_nested.specs.Zeros.{zeros}
 
 -- the image of these channels, as its opening says, whose cells are all 0
 abbrev pub fresh : {S D : Type 0} → S → ChannelList → Opening → Config D → ℕ → ℕ → Image S D

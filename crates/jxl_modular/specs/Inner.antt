@@ -2,9 +2,7 @@ pub mod Filled
 pub mod ImageCode
 pub mod Kept
 pub mod Laid
-pub mod NestedCode
 pub mod LayerCode
-pub mod Opened
 pub mod SectionParts
 pub mod StepCode
 pub mod Turns

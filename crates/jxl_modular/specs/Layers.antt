@@ -14,7 +14,7 @@ use Rattle.jxlm_transform.specs.ChannelSteps.{Step}
 use Rattle.jxlm_transform.specs.Steps.{tables_of}
 use Rattle.jxlm_ma.specs.Tree.{Config}
 use Rattle.jxl_modular.specs.Image.{Image}
-use Rattle.jxl_modular.specs.Picture.{coded_part}
+use Rattle.jxlm_nested.specs.Starts.{coded_part}
 
 -- its header, with what it comes to; its tree; the part's channels, and their regions; the regions of the coded channels;
 -- how many buffers there are, its tables among them; and the tables, those of headers around it first

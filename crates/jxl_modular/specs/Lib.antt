@@ -2,7 +2,6 @@ pub mod Image
 pub mod Parts
 pub mod Groups
 pub mod GroupParts
-pub mod Nested
 pub mod NestedTurns
 pub mod Layers
 pub mod Recursive
@@ -49,6 +48,9 @@ pub use Rattle.jxlm_transform.specs.Transforms
 pub use Rattle.jxlm_chain.specs.Chain
 pub use Rattle.jxlm_header.specs.Header
 pub use Rattle.jxlm_header.specs.Opening
+pub use Rattle.jxlm_nested.specs.Nested
+pub use Rattle.jxlm_nested.specs.Starts
+pub use Rattle.jxlm_nested.specs.Zeros
 pub use Rattle.jxlm_part.specs.Part
 pub use Rattle.jxlm_part.specs.Rule
 pub use Rattle.jxlm_part.specs.Coded

@@ -12,7 +12,7 @@ use Rattle.jxlm_ma.specs.Steps.{most_steps}
 use Rattle.jxlm_ma.specs.Tree.{Config}
 use Rattle.jxl_modular.specs.Groups.{held_in}
 use Rattle.jxl_modular.specs.Image.{Image}
-use Rattle.jxl_modular.specs.Nested.{NestedFails, NestedTurn, Turn}
+use Rattle.jxlm_nested.specs.Nested.{NestedFails, NestedTurn, Turn}
 use Rattle.jxl_modular.specs.Sections.{list_in}
 
 -- a part that begins at bit position p

@@ -1,41 +1,22 @@
 -- What reading an image gives: its header and its tree (ISO/IEC 18181-1, Modular: Modular header, MA tree).
-use Rattle.std.specs.Prelude.{◌≡◌, ℕ, List, [], ◌∷◌, false, ◌⊎◌, MatchBool, Option, None, Some, is_some, Result, Ok, Err}
+use Rattle.std.specs.Prelude.{◌≡◌, ℕ, List, [], ◌∷◌, ◌⊎◌, Option, None, Some, Result, Ok, Err}
 use Rattle.std.specs.Option.{option_copied}
-use Rattle.jxlm_base.specs.Decoding.{Found, Meaning}
-use Rattle.jxlm_base.specs.ErrorKind.{ErrorKind, ErrorAt, UnlessMemory, kind_of}
+use Rattle.jxlm_base.specs.Decoding.{Meaning}
+use Rattle.jxlm_base.specs.ErrorKind.{UnlessMemory, kind_of}
 use Rattle.jxlm_base.specs.Grammar.{IsErrorAt}
 use Rattle.jxlm_base.specs.declared.error.Error.{Error}
-use Rattle.jxlm_transform.specs.Channels.{ChannelList, image_list}
+use Rattle.jxlm_transform.specs.Channels.{image_list}
 use Rattle.jxlm_transform.specs.declared.param.ModularChannelParams.{ModularChannelParams}
 use Rattle.jxlm_transform.specs.declared.param.ModularParams.{ModularParams}
-use Rattle.jxlm_ma.specs.Tree.{Config}
-use Rattle.jxlm_ma.specs.TreeReading.{IsTreeAt, IsTooDeep, listing_at}
 use Rattle.jxl_modular.specs.Fresh.{fresh}
 use Rattle.jxl_modular.specs.Image.{Image}
-use Rattle.jxlm_header.specs.Opening.{Opening, opening, node_limit, depth_limit}
+use Rattle.jxlm_header.specs.Opening.{Opening}
 use Rattle.jxl_modular.specs.declared.root.Modular.{Modular}
+pub use Rattle.jxlm_nested.specs.Starts.{IsStartAt, IsTreeErrorAt, opened}
 
 -- the image that there is; with no channels there is none
 abbrev pub image_of : {S D : Type 0} → Modular S D → Option (Image S D)
 image_of m = m.inner
-
--- the header at bit position p, and what it comes to for the given channels, with a global tree or without
-abbrev pub opened : {D : Type 0} → Option (Config D) → List ℕ → ChannelList → ℕ → Result (Found Opening) ErrorAt
-opened global bytes given p = (opening (is_some global) given).read bytes p
-
-module _ {D : Type 0} (d : Meaning D) (global : Option (Config D)) (bytes : List ℕ) (given : ChannelList) (p : ℕ) where
-  -- at p, up to q, stand a header, which comes to this head, and after it this MA tree, unless it uses the global one
-  pub record IsStartAt (head : Opening) (config : Config D) (q : ℕ) : Type 0 where
-    pub tree_at : ℕ
-    pub header : opened global bytes given p ≡ Ok (record { value = head; position = tree_at })
-    pub tree : MatchBool head.uses_global ((global ≡ Some config) × (q ≡ tree_at)) (IsTreeAt d bytes (node_limit head.coded.list.channels) depth_limit tree_at config q)
-
-  -- at p stands a header, and reading the MA tree after it returns this error, and the reader is at q then
-  pub record IsTreeErrorAt (error : ErrorKind) (q : ℕ) : Type 0 where
-    pub head : Opening
-    pub tree_at : ℕ
-    pub header : opened global bytes given p ≡ Ok (record { value = head; position = tree_at })
-    pub tree : (head.uses_global ≡ false) × (IsErrorAt (listing_at d bytes (node_limit head.coded.list.channels) tree_at) error q ⊎ IsTooDeep d bytes (node_limit head.coded.list.channels) depth_limit tree_at error q)
 
 module _ {S D : Type 0} (d : Meaning D) (zero : S) (bytes : List ℕ) (p : ℕ) (params : ModularParams D) where
   -- an image stands at position p up to position q: its header and its tree; its cells are 0

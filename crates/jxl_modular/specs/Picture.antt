@@ -13,12 +13,7 @@ use Rattle.jxlm_ma.specs.declared.flat.Leaf.{Leaf}
 use Rattle.jxlm_part.specs.Coded.{DecodingFails, IsCodedWhole}
 use Rattle.jxlm_part.specs.Decode.{MovesWithin}
 use Rattle.jxlm_header.specs.Opening.{Opening}
-use Rattle.jxl_modular.specs.Parsing.{IsStartAt, IsTreeErrorAt, opened}
-use Rattle.jxlm_part.specs.Part.{Part}
-
--- the part of all channels that the header's transforms leave (Modular: decoding of samples)
-abbrev pub coded_part : {D : Type 0} → ℕ → Opening → Config D → Part
-coded_part stream head config = record { channels = head.coded.list.channels; weights = head.weights; tree = config.tree; stream = stream }
+use Rattle.jxlm_nested.specs.Starts.{IsStartAt, IsTreeErrorAt, coded_part, opened}
 
 -- for each of n samples at most as many nodes were looked at as the tree is deep, and one more
 abbrev pub StepsFor : Shape Leaf → ℕ → ℕ → ℕ → Type 0

@@ -20,8 +20,8 @@ use Rattle.jxlm_ma.specs.Steps.{most_steps}
 use Rattle.jxlm_ma.specs.Tree.{Config}
 use Rattle.jxl_modular.specs.Image.{Image}
 use Rattle.jxl_modular.specs.Layers.{IsOnlyPart, Layer, SameButTables, coded_channels, coded_grids, list_within, outer_tables, part_of, store_of, transforms_of}
-use Rattle.jxl_modular.specs.Nested.{nested_regions, with_tables}
-use Rattle.jxl_modular.specs.Parsing.{IsStartAt, IsTreeErrorAt, opened}
+use Rattle.jxlm_nested.specs.Nested.{nested_regions, with_tables}
+use Rattle.jxlm_nested.specs.Starts.{IsStartAt, IsTreeErrorAt, opened}
 use Rattle.jxl_modular.specs.SameButCells.{SameButIn}
 use Rattle.jxl_modular.specs.declared.recursive.HoldsHeader as holders
 use Rattle.jxl_modular.specs.declared.recursive.NestedSubimage.{NestedSubimage}

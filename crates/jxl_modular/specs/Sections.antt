@@ -23,12 +23,11 @@ use Rattle.jxlm_part.specs.Coded.{IsCodedWhole}
 use Rattle.jxlm_part.specs.Decode.{DecodeGives, MovesWithin}
 use Rattle.jxlm_part.specs.Part.{cell_count}
 use Rattle.jxlm_part.specs.Placed.{standing_in}
-use Rattle.jxl_modular.specs.Nested.{NestedFails, NestedTurn}
-use Rattle.jxl_modular.specs.Parsing.{IsStartAt}
-use Rattle.jxl_modular.specs.Picture.{coded_part}
+use Rattle.jxlm_nested.specs.Nested.{NestedFails, NestedTurn}
+use Rattle.jxlm_nested.specs.Starts.{IsStartAt, coded_part}
 use Rattle.jxl_modular.specs.Groups.{Exists, IsCut, channels_in, held_in, part_in, pieces_of}
 use Rattle.jxl_modular.specs.Image.{Image, IsOnlyImage, coded_list, cost_of}
-pub use Rattle.jxl_modular.specs.Nested.{Turn, most}
+pub use Rattle.jxlm_nested.specs.Nested.{Turn, most}
 pub use Rattle.jxl_modular.specs.declared.sections.Section.{Section}
 
 -- none of the sections is of this part

@@ -4,8 +4,6 @@
 pub mod groups;
 pub mod image;
 pub mod laws;
-mod nested;
-mod opening;
 mod picture;
 pub mod recursive;
 mod root;

@@ -10,12 +10,12 @@ ghost use Rattle.jxlm_transform.specs.Params.{IsValidParams};
 ghost use Rattle.jxl_modular.specs.Parsing.{ParseGives, image_of};
 
 use crate::image::ModularImageDestination;
-use crate::opening::{open, tree_of};
 use jxlm_base::bits::Bitstream;
 use jxlm_base::decoder::Decoder;
 use jxlm_base::error::Result;
 use jxlm_base::sample::Sample;
 use jxlm_chain::placed::PlacedChannels;
+use jxlm_nested::opening::{open, tree_of};
 use jxlm_transform::channels::ModularChannels;
 use jxlm_transform::param::ModularParams;
 use std::alloc::Global;

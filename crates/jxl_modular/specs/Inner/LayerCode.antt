@@ -13,10 +13,10 @@ use Rattle.jxlm_transform.specs.Channels.{AreRegionsOf, Channel, IsNarrow}
 use Rattle.jxlm_transform.specs.ChannelSteps.{Step}
 use Rattle.jxlm_ma.specs.Tree.{Config}
 use Rattle.jxlm_tree.specs.declared.predictor.WpHeader.{WpHeader}
-use Rattle.jxl_modular.specs.Inner.NestedCode.{head_of, nested_list, nested_places, regions_in}
-use Rattle.jxl_modular.specs.Inner.Opened.{IsOpened, steps_of_header}
+use Rattle.jxlm_nested.specs.NestedParts.{head_of, nested_list, nested_places, regions_in}
+use Rattle.jxlm_nested.specs.Opened.{IsOpened, steps_of_header}
 use Rattle.jxl_modular.specs.Layers.{Layer}
-use Rattle.jxl_modular.specs.declared.nested.NestedPart.{NestedPart}
+use Rattle.jxlm_nested.specs.declared.nested.NestedPart.{NestedPart}
 
 -- what is seen of these fields
 abbrev pub layer_kept : {S D : Type 0} → NestedPart D → Pieces → List (Grid S) → Layer S D

@@ -5,7 +5,6 @@ ghost use Rattle.jxlm_part.specs.Part.{cell_count};
 ghost use Rattle.std.specs.Prelude.{◌≡◌, ◌↔◌, ◌<◌, IsOk, IsTrue, IsFalse, IfOk, IfErr};
 
 use super::ModularImageDestination;
-use crate::nested::NestedPart;
 use jxlm_base::bits::Bitstream;
 use jxlm_base::decoder::Decoder;
 use jxlm_base::error::Result;
@@ -17,6 +16,7 @@ use jxlm_cut::pass::Pass;
 use jxlm_cut::pieces::{Pieces, has_pieces};
 use jxlm_ma::flat::Steps;
 use jxlm_ma::ma::MaConfig;
+use jxlm_nested::nested::NestedPart;
 use jxlm_part::part::PlacedPart;
 use std::alloc::Global;
 use std::collections::BTreeSet;

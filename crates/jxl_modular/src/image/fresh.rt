@@ -4,7 +4,8 @@ ghost use Rattle.std.specs.Prelude.{◌≡◌, ◌++◌, pos, map, IfOk, IfErr, 
 ghost use Rattle.jxlm_base.specs.ErrorKind.{NoMemory, kind_of};
 ghost use Rattle.jxlm_chain.specs.Layout.{sides_of};
 ghost use Rattle.jxlm_chain.specs.Placed.{sides_in};
-ghost use Rattle.jxl_modular.specs.Fresh.{fresh, zeros};
+ghost use Rattle.jxl_modular.specs.Fresh.{fresh};
+ghost use Rattle.jxlm_nested.specs.Zeros.{zeros};
 
 use super::ModularImageDestination;
 use jxlm_base::decoder::Decoder;
@@ -56,7 +57,7 @@ impl<S: Sample, D: Decoder> ModularImageDestination<S, D> {
     ghost use Rattle.jxl_modular.specs.Inner.Laid.{AreAskedFor};
     ghost use Rattle.jxlm_chain.specs.Layout.{first_layout};
     ghost use Rattle.jxlm_chain.specs.Placed.{IsPlacedBy};
-    ghost use Rattle.jxl_modular.specs.Inner.Opened.{IsOpened, opened_of, steps_of_header};
+    ghost use Rattle.jxlm_nested.specs.Opened.{IsOpened, opened_of, steps_of_header};
 
     /// An image of these channels, each in a buffer of its own, whose coded channels are those that the transforms of
     /// its header leave, each in its region. It keeps what undoes the transforms. All cells are 0. The channels are

@@ -7,7 +7,6 @@ ghost use Rattle.jxlm_base.specs.ErrorKind.{NoMemory, kind_of};
 ghost use Rattle.jxlm_part.specs.Part.{cell_count};
 
 use super::{ModularImageDestination, TransformedModularSubimage, first_of};
-use crate::nested::{NestedPart, add_tables};
 use crate::recursive::{NestedHeader, RecursiveModularImage};
 use jxlm_base::bits::Bitstream;
 use jxlm_base::decoder::Decoder;
@@ -19,6 +18,7 @@ use jxlm_cut::pass::Pass;
 use jxlm_cut::pieces::Pieces;
 use jxlm_ma::flat::Steps;
 use jxlm_ma::ma::MaConfig;
+use jxlm_nested::nested::{NestedPart, add_tables};
 use jxlm_transform::channels::ModularChannelInfo;
 use std::alloc::Global;
 

@@ -1,7 +1,8 @@
 use Rattle.std.proofs.Common.{◌≡◌, ◌++◌, length, take, drop, refl, ap, ◌∙◌}
 use Rattle.jxlm_chain.proofs.ShapeLaws.{shape_kept}
 use Rattle.jxl_modular.proofs.Laid.{same_but_store, still_laid}
-use Rattle.jxl_modular.proofs.PartLaws.{front_lies, refilled}
+use Rattle.jxl_modular.proofs.PartLaws.{front_lies}
+use Rattle.jxlm_nested.proofs.PartFacts.{refilled}
 use Rattle.jxl_modular.proofs.image.ModularImageDestination.decode_front.Goals as goal
 
 pub decode-requires-clause-lies : goal.decode-requires-clause-lies

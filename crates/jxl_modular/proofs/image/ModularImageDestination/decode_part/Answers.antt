@@ -1,7 +1,7 @@
 use Rattle.std.proofs.Common.{◌≡◌, ◌++◌, length, take, drop, refl}
 use Rattle.jxlm_chain.proofs.ShapeLaws.{shape_kept}
 use Rattle.jxl_modular.proofs.Laid.{coded_sizes, same_but_store, still_laid}
-use Rattle.jxl_modular.proofs.PartLaws.{refilled}
+use Rattle.jxlm_nested.proofs.PartFacts.{refilled}
 use Rattle.jxl_modular.proofs.PieceLies.{coded_room, held_lies}
 use Rattle.jxl_modular.proofs.image.ModularImageDestination.decode_part.Goals as goal
 

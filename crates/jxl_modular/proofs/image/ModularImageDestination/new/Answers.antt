@@ -6,7 +6,7 @@ use Rattle.jxlm_transform.specs.Channels.{list_of}
 use Rattle.jxlm_transform.specs.ChannelSteps.{Step, list_after_all}
 use Rattle.jxlm_transform.specs.Transforms.{transform_of}
 use Rattle.jxlm_transform.proofs.SideBounds.{narrow_image}
-use Rattle.jxl_modular.specs.Fresh.{zeros}
+use Rattle.jxlm_nested.specs.Zeros.{zeros}
 use Rattle.jxl_modular.proofs.FreshLaws.{buffers_zeros, zeros_fit, zeros_narrow}
 use Rattle.jxl_modular.proofs.image.ModularImageDestination.new.Goals as goal
 

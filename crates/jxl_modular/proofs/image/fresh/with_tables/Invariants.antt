@@ -1,6 +1,6 @@
 use Rattle.std.proofs.Common.{◌≡◌, ◌++◌, take, pos}
 use Rattle.jxlm_chain.specs.Placed.{sides_in}
-use Rattle.jxl_modular.specs.Fresh.{zeros}
+use Rattle.jxlm_nested.specs.Zeros.{zeros}
 use Rattle.jxl_modular.proofs.image.fresh.with_tables.Given as goal
 
 abbrev pub invariant-loop-table : goal.invariant-loop-table

@@ -1,6 +1,6 @@
 use Rattle.std.proofs.Common.{◌≡◌, take, pos}
 use Rattle.jxlm_chain.specs.Layout.{sides_of}
-use Rattle.jxl_modular.specs.Fresh.{zeros}
+use Rattle.jxlm_nested.specs.Zeros.{zeros}
 use Rattle.jxl_modular.proofs.image.fresh.zero_grids.Given as goal
 
 abbrev pub invariant-loop-channel : goal.invariant-loop-channel

@@ -3,10 +3,12 @@ use Rattle.std.specs.Option.{option_copied}
 use Rattle.std.specs.Prelude.{is_some}
 use Rattle.jxlm_base.specs.Bits.{bytes_of, position_of}
 use Rattle.jxlm_chain.specs.declared.placed.PlacedChannels.{PlacedChannels}
-use Rattle.jxl_modular.specs.Inner.Opened.{IsOpened, TreeOfGives, opened_of}
-use Rattle.jxl_modular.specs.Parsing.{ParseGives, opened}
+use Rattle.jxlm_nested.specs.Opened.{IsOpened, TreeOfGives, opened_of}
+use Rattle.jxl_modular.specs.Parsing.{ParseGives}
+use Rattle.jxlm_nested.specs.Starts.{opened}
 use Rattle.jxlm_header.specs.declared.header.ModularHeader.{ModularHeader}
-use Rattle.jxl_modular.proofs.ParsingLaws.{image_stands, lent_some, same_list, tree_fails, not_zero, gives_image, gives_error}
+use Rattle.jxl_modular.proofs.ParsingLaws.{image_stands, same_list, tree_fails, not_zero, gives_image, gives_error}
+use Rattle.jxlm_nested.proofs.StartLaws.{lent_some}
 use Rattle.jxl_modular.proofs.root.Modular.parse.Goals as goal
 use Rattle.jxlm_base.specs.ErrorKind.{kind_of}
 use Rattle.jxlm_transform.specs.Channels.{Channel, ChannelList, IsNarrow, image_list, list_of}

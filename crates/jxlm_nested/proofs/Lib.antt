@@ -1,0 +1,3 @@
+pub mod NestedFills
+pub mod PartFacts
+pub mod StartLaws

@@ -1,0 +1,45 @@
+-- What reading a header and its tree returns, from what its steps return.
+use Rattle.std.proofs.Common.{◌≡◌, ℕ, List, Ok, Err, inl, inr, refl}
+use Rattle.std.specs.Prelude.{◌⊎◌, Option, None, Some, is_some}
+use Rattle.std.specs.Borrow.{Bor}
+use Rattle.std.specs.Option.{option_copied}
+use Rattle.jxlm_base.specs.Decoding.{Meaning}
+use Rattle.jxlm_base.specs.ErrorKind.{UnlessMemory, UnlessNoMemory, kind_of}
+use Rattle.jxlm_base.specs.Grammar.{IsErrorAt}
+use Rattle.jxlm_base.specs.declared.error.Error.{Error}
+use Rattle.jxlm_transform.specs.Channels.{ChannelList}
+use Rattle.jxlm_transform.proofs.Failures.{unless_memory}
+use Rattle.jxlm_ma.proofs.Memory.{unless_so}
+use Rattle.jxlm_ma.specs.Tree.{Config}
+use Rattle.jxlm_chain.specs.declared.placed.PlacedChannels.{PlacedChannels}
+use Rattle.jxlm_header.specs.declared.header.ModularHeader.{ModularHeader}
+use Rattle.jxlm_nested.specs.Opened.{TreeOfGives, opened_of}
+use Rattle.jxlm_nested.specs.Starts.{IsStartAt, IsTreeErrorAt, opened}
+
+-- whether there is a tree does not depend on its being lent
+pub lent_some : {A : Type 0} (o : Option (Bor A)) → is_some (option_copied o) ≡ is_some o
+lent_some None = refl
+lent_some (Some x) = refl
+
+-- header and tree for channels of any list
+module _ {D : Type 0} (d : Meaning D) (global : Option (Config D)) (bytes : List ℕ) (given : ChannelList) (p : ℕ) where
+  -- where the header gives an error, there is no start
+  pub no_header : (e : Error) (q : ℕ) → UnlessNoMemory (kind_of e) (IsErrorAt (opened global bytes given p) (kind_of e) q) →
+      UnlessMemory (kind_of e) (IsErrorAt (opened global bytes given p) (kind_of e) q ⊎ IsTreeErrorAt d global bytes given p (kind_of e) q)
+  no_header e q fails = unless_so (kind_of e) (λ h. inl h) (unless_memory (kind_of e) (IsErrorAt (opened global bytes given p) (kind_of e) q) fails)
+
+  module _ (o : ModularHeader × PlacedChannels) (m : ℕ) (opens : opened global bytes given p ≡ Ok (record { value = opened_of o; position = m })) where
+    -- where the header's tree stands, there is one
+    pub starts : (config : Config D) (q : ℕ) → TreeOfGives d global bytes o.0.use_global_tree o.1.channels.info.items m (Ok config) q → IsStartAt d global bytes given p (opened_of o) config q
+    starts config q tree = record { tree_at = m; header = opens; tree = tree }
+
+    -- where the tree gives an error, there is none
+    pub no_tree : (e : Error) (q : ℕ) → TreeOfGives d global bytes o.0.use_global_tree o.1.channels.info.items m (Err e) q →
+        UnlessMemory (kind_of e) (IsErrorAt (opened global bytes given p) (kind_of e) q ⊎ IsTreeErrorAt d global bytes given p (kind_of e) q)
+    no_tree e q gives =
+        unless_so (kind_of e) (λ tree. inr (record {
+          head = opened_of o;
+          tree_at = m;
+          header = opens;
+          tree = tree;
+        })) gives

@@ -1,0 +1,35 @@
+use Rattle.std.proofs.Common.{◌≡◌, ◌∙◌, Bool, Err, Ok, rules, subst, sym}
+use Rattle.std.specs.Option.{option_copied}
+use Rattle.std.specs.Prelude.{◌⊎◌, is_some}
+use Rattle.jxlm_base.specs.Bits.{bytes_of, position_of}
+use Rattle.jxlm_base.specs.ErrorKind.{UnlessMemory, kind_of}
+use Rattle.jxlm_base.specs.Grammar.{IsErrorAt}
+use Rattle.jxlm_chain.specs.declared.placed.PlacedChannels.{PlacedChannels}
+use Rattle.jxlm_header.specs.Opening.{opening}
+use Rattle.jxlm_header.specs.declared.header.ModularHeader.{ModularHeader}
+use Rattle.jxlm_transform.specs.Channels.{list_of}
+use Rattle.jxlm_transform.specs.declared.channels.ModularChannels.{ModularChannels}
+use Rattle.jxlm_nested.specs.NestedParts.{nested_list}
+use Rattle.jxlm_nested.specs.Opened.{TreeOfGives, opened_of}
+use Rattle.jxlm_nested.specs.Starts.{IsTreeErrorAt, opened}
+use Rattle.jxlm_nested.proofs.StartLaws.{lent_some, no_tree}
+use Rattle.jxlm_nested.proofs.nested.NestedPart.parse.Goals as goal
+
+pub returns-in_err-config-clause-err : goal.returns-in_err-config-clause-err
+returns-in_err-config-clause-err g c =
+    let d = g.D.Decoder.meaning in
+    let bytes = bytes_of c.args.bits.now in
+    let p = position_of c.args.bits.now in
+    let list = nested_list c.args.pieces.infos.items in
+    let global = option_copied c.args.global in
+    let o : ModularHeader × PlacedChannels = (c.in_ok-header.header, c.in_ok-header.placed) in
+    let m = position_of c.open.new.bits in
+    let has : c.is_some.result ≡ is_some global = c.is_some.ensures ∙ sym (lent_some c.args.global) in
+    let opens : opened global bytes list p ≡ Ok (record { value = opened_of o; position = m }) =
+    subst (λ (l : ModularChannels). opened global bytes (list_of l) p ≡ Ok (record { value = opened_of o; position = m })) c.new-start.ensures.list
+    (subst (λ (b : Bool). (opening b (list_of c.new-start.result.channels)).read bytes p ≡ Ok (record { value = opened_of o; position = m })) has c.in_ok-header.ensures.gives) in
+    let q = position_of c.tree_of.new.bits in
+    let e = c.in_err-config.field-0.0 in
+    let tree : TreeOfGives d global bytes o.0.use_global_tree o.1.channels.info.items m (Err e) q = rw (c.in_ok-header.ensures.bytes, c.deref.ensures.value) at c.in_err-config.ensures.gives in
+    let answer : UnlessMemory (kind_of e) (IsErrorAt (opened global bytes list p) (kind_of e) q ⊎ IsTreeErrorAt d global bytes list p (kind_of e) q) = no_tree d global bytes list p o m opens e q tree in
+    search rules

@@ -1,0 +1,5 @@
+pub mod Nested
+pub mod NestedParts
+pub mod Opened
+pub mod Starts
+pub mod Zeros

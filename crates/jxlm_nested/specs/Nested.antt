@@ -1,0 +1,90 @@
+-- A part with a header of its own, with transforms and a tree: what decoding it leaves
+-- (ISO/IEC 18181-1, Modular: group sub-bitstreams).
+use Rattle.std.specs.Prelude.{◌≡◌, ◌⊎◌, ℕ, ◌+◌, ◌*◌, ℤ, List, ◌++◌, length, take, Bool, nat_lt, Option, Result, Ok, Err}
+use Rattle.std.specs.Int.{Width}
+use Rattle.jxlm_base.specs.Decoding.{Meaning}
+use Rattle.jxlm_base.specs.ErrorKind.{UnlessMemory, kind_of}
+use Rattle.jxlm_base.specs.Grammar.{IsErrorAt}
+use Rattle.jxlm_base.specs.Grid.{Grid}
+use Rattle.jxlm_base.specs.Outside.{KeepsOutside}
+use Rattle.jxlm_base.specs.Regions.{grids_in, store_meanings}
+use Rattle.jxlm_base.specs.declared.error.Error.{Error}
+use Rattle.jxlm_base.specs.declared.subgrid.Region.{Region}
+use Rattle.jxlm_chain.specs.Chain.{IsOnlyImage}
+use Rattle.jxlm_chain.specs.Layout.{layout_after_all}
+use Rattle.jxlm_header.specs.Opening.{Opening}
+use Rattle.jxlm_part.specs.Decode.{DecodeGives}
+use Rattle.jxlm_part.specs.Part.{cell_count}
+use Rattle.jxlm_part.specs.Placed.{standing_in}
+use Rattle.jxlm_transform.specs.Channels.{ChannelList}
+use Rattle.jxlm_transform.specs.ChannelSteps.{Step}
+use Rattle.jxlm_transform.specs.Steps.{tables_of}
+use Rattle.jxlm_ma.specs.Tree.{Config, Shape, depth}
+use Rattle.jxlm_ma.specs.TreeReading.{IsOutOfMemory}
+use Rattle.jxlm_ma.specs.declared.flat.Leaf.{Leaf}
+use Rattle.jxlm_nested.specs.Zeros.{zeros}
+use Rattle.jxlm_nested.specs.Starts.{IsStartAt, IsTreeErrorAt, coded_part, opened}
+
+-- what the decoding of a part shows beside samples: where its reader is afterwards, whether samples are missing, for how
+-- many samples a read was tried, and by which tree
+pub record Turn : Type 0 where
+  pub position : ℕ
+  pub partial : Bool
+  pub tried : ℕ
+  pub tree : Shape Leaf
+
+-- the nodes of a turn: for each sample tried as many as the tree is deep, and one more
+abbrev pub most : Turn → ℕ
+most t = t.tried * (depth t.tree + 1)
+
+-- where the channels of a header within a part lie: in the part's regions of a store, and in tables after its buffers
+abbrev pub nested_regions : {S : Type 0} → List Region → List Step → List (Grid S) → List Region
+nested_regions held steps store = (layout_after_all steps (record { regions = held; buffers = length store })).regions
+
+-- a store, and after it the tables, whose cells are 0
+abbrev pub with_tables : {S : Type 0} → S → List Step → List (Grid S) → List (Grid S)
+with_tables zero steps store = store ++ zeros zero (tables_of steps)
+
+-- a part that begins at bit position p: its channels, its regions in the store, and the index of its stream
+module _ {S D : Type 0} (d : Meaning D) (w : Width) (to_int : S → ℤ) (zero : S) (bit_depth : ℕ) (global : Option (Config D)) (bytes : List ℕ) (p : ℕ) (list : ChannelList) (held : List Region) (stream : ℕ) where
+  -- its header and its tree, and where its samples begin
+  pub record NestedStart : Type 0 where
+    pub head : Opening
+    pub config : Config D
+    pub samples_at : ℕ
+    pub start : IsStartAt d global bytes list p head config samples_at
+
+  -- what decoding its samples returns, and what it leaves: cells of other parts stay
+  pub record NestedDecodes (partly : Bool) (s : NestedStart) (result : Result (Unit {0}) Error) (t : Turn) (store now : List (Grid S)) : Type 0 where
+    pub answers : DecodeGives d w (coded_part stream s.head s.config) bytes s.config.decoder
+        (standing_in to_int (nested_regions held s.head.coded.steps store) (with_tables zero s.head.coded.steps store) s.samples_at (nat_lt 0 (cell_count s.head.coded.list.channels)))
+        (standing_in to_int (nested_regions held s.head.coded.steps store) now t.position t.partial) partly result t.tried
+    pub outside : KeepsOutside (nested_regions held s.head.coded.steps store) (with_tables zero s.head.coded.steps store) now
+    pub tree : t.tree ≡ s.config.tree
+
+  -- Ok: its samples were decoded, and what the part has then is the only image that the transforms turn into them.
+  pub record NestedTurn (partly : Bool) (t : Turn) (old new : List (Grid S)) : Type 0 where
+    pub start : NestedStart
+    pub now : List (Grid S)
+    pub decoded : NestedDecodes partly start (Ok tt) t old now
+    pub only : IsOnlyImage w bit_depth start.head.coded.steps list (grids_in held (store_meanings to_int new)) (grids_in (nested_regions held start.head.coded.steps old) (store_meanings to_int now))
+    pub outside : KeepsOutside held old new
+
+  -- header or tree returns this error, or it is out of memory before the first sample: nothing changed
+  pub record NestedNotBegun (e : Error) (t : Turn) (old new : List (Grid S)) : Type 0 where
+    pub fails : UnlessMemory (kind_of e) (IsErrorAt (opened global bytes list p) (kind_of e) t.position ⊎ IsTreeErrorAt d global bytes list p (kind_of e) t.position)
+    pub unchanged : new ≡ old
+    pub tries : t.tried ≡ 0
+
+  -- decoding returns this error, or it is out of memory after it: the samples stay as decoding left them, without tables
+  pub record NestedStops (partly : Bool) (e : Error) (t : Turn) (old new : List (Grid S)) : Type 0 where
+    pub start : NestedStart
+    pub now : List (Grid S)
+    pub answer : Result (Unit {0}) Error
+    pub decoded : NestedDecodes partly start answer t old now
+    pub cause : (answer ≡ Err e) ⊎ ((answer ≡ Ok tt) × IsOutOfMemory (kind_of e))
+    pub cut : new ≡ take (length old) now
+
+  -- an error
+  abbrev pub NestedFails : Bool → Error → Turn → List (Grid S) → List (Grid S) → Type 0
+  NestedFails partly e t old new = NestedNotBegun e t old new ⊎ NestedStops partly e t old new
