@@ -1,31 +1,74 @@
 // Calls that reading a picture does not make, or not with these values.
 
 use crate::bytewise::Bytewise;
-use crate::outcome::decoded;
+use crate::outcome::{decoded, samples};
 use jxl_modular::bits::Bitstream;
 use jxl_modular::decoder::{Decoder, DecoderError, RleToken};
-use jxl_modular::flat::Steps;
+use jxl_modular::error::Error;
+use jxl_modular::flat::{Leaf, Steps};
+use jxl_modular::image::ModularImageDestination;
 use jxl_modular::plain::PlainDecoder;
-use jxl_modular::{ChannelShift, MaConfig, MaConfigParams, ModularParams};
+use jxl_modular::{ChannelShift, MaConfig, MaConfigParams, ModularParams, Sample};
 use jxlm_tree_tests::told::Told;
 use std::alloc::Global;
+use std::process::Abort;
 use std::test::Fail;
+
+// A decoder of some contexts, at the beginning of its tokens.
+fn begun<D: Decoder>(
+    alloc: Global,
+    bits: &mut Bitstream<'_>,
+    contexts: u32,
+) -> Result<D, DecoderError> {
+    let mut decoder = D::parse(alloc, bits, contexts)?;
+    decoder.begin(bits)?;
+    Ok(decoder)
+}
+
+// The only token of the first context's cluster.
+fn only<D: Decoder>(decoder: &D) -> Option<u32> {
+    let Some(cluster) = decoder.cluster_map().first().copied() else {
+        return Some(99);
+    };
+    decoder.single_token(cluster)
+}
+
+// A token of the second context.
+fn second<D: Decoder>(decoder: &mut D, bits: &mut Bitstream<'_>) -> Result<u32, DecoderError> {
+    if decoder.cluster_map().len() < 2 {
+        return Err(DecoderError::Invalid(98));
+    }
+    decoder.read_varint(bits, 1)
+}
+
+// A token of cluster 0, or how many there are of the last one.
+fn run(decoder: &mut Bytewise, bits: &mut Bitstream<'_>) -> Result<RleToken, DecoderError> {
+    if !decoder.cluster_map().contains(&0) {
+        return Err(DecoderError::Invalid(97));
+    }
+    decoder.read_varint_clustered(bits, 0)
+}
+
+// Checks the first token of two contexts with cluster 0, which is 7; returns a copy of the decoder.
+fn after_first<D: Decoder>(
+    rt: &impl Abort,
+    alloc: Global,
+    bits: &mut Bitstream<'_>,
+) -> Result<D, Fail> {
+    let mut decoder = begun::<D>(alloc, bits, 2)?;
+    assert_eq!(rt; decoder.cluster_map(), [0, 0].as_slice());
+    assert_eq!(rt; only(&decoder), None);
+    assert_eq!(rt; decoder.as_rle(), false);
+    assert_eq!(rt; second(&mut decoder, bits), Ok(7));
+    Ok(decoder.try_clone(alloc)?)
+}
 
 #[test]
 fn tokens_are_bytes(rt: HostRuntime) -> Result<(), Fail> {
     let mut bits = Bitstream::new(&[7, 200]);
-    let mut decoder = Bytewise::parse(rt.alloc(), &mut bits, 2)?;
-    decoder.begin(&mut bits)?;
-    assert_eq!(rt; decoder.cluster_map(), [0, 0].as_slice());
-    assert_eq!(rt; decoder.single_token(0), None);
-    assert_eq!(rt; decoder.as_rle(), false);
-    assert_eq!(rt; decoder.read_varint(&mut bits, 1)?, 7);
-    let mut copy = decoder.try_clone(rt.alloc())?;
+    let mut copy = after_first::<Bytewise>(&rt, rt.alloc(), &mut bits)?;
     assert_eq!(rt; copy.cluster_map(), [0, 0].as_slice());
-    assert_eq!(rt;
-        copy.read_varint_clustered(&mut bits, 0)?,
-        RleToken::Value(200)
-    );
+    assert_eq!(rt; run(&mut copy, &mut bits), Ok(RleToken::Value(200)));
     assert_eq!(rt; bits.position(), 16);
     assert_eq!(rt; copy.finalize(), Ok(()));
     Ok(())
@@ -39,35 +82,63 @@ fn first<D: Decoder>(decoder: &mut D, bits: &mut Bitstream<'_>) -> Result<u32, D
     decoder.read_varint_with_multiplier_clustered(bits, cluster, 3)
 }
 
+// A token of a decoder of one context.
+fn only_token<D: Decoder>(alloc: Global, bits: &mut Bitstream<'_>) -> Result<u32, DecoderError> {
+    let mut decoder = begun::<D>(alloc, bits, 1)?;
+    first(&mut decoder, bits)
+}
+
 #[test]
 fn a_cut_byte(rt: HostRuntime) -> Result<(), Fail> {
     let mut bits = Bitstream::new(&[7]);
     assert_eq!(rt; bits.read_bits(1), Ok(1));
-    let mut decoder = Bytewise::parse(rt.alloc(), &mut bits, 1)?;
-    assert_eq!(rt;
-        first(&mut decoder, &mut bits),
-        Err(DecoderError::UnexpectedEof)
-    );
+    let token = only_token::<Bytewise>(rt.alloc(), &mut bits);
+    assert_eq!(rt; token, Err(DecoderError::UnexpectedEof));
     assert_eq!(rt; bits.position(), 1);
     Ok(())
 }
 
-// A tree of one leaf: how many nodes it has, how deep it is, its clusters, and the leaf.
-fn leaf_of<D: Decoder>(alloc: Global, bits: &mut Bitstream<'_>) -> Result<String, Fail> {
+fn tree_of_a_leaf<D: Decoder>(
+    alloc: Global,
+    bits: &mut Bitstream<'_>,
+) -> Result<MaConfig<D>, Error> {
     let limits = MaConfigParams {
         node_limit: 0,
         depth_limit: 0,
     };
-    let config = MaConfig::<D>::parse(alloc, bits, limits)?;
+    MaConfig::parse(alloc, bits, limits)
+}
+
+fn only_leaf<D: Decoder>(alloc: Global, config: &MaConfig<D>) -> Result<Leaf, Error> {
     let flat = config.make_flat_tree(alloc, 0, 0, 0)?;
-    let leaf = flat.leaf(&Told { values: &[] }, &mut Steps::new());
-    let (cluster, predictor) = (leaf.cluster, leaf.predictor);
-    let (offset, multiplier) = (leaf.offset, leaf.multiplier);
-    let (nodes, depth) = (config.num_tree_nodes(), config.tree_depth());
-    let clusters = config.decoder().cluster_map();
+    Ok(*flat.leaf(&Told { values: &[] }, &mut Steps::new()))
+}
+
+// How many nodes a tree has, how deep it is, its clusters, and a leaf.
+fn told(
+    alloc: Global,
+    nodes: usize,
+    depth: usize,
+    clusters: &[u8],
+    leaf: Leaf,
+) -> Result<String, Fail> {
+    let Leaf {
+        cluster,
+        predictor,
+        offset,
+        multiplier,
+    } = leaf;
     Ok(format!(in alloc;
         "{nodes} {depth} {clusters:?}: {cluster} {predictor:?} {offset} {multiplier}"
     )?)
+}
+
+// The same of a tree of one leaf that stands in the bits.
+fn leaf_of<D: Decoder>(alloc: Global, bits: &mut Bitstream<'_>) -> Result<String, Fail> {
+    let config = tree_of_a_leaf::<D>(alloc, bits)?;
+    let leaf = only_leaf(alloc, &config)?;
+    let (nodes, depth) = (config.num_tree_nodes(), config.tree_depth());
+    told(alloc, nodes, depth, config.decoder().cluster_map(), leaf)
 }
 
 // A leaf of bytes: west, less 1, times (1 + 1) * 2^3.
@@ -83,6 +154,17 @@ fn a_tree_of_bytes(rt: HostRuntime) -> Result<(), Fail> {
 // A leaf with the constant token 3, doubled, and 5 more.
 const CONSTANT: &[u8] = &[0x82, 0x00, 0x40, 0x80, 0x04, 0x12, 0x3A, 0x08, 0x40, 0x61];
 
+fn sizes<S: Sample, D: Decoder>(
+    alloc: Global,
+    image: &ModularImageDestination<S, D>,
+) -> Result<Vec<(usize, usize)>, Fail> {
+    let mut sizes = Vec::new(alloc);
+    for grid in image.image_channels() {
+        sizes.push((grid.width(), grid.height()))?;
+    }
+    Ok(sizes)
+}
+
 // A picture of 5 by 3, once as it is, once halved both ways, once with a quarter of its rows: all samples are 1.
 #[test]
 fn channels_of_one_picture(rt: HostRuntime) -> Result<(), Fail> {
@@ -95,13 +177,8 @@ fn channels_of_one_picture(rt: HostRuntime) -> Result<(), Fail> {
     let mut bits = Bitstream::new(CONSTANT);
     let image = decoded::<i16, PlainDecoder>(&rt, rt.alloc(), &mut bits, params)?;
     let image = image.ok_or("no image")?;
-    let mut sizes = Vec::new(rt.alloc());
-    for grid in image.image_channels() {
-        sizes.push((grid.width(), grid.height()))?;
-        for y in 0..grid.height() {
-            assert!(rt; grid.get_row(y).iter().all(|sample| *sample == 1));
-        }
-    }
+    assert_eq!(rt; samples(rt.alloc(), &image)?.as_slice(), [1; 26].as_slice());
+    let sizes = sizes(rt.alloc(), &image)?;
     assert_eq!(rt; sizes.as_slice(), [(5, 3), (3, 2), (5, 1)].as_slice());
     assert_eq!(rt; bits.position(), 79);
     Ok(())

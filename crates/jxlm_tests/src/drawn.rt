@@ -318,6 +318,22 @@ fn numbers(
     Ok((numbers, sum % 256))
 }
 
+// Writes numbers of this width, or runs, if tokens come in runs.
+fn put_numbers(
+    seed: &mut Seed,
+    writer: &mut Writer,
+    rle: bool,
+    width: u32,
+    numbers: &[u32],
+) -> Result<(), AllocError> {
+    for number in numbers {
+        if !rle || !put_flag(seed, writer)? {
+            writer.put(*number, width)?;
+        }
+    }
+    Ok(())
+}
+
 /// The bits of a header that uses the global tree, and of the samples, as many tokens as there are cells; some end
 /// early.
 pub fn draw_bits(
@@ -334,11 +350,7 @@ pub fn draw_bits(
     let mut writer = Writer::new(alloc);
     writer.put(3, 4)?;
     writer.put(sum, if tokens.sealed { 8 } else { 0 })?;
-    for number in &numbers {
-        if !tokens.rle || !put_flag(seed, &mut writer)? {
-            writer.put(*number, width)?;
-        }
-    }
+    put_numbers(seed, &mut writer, tokens.rle, width, &numbers)?;
     let mut bytes = writer.bytes()?;
     if seed.once_in(3) {
         let length = u32::try_from(bytes.len()).unwrap_or(0);

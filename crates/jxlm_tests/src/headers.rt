@@ -1,23 +1,29 @@
 // Images as they are read, before their first sample: sizes and zeros, and the errors of headers.
 
+use crate::table::fields;
 use jxl_modular::bits::Bitstream;
+use jxl_modular::decoder::Decoder;
 use jxl_modular::error::Error;
 use jxl_modular::image::ModularImageDestination;
 use jxl_modular::plain::PlainDecoder;
 use jxl_modular::{ChannelShift, Modular, ModularChannelParams, ModularParams, Sample};
-use jxlm_base_tests::text::{bytes, pair};
+use jxlm_base_tests::text::bytes;
 use std::alloc::Global;
 use std::process::Abort;
 use std::test::Fail;
 
+fn params<'a, D: Decoder>(channels: Vec<ModularChannelParams>) -> ModularParams<'a, D> {
+    ModularParams::with_channels(256, 8, channels, None)
+}
+
 // What an image of these channels is read as, and the reader's position then.
-fn read<S: Sample>(
+fn read<S: Sample, D: Decoder>(
     alloc: Global,
     bytes: &[u8],
     channels: Vec<ModularChannelParams>,
-) -> Result<(Result<Modular<S, PlainDecoder>, Error>, u64), Fail> {
+) -> Result<(Result<Modular<S, D>, Error>, u64), Fail> {
     let mut bits = Bitstream::new(bytes);
-    let params = ModularParams::with_channels(256, 8, channels, None);
+    let params = params::<D>(channels);
     if !params.is_valid() {
         return Err("channels that are not valid".into());
     }
@@ -29,9 +35,9 @@ fn read<S: Sample>(
 const ONE_LEAF: [u8; 10] = [0x42, 0x00, 0x04, 0x00, 0x04, 0x0E, 0x05, 0xC0, 0x20, 0x06];
 
 // Of each channel of an image its sides and its samples.
-fn contents<S: Sample>(
+fn contents<S: Sample, D: Decoder>(
     alloc: Global,
-    image: Option<&ModularImageDestination<S, PlainDecoder>>,
+    image: Option<&ModularImageDestination<S, D>>,
 ) -> Result<String, Fail> {
     let mut text = String::new(alloc);
     let Some(image) = image else {
@@ -48,20 +54,49 @@ fn contents<S: Sample>(
     Ok(text)
 }
 
+// How many channels of an image can be written.
+fn lent<S: Sample, D: Decoder>(modular: &mut Modular<S, D>) -> usize {
+    match modular.image_mut() {
+        Some(image) => image.image_channels().len(),
+        None => 0,
+    }
+}
+
+// What an image has that is taken out.
+fn taken<S: Sample, D: Decoder>(alloc: Global, modular: Modular<S, D>) -> Result<String, Fail> {
+    let image = modular.into_image();
+    contents(alloc, image.as_ref())
+}
+
+fn check_zeros<S: Sample, D: Decoder>(
+    rt: &impl Abort,
+    alloc: Global,
+    channels: Vec<ModularChannelParams>,
+) -> Result<(), Fail> {
+    let (modular, position) = read::<S, D>(alloc, &ONE_LEAF, channels)?;
+    let mut modular = modular?;
+    assert_eq!(rt; position, 68);
+    assert_eq!(rt; lent(&mut modular), 1);
+    let seen = taken(alloc, modular)?;
+    assert_eq!(rt; seen.as_str(), "2x2 0 0 0 0 ");
+    Ok(())
+}
+
 #[test]
 fn an_image_begins_with_zeros(rt: HostRuntime) -> Result<(), Fail> {
     let channels = vec![in rt.alloc(); ModularChannelParams::new(2, 2)]?;
-    let (modular, position) = read::<i32>(rt.alloc(), &ONE_LEAF, channels)?;
-    let mut modular = modular?;
+    check_zeros::<i32, PlainDecoder>(&rt, rt.alloc(), channels)
+}
+
+fn check_sizes<S: Sample, D: Decoder>(
+    rt: &impl Abort,
+    alloc: Global,
+    channels: Vec<ModularChannelParams>,
+) -> Result<(), Fail> {
+    let (modular, position) = read::<S, D>(alloc, &ONE_LEAF, channels)?;
     assert_eq!(rt; position, 68);
-    let lent = match modular.image_mut() {
-        Some(image) => image.image_channels().len(),
-        None => 0,
-    };
-    assert_eq!(rt; lent, 1);
-    let image = modular.into_image();
-    let seen = contents(rt.alloc(), image.as_ref())?;
-    assert_eq!(rt; seen.as_str(), "2x2 0 0 0 0 ");
+    let seen = contents(alloc, modular?.image())?;
+    assert_eq!(rt; seen.as_str(), "3x4 0 0 0 0 0 0 0 0 0 0 0 0 3x1 0 0 0 0x5 ");
     Ok(())
 }
 
@@ -73,22 +108,27 @@ fn each_channel_has_its_size(rt: HostRuntime) -> Result<(), Fail> {
         ModularChannelParams::with_shift(9, 4, ChannelShift::Shifts(2)),
         ModularChannelParams::new(0, 5),
     ]?;
-    let (modular, position) = read::<i16>(rt.alloc(), &ONE_LEAF, channels)?;
-    assert_eq!(rt; position, 68);
-    let seen = contents(rt.alloc(), modular?.image())?;
-    assert_eq!(rt; seen.as_str(), "3x4 0 0 0 0 0 0 0 0 0 0 0 0 3x1 0 0 0 0x5 ");
+    check_sizes::<i16, PlainDecoder>(&rt, rt.alloc(), channels)
+}
+
+fn check_none<S: Sample, D: Decoder>(
+    rt: &impl Abort,
+    alloc: Global,
+    bytes: &[u8],
+) -> Result<(), Fail> {
+    let (modular, position) = read::<S, D>(alloc, bytes, Vec::new(alloc))?;
+    let mut modular = modular?;
+    assert_eq!(rt; position, 0);
+    assert!(rt; modular.image().is_none());
+    assert!(rt; modular.image_mut().is_none());
+    assert!(rt; modular.into_image().is_none());
     Ok(())
 }
 
 #[test]
 fn no_channels_have_no_image(rt: HostRuntime) -> Result<(), Fail> {
     for bytes in [[].as_slice(), ONE_LEAF.as_slice()] {
-        let (modular, position) = read::<i32>(rt.alloc(), bytes, Vec::new(rt.alloc()))?;
-        let mut modular = modular?;
-        assert_eq!(rt; position, 0);
-        assert!(rt; modular.image().is_none());
-        assert!(rt; modular.image_mut().is_none());
-        assert!(rt; modular.into_image().is_none());
+        check_none::<i32, PlainDecoder>(&rt, rt.alloc(), bytes)?;
     }
     assert!(rt; Modular::<i16, PlainDecoder>::empty().image().is_none());
     Ok(())
@@ -107,30 +147,37 @@ fn repeated(alloc: Global, text: &str) -> Result<Vec<u8>, Fail> {
     Ok(all)
 }
 
-// The error, or that there is none, and where it is asked for the reader's position.
-fn outcome(alloc: Global, count: usize, bytes: &[u8], placed: bool) -> Result<String, Fail> {
-    let channels = vec![in alloc; ModularChannelParams::new(1, 1); count]?;
-    let (modular, position) = read::<i32>(alloc, bytes, channels)?;
-    let mut text = match modular {
-        Ok(_) => format!(in alloc; "read")?,
-        Err(error) => format!(in alloc; "{error}")?,
+fn told(alloc: Global, error: Option<Error>) -> Result<String, Fail> {
+    let Some(error) = error else {
+        return Ok(format!(in alloc; "read")?);
     };
+    Ok(format!(in alloc; "{error}")?)
+}
+
+// The error, or that there is none, and where it is asked for the reader's position.
+fn outcome<S: Sample, D: Decoder>(
+    alloc: Global,
+    count: usize,
+    bytes: &[u8],
+    placed: bool,
+) -> Result<String, Fail> {
+    let channels = vec![in alloc; ModularChannelParams::new(1, 1); count]?;
+    let (modular, position) = read::<S, D>(alloc, bytes, channels)?;
+    let text = told(alloc, modular.err())?;
     if placed {
-        write!(text, " @{position}")?;
+        return Ok(format!(in alloc; "{text} @{position}")?);
     }
     Ok(text)
 }
 
-fn check(rt: &impl Abort, alloc: Global, line: &str) -> Result<(), Fail> {
-    let (count, rest) = pair(line, '|')?;
-    let (digits, expected) = pair(rest, '|')?;
+fn read_row(alloc: Global, count: &str, digits: &str, placed: bool) -> Result<String, Fail> {
     let bytes = repeated(alloc, digits)?;
-    let seen = outcome(
-        alloc,
-        count.parse::<usize>()?,
-        &bytes,
-        expected.contains('@'),
-    )?;
+    outcome::<i32, PlainDecoder>(alloc, count.parse::<usize>()?, &bytes, placed)
+}
+
+fn check(rt: &impl Abort, alloc: Global, line: &str) -> Result<(), Fail> {
+    let (count, digits, expected) = fields(line)?;
+    let seen = read_row(alloc, count, digits, expected.contains('@'))?;
     assert_eq!(rt; seen.as_str(), expected, "{line}");
     Ok(())
 }

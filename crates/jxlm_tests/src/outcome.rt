@@ -5,7 +5,7 @@ use jxl_modular::bits::Bitstream;
 use jxl_modular::decoder::Decoder;
 use jxl_modular::error::Error;
 use jxl_modular::flat::Steps;
-use jxl_modular::image::ModularImageDestination;
+use jxl_modular::image::{ModularImageDestination, TransformedModularSubimage};
 use jxl_modular::{MaConfig, Modular, ModularChannelParams, ModularParams, Sample, decode_picture};
 use std::alloc::Global;
 use std::process::Abort;
@@ -21,8 +21,27 @@ pub struct Outcome {
     pub whole: bool,
 }
 
-// All samples of an image, channel by channel and row by row.
-fn samples<S: Sample, D: Decoder>(
+/// Compares this error, the position and whether the part is whole with what is expected.
+pub fn check_end(
+    rt: &impl Abort,
+    seen: &Outcome,
+    expected: &Outcome,
+    error: Option<Error>,
+    picture: &str,
+) {
+    assert_eq!(rt; seen.error, error, "{picture}");
+    assert_eq!(rt; seen.position, expected.position, "{picture}");
+    assert_eq!(rt; seen.whole, expected.whole, "{picture}");
+}
+
+/// Compares the samples with those that are expected.
+pub fn check_samples(rt: &impl Abort, seen: &Outcome, expected: &Outcome, picture: &str) {
+    let samples = expected.samples.as_slice();
+    assert_eq!(rt; seen.samples.as_slice(), samples, "{picture}");
+}
+
+/// All samples of an image, channel by channel and row by row.
+pub fn samples<S: Sample, D: Decoder>(
     alloc: Global,
     image: &ModularImageDestination<S, D>,
 ) -> Result<Vec<i32>, Fail> {
@@ -48,6 +67,42 @@ fn params<'a, D: Decoder>(
     Ok(ModularParams::with_channels(256, depth, channels, None))
 }
 
+// What a part of all channels is before it is decoded.
+fn check_begun<S: Sample, D: Decoder>(
+    rt: &impl Abort,
+    part: &TransformedModularSubimage<'_, S, D>,
+) {
+    assert!(rt; part.holds_all());
+    assert_eq!(rt;
+        part.is_partial(),
+        !part.is_empty(),
+        "a part with samples is partial at first"
+    );
+}
+
+// Decodes a part: the error, if there was one.
+fn decode<S: Sample, D: Decoder>(
+    alloc: Global,
+    bits: &mut Bitstream<'_>,
+    part: &mut TransformedModularSubimage<'_, S, D>,
+    allow_partial: bool,
+) -> Option<Error> {
+    part.decode(alloc, bits, 0, allow_partial).err()
+}
+
+// Finishes a part: whether it was returned as whole.
+fn finish<S: Sample, D: Decoder>(
+    rt: &impl Abort,
+    alloc: Global,
+    part: TransformedModularSubimage<'_, S, D>,
+) -> Result<bool, Fail> {
+    assert!(rt; part.holds_all());
+    let is_partial = part.is_partial();
+    let whole = part.finish(alloc)?;
+    assert_eq!(rt; whole, !is_partial);
+    Ok(whole)
+}
+
 // Decodes all of an image and finishes it: the error, if there was one, and whether the part was returned as whole.
 fn finished<S: Sample, D: Decoder>(
     rt: &impl Abort,
@@ -57,17 +112,51 @@ fn finished<S: Sample, D: Decoder>(
     allow_partial: bool,
 ) -> Result<(Option<Error>, bool), Fail> {
     let mut part = image.prepare_subimage(alloc)?;
-    assert!(rt; part.holds_all());
-    assert_eq!(rt;
-        part.is_partial(),
-        !part.is_empty(),
-        "a part with samples is partial at first"
-    );
-    let answer = part.decode(alloc, bits, 0, allow_partial);
-    let is_partial = part.is_partial();
-    let whole = part.finish(alloc)?;
-    assert_eq!(rt; whole, !is_partial);
-    Ok((answer.err(), whole))
+    check_begun(rt, &part);
+    let error = decode(alloc, bits, &mut part, allow_partial);
+    Ok((error, finish(rt, alloc, part)?))
+}
+
+// No samples: for want of channels, or by an error.
+fn nothing(alloc: Global, error: Option<Error>, position: u64) -> Outcome {
+    Outcome {
+        error,
+        samples: Vec::new(alloc),
+        position,
+        whole: error.is_none(),
+    }
+}
+
+// Decodes and finishes an image whose header was read.
+fn read_image<S: Sample, D: Decoder>(
+    rt: &impl Abort,
+    alloc: Global,
+    bits: &mut Bitstream<'_>,
+    image: &mut ModularImageDestination<S, D>,
+    allow_partial: bool,
+) -> Result<Outcome, Fail> {
+    let (error, whole) = finished(rt, alloc, bits, image, allow_partial)?;
+    let samples = samples(alloc, image)?;
+    Ok(Outcome {
+        error,
+        samples,
+        position: bits.position(),
+        whole,
+    })
+}
+
+// The same, if there is an image.
+fn read_on<S: Sample, D: Decoder>(
+    rt: &impl Abort,
+    alloc: Global,
+    bits: &mut Bitstream<'_>,
+    modular: &mut Modular<S, D>,
+    allow_partial: bool,
+) -> Result<Outcome, Fail> {
+    match modular.image_mut() {
+        Some(image) => read_image(rt, alloc, bits, image, allow_partial),
+        None => Ok(nothing(alloc, None, bits.position())),
+    }
 }
 
 // Reads, decodes and finishes a picture, each by its own call.
@@ -80,29 +169,10 @@ fn read_by_calls<S: Sample, D: Decoder>(
 ) -> Result<Outcome, Fail> {
     assert!(rt; params.is_valid());
     let mut bits = Bitstream::new(bytes);
-    let mut outcome = Outcome {
-        error: None,
-        samples: Vec::new(alloc),
-        position: 0,
-        whole: true,
-    };
     match Modular::<S, D>::parse(alloc, &mut bits, params) {
-        Ok(mut modular) => {
-            if let Some(image) = modular.image_mut() {
-                (outcome.error, outcome.whole) = finished(
-                    rt,
-                    alloc,
-                    &mut bits,
-                    image,
-                    allow_partial,
-                )?;
-                outcome.samples = samples(alloc, image)?;
-            }
-        }
-        Err(error) => (outcome.error, outcome.whole) = (Some(error), false),
+        Ok(mut modular) => read_on(rt, alloc, &mut bits, &mut modular, allow_partial),
+        Err(error) => Ok(nothing(alloc, Some(error), bits.position())),
     }
-    outcome.position = bits.position();
-    Ok(outcome)
 }
 
 /// Reads, decodes and finishes a picture of this bit depth and these channels, each by its own call; samples that end
@@ -145,6 +215,19 @@ pub fn decoded<S: Sample, D: Decoder>(
     decode_picture(alloc, bits, params, 0, &mut Steps::new())
 }
 
+// What one call answered without an error, and the reader's position then.
+fn answered<S: Sample, D: Decoder>(
+    alloc: Global,
+    image: Option<&ModularImageDestination<S, D>>,
+    position: u64,
+) -> Result<Outcome, Fail> {
+    let mut outcome = nothing(alloc, None, position);
+    if let Some(image) = image {
+        outcome.samples = samples(alloc, image)?;
+    }
+    Ok(outcome)
+}
+
 /// Reads a picture of this bit depth and these channels by one call.
 pub fn at_once<S: Sample, D: Decoder>(
     rt: &impl Abort,
@@ -155,18 +238,8 @@ pub fn at_once<S: Sample, D: Decoder>(
 ) -> Result<Outcome, Fail> {
     let params = params::<D>(alloc, depth, channels)?;
     let mut bits = Bitstream::new(bytes);
-    let answer = decoded::<S, D>(rt, alloc, &mut bits, params);
-    let position = bits.position();
-    let whole = answer.is_ok();
-    let (error, samples) = match answer {
-        Ok(Some(image)) => (None, samples(alloc, &image)?),
-        Ok(None) => (None, Vec::new(alloc)),
-        Err(error) => (Some(error), Vec::new(alloc)),
-    };
-    Ok(Outcome {
-        error,
-        samples,
-        position,
-        whole,
-    })
+    match decoded::<S, D>(rt, alloc, &mut bits, params) {
+        Ok(image) => answered(alloc, image.as_ref(), bits.position()),
+        Err(error) => Ok(nothing(alloc, Some(error), bits.position())),
+    }
 }

@@ -7,7 +7,7 @@
 // channel and of the part, sums that are right or wrong, and bits that end early.
 
 use crate::drawn::{Kind, Manner, draw_bits, draw_channels, draw_manner, draw_tokens, draw_trees};
-use crate::outcome::{Outcome, with_tree};
+use crate::outcome::{Outcome, check_end, check_samples, with_tree};
 use crate::tree_bits::read;
 use jxl_modular::plain::PlainDecoder;
 use jxl_modular::{MaConfig, ModularChannelParams, Sample};
@@ -49,17 +49,25 @@ fn kind_at(
     Ok(kind_of(flat.path_of(config.decoder())))
 }
 
-// Checks that each channel of a picture takes the path that is meant under the one tree, and none under the other.
-fn check_kinds(rt: &impl Abort, alloc: Global, picture: &Picture) -> Result<(), Fail> {
+// Checks that a channel of a picture takes the path that is meant under the one tree, and none under the other.
+fn check_kind(rt: &impl Abort, alloc: Global, picture: &Picture, channel: u32) -> Result<(), Fail> {
     let manner = picture.manner;
-    for (channel, _) in (0..3u32).zip(&picture.sides) {
-        let meant = if channel == 0 {
-            manner.first
-        } else {
-            manner.others
-        };
-        assert_eq!(rt; kind_at(alloc, &picture.direct, channel)?, Some(meant));
-        assert_eq!(rt; kind_at(alloc, &picture.walked, channel)?, None);
+    let meant = if channel == 0 {
+        manner.first
+    } else {
+        manner.others
+    };
+    assert_eq!(rt; kind_at(alloc, &picture.direct, channel)?, Some(meant));
+    assert_eq!(rt; kind_at(alloc, &picture.walked, channel)?, None);
+    Ok(())
+}
+
+// Checks the path of each channel of a picture.
+fn check_kinds(rt: &impl Abort, alloc: Global, picture: &Picture) -> Result<(), Fail> {
+    for channel in 0..3u32 {
+        if (channel as usize) < picture.sides.len() {
+            check_kind(rt, alloc, picture, channel)?;
+        }
     }
     Ok(())
 }
@@ -112,10 +120,8 @@ fn compared<S: Sample>(
 ) -> Result<Outcome, Fail> {
     let direct = decoded::<S>(rt, alloc, picture, &picture.direct, partial)?;
     let walked = decoded::<S>(rt, alloc, picture, &picture.walked, partial)?;
-    assert_eq!(rt; direct.samples.as_slice(), walked.samples.as_slice());
-    assert_eq!(rt; direct.error, walked.error);
-    assert_eq!(rt; direct.position, walked.position);
-    assert_eq!(rt; direct.whole, walked.whole);
+    check_end(rt, &direct, &walked, walked.error, "a drawn picture");
+    check_samples(rt, &direct, &walked, "a drawn picture");
     Ok(direct)
 }
 

@@ -9,7 +9,7 @@
 // is that of the other tables, a space, `whole` or `partial`, and a line feed.
 
 use crate::outcome::by_calls;
-use crate::table::{channels, told};
+use crate::table::{channels, fields, number, told};
 use jxl_modular::plain::PlainDecoder;
 use jxlm_base_tests::text::{bytes, pair};
 use std::alloc::Global;
@@ -340,16 +340,28 @@ fn read(
     Ok(format!(in alloc; "{seen} {whole}\n")?)
 }
 
-fn check_prefixes(rt: &impl Abort, alloc: Global, line: &str) -> Result<(), Fail> {
-    let (setting, rest) = pair(line, '|')?;
-    let (digits, expected) = pair(rest, '|')?;
-    let (sizes, depth) = pair(setting, '/')?;
-    let (bytes, depth) = (bytes(alloc, digits)?, depth.parse()?);
+// The checksum of the texts of all prefixes.
+fn checksum(
+    rt: &impl Abort,
+    alloc: Global,
+    bytes: &[u8],
+    sizes: &str,
+    depth: u32,
+) -> Result<u32, Fail> {
     let mut sum: u32 = 0;
     for n in 0..=bytes.len() {
-        sum = fold(sum, read(rt, alloc, &bytes[..n], sizes, depth)?.as_str());
+        let text = read(rt, alloc, &bytes[..n], sizes, depth)?;
+        sum = fold(sum, text.as_str());
     }
-    assert_eq!(rt; sum, expected.parse()?, "{line}");
+    Ok(sum)
+}
+
+fn check_prefixes(rt: &impl Abort, alloc: Global, line: &str) -> Result<(), Fail> {
+    let (setting, digits, expected) = fields(line)?;
+    let (sizes, depth) = pair(setting, '/')?;
+    let bytes = bytes(alloc, digits)?;
+    let sum = checksum(rt, alloc, &bytes, sizes, number(depth)?)?;
+    assert_eq!(rt; sum, number(expected)?, "{line}");
     Ok(())
 }
 

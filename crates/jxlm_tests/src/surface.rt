@@ -1,7 +1,7 @@
 // The public surface of the library, named through `jxl_modular` alone: each type, function, variant and field of it.
 // One that is missing, or has another type, does not compile. What is computed on the way are worked examples.
 
-ghost use Rattle.std.specs.Prelude.{◌≡◌, Contains, None, true};
+ghost use Rattle.std.specs.Prelude.{◌≡◌, Contains, IfOk, None, true};
 ghost use Rattle.jxl_modular.specs.FlatTree.{ClustersStandIn};
 ghost use Rattle.jxl_modular.specs.Holding.{IsCurrent};
 ghost use Rattle.jxl_modular.specs.Params.{IsValidParams};
@@ -25,6 +25,7 @@ use jxl_modular::squeeze::{inverse_h, inverse_v};
 use jxl_modular::transform::{Palette, Rct, Squeeze, SqueezeParams, TransformInfo};
 use jxl_modular::{Modular, ModularChannelInfo, decode_picture, error};
 use std::alloc::Global;
+use std::process::Abort;
 use std::result::Result;
 use std::test::Fail;
 
@@ -61,18 +62,23 @@ fn are_the_same<'a, S: jxl_modular::Sample>(types: OfModules<'a, S>) -> OfRoot<'
 // No transforms, a tree of one leaf up to bit 68, and samples after it.
 const PICTURE: [u8; 10] = [0x42, 0x00, 0x04, 0x00, 0x04, 0x0E, 0x05, 0xC0, 0x20, 0x06];
 
+fn field(bits: &mut Bitstream<'_>) -> Result<u32, BitstreamError> {
+    bits.read_u32(
+        U32Spec::Const(0),
+        U32Spec::Const(1),
+        U32Spec::Offset(2, 4),
+        U32Spec::Offset(18, 8),
+    )
+}
+
+// Two numbers with a flag between, and how many bits they have.
 fn bits(bytes: &[u8]) -> Result<(u32, bool, u32, u64), BitstreamError> {
     let mut bits: Bitstream<'_> = Bitstream::new(bytes);
     let copy = bits;
     let number: u32 = bits.read_bits(4)?;
     let flag: bool = bits.read_bool()?;
-    let field: u32 = bits.read_u32(
-        U32Spec::Const(0),
-        U32Spec::Const(1),
-        U32Spec::Offset(2, 4),
-        U32Spec::Offset(18, 8),
-    )?;
-    let moved: u64 = bits.position() - copy.position().min(bits.position());
+    let field: u32 = field(&mut bits)?;
+    let moved: u64 = bits.position().wrapping_sub(copy.position());
     Ok((number, flag, field, moved))
 }
 
@@ -148,29 +154,59 @@ fn widths<S: Sample>(grid: AlignedGrid<S>) -> (bool, bool) {
     }
 }
 
-// A row of averages and residuals, squeezed back by each of the four calls in turn.
-fn rectangles<S: Sample>(alloc: Global) -> jxl_modular::Result<(usize, usize, i32)> {
-    let mut grid: AlignedGrid<S> = AlignedGrid::new(alloc, 4, 1)?;
-    *grid.get_mut(0, 0) = S::from_i32(10);
-    let row: &mut [S] = grid.get_row_mut(0);
-    row[1] = S::from_i32(20);
-    let copy: AlignedGrid<S> = grid.try_clone(alloc)?;
-    let mut rectangle: MutableSubgrid<'_, S> = MutableSubgrid::new(&mut grid, 0, 0, 4, 1);
-    inverse_h::<S>(alloc, &mut rectangle)?;
-    inverse_v::<S>(alloc, &mut rectangle)?;
+// A rectangle, squeezed back by each of the four calls in turn.
+fn squeezed_back<S: Sample>(
+    alloc: Global,
+    rectangle: &mut MutableSubgrid<'_, S>,
+) -> error::Result<()> {
+    inverse_h::<S>(alloc, rectangle)?;
+    inverse_v::<S>(alloc, rectangle)?;
     let kernels: [Result<(), OutOfMemory>; 2] = [
-        S::squeeze_rows(alloc, &mut rectangle),
-        S::squeeze_columns(alloc, &mut rectangle),
+        S::squeeze_rows(alloc, rectangle),
+        S::squeeze_columns(alloc, rectangle),
     ];
     let [across, down] = kernels;
     across?;
     down?;
+    Ok(())
+}
+
+// The sides of a rectangle, whose first sample is read if there is one.
+fn sides<S: Sample>(rectangle: &MutableSubgrid<'_, S>) -> (usize, usize) {
     let (width, height): (usize, usize) = (rectangle.width(), rectangle.height());
     if width > 0 && height > 0 {
         let _: S = rectangle.get(0, 0);
     }
+    (width, height)
+}
+
+// A row of averages, 10 and 20, and of their residuals.
+fn averages<S: Sample>(alloc: Global) -> Result<AlignedGrid<S>, OutOfMemory> {
+    let mut grid: AlignedGrid<S> = AlignedGrid::new(alloc, 4, 1)?;
+    *grid.get_mut(0, 0) = S::from_i32(10);
+    let row: &mut [S] = grid.get_row_mut(0);
+    row[1] = S::from_i32(20);
+    Ok(grid)
+}
+
+// The sum of the first two samples of a copy.
+fn sum<S: Sample>(alloc: Global, grid: &AlignedGrid<S>) -> Result<i32, OutOfMemory> {
+    let copy: AlignedGrid<S> = grid.try_clone(alloc)?;
+    if copy.width() < 2 || copy.height() == 0 {
+        return Ok(0);
+    }
     let cells: &[S] = copy.get_row(0);
-    Ok((width, height, cells[1].add(copy.get(0, 0)).to_i32()))
+    Ok(cells[1].add(copy.get(0, 0)).to_i32())
+}
+
+// The sides of the row, squeezed back, and the sum of the averages.
+fn rectangles<S: Sample>(alloc: Global) -> jxl_modular::Result<((usize, usize), i32)> {
+    let mut grid = averages::<S>(alloc)?;
+    let sum = sum(alloc, &grid)?;
+    let (width, height): (usize, usize) = (grid.width(), grid.height());
+    let mut rectangle: MutableSubgrid<'_, S> = MutableSubgrid::new(&mut grid, 0, 0, width, height);
+    squeezed_back(alloc, &mut rectangle)?;
+    Ok((sides(&rectangle), sum))
 }
 
 // Colour of type 6 on rows of one sample.
@@ -193,26 +229,38 @@ fn recoloured<S: Sample>(
     inverse_rct::<S, 0>(alloc, permutation, store, regions)
 }
 
-// A token of a context and one of its cluster, the only token of the cluster, and whether tokens come in runs.
-fn tokens<D: Decoder>(
-    alloc: Global,
-    bits: &mut Bitstream<'_>,
-) -> Result<(u32, u32, Option<u32>, bool), DecoderError> {
+// A decoder at the beginning of its tokens.
+fn begun<D: Decoder>(alloc: Global, bits: &mut Bitstream<'_>) -> Result<D, DecoderError> {
     let first: D = D::parse(alloc, bits, 6)?;
     let mut decoder: D = first.try_clone(alloc)?;
     let () = decoder.begin(bits)?;
-    let Some(cluster) = decoder.cluster_map().first().copied() else {
-        return Ok((0, 0, None, false));
-    };
+    Ok(decoder)
+}
+
+// The only token of the first context's cluster, and whether tokens come in runs.
+fn kind_of_tokens<D: Decoder>(decoder: &D) -> Option<(Option<u32>, bool)> {
+    let cluster = decoder.cluster_map().first().copied()?;
     let single: Option<u32> = decoder.single_token(cluster);
     let runs: bool = decoder.as_rle();
+    Some((single, runs))
+}
+
+// The last token of a context.
+fn last_token<D: Decoder>(decoder: &mut D, bits: &mut Bitstream<'_>) -> Result<u32, DecoderError> {
+    if decoder.cluster_map().is_empty() {
+        return Ok(0);
+    }
     let token: u32 = decoder.read_varint(bits, 0)?;
     let () = decoder.finalize()?;
+    Ok(token)
+}
+
+// A token of the first context's cluster.
+fn token<D: Decoder>(decoder: &mut D, bits: &mut Bitstream<'_>) -> Result<u32, DecoderError> {
     let Some(cluster) = decoder.cluster_map().first().copied() else {
-        return Ok((token, 0, single, runs));
+        return Ok(0);
     };
-    let next: u32 = decoder.read_varint_with_multiplier_clustered(bits, cluster, 2)?;
-    Ok((token, next, single, runs))
+    decoder.read_varint_with_multiplier_clustered(bits, cluster, 2)
 }
 
 // A token, or how many there are of the last one.
@@ -460,48 +508,94 @@ fn lies(region: Region) -> (usize, usize) {
     }
 }
 
+fn global_holds_all<S: Sample, D: Decoder>(
+    alloc: Global,
+    image: &mut ModularImageDestination<S, D>,
+) -> error::Result<bool> {
+    let global: TransformedModularSubimage<'_, S, D> = image.prepare_gmodular(alloc)?;
+    Ok(global.holds_all())
+}
+
+// Whether a part is empty, whether it is partial, and whether it holds all.
+fn states<S: Sample, D: Decoder>(part: &TransformedModularSubimage<'_, S, D>) -> [bool; 3] {
+    [part.is_empty(), part.is_partial(), part.holds_all()]
+}
+
+fn decode<S: Sample, D: Decoder>(
+    alloc: Global,
+    bits: &mut Bitstream<'_>,
+    part: &mut TransformedModularSubimage<'_, S, D>,
+) -> error::Result<()> {
+    let () = part.decode(alloc, bits, 0, false)?;
+    let _: &Steps = part.steps();
+    Ok(())
+}
+
+// Finishes a part that holds all: whether it is whole.
+fn finish<S: Sample, D: Decoder>(
+    alloc: Global,
+    part: TransformedModularSubimage<'_, S, D>,
+) -> error::Result<bool> {
+    if !part.holds_all() {
+        return Ok(false);
+    }
+    let whole: error::Result<bool> = part.finish(alloc);
+    whole
+}
+
 // Decodes and finishes an image by its calls: whether it is whole.
 fn finished<S: Sample, D: Decoder>(
     alloc: Global,
     bits: &mut Bitstream<'_>,
     image: &mut ModularImageDestination<S, D>,
 ) -> error::Result<bool> {
-    let global: TransformedModularSubimage<'_, S, D> = image.prepare_gmodular(alloc)?;
-    let all: bool = global.holds_all();
+    let all = global_holds_all(alloc, image)?;
     let mut part: TransformedModularSubimage<'_, S, D> = image.prepare_subimage(alloc)?;
-    let states: [bool; 3] = [part.is_empty(), part.is_partial(), part.holds_all()];
-    let () = part.decode(alloc, bits, 0, false)?;
-    let _: &Steps = part.steps();
-    let whole: bool = part.finish(alloc)?;
-    Ok(whole && all && states[2])
+    let [_, _, holds_all] = states(&part);
+    decode(alloc, bits, &mut part)?;
+    Ok(finish(alloc, part)? && all && holds_all)
 }
 
-fn image<S: Sample>(
+// How many channels an image has that is taken out; none are in an empty one.
+fn count<S: Sample, D: Decoder>(modular: Modular<S, D>) -> usize {
+    let image: Option<ModularImageDestination<S, D>> = modular.into_image();
+    let Some(image) = image else {
+        return usize::from(Modular::<S, D>::empty().image().is_some());
+    };
+    let grids: &[AlignedGrid<S>] = image.image_channels();
+    grids.len()
+}
+
+// Decodes and finishes an image that was read: whether it is whole and there, and how many channels it has.
+fn read_on<S: Sample, D: Decoder>(
     alloc: Global,
-    params: ModularParams<'_, PlainDecoder>,
+    bits: &mut Bitstream<'_>,
+    mut modular: Modular<S, D>,
+) -> error::Result<(bool, usize)> {
+    let whole = match modular.image_mut() {
+        Some(image) => finished(alloc, bits, image)?,
+        None => false,
+    };
+    let there: bool = modular.image().is_some();
+    Ok((whole && there, count(modular)))
+}
+
+fn image<S: Sample, D: Decoder>(
+    alloc: Global,
+    params: ModularParams<'_, D>,
 ) -> error::Result<(bool, usize)>
     requires valid { IsValidParams params }
     requires alone { params.ma_config ≡ None }
 {
     let mut bits = Bitstream::new(&PICTURE);
-    let mut modular: Modular<S, PlainDecoder> = Modular::parse(alloc, &mut bits, params)?;
-    let whole = match modular.image_mut() {
-        Some(image) => finished(alloc, &mut bits, image)?,
-        None => false,
-    };
-    let there: bool = modular.image().is_some();
-    let image: Option<ModularImageDestination<S, PlainDecoder>> = modular.into_image();
-    let Some(image) = image else {
-        return Ok((Modular::<S, PlainDecoder>::empty().image().is_some(), 0));
-    };
-    let grids: &[AlignedGrid<S>] = image.image_channels();
-    Ok((whole && there, grids.len()))
+    let modular: Modular<S, D> = Modular::parse(alloc, &mut bits, params)?;
+    read_on(alloc, &mut bits, modular)
 }
 
-fn picture<S: Sample>(
+fn picture<S: Sample, D: Decoder>(
     alloc: Global,
-    params: ModularParams<'_, PlainDecoder>,
-) -> error::Result<Option<ModularImageDestination<S, PlainDecoder>>>
+    params: ModularParams<'_, D>,
+) -> error::Result<Option<ModularImageDestination<S, D>>>
     requires valid { IsValidParams params }
     requires alone { params.ma_config ≡ None }
 {
@@ -515,63 +609,81 @@ fn given(info: &ModularChannelInfo) -> (ChannelShift, (u32, u32)) {
     (shift, info.original_size())
 }
 
-#[test]
-fn single_calls(rt: HostRuntime) -> Result<(), Fail> {
-    let alloc = rt.alloc();
-    assert_eq!(rt; bits(&PICTURE)?, (2, false, 2, 11));
+fn check_causes(rt: &impl Abort, alloc: Global) -> Result<(), Fail> {
     let [first, second, third] = causes();
     assert_eq!(rt; format!(in alloc; "{third}")?.as_str(), "out of memory");
     assert_eq!(rt; any_error(first), (0, true));
     assert_eq!(rt; any_error(second), (0, true));
     assert_eq!(rt; any_error(third), (7, false));
-    assert_eq!(rt; samples::<i32>(), (-2, 21, 1, -2));
-    assert_eq!(rt; samples::<i16>(), (-2, 21, 1, -2));
-    assert_eq!(rt;
-        widths(AlignedGrid::<i32>::new(alloc, 1, 1)?),
-        (true, false)
-    );
-    assert_eq!(rt;
-        widths(AlignedGrid::<i16>::new(alloc, 1, 1)?),
-        (false, true)
-    );
-    assert_eq!(rt; rectangles::<i32>(alloc)?, (4, 1, 30));
-    assert_eq!(rt; rectangles::<i16>(alloc)?, (4, 1, 30));
+    Ok(())
+}
+
+// Checks the calls of samples and of grids at one of the two widths.
+fn check_width<S: Sample>(rt: &impl Abort, alloc: Global, wide: bool) -> Result<(), Fail> {
+    assert_eq!(rt; samples::<S>(), (-2, 21, 1, -2));
+    let grid: AlignedGrid<S> = AlignedGrid::new(alloc, 1, 1)?;
+    assert_eq!(rt; widths(grid), (wide, !wide));
+    assert_eq!(rt; rectangles::<S>(alloc)?, ((4, 1), 30));
+    Ok(())
+}
+
+#[test]
+fn single_calls(rt: HostRuntime) -> Result<(), Fail> {
+    let alloc = rt.alloc();
+    assert_eq!(rt; bits(&PICTURE), Ok((2, false, 2, 11)));
+    check_causes(&rt, alloc)?;
+    check_width::<i32>(&rt, alloc, true)?;
+    check_width::<i16>(&rt, alloc, false)?;
     assert_eq!(rt; colour(), [102, 103, 92]);
     assert_eq!(rt; channels(), [(6, 8), (6, 4), (3, 1)]);
+    Ok(())
+}
+
+fn check_predictors(rt: &impl Abort) -> Result<(), Fail> {
+    for number in 0..14 {
+        assert_eq!(rt; number_of(Predictor::try_from(number)?), number);
+    }
+    let unknown: Result<Predictor, BitstreamError> = Predictor::try_from(14);
+    assert!(rt; unknown.is_err());
+    Ok(())
+}
+
+fn check_tree<D: Decoder>(rt: &impl Abort, alloc: Global) -> Result<(), Fail> {
+    let mut bits = Bitstream::new(&PICTURE);
+    assert_eq!(rt; bits.read_bits(4), Ok(2));
+    assert_eq!(rt; tree::<D>(alloc, &mut bits)?, [1, 1, 0]);
     Ok(())
 }
 
 #[test]
 fn reading(rt: HostRuntime) -> Result<(), Fail> {
     let alloc = rt.alloc();
-    let mut bits = Bitstream::new(&[0x01]);
     let usual = [16, 10, 7, 7, 7, 0, 0, 13, 12, 12, 12];
-    assert_eq!(rt; weights(&mut bits)?, (true, usual));
+    assert_eq!(rt; weights(&mut Bitstream::new(&[0x01]))?, (true, usual));
     let wp_header = WpHeader::parse(&mut Bitstream::new(&[0x01]))?;
     let colour = transform(alloc, &mut Bitstream::new(&[0x00, 0x00]), &wp_header)?;
     assert_eq!(rt; colour, (0, false, false));
     assert_eq!(rt; params(alloc, None)?, (256, 8, 0, true, false));
-    for number in 0..14 {
-        assert_eq!(rt; number_of(Predictor::try_from(number)?), number);
-    }
-    let unknown: Result<Predictor, BitstreamError> = Predictor::try_from(14);
-    assert!(rt; unknown.is_err());
-    let mut bits = Bitstream::new(&PICTURE);
-    assert_eq!(rt; bits.read_bits(4)?, 2);
-    assert_eq!(rt; tree::<PlainDecoder>(alloc, &mut bits)?, [1, 1, 0]);
-    Ok(())
+    check_predictors(&rt)?;
+    check_tree::<PlainDecoder>(&rt, alloc)
+}
+
+// What a picture of 2 by 2 is read by.
+fn small<'a>(alloc: Global) -> Result<ModularParams<'a, PlainDecoder>, Fail>
+    ensures { IfOk result (λ p. p.ma_config ≡ None) }
+{
+    let channels = vec![in alloc; ModularChannelParams::new(2, 2)]?;
+    Ok(ModularParams::with_channels(256, 8, channels, None))
 }
 
 #[test]
 fn images(rt: HostRuntime) -> Result<(), Fail> {
     let alloc = rt.alloc();
-    let channels = vec![in alloc; ModularChannelParams::new(2, 2)]?;
-    let params = ModularParams::with_channels(256, 8, channels, None);
+    let params = small(alloc)?;
     assert!(rt; params.is_valid());
-    assert_eq!(rt; image::<i16>(alloc, params)?, (true, 1));
-    let channels = vec![in alloc; ModularChannelParams::new(2, 2)]?;
-    let params = ModularParams::with_channels(256, 8, channels, None);
+    assert_eq!(rt; image::<i16, PlainDecoder>(alloc, params)?, (true, 1));
+    let params = small(alloc)?;
     assert!(rt; params.is_valid());
-    assert!(rt; picture::<i32>(alloc, params)?.is_some());
+    assert!(rt; picture::<i32, PlainDecoder>(alloc, params)?.is_some());
     Ok(())
 }

@@ -1,22 +1,38 @@
 // Tables of pictures, a picture a line: the sizes of its channels, its bytes, and what is expected of it, with a bar
 // between; after the sizes may come a slash and the bit depth, which is else 8. Expected are the samples, channel by
 // channel and row by row, or after a # their checksum, with the reader's position; or an error; or both.
-use crate::outcome::{Outcome, at_once, by_calls};
+use crate::outcome::{Outcome, at_once, by_calls, check_end, check_samples};
 use jxl_modular::decoder::Decoder;
 use jxl_modular::error::Error;
 use jxl_modular::{ModularChannelParams, Sample};
-use jxlm_base_tests::text::bytes;
+use jxlm_base_tests::text::{bytes, pair};
 use std::alloc::Global;
 use std::process::Abort;
 use std::test::Fail;
 
-/// Channels as large as the picture, from sizes as `3x2`, with one space between.
+/// The three fields of a line with bars between.
+pub fn fields<'a>(line: &'a str) -> Result<(&'a str, &'a str, &'a str), Fail> {
+    let (first, rest) = pair(line, '|')?;
+    let (second, third) = pair(rest, '|')?;
+    Ok((first, second, third))
+}
+
+/// A number of a line.
+pub fn number(text: &str) -> Result<u32, Fail> {
+    Ok(text.parse::<u32>()?)
+}
+
+// A channel as large as the picture, from its size as `3x2`.
+fn channel(size: &str) -> Result<ModularChannelParams, Fail> {
+    let (width, height) = pair(size, 'x')?;
+    Ok(ModularChannelParams::new(number(width)?, number(height)?))
+}
+
+/// Channels as large as the picture, from sizes with one space between.
 pub fn channels(alloc: Global, sizes: &str) -> Result<Vec<ModularChannelParams>, Fail> {
     let mut channels = Vec::new(alloc);
     for size in sizes.split(' ') {
-        let (width, height) = size.split_once('x').ok_or("a size without x")?;
-        let channel = ModularChannelParams::new(width.parse::<u32>()?, height.parse::<u32>()?);
-        channels.push(channel)?;
+        channels.push(channel(size)?)?;
     }
     Ok(channels)
 }
@@ -47,29 +63,49 @@ fn numbers(alloc: Global, samples: &[i32], summed: bool) -> Result<String, Fail>
 /// error of what comes before them.
 pub fn told(alloc: Global, outcome: &Outcome, summed: bool) -> Result<String, Fail> {
     let samples = numbers(alloc, &outcome.samples, summed)?;
-    let position = outcome.position;
-    Ok(match outcome.error {
-        None => format!(in alloc; "{samples}@{position}")?,
-        Some(error) if samples.is_empty() => format!(in alloc; "{error}")?,
-        Some(error) => format!(in alloc; "{samples}@{position} {error}")?,
-    })
+    let place = outcome.position;
+    let Some(error) = outcome.error else {
+        return Ok(format!(in alloc; "{samples}@{place}")?);
+    };
+    if samples.is_empty() {
+        return Ok(format!(in alloc; "{error}")?);
+    }
+    Ok(format!(in alloc; "{samples}@{place} {error}")?)
 }
 
 // What is read where samples may end early is the same, but that this end is no error.
-fn check_allowed(
-    rt: &impl Abort,
-    picture: &str,
-    outcome: &Outcome,
-    allowed: &Outcome,
-) -> Result<(), Fail> {
-    let samples = outcome.samples.as_slice();
-    let ends = outcome.error.is_some_and(|e| e.unexpected_eof()) && !samples.is_empty();
-    let error = if ends { None } else { outcome.error };
-    assert_eq!(rt; allowed.error, error, "{picture}");
-    assert_eq!(rt; allowed.samples.as_slice(), samples, "{picture}");
-    assert_eq!(rt; allowed.position, outcome.position, "{picture}");
-    assert_eq!(rt; allowed.whole, outcome.whole, "{picture}");
-    Ok(())
+fn check_allowed(rt: &impl Abort, picture: &str, outcome: &Outcome, allowed: &Outcome) {
+    let error = match outcome.error {
+        Some(error) if error.unexpected_eof() && !outcome.samples.is_empty() => None,
+        error => error,
+    };
+    check_end(rt, allowed, outcome, error, picture);
+    check_samples(rt, allowed, outcome, picture);
+}
+
+// What is read by one call is the same, but that there are no samples with an error.
+fn check_again(rt: &impl Abort, picture: &str, outcome: &Outcome, again: &Outcome) {
+    check_end(rt, again, outcome, outcome.error, picture);
+    if again.whole {
+        check_samples(rt, again, outcome, picture);
+    }
+}
+
+// What a line gives to read.
+#[derive(Drop)]
+struct Given {
+    bytes: Vec<u8>,
+    depth: u32,
+    channels: Vec<ModularChannelParams>,
+}
+
+fn read_given(alloc: Global, setting: &str, digits: &str) -> Result<Given, Fail> {
+    let (sizes, depth) = setting.split_once('/').unwrap_or((setting, "8"));
+    Ok(Given {
+        bytes: bytes(alloc, digits)?,
+        depth: number(depth)?,
+        channels: channels(alloc, sizes)?,
+    })
 }
 
 // Reads a picture call by call, with an early end refused and allowed, and once more by one call, and compares what is
@@ -79,28 +115,20 @@ fn check_picture<S: Sample, D: Decoder>(
     alloc: Global,
     picture: &str,
 ) -> Result<(), Fail> {
-    let (sizes, rest) = picture.split_once('|').ok_or("no sizes")?;
-    let (digits, expected) = rest.split_once('|').ok_or("no bytes")?;
-    let (sizes, depth) = sizes.split_once('/').unwrap_or((sizes, "8"));
-    let depth = depth.parse::<u32>()?;
-    let channels = channels(alloc, sizes)?;
-    let bytes = bytes(alloc, digits)?;
+    let (setting, digits, expected) = fields(picture)?;
+    let Given {
+        bytes,
+        depth,
+        channels,
+    } = read_given(alloc, setting, digits)?;
     let outcome = by_calls::<S, D>(rt, alloc, &bytes, depth, &channels, false)?;
     let seen = told(alloc, &outcome, expected.starts_with('#'))?;
     assert_eq!(rt; seen.as_str(), expected, "{picture}");
     assert_eq!(rt; outcome.whole, outcome.error.is_none(), "{picture}");
     let allowed = by_calls::<S, D>(rt, alloc, &bytes, depth, &channels, true)?;
-    check_allowed(rt, picture, &outcome, &allowed)?;
+    check_allowed(rt, picture, &outcome, &allowed);
     let again = at_once::<S, D>(rt, alloc, &bytes, depth, &channels)?;
-    assert_eq!(rt; again.error, outcome.error, "{picture}");
-    assert_eq!(rt; again.position, outcome.position, "{picture}");
-    if again.whole {
-        assert_eq!(rt;
-            again.samples.as_slice(),
-            outcome.samples.as_slice(),
-            "{picture}"
-        );
-    }
+    check_again(rt, picture, &outcome, &again);
     Ok(())
 }
 

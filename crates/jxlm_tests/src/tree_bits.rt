@@ -62,17 +62,48 @@ const DECODER: [(u32, u32); 10] = [
 // At most how many nodes a drawn tree has.
 const MOST_NODES: usize = 1000;
 
+// Writes numbers, each of a width.
+fn put_all(writer: &mut Writer, numbers: &[(u32, u32)]) -> Result<(), AllocError> {
+    for (value, n) in numbers {
+        writer.put(*value, *n)?;
+    }
+    Ok(())
+}
+
 fn put_leaf(writer: &mut Writer, leaf: LeafFields) -> Result<(), AllocError> {
-    writer.put(0, 8)?;
-    writer.put(leaf.predictor, 8)?;
+    put_all(writer, &[(0, 8), (leaf.predictor, 8)])?;
     writer.signed(leaf.offset)?;
-    writer.put(leaf.mul_log, 8)?;
-    writer.put(leaf.mul_bits, 8)
+    put_all(writer, &[(leaf.mul_log, 8), (leaf.mul_bits, 8)])
 }
 
 fn put_decision(writer: &mut Writer, property: u32, value: i32) -> Result<(), AllocError> {
     writer.put(property.wrapping_add(1), 8)?;
     writer.signed(value)
+}
+
+// Writes a node; adds the cluster of a leaf, or the children of a decision.
+fn put_node(
+    writer: &mut Writer,
+    node: Node,
+    clusters: &mut Vec<u32>,
+    places: &mut Vec<usize>,
+) -> Result<(), AllocError> {
+    match node {
+        Node::Leaf(leaf) => {
+            put_leaf(writer, leaf)?;
+            clusters.push(leaf.cluster)?;
+        }
+        Node::Decision {
+            property,
+            value,
+            left,
+            right,
+        } => {
+            put_decision(writer, property, value)?;
+            places.extend_from_slice(&[left, right])?;
+        }
+    }
+    Ok(())
 }
 
 // Writes the tree below a node level by level; returns the clusters of its leaves in their order.
@@ -88,21 +119,8 @@ fn put_nodes(
         let Some(place) = places.get(i).copied() else {
             break;
         };
-        match *nodes.get(place).ok_or("a node is missing")? {
-            Node::Leaf(leaf) => {
-                put_leaf(writer, leaf)?;
-                clusters.push(leaf.cluster)?;
-            }
-            Node::Decision {
-                property,
-                value,
-                left,
-                right,
-            } => {
-                put_decision(writer, property, value)?;
-                places.extend_from_slice(&[left, right])?;
-            }
-        }
+        let node = *nodes.get(place).ok_or("a node is missing")?;
+        put_node(writer, node, &mut clusters, &mut places)?;
     }
     Ok(clusters)
 }
@@ -110,18 +128,14 @@ fn put_nodes(
 fn put_cluster(writer: &mut Writer, cluster: Cluster) -> Result<(), AllocError> {
     match cluster {
         Cluster::Fixed(width) => writer.put(width.wrapping_mul(2), 7),
-        Cluster::Constant(token) => {
-            writer.put(32 * 2 + 1, 7)?;
-            writer.put(token, 32)
-        }
+        Cluster::Constant(token) => put_all(writer, &[(32 * 2 + 1, 7), (token, 32)]),
     }
 }
 
 // Writes the decoder of the samples, for leaves of these clusters.
 fn put_tokens(writer: &mut Writer, tokens: Tokens, leaves: &[u32]) -> Result<(), AllocError> {
-    writer.put(u32::from(tokens.rle), 1)?;
-    writer.put(u32::from(tokens.sealed), 1)?;
-    writer.put(3, 4)?;
+    let (rle, sealed) = (u32::from(tokens.rle), u32::from(tokens.sealed));
+    put_all(writer, &[(rle, 1), (sealed, 1), (3, 4)])?;
     for cluster in leaves {
         writer.put(*cluster, 4)?;
     }
@@ -131,6 +145,15 @@ fn put_tokens(writer: &mut Writer, tokens: Tokens, leaves: &[u32]) -> Result<(),
     Ok(())
 }
 
+// The bits of the tree below a node, with the decoder of its leaves.
+fn written(alloc: Global, nodes: &[Node], root: usize, tokens: Tokens) -> Result<Vec<u8>, Fail> {
+    let mut writer = Writer::new(alloc);
+    put_all(&mut writer, &DECODER)?;
+    let leaves = put_nodes(alloc, &mut writer, nodes, root)?;
+    put_tokens(&mut writer, tokens, &leaves)?;
+    Ok(writer.bytes()?)
+}
+
 /// The tree below a node, with the decoder of its leaves.
 pub fn read(
     alloc: Global,
@@ -138,13 +161,7 @@ pub fn read(
     root: usize,
     tokens: Tokens,
 ) -> Result<MaConfig<PlainDecoder>, Fail> {
-    let mut writer = Writer::new(alloc);
-    for (value, n) in DECODER {
-        writer.put(value, n)?;
-    }
-    let leaves = put_nodes(alloc, &mut writer, nodes, root)?;
-    put_tokens(&mut writer, tokens, &leaves)?;
-    let bytes = writer.bytes()?;
+    let bytes = written(alloc, nodes, root, tokens)?;
     let limits = MaConfigParams {
         node_limit: MOST_NODES,
         depth_limit: 2048,
