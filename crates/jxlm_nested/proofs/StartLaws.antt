@@ -1,14 +1,13 @@
 -- What reading a header and its tree returns, from what its steps return.
-use Rattle.std.proofs.Common.{◌≡◌, ℕ, List, Ok, Err, inl, inr, refl}
+use Rattle.std.proofs.Common.{◌≡◌, ℕ, List, Ok, Err, inr, refl}
 use Rattle.std.specs.Prelude.{◌⊎◌, Option, None, Some, is_some}
 use Rattle.std.specs.Borrow.{Bor}
 use Rattle.std.specs.Option.{option_copied}
 use Rattle.jxlm_base.specs.Decoding.{Meaning}
-use Rattle.jxlm_base.specs.ErrorKind.{UnlessMemory, UnlessNoMemory, kind_of}
+use Rattle.jxlm_base.specs.ErrorKind.{UnlessMemory, kind_of}
 use Rattle.jxlm_base.specs.Grammar.{IsErrorAt}
 use Rattle.jxlm_base.specs.declared.error.Error.{Error}
 use Rattle.jxlm_transform.specs.Channels.{ChannelList}
-use Rattle.jxlm_transform.proofs.Failures.{unless_memory}
 use Rattle.jxlm_ma.proofs.Memory.{unless_so}
 use Rattle.jxlm_ma.specs.Tree.{Config}
 use Rattle.jxlm_chain.specs.declared.placed.PlacedChannels.{PlacedChannels}
@@ -23,11 +22,6 @@ lent_some (Some x) = refl
 
 -- header and tree for channels of any list
 module _ {D : Type 0} (d : Meaning D) (global : Option (Config D)) (bytes : List ℕ) (given : ChannelList) (p : ℕ) where
-  -- where the header gives an error, there is no start
-  pub no_header : (e : Error) (q : ℕ) → UnlessNoMemory (kind_of e) (IsErrorAt (opened global bytes given p) (kind_of e) q) →
-      UnlessMemory (kind_of e) (IsErrorAt (opened global bytes given p) (kind_of e) q ⊎ IsTreeErrorAt d global bytes given p (kind_of e) q)
-  no_header e q fails = unless_so (kind_of e) (λ h. inl h) (unless_memory (kind_of e) (IsErrorAt (opened global bytes given p) (kind_of e) q) fails)
-
   module _ (o : ModularHeader × PlacedChannels) (m : ℕ) (opens : opened global bytes given p ≡ Ok (record { value = opened_of o; position = m })) where
     -- where the header's tree stands, there is one
     pub starts : (config : Config D) (q : ℕ) → TreeOfGives d global bytes o.0.use_global_tree o.1.channels.info.items m (Ok config) q → IsStartAt d global bytes given p (opened_of o) config q
