@@ -1,7 +1,7 @@
-use Rattle.std.proofs.Common.{◌≡◌, ◌∙◌, ℕ, List, Some, Err, ap, sym}
+use Rattle.std.proofs.Common.{◌∙◌, ℕ, List, Some, Err, ap, sym}
 use Rattle.std.proofs.lemmas.List.Elements.{Contains-get_or}
 use Rattle.jxlm_base.specs.Bits.{position_of}
-use Rattle.jxlm_base.specs.ErrorKind.{ErrorAt, OfDecoder}
+use Rattle.jxlm_base.specs.ErrorKind.{OfDecoder}
 use Rattle.jxlm_base.specs.declared.error.Error.TheVariants.{Decoder}
 use Rattle.jxlm_ma.specs.TreeReading.{read_context, through}
 use Rattle.jxlm_ma.proofs.StepErrors.{no_value, step_fails}
