@@ -18,8 +18,8 @@ lead-more nodes entries clusters more n l first count pushed at_l agrees lead =
     let last : slice_index more n ≡ l.cluster = ap (λ xs. slice_index xs n) pushed ∙ ap (slice_index (clusters ++ l.cluster ∷ [])) (sym count) ∙ get_or-append_seam clusters l.cluster [] 0 in
     below_more (λ j. slice_get nodes (slice_index entries j) ≡ Some (node.Leaf (in_cluster (slice_index more j) first))) n
     (λ j below.
-        let kept : slice_index more j ≡ slice_index clusters j = ap (λ xs. slice_index xs j) pushed ∙ get_or_append_left clusters (l.cluster ∷ []) 0 j (omega (arith, below, count)) in
-        lead j below ∙ ap (λ k. Some (node.Leaf (in_cluster k first))) (sym kept))
+    let kept : slice_index more j ≡ slice_index clusters j = ap (λ xs. slice_index xs j) pushed ∙ get_or_append_left clusters (l.cluster ∷ []) 0 j (omega (arith, below, count)) in
+    lead j below ∙ ap (λ k. Some (node.Leaf (in_cluster k first))) (sym kept))
     (at_l ∙ ap (λ (m : Leaf). Some (node.Leaf m)) agrees ∙ ap (λ k. Some (node.Leaf (in_cluster k first))) (sym last))
 
 pub loop-place-preserved : goal.loop-place-preserved
