@@ -46,6 +46,11 @@ pub first-node : (nodes : List FlatNode) (entries : List ℕ) (i : ℕ) (m : Fla
 first-node nodes entries i m leads at_i at_m =
     ap (slice_get nodes) (get_or_default entries 0 0 i leads.some ∙ sym at_i) ∙ slice_get_read nodes (length nodes) i m refl (first-within nodes entries i leads at_i) at_m
 
+-- the node at an entry
+pub entry-node : (nodes : List FlatNode) (entries : List ℕ) (n : ℕ) (m : FlatNode) → n < length entries → ((j : ℕ) → j < length entries → slice_index entries j < length nodes) → m ≡ get_or nodes (get_or entries n 0) m →
+    slice_get nodes (slice_index entries n) ≡ Some m
+entry-node nodes entries n m some within at_m = slice_get_read nodes (length nodes) (slice_index entries n) m refl (within n some) at_m
+
 -- the clusters of the entries of a table, or that there are none
 pub of_none : (nodes : List FlatNode) (entries : List ℕ) (l : Leaf) (o : Option (OwnVec ℕ)) → o ≡ None → AreClusters nodes entries l o → (cluster : ℕ → ℕ) → LeadTo nodes entries (length entries) l cluster → ⊥
 of_none nodes entries l o is are = subst (AreClusters nodes entries l) is are

@@ -26,3 +26,4 @@ pub mod FlatForced
 pub mod MostSteps
 pub mod PathSteps
 pub mod FewSteps
+pub mod StepErrors
