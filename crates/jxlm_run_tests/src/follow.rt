@@ -2,7 +2,7 @@
 // residuals of the second squeeze, of 2x2 each, are the global part, and the residuals of the first one are in four
 // groups of one pass, of 1x2 each.
 
-use crate::image::read;
+use crate::image::{params, read};
 use crate::viewer::shown;
 use jxl_modular::bits::Bitstream;
 use jxl_modular::decoder::Decoder;
@@ -10,7 +10,7 @@ use jxl_modular::error::Error;
 use jxl_modular::groups::{Part, TransformedGlobalModular};
 use jxl_modular::image::ModularImageDestination;
 use jxl_modular::plain::PlainDecoder;
-use jxl_modular::{MaConfig, ModularChannelParams, ModularParams, Sample};
+use jxl_modular::{MaConfig, ModularChannelParams, Sample};
 use std::alloc::Global;
 use std::collections::BTreeMap;
 use std::process::Abort;
@@ -38,7 +38,7 @@ fn picture<S: Sample, D: Decoder>(
     global: Option<&MaConfig<D>>,
 ) -> Result<ModularImageDestination<S, D>, Fail> {
     let channels = vec![in alloc; ModularChannelParams::new(4, 4)]?;
-    let params = ModularParams::with_channels(2, 8, channels, global);
+    let params = params(2, channels, global);
     read(alloc, &mut Bitstream::new(&HEADER), params)
 }
 

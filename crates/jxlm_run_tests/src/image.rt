@@ -4,10 +4,19 @@ use jxl_modular::bits::Bitstream;
 use jxl_modular::decoder::Decoder;
 use jxl_modular::grid::AlignedGrid;
 use jxl_modular::image::ModularImageDestination;
-use jxl_modular::{Modular, ModularParams, Sample};
+use jxl_modular::{MaConfig, Modular, ModularChannelParams, ModularParams, Sample};
 use std::alloc::Global;
 use std::process::Abort;
 use std::test::Fail;
+
+/// Parameters of 8 bits.
+pub fn params<'a, D: Decoder>(
+    group_dim: u32,
+    channels: Vec<ModularChannelParams>,
+    global: Option<&'a MaConfig<D>>,
+) -> ModularParams<'a, D> {
+    ModularParams::with_channels(group_dim, 8, channels, global)
+}
 
 /// The image at the reader's position, by parameters that have to be valid.
 pub fn read<S: Sample, D: Decoder>(

@@ -8,14 +8,14 @@ mod narrow;
 mod nested;
 mod wide;
 
-use crate::image::{check_rows, read};
+use crate::image::{check_rows, params, read};
 use crate::run::check_partial;
 use jxl_modular::bits::Bitstream;
 use jxl_modular::decoder::Decoder;
 use jxl_modular::error::Error;
 use jxl_modular::image::ModularImageDestination;
 use jxl_modular::plain::PlainDecoder;
-use jxl_modular::{MaConfig, ModularChannelParams, ModularParams, Sample};
+use jxl_modular::{MaConfig, ModularChannelParams, Sample};
 use narrow::NARROW;
 use std::alloc::Global;
 use std::process::Abort;
@@ -75,7 +75,7 @@ fn check_nine<S: Sample, D: Decoder>(
 ) -> Result<(), Fail> {
     let bytes = [0x42, 0x00, 0x04, 0x00, 0x04, 0x0E, 0x05, 0xC0, 0x20];
     let channels = vec![in alloc; ModularChannelParams::new(2, 2)]?;
-    let params = ModularParams::with_channels(256, 8, channels, global);
+    let params = params(256, channels, global);
     let mut bits = Bitstream::new(&bytes);
     let mut image = read::<S, D>(alloc, &mut bits, params)?;
     let seen = finish_partial(alloc, &mut image, &mut bits, 0, true)?;

@@ -1,14 +1,14 @@
 // Parts by headers of their own, by a call for each step.
 
 use crate::case::channels;
-use crate::image::{check_rows, read};
+use crate::image::{check_rows, params, read};
 use crate::parts::decode_by_header;
 use jxl_modular::bits::Bitstream;
 use jxl_modular::decoder::Decoder;
 use jxl_modular::error::Error;
-use jxl_modular::image::ModularImageDestination;
+use jxl_modular::image::{ModularImageDestination, RecursiveModularImage};
 use jxl_modular::plain::PlainDecoder;
-use jxl_modular::{MaConfig, ModularParams, Sample};
+use jxl_modular::{MaConfig, Sample};
 use jxlm_base_tests::text::bytes;
 use std::alloc::Global;
 use std::process::Abort;
@@ -29,12 +29,25 @@ fn picture<S: Sample, D: Decoder>(
 ) -> Result<ModularImageDestination<S, D>, Fail> {
     let channels = channels(alloc, channels_text)?;
     let header = bytes(alloc, PLAIN)?;
-    let params = ModularParams::with_channels(group_dim, 8, channels, global);
+    let params = params(group_dim, channels, global);
     read(alloc, &mut Bitstream::new(&header), params)
 }
 
-// The global part is read by a header, and within that by another one, whose samples are decoded: whether they are
-// whole then.
+// Within a part that is read by a header, another header is read, and its samples are decoded: whether they are whole
+// then.
+fn decode_inner<S: Sample, D: Decoder>(
+    alloc: Global,
+    around: RecursiveModularImage<'_, S, D>,
+    header: &[u8],
+    global: Option<&MaConfig<D>>,
+) -> Result<bool, Error> {
+    let mut bits = Bitstream::new(header);
+    let part = around.prepare_subimage(alloc)?;
+    let within = part.recursive(alloc, &mut bits, global)?;
+    decode_by_header(alloc, within, &mut bits, 1, false)
+}
+
+// The same where the part is the global one.
 fn decode_within<S: Sample, D: Decoder>(
     alloc: Global,
     image: &mut ModularImageDestination<S, D>,
@@ -42,12 +55,10 @@ fn decode_within<S: Sample, D: Decoder>(
     inner: &[u8],
     global: Option<&MaConfig<D>>,
 ) -> Result<bool, Error> {
+    let mut bits = Bitstream::new(outer);
     let part = image.prepare_gmodular(alloc)?;
-    let around = part.recursive(alloc, &mut Bitstream::new(outer), global)?;
-    let part = around.prepare_subimage(alloc)?;
-    let mut bits = Bitstream::new(inner);
-    let within = part.recursive(alloc, &mut bits, global)?;
-    decode_by_header(alloc, within, &mut bits, 1, false)
+    let around = part.recursive(alloc, &mut bits, global)?;
+    decode_inner(alloc, around, inner, global)
 }
 
 fn check_within<S: Sample, D: Decoder>(
