@@ -35,15 +35,6 @@ fn read<S: Sample, D: Decoder>(alloc: Global, params: ModularParams<'_, D>) -> R
     Modular::parse(alloc, &mut Bitstream::new(&PICTURE), params)
 }
 
-// Whether a clone of an image has a palette, and a squeeze.
-fn of_clone<S: Sample, D: Decoder>(
-    alloc: Global,
-    image: &ModularImageDestination<S, D>,
-) -> Result<[bool; 2]> {
-    let copy: ModularImageDestination<S, D> = image.try_clone(alloc)?;
-    Ok([copy.has_palette(), copy.has_squeeze()])
-}
-
 // Whether an image and its clone have a palette, and a squeeze.
 fn questions<S: Sample, D: Decoder>(
     alloc: Global,
@@ -51,10 +42,11 @@ fn questions<S: Sample, D: Decoder>(
 ) -> Result<([bool; 2], [bool; 2])> {
     let copy: Modular<S, D> = modular.try_clone(alloc)?;
     let of_modular: [bool; 2] = [copy.has_palette(), copy.has_squeeze()];
-    match copy.into_image() {
-        Some(image) => Ok((of_modular, of_clone(alloc, &image)?)),
-        None => Ok((of_modular, [false, false])),
-    }
+    let Some(image) = copy.into_image() else {
+        return Ok((of_modular, [false, false]));
+    };
+    let copy: ModularImageDestination<S, D> = image.try_clone(alloc)?;
+    Ok((of_modular, [copy.has_palette(), copy.has_squeeze()]))
 }
 
 // How many channels are taken out, without what is known of them and with it, and how the last was given.
@@ -123,17 +115,7 @@ fn parts<S: Sample, D: Decoder>(
     Ok((global, counts, is_empty, is_partial))
 }
 
-// What is asked of what a header of a part's own codes.
-fn asked_by_header<S: Sample, D: Decoder>(
-    alloc: Global,
-    header: RecursiveModularImage<'_, S, D>,
-) -> Result<[bool; 3]> {
-    let nested: NestedSubimage<'_, S, D> = header.prepare_subimage(alloc)?;
-    let _: &Steps = nested.steps();
-    Ok([nested.is_empty(), nested.is_partial(), nested.holds_all()])
-}
-
-// The same of the global part.
+// What is asked of the global part, read by a header of its own.
 fn global_by_header<S: Sample, D: Decoder>(
     alloc: Global,
     image: &mut ModularImageDestination<S, D>,
@@ -142,7 +124,9 @@ fn global_by_header<S: Sample, D: Decoder>(
 ) -> Result<[bool; 3]> {
     let part: TransformedModularSubimage<'_, S, D> = image.prepare_gmodular(alloc)?;
     let header: RecursiveModularImage<'_, S, D> = part.recursive(alloc, bits, global)?;
-    asked_by_header(alloc, header)
+    let nested: NestedSubimage<'_, S, D> = header.prepare_subimage(alloc)?;
+    let _: &Steps = nested.steps();
+    Ok([nested.is_empty(), nested.is_partial(), nested.holds_all()])
 }
 
 // Whether a group, read by a header of its own, has no samples.
@@ -159,8 +143,8 @@ fn group_by_header<S: Sample, D: Decoder>(
     let mut groups: TransformedGlobalModular<'_, S, D> = image.prepare_groups(alloc, passes)?;
     let part = Part::Pass(0, 0);
     let header: RecursiveModularImage<'_, S, D> = groups.recursive(alloc, part, bits, global)?;
-    let [is_empty, _, _] = asked_by_header(alloc, header)?;
-    Ok(is_empty)
+    let nested: NestedSubimage<'_, S, D> = header.prepare_subimage(alloc)?;
+    Ok(nested.is_empty())
 }
 
 // Whether sections fit, and what decoding them returns.
@@ -189,24 +173,15 @@ fn number(part: SectionPart) -> (u32, u64) {
 }
 
 // The parameters of a picture of 2x2 samples.
-fn params<'a, D: Decoder>(
-    alloc: Global,
-    global: Option<&'a MaConfig<D>>,
-) -> std::result::Result<ModularParams<'a, D>, Fail>
+fn params<'a, D: Decoder>(alloc: Global) -> std::result::Result<ModularParams<'a, D>, Fail>
     ensures { IfOk result (λ p. p.ma_config ≡ None) }
 {
-    if global.is_some() {
-        return Err(Fail::from("a global tree"));
-    }
     let channels = vec![in alloc; ModularChannelParams::new(2, 2)]?;
-    Ok(ModularParams::with_channels(256, 8, channels, global))
+    Ok(ModularParams::with_channels(256, 8, channels, None))
 }
 
-fn picture<S: Sample, D: Decoder>(
-    alloc: Global,
-    global: Option<&MaConfig<D>>,
-) -> std::result::Result<Modular<S, D>, Fail> {
-    let params = params(alloc, global)?;
+fn picture<S: Sample, D: Decoder>(alloc: Global) -> std::result::Result<Modular<S, D>, Fail> {
+    let params = params(alloc)?;
     if !params.is_valid() {
         return Err(Fail::from("parameters that are not valid"));
     }
@@ -216,9 +191,8 @@ fn picture<S: Sample, D: Decoder>(
 fn check_values<S: Sample, D: Decoder>(
     rt: &impl Abort,
     alloc: Global,
-    global: Option<&MaConfig<D>>,
 ) -> std::result::Result<(), Fail> {
-    let modular = picture::<S, D>(alloc, global)?;
+    let modular = picture::<S, D>(alloc)?;
     assert_eq!(rt; questions(alloc, &modular)?, ([false; 2], [false; 2]));
     let empty = Modular::<S, D>::empty();
     assert_eq!(rt; questions(alloc, &empty)?, ([false; 2], [false; 2]));
@@ -230,7 +204,7 @@ fn check_values<S: Sample, D: Decoder>(
 
 #[test]
 fn values(rt: HostRuntime) -> std::result::Result<(), Fail> {
-    check_values::<i16, PlainDecoder>(&rt, rt.alloc(), None)?;
+    check_values::<i16, PlainDecoder>(&rt, rt.alloc())?;
     let region = Region {
         buffer: 3,
         x: 0,
@@ -285,9 +259,7 @@ fn check_sections<S: Sample, D: Decoder>(
 ) -> std::result::Result<(), Fail> {
     let mut passes = BTreeMap::new(alloc);
     passes.insert(0, (0, 3))?;
-    let mut image = picture::<S, D>(alloc, global)?
-        .into_image()
-        .ok_or("no image")?;
+    let mut image = picture::<S, D>(alloc)?.into_image().ok_or("no image")?;
     check_parts(rt, alloc, &mut image, &passes, global)?;
     let sections = [section()?];
     assert_eq!(rt;
