@@ -138,6 +138,28 @@ pub fn sections<'a>(
     Ok(sections)
 }
 
+// The tree that stands in these bytes, within limits of its nodes and of its depth.
+fn read_tree<D: Decoder>(
+    alloc: Global,
+    bytes: &[u8],
+    nodes: usize,
+    depth: usize,
+) -> Option<MaConfig<D>> {
+    let limits = MaConfigParams {
+        node_limit: nodes.min(1 << 26),
+        depth_limit: depth.min(2048),
+    };
+    MaConfig::parse(alloc, &mut Bitstream::new(bytes), limits).ok()
+}
+
+// The tree of a text: its limits and its bytes, with a comma between.
+fn tree<D: Decoder>(alloc: Global, text: &str) -> Result<MaConfig<D>, Fail> {
+    let (nodes, rest) = pair(text, ',')?;
+    let (depth, digits) = pair(rest, ',')?;
+    let bytes = bytes(alloc, digits)?;
+    Ok(read_tree(alloc, &bytes, nodes.parse()?, depth.parse()?).ok_or("no tree")?)
+}
+
 /// The global tree after the mark, if there is one.
 pub fn global<D: Decoder>(
     alloc: Global,
@@ -145,16 +167,8 @@ pub fn global<D: Decoder>(
     mark: char,
 ) -> Result<Option<MaConfig<D>>, Fail> {
     for word in text.split_whitespace() {
-        if let Some(tree) = word.strip_prefix(mark) {
-            let (nodes, rest) = pair(tree, ',')?;
-            let (depth, digits) = pair(rest, ',')?;
-            let limits = MaConfigParams {
-                node_limit: nodes.parse::<usize>()?.min(1 << 26),
-                depth_limit: depth.parse::<usize>()?.min(2048),
-            };
-            let bytes = bytes(alloc, digits)?;
-            let tree = MaConfig::parse(alloc, &mut Bitstream::new(&bytes), limits);
-            return Ok(Some(tree.ok().ok_or("no tree")?));
+        if let Some(text) = word.strip_prefix(mark) {
+            return Ok(Some(tree(alloc, text)?));
         }
     }
     Ok(None)

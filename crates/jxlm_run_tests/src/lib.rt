@@ -12,6 +12,8 @@ mod generated;
 #[cfg(test)]
 mod generated_narrow;
 #[cfg(test)]
+mod image;
+#[cfg(test)]
 mod nested;
 #[cfg(test)]
 mod nested_narrow;

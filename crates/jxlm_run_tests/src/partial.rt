@@ -8,11 +8,17 @@ mod narrow;
 mod nested;
 mod wide;
 
+use crate::image::{check_rows, params, read};
 use crate::run::check_partial;
 use jxl_modular::bits::Bitstream;
+use jxl_modular::decoder::Decoder;
+use jxl_modular::error::Error;
+use jxl_modular::image::ModularImageDestination;
 use jxl_modular::plain::PlainDecoder;
-use jxl_modular::{Modular, ModularChannelParams, ModularParams};
+use jxl_modular::{MaConfig, ModularChannelParams, Sample};
 use narrow::NARROW;
+use std::alloc::Global;
+use std::process::Abort;
 use std::test::Fail;
 use wide::WIDE;
 
@@ -44,27 +50,44 @@ fn partial_at_16_bits(rt: HostRuntime) -> Result<(), Fail> {
     check_partial::<i16, PlainDecoder>(&rt, rt.alloc(), nested::NARROW)
 }
 
+// Decodes the samples that the bits reach, and finishes the image as it stands: whether it is partial before, holds all
+// channels, and is whole.
+fn finish_partial<S: Sample, D: Decoder>(
+    alloc: Global,
+    image: &mut ModularImageDestination<S, D>,
+    bits: &mut Bitstream<'_>,
+    stream_index: u32,
+    allow_partial: bool,
+) -> Result<[bool; 3], Error> {
+    let mut part = image.prepare_subimage(alloc)?;
+    part.decode(alloc, bits, stream_index, allow_partial)?;
+    let is_partial = part.is_partial();
+    if !part.holds_all() {
+        return Ok([is_partial, false, false]);
+    }
+    Ok([is_partial, true, part.finish(alloc)?])
+}
+
+fn check_nine<S: Sample, D: Decoder>(
+    rt: &impl Abort,
+    alloc: Global,
+    global: Option<&MaConfig<D>>,
+) -> Result<(), Fail> {
+    let bytes = [0x42, 0x00, 0x04, 0x00, 0x04, 0x0E, 0x05, 0xC0, 0x20];
+    let channels = vec![in alloc; ModularChannelParams::new(2, 2)]?;
+    let params = params(256, channels, global);
+    let mut bits = Bitstream::new(&bytes);
+    let mut image = read::<S, D>(alloc, &mut bits, params)?;
+    let seen = finish_partial(alloc, &mut image, &mut bits, 0, true)?;
+    assert_eq!(rt; seen, [true, true, false]);
+    assert_eq!(rt; bits.position(), 71);
+    let grids = image.into_image_channels();
+    check_rows(rt, alloc, &grids, &[&[1, 0], &[0, 0]])
+}
+
 // Nine bytes of a picture of ten, by calls of its own: the reader is before the token that ends early, and the part is
 // finished as it stands.
 #[test]
 fn nine_bytes(rt: HostRuntime) -> Result<(), Fail> {
-    let alloc = rt.alloc();
-    let bytes = [0x42, 0x00, 0x04, 0x00, 0x04, 0x0E, 0x05, 0xC0, 0x20];
-    let channels = vec![in alloc; ModularChannelParams::new(2, 2)]?;
-    let params = ModularParams::<PlainDecoder>::with_channels(256, 8, channels, None);
-    assert!(rt; params.is_valid());
-    let mut bits = Bitstream::new(&bytes);
-    let read: Modular<i32, PlainDecoder> = Modular::parse(alloc, &mut bits, params)?;
-    let mut image = read.into_image().ok_or("no image")?;
-    let mut part = image.prepare_subimage(alloc)?;
-    part.decode(alloc, &mut bits, 0, true)?;
-    assert_eq!(rt; bits.position(), 71);
-    assert!(rt; part.is_partial());
-    assert!(rt; part.holds_all());
-    assert!(rt; !part.finish(alloc)?);
-    let grids = image.into_image_channels();
-    assert_eq!(rt; grids.len(), 1);
-    assert_eq!(rt; grids[0].get_row(0), [1, 0].as_slice());
-    assert_eq!(rt; grids[0].get_row(1), [0, 0].as_slice());
-    Ok(())
+    check_nine::<i32, PlainDecoder>(&rt, rt.alloc(), None)
 }

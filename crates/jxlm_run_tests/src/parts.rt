@@ -14,17 +14,24 @@ use std::alloc::Global;
 use std::collections::BTreeMap;
 use std::test::Fail;
 
-// How many LF groups there are, after a slash one more than the number of the last pass, and for each pass with groups
-// its number and how many.
+// How many groups each pass has.
 fn group_counts<S: Sample, D: Decoder>(
     alloc: Global,
     groups: &TransformedGlobalModular<'_, S, D>,
-) -> Result<String, Fail> {
-    let mut text = String::new(alloc);
-    write!(text, "{}/{}", groups.num_lf_groups(), groups.num_passes())?;
+) -> Result<Vec<u64>, Fail> {
+    let mut counts = Vec::new(alloc);
     for pass in 0..groups.num_passes() {
-        let count = groups.num_groups(pass);
-        if count > 0 {
+        counts.push(groups.num_groups(pass))?;
+    }
+    Ok(counts)
+}
+
+// How many LF groups there are, after a slash one more than the number of the last pass, and for each pass with groups
+// its number and how many.
+fn counts_text(alloc: Global, lf_groups: u64, groups: &[u64]) -> Result<String, Fail> {
+    let mut text = format!(in alloc; "{lf_groups}/{}", groups.len())?;
+    for (pass, count) in groups.iter().enumerate() {
+        if *count > 0 {
             write!(text, " {pass}:{count}")?;
         }
     }
@@ -41,13 +48,22 @@ pub fn counts<S: Sample, D: Decoder>(
         return Ok(format!(in alloc; "no groups")?);
     }
     match image.prepare_groups(alloc, passes) {
-        Ok(groups) => group_counts(alloc, &groups),
+        Ok(groups) => counts_text(
+            alloc,
+            groups.num_lf_groups(),
+            &group_counts(alloc, &groups)?,
+        ),
         Err(error) => Ok(format!(in alloc; "{error}")?),
     }
 }
 
 fn has_section(sections: &[Section<'_>], part: SectionPart) -> bool {
-    sections.iter().any(|section| section.part == part)
+    for section in sections {
+        if section.part == part {
+            return true;
+        }
+    }
+    false
 }
 
 // Whether each group of a pass, or each LF group, that has samples has a section.
@@ -94,8 +110,8 @@ fn has_each_part<S: Sample, D: Decoder>(
     Ok(has_each_group(&groups, None, sections))
 }
 
-// Decodes what a header of a part's own codes, and undoes its transforms: whether the part is whole then.
-fn decode_by_header<S: Sample, D: Decoder>(
+/// Decodes what a header of a part's own codes, and undoes its transforms: whether the part is whole then.
+pub fn decode_by_header<S: Sample, D: Decoder>(
     alloc: Global,
     header: RecursiveModularImage<'_, S, D>,
     bits: &mut Bitstream<'_>,
@@ -105,8 +121,7 @@ fn decode_by_header<S: Sample, D: Decoder>(
     let mut nested = header.prepare_subimage(alloc)?;
     nested.decode(alloc, bits, stream_index, allow_partial)?;
     let whole = !nested.is_partial();
-    nested.finish(alloc)?;
-    Ok(whole)
+    Ok(nested.finish(alloc)? && whole)
 }
 
 // Decodes the global part by a header of its own: whether it is whole then.

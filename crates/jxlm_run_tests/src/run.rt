@@ -165,14 +165,19 @@ struct Line<'t> {
     expected: &'t str,
 }
 
+// The text before a mark, and the text after it.
+fn cut(text: &str, mark: char) -> Option<(&str, &str)> {
+    text.split_once(mark)
+}
+
 fn fields(line: &str) -> Option<Line<'_>> {
-    let (channels, rest) = line.split_once('|')?;
-    let (setting, rest) = rest.split_once('|')?;
-    let (header, rest) = rest.split_once('|')?;
-    let (sections, expected) = rest.split_once('|')?;
-    let (group_dim, rest) = setting.split_once(' ')?;
-    let (depth, passes) = rest.split_once(' ').unwrap_or((rest, ""));
-    let (header, trees) = header.split_once(' ').unwrap_or((header, ""));
+    let (channels, rest) = cut(line, '|')?;
+    let (setting, rest) = cut(rest, '|')?;
+    let (header, rest) = cut(rest, '|')?;
+    let (sections, expected) = cut(rest, '|')?;
+    let (group_dim, rest) = cut(setting, ' ')?;
+    let (depth, passes) = cut(rest, ' ').unwrap_or((rest, ""));
+    let (header, trees) = cut(header, ' ').unwrap_or((header, ""));
     Some(Line {
         channels,
         group_dim,

@@ -22,6 +22,7 @@ use jxl_modular::{
 };
 use std::alloc::Global;
 use std::collections::BTreeMap;
+use std::process::Abort;
 use std::test::Fail;
 
 // No transforms, a tree of one leaf up to bit 68, and samples after it.
@@ -172,78 +173,109 @@ fn number(part: SectionPart) -> (u32, u64) {
 }
 
 // The parameters of a picture of 2x2 samples.
-fn params<'a>(alloc: Global) -> std::result::Result<ModularParams<'a, PlainDecoder>, Fail>
+fn params<'a, D: Decoder>(alloc: Global) -> std::result::Result<ModularParams<'a, D>, Fail>
     ensures { IfOk result (λ p. p.ma_config ≡ None) }
 {
     let channels = vec![in alloc; ModularChannelParams::new(2, 2)]?;
     Ok(ModularParams::with_channels(256, 8, channels, None))
 }
 
-#[test]
-fn values(rt: HostRuntime) -> std::result::Result<(), Fail> {
-    let alloc = rt.alloc();
+fn picture<S: Sample, D: Decoder>(alloc: Global) -> std::result::Result<Modular<S, D>, Fail> {
     let params = params(alloc)?;
-    assert!(rt; params.is_valid());
-    let modular = read::<i16, PlainDecoder>(alloc, params)?;
+    if !params.is_valid() {
+        return Err(Fail::from("parameters that are not valid"));
+    }
+    Ok(read(alloc, params)?)
+}
+
+fn check_values<S: Sample, D: Decoder>(
+    rt: &impl Abort,
+    alloc: Global,
+) -> std::result::Result<(), Fail> {
+    let modular = picture::<S, D>(alloc)?;
     assert_eq!(rt; questions(alloc, &modular)?, ([false; 2], [false; 2]));
-    let empty = Modular::<i16, PlainDecoder>::empty();
+    let empty = Modular::<S, D>::empty();
     assert_eq!(rt; questions(alloc, &empty)?, ([false; 2], [false; 2]));
     let image = modular.into_image().ok_or("no image")?;
     let last = Some((ChannelShift::Shifts(0), (2, 2)));
     assert_eq!(rt; taken(alloc, image)?, (1, 1, last));
-    assert_eq!(rt;
-        lies(TransformedGrid::from(Region {
-            buffer: 3,
-            x: 0,
-            y: 0,
-            width: 1,
-            height: 1
-        })),
-        3
-    );
     Ok(())
 }
 
 #[test]
-fn parts_and_sections(rt: HostRuntime) -> std::result::Result<(), Fail> {
-    let alloc = rt.alloc();
-    let mut passes = BTreeMap::new(alloc);
-    passes.insert(0, (0, 3))?;
-    let params = params(alloc)?;
-    assert!(rt; params.is_valid());
-    let global = params.ma_config;
-    let mut image = read::<i32, PlainDecoder>(alloc, params)?
-        .into_image()
-        .ok_or("no image")?;
+fn values(rt: HostRuntime) -> std::result::Result<(), Fail> {
+    check_values::<i16, PlainDecoder>(&rt, rt.alloc())?;
+    let region = Region {
+        buffer: 3,
+        x: 0,
+        y: 0,
+        width: 1,
+        height: 1,
+    };
+    assert_eq!(rt; lies(TransformedGrid::from(region)), 3);
+    Ok(())
+}
+
+// What is asked of an image's parts, in each way.
+fn check_parts<S: Sample, D: Decoder>(
+    rt: &impl Abort,
+    alloc: Global,
+    image: &mut ModularImageDestination<S, D>,
+    passes: &BTreeMap<u32, (i32, i32)>,
+    global: Option<&MaConfig<D>>,
+) -> std::result::Result<(), Fail> {
     let mut bits = Bitstream::new(&PICTURE);
-    let mut own = bits;
     assert_eq!(rt;
-        global_by_header(alloc, &mut image, &mut own, global)?,
+        global_by_header(alloc, image, &mut bits, global)?,
         [false, true, true]
     );
-    let mut own = bits;
-    assert!(rt; group_by_header(alloc, &mut image, &passes, &mut own, global)?);
-    let seen = parts(alloc, &mut image, &passes, &mut bits)?;
+    let mut bits = Bitstream::new(&PICTURE);
+    assert!(rt; group_by_header(alloc, image, passes, &mut bits, global)?);
+    let mut bits = Bitstream::new(&PICTURE);
+    let seen = parts(alloc, image, passes, &mut bits)?;
     assert_eq!(rt; seen, ([false, true, true], [0, 1, 0], true, false));
+    assert_eq!(rt; bits.position(), 0);
+    Ok(())
+}
+
+// The picture's samples, as a section.
+fn section() -> std::result::Result<Section<'static>, Fail> {
+    let mut bits = Bitstream::new(&PICTURE);
     for _ in 0..68 {
         bits.read_bool()?;
     }
-    let section: Section<'_> = Section {
+    Ok(Section {
         part: SectionPart::Global,
         bits,
         stream_index: 0,
         nested: false,
-    };
-    assert_eq!(rt; number(section.part), (0, 0));
-    assert_eq!(rt; number(Part::Lf(4).into()), (1, 4));
-    assert_eq!(rt; number(Part::Pass(2, 4).into()), (2, 4));
-    let sections = [section];
+    })
+}
+
+fn check_sections<S: Sample, D: Decoder>(
+    rt: &impl Abort,
+    alloc: Global,
+    global: Option<&MaConfig<D>>,
+) -> std::result::Result<(), Fail> {
+    let mut passes = BTreeMap::new(alloc);
+    passes.insert(0, (0, 3))?;
+    let mut image = picture::<S, D>(alloc)?.into_image().ok_or("no image")?;
+    check_parts(rt, alloc, &mut image, &passes, global)?;
+    let sections = [section()?];
     assert_eq!(rt;
         run(alloc, &mut image, &passes, &sections, global)?,
         (true, true)
     );
     let grid = image.image_channels().first().ok_or("no channel")?;
     assert!(rt; grid.width() > 1 && grid.height() > 0);
-    assert_eq!(rt; grid.get(1, 0), 3);
+    assert_eq!(rt; grid.get(1, 0).to_i32(), 3);
     Ok(())
+}
+
+#[test]
+fn parts_and_sections(rt: HostRuntime) -> std::result::Result<(), Fail> {
+    assert_eq!(rt; number(section()?.part), (0, 0));
+    assert_eq!(rt; number(Part::Lf(4).into()), (1, 4));
+    assert_eq!(rt; number(Part::Pass(2, 4).into()), (2, 4));
+    check_sections::<i32, PlainDecoder>(&rt, rt.alloc(), None)
 }
