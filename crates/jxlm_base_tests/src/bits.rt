@@ -1,7 +1,7 @@
 // Reads of bits, numbers and flags, each with what it returns.
 
-use crate::calls::{compare, parts};
-use crate::text::bytes;
+use crate::calls::compare;
+use crate::text::{bytes, parts};
 use jxlm_base::bits::{Bitstream, BitstreamError, U32Spec};
 use std::alloc::{AllocError, Global};
 use std::process::Abort;

@@ -1,7 +1,7 @@
 // Plain decoders, by what is asked of them in turn.
 
-use crate::calls::{compare, parts};
-use crate::text::{bytes, pair};
+use crate::calls::compare;
+use crate::text::{bytes, pair, parts};
 use jxlm_base::bits::{Bitstream, BitstreamError};
 use jxlm_base::decoder::{Decoder, DecoderError, RleToken};
 use jxlm_plain::plain::PlainDecoder;

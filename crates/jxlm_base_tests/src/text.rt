@@ -22,6 +22,18 @@ pub fn pair<'a>(text: &'a str, mark: char) -> Result<(&'a str, &'a str), Fail> {
     }
 }
 
+/// The three parts of a row with bars between.
+pub fn parts(row: &str) -> Result<(&str, &str, &str), Fail> {
+    let (first, rest) = pair(row, '|')?;
+    let (second, third) = pair(rest, '|')?;
+    Ok((first, second, third))
+}
+
+/// A text up to a mark, and what is after it: nothing where there is no mark.
+pub fn cut(text: &str, mark: char) -> (&str, &str) {
+    text.split_once(mark).unwrap_or((text, ""))
+}
+
 fn digit(c: u8) -> u8
     ensures { result ≤ 15 }
 {

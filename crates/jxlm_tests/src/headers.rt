@@ -1,13 +1,12 @@
 // Images as they are read, before their first sample: sizes and zeros, and the errors of headers.
 
-use crate::table::fields;
 use jxl_modular::bits::Bitstream;
 use jxl_modular::decoder::Decoder;
 use jxl_modular::error::Error;
 use jxl_modular::image::ModularImageDestination;
 use jxl_modular::plain::PlainDecoder;
 use jxl_modular::{ChannelShift, Modular, ModularChannelParams, ModularParams, Sample};
-use jxlm_base_tests::text::bytes;
+use jxlm_base_tests::text::{bytes, parts};
 use std::alloc::Global;
 use std::process::Abort;
 use std::test::Fail;
@@ -176,7 +175,7 @@ fn read_row(alloc: Global, count: &str, digits: &str, placed: bool) -> Result<St
 }
 
 fn check(rt: &impl Abort, alloc: Global, line: &str) -> Result<(), Fail> {
-    let (count, digits, expected) = fields(line)?;
+    let (count, digits, expected) = parts(line)?;
     let seen = read_row(alloc, count, digits, expected.contains('@'))?;
     assert_eq!(rt; seen.as_str(), expected, "{line}");
     Ok(())

@@ -9,9 +9,9 @@
 // is that of the other tables, a space, `whole` or `partial`, and a line feed.
 
 use crate::outcome::by_calls;
-use crate::table::{channels, fields, number, told};
+use crate::table::{channels, number, told};
 use jxl_modular::plain::PlainDecoder;
-use jxlm_base_tests::text::{bytes, pair};
+use jxlm_base_tests::text::{bytes, pair, parts};
 use std::alloc::Global;
 use std::process::Abort;
 use std::test::Fail;
@@ -357,7 +357,7 @@ fn checksum(
 }
 
 fn check_prefixes(rt: &impl Abort, alloc: Global, line: &str) -> Result<(), Fail> {
-    let (setting, digits, expected) = fields(line)?;
+    let (setting, digits, expected) = parts(line)?;
     let (sizes, depth) = pair(setting, '/')?;
     let bytes = bytes(alloc, digits)?;
     let sum = checksum(rt, alloc, &bytes, sizes, number(depth)?)?;

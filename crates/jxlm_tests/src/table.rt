@@ -5,17 +5,10 @@ use crate::outcome::{Outcome, at_once, by_calls, check_end, check_samples};
 use jxl_modular::decoder::Decoder;
 use jxl_modular::error::Error;
 use jxl_modular::{ModularChannelParams, Sample};
-use jxlm_base_tests::text::{bytes, pair};
+use jxlm_base_tests::text::{bytes, pair, parts};
 use std::alloc::Global;
 use std::process::Abort;
 use std::test::Fail;
-
-/// The three fields of a line with bars between.
-pub fn fields<'a>(line: &'a str) -> Result<(&'a str, &'a str, &'a str), Fail> {
-    let (first, rest) = pair(line, '|')?;
-    let (second, third) = pair(rest, '|')?;
-    Ok((first, second, third))
-}
 
 /// A number of a line.
 pub fn number(text: &str) -> Result<u32, Fail> {
@@ -115,7 +108,7 @@ fn check_picture<S: Sample, D: Decoder>(
     alloc: Global,
     picture: &str,
 ) -> Result<(), Fail> {
-    let (setting, digits, expected) = fields(picture)?;
+    let (setting, digits, expected) = parts(picture)?;
     let Given {
         bytes,
         depth,

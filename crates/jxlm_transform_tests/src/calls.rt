@@ -7,8 +7,3 @@ use std::process::Abort;
 pub fn compare<T: PartialEq + Debug + Copy>(rt: &impl Abort, seen: T, expected: T, row: &str) {
     assert_eq!(rt; seen, expected, "{row}");
 }
-
-/// A text up to a mark, and what is after it: nothing where there is no mark.
-pub fn cut(text: &str, mark: char) -> (&str, &str) {
-    text.split_once(mark).unwrap_or((text, ""))
-}

@@ -4,8 +4,9 @@ ghost use Rattle.std.specs.Prelude.{◌≤◌, IfOk};
 ghost use Rattle.jxlm_transform.specs.Channels.{HasItsMeta, list_of};
 ghost use Rattle.jxlm_transform.specs.Transforms.{HasChannels, transform_of};
 
-use crate::calls::{compare, cut};
+use crate::calls::compare;
 use jxlm_base::error::Error;
+use jxlm_base_tests::text::cut;
 use jxlm_plain::plain::PlainDecoder;
 use jxlm_transform::channels::{ModularChannelInfo, ModularChannels};
 use jxlm_transform::param::{ChannelShift, ModularChannelParams, ModularParams};

@@ -5,12 +5,13 @@ ghost use Rattle.jxlm_base.specs.Outside.{KeepsOutside};
 ghost use Rattle.jxlm_base.specs.Regions.{AllLie, LieApart};
 ghost use Rattle.jxlm_transform.specs.Recoloured.{HaveOneSize};
 
-use crate::calls::{compare, cut};
+use crate::calls::compare;
 use crate::cells::{read, write};
 use crate::colour_rows::{NARROW, WIDE, WORKED};
 use jxlm_base::error::Error;
 use jxlm_base::grid::{AlignedGrid, Region};
 use jxlm_base::sample::Sample;
+use jxlm_base_tests::text::cut;
 use jxlm_transform::rct::inverse_rct;
 use jxlm_tree_tests::text::signed;
 use std::alloc::Global;

@@ -1,8 +1,9 @@
 // Transforms as a header has them.
 
-use crate::calls::{compare, cut};
+use crate::calls::compare;
 use jxlm_base::bits::Bitstream;
 use jxlm_base::error::Error;
+use jxlm_base_tests::text::cut;
 use jxlm_transform::transform::{Palette, Rct, Squeeze, SqueezeParams, TransformInfo};
 use jxlm_tree::predictor::WpHeader;
 use jxlm_tree_tests::text::bytes;

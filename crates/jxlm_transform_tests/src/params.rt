@@ -1,7 +1,8 @@
 // What an image is read by: sizes, shifts and limits.
 
-use crate::calls::{compare, cut};
+use crate::calls::compare;
 use jxlm_base::error::Error;
+use jxlm_base_tests::text::cut;
 use jxlm_plain::plain::PlainDecoder;
 use jxlm_transform::param::{ChannelShift, ModularChannelParams, ModularParams};
 use std::alloc::{AllocError, Global};

@@ -1,10 +1,11 @@
 // Squeeze steps undone: rows, columns and regions, as listed and as a squeeze of these tests' own makes them.
 
-use crate::calls::{compare, cut};
+use crate::calls::compare;
 use crate::cells::{read, write};
 use jxlm_base::error::Result;
 use jxlm_base::grid::{AlignedGrid, MutableSubgrid, OutOfMemory, Region};
 use jxlm_base::sample::Sample;
+use jxlm_base_tests::text::cut;
 use jxlm_transform::squeeze::{inverse_h, inverse_v, unsqueeze};
 use jxlm_tree_tests::text::signed;
 use std::alloc::Global;

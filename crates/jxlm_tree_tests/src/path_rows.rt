@@ -7,12 +7,12 @@
 // Bytes and paths were written and computed by an independent program: leaves, cuts and clusters are few and small, and
 // each cluster is that of the leaf to which a plain walk of the tree leads.
 
-use crate::calls::{compare, cut, skip, tree_at, tree_in};
+use crate::calls::{compare, skip, tree_at, tree_in};
 use crate::told::Told;
 use crate::trees::three;
 use jxlm_base::bits::Bitstream;
 use jxlm_base::decoder::Decoder;
-use jxlm_base_tests::text::bytes;
+use jxlm_base_tests::text::{bytes, cut};
 use jxlm_ma::flat::{FlatMaTree, Leaf, Steps};
 use jxlm_ma::ma::MaConfig;
 use jxlm_ma::paths::{ClusterTable, Path};

@@ -7,12 +7,12 @@ ghost use Rattle.jxlm_tree.specs.Holding.{IsCurrent};
 ghost use Rattle.jxlm_tree.specs.SelfCorrecting.{IsHeader};
 ghost use Rattle.jxlm_tree.specs.Standing.{HoldsRow, setting};
 
-use crate::calls::{compare, cut};
+use crate::calls::compare;
 use jxlm_base::bits::Bitstream;
 use jxlm_base::error::Error;
 use jxlm_base::grid::{AlignedGrid, OutOfMemory, Region};
 use jxlm_base::sample::Sample;
-use jxlm_base_tests::text::{bytes, signed};
+use jxlm_base_tests::text::{bytes, cut, signed};
 use jxlm_tree::eighths::{after_clamp, before_clamp};
 use jxlm_tree::predictor::{Predictor, PredictorState, Properties, WpHeader};
 use std::alloc::{AllocError, Global};

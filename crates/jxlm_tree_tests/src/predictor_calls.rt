@@ -4,13 +4,13 @@ ghost use Rattle.jxlm_tree.specs.Holding.{IsCurrent};
 ghost use Rattle.std.specs.Prelude.{◌≡◌, ◌≤◌, ◌^◌, IfOk};
 ghost use Rattle.jxlm_tree.specs.Standing.{HoldsRow, earlier_room_of, room_of};
 
-use crate::calls::{compare, cut};
+use crate::calls::compare;
 use crate::places::{check, check_eighths, eighths, header_in, holds_row, told};
 use jxlm_base::bits::{Bitstream, BitstreamError};
 use jxlm_base::error::Error;
 use jxlm_base::grid::{AlignedGrid, Region};
 use jxlm_base::sample::Sample;
-use jxlm_base_tests::text::bytes;
+use jxlm_base_tests::text::{bytes, cut};
 use jxlm_ma::flat::{AskedProperty, PlaceProperties};
 use jxlm_tree::predictor::{
     Predictor, PredictorState, Properties, WpHeader, self_correcting_stays_in_range,

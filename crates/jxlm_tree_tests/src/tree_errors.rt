@@ -1,11 +1,12 @@
 // Small trees, whole and with errors, and the deepest ones. What is expected of them was computed from the format's
 // definitions.
 
-use crate::calls::{compare, cut, leaf_at, size_of, tree_at};
+use crate::calls::{compare, leaf_at, size_of, tree_at};
 use crate::trees::{check, read_tree};
 use jxlm_base::bits::Bitstream;
 use jxlm_base::decoder::Decoder;
 use jxlm_base::error::Error;
+use jxlm_base_tests::text::cut;
 use jxlm_ma::flat::a_flat_tree_walks_by_properties;
 use jxlm_ma::ma::{
     MaConfig, each_listing_is_of_a_tree, each_tree_is_read_exactly, no_two_trees_share_a_listing,

@@ -3,12 +3,12 @@
 ghost use Rattle.std.specs.Prelude.{◌≡◌, IfOk};
 ghost use Rattle.jxlm_ma.specs.FlatTree.{ClustersStandIn};
 
-use crate::calls::{compare, cut, leaf_at, skip, tree_at, tree_in};
+use crate::calls::{compare, leaf_at, skip, tree_at, tree_in};
 use crate::told::Told;
 use jxlm_base::bits::Bitstream;
 use jxlm_base::decoder::Decoder;
 use jxlm_base::error::Error;
-use jxlm_base_tests::text::{bytes, signed};
+use jxlm_base_tests::text::{bytes, cut, signed};
 use jxlm_ma::flat::{FlatMaTree, Leaf};
 use jxlm_ma::ma::MaConfig;
 use jxlm_tree::predictor::Predictor;
