@@ -58,12 +58,7 @@ pub fn counts<S: Sample, D: Decoder>(
 }
 
 fn has_section(sections: &[Section<'_>], part: SectionPart) -> bool {
-    for section in sections {
-        if section.part == part {
-            return true;
-        }
-    }
-    false
+    sections.iter().any(|section| section.part == part)
 }
 
 // Whether each group of a pass, or each LF group, that has samples has a section.
