@@ -5,6 +5,7 @@ pub mod ErrorKind
 pub mod Grammar
 pub mod Grid
 pub mod GridLends
+pub mod GridRows
 pub mod Numbers
 pub mod Outside
 pub mod Regions

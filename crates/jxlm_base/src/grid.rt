@@ -2,6 +2,7 @@
 ghost use Rattle.std.specs.Prelude.{◌≡◌, ◌+◌, ◌+ℤ◌, ◌*◌, ◌^◌, ◌<◌, ◌≤◌, pos, length, IfOk, IsOk, Some, vec_len};
 ghost use Rattle.std.specs.Int.{int_wrap};
 ghost use Rattle.std.specs.Borrow.{sem};
+ghost use Rattle.std.specs.Iterator.{YieldsFirstRef, item_count};
 ghost use Rattle.jxlm_base.specs.Grid.{Grid, IsFull, cell, row, written, filled, with_cell, with_row};
 
 use crate::sample::Sealed;
@@ -99,6 +100,7 @@ impl<S: Sealed> AlignedGrid<S> {
 
 impl<S: Copy> AlignedGrid<S> {
     ghost use Rattle.jxlm_base.specs.GridLends.{LendsCell, LendsRow};
+    ghost use Rattle.jxlm_base.specs.GridRows.{rows_left, all_rows};
 
     /// How many columns there are. Each of them has a cell in each row.
     pub fn width(&self) -> usize
@@ -145,11 +147,23 @@ impl<S: Copy> AlignedGrid<S> {
         &self.cells[start..start + self.width]
     }
 
-    /// All cells, row by row.
-    pub(crate) fn all_cells(&self) -> &[S]
-        ensures { result.now ≡ self.now.cells }
+    /// All cells, row after row: that in column `x` of row `y` has the index `y * width + x`.
+    pub fn buf(&self) -> &[S]
+        ensures value { result.now ≡ self.now.cells }
+        ensures full { IsFull self.now }
     {
         &self.cells
+    }
+
+    /// The rows, from top to bottom, each with its cells from left to right: as many as `height` says, also where
+    /// they have no cells.
+    pub fn rows(&self) -> Rows<'_, S>
+        ensures { rows_left result ≡ all_rows self.now }
+    {
+        Rows {
+            grid: self,
+            next: 0,
+        }
     }
 
     /// Writes `cells` into row `y`, from column `x` on; all of them lie inside.
@@ -172,5 +186,36 @@ impl<S: Copy> AlignedGrid<S> {
     {
         let start = y * self.width;
         self.cells.slice_mut(start..start + self.width)
+    }
+}
+
+/// The rows of a grid, from top to bottom, each with its cells from left to right.
+#[derive(Drop)]
+pub struct Rows<'a, S> {
+    grid: &'a AlignedGrid<S>,
+    next: usize,
+}
+
+impl<'a, S: Copy> Iterator for Rows<'a, S> {
+    ghost use Rattle.jxlm_base.specs.GridRows.{rows_left};
+
+    type Item = &'a [S];
+
+    ghost next_gives = { YieldsFirstRef rows_left };
+
+    ghost remaining = { item_count rows_left };
+
+    fn next(&mut self) -> Option<&'a [S]> {
+        let y = self.next;
+        if y >= self.grid.height() {
+            return None;
+        }
+        self.next = y + 1;
+        Some(self.grid.get_row(y))
+    }
+
+    fn size_hint(&self) -> (usize, Option<usize>) {
+        let left = self.grid.height().saturating_sub(self.next);
+        (left, Some(left))
     }
 }

@@ -109,7 +109,7 @@ impl<'a, S: Copy> MutableSubgrid<'a, S> {
     pub(crate) fn whole_cells(&self) -> &[S]
         ensures { result.now ≡ (whole self.now).cells }
     {
-        self.grid.all_cells()
+        self.grid.buf()
     }
 
     /// How many cells of the whole grid a row has.
@@ -126,7 +126,7 @@ impl<'a, S: Copy> MutableSubgrid<'a, S> {
         ensures { result ≡ self.now.y * (whole self.now).width + self.now.x + x }
     {
         let stride = self.grid.width();
-        place_in(self.grid.all_cells(), stride, self.x + x, self.y)
+        place_in(self.grid.buf(), stride, self.x + x, self.y)
     }
 
     /// Writes `cells` into row `y` of the rectangle, from column `x` on; all of them lie inside.

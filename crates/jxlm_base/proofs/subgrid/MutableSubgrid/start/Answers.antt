@@ -9,4 +9,4 @@ place_in-requires g c =
     let inside = s.columns_inside in
     let columns = c.requires.columns in
     let within = grid_line_within (whole s) s.x s.y c.args.x 0 s.height 0 s.full (omega (arith, inside, columns)) s.rows_inside c.requires.some_rows in
-    rw (c.width-stride.ensures.value, c.all_cells.ensures) (omega (arith, within))
+    rw (c.width-stride.ensures.value, c.buf.ensures.value) (omega (arith, within))
