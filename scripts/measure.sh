@@ -2,9 +2,13 @@
 # Counts the instructions that decoding takes, a sample: measure.sh PROGRAM FOLDER [SIDE]
 #
 # PROGRAM is jxlbench, built; FOLDER has pictures of scripts/speed_inputs.py, of three channels of SIDE by SIDE samples,
-# 256 unless another side is given. Three runs are counted and one run, so that what is not decoding falls out. For each
-# picture a line: its name, the instructions a sample at 16 and at 32 bits, and the two checksums. A picture whose name
-# ends in -cut is decoded from its sections. It needs valgrind.
+# 256 unless another side is given. A run of three decodes is counted and a run of one, and their difference is divided
+# by the samples of two decodes. So what comes once in each run falls out: the start, the reading, and the checksum,
+# which jxlbench makes once, after all decodes. The Rust crate's column in docs/SPEED.md is the same difference, of a
+# program around it that also sums the samples once, after all decodes.
+#
+# For each picture a line: its name, the instructions a sample at 16 and at 32 bits, and the two checksums. A picture
+# whose name ends in -cut is decoded from its sections. It needs valgrind.
 set -eu
 program=$1
 folder=$2
