@@ -1,5 +1,5 @@
 -- What the functions' answers need, with the checks' casts as equations.
-use Rattle.std.proofs.Common.{◌≡◌, ℕ, ◌+◌, ◌<◌, ◌≤◌, ℤ, pos, ◌+ℤ◌, ◌<ℤ◌, ◌≤ℤ◌, true, false, inl, inr, List, [], ◌∷◌, ◌++◌, length-append, length, Option, Some, None, Result, Ok, Err, IfOk, OnOk, IsSome, refl, sym, ap, ◌∙◌, subst, arith}
+use Rattle.std.proofs.Common.{◌≡◌, ℕ, ◌+◌, ◌<◌, ◌≤◌, ℤ, pos, ◌+ℤ◌, ◌<ℤ◌, ◌≤ℤ◌, true, false, List, [], ◌∷◌, length, Option, Some, None, Result, Ok, Err, IfOk, OnOk, IsSome, sym, ap, ◌∙◌, subst, arith}
 use Rattle.std.specs.Prelude.{int_lt}
 use Rattle.std.proofs.lemmas.Int.{ints}
 use Rattle.std.proofs.lemmas.Bool.{false≢true}
@@ -9,7 +9,7 @@ use Rattle.jxlm_ma.specs.declared.flat.Leaf.{Leaf}
 use Rattle.jxlm_ma.specs.Tree.{Shape, decision}
 use Rattle.jxlm_ma.specs.Inner.FlatShapes.{size}
 use Rattle.jxlm_ma.specs.Inner.Pruned.{hanging}
-use Rattle.jxlm_ma.specs.Inner.FlatNodes.{Compiles, CompilesSide, Fills}
+use Rattle.jxlm_ma.specs.Inner.FlatNodes.{Compiles, CompilesSide, Fills, IsTable}
 use Rattle.jxlm_ma.proofs.FlatNodes.{hanging-at, hanging-some, hanging-few, fill-left, fill-right, fill-both, side-split}
 
 pub on_ok : {T E : Type 0} (r : Result T E) (P Q : Type 0) → (P → Q) → OnOk r P → OnOk r Q
@@ -89,11 +89,11 @@ pub no_table : (o r : Option Survey) → r ≡ o → r ≡ None → IsSome o →
 no_table None r e n h = false≢true h
 no_table (Some x) r e n h = cc
 
-pub side-split-at : (k p : ℕ) (v v1 : ℤ) (t a b : Shape Leaf) (i j : ℕ) (old mid new : List FlatNode) → t ≡ decision p v a b → v1 ≡ v → Compiles old mid i a → Compiles mid new j b →
+pub side-split-at : (k p : ℕ) (v v1 : ℤ) (t a b : Shape Leaf) (i j : ℕ) (old mid new : List FlatNode) → t ≡ decision p v a b → v1 ≡ v → (IsTable (decision p v a b) → ⊥) → Compiles old mid i a → Compiles mid new j b →
     CompilesSide k old new (record { property = p; value = v1; above = i; rest = j }) t
-side-split-at k p v v1 t a b i j old mid new e is ca cb =
+side-split-at k p v v1 t a b i j old mid new e is none ca cb =
     subst (λ (z : ℤ). CompilesSide k old new (record { property = p; value = z; above = i; rest = j }) t) (sym is)
-    (subst (λ u. CompilesSide k old new (record { property = p; value = v; above = i; rest = j }) u) (sym e) (side-split k p v a b i j old mid new ca cb))
+    (subst (λ u. CompilesSide k old new (record { property = p; value = v; above = i; rest = j }) u) (sym e) (side-split k p v a b i j old mid new none ca cb))
 
 pub side-named : (k p q : ℕ) (v : ℤ) (i j : ℕ) (old new : List FlatNode) (t : Shape Leaf) → q ≡ p → CompilesSide k old new (record { property = p; value = v; above = i; rest = j }) t →
     CompilesSide k old new (record { property = q; value = v; above = i; rest = j }) t

@@ -11,7 +11,7 @@ use Rattle.jxlm_ma.specs.Tree.{Shape, leaf, decision}
 use Rattle.jxlm_ma.specs.Inner.FlatShapes.{size}
 use Rattle.jxlm_ma.specs.Inner.Marked.{Ascends, Each, IsMarked, LeavesAbove, LeavesBelow, asks_for, marked_shape, root_cuts}
 use Rattle.jxlm_ma.specs.Inner.Pruned.{cuts, surveyed, unsurveyed, tabled, worth, least, greatest}
-use Rattle.jxlm_ma.proofs.FlatTables.{Each-back, Each-front, Each-map, cuts_above, cuts_below, cuts_between, cuts-other, surveyed-cuts}
+use Rattle.jxlm_ma.proofs.FlatTables.{Each-front, Each-map, cuts_above, cuts_below, cuts_between, cuts-other, surveyed-cuts}
 use Rattle.jxlm_ma.proofs.FlatWalks.{above, not_above, eqb_is, eqb-same, eqb-not, int_lt-tells}
 
 joined-lists : (xs ys zs : List ℤ) → (xs ++ ys) ++ zs ≡ xs ++ (ys ++ zs)

@@ -1,20 +1,19 @@
 -- Trees whose roots become tables of leaves that agree.
-use Rattle.std.proofs.Common.{◌≡◌, ℕ, ℤ, ◌+◌, ◌-◌, ◌<◌, ◌≤◌, ◌+ℤ◌, pos, Bool, true, false, cond, List, ◌∷◌, Some, length, reverse, get_or, slice_index, refl, sym, ap, ◌∙◌, subst, arith}
+use Rattle.std.proofs.Common.{◌≡◌, ℕ, ℤ, ◌-◌, ◌<◌, ◌≤◌, ◌+ℤ◌, pos, Bool, true, false, cond, List, ◌∷◌, Some, length, reverse, get_or, slice_index, refl, sym, ap, ◌∙◌, subst, arith}
 use Rattle.std.proofs.lemmas.Bool.Decides.{Decides-eqb}
 use Rattle.std.proofs.lemmas.List.{length-reverse, get_or-reverse, get_or_default}
 use Rattle.std.proofs.lemmas.Option.{slice_get-get_or}
 use Rattle.std.specs.Global.{Vec}
-use Rattle.std.specs.Prelude.{int_lt, slice_get}
+use Rattle.std.specs.Prelude.{int_lt}
 use Rattle.jxlm_ma.specs.ClusterTables.{in_cluster}
 use Rattle.jxlm_ma.specs.ShortTrees.{TestsOnly}
 use Rattle.jxlm_ma.specs.Tree.{AllLeaves, Shape, StandsAtLeaf, leaf, decision, depth}
 use Rattle.jxlm_ma.specs.Inner.Compiled.{IsCompiled, known_at}
 use Rattle.jxlm_ma.specs.Inner.FlatNodes.{Answers, Heard, IsSound, IsTable, IsTableOf, Reached, Says, Serves, go, onward, reached, says, side_says, stop}
 use Rattle.jxlm_ma.specs.Inner.Marked.{asks_for}
-use Rattle.jxlm_ma.specs.Inner.Pruned.{chosen, pruned}
+use Rattle.jxlm_ma.specs.Inner.Pruned.{chosen}
 use Rattle.jxlm_ma.specs.Inner.Tables.{LeadTo}
 use Rattle.jxlm_ma.specs.declared.flat.Leaf.{Leaf}
-use Rattle.jxlm_ma.specs.declared.flat.Side.{Side}
 use Rattle.jxlm_ma.specs.declared.flat.FlatNode.{FlatNode}
 use Rattle.jxlm_ma.specs.declared.flat.FlatNode.TheVariants as node
 use Rattle.jxlm_ma.proofs.FlatLooks.{read-at, reached-some, says-below}

@@ -69,6 +69,7 @@ is_compiled t known nodes root needs named multipliers c needs_is named_is =
       tops = c.tops;
       keeps = c.keeps;
       few = let g = c.grows.few in let s = pruned-size known t in omega arith;
+      count = let n = c.count in omega arith;
       needs_is = needs_is;
       named_is = named_is;
     }

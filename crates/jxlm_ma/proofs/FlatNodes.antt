@@ -14,7 +14,10 @@ use Rattle.jxlm_ma.specs.ShortTrees.{MeetsOnce, TestsOnly}
 use Rattle.jxlm_ma.specs.Inner.Pruned.{chosen, cuts, surveyed, unsurveyed, tabled, least, greatest, hanging}
 use Rattle.jxlm_ma.specs.Inner.FlatNodes.{slot, side_end, side_says, Answers, AreOf, says, Reached, onward, reached, LeadsBelow, IsTable, Few, Serves, SideServes, Grows, Compiles, CompilesSide, Fills}
 use Rattle.jxlm_ma.proofs.FlatWalks.{eqb-same, eqb-other, chosen-walk, chosen-stands, chosen_root-depth, chosen-one, chosen_above, chosen_not_above, int_lt-tells, eqb_is, eqb-not}
+use Rattle.jxlm_ma.specs.CompiledNodes.{has_table, takes}
 use Rattle.jxlm_ma.specs.Inner.Marked.{Each}
+use Rattle.jxlm_ma.proofs.FlatCuts.{From}
+use Rattle.jxlm_ma.proofs.FlatCounts.{own-fused, own-table, side-fused, side-own, tabled-is, table-below, within-both, within-hanging, within-left, within-narrow, within-right}
 use Rattle.jxlm_ma.proofs.FlatTables.{Each-map, Within, surveyed-within, surveyed-cuts, worth-some, once-not_table, chosen-same, slot-stands, stands-alike, Alike}
 
 -- the two equations of the walk
@@ -65,6 +68,12 @@ side_serves-later a b k s t g h =
       most = λ y w fits. subst (λ (r : Reached). r.looks ≤ depth t + 1) (sym (at_end y w)) (h.most y w fits);
       half = λ y w fits once. subst (λ (r : Reached). 2 * r.looks ≤ depth t + 2) (sym (at_end y w)) (h.half y w fits once);
     }
+
+no-table : (t : Shape Leaf) → (IsTable t → ⊥) → has_table t ≡ false
+no-table t none = none-true (has_table t) (λ h. none (tabled-is t ∙ h)) where
+  none-true : (b : Bool) → (b ≡ true → ⊥) → b ≡ false
+  none-true true h = absurd (h refl)
+  none-true false h = refl
 
 -- a fused node
 few-fused : (p : ℕ) (v : ℤ) (a b : Shape Leaf) (n : ℕ) → (IsTable (decision p v a b) → ⊥) → n ≤ max (depth a) (depth b) + 1 → (MeetsOnce (decision p v a b) → 2 * n ≤ max (depth a) (depth b) + 2) → Few (decision p v a b) (n + 1)
@@ -141,18 +150,20 @@ compiles-fused p v a b l r old mid older none cl cr =
         keeps = λ p' q zero h olds.
             ((h.0, (cl.tests p' q h.0 h.1.0, cr.tests p' q h.0 h.1.1)), cr.keeps.keeps p' q zero h.1.1 (cl.keeps.keeps p' q zero h.1.0 olds));
       };
+      count = let l = cl.count in let r = cr.count in let e = own-fused p v a b (no-table (decision p v a b) none) in omega arith;
     }
 
 -- a side that is itself a decision
-pub side-split : (k p : ℕ) (v : ℤ) (a b : Shape Leaf) (i j : ℕ) (old mid new : List FlatNode) → Compiles old mid i a → Compiles mid new j b →
+pub side-split : (k p : ℕ) (v : ℤ) (a b : Shape Leaf) (i j : ℕ) (old mid new : List FlatNode) → (IsTable (decision p v a b) → ⊥) → Compiles old mid i a → Compiles mid new j b →
     CompilesSide k old new (record { property = p; value = v; above = i; rest = j }) (decision p v a b)
-side-split k p v a b i j old mid new ca cb =
+side-split k p v a b i j old mid new none ca cb =
     let sa = serves-later mid new (size b) i a cb.grows ca.serves in
     let sb = cb.serves in
     record {
       grows = grows-then old mid new (size a) (size b) (size a + size b + 1) (omega arith) ca.grows cb.grows;
       keeps = record { keeps = λ p' q zero h olds. cb.keeps.keeps p' q zero h.1.1 (ca.keeps.keeps p' q zero h.1.0 olds) };
       tests = λ p' q zero h. h.0;
+      count = let l = ca.count in let r = cb.count in let e = side-fused p v a b (no-table (decision p v a b) none) in omega arith;
       serves = record {
         above = sa.within;
         rest = sb.within;
@@ -177,6 +188,7 @@ side-shared k t i old new kind c =
       grows = c.grows;
       keeps = c.keeps;
       tests = λ p' q zero h. zero;
+      count = let n = c.count in let e = side-own t (elim kind [ inl end ↦ inl end | inr table ↦ inr (sym (tabled-is t) ∙ table) ]) in omega arith;
       serves = record {
         above = s.within;
         rest = s.within;
@@ -214,14 +226,15 @@ hanging-other p (decision q v a b) h = elim (eqb_is q p) [
 ]
 
 -- a tree that hangs from the decisions: one node, for all entries of the range
-pub fill-end : (p : ℕ) (low high : ℤ) (t : Shape Leaf) (i : ℕ) (old new : List FlatNode) (before after : List ℕ) → ((x : ℤ) → chosen p x t ≡ t) → Compiles old new i t →
+pub fill-end : (p : ℕ) (low high : ℤ) (t : Shape Leaf) (i : ℕ) (old new : List FlatNode) (before after : List ℕ) → ((x : ℤ) → chosen p x t ≡ t) → low ≤ℤ high → Compiles old new i t →
     pos (length after) ≡ (pos (length before) +ℤ ((high -ℤ low) +ℤ pos 1)) →
     ((k : ℕ) → k < length before → slice_index after k ≡ slice_index before k) →
     ((k : ℕ) → length before ≤ k → k < length after → slice_index after k ≡ i) →
     Fills old new before after p low high t
-fill-end p low high t i old new before after same c longer kept news = record {
+fill-end p low high t i old new before after same order c longer kept news = record {
   grows = grows-more old new (size t) (hanging p t) (let h = hanging-other p t same in omega arith) c.grows;
   keeps = c.keeps;
+  count = let n = c.count in let e = within-hanging p low high t same order in omega arith;
   longer = longer;
   kept = kept;
   each = λ k x lx xh place.
@@ -231,8 +244,9 @@ fill-end p low high t i old new before after same c longer kept news = record {
 
 -- a decision that splits nothing in the range
 pub fill-one : (p : ℕ) (low high : ℤ) (t u : Shape Leaf) (old new : List FlatNode) (before after : List ℕ) → hanging p u ≤ hanging p t → ((p' : ℕ → Bool) (q : Leaf → Bool) → Lacks p' q t → Lacks p' q u) → ((x : ℤ) → low ≤ℤ x → x ≤ℤ high → chosen p x t ≡ chosen p x u) →
-    Fills old new before after p low high u → Fills old new before after p low high t
-fill-one p low high t u old new before after fewer part same h = record {
+    (takes t).within p low high ≡ (takes u).within p low high → Fills old new before after p low high u → Fills old new before after p low high t
+fill-one p low high t u old new before after fewer part same alike h = record {
+  count = let n = h.count in omega arith;
   keeps = record { keeps = λ p' q zero l olds. h.keeps.keeps p' q zero (part p' q l) olds };
   grows = grows-more old new (hanging p u) (hanging p t) fewer h.grows;
   longer = h.longer;
@@ -242,11 +256,11 @@ fill-one p low high t u old new before after fewer part same h = record {
 
 pub fill-left : (p : ℕ) (low high v : ℤ) (a b : Shape Leaf) (old new : List FlatNode) (before after : List ℕ) → v <ℤ low → Fills old new before after p low high a → Fills old new before after p low high (decision p v a b)
 fill-left p low high v a b old new before after h f =
-    fill-one p low high (decision p v a b) a old new before after (let e = hanging-at p v a b in omega arith) (λ p' q l. l.1.0) (λ x lx xh. chosen_above p x v a b (omega (arith, ints))) f
+    fill-one p low high (decision p v a b) a old new before after (let e = hanging-at p v a b in omega arith) (λ p' q l. l.1.0) (λ x lx xh. chosen_above p x v a b (omega (arith, ints))) (within-left p low high v a b h) f
 
 pub fill-right : (p : ℕ) (low high v : ℤ) (a b : Shape Leaf) (old new : List FlatNode) (before after : List ℕ) → high ≤ℤ v → Fills old new before after p low high b → Fills old new before after p low high (decision p v a b)
 fill-right p low high v a b old new before after h f =
-    fill-one p low high (decision p v a b) b old new before after (let e = hanging-at p v a b in omega arith) (λ p' q l. l.1.1) (λ x lx xh. chosen_not_above p x v a b (omega (arith, ints))) f
+    fill-one p low high (decision p v a b) b old new before after (let e = hanging-at p v a b in omega arith) (λ p' q l. l.1.1) (λ x lx xh. chosen_not_above p x v a b (omega (arith, ints))) (within-right p low high v a b h) f
 
 -- a decision that splits the range: first the entries up to its cut, then the others
 pub fill-both : (p : ℕ) (low high v : ℤ) (a b : Shape Leaf) (old mid new : List FlatNode) (before middle after : List ℕ) → low ≤ℤ v → v <ℤ high →
@@ -254,6 +268,7 @@ pub fill-both : (p : ℕ) (low high v : ℤ) (a b : Shape Leaf) (old mid new : L
 fill-both p low high v a b old mid new before middle after lv vh fb fa = record {
   keeps = record { keeps = λ p' q zero l olds. fa.keeps.keeps p' q zero l.1.0 (fb.keeps.keeps p' q zero l.1.1 olds) };
   grows = grows-then old mid new (hanging p b) (hanging p a) (hanging p (decision p v a b)) (let e = hanging-at p v a b in omega arith) fb.grows fa.grows;
+  count = let l = fb.count in let r = fa.count in let e = within-both p low high v a b lv vh in omega arith;
   longer = let l = fb.longer in let r = fa.longer in omega (arith, ints);
   kept = λ k h. fa.kept k (let l = fb.longer in omega (arith, ints)) ∙ fb.kept k h;
   each = λ k x lx xh place. elim (int_lt-tells v x) [
@@ -353,6 +368,14 @@ compiles-table p v a b s old new entries e sl sg h =
           (let l = hanging-few p a in let r = hanging-few p b in let k = hanging-at p v a b in omega arith)
           h.grows (grows-add (node.Table p s.least entries) new leads_below);
       keeps = record { keeps = λ p' q zero l olds. (l.0, h.keeps.keeps p' q zero l olds) };
+      count =
+          let n = h.count in
+          let own = own-table p v a b (sym (tabled-is t) ∙ table) in
+          let last = table-below p v a b s e in
+          let all_cuts : Each (From s.least (s.greatest +ℤ pos 1)) (cuts p least greatest t) =
+          Each-map (Within s) (From s.least (s.greatest +ℤ pos 1)) (λ c inside. (inside.0, (let k = inside.1 in omega (arith, ints)))) (cuts p least greatest t) facts.inside in
+          let same = within-narrow p least greatest s.least (s.greatest +ℤ pos 1) t sl (omega (arith, ints)) (omega (arith, ints)) all_cuts in
+          omega arith;
       tops = record { node = node.Table p s.least entries; older = new; newest = refl; place = refl; table = λ is. (eqb-same p, λ j in'. h.each j (s.least +ℤ pos j) (omega (arith, ints)) (omega (arith, ints)) (omega (arith, ints))) };
       serves = record {
         within = omega arith;

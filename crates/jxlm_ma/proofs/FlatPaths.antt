@@ -1,16 +1,15 @@
 -- What the root of a compiled tree tells of the tree.
-use Rattle.std.proofs.Common.{◌≡◌, ℕ, ℤ, ◌+◌, ◌-◌, ◌<◌, ◌≤◌, pos, List, [], ◌∷◌, ◌++◌, Some, true, false, length, reverse, get_or, slice_index, refl, sym, ap, ◌∙◌, subst, arith}
+use Rattle.std.proofs.Common.{◌≡◌, ℕ, ℤ, ◌-◌, ◌<◌, pos, List, [], ◌∷◌, ◌++◌, Some, length, reverse, get_or, slice_index, refl, sym, ap, ◌∙◌, subst, arith}
 use Rattle.std.proofs.lemmas.Int.{ints}
 use Rattle.std.proofs.lemmas.Option.{get_or_from_slice_get, slice_get_within}
-use Rattle.std.specs.Global.{Vec}
-use Rattle.std.specs.Prelude.{slice_get, ◌==◌, ◌||◌, Bool}
-use Rattle.jxlm_ma.specs.FlatTree.{FlatTree, HasMultiplier, flat_tree, leaf_reached}
+use Rattle.std.specs.Prelude.{slice_get, Bool}
+use Rattle.jxlm_ma.specs.FlatTree.{FlatTree, HasMultiplier, flat_tree}
 use Rattle.jxlm_ma.specs.ClusterTables.{Clusters, IsTableOf, slot, table_leaf}
-use Rattle.jxlm_ma.specs.Paths.{Gives, IsLeafOf, steps_on}
+use Rattle.jxlm_ma.specs.Paths.{Gives, IsLeafOf}
 use Rattle.jxlm_ma.specs.ShortTrees.{Fits}
-use Rattle.jxlm_ma.specs.Tree.{Shape, StandsAtLeaf, depth, walk}
+use Rattle.jxlm_ma.specs.Tree.{Shape, StandsAtLeaf}
 use Rattle.jxlm_ma.specs.Inner.Compiled.{IsCompiled, IsCompiledFor, known_at}
-use Rattle.jxlm_ma.specs.Inner.FlatNodes.{Answers, AreOf, Heard, LeadsBelow, Reached, alike, go, heard, onward, reached, says}
+use Rattle.jxlm_ma.specs.Inner.FlatNodes.{Answers, AreOf, Reached, alike, heard, onward, reached, says}
 use Rattle.jxlm_ma.specs.Inner.Pruned.{pruned}
 use Rattle.jxlm_ma.specs.Inner.Tables.{IsPathOfLeaf, IsPathOfTable, IsTableAt, TableAt}
 use Rattle.jxlm_ma.specs.declared.flat.CompiledTree.{CompiledTree}

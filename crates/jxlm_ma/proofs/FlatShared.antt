@@ -1,6 +1,7 @@
 -- The nodes of a whole tree serve every channel that has the earlier channels that it names.
 use Rattle.std.proofs.Common.{◌≡◌, ℕ, ◌+◌, ◌*◌, ◌<◌, ◌≤◌, ◌∙◌, ◌||◌, reverse, false, ltb, [], None, refl, sym, ap, subst, arith}
 use Rattle.std.proofs.lemmas.Bool.Decides.{nat_tests}
+use Rattle.jxlm_ma.specs.CompiledNodes.{takes}
 use Rattle.jxlm_ma.specs.Inner.FlatShapes.{earlier_named}
 use Rattle.jxlm_ma.specs.Tree.{Shape, leaf, decision}
 use Rattle.jxlm_ma.specs.Inner.Compiled.{IsCompiledFor, ServesAnywhere, known_at}
@@ -41,6 +42,7 @@ serves-here t c channel stream earlier s there =
         tops = subst (Tops (reverse c.nodes.items) c.root) same d.tops;
         keeps = subst (Keeps [] (reverse c.nodes.items)) same d.keeps;
         few = d.few;
+        count = d.count ∙ ap (λ u. (takes u).own) same;
         needs_is = d.needs_is;
         named_is = d.named_is;
       };

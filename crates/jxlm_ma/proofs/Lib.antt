@@ -10,6 +10,7 @@ pub mod TreeStanding
 pub mod FlatWalks
 pub mod FlatTables
 pub mod FlatCuts
+pub mod FlatCounts
 pub mod FlatNodes
 pub mod FlatCasts
 pub mod FlatLooks

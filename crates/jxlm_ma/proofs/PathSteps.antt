@@ -1,11 +1,11 @@
 -- How many steps a sample takes on the path that is found.
-use Rattle.std.proofs.Common.{◌≡◌, ℕ, ◌+◌, ◌<◌, ◌≤◌, Bool, List, Some, None, false, length, get_or, refl, sym, ap, ◌∙◌, subst, arith}
+use Rattle.std.proofs.Common.{◌≡◌, ℕ, ◌+◌, ◌<◌, ◌≤◌, Some, None, false, length, get_or, refl, sym, ap, ◌∙◌, subst, arith}
 use Rattle.std.proofs.lemmas.Option.{slice_get_read}
 use Rattle.std.specs.Prelude.{◌==◌, ◌||◌}
 use Rattle.jxlm_ma.specs.FlatTree.{FlatTree, flat_tree}
 use Rattle.jxlm_ma.specs.ClusterTables.{Clusters}
 use Rattle.jxlm_ma.specs.Paths.{steps_on}
-use Rattle.jxlm_ma.specs.Steps.{is_tabular, most_steps, number_of, plain_gradient}
+use Rattle.jxlm_ma.specs.Steps.{most_steps, number_of, plain_gradient}
 use Rattle.jxlm_ma.specs.Tree.{Shape, StandsAtLeaf, leaf, decision, depth}
 use Rattle.jxlm_ma.specs.Inner.Compiled.{IsCompiledFor}
 use Rattle.jxlm_ma.specs.Inner.Tables.{IsPathOfLeaf, IsPathOfTable, TableAt}

@@ -9,3 +9,4 @@ pub mod ShortTrees
 pub mod ClusterTables
 pub mod Paths
 pub mod Steps
+pub mod CompiledNodes

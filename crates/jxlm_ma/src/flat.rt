@@ -5,6 +5,7 @@ ghost use Rattle.std.proofs.Common.{reverse};
 ghost use Rattle.std.specs.Int.{w32, int_wrap};
 ghost use Rattle.jxlm_base.specs.Bits.{bytes_of};
 ghost use Rattle.jxlm_ma.specs.DecodingSamples.{SampleGives};
+ghost use Rattle.jxlm_ma.specs.CompiledNodes.{flat_nodes};
 ghost use Rattle.jxlm_ma.specs.FlatTree.{PropertiesAre, ClustersStandIn, FlatTree, GoesWithoutWeights, HasMultiplier, NamesEarlier, ReadsEarlierBelow, flat_tree, leaf_reached, needs_weights, residual_of};
 ghost use Rattle.jxlm_tree.specs.Properties.{Surroundings, place_property, property};
 ghost use Rattle.jxlm_ma.specs.ClusterTables.{LeavesAgree};
@@ -304,8 +305,9 @@ impl CompiledTree {
 }
 
 impl FlatMaTree {
-    /// How many nodes the compiled tree has.
+    /// How many nodes the compiled tree has, tables among them: 1 where no decision is left.
     pub fn num_nodes(&self) -> usize
+        ensures count { result ≡ flat_nodes self.now }
         ensures some { 0 < result }
         ensures most { result ≤ node_count self.now.tree }
     {

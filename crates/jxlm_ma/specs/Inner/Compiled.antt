@@ -3,6 +3,7 @@ use Rattle.std.specs.Prelude.{◌≡◌, ℕ, ◌<◌, ◌≤◌, pos, Bool, fal
 use Rattle.std.specs.Int.{w32, int_wrap}
 use Rattle.std.specs.List.{list_any}
 use Rattle.std.proofs.Common.{reverse}
+use Rattle.jxlm_ma.specs.CompiledNodes.{takes}
 use Rattle.jxlm_ma.specs.FlatTree.{HasMultiplier}
 use Rattle.jxlm_ma.specs.Inner.FlatShapes.{earlier_named, size}
 use Rattle.jxlm_ma.specs.Inner.FlatNodes.{IsSound, Keeps, Tops, Serves, most_channels, sees_error}
@@ -30,6 +31,7 @@ pub record IsCompiled (t : Shape Leaf) (known : Known) (nodes : List FlatNode) (
   pub tops : Tops (reverse nodes) root (pruned known t)
   pub keeps : Keeps [] (reverse nodes) (pruned known t)
   pub few : length nodes ≤ size t
+  pub count : length nodes ≡ (takes (pruned known t)).own
   pub needs_is : needs ≡ list_any sees_error nodes
   pub named_is : named ≡ most_channels nodes
 

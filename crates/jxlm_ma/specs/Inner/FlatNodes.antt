@@ -1,11 +1,12 @@
 -- Lists of flat nodes, and the walk over them.
-use Rattle.std.specs.Prelude.{◌≡◌, ℕ, ◌+◌, ◌-◌, ◌*◌, ◌<◌, ◌≤◌, min, ◌==◌, nat_lt, ℤ, pos, ◌+ℤ◌, ◌-ℤ◌, ◌≤ℤ◌, int_lt, unsigned_abs, if◌then◌else◌, List, [], ◌∷◌, ◌++◌, length, slice_index, IsSome, Bool, true, false, ◌||◌, max, fold, ◌/◌}
+use Rattle.std.specs.Prelude.{◌≡◌, ℕ, ◌+◌, ◌-◌, ◌*◌, ◌<◌, ◌≤◌, ◌==◌, nat_lt, ℤ, pos, ◌+ℤ◌, ◌-ℤ◌, ◌≤ℤ◌, int_lt, if◌then◌else◌, List, [], ◌∷◌, ◌++◌, length, slice_index, IsSome, Bool, true, false, ◌||◌, max, fold, ◌/◌}
 use Rattle.jxlm_ma.specs.declared.flat.Leaf.{Leaf}
 use Rattle.jxlm_ma.specs.declared.flat.Side.{Side}
 use Rattle.jxlm_ma.specs.declared.flat.FlatNode.{FlatNode}
 use Rattle.jxlm_ma.specs.declared.flat.FlatNode.TheVariants as node
 use Rattle.jxlm_tree.specs.declared.predictor.Predictor.TheVariants.{Zero}
 use Rattle.jxlm_ma.specs.FlatTree.{is_self_correcting}
+use Rattle.jxlm_ma.specs.CompiledNodes.{takes}
 pub use Rattle.jxlm_ma.specs.ClusterTables.{slot}
 use Rattle.jxlm_ma.specs.Tree.{Shape, StandsAtLeaf, walk, depth}
 use Rattle.jxlm_ma.specs.Inner.FlatShapes.{size, Lacks}
@@ -159,17 +160,20 @@ pub record Compiles (old new : List FlatNode) (i : ℕ) (t : Shape Leaf) : Type 
   pub serves : Serves new i t
   pub tops : Tops new i t
   pub keeps : Keeps old new t
+  pub count : length new ≡ length old + (takes t).own
 
 pub record CompilesSide (fallback : ℕ) (old new : List FlatNode) (s : Side) (t : Shape Leaf) : Type 0 where
   pub grows : Grows old new (size t)
   pub serves : SideServes new s t
   pub keeps : Keeps old new t
+  pub count : length new ≡ length old + (takes t).side
   pub tests : (p : ℕ → Bool) (q : Leaf → Bool) → p fallback ≡ false → Lacks p q t → p s.property ≡ false
 
 -- entries are added: one for each x in low..=high, which leads to the tree that x chooses
 pub record Fills (old new : List FlatNode) (before after : List ℕ) (p : ℕ) (low high : ℤ) (t : Shape Leaf) : Type 0 where
   pub grows : Grows old new (hanging p t)
   pub keeps : Keeps old new t
+  pub count : length new ≡ length old + (takes t).within p low high
   pub longer : pos (length after) ≡ (pos (length before) +ℤ ((high -ℤ low) +ℤ pos 1))
   pub kept : (k : ℕ) → k < length before → slice_index after k ≡ slice_index before k
   pub each : (k : ℕ) (x : ℤ) → low ≤ℤ x → x ≤ℤ high → pos k ≡ (pos (length before) +ℤ (x -ℤ low)) → Serves new (slice_index after k) (chosen p x t)

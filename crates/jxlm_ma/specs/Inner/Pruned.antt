@@ -1,11 +1,12 @@
 -- What is left of a tree where some properties are known, and what a table needs to know of it.
-use Rattle.std.specs.Prelude.{ℕ, ◌+◌, ◌*◌, ◌==◌, nat_lt, ◌||◌, Bool, false, ℤ, pos, neg_ℤ, ◌+ℤ◌, int_lt, if◌then◌else◌, List, [], ◌∷◌, ◌++◌, Option, Some, None, ◌^◌}
+use Rattle.std.specs.Prelude.{ℕ, ◌+◌, ◌*◌, ◌==◌, nat_lt, ◌||◌, Bool, false, ℤ, pos, ◌+ℤ◌, int_lt, if◌then◌else◌, List, [], ◌∷◌, Option, Some, None}
 use Rattle.std.specs.Int.{int_min, int_max}
 use Rattle.jxlm_ma.specs.declared.marks.Known.{Known}
 use Rattle.jxlm_ma.specs.declared.marks.Survey.{Survey}
 use Rattle.jxlm_ma.specs.declared.flat.Leaf.{Leaf}
 use Rattle.jxlm_ma.specs.Tree.{Shape, leaf, decision}
 use Rattle.jxlm_ma.specs.Inner.FlatShapes.{size}
+pub use Rattle.jxlm_ma.specs.CompiledNodes.{cuts, greatest, least}
 
 -- the value of a property, where it is known
 abbrev pub known : Known → ℕ → Option ℤ
@@ -38,20 +39,6 @@ tests_place (decision p v left right) = nat_lt p 2 || (tests_place left || tests
 abbrev pub chosen : ℕ → ℤ → Shape Leaf → Shape Leaf
 chosen p x (leaf l) = leaf l
 chosen p x (decision q v left right) = if q == p then (if int_lt v x then chosen p x left else chosen p x right) else decision q v left right
-
--- the cuts that those decisions make in low..=high, in ascending order; one that splits nothing is not counted
-abbrev pub cuts : ℕ → ℤ → ℤ → Shape Leaf → List ℤ
-cuts p low high (leaf l) = []
-cuts p low high (decision q v left right) =
-    if q == p
-    then (if int_lt v low then cuts p low high left else (if int_lt v high then cuts p low v right ++ v ∷ cuts p (v +ℤ pos 1) high left else cuts p low high right))
-    else []
-
-abbrev pub least : ℤ
-least = neg_ℤ (pos (2 ^ 31))
-
-abbrev pub greatest : ℤ
-greatest = pos 2147483647
 
 -- the number of cuts, the least and the greatest
 abbrev pub surveyed : Survey → List ℤ → Survey

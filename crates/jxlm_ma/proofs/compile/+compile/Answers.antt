@@ -1,9 +1,9 @@
-use Rattle.std.proofs.Common.{rules, ◌≡◌, ℤ, pos, ◌∷◌, ◌+ℤ◌, length, reverse, w32, w64, to_z, of_z, sym, ap, ◌∙◌, arith, SFits, subst, ◌⊎◌, inl, inr, refl}
+use Rattle.std.proofs.Common.{rules, ◌≡◌, ℤ, pos, ◌∷◌, ◌+ℤ◌, length, reverse, w32, w64, to_z, of_z, sym, ap, ◌∙◌, arith, SFits, subst, ◌⊎◌, inl, inr, refl, false}
 use Rattle.std.specs.Prelude.{is_some}
 use Rattle.std.specs.Prelude.{not}
+use Rattle.std.proofs.lemmas.Bool.{false≢true}
 use Rattle.std.proofs.lemmas.Int.{ints, to_z-of_z}
 use Rattle.jxlm_ma.specs.Tree.{decision, depth}
-use Rattle.jxlm_ma.specs.Inner.FlatShapes.{size}
 use Rattle.jxlm_ma.specs.Inner.Marked.{IsMarked, marked_shape}
 use Rattle.jxlm_ma.specs.Inner.Pruned.{tabled, chosen, hanging}
 use Rattle.jxlm_ma.specs.Inner.FlatNodes.{Compiles, IsTable}
@@ -216,13 +216,17 @@ fill-returns t c =
           ∙ sym (ap marked_shape w.in-Decision.is)
     ] in
     on_ok3 c.extend.result _ _ _ _
-    (λ longer kept news. fill-end c.args.property c.args.low c.args.high (marked_shape c.args.tree.now) c.in_ok-place.place _ _ _ _ other c.in_ok-place.ensures (omega (arith, ints, longer)) kept news)
+    (λ longer kept news. fill-end c.args.property c.args.low c.args.high (marked_shape c.args.tree.now) c.in_ok-place.place _ _ _ _ other c.requires.order c.in_ok-place.ensures (omega (arith, ints, longer)) kept news)
     c.extend.ensures.longer c.extend.ensures.kept c.extend.ensures.news
 
 pub compile_side-returns-then-is_none : goal.compile_side-returns-then-is_none
 compile_side-returns-then-is_none t c =
     let at_left : c.deref.result.now ≡ c.in-Decision.left.value = c.deref.ensures in
     let at_right : c.deref-then-is_none.result.now ≡ c.in-Decision.right.value = c.deref-then-is_none.ensures in
-    let e = ap marked_shape c.in-Decision.is ∙ ap (λ m. decision c.in-Decision.property c.in-Decision.value (marked_shape m) (marked_shape c.in-Decision.right.value)) (sym at_left) ∙ ap (λ m. decision c.in-Decision.property c.in-Decision.value (marked_shape c.deref.result.now) (marked_shape m)) (sym at_right) in
+    let there = ap (λ m. decision c.in-Decision.property c.in-Decision.value (marked_shape m) (marked_shape c.in-Decision.right.value)) (sym at_left) ∙ ap (λ m. decision c.in-Decision.property c.in-Decision.value (marked_shape c.deref.result.now) (marked_shape m)) (sym at_right) in
+    let e = ap marked_shape c.in-Decision.is ∙ there in
+    let is : is_some c.in-Decision.table ≡ false = c.is_none.ensures ∙ ap not c.if-is_none.true in
+    let none : IsTable (decision c.in-Decision.property c.in-Decision.value (marked_shape c.deref.result.now) (marked_shape c.deref-then-is_none.result.now)) → ⊥ =
+    λ h. false≢true (sym is ∙ ap is_some ((subst IsMarked c.in-Decision.is c.requires.marked).0 ∙ ap tabled there) ∙ h) in
     let fits : SFits w32 c.in-Decision.value = search rules in
-    side-named _ _ _ _ _ _ _ _ _ c.new.ensures (side-split-at c.args.fallback c.in-Decision.property c.in-Decision.value _ _ _ _ _ _ _ _ _ e (to_z-of_z w32 c.in-Decision.value fits) c.in_ok-above-in-Decision.ensures c.in_ok-rest-in-Decision.ensures)
+    side-named _ _ _ _ _ _ _ _ _ c.new.ensures (side-split-at c.args.fallback c.in-Decision.property c.in-Decision.value _ _ _ _ _ _ _ _ _ e (to_z-of_z w32 c.in-Decision.value fits) none c.in_ok-above-in-Decision.ensures c.in_ok-rest-in-Decision.ensures)

@@ -1,4 +1,4 @@
-use Rattle.std.proofs.Common.{rules, ◌≡◌, ◌+ℤ◌, ◌<ℤ◌, ◌≤ℤ◌, pos, ap, sym, subst, ◌∙◌, arith, w32, SFits}
+use Rattle.std.proofs.Common.{rules, ◌≡◌, ◌<ℤ◌, ◌≤ℤ◌, ap, sym, subst, ◌∙◌, arith, w32, SFits}
 use Rattle.std.proofs.lemmas.Int.{ints, to_z-of_z}
 use Rattle.jxlm_ma.specs.Inner.Marked.{LeavesBelow, marked_shape}
 use Rattle.jxlm_ma.specs.Inner.Pruned.{cuts, least, greatest}

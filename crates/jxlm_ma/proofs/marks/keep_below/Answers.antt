@@ -1,8 +1,8 @@
-use Rattle.std.proofs.Common.{◌≡◌, ◌-◌, ◌<◌, ◌∷◌, ◌++◌, [], length, refl, sym, ap, ◌∙◌, arith, rules, w32, to_z, of_z, SFits}
+use Rattle.std.proofs.Common.{◌-◌, ◌∷◌, ◌++◌, [], refl, sym, ap, ◌∙◌, arith, rules, w32, to_z, of_z, SFits}
 use Rattle.std.specs.Prelude.{slice_index_or, take}
 use Rattle.std.proofs.lemmas.Int.{ints, to_z-of_z}
-use Rattle.jxlm_ma.proofs.FlatCasts.{less, not_less}
-use Rattle.jxlm_ma.proofs.FlatCuts.{apart, below-end, below-none, below-step}
+use Rattle.jxlm_ma.proofs.FlatCasts.{not_less}
+use Rattle.jxlm_ma.proofs.FlatCuts.{apart, below-step}
 use Rattle.jxlm_ma.proofs.marks.keep_below.Goals as goal
 
 pub loop-last-preserved : goal.loop-last-preserved

@@ -1,4 +1,4 @@
-use Rattle.std.proofs.Common.{rules, ◌≡◌, ◌-◌, ◌<◌, length, refl, sym, ap, ◌∙◌, arith, w32, w64, to_z, of_z, pos, ◌+ℤ◌, SFits}
+use Rattle.std.proofs.Common.{rules, ◌-◌, refl, ap, ◌∙◌, arith, w32, w64, to_z, of_z, pos, ◌+ℤ◌, SFits}
 use Rattle.std.specs.Prelude.{slice_index_or}
 use Rattle.std.proofs.lemmas.Int.{ints, to_z-of_z}
 use Rattle.jxlm_ma.proofs.FlatCasts.{less, not_less}

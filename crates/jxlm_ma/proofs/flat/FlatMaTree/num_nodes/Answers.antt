@@ -1,8 +1,10 @@
 use Rattle.std.proofs.Common.{ap, arith, vec_len}
-use Rattle.jxlm_ma.specs.FlatTree.{FlatTree}
+use Rattle.jxlm_ma.specs.CompiledNodes.{flat_nodes, takes}
+use Rattle.jxlm_ma.specs.FlatTree.{FlatTree, flat_tree}
 use Rattle.jxlm_ma.specs.Tree.{node_count}
 use Rattle.jxlm_ma.specs.Inner.TreeShape.{shape_of}
 use Rattle.jxlm_ma.specs.declared.flat.CompiledTree.{CompiledTree}
+use Rattle.jxlm_ma.proofs.FlatCounts.{undecided-is}
 use Rattle.jxlm_ma.proofs.FlatMade.{size-is}
 use Rattle.jxlm_ma.proofs.flat.FlatMaTree.num_nodes.Goals as goal
 
@@ -13,5 +15,16 @@ returns-clause-most c =
     let same = ap (λ (u : FlatTree). node_count u.tree) c.self.view_is in
     let l = c.self.inside.compiled.value.nodes.len in
     let d = ap (λ (u : CompiledTree). vec_len u.nodes) c.deref.ensures in
+    let n = c.len.ensures in
+    omega arith
+
+pub returns-clause-count : goal.returns-clause-count
+returns-clause-count c =
+    let t = c.self.inside in
+    let count = c.self.invariant.tree.count in
+    let is = ap (λ u. (takes u).own) (undecided-is (flat_tree (shape_of t.tree.value.root) t.channel t.stream_idx t.prev_channels) (shape_of t.tree.value.root)) in
+    let same = ap flat_nodes c.self.view_is in
+    let d = ap (λ (u : CompiledTree). vec_len u.nodes) c.deref.ensures in
+    let l = t.compiled.value.nodes.len in
     let n = c.len.ensures in
     omega arith

@@ -1,5 +1,4 @@
 use Rattle.jxlm_ma.specs.Inner.TreeShape.{shape_of}
-use Rattle.jxlm_ma.specs.Tree.{depth}
 use Rattle.jxlm_ma.proofs.FlatPaths.{leaf-here}
 use Rattle.jxlm_ma.proofs.PathSteps.{decision-here}
 use Rattle.jxlm_ma.proofs.flat.FlatMaTree.only_leaf.Goals as goal

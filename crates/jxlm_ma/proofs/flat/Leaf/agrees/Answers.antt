@@ -1,6 +1,6 @@
 use denote.Enum.Bare.{same_true, true_same}
 use borrow.Author.Tests.{eq-eqb, eqb-true}
-use Rattle.std.proofs.Common.{◌≡◌, ◌∙◌, ℤ, of_z, to_z, w32, SFits, true, rules, sym, ap}
+use Rattle.std.proofs.Common.{◌≡◌, ◌∙◌, ℤ, of_z, to_z, w32, SFits, rules, sym, ap}
 use Rattle.std.proofs.lemmas.Int.{to_z-of_z}
 use Rattle.jxlm_tree.specs.contracts.predictor.Predictor.{the_type}
 use Rattle.jxlm_ma.specs.ClusterTables.{in_cluster}

@@ -1,4 +1,4 @@
-use Rattle.std.proofs.Common.{rules, ◌≡◌, ◌++◌, ◌∷◌, ◌<ℤ◌, ◌+ℤ◌, pos, refl, sym, ap, ◌∙◌, subst, arith, w32, to_z, of_z, SFits}
+use Rattle.std.proofs.Common.{rules, ◌≡◌, ◌++◌, ◌∷◌, ◌<ℤ◌, ◌+ℤ◌, pos, sym, ap, ◌∙◌, subst, arith, w32, to_z, of_z, SFits}
 use Rattle.std.proofs.lemmas.Int.{ints, to_z-of_z}
 use Rattle.jxlm_ma.specs.Tree.{decision}
 use Rattle.jxlm_ma.specs.Inner.Marked.{Ascends, marked_shape, root_cuts}

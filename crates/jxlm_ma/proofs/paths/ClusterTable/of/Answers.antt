@@ -1,5 +1,5 @@
 use Rattle.std.specs.Global.{Vec}
-use Rattle.std.proofs.Common.{to_z, of_z, ◌≡◌, ◌<◌, Some, List, ℕ, length, slice_index, refl, sym, ap, ◌∙◌, subst, w32, SFits, rules, arith}
+use Rattle.std.proofs.Common.{to_z, of_z, ◌<◌, Some, List, ℕ, length, slice_index, refl, sym, ap, ◌∙◌, subst, w32, SFits, rules, arith}
 use Rattle.std.proofs.lemmas.Int.{to_z-of_z}
 use Rattle.std.proofs.lemmas.Option.{slice_get_read}
 use Rattle.jxlm_ma.specs.ClusterTables.{in_cluster}
