@@ -13,3 +13,4 @@ pub mod Others
 pub mod PartSets
 pub mod EachPart
 mod Examples
+pub mod AreaLemmas

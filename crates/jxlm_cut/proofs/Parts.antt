@@ -1,5 +1,5 @@
 -- Parts hold each coded cell once.
-use Rattle.std.proofs.Common.{◌≡◌, ℕ, zero, suc, ◌+◌, ◌-◌, ◌<◌, ◌≤◌, IsTrue, Bool, true, ◌&&◌, ◌==◌, not, nat_lt, nat_le, List, [], ◌∷◌, drop, length, get_or, Option, Some, None, Ok, ap, ◌∙◌, subst, arith, eqb-true}
+use Rattle.std.proofs.Common.{◌≡◌, ℕ, zero, suc, ◌+◌, ◌-◌, ◌<◌, ◌≤◌, IsTrue, Bool, true, ◌&&◌, ◌==◌, not, nat_lt, nat_le, List, [], ◌∷◌, drop, length, get_or, Option, Some, None, Ok, refl, ap, ◌∙◌, subst, arith, eqb-true}
 use Rattle.std.specs.List.{All, list_all, slice_get}
 use Rattle.std.proofs.lemmas.Bool.{ltb-true}
 use Rattle.std.proofs.lemmas.List.{get_or-drop, length-drop}
@@ -14,6 +14,7 @@ use Rattle.jxlm_cut.proofs.Cover.{IsCut}
 use Rattle.jxlm_cut.proofs.Pictured.{IsOfPicture, IsOwn, image_of_picture, is_cut}
 use Rattle.jxlm_cut.proofs.HeldCells.{hold_each}
 use Rattle.jxlm_cut.proofs.Steps.{IsPictured, pictured_after_all}
+use Rattle.jxlm_cut.specs.Areas.{picture_of}
 use Rattle.jxlm_cut.specs.Passes.{Pass, can_group, hold_shifts, is_of_picture_of, one_picture}
 use Rattle.jxlm_cut.specs.Cutting.{can_cut, cell_width, cell_height, global_count}
 use Rattle.jxlm_cut.specs.Parts.{HoldEachCellOnce, PartsHoldEachCellOnce}
@@ -53,6 +54,12 @@ own_picture (c ∷ cs) own e = record {
   h = c.original_height;
   each = All-cons (IsOfPicture c.original_width c.original_height) c cs (All-head IsOwn c cs own) (all_alike c cs (All-tail IsOwn c cs own) e);
 }
+
+-- it is the picture of the first of them
+pub own_picture-is : (cs : List Channel) (own : All IsOwn cs) (e : one_picture cs ≡ true) → ((own_picture cs own e).w ≡ (picture_of cs).0) × ((own_picture cs own e).h ≡ (picture_of cs).1)
+unfolding own_picture
+own_picture-is [] own e = (refl, refl)
+own_picture-is (c ∷ cs) own e = (refl, refl)
 
 module _ (dim w h : ℕ) (l : ChannelList) (group : IsGroupDim dim) (pictured : IsPictured w h l) (cut : can_cut dim l ≡ true) where
   pub each_cut : (n : ℕ) (c : Channel) → slice_get l.channels n ≡ Some c → global_count dim l ≤ n → IsCut dim c

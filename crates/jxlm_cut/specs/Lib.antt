@@ -4,4 +4,5 @@ pub mod Pieces
 pub mod Counts
 pub mod Parts
 pub mod PartSets
+pub mod Areas
 pub mod Inner

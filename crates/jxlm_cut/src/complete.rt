@@ -26,7 +26,7 @@ fn part_count(channel: &ModularChannelInfo, group_dim: u32, kind: Kind) -> u64
 }
 
 /// The part that is group k of a kind.
-fn part_in(kind: Kind, k: u64) -> SectionPart
+pub(crate) fn part_in(kind: Kind, k: u64) -> SectionPart
     ensures { result ≡ the_part kind k }
 {
     match kind {

@@ -2,6 +2,7 @@
 //! (ISO/IEC 18181-1, frame: groups, LF groups and passes).
 #![tactic(auto)]
 
+pub mod area;
 pub mod complete;
 pub mod cut;
 pub mod laws;
