@@ -2,7 +2,7 @@
 # triangle: the same on examples/triangle.hex, drawn in the terminal.
 # groups: the same on examples/groups.hex, a picture of two groups; it prints the samples.
 # build: proves and builds the program, and prints where it lies.
-# docs: looks up each name that the documents cite.
+# docs: looks up each name that the documents cite, and the code that they quote.
 # test: docs, and then every proof, every edit that the prover must refuse, every test and the program's run.
 
 .PHONY: run triangle groups build docs test

@@ -1,6 +1,8 @@
 #!/bin/sh
-# Looks up the names that the documents cite as code; make test runs it before the proofs.
+# Looks up the names that the documents cite, and the code that they quote; make test runs it before the proofs.
 #
+# - Each quotation of code, a block marked rust or antt, begins with a comment that names a file, and the rest of it stands in that file as
+#   it is, line by line.
 # - Each path in backticks that begins with a folder of the repository or with a crate exists.
 # - docs/PROVED.md, in a section that names a crate: each function of a table's first column is in the crate's src/, the clauses of the
 #   second column are its clauses, and the definitions of the third stand in some specs/.
@@ -22,6 +24,27 @@ for doc in README.md CONTRIBUTING.md docs/*.md examples/*.md; do
             bad=1
         fi
     done
+done
+
+# Quotations.
+for doc in README.md CONTRIBUTING.md docs/*.md examples/*.md; do
+    awk '
+        function complain(text) { print FILENAME ": line " FNR ": " text; bad = 1 }
+        function compare(  line, whole) {
+            whole = "\n"
+            while ((getline line < file) > 0) whole = whole line "\n"
+            close(file)
+            if (text == "" || !index(whole, "\n" text)) complain("what is quoted up to here does not stand in " file)
+        }
+        !inside && /^```/ { inside = 1; first = 1; file = text = ""; code = /^```(rust|antt)$/; next }
+        inside && /^```$/ { inside = 0; if (code && file != "") compare(); next }
+        inside && first {
+            first = 0
+            if ($0 ~ /^(\/\/|--) crates\/[A-Za-z0-9_.\/]+$/) { file = $2; next }
+            if (code) complain("a quotation that names no file")
+        }
+        inside { text = text $0 "\n" }
+        END { exit bad }' "$doc" || bad=1
 done
 
 # What there is. Of specs/: def FILE NAME. Of src/: type CRATE FILE NAME, fn CRATE FILE NAME, clause CRATE FILE FUNCTION NAME, where
@@ -132,5 +155,5 @@ for crate in crates/*/; do
     fi
 done
 
-if [ "$bad" = 0 ]; then echo "docs: each name is there"; fi
+if [ "$bad" = 0 ]; then echo "docs: each name is there, and each quotation"; fi
 exit "$bad"

@@ -1,0 +1,4 @@
+pub mod Bytewise
+pub mod BytewiseLaws
+pub mod Prefixed
+pub mod PrefixedLaws

@@ -1,0 +1,6 @@
+//! The examples of the documents, which quote them.
+#![tactic(auto)]
+
+pub mod bytewise;
+pub mod maximum;
+pub mod prefixed;
