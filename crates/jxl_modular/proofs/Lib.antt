@@ -20,4 +20,6 @@ pub mod ParsingLaws
 pub mod SectionLaws
 pub mod TurnLaws
 pub mod SectionParts
+pub mod Shown
+pub mod PictureAreas
 mod Examples

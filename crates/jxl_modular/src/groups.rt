@@ -13,7 +13,7 @@ use crate::recursive::{NestedHeader, RecursiveModularImage};
 use jxlm_base::bits::Bitstream;
 use jxlm_base::decoder::Decoder;
 use jxlm_base::error::Result;
-use jxlm_base::grid::OutOfMemory;
+use jxlm_base::grid::{AlignedGrid, OutOfMemory};
 use jxlm_base::sample::Sample;
 use jxlm_cut::part::{Kind, SectionPart};
 use jxlm_cut::pass::{Pass, passes};
@@ -216,6 +216,10 @@ impl<'dest, S: Sample, D: Decoder> TransformedGlobalModular<'dest, S, D> {
     ghost use Rattle.jxl_modular.specs.Layers.{StandsIn};
     ghost use Rattle.jxl_modular.specs.Recursive.{IsReadIn, ReadFails, image_in, layer_in};
     ghost use Rattle.jxl_modular.specs.SameButCells.{SameButIn};
+    ghost use Rattle.jxl_modular.specs.Image.{IsOnlyImage, coded_grids};
+    ghost use Rattle.jxlm_base.specs.Regions.{store_meanings};
+    ghost use Rattle.jxlm_ma.specs.TreeReading.{IsOutOfMemory};
+    ghost use Rattle.jxlm_transform.specs.Channels.{AreGridsOf};
 
     /// How many LF groups the image has: 0 where no channel is cut into them. They are numbered by rows, left to right.
     pub fn num_lf_groups(&self) -> u64
@@ -429,6 +433,21 @@ impl<'dest, S: Sample, D: Decoder> TransformedGlobalModular<'dest, S, D> {
         state.note(&result);
         self.progress.put(part, state);
         result
+    }
+
+    /// The channels as they are shown while the parts are still decoded, as
+    /// [`shown`](ModularImageDestination::shown) of the image gives them. The image and its parts stay.
+    ///
+    /// # Errors
+    ///
+    /// Out of memory alone: `Decoder(OutOfMemory)` from the decoder, or `Buffer`.
+    pub fn shown(&self, alloc: Global) -> Result<Vec<AlignedGrid<S>>>
+        ensures only { IfOk result (λ v. IsOnlyImage S.width (image_of self.now) (store_meanings S.to_int v.items)
+            (coded_grids S.to_int (image_of self.now))) }
+        ensures sizes { IfOk result (λ v. AreGridsOf (image_of self.now).given v.items) }
+        ensures err { IfErr result (λ e. IsOutOfMemory (kind_of e)) }
+    {
+        self.image.shown(alloc)
     }
 
     /// Gives the image back, with the samples that were decoded.

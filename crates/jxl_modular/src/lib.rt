@@ -31,7 +31,7 @@ pub mod flat {
 
 /// Grids of samples, and rectangles in them.
 pub mod grid {
-    pub use jxlm_base::grid::{AlignedGrid, MutableSubgrid, OutOfMemory, Region};
+    pub use jxlm_base::grid::{AlignedGrid, MutableSubgrid, OutOfMemory, Region, Rows};
 }
 
 /// Meta-adaptive trees.

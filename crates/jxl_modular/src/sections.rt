@@ -17,6 +17,7 @@ use jxlm_base::bits::Bitstream;
 use jxlm_base::decoder::Decoder;
 use jxlm_base::error::Result;
 use jxlm_base::sample::Sample;
+pub use jxlm_cut::area::{Area, PartArea};
 pub use jxlm_cut::part::SectionPart;
 use jxlm_cut::pass::passes;
 use jxlm_ma::flat::Steps;

@@ -9,20 +9,23 @@ use jxlm_base::bits::Bitstream;
 use jxlm_base::decoder::Decoder;
 use jxlm_base::error::Result;
 use jxlm_base::sample::Sample;
+use jxlm_cut::area::{PartArea, parts, picture_sides};
 use jxlm_cut::complete::has_each_part;
 use jxlm_cut::cut::{check_cut, exists, group_count};
 use jxlm_cut::part::{Kind, SectionPart};
-use jxlm_cut::pass::Pass;
+use jxlm_cut::pass::{Pass, passes};
 use jxlm_cut::pieces::{Pieces, has_pieces};
 use jxlm_ma::flat::Steps;
 use jxlm_ma::ma::MaConfig;
 use jxlm_nested::nested::NestedPart;
 use jxlm_part::part::PlacedPart;
 use std::alloc::Global;
-use std::collections::BTreeSet;
+use std::collections::{BTreeMap, BTreeSet};
 
 impl<S: Sample, D: Decoder> ModularImageDestination<S, D> {
-    ghost use Rattle.jxlm_base.specs.ErrorKind.{BadSqueeze, kind_of};
+    ghost use Rattle.jxlm_base.specs.ErrorKind.{BadSqueeze, NoMemory, kind_of};
+    ghost use Rattle.jxlm_cut.specs.Areas.{areas_of, picture_of};
+    ghost use Rattle.jxlm_cut.specs.Passes.{can_group as groups_possible, passes_of};
     ghost use Rattle.jxlm_cut.specs.Counts.{exists as the_existing, group_count as the_group_count};
     ghost use Rattle.jxlm_cut.specs.Cutting.{can_cut};
     ghost use Rattle.jxlm_cut.specs.PartSets.{HoldsEach};
@@ -94,6 +97,44 @@ impl<S: Sample, D: Decoder> ModularImageDestination<S, D> {
             passes,
             parts,
         )
+    }
+
+    /// All parts of the image where it is cut into groups by these passes, each with the rectangle that it covers of the
+    /// picture, in the samples of a channel of the picture's size before all transforms (ISO/IEC 18181-1, frame:
+    /// groups, LF groups and passes). It must be possible ([`can_group`](Self::can_group)).
+    ///
+    /// First comes the global part, which covers the whole picture; then the LF groups, whose squares have eight times
+    /// the side of a group; and then the groups of one pass after the other, whose squares have the side of a group.
+    /// Groups are numbered by rows, left to right; the last of a row, and those of the last row, may be narrow. This is
+    /// the order of sections. A part without samples is among them, which has no section
+    /// ([`is_empty`](crate::groups::TransformedGlobalModular::is_empty)).
+    ///
+    /// # Errors
+    ///
+    /// `Buffer` if it is out of memory, and no other.
+    pub fn parts(
+        &self,
+        alloc: Global,
+        pass_shifts: &BTreeMap<u32, (i32, i32)>,
+    ) -> Result<Vec<PartArea>>
+        requires possible { IsTrue (groups_possible (passes_of pass_shifts.now.entries) self.now.given) }
+        ensures each { IfOk result (λ parts. parts.items ≡ areas_of (picture_of self.now.given).0
+            (picture_of self.now.given).1 self.now.group_dim (passes_of pass_shifts.now.entries)
+            (coded_list self.now)) }
+        ensures err { IfErr result (λ e. kind_of e ≡ NoMemory) }
+    {
+        let passes = passes(alloc, pass_shifts)?;
+        let (width, height) = picture_sides(&self.given);
+        let list = parts(
+            alloc,
+            width,
+            height,
+            &self.channels,
+            self.nb_meta_channels,
+            self.group_dim,
+            &passes,
+        )?;
+        Ok(list)
     }
 
     /// Decodes all samples of a part. All memory is taken before the first bit is read.

@@ -79,7 +79,8 @@ fn clone_grids<S: Sample>(
 }
 
 impl<S: Sample, D: Decoder> ModularImageDestination<S, D> {
-    ghost use Rattle.jxl_modular.specs.Image.{grids_given};
+    ghost use Rattle.jxlm_base.specs.Regions.{store_meanings};
+    ghost use Rattle.jxl_modular.specs.Image.{IsOnlyImage, coded_grids, grids_given};
     ghost use Rattle.jxlm_transform.specs.Channels.{AreGridsOf};
 
     /// Whether a transform of the header is a palette.
@@ -122,6 +123,32 @@ impl<S: Sample, D: Decoder> ModularImageDestination<S, D> {
             coded: Vec::from_slice(alloc, &self.coded)?,
             undoings: clone_all(alloc, &self.undoings)?,
         })
+    }
+
+    /// The channels as they are shown while the image is still decoded: the only ones that the transforms turn into the
+    /// coded samples as they stand (ISO/IEC 18181-1, Modular: inverse transforms), with 0 for each that is not decoded
+    /// yet. So after the first squeeze levels the picture is coarse.
+    ///
+    /// The transforms are undone in a clone. This image stays, to be decoded further. It is not finished yet: the
+    /// samples of a finished image would be taken for coded ones.
+    ///
+    /// # Memory
+    ///
+    /// That of [`try_clone`](Self::try_clone), of which the channels are left, and some rows and columns of the largest
+    /// grid.
+    ///
+    /// # Errors
+    ///
+    /// Out of memory alone: `Decoder(OutOfMemory)` from the decoder, or `Buffer`.
+    pub fn shown(&self, alloc: Global) -> Result<Vec<AlignedGrid<S>>>
+        ensures only { IfOk result (λ v. IsOnlyImage S.width self.now (store_meanings S.to_int v.items)
+            (coded_grids S.to_int self.now)) }
+        ensures sizes { IfOk result (λ v. AreGridsOf self.now.given v.items) }
+        ensures err { IfErr result (λ e. IsOutOfMemory (kind_of e)) }
+    {
+        let mut copy = self.try_clone(alloc)?;
+        copy.undo_transforms(alloc)?;
+        Ok(copy.into_image_channels())
     }
 
     /// The channels of the image, as [`image_channels`](Self::image_channels) lends them; all else is let go.

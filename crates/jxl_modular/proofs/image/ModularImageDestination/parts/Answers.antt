@@ -1,0 +1,16 @@
+use Rattle.std.proofs.Common.{◌≡◌, ◌∙◌, ℕ, IsTrue, sym, ap, subst}
+use Rattle.jxlm_cut.specs.Areas.{AreOfPicture, picture_of}
+use Rattle.jxlm_cut.specs.Cutting.{list_with}
+use Rattle.jxlm_cut.specs.Passes.{can_group, passes_of}
+use Rattle.jxl_modular.proofs.PictureAreas.{of_image}
+use Rattle.jxl_modular.proofs.image.ModularImageDestination.parts.Goals as goal
+
+pub parts-requires-clause-pictured : goal.parts-requires-clause-pictured
+parts-requires-clause-pictured g c =
+    let x = c.self.inside in
+    let passes = passes_of c.args.pass_shifts.now.entries in
+    let can = subst (λ y. IsTrue (can_group passes y.given)) (sym c.self.view_is) c.requires.possible in
+    let sides : c.picture_sides-width.result ≡ picture_of x.given.items = c.picture_sides-width.ensures ∙ ap picture_of c.deref.ensures.value in
+    let alike = of_image _ passes c.self.invariant.laid can in
+    subst (λ cs. AreOfPicture c.picture_sides-width.result.0 c.picture_sides-width.result.1 x.group_dim (list_with cs x.nb_meta_channels)) (sym c.deref-2.ensures.value)
+    (subst (λ (p : ℕ × ℕ). AreOfPicture p.0 p.1 x.group_dim (list_with x.channels.items x.nb_meta_channels)) (sym sides) alike)
