@@ -4,3 +4,4 @@
 pub mod bytewise;
 pub mod maximum;
 pub mod prefixed;
+pub mod viewer;
