@@ -29,7 +29,7 @@ use Rattle.jxl_modular.specs.declared.groups.Part.TheVariants as groups
 use Rattle.jxl_modular.specs.declared.groups.PartState.{PartState}
 use Rattle.jxl_modular.specs.declared.groups.Progress.{Progress}
 use Rattle.jxl_modular.specs.declared.groups.TransformedGlobalModular.{TransformedGlobalModular}
-use Rattle.jxl_modular.specs.Groups.{PartOfGives, channels_in, held_in}
+use Rattle.jxl_modular.specs.Groups.{KeepsOtherGrids, PartOfGives, channels_in, held_in}
 use Rattle.jxl_modular.specs.GroupParts.{KeepsOtherParts, channels_of, image_of, is_partial, or_new, passes_in, section_part, state_in, state_kept, state_of, steps_of}
 use Rattle.jxl_modular.specs.Image.{Image, coded_list}
 use Rattle.jxl_modular.specs.NestedTurns.{NestedGives}
@@ -142,13 +142,14 @@ module _ {S D : Type 0} (d : Meaning D) (w : Width) (to_int : S → ℤ) (bytes 
   -- what decoding a part by a header of its own gives where it is out of memory at once
   pub nested_refused : (x : TransformedGlobalModular S D) (part : Part) (p : ℕ) (nought : S) (global : Option (Config D)) (allow : Bool) (result : Result Bool Error) (e : Error) (progress : Progress) →
       result ≡ Err e → error_kind e ≡ NoMemory → state_kept progress part ≡ state_kept x.progress part →
-      NestedGives d w to_int nought (image_of x) (passes_in x) global bytes p (section_part part) stream allow result (image_of x).store (image_of x).store (steps_of x part) (state_in progress part).steps
+      NestedGives d w to_int nought (image_of x) (passes_in x) global bytes p (section_part part) stream allow result (image_of x).store (image_of x).store p (steps_of x part) (state_in progress part).steps
   nested_refused x part p nought global allow result e progress is memory same =
-      subst (λ (r : Result Bool Error). NestedGives d w to_int nought (image_of x) (passes_in x) global bytes p (section_part part) stream allow r (image_of x).store (image_of x).store (steps_of x part) (state_in progress part).steps) (sym is)
-      (subst (λ (n : ℕ). NestedGives d w to_int nought (image_of x) (passes_in x) global bytes p (section_part part) stream allow (Err e) (image_of x).store (image_of x).store (steps_of x part) n)
+      subst (λ (r : Result Bool Error). NestedGives d w to_int nought (image_of x) (passes_in x) global bytes p (section_part part) stream allow r (image_of x).store (image_of x).store p (steps_of x part) (state_in progress part).steps) (sym is)
+      (subst (λ (n : ℕ). NestedGives d w to_int nought (image_of x) (passes_in x) global bytes p (section_part part) stream allow (Err e) (image_of x).store (image_of x).store p (steps_of x part) n)
       (sym (ap (λ (o : Option PartState). (or_new o).steps) same)) (
         record { position = p; partial = false; tried = 0; tree = (image_of x).config.tree },
         inl (record { fails = rw memory tt; unchanged = refl; tries = refl }),
+        refl,
         (omega arith, omega arith),
       ))
 
@@ -185,13 +186,16 @@ module _ {S D : Type 0} (x : TransformedGlobalModular S D) (part : Part) (s t : 
     go (Ok whole) h = tt
     go (Err e) h = by_state ∙ ap (λ b. has_cells && b) (h ∙ ap (λ (v : PartState). v.partial) taken)
 
--- the other parts are decoded as far as before, where what is kept of them, the passes and the channels stay
-pub others_kept : {S D : Type 0} (x new : TransformedGlobalModular S D) (part : Part) →
-    ((other : Part) → other ≢ part → state_kept new.progress other ≡ state_kept x.progress other) → passes_in new ≡ passes_in x → SameButCells (image_of x) (image_of new) → KeepsOtherParts part x new
-others_kept x new part states passes same = record {
+-- the other parts are decoded as far as before, and have the same grids, where what is kept of them, the passes, the
+-- channels and the grids stay
+pub others_kept : {S D : Type 0} (to_int : S → ℤ) (x new : TransformedGlobalModular S D) (part : Part) →
+    ((other : Part) → other ≢ part → state_kept new.progress other ≡ state_kept x.progress other) → passes_in new ≡ passes_in x → SameButCells (image_of x) (image_of new) →
+    KeepsOtherGrids to_int (passes_in x) (section_part part) (image_of x) (image_of new) → KeepsOtherParts to_int part x new
+others_kept to_int x new part states passes same grids = record {
   partial = λ other unlike.
       let channels : channels_of new other ≡ channels_of x other = rw (same.group_dim, same.channels, same.nb_meta, passes) refl in
       let state : state_of new other ≡ state_of x other = ap or_new (states other unlike) in
       rw (channels, state) refl;
   steps = λ other unlike. ap (λ (o : Option PartState). (or_new o).steps) (states other unlike);
+  grids = grids;
 }

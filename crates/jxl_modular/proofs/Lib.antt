@@ -3,6 +3,7 @@ pub mod Layouts
 pub mod Suits
 pub mod UndoneImage
 pub mod GroupLaws
+pub mod OtherParts
 pub mod Pairs
 pub mod PartLaws
 pub mod PartNests

@@ -71,24 +71,25 @@ module _ {S D : Type 0} (x : Image S D) (laid : IsLaidOut x) (passes : List Pass
       record { column = omega (arith, wide, columns); row = omega (arith, high, rows) }
 
   module _ (d : Meaning D) (w : Width) (to_int : S → ℤ) (zero : S) (global : Option (Config D)) (bytes : List ℕ) (p stream : ℕ) (partly : Bool) where
-    abbrev Gives : Result Bool Error → List (Grid S) → ℕ → ℕ → Type 0
-    Gives result new before after = NestedGives d w to_int zero x passes global bytes p part stream partly result x.store new before after
+    abbrev Gives : Result Bool Error → List (Grid S) → ℕ → ℕ → ℕ → Type 0
+    Gives result new until before after = NestedGives d w to_int zero x passes global bytes p part stream partly result x.store new until before after
 
     -- an error before the first sample
     pub not_begun : (e : Error) (q n : ℕ) →
         UnlessMemory (kind_of e) (IsErrorAt (opened global bytes (nested_list its_channels) p) (kind_of e) q ⊎ IsTreeErrorAt d global bytes (nested_list its_channels) p (kind_of e) q) →
-        Gives (Err e) x.store n n
+        Gives (Err e) x.store q n n
     not_begun e q n fails = (
       record { position = q; partial = false; tried = 0; tree = x.config.tree },
       inl (record { fails = fails; unchanged = refl; tries = refl }),
+      refl,
       (omega arith, omega arith),
     )
 
     -- whatever it returns, it changes the part alone
-    pub nested_outside : (result : Result Bool Error) (new : List (Grid S)) (before after : ℕ) → Gives result new before after → KeepsOutside its_regions x.store new
-    nested_outside (Ok whole) new before after (t, turn, moves) = turn.0.outside
-    nested_outside (Err e) new before after (t, inl none, moves) = subst (KeepsOutside its_regions x.store) (sym none.unchanged) (keeps_all its_regions x.store)
-    nested_outside (Err e) new before after (t, inr stops, moves) =
+    pub nested_outside : (result : Result Bool Error) (new : List (Grid S)) (until before after : ℕ) → Gives result new until before after → KeepsOutside its_regions x.store new
+    nested_outside (Ok whole) new until before after (t, turn, at, moves) = turn.0.outside
+    nested_outside (Err e) new until before after (t, inl none, at, moves) = subst (KeepsOutside its_regions x.store) (sym none.unchanged) (keeps_all its_regions x.store)
+    nested_outside (Err e) new until before after (t, inr stops, at, moves) =
         stops_outside d w to_int zero x.bit_depth global bytes p (nested_list its_channels) its_regions stream x.store partly e t new stops
 
     module _ (n : NestedPart D) (q : ℕ) (is : IsNested d global bytes (nested_list its_channels) (nested_places its_regions (length x.store)) p n q) where
@@ -105,9 +106,9 @@ module _ {S D : Type 0} (x : Image S D) (laid : IsLaidOut x) (passes : List Pass
           its_sizes (held_lie x laid passes part) its_apart n q is narrow_begun
 
       -- and what decoding them returns is its turn
-      pub nested_gives : (result : Result Bool Error) (new : List (Grid S)) (before after : ℕ) →
-          WithSteps (λ t. FillsIn d w to_int bytes stream q n partly zero x.bit_depth result t x.store new) before after → Gives result new before after
-      nested_gives (Ok whole) new before after (t, fills, moves) =
-          (t, turned_ok d w to_int zero x.bit_depth global bytes p (nested_list its_channels) its_regions stream x.store its_sizes (held_lie x laid passes part) its_apart n q is partly whole t new fills, moves)
-      nested_gives (Err e) new before after (t, fills, moves) =
-          (t, turned_err d w to_int zero x.bit_depth global bytes p (nested_list its_channels) its_regions stream x.store its_sizes (held_lie x laid passes part) its_apart n q is partly e t new fills, moves)
+      pub nested_gives : (result : Result Bool Error) (new : List (Grid S)) (until before after : ℕ) →
+          WithSteps (λ t. FillsIn d w to_int bytes stream q n partly zero x.bit_depth result t x.store new) until before after → Gives result new until before after
+      nested_gives (Ok whole) new until before after (t, fills, at, moves) =
+          (t, turned_ok d w to_int zero x.bit_depth global bytes p (nested_list its_channels) its_regions stream x.store its_sizes (held_lie x laid passes part) its_apart n q is partly whole t new fills, at, moves)
+      nested_gives (Err e) new until before after (t, fills, at, moves) =
+          (t, turned_err d w to_int zero x.bit_depth global bytes p (nested_list its_channels) its_regions stream x.store its_sizes (held_lie x laid passes part) its_apart n q is partly e t new fills, at, moves)

@@ -19,12 +19,10 @@ use Rattle.jxlm_base.proofs.Outside.{all_lie_still}
 use Rattle.jxlm_base.proofs.Regions.{at-grid_of}
 use Rattle.jxlm_chain.specs.Layout.{no_region}
 use Rattle.jxlm_transform.specs.Channels.{AreRegionsOf}
-use Rattle.jxlm_cut.specs.Parts.{HoldEachCellOnce}
 use Rattle.jxlm_cut.specs.Pieces.{in_store, within}
 use Rattle.jxlm_cut.specs.declared.part.SectionPart.{SectionPart}
 use Rattle.jxlm_cut.specs.declared.pass.Pass.{Pass}
 use Rattle.jxlm_cut.proofs.Apart.{IsInside, part_kept}
-use Rattle.jxlm_cut.proofs.Parts.{parts_hold}
 use Rattle.jxlm_cut.proofs.PieceFacts.{each_inside, pieces_lie}
 use Rattle.jxlm_part.specs.Decode.{DecodeGives, Fails, Standing}
 use Rattle.jxlm_part.specs.Decode as decode
@@ -77,7 +75,7 @@ zip_weaker R S f [] (y ∷ ys) h = absurd h
 zip_weaker R S f (x ∷ xs) [] h = absurd h
 zip_weaker R S f (x ∷ xs) (y ∷ ys) h = (f x y h.0, zip_weaker R S f xs ys h.1)
 
-module _ {S D : Type 0} (d : Meaning D) (w : Width) (to_int : S → ℤ) (zero : S) (x : Image S D) (passes : List Pass) (global : Option (Config D)) (once : HoldEachCellOnce x.group_dim passes (coded_list x))
+module _ {S D : Type 0} (d : Meaning D) (w : Width) (to_int : S → ℤ) (zero : S) (x : Image S D) (passes : List Pass) (global : Option (Config D))
     (sides : AreRegionsOf x.channels x.coded) (apart : LieApart x.coded) where
   abbrev Left : Bool → List Section → List Turn → List (Grid S) → List (Grid S) → Type 0
   Left = AllTurn d w to_int zero x passes global
@@ -101,7 +99,7 @@ module _ {S D : Type 0} (d : Meaning D) (w : Width) (to_int : S → ℤ) (zero :
   -- A turn of one part keeps what is in another.
   other_stands : (one other : SectionPart) (old new : List (Grid S)) → (one ≡ other → ⊥) → AllLie x.coded old → KeepsOutside (held_in x passes one) old new → stand other new ≡ stand other old
   other_stands one other old new unlike lie keeps =
-      part_kept x.group_dim passes (coded_list x) once x.coded apart inside_of one other unlike to_int old new
+      part_kept x.group_dim passes (coded_list x) x.coded apart inside_of one other unlike to_int old new
       (pieces_lie old x.coded (pieces_of x passes other) lie (inside_of other)) keeps
 
   match_either : {P Q R : Type 0} (b : Bool) → (P → R) → (Q → R) → MatchBool b P Q → R
@@ -200,11 +198,7 @@ module _ {S D : Type 0} (d : Meaning D) (w : Width) (to_int : S → ℤ) (zero :
 pub decoded_if_true : {S D : Type 0} (d : Meaning D) (w : Width) (to_int : S → ℤ) (zero : S) (x : Image S D) (passes : List Pass) (global : Option (Config D)) (partly : Bool) (ss : List Section) (image : List (Grid ℤ)) (before after : ℕ) →
     IsLaidOut x → SectionsFit x passes ss → SectionsLeave d w to_int zero x passes global partly ss true x.store image before after → AreDecoded d w to_int zero x passes global ss image before after
 decoded_if_true d w to_int zero x passes global partly ss image before after laid fit leave =
-    are_decoded d w to_int zero x passes global once (coded_sizes x laid) (coded_apart x laid) partly ss x.store image before after (coded_lie x laid) fit.unlike leave where
-      once : HoldEachCellOnce x.group_dim passes (coded_list x)
-      once =
-          parts_hold x.group_dim passes laid.asked.params x.steps (coded_list x) laid.groups laid.asked.valid laid.steps
-          (rw (← laid.asked.are) fit.cut.groups) (rw (← laid.asked.are) laid.list) fit.cut.cells
+    are_decoded d w to_int zero x passes global (coded_sizes x laid) (coded_apart x laid) partly ss x.store image before after (coded_lie x laid) fit.unlike leave
 
 pub decoded_if_so : {S D : Type 0} {E : Type 0} (d : Meaning D) (w : Width) (to_int : S → ℤ) (zero : S) (x : Image S D) (passes : List Pass) (global : Option (Config D)) (partly : Bool) (ss : List Section) (image : List (Grid ℤ)) (before after : ℕ) (answer : Bool) →
     IsLaidOut x → SectionsFit x passes ss → SectionsLeave d w to_int zero x passes global partly ss answer x.store image before after → ◌≡◌ {A = Result Bool E} (Ok answer) (Ok true) → AreDecoded d w to_int zero x passes global ss image before after

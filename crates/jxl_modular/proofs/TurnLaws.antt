@@ -151,11 +151,11 @@ module _ {S D : Type 0} (d : Meaning D) (w : Width) (to_int : S → ℤ) (zero :
   match_true Q true is h = h
   match_true Q false is h = absurd cc
 
-  pub nested_turn : (s : Section) (r : Result Bool Error) (old new : List (Grid S)) (before after : ℕ) → s.nested ≡ true →
-      NestedGives d w to_int zero x passes global (bytes_of s.bits) (position_of s.bits) s.part s.stream_index partly r old new before after →
+  pub nested_turn : (s : Section) (r : Result Bool Error) (old new : List (Grid S)) (q before after : ℕ) → s.nested ≡ true →
+      NestedGives d w to_int zero x passes global (bytes_of s.bits) (position_of s.bits) s.part s.stream_index partly r old new q before after →
       TurnGives d w to_int zero x passes global partly s r old new before after
-  nested_turn s (Ok whole) old new before after is (t, turn, moves) = (t, (match_true _ s.nested is turn.0, turn.1), by_depth before after t.tried t.tree moves)
-  nested_turn s (Err e) old new before after is (t, turn, moves) = (t, match_true _ s.nested is turn, by_depth before after t.tried t.tree moves)
+  nested_turn s (Ok whole) old new q before after is (t, turn, at, moves) = (t, (match_true _ s.nested is turn.0, turn.1), by_depth before after t.tried t.tree moves)
+  nested_turn s (Err e) old new q before after is (t, turn, at, moves) = (t, match_true _ s.nested is turn, by_depth before after t.tried t.tree moves)
 
   left_next : (ss : List Section) (ts : List Turn) (s : Section) (t : Turn) (old between new : List (Grid S)) → Left ss ts old between →
       Turned d w to_int zero x passes global partly s t between new → Left (ss ++ s ∷ []) (ts ++ t ∷ []) old new

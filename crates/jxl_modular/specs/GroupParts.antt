@@ -16,7 +16,7 @@ use Rattle.jxlm_cut.specs.declared.part.SectionPart.TheVariants as sections
 use Rattle.jxlm_part.specs.Part.{cell_count}
 use Rattle.jxlm_ma.specs.Tree.{Config}
 use Rattle.jxl_modular.specs.NestedTurns.{NestedGives}
-use Rattle.jxl_modular.specs.Groups.{PartOfGives, channels_in, held_in}
+use Rattle.jxl_modular.specs.Groups.{HasEachCellOnce, KeepsOtherGrids, PartOfGives, channels_in, held_in}
 use Rattle.jxl_modular.specs.Image.{Image, coded_list}
 use Rattle.jxl_modular.specs.contracts.groups.PartOrd.TheImpl as order
 use Rattle.jxl_modular.specs.declared.groups.Part.TheVariants as parts
@@ -90,17 +90,23 @@ module _ {S D : Type 0} where
     pub partial : (part : Part) → is_partial x part ≡ nat_lt 0 (cell_count (channels_of x part))
     pub steps : (part : Part) → steps_of x part ≡ 0
 
-  -- the other parts are decoded as far as before
-  pub record KeepsOtherParts (part : Part) (old new : TransformedGlobalModular S D) : Type 0 where
+  -- each coded cell is in exactly one part
+  abbrev pub EachCellIsInOnePart : TransformedGlobalModular S D → Type 0
+  EachCellIsInOnePart x = HasEachCellOnce (image_of x) (passes_in x)
+
+  -- the other parts are decoded as far as before, and their grids, those of the global part too, are as before
+  pub record KeepsOtherParts (to_int : S → ℤ) (part : Part) (old new : TransformedGlobalModular S D) : Type 0 where
     pub partial : (other : Part) → other ≢ part → is_partial new other ≡ is_partial old other
     pub steps : (other : Part) → other ≢ part → steps_of new other ≡ steps_of old other
+    pub grids : KeepsOtherGrids to_int (passes_in old) (section_part part) (image_of old) (image_of new)
 
   -- what decoding a part returns, with the reader's positions before and after
   abbrev pub PartGives : Meaning D → Width → (S → ℤ) → List ℕ → ℕ → Part → TransformedGlobalModular S D → ℕ → TransformedGlobalModular S D → ℕ → Bool → Result (Unit {0}) Error → Type 0
   PartGives d w to_int bytes stream part old p new q allow result =
       PartOfGives d w to_int bytes stream (passes_in old) (section_part part) (image_of old) p (is_partial old part) (steps_of old part) (image_of new) q (is_partial new part) (steps_of new part) allow result
 
-  -- what decoding a part by a header of its own returns, with what it took of steps; the transforms of the header are undone
-  abbrev pub NestedPartGives : Meaning D → Width → (S → ℤ) → S → Option (Config D) → List ℕ → ℕ → Part → TransformedGlobalModular S D → ℕ → TransformedGlobalModular S D → Bool → Result Bool Error → Type 0
-  NestedPartGives d w to_int zero global bytes stream part old p new allow result =
-      NestedGives d w to_int zero (image_of old) (passes_in old) global bytes p (section_part part) stream allow result (image_of old).store (image_of new).store (steps_of old part) (steps_of new part)
+  -- what decoding a part by a header of its own returns, with the reader's positions before and after, and what it took of
+  -- steps; the transforms of the header are undone
+  abbrev pub NestedPartGives : Meaning D → Width → (S → ℤ) → S → Option (Config D) → List ℕ → ℕ → Part → TransformedGlobalModular S D → ℕ → TransformedGlobalModular S D → ℕ → Bool → Result Bool Error → Type 0
+  NestedPartGives d w to_int zero global bytes stream part old p new q allow result =
+      NestedGives d w to_int zero (image_of old) (passes_in old) global bytes p (section_part part) stream allow result (image_of old).store (image_of new).store q (steps_of old part) (steps_of new part)

@@ -1,13 +1,16 @@
 -- The parts of an image that is cut into groups: which there are, what each holds, and what decoding one returns
 -- (ISO/IEC 18181-1, frame: groups, LF groups and passes; Modular: global and group sub-bitstreams).
-use Rattle.std.specs.Prelude.{ℕ, ℤ, List, Bool, IsTrue, Result}
+use Rattle.std.specs.Prelude.{◌≡◌, ◌≢◌, ℕ, ℤ, List, Bool, IsTrue, Result}
 use Rattle.std.specs.Int.{Width}
 use Rattle.jxlm_base.specs.Decoding.{Meaning}
+use Rattle.jxlm_base.specs.Grid.{Grid}
+use Rattle.jxlm_base.specs.Regions.{grids_in, store_meanings}
 use Rattle.jxlm_base.specs.declared.error.Error.{Error}
 use Rattle.jxlm_base.specs.declared.subgrid.Region.{Region}
 use Rattle.jxlm_transform.specs.Channels.{Channel}
 use Rattle.jxlm_cut.specs.Counts.{exists}
 use Rattle.jxlm_cut.specs.Cutting.{can_cut}
+use Rattle.jxlm_cut.specs.Parts.{AreAllApart, HoldEachCellOnce}
 use Rattle.jxlm_cut.specs.Passes.{can_group}
 use Rattle.jxlm_cut.specs.Pieces.{in_store, part_channels, pieces}
 use Rattle.jxlm_cut.specs.declared.part.SectionPart.{SectionPart}
@@ -40,6 +43,20 @@ module _ {S D : Type 0} (x : Image S D) (passes : List Pass) where
   -- the part, read with this stream index
   abbrev pub part_in : SectionPart → ℕ → Part
   part_in part stream = record { channels = channels_in part; weights = x.weights; tree = x.config.tree; stream = stream }
+
+  -- each coded cell is in exactly one part, and no two parts share a cell of the image's buffers
+  pub record HasEachCellOnce : Type 0 where
+    pub once : HoldEachCellOnce x.group_dim passes (coded_list x)
+    pub apart : (one other : SectionPart) → one ≢ other → AreAllApart (held_in one) (held_in other)
+
+module _ {S D : Type 0} (to_int : S → ℤ) (passes : List Pass) where
+  -- the grids of a part, of the numbers that the samples stand for
+  abbrev pub part_grids : Image S D → SectionPart → List (Grid ℤ)
+  part_grids x part = grids_in (held_in x passes part) (store_meanings to_int x.store)
+
+  -- the grids of each other part are as before
+  abbrev pub KeepsOtherGrids : SectionPart → Image S D → Image S D → Type 0
+  KeepsOtherGrids part old new = (other : SectionPart) → other ≢ part → part_grids new other ≡ part_grids old other
 
 -- what decoding a part of an image returns
 abbrev pub PartOfGives : {S D : Type 0} → Meaning D → Width → (S → ℤ) → List ℕ → ℕ → List Pass → SectionPart → Image S D → ℕ → Bool → ℕ → Image S D → ℕ → Bool → ℕ → Bool → Result (Unit {0}) Error → Type 0

@@ -46,6 +46,11 @@ pub use Rattle.jxlm_transform.specs.Shifts
 pub use Rattle.jxlm_transform.specs.Steps
 pub use Rattle.jxlm_transform.specs.Transforms
 pub use Rattle.jxlm_chain.specs.Chain
+pub use Rattle.jxlm_cut.specs.Counts
+pub use Rattle.jxlm_cut.specs.Cutting
+pub use Rattle.jxlm_cut.specs.Parts as PartCells
+pub use Rattle.jxlm_cut.specs.Passes
+pub use Rattle.jxlm_cut.specs.Pieces
 pub use Rattle.jxlm_header.specs.Header
 pub use Rattle.jxlm_header.specs.Opening
 pub use Rattle.jxlm_nested.specs.Nested

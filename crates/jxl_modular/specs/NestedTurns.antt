@@ -27,7 +27,8 @@ module _ {S D : Type 0} (d : Meaning D) (w : Width) (to_int : S → ℤ) (zero :
       NestedFails d w to_int zero x.bit_depth global bytes p (list_in x passes part) (held_in x passes part) stream
       partly e t old new
 
-  -- and what it took of steps: for each sample whose read was tried, no more than `most_steps` of the tree
-  abbrev pub NestedGives : Result Bool Error → List (Grid S) → List (Grid S) → ℕ → ℕ → Type 0
-  NestedGives result old new before after =
-      (t : Turn) × NestedTurns result t old new × MovesWithin before after (t.tried * most_steps t.tree)
+  -- with the reader's position afterwards, and what it took of steps: for each sample whose read was tried, no more than
+  -- `most_steps` of the tree
+  abbrev pub NestedGives : Result Bool Error → List (Grid S) → List (Grid S) → ℕ → ℕ → ℕ → Type 0
+  NestedGives result old new q before after =
+      (t : Turn) × NestedTurns result t old new × (t.position ≡ q) × MovesWithin before after (t.tried * most_steps t.tree)

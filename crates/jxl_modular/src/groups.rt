@@ -168,7 +168,7 @@ impl<S: Sample, D: Decoder> ModularImageDestination<S, D> {
     ghost use Rattle.jxlm_cut.specs.Cutting.{can_cut};
     ghost use Rattle.jxlm_cut.specs.Passes.{can_group as groups_possible, passes_of};
     ghost use Rattle.jxl_modular.specs.Groups.{IsCut};
-    ghost use Rattle.jxl_modular.specs.GroupParts.{AreNew, image_of, loan, passes_in};
+    ghost use Rattle.jxl_modular.specs.GroupParts.{AreNew, EachCellIsInOnePart, image_of, loan, passes_in};
     ghost use Rattle.jxl_modular.specs.Image.{coded_list};
     ghost use Rattle.jxl_modular.specs.PartRests.{RestsWithGroups};
 
@@ -176,7 +176,8 @@ impl<S: Sample, D: Decoder> ModularImageDestination<S, D> {
     /// hold (ISO/IEC 18181-1, frame: passes and groups). It must be possible
     /// ([`can_group`](ModularImageDestination::can_group)).
     ///
-    /// Each part that has samples is partial at first, and without a step; the image stays as it is.
+    /// Each part that has samples is partial at first, and without a step; the image stays as it is. Each coded sample
+    /// is in exactly one part, the global part among them.
     ///
     /// # Errors
     ///
@@ -193,6 +194,7 @@ impl<S: Sample, D: Decoder> ModularImageDestination<S, D> {
         ensures unchanged { IfOk result (λ g. image_of g ≡ self.old) }
         ensures passes { IfOk result (λ g. passes_in g ≡ passes_of pass_shifts.now.entries) }
         ensures cut { IfOk result (λ g. IsCut (image_of g) (passes_in g)) }
+        ensures once { IfOk result EachCellIsInOnePart }
         ensures new { IfOk result AreNew }
         ensures err { IfErr result (λ e. UnlessNoMemory (kind_of e) ((kind_of e ≡ BadSqueeze)
             × IsFalse (can_cut self.old.group_dim (coded_list self.old)))) }
@@ -211,10 +213,12 @@ impl<S: Sample, D: Decoder> ModularImageDestination<S, D> {
 }
 
 impl<'dest, S: Sample, D: Decoder> TransformedGlobalModular<'dest, S, D> {
+    ghost use Rattle.std.specs.Borrow.{sem};
     ghost use Rattle.jxlm_cut.specs.declared.part.Kind.TheVariants as kinds;
     ghost use Rattle.jxl_modular.specs.GroupParts.{KeepsOtherParts, NestedPartGives, PartGives, channels_of, groups_of, image_of, is_partial, loan, pass_count, passes_in, regions_of, steps_of};
     ghost use Rattle.jxl_modular.specs.Layers.{StandsIn};
     ghost use Rattle.jxl_modular.specs.Recursive.{IsReadIn, ReadFails, image_in, layer_in};
+    ghost use Rattle.jxl_modular.specs.RecursiveRests.{LendsToHeader};
     ghost use Rattle.jxl_modular.specs.SameButCells.{SameButIn};
     ghost use Rattle.jxl_modular.specs.Image.{IsOnlyImage, coded_grids};
     ghost use Rattle.jxlm_base.specs.Regions.{store_meanings};
@@ -304,7 +308,7 @@ impl<'dest, S: Sample, D: Decoder> TransformedGlobalModular<'dest, S, D> {
             (position_of bits.old) self.new (position_of bits.new) allow_partial result }
         ensures empty { cell_count (channels_of self.old part) ≡ 0 → IsOk result }
         ensures same { SameButIn (regions_of self.old part) (image_of self.old) (image_of self.new) }
-        ensures others { KeepsOtherParts part self.old self.new }
+        ensures others { KeepsOtherParts S.to_int part self.old self.new }
         ensures passes { passes_in self.new ≡ passes_in self.old }
         ensures same_reference { loan self.new ≡ loan self.old }
         ensures bytes { bytes_of bits.new ≡ bytes_of bits.old }
@@ -327,8 +331,17 @@ impl<'dest, S: Sample, D: Decoder> TransformedGlobalModular<'dest, S, D> {
         result
     }
 
-    /// Reads header and tree for the part.
-    fn read_header(
+    /// Reads a header of the part's own, and its tree, at the reader's position (ISO/IEC 18181-1, Modular: group
+    /// sub-bitstreams); `global` is the tree for a header that uses a global one. Its list of channels is the part's,
+    /// of which none is a meta channel. The reader is after what was read, and nothing else changes;
+    /// [`enter`](Self::enter) takes the header.
+    ///
+    /// # Errors
+    ///
+    /// As when an image is read: of the header, of the first transform that does not suit the part's channels, of the
+    /// first condition that does not hold, or of the tree; out of memory may come at any time. Image and parts are as
+    /// before then.
+    pub fn read_header(
         &self,
         alloc: Global,
         part: Part,
@@ -347,18 +360,32 @@ impl<'dest, S: Sample, D: Decoder> TransformedGlobalModular<'dest, S, D> {
             .read_part(alloc, bits, &self.progress.passes, part.into(), global)
     }
 
-    /// Reads a header of the part's own, and its tree, at the reader's position (ISO/IEC 18181-1, Modular: group
-    /// sub-bitstreams); `global` is the tree for a header that uses a global one. Its list of channels is the part's,
-    /// of which none is a meta channel. No cell changes; the reader is after what was read.
+    /// Lends the image to a header that [`read_header`](Self::read_header) read for one of its parts, to decode and
+    /// finish that part by it. Nothing changes.
     ///
-    /// What is decoded and finished by the header is the part's, and no other samples change. How far the part is
-    /// decoded by [`decode`](Self::decode) is not touched. A contract cannot see through this call what the image is
-    /// once the header is given up; through [`decode_nested`](Self::decode_nested) it can.
+    /// What is decoded and finished by the header is the part's, and no other samples change. How far the parts are
+    /// decoded, as [`is_partial`](Self::is_partial) and [`steps`](Self::steps) tell it, stays. A contract cannot see
+    /// through this call what the image is once the header is given up; through
+    /// [`decode_nested`](Self::decode_nested) it can.
+    pub fn enter(&mut self, header: NestedHeader<S, D>) -> RecursiveModularImage<'_, S, D>
+        requires stands { StandsIn header (image_of self.old) }
+        ensures* rests { sem 𝓛 (LendsToHeader S.row D.row D.Decoder self.entry result) }
+        ensures unchanged { image_in result ≡ image_of self.old }
+        ensures header { layer_in result ≡ header }
+    {
+        RecursiveModularImage {
+            image: self.image,
+            header,
+        }
+    }
+
+    /// [`read_header`](Self::read_header), and then [`enter`](Self::enter): a part by a header of its own, which stands
+    /// at the reader's position.
     ///
     /// # Errors
     ///
-    /// As when an image is read: of the header, of the first transform that does not suit the part's channels, of the
-    /// first condition that does not hold, or of the tree; out of memory may come at any time.
+    /// Those of [`read_header`](Self::read_header). That image and parts are as before then is its promise; a contract
+    /// cannot say it of this call.
     pub fn recursive(
         &mut self,
         alloc: Global,
@@ -375,16 +402,15 @@ impl<'dest, S: Sample, D: Decoder> TransformedGlobalModular<'dest, S, D> {
         ensures bytes { bytes_of bits.new ≡ bytes_of bits.old }
     {
         let header = self.read_header(alloc, part, bits, global)?;
-        Ok(RecursiveModularImage {
-            image: self.image,
-            header,
-        })
+        Ok(self.enter(header))
     }
 
     /// Decodes the part by a header of its own, and undoes that header's transforms, so that the part's samples are
     /// finished (ISO/IEC 18181-1, Modular: group sub-bitstreams); `global` is the tree for a header that uses a global
     /// one. It returns whether all samples that the header codes were decoded; the part is whole then. The samples of
     /// other parts stay, and how far these are decoded.
+    ///
+    /// The reader is after the samples; where the input ends and may, it is where the decoder's call began that failed.
     ///
     /// # Memory
     ///
@@ -399,7 +425,8 @@ impl<'dest, S: Sample, D: Decoder> TransformedGlobalModular<'dest, S, D> {
     /// # Errors
     ///
     /// As when an image is read, for header and tree; as of a part's `decode`, for the samples: those before are then
-    /// decoded, and no transform is undone. Out of memory may come at any time.
+    /// decoded, no transform is undone, and the reader is where the decoder's call began. Out of memory may come at any
+    /// time.
     pub fn decode_nested(
         &mut self,
         alloc: Global,
@@ -410,11 +437,12 @@ impl<'dest, S: Sample, D: Decoder> TransformedGlobalModular<'dest, S, D> {
         allow_partial: bool,
     ) -> Result<bool>
         ensures gives { NestedPartGives D.meaning S.width S.to_int (S.from_int (pos 0)) (option_copied global.entry)
-            (bytes_of bits.old) stream_index part self.old (position_of bits.old) self.new allow_partial result }
+            (bytes_of bits.old) stream_index part self.old (position_of bits.old) self.new (position_of bits.new)
+            allow_partial result }
         ensures whole { IfOk result (λ whole. is_partial self.new part ≡ (is_partial self.old part && not whole)) }
         ensures partial { IfErr result (λ _. is_partial self.new part ≡ is_partial self.old part) }
         ensures same { SameButIn (regions_of self.old part) (image_of self.old) (image_of self.new) }
-        ensures others { KeepsOtherParts part self.old self.new }
+        ensures others { KeepsOtherParts S.to_int part self.old self.new }
         ensures passes { passes_in self.new ≡ passes_in self.old }
         ensures same_reference { loan self.new ≡ loan self.old }
         ensures bytes { bytes_of bits.new ≡ bytes_of bits.old }

@@ -21,7 +21,8 @@ use jxlm_part::channels::have_samples;
 use std::alloc::Global;
 use std::marker::Model;
 
-/// A part's own header, with its tree and the tables of its palettes.
+/// A part's own header, with its tree and the tables of its palettes: what reading one gives, for an image that it is
+/// then entered in ([`read_header`](crate::groups::TransformedGlobalModular::read_header)).
 #[derive(Drop)]
 pub struct NestedHeader<S, D: Decoder> {
     pub(crate) part: NestedPart<D>,

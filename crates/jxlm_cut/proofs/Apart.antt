@@ -12,7 +12,8 @@ use Rattle.jxlm_chain.proofs.KeptGrids.{grid_apart}
 use Rattle.jxlm_transform.specs.Channels.{ChannelList}
 use Rattle.jxlm_cut.specs.Passes.{Pass}
 use Rattle.jxlm_cut.specs.Pieces.{SectionPart, pieces, within, in_store}
-use Rattle.jxlm_cut.specs.Parts.{HaveCell, HoldEachCellOnce, AreAllApart}
+use Rattle.jxlm_cut.specs.Parts.{HaveCell, AreAllApart}
+use Rattle.jxlm_cut.proofs.HeldCells.{no_common}
 
 -- a region of the list that has a cell is one that has it
 pub have_at : (ps : List Region) (i : ℕ) (d : Region) (n x y : ℕ) → i < length ps → HasCell (get_or ps i d) n x y → HaveCell ps n x y
@@ -48,15 +49,9 @@ pub record IsInside (coded : List Region) (p : Region) : Type 0 where
   pub wide : p.x + p.width ≤ (get_or coded p.buffer no_region).width
   pub high : p.y + p.height ≤ (get_or coded p.buffer no_region).height
 
-module _ (dim : ℕ) (passes : List Pass) (l : ChannelList) (once : HoldEachCellOnce dim passes l) (coded : List Region) (apart : LieApart coded)
+module _ (dim : ℕ) (passes : List Pass) (l : ChannelList) (coded : List Region) (apart : LieApart coded)
     (inside : (part : SectionPart) → All (IsInside coded) (pieces dim passes l part)) where
   module _ (one other : SectionPart) (unlike : one ≡ other → ⊥) where
-    -- no cell is in regions of both
-    no_common : (n x y : ℕ) → HaveCell (pieces dim passes l one) n x y → HaveCell (pieces dim passes l other) n x y → ⊥
-    no_common n x y a b =
-        let (c, is) = once.inside one n x y a in
-        unlike ((once.once one n x y c is).0 a ∙ sym ((once.once other n x y c is).0 b))
-
     pieces_apart : (p q : Region) → IsInside coded p → IsInside coded q → ((n x y : ℕ) → HasCell p n x y → HasCell q n x y → ⊥) → AreApart (within (get_or coded p.buffer no_region) p) (within (get_or coded q.buffer no_region) q)
     pieces_apart p q in_p in_q never = λ b x y h k.
         let r : Region = get_or coded p.buffer no_region in
@@ -86,7 +81,7 @@ module _ (dim : ℕ) (passes : List Pass) (l : ChannelList) (once : HoldEachCell
         let f : Region → Region = λ p. within (get_or coded p.buffer no_region) p in
         All-map (λ s. All (λ r. AreApart r s) (map f ps)) f qs (λ j d lj.
         All-map (λ r. AreApart r (f (get_or qs j d))) f ps (λ i e li.
-        pieces_apart (get_or ps i e) (get_or qs j d) (inside one i e li) (inside other j d lj) (λ n x y a b. no_common n x y (have_at ps i e n x y li a) (have_at qs j d n x y lj b))))
+        pieces_apart (get_or ps i e) (get_or qs j d) (inside one i e li) (inside other j d lj) (λ n x y a b. no_common dim passes l one other unlike n x y (have_at ps i e n x y li a) (have_at qs j d n x y lj b))))
 
     -- What changes one part's cells alone keeps the grids of the other.
     pub part_kept : {S : Type 0} (to_int : S → ℤ) (old new : List (Grid S)) → AllLie (in_store coded (pieces dim passes l other)) old → KeepsOutside (in_store coded (pieces dim passes l one)) old new →

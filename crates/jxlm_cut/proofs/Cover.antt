@@ -31,7 +31,20 @@ of_both cols b a h =
     let d = div-add-mod' (b * cols + a) cols in
     (q, let e : (b * cols + a) / cols * cols ≡ b * cols = ap (λ z. z * cols) q in omega (arith, d, e))
 
--- Where the cells of a row and of a column cover a channel, each place is in the cell of exactly one group.
+-- A place in the cell of a group is of that group.
+pub is_group : (cw ch w h cols n k x y : ℕ) → HasCell (region n ((k % cols) * cw) ((k / cols) * ch) (min cw (w - (k % cols) * cw)) (min ch (h - (k / cols) * ch))) n x y → k ≡ y / ch * cols + x / cw
+is_group cw ch w h cols n k x y has =
+    let left = has.left in
+    let right = has.right in
+    let top = has.top in
+    let bottom = has.bottom in
+    let across : x / cw ≡ k % cols = of_cell cw x (k % cols) (omega (arith, left, right)) left (omega (arith, right)) in
+    let down : y / ch ≡ k / cols = of_cell ch y (k / cols) (omega (arith, top, bottom)) top (omega (arith, bottom)) in
+    let d = div-add-mod' k cols in
+    let e : y / ch * cols ≡ k / cols * cols = ap (λ z. z * cols) down in
+    omega (arith, d, e, across)
+
+-- Where the cells of a row and of a column cover a channel, each place is in the cell of some group.
 module _ (cw ch w h cols rws : ℕ) (pw : 0 < cw) (ph : 0 < ch) (fw : w ≤ cols * cw) (fh : h ≤ rws * ch) (n k x y : ℕ) (lx : x < w) (ly : y < h) where
   abbrev cell : Region
   cell = region n ((k % cols) * cw) ((k / cols) * ch) (min cw (w - (k % cols) * cw)) (min ch (h - (k / cols) * ch))
@@ -41,18 +54,6 @@ module _ (cw ch w h cols rws : ℕ) (pw : 0 < cw) (ph : 0 < ch) (fw : w ≤ cols
 
   a_row : y / ch < rws
   a_row = below_cells ch rws y ph (omega (arith, fh, ly))
-
-  pub is_group : HasCell cell n x y → k ≡ y / ch * cols + x / cw
-  is_group has =
-      let left = has.left in
-      let right = has.right in
-      let top = has.top in
-      let bottom = has.bottom in
-      let across : x / cw ≡ k % cols = of_cell cw x (k % cols) pw left (omega (arith, right)) in
-      let down : y / ch ≡ k / cols = of_cell ch y (k / cols) ph top (omega (arith, bottom)) in
-      let d = div-add-mod' k cols in
-      let e : y / ch * cols ≡ k / cols * cols = ap (λ z. z * cols) down in
-      omega (arith, d, e, across)
 
   pub has_group : k ≡ y / ch * cols + x / cw → HasCell cell n x y
   has_group e =
@@ -110,45 +111,49 @@ pub record IsCut (dim : ℕ) (c : Channel) : Type 0 where
   pub across : c.width ≤ columns dim c * cell_width dim c
   pub down : c.height ≤ rows dim c * cell_height dim c
 
-module _ (dim n : ℕ) (c : Channel) (x y : ℕ) (lx : x < c.width) (ly : y < c.height) where
-  in_group : (k : ℕ) → IsCut dim c → HasCell (piece_of_group dim k n c) n x y → k ≡ group_of dim c x y
-  in_group k cut = is_group (cell_width dim c) (cell_height dim c) c.width c.height (columns dim c) (rows dim c) cut.wide cut.high cut.across cut.down n k x y lx ly
+module _ (dim n : ℕ) (c : Channel) (x y : ℕ) where
+  in_group : (k : ℕ) → HasCell (piece_of_group dim k n c) n x y → k ≡ group_of dim c x y
+  in_group k = is_group (cell_width dim c) (cell_height dim c) c.width c.height (columns dim c) n k x y
 
+  -- the part that has the cell is the one to which it belongs
+  pub own : (kind : Kind) (part : SectionPart) → HasIn (piece_in dim kind part n c) n x y → part ≡ part_in kind (group_of dim c x y)
+  own kinds.Global parts.Global h = refl
+  own kinds.Lf (parts.Lf k) h = ap parts.Lf (in_group k (some_in (nat_lt k (columns dim c * rows dim c)) (piece_of_group dim k n c) n x y h).1)
+  own (kinds.Pass q) (parts.Pass p k) h =
+      let some = some_in ((p == q) && nat_lt k (columns dim c * rows dim c)) (piece_of_group dim k n c) n x y h in
+      let tests = both_of (p == q) (nat_lt k (columns dim c * rows dim c)) some.0 in
+      ap2 parts.Pass (eqb-true p q tests.0) (in_group k some.1) where
+        ap2 : {a b i j : ℕ} (f : ℕ → ℕ → SectionPart) → a ≡ b → i ≡ j → f a i ≡ f b j
+        ap2 f e d = cc
+  own kinds.Global (parts.Lf k) h = absurd h
+  own kinds.Global (parts.Pass p k) h = absurd h
+  own kinds.Lf parts.Global h = absurd h
+  own kinds.Lf (parts.Pass p k) h = absurd h
+  own (kinds.Pass q) parts.Global h = absurd h
+  own (kinds.Pass q) (parts.Lf k) h = absurd h
+
+module _ (dim n : ℕ) (c : Channel) (x y : ℕ) (lx : x < c.width) (ly : y < c.height) where
   of_group : (k : ℕ) → IsCut dim c → k ≡ group_of dim c x y → HasCell (piece_of_group dim k n c) n x y × (k < columns dim c * rows dim c)
   of_group k cut e = (
     has_group (cell_width dim c) (cell_height dim c) c.width c.height (columns dim c) (rows dim c) cut.wide cut.high cut.across cut.down n k x y lx ly e,
     a_group (cell_width dim c) (cell_height dim c) c.width c.height (columns dim c) (rows dim c) cut.wide cut.high cut.across cut.down n k x y lx ly e,
   )
 
-  pub once : (kind : Kind) (part : SectionPart) → ((kind ≡ kinds.Global → ⊥) → IsCut dim c) → HasIn (piece_in dim kind part n c) n x y ↔ (part ≡ part_in kind (group_of dim c x y))
-  once kinds.Global parts.Global cut = (λ h. refl, λ e. record { buffer = refl; left = omega arith; right = omega arith; top = omega arith; bottom = omega arith })
-  once kinds.Global (parts.Lf k) cut = (λ h. absurd h, λ e. absurd cc)
-  once kinds.Global (parts.Pass p k) cut = (λ h. absurd h, λ e. absurd cc)
-  once kinds.Lf parts.Global cut = (λ h. absurd h, λ e. absurd cc)
-  once kinds.Lf (parts.Lf k) cut =
-      let is : IsCut dim c = cut low in (
-        λ h. ap parts.Lf (in_group k is (some_in (nat_lt k (columns dim c * rows dim c)) (piece_of_group dim k n c) n x y h).1),
-        λ e. let both = of_group k is (same_low e) in in_some (nat_lt k (columns dim c * rows dim c)) (piece_of_group dim k n c) n x y (lt-ltb k (columns dim c * rows dim c) both.1) both.0,
-      ) where
+  -- and that one has it, where the channel is cut into groups
+  pub held : (kind : Kind) (part : SectionPart) → ((kind ≡ kinds.Global → ⊥) → IsCut dim c) → part ≡ part_in kind (group_of dim c x y) → HasIn (piece_in dim kind part n c) n x y
+  held kinds.Global parts.Global cut e = record { buffer = refl; left = omega arith; right = omega arith; top = omega arith; bottom = omega arith }
+  held kinds.Lf (parts.Lf k) cut e =
+      let both = of_group k (cut low) (same_low e) in
+      in_some (nat_lt k (columns dim c * rows dim c)) (piece_of_group dim k n c) n x y (lt-ltb k (columns dim c * rows dim c) both.1) both.0 where
         low : kinds.Lf ≡ kinds.Global → ⊥
         low e = cc
 
         same_low : {a b : ℕ} → parts.Lf a ≡ parts.Lf b → a ≡ b
         same_low e = cc
-  once kinds.Lf (parts.Pass p k) cut = (λ h. absurd h, λ e. absurd cc)
-  once (kinds.Pass q) parts.Global cut = (λ h. absurd h, λ e. absurd cc)
-  once (kinds.Pass q) (parts.Lf k) cut = (λ h. absurd h, λ e. absurd cc)
-  once (kinds.Pass q) (parts.Pass p k) cut =
-      let is : IsCut dim c = cut in_pass in
-      let here : Bool = (p == q) && nat_lt k (columns dim c * rows dim c) in (
-        λ h.
-            let some = some_in here (piece_of_group dim k n c) n x y h in
-            let tests = both_of (p == q) (nat_lt k (columns dim c * rows dim c)) some.0 in
-            ap2 parts.Pass (eqb-true p q tests.0) (in_group k is some.1),
-        λ e.
-            let both = of_group k is (same_group e) in
-            in_some here (piece_of_group dim k n c) n x y (and_of (p == q) (nat_lt k (columns dim c * rows dim c)) (eq-eqb p q (same_pass e)) (lt-ltb k (columns dim c * rows dim c) both.1)) both.0,
-      ) where
+  held (kinds.Pass q) (parts.Pass p k) cut e =
+      let both = of_group k (cut in_pass) (same_group e) in
+      in_some ((p == q) && nat_lt k (columns dim c * rows dim c)) (piece_of_group dim k n c) n x y
+      (and_of (p == q) (nat_lt k (columns dim c * rows dim c)) (eq-eqb p q (same_pass e)) (lt-ltb k (columns dim c * rows dim c) both.1)) both.0 where
         in_pass : kinds.Pass q ≡ kinds.Global → ⊥
         in_pass e = cc
 
@@ -157,6 +162,9 @@ module _ (dim n : ℕ) (c : Channel) (x y : ℕ) (lx : x < c.width) (ly : y < c.
 
         same_group : {a b i j : ℕ} → parts.Pass a i ≡ parts.Pass b j → i ≡ j
         same_group e = cc
-
-        ap2 : {a b i j : ℕ} (f : ℕ → ℕ → SectionPart) → a ≡ b → i ≡ j → f a i ≡ f b j
-        ap2 f e d = cc
+  held kinds.Global (parts.Lf k) cut e = absurd cc
+  held kinds.Global (parts.Pass p k) cut e = absurd cc
+  held kinds.Lf parts.Global cut e = absurd cc
+  held kinds.Lf (parts.Pass p k) cut e = absurd cc
+  held (kinds.Pass q) parts.Global cut e = absurd cc
+  held (kinds.Pass q) (parts.Lf k) cut e = absurd cc

@@ -7,7 +7,7 @@ use Rattle.std.proofs.lemmas.List.Elements.{All-cons, All-weaker}
 use Rattle.jxlm_base.specs.Regions.{HasCell}
 use Rattle.jxlm_base.specs.declared.subgrid.Region.{Region}
 use Rattle.jxlm_transform.specs.Channels.{Channel, ChannelList}
-use Rattle.jxlm_cut.proofs.Cover.{HasIn, IsCut, some_in, once}
+use Rattle.jxlm_cut.proofs.Cover.{HasIn, IsCut, held, own as own_part, some_in}
 use Rattle.jxlm_cut.specs.Passes.{Pass}
 use Rattle.jxlm_cut.specs.Cutting.{Kind, cell_width, cell_height, global_count, kind_of, columns, rows}
 use Rattle.jxlm_cut.specs.Pieces.{SectionPart, piece, piece_in, piece_of_group, pieces, where_some}
@@ -141,29 +141,36 @@ module _ (dim : ℕ) (passes : List Pass) (l : ChannelList) where
   pub unlike_buffers : (part : SectionPart) → AllPairs (λ a b. a.buffer ≢ b.buffer) (pieces dim passes l part)
   unlike_buffers part = apart (piece dim passes (global_count dim l) part) (own_piece part) 0 l.channels
 
+  -- a cell that a part holds is a cell of a coded channel, and belongs to that part
+  pub cell_of : (part : SectionPart) (n x y : ℕ) → HaveCell (pieces dim passes l part) n x y → (c : Channel) × IsCell l n x y c
+  cell_of part n x y h =
+      let f : ℕ × Channel → Option Region = piece dim passes (global_count dim l) part in
+      let r = into f (own_piece part) 0 l.channels n x y h in
+      let p = r.place in
+      let same : r.i ≡ n = omega (arith, p) in
+      let sides = inside_piece (kind_of passes (global_count dim l) n r.c) part n x y r.c r.has in
+      (r.c, record { channel = subst (λ k. slice_get l.channels k ≡ Some r.c) same r.channel; column = sides.0; row = sides.1 })
+
+  pub own_cell : (part : SectionPart) (n x y : ℕ) (c : Channel) → IsCell l n x y c → HaveCell (pieces dim passes l part) n x y → part ≡ part_of dim passes l n c x y
+  own_cell part n x y c is h =
+      let f : ℕ × Channel → Option Region = piece dim passes (global_count dim l) part in
+      let r = into f (own_piece part) 0 l.channels n x y h in
+      let p = r.place in
+      let same : r.i ≡ n = omega (arith, p) in
+      let e : slice_get l.channels n ≡ Some r.c = subst (λ k. slice_get l.channels k ≡ Some r.c) same r.channel in
+      own_part dim n c x y (kind_of passes (global_count dim l) n c) part (subst (λ d. HasIn (f (n, d)) n x y) (same_some (sym e ∙ is.channel)) r.has)
+
+  -- no cell is in regions of two parts
+  pub no_common : (one other : SectionPart) → one ≢ other → (n x y : ℕ) → HaveCell (pieces dim passes l one) n x y → HaveCell (pieces dim passes l other) n x y → ⊥
+  no_common one other unlike n x y a b = let (c, is) = cell_of one n x y a in unlike (own_cell one n x y c is a ∙ sym (own_cell other n x y c is b))
+
   module _ (cut : (n : ℕ) (c : Channel) → slice_get l.channels n ≡ Some c → global_count dim l ≤ n → IsCut dim c) where
     pub once_each : (part : SectionPart) (n x y : ℕ) (c : Channel) → IsCell l n x y c → HaveCell (pieces dim passes l part) n x y ↔ (part ≡ part_of dim passes l n c x y)
-    once_each part n x y c is =
-        let f : ℕ × Channel → Option Region = piece dim passes (global_count dim l) part in
-        let iff = once dim n c x y is.column is.row (kind_of passes (global_count dim l) n c) part (λ h. cut n c is.channel (not_front n c h)) in (
-          λ h.
-              let r = into f (own_piece part) 0 l.channels n x y h in
-              let p = r.place in
-              let same : r.i ≡ n = omega (arith, p) in
-              let e : slice_get l.channels n ≡ Some r.c = subst (λ k. slice_get l.channels k ≡ Some r.c) same r.channel in
-              iff.0 (subst (λ d. HasIn (f (n, d)) n x y) (same_some (sym e ∙ is.channel)) r.has),
-          λ e. out f (own_piece part) 0 l.channels n c n x y is.channel (omega arith) (iff.1 e),
-        )
+    once_each part n x y c is = (
+      own_cell part n x y c is,
+      λ e. out (piece dim passes (global_count dim l) part) (own_piece part) 0 l.channels n c n x y is.channel (omega arith)
+          (held dim n c x y is.column is.row (kind_of passes (global_count dim l) n c) part (λ h. cut n c is.channel (not_front n c h)) e),
+    )
 
     pub hold_each : HoldEachCellOnce dim passes l
-    hold_each = record {
-      once = once_each;
-      inside = λ part n x y h.
-          let f : ℕ × Channel → Option Region = piece dim passes (global_count dim l) part in
-          let r = into f (own_piece part) 0 l.channels n x y h in
-          let p = r.place in
-          let same : r.i ≡ n = omega (arith, p) in
-          let sides = inside_piece (kind_of passes (global_count dim l) n r.c) part n x y r.c r.has in
-          (r.c, record { channel = subst (λ k. slice_get l.channels k ≡ Some r.c) same r.channel; column = sides.0; row = sides.1 });
-      apart = unlike_buffers;
-    }
+    hold_each = record { once = once_each; inside = cell_of; apart = unlike_buffers }

@@ -70,10 +70,10 @@ PartsHoldEachCellOnce =
 abbrev pub AreAllApart : List Region → List Region → Type 0
 AreAllApart rs ss = All (λ s. All (λ r. AreApart r s) rs) ss
 
--- Where each coded cell is held once, and the coded channels lie apart in a store, two parts share no cell of it.
+-- Where the coded channels lie apart in a store, two parts share no cell of it.
 abbrev pub PartsShareNoCell : Type 0
 PartsShareNoCell = (dim : ℕ) (passes : List Pass) (l : ChannelList) (coded : List Region) (one other : SectionPart) →
-    HoldEachCellOnce dim passes l → AreRegionsOf l.channels coded → LieApart coded → one ≢ other →
+    AreRegionsOf l.channels coded → LieApart coded → one ≢ other →
     AreAllApart (in_store coded (pieces dim passes l one)) (in_store coded (pieces dim passes l other))
 
 module _ (dim : ℕ) (passes : List Pass) (l : ChannelList) where
@@ -86,8 +86,8 @@ module _ (dim : ℕ) (passes : List Pass) (l : ChannelList) where
     pub cells : (n x y : ℕ) → (HaveCell (pieces dim passes l name) n x y → ⊥) →
         at (buffer_at new n) x y ≡ at (buffer_at old n) x y
 
--- Where each coded cell is held once, what changes the cells of one part alone keeps the grids of each other part.
+-- What changes the cells of one part alone keeps the grids of each other part.
 abbrev pub OtherPartsStay : Type 0
 OtherPartsStay = (dim : ℕ) (passes : List Pass) (l : ChannelList) (one other : SectionPart) (old new : List (Grid ℤ)) →
-    HoldEachCellOnce dim passes l → one ≢ other → KeepsOthers dim passes l one old new →
+    one ≢ other → KeepsOthers dim passes l one old new →
     grids_of dim passes l other new ≡ grids_of dim passes l other old

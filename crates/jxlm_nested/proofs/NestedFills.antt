@@ -48,18 +48,18 @@ module _ {D X : Type 0} (n : NestedPart D) where
     narrow_store = narrow_kept old new same can.narrow_store;
   }
 
-module _ {S D : Type 0} (d : Meaning D) (w : Width) (to_int : S → ℤ) (bytes : List ℕ) (stream p : ℕ) (n : NestedPart D) (partly : Bool) (before after : ℕ) where
+module _ {S D : Type 0} (d : Meaning D) (w : Width) (to_int : S → ℤ) (bytes : List ℕ) (stream p : ℕ) (n : NestedPart D) (partly : Bool) (q before after : ℕ) where
   abbrev pub Decoded : Result Bool Error → List (Grid S) → List (Grid S) → Type 0
-  Decoded r old now = WithSteps (λ t. DecodesTo d w to_int bytes stream p n partly r t old now) before after
+  Decoded r old now = WithSteps (λ t. DecodesTo d w to_int bytes stream p n partly r t old now) q before after
 
   abbrev pub Filled : ℕ → Result Bool Error → List (Grid S) → List (Grid S) → Type 0
-  Filled bit_depth r old new = WithSteps (λ t. Fills d w to_int bytes stream p n partly bit_depth r t old new) before after
+  Filled bit_depth r old new = WithSteps (λ t. Fills d w to_int bytes stream p n partly bit_depth r t old new) q before after
 
   abbrev pub FilledIn : S → ℕ → Result Bool Error → List (Grid S) → List (Grid S) → Type 0
-  FilledIn zero bit_depth r old new = WithSteps (λ t. FillsIn d w to_int bytes stream p n partly zero bit_depth r t old new) before after
+  FilledIn zero bit_depth r old new = WithSteps (λ t. FillsIn d w to_int bytes stream p n partly zero bit_depth r t old new) q before after
 
   -- what decoding these channels in these regions gives is what decoding its samples gives, where they are its own
-  module _ (cs : List Channel) (rs : List Region) (channels : cs ≡ nested_channels n) (regions : rs ≡ regions_in n) (old now : List (Grid S)) (begins still : Bool) (q : ℕ)
+  module _ (cs : List Channel) (rs : List Region) (channels : cs ≡ nested_channels n) (regions : rs ≡ regions_in n) (old now : List (Grid S)) (begins still : Bool)
       (there : IsTrue begins ↔ (0 < cell_count cs)) (outside : KeepsOutside rs old now) where
     abbrev part : Part
     part = record { channels = cs; weights = n.header.wp_params; tree = n.config.tree; stream = stream }
@@ -82,14 +82,14 @@ module _ {S D : Type 0} (d : Meaning D) (w : Width) (to_int : S → ℤ) (bytes 
         }
 
     pub decoded_ok : Gives (Ok tt) → Decoded (Ok (not still)) old now
-    decoded_ok gives = (turn_with gives.0, (decodes_of (Ok tt) gives, refl), gives.2)
+    decoded_ok gives = (turn_with gives.0, (decodes_of (Ok tt) gives, refl), refl, gives.2)
 
     pub decoded_err : (e : Error) → Gives (Err e) → Decoded (Err e) old now
-    decoded_err e gives = (turn_with gives.0, decodes_of (Err e) gives, gives.2)
+    decoded_err e gives = (turn_with gives.0, decodes_of (Err e) gives, refl, gives.2)
 
   -- decoding its samples changed cells alone
   pub shape_decoded : (old now : List (Grid S)) (whole : Bool) → Decoded (Ok whole) old now → SameShape old now
-  shape_decoded old now whole (t, (decodes, says), moves) = shape_kept (regions_in n) old now decodes.outside
+  shape_decoded old now whole (t, (decodes, says), at, moves) = shape_kept (regions_in n) old now decodes.outside
 
   module _ (zero : S) (bit_depth : ℕ) (old new : List (Grid S)) where
     -- filled where its tables were added, which are cut off again
@@ -97,9 +97,9 @@ module _ {S D : Type 0} (d : Meaning D) (w : Width) (to_int : S → ℤ) (bytes 
     filled_in r begun last store tables fills same cut =
         in_it r (subst (λ (s : List (Grid S)). Filled bit_depth r s last) tables fills) (cut ∙ ap (λ (s : List (Grid S)). take (length old) s) same) where
           in_it : (r : Result Bool Error) → Filled bit_depth r (with_own_tables zero n old) last → new ≡ take (length old) last → FilledIn zero bit_depth r old new
-          in_it (Ok whole) (t, fills, moves) cut = (t, (last, fills, cut), moves)
-          in_it (Err e) (t, fills, moves) cut = (t, inr (last, fills, cut), moves)
+          in_it (Ok whole) (t, fills, at, moves) cut = (t, (last, fills, cut), at, moves)
+          in_it (Err e) (t, fills, at, moves) cut = (t, inr (last, fills, cut), at, moves)
 
     -- out of memory for its tables
     pub no_tables : (e : Error) → kind_of e ≡ NoMemory → new ≡ old → after ≡ before → FilledIn zero bit_depth (Err e) old new
-    no_tables e memory same steps = (record { position = p; partial = partly; tried = 0; tree = n.config.tree }, inl (memory, same, refl), (omega (arith, steps), omega (arith, steps)))
+    no_tables e memory same steps = (record { position = q; partial = partly; tried = 0; tree = n.config.tree }, inl (memory, same, refl), refl, (omega (arith, steps), omega (arith, steps)))

@@ -98,6 +98,6 @@ module _ {S D : Type 0} (d : Meaning D) (w : Width) (to_int : S → ℤ) (bytes 
       ((kind_of e ≡ NoMemory) × (new ≡ old) × (t.tried ≡ 0))
       ⊎ ((last : List (Grid S)) × Fills bit_depth (Err e) t (with_own_tables zero n old) last × (new ≡ take (length old) last))
 
--- what it took of steps
-abbrev pub WithSteps : (Turn → Type 0) → ℕ → ℕ → Type 0
-WithSteps P before after = (t : Turn) × P t × MovesWithin before after (t.tried * most_steps t.tree)
+-- a turn that left the reader at position q, and what it took of steps
+abbrev pub WithSteps : (Turn → Type 0) → ℕ → ℕ → ℕ → Type 0
+WithSteps P q before after = (t : Turn) × P t × (t.position ≡ q) × MovesWithin before after (t.tried * most_steps t.tree)

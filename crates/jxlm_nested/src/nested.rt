@@ -119,7 +119,8 @@ impl<D: Decoder> NestedPart<D> {
     ) -> Result<bool>
         requires { CanFill self.now store.old }
         ensures gives { WithSteps (λ t. DecodesTo D.meaning S.width S.to_int (bytes_of bits.old) stream_index
-            (position_of bits.old) self.now allow_partial result t store.old store.new) steps.old steps.new }
+            (position_of bits.old) self.now allow_partial result t store.old store.new) (position_of bits.new)
+            steps.old steps.new }
         ensures bytes { bytes_of bits.new ≡ bytes_of bits.old }
     {
         let part = PlacedPart {
@@ -169,7 +170,8 @@ impl<D: Decoder> NestedPart<D> {
         requires can { CanFill self.now store.old }
         requires deep { bit_depth ≤ 32 }
         ensures gives { WithSteps (λ t. Fills D.meaning S.width S.to_int (bytes_of bits.old) stream_index
-            (position_of bits.old) self.now allow_partial bit_depth result t store.old store.new) steps.old steps.new }
+            (position_of bits.old) self.now allow_partial bit_depth result t store.old store.new)
+            (position_of bits.new) steps.old steps.new }
         ensures bytes { bytes_of bits.new ≡ bytes_of bits.old }
     {
         let whole = self.decode_samples(alloc, bits, store, stream_index, allow_partial, steps)?;
@@ -198,7 +200,7 @@ impl<D: Decoder> NestedPart<D> {
         requires deep { bit_depth ≤ 32 }
         ensures gives { WithSteps (λ t. FillsIn D.meaning S.width S.to_int (bytes_of bits.old) stream_index
             (position_of bits.old) self.now allow_partial (S.from_int (pos 0)) bit_depth result t
-            store.old.items store.new.items) steps.old steps.new }
+            store.old.items store.new.items) (position_of bits.new) steps.old steps.new }
         ensures bytes { bytes_of bits.new ≡ bytes_of bits.old }
     {
         let own = store.len();

@@ -42,6 +42,7 @@ impl<S: Sample, D: Decoder> ModularImageDestination<S, D> {
         ensures ok { IfOk result (λ _. IsTrue (can_cut self.now.group_dim (coded_list self.now))) }
         ensures err { IfErr result (λ e. (kind_of e ≡ BadSqueeze) × IsFalse
             (can_cut self.now.group_dim (coded_list self.now))) }
+        ensures laid { IsLaidOut self.now }
     {
         check_cut(&self.channels, self.nb_meta_channels, self.group_dim)
     }
@@ -153,6 +154,7 @@ impl<S: Sample, D: Decoder> ModularImageDestination<S, D> {
             self.old (position_of bits.old) partial.old steps.old
             self.new (position_of bits.new) partial.new steps.new allow_partial result }
         ensures same { SameButIn (held_in self.old passes.now part) self.old self.new }
+        ensures laid { IsLaidOut self.old }
         ensures bytes { bytes_of bits.new ≡ bytes_of bits.old }
     {
         let pieces = Pieces::of(
@@ -189,9 +191,10 @@ impl<S: Sample, D: Decoder> ModularImageDestination<S, D> {
     ) -> Result<bool>
         ensures gives { NestedGives D.meaning S.width S.to_int (S.from_int (pos 0)) self.old passes.now
             (option_copied global.entry) (bytes_of bits.old) (position_of bits.old) part stream_index allow_partial
-            result self.old.store self.new.store steps.old steps.new }
+            result self.old.store self.new.store (position_of bits.new) steps.old steps.new }
         ensures bytes { bytes_of bits.new ≡ bytes_of bits.old }
         ensures same { SameButIn (held_in self.old passes.now part) self.old self.new }
+        ensures laid { IsLaidOut self.old }
     {
         let pieces = Pieces::of(
             alloc,

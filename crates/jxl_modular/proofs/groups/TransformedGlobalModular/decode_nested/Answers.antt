@@ -1,10 +1,12 @@
 use Rattle.std.specs.Prelude.{pos}
 use Rattle.std.specs.Option.{option_copied}
-use Rattle.std.proofs.Common.{ap, ◌∙◌}
+use Rattle.std.proofs.Common.{ap, refl, ◌∙◌}
 use Rattle.std.proofs.lemmas.Result.{err_from_is_err_and}
 use Rattle.jxlm_base.specs.Bits.{bytes_of, position_of}
 use Rattle.jxlm_base.specs.ErrorKind.{kind_of}
 use Rattle.jxl_modular.proofs.GroupLaws.{nested_refused, nested_same, nested_whole, others_kept}
+use Rattle.jxl_modular.proofs.OtherParts.{others_stay}
+use Rattle.jxl_modular.proofs.TurnLaws.{same_here}
 use Rattle.jxl_modular.proofs.groups.TransformedGlobalModular.decode_nested.Goals as goal
 
 pub returns-in_err-state-clause-gives : goal.returns-in_err-state-clause-gives
@@ -26,5 +28,11 @@ returns-clause-partial g c =
 
 pub returns-clause-others : goal.returns-clause-others
 returns-clause-others g c =
-    others_kept c.args.self.now _ c.args.part (λ other unlike. c.put.ensures.others other unlike ∙ c.in_ok-state.ensures.others other unlike)
+    let passes = c.deref.ensures.value ∙ c.take.ensures.passes in
+    others_kept g.S.Sealed.to_int c.args.self.now _ c.args.part (λ other unlike. c.put.ensures.others other unlike ∙ c.in_ok-state.ensures.others other unlike)
     (c.put.ensures.passes ∙ c.take.ensures.passes) c.decode_nested-result.ensures.same.cells
+    (others_stay _ c.decode_nested-result.ensures.laid _ g.S.Sealed.to_int _ _ (rw (passes, c.into.ensures) at c.decode_nested-result.ensures.same))
+
+pub returns-in_err-state-clause-others : goal.returns-in_err-state-clause-others
+returns-in_err-state-clause-others g c =
+    others_kept g.S.Sealed.to_int c.args.self.now _ c.args.part c.in_err-state.ensures.others c.take.ensures.passes (same_here _) (λ other unlike. refl)

@@ -54,9 +54,9 @@ invariant_of-self g c =
     let buffers : c.len.result ≡ length c.self.inside.store.items = c.len.ensures ∙ c.self.inside.store.ok.0 in
     let is = rw (are.channels, are.regions, buffers) at c.in_ok-nested.ensures.ok in
     let gives = nested_gives _ c.self.invariant.laid c.args.passes.now c.args.part g.D.Decoder.meaning g.S.Sealed.width g.S.Sealed.to_int (g.S.Sealed.from_int (pos 0)) (option_copied c.args.global) (bytes_of c.args.bits.now) (position_of c.args.bits.now)
-    c.args.stream_index c.args.allow_partial c.in_ok-nested.nested (position_of c.parse.new.bits) is c.decode.result c.decode.new.store.items c.args.steps.now c.decode.new.steps (rw c.in_ok-nested.ensures.bytes at c.decode.ensures.gives) in
+    c.args.stream_index c.args.allow_partial c.in_ok-nested.nested (position_of c.parse.new.bits) is c.decode.result c.decode.new.store.items (position_of c.decode.new.bits) c.args.steps.now c.decode.new.steps (rw c.in_ok-nested.ensures.bytes at c.decode.ensures.gives) in
     let outside = nested_outside _ c.self.invariant.laid c.args.passes.now c.args.part g.D.Decoder.meaning g.S.Sealed.width g.S.Sealed.to_int (g.S.Sealed.from_int (pos 0)) (option_copied c.args.global) (bytes_of c.args.bits.now) (position_of c.args.bits.now)
-    c.args.stream_index c.args.allow_partial c.decode.result c.decode.new.store.items c.args.steps.now c.decode.new.steps gives in
+    c.args.stream_index c.args.allow_partial c.decode.result c.decode.new.store.items (position_of c.decode.new.bits) c.args.steps.now c.decode.new.steps gives in
     record {
       laid = still_laid _ _ c.self.invariant.laid (same_but_store _ _ (shape_kept _ c.self.inside.store.items c.decode.new.store.items outside));
       undos = c.self.invariant.undos;
@@ -69,7 +69,7 @@ returns-clause-gives g c =
     let is = rw (are.channels, are.regions, buffers) at c.in_ok-nested.ensures.ok in
     rw (← c.self.view_is)
     (nested_gives _ c.self.invariant.laid c.args.passes.now c.args.part g.D.Decoder.meaning g.S.Sealed.width g.S.Sealed.to_int (g.S.Sealed.from_int (pos 0)) (option_copied c.args.global) (bytes_of c.args.bits.now) (position_of c.args.bits.now)
-    c.args.stream_index c.args.allow_partial c.in_ok-nested.nested (position_of c.parse.new.bits) is c.decode.result c.decode.new.store.items c.args.steps.now c.decode.new.steps (rw c.in_ok-nested.ensures.bytes at c.decode.ensures.gives))
+    c.args.stream_index c.args.allow_partial c.in_ok-nested.nested (position_of c.parse.new.bits) is c.decode.result c.decode.new.store.items (position_of c.decode.new.bits) c.args.steps.now c.decode.new.steps (rw c.in_ok-nested.ensures.bytes at c.decode.ensures.gives))
 
 pub returns-clause-same : goal.returns-clause-same
 returns-clause-same g c =
@@ -77,9 +77,9 @@ returns-clause-same g c =
     let buffers : c.len.result ≡ length c.self.inside.store.items = c.len.ensures ∙ c.self.inside.store.ok.0 in
     let is = rw (are.channels, are.regions, buffers) at c.in_ok-nested.ensures.ok in
     let gives = nested_gives _ c.self.invariant.laid c.args.passes.now c.args.part g.D.Decoder.meaning g.S.Sealed.width g.S.Sealed.to_int (g.S.Sealed.from_int (pos 0)) (option_copied c.args.global) (bytes_of c.args.bits.now) (position_of c.args.bits.now)
-    c.args.stream_index c.args.allow_partial c.in_ok-nested.nested (position_of c.parse.new.bits) is c.decode.result c.decode.new.store.items c.args.steps.now c.decode.new.steps (rw c.in_ok-nested.ensures.bytes at c.decode.ensures.gives) in
+    c.args.stream_index c.args.allow_partial c.in_ok-nested.nested (position_of c.parse.new.bits) is c.decode.result c.decode.new.store.items (position_of c.decode.new.bits) c.args.steps.now c.decode.new.steps (rw c.in_ok-nested.ensures.bytes at c.decode.ensures.gives) in
     let outside = nested_outside _ c.self.invariant.laid c.args.passes.now c.args.part g.D.Decoder.meaning g.S.Sealed.width g.S.Sealed.to_int (g.S.Sealed.from_int (pos 0)) (option_copied c.args.global) (bytes_of c.args.bits.now) (position_of c.args.bits.now)
-    c.args.stream_index c.args.allow_partial c.decode.result c.decode.new.store.items c.args.steps.now c.decode.new.steps gives in
+    c.args.stream_index c.args.allow_partial c.decode.result c.decode.new.store.items (position_of c.decode.new.bits) c.args.steps.now c.decode.new.steps gives in
     rw (← c.self.view_is)
     (record {
       cells = same_but_store _ _ (shape_kept _ c.self.inside.store.items c.decode.new.store.items outside);
