@@ -1,0 +1,5 @@
+mod Wraps
+mod IntegerToken
+pub mod StepLaws
+mod CodeSteps
+mod AliasSteps
