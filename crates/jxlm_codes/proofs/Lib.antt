@@ -3,3 +3,5 @@ mod IntegerToken
 pub mod StepLaws
 mod CodeSteps
 mod AliasSteps
+mod AnsUndo
+mod OneSpelling

@@ -16,8 +16,8 @@ only_buckets symbol bucket_size zero = []
 only_buckets symbol bucket_size (suc n) =
     only_buckets symbol bucket_size n ++ record { cutoff = 0; alias_symbol = symbol; alias_offset = bucket_size * n; count = 0; alias_count = whole } ∷ []
 
--- Buckets as they are filled: those that have more slots than a bucket holds, and those that have fewer; the last of each
--- is next.
+-- Buckets as they are filled: those that have more slots than a bucket holds, and those that have fewer; the last of
+-- each is next.
 pub record Filling : Type 0 where
   pub buckets : List Bucket
   pub overfull : List ℕ
@@ -45,9 +45,11 @@ unfoldable pub unfilled : List ℕ → ℕ → ℕ → Filling
 unfilled counts bucket_size zero = record { buckets = []; overfull = []; underfull = [] }
 unfilled counts bucket_size (suc n) = with_bucket counts bucket_size n (unfilled counts bucket_size n)
 
+-- the last of a list
 abbrev pub last_of : List ℕ → ℕ
 last_of xs = slice_index xs (length xs - 1)
 
+-- all but that
 abbrev pub without_last : List ℕ → List ℕ
 without_last xs = take (length xs - 1) xs
 
@@ -55,16 +57,19 @@ without_last xs = take (length xs - 1) xs
 abbrev pub kept_by : List Bucket → ℕ → ℕ → ℕ → ℕ
 kept_by buckets bucket_size full short = (bucket_of buckets full).cutoff - (bucket_size - (bucket_of buckets short).cutoff)
 
--- the full bucket with those, and the short one with the others, which then is filled
+-- the full bucket with those
 abbrev pub lowered : Bucket → ℕ → Bucket
 lowered bucket kept = record { cutoff = kept; alias_symbol = bucket.alias_symbol; alias_offset = bucket.alias_offset; count = bucket.count; alias_count = bucket.alias_count }
 
+-- a short bucket with slots of the full one from a number on
 abbrev pub filled_bucket : Bucket → ℕ → ℕ → ℕ → Bucket
 filled_bucket bucket full alias_offset count = record { cutoff = bucket.cutoff; alias_symbol = full; alias_offset = alias_offset; count = bucket.count; alias_count = count }
 
+-- all buckets, once the full one has fewer
 abbrev pub with_lowered : List Bucket → ℕ → ℕ → ℕ → List Bucket
 with_lowered buckets bucket_size full short = slice_set buckets full (lowered (bucket_of buckets full) (kept_by buckets bucket_size full short))
 
+-- all buckets, once the short one has the others
 abbrev pub filled_buckets : List Bucket → ℕ → ℕ → ℕ → List Bucket
 filled_buckets buckets bucket_size full short =
     slice_set (with_lowered buckets bucket_size full short) short
@@ -90,5 +95,6 @@ abbrev pub buckets_with : Option ℕ → List ℕ → ℕ → List Bucket
 buckets_with (Some symbol) counts log = only_buckets symbol (whole / 2 ^ log) (2 ^ log)
 buckets_with None counts log = (filled_by (whole / 2 ^ log) (2 ^ log) (unfilled counts (whole / 2 ^ log) (2 ^ log))).buckets
 
+-- the alias table of a distribution
 abbrev pub buckets_of : List ℕ → ℕ → List Bucket
 buckets_of counts log = buckets_with (only_from 0 counts) counts log

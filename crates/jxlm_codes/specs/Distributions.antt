@@ -41,8 +41,8 @@ unfoldable pub even_first : ℕ → ℕ → List ℕ
 even_first zero all = []
 even_first (suc n) all = even_first n all ++ even_at n all ∷ []
 
--- What is signalled of a symbol at first, in a code of three to seven bits: the width of its count, where 0 and 1 are the count
--- itself; or 13, that it comes as often as the symbol before.
+-- What is signalled of a symbol at first, in a code of three to seven bits: the width of its count, where 0 and 1 are
+-- the count itself; or 13, that it comes as often as the symbol before.
 unfoldable pub signalled_at : List ℕ → ℕ → Result (Found ℕ) DecoderError
 signalled_at bytes p = do
   three ← number_at bytes p 3
@@ -62,13 +62,14 @@ signalled_at bytes p = do
                   seventh ← number_at bytes sixth.position 1
                   Ok (record { value = if seventh.value == 1 then 13 else 12; position = seventh.position })))))
 
--- Counts are signalled as widths first. What is signalled so far, a width each, where 13 says that the symbol comes as often as the
--- one before; how wide the widest is, plus one, and 0 where there is none; and the first symbol that is so wide.
+-- Counts are signalled as widths first. What is signalled so far, a width each, where 13 says that the symbol comes as
+-- often as the one before; how wide the widest is, plus one, and 0 where there is none; and the first symbol that is so wide.
 pub record Widths : Type 0 where
   pub widths : List ℕ
   pub most : ℕ
   pub widest : ℕ
 
+-- before the first
 abbrev pub no_widths : Widths
 no_widths = record { widths = []; most = 0; widest = 0 }
 
@@ -116,6 +117,7 @@ next_count_at precision signalled counts bytes p =
     if length counts == signalled.widest then Ok (record { value = 0; position = p }) else
     count_at precision (slice_index signalled.widths (length counts)) bytes p
 
+-- the counts with that of the next symbol
 abbrev pub counts_step : ℕ → Widths → List ℕ → List ℕ → ℕ → Result (Found (List ℕ)) DecoderError
 counts_step precision signalled counts bytes p = do
   count ← next_count_at precision signalled counts bytes p

@@ -2,6 +2,7 @@ pub mod Refusals
 pub mod Fields
 pub mod Reading
 pub mod IntegerConfigs
+pub mod Spellings
 pub mod PrefixCodes
 pub mod Distributions
 pub mod Ans

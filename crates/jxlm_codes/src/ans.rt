@@ -1,6 +1,6 @@
 //! Slots of a distribution: what each of the 4096 numbers stands for.
 
-ghost use Rattle.std.specs.Prelude.{◌≡◌, ◌<◌, ◌≤◌, ◌+◌, ◌*◌, ◌^◌, ◌/◌, ◌%◌, length, IfOk};
+ghost use Rattle.std.specs.Prelude.{◌≡◌, ◌<◌, ◌+◌, ◌*◌, ◌/◌, ◌%◌};
 ghost use Rattle.jxlm_base.specs.Bits.{bytes_of, position_of};
 ghost use Rattle.jxlm_codes.specs.Ans.{slot_of as the_slot, bucket_of as the_bucket, refilled_at, after_slot};
 ghost use Rattle.jxlm_codes.specs.Ans.{RefillGives, slot_seen};

@@ -1,6 +1,6 @@
 //! Hybrid integers: a symbol gives the number, or how long it is and its outermost bits.
 
-ghost use Rattle.std.specs.Prelude.{◌≡◌, ◌<◌, ◌≤◌, ◌^◌, IfOk};
+ghost use Rattle.std.specs.Prelude.{◌≡◌, ◌<◌, ◌≤◌, IfOk};
 ghost use Rattle.jxlm_base.specs.Bits.{bytes_of, position_of};
 ghost use Rattle.jxlm_base.specs.Decoding.{Gives};
 ghost use Rattle.jxlm_codes.specs.IntegerConfigs.{IsConfig, config_at, token_at};

@@ -1,6 +1,6 @@
 //! Distributions of symbols: how often of 4096 times each comes.
 
-ghost use Rattle.std.specs.Prelude.{◌≡◌, min, Ok, Err, slice_index, slice_index_or, ◌+◌, ◌-◌, ◌*◌, ◌<◌, ◌≤◌, ◌^◌, [], length, sum, IfOk, IfErr, OnOk, All};
+ghost use Rattle.std.specs.Prelude.{◌≡◌, min, Ok, Err, slice_index, slice_index_or, ◌+◌, ◌-◌, ◌*◌, ◌<◌, ◌≤◌, ◌^◌, [], sum, IfOk, IfErr, OnOk};
 ghost use Rattle.jxlm_base.specs.Bits.{bytes_of, position_of};
 ghost use Rattle.jxlm_base.specs.Decoding.{Gives};
 ghost use Rattle.jxlm_base.specs.declared.decoder.DecoderError.{DecoderError};
@@ -275,7 +275,8 @@ fn push_count(
     bits: &mut Bitstream<'_>,
 ) -> Result<(), DecoderError>
     ensures gives { StepGives result counts.new.items (position_of bits.new)
-        (counts_step precision (widths_seen signalled.now) counts.old.items (bytes_of bits.old) (position_of bits.old)) }
+        (counts_step precision (widths_seen signalled.now) counts.old.items (bytes_of bits.old)
+        (position_of bits.old)) }
     ensures bytes { bytes_of bits.new ≡ bytes_of bits.old }
 {
     let count = next_count(bits, precision, signalled, counts)?;

@@ -9,6 +9,7 @@ pub mod config;
 pub mod distribution;
 pub mod fields;
 mod filling;
+pub mod laws;
 pub mod lengths;
 pub mod prefix;
 pub mod refusal;
