@@ -1,0 +1,7 @@
+mod Wraps
+mod IntegerToken
+pub mod StepLaws
+mod CodeSteps
+mod AliasSteps
+mod AnsUndo
+mod OneSpelling

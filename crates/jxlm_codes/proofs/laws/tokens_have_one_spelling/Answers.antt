@@ -1,0 +1,5 @@
+use Rattle.jxlm_codes.proofs.OneSpelling.{one_spelling}
+use Rattle.jxlm_codes.proofs.laws.tokens_have_one_spelling.Goals as goal
+
+pub returns : goal.returns
+returns c = λ config s t r q token valid. one_spelling config valid s t r q token

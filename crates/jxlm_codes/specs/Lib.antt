@@ -1,0 +1,10 @@
+pub mod Refusals
+pub mod Fields
+pub mod Reading
+pub mod IntegerConfigs
+pub mod Spellings
+pub mod PrefixCodes
+pub mod Distributions
+pub mod Ans
+pub mod Alias
+pub mod Inner

@@ -1,0 +1,5 @@
+mod FirstToken
+mod SpecialDistances
+mod AnyMultiplier
+mod ClusterSteps
+mod AnsCodes

@@ -1,0 +1,13 @@
+//! The entropy decoder of JPEG XL (ISO/IEC 18181-1, entropy decoding): clusters of contexts, each with its code, and
+//! copies of earlier tokens.
+#![tactic(auto)]
+
+mod clusters;
+mod coded;
+pub mod codes;
+pub mod decoder;
+mod parse;
+mod state;
+mod tables;
+mod tokens;
+mod window;
