@@ -15,9 +15,9 @@ pub struct Row<'t> {
 }
 
 impl<'t> Row<'t> {
-    /// The row of a line; none where the line is a head, which begins with #.
+    /// The row of a line; none where the line is empty, or a head, which begins with #.
     pub fn parse(line: &'t str) -> Option<Row<'t>> {
-        if line.starts_with('#') {
+        if line.is_empty() || line.starts_with('#') {
             return None;
         }
         let (kind, rest) = word(line);

@@ -1,0 +1,50 @@
+//! Checks rows of tables, which come on standard input: each says what is asked, and what is expected of it. A line
+//! that begins with # says what the rows after it are.
+#![tactic(auto)]
+
+mod channels;
+mod image;
+mod input;
+mod parts;
+mod picture;
+mod plain;
+mod samples;
+mod sections;
+mod within;
+
+use jxlcheck_text::Row;
+use std::alloc::Global;
+use std::io;
+
+/// What comes of a row, by its kind; none where the row cannot be read.
+fn seen(alloc: Global, row: &Row<'_>) -> Option<String> {
+    let summed = row.expected.contains('#');
+    match row.kind {
+        "plain" => plain::seen(alloc, row.asked),
+        "header" => image::seen_of_header(alloc, row.asked, row.expected.contains('@')),
+        "image" => image::seen_of_image(alloc, row.asked),
+        "global" => image::seen_of_global_part(alloc, row.asked),
+        "picture" => picture::seen(alloc, row.asked, summed),
+        "prefixes" => picture::sum_of_prefixes(alloc, row.asked),
+        "sections" => sections::seen(alloc, row.asked, summed, false),
+        "partial" => sections::seen(alloc, row.asked, summed, true),
+        "beginnings" => sections::sum_of_beginnings(alloc, row.asked),
+        "within" => within::seen(alloc, row.asked),
+        _ => None,
+    }
+}
+
+fn main(rt: HostRuntime) -> io::Result<()> {
+    let mut rows = 0u64;
+    for line in rt.lines(rt.alloc()) {
+        let line = line?;
+        let Some(row) = Row::parse(line.as_str()) else {
+            continue;
+        };
+        if let Some(seen) = row.fault(rt.alloc(), seen(rt.alloc(), &row))? {
+            println!(rt; "wrong: {line}\n  seen: {seen}")?;
+        }
+        rows = rows.saturating_add(1);
+    }
+    println!(rt; "{rows} rows")
+}
