@@ -25,6 +25,7 @@ fn seen(alloc: Global, row: &Row<'_>) -> Option<String> {
         "image" => image::seen_of_image(alloc, row.asked),
         "global" => image::seen_of_global_part(alloc, row.asked),
         "picture" => picture::seen(alloc, row.asked, summed),
+        "bytewise" => picture::seen_by_bytes(alloc, row.asked, summed),
         "prefixes" => picture::sum_of_prefixes(alloc, row.asked),
         "sections" => sections::seen(alloc, row.asked, summed, false),
         "partial" => sections::seen(alloc, row.asked, summed, true),

@@ -2,7 +2,8 @@
 //!
 //! A row asks with the type of samples and, with a bar between: the channels; the bit depth; and the bytes. It gives the
 //! samples and the reader's position, an error, or both, where the samples end by it. The picture is read call by call,
-//! with an early end refused and allowed, and by one call: all three have to agree.
+//! with an early end refused and allowed, and by one call: all three have to agree. A row of the kind `bytewise` asks the
+//! same of a decoder whose tokens are bytes.
 
 ghost use Rattle.std.specs.Prelude.{◌≡◌, None, IfSome};
 
@@ -16,6 +17,7 @@ use jxl_modular::image::ModularImageDestination;
 use jxl_modular::plain::PlainDecoder;
 use jxl_modular::{Modular, ModularChannelParams, ModularParams, Sample, decode_picture};
 use jxlcheck_text::{listed, number, repeated, text_sum, word};
+use jxlm_examples::bytewise::Bytewise;
 use std::alloc::Global;
 
 /// What becomes of a picture: the error, if there is one; the samples; the reader's position; and whether the part was
@@ -198,15 +200,24 @@ fn seen_at<S: Sample, D: Decoder>(
     outcome_text(alloc, &strict, summed)
 }
 
-/// What comes of a row: the samples and the reader's position, an error, or both.
-pub fn seen(alloc: Global, asked: &str, summed: bool) -> Option<String> {
+fn seen_by<D: Decoder>(alloc: Global, asked: &str, summed: bool) -> Option<String> {
     let (kind, rest) = word(asked);
     let picture = read_picture(alloc, rest)?;
     match kind {
-        "i16" => seen_at::<i16, PlainDecoder>(alloc, &picture, summed),
-        "i32" => seen_at::<i32, PlainDecoder>(alloc, &picture, summed),
+        "i16" => seen_at::<i16, D>(alloc, &picture, summed),
+        "i32" => seen_at::<i32, D>(alloc, &picture, summed),
         _ => None,
     }
+}
+
+/// What comes of a row: the samples and the reader's position, an error, or both.
+pub fn seen(alloc: Global, asked: &str, summed: bool) -> Option<String> {
+    seen_by::<PlainDecoder>(alloc, asked, summed)
+}
+
+/// The same by a decoder whose tokens are bytes.
+pub fn seen_by_bytes(alloc: Global, asked: &str, summed: bool) -> Option<String> {
+    seen_by::<Bytewise>(alloc, asked, summed)
 }
 
 /// What is read of the first n bytes of a picture of samples of 32 bits, where they may end early.

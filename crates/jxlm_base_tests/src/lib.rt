@@ -11,12 +11,10 @@ mod errors;
 mod grids;
 #[cfg(test)]
 mod laws;
-pub mod pictures;
 #[cfg(test)]
 mod plain;
 #[cfg(test)]
 mod samples;
 pub mod seed;
 pub mod text;
-pub mod ways;
 pub mod writer;

@@ -2,15 +2,14 @@
 // residuals of the second squeeze, of 2x2 each, are the global part, and the residuals of the first one are in four
 // groups of one pass, of 1x2 each.
 
-use crate::image::{params, read};
-use crate::viewer::shown;
 use jxl_modular::bits::Bitstream;
 use jxl_modular::decoder::Decoder;
 use jxl_modular::error::Error;
+use jxl_modular::grid::AlignedGrid;
 use jxl_modular::groups::{Part, TransformedGlobalModular};
 use jxl_modular::image::ModularImageDestination;
 use jxl_modular::plain::PlainDecoder;
-use jxl_modular::{MaConfig, ModularChannelParams, Sample};
+use jxl_modular::{Modular, ModularChannelParams, ModularParams, Sample};
 use std::alloc::Global;
 use std::collections::BTreeMap;
 use std::process::Abort;
@@ -19,6 +18,8 @@ use std::test::Fail;
 const HEADER: [u8; 12] = [
     0x66, 0x31, 0x40, 0x00, 0x00, 0x00, 0x00, 0x20, 0x00, 0x00, 0x20, 0x00,
 ];
+
+const GLOBAL: [u8; 4] = [0xC8, 0xA4, 0x22, 0x41];
 
 // Each group has two tokens of four bits.
 const GROUPS: [[u8; 1]; 4] = [[0x12], [0x14], [0x12], [0x14]];
@@ -31,30 +32,33 @@ const FINER: [i32; 16] = [5, 4, 7, 5, 2, 4, 5, 6, 2, 3, 6, 6, 3, 3, 4, 4];
 
 const WHOLE: [i32; 16] = [5, 4, 7, 5, 2, 4, 5, 6, 2, 2, 7, 5, 3, 4, 4, 5];
 
-const GLOBAL: [u8; 4] = [0xC8, 0xA4, 0x22, 0x41];
-
-fn picture<S: Sample, D: Decoder>(
-    alloc: Global,
-    global: Option<&MaConfig<D>>,
-) -> Result<ModularImageDestination<S, D>, Fail> {
+fn params<'a, D: Decoder>(alloc: Global) -> Result<ModularParams<'a, D>, Fail> {
     let channels = vec![in alloc; ModularChannelParams::new(4, 4)]?;
-    let params = params(2, channels, global);
-    read(alloc, &mut Bitstream::new(&HEADER), params)
+    Ok(ModularParams::with_channels(2, 8, channels, None))
 }
 
-// Compares the samples that a viewer shows, row by row.
-fn check_shown<S: Sample, D: Decoder>(
+fn read<S: Sample, D: Decoder>(
+    alloc: Global,
+    params: ModularParams<'_, D>,
+) -> Result<ModularImageDestination<S, D>, Fail> {
+    if !params.is_valid() {
+        return Err(Fail::from("parameters that are not valid"));
+    }
+    let modular = Modular::parse(alloc, &mut Bitstream::new(&HEADER), params)?;
+    Ok(modular.into_image().ok_or("no image")?)
+}
+
+// Compares the samples that a viewer shows.
+fn check_shown<S: Sample>(
     rt: &impl Abort,
     alloc: Global,
-    image: &ModularImageDestination<S, D>,
+    shown: &[AlignedGrid<S>],
     expected: &[i32],
 ) -> Result<(), Fail> {
     let mut samples = Vec::new(alloc);
-    for grid in &shown(alloc, image)? {
-        for y in 0..grid.height() {
-            for sample in grid.get_row(y) {
-                samples.push(sample.to_i32())?;
-            }
+    for grid in shown {
+        for sample in grid.buf() {
+            samples.push(sample.to_i32())?;
         }
     }
     assert_eq!(rt; samples.as_slice(), expected);
@@ -65,12 +69,9 @@ fn check_shown<S: Sample, D: Decoder>(
 fn decode_global<S: Sample, D: Decoder>(
     alloc: Global,
     image: &mut ModularImageDestination<S, D>,
-    stream_index: u32,
-    allow_partial: bool,
 ) -> Result<bool, Error> {
-    let mut bits = Bitstream::new(&GLOBAL);
     let mut global = image.prepare_gmodular(alloc)?;
-    global.decode(alloc, &mut bits, stream_index, allow_partial)?;
+    global.decode(alloc, &mut Bitstream::new(&GLOBAL), 0, true)?;
     Ok(global.is_partial())
 }
 
@@ -78,52 +79,58 @@ fn decode_global<S: Sample, D: Decoder>(
 fn decode_group<S: Sample, D: Decoder>(
     alloc: Global,
     groups: &mut TransformedGlobalModular<'_, S, D>,
-    part: Part,
+    number: u64,
     bytes: &[u8],
-    stream_index: u32,
-    allow_partial: bool,
 ) -> Result<bool, Error> {
-    let mut bits = Bitstream::new(bytes);
-    groups.decode(alloc, part, &mut bits, stream_index, allow_partial)?;
+    let part = Part::Pass(0, number);
+    groups.decode(alloc, part, &mut Bitstream::new(bytes), 0, true)?;
     Ok(groups.is_partial(part))
 }
 
-// Decodes two groups, the first of which ends early at its first try.
+// Decodes two groups, the first of which ends early at its first try: whether they are partial, in turn.
 fn decode_two<S: Sample, D: Decoder>(
+    alloc: Global,
+    groups: &mut TransformedGlobalModular<'_, S, D>,
+    first: u64,
+    bytes: &[[u8; 1]; 2],
+) -> Result<[bool; 3], Error> {
+    Ok([
+        decode_group(alloc, groups, first, &[])?,
+        decode_group(alloc, groups, first, &bytes[0])?,
+        decode_group(alloc, groups, first.wrapping_add(1), &bytes[1])?,
+    ])
+}
+
+// The groups of the first two rows come, and then the others.
+fn follow_groups<S: Sample, D: Decoder>(
     rt: &impl Abort,
     alloc: Global,
-    image: &mut ModularImageDestination<S, D>,
-    numbers: [u64; 2],
+    groups: &mut TransformedGlobalModular<'_, S, D>,
 ) -> Result<(), Fail> {
+    let [a, b, c, d] = GROUPS;
+    assert_eq!(rt;
+        decode_two(alloc, groups, 0, &[a, b])?,
+        [true, false, false]
+    );
+    check_shown(rt, alloc, &groups.shown(alloc)?, &FINER)?;
+    assert_eq!(rt;
+        decode_two(alloc, groups, 2, &[c, d])?,
+        [true, false, false]
+    );
+    check_shown(rt, alloc, &groups.shown(alloc)?, &WHOLE)
+}
+
+fn follow<S: Sample, D: Decoder>(rt: &impl Abort, alloc: Global) -> Result<(), Fail> {
+    let mut image = read::<S, D>(alloc, params::<D>(alloc)?)?;
+    assert!(rt; !decode_global(alloc, &mut image)?);
+    check_shown(rt, alloc, &image.shown(alloc)?, &COARSE)?;
     let mut passes = BTreeMap::new(alloc);
     passes.insert(0, (0, 3))?;
     assert!(rt; image.can_group(&passes));
-    let mut groups = image.prepare_groups(alloc, &passes)?;
-    let early = Part::Pass(0, numbers[0]);
-    assert!(rt; decode_group(alloc, &mut groups, early, &[], 0, true)?);
-    for number in numbers {
-        let bytes = GROUPS.get(number as usize).ok_or("no such group")?;
-        let part = Part::Pass(0, number);
-        assert!(rt; !decode_group(alloc, &mut groups, part, bytes, 0, true)?);
-    }
-    Ok(())
-}
-
-fn follow<S: Sample, D: Decoder>(
-    rt: &impl Abort,
-    alloc: Global,
-    global: Option<&MaConfig<D>>,
-) -> Result<(), Fail> {
-    let mut image = picture::<S, D>(alloc, global)?;
-    assert!(rt; !decode_global(alloc, &mut image, 0, true)?);
-    check_shown(rt, alloc, &image, &COARSE)?;
-    decode_two(rt, alloc, &mut image, [0, 1])?;
-    check_shown(rt, alloc, &image, &FINER)?;
-    decode_two(rt, alloc, &mut image, [2, 3])?;
-    check_shown(rt, alloc, &image, &WHOLE)
+    follow_groups(rt, alloc, &mut image.prepare_groups(alloc, &passes)?)
 }
 
 #[test]
 fn coarse_and_then_whole(rt: HostRuntime) -> Result<(), Fail> {
-    follow::<i32, PlainDecoder>(&rt, rt.alloc(), None)
+    follow::<i32, PlainDecoder>(&rt, rt.alloc())
 }

@@ -1,14 +1,11 @@
-// Calls that reading a picture does not make, or not with these values.
+// Calls through a decoder whose tokens are bytes, that reading a picture does not make, or not with these values.
 
-use crate::bytewise::Bytewise;
-use crate::outcome::{decoded, samples};
 use jxl_modular::bits::Bitstream;
 use jxl_modular::decoder::{Decoder, DecoderError, RleToken};
 use jxl_modular::error::Error;
 use jxl_modular::flat::{Leaf, Steps};
-use jxl_modular::image::ModularImageDestination;
-use jxl_modular::plain::PlainDecoder;
-use jxl_modular::{ChannelShift, MaConfig, MaConfigParams, ModularParams, Sample};
+use jxl_modular::{MaConfig, MaConfigParams};
+use jxlm_examples::bytewise::Bytewise;
 use jxlm_tree_tests::told::Told;
 use std::alloc::Global;
 use std::process::Abort;
@@ -56,10 +53,12 @@ fn after_first<D: Decoder>(
     bits: &mut Bitstream<'_>,
 ) -> Result<D, Fail> {
     let mut decoder = begun::<D>(alloc, bits, 2)?;
-    assert_eq!(rt; decoder.cluster_map(), [0, 0].as_slice());
-    assert_eq!(rt; only(&decoder), None);
-    assert_eq!(rt; decoder.as_rle(), false);
-    assert_eq!(rt; second(&mut decoder, bits), Ok(7));
+    let seen = (
+        only(&decoder),
+        decoder.as_rle(),
+        second(&mut decoder, bits)?,
+    );
+    assert_eq!(rt; seen, (None, false, 7));
     Ok(decoder.try_clone(alloc)?)
 }
 
@@ -148,38 +147,5 @@ fn a_tree_of_bytes(rt: HostRuntime) -> Result<(), Fail> {
     let seen = leaf_of::<Bytewise>(rt.alloc(), &mut bits)?;
     assert_eq!(rt; bits.position(), 40);
     assert_eq!(rt; seen.as_str(), "1 0 [0]: 0 West -1 16");
-    Ok(())
-}
-
-// A leaf with the constant token 3, doubled, and 5 more.
-const CONSTANT: &[u8] = &[0x82, 0x00, 0x40, 0x80, 0x04, 0x12, 0x3A, 0x08, 0x40, 0x61];
-
-fn sizes<S: Sample, D: Decoder>(
-    alloc: Global,
-    image: &ModularImageDestination<S, D>,
-) -> Result<Vec<(usize, usize)>, Fail> {
-    let mut sizes = Vec::new(alloc);
-    for grid in image.image_channels() {
-        sizes.push((grid.width(), grid.height()))?;
-    }
-    Ok(sizes)
-}
-
-// A picture of 5 by 3, once as it is, once halved both ways, once with a quarter of its rows: all samples are 1.
-#[test]
-fn channels_of_one_picture(rt: HostRuntime) -> Result<(), Fail> {
-    let shifts = vec![in rt.alloc();
-        ChannelShift::from_shift(0),
-        ChannelShift::Shifts(1),
-        ChannelShift::Raw(0, 2),
-    ]?;
-    let params = ModularParams::<PlainDecoder>::new(rt.alloc(), 5, 3, 256, 8, shifts, None)?;
-    let mut bits = Bitstream::new(CONSTANT);
-    let image = decoded::<i16, PlainDecoder>(&rt, rt.alloc(), &mut bits, params)?;
-    let image = image.ok_or("no image")?;
-    assert_eq!(rt; samples(rt.alloc(), &image)?.as_slice(), [1; 26].as_slice());
-    let sizes = sizes(rt.alloc(), &image)?;
-    assert_eq!(rt; sizes.as_slice(), [(5, 3), (3, 2), (5, 1)].as_slice());
-    assert_eq!(rt; bits.position(), 79);
     Ok(())
 }

@@ -19,7 +19,6 @@ mod fields;
 mod laws;
 #[cfg(test)]
 mod params;
-pub mod pictures;
 #[cfg(test)]
 mod squeezes;
 #[cfg(test)]

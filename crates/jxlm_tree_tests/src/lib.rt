@@ -1,4 +1,4 @@
-//! Tests of trees, predictors and properties, and tables of pictures that other tests read.
+//! Tests of trees, predictors and properties.
 #![tactic(auto)]
 
 #[cfg(test)]
@@ -9,7 +9,6 @@ mod drawn;
 mod listing;
 #[cfg(test)]
 mod path_rows;
-pub mod pictures;
 #[cfg(test)]
 mod place_rows;
 #[cfg(test)]

@@ -1,5 +1,4 @@
-// The public surface of the library, named through `jxl_modular` alone: each type, function, variant and field of it.
-// One that is missing, or has another type, does not compile. What is computed on the way are worked examples.
+// The surface of single calls, and of images in one part.
 
 ghost use Rattle.std.specs.Prelude.{◌≡◌, Contains, IfOk, None, true};
 ghost use Rattle.jxl_modular.specs.FlatTree.{ClustersStandIn};
@@ -13,7 +12,7 @@ ghost use Rattle.jxl_modular.specs.Standing.{IsInner, IsReady};
 use jxl_modular::bits::{Bitstream, BitstreamError, U32Spec};
 use jxl_modular::decoder::{Decoder, DecoderError, RleToken};
 use jxl_modular::flat::{FlatMaTree, Leaf, Steps};
-use jxl_modular::grid::{AlignedGrid, MutableSubgrid, OutOfMemory, Region};
+use jxl_modular::grid::{AlignedGrid, MutableSubgrid, OutOfMemory, Region, Rows};
 use jxl_modular::image::{ModularImageDestination, TransformedGrid, TransformedModularSubimage};
 use jxl_modular::ma::{MaConfig, MaConfigParams};
 use jxl_modular::param::{ChannelShift, ModularChannelParams, ModularParams};
@@ -189,6 +188,18 @@ fn averages<S: Sample>(alloc: Global) -> Result<AlignedGrid<S>, OutOfMemory> {
     Ok(grid)
 }
 
+// How many cells a grid has, and how many rows.
+fn counts<S: Sample>(grid: &AlignedGrid<S>) -> (usize, usize) {
+    let cells: &[S] = grid.buf();
+    let rows: Rows<'_, S> = grid.rows();
+    let mut count = 0usize;
+    for row in rows {
+        let _: &[S] = row;
+        count = count.wrapping_add(1);
+    }
+    (cells.len(), count)
+}
+
 // The sum of the first two samples of a copy.
 fn sum<S: Sample>(alloc: Global, grid: &AlignedGrid<S>) -> Result<i32, OutOfMemory> {
     let copy: AlignedGrid<S> = grid.try_clone(alloc)?;
@@ -199,14 +210,16 @@ fn sum<S: Sample>(alloc: Global, grid: &AlignedGrid<S>) -> Result<i32, OutOfMemo
     Ok(cells[1].add(copy.get(0, 0)).to_i32())
 }
 
-// The sides of the row, squeezed back, and the sum of the averages.
-fn rectangles<S: Sample>(alloc: Global) -> jxl_modular::Result<((usize, usize), i32)> {
+// The sides of the row, squeezed back, and of the averages the cells, the rows and the sum.
+fn rectangles<S: Sample>(
+    alloc: Global,
+) -> jxl_modular::Result<((usize, usize), (usize, usize), i32)> {
     let mut grid = averages::<S>(alloc)?;
-    let sum = sum(alloc, &grid)?;
+    let (counts, sum) = (counts(&grid), sum(alloc, &grid)?);
     let (width, height): (usize, usize) = (grid.width(), grid.height());
     let mut rectangle: MutableSubgrid<'_, S> = MutableSubgrid::new(&mut grid, 0, 0, width, height);
     squeezed_back(alloc, &mut rectangle)?;
-    Ok((sides(&rectangle), sum))
+    Ok((sides(&rectangle), counts, sum))
 }
 
 // Colour of type 6 on rows of one sample.
@@ -320,7 +333,8 @@ fn params<'a>(
     alloc: Global,
     tree: Option<&'a MaConfig<PlainDecoder>>,
 ) -> jxl_modular::Result<(u32, u32, usize, bool, bool)> {
-    let shifts: Vec<ChannelShift> = Vec::new(alloc);
+    let mut shifts: Vec<ChannelShift> = Vec::new(alloc);
+    shifts.push(ChannelShift::Raw(0, 2))?;
     let params: ModularParams<'a, PlainDecoder> = ModularParams::new(
         alloc, 5, 3, 256, 8, shifts, tree,
     )?;
@@ -623,7 +637,7 @@ fn check_width<S: Sample>(rt: &impl Abort, alloc: Global, wide: bool) -> Result<
     assert_eq!(rt; samples::<S>(), (-2, 21, 1, -2));
     let grid: AlignedGrid<S> = AlignedGrid::new(alloc, 1, 1)?;
     assert_eq!(rt; widths(grid), (wide, !wide));
-    assert_eq!(rt; rectangles::<S>(alloc)?, ((4, 1), 30));
+    assert_eq!(rt; rectangles::<S>(alloc)?, ((4, 1), (4, 1), 30));
     Ok(())
 }
 
@@ -663,7 +677,7 @@ fn reading(rt: HostRuntime) -> Result<(), Fail> {
     let wp_header = WpHeader::parse(&mut Bitstream::new(&[0x01]))?;
     let colour = transform(alloc, &mut Bitstream::new(&[0x00, 0x00]), &wp_header)?;
     assert_eq!(rt; colour, (0, false, false));
-    assert_eq!(rt; params(alloc, None)?, (256, 8, 0, true, false));
+    assert_eq!(rt; params(alloc, None)?, (256, 8, 1, true, false));
     check_predictors(&rt)?;
     check_tree::<PlainDecoder>(&rt, alloc)
 }

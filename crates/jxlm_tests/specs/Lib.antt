@@ -1,2 +1,0 @@
-pub mod Bytewise
-pub mod Inner
