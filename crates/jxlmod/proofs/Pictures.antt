@@ -97,11 +97,11 @@ out_of_memory w width height channels bytes error is = record { place = 0; steps
 -- ---- what comes of a picture that is cut into sections
 
 module _ {S : Type 0} (w : Width) (to_int : S → ℤ) (zero : S) (given given' : ChannelList) (dim dim' deep deep' : ℕ) (bytes : List ℕ) (are : given' ≡ given) (cut : dim' ≡ dim) (depth : deep' ≡ deep) where
-  pub cut_picture : (grids : List (Grid ℤ)) → IsCutPicture w to_int zero given' dim' deep' bytes grids → IsCutPicture w to_int zero given dim deep bytes grids
+  pub cut_picture : (grids : List (Grid ℤ)) → IsCutPicture plain w to_int zero given' dim' deep' bytes grids → IsCutPicture plain w to_int zero given dim deep bytes grids
   cut_picture grids h =
-      subst (λ (l : ChannelList). IsCutPicture w to_int zero l dim deep bytes grids) are
-      (subst (λ (n : ℕ). IsCutPicture w to_int zero given' n deep bytes grids) cut
-      (subst (λ (n : ℕ). IsCutPicture w to_int zero given' dim' n bytes grids) depth h))
+      subst (λ (l : ChannelList). IsCutPicture plain w to_int zero l dim deep bytes grids) are
+      (subst (λ (n : ℕ). IsCutPicture plain w to_int zero given' n deep bytes grids) cut
+      (subst (λ (n : ℕ). IsCutPicture plain w to_int zero given' dim' n bytes grids) depth h))
 
   pub cut_error : (error : Error) → IsCutPictureError w to_int zero given' dim' deep' bytes error → IsCutPictureError w to_int zero given dim deep bytes error
   cut_error error h =

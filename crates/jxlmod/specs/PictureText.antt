@@ -35,7 +35,7 @@ pub record IsPictureText (w : Width) (width height channels : ℕ) (bytes : List
 -- the text is that of the picture of these channels that is cut into sections, which stand at the start of the bytes
 pub record IsCutPictureText {S : Type 0} (w : Width) (to_int : S → ℤ) (zero : S) (given : ChannelList) (group_dim bit_depth : ℕ) (bytes text : List ℕ) : Type 0 where
   pub grids : List (Grid ℤ)
-  pub picture : IsCutPicture w to_int zero given group_dim bit_depth bytes grids
+  pub picture : IsCutPicture plain w to_int zero given group_dim bit_depth bytes grids
   pub printed : text ≡ image_text grids
 
 -- the text for the bytes and a command

@@ -132,7 +132,7 @@ fn cut_picture_text<S: Sample>(
 {
     let channels = channel_list(alloc, width, height, channels)?;
     let params = ModularParams::with_channels(group_dim, bit_depth, channels, None);
-    let image = decode_cut_picture::<S>(alloc, bytes, params, &mut Steps::new())?;
+    let image = decode_cut_picture::<S, PlainDecoder>(alloc, bytes, params, &mut Steps::new())?;
     match image {
         Some(image) => Ok(print_image(alloc, image.image_channels())?),
         None => Ok(String::new(alloc)),

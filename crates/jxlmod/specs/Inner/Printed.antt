@@ -1,5 +1,5 @@
 -- What the program's printer returns for the bytes of its input.
-use Rattle.std.specs.Prelude.{ℕ, ℤ, pos, List, None, Result, Ok, Err}
+use Rattle.std.specs.Prelude.{ℕ, ℤ, pos, List, None, false, Result, Ok, Err}
 use Rattle.std.specs.Int.{Width}
 use Rattle.jxlm_base.specs.ErrorKind.{UnlessMemory, kind_of}
 use Rattle.jxlm_plain.specs.Plain.{plain}
@@ -20,7 +20,7 @@ pub record IsPictureError (w : Width) (width height channels : ℕ) (bytes : Lis
 -- there is no picture that is cut into sections at the start of the bytes, by this error, or it was out of memory
 abbrev pub IsCutPictureError : {S : Type 0} → Width → (S → ℤ) → S → ChannelList → ℕ → ℕ → List ℕ → Error → Type 0
 IsCutPictureError w to_int zero given group_dim bit_depth bytes error =
-    UnlessMemory (kind_of error) (CutPictureFails w to_int zero given group_dim bit_depth bytes (kind_of error))
+    UnlessMemory (kind_of error) (CutPictureFails plain w to_int zero given group_dim bit_depth bytes false (kind_of error))
 
 -- there is no text for the bytes and a command, by this error
 abbrev pub FailsToPrint : List ℕ → Command → Error → Type 0

@@ -3,9 +3,9 @@ use Rattle.jxlm_cut.specs.Passes.{can_group}
 use Rattle.jxlm_cut.specs.declared.part.SectionPart.TheVariants as parts
 use Rattle.jxl_modular.specs.GroupParts.{image_of, passes_in}
 use Rattle.jxl_modular.specs.declared.sections.Section.{Section}
-use Rattle.jxlm_sections.specs.Inner.Added.{ReadingFails}
+use Rattle.jxlm_sections.specs.Splitting.{ReadingFails}
 use Rattle.jxlm_sections.proofs.SectionRows.{all_added, high_failed, low_failed}
-use Rattle.jxlm_sections.proofs.reading.sections_of.Goals as goal
+use Rattle.jxlm_sections.proofs.reading.split_sections.Goals as goal
 
 pub prepare_groups-requires-clause-possible : goal.prepare_groups-requires-clause-possible
 prepare_groups-requires-clause-possible g c κs within = subst (λ ps. IsTrue (can_group ps c.args.image.now.given)) (sym c.requires.one) c.requires.possible
