@@ -26,7 +26,7 @@ module _ {S : Type 0} (w : Width) (to_int : S → ℤ) (zero : S) (request : Req
   abbrev pub StandsAs : Source → List (Grid ℤ) → Type 0
   StandsAs sources.Picture grids = IsPictureOf grids
   StandsAs (sources.CutPicture group_dim) grids =
-      IsCutPicture w to_int zero (channels_asked request) group_dim request.bit_depth bytes grids
+      IsCutPicture plain w to_int zero (channels_asked request) group_dim request.bit_depth bytes grids
 
   -- they are the picture that is asked for
   abbrev pub IsAsked : List (Grid ℤ) → Type 0

@@ -6,10 +6,9 @@ mod decoding;
 mod request;
 mod run;
 
-use std::alloc::Global;
-use std::env::Args;
+use jxlm_program::run::words_of;
+use std::env;
 use std::process::ExitCode;
-use std::{env, io};
 
 fn main(rt: HostRuntime) -> ExitCode {
     let alloc = rt.alloc();
@@ -19,9 +18,4 @@ fn main(rt: HostRuntime) -> ExitCode {
         Err(failure) => run::report(&mut rt.stderr(), failure),
     };
     ExitCode::from(status)
-}
-
-/// The words of the arguments: all but the first, which is the program's name.
-fn words_of(alloc: Global, arguments: io::Result<Args>) -> Option<Vec<String>> {
-    arguments.ok()?.skip(1).collect(alloc).ok()
 }

@@ -1,14 +1,7 @@
 //! What the arguments ask for.
 ghost use Rattle.std.specs.Prelude.{◌<◌, IfSome};
 
-/// The type of an image's samples.
-#[derive(Clone, Copy, Debug, PartialEq, Eq)]
-pub enum Samples {
-    /// Whole numbers of 16 bits.
-    I16,
-    /// Whole numbers of 32 bits.
-    I32,
-}
+use jxlm_program::arguments::{Samples, number};
 
 /// How the image stands in the input.
 #[derive(Clone, Copy, Debug, PartialEq, Eq)]
@@ -52,24 +45,19 @@ impl Request {
         let (source, repeat) = match (name.as_str(), rest) {
             ("decode", [repeat]) => (Source::Picture, repeat),
             ("sections", [group_dim, repeat]) => {
-                let group_dim = number(group_dim)?;
+                let group_dim = number(group_dim.as_str())?;
                 (Source::CutPicture { group_dim }, repeat)
             }
             _ => return None,
         };
-        let samples = match samples.as_str() {
-            "i16" => Samples::I16,
-            "i32" => Samples::I32,
-            _ => return None,
-        };
         let request = Request {
             source,
-            width: number(width)?,
-            height: number(height)?,
-            channels: number(channels)?,
-            bit_depth: number(bit_depth)?,
-            samples,
-            repeat: number(repeat)?,
+            width: number(width.as_str())?,
+            height: number(height.as_str())?,
+            channels: number(channels.as_str())?,
+            bit_depth: number(bit_depth.as_str())?,
+            samples: Samples::parse(samples.as_str())?,
+            repeat: number(repeat.as_str())?,
         };
         if request.repeat > 0 {
             Some(request)
@@ -77,8 +65,4 @@ impl Request {
             None
         }
     }
-}
-
-fn number(word: &String) -> Option<u32> {
-    word.as_str().parse::<u32>().ok()
 }

@@ -1,8 +1,9 @@
 //! The program over a clock, a reader and a writer.
 
 use crate::decoding::{Measured, measure};
-use crate::request::{Request, Samples};
+use crate::request::Request;
 use jxl_modular::error::Error;
+use jxlm_program::arguments::Samples;
 use std::alloc::Global;
 use std::io;
 use std::io::{Read, Write};

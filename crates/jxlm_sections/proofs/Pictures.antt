@@ -6,10 +6,10 @@ use Rattle.std.specs.Option.{option_copied}
 use Rattle.std.specs.Prelude.{IsFalse}
 use Rattle.std.proofs.lemmas.List.Elements.{All-cons, All-map}
 use Rattle.jxlm_base.specs.Bits.{bytes_of, position_of}
+use Rattle.jxlm_base.specs.Decoding.{Meaning}
 use Rattle.jxlm_base.specs.ErrorKind.{BadSqueeze, Eof, ErrorKind, UnlessMemory, kind_of}
 use Rattle.jxlm_base.specs.Grammar.{IsErrorAt}
 use Rattle.jxlm_base.specs.Grid.{Grid}
-use Rattle.jxlm_plain.specs.Plain.{PlainState, plain}
 use Rattle.jxlm_base.specs.declared.bits.Bitstream.{Bitstream}
 use Rattle.jxlm_base.specs.declared.error.Error.{Error}
 use Rattle.jxlm_ma.proofs.Memory.{always_so, unless_so}
@@ -28,12 +28,12 @@ use Rattle.jxlm_cut.specs.Passes.{can_group, one_picture}
 use Rattle.jxlm_header.specs.Opening.{Opening}
 use Rattle.jxl_modular.specs.Image.{Image, coded_list}
 use Rattle.jxl_modular.specs.Parsing.{IsImageAt, IsStartAt, IsTreeErrorAt, ParseGives, image_of, opened}
-use Rattle.jxl_modular.specs.Sections.{AreDecoded, IsComplete, SectionsFit, SectionsLeave, SectionsStop}
+use Rattle.jxl_modular.specs.Sections.{AllTurn, AreDecoded, IsComplete, SectionsFit, SectionsLeave, SectionsStop}
 use Rattle.jxl_modular.specs.declared.sections.Section.{Section}
 use Rattle.jxl_modular.specs.declared.root.Modular.{Modular}
 use Rattle.jxlm_sections.specs.CutErrors.{CutPictureFails, EndsEarly, FirstTruncated, GroupTruncated, HeaderStands, IsSplit, IsTruncated, NoGroups, NoHeader, NoSamples, begun}
-use Rattle.jxlm_sections.specs.CutPicture.{IsCutPicture, IsCutPictureRead, StandBefore, groups_in_order, in_a_row, one_pass, with_length}
-use Rattle.jxlm_sections.specs.Inner.Added.{AreRead, ReadingFails}
+use Rattle.jxlm_sections.specs.CutPicture.{IsCutPicture, IsCutPictureLeft, IsCutPictureRead, StandBefore, groups_in_order, in_a_row, one_pass, with_length}
+use Rattle.jxlm_sections.specs.Splitting.{AreRead, ReadingFails}
 use Rattle.jxlm_sections.proofs.OnePass.{complete, exist, unlike}
 use Rattle.jxlm_sections.proofs.Openings.{StepsOf, opened_steps}
 use Rattle.jxlm_sections.proofs.Whole.{all_whole}
@@ -59,46 +59,46 @@ still_picture ps head valid one steps =
       is = pictured_after_all picture.w picture.h head.coded.steps (image_list ps) head.coded.list steps.leave steps.channels (λ i d le lt. picture.each i d lt);
     }
 
-module _ {S : Type 0} (w : Width) (to_int : S → ℤ) (zero : S) (params : ModularParams PlainState) (bytes : List ℕ) (none : option_copied params.ma_config ≡ None) where
+module _ {S D : Type 0} (d : Meaning D) (w : Width) (to_int : S → ℤ) (zero : S) (params : ModularParams D) (bytes : List ℕ) (none : option_copied params.ma_config ≡ None) (partly : Bool) where
   abbrev pub given : ChannelList
   given = image_list params.channels.items
 
   abbrev pub Stands : Type 0
-  Stands = HeaderStands {S = S} w to_int zero given params.group_dim params.bit_depth bytes
+  Stands = HeaderStands {S = S} d w to_int zero given params.group_dim params.bit_depth bytes
 
   abbrev pub Fails : ErrorKind → Type 0
-  Fails = CutPictureFails {S = S} w to_int zero given params.group_dim params.bit_depth bytes
+  Fails = CutPictureFails {S = S} d w to_int zero given params.group_dim params.bit_depth bytes partly
 
   abbrev pub Makes : List (Grid ℤ) → Type 0
-  Makes = IsCutPicture {S = S} w to_int zero given params.group_dim params.bit_depth bytes
+  Makes = IsCutPicture {S = S} d w to_int zero given params.group_dim params.bit_depth bytes
 
   -- an image was read from the first section
-  pub record HasBegun (first rest : List ℕ) (image : Image S PlainState) (q : ℕ) : Type 0 where
+  pub record HasBegun (first rest : List ℕ) (image : Image S D) (q : ℕ) : Type 0 where
     pub stands : Stands
     pub section_is : stands.section ≡ first
     pub rest_is : stands.rest ≡ rest
     pub at : stands.samples_at ≡ q
-    pub image_is : image ≡ begun {S = S} w to_int zero given params.group_dim params.bit_depth bytes stands
+    pub image_is : image ≡ begun {S = S} d w to_int zero given params.group_dim params.bit_depth bytes stands
 
-  image_at : (ps : List ModularChannelParams) (all : List ℕ) (p q : ℕ) (m : Modular S PlainState) (image : Image S PlainState) → ParseGives plain zero all p params ps (Ok m) q → image_of m ≡ Some image →
-      IsImageAt plain zero all p params image q
+  image_at : (ps : List ModularChannelParams) (all : List ℕ) (p q : ℕ) (m : Modular S D) (image : Image S D) → ParseGives d zero all p params ps (Ok m) q → image_of m ≡ Some image →
+      IsImageAt d zero all p params image q
   image_at [] all p q m image gives some = absurd (none_some (sym gives.0 ∙ some)) where
     none_some : {X : Type 0} {a : X} → ◌≡◌ {A = Option X} None (Some a) → ⊥
     none_some e = cc
   image_at (c ∷ cs) all p q m image gives some =
       let (found, is, at) = gives in
-      subst (λ i. IsImageAt plain zero all p params i q) (same_some (sym is ∙ some)) at where
+      subst (λ i. IsImageAt d zero all p params i q) (same_some (sym is ∙ some)) at where
         same_some : {X : Type 0} {a b : X} → ◌≡◌ {A = Option X} (Some a) (Some b) → a ≡ b
         same_some e = cc
 
-  pub has_begun : (first rest all : List ℕ) (p q : ℕ) (m : Modular S PlainState) (image : Image S PlainState) → IsSplit bytes first rest → all ≡ first → p ≡ 0 →
-      ParseGives plain zero all p params params.channels.items (Ok m) q → image_of m ≡ Some image → HasBegun first rest image q
+  pub has_begun : (first rest all : List ℕ) (p q : ℕ) (m : Modular S D) (image : Image S D) → IsSplit bytes first rest → all ≡ first → p ≡ 0 →
+      ParseGives d zero all p params params.channels.items (Ok m) q → image_of m ≡ Some image → HasBegun first rest image q
   has_begun first rest all p q m image split same origin gives some =
       let at = image_at params.channels.items all p q m image gives some in
-      let start : IsStartAt plain None first given 0 at.head image.config q =
-      subst (λ g. IsStartAt plain g first given 0 at.head image.config q) none
-      (subst (λ b. IsStartAt plain (option_copied params.ma_config) b given 0 at.head image.config q) same
-      (subst (λ n. IsStartAt plain (option_copied params.ma_config) all given n at.head image.config q) origin at.start)) in
+      let start : IsStartAt d None first given 0 at.head image.config q =
+      subst (λ g. IsStartAt d g first given 0 at.head image.config q) none
+      (subst (λ b. IsStartAt d (option_copied params.ma_config) b given 0 at.head image.config q) same
+      (subst (λ n. IsStartAt d (option_copied params.ma_config) all given n at.head image.config q) origin at.start)) in
       record {
         stands = record { section = first; rest = rest; split = split; head = at.head; config = image.config; samples_at = q; start = start };
         section_is = refl;
@@ -108,7 +108,7 @@ module _ {S : Type 0} (w : Width) (to_int : S → ℤ) (zero : S) (params : Modu
       }
 
   header_error : (ps : List ModularChannelParams) (first rest all : List ℕ) (p q : ℕ) (e : Error) → IsSplit bytes first rest → all ≡ first → p ≡ 0 →
-      ParseGives {S = S} plain zero all p params ps (Err e) q → image_list ps ≡ given → UnlessMemory (kind_of e) (Fails (kind_of e))
+      ParseGives {S = S} d zero all p params ps (Err e) q → image_list ps ≡ given → UnlessMemory (kind_of e) (Fails (kind_of e))
   header_error [] first rest all p q e split same origin gives is = absurd gives
   header_error (c ∷ cs) first rest all p q e split same origin gives is =
       unless_so (kind_of e) (λ fails. NoHeader (record {
@@ -116,29 +116,29 @@ module _ {S : Type 0} (w : Width) (to_int : S → ℤ) (zero : S) (params : Modu
         rest = rest;
         split = split;
         place = q;
-        fails = subst (λ g. IsErrorAt (opened {D = PlainState} g first given 0) (kind_of e) q ⊎ IsTreeErrorAt plain g first given 0 (kind_of e) q) none
-            (subst (λ b. IsErrorAt (opened {D = PlainState} (option_copied params.ma_config) b given 0) (kind_of e) q ⊎ IsTreeErrorAt plain (option_copied params.ma_config) b given 0 (kind_of e) q) same
-            (subst (λ n. IsErrorAt (opened {D = PlainState} (option_copied params.ma_config) all given n) (kind_of e) q ⊎ IsTreeErrorAt plain (option_copied params.ma_config) all given n (kind_of e) q) origin fails));
+        fails = subst (λ g. IsErrorAt (opened {D = D} g first given 0) (kind_of e) q ⊎ IsTreeErrorAt d g first given 0 (kind_of e) q) none
+            (subst (λ b. IsErrorAt (opened {D = D} (option_copied params.ma_config) b given 0) (kind_of e) q ⊎ IsTreeErrorAt d (option_copied params.ma_config) b given 0 (kind_of e) q) same
+            (subst (λ n. IsErrorAt (opened {D = D} (option_copied params.ma_config) all given n) (kind_of e) q ⊎ IsTreeErrorAt d (option_copied params.ma_config) all given n (kind_of e) q) origin fails));
       })) gives
 
   -- header or tree has an error
   pub header_fails : (first rest all : List ℕ) (p q : ℕ) (e : Error) → IsSplit bytes first rest → all ≡ first → p ≡ 0 →
-      ParseGives {S = S} plain zero all p params params.channels.items (Err e) q → UnlessMemory (kind_of e) (Fails (kind_of e))
+      ParseGives {S = S} d zero all p params params.channels.items (Err e) q → UnlessMemory (kind_of e) (Fails (kind_of e))
   header_fails first rest all p q e split same origin gives = header_error params.channels.items first rest all p q e split same origin gives refl
 
   -- the first section is truncated
   pub first_fails : (e : Error) → kind_of e ≡ Eof → IsTruncated bytes → UnlessMemory (kind_of e) (Fails (kind_of e))
   first_fails e is truncated = always_so (kind_of e) (FirstTruncated is truncated)
 
-  module _ (first rest : List ℕ) (image : Image S PlainState) (q : ℕ) (b : HasBegun first rest image q) where
+  module _ (first rest : List ℕ) (image : Image S D) (q : ℕ) (b : HasBegun first rest image q) where
     -- a group has a side of 0, or a later section is truncated
     pub reading_fails : (e : Error) → ReadingFails image rest e → UnlessMemory (kind_of e) (Fails (kind_of e))
     reading_fails e fails =
-        let at : ReadingFails (begun {S = S} w to_int zero given params.group_dim params.bit_depth bytes b.stands) b.stands.rest e =
-        subst (λ r. ReadingFails (begun {S = S} w to_int zero given params.group_dim params.bit_depth bytes b.stands) r e) (sym b.rest_is) (subst (λ i. ReadingFails i rest e) b.image_is fails) in
+        let at : ReadingFails (begun {S = S} d w to_int zero given params.group_dim params.bit_depth bytes b.stands) b.stands.rest e =
+        subst (λ r. ReadingFails (begun {S = S} d w to_int zero given params.group_dim params.bit_depth bytes b.stands) r e) (sym b.rest_is) (subst (λ i. ReadingFails i rest e) b.image_is fails) in
         unless_so (kind_of e) (λ h. which h) (unless_memory (kind_of e) _ at) where
           which : ((kind_of e ≡ BadSqueeze) × IsFalse (can_cut params.group_dim b.stands.head.coded.list))
-              ⊎ ((kind_of e ≡ Eof) × IsTrue (can_cut params.group_dim b.stands.head.coded.list) × EndsEarly (length (groups_in_order (begun {S = S} w to_int zero given params.group_dim params.bit_depth bytes b.stands))) b.stands.rest) → Fails (kind_of e)
+              ⊎ ((kind_of e ≡ Eof) × IsTrue (can_cut params.group_dim b.stands.head.coded.list) × EndsEarly (length (groups_in_order (begun {S = S} d w to_int zero given params.group_dim params.bit_depth bytes b.stands))) b.stands.rest) → Fails (kind_of e)
           which (inl h) = NoGroups h.0 (record { header = b.stands; sideless = h.1 })
           which (inr h) = GroupTruncated h.0 (record { header = b.stands; cut = h.1; ends = h.2 })
 
@@ -168,10 +168,14 @@ module _ {S : Type 0} (w : Width) (to_int : S → ℤ) (zero : S) (params : Modu
           }
 
       can_be_cut : IsTrue (can_cut params.group_dim b.stands.head.coded.list)
-      can_be_cut = subst (λ (i : Image S PlainState). IsTrue (can_cut i.group_dim (coded_list i))) b.image_is cut
+      can_be_cut = subst (λ (i : Image S D). IsTrue (can_cut i.group_dim (coded_list i))) b.image_is cut
 
-      parts_are : map (λ s. s.part) more ≡ groups_in_order (begun {S = S} w to_int zero given params.group_dim params.bit_depth bytes b.stands)
-      parts_are = read.added.parts_are ∙ ap (λ (i : Image S PlainState). groups_in_order i) b.image_is
+      parts_are : map (λ s. s.part) more ≡ groups_in_order (begun {S = S} d w to_int zero given params.group_dim params.bit_depth bytes b.stands)
+      parts_are = read.added.parts_are ∙ ap (λ (i : Image S D). groups_in_order i) b.image_is
+
+      begins_there : IsStartAt d None (bytes_of global.bits) given 0 b.stands.head b.stands.config (position_of global.bits)
+      begins_there = subst (λ f. IsStartAt d None f given 0 b.stands.head b.stands.config (position_of global.bits)) (b.section_is ∙ sym global_bytes)
+          (subst (λ n. IsStartAt d None b.stands.section given 0 b.stands.head b.stands.config n) (b.at ∙ sym global_place) b.stands.start)
 
       -- the sections fit the image
       pub sections_fit : IsTrue (can_group one_pass image.given) → SectionsFit image one_pass sections
@@ -182,7 +186,7 @@ module _ {S : Type 0} (w : Width) (to_int : S → ℤ) (zero : S) (params : Modu
       })
 
       -- decoding them fails
-      pub samples_fail : (e : Error) (left : List (Grid S)) (before after : ℕ) → SectionsStop plain w to_int zero image one_pass None false sections e image.store left before after → UnlessMemory (kind_of e) (Fails (kind_of e))
+      pub samples_fail : (e : Error) (left : List (Grid S)) (before after : ℕ) → SectionsStop d w to_int zero image one_pass None partly sections e image.store left before after → UnlessMemory (kind_of e) (Fails (kind_of e))
       samples_fail e left before after stop =
           always_so (kind_of e) (NoSamples (record {
             header = b.stands;
@@ -201,40 +205,61 @@ module _ {S : Type 0} (w : Width) (to_int : S → ℤ) (zero : S) (params : Modu
             left = left;
             before = before;
             after = after;
-            stop = subst (λ (i : Image S PlainState). SectionsStop plain w to_int zero i one_pass None false (global ∷ more) e i.store left before after) b.image_is
-                (subst (λ ss. SectionsStop plain w to_int zero image one_pass None false ss e image.store left before after) sections_are stop);
+            stop = subst (λ (i : Image S D). SectionsStop d w to_int zero i one_pass None partly (global ∷ more) e i.store left before after) b.image_is
+                (subst (λ ss. SectionsStop d w to_int zero image one_pass None partly ss e image.store left before after) sections_are stop);
           }))
 
-      -- or there is the picture
-      pub picture_made : All IsValidChannel params.channels.items → IsTrue (one_picture given.channels) → (whole : Bool) (grids : List (Grid ℤ)) (before after : ℕ) →
-          SectionsLeave plain w to_int zero image one_pass None false sections whole image.store grids before after →
-          (◌≡◌ {A = Result Bool Error} (Ok whole) (Ok true) → AreDecoded plain w to_int zero image one_pass None sections grids before after) →
-          IsCutPictureRead w to_int zero given params.group_dim params.bit_depth bytes grids before after
-      picture_made valid one whole grids before after leave decoded =
+      -- or the picture is left as far as it was decoded
+      pub picture_left : (whole : Bool) (grids : List (Grid ℤ)) (before after : ℕ) → SectionsLeave d w to_int zero image one_pass None partly sections whole image.store grids before after →
+          IsCutPictureLeft d w to_int zero given params.group_dim params.bit_depth bytes partly grids whole before after
+      picture_left whole grids before after leave = record {
+        first = global;
+        groups = more;
+        rest = read.rest;
+        stand = stand;
+        head = b.stands.head;
+        config = b.stands.config;
+        start = begins_there;
+        cut = can_be_cut;
+        global = read.of_global;
+        numbered = read.added.groups;
+        parts = parts_are;
+        left = subst (λ (i : Image S D). SectionsLeave d w to_int zero i one_pass None partly (global ∷ more) whole i.store grids before after) b.image_is
+            (subst (λ ss. SectionsLeave d w to_int zero image one_pass None partly ss whole image.store grids before after) sections_are leave);
+      }
+
+      -- which is whole where no sample may be missing
+      pub picture_whole : All IsValidChannel params.channels.items → IsTrue (one_picture given.channels) → partly ≡ false → (whole : Bool) (grids : List (Grid ℤ)) (before after : ℕ) →
+          SectionsLeave d w to_int zero image one_pass None partly sections whole image.store grids before after → whole ≡ true
+      picture_whole valid one never whole grids before after leave =
           let head = b.stands.head in
           let begins = b.stands.start in
           let pictured = still_picture params.channels.items head valid one (opened_steps false given b.stands.section 0 head begins.tree_at begins.header) in
-          let list_is : coded_list image ≡ head.coded.list = ap (λ (i : Image S PlainState). coded_list i) b.image_is in
+          let list_is : coded_list image ≡ head.coded.list = ap (λ (i : Image S D). coded_list i) b.image_is in
           let there = subst (IsComplete image one_pass) (sym sections_are) (complete image global more read.of_global.part read.added.parts_are pictured.w pictured.h (subst (IsPictured pictured.w pictured.h) (sym list_is) pictured.is)) in
-          let all : whole ≡ true = leave.says.1 (all_whole plain w to_int zero image one_pass None sections leave.turns image.store leave.between leave.left, there) in
-          let done = decoded (ap Ok all) in
+          let turns = subst (λ (b : Bool). AllTurn d w to_int zero image one_pass None b sections leave.turns image.store leave.between) never leave.left in
+          leave.says.1 (all_whole d w to_int zero image one_pass None sections leave.turns image.store leave.between turns, there)
+
+      -- and then there is the picture
+      pub picture_made : (grids : List (Grid ℤ)) (before after : ℕ) → AreDecoded d w to_int zero image one_pass None sections grids before after →
+          IsCutPictureRead d w to_int zero given params.group_dim params.bit_depth bytes grids before after
+      picture_made grids before after done =
           let picture : Makes grids = record {
             first = global;
             groups = more;
             rest = read.rest;
             stand = stand;
-            head = head;
+            head = b.stands.head;
             config = b.stands.config;
-            start = subst (λ f. IsStartAt plain None f given 0 head b.stands.config (position_of global.bits)) (b.section_is ∙ sym global_bytes)
-                (subst (λ n. IsStartAt plain None b.stands.section given 0 head b.stands.config n) (b.at ∙ sym global_place) begins);
+            start = begins_there;
             cut = can_be_cut;
             global = read.of_global;
             numbered = read.added.groups;
             parts = parts_are;
             before = before;
             after = after;
-            decoded = subst (λ (i : Image S PlainState). AreDecoded plain w to_int zero i one_pass None (global ∷ more) grids before after) b.image_is
-                (subst (λ ss. AreDecoded plain w to_int zero image one_pass None ss grids before after) sections_are done);
+            decoded = subst (λ (i : Image S D). AreDecoded d w to_int zero i one_pass None (global ∷ more) grids before after) b.image_is
+                (subst (λ ss. AreDecoded d w to_int zero image one_pass None ss grids before after) sections_are done);
           } in
           record { picture = picture; from = refl; to = refl }
 
@@ -243,6 +268,11 @@ chain_sides : (w : Width) (depth : ℕ) (steps : List Step) (l : ChannelList) (i
 chain_sides w depth [] l image coded c = c.0
 chain_sides w depth (s ∷ ss) l image coded c = c.0
 
-pub picture_sides : {S : Type 0} (w : Width) (to_int : S → ℤ) (zero : S) (l : ChannelList) (group_dim bit_depth : ℕ) (bytes : List ℕ) (grids : List (Grid ℤ)) → IsCutPicture w to_int zero l group_dim bit_depth bytes grids → AreGridsOf l.channels grids
-picture_sides w to_int zero l group_dim bit_depth bytes grids p =
+pub picture_sides : {S D : Type 0} (d : Meaning D) (w : Width) (to_int : S → ℤ) (zero : S) (l : ChannelList) (group_dim bit_depth : ℕ) (bytes : List ℕ) (grids : List (Grid ℤ)) → IsCutPicture d w to_int zero l group_dim bit_depth bytes grids → AreGridsOf l.channels grids
+picture_sides d w to_int zero l group_dim bit_depth bytes grids p =
     chain_sides w bit_depth p.head.coded.steps (record { channels = l.channels; nb_meta = 0 }) grids p.decoded.coded p.decoded.only.chain
+
+pub left_sides : {S D : Type 0} (d : Meaning D) (w : Width) (to_int : S → ℤ) (zero : S) (l : ChannelList) (group_dim bit_depth : ℕ) (bytes : List ℕ) (partly : Bool) (grids : List (Grid ℤ)) (whole : Bool) (before after : ℕ) →
+    IsCutPictureLeft d w to_int zero l group_dim bit_depth bytes partly grids whole before after → AreGridsOf l.channels grids
+left_sides d w to_int zero l group_dim bit_depth bytes partly grids whole before after p =
+    chain_sides w bit_depth p.head.coded.steps (record { channels = l.channels; nb_meta = 0 }) grids _ p.left.only.chain

@@ -23,7 +23,8 @@ use Rattle.jxlm_base.specs.declared.error.Error.{Error}
 use Rattle.jxlm_cut.specs.Cutting.{can_cut}
 use Rattle.jxlm_transform.proofs.Failures.{unless_so}
 use Rattle.jxlm_sections.specs.CutErrors.{EndsEarly, IsSplit, IsTruncated}
-use Rattle.jxlm_sections.specs.Inner.Added.{AddingFails, AreAdded, ReadingFails}
+use Rattle.jxlm_sections.specs.Splitting.{AreAdded, ReadingFails}
+use Rattle.jxlm_sections.specs.Inner.Added.{AddingFails}
 
 -- ---- one section
 

@@ -1,11 +1,11 @@
 -- How reading a picture that is cut into sections fails (ISO/IEC 18181-1, frame: sections).
-use Rattle.std.specs.Prelude.{◌≡◌, ◌⊎◌, ℕ, ◌<◌, ◌^◌, ℤ, List, ◌∷◌, ◌++◌, length, map, false, IsFalse, IsTrue, None}
+use Rattle.std.specs.Prelude.{Bool, ◌≡◌, ◌⊎◌, ℕ, ◌<◌, ◌^◌, ℤ, List, ◌∷◌, ◌++◌, length, map, IsFalse, IsTrue, None}
 use Rattle.std.specs.Int.{Width}
 use Rattle.jxlm_base.specs.Bits.{bytes_of, position_of}
+use Rattle.jxlm_base.specs.Decoding.{Meaning}
 use Rattle.jxlm_base.specs.ErrorKind.{BadSqueeze, Eof, ErrorKind, kind_of}
 use Rattle.jxlm_base.specs.Grammar.{IsErrorAt}
 use Rattle.jxlm_base.specs.Grid.{Grid}
-use Rattle.jxlm_plain.specs.Plain.{PlainState, plain}
 use Rattle.jxlm_base.specs.declared.error.Error.{Error}
 use Rattle.jxlm_transform.specs.Channels.{ChannelList}
 use Rattle.jxlm_cut.specs.Cutting.{can_cut}
@@ -35,19 +35,19 @@ pub record EndsEarly (n : ℕ) (bytes : List ℕ) : Type 0 where
   pub stand : StandBefore bytes sections left
   pub truncated : IsTruncated left
 
-module _ {S : Type 0} (w : Width) (to_int : S → ℤ) (zero : S) (given : ChannelList) (group_dim bit_depth : ℕ) (bytes : List ℕ) where
+module _ {S D : Type 0} (d : Meaning D) (w : Width) (to_int : S → ℤ) (zero : S) (given : ChannelList) (group_dim bit_depth : ℕ) (bytes : List ℕ) where
   -- The first section stands at the start of the bytes, with header and tree; the other bytes come after it.
   pub record HeaderStands : Type 0 where
     pub section : List ℕ
     pub rest : List ℕ
     pub split : IsSplit bytes section rest
     pub head : Opening
-    pub config : Config PlainState
+    pub config : Config D
     pub samples_at : ℕ
-    pub start : IsStartAt plain None section given 0 head config samples_at
+    pub start : IsStartAt d None section given 0 head config samples_at
 
   -- the image of that header, before any of its samples is decoded
-  abbrev pub begun : HeaderStands → Image S PlainState
+  abbrev pub begun : HeaderStands → Image S D
   begun h = fresh zero given h.head h.config group_dim bit_depth
 
   -- the first section stands there, and its header or its tree has this error
@@ -56,7 +56,7 @@ module _ {S : Type 0} (w : Width) (to_int : S → ℤ) (zero : S) (given : Chann
     pub rest : List ℕ
     pub split : IsSplit bytes section rest
     pub place : ℕ
-    pub fails : IsErrorAt (opened {D = PlainState} None section given 0) error place ⊎ IsTreeErrorAt plain None section given 0 error place
+    pub fails : IsErrorAt (opened {D = D} None section given 0) error place ⊎ IsTreeErrorAt d None section given 0 error place
 
   -- a group has a side of 0 in a coded channel
   pub record CannotBeCut : Type 0 where
@@ -69,31 +69,33 @@ module _ {S : Type 0} (w : Width) (to_int : S → ℤ) (zero : S) (given : Chann
     pub cut : IsTrue (can_cut group_dim header.head.coded.list)
     pub ends : EndsEarly (length (groups_in_order (begun header))) header.rest
 
-  -- All sections stand there, and decoding them, one after another, returns this error.
-  pub record SamplesFail (error : ErrorKind) : Type 0 where
-    pub header : HeaderStands
-    pub first : Section
-    pub groups : List Section
-    pub rest : List ℕ
-    pub stand : StandBefore bytes (first ∷ groups) rest
-    pub bytes_are : bytes_of first.bits ≡ header.section
-    pub goes_on : position_of first.bits ≡ header.samples_at
-    pub cut : IsTrue (can_cut group_dim header.head.coded.list)
-    pub global : IsOfGlobal first
-    pub numbered : AreOfGroups 1 groups
-    pub parts : map (λ s. s.part) groups ≡ groups_in_order (begun header)
-    pub cause : Error
-    pub cause_is : error ≡ kind_of cause
-    pub left : List (Grid S)
-    pub before : ℕ
-    pub after : ℕ
-    pub stop : SectionsStop plain w to_int zero (begun header) one_pass None false (first ∷ groups) cause
-        (begun header).store left before after
+  -- where samples may be missing, or may not
+  module _ (partly : Bool) where
+    -- All sections stand there, and decoding them, one after another, returns this error.
+    pub record SamplesFail (error : ErrorKind) : Type 0 where
+      pub header : HeaderStands
+      pub first : Section
+      pub groups : List Section
+      pub rest : List ℕ
+      pub stand : StandBefore bytes (first ∷ groups) rest
+      pub bytes_are : bytes_of first.bits ≡ header.section
+      pub goes_on : position_of first.bits ≡ header.samples_at
+      pub cut : IsTrue (can_cut group_dim header.head.coded.list)
+      pub global : IsOfGlobal first
+      pub numbered : AreOfGroups 1 groups
+      pub parts : map (λ s. s.part) groups ≡ groups_in_order (begun header)
+      pub cause : Error
+      pub cause_is : error ≡ kind_of cause
+      pub left : List (Grid S)
+      pub before : ℕ
+      pub after : ℕ
+      pub stop : SectionsStop d w to_int zero (begun header) one_pass None partly (first ∷ groups) cause
+          (begun header).store left before after
 
-  -- there is no picture, by the first of these errors
-  pub data CutPictureFails : ErrorKind → Type 0 where
-    FirstTruncated : {e : ErrorKind} → e ≡ Eof → IsTruncated bytes → CutPictureFails e
-    NoHeader : {e : ErrorKind} → HeaderFails e → CutPictureFails e
-    NoGroups : {e : ErrorKind} → e ≡ BadSqueeze → CannotBeCut → CutPictureFails e
-    GroupTruncated : {e : ErrorKind} → e ≡ Eof → LaterTruncated → CutPictureFails e
-    NoSamples : {e : ErrorKind} → SamplesFail e → CutPictureFails e
+    -- there is no picture, by the first of these errors
+    pub data CutPictureFails : ErrorKind → Type 0 where
+      FirstTruncated : {e : ErrorKind} → e ≡ Eof → IsTruncated bytes → CutPictureFails e
+      NoHeader : {e : ErrorKind} → HeaderFails e → CutPictureFails e
+      NoGroups : {e : ErrorKind} → e ≡ BadSqueeze → CannotBeCut → CutPictureFails e
+      GroupTruncated : {e : ErrorKind} → e ≡ Eof → LaterTruncated → CutPictureFails e
+      NoSamples : {e : ErrorKind} → SamplesFail e → CutPictureFails e

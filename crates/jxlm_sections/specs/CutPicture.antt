@@ -1,11 +1,11 @@
 -- A picture that is cut into sections, as it stands in the input
 -- (ISO/IEC 18181-1, frame: sections; Modular: global and group sub-bitstreams).
-use Rattle.std.specs.Prelude.{◌≡◌, ℕ, ◌+◌, ◌%◌, ◌^◌, ◌<◌, ℤ, pos, List, [], ◌∷◌, ◌++◌, length, map, slice_index_or, true, false, nat_lt, IsTrue, None}
+use Rattle.std.specs.Prelude.{Bool, ◌≡◌, ℕ, ◌+◌, ◌%◌, ◌^◌, ◌<◌, ℤ, pos, List, [], ◌∷◌, ◌++◌, length, map, slice_index_or, true, false, nat_lt, IsTrue, None}
 use Rattle.std.specs.Int.{Width, w32, to_le_bytes}
 use Rattle.std.specs.List.{All, filter, flat_map, range_with_len}
 use Rattle.jxlm_base.specs.Bits.{bytes_of, position_of}
+use Rattle.jxlm_base.specs.Decoding.{Meaning}
 use Rattle.jxlm_base.specs.Grid.{Grid}
-use Rattle.jxlm_plain.specs.Plain.{PlainState, plain}
 use Rattle.jxlm_transform.specs.Channels.{ChannelList}
 use Rattle.jxlm_cut.specs.Counts.{group_count}
 use Rattle.jxlm_cut.specs.Cutting.{can_cut}
@@ -20,7 +20,7 @@ use Rattle.jxl_modular.specs.Fresh.{fresh}
 use Rattle.jxl_modular.specs.Groups.{channels_in}
 use Rattle.jxl_modular.specs.Image.{Image, coded_list}
 use Rattle.jxl_modular.specs.Parsing.{IsStartAt}
-use Rattle.jxl_modular.specs.Sections.{AreDecoded}
+use Rattle.jxl_modular.specs.Sections.{AreDecoded, SectionsLeave}
 use Rattle.jxl_modular.specs.declared.sections.Section.{Section}
 
 -- the one pass, which holds the shifts 0 to 2
@@ -75,25 +75,43 @@ AreOfGroups n sections = (k : ℕ) (d : Section) → k < length sections → IsO
 -- These are the grids of the picture whose sections stand at the start of the bytes. The first begins with the image's
 -- header and tree, and goes on with the global part; each other is of a group. Each codes its part whole, with so many
 -- nodes of trees looked at before and after, and together they code the image.
-pub record IsCutPicture {S : Type 0} (w : Width) (to_int : S → ℤ) (zero : S) (given : ChannelList) (group_dim bit_depth : ℕ) (bytes : List ℕ) (grids : List (Grid ℤ)) : Type 0 where
+pub record IsCutPicture {S D : Type 0} (d : Meaning D) (w : Width) (to_int : S → ℤ) (zero : S) (given : ChannelList) (group_dim bit_depth : ℕ) (bytes : List ℕ) (grids : List (Grid ℤ)) : Type 0 where
   pub first : Section
   pub groups : List Section
   pub rest : List ℕ
   pub stand : StandBefore bytes (first ∷ groups) rest
   pub head : Opening
-  pub config : Config PlainState
-  pub start : IsStartAt plain None (bytes_of first.bits) given 0 head config (position_of first.bits)
+  pub config : Config D
+  pub start : IsStartAt d None (bytes_of first.bits) given 0 head config (position_of first.bits)
   pub cut : IsTrue (can_cut group_dim head.coded.list)
   pub global : IsOfGlobal first
   pub numbered : AreOfGroups 1 groups
   pub parts : map (λ s. s.part) groups ≡ groups_in_order (fresh zero given head config group_dim bit_depth)
   pub before : ℕ
   pub after : ℕ
-  pub decoded : AreDecoded plain w to_int zero (fresh zero given head config group_dim bit_depth) one_pass None
+  pub decoded : AreDecoded d w to_int zero (fresh zero given head config group_dim bit_depth) one_pass None
       (first ∷ groups) grids before after
 
 -- Such a picture was read, and the count of nodes that were looked at went from the one number to the other.
-pub record IsCutPictureRead {S : Type 0} (w : Width) (to_int : S → ℤ) (zero : S) (given : ChannelList) (group_dim bit_depth : ℕ) (bytes : List ℕ) (grids : List (Grid ℤ)) (old new : ℕ) : Type 0 where
-  pub picture : IsCutPicture w to_int zero given group_dim bit_depth bytes grids
+pub record IsCutPictureRead {S D : Type 0} (d : Meaning D) (w : Width) (to_int : S → ℤ) (zero : S) (given : ChannelList) (group_dim bit_depth : ℕ) (bytes : List ℕ) (grids : List (Grid ℤ)) (old new : ℕ) : Type 0 where
+  pub picture : IsCutPicture d w to_int zero given group_dim bit_depth bytes grids
   pub from : picture.before ≡ old
   pub to : picture.after ≡ new
+
+-- The picture as far as it was decoded: its sections stand at the start of the bytes as those of a whole picture do; each
+-- left its samples in its turn, which says whether some are missing; and the grids are the only ones that the transforms
+-- turn into all samples as they were then. `whole` is true where none is missing.
+pub record IsCutPictureLeft {S D : Type 0} (d : Meaning D) (w : Width) (to_int : S → ℤ) (zero : S) (given : ChannelList) (group_dim bit_depth : ℕ) (bytes : List ℕ) (partly : Bool) (grids : List (Grid ℤ)) (whole : Bool) (old new : ℕ) : Type 0 where
+  pub first : Section
+  pub groups : List Section
+  pub rest : List ℕ
+  pub stand : StandBefore bytes (first ∷ groups) rest
+  pub head : Opening
+  pub config : Config D
+  pub start : IsStartAt d None (bytes_of first.bits) given 0 head config (position_of first.bits)
+  pub cut : IsTrue (can_cut group_dim head.coded.list)
+  pub global : IsOfGlobal first
+  pub numbered : AreOfGroups 1 groups
+  pub parts : map (λ s. s.part) groups ≡ groups_in_order (fresh zero given head config group_dim bit_depth)
+  pub left : SectionsLeave d w to_int zero (fresh zero given head config group_dim bit_depth) one_pass None partly
+      (first ∷ groups) whole (fresh zero given head config group_dim bit_depth).store grids old new

@@ -1,3 +1,4 @@
 pub mod CutPicture
 pub mod CutErrors
+pub mod Splitting
 pub mod Inner

@@ -6,4 +6,6 @@ mod picture;
 mod reading;
 mod split;
 
-pub use picture::decode_cut_picture;
+pub use picture::{CutPicture, decode_cut, decode_cut_picture, one_pass};
+pub use reading::split_sections;
+pub use split::split_section;

@@ -4,17 +4,17 @@ ghost use Rattle.std.specs.Prelude.{◌≡◌, ◌∷◌, [], length, IfOk, IfEr
 ghost use Rattle.jxlm_cut.specs.Passes.{can_group as groups_possible, passes_of};
 ghost use Rattle.jxl_modular.specs.Groups.{IsCut};
 ghost use Rattle.jxlm_sections.specs.CutPicture.{one_pass as the_pass};
-ghost use Rattle.jxlm_sections.specs.Inner.Added.{AreRead, ReadingFails};
+ghost use Rattle.jxlm_sections.specs.Splitting.{AreRead, ReadingFails};
 
 use crate::split::split_section;
 use jxl_modular::groups::{Part, TransformedGlobalModular};
 use jxl_modular::image::ModularImageDestination;
 use jxl_modular::sections::{Section, SectionPart};
 use jxlm_base::bits::Bitstream;
+use jxlm_base::decoder::Decoder;
 use jxlm_base::error::Error;
 use jxlm_base::grid::OutOfMemory;
 use jxlm_base::sample::Sample;
-use jxlm_plain::plain::PlainDecoder;
 use std::alloc::Global;
 use std::collections::BTreeMap;
 
@@ -32,7 +32,8 @@ impl<'a> Sections<'a> {
     ghost use Rattle.jxl_modular.specs.GroupParts.{groups_of, image_of, passes_in, section_part};
     ghost use Rattle.jxlm_cut.specs.declared.part.Kind.TheVariants as kinds;
     ghost use Rattle.jxlm_sections.specs.CutPicture.{lf_groups, one_pass, pass_groups, with_samples};
-    ghost use Rattle.jxlm_sections.specs.Inner.Added.{AddingFails, AreAdded};
+    ghost use Rattle.jxlm_sections.specs.Splitting.{AreAdded};
+    ghost use Rattle.jxlm_sections.specs.Inner.Added.{AddingFails};
 
     /// Adds the next section, which is of a group and has a header of its own.
     fn add(&mut self, part: Part) -> Result<(), Error>
@@ -53,9 +54,9 @@ impl<'a> Sections<'a> {
     }
 
     /// Adds a section for each LF group with samples, by number.
-    fn add_low<S: Sample>(
+    fn add_low<S: Sample, D: Decoder>(
         &mut self,
-        groups: &TransformedGlobalModular<'_, S, PlainDecoder>,
+        groups: &TransformedGlobalModular<'_, S, D>,
     ) -> Result<(), Error>
         requires { passes_in groups.now ≡ one_pass }
         ensures ok { OnOk result (AreAdded (with_samples (image_of groups.now)
@@ -73,9 +74,9 @@ impl<'a> Sections<'a> {
     }
 
     /// Adds a section for each group of the pass with samples, by number.
-    fn add_pass<S: Sample>(
+    fn add_pass<S: Sample, D: Decoder>(
         &mut self,
-        groups: &TransformedGlobalModular<'_, S, PlainDecoder>,
+        groups: &TransformedGlobalModular<'_, S, D>,
     ) -> Result<(), Error>
         requires { passes_in groups.now ≡ one_pass }
         ensures ok { OnOk result (AreAdded (with_samples (image_of groups.now)
@@ -93,11 +94,21 @@ impl<'a> Sections<'a> {
     }
 }
 
-/// The sections of an image whose header was read: the rest of the first, which is of the global part, and those in the
-/// bytes after it.
-pub(crate) fn sections_of<'a, S: Sample>(
+/// The sections of an image whose header was read, in their order: the rest of the first, which is of the global part,
+/// and then one for each LF group and each group of the one pass, as far as these have samples (ISO/IEC 18181-1, frame:
+/// sections). In the bytes behind the first, each comes after the number of its bytes, in four bytes, the least
+/// significant first; what comes after the last is not looked at. The image stays as it is.
+///
+/// The passes are those of [`one_pass`](crate::one_pass), and the image can be grouped by them
+/// ([`can_group`](ModularImageDestination::can_group)).
+///
+/// # Errors
+///
+/// `InvalidSqueezeParams` where a group has a side of 0 in a coded channel; `UnexpectedEof` where a section is
+/// truncated, its number or itself. Or it is out of memory.
+pub fn split_sections<'a, S: Sample, D: Decoder>(
     alloc: Global,
-    image: &mut ModularImageDestination<S, PlainDecoder>,
+    image: &mut ModularImageDestination<S, D>,
     passes: &BTreeMap<u32, (i32, i32)>,
     first: Bitstream<'a>,
     rest: &'a [u8],

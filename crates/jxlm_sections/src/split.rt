@@ -14,7 +14,7 @@ use jxlm_base::error::Error;
 /// # Errors
 ///
 /// `UnexpectedEof` where the number or the section is truncated.
-pub(crate) fn split_section(bytes: &[u8]) -> Result<(&[u8], &[u8]), Error>
+pub fn split_section(bytes: &[u8]) -> Result<(&[u8], &[u8]), Error>
     ensures { MatchResult result (λ both. IsSplit bytes.now both.0.now both.1.now)
         (λ e. (e ≡ Error.Bitstream BitstreamError.UnexpectedEof) × IsTruncated bytes.now) }
 {

@@ -1,6 +1,6 @@
 use Rattle.jxl_modular.specs.GroupParts.{image_of}
 use Rattle.jxlm_sections.specs.CutPicture.{pass_groups, with_samples}
-use Rattle.jxlm_sections.specs.Inner.Added.{AreAdded}
+use Rattle.jxlm_sections.specs.Splitting.{AreAdded}
 use Rattle.jxlm_sections.proofs.reading.Sections.add_pass.Given as goal
 
 abbrev pub invariant-loop-group : goal.invariant-loop-group

@@ -1,0 +1,7 @@
+pub mod Arguments
+pub mod Decimals
+pub mod Printing
+pub mod Printed
+pub mod Reading
+pub mod Run
+pub mod PictureText

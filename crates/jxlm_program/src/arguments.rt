@@ -1,0 +1,196 @@
+//! What the arguments ask for.
+ghost use Rattle.std.specs.Prelude.{◌≡◌, ◌<◌, ◌↔◌, ◌^◌, IsTrue, MatchOption, map, string_bytes};
+ghost use Rattle.std.specs.Option.{SomeIff};
+ghost use Rattle.jxlm_transform.specs.Params.{IsGroupDim};
+ghost use Rattle.jxlm_program.specs.Arguments.{ArePossible};
+ghost use Rattle.jxlm_program.specs.Decimals.{IsDecimal, IsOfDigits, decimal_value};
+
+/// What is printed for wrong arguments.
+pub const USAGE: &str =
+    "usage: jxlmod decode W H N BITS i16|i32 | jxlmod sections W H N BITS i16|i32 GROUP_DIM";
+
+/// The type of an image's samples.
+#[derive(Clone, Copy, Debug, PartialEq, Eq)]
+pub enum Samples {
+    /// Whole numbers of 16 bits.
+    I16,
+    /// Whole numbers of 32 bits.
+    I32,
+}
+
+impl Samples {
+    ghost use Rattle.jxlm_program.specs.Arguments.{IsNoSamples, samples_word};
+
+    /// The type that a word names: `i16` or `i32`.
+    pub fn parse(word: &str) -> Option<Samples>
+        ensures { MatchOption result (IsNoSamples word.now) (λ s. word.now ≡ samples_word s) }
+    {
+        match word {
+            "i16" => Some(Samples::I16),
+            "i32" => Some(Samples::I32),
+            _ => None,
+        }
+    }
+}
+
+/// The number that decimal digits write, one digit or more, at most 4294967295. Leading zeros are
+/// allowed; a sign is not.
+pub fn number(text: &str) -> Option<u32>
+    ensures { SomeIff result (IsDecimal text.now × (decimal_value text.now < 2 ^ 32)) (decimal_value text.now) }
+{
+    if !has_only_digits(text) {
+        return None;
+    }
+    text.parse::<u32>().ok()
+}
+
+fn has_only_digits(text: &str) -> bool
+    ensures { IsTrue result ↔ IsOfDigits text.now }
+{
+    text.bytes().all(|c| c.is_ascii_digit())
+}
+
+/// Whether the library takes a picture of these numbers: at most 2^20 channels, sides of at most 2^30 where there is a
+/// channel, and a bit depth of at most 32.
+fn are_possible(width: u32, height: u32, channels: u32, bit_depth: u32) -> bool
+    ensures { IsTrue result ↔ ArePossible width height channels bit_depth }
+{
+    let sides_fit = channels == 0 || (width <= 1 << 30 && height <= 1 << 30);
+    channels <= 1 << 20 && bit_depth <= 32 && sides_fit
+}
+
+/// Whether groups may have this side: a power of two from 2 to 2^20.
+fn is_group_dim(side: u32) -> bool
+    ensures { IsTrue result ↔ IsGroupDim side }
+{
+    (2..=1 << 20).contains(&side) && side.is_power_of_two()
+}
+
+/// What the program is to do.
+#[derive(Clone, Copy, Debug, PartialEq, Eq)]
+pub enum Command {
+    /// Decode one part, which has header and samples, to `channels` channels of `width` by `height`
+    /// samples.
+    Decode {
+        /// How many columns each channel has.
+        width: u32,
+        /// How many rows each channel has.
+        height: u32,
+        /// How many channels there are.
+        channels: u32,
+        /// How many bits a sample has, for palettes without colours.
+        bit_depth: u32,
+        /// What the samples are decoded to.
+        samples: Samples,
+    },
+    /// Decode an image of the same channels that is cut into sections.
+    Sections {
+        /// How many columns each channel has.
+        width: u32,
+        /// How many rows each channel has.
+        height: u32,
+        /// How many channels there are.
+        channels: u32,
+        /// How many bits a sample has, for palettes without colours.
+        bit_depth: u32,
+        /// What the samples are decoded to.
+        samples: Samples,
+        /// The side of a group.
+        group_dim: u32,
+    },
+}
+
+impl Command {
+    ghost use Rattle.jxlm_program.specs.Arguments.{AreFor, AreWrong, Asks, AskForNoDecode, AskForNoSections, IsWithinLimits, channels_of};
+
+    /// How many channels are asked for.
+    pub fn channels(&self) -> u32
+        ensures { result ≡ channels_of self.now }
+    {
+        match *self {
+            Command::Decode { channels, .. } | Command::Sections { channels, .. } => channels,
+        }
+    }
+
+    /// Whether the library takes these numbers: at most 2^20 channels, sides of at most 2^30 where
+    /// there is a channel, a bit depth of at most 32, and a power of two from 2 to 2^20 for the side
+    /// of groups.
+    pub fn is_within_limits(&self) -> bool
+        ensures { IsTrue result ↔ IsWithinLimits self.now }
+    {
+        match *self {
+            Command::Decode {
+                width,
+                height,
+                channels,
+                bit_depth,
+                ..
+            } => are_possible(width, height, channels, bit_depth),
+            Command::Sections {
+                width,
+                height,
+                channels,
+                bit_depth,
+                group_dim,
+                ..
+            } => is_group_dim(group_dim) && are_possible(width, height, channels, bit_depth),
+        }
+    }
+
+    /// What the words `decode W H N BITS i16|i32` ask for, within the limits or not.
+    fn decode(words: &[String]) -> Option<Command>
+        ensures { MatchOption result (AskForNoDecode (map string_bytes words.now)) (Asks (map string_bytes words.now)) }
+    {
+        let [name, width, height, channels, bit_depth, samples] = words else {
+            return None;
+        };
+        if name.as_str() != "decode" {
+            return None;
+        }
+        Some(Command::Decode {
+            width: number(width.as_str())?,
+            height: number(height.as_str())?,
+            channels: number(channels.as_str())?,
+            bit_depth: number(bit_depth.as_str())?,
+            samples: Samples::parse(samples.as_str())?,
+        })
+    }
+
+    /// What the words `sections W H N BITS i16|i32 GROUP_DIM` ask for, within the limits or not.
+    fn sections(words: &[String]) -> Option<Command>
+        ensures { MatchOption result (AskForNoSections (map string_bytes words.now))
+            (Asks (map string_bytes words.now)) }
+    {
+        let [name, width, height, channels, bit_depth, samples, group_dim] = words else {
+            return None;
+        };
+        if name.as_str() != "sections" {
+            return None;
+        }
+        Some(Command::Sections {
+            width: number(width.as_str())?,
+            height: number(height.as_str())?,
+            channels: number(channels.as_str())?,
+            bit_depth: number(bit_depth.as_str())?,
+            samples: Samples::parse(samples.as_str())?,
+            group_dim: number(group_dim.as_str())?,
+        })
+    }
+
+    /// The command that the words ask for, without the program's name. It is within the limits.
+    pub fn parse(words: &[String]) -> Option<Command>
+        ensures { MatchOption result (AreWrong (map string_bytes words.now))
+            (AreFor (map string_bytes words.now)) }
+    {
+        let command = if words.len() == 6 {
+            Command::decode(words)?
+        } else {
+            Command::sections(words)?
+        };
+        if command.is_within_limits() {
+            Some(command)
+        } else {
+            None
+        }
+    }
+}

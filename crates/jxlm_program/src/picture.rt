@@ -1,0 +1,140 @@
+//! The text of a picture, from its bytes.
+ghost use Rattle.std.specs.Prelude.{◌≡◌, ◌≤◌, ◌<◌, ◌^◌, pos, MatchResult, IfOk, replicate, string_bytes};
+ghost use Rattle.jxlm_transform.specs.Params.{IsGroupDim, sized};
+ghost use Rattle.jxlm_transform.specs.declared.param.ChannelShift.TheVariants.{Shifts};
+ghost use Rattle.jxlm_program.specs.Arguments.{ArePossible};
+ghost use Rattle.jxlm_program.specs.PictureText.{IsCutPictureText, IsPictureText, channels_asked};
+ghost use Rattle.jxlm_program.specs.Printed.{IsCutPictureError, IsPictureError, PrintGives};
+
+use crate::arguments::{Command, Samples};
+use crate::printing::print_image;
+use crate::run::Print;
+use jxl_modular::decode_picture;
+use jxlm_base::bits::Bitstream;
+use jxlm_base::error::Error;
+use jxlm_base::grid::OutOfMemory;
+use jxlm_base::sample::Sample;
+use jxlm_ma::flat::Steps;
+use jxlm_plain::plain::PlainDecoder;
+use jxlm_sections::decode_cut_picture;
+use jxlm_transform::param::{ModularChannelParams, ModularParams};
+use std::alloc::Global;
+
+/// The side of a group of the pictures that are printed.
+const GROUP_DIM: u32 = 256;
+
+/// Makes the text of the picture that stands at the start of the bytes, in the format of the plain decoder: a header
+/// and the samples of one part, or a row of sections.
+#[derive(Clone, Copy)]
+pub struct PartPrinter;
+
+impl Print for PartPrinter {
+    ghost may_return = { PrintGives };
+
+    fn print(&self, alloc: Global, bytes: &[u8], command: Command) -> Result<String, Error> {
+        match command {
+            Command::Decode {
+                width,
+                height,
+                channels,
+                bit_depth,
+                samples,
+            } => match samples {
+                Samples::I16 => {
+                    picture_text::<i16>(alloc, bytes, width, height, channels, bit_depth)
+                }
+                Samples::I32 => {
+                    picture_text::<i32>(alloc, bytes, width, height, channels, bit_depth)
+                }
+            },
+            Command::Sections {
+                width,
+                height,
+                channels,
+                bit_depth,
+                samples,
+                group_dim,
+            } => match samples {
+                Samples::I16 => {
+                    cut_picture_text::<i16>(
+                        alloc, bytes, width, height, channels, bit_depth, group_dim,
+                    )
+                }
+                Samples::I32 => {
+                    cut_picture_text::<i32>(
+                        alloc, bytes, width, height, channels, bit_depth, group_dim,
+                    )
+                }
+            },
+        }
+    }
+}
+
+/// `count` channels of these sides and of shift 0.
+fn channel_list(
+    alloc: Global,
+    width: u32,
+    height: u32,
+    count: u32,
+) -> Result<Vec<ModularChannelParams>, OutOfMemory>
+    ensures { IfOk result (λ v. v.items ≡ replicate count (sized width height (Shifts 0))) }
+{
+    let channel = ModularChannelParams::new(width, height);
+    Ok(vec![in alloc; channel; count as usize]?)
+}
+
+/// The text of the picture of `channels` channels of these sides.
+fn picture_text<S: Sample>(
+    alloc: Global,
+    bytes: &[u8],
+    width: u32,
+    height: u32,
+    channels: u32,
+    bit_depth: u32,
+) -> Result<String, Error>
+    requires some { 0 < channels }
+    requires many { channels ≤ 2 ^ 20 }
+    requires deep { bit_depth ≤ 32 }
+    requires wide { width ≤ 2 ^ 30 }
+    requires high { height ≤ 2 ^ 30 }
+    ensures { MatchResult result
+        (λ text. IsPictureText S.width width height channels bytes.now bit_depth (string_bytes text))
+        (λ error. IsPictureError S.width width height channels bytes.now error) }
+{
+    let channels = channel_list(alloc, width, height, channels)?;
+    let params = ModularParams::with_channels(GROUP_DIM, bit_depth, channels, None);
+    let mut bits = Bitstream::new(bytes);
+    let image = decode_picture::<S, PlainDecoder>(alloc, &mut bits, params, 0, &mut Steps::new())?;
+    match image {
+        Some(image) => Ok(print_image(alloc, image.image_channels())?),
+        None => Ok(String::new(alloc)),
+    }
+}
+
+/// The text of the picture of `channels` channels of these sides that is cut into sections, with groups of this side.
+fn cut_picture_text<S: Sample>(
+    alloc: Global,
+    bytes: &[u8],
+    width: u32,
+    height: u32,
+    channels: u32,
+    bit_depth: u32,
+    group_dim: u32,
+) -> Result<String, Error>
+    requires some { 0 < channels }
+    requires possible { ArePossible width height channels bit_depth }
+    requires side { IsGroupDim group_dim }
+    ensures { MatchResult result
+        (λ text. IsCutPictureText S.width S.to_int (S.from_int (pos 0)) (channels_asked width height channels)
+        group_dim bit_depth bytes.now (string_bytes text))
+        (λ error. IsCutPictureError S.width S.to_int (S.from_int (pos 0)) (channels_asked width height channels)
+        group_dim bit_depth bytes.now error) }
+{
+    let channels = channel_list(alloc, width, height, channels)?;
+    let params = ModularParams::with_channels(group_dim, bit_depth, channels, None);
+    let image = decode_cut_picture::<S, PlainDecoder>(alloc, bytes, params, &mut Steps::new())?;
+    match image {
+        Some(image) => Ok(print_image(alloc, image.image_channels())?),
+        None => Ok(String::new(alloc)),
+    }
+}

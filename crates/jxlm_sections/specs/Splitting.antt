@@ -1,0 +1,34 @@
+-- What splitting the bytes of an image into its sections gives (ISO/IEC 18181-1, frame: sections).
+use Rattle.std.specs.Prelude.{◌≡◌, ℕ, List, [], ◌∷◌, ◌++◌, length, map, ◌⊎◌, IsFalse, IsTrue}
+use Rattle.jxlm_base.specs.ErrorKind.{BadSqueeze, Eof, UnlessNoMemory, kind_of}
+use Rattle.jxlm_base.specs.declared.bits.Bitstream.{Bitstream}
+use Rattle.jxlm_base.specs.declared.error.Error.{Error}
+use Rattle.jxlm_cut.specs.Cutting.{can_cut}
+use Rattle.jxlm_cut.specs.declared.part.SectionPart.{SectionPart}
+use Rattle.jxl_modular.specs.Image.{Image, coded_list}
+use Rattle.jxl_modular.specs.declared.sections.Section.{Section}
+use Rattle.jxlm_sections.specs.CutErrors.{EndsEarly}
+use Rattle.jxlm_sections.specs.CutPicture.{AreOfGroups, IsOfGlobal, StandBefore, groups_in_order}
+
+-- Behind the sections before stand more now, of these parts, and the bytes that were left have these and then the rest.
+pub record AreAdded (parts : List SectionPart) (before : List Section) (left : List ℕ) (after : List Section) (rest : List ℕ) : Type 0 where
+  pub more : List Section
+  pub in_order : after ≡ before ++ more
+  pub parts_are : map (λ s. s.part) more ≡ parts
+  pub stand : StandBefore left more rest
+  pub groups : AreOfGroups (length before) more
+
+-- These are the sections of an image: that of the global part goes on after the header, and the others stand in the
+-- bytes that were left.
+pub record AreRead {S D : Type 0} (x : Image S D) (first : Bitstream) (left : List ℕ) (sections : List Section) : Type 0 where
+  pub global : Section
+  pub of_global : IsOfGlobal global
+  pub goes_on : global.bits ≡ first
+  pub rest : List ℕ
+  pub added : AreAdded (groups_in_order x) (global ∷ []) left sections rest
+
+-- Reading the sections of an image fails: a group has a side of 0, or a section is truncated, or it is out of memory.
+abbrev pub ReadingFails : {S D : Type 0} → Image S D → List ℕ → Error → Type 0
+ReadingFails x left e = UnlessNoMemory (kind_of e)
+    (((kind_of e ≡ BadSqueeze) × IsFalse (can_cut x.group_dim (coded_list x)))
+    ⊎ ((kind_of e ≡ Eof) × IsTrue (can_cut x.group_dim (coded_list x)) × EndsEarly (length (groups_in_order x)) left))

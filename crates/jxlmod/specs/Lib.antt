@@ -1,6 +1,0 @@
-pub mod Arguments
-pub mod Decimals
-pub mod Printing
-pub mod Run
-pub mod PictureText
-pub mod Inner
