@@ -13,7 +13,6 @@ use jxl_modular::decoder::Decoder;
 use jxl_modular::error::Error;
 use jxl_modular::flat::Steps;
 use jxl_modular::image::ModularImageDestination;
-use jxl_modular::plain::PlainDecoder;
 use jxl_modular::{Modular, ModularChannelParams, ModularParams, Sample, decode_picture};
 use jxlcheck_text::{listed, number, repeated, text_sum, word};
 use std::alloc::Global;
@@ -126,12 +125,16 @@ fn by_calls<S: Sample, D: Decoder>(
 }
 
 /// Reads a picture by one call.
-fn at_once<S: Sample, D: Decoder>(alloc: Global, picture: &Picture) -> Option<Outcome> {
+fn at_once<S: Sample, D: Decoder>(
+    alloc: Global,
+    picture: &Picture,
+    bytes: &[u8],
+) -> Option<Outcome> {
     let params = params::<D>(alloc, picture)?;
     if !params.is_valid() {
         return None;
     }
-    let mut bits = Bitstream::new(&picture.bytes);
+    let mut bits = Bitstream::new(bytes);
     match decode_picture::<S, D>(alloc, &mut bits, params, 0, &mut Steps::new()) {
         Ok(Some(image)) => Some(Outcome {
             error: None,
@@ -181,14 +184,16 @@ fn outcome_text(alloc: Global, outcome: &Outcome, summed: bool) -> Option<String
     Some(text)
 }
 
+/// What comes of these bytes.
 fn seen_at<S: Sample, D: Decoder>(
     alloc: Global,
     picture: &Picture,
+    bytes: &[u8],
     summed: bool,
 ) -> Option<String> {
-    let strict = by_calls::<S, D>(alloc, picture, &picture.bytes, false)?;
-    let early = by_calls::<S, D>(alloc, picture, &picture.bytes, true)?;
-    let once = at_once::<S, D>(alloc, picture)?;
+    let strict = by_calls::<S, D>(alloc, picture, bytes, false)?;
+    let early = by_calls::<S, D>(alloc, picture, bytes, true)?;
+    let once = at_once::<S, D>(alloc, picture, bytes)?;
     if !is_early_form(&early, &strict) {
         return format!(in alloc; "other where samples may end early").ok();
     }
@@ -199,12 +204,12 @@ fn seen_at<S: Sample, D: Decoder>(
 }
 
 /// What comes of a row: the samples and the reader's position, an error, or both.
-pub fn seen(alloc: Global, asked: &str, summed: bool) -> Option<String> {
+pub fn seen<D: Decoder>(alloc: Global, asked: &str, summed: bool) -> Option<String> {
     let (kind, rest) = word(asked);
     let picture = read_picture(alloc, rest)?;
     match kind {
-        "i16" => seen_at::<i16, PlainDecoder>(alloc, &picture, summed),
-        "i32" => seen_at::<i32, PlainDecoder>(alloc, &picture, summed),
+        "i16" => seen_at::<i16, D>(alloc, &picture, &picture.bytes, summed),
+        "i32" => seen_at::<i32, D>(alloc, &picture, &picture.bytes, summed),
         _ => None,
     }
 }
@@ -221,14 +226,35 @@ fn seen_of_prefix<D: Decoder>(alloc: Global, picture: &Picture, n: usize) -> Opt
 /// A row asks with a picture of samples of 32 bits. It gives the checksum of what is read of each prefix of its bytes,
 /// the shortest first, where samples may end early: what a row of a picture gives, a space, `whole` or `partial`, and a
 /// line feed.
-pub fn sum_of_prefixes(alloc: Global, asked: &str) -> Option<String> {
+pub fn sum_of_prefixes<D: Decoder>(alloc: Global, asked: &str) -> Option<String> {
     let picture = read_picture(alloc, asked)?;
     let mut sum = 0;
     for n in 0..=picture.bytes.len() {
-        sum = text_sum(
-            sum,
-            seen_of_prefix::<PlainDecoder>(alloc, &picture, n)?.as_str(),
-        );
+        sum = text_sum(sum, seen_of_prefix::<D>(alloc, &picture, n)?.as_str());
     }
+    format!(in alloc; "{sum}").ok()
+}
+
+/// The checksum of what comes of each prefix.
+fn sum_of_cuts_at<S: Sample, D: Decoder>(alloc: Global, picture: &Picture) -> Option<u32> {
+    let mut sum = 0;
+    for n in 0..=picture.bytes.len() {
+        let prefix = picture.bytes.as_slice().get(..n)?;
+        let text = seen_at::<S, D>(alloc, picture, prefix, false)?;
+        sum = text_sum(text_sum(sum, text.as_str()), "\n");
+    }
+    Some(sum)
+}
+
+/// A row asks with a picture. It gives the checksum of what comes of each prefix of its bytes, the shortest first, and
+/// the picture itself at last: what a row of a picture gives, with a line feed after it.
+pub fn sum_of_cuts<D: Decoder>(alloc: Global, asked: &str) -> Option<String> {
+    let (kind, rest) = word(asked);
+    let picture = read_picture(alloc, rest)?;
+    let sum = match kind {
+        "i16" => sum_of_cuts_at::<i16, D>(alloc, &picture)?,
+        "i32" => sum_of_cuts_at::<i32, D>(alloc, &picture)?,
+        _ => return None,
+    };
     format!(in alloc; "{sum}").ok()
 }
