@@ -1,5 +1,5 @@
-//! Checks rows of tables of input that is made to hurt: over a decoder that has errors, of input that is cut off after
-//! each of its bytes, and of trees. The rows come on standard input, each with what is asked, and what is expected of
+//! Checks rows of tables of input that is made to hurt: over a decoder that has errors, of input that is truncated
+//! after each of its bytes, and of trees. The rows come on standard input, each with what is asked, and what is expected of
 //! it. A line that begins with # says what the rows after it are.
 #![tactic(auto)]
 
@@ -20,8 +20,8 @@ fn seen(alloc: Global, row: &Row<'_>) -> Option<String> {
         "sections" => sections::seen::<FaultDecoder>(alloc, row.asked, summed, false),
         "partial" => sections::seen::<FaultDecoder>(alloc, row.asked, summed, true),
         "plain" => picture::seen::<PlainDecoder>(alloc, row.asked, summed),
-        "cut" => picture::sum_of_cuts::<PlainDecoder>(alloc, row.asked),
-        "cut_sections" => sections::sums_of_cuts::<PlainDecoder>(alloc, row.asked),
+        "truncated" => picture::sum_of_truncated::<PlainDecoder>(alloc, row.asked),
+        "truncated_sections" => sections::sums_of_truncated::<PlainDecoder>(alloc, row.asked),
         "tree" => tree::seen(alloc, row.asked, summed),
         _ => None,
     }

@@ -93,7 +93,7 @@ fn offsets(alloc: Global, tree: &FlatMaTree, words: &str) -> Option<Vec<i32>> {
 }
 
 /// What a tree is for a channel, and its leaves.
-fn told<D: Decoder>(
+fn described<D: Decoder>(
     alloc: Global,
     config: &MaConfig<D>,
     place: &str,
@@ -125,7 +125,7 @@ fn seen_by<D: Decoder>(alloc: Global, asked: &str, summed: bool) -> Option<Strin
     let bytes = repeated(alloc, digits)?;
     let mut bits = after(&bytes, before)?;
     match read::<D>(alloc, &mut bits, number(nodes)?, depth) {
-        Ok(config) => told(alloc, &config, place, words, summed),
+        Ok(config) => described(alloc, &config, place, words, summed),
         Err(error) => format!(in alloc; "{error}").ok(),
     }
 }

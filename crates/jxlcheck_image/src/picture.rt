@@ -236,7 +236,7 @@ pub fn sum_of_prefixes<D: Decoder>(alloc: Global, asked: &str) -> Option<String>
 }
 
 /// The checksum of what comes of each prefix.
-fn sum_of_cuts_at<S: Sample, D: Decoder>(alloc: Global, picture: &Picture) -> Option<u32> {
+fn sum_of_truncated_at<S: Sample, D: Decoder>(alloc: Global, picture: &Picture) -> Option<u32> {
     let mut sum = 0;
     for n in 0..=picture.bytes.len() {
         let prefix = picture.bytes.as_slice().get(..n)?;
@@ -248,12 +248,12 @@ fn sum_of_cuts_at<S: Sample, D: Decoder>(alloc: Global, picture: &Picture) -> Op
 
 /// A row asks with a picture. It gives the checksum of what comes of each prefix of its bytes, the shortest first, and
 /// the picture itself at last: what a row of a picture gives, with a line feed after it.
-pub fn sum_of_cuts<D: Decoder>(alloc: Global, asked: &str) -> Option<String> {
+pub fn sum_of_truncated<D: Decoder>(alloc: Global, asked: &str) -> Option<String> {
     let (kind, rest) = word(asked);
     let picture = read_picture(alloc, rest)?;
     let sum = match kind {
-        "i16" => sum_of_cuts_at::<i16, D>(alloc, &picture)?,
-        "i32" => sum_of_cuts_at::<i32, D>(alloc, &picture)?,
+        "i16" => sum_of_truncated_at::<i16, D>(alloc, &picture)?,
+        "i32" => sum_of_truncated_at::<i32, D>(alloc, &picture)?,
         _ => return None,
     };
     format!(in alloc; "{sum}").ok()

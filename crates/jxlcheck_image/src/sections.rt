@@ -296,7 +296,7 @@ pub fn sum_of_beginnings<D: Decoder>(alloc: Global, asked: &str) -> Option<Strin
 
 /// A row asks with the type of samples and the same. It gives two such checksums: one where samples may not end early,
 /// and one where they may.
-pub fn sums_of_cuts<D: Decoder>(alloc: Global, asked: &str) -> Option<String> {
+pub fn sums_of_truncated<D: Decoder>(alloc: Global, asked: &str) -> Option<String> {
     let (kind, rest) = word(asked);
     let fields = split(kind, rest)?;
     let refused = beginnings_sum::<D>(alloc, fields, false)?;

@@ -6,9 +6,12 @@ use Rattle.jxlm_base.specs.ErrorKind.{◌>>=◌}
 use Rattle.jxlm_base.specs.declared.decoder.DecoderError.{DecoderError}
 use Rattle.jxlm_base.specs.declared.decoder.DecoderError.TheVariants.{Invalid}
 use Rattle.jxlm_plain.specs.Plain.{PlainState, plain_read, plain}
-use Rattle.jxlm_plain.specs.Inner.PlainLaws.{bind_ok, ok_same}
 use Rattle.jxlm_fault.specs.Fault.{FaultState, fault_read, fault_begin, fault_finalize, is_due, one_more, faulty}
 use Rattle.jxlm_fault.specs.FaultTokens.{TokensBeforeTheError, ErrorAtItsRead, ErrorAtItsEnd}
+
+bind_ok : {A B : Type 0} (r : Result A DecoderError) (f : A → Result B DecoderError) (y : B) → (r >>= f) ≡ Ok y → (x : A) × (r ≡ Ok x) × (f x ≡ Ok y)
+bind_ok (Ok x) f y h = (x, refl, h)
+bind_ok (Err e) f y h = cc
 
 abbrev state : ℕ → ℕ → PlainState → FaultState
 state place count s = record { fault = place; reads = count; plain = s }
