@@ -2,13 +2,13 @@
 //! for any decoder.
 #![tactic(auto)]
 
-mod channels;
+mod channel_words;
+mod image_samples;
 mod input;
 mod parts;
 pub mod picture;
-mod samples;
 pub mod sections;
 
-pub use channels::channels;
+pub use channel_words::channels;
+pub use image_samples::samples;
 pub use parts::decode_by_header;
-pub use samples::samples;

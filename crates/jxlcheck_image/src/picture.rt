@@ -6,8 +6,8 @@
 
 ghost use Rattle.std.specs.Prelude.{◌≡◌, None, IfSome};
 
-use crate::channels::channels;
-use crate::samples::samples;
+use crate::channel_words::channels;
+use crate::image_samples::samples;
 use jxl_modular::bits::Bitstream;
 use jxl_modular::decoder::Decoder;
 use jxl_modular::error::Error;

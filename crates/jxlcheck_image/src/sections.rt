@@ -8,10 +8,10 @@
 
 ghost use Rattle.jxlm_transform.specs.Params.{IsValidParams};
 
-use crate::channels::channels;
+use crate::channel_words::channels;
+use crate::image_samples::samples;
 use crate::input::{OwnedSection, global, owned_sections, passes, sections};
 use crate::parts::{counts, decode_by_parts};
-use crate::samples::samples;
 use jxl_modular::bits::Bitstream;
 use jxl_modular::decoder::Decoder;
 use jxl_modular::error::Error;
