@@ -41,6 +41,11 @@ const SQUEEZED: &[u8] = &[
     0x66, 0x30, 0x00, 0x00, 0x00, 0x00, 0x08, 0x00, 0xC0, 0xA0, 0x50, 0x00, 0x00,
 ];
 
+// Where the column is above 0, west by tokens of three bits, else the constant token 6.
+const WALKED: &[u8] = &[
+    0x82, 0x40, 0x08, 0x00, 0x04, 0x0C, 0x02, 0x22, 0x10, 0x10, 0x86, 0x83, 0x15,
+];
+
 const CUT: &str = "sections 3 1 1 8 i32 2";
 
 const CUT_SMALL: &str = "sections 4 1 1 8 i16 2";
@@ -112,6 +117,7 @@ const ROWS: &[(&str, &[u8], &str)] = &[
         SQUEEZED,
         "channel 0 4x1\n10 11 20 20\n",
     ),
+    ("decode 3 1 1 8 i32", WALKED, "channel 0 3x1\n3 4 3\n"),
     ("decode 2 2 0 8 i32", &[], ""),
     (
         "decode 2 2 2 8 i32",
@@ -150,18 +156,21 @@ const ROWS: &[(&str, &[u8], &str)] = &[
     ),
 ];
 
-// Inputs, and what is printed where at least one byte and not all are there. The first byte of a picture in one part
-// holds the whole header; whatever follows is the decoder's to read.
-const TRUNCATED: &[(&str, &[u8], &str)] = &[
-    (FOUR, GRADIENT, EOF_OF_TOKENS),
-    (FOUR, CONSTANT, EOF_OF_TOKENS),
-    (FOUR, RUN, EOF_OF_TOKENS),
-    (FOUR, RUN_OF_ZERO, EOF_OF_TOKENS),
-    (FOUR, SEALED, EOF_OF_TOKENS),
-    (FOUR, MISSUMMED, EOF_OF_TOKENS),
-    (CUT, THREE, EOF_OF_HEADER),
-    (CUT, NO_GLOBAL_TREE, EOF_OF_HEADER),
-    (CUT_SMALL, CUT_SQUEEZED, EOF_OF_HEADER),
+// Inputs, how many bytes their headers take, and what is printed of those that hold the header and are not whole:
+// whatever follows a header is the decoder's to read. With sections it does not matter how many that are, since a
+// section's length comes first.
+const TRUNCATED: &[(&str, &[u8], usize, &str)] = &[
+    (FOUR, GRADIENT, 1, EOF_OF_TOKENS),
+    (FOUR, CONSTANT, 1, EOF_OF_TOKENS),
+    (FOUR, RUN, 1, EOF_OF_TOKENS),
+    (FOUR, RUN_OF_ZERO, 1, EOF_OF_TOKENS),
+    (FOUR, SEALED, 1, EOF_OF_TOKENS),
+    (FOUR, MISSUMMED, 1, EOF_OF_TOKENS),
+    ("decode 3 1 1 8 i32", WALKED, 1, EOF_OF_TOKENS),
+    ("decode 4 1 1 8 i16", SQUEEZED, 3, EOF_OF_TOKENS),
+    (CUT, THREE, 0, EOF_OF_HEADER),
+    (CUT, NO_GLOBAL_TREE, 0, EOF_OF_HEADER),
+    (CUT_SMALL, CUT_SQUEEZED, 0, EOF_OF_HEADER),
 ];
 
 // What a run of the program answers and writes.
@@ -213,9 +222,9 @@ fn pictures_and_errors_are_printed(rt: HostRuntime) -> Result<(), Fail> {
 
 #[test]
 fn truncated_input_is_an_unexpected_end(rt: HostRuntime) -> Result<(), Fail> {
-    for (line, whole, text) in TRUNCATED {
+    for (line, whole, header, text) in TRUNCATED {
         for n in 0..whole.len() {
-            let text = if n == 0 { EOF_OF_HEADER } else { text };
+            let text = if n < *header { EOF_OF_HEADER } else { text };
             check(&rt, rt.alloc(), line, &whole[..n], text)?;
         }
     }
