@@ -3,14 +3,13 @@
 ghost use Rattle.std.specs.Prelude.{IfSome};
 ghost use Rattle.jxlm_transform.specs.Params.{IsValidParams};
 
-use crate::channels::channels;
-use crate::samples::samples;
 use jxl_modular::bits::Bitstream;
 use jxl_modular::decoder::Decoder;
 use jxl_modular::error::Error;
 use jxl_modular::image::ModularImageDestination;
 use jxl_modular::plain::PlainDecoder;
 use jxl_modular::{Modular, ModularParams, Sample};
+use jxlcheck_image::{channels, samples};
 use jxlcheck_text::{listed, number, repeated, word};
 use std::alloc::Global;
 

@@ -2,17 +2,14 @@
 //! that begins with # says what the rows after it are.
 #![tactic(auto)]
 
-mod channels;
 mod image;
-mod input;
-mod parts;
-mod picture;
 mod plain;
-mod samples;
-mod sections;
 mod within;
 
+use jxl_modular::plain::PlainDecoder;
+use jxlcheck_image::{picture, sections};
 use jxlcheck_text::Row;
+use jxlm_examples::bytewise::Bytewise;
 use std::alloc::Global;
 use std::io;
 
@@ -24,12 +21,12 @@ fn seen(alloc: Global, row: &Row<'_>) -> Option<String> {
         "header" => image::seen_of_header(alloc, row.asked, row.expected.contains('@')),
         "image" => image::seen_of_image(alloc, row.asked),
         "global" => image::seen_of_global_part(alloc, row.asked),
-        "picture" => picture::seen(alloc, row.asked, summed),
-        "bytewise" => picture::seen_by_bytes(alloc, row.asked, summed),
-        "prefixes" => picture::sum_of_prefixes(alloc, row.asked),
-        "sections" => sections::seen(alloc, row.asked, summed, false),
-        "partial" => sections::seen(alloc, row.asked, summed, true),
-        "beginnings" => sections::sum_of_beginnings(alloc, row.asked),
+        "picture" => picture::seen::<PlainDecoder>(alloc, row.asked, summed),
+        "bytewise" => picture::seen::<Bytewise>(alloc, row.asked, summed),
+        "prefixes" => picture::sum_of_prefixes::<PlainDecoder>(alloc, row.asked),
+        "sections" => sections::seen::<PlainDecoder>(alloc, row.asked, summed, false),
+        "partial" => sections::seen::<PlainDecoder>(alloc, row.asked, summed, true),
+        "beginnings" => sections::sum_of_beginnings::<PlainDecoder>(alloc, row.asked),
         "within" => within::seen(alloc, row.asked),
         _ => None,
     }

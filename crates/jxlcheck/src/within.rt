@@ -5,14 +5,13 @@
 //! whole, and after a bar the image's samples; or an error.
 
 use crate::image::read;
-use crate::parts::decode_by_header;
-use crate::samples::samples;
 use jxl_modular::bits::Bitstream;
 use jxl_modular::decoder::Decoder;
 use jxl_modular::error::Error;
 use jxl_modular::image::{ModularImageDestination, RecursiveModularImage};
 use jxl_modular::plain::PlainDecoder;
 use jxl_modular::{MaConfig, Sample};
+use jxlcheck_image::{decode_by_header, samples};
 use jxlcheck_text::{bytes, listed};
 use std::alloc::Global;
 

@@ -2,22 +2,19 @@
 //!
 //! A row asks with the type of samples and, with a bar between: the channels; the bit depth; and the bytes. It gives the
 //! samples and the reader's position, an error, or both, where the samples end by it. The picture is read call by call,
-//! with an early end refused and allowed, and by one call: all three have to agree. A row of the kind `bytewise` asks the
-//! same of a decoder whose tokens are bytes.
+//! with an early end refused and allowed, and by one call: all three have to agree.
 
 ghost use Rattle.std.specs.Prelude.{◌≡◌, None, IfSome};
 
-use crate::channels::channels;
-use crate::samples::samples;
+use crate::channel_words::channels;
+use crate::image_samples::samples;
 use jxl_modular::bits::Bitstream;
 use jxl_modular::decoder::Decoder;
 use jxl_modular::error::Error;
 use jxl_modular::flat::Steps;
 use jxl_modular::image::ModularImageDestination;
-use jxl_modular::plain::PlainDecoder;
 use jxl_modular::{Modular, ModularChannelParams, ModularParams, Sample, decode_picture};
 use jxlcheck_text::{listed, number, repeated, text_sum, word};
-use jxlm_examples::bytewise::Bytewise;
 use std::alloc::Global;
 
 /// What becomes of a picture: the error, if there is one; the samples; the reader's position; and whether the part was
@@ -128,12 +125,16 @@ fn by_calls<S: Sample, D: Decoder>(
 }
 
 /// Reads a picture by one call.
-fn at_once<S: Sample, D: Decoder>(alloc: Global, picture: &Picture) -> Option<Outcome> {
+fn at_once<S: Sample, D: Decoder>(
+    alloc: Global,
+    picture: &Picture,
+    bytes: &[u8],
+) -> Option<Outcome> {
     let params = params::<D>(alloc, picture)?;
     if !params.is_valid() {
         return None;
     }
-    let mut bits = Bitstream::new(&picture.bytes);
+    let mut bits = Bitstream::new(bytes);
     match decode_picture::<S, D>(alloc, &mut bits, params, 0, &mut Steps::new()) {
         Ok(Some(image)) => Some(Outcome {
             error: None,
@@ -183,14 +184,16 @@ fn outcome_text(alloc: Global, outcome: &Outcome, summed: bool) -> Option<String
     Some(text)
 }
 
+/// What comes of these bytes.
 fn seen_at<S: Sample, D: Decoder>(
     alloc: Global,
     picture: &Picture,
+    bytes: &[u8],
     summed: bool,
 ) -> Option<String> {
-    let strict = by_calls::<S, D>(alloc, picture, &picture.bytes, false)?;
-    let early = by_calls::<S, D>(alloc, picture, &picture.bytes, true)?;
-    let once = at_once::<S, D>(alloc, picture)?;
+    let strict = by_calls::<S, D>(alloc, picture, bytes, false)?;
+    let early = by_calls::<S, D>(alloc, picture, bytes, true)?;
+    let once = at_once::<S, D>(alloc, picture, bytes)?;
     if !is_early_form(&early, &strict) {
         return format!(in alloc; "other where samples may end early").ok();
     }
@@ -200,24 +203,15 @@ fn seen_at<S: Sample, D: Decoder>(
     outcome_text(alloc, &strict, summed)
 }
 
-fn seen_by<D: Decoder>(alloc: Global, asked: &str, summed: bool) -> Option<String> {
+/// What comes of a row: the samples and the reader's position, an error, or both.
+pub fn seen<D: Decoder>(alloc: Global, asked: &str, summed: bool) -> Option<String> {
     let (kind, rest) = word(asked);
     let picture = read_picture(alloc, rest)?;
     match kind {
-        "i16" => seen_at::<i16, D>(alloc, &picture, summed),
-        "i32" => seen_at::<i32, D>(alloc, &picture, summed),
+        "i16" => seen_at::<i16, D>(alloc, &picture, &picture.bytes, summed),
+        "i32" => seen_at::<i32, D>(alloc, &picture, &picture.bytes, summed),
         _ => None,
     }
-}
-
-/// What comes of a row: the samples and the reader's position, an error, or both.
-pub fn seen(alloc: Global, asked: &str, summed: bool) -> Option<String> {
-    seen_by::<PlainDecoder>(alloc, asked, summed)
-}
-
-/// The same by a decoder whose tokens are bytes.
-pub fn seen_by_bytes(alloc: Global, asked: &str, summed: bool) -> Option<String> {
-    seen_by::<Bytewise>(alloc, asked, summed)
 }
 
 /// What is read of the first n bytes of a picture of samples of 32 bits, where they may end early.
@@ -232,14 +226,35 @@ fn seen_of_prefix<D: Decoder>(alloc: Global, picture: &Picture, n: usize) -> Opt
 /// A row asks with a picture of samples of 32 bits. It gives the checksum of what is read of each prefix of its bytes,
 /// the shortest first, where samples may end early: what a row of a picture gives, a space, `whole` or `partial`, and a
 /// line feed.
-pub fn sum_of_prefixes(alloc: Global, asked: &str) -> Option<String> {
+pub fn sum_of_prefixes<D: Decoder>(alloc: Global, asked: &str) -> Option<String> {
     let picture = read_picture(alloc, asked)?;
     let mut sum = 0;
     for n in 0..=picture.bytes.len() {
-        sum = text_sum(
-            sum,
-            seen_of_prefix::<PlainDecoder>(alloc, &picture, n)?.as_str(),
-        );
+        sum = text_sum(sum, seen_of_prefix::<D>(alloc, &picture, n)?.as_str());
     }
+    format!(in alloc; "{sum}").ok()
+}
+
+/// The checksum of what comes of each prefix.
+fn sum_of_truncated_at<S: Sample, D: Decoder>(alloc: Global, picture: &Picture) -> Option<u32> {
+    let mut sum = 0;
+    for n in 0..=picture.bytes.len() {
+        let prefix = picture.bytes.as_slice().get(..n)?;
+        let text = seen_at::<S, D>(alloc, picture, prefix, false)?;
+        sum = text_sum(text_sum(sum, text.as_str()), "\n");
+    }
+    Some(sum)
+}
+
+/// A row asks with a picture. It gives the checksum of what comes of each prefix of its bytes, the shortest first, and
+/// the picture itself at last: what a row of a picture gives, with a line feed after it.
+pub fn sum_of_truncated<D: Decoder>(alloc: Global, asked: &str) -> Option<String> {
+    let (kind, rest) = word(asked);
+    let picture = read_picture(alloc, rest)?;
+    let sum = match kind {
+        "i16" => sum_of_truncated_at::<i16, D>(alloc, &picture)?,
+        "i32" => sum_of_truncated_at::<i32, D>(alloc, &picture)?,
+        _ => return None,
+    };
     format!(in alloc; "{sum}").ok()
 }

@@ -8,16 +8,15 @@
 
 ghost use Rattle.jxlm_transform.specs.Params.{IsValidParams};
 
-use crate::channels::channels;
+use crate::channel_words::channels;
+use crate::image_samples::samples;
 use crate::input::{OwnedSection, global, owned_sections, passes, sections};
 use crate::parts::{counts, decode_by_parts};
-use crate::samples::samples;
 use jxl_modular::bits::Bitstream;
 use jxl_modular::decoder::Decoder;
 use jxl_modular::error::Error;
 use jxl_modular::flat::Steps;
 use jxl_modular::image::ModularImageDestination;
-use jxl_modular::plain::PlainDecoder;
 use jxl_modular::sections::{Section, decode_sections, sections_fit};
 use jxl_modular::{MaConfig, Modular, ModularParams, Sample};
 use jxlcheck_text::{bytes, listed, number, text_sum, word};
@@ -38,6 +37,8 @@ struct Options {
 /// The fields of a row.
 #[derive(Clone, Copy)]
 struct Fields<'t> {
+    /// The type of samples.
+    kind: &'t str,
     channels: &'t str,
     group_dim: &'t str,
     depth: &'t str,
@@ -47,7 +48,7 @@ struct Fields<'t> {
     sections: &'t str,
 }
 
-fn split(row: &str) -> Option<Fields<'_>> {
+fn split<'t>(kind: &'t str, row: &'t str) -> Option<Fields<'t>> {
     let (channels, rest) = row.split_once('|')?;
     let (setting, rest) = rest.split_once('|')?;
     let (header, sections) = rest.split_once('|')?;
@@ -55,6 +56,7 @@ fn split(row: &str) -> Option<Fields<'_>> {
     let (depth, passes) = word(rest);
     let (header, trees) = word(header);
     Some(Fields {
+        kind,
         channels,
         group_dim,
         depth,
@@ -192,27 +194,35 @@ fn seen_at<S: Sample, D: Decoder>(
     with_valid::<S, D>(alloc, params, fields, &sections, options)
 }
 
-fn seen_by(alloc: Global, kind: &str, fields: Fields<'_>, options: Options) -> Option<String> {
-    let owned = owned_sections(alloc, fields.sections)?;
-    match kind {
-        "i16" => seen_at::<i16, PlainDecoder>(alloc, fields, &owned, None, options),
-        "i32" => seen_at::<i32, PlainDecoder>(alloc, fields, &owned, None, options),
+fn seen_by<D: Decoder>(
+    alloc: Global,
+    fields: Fields<'_>,
+    owned: &[OwnedSection],
+    end: Option<(usize, usize)>,
+    options: Options,
+) -> Option<String> {
+    match fields.kind {
+        "i16" => seen_at::<i16, D>(alloc, fields, owned, end, options),
+        "i32" => seen_at::<i32, D>(alloc, fields, owned, end, options),
         _ => None,
     }
 }
 
-/// What comes of a row, by one call; and by a call for each part, where that is another thing. With `allow_partial`
-/// samples may end early.
-pub fn seen(alloc: Global, asked: &str, summed: bool, allow_partial: bool) -> Option<String> {
-    let (kind, rest) = word(asked);
-    let fields = split(rest)?;
-    let options = |by_parts| Options {
-        by_parts,
-        summed,
-        allow_partial,
+/// What comes of these sections, or of their beginning, by one call; and by a call for each part, where that is another
+/// thing.
+fn seen_each_way<D: Decoder>(
+    alloc: Global,
+    fields: Fields<'_>,
+    owned: &[OwnedSection],
+    end: Option<(usize, usize)>,
+    options: Options,
+) -> Option<String> {
+    let once = seen_by::<D>(alloc, fields, owned, end, options)?;
+    let options = Options {
+        by_parts: true,
+        ..options
     };
-    let once = seen_by(alloc, kind, fields, options(false))?;
-    let by_parts = seen_by(alloc, kind, fields, options(true))?;
+    let by_parts = seen_by::<D>(alloc, fields, owned, end, options)?;
     if by_parts.as_str() == once.as_str() {
         Some(once)
     } else {
@@ -220,25 +230,58 @@ pub fn seen(alloc: Global, asked: &str, summed: bool, allow_partial: bool) -> Op
     }
 }
 
+/// What comes of a row, by one call; and by a call for each part, where that is another thing. With `allow_partial`
+/// samples may end early.
+pub fn seen<D: Decoder>(
+    alloc: Global,
+    asked: &str,
+    summed: bool,
+    allow_partial: bool,
+) -> Option<String> {
+    let (kind, rest) = word(asked);
+    let fields = split(kind, rest)?;
+    let owned = owned_sections(alloc, fields.sections)?;
+    let options = Options {
+        by_parts: false,
+        summed,
+        allow_partial,
+    };
+    seen_each_way::<D>(alloc, fields, &owned, None, options)
+}
+
 /// Adds what comes of a section's beginnings, after the sections before it.
-fn added(
+fn added<D: Decoder>(
     alloc: Global,
     fields: Fields<'_>,
     owned: &[OwnedSection],
     place: usize,
-    section: &OwnedSection,
+    allow_partial: bool,
     sum: u32,
 ) -> Option<u32> {
     let options = Options {
         by_parts: false,
         summed: false,
-        allow_partial: true,
+        allow_partial,
     };
+    let section = owned.get(place)?;
     let mut sum = sum;
     for n in (section.before as usize).div_ceil(8)..=section.bytes.len() {
-        let end = Some((place, n));
-        let text = seen_at::<i32, PlainDecoder>(alloc, fields, owned, end, options)?;
+        let text = seen_each_way::<D>(alloc, fields, owned, Some((place, n)), options)?;
         sum = text_sum(text_sum(sum, text.as_str()), "\n");
+    }
+    Some(sum)
+}
+
+/// The checksum of what comes of each beginning, each with a line feed after it.
+fn beginnings_sum<D: Decoder>(
+    alloc: Global,
+    fields: Fields<'_>,
+    allow_partial: bool,
+) -> Option<u32> {
+    let owned = owned_sections(alloc, fields.sections)?;
+    let mut sum = 0;
+    for place in 0..owned.len() {
+        sum = added::<D>(alloc, fields, &owned, place, allow_partial, sum)?;
     }
     Some(sum)
 }
@@ -246,12 +289,17 @@ fn added(
 /// A row asks with the same, for samples of 32 bits that may end early. It gives the checksum of what comes of each
 /// beginning, each with a line feed after it: the sections in turn, the last one cut off after each of its bytes, and at
 /// last all of them.
-pub fn sum_of_beginnings(alloc: Global, asked: &str) -> Option<String> {
-    let fields = split(asked)?;
-    let owned = owned_sections(alloc, fields.sections)?;
-    let mut sum = 0;
-    for (place, section) in owned.iter().enumerate() {
-        sum = added(alloc, fields, &owned, place, section, sum)?;
-    }
+pub fn sum_of_beginnings<D: Decoder>(alloc: Global, asked: &str) -> Option<String> {
+    let sum = beginnings_sum::<D>(alloc, split("i32", asked)?, true)?;
     format!(in alloc; "{sum}").ok()
+}
+
+/// A row asks with the type of samples and the same. It gives two such checksums: one where samples may not end early,
+/// and one where they may.
+pub fn sums_of_truncated<D: Decoder>(alloc: Global, asked: &str) -> Option<String> {
+    let (kind, rest) = word(asked);
+    let fields = split(kind, rest)?;
+    let refused = beginnings_sum::<D>(alloc, fields, false)?;
+    let allowed = beginnings_sum::<D>(alloc, fields, true)?;
+    format!(in alloc; "{refused} {allowed}").ok()
 }

@@ -1,0 +1,2 @@
+pub mod FaultReads
+pub mod FaultTokens
