@@ -5,3 +5,11 @@ mod CodeSteps
 mod AliasSteps
 mod AnsUndo
 mod OneSpelling
+mod Holding
+mod DistributionSums
+mod CodewordOrder
+mod CodewordReads
+mod BucketMoves
+mod BucketFilling
+mod BucketSlots
+mod SomeSpelling

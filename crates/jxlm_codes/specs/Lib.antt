@@ -4,7 +4,9 @@ pub mod Reading
 pub mod IntegerConfigs
 pub mod Spellings
 pub mod PrefixCodes
+pub mod Codewords
 pub mod Distributions
 pub mod Ans
 pub mod Alias
+pub mod Slots
 pub mod Inner

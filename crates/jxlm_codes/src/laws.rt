@@ -1,15 +1,27 @@
 //! Laws of the definitions that contracts cite: each is the contract of a function that does nothing.
 
-ghost use Rattle.std.specs.Prelude.{◌≡◌, ℕ, ◌+◌, ◌*◌, ◌/◌, ◌%◌, ◌^◌, ◌<◌};
+ghost use Rattle.std.specs.Prelude.{◌≡◌, ℕ, ◌+◌, ◌*◌, ◌/◌, ◌%◌, ◌-◌, ◌^◌, ◌<◌, ◌≤◌, ◌≢◌, List, length, sum, slice_index, Ok};
+ghost use Rattle.jxlm_base.specs.Decoding.{Found};
 ghost use Rattle.jxlm_codes.specs.IntegerConfigs.{IsConfig};
 ghost use Rattle.jxlm_codes.specs.Spellings.{Spells};
 ghost use Rattle.jxlm_codes.specs.declared.config.IntegerConfig.{IntegerConfig};
 ghost use Rattle.jxlm_codes.specs.Ans.{Slot, after_slot};
+ghost use Rattle.jxlm_codes.specs.Distributions.{distribution_at};
+ghost use Rattle.jxlm_codes.specs.PrefixCodes.{prefix_of, next_symbol_at};
+ghost use Rattle.jxlm_codes.specs.Alias.{buckets_of};
+ghost use Rattle.jxlm_codes.specs.Slots.{AreSlotsOf};
+ghost use Rattle.jxlm_codes.specs.Codewords.{HasCodeword, IsFull, StandsAt, codeword_of};
 
 /// A token of at most 32 bits has one spelling beyond the split: its symbol, and the bits after it.
 pub fn tokens_have_one_spelling()
     ensures { (config : IntegerConfig) (s t r q token : ℕ) → IsConfig config → Spells config s r token
         → Spells config t q token → (s ≡ t) × (r ≡ q) }
+{}
+
+/// Each token from the split on has a spelling: a symbol, and the bits after it.
+pub fn tokens_have_a_spelling()
+    ensures { (config : IntegerConfig) (token : ℕ) → IsConfig config → 2 ^ config.split_exponent ≤ token
+        → token < 2 ^ 32 → (symbol : ℕ) × ((rest : ℕ) × Spells config symbol rest token) }
 {}
 
 /// Reading a symbol undoes writing it. To write a symbol that comes `count` times, a state becomes `state / count`
@@ -19,4 +31,37 @@ pub fn reading_undoes_writing()
         → slot.number ≡ state % slot.count
         → ((state / slot.count * 4096 + place) % 4096 ≡ place)
         × (after_slot slot (state / slot.count * 4096 + place) ≡ state) }
+{}
+
+/// The counts of each distribution that is read sum up to 4096.
+pub fn distributions_sum_up()
+    ensures { (bytes : List ℕ) (p : ℕ) (found : Found (List ℕ)) → distribution_at bytes p ≡ Ok found
+        → sum found.value ≡ 4096 }
+{}
+
+/// No codeword begins another: the first bits of a codeword that is as long or longer are another number.
+pub fn no_codeword_begins_another()
+    ensures { (lengths : List ℕ) (s t : ℕ) → HasCodeword lengths s → HasCodeword lengths t → s ≢ t
+        → slice_index lengths s ≤ slice_index lengths t
+        → codeword_of lengths t / 2 ^ (slice_index lengths t - slice_index lengths s) ≢ codeword_of lengths s }
+{}
+
+/// What is read is the symbol whose codeword stands there, and the codeword's bits are what is taken.
+pub fn codewords_are_read()
+    ensures { (lengths bytes : List ℕ) (symbol p : ℕ) → length lengths ≤ 2 ^ 15
+        → length (prefix_of lengths).symbols ≢ 1 → HasCodeword lengths symbol → StandsAt lengths symbol bytes p
+        → next_symbol_at (prefix_of lengths) bytes p
+        ≡ Ok (record { value = symbol; position = p + slice_index lengths symbol }) }
+{}
+
+/// A code that leaves no room has a codeword for all bits: one stands wherever 15 bits are left.
+pub fn full_codes_have_a_codeword_for_all_bits()
+    ensures { (lengths bytes : List ℕ) (p : ℕ) → IsFull lengths → p + 15 ≤ 8 * length bytes
+        → (symbol : ℕ) × (HasCodeword lengths symbol × StandsAt lengths symbol bytes p) }
+{}
+
+/// An alias table has one slot for each symbol and number below its count, where the counts sum up to 4096.
+pub fn slots_are_symbols_and_numbers()
+    ensures { (counts : List ℕ) (log : ℕ) → log ≤ 8 → length counts ≤ 2 ^ log → sum counts ≡ 4096
+        → AreSlotsOf counts (buckets_of counts log) (4096 / 2 ^ log) }
 {}

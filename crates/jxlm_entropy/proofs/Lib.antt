@@ -3,3 +3,4 @@ mod SpecialDistances
 mod AnyMultiplier
 mod ClusterSteps
 mod AnsCodes
+mod PastTokens

@@ -1,5 +1,6 @@
 pub mod Symbols
 pub mod Copies
+pub mod Past
 pub mod Tokens
 pub mod Clusters
 pub mod Parse

@@ -6,6 +6,7 @@ mod clusters;
 mod coded;
 pub mod codes;
 pub mod decoder;
+pub mod laws;
 mod parse;
 mod state;
 mod tables;
