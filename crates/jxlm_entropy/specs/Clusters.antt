@@ -47,6 +47,7 @@ unfoldable pub moved_first : ℕ → List ℕ → Moved
 moved_first zero places = record { list = numbers 256; clusters = [] }
 moved_first (suc n) places = with_moved (moved_first n places) (slice_index places n)
 
+-- the clusters that these numbers stand for
 abbrev pub moved : List ℕ → List ℕ
 moved places = (moved_first (length places) places).clusters
 

@@ -75,7 +75,8 @@ fn numbers(alloc: Global) -> Result<Vec<u8>, DecoderError>
 fn move_to_front(list: &mut Vec<u8>, place: usize) -> Result<u8, DecoderError>
     requires { place < length list.old.items }
     ensures cluster { IfOk result (λ c. c ≡ slice_index list.old.items place) }
-    ensures list { OnOk result (list.new.items ≡ insert (remove list.old.items place) 0 (slice_index list.old.items place)) }
+    ensures list { OnOk result (list.new.items
+        ≡ insert (remove list.old.items place) 0 (slice_index list.old.items place)) }
     ensures many { OnOk result (length list.new.items ≡ length list.old.items) }
     ensures err { IfErr result (λ e. e ≡ DecoderError.OutOfMemory) }
 {

@@ -79,7 +79,8 @@ impl Decoder for EntropyDecoder {
         requires cluster { Contains ((entropy decoder_at).cluster_map self.old) cluster }
         requires plain { self.old.codes.lz77 ≡ None }
         ensures gives { (m : ℕ) → RunGives (entropy decoder_at) result self.old self.new (position_of bits.old)
-            (position_of bits.new) ((entropy decoder_at).read self.old (bytes_of bits.old) (position_of bits.old) cluster m) }
+            (position_of bits.new)
+            ((entropy decoder_at).read self.old (bytes_of bits.old) (position_of bits.old) cluster m) }
         ensures bytes { bytes_of bits.new ≡ bytes_of bits.old }
     {
         match self.read_varint_with_multiplier_clustered(bits, cluster, 0) {
