@@ -56,7 +56,7 @@ pub struct PartCoding<'a, D: Decoder> {
 pub struct PartState<S> {
     /// That of the predictors.
     pub predictor: PredictorState<S>,
-    /// Room for a row of each channel.
+    /// Room for a row of each channel that has samples.
     pub row: Vec<S>,
 }
 
@@ -67,7 +67,7 @@ pub struct Ready<S, D: Decoder> {
     pub decoder: D,
     /// The tree as each channel walks it.
     pub flats: Vec<ChannelTree>,
-    /// The state, with room for each channel.
+    /// The state, with room for each channel that has samples.
     pub state: PartState<S>,
 }
 
@@ -90,6 +90,7 @@ pub(crate) fn start_channel<S: Sample, D: Decoder>(
 )
     requires channel { i < length (regions_of coding.now) }
     requires columns { 0 < (region_at (regions_of coding.now) i).width }
+    requires rows { 0 < (region_at (regions_of coding.now) i).height }
     requires coding { IsCodingOf coding.now }
     requires roomy { HasRoom coding.now state.old }
     requires last { IsAfterChannel coding.now i state.old }
