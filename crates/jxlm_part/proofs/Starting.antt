@@ -9,6 +9,7 @@ use Rattle.std.proofs.lemmas.List.{length-append, length-map, get_or_default, ge
 use Rattle.std.proofs.Math.Seq.{get_or-append_seam}
 use Rattle.jxlm_base.specs.declared.subgrid.Region.{Region}
 use Rattle.jxlm_tree.specs.Standing.{HasSameRoom, Setting, Stands, StandsAt, earlier_count, earlier_room_of, setting, weights_of}
+use Rattle.jxlm_ma.specs.FlatTree.{FlatTree, flat_tree}
 use Rattle.jxlm_ma.specs.Tree.{Shape}
 use Rattle.jxlm_ma.specs.declared.flat.Leaf.{Leaf}
 use Rattle.jxlm_tree.specs.declared.predictor.WpHeader.{WpHeader}
@@ -246,6 +247,13 @@ flats_more t stream k flats next h is = record {
       let at : i ≡ length flats = omega (arith, n, less, ge) in
       let it : i ≡ k = omega (arith, less, ge) in
       subst (IsTreeOf (flat t stream i)) (sym (ap (λ n. get_or (flats ++ next ∷ []) n other) at ∙ get_or-append_seam flats next [] other)) (subst (λ n. IsTreeOf (flat t stream n) next) (sym it) is)
+
+-- the flat tree after that of the channel before
+pub flat_next : (t : Shape Leaf) (stream channel : ℕ) (flats : List ChannelTree) (other : ChannelTree) (next : FlatTree) → HasFlats t stream channel flats → 0 < channel →
+    (let last : FlatTree = (get_or flats (channel - 1) other).flat in next ≡ flat_tree last.tree (last.channel + 1) last.stream_idx (last.prev_channels + 1)) → next ≡ flat t stream channel
+flat_next t stream channel flats other next h some is =
+    let tree = h.each (channel - 1) other (omega (arith, some)) in
+    is ∙ ap (λ (u : FlatTree). flat_tree u.tree (u.channel + 1) u.stream_idx (u.prev_channels + 1)) tree.flat_is ∙ ap (flat t stream) (let n : channel - 1 + 1 ≡ channel = omega (arith, some) in n)
 
 -- a state that has room for channels of flat trees has room for those of a part
 pub roomy_for : {D X : Type 0} (c : PartCoding D) (state : PartState X) → IsCodingOf c → IsRoomyFor (row_width c) c.weights c.flats.now state → IsRoomy c state
