@@ -49,38 +49,14 @@ pub enum Undoing {
     },
 }
 
-/// The channel that lies in the region: that of the indices of the last of these palettes that has them there, or one
-/// that stands for itself. The palettes are indices into the list of undoings.
-fn channel_at(
-    alloc: Global,
-    undoings: &[Undoing],
-    palettes: &[usize],
-    region: Region,
-) -> Result<TransformedGrid, OutOfMemory>
-    ensures { IfOk result (λ g. leader_of g ≡ region) }
-{
-    for place in palettes.iter().rev() {
-        if let Some(Undoing::Palette { index, .. }) = undoings.get(*place)
-            && index.leader() == region
-        {
-            return index.try_clone(alloc);
-        }
-    }
-    Ok(TransformedGrid::Single(region))
-}
-
-/// The channels that lie in these regions.
-fn channels_at(
-    alloc: Global,
-    undoings: &[Undoing],
-    palettes: &[usize],
-    regions: &[Region],
-) -> Result<Vec<TransformedGrid>, OutOfMemory>
+/// The channels that lie in these regions. One that holds the indices of an earlier palette is named by its region
+/// alone: what it stands for, the undoing of that palette names.
+fn channels_at(alloc: Global, regions: &[Region]) -> Result<Vec<TransformedGrid>, OutOfMemory>
     ensures { IfOk result (λ v. map leader_of v.items ≡ regions.now) }
 {
     let mut channels = Vec::new(alloc);
     for region in regions {
-        channels.push(channel_at(alloc, undoings, palettes, *region)?)?;
+        channels.push(TransformedGrid::Single(*region))?;
     }
     Ok(channels)
 }
@@ -115,12 +91,10 @@ impl Places {
         }
     }
 
-    /// What undoes a palette after these undoings, of which the ones with the indices `palettes` undo palettes.
+    /// What undoes a palette after these places.
     pub(crate) fn undo_palette(
         &self,
         alloc: Global,
-        undoings: &[Undoing],
-        palettes: &[usize],
         palette: &Palette,
     ) -> Result<Undoing, OutOfMemory>
         requires some_channels { 1 ≤ palette.now.num_c }
@@ -130,7 +104,7 @@ impl Places {
         let begin = palette.begin_c as usize;
         let count = palette.num_c as usize;
         let range = &self.regions[begin..begin + count];
-        let members = channels_at(alloc, undoings, palettes, range)?;
+        let members = channels_at(alloc, range)?;
         let index = merged(range[0], members);
         Ok(Undoing::Palette {
             palette: *palette,
