@@ -5,7 +5,7 @@ ghost use Rattle.std.specs.List.{All};
 ghost use Rattle.jxlm_chain.specs.Grids.{leader_of, members_of};
 ghost use Rattle.jxlm_chain.specs.Layout.{no_region};
 ghost use Rattle.jxlm_chain.specs.Places.{layout_of};
-ghost use Rattle.jxlm_chain.specs.Scratch.{HasRoomFor, HasRoomToUndo, KeepsScratch};
+ghost use Rattle.jxlm_chain.specs.Scratch.{HasRoomFor, HasRoomForCells, HasRoomToUndo, KeepsScratch, have_cells};
 ghost use Rattle.jxlm_chain.specs.Steps.{CanUndo, CanUndoAll, IsNarrowStore};
 ghost use Rattle.jxlm_chain.specs.Undo.{UndoPalette, UndoRct, UndoSqueeze, Undoes, UndoesAll, undo_of};
 ghost use Rattle.jxlm_chain.specs.Undoings.{undo_of_code, undos_of};
@@ -156,7 +156,7 @@ fn run_colour<S: Sample>(
     scratch: &mut Scratch<S>,
 )
     requires can { CanUndo store.old (UndoRct kind regions) }
-    requires room { HasRoomToUndo scratch.old (UndoRct kind regions) }
+    requires room { HasRoomForCells scratch.old (UndoRct kind regions) }
     ensures undoes { (depth : ℕ) → Undoes S.to_int S.width depth (UndoRct kind regions) store.old store.new }
     ensures room { KeepsScratch scratch.old scratch.new }
 {
@@ -175,7 +175,7 @@ fn run_palette<S: Sample>(
     requires can { CanUndo store.old (UndoPalette palette.now table (leader_of index.now) (members_of index.now)) }
     requires narrow { IsNarrowStore store.old }
     requires deep { bit_depth ≤ 32 }
-    requires room { HasRoomToUndo scratch.old (UndoPalette palette.now table (leader_of index.now)
+    requires room { HasRoomForCells scratch.old (UndoPalette palette.now table (leader_of index.now)
         (members_of index.now)) }
     ensures undoes { Undoes S.to_int S.width bit_depth (UndoPalette palette.now table (leader_of index.now)
         (members_of index.now)) store.old store.new }
@@ -201,7 +201,7 @@ fn run_squeeze<S: Sample>(
     scratch: &mut Scratch<S>,
 )
     requires can { CanUndo store.old (UndoSqueeze horizontal region) }
-    requires room { HasRoomToUndo scratch.old (UndoSqueeze horizontal region) }
+    requires room { HasRoomForCells scratch.old (UndoSqueeze horizontal region) }
     ensures undoes { (depth : ℕ) → Undoes S.to_int S.width depth (UndoSqueeze horizontal region) store.old store.new }
     ensures room { KeepsScratch scratch.old scratch.new }
 {
@@ -238,7 +238,46 @@ impl Undoing {
         }
     }
 
-    /// Undoes what it names in a store.
+    /// Whether its regions have cells.
+    pub(crate) fn have_cells(&self) -> bool
+        ensures { result ≡ have_cells (undo_of_code self.now) }
+    {
+        let region = match self {
+            Undoing::Colour { regions, .. } => regions[0],
+            Undoing::Palette { index, .. } => index.leader(),
+            Undoing::Squeeze { region, .. } => *region,
+        };
+        region.width > 0 && region.height > 0
+    }
+
+    /// Undoes it in regions that have cells.
+    fn run_cells<S: Sample>(
+        &self,
+        store: &mut [AlignedGrid<S>],
+        bit_depth: u32,
+        scratch: &mut Scratch<S>,
+    )
+        requires can { CanUndo store.old (undo_of_code self.now) }
+        requires narrow { IsNarrowStore store.old }
+        requires deep { bit_depth ≤ 32 }
+        requires room { HasRoomForCells scratch.old (undo_of_code self.now) }
+        ensures undoes { Undoes S.to_int S.width bit_depth (undo_of_code self.now) store.old store.new }
+        ensures room { KeepsScratch scratch.old scratch.new }
+    {
+        match self {
+            Undoing::Colour { kind, regions } => run_colour(*kind, *regions, store, scratch),
+            Undoing::Palette {
+                palette,
+                table,
+                index,
+            } => run_palette(palette, *table, index, store, bit_depth, scratch),
+            Undoing::Squeeze { horizontal, region } => {
+                run_squeeze(*horizontal, *region, store, scratch);
+            }
+        }
+    }
+
+    /// Undoes what it names in a store; regions without cells have nothing to undo.
     ///
     /// Its regions lie in the store as they must, no side of whose buffers is above 2^30. `bit_depth` is that of the
     /// picture, at most 32. The scratch has room for it, and the weights of a palette that has some. Cells outside
@@ -256,16 +295,8 @@ impl Undoing {
         ensures undoes { Undoes S.to_int S.width bit_depth (undo_of_code self.now) store.old store.new }
         ensures room { KeepsScratch scratch.old scratch.new }
     {
-        match self {
-            Undoing::Colour { kind, regions } => run_colour(*kind, *regions, store, scratch),
-            Undoing::Palette {
-                palette,
-                table,
-                index,
-            } => run_palette(palette, *table, index, store, bit_depth, scratch),
-            Undoing::Squeeze { horizontal, region } => {
-                run_squeeze(*horizontal, *region, store, scratch);
-            }
+        if self.have_cells() {
+            self.run_cells(store, bit_depth, scratch);
         }
     }
 }
