@@ -7,6 +7,7 @@ pub mod LayoutLaws
 pub mod ListLaws
 pub mod Listings
 pub mod ListsApart
+pub mod Nothing
 pub mod OneImage
 pub mod PlacedSteps
 pub mod Preparing

@@ -8,8 +8,8 @@ use Rattle.jxlm_base.specs.Regions.{Lies}
 use Rattle.jxlm_base.specs.declared.subgrid.Region.{Region}
 use Rattle.jxlm_tree.specs.Standing.{HasSameRoom}
 use Rattle.jxlm_tree.specs.declared.predictor.WpHeader.{WpHeader}
-use Rattle.jxlm_chain.specs.Scratch.{HasRoomFor, HasRoomToUndo, IsNarrow, IsNarrowUndo, KeepsScratch, state_for}
-use Rattle.jxlm_chain.specs.Inner.Needs.{AreNarrow, Covers, columns_for, larger_needs}
+use Rattle.jxlm_chain.specs.Scratch.{HasRoomFor, HasRoomForCells, IsNarrow, IsNarrowUndo, KeepsScratch, state_for}
+use Rattle.jxlm_chain.specs.Inner.Needs.{AreNarrow, Covers, CoversCells, columns_for, larger_needs}
 use Rattle.jxlm_chain.specs.Steps.{CanUndo, CanUndoAll, IsNarrowStore}
 use Rattle.jxlm_chain.specs.Undo.{Undo, UndoRct, UndoPalette, UndoSqueeze}
 use Rattle.jxlm_chain.specs.declared.scratch.Needs.{Needs}
@@ -26,15 +26,21 @@ columns_right a b None = omega arith
 columns_right a b (Some weights) = omega arith
 
 -- the larger of two needs covers what each of them covers
+cells_left : (a b : Needs) (u : Undo) → CoversCells a u → CoversCells (larger_needs a b) u
+cells_left a b (UndoRct kind regions) h = omega arith
+cells_left a b (UndoPalette t table index regions) (h, k) = let more = columns_left a b t.wp_header in (omega (arith, more, h), omega (arith, k))
+cells_left a b (UndoSqueeze horizontal r) h = omega arith
+
+cells_right : (a b : Needs) (u : Undo) → CoversCells b u → CoversCells (larger_needs a b) u
+cells_right a b (UndoRct kind regions) h = omega arith
+cells_right a b (UndoPalette t table index regions) (h, k) = let more = columns_right a b t.wp_header in (omega (arith, more, h), omega (arith, k))
+cells_right a b (UndoSqueeze horizontal r) h = omega arith
+
 pub covers_left : (a b : Needs) (u : Undo) → Covers a u → Covers (larger_needs a b) u
-covers_left a b (UndoRct kind regions) h = omega arith
-covers_left a b (UndoPalette t table index regions) (h, k) = let more = columns_left a b t.wp_header in (omega (arith, more, h), omega (arith, k))
-covers_left a b (UndoSqueeze horizontal r) h = omega arith
+covers_left a b u h = λ some. cells_left a b u (h some)
 
 pub covers_right : (a b : Needs) (u : Undo) → Covers b u → Covers (larger_needs a b) u
-covers_right a b (UndoRct kind regions) h = omega arith
-covers_right a b (UndoPalette t table index regions) (h, k) = let more = columns_right a b t.wp_header in (omega (arith, more, h), omega (arith, k))
-covers_right a b (UndoSqueeze horizontal r) h = omega arith
+covers_right a b u h = λ some. cells_right a b u (h some)
 
 -- one undoing more is covered
 pub covers_more : (us : List Undo) (i : ℕ) (a b both : Needs) (u : Undo) → both ≡ larger_needs a b → i < length us → u ≡ get_or us i u → ((k : ℕ) (d : Undo) → k < i → Covers a (get_or us k d)) → Covers b u →
@@ -100,7 +106,7 @@ module _ {S : Type 0} where
   state_kept a b (Some weights) k = k.weighted
 
   -- room to undo is still there in a scratch of as much room
-  room_still : (a b : Scratch S) (u : Undo) → KeepsScratch a b → HasRoomToUndo a u → HasRoomToUndo b u
+  room_still : (a b : Scratch S) (u : Undo) → KeepsScratch a b → HasRoomForCells a u → HasRoomForCells b u
   room_still a b (UndoRct kind regions) k h =
       let p = k.rows.first in
       let q = k.rows.second in
@@ -119,4 +125,4 @@ module _ {S : Type 0} where
   room_still a b (UndoSqueeze horizontal r) k h = let l = k.line in omega (arith, l, h)
 
   pub room_kept : (us : List Undo) (a b : Scratch S) → KeepsScratch a b → HasRoomFor us a → HasRoomFor us b
-  room_kept us a b k room = λ i d l. room_still a b (get_or us i d) k (room i d l)
+  room_kept us a b k room = λ i d l some. room_still a b (get_or us i d) k (room i d l some)

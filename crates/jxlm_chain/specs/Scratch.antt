@@ -1,5 +1,5 @@
 -- Room for undoing.
-use Rattle.std.specs.Prelude.{◌≡◌, ◌+◌, ◌≤◌, List, Option, Some, None, get_or, length, max, vec_len}
+use Rattle.std.specs.Prelude.{◌≡◌, ◌+◌, ◌≤◌, ◌&&◌, nat_lt, Bool, true, List, Option, Some, None, get_or, length, max, vec_len}
 use Rattle.std.specs.List.{All}
 use Rattle.jxlm_base.specs.declared.subgrid.Region.{Region}
 use Rattle.jxlm_tree.specs.Standing.{HasSameRoom, room_of, weights_of}
@@ -21,19 +21,33 @@ IsNarrowUndo (UndoRct kind regions) = Unit {0}
 IsNarrowUndo (UndoPalette t table index regions) = IsNarrow index
 IsNarrowUndo (UndoSqueeze horizontal r) = IsNarrow r
 
+-- a region of an undoing, which all its regions with samples are as large as
+abbrev pub region_of : Undo → Region
+region_of (UndoRct kind regions) = get_or regions 0 no_region
+region_of (UndoPalette t table index regions) = index
+region_of (UndoSqueeze horizontal r) = r
+
+-- its regions have cells
+abbrev pub have_cells : Undo → Bool
+have_cells u = nat_lt 0 (region_of u).width && nat_lt 0 (region_of u).height
+
 module _ {S : Type 0} where
   -- the state that predicts for palettes of these weights
   abbrev pub state_for : Option WpHeader → Scratch S → PredictorState S
   state_for None scratch = scratch.plain
   state_for (Some weights) scratch = scratch.weighted
 
-  -- there is room for an undoing: three rows; a state with the palette's weights, and its regions; a row, and a
-  -- column with a sample more
-  abbrev pub HasRoomToUndo : Scratch S → Undo → Type 0
-  HasRoomToUndo scratch (UndoRct kind regions) = HasRoom scratch.rows (get_or regions 0 no_region).width
-  HasRoomToUndo scratch (UndoPalette t table index regions) =
+  -- there is room for an undoing of regions with cells: three rows; a state with the palette's weights, and its
+  -- regions; a row, and a column with a sample more
+  abbrev pub HasRoomForCells : Scratch S → Undo → Type 0
+  HasRoomForCells scratch (UndoRct kind regions) = HasRoom scratch.rows (get_or regions 0 no_region).width
+  HasRoomForCells scratch (UndoPalette t table index regions) =
       (index.width ≤ room_of (state_for t.wp_header scratch)) × (weights_of (state_for t.wp_header scratch) ≡ t.wp_header) × (length regions ≤ vec_len scratch.members)
-  HasRoomToUndo scratch (UndoSqueeze horizontal r) = max r.width (r.height + 1) ≤ vec_len scratch.line
+  HasRoomForCells scratch (UndoSqueeze horizontal r) = max r.width (r.height + 1) ≤ vec_len scratch.line
+
+  -- there is room for an undoing: regions without cells take none
+  abbrev pub HasRoomToUndo : Scratch S → Undo → Type 0
+  HasRoomToUndo scratch u = have_cells u ≡ true → HasRoomForCells scratch u
 
   -- there is room for each undoing
   abbrev pub HasRoomFor : List Undo → Scratch S → Type 0

@@ -32,8 +32,6 @@ pub struct PlacedChannels {
     pub tables: Vec<Region>,
     /// What undoes the transforms, in their order: the last is run first.
     pub undoings: Vec<Undoing>,
-    /// The indices in that list of what undoes a palette.
-    palettes: Vec<usize>,
 }
 
 impl PlacedChannels {
@@ -52,7 +50,6 @@ impl PlacedChannels {
             places,
             tables: Vec::new(alloc),
             undoings: Vec::new(alloc),
-            palettes: Vec::new(alloc),
         }
     }
 
@@ -98,10 +95,7 @@ impl PlacedChannels {
         ensures goes { IfOk result (λ _. GoesOn (PaletteStep palette.now ∷ []) self.old self.new) }
     {
         palette.transform_channel_info(alloc, &mut self.channels)?;
-        let undoing = self
-            .places
-            .undo_palette(alloc, &self.undoings, &self.palettes, palette)?;
-        self.palettes.push(self.undoings.len())?;
+        let undoing = self.places.undo_palette(alloc, palette)?;
         self.undoings.push(undoing)?;
         self.tables.push(self.places.table(palette))?;
         self.places.index(alloc, palette)?;

@@ -4,7 +4,7 @@ ghost use Rattle.std.specs.Prelude.{◌≡◌, ◌+◌, ◌^◌, ◌<◌, ◌≤
 ghost use Rattle.std.specs.List.{All};
 ghost use Rattle.jxlm_base.specs.ErrorKind.{NoMemory, kind_of};
 ghost use Rattle.jxlm_chain.specs.Scratch.{HasRoomFor, IsNarrow, IsNarrowUndo};
-ghost use Rattle.jxlm_chain.specs.Inner.Needs.{AreNarrow, Covers, larger_needs};
+ghost use Rattle.jxlm_chain.specs.Inner.Needs.{AreNarrow, Covers, CoversCells, larger_needs};
 ghost use Rattle.jxlm_chain.specs.Undoings.{SuitsWeights, undo_of_code, undos_of};
 ghost use Rattle.jxlm_tree.specs.SelfCorrecting.{IsHeader};
 
@@ -97,10 +97,10 @@ fn larger(a: Needs, b: Needs) -> Needs
 }
 
 impl Undoing {
-    /// What it takes.
-    fn needs(&self) -> Needs
+    /// What it takes, where its regions have cells.
+    fn needs_of_cells(&self) -> Needs
         requires { IsNarrowUndo (undo_of_code self.now) }
-        ensures covers { Covers result (undo_of_code self.now) }
+        ensures covers { CoversCells result (undo_of_code self.now) }
         ensures narrow { AreNarrow result }
     {
         match self {
@@ -129,6 +129,20 @@ impl Undoing {
                 ..NOTHING
             },
         }
+    }
+}
+
+impl Undoing {
+    /// What it takes: nothing, where its regions have no cells.
+    fn needs(&self) -> Needs
+        requires { IsNarrowUndo (undo_of_code self.now) }
+        ensures covers { Covers result (undo_of_code self.now) }
+        ensures narrow { AreNarrow result }
+    {
+        if self.have_cells() {
+            return self.needs_of_cells();
+        }
+        NOTHING
     }
 }
 

@@ -5,7 +5,7 @@ ghost use Rattle.std.specs.List.{All};
 ghost use Rattle.jxlm_chain.specs.Grids.{leader_of, members_of};
 ghost use Rattle.jxlm_chain.specs.Layout.{no_region};
 ghost use Rattle.jxlm_chain.specs.Places.{layout_of};
-ghost use Rattle.jxlm_chain.specs.Scratch.{HasRoomFor, HasRoomToUndo, KeepsScratch};
+ghost use Rattle.jxlm_chain.specs.Scratch.{HasRoomFor, HasRoomForCells, HasRoomToUndo, KeepsScratch, have_cells};
 ghost use Rattle.jxlm_chain.specs.Steps.{CanUndo, CanUndoAll, IsNarrowStore};
 ghost use Rattle.jxlm_chain.specs.Undo.{UndoPalette, UndoRct, UndoSqueeze, Undoes, UndoesAll, undo_of};
 ghost use Rattle.jxlm_chain.specs.Undoings.{undo_of_code, undos_of};
@@ -49,38 +49,14 @@ pub enum Undoing {
     },
 }
 
-/// The channel that lies in the region: that of the indices of the last of these palettes that has them there, or one
-/// that stands for itself. The palettes are indices into the list of undoings.
-fn channel_at(
-    alloc: Global,
-    undoings: &[Undoing],
-    palettes: &[usize],
-    region: Region,
-) -> Result<TransformedGrid, OutOfMemory>
-    ensures { IfOk result (λ g. leader_of g ≡ region) }
-{
-    for place in palettes.iter().rev() {
-        if let Some(Undoing::Palette { index, .. }) = undoings.get(*place)
-            && index.leader() == region
-        {
-            return index.try_clone(alloc);
-        }
-    }
-    Ok(TransformedGrid::Single(region))
-}
-
-/// The channels that lie in these regions.
-fn channels_at(
-    alloc: Global,
-    undoings: &[Undoing],
-    palettes: &[usize],
-    regions: &[Region],
-) -> Result<Vec<TransformedGrid>, OutOfMemory>
+/// The channels that lie in these regions. One that holds the indices of an earlier palette is named by its region
+/// alone: what it stands for, the undoing of that palette names.
+fn channels_at(alloc: Global, regions: &[Region]) -> Result<Vec<TransformedGrid>, OutOfMemory>
     ensures { IfOk result (λ v. map leader_of v.items ≡ regions.now) }
 {
     let mut channels = Vec::new(alloc);
     for region in regions {
-        channels.push(channel_at(alloc, undoings, palettes, *region)?)?;
+        channels.push(TransformedGrid::Single(*region))?;
     }
     Ok(channels)
 }
@@ -115,12 +91,10 @@ impl Places {
         }
     }
 
-    /// What undoes a palette after these undoings, of which the ones with the indices `palettes` undo palettes.
+    /// What undoes a palette after these places.
     pub(crate) fn undo_palette(
         &self,
         alloc: Global,
-        undoings: &[Undoing],
-        palettes: &[usize],
         palette: &Palette,
     ) -> Result<Undoing, OutOfMemory>
         requires some_channels { 1 ≤ palette.now.num_c }
@@ -130,7 +104,7 @@ impl Places {
         let begin = palette.begin_c as usize;
         let count = palette.num_c as usize;
         let range = &self.regions[begin..begin + count];
-        let members = channels_at(alloc, undoings, palettes, range)?;
+        let members = channels_at(alloc, range)?;
         let index = merged(range[0], members);
         Ok(Undoing::Palette {
             palette: *palette,
@@ -182,7 +156,7 @@ fn run_colour<S: Sample>(
     scratch: &mut Scratch<S>,
 )
     requires can { CanUndo store.old (UndoRct kind regions) }
-    requires room { HasRoomToUndo scratch.old (UndoRct kind regions) }
+    requires room { HasRoomForCells scratch.old (UndoRct kind regions) }
     ensures undoes { (depth : ℕ) → Undoes S.to_int S.width depth (UndoRct kind regions) store.old store.new }
     ensures room { KeepsScratch scratch.old scratch.new }
 {
@@ -201,7 +175,7 @@ fn run_palette<S: Sample>(
     requires can { CanUndo store.old (UndoPalette palette.now table (leader_of index.now) (members_of index.now)) }
     requires narrow { IsNarrowStore store.old }
     requires deep { bit_depth ≤ 32 }
-    requires room { HasRoomToUndo scratch.old (UndoPalette palette.now table (leader_of index.now)
+    requires room { HasRoomForCells scratch.old (UndoPalette palette.now table (leader_of index.now)
         (members_of index.now)) }
     ensures undoes { Undoes S.to_int S.width bit_depth (UndoPalette palette.now table (leader_of index.now)
         (members_of index.now)) store.old store.new }
@@ -227,7 +201,7 @@ fn run_squeeze<S: Sample>(
     scratch: &mut Scratch<S>,
 )
     requires can { CanUndo store.old (UndoSqueeze horizontal region) }
-    requires room { HasRoomToUndo scratch.old (UndoSqueeze horizontal region) }
+    requires room { HasRoomForCells scratch.old (UndoSqueeze horizontal region) }
     ensures undoes { (depth : ℕ) → Undoes S.to_int S.width depth (UndoSqueeze horizontal region) store.old store.new }
     ensures room { KeepsScratch scratch.old scratch.new }
 {
@@ -264,7 +238,46 @@ impl Undoing {
         }
     }
 
-    /// Undoes what it names in a store.
+    /// Whether its regions have cells.
+    pub(crate) fn have_cells(&self) -> bool
+        ensures { result ≡ have_cells (undo_of_code self.now) }
+    {
+        let region = match self {
+            Undoing::Colour { regions, .. } => regions[0],
+            Undoing::Palette { index, .. } => index.leader(),
+            Undoing::Squeeze { region, .. } => *region,
+        };
+        region.width > 0 && region.height > 0
+    }
+
+    /// Undoes it in regions that have cells.
+    fn run_cells<S: Sample>(
+        &self,
+        store: &mut [AlignedGrid<S>],
+        bit_depth: u32,
+        scratch: &mut Scratch<S>,
+    )
+        requires can { CanUndo store.old (undo_of_code self.now) }
+        requires narrow { IsNarrowStore store.old }
+        requires deep { bit_depth ≤ 32 }
+        requires room { HasRoomForCells scratch.old (undo_of_code self.now) }
+        ensures undoes { Undoes S.to_int S.width bit_depth (undo_of_code self.now) store.old store.new }
+        ensures room { KeepsScratch scratch.old scratch.new }
+    {
+        match self {
+            Undoing::Colour { kind, regions } => run_colour(*kind, *regions, store, scratch),
+            Undoing::Palette {
+                palette,
+                table,
+                index,
+            } => run_palette(palette, *table, index, store, bit_depth, scratch),
+            Undoing::Squeeze { horizontal, region } => {
+                run_squeeze(*horizontal, *region, store, scratch);
+            }
+        }
+    }
+
+    /// Undoes what it names in a store; regions without cells have nothing to undo.
     ///
     /// Its regions lie in the store as they must, no side of whose buffers is above 2^30. `bit_depth` is that of the
     /// picture, at most 32. The scratch has room for it, and the weights of a palette that has some. Cells outside
@@ -282,16 +295,8 @@ impl Undoing {
         ensures undoes { Undoes S.to_int S.width bit_depth (undo_of_code self.now) store.old store.new }
         ensures room { KeepsScratch scratch.old scratch.new }
     {
-        match self {
-            Undoing::Colour { kind, regions } => run_colour(*kind, *regions, store, scratch),
-            Undoing::Palette {
-                palette,
-                table,
-                index,
-            } => run_palette(palette, *table, index, store, bit_depth, scratch),
-            Undoing::Squeeze { horizontal, region } => {
-                run_squeeze(*horizontal, *region, store, scratch);
-            }
+        if self.have_cells() {
+            self.run_cells(store, bit_depth, scratch);
         }
     }
 }

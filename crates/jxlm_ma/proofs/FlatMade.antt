@@ -1,13 +1,15 @@
 -- What is known of the nodes of a whole tree.
-use Rattle.std.proofs.Common.{◌≡◌, ◌∙◌, ℕ, ℤ, ◌+◌, ◌<◌, ◌≤◌, ◌^◌, Bool, List, [], length, reverse, Result, Ok, IfOk, refl, ap, subst, arith}
+use Rattle.std.proofs.Common.{◌≡◌, ◌∙◌, ℕ, ℤ, pos, ◌+ℤ◌, w32, ◌+◌, ◌<◌, ◌≤◌, ◌^◌, Bool, List, [], length, reverse, Result, Ok, IfOk, refl, sym, ap, subst, arith}
+use Rattle.std.specs.Int.{int_wrap}
 use Rattle.std.specs.List.{list_any}
+use Rattle.std.proofs.lemmas.Int.{int_wrap_fits, ints}
 use Rattle.std.proofs.lemmas.List.{length-reverse}
 use Rattle.jxlm_ma.specs.FlatTree.{HasMultiplier}
-use Rattle.jxlm_ma.specs.Inner.Compiled.{IsCompiled}
+use Rattle.jxlm_ma.specs.Inner.Compiled.{IsCompiled, IsLeftAlike}
 use Rattle.jxlm_ma.specs.Inner.FlatNodes.{Compiles, most_channels, sees_error}
 use Rattle.jxlm_ma.specs.Inner.FlatShapes.{size}
 use Rattle.jxlm_ma.specs.Inner.Marked.{AreMarks, IsMarked, marked_shape}
-use Rattle.jxlm_ma.specs.Inner.Pruned.{pruned}
+use Rattle.jxlm_ma.specs.Inner.Pruned.{later, pruned}
 use Rattle.jxlm_ma.specs.Tree.{AllLeaves, Shape, leaf, decision, node_count}
 use Rattle.jxlm_ma.specs.declared.marks.Known.{Known}
 use Rattle.jxlm_ma.specs.declared.marks.Marked.{Marked}
@@ -48,6 +50,28 @@ ok_at P r x e h = subst (λ s. IfOk s P) e h
 
 abbrev pub known_by : ℤ → ℤ → ℕ → Known
 known_by channel stream earlier = record { channel = channel; stream = stream; prev_channels = earlier }
+
+-- a channel that decisions do not read as negative, read as a number
+reads : (n : ℕ) → n < 2 ^ 31 → int_wrap w32 (pos n) ≡ pos n
+reads n few = int_wrap_fits w32 (pos n) (record { sfits = few })
+
+later-reads : (channel k : ℕ) → channel + k < 2 ^ 31 → int_wrap w32 (pos channel) +ℤ pos k ≡ int_wrap w32 (pos (channel + k))
+later-reads channel k few =
+    let one = reads channel (omega arith) in
+    let other = reads (channel + k) few in
+    grind (arith, ints)
+
+-- the channels for which the same is left of a tree, by their numbers
+pub alike-up-to : (t : Shape Leaf) (channel stream earlier most last : ℕ) (z y : ℤ) → z ≡ int_wrap w32 (pos channel) → y ≡ int_wrap w32 (pos stream) →
+    ((k : ℕ) → k ≤ most → pruned (later (known_by z y earlier) k) t ≡ pruned (known_by z y earlier) t) →
+    last ≤ channel + most → last < 2 ^ 31 → IsLeftAlike t channel stream earlier last
+alike-up-to t channel stream earlier most last z y at_channel at_stream same within signed = λ k less.
+    let there : z +ℤ pos k ≡ int_wrap w32 (pos (channel + k)) = ap (λ (i : ℤ). i +ℤ pos k) at_channel ∙ later-reads channel k (omega arith) in
+    ap (λ (i : ℤ). pruned (known_by i (int_wrap w32 (pos stream)) (earlier + k)) t) (sym there)
+    ∙ ap (λ (i : ℤ). pruned (known_by (z +ℤ pos k) i (earlier + k)) t) (sym at_stream)
+    ∙ same k (omega arith)
+    ∙ ap (λ (i : ℤ). pruned (known_by i y earlier) t) at_channel
+    ∙ ap (λ (i : ℤ). pruned (known_by (int_wrap w32 (pos channel)) i earlier) t) at_stream
 
 -- the nodes of a tree, known by the same numbers
 pub made_of : (t : Shape Leaf) (channel channel1 stream stream1 : ℤ) (earlier : ℕ) (before nodes : List FlatNode) (root : ℕ) → before ≡ [] → channel1 ≡ channel → stream1 ≡ stream →

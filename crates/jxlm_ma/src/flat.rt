@@ -22,6 +22,7 @@ ghost use Rattle.jxlm_ma.specs.Inner.Walking.{Ended, EndsAt};
 ghost use Rattle.jxlm_base.specs.ErrorKind.{NoMemory, kind_of};
 ghost use Rattle.jxlm_ma.specs.Inner.TreeShape.{shape_of};
 
+use crate::alike::channels_alike;
 use crate::compile::compile;
 use crate::marks::{Known, mark};
 use crate::paths::ClusterTable;
@@ -107,6 +108,8 @@ pub(crate) struct CompiledTree {
     pub(crate) need_self_correcting: bool,
     pub(crate) prev_channels_named: u32,
     pub(crate) table: Option<ClusterTable>,
+    /// The last channel that it serves, if each channel after the first has one earlier channel more.
+    pub(crate) last_alike: u32,
 }
 
 /// A tree, compiled for the samples of one channel of one stream (ISO/IEC 18181-1, Modular:
@@ -214,6 +217,14 @@ impl FlatNode {
     }
 }
 
+// The channel that comes so many after another, or the last one whose number decisions do not read as negative.
+fn last_channel(channel: u32, more: u32) -> u32
+    ensures within { result ≤ channel + more }
+    ensures signed { result < 2 ^ 31 }
+{
+    channel.saturating_add(more).min(i32::MAX as u32)
+}
+
 impl CompiledTree {
     /// The tree, compiled for the samples of a channel.
     pub(crate) fn new(
@@ -241,12 +252,14 @@ impl CompiledTree {
             .iter()
             .fold(0, |most: u32, node| most.max(node.earlier_named()));
         let table = ClusterTable::of(alloc, &nodes, root).map_err(|_| OutOfMemory)?;
+        let last_alike = last_channel(channel, channels_alike(&tree.root, &known));
         Ok(CompiledTree {
             nodes,
             root,
             need_self_correcting,
             prev_channels_named,
             table,
+            last_alike,
         })
     }
 
@@ -305,6 +318,32 @@ impl CompiledTree {
 }
 
 impl FlatMaTree {
+    /// The same tree as the samples of the next channel walk it, which has one earlier channel more. It shares the
+    /// nodes of this one, where each decision that is known beforehand is taken alike for both channels; it is none
+    /// where one may not be.
+    ///
+    /// # Errors
+    ///
+    /// `Buffer` if it is out of memory, and no other.
+    pub fn for_next_channel(&self) -> Result<Option<FlatMaTree>>
+        ensures next { IfOk result (λ o. IfSome o (λ t. t
+            ≡ flat_tree self.now.tree (self.now.channel + 1) self.now.stream_idx (self.now.prev_channels + 1))) }
+        ensures err { IfErr result (λ e. kind_of e ≡ NoMemory) }
+    {
+        if self.channel >= self.compiled.last_alike || self.prev_channels == u32::MAX {
+            return Ok(None);
+        }
+        let tree = self.tree.clone().map_err(|_| OutOfMemory)?;
+        let compiled = self.compiled.clone().map_err(|_| OutOfMemory)?;
+        Ok(Some(FlatMaTree {
+            tree,
+            compiled,
+            channel: self.channel + 1,
+            stream_idx: self.stream_idx,
+            prev_channels: self.prev_channels + 1,
+        }))
+    }
+
     /// How many nodes the compiled tree has, tables among them: 1 where no decision is left.
     pub fn num_nodes(&self) -> usize
         ensures count { result ≡ flat_nodes self.now }

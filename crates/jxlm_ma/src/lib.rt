@@ -1,6 +1,7 @@
 //! Meta-adaptive trees: how they are read, and how they are compiled for the samples of one channel.
 #![tactic(auto)]
 
+mod alike;
 mod build;
 mod compile;
 pub mod flat;

@@ -21,7 +21,7 @@ pub struct Known {
 }
 
 // The value of a property, where it is known.
-fn known_value(known: &Known, property: u32) -> Option<i32>
+pub(crate) fn known_value(known: &Known, property: u32) -> Option<i32>
     ensures { result ≡ known_of known.now property }
 {
     if property == 0 {

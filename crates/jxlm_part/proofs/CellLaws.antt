@@ -29,7 +29,7 @@ use Rattle.jxlm_tree.proofs.EarlierLaws.{in_state, of_setting}
 use Rattle.jxlm_tree.proofs.StandingLaws.{stands_row}
 use Rattle.jxlm_part.specs.Coded.{next_prediction, sample_of}
 use Rattle.jxlm_part.specs.Part.{channel, max_width, no_channel}
-use Rattle.jxlm_part.specs.Reading.{FindsClusters, HasRoom, IsCodingOf, IsTreeOf, are_weighted, cost_of, flat, part_of, regions_of}
+use Rattle.jxlm_part.specs.Reading.{FindsClusters, HasRoom, IsCodingOf, IsTreeOf, are_weighted, cost_of, flat, part_of, regions_of, row_width}
 use Rattle.jxlm_part.specs.Inner.Cells.{ReadsNext, FailsNext, leaf_at, predicted_at}
 use Rattle.jxlm_part.specs.Inner.Channels.{StandsAfter, asked_at, handed, region_at, setting_of}
 use Rattle.jxlm_part.specs.Progress.{grids_in}
@@ -104,7 +104,7 @@ module _ {D : Type 0} (c : PartCoding D) (coding : IsCodingOf c) (i : ℕ) (li :
 
   pub roomy_still : {X : Type 0} (old new : PredictorState X) → HasSameRoom old new → HasRoom c old → HasRoom c new
   roomy_still old new same h = record {
-    widest = subst (λ n. c.widest ≤ n) (sym same.same_room) h.widest;
+    widest = subst (λ n. row_width c ≤ n) (sym same.same_room) h.widest;
     earlier = subst (λ n. length (regions_of c) ≤ n) (sym same.same_earlier_room) h.earlier;
     weights = same.same_weights ∙ h.weights;
   }

@@ -41,7 +41,7 @@ module _ {D S : Type 0} (p : PlacedPart D) (store : List (Grid S)) (lies : PartL
 
   -- the state has room for its samples
   pub placed_roomy : IsRoomy c r.state
-  placed_roomy = roomy_for c r.state placed_coding (rw (widest, weights, flats) ready.roomy)
+  placed_roomy = roomy_for c r.state placed_coding (rw (channels, weights, flats) ready.roomy)
 
 none_is : (n : ℕ) → (0 < n → ⊥) → n ≡ 0
 none_is zero h = refl

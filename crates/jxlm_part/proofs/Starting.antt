@@ -1,21 +1,23 @@
 -- How a state is set for a channel, and what is made ready for it.
 use Rattle.std.proofs.Common.{◌≡◌, ℕ, zero, suc, ◌+◌, ◌-◌, ◌^◌, ◌<◌, ◌≤◌, ◌⊎◌, inl, inr, List, [], ◌∷◌, ◌++◌, length, map, Bool, true, false, if◌then◌else◌, Option, refl, sym, ap, ◌∙◌, subst, arith, get_or, slice_index_or, ℤ}
-use Rattle.std.specs.Prelude.{filter}
+use Rattle.std.specs.Prelude.{◌==◌, filter, max}
 use Rattle.std.specs.List.{All}
 use Rattle.std.proofs.lemmas.Bool.{cases_lt}
+use Rattle.std.proofs.lemmas.Bool.Decides.{nat_tests}
 use Rattle.std.proofs.lemmas.List.Elements.{All-head, All-tail}
 use Rattle.std.proofs.lemmas.List.{length-append, length-map, get_or_default, get_or_append_left}
 use Rattle.std.proofs.Math.Seq.{get_or-append_seam}
 use Rattle.jxlm_base.specs.declared.subgrid.Region.{Region}
 use Rattle.jxlm_tree.specs.Standing.{HasSameRoom, Setting, Stands, StandsAt, earlier_count, earlier_room_of, setting, weights_of}
+use Rattle.jxlm_ma.specs.FlatTree.{FlatTree, flat_tree}
 use Rattle.jxlm_ma.specs.Tree.{Shape}
 use Rattle.jxlm_ma.specs.declared.flat.Leaf.{Leaf}
 use Rattle.jxlm_tree.specs.declared.predictor.WpHeader.{WpHeader}
 use Rattle.jxlm_tree.specs.declared.state.PredictorState.{PredictorState}
 use Rattle.jxlm_tree.proofs.StandingLaws.{stands_earlier}
 use Rattle.jxlm_transform.specs.Channels.{Channel, IsNarrow}
-use Rattle.jxlm_part.specs.Part.{channel, no_channel, downward, earlier_alike, max_width, is_alike}
-use Rattle.jxlm_part.specs.Reading.{HasFlats, HasRoom, IsCodingOf, IsRoomy, IsRoomyFor, IsTreeOf, flat, part_of, regions_of, weights_used}
+use Rattle.jxlm_part.specs.Part.{channel, no_channel, downward, earlier_alike, is_alike}
+use Rattle.jxlm_part.specs.Reading.{HasFlats, HasRoom, IsCodingOf, IsRoomy, IsRoomyFor, IsTreeOf, flat, part_of, regions_of, row_width, sampled_width, weights_used}
 use Rattle.jxlm_part.specs.Inner.Channels.{IsAfterChannel, StandsIn, all_alike, asked_at, earlier_regions, handed, region_at, setting_of}
 use Rattle.jxlm_part.specs.declared.coding.ChannelTree.{ChannelTree}
 use Rattle.jxlm_part.specs.declared.coding.PartCoding.{PartCoding}
@@ -24,19 +26,38 @@ use Rattle.jxlm_part.proofs.CellLaws.{roomy_still, tree_at}
 use Rattle.jxlm_part.proofs.Earlier.{few, few_earlier, same_alike, same_sides}
 use Rattle.jxlm_part.proofs.Loops.{same_count, same_size}
 
--- no channel is wider than the widest
-pub within_widest : (channels : List Channel) (i : ℕ) → i < length channels → (channel channels i).width ≤ max_width channels
-within_widest [] i l = absurd (omega arith)
-within_widest (c ∷ cs) zero l = omega arith
-within_widest (c ∷ cs) (suc i) l = let h = within_widest cs i (omega arith) in omega (arith, h)
+max_first : (one rest : ℕ) → one ≤ max one rest
+max_first one rest = omega arith
 
--- where all channels are narrow, so is the widest
-pub narrow_widest : (channels : List Channel) → All IsNarrow channels → max_width channels ≤ 2 ^ 30
+max_rest : (one rest n : ℕ) → n ≤ rest → n ≤ max one rest
+max_rest one rest n h = omega arith
+
+max_below : (one rest n : ℕ) → one ≤ n → rest ≤ n → max one rest ≤ n
+max_below one rest n h k = omega arith
+
+-- the width of a channel with rows, and 0 for one without
+row_by : (none : Bool) (width rest : ℕ) → none ≡ false → width ≤ max (if none then 0 else width) rest
+row_by true width rest some = cc
+row_by false width rest some = max_first width rest
+
+row_of : (height width rest : ℕ) → 0 < height → width ≤ max (if height == 0 then 0 else width) rest
+row_of height width rest some = row_by (height == 0) width rest (grind (arith, nat_tests))
+
+row_within : (none : Bool) (width n : ℕ) → width ≤ n → (if none then 0 else width) ≤ n
+row_within true width n h = omega arith
+row_within false width n h = h
+
+-- no channel with rows is wider than the widest of them
+pub within_widest : (channels : List Channel) (i : ℕ) → i < length channels → 0 < (channel channels i).height → (channel channels i).width ≤ sampled_width channels
+within_widest [] i l some = absurd (omega arith)
+within_widest (c ∷ cs) zero l some = row_of c.height c.width (sampled_width cs) some
+within_widest (c ∷ cs) (suc i) l some = max_rest (if c.height == 0 then 0 else c.width) (sampled_width cs) _ (within_widest cs i (omega arith) some)
+
+-- where all channels are narrow, so is the widest with rows
+pub narrow_widest : (channels : List Channel) → All IsNarrow channels → sampled_width channels ≤ 2 ^ 30
 narrow_widest [] h = omega arith
 narrow_widest (c ∷ cs) h =
-    let first = (All-head IsNarrow c cs h).0 in
-    let rest = narrow_widest cs (All-tail IsNarrow c cs h) in
-    omega (arith, first, rest)
+    max_below (if c.height == 0 then 0 else c.width) (sampled_width cs) (2 ^ 30) (row_within (c.height == 0) c.width (2 ^ 30) (All-head IsNarrow c cs h).0) (narrow_widest cs (All-tail IsNarrow c cs h))
 
 -- where a tree asks for earlier channels, all are given
 pub some_asked : (n : ℕ) (all : List Region) → 0 < n → handed n all ≡ all
@@ -112,13 +133,13 @@ module _ {D : Type 0} (c : PartCoding D) (coding : IsCodingOf c) where
   pub as_many_channels : length c.channels.now ≡ length (regions_of c)
   as_many_channels = same_count (part_of c).channels (regions_of c) coding.sizes
 
-  pub fits_widest : (i : ℕ) → i < length (regions_of c) → (region_at (regions_of c) i).width ≤ c.widest
-  fits_widest i li =
+  pub fits_widest : (i : ℕ) → i < length (regions_of c) → 0 < (region_at (regions_of c) i).height → (region_at (regions_of c) i).width ≤ row_width c
+  fits_widest i li rows =
       let count = same_count (part_of c).channels (regions_of c) coding.sizes in
-      let same = (same_size (part_of c).channels (regions_of c) i coding.sizes li).0 in
-      let most = within_widest (part_of c).channels i (omega (arith, count, li)) in
-      let widest = coding.widest in
-      omega (arith, same, most, widest)
+      let sizes = same_size (part_of c).channels (regions_of c) i coding.sizes li in
+      let same = sizes.0 in
+      let most = within_widest (part_of c).channels i (omega (arith, count, li)) (subst (λ n. 0 < n) sizes.1 rows) in
+      omega (arith, same, most)
 
 module _ {D : Type 0} (c : PartCoding D) (coding : IsCodingOf c) (i : ℕ) (li : i < length (regions_of c)) (last : ℕ) (next : i ≡ last + 1) (alike : passes c i last ≡ true) where
   -- the channel before is as wide
@@ -127,9 +148,15 @@ module _ {D : Type 0} (c : PartCoding D) (coding : IsCodingOf c) (i : ℕ) (li :
       (same_size (part_of c).channels (regions_of c) last coding.sizes (omega (arith, next, li))).0 ∙ (same_sides (channel (part_of c).channels last) (channel (part_of c).channels i) alike).0
       ∙ sym (same_size (part_of c).channels (regions_of c) i coding.sizes li).0
 
+  -- and as high
+  same_height : (region_at (regions_of c) last).height ≡ (region_at (regions_of c) i).height
+  same_height =
+      (same_size (part_of c).channels (regions_of c) last coding.sizes (omega (arith, next, li))).1 ∙ (same_sides (channel (part_of c).channels last) (channel (part_of c).channels i) alike).1
+      ∙ sym (same_size (part_of c).channels (regions_of c) i coding.sizes li).1
+
   -- so the state was last in it
-  pub was_last : {X : Type 0} (state : PredictorState X) → 0 < (region_at (regions_of c) i).width → IsAfterChannel c i state → StandsIn c last state
-  was_last state columns after = after last next (subst (λ n. 0 < n) (sym same_width) columns)
+  pub was_last : {X : Type 0} (state : PredictorState X) → 0 < (region_at (regions_of c) i).width → 0 < (region_at (regions_of c) i).height → IsAfterChannel c i state → StandsIn c last state
+  was_last state columns rows after = after last next (subst (λ n. 0 < n) (sym same_width) columns) (subst (λ n. 0 < n) (sym same_height) rows)
 
 -- a channel whose tree asks for earlier ones has one before it
 pub is_later : {D : Type 0} (c : PartCoding D) (coding : IsCodingOf c) (i : ℕ) (li : i < length (regions_of c)) (other : ChannelTree) → 0 < (slice_index_or c.flats.now i other).asked → 0 < i
@@ -141,14 +168,14 @@ pub record ComesAfterAlike {D X : Type 0} (c : PartCoding D) (i : ℕ) (state : 
   pub alike : passes c i (i - 1) ≡ true
   pub stood : StandsIn c (i - 1) state
 
-pub comes_after_alike : {D X : Type 0} (c : PartCoding D) (coding : IsCodingOf c) (i : ℕ) → i < length (regions_of c) → 0 < (region_at (regions_of c) i).width → (state : PredictorState X) →
+pub comes_after_alike : {D X : Type 0} (c : PartCoding D) (coding : IsCodingOf c) (i : ℕ) → i < length (regions_of c) → 0 < (region_at (regions_of c) i).width → 0 < (region_at (regions_of c) i).height → (state : PredictorState X) →
     IsAfterChannel c i state → 0 < i → (a b : Channel) → true ≡ is_alike (get_or c.channels.now (i - 1) a) (get_or c.channels.now i b) →
     ComesAfterAlike c i state
-comes_after_alike c coding i li columns state last asked a b same =
+comes_after_alike c coding i li columns rows state last asked a b same =
     let next : i ≡ i - 1 + 1 = omega (arith, asked) in
     let n = as_many_channels c coding in
     let alike = passes_is c i (i - 1) a b true (omega (arith, n, next, li)) (omega (arith, n, li)) same in
-    record { next = next; alike = alike; stood = was_last c coding i li (i - 1) next alike state columns last }
+    record { next = next; alike = alike; stood = was_last c coding i li (i - 1) next alike state columns rows last }
 
 module _ {D X : Type 0} (c : PartCoding D) (i : ℕ) where
   -- a state without earlier channels is set for a channel whose tree asks for none
@@ -171,11 +198,11 @@ module _ {D X : Type 0} (c : PartCoding D) (i : ℕ) where
 
   -- it was last in the channel before the next one
   pub after_channel : (state : PredictorState X) → StandsIn c i state → IsAfterChannel c (i + 1) state
-  after_channel state h = λ last next columns. let is : i ≡ last = omega (arith, next) in subst (λ n. StandsIn c n state) is h
+  after_channel state h = λ last next columns rows. let is : i ≡ last = omega (arith, next) in subst (λ n. StandsIn c n state) is h
 
   -- none was before the first channel
   pub after_none : (state : PredictorState X) → IsAfterChannel c 0 state
-  after_none state = λ last next columns. absurd (omega (arith, next))
+  after_none state = λ last next columns rows. absurd (omega (arith, next))
 
   module _ (last : ℕ) (asked : 0 < asked_at c last) (next : i ≡ last + 1) where
     -- there is room for the channel before
@@ -221,8 +248,15 @@ flats_more t stream k flats next h is = record {
       let it : i ≡ k = omega (arith, less, ge) in
       subst (IsTreeOf (flat t stream i)) (sym (ap (λ n. get_or (flats ++ next ∷ []) n other) at ∙ get_or-append_seam flats next [] other)) (subst (λ n. IsTreeOf (flat t stream n) next) (sym it) is)
 
+-- the flat tree after that of the channel before
+pub flat_next : (t : Shape Leaf) (stream channel : ℕ) (flats : List ChannelTree) (other : ChannelTree) (next : FlatTree) → HasFlats t stream channel flats → 0 < channel →
+    (let last : FlatTree = (get_or flats (channel - 1) other).flat in next ≡ flat_tree last.tree (last.channel + 1) last.stream_idx (last.prev_channels + 1)) → next ≡ flat t stream channel
+flat_next t stream channel flats other next h some is =
+    let tree = h.each (channel - 1) other (omega (arith, some)) in
+    is ∙ ap (λ (u : FlatTree). flat_tree u.tree (u.channel + 1) u.stream_idx (u.prev_channels + 1)) tree.flat_is ∙ ap (flat t stream) (let n : channel - 1 + 1 ≡ channel = omega (arith, some) in n)
+
 -- a state that has room for channels of flat trees has room for those of a part
-pub roomy_for : {D X : Type 0} (c : PartCoding D) (state : PartState X) → IsCodingOf c → IsRoomyFor c.widest c.weights c.flats.now state → IsRoomy c state
+pub roomy_for : {D X : Type 0} (c : PartCoding D) (state : PartState X) → IsCodingOf c → IsRoomyFor (row_width c) c.weights c.flats.now state → IsRoomy c state
 roomy_for c state coding h =
     let wide = h.widest_is in
     let earlier = h.earlier_is in

@@ -1,5 +1,5 @@
 -- Everything a part is decoded with, and what it must be.
-use Rattle.std.specs.Prelude.{◌≡◌, ℕ, ◌<◌, ◌≤◌, Bool, false, List, length, get_or, if◌then◌else◌, IfSome, Option, None, Some}
+use Rattle.std.specs.Prelude.{◌≡◌, ℕ, ◌<◌, ◌≤◌, Bool, false, List, [], ◌∷◌, ◌==◌, length, max, get_or, if◌then◌else◌, IfSome, Option, None, Some}
 use Rattle.std.specs.List.{All, list_any}
 use Rattle.jxlm_base.specs.declared.subgrid.Region.{Region}
 use Rattle.jxlm_ma.specs.FlatTree.{FlatTree, ClustersStandIn, GoesWithoutWeights, ReadsEarlierBelow}
@@ -11,7 +11,7 @@ use Rattle.jxlm_ma.specs.Tree.{Shape}
 use Rattle.jxlm_ma.specs.declared.flat.Leaf.{Leaf}
 use Rattle.jxlm_tree.specs.declared.predictor.WpHeader.{WpHeader}
 use Rattle.jxlm_tree.specs.declared.state.PredictorState.{PredictorState}
-use Rattle.jxlm_transform.specs.Channels.{AreRegionsOf, IsNarrow}
+use Rattle.jxlm_transform.specs.Channels.{AreRegionsOf, Channel, IsNarrow}
 use Rattle.jxlm_part.specs.Part.{Part, max_width}
 use Rattle.jxlm_part.specs.declared.coding.ChannelTree.{ChannelTree}
 use Rattle.jxlm_part.specs.declared.coding.PartCoding.{PartCoding}
@@ -43,6 +43,11 @@ pub record HasFlats (t : Shape Leaf) (stream count : ℕ) (flats : List ChannelT
 abbrev pub are_weighted : List ChannelTree → Bool
 are_weighted flats = list_any (λ c. c.weighted) flats
 
+-- the maximum width of the channels with cells
+abbrev pub sampled_width : List Channel → ℕ
+sampled_width [] = 0
+sampled_width (c ∷ channels) = max (if c.height == 0 then 0 else c.width) (sampled_width channels)
+
 -- the state has room for channels of these flat trees up to this width and for a row of one, and the weights, where
 -- one of the trees may ask for them
 pub record IsRoomyFor {X : Type 0} (widest : ℕ) (weights : WpHeader) (flats : List ChannelTree) (state : PartState X) :
@@ -71,6 +76,10 @@ module _ {D : Type 0} where
     pub flats : HasFlats c.config.now.tree c.stream_index (length (regions_of c)) c.flats.now
     pub weights : IsHeader c.weights
 
+  -- the maximum width of a row that has cells
+  abbrev pub row_width : PartCoding D → ℕ
+  row_width c = sampled_width (part_of c).channels
+
   -- the clusters that the tree asks for are among these
   abbrev pub FindsClusters : PartCoding D → List ℕ → Type 0
   FindsClusters c clusters = ClustersStandIn clusters c.config.now.tree
@@ -88,13 +97,13 @@ module _ {D : Type 0} where
   cost_of c = most_steps c.config.now.tree
 
   module _ {X : Type 0} where
-    -- the predictors' state has room for each channel, and the weights that are used
+    -- the predictors' state has room for each channel with cells, and the weights that are used
     pub record HasRoom (c : PartCoding D) (state : PredictorState X) : Type 0 where
-      pub widest : c.widest ≤ room_of state
+      pub widest : row_width c ≤ room_of state
       pub earlier : length (regions_of c) ≤ earlier_room_of state
       pub weights : weights_of state ≡ weights_used c
 
-    -- so it is, and there is room for a row of each channel
+    -- so it is, and there is room for a row of each channel with cells
     pub record IsRoomy (c : PartCoding D) (state : PartState X) : Type 0 where
       pub predictor : HasRoom c state.predictor
-      pub row : c.widest ≤ length state.row.items
+      pub row : row_width c ≤ length state.row.items

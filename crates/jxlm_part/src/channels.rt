@@ -2,6 +2,7 @@
 
 ghost use Rattle.std.specs.Prelude.{◌≡◌, ◌<◌, ◌↔◌, IsTrue};
 ghost use Rattle.jxlm_part.specs.Part.{cell_count, max_width as the_maximum_width};
+ghost use Rattle.jxlm_part.specs.Reading.{sampled_width as the_sampled_width};
 
 use jxlm_transform::channels::ModularChannelInfo;
 
@@ -12,6 +13,19 @@ pub fn max_width(channels: &[ModularChannelInfo]) -> u32
     let mut widest = 0;
     for channel in channels {
         if channel.width > widest {
+            widest = channel.width;
+        }
+    }
+    widest
+}
+
+/// The maximum width of the channels that have samples; 0 where none has.
+pub fn sampled_width(channels: &[ModularChannelInfo]) -> u32
+    ensures { result ≡ the_sampled_width channels.now }
+{
+    let mut widest = 0;
+    for channel in channels {
+        if channel.height != 0 && channel.width > widest {
             widest = channel.width;
         }
     }

@@ -6,7 +6,7 @@ ghost use Rattle.jxlm_base.specs.Grid.{Grid};
 ghost use Rattle.jxlm_tree.specs.SelfCorrecting.{IsHeader};
 ghost use Rattle.jxlm_part.specs.Part.{is_alike as alike};
 ghost use Rattle.jxlm_tree.specs.Standing.{Setting, StandsAt, earlier_count, setting};
-ghost use Rattle.jxlm_part.specs.Reading.{HasFlats, HasRoom, IsCodingOf, IsRoomyFor, IsRunLeaf, IsTreeOf, regions_of};
+ghost use Rattle.jxlm_part.specs.Reading.{HasFlats, HasRoom, IsCodingOf, IsRoomyFor, IsRunLeaf, IsTreeOf, flat, regions_of};
 ghost use Rattle.jxlm_part.specs.Inner.Channels.{IsAfterChannel, StandsAfter, all_alike, region_at};
 
 use jxlm_base::decoder::Decoder;
@@ -56,7 +56,7 @@ pub struct PartCoding<'a, D: Decoder> {
 pub struct PartState<S> {
     /// That of the predictors.
     pub predictor: PredictorState<S>,
-    /// Room for a row of each channel.
+    /// Room for a row of each channel that has samples.
     pub row: Vec<S>,
 }
 
@@ -67,7 +67,7 @@ pub struct Ready<S, D: Decoder> {
     pub decoder: D,
     /// The tree as each channel walks it.
     pub flats: Vec<ChannelTree>,
-    /// The state, with room for each channel.
+    /// The state, with room for each channel that has samples.
     pub state: PartState<S>,
 }
 
@@ -90,6 +90,7 @@ pub(crate) fn start_channel<S: Sample, D: Decoder>(
 )
     requires channel { i < length (regions_of coding.now) }
     requires columns { 0 < (region_at (regions_of coding.now) i).width }
+    requires rows { 0 < (region_at (regions_of coding.now) i).height }
     requires coding { IsCodingOf coding.now }
     requires roomy { HasRoom coding.now state.old }
     requires last { IsAfterChannel coding.now i state.old }
@@ -158,7 +159,34 @@ fn channel_tree(flat: FlatMaTree) -> ChannelTree
     }
 }
 
-/// The tree as each of n channels walks it.
+/// The tree as a channel walks it, after those of the channels before it. It shares the nodes of the last of these,
+/// where all decisions that are known beforehand are taken alike for both.
+///
+/// # Errors
+///
+/// `Buffer` if it is out of memory, and no other.
+fn next_flat<D: Decoder>(
+    alloc: Global,
+    config: &MaConfig<D>,
+    stream_index: u32,
+    channel: u32,
+    before: &[ChannelTree],
+) -> Result<FlatMaTree>
+    requires before { HasFlats config.now.tree stream_index channel before.now }
+    ensures ok { IfOk result (λ t. t ≡ flat config.now.tree stream_index channel) }
+    ensures err { IfErr result (λ e. kind_of e ≡ NoMemory) }
+{
+    if channel > 0 {
+        let last = &before[channel as usize - 1].flat;
+        if let Some(next) = last.for_next_channel()? {
+            return Ok(next);
+        }
+    }
+    config.make_flat_tree(alloc, channel, stream_index, channel)
+}
+
+/// The tree as each of n channels walks it. Channels for which it is left the same one share its nodes, where they
+/// come one after another.
 ///
 /// # Errors
 ///
@@ -174,7 +202,7 @@ pub fn flat_trees<D: Decoder>(
 {
     let mut flats = Vec::new(alloc);
     for channel in 0..channels {
-        let flat = config.make_flat_tree(alloc, channel, stream_index, channel)?;
+        let flat = next_flat(alloc, config, stream_index, channel, &flats)?;
         let tree = channel_tree(flat);
         flats.push(tree).map_err(|_| OutOfMemory)?;
     }

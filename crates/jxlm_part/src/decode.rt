@@ -10,7 +10,7 @@ ghost use Rattle.jxlm_part.specs.Inner.Progress.{DecodesCells, FailsInCells, mom
 ghost use Rattle.jxlm_part.specs.Inner.Rows.{FailsRow, IsDecoding, IsDecodingPart, IsInRow, ReadsRow, rule_in};
 ghost use Rattle.jxlm_part.specs.Inner.Runs.{DecodesUpTo, HasBegun};
 ghost use Rattle.jxlm_part.specs.Inner.Source.{source};
-ghost use Rattle.jxlm_part.specs.Reading.{FindsClusters, HasRoom, IsCodingOf, IsRoomy, cost_of, part_of, regions_of};
+ghost use Rattle.jxlm_part.specs.Reading.{FindsClusters, HasRoom, IsCodingOf, IsRoomy, cost_of, part_of, regions_of, row_width};
 
 use crate::coding::{PartCoding, PartState, start_channel};
 use crate::leaves::{Way, read_leaf_row, way_of};
@@ -134,7 +134,7 @@ fn decode_rows<S: Sample, D: Decoder>(
     Ok(())
 }
 
-/// Reads channel `i`, row by row; a channel without columns has no cell. `scratch` has room for a row.
+/// Reads channel `i`, row by row; one without columns or rows has no cell. `scratch` has room for a row.
 fn decode_channel<S: Sample, D: Decoder>(
     bits: &mut Bitstream<'_>,
     decoder: &mut D,
@@ -148,7 +148,7 @@ fn decode_channel<S: Sample, D: Decoder>(
     requires part { IsDecodingPart coding.now store.old (D.meaning.cluster_map decoder.old) }
     requires channel { i < length (regions_of coding.now) }
     requires roomy { HasRoom coding.now state.old }
-    requires room { coding.now.widest ≤ length scratch.old }
+    requires room { row_width coding.now ≤ length scratch.old }
     requires last { IsAfterChannel coding.now i state.old }
     ensures ok { OnOk result (DecodesCells coding.now D.meaning S.width S.to_int
         (cells_before (part_of coding.now).channels i) (cells_before (part_of coding.now).channels (i + 1))
@@ -160,7 +160,7 @@ fn decode_channel<S: Sample, D: Decoder>(
     ensures last { OnOk result (IsAfterChannel coding.now (i + 1) state.new) }
 {
     let region = coding.regions[i];
-    if region.width == 0 {
+    if region.width == 0 || region.height == 0 {
         return Ok(());
     }
     start_channel(state, coding, i);
@@ -169,7 +169,7 @@ fn decode_channel<S: Sample, D: Decoder>(
     decode_rows(bits, decoder, state, steps, store, coding, way, row, i)
 }
 
-/// Reads all channels of a part, in order. `scratch` has room for a row of each.
+/// Reads all channels of a part, in order. `scratch` has room for a row of each that has cells.
 fn decode_channels<S: Sample, D: Decoder>(
     bits: &mut Bitstream<'_>,
     decoder: &mut D,
@@ -181,7 +181,7 @@ fn decode_channels<S: Sample, D: Decoder>(
 ) -> Result<(), DecoderError>
     requires part { IsDecodingPart coding.now store.old (D.meaning.cluster_map decoder.old) }
     requires roomy { HasRoom coding.now state.old }
-    requires room { coding.now.widest ≤ length scratch.old }
+    requires room { row_width coding.now ≤ length scratch.old }
     ensures ok { OnOk result (DecodesCells coding.now D.meaning S.width S.to_int
         0 (cell_count (part_of coding.now).channels)
         (moment decoder.old bits.old store.old steps.old) (moment decoder.new bits.new store.new steps.new)) }
@@ -195,7 +195,7 @@ fn decode_channels<S: Sample, D: Decoder>(
 }
 
 /// Reads all cells of a part: run by run where its tokens come in runs and each channel can be read so, else channel by
-/// channel. `scratch` has room for a row of each channel.
+/// channel. `scratch` has room for a row of each that has cells.
 fn decode_cells<S: Sample, D: Decoder>(
     bits: &mut Bitstream<'_>,
     decoder: &mut D,
@@ -207,7 +207,7 @@ fn decode_cells<S: Sample, D: Decoder>(
 ) -> Result<(), DecoderError>
     requires part { IsDecodingPart coding.now store.old (D.meaning.cluster_map decoder.old) }
     requires roomy { HasRoom coding.now state.old }
-    requires room { coding.now.widest ≤ length scratch.old }
+    requires room { row_width coding.now ≤ length scratch.old }
     requires begun { D.meaning.as_rle decoder.old ≡ true → HasBegun D.meaning decoder.old }
     ensures ok { OnOk result (DecodesUpTo coding.now D.meaning S.width S.to_int
         0 (cell_count (part_of coding.now).channels)

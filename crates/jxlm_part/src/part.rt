@@ -7,12 +7,13 @@ ghost use Rattle.jxlm_base.specs.Bits.{bytes_of, position_of};
 ghost use Rattle.jxlm_ma.specs.TreeReading.{IsOutOfMemory};
 ghost use Rattle.jxlm_base.specs.ErrorKind.{kind_of};
 ghost use Rattle.jxlm_part.specs.Decode.{DecodeGives, MovesWithin};
-ghost use Rattle.jxlm_part.specs.Part.{cell_count, max_width as the_maximum_width};
+ghost use Rattle.jxlm_part.specs.Part.{cell_count};
+ghost use Rattle.jxlm_part.specs.Reading.{sampled_width as the_sampled_width};
 ghost use Rattle.jxlm_part.specs.Placed.{PartLies, most_steps, part_placed, standing_in};
 ghost use Rattle.jxlm_part.specs.Progress.{KeepsOutside};
 ghost use Rattle.jxlm_part.specs.Inner.Ready.{IsReadyFor};
 
-use crate::channels::{have_samples, max_width};
+use crate::channels::{have_samples, max_width, sampled_width};
 use crate::coding::{PartCoding, Ready, flat_trees, roomy_state};
 use crate::decode::decode_part;
 use jxlm_base::bits::Bitstream;
@@ -51,7 +52,7 @@ impl<'a, D: Decoder> PlacedPart<'a, D> {
 
     /// What is made ready before the first bit of the samples is read. Out of memory is its only error.
     fn ready<S: Sample>(&self, alloc: Global) -> Result<Ready<S, D>>
-        requires widest { the_maximum_width self.now.channels.now ≤ 2 ^ 30 }
+        requires widest { the_sampled_width self.now.channels.now ≤ 2 ^ 30 }
         requires weights { IsHeader self.now.weights }
         requires few { length self.now.channels.now ≤ 65536 }
         ensures ok { IfOk result (λ r. IsReadyFor self.now r) }
@@ -66,7 +67,7 @@ impl<'a, D: Decoder> PlacedPart<'a, D> {
             self.stream_index,
             self.channels.len() as u32,
         )?;
-        let widest = max_width(self.channels);
+        let widest = sampled_width(self.channels);
         let state = roomy_state(alloc, &flats, widest, &self.weights)?;
         Ok(Ready {
             decoder,

@@ -15,7 +15,7 @@ ghost use Rattle.jxlm_part.specs.Inner.Progress.{FailsInCells, moment, place_of}
 ghost use Rattle.jxlm_part.specs.Inner.Rows.{IsDecoding, IsDecodingPart};
 ghost use Rattle.jxlm_part.specs.Inner.Runs.{DecodesInRuns, DecodesUpTo, FailsInRuns, FailsRunRow, HasBegun, HaveRunLeaves, IsInRun, ReadsRunRow, TakesToken, run_source};
 ghost use Rattle.jxlm_part.specs.Part.{cells_before, cell_count};
-ghost use Rattle.jxlm_part.specs.Reading.{IsCodingOf, IsRunLeaf, part_of, regions_of, tree_of};
+ghost use Rattle.jxlm_part.specs.Reading.{IsCodingOf, IsRunLeaf, part_of, regions_of, row_width, tree_of};
 
 use crate::above::sample_above;
 use crate::coding::PartCoding;
@@ -228,7 +228,7 @@ fn decode_run_channel<S: Sample, D: Decoder>(
     requires only { HaveRunLeaves coding.now (length (regions_of coding.now)) }
     requires run { IsInRun D.meaning (run_source decoder.old run.old bits.old) }
     requires channel { i < length (regions_of coding.now) }
-    requires room { coding.now.widest ≤ length scratch.old }
+    requires room { row_width coding.now ≤ length scratch.old }
     ensures ok { OnOk result (DecodesInRuns coding.now D.meaning S.width S.to_int
         (run_source decoder.old run.old bits.old) (run_source decoder.new run.new bits.new) store.old store.new
         (cells_before (part_of coding.now).channels i) (cells_before (part_of coding.now).channels (i + 1))) }
@@ -247,7 +247,7 @@ fn decode_run_channel<S: Sample, D: Decoder>(
     decode_run_rows(bits, decoder, run, store, coding, leaf, row, i)
 }
 
-/// Reads all channels of a part, in order. `scratch` has room for a row of each.
+/// Reads all channels of a part, in order. `scratch` has room for a row of each that has cells.
 fn decode_run_channels<S: Sample, D: Decoder>(
     bits: &mut Bitstream<'_>,
     decoder: &mut D,
@@ -259,7 +259,7 @@ fn decode_run_channels<S: Sample, D: Decoder>(
     requires part { IsDecodingPart coding.now store.old (D.meaning.cluster_map decoder.old) }
     requires only { HaveRunLeaves coding.now (length (regions_of coding.now)) }
     requires run { IsInRun D.meaning (run_source decoder.old run.old bits.old) }
-    requires room { coding.now.widest ≤ length scratch.old }
+    requires room { row_width coding.now ≤ length scratch.old }
     ensures ok { OnOk result (DecodesInRuns coding.now D.meaning S.width S.to_int
         (run_source decoder.old run.old bits.old) (run_source decoder.new run.new bits.new) store.old store.new
         0 (cell_count (part_of coding.now).channels)) }
@@ -272,7 +272,7 @@ fn decode_run_channels<S: Sample, D: Decoder>(
     Ok(())
 }
 
-/// Reads all channels of a part run by run, each at its leaf. `scratch` has room for a row of each.
+/// Reads all channels of a part run by run, each at its leaf. `scratch` has room for a row of each that has cells.
 pub(crate) fn decode_runs<S: Sample, D: Decoder>(
     bits: &mut Bitstream<'_>,
     decoder: &mut D,
@@ -284,7 +284,7 @@ pub(crate) fn decode_runs<S: Sample, D: Decoder>(
     requires only { HaveRunLeaves coding.now (length (regions_of coding.now)) }
     requires rle { D.meaning.as_rle decoder.old ≡ true }
     requires begun { HasBegun D.meaning decoder.old }
-    requires room { coding.now.widest ≤ length scratch.old }
+    requires room { row_width coding.now ≤ length scratch.old }
     ensures ok { OnOk result ((steps : ℕ) → DecodesUpTo coding.now D.meaning S.width S.to_int
         0 (cell_count (part_of coding.now).channels)
         (moment decoder.old bits.old store.old steps) (moment decoder.new bits.new store.new steps)) }

@@ -1,5 +1,5 @@
 -- What a compiled tree keeps to.
-use Rattle.std.specs.Prelude.{◌≡◌, ℕ, ◌<◌, ◌≤◌, pos, Bool, false, List, [], length}
+use Rattle.std.specs.Prelude.{◌≡◌, ℕ, ◌+◌, ◌<◌, ◌≤◌, pos, Bool, false, List, [], length}
 use Rattle.std.specs.Int.{w32, int_wrap}
 use Rattle.std.specs.List.{list_any}
 use Rattle.std.proofs.Common.{reverse}
@@ -35,10 +35,16 @@ pub record IsCompiled (t : Shape Leaf) (known : Known) (nodes : List FlatNode) (
   pub needs_is : needs ≡ list_any sees_error nodes
   pub named_is : named ≡ most_channels nodes
 
+-- up to the last channel, each with one earlier channel more, the same is left of the tree once known decisions are taken
+abbrev pub IsLeftAlike : Shape Leaf → ℕ → ℕ → ℕ → ℕ → Type 0
+IsLeftAlike t channel stream earlier last =
+    (k : ℕ) → channel + k ≤ last → pruned (known_at (channel + k) stream (earlier + k)) t ≡ pruned (known_at channel stream earlier) t
+
 -- the tree is compiled for this channel of this stream, with so many earlier channels, and its table is that of the root
 pub record IsCompiledFor (t : Shape Leaf) (channel stream earlier : ℕ) (c : CompiledTree) : Type 0 where
   pub tree : IsCompiled t (known_at channel stream earlier) c.nodes.items c.root c.need_self_correcting c.prev_channels_named
   pub table : TableAt c.nodes.items c.root c.table
+  pub alike : IsLeftAlike t channel stream earlier c.last_alike
 
 -- The tree is compiled for every channel of every stream, where no earlier channel that it names is missing: it asks
 -- for neither channel nor stream.

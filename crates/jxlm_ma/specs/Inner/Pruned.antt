@@ -12,6 +12,10 @@ pub use Rattle.jxlm_ma.specs.CompiledNodes.{cuts, greatest, least}
 abbrev pub known : Known → ℕ → Option ℤ
 known pins p = if p == 0 then Some pins.channel else (if p == 1 then Some pins.stream else (if nat_lt p (16 + 4 * pins.prev_channels) then None else Some (pos 0)))
 
+-- what is known k channels later, with k earlier channels more
+abbrev pub later : Known → ℕ → Known
+later pins k = record { channel = pins.channel +ℤ pos k; stream = pins.stream; prev_channels = pins.prev_channels + k }
+
 -- the properties as a walk sees them
 abbrev pub or_seen : Option ℤ → ℤ → ℤ
 or_seen None x = x

@@ -49,7 +49,8 @@ module _ {D : Type 0} where
       pub before : List ℤ
       pub stands : StandsAt state (setting_of c i) before
 
-    -- of the channels before channel i, the state was last in the one before, where that has columns
+    -- of the channels before channel i, the state was last in the one before, where that has cells
     abbrev pub IsAfterChannel : PartCoding D → ℕ → PredictorState X → Type 0
     IsAfterChannel c i state =
-        (last : ℕ) → i ≡ last + 1 → 0 < (region_at (regions_of c) last).width → StandsIn c last state
+        (last : ℕ) → i ≡ last + 1 → 0 < (region_at (regions_of c) last).width →
+        0 < (region_at (regions_of c) last).height → StandsIn c last state

@@ -9,7 +9,7 @@ overflow_cast-width g c = let n = (narrow_at c.args.coding.now c.requires.coding
 
 pub restart-requires-clause-roomy : goal.restart-requires-clause-roomy
 restart-requires-clause-roomy g c =
-    let n = fits_widest c.args.coding.now c.requires.coding c.args.i c.requires.channel in
+    let n = fits_widest c.args.coding.now c.requires.coding c.args.i c.requires.channel c.requires.rows in
     let room = c.requires.roomy.widest in
     omega (arith, n, room)
 
@@ -23,7 +23,7 @@ pub restart_alike-requires : goal.restart_alike-requires
 restart_alike-requires g c =
     let some : 0 < (slice_index_or c.args.coding.now.flats.now c.args.i c.index-coding-i.result).asked = omega (arith, c.if-coding-i-eq0.false) in
     let later = is_later c.args.coding.now c.requires.coding c.args.i c.requires.channel _ some in
-    let last = comes_after_alike c.args.coding.now c.requires.coding c.args.i c.requires.channel c.requires.columns c.args.state.now c.requires.last later _ _ c.if-is_alike.ensures in
+    let last = comes_after_alike c.args.coding.now c.requires.coding c.args.i c.requires.channel c.requires.columns c.requires.rows c.args.state.now c.requires.last later _ _ c.if-is_alike.ensures in
     record { stands = somewhere c.args.coding.now (c.args.i - 1) c.args.state.now last.stood }
 
 pub overflow_sub-i-then-is_alike : goal.overflow_sub-i-then-is_alike
@@ -36,14 +36,14 @@ pub add_earlier-requires : goal.add_earlier-requires
 add_earlier-requires g c =
     let some : 0 < (slice_index_or c.args.coding.now.flats.now c.args.i c.index-coding-i.result).asked = omega (arith, c.if-coding-i-eq0.false) in
     let later = is_later c.args.coding.now c.requires.coding c.args.i c.requires.channel _ some in
-    let last = comes_after_alike c.args.coding.now c.requires.coding c.args.i c.requires.channel c.requires.columns c.args.state.now c.requires.last later _ _ c.if-is_alike.ensures in
+    let last = comes_after_alike c.args.coding.now c.requires.coding c.args.i c.requires.channel c.requires.columns c.requires.rows c.args.state.now c.requires.last later _ _ c.if-is_alike.ensures in
     let before : 0 < asked_at c.args.coding.now (c.args.i - 1) =
     let is = asked_is c.args.coding.now c.requires.coding (c.args.i - 1) (omega (arith, c.requires.channel)) c.index-coding-i-else-coding-i-eq0.result in omega (arith, is, c.if-coding-i-gt0.true) in
     room_for_last c.args.coding.now c.args.i (c.args.i - 1) before last.next c.requires.channel c.args.state.now c.restart_alike.new.self last.stood c.restart_alike.ensures.same c.restart_alike.ensures.room c.requires.roomy
 
 pub restart-requires-else-coding-i-gt0-clause-roomy : goal.restart-requires-else-coding-i-gt0-clause-roomy
 restart-requires-else-coding-i-gt0-clause-roomy g c =
-    let n = fits_widest c.args.coding.now c.requires.coding c.args.i c.requires.channel in
+    let n = fits_widest c.args.coding.now c.requires.coding c.args.i c.requires.channel c.requires.rows in
     let room = c.requires.roomy.widest in
     omega (arith, n, room)
 
@@ -59,7 +59,7 @@ returns-then-is_alike-clause-stands g c = λ store.
     let here : 0 < asked_at c.args.coding.now c.args.i = let is = asked_is c.args.coding.now c.requires.coding c.args.i c.requires.channel c.index-coding-i.result in omega (arith, is, some) in
     let before : 0 < asked_at c.args.coding.now (c.args.i - 1) =
     let is = asked_is c.args.coding.now c.requires.coding (c.args.i - 1) (omega (arith, c.requires.channel)) c.index-coding-i-else-coding-i-eq0.result in omega (arith, is, c.if-coding-i-gt0.true) in
-    let last = comes_after_alike c.args.coding.now c.requires.coding c.args.i c.requires.channel c.requires.columns c.args.state.now c.requires.last later _ _ c.if-is_alike.ensures in
+    let last = comes_after_alike c.args.coding.now c.requires.coding c.args.i c.requires.channel c.requires.columns c.requires.rows c.args.state.now c.requires.last later _ _ c.if-is_alike.ensures in
     set_by_last c.args.coding.now c.args.i (c.args.i - 1) before last.next c.requires.coding c.requires.channel here last.alike c.args.state.now c.restart_alike.new.self c.add_earlier.new.self last.stood c.requires.roomy
     c.restart_alike.ensures.stands c.add_earlier.ensures.stands
 

@@ -8,16 +8,17 @@ use Rattle.jxlm_part.specs.Inner.Progress.{moment}
 use Rattle.jxlm_part.specs.Reading.{part_of, regions_of}
 use Rattle.jxlm_part.proofs.CellLaws.{clusters_at, flat_at}
 use Rattle.jxlm_part.proofs.Decoding.{at_first_row, in_channel, none_decoded}
-use Rattle.jxlm_part.proofs.Loops.{channel_empty, ok_so}
+use Rattle.jxlm_part.proofs.Loops.{channel_empty, channel_flat, ok_so}
 use Rattle.jxlm_part.proofs.Starting.{after_channel, fits_widest}
+use Rattle.jxlm_part.proofs.decode.decode_channel.Goals.{then-region-eq0-via-then-region-eq0, then-region-eq0-via-else-region-eq0+then-region-eq0-2}
 use Rattle.jxlm_part.proofs.decode.decode_channel.Goals as goal
 
 pub slice_bounds-row-end : goal.slice_bounds-row-end
-slice_bounds-row-end g c = let n = fits_widest c.args.coding.now c.requires.part.coding c.args.i c.requires.channel in omega (arith, n, c.requires.room)
+slice_bounds-row-end g c = let n = fits_widest c.args.coding.now c.requires.part.coding c.args.i c.requires.channel (omega (arith, c.if-region-eq0-2.false)) in omega (arith, n, c.requires.room)
 
 pub slice_bounds-row-end-2 : goal.slice_bounds-row-end-2
 slice_bounds-row-end-2 g c =
-    let n = fits_widest c.args.coding.now c.requires.part.coding c.args.i c.requires.channel in
+    let n = fits_widest c.args.coding.now c.requires.part.coding c.args.i c.requires.channel (omega (arith, c.if-region-eq0-2.false)) in
     sym (length-take-le (region_at (regions_of c.args.coding.now) c.args.i).width c.args.scratch.now (omega (arith, n, c.requires.room)))
 
 pub decode_rows-requires-clause-here : goal.decode_rows-requires-clause-here
@@ -25,7 +26,7 @@ decode_rows-requires-clause-here g c κs within = record { part = c.requires.par
 
 pub decode_rows-requires-clause-long : goal.decode_rows-requires-clause-long
 decode_rows-requires-clause-long g c κs within =
-    let n = fits_widest c.args.coding.now c.requires.part.coding c.args.i c.requires.channel in
+    let n = fits_widest c.args.coding.now c.requires.part.coding c.args.i c.requires.channel (omega (arith, c.if-region-eq0-2.false)) in
     length-take-le (region_at (regions_of c.args.coding.now) c.args.i).width c.args.scratch.now (omega (arith, n, c.requires.room))
 
 pub decode_rows-requires-clause-at_row : goal.decode_rows-requires-clause-at_row
@@ -42,7 +43,12 @@ way_of-way-requires g c = record { clusters = clusters_at c.args.coding.now c.re
 pub returns-then-region-eq0-clause-ok : goal.returns-then-region-eq0-clause-ok
 returns-then-region-eq0-clause-ok g c =
     none_decoded c.args.coding.now g.D.Decoder.meaning g.S.Sealed.width g.S.Sealed.to_int _ _ (moment c.args.decoder.now c.args.bits.now c.args.store.now c.args.steps.now)
-    (channel_empty (part_of c.args.coding.now) (regions_of c.args.coding.now) c.requires.part.coding.sizes c.args.i c.requires.channel c.if-region-eq0.true)
+    (elim c.then-region-eq0.branch [
+      | then-region-eq0-via-then-region-eq0 w ↦
+          channel_empty (part_of c.args.coding.now) (regions_of c.args.coding.now) c.requires.part.coding.sizes c.args.i c.requires.channel w.if-region-eq0.true
+      | then-region-eq0-via-else-region-eq0+then-region-eq0-2 w ↦
+          channel_flat (part_of c.args.coding.now) (regions_of c.args.coding.now) c.requires.part.coding.sizes c.args.i c.requires.channel w.if-region-eq0-2.true
+    ])
 
 pub returns-clause-roomy : goal.returns-clause-roomy
 returns-clause-roomy g c = ok_so c.decode_rows.result _ _ (λ h. h.roomy) c.decode_rows.ensures.at_row

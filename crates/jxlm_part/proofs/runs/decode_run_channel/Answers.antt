@@ -10,11 +10,11 @@ use Rattle.jxlm_part.proofs.runs.decode_run_channel.Goals.{then-region-eq0-via-t
 use Rattle.jxlm_part.proofs.runs.decode_run_channel.Goals as goal
 
 pub slice_bounds-row-end : goal.slice_bounds-row-end
-slice_bounds-row-end g c = let n = fits_widest c.args.coding.now c.requires.part.coding c.args.i c.requires.channel in omega (arith, n, c.requires.room)
+slice_bounds-row-end g c = let n = fits_widest c.args.coding.now c.requires.part.coding c.args.i c.requires.channel (omega (arith, c.if-region-eq0-2.false)) in omega (arith, n, c.requires.room)
 
 pub slice_bounds-row-end-2 : goal.slice_bounds-row-end-2
 slice_bounds-row-end-2 g c =
-    let n = fits_widest c.args.coding.now c.requires.part.coding c.args.i c.requires.channel in
+    let n = fits_widest c.args.coding.now c.requires.part.coding c.args.i c.requires.channel (omega (arith, c.if-region-eq0-2.false)) in
     sym (length-take-le (region_at (regions_of c.args.coding.now) c.args.i).width c.args.scratch.now (omega (arith, n, c.requires.room)))
 
 pub decode_run_rows-requires-clause-here : goal.decode_run_rows-requires-clause-here
@@ -22,7 +22,7 @@ decode_run_rows-requires-clause-here g c κs within = record { part = c.requires
 
 pub decode_run_rows-requires-clause-long : goal.decode_run_rows-requires-clause-long
 decode_run_rows-requires-clause-long g c κs within =
-    let n = fits_widest c.args.coding.now c.requires.part.coding c.args.i c.requires.channel in
+    let n = fits_widest c.args.coding.now c.requires.part.coding c.args.i c.requires.channel (omega (arith, c.if-region-eq0-2.false)) in
     length-take-le (region_at (regions_of c.args.coding.now) c.args.i).width c.args.scratch.now (omega (arith, n, c.requires.room))
 
 pub returns-then-region-eq0-clause-ok : goal.returns-then-region-eq0-clause-ok

@@ -20,9 +20,9 @@ returns-clause-goes c =
     let old = c.args.self.now in
     let info = c.in_ok-transform_channel_info.ensures in
     let undos =
-    ap undos_of c.in_ok-push-2.ensures.items ∙ map-append undo_of_code old.undoings.items (c.in_ok-undoing.undoing ∷ [])
+    ap undos_of c.in_ok-push.ensures.items ∙ map-append undo_of_code old.undoings.items (c.in_ok-undoing.undoing ∷ [])
     ∙ ap (λ (us : List Undo). undos_of old.undoings.items ++ us) c.in_ok-undoing.ensures in
     let tables =
-    ap sides_in c.in_ok-push-3.ensures.items ∙ map-append region_sides old.tables.items (c.table.result ∷ [])
+    ap sides_in c.in_ok-push-2.ensures.items ∙ map-append region_sides old.tables.items (c.table.result ∷ [])
     ∙ ap (λ (r : Region). sides_in old.tables.items ++ region_sides r ∷ []) c.table.ensures in
     goes_one (PaletteStep c.args.palette.now) old _ c.requires.placed c.requires.some_channels info.gives info.meta undos c.in_ok-index.ensures.gives tables

@@ -8,7 +8,7 @@ use Rattle.jxlm_ma.specs.Inner.FlatNodes.{most_channels, sees_error}
 use Rattle.jxlm_ma.specs.Inner.Tables.{TableAt}
 use Rattle.jxlm_ma.specs.Inner.TreeShape.{shape_of}
 use Rattle.jxlm_ma.specs.declared.flat.FlatNode.{FlatNode}
-use Rattle.jxlm_ma.proofs.FlatMade.{known_by, marked-room, marked-of, compiles-as, ok_at, made_of, is_compiled}
+use Rattle.jxlm_ma.proofs.FlatMade.{alike-up-to, known_by, marked-room, marked-of, compiles-as, ok_at, made_of, is_compiled}
 use Rattle.jxlm_ma.proofs.flat.CompiledTree.new.Goals as goal
 
 -- a result whose error was replaced, and which is no error
@@ -39,7 +39,11 @@ returns-clause-compiled c =
     let compiles = compiles-as _ _ _ _ _ same (ok_at _ _ _ kept c.compile.ensures) in
     let made = made_of (shape_of c.args.tree.now.root) _ _ _ _ c.args.prev_channels _ c.compile.new.nodes.items _ c.new-nodes.ensures.items (to_z-of_z w32 c.read_as_signed.result channel_fits ∙ c.read_as_signed.ensures) (to_z-of_z w32 c.read_as_signed-2.result stream_fits ∙ c.read_as_signed-2.ensures) compiles in
     let found : c.of.result ≡ Ok c.in_ok-table.table = came_through c.of.result c.map_err-3.result _ _ c.map_err-3.ensures.cases c.map_err-3.ensures.variant c.in_ok-table.was in
+    let last = c.last_channel-last_alike.ensures in
     record {
       tree = is_compiled _ _ c.compile.new.nodes.items _ _ _ c.requires.multipliers made (needs ∙ ap (list_any sees_error) c.deref.ensures.value) named;
       table = subst (λ (ns : List FlatNode). TableAt ns c.in_ok-root.root c.in_ok-table.table) c.deref-3.ensures.value (ok_at _ _ _ found c.of.ensures);
+      alike = alike-up-to (shape_of c.args.tree.now.root) c.args.channel c.args.stream_idx c.args.prev_channels c.channels_alike.result _ _ _
+          (to_z-of_z w32 c.read_as_signed.result channel_fits ∙ c.read_as_signed.ensures) (to_z-of_z w32 c.read_as_signed-2.result stream_fits ∙ c.read_as_signed-2.ensures)
+          c.channels_alike.ensures last.within last.signed;
     }
