@@ -130,7 +130,8 @@ fn palettes(alloc: Global, undoings: &[Undoing]) -> Result<String, AllocError> {
     Ok(text)
 }
 
-// Three channels of one sample with a palette of the first two, and then one of the next two.
+// Three channels of one sample with a palette of the first two, and then one of the next two: the second names the
+// channel of the first one's indices by its region alone.
 fn two_palettes(alloc: Global) -> Result<PlacedChannels, Fail> {
     let mut listed = vec![in alloc;
         TransformInfo::Palette(TWO),
@@ -144,7 +145,7 @@ fn two_palettes(alloc: Global) -> Result<PlacedChannels, Fail> {
 #[test]
 fn undoings_hold_merged_channels(rt: HostRuntime) -> Result<(), Fail> {
     let text = palettes(rt.alloc(), &two_palettes(rt.alloc())?.undoings)?;
-    compare(&rt, text.as_str(), "0(0;1;) 0(0(0;1;);2;) ", "two palettes");
+    compare(&rt, text.as_str(), "0(0;1;) 0(0;2;) ", "two palettes");
     Ok(())
 }
 
