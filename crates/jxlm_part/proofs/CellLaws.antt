@@ -1,5 +1,5 @@
 -- A cell of a part: what it holds, and what is read into it.
-use Rattle.std.proofs.Common.{Bool, ◌≡◌, ◌≢◌, ℕ, zero, suc, ◌+◌, ◌*◌, ◌/◌, ◌<◌, ◌≤◌, ◌^◌, List, [], ◌∷◌, ◌++◌, length, take, Some, refl, sym, ap, ◌∙◌, subst, arith, ℤ, slice_index_or, Bool, true, false, ◌||◌, None}
+use Rattle.std.proofs.Common.{Bool, ◌≡◌, ◌≢◌, ℕ, zero, suc, ◌+◌, ◌*◌, ◌/◌, ◌<◌, ◌≤◌, ◌^◌, List, [], ◌∷◌, ◌++◌, length, take, Some, refl, sym, ap, ◌∙◌, subst, arith, ℤ, slice_index_or, Bool, true, false, ◌||◌, None, Option, if◌then◌else◌}
 use Rattle.std.specs.Prelude.{slice_get, slice_set, Result, Err}
 use Rattle.std.specs.List.{All}
 use Rattle.std.specs.Int.{Width}
@@ -24,14 +24,15 @@ use Rattle.jxlm_tree.specs.Standing.{HasSameRoom, HoldsRow, IsInner, IsReady, Se
 use Rattle.jxlm_part.specs.Inner.Leaves.{steps_to}
 use Rattle.jxlm_tree.specs.declared.earlier.EarlierRow.{EarlierRow}
 use Rattle.jxlm_ma.specs.declared.flat.Leaf.{Leaf}
+use Rattle.jxlm_tree.specs.declared.predictor.WpHeader.{WpHeader}
 use Rattle.jxlm_tree.specs.declared.state.PredictorState.{PredictorState}
 use Rattle.jxlm_tree.proofs.EarlierLaws.{in_state, of_setting}
 use Rattle.jxlm_tree.proofs.StandingLaws.{stands_row}
 use Rattle.jxlm_part.specs.Coded.{next_prediction, sample_of}
 use Rattle.jxlm_part.specs.Part.{channel, max_width, no_channel}
-use Rattle.jxlm_part.specs.Reading.{FindsClusters, HasRoom, IsCodingOf, IsTreeOf, are_weighted, cost_of, flat, part_of, regions_of, row_width}
+use Rattle.jxlm_part.specs.Reading.{FindsClusters, HasRoom, IsCodingOf, IsTreeOf, are_weighted, cost_of, flat, part_of, regions_of, row_width, weights_used}
 use Rattle.jxlm_part.specs.Inner.Cells.{ReadsNext, FailsNext, leaf_at, predicted_at}
-use Rattle.jxlm_part.specs.Inner.Channels.{StandsAfter, asked_at, handed, region_at, setting_of}
+use Rattle.jxlm_part.specs.Inner.Channels.{StandsAfter, asked_at, handed, region_at, setting_of, weighted_at, weights_at}
 use Rattle.jxlm_part.specs.Progress.{grids_in}
 use Rattle.jxlm_part.specs.Inner.Progress.{preceding_cells}
 use Rattle.jxlm_part.specs.Inner.Rows.{FailsCell, FailsRow, IsAway, ReadsCell, ReadsCells, StandsInRow, row_rule}
@@ -91,8 +92,24 @@ module _ {D : Type 0} (c : PartCoding D) (coding : IsCodingOf c) (i : ℕ) (li :
   reads_below : ReadsEarlierBelow (flat c.config.now.tree c.stream_index i) (asked_at c i)
   reads_below = subst (ReadsEarlierBelow (flat c.config.now.tree c.stream_index i)) (sym (asked_is any_tree)) (tree_at any_tree).below
 
-  goes_without : are_weighted c.flats.now ≡ false → GoesWithoutWeights (flat c.config.now.tree c.stream_index i)
-  goes_without none = (tree_at any_tree).without (let n = coding.flats.count_is in not_weighted c.flats.now none i any_tree (omega (arith, n, li)))
+  -- whether it may ask for the weights
+  pub weighted_is : (other : ChannelTree) → weighted_at c i ≡ (slice_index_or c.flats.now i other).weighted
+  weighted_is other =
+      let n = coding.flats.count_is in
+      ap (λ o. option_map_or (λ (t : ChannelTree). t.weighted) o false) (slice_get-get_or c.flats.now i other (omega (arith, n, li)))
+
+  goes_without : weighted_at c i ≡ false → GoesWithoutWeights (flat c.config.now.tree c.stream_index i)
+  goes_without none = (tree_at any_tree).without (sym (weighted_is any_tree) ∙ none)
+
+  -- the weights of a state, where its tree may ask for them, are those of the channel
+  pub weights_are : (other : ChannelTree) (kept : Option WpHeader) → kept ≡ weights_used c → (if (slice_index_or c.flats.now i other).weighted then kept else None) ≡ weights_at c i
+  weights_are other kept is =
+      ap (λ (b : Bool). if b then kept else None) (sym (weighted_is other)) ∙ by (weighted_at c i) (are_weighted c.flats.now)
+      (λ none. weighted_is other ∙ (let n = coding.flats.count_is in not_weighted c.flats.now none i other (omega (arith, n, li)))) is where
+        by : (here some : Bool) → (some ≡ false → here ≡ false) → kept ≡ (if some then Some c.weights else None) → (if here then kept else None) ≡ (if here then Some c.weights else None)
+        by false some none same = refl
+        by true true none same = same
+        by true false none same = let no : true ≡ false = none refl in cc
 
   pub clusters_at : (other : ChannelTree) (clusters : List ℕ) → FindsClusters c clusters → ClustersStandIn clusters (slice_index_or c.flats.now i other).flat.tree
   clusters_at other clusters h = subst (λ (t : FlatTree). ClustersStandIn clusters t.tree) (sym (flat_at other)) h
@@ -217,7 +234,7 @@ module _ {D : Type 0} (c : PartCoding D) (coding : IsCodingOf c) (i : ℕ) (li :
       next : IsNext (part_of c) (regions_of c) ints i here own (sees_regions (part_of c) (regions_of c) ints i y coding.sizes li qy so_far (omega (arith, row_long, px))) (setting_of c i)
       next =
           is_next (part_of c) (regions_of c) ints i here own (sees_regions (part_of c) (regions_of c) ints i y coding.sizes li qy so_far (omega (arith, row_long, px)))
-          (asked_at c i) reads_below (are_weighted c.flats.now) goes_without
+          (asked_at c i) reads_below (weighted_at c i) goes_without
 
       -- how the leaf to which the flat tree leads reads its token
       abbrev reading : Result (Taken ℕ D) DecoderError
@@ -257,6 +274,12 @@ module _ {D : Type 0} (c : PartCoding D) (coding : IsCodingOf c) (i : ℕ) (li :
         clusters = clusters;
         bytes = bytes;
       }
+
+-- where the trees of two channels may both ask for the weights, or neither, the state uses the same
+pub same_weights : {D : Type 0} (c : PartCoding D) (coding : IsCodingOf c) (e i : ℕ) → e < length (regions_of c) → i < length (regions_of c) → (a b : ChannelTree) →
+    (slice_index_or c.flats.now e a).weighted ≡ (slice_index_or c.flats.now i b).weighted → weights_at c e ≡ weights_at c i
+same_weights c coding e i le li a b same =
+    ap (λ (x : Bool). if x then Some c.weights else None) (weighted_is c coding e le a ∙ same ∙ sym (weighted_is c coding i li b))
 
 -- at the first cell of a row the state is after the rows above
 pub begins_row : {D X : Type 0} (c : PartCoding D) (i : ℕ) (to_int : X → ℤ) (store : List (Grid X)) (y : ℕ) (state : PredictorState X) →

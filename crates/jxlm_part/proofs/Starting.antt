@@ -8,7 +8,7 @@ use Rattle.std.proofs.lemmas.List.Elements.{All-head, All-tail}
 use Rattle.std.proofs.lemmas.List.{length-append, length-map, get_or_default, get_or_append_left}
 use Rattle.std.proofs.Math.Seq.{get_or-append_seam}
 use Rattle.jxlm_base.specs.declared.subgrid.Region.{Region}
-use Rattle.jxlm_tree.specs.Standing.{HasSameRoom, Setting, Stands, StandsAt, earlier_count, earlier_room_of, setting, weights_of}
+use Rattle.jxlm_tree.specs.Standing.{HasSameRoom, Setting, Stands, StandsAt, earlier_count, earlier_room_of, setting}
 use Rattle.jxlm_ma.specs.FlatTree.{FlatTree, flat_tree}
 use Rattle.jxlm_ma.specs.Tree.{Shape}
 use Rattle.jxlm_ma.specs.declared.flat.Leaf.{Leaf}
@@ -17,8 +17,8 @@ use Rattle.jxlm_tree.specs.declared.state.PredictorState.{PredictorState}
 use Rattle.jxlm_tree.proofs.StandingLaws.{stands_earlier}
 use Rattle.jxlm_transform.specs.Channels.{Channel, IsNarrow}
 use Rattle.jxlm_part.specs.Part.{channel, no_channel, downward, earlier_alike, is_alike}
-use Rattle.jxlm_part.specs.Reading.{HasFlats, HasRoom, IsCodingOf, IsRoomy, IsRoomyFor, IsTreeOf, flat, part_of, regions_of, row_width, sampled_width, weights_used}
-use Rattle.jxlm_part.specs.Inner.Channels.{IsAfterChannel, StandsIn, all_alike, asked_at, earlier_regions, handed, region_at, setting_of}
+use Rattle.jxlm_part.specs.Reading.{HasFlats, HasRoom, IsCodingOf, IsRoomy, IsRoomyFor, IsTreeOf, flat, part_of, regions_of, row_width, sampled_width}
+use Rattle.jxlm_part.specs.Inner.Channels.{IsAfterChannel, StandsIn, all_alike, asked_at, earlier_regions, handed, region_at, setting_of, weights_at}
 use Rattle.jxlm_part.specs.declared.coding.ChannelTree.{ChannelTree}
 use Rattle.jxlm_part.specs.declared.coding.PartCoding.{PartCoding}
 use Rattle.jxlm_part.specs.declared.coding.PartState.{PartState}
@@ -179,18 +179,18 @@ comes_after_alike c coding i li columns rows state last asked a b same =
 
 module _ {D X : Type 0} (c : PartCoding D) (i : ℕ) where
   -- a state without earlier channels is set for a channel whose tree asks for none
-  pub set_for_none : (state : PredictorState X) (weights : Option WpHeader) → weights ≡ weights_used c → asked_at c i ≡ 0 →
+  pub set_for_none : (state : PredictorState X) (weights : Option WpHeader) → weights ≡ weights_at c i → asked_at c i ≡ 0 →
       StandsAt state (setting (region_at (regions_of c) i).width weights []) [] → StandsAt state (setting_of c i) []
   set_for_none state weights same none h =
       let no : earlier_regions c i ≡ [] = ap (λ n. handed n (all_alike c i)) none in
-      subst (λ rs. StandsAt state (setting (region_at (regions_of c) i).width (weights_used c) rs) []) (sym no)
+      subst (λ rs. StandsAt state (setting (region_at (regions_of c) i).width (weights_at c i) rs) []) (sym no)
       (subst (λ w. StandsAt state (setting (region_at (regions_of c) i).width w []) []) same h)
 
   -- one with all earlier channels is set for a channel whose tree asks for some
-  pub set_for_all : (state : PredictorState X) (weights : Option WpHeader) → weights ≡ weights_used c → 0 < asked_at c i →
+  pub set_for_all : (state : PredictorState X) (weights : Option WpHeader) → weights ≡ weights_at c i → 0 < asked_at c i →
       StandsAt state (setting (region_at (regions_of c) i).width weights (all_alike c i)) [] → StandsAt state (setting_of c i) []
   set_for_all state weights same asked h =
-      subst (λ rs. StandsAt state (setting (region_at (regions_of c) i).width (weights_used c) rs) []) (sym (some_asked (asked_at c i) (all_alike c i) asked))
+      subst (λ rs. StandsAt state (setting (region_at (regions_of c) i).width (weights_at c i) rs) []) (sym (some_asked (asked_at c i) (all_alike c i) asked))
       (subst (λ w. StandsAt state (setting (region_at (regions_of c) i).width w (all_alike c i)) []) same h)
 
   pub somewhere : (state : PredictorState X) → StandsIn c i state → Stands state
@@ -217,17 +217,17 @@ module _ {D X : Type 0} (c : PartCoding D) (i : ℕ) where
         omega (arith, has, all, long, few, room, kept, count, next, li)
 
     -- with it the state has all
-    pub set_by_last : (coding : IsCodingOf c) → i < length (regions_of c) → 0 < asked_at c i → passes c i last ≡ true → (old mid new : PredictorState X) → StandsIn c last old → HasRoom c old →
-        ((s : Setting) (samples : List ℤ) → StandsAt old s samples → StandsAt mid (setting s.width (weights_of old) s.earlier) []) →
+    pub set_by_last : (coding : IsCodingOf c) → i < length (regions_of c) → 0 < asked_at c i → weights_at c last ≡ weights_at c i → passes c i last ≡ true → (old mid new : PredictorState X) → StandsIn c last old →
+        ((s : Setting) (samples : List ℤ) → StandsAt old s samples → StandsAt mid s []) →
         ((s : Setting) (samples : List ℤ) → StandsAt mid s samples → StandsAt new (setting s.width s.weights (region_at (regions_of c) last ∷ s.earlier)) samples) →
         StandsAt new (setting_of c i) []
-    set_by_last coding li here alike old mid new h roomy restarts adds =
+    set_by_last coding li here weights alike old mid new h restarts adds =
         let one = adds _ [] (restarts (setting_of c last) h.before h.stands) in
         let all = some_asked (asked_at c last) (all_alike c last) asked in
-        set_for_all new (weights_of old) roomy.weights here
-        (subst (λ rs. StandsAt new (setting (region_at (regions_of c) i).width (weights_of old) rs) [])
+        set_for_all new (weights_at c last) weights here
+        (subst (λ rs. StandsAt new (setting (region_at (regions_of c) i).width (weights_at c last) rs) [])
         (ap (λ rs. region_at (regions_of c) last ∷ rs) all ∙ sym (next_alike c i last next alike))
-        (subst (λ n. StandsAt new (setting n (weights_of old) (region_at (regions_of c) last ∷ earlier_regions c last)) []) (same_width c coding i li last next alike) one))
+        (subst (λ n. StandsAt new (setting n (weights_at c last) (region_at (regions_of c) last ∷ earlier_regions c last)) []) (same_width c coding i li last next alike) one))
 
 pub no_flats : (t : Shape Leaf) (stream : ℕ) → HasFlats t stream 0 []
 no_flats t stream = record { count_is = refl; each = λ i other h. absurd (omega arith) }

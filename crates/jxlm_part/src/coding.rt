@@ -82,7 +82,7 @@ fn is_alike(a: &ModularChannelInfo, b: &ModularChannelInfo) -> bool
 /// nearest first, where the tree asks for any.
 ///
 /// Where the channel before is like it and asked for any, the state has all of them but that one, and is given only
-/// that.
+/// that. The weights are used only where this channel's own tree may ask for them.
 pub(crate) fn start_channel<S: Sample, D: Decoder>(
     state: &mut PredictorState<S>,
     coding: &PartCoding<'_, D>,
@@ -98,15 +98,17 @@ pub(crate) fn start_channel<S: Sample, D: Decoder>(
     ensures roomy { HasRoom coding.now state.new }
 {
     let width = coding.regions[i].width as u32;
+    let weighted = coding.flats[i].weighted;
     if coding.flats[i].asked == 0 {
-        state.restart(width);
+        state.restart_by(width, weighted);
     } else if coding.flats[i - 1].asked > 0
+        && coding.flats[i - 1].weighted == weighted
         && is_alike(&coding.channels[i - 1], &coding.channels[i])
     {
         state.restart_alike();
         state.add_earlier(coding.regions[i - 1]);
     } else {
-        state.restart(width);
+        state.restart_by(width, weighted);
         add_all_earlier(state, coding, i);
     }
 }

@@ -53,6 +53,11 @@ abbrev pub header_of : Option Corrector → Option WpHeader
 header_of None = None
 header_of (Some c) = Some c.header
 
+-- the weights of the first of two, where it is there, else those of the other
+abbrev pub header_of_either : Option Corrector → Option Corrector → Option WpHeader
+header_of_either None other = header_of other
+header_of_either (Some c) other = Some c.header
+
 -- what was made is what the predictor makes of the cell after the samples
 pub record IsMadeBy (r : PredictionResult) (header : WpHeader) (width : ℕ) (samples : List ℤ) : Type 0 where
   pub prediction_is : r.prediction ≡ self_corrected header samples width

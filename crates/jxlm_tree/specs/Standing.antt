@@ -3,7 +3,7 @@ use Rattle.std.specs.Prelude.{◌≡◌, ℕ, ◌+◌, ◌^◌, ◌<◌, ◌≤�
 use Rattle.jxlm_base.specs.Grid.{Grid}
 use Rattle.jxlm_base.specs.Regions.{Lies}
 use Rattle.jxlm_base.specs.declared.subgrid.Region.{Region}
-use Rattle.jxlm_tree.specs.Correcting.{Corrects, header_of}
+use Rattle.jxlm_tree.specs.Correcting.{Corrects, header_of, header_of_either}
 use Rattle.jxlm_tree.specs.Neighbours.{row}
 use Rattle.jxlm_tree.specs.Rolling.{Rolls}
 use Rattle.jxlm_tree.specs.declared.state.PredictorState.{PredictorState}
@@ -76,9 +76,13 @@ module _ {S : Type 0} where
   abbrev pub earlier_room_of : PredictorState S → ℕ
   earlier_room_of state = vec_capacity state.earlier
 
-  -- the weights, if there are any
+  -- the weights that are used in this channel, if any are
+  abbrev pub used_weights : PredictorState S → Option WpHeader
+  used_weights state = header_of state.corrector
+
+  -- the weights, if there are any: those that are used, or those that are kept for a later channel
   abbrev pub weights_of : PredictorState S → Option WpHeader
-  weights_of state = header_of state.corrector
+  weights_of state = header_of_either state.corrector state.resting
 
   -- there is as much memory in both, and the weights are the same
   pub record HasSameRoom (old new : PredictorState S) : Type 0 where

@@ -1,6 +1,6 @@
 //! The state between two samples of a channel.
 
-ghost use Rattle.std.specs.Prelude.{◌≡◌, ◌+◌, ◌*◌, ◌<◌, ◌≤◌, ◌^◌, ℕ, ℤ, List, [], ◌∷◌, ◌++◌, false, None, IfOk, IfErr, OnErr, vec_len};
+ghost use Rattle.std.specs.Prelude.{◌≡◌, ◌+◌, ◌*◌, ◌<◌, ◌≤◌, ◌^◌, ℕ, ℤ, List, [], ◌∷◌, ◌++◌, false, None, IfOk, IfErr, OnErr, if◌then◌else◌, vec_len};
 ghost use Rattle.std.specs.Option.{option_copied, ForSome};
 ghost use Rattle.jxlm_base.specs.ErrorKind.{NoMemory, kind_of};
 ghost use Rattle.jxlm_tree.specs.Correcting.{HasRows};
@@ -33,18 +33,22 @@ pub struct PredictorState<S> {
     pub(crate) current: Vec<i32>,
     // The nearest last.
     pub(crate) earlier: Vec<Region>,
+    // In use in this channel.
     pub(crate) corrector: Option<Corrector>,
+    // Kept for a later channel.
+    pub(crate) resting: Option<Corrector>,
     marker: PhantomData<S>,
     ghost within_room: { width ≤ room },
     ghost narrow: { room ≤ 2 ^ 30 },
     ghost previous_len: { room ≤ vec_len previous },
     ghost current_len: { room ≤ vec_len current },
     ghost corrector_rows: { HasRows corrector room },
+    ghost resting_rows: { HasRows resting room },
 }
 
 impl<S> PredictorState<S> {
-    ghost use Rattle.jxlm_tree.specs.Inner.StateSteps.{IsNext, KeepsSetting, RollsIn};
-    ghost use Rattle.jxlm_tree.specs.Standing.{Setting, StandsAt, Stands, HasEarlier, IsInner, HasSameRoom, setting, room_of, earlier_room_of, earlier_count, weights_of};
+    ghost use Rattle.jxlm_tree.specs.Inner.StateSteps.{DiffersInWeights, IsNext, KeepsSetting, RollsIn};
+    ghost use Rattle.jxlm_tree.specs.Standing.{Setting, StandsAt, Stands, HasEarlier, IsInner, HasSameRoom, setting, room_of, earlier_room_of, earlier_count, used_weights, weights_of};
     ghost use Rattle.jxlm_tree.specs.Neighbours.{neighbours, north_east, north_east_east, north_north, west_west};
     ghost use Rattle.jxlm_tree.specs.Around.{seen};
     ghost use Rattle.jxlm_tree.specs.Correcting.{IsMade};
@@ -70,6 +74,7 @@ impl<S> PredictorState<S> {
             current: Vec::new(alloc),
             earlier: Vec::new(alloc),
             corrector: None,
+            resting: None,
             marker: PhantomData,
         }
     }
@@ -156,6 +161,7 @@ impl<S> PredictorState<S> {
         ensures room { IfOk result (λ s. room_of s ≡ widest) }
         ensures earlier_room { IfOk result (λ s. earlier_room_of s ≡ earlier) }
         ensures weights { IfOk result (λ s. weights_of s ≡ option_copied wp_header.entry) }
+        ensures used { IfOk result (λ s. used_weights s ≡ option_copied wp_header.entry) }
     {
         let corrector = match wp_header {
             Some(weights) => Some(Corrector::with_room(alloc, *weights, widest)?),
@@ -175,6 +181,7 @@ impl<S> PredictorState<S> {
             current: vec![in alloc; 0i32; widest as usize]?,
             earlier: Vec::with_capacity(alloc, earlier)?,
             corrector,
+            resting: None,
             marker: PhantomData,
         })
     }
@@ -188,16 +195,52 @@ impl<S> PredictorState<S> {
         ensures none { earlier_count self.new ≡ 0 }
         ensures room { HasSameRoom self.old self.new }
     {
+        self.restart_by(width, true);
+    }
+
+    /// The same, and the weights, if there are any, are used in this channel only where `weighted`: without them a
+    /// sample costs less. They are kept for the channels after it.
+    pub fn restart_by(&mut self, width: u32, weighted: bool)
+        requires some { 0 < width }
+        requires roomy { width ≤ room_of self.old }
+        ensures stands { StandsAt self.new (setting width (if weighted then weights_of self.old else None) []) [] }
+        ensures none { earlier_count self.new ≡ 0 }
+        ensures room { HasSameRoom self.old self.new }
+    {
         self.earlier.clear();
+        if weighted {
+            self.use_weights();
+        } else {
+            self.rest_weights();
+        }
         self.begin(width);
+    }
+
+    // The weights are in use.
+    fn use_weights(&mut self)
+        ensures used { used_weights self.new ≡ weights_of self.old }
+        ensures rest { DiffersInWeights self.old self.new }
+    {
+        if self.corrector.is_none() {
+            self.corrector = self.resting.take();
+        }
+    }
+
+    // No weights are in use.
+    fn rest_weights(&mut self)
+        ensures used { used_weights self.new ≡ None }
+        ensures rest { DiffersInWeights self.old self.new }
+    {
+        if self.corrector.is_some() {
+            self.resting = self.corrector.take();
+        }
     }
 
     /// Puts the state at the first cell of another channel of the same width, with weights and earlier channels as
     /// they are.
     pub fn restart_alike(&mut self)
         requires stands { Stands self.old }
-        ensures stands { (s : Setting) (samples : List ℤ) → StandsAt self.old s samples → StandsAt self.new
-            (setting s.width (weights_of self.old) s.earlier) [] }
+        ensures stands { (s : Setting) (samples : List ℤ) → StandsAt self.old s samples → StandsAt self.new s [] }
         ensures same { earlier_count self.new ≡ earlier_count self.old }
         ensures room { HasSameRoom self.old self.new }
     {
@@ -209,7 +252,7 @@ impl<S> PredictorState<S> {
         requires some { 0 < width }
         requires roomy { width ≤ room_of self.old }
         ensures stands { (earlier : List Region) → HasEarlier self.old earlier → StandsAt self.new
-            (setting width (weights_of self.old) earlier) [] }
+            (setting width (used_weights self.old) earlier) [] }
         ensures same { earlier_count self.new ≡ earlier_count self.old }
         ensures room { HasSameRoom self.old self.new }
     {

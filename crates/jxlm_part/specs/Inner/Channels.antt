@@ -1,13 +1,14 @@
 -- What the predictors' state is set for in each channel of a part, and where it is.
-use Rattle.std.specs.Prelude.{◌≡◌, ℕ, zero, suc, ◌+◌, ◌<◌, ℤ, List, [], map, take, get_or, slice_get}
+use Rattle.std.specs.Prelude.{◌≡◌, ℕ, zero, suc, ◌+◌, ◌<◌, ℤ, List, [], map, take, get_or, slice_get, Bool, false, if◌then◌else◌, Option, Some, None}
 use Rattle.std.specs.Option.{option_map_or}
 use Rattle.jxlm_base.specs.Grid.{Grid}
 use Rattle.jxlm_base.specs.Regions.{region, grid_of, store_meanings}
 use Rattle.jxlm_base.specs.declared.subgrid.Region.{Region}
 use Rattle.jxlm_tree.specs.Standing.{Setting, StandsAt, setting}
+use Rattle.jxlm_tree.specs.declared.predictor.WpHeader.{WpHeader}
 use Rattle.jxlm_tree.specs.declared.state.PredictorState.{PredictorState}
 use Rattle.jxlm_part.specs.Part.{earlier_alike}
-use Rattle.jxlm_part.specs.Reading.{part_of, regions_of, weights_used}
+use Rattle.jxlm_part.specs.Reading.{part_of, regions_of}
 use Rattle.jxlm_part.specs.declared.coding.ChannelTree.{ChannelTree}
 use Rattle.jxlm_part.specs.declared.coding.PartCoding.{PartCoding}
 
@@ -29,13 +30,21 @@ module _ {D : Type 0} where
   abbrev pub asked_at : PartCoding D → ℕ → ℕ
   asked_at c i = option_map_or (λ (t : ChannelTree). t.asked) (slice_get c.flats.now i) 0
 
+  -- whether the tree of channel i may ask for the weights
+  abbrev pub weighted_at : PartCoding D → ℕ → Bool
+  weighted_at c i = option_map_or (λ (t : ChannelTree). t.weighted) (slice_get c.flats.now i) false
+
+  -- the weights that the state uses in channel i
+  abbrev pub weights_at : PartCoding D → ℕ → Option WpHeader
+  weights_at c i = if weighted_at c i then Some c.weights else None
+
   -- those that the state is given
   abbrev pub earlier_regions : PartCoding D → ℕ → List Region
   earlier_regions c i = handed (asked_at c i) (all_alike c i)
 
   -- what the state is set for in channel i
   abbrev pub setting_of : PartCoding D → ℕ → Setting
-  setting_of c i = setting (region_at (regions_of c) i).width (weights_used c) (earlier_regions c i)
+  setting_of c i = setting (region_at (regions_of c) i).width (weights_at c i) (earlier_regions c i)
 
   module _ {X : Type 0} where
     -- the state is at the cell after the first n of channel i

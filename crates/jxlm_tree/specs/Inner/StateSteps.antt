@@ -1,6 +1,7 @@
 -- How a predictor's state goes on by a sample.
 use Rattle.std.specs.Prelude.{◌≡◌, ◌+◌, ◌<◌, ◌≤◌, ℤ, List}
 use Rattle.jxlm_tree.specs.Rolling.{Rolls}
+use Rattle.jxlm_tree.specs.Standing.{weights_of}
 use Rattle.jxlm_tree.specs.declared.state.PredictorState.{PredictorState}
 
 -- the rolling rows and values are those after these samples
@@ -13,6 +14,13 @@ pub record KeepsSetting {S : Type 0} (old new : PredictorState S) : Type 0 where
   pub same_room : new.room ≡ old.room
   pub same_earlier : new.earlier ≡ old.earlier
   pub same_corrector : new.corrector ≡ old.corrector
+  pub same_resting : new.resting ≡ old.resting
+
+-- both have the same weights, room and earlier channels, whether the weights are used or not
+pub record DiffersInWeights {S : Type 0} (old new : PredictorState S) : Type 0 where
+  pub same_room : new.room ≡ old.room
+  pub same_earlier : new.earlier ≡ old.earlier
+  pub same_weights : weights_of new ≡ weights_of old
 
 -- the cell is the next one: in the row, or at the start of the next row
 abbrev pub IsNext : {S : Type 0} → PredictorState S → PredictorState S → Type 0

@@ -28,4 +28,5 @@ invariant_of-self g c =
       previous_len = old.previous_len;
       current_len = old.current_len;
       corrector_rows = c.record_where_made.ensures.rows old.room old.corrector_rows;
+      resting_rows = old.resting_rows;
     }

@@ -9,4 +9,5 @@ invariant_of-self g c =
       previous_len = old.previous_len;
       current_len = old.current_len;
       corrector_rows = c.restart_where_kept.ensures.rows old.room old.corrector_rows;
+      resting_rows = old.resting_rows;
     }
