@@ -55,7 +55,7 @@ known_by channel stream earlier = record { channel = channel; stream = stream; p
 reads : (n : ℕ) → n < 2 ^ 31 → int_wrap w32 (pos n) ≡ pos n
 reads n few = int_wrap_fits w32 (pos n) (record { sfits = few })
 
-later-reads : (channel k : ℕ) → channel + k < 2 ^ 31 → int_wrap w32 (pos channel) +ℤ pos k ≡ int_wrap w32 (pos (channel + k))
+pub later-reads : (channel k : ℕ) → channel + k < 2 ^ 31 → int_wrap w32 (pos channel) +ℤ pos k ≡ int_wrap w32 (pos (channel + k))
 later-reads channel k few =
     let one = reads channel (omega arith) in
     let other = reads (channel + k) few in

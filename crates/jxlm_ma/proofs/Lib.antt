@@ -28,3 +28,5 @@ pub mod MostSteps
 pub mod PathSteps
 pub mod FewSteps
 pub mod StepErrors
+pub mod NextChannels
+pub mod OneNode

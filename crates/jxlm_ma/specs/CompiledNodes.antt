@@ -1,5 +1,5 @@
 -- How many nodes a tree is compiled to for the samples of a channel.
-use Rattle.std.specs.Prelude.{ℕ, ◌+◌, ◌*◌, ◌==◌, ◌&&◌, ◌||◌, not, nat_lt, Bool, false, ℤ, pos, neg_ℤ, ◌+ℤ◌, int_lt, if◌then◌else◌, List, [], ◌∷◌, ◌++◌, length, fold, ◌^◌}
+use Rattle.std.specs.Prelude.{◌≡◌, ℕ, ◌+◌, ◌*◌, ◌==◌, ◌&&◌, ◌||◌, not, nat_lt, Bool, true, false, ℤ, pos, neg_ℤ, ◌+ℤ◌, int_lt, if◌then◌else◌, List, [], ◌∷◌, ◌++◌, length, fold, ◌^◌}
 use Rattle.std.specs.Int.{int_min, int_max}
 use Rattle.jxlm_ma.specs.FlatTree.{FlatTree, asked}
 use Rattle.jxlm_ma.specs.Tree.{Shape, leaf, decision}
@@ -75,3 +75,8 @@ takes (decision p v left right) = takes_decision (has_table (decision p v left r
 -- the nodes of the tree as it is compiled
 abbrev pub flat_nodes : FlatTree → ℕ
 flat_nodes t = (takes (undecided t t.tree)).own
+
+-- every decision asks for a property that is known beforehand
+abbrev pub AsksKnown : FlatTree → Shape Leaf → Type 0
+AsksKnown t (leaf l) = Unit {0}
+AsksKnown t (decision k value left right) = (is_known t k ≡ true) × (AsksKnown t left × AsksKnown t right)

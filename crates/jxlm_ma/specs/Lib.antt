@@ -10,3 +10,4 @@ pub mod ClusterTables
 pub mod Paths
 pub mod Steps
 pub mod CompiledNodes
+pub mod NextChannel

@@ -1,11 +1,12 @@
 //! Trees as the samples of one channel walk them, and what a leaf says.
 
-ghost use Rattle.std.specs.Prelude.{◌≡◌, ◌≤◌, ◌<◌, ◌+◌, ◌^◌, ℕ, ℤ, pos, false, length, true, ◌/◌, ◌⊎◌, IfOk, IfErr, IfSome, None};
+ghost use Rattle.std.specs.Prelude.{◌≡◌, ◌≢◌, ◌≤◌, ◌<◌, ◌+◌, ◌^◌, ℕ, ℤ, pos, false, length, true, ◌/◌, ◌⊎◌, IfOk, IfErr, IfSome, None};
 ghost use Rattle.std.proofs.Common.{reverse};
 ghost use Rattle.std.specs.Int.{w32, int_wrap};
 ghost use Rattle.jxlm_base.specs.Bits.{bytes_of};
 ghost use Rattle.jxlm_ma.specs.DecodingSamples.{SampleGives};
-ghost use Rattle.jxlm_ma.specs.CompiledNodes.{flat_nodes};
+ghost use Rattle.jxlm_ma.specs.CompiledNodes.{AsksKnown, flat_nodes, undecided};
+ghost use Rattle.jxlm_ma.specs.NextChannel.{next_alike};
 ghost use Rattle.jxlm_ma.specs.FlatTree.{PropertiesAre, ClustersStandIn, FlatTree, GoesWithoutWeights, HasMultiplier, NamesEarlier, ReadsEarlierBelow, flat_tree, leaf_reached, needs_weights, residual_of};
 ghost use Rattle.jxlm_tree.specs.Properties.{Surroundings, place_property, property};
 ghost use Rattle.jxlm_ma.specs.ClusterTables.{LeavesAgree};
@@ -221,6 +222,8 @@ impl FlatNode {
 fn last_channel(channel: u32, more: u32) -> u32
     ensures within { result ≤ channel + more }
     ensures signed { result < 2 ^ 31 }
+    ensures far { result + 1 < 2 ^ 31 → result ≡ channel + more }
+    ensures reaches { channel < 2 ^ 31 → channel ≤ result }
 {
     channel.saturating_add(more).min(i32::MAX as u32)
 }
@@ -320,7 +323,7 @@ impl CompiledTree {
 impl FlatMaTree {
     /// The same tree as the samples of the next channel walk it, which has one earlier channel more. It shares the
     /// nodes of this one, where each decision that is known beforehand is taken alike for both channels; it is none
-    /// where one may not be.
+    /// only where one is not, or where the next channel's number is 2^31 or more, or has 2^32 earlier channels.
     ///
     /// # Errors
     ///
@@ -328,6 +331,8 @@ impl FlatMaTree {
     pub fn for_next_channel(&self) -> Result<Option<FlatMaTree>>
         ensures next { IfOk result (λ o. IfSome o (λ t. t
             ≡ flat_tree self.now.tree (self.now.channel + 1) self.now.stream_idx (self.now.prev_channels + 1))) }
+        ensures shared { self.now.channel + 1 < 2 ^ 31 → self.now.prev_channels + 1 < 2 ^ 32
+            → next_alike self.now ≡ true → IfOk result (λ o. o ≢ None) }
         ensures err { IfErr result (λ e. kind_of e ≡ NoMemory) }
     {
         if self.channel >= self.compiled.last_alike || self.prev_channels == u32::MAX {
@@ -455,4 +460,11 @@ pub fn a_sample_takes_few_steps()
     ensures none { (l : Leaf) → (l.predictor ≡ Zero) ⊎ IsPlainGradient l → most_steps (leaf l) ≡ 0 }
     ensures one { (t : Shape Leaf) (p : ℕ) → 2 ≤ p → p ≤ 15 → TestsOnly p t → CutsWithin 1022 t → Reaches 4 t
         → LeavesAgree t → most_steps t ≡ 1 }
+{}
+
+/// Where no decision is left once those that are known beforehand are taken, there is one flat node; so also where all
+/// decisions ask for what is known: the channel, the stream, or an earlier channel that there is none of.
+pub fn a_decided_tree_is_one_node()
+    ensures left { (t : FlatTree) (l : Leaf) → undecided t t.tree ≡ leaf l → flat_nodes t ≡ 1 }
+    ensures known { (t : FlatTree) → AsksKnown t t.tree → flat_nodes t ≡ 1 }
 {}

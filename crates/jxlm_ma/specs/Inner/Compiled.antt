@@ -1,5 +1,5 @@
 -- What a compiled tree keeps to.
-use Rattle.std.specs.Prelude.{◌≡◌, ℕ, ◌+◌, ◌<◌, ◌≤◌, pos, Bool, false, List, [], length}
+use Rattle.std.specs.Prelude.{◌≡◌, ℕ, ◌+◌, ◌<◌, ◌≤◌, ◌^◌, pos, Bool, false, List, [], length}
 use Rattle.std.specs.Int.{w32, int_wrap}
 use Rattle.std.specs.List.{list_any}
 use Rattle.std.proofs.Common.{reverse}
@@ -7,7 +7,8 @@ use Rattle.jxlm_ma.specs.CompiledNodes.{takes}
 use Rattle.jxlm_ma.specs.FlatTree.{HasMultiplier}
 use Rattle.jxlm_ma.specs.Inner.FlatShapes.{earlier_named, size}
 use Rattle.jxlm_ma.specs.Inner.FlatNodes.{IsSound, Keeps, Tops, Serves, most_channels, sees_error}
-use Rattle.jxlm_ma.specs.Inner.Pruned.{pruned, tests_place}
+use Rattle.jxlm_ma.specs.Inner.Pruned.{known_side, pruned, tests_place}
+use Rattle.jxlm_ma.specs.NextChannel.{taken_alike}
 use Rattle.jxlm_ma.specs.Inner.Tables.{TableAt}
 use Rattle.jxlm_ma.specs.Tree.{AllLeaves, Shape}
 use Rattle.jxlm_ma.specs.declared.marks.Known.{Known}
@@ -40,11 +41,18 @@ abbrev pub IsLeftAlike : Shape Leaf → ℕ → ℕ → ℕ → ℕ → Type 0
 IsLeftAlike t channel stream earlier last =
     (k : ℕ) → channel + k ≤ last → pruned (known_at (channel + k) stream (earlier + k)) t ≡ pruned (known_at channel stream earlier) t
 
+-- the next channel after the last one does not take all known decisions as that one does, unless its number is read as negative
+abbrev pub EndsAlike : Shape Leaf → ℕ → ℕ → ℕ → ℕ → Type 0
+EndsAlike t channel stream earlier last =
+    (k : ℕ) → channel + k ≡ last → last + 1 < 2 ^ 31 → taken_alike (known_side (known_at (channel + k) stream (earlier + k))) (known_side (known_at (channel + k + 1) stream (earlier + k + 1))) t ≡ false
+
 -- the tree is compiled for this channel of this stream, with so many earlier channels, and its table is that of the root
 pub record IsCompiledFor (t : Shape Leaf) (channel stream earlier : ℕ) (c : CompiledTree) : Type 0 where
   pub tree : IsCompiled t (known_at channel stream earlier) c.nodes.items c.root c.need_self_correcting c.prev_channels_named
   pub table : TableAt c.nodes.items c.root c.table
   pub alike : IsLeftAlike t channel stream earlier c.last_alike
+  pub ends : EndsAlike t channel stream earlier c.last_alike
+  pub reaches : channel < 2 ^ 31 → channel ≤ c.last_alike
 
 -- The tree is compiled for every channel of every stream, where no earlier channel that it names is missing: it asks
 -- for neither channel nor stream.

@@ -1,9 +1,10 @@
 -- What is left of a tree where some properties are known, and what a table needs to know of it.
-use Rattle.std.specs.Prelude.{ℕ, ◌+◌, ◌*◌, ◌==◌, nat_lt, ◌||◌, Bool, false, ℤ, pos, ◌+ℤ◌, int_lt, if◌then◌else◌, List, [], ◌∷◌, Option, Some, None}
+use Rattle.std.specs.Prelude.{◌≡◌, ℕ, ◌+◌, ◌<◌, ◌^◌, ◌*◌, ◌==◌, nat_lt, ◌||◌, Bool, false, ℤ, pos, ◌+ℤ◌, int_lt, if◌then◌else◌, List, [], ◌∷◌, Option, Some, None}
 use Rattle.std.specs.Int.{int_min, int_max}
 use Rattle.jxlm_ma.specs.declared.marks.Known.{Known}
 use Rattle.jxlm_ma.specs.declared.marks.Survey.{Survey}
 use Rattle.jxlm_ma.specs.declared.flat.Leaf.{Leaf}
+use Rattle.jxlm_ma.specs.NextChannel.{taken_alike}
 use Rattle.jxlm_ma.specs.Tree.{Shape, leaf, decision}
 use Rattle.jxlm_ma.specs.Inner.FlatShapes.{size}
 pub use Rattle.jxlm_ma.specs.CompiledNodes.{cuts, greatest, least}
@@ -12,9 +13,21 @@ pub use Rattle.jxlm_ma.specs.CompiledNodes.{cuts, greatest, least}
 abbrev pub known : Known → ℕ → Option ℤ
 known pins p = if p == 0 then Some pins.channel else (if p == 1 then Some pins.stream else (if nat_lt p (16 + 4 * pins.prev_channels) then None else Some (pos 0)))
 
+-- to which side a decision goes, where its property is known: true to the left
+abbrev pub side_of : Option ℤ → ℤ → Option Bool
+side_of None v = None
+side_of (Some x) v = Some (int_lt v x)
+
+abbrev pub known_side : Known → ℕ → ℤ → Option Bool
+known_side pins p v = side_of (known pins p) v
+
 -- what is known k channels later, with k earlier channels more
 abbrev pub later : Known → ℕ → Known
 later pins k = record { channel = pins.channel +ℤ pos k; stream = pins.stream; prev_channels = pins.prev_channels + k }
+
+-- n channels later is the last time that the next channel takes all known decisions as the one before it
+abbrev pub EndsAt : Known → Shape Leaf → ℕ → Type 0
+EndsAt pins t n = n + 1 < 2 ^ 32 → taken_alike (known_side (later pins n)) (known_side (later pins (n + 1))) t ≡ false
 
 -- the properties as a walk sees them
 abbrev pub or_seen : Option ℤ → ℤ → ℤ

@@ -9,6 +9,7 @@ use Rattle.jxlm_ma.specs.Inner.Tables.{TableAt}
 use Rattle.jxlm_ma.specs.Inner.TreeShape.{shape_of}
 use Rattle.jxlm_ma.specs.declared.flat.FlatNode.{FlatNode}
 use Rattle.jxlm_ma.proofs.FlatMade.{alike-up-to, known_by, marked-room, marked-of, compiles-as, ok_at, made_of, is_compiled}
+use Rattle.jxlm_ma.proofs.NextChannels.{ends-by}
 use Rattle.jxlm_ma.proofs.flat.CompiledTree.new.Goals as goal
 
 -- a result whose error was replaced, and which is no error
@@ -45,5 +46,9 @@ returns-clause-compiled c =
       table = subst (λ (ns : List FlatNode). TableAt ns c.in_ok-root.root c.in_ok-table.table) c.deref-3.ensures.value (ok_at _ _ _ found c.of.ensures);
       alike = alike-up-to (shape_of c.args.tree.now.root) c.args.channel c.args.stream_idx c.args.prev_channels c.channels_alike.result _ _ _
           (to_z-of_z w32 c.read_as_signed.result channel_fits ∙ c.read_as_signed.ensures) (to_z-of_z w32 c.read_as_signed-2.result stream_fits ∙ c.read_as_signed-2.ensures)
-          c.channels_alike.ensures last.within last.signed;
+          c.channels_alike.ensures.same last.within last.signed;
+      ends = ends-by (shape_of c.args.tree.now.root) c.args.channel c.args.stream_idx c.args.prev_channels c.channels_alike.result _ _ _
+          (to_z-of_z w32 c.read_as_signed.result channel_fits ∙ c.read_as_signed.ensures) (to_z-of_z w32 c.read_as_signed-2.result stream_fits ∙ c.read_as_signed-2.ensures)
+          c.channels_alike.ensures.ends last.far;
+      reaches = last.reaches;
     }

@@ -1,10 +1,27 @@
-use Rattle.std.proofs.Common.{◌≡◌, ◌+◌, ◌<◌, rules, arith, subst}
+use Rattle.std.proofs.Common.{◌≡◌, ◌∙◌, ◌+◌, ◌<◌, ◌≤◌, rules, ap, arith, subst}
+use Rattle.jxlm_ma.specs.FlatTree.{FlatTree}
+use Rattle.jxlm_ma.specs.NextChannel.{next_alike}
 use Rattle.jxlm_ma.specs.Inner.Compiled.{IsCompiledFor}
 use Rattle.jxlm_ma.specs.Inner.TreeShape.{shape_of}
 use Rattle.jxlm_ma.specs.declared.flat.CompiledTree.{CompiledTree}
 use Rattle.jxlm_ma.specs.declared.tree.MaTree.{MaTree}
 use Rattle.jxlm_ma.proofs.FlatShared.{serves-next}
+use Rattle.jxlm_ma.proofs.NextChannels.{goes-on}
+use Rattle.jxlm_ma.proofs.flat.FlatMaTree.for_next_channel.Goals.{then-self-deref-via-then-self-deref, then-self-deref-via-else-self-deref+then-self}
 use Rattle.jxlm_ma.proofs.flat.FlatMaTree.for_next_channel.Goals as goal
+
+pub returns-then-self-deref-clause-shared : goal.returns-then-self-deref-clause-shared
+returns-then-self-deref-clause-shared c = λ channels earlier alike _.
+    let t = c.self.inside in
+    let same = ap (λ (u : FlatTree). u.channel) c.self.view_is in
+    let counts = ap (λ (u : FlatTree). u.prev_channels) c.self.view_is in
+    let here = ap next_alike c.self.view_is in
+    elim c.then-self-deref.branch [
+      | then-self-deref-via-then-self-deref w ↦
+          let last : t.compiled.value.last_alike ≤ t.channel = subst (λ (x : CompiledTree). x.last_alike ≤ t.channel) c.deref.ensures (omega (arith, w.if-self-deref.true)) in
+          goes-on (shape_of t.tree.value.root) t.channel t.stream_idx t.prev_channels t.compiled.value.last_alike c.self.invariant.ends c.self.invariant.reaches (omega (arith, channels, same)) (here ∙ alike) last
+      | then-self-deref-via-else-self-deref+then-self w ↦ omega (arith, earlier, counts, w.if-self.true)
+    ]
 
 pub invariant_of-result : goal.invariant_of-result
 invariant_of-result c =
