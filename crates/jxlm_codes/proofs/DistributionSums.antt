@@ -1,14 +1,15 @@
 -- The counts of a distribution sum up to 4096.
 use Rattle.std.specs.Prelude.{◌≡◌, ◌≢◌, ℕ, zero, suc, ◌+◌, ◌-◌, ◌*◌, ◌/◌, ◌%◌, ◌^◌, ◌<◌, ◌≤◌, List, [], ◌∷◌, ◌++◌, length, replicate, sum, min, max, set, Bool, true, false, cond, nat_lt, nat_le, ◌==◌, ◌&&◌, Result, Ok, Err, IfOk, slice_set, slice_index, slice_index_or}
+use Rattle.std.specs.List.{All}
 use Rattle.std.proofs.Common.{refl, sym, ap, subst, ◌∙◌, inl, inr, arith}
 use Rattle.std.proofs.lemmas.Bool.{and_parts, cases_order}
 use Rattle.std.proofs.lemmas.Bool.Decides.{nat_tests}
 use Rattle.std.proofs.lemmas.List.{length-set, length-replicate, length-append, get_or-replicate, get_or-set_same, get_or-set_other, get_or_push, get_or_append_left, get_or_past, length_push}
 use Rattle.std.proofs.lemmas.Result.{IfOk-weaker}
-use Rattle.std.proofs.lemmas.List.Sums.{sum_by-set, sum_by_push}
+use Rattle.std.proofs.lemmas.List.Sums.{sum_by-set, sum_by_push, get_or-le-sum_by}
 use Rattle.std.proofs.lemmas.List.Folds.{sum_by-replicate}
 use Rattle.jxlm_base.specs.Bits.{bits_at}
-use Rattle.jxlm_base.specs.Decoding.{Found}
+use Rattle.jxlm_base.specs.Decoding.{Found, Gives}
 use Rattle.jxlm_base.specs.ErrorKind.{◌>>=◌}
 use Rattle.jxlm_base.specs.declared.decoder.DecoderError.{DecoderError}
 use Rattle.jxlm_base.proofs.BitsLemmas.{bits_at-bound}
@@ -209,3 +210,10 @@ distribution_sums bytes p =
 
 pub sums : (bytes : List ℕ) (p : ℕ) (found : Found (List ℕ)) → distribution_at bytes p ≡ Ok found → sum found.value ≡ 4096
 sums bytes p found h = of_ok (distribution_at bytes p) Sums found (distribution_sums bytes p) h
+
+-- each count is below 4096, or that
+pub each_count : {A : Type 0} (view : A → List ℕ) (r : Result A DecoderError) (q : ℕ) (bytes : List ℕ) (p : ℕ) → Gives view r q (distribution_at bytes p) → IfOk r (λ v. All (λ count. count ≤ 4096) (view v))
+each_count view (Ok v) q bytes p h = λ k d lt.
+    let whole_is : sum (view v) ≡ 4096 = sums bytes p _ h in
+    omega (arith, whole_is, get_or-le-sum_by (λ (x : ℕ). x) (view v) k d lt)
+each_count view (Err e) q bytes p h = tt

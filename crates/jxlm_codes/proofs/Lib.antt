@@ -13,3 +13,5 @@ mod BucketMoves
 mod BucketFilling
 mod BucketSlots
 mod SomeSpelling
+mod LookupEntries
+mod FullCodes

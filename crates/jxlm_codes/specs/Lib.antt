@@ -5,6 +5,7 @@ pub mod IntegerConfigs
 pub mod Spellings
 pub mod PrefixCodes
 pub mod Codewords
+pub mod Lookups
 pub mod Distributions
 pub mod Ans
 pub mod Alias

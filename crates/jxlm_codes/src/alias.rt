@@ -1,6 +1,7 @@
 //! The slots of a distribution, in buckets.
 
 ghost use Rattle.std.specs.Prelude.{◌≡◌, ◌+◌, ◌-◌, ◌*◌, ◌/◌, ◌<◌, ◌≤◌, ◌^◌, length, IfOk, IfErr, OnOk, Option, slice_index};
+ghost use Rattle.std.specs.List.{All};
 ghost use Rattle.jxlm_base.specs.declared.decoder.DecoderError.{DecoderError};
 ghost use Rattle.jxlm_codes.specs.Alias.{only_from, only_buckets as the_only_buckets, sorted, with_bucket, kept_by, filled_buckets, last_of, without_last, unfilled as not_filled, filled_one as one_filled, filled_by as all_filled, buckets_of};
 ghost use Rattle.jxlm_codes.specs.Inner.Seen.{filling_seen};
@@ -11,11 +12,13 @@ use jxlm_base::decoder::DecoderError;
 use std::alloc::Global;
 
 /// How many slots there are.
-const WHOLE: u32 = 4096;
+const WHOLE: u16 = 4096;
 
 /// A number of a list, and 0 past its end.
 fn at(numbers: &[u32], place: usize) -> u32
-    ensures { result ≡ slice_index numbers.now place }
+    requires { All (λ number. number ≤ 4096) numbers.now }
+    ensures number { result ≡ slice_index numbers.now place }
+    ensures most { result ≤ 4096 }
 {
     match numbers.get(place) {
         Some(number) => *number,
@@ -29,18 +32,36 @@ pub fn only(counts: &[u32]) -> Option<u32>
     ensures { result ≡ only_from 0 counts.now }
 {
     for (symbol, count) in counts.iter().enumerate() {
-        if *count == WHOLE {
+        if *count == u32::from(WHOLE) {
             return Some(symbol as u32);
         }
     }
     None
 }
 
-/// How many slots a bucket has.
-pub fn bucket_size_of(log: u32) -> u32
+/// How many slots a bucket has, as a power of 2.
+pub fn bucket_shift_of(log: u32) -> u32
     requires { log ≤ 8 }
-    ensures value { result ≡ 4096 / 2 ^ log }
-    ensures some { 0 < result }
+    ensures size { 2 ^ result ≡ 4096 / 2 ^ log }
+    ensures most { result ≤ 12 }
+{
+    match log {
+        0 => 12,
+        1 => 11,
+        2 => 10,
+        3 => 9,
+        4 => 8,
+        5 => 7,
+        6 => 6,
+        7 => 5,
+        _ => 4,
+    }
+}
+
+/// How many slots a bucket has.
+fn bucket_size_of(log: u32) -> u32
+    requires { log ≤ 8 }
+    ensures { result ≡ 4096 / 2 ^ log }
 {
     match log {
         0 => 4096,
@@ -117,6 +138,7 @@ fn sort(s: &mut Filling, bucket_size: u32, i: usize, cutoff: u32) -> Result<(), 
 fn add_bucket(s: &mut Filling, counts: &[u32], bucket_size: u32, i: u32) -> Result<(), DecoderError>
     requires place { i ≡ length s.old.buckets.items }
     requires few { i < 2 ^ 8 }
+    requires counts { All (λ count. count ≤ 4096) counts.now }
     ensures ok { OnOk result (filling_seen s.new ≡ with_bucket counts.now bucket_size i (filling_seen s.old)) }
     ensures many { OnOk result (length s.new.buckets.items ≡ i + 1) }
     ensures err { IfErr result (λ e. e ≡ DecoderError.OutOfMemory) }
@@ -126,8 +148,8 @@ fn add_bucket(s: &mut Filling, counts: &[u32], bucket_size: u32, i: u32) -> Resu
         cutoff: count,
         alias_symbol: i,
         alias_offset: 0,
-        count,
-        alias_count: count,
+        count: count as u16,
+        alias_count: count as u16,
     })?;
     sort(s, bucket_size, i as usize, count)
 }
@@ -139,7 +161,8 @@ fn unfilled(
     bucket_size: u32,
     size: u32,
 ) -> Result<Filling, DecoderError>
-    requires { size ≤ 2 ^ 8 }
+    requires size { size ≤ 2 ^ 8 }
+    requires counts { All (λ count. count ≤ 4096) counts.now }
     ensures ok { IfOk result (λ s. filling_seen s ≡ not_filled counts.now bucket_size size) }
     ensures err { IfErr result (λ e. e ≡ DecoderError.OutOfMemory) }
 {
@@ -227,6 +250,7 @@ fn fill_all(s: &mut Filling, bucket_size: u32, size: u32) -> Result<(), DecoderE
 pub fn buckets(alloc: Global, counts: &[u32], log: u32) -> Result<Vec<Bucket>, DecoderError>
     requires log { log ≤ 8 }
     requires few { length counts.now ≤ 2 ^ 16 }
+    requires counts { All (λ count. count ≤ 4096) counts.now }
     ensures ok { IfOk result (λ v. v.items ≡ buckets_of counts.now log) }
     ensures err { IfErr result (λ e. e ≡ DecoderError.OutOfMemory) }
 {

@@ -1,11 +1,11 @@
 //! Slots of a distribution: what each of the 4096 numbers stands for.
 
-ghost use Rattle.std.specs.Prelude.{◌≡◌, ◌<◌, ◌+◌, ◌*◌, ◌/◌, ◌%◌};
+ghost use Rattle.std.specs.Prelude.{◌≡◌, ◌<◌, ◌≤◌, ◌+◌, ◌*◌, ◌/◌, ◌%◌, ◌^◌};
 ghost use Rattle.jxlm_base.specs.Bits.{bytes_of, position_of};
 ghost use Rattle.jxlm_codes.specs.Ans.{slot_of as the_slot, bucket_of as the_bucket, refilled_at, after_slot};
 ghost use Rattle.jxlm_codes.specs.Ans.{RefillGives, slot_seen};
 
-use crate::fields::number;
+use crate::fields::{number, power};
 use jxlm_base::bits::Bitstream;
 use jxlm_base::decoder::DecoderError;
 
@@ -20,9 +20,9 @@ pub struct Bucket {
     /// The number of the first of them among the slots of that symbol.
     pub alias_offset: u32,
     /// How often the bucket's own symbol comes.
-    pub count: u32,
+    pub count: u16,
     /// How often the other comes.
-    pub alias_count: u32,
+    pub alias_count: u16,
 }
 
 /// The symbol of a slot, the slot's number among those of the symbol, and how many these are.
@@ -45,7 +45,7 @@ impl Slot {
     }
 }
 
-/// The bucket that so many slots of the buckets from `start` on lead to, of which each has `each`.
+/// The bucket at a place.
 #[inline(always)]
 fn bucket_of(buckets: &[Bucket], place: u32) -> Bucket
     ensures { result ≡ the_bucket buckets.now place }
@@ -62,26 +62,26 @@ fn bucket_of(buckets: &[Bucket], place: u32) -> Bucket
     }
 }
 
-/// What a slot stands for, by the buckets from `start` on, each of `each` slots.
+/// What a slot stands for, by the buckets from `start` on, each of 2 to the `shift` slots.
 #[inline(always)]
-pub fn slot_of(buckets: &[Bucket], start: u32, bucket_size: u32, slot: u32) -> Slot
-    requires { 0 < bucket_size }
-    ensures { slot_seen result ≡ the_slot buckets.now start bucket_size slot }
+pub fn slot_of(buckets: &[Bucket], start: u32, shift: u32, slot: u32) -> Slot
+    requires { shift ≤ 12 }
+    ensures { slot_seen result ≡ the_slot buckets.now start (2 ^ shift) slot }
 {
-    let i = slot / bucket_size;
-    let place = slot % bucket_size;
+    let i = slot / power(shift);
+    let place = slot % power(shift);
     let bucket = bucket_of(buckets, start.wrapping_add(i));
     if place < bucket.cutoff {
         Slot {
             symbol: i,
             number: place,
-            count: bucket.count,
+            count: u32::from(bucket.count),
         }
     } else {
         Slot {
             symbol: bucket.alias_symbol,
             number: bucket.alias_offset.wrapping_add(place - bucket.cutoff),
-            count: bucket.alias_count,
+            count: u32::from(bucket.alias_count),
         }
     }
 }

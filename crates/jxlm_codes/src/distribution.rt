@@ -1,6 +1,7 @@
 //! Distributions of symbols: how often of 4096 times each comes.
 
 ghost use Rattle.std.specs.Prelude.{◌≡◌, min, Ok, Err, slice_index, slice_index_or, ◌+◌, ◌-◌, ◌*◌, ◌<◌, ◌≤◌, ◌^◌, [], sum, IfOk, IfErr, OnOk};
+ghost use Rattle.std.specs.List.{All};
 ghost use Rattle.jxlm_base.specs.Bits.{bytes_of, position_of};
 ghost use Rattle.jxlm_base.specs.Decoding.{Gives};
 ghost use Rattle.jxlm_base.specs.declared.decoder.DecoderError.{DecoderError};
@@ -388,9 +389,9 @@ fn many(alloc: Global, bits: &mut Bitstream<'_>) -> Result<Vec<u32>, DecoderErro
     with_rest(counts, signalled.widest)
 }
 
-/// A distribution: how often each symbol comes.
+/// The counts of a distribution.
 #[tactic(auto, unfolding(crate::specs::Distributions::distribution_at))]
-pub fn distribution(alloc: Global, bits: &mut Bitstream<'_>) -> Result<Vec<u32>, DecoderError>
+fn counts(alloc: Global, bits: &mut Bitstream<'_>) -> Result<Vec<u32>, DecoderError>
     ensures gives { Gives (λ v. v.items) result (position_of bits.new)
         (distribution_at (bytes_of bits.old) (position_of bits.old)) }
     ensures bytes { bytes_of bits.new ≡ bytes_of bits.old }
@@ -404,4 +405,14 @@ pub fn distribution(alloc: Global, bits: &mut Bitstream<'_>) -> Result<Vec<u32>,
     } else {
         many(alloc, bits)
     }
+}
+
+/// A distribution: how often each symbol comes of 4096 times.
+pub fn distribution(alloc: Global, bits: &mut Bitstream<'_>) -> Result<Vec<u32>, DecoderError>
+    ensures gives { Gives (λ v. v.items) result (position_of bits.new)
+        (distribution_at (bytes_of bits.old) (position_of bits.old)) }
+    ensures counts { IfOk result (λ v. All (λ count. count ≤ 4096) v.items) }
+    ensures bytes { bytes_of bits.new ≡ bytes_of bits.old }
+{
+    counts(alloc, bits)
 }

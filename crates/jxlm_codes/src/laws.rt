@@ -1,13 +1,15 @@
 //! Laws of the definitions that contracts cite: each is the contract of a function that does nothing.
 
-ghost use Rattle.std.specs.Prelude.{◌≡◌, ℕ, ◌+◌, ◌*◌, ◌/◌, ◌%◌, ◌-◌, ◌^◌, ◌<◌, ◌≤◌, ◌≢◌, List, length, sum, slice_index, Ok};
+ghost use Rattle.std.specs.Prelude.{◌≡◌, ℕ, ◌+◌, ◌*◌, ◌/◌, ◌%◌, ◌-◌, ◌^◌, ◌<◌, ◌≤◌, ◌≢◌, List, length, sum, slice_index, Ok, Err};
 ghost use Rattle.jxlm_base.specs.Decoding.{Found};
 ghost use Rattle.jxlm_codes.specs.IntegerConfigs.{IsConfig};
 ghost use Rattle.jxlm_codes.specs.Spellings.{Spells};
 ghost use Rattle.jxlm_codes.specs.declared.config.IntegerConfig.{IntegerConfig};
 ghost use Rattle.jxlm_codes.specs.Ans.{Slot, after_slot};
 ghost use Rattle.jxlm_codes.specs.Distributions.{distribution_at};
-ghost use Rattle.jxlm_codes.specs.PrefixCodes.{prefix_of, next_symbol_at};
+ghost use Rattle.jxlm_codes.specs.PrefixCodes.{Prefix, prefix_of, next_symbol_at, long_code_at};
+ghost use Rattle.jxlm_codes.specs.Refusals.{refused};
+ghost use Rattle.jxlm_codes.specs.declared.refusal.Refusal.TheVariants.{NoCodeword};
 ghost use Rattle.jxlm_codes.specs.Alias.{buckets_of};
 ghost use Rattle.jxlm_codes.specs.Slots.{AreSlotsOf};
 ghost use Rattle.jxlm_codes.specs.Codewords.{HasCodeword, IsFull, StandsAt, codeword_of};
@@ -58,6 +60,16 @@ pub fn codewords_are_read()
 pub fn full_codes_have_a_codeword_for_all_bits()
     ensures { (lengths bytes : List ℕ) (p : ℕ) → IsFull lengths → p + 15 ≤ 8 * length bytes
         → (symbol : ℕ) × (HasCodeword lengths symbol × StandsAt lengths symbol bytes p) }
+{}
+
+/// A code that is read by the lengths of its codewords leaves no room; so no bits are refused as no codeword of it.
+pub fn long_codes_have_no_room()
+    ensures full { (skipped alphabet : ℕ) (bytes : List ℕ) (p : ℕ) (found : Found Prefix) → alphabet ≤ 2 ^ 15
+        → long_code_at skipped alphabet bytes p ≡ Ok found
+        → (lengths : List ℕ) × ((found.value ≡ prefix_of lengths) × IsFull lengths) }
+    ensures read { (skipped alphabet : ℕ) (bytes : List ℕ) (p : ℕ) (found : Found Prefix) → alphabet ≤ 2 ^ 15
+        → long_code_at skipped alphabet bytes p ≡ Ok found
+        → (input : List ℕ) (q : ℕ) → next_symbol_at found.value input q ≢ Err (refused NoCodeword) }
 {}
 
 /// An alias table has one slot for each symbol and number below its count, where the counts sum up to 4096.

@@ -11,6 +11,7 @@ pub mod fields;
 mod filling;
 pub mod laws;
 pub mod lengths;
+pub mod lookup;
 pub mod prefix;
 pub mod refusal;
 mod signalled;

@@ -4,3 +4,4 @@ mod AnyMultiplier
 mod ClusterSteps
 mod AnsCodes
 mod PastTokens
+mod LookupSteps

@@ -10,6 +10,7 @@ ghost use Rattle.jxlm_entropy.specs.Clusters.{greatest as the_greatest, are_used
 ghost use Rattle.jxlm_entropy.specs.Inner.Seen.{codes_of, seen};
 ghost use Rattle.jxlm_entropy.specs.Parse.{start_of};
 ghost use Rattle.jxlm_entropy.specs.Inner.Coded.{listed};
+ghost use Rattle.jxlm_entropy.specs.Inner.Marks.{AreMarked};
 ghost use Rattle.jxlm_codes.specs.Reading.{StepGives};
 
 use crate::state::State;
@@ -34,13 +35,25 @@ fn greatest(clusters: &[u8]) -> u8
     most
 }
 
+/// Marks the clusters that have a context.
+fn marked(clusters: &[u8]) -> [bool; 256]
+    ensures { AreMarked result clusters.now }
+{
+    let mut marks = [false; 256];
+    for i in 0..clusters.len() {
+        marks[clusters[i] as usize] = true;
+    }
+    marks
+}
+
 /// Whether each cluster below has a context.
 fn are_used(clusters: &[u8], below: u8) -> bool
     ensures { result ≡ all_used below clusters.now }
 {
+    let marks = marked(clusters);
     let mut all = true;
     for cluster in 0..below {
-        all = all && clusters.contains(&cluster);
+        all = all && marks[cluster as usize];
     }
     all
 }

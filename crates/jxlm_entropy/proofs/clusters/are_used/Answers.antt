@@ -8,4 +8,4 @@ unfolding are_used
 loop-cluster-init c = search rules
 
 pub loop-cluster-preserved : goal.loop-cluster-preserved
-loop-cluster-preserved c = rw (used_more c.loop-cluster.cluster-counter c.args.clusters.now) (search rules)
+loop-cluster-preserved c = rw (used_more c.loop-cluster.cluster c.args.clusters.now) (search rules)
