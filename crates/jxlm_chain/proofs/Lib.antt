@@ -2,6 +2,7 @@ mod ChainExamples
 pub mod CanUndo
 pub mod ColouredGrids
 pub mod Ends
+pub mod Fronts
 pub mod KeptGrids
 pub mod LayoutLaws
 pub mod ListLaws

@@ -16,12 +16,12 @@ use Rattle.jxlm_chain.proofs.LayoutLaws.{length_after}
 
 -- ---- two lists of steps
 
-undos_both : (a b : List Step) (l : Layout) → undo_of_all (a ++ b) l ≡ undo_of_all a l ++ undo_of_all b (layout_after_all a l)
+pub undos_both : (a b : List Step) (l : Layout) → undo_of_all (a ++ b) l ≡ undo_of_all a l ++ undo_of_all b (layout_after_all a l)
 undos_both [] b l = refl
 undos_both (s ∷ a) b l =
     ap (λ (us : List Undo). undo_of s l ++ us) (undos_both a b (layout_after s l)) ∙ sym (append_assoc (undo_of s l) (undo_of_all a (layout_after s l)) (undo_of_all b (layout_after_all (s ∷ a) l)))
 
-layout_both : (a b : List Step) (l : Layout) → layout_after_all (a ++ b) l ≡ layout_after_all b (layout_after_all a l)
+pub layout_both : (a b : List Step) (l : Layout) → layout_after_all (a ++ b) l ≡ layout_after_all b (layout_after_all a l)
 layout_both [] b l = refl
 layout_both (s ∷ a) b l = layout_both a b (layout_after s l)
 

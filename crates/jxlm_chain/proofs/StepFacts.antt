@@ -13,7 +13,7 @@ both_of true b e = (refl, e)
 both_of false b e = cc
 
 -- a list that is there where a test holds
-chosen : (b : Bool) (l m : ChannelList) (error : ErrorKind) → if◌then◌else◌ {A = Result ChannelList ErrorKind} b (Ok l) (Err error) ≡ Ok m → (b ≡ true) × (l ≡ m)
+pub chosen : (b : Bool) (l m : ChannelList) (error : ErrorKind) → if◌then◌else◌ {A = Result ChannelList ErrorKind} b (Ok l) (Err error) ≡ Ok m → (b ≡ true) × (l ≡ m)
 chosen true l m error e = (refl, cc)
 chosen false l m error e = cc
 

@@ -13,6 +13,7 @@ ghost use Rattle.jxlm_transform.specs.ChannelSteps.{list_after, list_after_all, 
 ghost use Rattle.jxlm_transform.specs.Steps.{steps_in};
 ghost use Rattle.jxlm_transform.specs.Transforms.{HasChannels, transform_of};
 
+use crate::front::{are_within, reach};
 use crate::places::Places;
 use crate::undo::Undoing;
 use jxlm_base::error::Result;
@@ -103,7 +104,7 @@ impl PlacedChannels {
     }
 
     /// Goes on by a squeeze step.
-    fn add_halves(&mut self, alloc: Global, step: &SqueezeParams) -> Result<()>
+    pub(crate) fn add_halves(&mut self, alloc: Global, step: &SqueezeParams) -> Result<()>
         requires { IsPlaced self.old }
         ensures list { ListGives (list_after (SqueezeStep step.now) (list_of self.old.channels)) result
             (list_of self.new.channels) }
@@ -115,8 +116,8 @@ impl PlacedChannels {
         Ok(())
     }
 
-    /// Goes on by the steps of a squeeze.
-    fn add_steps(&mut self, alloc: Global, steps: &[SqueezeParams]) -> Result<()>
+    /// Goes on by squeeze steps, each of which moves all channels after its range.
+    fn add_each(&mut self, alloc: Global, steps: &[SqueezeParams]) -> Result<()>
         requires { IsPlaced self.old }
         ensures list { ListGives (list_after_all (map SqueezeStep steps.now) (list_of self.old.channels)) result
             (list_of self.new.channels) }
@@ -126,6 +127,22 @@ impl PlacedChannels {
             self.add_halves(alloc, step)?;
         }
         Ok(())
+    }
+
+    /// Goes on by the steps of a squeeze. Where their ranges end before the list does, no step moves what comes after
+    /// them all.
+    fn add_steps(&mut self, alloc: Global, steps: &[SqueezeParams]) -> Result<()>
+        requires { IsPlaced self.old }
+        ensures list { ListGives (list_after_all (map SqueezeStep steps.now) (list_of self.old.channels)) result
+            (list_of self.new.channels) }
+        ensures goes { IfOk result (λ _. GoesOn (map SqueezeStep steps.now) self.old self.new) }
+    {
+        let count = reach(steps);
+        if steps.len() > 1 && count < self.channels.info.len() && are_within(steps, count) {
+            self.add_in_front(alloc, steps, count)
+        } else {
+            self.add_each(alloc, steps)
+        }
     }
 
     /// Goes on by a transform. A palette has at least one channel. A squeeze that lists no steps lists the default

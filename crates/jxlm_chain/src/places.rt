@@ -1,6 +1,6 @@
 //! Where the channels of an image lie in a store, before its transforms and after each of them.
 
-ghost use Rattle.std.specs.Prelude.{◌≡◌, ℕ, ◌+◌, ◌^◌, ◌<◌, ◌≤◌, ◌++◌, length, map, IfOk, IfErr};
+ghost use Rattle.std.specs.Prelude.{◌≡◌, ℕ, ◌+◌, ◌^◌, ◌<◌, ◌≤◌, ◌++◌, length, map, take, drop, IfOk, IfErr};
 ghost use Rattle.std.specs.List.{All};
 ghost use Rattle.jxlm_base.specs.Squeeze.{averages as the_averages};
 ghost use Rattle.jxlm_transform.specs.SqueezedRegions.{average_region, residual_region};
@@ -98,6 +98,20 @@ fn residual_parts(
     Ok(parts)
 }
 
+/// Puts others in the place of the first `count` of a list.
+pub(crate) fn replace_first<T: Copy + Drop>(
+    list: &mut Vec<T>,
+    count: usize,
+    others: Vec<T>,
+) -> Result<(), OutOfMemory>
+    requires { count ≤ length list.old.items }
+    ensures gives { IfOk result (λ _. list.new.items ≡ others.items ++ drop count list.old.items) }
+    ensures unchanged { IfErr result (λ _. list.new.items ≡ list.old.items) }
+{
+    list.splice(0..count, others)?;
+    Ok(())
+}
+
 impl Places {
     ghost use Rattle.jxlm_base.specs.Regions.{region};
     ghost use Rattle.jxlm_chain.specs.Places.{layout_of};
@@ -177,5 +191,51 @@ impl Places {
         let averages = average_parts(alloc, range, step.horizontal)?;
         let residuals = residual_parts(alloc, range, step.horizontal)?;
         step.put_halves(&mut self.regions, &averages, residuals)
+    }
+
+    /// The places of the first channels, with no buffer taken.
+    pub(crate) fn first(&self, alloc: Global, count: usize) -> Result<Places, OutOfMemory>
+        requires { count ≤ length self.now.regions.items }
+        ensures { IfOk result (λ p. layout_of p ≡ record { regions = take count self.now.regions.items; buffers = 0 }) }
+    {
+        let regions = Vec::from_slice(alloc, &self.regions[..count])?;
+        Ok(Places {
+            regions,
+            buffers: 0,
+        })
+    }
+
+    /// Puts the places after the first `kept` of others at the end.
+    pub(crate) fn append_last(
+        &mut self,
+        others: &mut Places,
+        kept: usize,
+    ) -> Result<(), OutOfMemory>
+        requires { kept ≤ length others.old.regions.items }
+        ensures gives { IfOk result (λ _. layout_of self.new ≡ record {
+          regions = self.old.regions.items ++ drop kept
+              others.old.regions.items;
+          buffers = self.old.buffers;
+        }) }
+        ensures kept { IfOk result (λ _. layout_of others.new ≡ record {
+          regions = take kept others.old.regions.items;
+          buffers = others.old.buffers;
+        }) }
+    {
+        let mut last = others.regions.split_off(kept)?;
+        self.regions.append(&mut last)?;
+        Ok(())
+    }
+
+    /// Puts others in the place of the first `count`.
+    pub(crate) fn put_first(&mut self, others: Places, count: usize) -> Result<(), OutOfMemory>
+        requires { count ≤ length self.old.regions.items }
+        ensures { IfOk result (λ _. layout_of self.new ≡ record {
+          regions = others.regions.items ++ drop count
+              self.old.regions.items;
+          buffers = self.old.buffers;
+        }) }
+    {
+        replace_first(&mut self.regions, count, others.regions)
     }
 }

@@ -3,7 +3,7 @@ use Rattle.jxlm_transform.specs.Channels.{list_of}
 use Rattle.jxlm_transform.specs.ChannelSteps.{Step, SqueezeStep}
 use Rattle.jxlm_transform.specs.declared.transform.SqueezeParams.{SqueezeParams}
 use Rattle.jxlm_chain.proofs.PlacedSteps.{goes_next, goes_nowhere, rest_next}
-use Rattle.jxlm_chain.proofs.placed.PlacedChannels.add_steps.Goals as goal
+use Rattle.jxlm_chain.proofs.placed.PlacedChannels.add_each.Goals as goal
 
 abbrev steps : List SqueezeParams → List Step
 steps ts = map SqueezeStep ts

@@ -2,7 +2,7 @@ use Rattle.std.proofs.Common.{◌≡◌, map, take, drop}
 use Rattle.jxlm_transform.specs.Channels.{list_of}
 use Rattle.jxlm_transform.specs.ChannelSteps.{SqueezeStep, list_after_all}
 use Rattle.jxlm_chain.specs.Placed.{GoesOn}
-use Rattle.jxlm_chain.proofs.placed.PlacedChannels.add_steps.Given as goal
+use Rattle.jxlm_chain.proofs.placed.PlacedChannels.add_each.Given as goal
 
 abbrev pub invariant-loop-step : goal.invariant-loop-step
 invariant-loop-step l = record {
