@@ -6,7 +6,7 @@ use Rattle.std.proofs.lemmas.List.{take-append-le, drop-append-le, length-append
 use Rattle.jxlm_base.specs.ErrorKind.{ErrorKind, BadSqueeze}
 use Rattle.jxlm_base.specs.declared.subgrid.Region.{Region}
 use Rattle.jxlm_transform.specs.Channels.{Channel, ChannelList, HasItsMeta, list_of}
-use Rattle.jxlm_transform.specs.ChannelSteps.{Step, SqueezeStep, average_channel, residual_channel, can_be_squeezed, list_after, list_after_all, range, squeeze_range, squeeze_step, with_halves, with_each_halved}
+use Rattle.jxlm_transform.specs.ChannelSteps.{Step, SqueezeStep, average_channel, residual_channel, can_be_squeezed, list_after, range, squeeze_range, squeeze_step, with_halves, with_each_halved}
 use Rattle.jxlm_transform.specs.SqueezedRegions.{average_region, residual_region}
 use Rattle.jxlm_transform.specs.Steps.{Sides, tables_of}
 use Rattle.jxlm_transform.specs.declared.transform.SqueezeParams.{SqueezeParams}
