@@ -3,6 +3,7 @@
 #![tactic(auto)]
 
 mod files;
+mod images;
 
 use jxlcheck_text::Row;
 use std::alloc::Global;
@@ -13,6 +14,7 @@ fn seen(alloc: Global, row: &Row<'_>) -> Option<String> {
     match row.kind {
         "file" => files::seen(alloc, row.asked),
         "cuts" => files::seen_of_cuts(alloc, row.asked),
+        "image" => images::seen(alloc, row.asked),
         _ => None,
     }
 }

@@ -1,0 +1,6 @@
+pub mod FieldRanges
+pub mod GroupLaws
+pub mod HeaderLaws
+pub mod ImageSteps
+pub mod RepeatedLoop
+pub mod UnlessMemory

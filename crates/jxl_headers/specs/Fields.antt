@@ -1,0 +1,60 @@
+-- Fields of headers (ISO/IEC 18181-1, notation of bundles and fields).
+use Rattle.std.specs.Prelude.{◌≡◌, ℕ, zero, suc, ◌+◌, ◌-◌, ◌*◌, ◌%◌, ◌≤◌, List, length, Bool, nat_lt, ◌==◌, if◌then◌else◌, Some, Ok, Err, codes}
+use Rattle.jxlm_base.specs.ErrorKind.{Eof, BadEnum}
+use Rattle.jxlm_base.specs.Grammar.{Grammar, number, flag, u32, give, fail, either, ◌>>=◌}
+use Rattle.jxlm_base.specs.declared.bits.U32Spec.TheVariants.{Const, Offset}
+
+-- n groups of 8 bits and one of 4, each after a flag that says whether it is there; the first the least significant
+unfoldable pub groups : ℕ → Grammar ℕ
+groups zero = flag >>= λ more. either more (number 4) (give 0)
+groups (suc n) = flag >>= λ more. either more (number 8 >>= λ v. groups n >>= λ rest. give (v + 256 * rest)) (give 0)
+
+-- a U64 that has groups: 12 bits, and those
+abbrev pub grouped : Grammar ℕ
+grouped = number 12 >>= λ v. groups 6 >>= λ rest. give (v + 4096 * rest)
+
+-- U64: 0, 4 bits above 1, 8 bits above 17, or 12 bits and groups
+abbrev pub long : Grammar ℕ
+long = do
+  selector ← number 2
+  either (selector == 0) (give 0) (either (selector == 1) (number 4 >>= λ v. give (1 + v)) (either (selector == 2) (number 8 >>= λ v. give (17 + v)) grouped))
+
+-- the number of an enumeration, before it is known to mean something
+abbrev pub enumerated : Grammar ℕ
+enumerated = u32 (Const 0) (Const 1) (Offset 2 4) (Offset 18 6)
+
+-- a number that has a meaning, or the error of this name
+abbrev pub meant : List ℕ → Bool → ℕ → Grammar ℕ
+meant name means v = either means (give v) (fail (BadEnum name v))
+
+-- n bytes that are not looked at
+abbrev pub skipped : ℕ → Grammar (Unit {0})
+skipped n = record {
+  read = λ bytes p. if nat_lt (8 * length bytes) (p + 8 * n) then Err (record { error = Eof; position = Some p }) else Ok (record { value = tt; position = p + 8 * n });
+  Stands = λ bytes p u q. (p + 8 * n ≤ 8 * length bytes) × (q ≡ p + 8 * n);
+}
+
+-- a name: how many bytes it has, which are not looked at
+abbrev pub name : Grammar ℕ
+name = do
+  n ← u32 (Const 0) (Offset 0 4) (Offset 16 5) (Offset 48 10)
+  u ← skipped n
+  give n
+
+-- the bit position
+abbrev pub here : Grammar ℕ
+here = record {
+  read = λ bytes p. Ok (record { value = p; position = p });
+  Stands = λ bytes p v q. (v ≡ p) × (q ≡ p);
+}
+
+-- how many bits are left of the byte in which position p lies; none at its start
+abbrev pub left_of_byte : ℕ → ℕ
+left_of_byte p = (8 - p % 8) % 8
+
+-- the bits up to the next byte, which are 0
+abbrev pub aligned : Grammar ℕ
+aligned = do
+  p ← here
+  v ← number (left_of_byte p)
+  meant (codes "padding") (v == 0) v

@@ -1,0 +1,2 @@
+pub mod FieldRanges
+pub mod Groups

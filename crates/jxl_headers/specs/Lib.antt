@@ -1,0 +1,7 @@
+pub mod Fields
+pub mod Sizes
+pub mod Channels
+pub mod Colours
+pub mod Images
+pub mod Reading
+pub mod Inner

@@ -1,0 +1,153 @@
+//! Fields of headers.
+
+ghost use Rattle.std.specs.Prelude.{◌≡◌, ℕ, ◌+◌, ◌-◌, ◌*◌, ◌%◌, ◌^◌, ◌<◌, ◌≤◌, IfOk, length};
+ghost use Rattle.jxlm_base.specs.Bits.{bytes_of, position_of};
+ghost use Rattle.jxlm_base.specs.Grammar.{FitsU32, Reads, number as the_number, u32 as the_u32};
+ghost use Rattle.jxl_headers.specs.Fields.{groups as the_groups, grouped as the_grouped, long as the_long, enumerated as the_enumerated, skipped, name as the_name, aligned};
+ghost use Rattle.jxl_headers.specs.Inner.FieldRanges.{max_of};
+ghost use Rattle.jxl_headers.specs.Inner.Groups.{group_bound};
+
+use jxlm_base::bits::{Bitstream, BitstreamError, U32Spec};
+
+/// What reading a field returns: its value, or the first error in the order of the bits. Where a field is truncated
+/// (`UnexpectedEof`), the reader is left before it; after a number without a meaning (`InvalidEnum`) behind it.
+pub type Result<T> = std::result::Result<T, BitstreamError>;
+
+/// A number of n bits, at most 32.
+pub fn number(bits: &mut Bitstream<'_>, n: u32) -> Result<u32>
+    requires { n ≤ 32 }
+    ensures gives { Reads (λ v. v) result (position_of bits.new)
+        ((the_number n).read (bytes_of bits.old) (position_of bits.old)) }
+    ensures below { IfOk result (λ v. v < 2 ^ n) }
+    ensures bytes { bytes_of bits.new ≡ bytes_of bits.old }
+{
+    bits.read_bits(n)
+}
+
+/// A `U32`, with its maximum.
+pub fn field(
+    bits: &mut Bitstream<'_>,
+    d0: U32Spec,
+    d1: U32Spec,
+    d2: U32Spec,
+    d3: U32Spec,
+) -> Result<u32>
+    requires fits { FitsU32 d0 × FitsU32 d1 × FitsU32 d2 × FitsU32 d3 }
+    ensures gives { Reads (λ v. v) result (position_of bits.new)
+        ((the_u32 d0 d1 d2 d3).read (bytes_of bits.old) (position_of bits.old)) }
+    ensures maximum { IfOk result (λ v. v ≤ max_of d0 d1 d2 d3) }
+    ensures bytes { bytes_of bits.new ≡ bytes_of bits.old }
+{
+    bits.read_u32(d0, d1, d2, d3)
+}
+
+// `n` groups of a `U64` and its last one.
+fn groups(bits: &mut Bitstream<'_>, n: u32) -> Result<u64>
+    requires { n ≤ 6 }
+    ensures gives { Reads (λ v. v) result (position_of bits.new)
+        ((the_groups n).read (bytes_of bits.old) (position_of bits.old)) }
+    ensures below { IfOk result (λ v. v < group_bound n) }
+    ensures bytes { bytes_of bits.new ≡ bytes_of bits.old }
+{
+    let more = bits.read_bool()?;
+    if more {
+        if n == 0 {
+            return Ok(u64::from(number(bits, 4)?));
+        }
+        let value = number(bits, 8)?;
+        let rest = groups(bits, n - 1)?;
+        return Ok(u64::from(value) + 256 * rest);
+    }
+    Ok(0)
+}
+
+// A `U64` that has groups, after the two bits that say so.
+fn grouped(bits: &mut Bitstream<'_>) -> Result<u64>
+    ensures gives { Reads (λ v. v) result (position_of bits.new)
+        (the_grouped.read (bytes_of bits.old) (position_of bits.old)) }
+    ensures bytes { bytes_of bits.new ≡ bytes_of bits.old }
+{
+    let value = number(bits, 12)?;
+    let rest = groups(bits, 6)?;
+    Ok(u64::from(value) + 4096 * rest)
+}
+
+/// A `U64`.
+pub fn long(bits: &mut Bitstream<'_>) -> Result<u64>
+    ensures gives { Reads (λ v. v) result (position_of bits.new)
+        (the_long.read (bytes_of bits.old) (position_of bits.old)) }
+    ensures bytes { bytes_of bits.new ≡ bytes_of bits.old }
+{
+    let selector = number(bits, 2)?;
+    if selector == 0 {
+        return Ok(0);
+    }
+    if selector == 1 {
+        return Ok(1 + u64::from(number(bits, 4)?));
+    }
+    if selector == 2 {
+        return Ok(17 + u64::from(number(bits, 8)?));
+    }
+    grouped(bits)
+}
+
+/// The number of an enumeration, at most 81, before it is known to mean something.
+pub fn enumerated(bits: &mut Bitstream<'_>) -> Result<u32>
+    ensures gives { Reads (λ v. v) result (position_of bits.new)
+        (the_enumerated.read (bytes_of bits.old) (position_of bits.old)) }
+    ensures bytes { bytes_of bits.new ≡ bytes_of bits.old }
+{
+    bits.read_u32(
+        U32Spec::Const(0),
+        U32Spec::Const(1),
+        U32Spec::Offset(2, 4),
+        U32Spec::Offset(18, 6),
+    )
+}
+
+/// Passes `count` bytes, from any bit on; where there are fewer, the reader stays.
+pub fn skip(bits: &mut Bitstream<'_>, count: u32) -> Result<()>
+    ensures gives { Reads (λ v. v) result (position_of bits.new)
+        ((skipped count).read (bytes_of bits.old) (position_of bits.old)) }
+    ensures bytes { bytes_of bits.new ≡ bytes_of bits.old }
+{
+    let mut after = *bits;
+    for _ in 0..count {
+        after.read_bits(8)?;
+    }
+    *bits = after;
+    Ok(())
+}
+
+/// Passes a name: how many bytes it has, at most 1071.
+pub fn name(bits: &mut Bitstream<'_>) -> Result<u32>
+    ensures gives { Reads (λ v. v) result (position_of bits.new)
+        (the_name.read (bytes_of bits.old) (position_of bits.old)) }
+    ensures bytes { bytes_of bits.new ≡ bytes_of bits.old }
+{
+    let count = bits.read_u32(
+        U32Spec::Const(0),
+        U32Spec::Offset(0, 4),
+        U32Spec::Offset(16, 5),
+        U32Spec::Offset(48, 10),
+    )?;
+    skip(bits, count)?;
+    Ok(count)
+}
+
+/// Passes the bits up to the next byte. `InvalidEnum` if one of them is not 0.
+pub fn align(bits: &mut Bitstream<'_>) -> Result<u32>
+    requires { 8 * length (bytes_of bits.old) < 2 ^ 64 }
+    ensures gives { Reads (λ v. v) result (position_of bits.new)
+        (aligned.read (bytes_of bits.old) (position_of bits.old)) }
+    ensures bytes { bytes_of bits.new ≡ bytes_of bits.old }
+{
+    let within = (bits.position() % 8) as u32;
+    let value = bits.read_bits((8 - within) % 8)?;
+    if value == 0 {
+        Ok(value)
+    } else {
+        let name = "padding";
+        Err(BitstreamError::InvalidEnum { name, value })
+    }
+}

@@ -1,0 +1,497 @@
+//! The image header.
+
+ghost use Rattle.std.specs.Prelude.{◌≡◌};
+ghost use Rattle.jxlm_base.specs.Bits.{bytes_of, position_of};
+ghost use Rattle.jxlm_base.specs.Grammar.{Reads, repeated};
+ghost use Rattle.jxl_headers.specs.Channels.{extra_channel};
+ghost use Rattle.jxl_headers.specs.Images.{image_of, optional_size as the_optional_size, animation, optional_animation, listed_display, display, samples, extra_channels as the_extra_channels, brightness as the_brightness, shown, described_image, own_image, usual_image, skipped_if, matrices_if as the_matrices_if, weights as the_weights, opsin as the_opsin, own_matrices as the_own_matrices, matrices as the_matrices, signature as the_signature, image_header, channel_refusal as the_channel_refusal, channels_refusal as the_channels_refusal, display_refusal, depth_refusal as the_depth_refusal, shown_refusal, image_refusal};
+ghost use Rattle.jxl_headers.specs.Reading.{Parses};
+
+use crate::channel::{BitDepth, ExtraChannel};
+use crate::colour::{Basis, Chromaticity, ColourEncoding, Primaries, ToneMapping, Transfer, White};
+use crate::fields::{Result, long, number, skip};
+use crate::refusal::Refusal;
+use crate::size::{Size, read_size};
+use jxlm_base::bits::{Bitstream, BitstreamError, U32Spec};
+use jxlm_base::error;
+use jxlm_base::grid::OutOfMemory;
+use std::alloc::Global;
+
+/// When the pictures of an animation change.
+#[derive(Clone, Copy, Debug, PartialEq, Eq)]
+pub struct Animation {
+    /// So many units of time, by the denominator, make a second.
+    pub numerator: u32,
+    pub denominator: u32,
+    /// How often the pictures are shown, 0 for ever.
+    pub loops: u32,
+    /// Whether frames have time codes.
+    pub timecodes: bool,
+}
+
+/// How the image is to be shown.
+#[derive(Clone, Copy, Debug, PartialEq, Eq)]
+pub struct Display {
+    /// From 1, as it is, to 8: mirrored or turned, as Exif numbers it.
+    pub orientation: u32,
+    /// At which size it is to be shown.
+    pub intrinsic: Option<Size>,
+    /// The size of a smaller picture that comes first.
+    pub preview: Option<Size>,
+    /// When its pictures change.
+    pub animation: Option<Animation>,
+}
+
+/// How the samples of colours are stored.
+#[derive(Clone, Copy, Debug, PartialEq, Eq)]
+pub struct Samples {
+    pub depth: BitDepth,
+    /// Whether 16 bits are enough for each number while it is decoded.
+    pub narrow: bool,
+}
+
+/// What samples mean.
+#[derive(Clone, Copy, Debug, PartialEq, Eq)]
+pub struct Shown {
+    /// Whether colours are stored as XYB.
+    pub xyb: bool,
+    pub colour: ColourEncoding,
+    pub tone: ToneMapping,
+    /// A bit for each extension that there is. Where there is one, the header is not read further.
+    pub extensions: u64,
+}
+
+/// What is told of an image before its frames.
+#[derive(Drop)]
+pub struct ImageHeader {
+    pub size: Size,
+    pub display: Display,
+    pub samples: Samples,
+    /// The channels beside the colours.
+    pub extra: Vec<ExtraChannel>,
+    pub shown: Shown,
+}
+
+fn optional_size(bits: &mut Bitstream<'_>, preview: bool) -> Result<Option<Size>>
+    ensures gives { Reads (λ v. v) result (position_of bits.new)
+        ((the_optional_size preview).read (bytes_of bits.old) (position_of bits.old)) }
+    ensures bytes { bytes_of bits.new ≡ bytes_of bits.old }
+{
+    if !bits.read_bool()? {
+        return Ok(None);
+    }
+    let size = read_size(bits, preview)?;
+    Ok(Some(size))
+}
+
+impl Animation {
+    fn parse(bits: &mut Bitstream<'_>) -> Result<Animation>
+        ensures gives { Reads (λ v. v) result (position_of bits.new)
+            (animation.read (bytes_of bits.old) (position_of bits.old)) }
+        ensures bytes { bytes_of bits.new ≡ bytes_of bits.old }
+    {
+        let numerator = bits.read_u32(
+            U32Spec::Const(100),
+            U32Spec::Const(1000),
+            U32Spec::Offset(1, 10),
+            U32Spec::Offset(1, 30),
+        )?;
+        let denominator = bits.read_u32(
+            U32Spec::Const(1),
+            U32Spec::Const(1001),
+            U32Spec::Offset(1, 8),
+            U32Spec::Offset(1, 10),
+        )?;
+        let loops = bits.read_u32(
+            U32Spec::Const(0),
+            U32Spec::Offset(0, 3),
+            U32Spec::Offset(0, 16),
+            U32Spec::Offset(0, 32),
+        )?;
+        let timecodes = bits.read_bool()?;
+        Ok(Animation {
+            numerator,
+            denominator,
+            loops,
+            timecodes,
+        })
+    }
+
+    fn optional(bits: &mut Bitstream<'_>) -> Result<Option<Animation>>
+        ensures gives { Reads (λ v. v) result (position_of bits.new)
+            (optional_animation.read (bytes_of bits.old) (position_of bits.old)) }
+        ensures bytes { bytes_of bits.new ≡ bytes_of bits.old }
+    {
+        if !bits.read_bool()? {
+            return Ok(None);
+        }
+        let animation = Animation::parse(bits)?;
+        Ok(Some(animation))
+    }
+}
+
+impl Display {
+    fn listed(bits: &mut Bitstream<'_>) -> Result<Display>
+        ensures gives { Reads (λ v. v) result (position_of bits.new)
+            (listed_display.read (bytes_of bits.old) (position_of bits.old)) }
+        ensures bytes { bytes_of bits.new ≡ bytes_of bits.old }
+    {
+        let orientation = number(bits, 3)?;
+        let intrinsic = optional_size(bits, false)?;
+        let preview = optional_size(bits, true)?;
+        let animation = Animation::optional(bits)?;
+        Ok(Display {
+            orientation: orientation + 1,
+            intrinsic,
+            preview,
+            animation,
+        })
+    }
+
+    fn parse(bits: &mut Bitstream<'_>, more: bool) -> Result<Display>
+        ensures gives { Reads (λ v. v) result (position_of bits.new)
+            ((display more).read (bytes_of bits.old) (position_of bits.old)) }
+        ensures bytes { bytes_of bits.new ≡ bytes_of bits.old }
+    {
+        if more {
+            Display::listed(bits)
+        } else {
+            Ok(Display {
+                orientation: 1,
+                intrinsic: None,
+                preview: None,
+                animation: None,
+            })
+        }
+    }
+
+    fn refused(&self) -> Option<Refusal>
+        ensures { result ≡ display_refusal self.now }
+    {
+        if self.orientation != 1 {
+            Some(Refusal::Orientation)
+        } else if self.preview.is_some() {
+            Some(Refusal::Preview)
+        } else if self.animation.is_some() {
+            Some(Refusal::Animation)
+        } else {
+            None
+        }
+    }
+}
+
+impl Samples {
+    fn parse(bits: &mut Bitstream<'_>) -> Result<Samples>
+        ensures gives { Reads (λ v. v) result (position_of bits.new)
+            (samples.read (bytes_of bits.old) (position_of bits.old)) }
+        ensures bytes { bytes_of bits.new ≡ bytes_of bits.old }
+    {
+        let depth = BitDepth::parse(bits)?;
+        let narrow = bits.read_bool()?;
+        Ok(Samples { depth, narrow })
+    }
+}
+
+fn brightness(bits: &mut Bitstream<'_>, more: bool) -> Result<ToneMapping>
+    ensures gives { Reads (λ v. v) result (position_of bits.new)
+        ((the_brightness more).read (bytes_of bits.old) (position_of bits.old)) }
+    ensures bytes { bytes_of bits.new ≡ bytes_of bits.old }
+{
+    if more {
+        ToneMapping::parse(bits)
+    } else {
+        Ok(ToneMapping {
+            intensity_target: 0x5BF8,
+            min_nits: 0,
+            relative: false,
+            linear_below: 0,
+        })
+    }
+}
+
+impl Shown {
+    fn parse(bits: &mut Bitstream<'_>, more: bool) -> Result<Shown>
+        ensures gives { Reads (λ v. v) result (position_of bits.new)
+            ((shown more).read (bytes_of bits.old) (position_of bits.old)) }
+        ensures bytes { bytes_of bits.new ≡ bytes_of bits.old }
+    {
+        let xyb = bits.read_bool()?;
+        let colour = ColourEncoding::parse(bits)?;
+        let tone = brightness(bits, more)?;
+        let extensions = long(bits)?;
+        Ok(Shown {
+            xyb,
+            colour,
+            tone,
+            extensions,
+        })
+    }
+
+    fn refused(&self) -> Option<Refusal>
+        ensures { result ≡ shown_refusal self.now }
+    {
+        if self.xyb {
+            Some(Refusal::Xyb)
+        } else if self.extensions == 0 {
+            None
+        } else {
+            Some(Refusal::Extensions)
+        }
+    }
+}
+
+// So many extra channels.
+fn read_channels(
+    alloc: Global,
+    bits: &mut Bitstream<'_>,
+    count: u32,
+) -> error::Result<Vec<ExtraChannel>>
+    ensures gives { Parses (λ v. v.items) result (position_of bits.new)
+        ((repeated count extra_channel).read (bytes_of bits.old) (position_of bits.old)) }
+    ensures bytes { bytes_of bits.new ≡ bytes_of bits.old }
+{
+    let mut channels = Vec::new(alloc);
+    for _ in 0..count {
+        let channel = ExtraChannel::parse(bits)?;
+        channels.push(channel).map_err(|_| OutOfMemory)?;
+    }
+    Ok(channels)
+}
+
+fn extra_channels(alloc: Global, bits: &mut Bitstream<'_>) -> error::Result<Vec<ExtraChannel>>
+    ensures gives { Parses (λ v. v.items) result (position_of bits.new)
+        (the_extra_channels.read (bytes_of bits.old) (position_of bits.old)) }
+    ensures bytes { bytes_of bits.new ≡ bytes_of bits.old }
+{
+    let count = bits.read_u32(
+        U32Spec::Const(0),
+        U32Spec::Const(1),
+        U32Spec::Offset(2, 4),
+        U32Spec::Offset(1, 12),
+    )?;
+    read_channels(alloc, bits, count)
+}
+
+fn skip_if(bits: &mut Bitstream<'_>, there: bool, count: u32) -> Result<()>
+    ensures gives { Reads (λ v. v) result (position_of bits.new)
+        ((skipped_if there count).read (bytes_of bits.old) (position_of bits.old)) }
+    ensures bytes { bytes_of bits.new ≡ bytes_of bits.old }
+{
+    if there { skip(bits, count) } else { Ok(()) }
+}
+
+// The weights of upsampling that a mask says are there.
+fn weights(bits: &mut Bitstream<'_>, mask: u32) -> Result<()>
+    ensures gives { Reads (λ v. v) result (position_of bits.new)
+        ((the_weights mask).read (bytes_of bits.old) (position_of bits.old)) }
+    ensures bytes { bytes_of bits.new ≡ bytes_of bits.old }
+{
+    skip_if(bits, mask % 2 == 1, 30)?;
+    skip_if(bits, mask / 2 % 2 == 1, 110)?;
+    skip_if(bits, mask / 4 == 1, 420)
+}
+
+fn opsin(bits: &mut Bitstream<'_>, xyb: bool) -> Result<()>
+    ensures gives { Reads (λ v. v) result (position_of bits.new)
+        ((the_opsin xyb).read (bytes_of bits.old) (position_of bits.old)) }
+    ensures bytes { bytes_of bits.new ≡ bytes_of bits.old }
+{
+    if !xyb {
+        return Ok(());
+    }
+    let usual = bits.read_bool()?;
+    skip_if(bits, !usual, 32)
+}
+
+fn own_matrices(bits: &mut Bitstream<'_>, xyb: bool) -> Result<()>
+    ensures gives { Reads (λ v. v) result (position_of bits.new)
+        ((the_own_matrices xyb).read (bytes_of bits.old) (position_of bits.old)) }
+    ensures bytes { bytes_of bits.new ≡ bytes_of bits.old }
+{
+    opsin(bits, xyb)?;
+    let mask = number(bits, 3)?;
+    weights(bits, mask)
+}
+
+fn matrices(bits: &mut Bitstream<'_>, xyb: bool) -> Result<()>
+    ensures gives { Reads (λ v. v) result (position_of bits.new)
+        ((the_matrices xyb).read (bytes_of bits.old) (position_of bits.old)) }
+    ensures bytes { bytes_of bits.new ≡ bytes_of bits.old }
+{
+    if bits.read_bool()? {
+        return Ok(());
+    }
+    own_matrices(bits, xyb)
+}
+
+fn matrices_if(bits: &mut Bitstream<'_>, there: bool, xyb: bool) -> Result<()>
+    ensures gives { Reads (λ v. v) result (position_of bits.new)
+        ((the_matrices_if there xyb).read (bytes_of bits.old) (position_of bits.old)) }
+    ensures bytes { bytes_of bits.new ≡ bytes_of bits.old }
+{
+    if there { matrices(bits, xyb) } else { Ok(()) }
+}
+
+fn signature(bits: &mut Bitstream<'_>) -> Result<u32>
+    ensures gives { Reads (λ v. v) result (position_of bits.new)
+        (the_signature.read (bytes_of bits.old) (position_of bits.old)) }
+    ensures bytes { bytes_of bits.new ≡ bytes_of bits.old }
+{
+    let value = number(bits, 16)?;
+    if value == 0x0AFF {
+        Ok(value)
+    } else {
+        let name = "signature";
+        Err(BitstreamError::InvalidEnum { name, value })
+    }
+}
+
+fn depth_refusal(depth: BitDepth) -> Option<Refusal>
+    ensures { result ≡ the_depth_refusal depth }
+{
+    if depth.exponent_bits == 0 || depth.exponent_bits == 8 && depth.bits == 32 {
+        None
+    } else {
+        Some(Refusal::FloatDepth)
+    }
+}
+
+fn channel_refusal(channel: &ExtraChannel) -> Option<Refusal>
+    ensures { result ≡ the_channel_refusal channel.now }
+{
+    if channel.depth.exponent_bits != 0 {
+        Some(Refusal::ExtraFloats)
+    } else if channel.shift != 0 {
+        Some(Refusal::ExtraSize)
+    } else {
+        None
+    }
+}
+
+fn channels_refusal(channels: &[ExtraChannel]) -> Option<Refusal>
+    ensures { result ≡ the_channels_refusal channels.now }
+{
+    for channel in channels {
+        if let Some(refusal) = channel_refusal(channel) {
+            return Some(refusal);
+        }
+    }
+    None
+}
+
+impl ImageHeader {
+    // A header of this size that says nothing else.
+    fn usual(alloc: Global, size: Size) -> ImageHeader
+        ensures { image_of result ≡ usual_image size }
+    {
+        let colour = Chromaticity { x: 0, y: 0 };
+        let own = Primaries {
+            red: colour,
+            green: colour,
+            blue: colour,
+        };
+        ImageHeader {
+            size,
+            display: Display {
+                orientation: 1,
+                intrinsic: None,
+                preview: None,
+                animation: None,
+            },
+            samples: Samples {
+                depth: BitDepth {
+                    bits: 8,
+                    exponent_bits: 0,
+                },
+                narrow: true,
+            },
+            extra: Vec::new(alloc),
+            shown: Shown {
+                xyb: true,
+                colour: ColourEncoding {
+                    profile: false,
+                    space: 0,
+                    white: White {
+                        number: 1,
+                        own: colour,
+                    },
+                    basis: Basis { number: 1, own },
+                    transfer: Transfer {
+                        number: 13,
+                        gamma: 0,
+                    },
+                    intent: 1,
+                },
+                tone: ToneMapping {
+                    intensity_target: 0x5BF8,
+                    min_nits: 0,
+                    relative: false,
+                    linear_below: 0,
+                },
+                extensions: 0,
+            },
+        }
+    }
+
+    fn described(alloc: Global, bits: &mut Bitstream<'_>, size: Size) -> error::Result<ImageHeader>
+        ensures gives { Parses image_of result (position_of bits.new)
+            ((described_image size).read (bytes_of bits.old) (position_of bits.old)) }
+        ensures bytes { bytes_of bits.new ≡ bytes_of bits.old }
+    {
+        let more = bits.read_bool()?;
+        let display = Display::parse(bits, more)?;
+        let samples = Samples::parse(bits)?;
+        let extra = extra_channels(alloc, bits)?;
+        let shown = Shown::parse(bits, more)?;
+        Ok(ImageHeader {
+            size,
+            display,
+            samples,
+            extra,
+            shown,
+        })
+    }
+
+    fn own(alloc: Global, bits: &mut Bitstream<'_>, size: Size) -> error::Result<ImageHeader>
+        ensures gives { Parses image_of result (position_of bits.new)
+            ((own_image size).read (bytes_of bits.old) (position_of bits.old)) }
+        ensures bytes { bytes_of bits.new ≡ bytes_of bits.old }
+    {
+        if bits.read_bool()? {
+            Ok(ImageHeader::usual(alloc, size))
+        } else {
+            ImageHeader::described(alloc, bits, size)
+        }
+    }
+
+    /// The header that stands at the reader's position, from its signature on. What is not supported is read too, and
+    /// `refused` names it; only where there are extensions, the reader is left after their flags. Else it is left
+    /// where the profile begins, if there is one, or the bits up to the next byte.
+    ///
+    /// # Errors
+    ///
+    /// The first in the order of the bits: `UnexpectedEof` if the input is truncated, and `InvalidEnum` for a number
+    /// that has no meaning, which names the field. `Buffer` if it is out of memory, at any extra channel.
+    pub fn parse(alloc: Global, bits: &mut Bitstream<'_>) -> error::Result<ImageHeader>
+        ensures gives { Parses image_of result (position_of bits.new)
+            (image_header.read (bytes_of bits.old) (position_of bits.old)) }
+        ensures bytes { bytes_of bits.new ≡ bytes_of bits.old }
+    {
+        signature(bits)?;
+        let size = read_size(bits, false)?;
+        let header = ImageHeader::own(alloc, bits, size)?;
+        matrices_if(bits, header.shown.extensions == 0, header.shown.xyb)?;
+        Ok(header)
+    }
+
+    /// What the image has that is not supported: the first in the order of the bits, or none.
+    pub fn refused(&self) -> Option<Refusal>
+        ensures { result ≡ image_refusal (image_of self.now) }
+    {
+        self.display
+            .refused()
+            .or(depth_refusal(self.samples.depth))
+            .or(channels_refusal(&self.extra))
+            .or(self.shown.refused())
+    }
+}
