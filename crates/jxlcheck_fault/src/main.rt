@@ -3,7 +3,9 @@
 //! it. A line that begins with # says what the rows after it are.
 #![tactic(auto)]
 
+mod paths;
 mod tree;
+mod walks;
 
 use jxl_modular::plain::PlainDecoder;
 use jxlcheck_image::{picture, sections};
@@ -23,6 +25,9 @@ fn seen(alloc: Global, row: &Row<'_>) -> Option<String> {
         "truncated" => picture::sum_of_truncated::<PlainDecoder>(alloc, row.asked),
         "truncated_sections" => sections::sums_of_truncated::<PlainDecoder>(alloc, row.asked),
         "tree" => tree::seen(alloc, row.asked, summed),
+        "walks" => walks::seen(alloc, row.asked),
+        "facts" => walks::facts(alloc, row.asked),
+        "path" => paths::seen(alloc, row.asked),
         _ => None,
     }
 }

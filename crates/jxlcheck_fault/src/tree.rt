@@ -21,8 +21,8 @@ use std::alloc::Global;
 
 /// The properties of a cell that are not 0, as `9=5,10=-3`.
 #[derive(Clone, Copy)]
-struct Told<'a> {
-    text: &'a str,
+pub(crate) struct Told<'a> {
+    pub(crate) text: &'a str,
 }
 
 impl PlaceProperties for Told<'_> {
@@ -45,7 +45,7 @@ impl PlaceProperties for Told<'_> {
 }
 
 /// The tree that stands in the bits, within limits of its nodes and of its depth.
-fn read<D: Decoder>(
+pub(crate) fn read<D: Decoder>(
     alloc: Global,
     bits: &mut Bitstream<'_>,
     nodes: u32,
@@ -59,7 +59,11 @@ fn read<D: Decoder>(
 }
 
 /// The tree for the samples of a channel: by its index, the stream's, and how many earlier channels there are.
-fn compiled<D: Decoder>(alloc: Global, config: &MaConfig<D>, place: &str) -> Option<FlatMaTree>
+pub(crate) fn compiled<D: Decoder>(
+    alloc: Global,
+    config: &MaConfig<D>,
+    place: &str,
+) -> Option<FlatMaTree>
     ensures { IfSome result (λ t. ClustersStandIn (D.meaning.cluster_map config.now.decoder) t.tree) }
 {
     let (channel, rest) = word(place);
@@ -70,7 +74,7 @@ fn compiled<D: Decoder>(alloc: Global, config: &MaConfig<D>, place: &str) -> Opt
 }
 
 /// How the samples of a channel are decoded, by name.
-fn name(path: Path<'_>) -> &'static str {
+pub(crate) fn name(path: Path<'_>) -> &'static str {
     match path {
         Path::Constant(_) => "constant",
         Path::Zero(_) => "zero",
@@ -108,7 +112,7 @@ fn described<D: Decoder>(
 }
 
 /// The reader after so many bits.
-fn after(bytes: &[u8], before: u32) -> Option<Bitstream<'_>> {
+pub(crate) fn after(bytes: &[u8], before: u32) -> Option<Bitstream<'_>> {
     let mut bits = Bitstream::new(bytes);
     for _ in 0..before {
         bits.read_bool().ok()?;

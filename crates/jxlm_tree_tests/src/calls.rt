@@ -4,7 +4,7 @@ ghost use Rattle.std.specs.Prelude.{IfOk};
 ghost use Rattle.jxlm_ma.specs.FlatTree.{ClustersStandIn};
 
 use crate::told::Told;
-use jxlm_base::bits::{Bitstream, BitstreamError};
+use jxlm_base::bits::Bitstream;
 use jxlm_base::decoder::Decoder;
 use jxlm_base::error::Error;
 use jxlm_ma::flat::{FlatMaTree, Leaf, Steps};
@@ -12,14 +12,6 @@ use jxlm_ma::ma::{MaConfig, MaConfigParams};
 use std::alloc::Global;
 use std::fmt::Debug;
 use std::process::Abort;
-
-/// Goes past n bits.
-pub fn skip(bits: &mut Bitstream<'_>, n: u32) -> Result<(), BitstreamError> {
-    for _ in 0..n {
-        bits.read_bits(1)?;
-    }
-    Ok(())
-}
 
 /// The tree that stands in the bits, with at most so many nodes and at most so deep.
 pub fn tree_in<D: Decoder>(
@@ -45,15 +37,6 @@ pub fn tree_at<D: Decoder>(
 {
     let [channel, stream, earlier] = place;
     config.make_flat_tree(alloc, channel, stream, earlier)
-}
-
-/// The same, of which callers need no clause.
-pub fn flat_tree<D: Decoder>(
-    alloc: Global,
-    config: &MaConfig<D>,
-    place: [u32; 3],
-) -> Result<FlatMaTree, Error> {
-    tree_at(alloc, config, place)
 }
 
 /// The leaf by these properties, from 2 on.

@@ -4,22 +4,12 @@
 #[cfg(test)]
 mod calls;
 #[cfg(test)]
-mod drawn;
-#[cfg(test)]
-mod listing;
-#[cfg(test)]
-mod path_rows;
-#[cfg(test)]
 mod place_rows;
 #[cfg(test)]
 mod places;
 #[cfg(test)]
 mod predictor_calls;
 pub mod told;
-#[cfg(test)]
-mod tree_errors;
-#[cfg(test)]
-mod tree_rows;
 #[cfg(test)]
 mod trees;
 
