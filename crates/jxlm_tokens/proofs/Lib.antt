@@ -1,0 +1,10 @@
+pub mod OneToken
+pub mod Inverse
+pub mod Lists
+pub mod Starting
+pub mod Cells
+pub mod Neighbours
+pub mod GradientRows
+pub mod LeafRows
+pub mod Pass
+pub mod WrittenCoded

@@ -1,0 +1,3 @@
+pub mod Tokens
+pub mod Laws
+pub mod Inner

@@ -1,0 +1,9 @@
+//! The tokens of samples, as an encoder writes them (ISO/IEC 18181-1, Modular: decoding of samples).
+#![tactic(auto)]
+
+pub mod laws;
+mod leaf;
+pub mod part;
+mod rows;
+mod start;
+pub mod token;
