@@ -1,0 +1,5 @@
+pub mod Pictures
+pub mod Limits
+pub mod Rasters
+pub mod Formats
+pub mod Inner

@@ -1,0 +1,7 @@
+//! Pictures that were decoded from JPEG XL files, and their text in the formats PGM, PPM, PAM and PFM.
+#![tactic(auto)]
+
+pub mod format;
+pub mod limits;
+pub mod picture;
+mod raster;
