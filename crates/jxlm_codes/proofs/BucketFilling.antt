@@ -1,16 +1,16 @@
 -- The buckets of a distribution are filled to the brim, and then have a slot for each symbol and number.
-use Rattle.std.specs.Prelude.{◌≡◌, ◌≢◌, ℕ, zero, suc, ◌+◌, ◌-◌, ◌*◌, ◌/◌, ◌%◌, ◌^◌, ◌<◌, ◌≤◌, ◌⊎◌, List, [], ◌∷◌, ◌++◌, length, take, sum, Bool, true, false, cond, nat_lt, nat_le, ◌==◌, Option, Some, None, slice_index, slice_index_or, slice_set}
+use Rattle.std.specs.Prelude.{◌≡◌, ◌≢◌, ℕ, zero, suc, ◌+◌, ◌-◌, ◌*◌, ◌<◌, ◌≤◌, ◌⊎◌, List, [], ◌∷◌, ◌++◌, length, take, sum, Bool, true, false, cond, nat_lt, ◌==◌, slice_index}
 use Rattle.std.proofs.Common.{refl, sym, ap, subst, ◌∙◌, inl, inr, arith}
 use Rattle.std.proofs.lemmas.Bool.{cases_order, cases_lt, cases_eq}
 use Rattle.std.proofs.lemmas.Bool.Decides.{nat_tests}
-use Rattle.std.proofs.lemmas.List.{append-nil, length-append, length-set, length-take, length_push, get_or_push, get_or_append_left, get_or_past, get_or-set_same, get_or-set_other, take_more, take_all, nil_from_length}
+use Rattle.std.proofs.lemmas.List.{length-append, length-set, length-take, length_push, get_or_push, get_or_append_left, get_or_past, get_or-set_same, get_or-set_other, take_more, take_all, nil_from_length}
 use Rattle.std.proofs.lemmas.List.Sums.{sum_by_more}
 use Rattle.std.proofs.Math.Nat.{suc-mul}
 use Rattle.jxlm_codes.specs.Distributions.{whole}
 use Rattle.jxlm_codes.specs.Ans.{bucket_of}
-use Rattle.jxlm_codes.specs.Alias.{Filling, own_bucket, sorted, with_bucket, unfilled, last_of, without_last, kept_by, lowered, filled_bucket, with_lowered, filled_buckets, filled_up, filled_one, filled_by}
+use Rattle.jxlm_codes.specs.Alias.{Filling, own_bucket, with_bucket, unfilled, last_of, without_last, kept_by, lowered, filled_bucket, with_lowered, filled_up, filled_one, filled_by}
 use Rattle.jxlm_codes.specs.declared.ans.Bucket.{Bucket}
-use Rattle.jxlm_codes.proofs.BucketMoves.{Place, Buckets, Has, Laid, put, put_same, put_other, moved, laid_after, after_size, after_where, size_short, size_full, size_else}
+use Rattle.jxlm_codes.proofs.BucketMoves.{Place, Buckets, Laid, put, put_same, put_other, moved, laid_after}
 
 -- Sums of a function.
 

@@ -1,19 +1,18 @@
 -- Buckets that are filled have one slot for each symbol and number below its count; so have those of an only symbol.
-use Rattle.std.specs.Prelude.{◌≡◌, ◌≢◌, ℕ, zero, suc, ◌+◌, ◌-◌, ◌*◌, ◌/◌, ◌%◌, ◌^◌, ◌<◌, ◌≤◌, ◌⊎◌, List, [], ◌∷◌, ◌++◌, length, take, sum, Bool, true, false, cond, nat_lt, ◌==◌, Option, Some, None, slice_index, slice_set}
-use Rattle.std.proofs.Common.{refl, sym, ap, subst, ◌∙◌, inl, inr, arith}
+use Rattle.std.specs.Prelude.{◌≡◌, ◌≢◌, ℕ, zero, suc, ◌+◌, ◌-◌, ◌*◌, ◌/◌, ◌%◌, ◌^◌, ◌<◌, ◌≤◌, List, [], ◌∷◌, ◌++◌, length, sum, Bool, true, false, cond, nat_lt, ◌==◌, Option, Some, None, slice_index, slice_set}
+use Rattle.std.proofs.Common.{refl, sym, ap, ◌∙◌, inl, inr, arith}
 use Rattle.std.proofs.lemmas.Bool.{cases_lt, cases_eq}
 use Rattle.std.proofs.lemmas.Bool.Decides.{nat_tests}
-use Rattle.std.proofs.lemmas.List.{length-append, length-set, length_push, get_or_push, get_or_append_left, get_or_past, get_or-set_same, get_or-set_other}
+use Rattle.std.proofs.lemmas.List.{length_push, get_or_push, get_or_append_left, get_or_past, get_or-set_other}
 use Rattle.std.proofs.lemmas.List.Sums.{get_or-le-sum_by, sum_by-set}
 use Rattle.std.proofs.lemmas.Nat.{div-mul-add, mod-mul-add, div_below, mod_below, div-add-mod', mul-add-lt, pow-add, pow_pos, shl-shr}
 use Rattle.std.proofs.Math.Nat.{mod-eq_of_lt, mul_comm, pow-le-pow_right}
 use Rattle.jxlm_codes.specs.Distributions.{whole}
-use Rattle.jxlm_codes.specs.Ans.{Slot, bucket_of, slot_in, slot_of}
-use Rattle.jxlm_codes.specs.Alias.{only_from, only_buckets, unfilled, filled_by, Filling, buckets_with, buckets_of}
+use Rattle.jxlm_codes.specs.Ans.{Slot, bucket_of, slot_in}
+use Rattle.jxlm_codes.specs.Alias.{only_from, only_buckets, Filling, buckets_with, buckets_of}
 use Rattle.jxlm_codes.specs.Slots.{slot_at, AreSlotsOf}
-use Rattle.jxlm_codes.specs.declared.ans.Bucket.{Bucket}
-use Rattle.jxlm_codes.proofs.BucketMoves.{Place, Has, Laid}
-use Rattle.jxlm_codes.proofs.BucketFilling.{Filled, Done, seen, all_filled}
+use Rattle.jxlm_codes.proofs.BucketMoves.{Place, Has}
+use Rattle.jxlm_codes.proofs.BucketFilling.{Done, seen, all_filled}
 
 -- a count is no more than the sum
 count_most : (counts : List ℕ) (i : ℕ) → slice_index counts i ≤ sum counts

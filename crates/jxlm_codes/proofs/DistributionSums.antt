@@ -1,16 +1,14 @@
 -- The counts of a distribution sum up to 4096.
-use Rattle.std.specs.Prelude.{◌≡◌, ◌≢◌, ℕ, zero, suc, ◌+◌, ◌-◌, ◌*◌, ◌/◌, ◌%◌, ◌^◌, ◌<◌, ◌≤◌, List, [], ◌∷◌, ◌++◌, length, replicate, sum, min, max, set, Bool, true, false, cond, nat_lt, nat_le, ◌==◌, ◌&&◌, Result, Ok, Err, IfOk, slice_set, slice_index, slice_index_or}
+use Rattle.std.specs.Prelude.{◌≡◌, ◌≢◌, ℕ, zero, suc, ◌+◌, ◌-◌, ◌*◌, ◌/◌, ◌%◌, ◌^◌, ◌<◌, ◌≤◌, List, [], ◌∷◌, ◌++◌, length, replicate, sum, min, max, Bool, true, false, cond, nat_lt, nat_le, ◌==◌, Result, Ok, Err, IfOk, slice_set, slice_index}
 use Rattle.std.specs.List.{All}
 use Rattle.std.proofs.Common.{refl, sym, ap, subst, ◌∙◌, inl, inr, arith}
 use Rattle.std.proofs.lemmas.Bool.{and_parts, cases_order}
 use Rattle.std.proofs.lemmas.Bool.Decides.{nat_tests}
-use Rattle.std.proofs.lemmas.List.{length-set, length-replicate, length-append, get_or-replicate, get_or-set_same, get_or-set_other, get_or_push, get_or_append_left, get_or_past, length_push}
+use Rattle.std.proofs.lemmas.List.{length-set, length-replicate, length-append, get_or-replicate, get_or-set_other, get_or_push, get_or_append_left, get_or_past, length_push}
 use Rattle.std.proofs.lemmas.Result.{IfOk-weaker}
 use Rattle.std.proofs.lemmas.List.Sums.{sum_by-set, sum_by_push, get_or-le-sum_by}
 use Rattle.std.proofs.lemmas.List.Folds.{sum_by-replicate}
-use Rattle.jxlm_base.specs.Bits.{bits_at}
 use Rattle.jxlm_base.specs.Decoding.{Found, Gives}
-use Rattle.jxlm_base.specs.ErrorKind.{◌>>=◌}
 use Rattle.jxlm_base.specs.declared.decoder.DecoderError.{DecoderError}
 use Rattle.jxlm_base.proofs.BitsLemmas.{bits_at-bound}
 use Rattle.jxlm_codes.specs.Fields.{number_at, var_len_at}

@@ -5,7 +5,7 @@ mod CodeSteps
 mod AliasSteps
 mod AnsUndo
 mod OneSpelling
-mod Holding
+pub mod Holding
 mod DistributionSums
 mod CodewordOrder
 mod CodewordReads
@@ -13,5 +13,7 @@ mod BucketMoves
 mod BucketFilling
 mod BucketSlots
 mod SomeSpelling
+mod SortedSymbols
 mod LookupEntries
 mod FullCodes
+pub mod AcceptedCodes

@@ -1,11 +1,11 @@
 -- Each token beyond the split has a spelling.
 use Rattle.std.specs.Prelude.{◌≡◌, ℕ, suc, ◌+◌, ◌-◌, ◌*◌, ◌/◌, ◌%◌, ◌^◌, ◌<◌, ◌≤◌}
-use Rattle.std.proofs.Common.{refl, sym, ap, subst, ◌∙◌, inl, inr, arith}
+use Rattle.std.proofs.Common.{sym, ap, ◌∙◌, inl, inr, arith}
 use Rattle.std.proofs.lemmas.Bool.{cases_lt}
 use Rattle.std.proofs.lemmas.Nat.{pow_pos, pow-add, leading_top, div-mul-add, mod-mul-add, mul-add-lt, div-add-mod', mod_below, div_below, le-div}
-use Rattle.std.proofs.Math.Nat.{mul_assoc, mul_comm, add-mul, pow-suc, pow-le-pow_right, le_trans, mod-eq_of_lt}
+use Rattle.std.proofs.Math.Nat.{mul_assoc, mul_comm, add-mul, pow-suc, pow-le-pow_right, mod-eq_of_lt}
 use lib.Count.{count_leading_zeros}
-use Rattle.jxlm_codes.specs.IntegerConfigs.{IsConfig, width_of, whole_of}
+use Rattle.jxlm_codes.specs.IntegerConfigs.{IsConfig, width_of}
 use Rattle.jxlm_codes.specs.Spellings.{Spells}
 use Rattle.jxlm_codes.specs.declared.config.IntegerConfig.{IntegerConfig}
 

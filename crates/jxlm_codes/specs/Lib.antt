@@ -8,6 +8,7 @@ pub mod Codewords
 pub mod Lookups
 pub mod Distributions
 pub mod Ans
+pub mod Writing
 pub mod Alias
 pub mod Slots
 pub mod Inner

@@ -58,28 +58,11 @@ pub fn bucket_shift_of(log: u32) -> u32
     }
 }
 
-/// How many slots a bucket has.
-fn bucket_size_of(log: u32) -> u32
-    requires { log ≤ 8 }
-    ensures { result ≡ 4096 / 2 ^ log }
-{
-    match log {
-        0 => 4096,
-        1 => 2048,
-        2 => 1024,
-        3 => 512,
-        4 => 256,
-        5 => 128,
-        6 => 64,
-        7 => 32,
-        _ => 16,
-    }
-}
-
 /// How many buckets there are.
 fn size_of(log: u32) -> u32
     requires { log ≤ 8 }
     ensures value { result ≡ 2 ^ log }
+    ensures some { 0 < result }
     ensures most { result ≤ 2 ^ 8 }
     ensures product { (4096 / 2 ^ log) * result ≤ 4096 }
 {
@@ -255,7 +238,7 @@ pub fn buckets(alloc: Global, counts: &[u32], log: u32) -> Result<Vec<Bucket>, D
     ensures err { IfErr result (λ e. e ≡ DecoderError.OutOfMemory) }
 {
     let size = size_of(log);
-    let bucket_size = bucket_size_of(log);
+    let bucket_size = u32::from(WHOLE) / size;
     if let Some(symbol) = only(counts) {
         return only_buckets(alloc, symbol, bucket_size, size);
     }

@@ -11,7 +11,7 @@ use jxlm_base::decoder::DecoderError;
 
 /// As many slots as there are for each bucket: the first of them are the bucket's own symbol's, the others belong to
 /// another symbol.
-#[derive(Clone, Copy, Debug, PartialEq, Eq)]
+#[derive(Clone, Copy)]
 pub struct Bucket {
     /// How many slots are the bucket's own symbol's.
     pub cutoff: u32,
@@ -26,7 +26,7 @@ pub struct Bucket {
 }
 
 /// The symbol of a slot, the slot's number among those of the symbol, and how many these are.
-#[derive(Clone, Copy, Debug, PartialEq, Eq)]
+#[derive(Clone, Copy)]
 pub struct Slot {
     pub symbol: u32,
     pub number: u32,

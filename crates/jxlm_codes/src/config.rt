@@ -11,7 +11,7 @@ use jxlm_base::bits::Bitstream;
 use jxlm_base::decoder::DecoderError;
 
 /// How the symbols of a cluster become numbers.
-#[derive(Clone, Copy, Debug, PartialEq, Eq)]
+#[derive(Clone, Copy)]
 pub struct IntegerConfig {
     /// Symbols below 2 to this stand for themselves.
     pub split_exponent: u32,

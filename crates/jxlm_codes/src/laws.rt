@@ -1,38 +1,39 @@
 //! Laws of the definitions that contracts cite: each is the contract of a function that does nothing.
 
-ghost use Rattle.std.specs.Prelude.{◌≡◌, ℕ, ◌+◌, ◌*◌, ◌/◌, ◌%◌, ◌-◌, ◌^◌, ◌<◌, ◌≤◌, ◌≢◌, List, length, sum, slice_index, Ok, Err};
+ghost use Rattle.std.specs.Prelude.{◌≡◌, ℕ, ◌+◌, ◌*◌, ◌/◌, ◌%◌, ◌-◌, ◌^◌, ◌<◌, ◌≤◌, ◌≢◌, ◌⊎◌, if◌then◌else◌, List, length, sum, slice_index, Ok, Err};
 ghost use Rattle.jxlm_base.specs.Decoding.{Found};
 ghost use Rattle.jxlm_codes.specs.IntegerConfigs.{IsConfig};
 ghost use Rattle.jxlm_codes.specs.Spellings.{Spells};
 ghost use Rattle.jxlm_codes.specs.declared.config.IntegerConfig.{IntegerConfig};
-ghost use Rattle.jxlm_codes.specs.Ans.{Slot, after_slot};
+ghost use Rattle.jxlm_codes.specs.Ans.{Slot, after_slot, refilled_at};
+ghost use Rattle.jxlm_codes.specs.Writing.{IsSlotFor, WordStands, is_large, written};
 ghost use Rattle.jxlm_codes.specs.Distributions.{distribution_at};
-ghost use Rattle.jxlm_codes.specs.PrefixCodes.{Prefix, prefix_of, next_symbol_at, long_code_at};
+ghost use Rattle.jxlm_codes.specs.PrefixCodes.{Prefix, prefix_of, prefix_at, next_symbol_at, long_code_at, code_length_code_at};
 ghost use Rattle.jxlm_codes.specs.Refusals.{refused};
 ghost use Rattle.jxlm_codes.specs.declared.refusal.Refusal.TheVariants.{NoCodeword};
 ghost use Rattle.jxlm_codes.specs.Alias.{buckets_of};
 ghost use Rattle.jxlm_codes.specs.Slots.{AreSlotsOf};
-ghost use Rattle.jxlm_codes.specs.Codewords.{HasCodeword, IsFull, StandsAt, codeword_of};
+ghost use Rattle.jxlm_codes.specs.Codewords.{HasCodeword, IsFull, LeavesNoRoom, StandsAt, codeword_of};
 
-/// A token of at most 32 bits has one spelling beyond the split: its symbol, and the bits after it.
+/// Each token from the split on, of at most 32 bits, has a spelling, a symbol and the bits after it, and one alone.
 pub fn tokens_have_one_spelling()
-    ensures { (config : IntegerConfig) (s t r q token : ℕ) → IsConfig config → Spells config s r token
+    ensures some { (config : IntegerConfig) (token : ℕ) → IsConfig config → 2 ^ config.split_exponent ≤ token
+        → token < 2 ^ 32 → (symbol : ℕ) × ((rest : ℕ) × Spells config symbol rest token) }
+    ensures one { (config : IntegerConfig) (s t r q token : ℕ) → IsConfig config → Spells config s r token
         → Spells config t q token → (s ≡ t) × (r ≡ q) }
 {}
 
-/// Each token from the split on has a spelling: a symbol, and the bits after it.
-pub fn tokens_have_a_spelling()
-    ensures { (config : IntegerConfig) (token : ℕ) → IsConfig config → 2 ^ config.split_exponent ≤ token
-        → token < 2 ^ 32 → (symbol : ℕ) × ((rest : ℕ) × Spells config symbol rest token) }
-{}
-
-/// Reading a symbol undoes writing it. To write a symbol that comes `count` times, a state becomes `state / count`
-/// times 4096 and the place of the symbol's slot of number `state % count`; from that slot the state comes back.
+/// Reading a symbol undoes writing it: from a state that was written, which is one of a stream again, its slot is found,
+/// and the state before comes back with the 16 bits that were written of it.
 pub fn reading_undoes_writing()
-    ensures { (slot : Slot) (state place : ℕ) → 0 < slot.count → state < 2 ^ 32 → place < 4096
-        → slot.number ≡ state % slot.count
-        → ((state / slot.count * 4096 + place) % 4096 ≡ place)
-        × (after_slot slot (state / slot.count * 4096 + place) ≡ state) }
+    ensures slot { (slot : Slot) (place state : ℕ) → IsSlotFor slot place state
+        → written slot place state % 4096 ≡ place }
+    ensures state { (slot : Slot) (place state : ℕ) → IsSlotFor slot place state
+        → (2 ^ 16 ≤ written slot place state) × (written slot place state < 2 ^ 32) }
+    ensures read { (slot : Slot) (place state : ℕ) (bytes : List ℕ) (p : ℕ) → IsSlotFor slot place state
+        → WordStands slot state bytes p
+        → refilled_at slot.symbol (after_slot slot (written slot place state)) bytes p
+        ≡ Ok (record { symbol = slot.symbol; ans_state = state; position = if is_large slot state then p + 16 else p }) }
 {}
 
 /// The counts of each distribution that is read sum up to 4096.
@@ -62,14 +63,28 @@ pub fn full_codes_have_a_codeword_for_all_bits()
         → (symbol : ℕ) × (HasCodeword lengths symbol × StandsAt lengths symbol bytes p) }
 {}
 
-/// A code that is read by the lengths of its codewords leaves no room; so no bits are refused as no codeword of it.
-pub fn long_codes_have_no_room()
-    ensures full { (skipped alphabet : ℕ) (bytes : List ℕ) (p : ℕ) (found : Found Prefix) → alphabet ≤ 2 ^ 15
+/// Each prefix code that is read has one symbol, which takes no bits, or leaves no room; one that is read by the lengths
+/// of its codewords leaves none. So no bits are refused as no codeword of it.
+pub fn prefix_codes_leave_no_room()
+    ensures all { (alphabet : ℕ) (bytes : List ℕ) (p : ℕ) (found : Found Prefix)
+        → prefix_at alphabet bytes p ≡ Ok found → LeavesNoRoom found.value }
+    ensures long { (skipped alphabet : ℕ) (bytes : List ℕ) (p : ℕ) (found : Found Prefix)
         → long_code_at skipped alphabet bytes p ≡ Ok found
         → (lengths : List ℕ) × ((found.value ≡ prefix_of lengths) × IsFull lengths) }
-    ensures read { (skipped alphabet : ℕ) (bytes : List ℕ) (p : ℕ) (found : Found Prefix) → alphabet ≤ 2 ^ 15
-        → long_code_at skipped alphabet bytes p ≡ Ok found
+    ensures read { (alphabet : ℕ) (bytes : List ℕ) (p : ℕ) (found : Found Prefix) → alphabet ≤ 2 ^ 15
+        → prefix_at alphabet bytes p ≡ Ok found
         → (input : List ℕ) (q : ℕ) → next_symbol_at found.value input q ≢ Err (refused NoCodeword) }
+{}
+
+/// So does the code of the lengths, as it is read: it leaves no room, or has one symbol, and no bits are refused as no
+/// codeword of it.
+pub fn code_length_codes_leave_no_room()
+    ensures full { (skipped : ℕ) (bytes : List ℕ) (p : ℕ) (found : Found (List ℕ)) → skipped ≤ 3
+        → code_length_code_at skipped bytes p ≡ Ok found
+        → IsFull found.value ⊎ (length (prefix_of found.value).symbols ≡ 1) }
+    ensures read { (skipped : ℕ) (bytes : List ℕ) (p : ℕ) (found : Found (List ℕ)) → skipped ≤ 3
+        → code_length_code_at skipped bytes p ≡ Ok found
+        → (input : List ℕ) (q : ℕ) → next_symbol_at (prefix_of found.value) input q ≢ Err (refused NoCodeword) }
 {}
 
 /// An alias table has one slot for each symbol and number below its count, where the counts sum up to 4096.

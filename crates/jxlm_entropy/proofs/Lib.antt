@@ -5,3 +5,4 @@ mod ClusterSteps
 mod AnsCodes
 mod PastTokens
 mod LookupSteps
+mod NoCodeword
