@@ -5,7 +5,7 @@ use jxlcheck_text::bytes;
 use std::alloc::Global;
 
 /// Adds the digits of bytes, two for each.
-fn digits(text: &mut String, bytes: &[u8]) -> Option<()> {
+pub fn digits(text: &mut String, bytes: &[u8]) -> Option<()> {
     for byte in bytes {
         write!(text, "{byte:02x}").ok()?;
     }

@@ -4,6 +4,7 @@
 
 mod files;
 mod images;
+mod writing;
 
 use jxlcheck_text::Row;
 use std::alloc::Global;
@@ -14,6 +15,7 @@ fn seen(alloc: Global, row: &Row<'_>) -> Option<String> {
     match row.kind {
         "file" => files::seen(alloc, row.asked),
         "cuts" => files::seen_of_cuts(alloc, row.asked),
+        "text" => writing::seen(alloc, row.asked),
         "image" => images::seen(alloc, row.asked),
         _ => None,
     }

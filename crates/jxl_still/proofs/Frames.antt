@@ -1,0 +1,180 @@
+-- A frame from the sections that were listed, or why there is none.
+use Rattle.std.proofs.Common.{◌≡◌, IsTrue, ℕ, Bool, true, false, ℤ, List, [], ◌∷◌, map, Option, is_some, Result, Ok, sym, ap, ◌∙◌, subst}
+use Rattle.std.specs.Int.{Width}
+use Rattle.std.specs.List.{All}
+use Rattle.jxlm_base.specs.Bits.{bytes_of, position_of}
+use Rattle.jxlm_base.specs.Decoding.{Meaning}
+use Rattle.jxlm_base.specs.ErrorKind.{kind_of}
+use Rattle.jxlm_base.specs.Grid.{Grid}
+use Rattle.jxlm_base.specs.declared.bits.Bitstream.{Bitstream}
+use Rattle.jxlm_base.specs.declared.error.Error.{Error}
+use Rattle.jxlm_ma.proofs.Memory.{always_so}
+use Rattle.jxlm_ma.specs.Tree.{Config}
+use Rattle.jxlm_chain.specs.Chain.{Chain}
+use Rattle.jxlm_transform.specs.ChannelSteps.{Step}
+use Rattle.jxlm_transform.specs.Channels.{AreGridsOf, ChannelList, image_list}
+use Rattle.jxlm_transform.specs.Params.{IsValidChannel}
+use Rattle.jxlm_transform.specs.declared.param.ModularChannelParams.{ModularChannelParams}
+use Rattle.jxlm_cut.proofs.Steps.{IsPictured}
+use Rattle.jxlm_cut.specs.Cutting.{can_cut}
+use Rattle.jxlm_cut.specs.Passes.{can_group, one_picture}
+use Rattle.jxl_modular.specs.Fresh.{fresh}
+use Rattle.jxl_modular.specs.Image.{Image, coded_list}
+use Rattle.jxl_modular.specs.Parsing.{IsStartAt}
+use Rattle.jxl_modular.specs.Sections.{AreDecoded, IsComplete, SectionsFit, SectionsLeave, SectionsStop}
+use Rattle.jxl_modular.specs.declared.sections.Section.{Section}
+use Rattle.jxlm_sections.specs.CutPicture.{groups_in_order, one_pass}
+use Rattle.jxlm_sections.proofs.OnePass.{complete, exist, unlike}
+use Rattle.jxlm_sections.proofs.Openings.{opened_steps}
+use Rattle.jxlm_sections.proofs.Pictures.{can_be_grouped, still_picture}
+use Rattle.jxlm_sections.proofs.Whole.{all_whole}
+use Rattle.jxlm_cut.specs.declared.pass.Pass.{Pass}
+use Rattle.jxl_still.specs.Stills.{IsStill}
+use Rattle.jxl_still.specs.StillFailures.{HeaderStands, StillFails}
+use Rattle.jxl_still.specs.Inner.Listing.{AreListed, ListingFails, SamplesStop}
+use Rattle.jxl_still.specs.Inner.Openings.{OpenFails, Opens}
+use Rattle.jxl_still.specs.declared.error.FrameError.{FrameError}
+use Rattle.jxl_still.specs.declared.error.FrameError.TheVariants as errors
+use Rattle.jxl_still.specs.declared.places.Places.{Places}
+
+-- the grids of an image have the sides of its channels
+chain_sides : (w : Width) (depth : ℕ) (steps : List Step) (l : ChannelList) (image coded : List (Grid ℤ)) → Chain w depth steps l image coded → AreGridsOf l.channels image
+chain_sides w depth [] l image coded c = c.0
+chain_sides w depth (s ∷ ss) l image coded c = c.0
+
+-- where no sample may be missing and each part has a section, all is decoded
+pub whole_decoded : {S D : Type 0} (d : Meaning D) (w : Width) (to_int : S → ℤ) (zero : S) (x : Image S D) (passes : List Pass) (global : Option (Config D)) (sections : List Section) (whole : Bool) (grids : List (Grid ℤ)) (before after : ℕ) → passes ≡ one_pass → IsComplete x one_pass sections →
+    SectionsLeave d w to_int zero x passes global false sections whole x.store grids before after → (◌≡◌ {A = Result Bool Error} (Ok whole) (Ok true) → AreDecoded d w to_int zero x passes global sections grids before after) → AreDecoded d w to_int zero x one_pass global sections grids before after
+whole_decoded d w to_int zero x passes global sections whole grids before after one complete left decoded =
+    let there : IsComplete x passes sections = subst (λ ps. IsComplete x ps sections) (sym one) complete in
+    let is : whole ≡ true = left.says.1 (all_whole d w to_int zero x passes global sections left.turns x.store left.between left.left, there) in
+    subst (λ ps. AreDecoded d w to_int zero x ps global sections grids before after) one (decoded (ap Ok is))
+
+module _ {S D : Type 0} (d : Meaning D) (w : Width) (to_int : S → ℤ) (zero : S) (global : Option (Config D)) (ps : List ModularChannelParams) (group_dim bit_depth : ℕ) (bytes : List ℕ) (p : ℕ) (places : Places) where
+  abbrev given : ChannelList
+  given = image_list ps
+
+  abbrev Fails : FrameError → Type 0
+  Fails = StillFails {S = S} d w to_int zero global given group_dim bit_depth bytes p places
+
+  abbrev Stands : Type 0
+  Stands = HeaderStands {S = S} d w to_int zero global given group_dim bit_depth bytes p places
+
+  abbrev Made : List (Grid ℤ) → ℕ → ℕ → Type 0
+  Made = IsStill {S = S} d w to_int zero global given group_dim bit_depth bytes p places
+
+  -- opening the image fails
+  pub open_fails : (e : FrameError) → OpenFails d global given bytes p e → Fails e
+  open_fails (errors.Header e) h = h
+  open_fails errors.DeltaPalette h = h
+  open_fails errors.NoMemory h = tt
+  open_fails errors.NoGroups h = absurd h
+  open_fails errors.NoSection h = absurd h
+  open_fails (errors.Samples e) h = absurd h
+
+  module _ (image : Image S D) (q : ℕ) (o : Opens d global given bytes p zero group_dim bit_depth image q) where
+    abbrev stands : Stands
+    stands = record { head = o.head; config = o.config; end = q; plain = o.plain; start = o.start }
+
+    abbrev begun : Image S D
+    begun = fresh zero given o.head o.config group_dim bit_depth
+
+    -- the image can be cut by the one pass
+    pub groups_possible : IsTrue (one_picture given.channels) → IsTrue (can_group one_pass image.given)
+    groups_possible one = subst (λ (i : Image S D). IsTrue (can_group one_pass i.given)) (sym o.is) (can_be_grouped given.channels one)
+
+    -- listing the sections fails
+    pub list_fails : (e : FrameError) → ListingFails places image e → Fails e
+    list_fails errors.NoGroups h = record { stands = stands; sideless = subst (λ (i : Image S D). ListingFails places i errors.NoGroups) o.is h }
+    list_fails errors.NoSection h = record { stands = stands; lacks = subst (λ (i : Image S D). ListingFails places i errors.NoSection) o.is h }
+    list_fails errors.NoMemory h = tt
+    list_fails (errors.Header e) h = absurd h
+    list_fails errors.DeltaPalette h = absurd h
+    list_fails (errors.Samples e) h = absurd h
+
+    module _ (bits : Bitstream) (bits_are : bytes_of bits ≡ bytes) (place : position_of bits ≡ q) (sections : List Section) (listed : AreListed places image bits sections) (cut : IsTrue (can_cut image.group_dim (coded_list image))) where
+      abbrev first : Section
+      first = listed.global
+
+      abbrev more : List Section
+      more = listed.added.more
+
+      sections_are : sections ≡ first ∷ more
+      sections_are = listed.added.in_order
+
+      first_bytes : bytes_of first.bits ≡ bytes
+      first_bytes = ap bytes_of listed.goes_on ∙ bits_are
+
+      first_place : position_of first.bits ≡ q
+      first_place = ap position_of listed.goes_on ∙ place
+
+      can_be_cut : IsTrue (can_cut group_dim o.head.coded.list)
+      can_be_cut = subst (λ (i : Image S D). IsTrue (can_cut i.group_dim (coded_list i))) o.is cut
+
+      parts_are : map (λ s. s.part) more ≡ groups_in_order begun
+      parts_are = listed.added.parts_are ∙ ap (λ (i : Image S D). groups_in_order i) o.is
+
+      -- the sections fit the image
+      pub fit : IsTrue (one_picture given.channels) → SectionsFit image one_pass sections
+      fit one = subst (SectionsFit image one_pass) (sym sections_are) (record {
+        cut = record { groups = groups_possible one; cells = cut };
+        exist = exist image first more listed.of_global.part listed.added.parts_are;
+        unlike = unlike image first more listed.of_global.part listed.added.parts_are;
+      })
+
+      -- and each part with samples has one
+      pub all_there : All IsValidChannel ps → IsTrue (one_picture given.channels) → IsComplete image one_pass sections
+      all_there valid one =
+          let pictured = still_picture ps o.head valid one (opened_steps (is_some global) given bytes p o.head o.start.tree_at o.start.header) in
+          let list_is : coded_list image ≡ o.head.coded.list = ap (λ (i : Image S D). coded_list i) o.is in
+          subst (IsComplete image one_pass) (sym sections_are) (complete image first more listed.of_global.part listed.added.parts_are pictured.w pictured.h
+          (subst (IsPictured pictured.w pictured.h) (sym list_is) pictured.is))
+
+      -- decoding them fails
+      pub samples_fail : (e : FrameError) → SamplesStop d w to_int zero image global sections e → Fails e
+      samples_fail (errors.Samples e) h =
+          let (left, before, after, stop) = h in
+          always_so (kind_of e) (record {
+            stands = stands;
+            first = first;
+            bytes_are = first_bytes;
+            goes_on = first_place;
+            of_global = listed.of_global;
+            cut = can_be_cut;
+            groups = more;
+            parts = parts_are;
+            of_groups = listed.added.groups;
+            left = left;
+            before = before;
+            after = after;
+            stop = subst (λ (i : Image S D). SectionsStop d w to_int zero i one_pass global false (first ∷ more) e i.store left before after) o.is
+                (subst (λ ss. SectionsStop d w to_int zero image one_pass global false ss e image.store left before after) sections_are stop);
+          })
+      samples_fail (errors.Header e) h = absurd h
+      samples_fail errors.DeltaPalette h = absurd h
+      samples_fail errors.NoGroups h = absurd h
+      samples_fail errors.NoSection h = absurd h
+      samples_fail errors.NoMemory h = absurd h
+
+      -- or there is the frame
+      pub made : (grids : List (Grid ℤ)) (before after : ℕ) → AreDecoded d w to_int zero image one_pass global sections grids before after → Made grids before after
+      made grids before after done = record {
+        head = o.head;
+        config = o.config;
+        first = first;
+        bytes_are = first_bytes;
+        plain = o.plain;
+        start = subst (λ n. IsStartAt d global bytes given p o.head o.config n) (sym first_place) o.start;
+        cut = can_be_cut;
+        of_global = listed.of_global;
+        groups = more;
+        parts = parts_are;
+        of_groups = listed.added.groups;
+        decoded = subst (λ (i : Image S D). AreDecoded d w to_int zero i one_pass global (first ∷ more) grids before after) o.is
+            (subst (λ ss. AreDecoded d w to_int zero image one_pass global ss grids before after) sections_are done);
+      }
+
+  -- whose grids have the sides of the channels
+  pub still_sides : (grids : List (Grid ℤ)) (before after : ℕ) → Made grids before after → AreGridsOf given.channels grids
+  still_sides grids before after s =
+      chain_sides w bit_depth s.head.coded.steps (record { channels = given.channels; nb_meta = 0 }) grids s.decoded.coded s.decoded.only.chain

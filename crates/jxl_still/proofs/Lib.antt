@@ -1,0 +1,4 @@
+pub mod Adding
+pub mod Listings
+pub mod Headers
+pub mod Frames

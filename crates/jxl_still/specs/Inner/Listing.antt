@@ -1,0 +1,55 @@
+-- Sections that were found.
+use Rattle.std.specs.Prelude.{◌≡◌, ℕ, ℤ, List, [], ◌∷◌, ◌++◌, map, false, IsFalse, Option}
+use Rattle.std.specs.Int.{Width}
+use Rattle.jxlm_base.specs.Decoding.{Meaning}
+use Rattle.jxlm_base.specs.Grid.{Grid}
+use Rattle.jxlm_ma.specs.Tree.{Config}
+use Rattle.jxl_modular.specs.Sections.{SectionsStop}
+use Rattle.std.specs.List.{All}
+use Rattle.jxlm_base.specs.declared.bits.Bitstream.{Bitstream}
+use Rattle.jxlm_cut.specs.Cutting.{can_cut}
+use Rattle.jxlm_cut.specs.declared.part.SectionPart.{SectionPart}
+use Rattle.jxl_modular.specs.Image.{Image, coded_list}
+use Rattle.jxl_modular.specs.declared.sections.Section.{Section}
+use Rattle.jxlm_sections.specs.CutPicture.{IsOfGlobal, groups_in_order, one_pass}
+use Rattle.jxl_still.specs.Places.{IsOfGroup}
+use Rattle.jxl_still.specs.StillFailures.{Lacks}
+use Rattle.jxl_still.specs.declared.error.FrameError.{FrameError}
+use Rattle.jxl_still.specs.declared.error.FrameError.TheVariants as errors
+use Rattle.jxl_still.specs.declared.places.Places.{Places}
+
+-- the section is that of this part
+pub record IsPlaced (x : Places) (part : SectionPart) (s : Section) : Type 0 where
+  pub is : s.part ≡ part
+  pub group : IsOfGroup x s
+
+-- behind the sections before stand more now, of these parts
+pub record AreAdded (x : Places) (ps : List SectionPart) (before after : List Section) : Type 0 where
+  pub more : List Section
+  pub in_order : after ≡ before ++ more
+  pub parts_are : map (λ s. s.part) more ≡ ps
+  pub groups : All (IsOfGroup x) more
+
+abbrev pub AddingFails : Places → List SectionPart → FrameError → Type 0
+AddingFails x ps errors.NoSection = Lacks x ps
+AddingFails x ps errors.NoMemory = Unit {0}
+AddingFails x ps e = ⊥
+
+-- the sections of an image: that of the global part goes on after the header, and the others were found
+pub record AreListed {S D : Type 0} (x : Places) (image : Image S D) (first : Bitstream) (sections : List Section) : Type 0 where
+  pub global : Section
+  pub of_global : IsOfGlobal global
+  pub goes_on : global.bits ≡ first
+  pub added : AreAdded x (groups_in_order image) (global ∷ []) sections
+
+abbrev pub ListingFails : {S D : Type 0} → Places → Image S D → FrameError → Type 0
+ListingFails x image errors.NoGroups = IsFalse (can_cut image.group_dim (coded_list image))
+ListingFails x image errors.NoSection = Lacks x (groups_in_order image)
+ListingFails x image errors.NoMemory = Unit {0}
+ListingFails x image e = ⊥
+
+-- decoding the sections of an image stops with this error
+abbrev pub SamplesStop : {S D : Type 0} → Meaning D → Width → (S → ℤ) → S → Image S D → Option (Config D) → List Section → FrameError → Type 0
+SamplesStop {S} d w to_int zero x global sections (errors.Samples e) =
+    (left : List (Grid S)) × (before : ℕ) × (after : ℕ) × SectionsStop d w to_int zero x one_pass global false sections e x.store left before after
+SamplesStop d w to_int zero x global sections e = ⊥

@@ -1,0 +1,4 @@
+pub mod Places
+pub mod Stills
+pub mod StillFailures
+pub mod Inner

@@ -1,0 +1,51 @@
+-- The samples of a frame, from its sections (ISO/IEC 18181-1, frame: sections, LF global, groups).
+use Rattle.std.specs.Prelude.{◌≡◌, ℕ, ℤ, List, ◌∷◌, map, Bool, false, nat_lt, IsTrue, Option, Ok}
+use Rattle.std.specs.Int.{Width}
+use Rattle.std.specs.List.{All, list_any}
+use Rattle.jxlm_base.specs.Bits.{bytes_of, position_of}
+use Rattle.jxlm_base.specs.Decoding.{Meaning}
+use Rattle.jxlm_base.specs.Grid.{Grid}
+use Rattle.jxlm_transform.specs.Channels.{ChannelList}
+use Rattle.jxlm_transform.specs.Transforms.{Transform, OfPalette}
+use Rattle.jxlm_cut.specs.Cutting.{can_cut}
+use Rattle.jxlm_header.specs.Header.{Header, header}
+use Rattle.jxlm_header.specs.Opening.{Opening}
+use Rattle.jxlm_ma.specs.Tree.{Config}
+use Rattle.jxl_modular.specs.Fresh.{fresh}
+use Rattle.jxl_modular.specs.Parsing.{IsStartAt}
+use Rattle.jxl_modular.specs.Sections.{AreDecoded}
+use Rattle.jxl_modular.specs.declared.sections.Section.{Section}
+use Rattle.jxlm_sections.specs.CutPicture.{IsOfGlobal, groups_in_order, one_pass}
+use Rattle.jxl_still.specs.Places.{IsOfGroup}
+use Rattle.jxl_still.specs.declared.places.Places.{Places}
+
+-- a palette that has colours which are told by what they differ from a prediction
+abbrev pub has_deltas : Transform → Bool
+has_deltas (OfPalette p) = nat_lt 0 p.nb_deltas
+has_deltas t = false
+
+-- the transforms of the Modular header that is read at bit p have no palette with deltas
+pub record HasNoDeltas (bytes : List ℕ) (p : ℕ) : Type 0 where
+  pub head : Header
+  pub end : ℕ
+  pub stands : header.read bytes p ≡ Ok (record { value = head; position = end })
+  pub none : list_any has_deltas head.transform ≡ false
+
+-- These are the channels of a frame. In its first section stand, at bit p, the image's header and its tree, which may be
+-- the global one; the section goes on with the global part. Each group with samples has a section, with a header of its
+-- own, whose stream has the index of its part. Each codes its part whole, with so many nodes of trees looked at before and
+-- after, and together they code the image.
+pub record IsStill {S D : Type 0} (d : Meaning D) (w : Width) (to_int : S → ℤ) (zero : S) (global : Option (Config D)) (given : ChannelList) (group_dim bit_depth : ℕ) (bytes : List ℕ) (p : ℕ) (places : Places) (grids : List (Grid ℤ)) (before after : ℕ) : Type 0 where
+  pub head : Opening
+  pub config : Config D
+  pub first : Section
+  pub bytes_are : bytes_of first.bits ≡ bytes
+  pub plain : HasNoDeltas bytes p
+  pub start : IsStartAt d global bytes given p head config (position_of first.bits)
+  pub cut : IsTrue (can_cut group_dim head.coded.list)
+  pub of_global : IsOfGlobal first
+  pub groups : List Section
+  pub parts : map (λ s. s.part) groups ≡ groups_in_order (fresh zero given head config group_dim bit_depth)
+  pub of_groups : All (IsOfGroup places) groups
+  pub decoded : AreDecoded d w to_int zero (fresh zero given head config group_dim bit_depth) one_pass global
+      (first ∷ groups) grids before after

@@ -1,0 +1,39 @@
+//! Why a frame is not decoded.
+
+ghost use Rattle.std.specs.Prelude.{◌≡◌};
+
+use jxlm_base::error::Error;
+use jxlm_base::grid::OutOfMemory;
+
+/// Why a frame is not decoded: the first reason in the order of its bits.
+#[derive(Clone, Copy, Debug, PartialEq, Eq, thiserror::Error)]
+pub enum FrameError {
+    /// The image's header, or its tree, has this error.
+    #[error("image: {0}")]
+    Header(Error),
+    /// A palette of the image's header has colours that are told by what they differ from a prediction.
+    #[error("not supported: a palette with deltas")]
+    DeltaPalette,
+    /// A group has a side of 0 in a coded channel, because of a squeeze.
+    #[error("a group of no columns or rows")]
+    NoGroups,
+    /// A group has samples, but no section.
+    #[error("a group without a section")]
+    NoSection,
+    /// The samples have this error.
+    #[error("samples: {0}")]
+    Samples(Error),
+    /// Out of memory.
+    #[error("out of memory")]
+    NoMemory,
+}
+
+impl From<OutOfMemory> for FrameError {
+    ghost use Rattle.jxl_still.specs.declared.error.FrameError.TheVariants.{NoMemory};
+
+    ghost from_gives = { λ _ e. e ≡ NoMemory };
+
+    fn from(_error: OutOfMemory) -> FrameError {
+        FrameError::NoMemory
+    }
+}

@@ -1,0 +1,108 @@
+//! A frame, decoded from its sections.
+
+ghost use Rattle.std.specs.Prelude.{◌≡◌, ◌↔◌, [], pos, false, IfErr, IfOk, IsTrue, None, Ok, OnOk};
+ghost use Rattle.std.specs.Option.{IfSome, option_copied};
+ghost use Rattle.jxlm_base.specs.Bits.{bytes_of, position_of};
+ghost use Rattle.jxlm_transform.specs.Channels.{AreGridsOf, image_list};
+ghost use Rattle.jxlm_transform.specs.Params.{IsValidParams};
+ghost use Rattle.jxlm_cut.specs.Passes.{one_picture, passes_of};
+ghost use Rattle.jxl_modular.specs.Image.{image_grids};
+ghost use Rattle.jxl_modular.specs.SameButCells.{SameButCells};
+ghost use Rattle.jxl_modular.specs.Sections.{AreDecoded, IsComplete, SectionsFit};
+ghost use Rattle.jxlm_sections.specs.CutPicture.{one_pass as the_pass};
+ghost use Rattle.jxl_still.specs.Stills.{IsStill};
+ghost use Rattle.jxl_still.specs.StillFailures.{StillFails};
+ghost use Rattle.jxl_still.specs.Places.{AreFew};
+ghost use Rattle.jxl_still.specs.Inner.Listing.{SamplesStop};
+
+use crate::error::FrameError;
+use crate::opening::open_image;
+use crate::places::Places;
+use jxl_modular::image::ModularImageDestination;
+use jxl_modular::sections::{Section, decode_sections};
+use jxlm_base::bits::Bitstream;
+use jxlm_base::decoder::Decoder;
+use jxlm_base::sample::Sample;
+use jxlm_ma::flat::Steps;
+use jxlm_ma::ma::MaConfig;
+use jxlm_sections::one_pass;
+use jxlm_transform::param::ModularParams;
+use std::alloc::Global;
+use std::collections::BTreeMap;
+
+// Decodes all sections of an image, of which each part with samples has one, and undoes the transforms.
+fn decode_all<S: Sample, D: Decoder>(
+    alloc: Global,
+    image: &mut ModularImageDestination<S, D>,
+    passes: &BTreeMap<u32, (i32, i32)>,
+    sections: &[Section<'_>],
+    global: Option<&MaConfig<D>>,
+    steps: &mut Steps,
+) -> Result<(), FrameError>
+    requires one { passes_of passes.now.entries ≡ the_pass }
+    requires fit { SectionsFit image.old the_pass sections.now }
+    requires complete { IsComplete image.old the_pass sections.now }
+    ensures ok { OnOk result (AreDecoded D.meaning S.width S.to_int (S.from_int (pos 0)) image.old the_pass
+        (option_copied global.entry) sections.now (image_grids S.to_int image.new) steps.old steps.new) }
+    ensures err { IfErr result (SamplesStop D.meaning S.width S.to_int (S.from_int (pos 0)) image.old
+        (option_copied global.entry) sections.now) }
+    ensures same { SameButCells image.old image.new }
+{
+    match decode_sections(alloc, image, passes, sections, global, false, steps) {
+        Ok(whole) => {
+            let _ = whole;
+            Ok(())
+        }
+        Err(error) => Err(FrameError::Samples(error)),
+    }
+}
+
+/// Decodes a frame from its sections: the first from its reader's position on, where the header of the Modular image
+/// stands, and those of its groups (ISO/IEC 18181-1, frame: sections, LF global, groups).
+///
+/// A header that uses a global tree has the one of the parameters. Each group with samples has a section, which begins
+/// with a header of its own; the others are not looked at. The indices of streams are 0 for the global part, 1 and the
+/// number of LF groups and its own number for an LF group, and 18 and three times the number of LF groups and its own
+/// for a group of the pass. It returns the image, whose transforms are undone; with no channels there is none.
+///
+/// The parameters are valid, and their channels are of one picture; there are at most 2^24 groups of each kind
+/// ([`Places::are_few`]).
+///
+/// # Errors
+///
+/// The first in the order of the bits: `Header` for the header and the tree, as by
+/// [`Modular::parse`](jxl_modular::Modular::parse); `DeltaPalette` where that header has a palette with deltas;
+/// `NoGroups`; `NoSection`; `Samples` for the first section that cannot be decoded, as by
+/// [`decode_sections`](jxl_modular::sections::decode_sections). Or it is out of memory, at any time.
+pub fn decode_frame<'a, S: Sample, D: Decoder>(
+    alloc: Global,
+    first: Bitstream<'a>,
+    params: ModularParams<'_, D>,
+    places: Places<'a, '_>,
+    steps: &mut Steps,
+) -> Result<Option<ModularImageDestination<S, D>>, FrameError>
+    requires valid { IsValidParams params }
+    requires alike { IsTrue (one_picture (image_list params.channels.items).channels) }
+    requires few { AreFew places }
+    ensures none { (result ≡ Ok None) ↔ (params.entry.channels.items ≡ []) }
+    ensures still { IfOk result (λ made. IfSome made (λ image. IsStill D.meaning S.width S.to_int (S.from_int (pos 0))
+        (option_copied params.entry.ma_config) (image_list params.entry.channels.items) params.entry.group_dim
+        params.entry.bit_depth (bytes_of first.entry) (position_of first.entry) places.entry
+        (image_grids S.to_int image) steps.old steps.new)) }
+    ensures sides { IfOk result (λ made. IfSome made (λ image.
+        AreGridsOf (image_list params.entry.channels.items).channels (image_grids S.to_int image))) }
+    ensures err { IfErr result (StillFails D.meaning S.width S.to_int (S.from_int (pos 0))
+        (option_copied params.entry.ma_config) (image_list params.entry.channels.items) params.entry.group_dim
+        params.entry.bit_depth (bytes_of first.entry) (position_of first.entry) places.entry) }
+{
+    let global = params.ma_config;
+    let mut bits = first;
+    let opened = open_image::<S, D>(alloc, &mut bits, params)?;
+    let Some(mut image) = opened else {
+        return Ok(None);
+    };
+    let passes = one_pass(alloc)?;
+    let sections = places.list(alloc, &mut image, &passes, bits)?;
+    decode_all(alloc, &mut image, &passes, &sections, global, steps)?;
+    Ok(Some(image))
+}

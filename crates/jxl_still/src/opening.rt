@@ -1,0 +1,100 @@
+//! The header of a frame's image.
+
+ghost use Rattle.std.specs.Prelude.{◌≡◌, ◌↔◌, [], pos, IfErr, IfOk, None, Ok, OnOk};
+ghost use Rattle.std.specs.List.{list_any};
+ghost use Rattle.std.specs.Option.{IfSome, option_copied};
+ghost use Rattle.jxlm_base.specs.Bits.{bytes_of, position_of};
+ghost use Rattle.jxlm_transform.specs.Channels.{image_list};
+ghost use Rattle.jxlm_transform.specs.Params.{IsValidParams};
+ghost use Rattle.jxlm_transform.specs.Transforms.{transform_of};
+ghost use Rattle.jxl_still.specs.Stills.{HasNoDeltas, has_deltas as the_has_deltas};
+ghost use Rattle.jxl_still.specs.Inner.Openings.{AheadFails, OpenFails, Opens};
+
+use crate::error::FrameError;
+use jxl_modular::Modular;
+use jxl_modular::image::ModularImageDestination;
+use jxlm_base::bits::Bitstream;
+use jxlm_base::decoder::Decoder;
+use jxlm_base::sample::Sample;
+use jxlm_header::header::ModularHeader;
+use jxlm_transform::param::ModularParams;
+use jxlm_transform::transform::TransformInfo;
+use std::alloc::Global;
+
+// Whether the transform is a palette with deltas.
+fn is_delta(transform: &TransformInfo) -> bool
+    ensures { result ≡ the_has_deltas (transform_of transform.now) }
+{
+    match transform {
+        TransformInfo::Palette(palette) => palette.nb_deltas > 0,
+        _ => false,
+    }
+}
+
+fn has_deltas(transforms: &[TransformInfo]) -> bool
+    ensures { result ≡ list_any (λ t. the_has_deltas (transform_of t)) transforms.now }
+{
+    transforms.iter().any(|transform| is_delta(transform))
+}
+
+/// The header that stands there has no palette with deltas.
+fn no_deltas(alloc: Global, bits: Bitstream<'_>) -> Result<(), FrameError>
+    ensures ok { OnOk result (HasNoDeltas (bytes_of bits.entry) (position_of bits.entry)) }
+    ensures err { IfErr result (AheadFails (bytes_of bits.entry) (position_of bits.entry)) }
+{
+    let mut ahead = bits;
+    match ModularHeader::parse(alloc, &mut ahead) {
+        Ok(header) => {
+            if has_deltas(&header.transform) {
+                Err(FrameError::DeltaPalette)
+            } else {
+                Ok(())
+            }
+        }
+        Err(error) => Err(FrameError::Header(error)),
+    }
+}
+
+// The image whose header stands there, or none where there are no channels.
+fn read_image<S: Sample, D: Decoder>(
+    alloc: Global,
+    bits: &mut Bitstream<'_>,
+    params: ModularParams<'_, D>,
+) -> Result<Option<ModularImageDestination<S, D>>, FrameError>
+    requires valid { IsValidParams params }
+    requires plain { HasNoDeltas (bytes_of bits.old) (position_of bits.old) }
+    ensures none { (result ≡ Ok None) ↔ (params.entry.channels.items ≡ []) }
+    ensures ok { IfOk result (λ made. IfSome made (λ image. Opens D.meaning (option_copied params.entry.ma_config)
+        (image_list params.entry.channels.items) (bytes_of bits.old) (position_of bits.old) (S.from_int (pos 0))
+        params.entry.group_dim params.entry.bit_depth image (position_of bits.new))) }
+    ensures err { IfErr result (OpenFails D.meaning (option_copied params.entry.ma_config)
+        (image_list params.entry.channels.items) (bytes_of bits.old) (position_of bits.old)) }
+    ensures bytes { bytes_of bits.new ≡ bytes_of bits.old }
+{
+    match Modular::<S, D>::parse(alloc, bits, params) {
+        Ok(modular) => Ok(modular.into_image()),
+        Err(error) => Err(FrameError::Header(error)),
+    }
+}
+
+/// The image whose header stands at the reader's position; with no channels there is none.
+pub fn open_image<S: Sample, D: Decoder>(
+    alloc: Global,
+    bits: &mut Bitstream<'_>,
+    params: ModularParams<'_, D>,
+) -> Result<Option<ModularImageDestination<S, D>>, FrameError>
+    requires valid { IsValidParams params }
+    ensures none { (result ≡ Ok None) ↔ (params.entry.channels.items ≡ []) }
+    ensures ok { IfOk result (λ made. IfSome made (λ image. Opens D.meaning (option_copied params.entry.ma_config)
+        (image_list params.entry.channels.items) (bytes_of bits.old) (position_of bits.old) (S.from_int (pos 0))
+        params.entry.group_dim params.entry.bit_depth image (position_of bits.new))) }
+    ensures err { IfErr result (OpenFails D.meaning (option_copied params.entry.ma_config)
+        (image_list params.entry.channels.items) (bytes_of bits.old) (position_of bits.old)) }
+    ensures bytes { bytes_of bits.new ≡ bytes_of bits.old }
+{
+    if params.channels.is_empty() {
+        return Ok(None);
+    }
+    no_deltas(alloc, *bits)?;
+    read_image(alloc, bits, params)
+}
