@@ -1,1 +1,3 @@
+pub mod CodedRows
+pub mod Numbers
 pub mod Reduced

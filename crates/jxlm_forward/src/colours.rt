@@ -1,10 +1,11 @@
-//! Colours of a cell coded (ISO/IEC 18181-1, Modular: reversible colour transforms).
+//! Colours of cells coded (ISO/IEC 18181-1, Modular: reversible colour transforms).
 
-ghost use Rattle.std.specs.Prelude.{◌≡◌};
+ghost use Rattle.std.specs.Prelude.{◌≡◌, length};
 ghost use Rattle.jxlm_base.specs.Colour.{triple, plus as the_sum, minus as the_difference, halved, coded_triple};
 ghost use Rattle.jxlm_base.specs.Colour.{to_luma as luma_of, to_differences as differences_of, coded_by as the_code};
+ghost use Rattle.jxlm_forward.specs.Colours.{AreCoded, AreSampleRows, HaveOneLength};
 
-use crate::lines::difference;
+use crate::lines::{difference, known};
 use jxlm_base::sample::{Sample, Sealed};
 
 /// The sum, reduced to the type's width.
@@ -65,19 +66,46 @@ fn coded_by<S: Sample>(kind: u32, x: S, y: S, z: S) -> (S, S, S)
     }
 }
 
-/// The coded samples of three finished ones, by a kind of colour: what is left of it by 7 names how they are coded, and
-/// its multiple of 7 in which order they come, where 6 and above name the first order again.
-pub fn coded<S: Sample>(kind: u32, x: S, y: S, z: S) -> (S, S, S)
-    ensures { triple (S.to_int result.0) (S.to_int result.1) (S.to_int result.2) ≡ coded_triple S.width kind
-        (triple (S.to_int x) (S.to_int y) (S.to_int z)) }
+/// Codes three rows of one length, cell by cell, in their order, into three others.
+fn code_each<S: Sample>(ty: u32, x: &[S], y: &[S], z: &[S], a: &mut [S], b: &mut [S], c: &mut [S])
+    requires lengths { HaveOneLength (length x.now) y.now z.now a.old b.old c.old }
+    ensures lengths { HaveOneLength (length x.now) y.now z.now a.new b.new c.new }
+    ensures coded { AreCoded S.to_int (the_code S.width ty) x.now y.now z.now a.new b.new c.new (length x.now) }
+    ensures samples { AreSampleRows S.to_int S.width x.now y.now z.now (length x.now) }
+{
+    for i in 0..x.len() {
+        let (first, second, third) = coded_by(ty, known(x[i]), known(y[i]), known(z[i]));
+        a[i] = first;
+        b[i] = second;
+        c[i] = third;
+    }
+}
+
+/// Codes three rows of one length, `x`, `y` and `z`, cell by cell into `a`, `b` and `c`, by a kind of colour: what is
+/// left of it by 7 names how they are coded, and its multiple of 7 in which order they come, where 6 and above name the
+/// first order again. What was in `a`, `b` and `c` does not count.
+pub fn code_rows<S: Sample>(
+    kind: u32,
+    x: &[S],
+    y: &[S],
+    z: &[S],
+    a: &mut [S],
+    b: &mut [S],
+    c: &mut [S],
+)
+    requires lengths { HaveOneLength (length x.now) y.now z.now a.old b.old c.old }
+    ensures lengths { HaveOneLength (length x.now) y.now z.now a.new b.new c.new }
+    ensures coded { AreCoded S.to_int (coded_triple S.width kind) x.now y.now z.now a.new b.new c.new
+        (length x.now) }
+    ensures samples { AreSampleRows S.to_int S.width x.now y.now z.now (length x.now) }
 {
     let ty = kind % 7;
     match kind / 7 {
-        1 => coded_by(ty, y, z, x),
-        2 => coded_by(ty, z, x, y),
-        3 => coded_by(ty, x, z, y),
-        4 => coded_by(ty, y, x, z),
-        5 => coded_by(ty, z, y, x),
-        _ => coded_by(ty, x, y, z),
+        1 => code_each(ty, y, z, x, a, b, c),
+        2 => code_each(ty, z, x, y, a, b, c),
+        3 => code_each(ty, x, z, y, a, b, c),
+        4 => code_each(ty, y, x, z, a, b, c),
+        5 => code_each(ty, z, y, x, a, b, c),
+        _ => code_each(ty, x, y, z, a, b, c),
     }
 }

@@ -1,5 +1,6 @@
-//! What an encoder makes of samples: a line squeezed, and the colours of a cell coded.
+//! What an encoder makes of samples: lines squeezed, and the colours of cells coded.
 #![tactic(auto)]
 
 pub mod colours;
 pub mod lines;
+pub mod strips;

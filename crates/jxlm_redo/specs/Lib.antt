@@ -1,0 +1,2 @@
+pub mod Redo
+pub mod Inner
