@@ -1,0 +1,7 @@
+pub mod Accepted
+pub mod Encodings
+pub mod Listings
+pub mod NoPalettes
+pub mod OwnGrids
+pub mod TreesRead
+pub mod Writings

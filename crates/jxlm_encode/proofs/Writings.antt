@@ -1,0 +1,56 @@
+-- What an encoder writes, and the part whose samples it writes.
+use Rattle.std.proofs.Common.{◌≡◌, ℕ, ◌^◌, ◌<◌, ◌≤◌, List, [], ◌++◌, length, Result, Ok, Err, IfOk, sym, ap, ◌∙◌, subst, append_assoc, arith}
+use Rattle.std.specs.Global.{Vec}
+use Rattle.std.specs.List.{All}
+use Rattle.jxlm_base.specs.Grid.{Grid}
+use Rattle.jxlm_base.specs.Regions.{AllLie, LieApart}
+use Rattle.jxlm_base.specs.declared.subgrid.Region.{Region}
+use Rattle.jxlm_chain.specs.declared.placed.PlacedChannels.{PlacedChannels}
+use Rattle.jxlm_part.specs.Placed.{PartLies}
+use Rattle.jxlm_part.specs.declared.part.PlacedPart.{PlacedPart}
+use Rattle.jxlm_transform.specs.Channels.{AreRegionsOf, Channel, IsNarrow}
+use Rattle.jxlm_transform.specs.Transforms.{Transform}
+use Rattle.jxlm_tree.specs.SelfCorrecting.{IsHeader}
+use Rattle.jxlm_tree.specs.WeightsHeader.{default_weights}
+use Rattle.jxlm_write.specs.Headers.{header_bits}
+use Rattle.jxlm_write.specs.Nodes.{tree_tokens}
+use Rattle.jxlm_write.specs.Tokens.{token_bits}
+use Rattle.jxlm_write.specs.Trees.{tree_bits}
+use Rattle.jxlm_write.specs.Written.{AreFilled}
+use Rattle.jxlm_write.specs.declared.tree.EncodeNode.{EncodeNode}
+use Rattle.jxlm_write.proofs.BitLists.{filled_stands}
+use Rattle.jxlm_encode.specs.Inner.Writing.{AreWritten, ChannelsLie}
+
+-- header, tree and tokens, one after another
+pub all_written : {E : Type 0} (r : Result (Vec ℕ) E) (ts : List Transform) (nodes : List EncodeNode) (of_nodes tokens : List ℕ) (own width : ℕ) (start a b d : List ℕ) → start ≡ [] → a ≡ start ++ header_bits ts →
+    b ≡ a ++ tree_bits nodes own width → d ≡ b ++ token_bits width tokens → own ≤ 32 → All (λ t. t < 2 ^ own) of_nodes → width ≤ 32 → All (λ t. t < 2 ^ width) tokens → of_nodes ≡ tree_tokens nodes →
+    IfOk r (λ v. AreFilled v.items d) → IfOk r (λ v. AreWritten ts nodes tokens v.items)
+all_written (Err e) ts nodes of_nodes tokens own width start a b d none header tree last own_most own_fits most fits are filled = filled
+all_written (Ok v) ts nodes of_nodes tokens own width start a b d none header tree last own_most own_fits most fits are filled =
+    let all : d ≡ header_bits ts ++ (tree_bits nodes own width ++ token_bits width tokens) =
+    last ∙ ap (λ xs. xs ++ token_bits width tokens) (tree ∙ ap (λ xs. xs ++ tree_bits nodes own width) (header ∙ ap (λ xs. xs ++ header_bits ts) none))
+    ∙ append_assoc (header_bits ts) (tree_bits nodes own width) (token_bits width tokens) in
+    record {
+      own = own;
+      own_most = own_most;
+      own_fits = subst (All (λ t. t < 2 ^ own)) are own_fits;
+      width = width;
+      most = most;
+      fits = fits;
+      has = filled_stands v.items (header_bits ts ++ (tree_bits nodes own width ++ token_bits width tokens)) (subst (AreFilled v.items) all filled);
+    }
+
+default_header : IsHeader default_weights
+default_header = record { p1 = omega arith; p2 = omega arith; p3a = omega arith; p3b = omega arith; p3c = omega arith; p3d = omega arith; p3e = omega arith; w0 = omega arith; w1 = omega arith; w2 = omega arith; w3 = omega arith }
+
+-- the part of channels that lie in a store
+pub part_lies : {D S : Type 0} (p : PlacedChannels) (store : List (Grid S)) → ChannelsLie p store → (part : PlacedPart D) → part.channels.now ≡ p.channels.info.items → part.regions.now ≡ p.places.regions.items → part.weights ≡ default_weights →
+    PartLies part store
+part_lies p store h part channels regions weights = record {
+  sizes = subst (λ (cs : List Channel). AreRegionsOf cs part.regions.now) (sym channels) (subst (AreRegionsOf p.channels.info.items) (sym regions) h.sizes);
+  narrow = subst (All IsNarrow) (sym channels) h.narrow;
+  few = subst (λ (cs : List Channel). length cs ≤ 65536) (sym channels) h.few;
+  weights = subst IsHeader (sym weights) default_header;
+  lie = subst (λ (rs : List Region). AllLie rs store) (sym regions) h.lie;
+  apart = subst LieApart (sym regions) h.apart;
+}

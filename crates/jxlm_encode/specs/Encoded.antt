@@ -1,0 +1,97 @@
+-- What an encoder writes, and what it refuses (a lossless encoder over the plain decoder's format).
+use Rattle.std.specs.Prelude.{◌≡◌, ◌⊎◌, ℕ, ◌+◌, ◌<◌, ◌≤◌, ℤ, List, [], ◌∷◌, length, map, take, slice_get, true, false, Some, Ok, Err}
+use Rattle.std.specs.List.{All}
+use Rattle.std.specs.Int.{Width}
+use Rattle.jxlm_base.specs.ErrorKind.{ErrorKind}
+use Rattle.jxlm_base.specs.Grid.{Grid}
+use Rattle.jxlm_chain.specs.Chain.{Chain}
+use Rattle.jxlm_header.specs.Header.{header}
+use Rattle.jxlm_header.specs.Opening.{node_limit, depth_limit}
+use Rattle.jxlm_ma.specs.Tree.{Shape, levels, node_count, depth, config_of}
+use Rattle.jxlm_ma.specs.TreeStands.{TreeStands}
+use Rattle.jxlm_ma.specs.declared.flat.Leaf.{Leaf}
+use Rattle.jxlm_part.specs.Coded.{IsCodedWhole}
+use Rattle.jxlm_part.specs.Part.{Part}
+use Rattle.jxlm_plain.specs.Plain.{PlainState, plain}
+use Rattle.jxlm_transform.specs.Channels.{Channel, ChannelList, image_list}
+use Rattle.jxlm_transform.specs.ChannelSteps.{CodedList, coded_list}
+use Rattle.jxlm_transform.specs.Params.{sized, IsSide}
+use Rattle.jxlm_transform.specs.Transforms.{Transform}
+use Rattle.jxlm_transform.specs.declared.param.ChannelShift.TheVariants.{Shifts}
+use Rattle.jxlm_tree.specs.WeightsHeader.{default_weights}
+use Rattle.jxlm_write.specs.Laws.{IsWritten}
+use Rattle.jxlm_write.specs.Nodes.{node_of, has_token}
+use Rattle.jxlm_write.specs.declared.tree.EncodeNode.{EncodeNode}
+use Rattle.jxlm_encode.specs.declared.error.EncodeError.{EncodeError}
+use Rattle.jxlm_encode.specs.declared.error.EncodeError.TheVariants.{InvalidTransform, InvalidTree, OutOfMemory}
+
+-- no side of the grid is above 2 ^ 30
+abbrev pub IsSmall : {S : Type 0} → Grid S → Type 0
+IsSmall g = IsSide g.width × IsSide g.height
+
+-- the channels of an image: one for each grid, of its size, with shift 0
+abbrev pub given_list : List (Grid ℤ) → ChannelList
+given_list image = image_list (map (λ g. sized g.width g.height (Shifts 0)) image)
+
+-- the part of all coded channels, at stream index 0
+abbrev pub coded_part : CodedList → Shape Leaf → Part
+coded_part coded tree = record { channels = coded.list.channels; weights = default_weights; tree = tree; stream = 0 }
+
+-- The nodes list this tree, which is within the limits of an image with these coded channels; a property has a token.
+pub record IsTreeGiven (nodes : List EncodeNode) (channels : List Channel) (t : Shape Leaf) : Type 0 where
+  pub listed : levels t ≡ map node_of nodes
+  pub properties : All (λ n. has_token n ≡ true) nodes
+  pub limit : node_count t ≤ node_limit channels + 1
+  pub within : depth t ≤ depth_limit
+
+-- The transforms are at most 273, each has a spelling, and they come to these steps and channels.
+pub record AreAccepted (ts : List Transform) (l : ChannelList) (coded : CodedList) : Type 0 where
+  pub few : length ts ≤ 273
+  pub written : All IsWritten ts
+  pub come : coded_list ts l ≡ Ok coded
+
+-- the transform is refused at these channels: it has no spelling, or does not suit them
+abbrev pub IsRefusedAfter : ChannelList → Transform → Type 0
+IsRefusedAfter l t = (IsWritten t → ⊥) ⊎ ((e : ErrorKind) × (coded_list (t ∷ []) l ≡ Err e))
+
+-- the transform of number k is the first that is refused; the number after the last is, if they leave too many channels
+pub record IsFirstRefused (ts : List Transform) (l : ChannelList) (k : ℕ) : Type 0 where
+  pub before : CodedList
+  pub accepted : AreAccepted (take k ts) l before
+  pub refused : ((t : Transform) × (slice_get ts k ≡ Some t) × IsRefusedAfter before.list t) ⊎ ((k ≡ length ts) × (65536 < length before.list.channels))
+
+-- a list that is too long is refused at 273, whatever is in it
+abbrev pub IsTransformRefused : List Transform → ChannelList → ℕ → Type 0
+IsTransformRefused ts l k = ((273 < length ts) × (k ≡ 273)) ⊎ ((length ts ≤ 273) × IsFirstRefused ts l k)
+
+-- the transforms are accepted, and the nodes list no tree
+pub record IsTreeRefused (ts : List Transform) (l : ChannelList) (nodes : List EncodeNode) : Type 0 where
+  pub coded : CodedList
+  pub accepted : AreAccepted ts l coded
+  pub count : length coded.list.channels ≤ 65536
+  pub none : (t : Shape Leaf) → IsTreeGiven nodes coded.list.channels t → ⊥
+
+module _ (ts : List Transform) (nodes : List EncodeNode) (image : List (Grid ℤ)) where
+  -- the error is the first of transforms and tree; it may be out of memory at any time
+  abbrev pub EncodeFails : EncodeError → Type 0
+  EncodeFails (InvalidTransform k) = IsTransformRefused ts (given_list image) k
+  EncodeFails InvalidTree = IsTreeRefused ts (given_list image) nodes
+  EncodeFails OutOfMemory = Unit {0}
+
+  -- From the first bit on stand: a header with no global tree, the default weights and these transforms; this tree, and
+  -- a plain decoder; and, coded whole at stream index 0, samples that the transforms make of this image.
+  pub record IsEncoded (w : Width) (bytes : List ℕ) : Type 0 where
+    pub coded : CodedList
+    pub accepted : AreAccepted ts (given_list image) coded
+    pub count : length coded.list.channels ≤ 65536
+    pub tree : Shape Leaf
+    pub given : IsTreeGiven nodes coded.list.channels tree
+    pub decoder : PlainState
+    pub tree_at : ℕ
+    pub header_stands : header.Stands bytes 0 (record { use_global_tree = false; wp_params = default_weights; transform = ts }) tree_at
+    pub samples_at : ℕ
+    pub tree_stands : TreeStands plain bytes (node_limit coded.list.channels) depth_limit tree_at (config_of tree decoder) samples_at
+    pub samples : List (Grid ℤ)
+    pub end : ℕ
+    pub codes : IsCodedWhole plain w (coded_part coded tree) bytes decoder samples_at samples end
+    pub chain : (bit_depth : ℕ) → Chain w bit_depth coded.steps (given_list image) image samples

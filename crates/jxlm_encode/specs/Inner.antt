@@ -1,0 +1,4 @@
+pub mod Errors
+pub mod Listing
+pub mod Placing
+pub mod Writing

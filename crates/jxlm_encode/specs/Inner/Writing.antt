@@ -1,0 +1,40 @@
+-- What an encoder writes, and the part that it writes the samples of.
+use Rattle.std.specs.Prelude.{ℕ, ◌^◌, ◌<◌, ◌≤◌, List, ◌++◌, length}
+use Rattle.std.specs.List.{All}
+use Rattle.jxlm_base.specs.Grid.{Grid}
+use Rattle.jxlm_base.specs.Regions.{AllLie, LieApart}
+use Rattle.jxlm_chain.specs.declared.placed.PlacedChannels.{PlacedChannels}
+use Rattle.jxlm_transform.specs.Channels.{AreRegionsOf, IsNarrow}
+use Rattle.jxlm_transform.specs.Transforms.{Transform}
+use Rattle.jxlm_ma.specs.Tree.{Shape}
+use Rattle.jxlm_ma.specs.declared.flat.Leaf.{Leaf}
+use Rattle.jxlm_part.specs.Part.{Part}
+use Rattle.jxlm_tree.specs.WeightsHeader.{default_weights}
+use Rattle.jxlm_write.specs.Headers.{header_bits}
+use Rattle.jxlm_write.specs.Nodes.{tree_tokens}
+use Rattle.jxlm_write.specs.Tokens.{token_bits}
+use Rattle.jxlm_write.specs.Trees.{tree_bits}
+use Rattle.jxlm_write.specs.Written.{HasBits}
+use Rattle.jxlm_write.specs.declared.tree.EncodeNode.{EncodeNode}
+
+-- the coded channels lie in the store, narrow, at most 65536, and apart from one another
+pub record ChannelsLie {S : Type 0} (p : PlacedChannels) (store : List (Grid S)) : Type 0 where
+  pub sizes : AreRegionsOf p.channels.info.items p.places.regions.items
+  pub narrow : All IsNarrow p.channels.info.items
+  pub few : length p.channels.info.items ≤ 65536
+  pub lie : AllLie p.places.regions.items store
+  pub apart : LieApart p.places.regions.items
+
+-- the part of all coded channels, as this tree predicts them
+abbrev pub part_at : PlacedChannels → Shape Leaf → Part
+part_at p tree = record { channels = p.channels.info.items; weights = default_weights; tree = tree; stream = 0 }
+
+-- the bytes begin with the bits of a header, a tree and tokens, each of which fits its width
+pub record AreWritten (ts : List Transform) (nodes : List EncodeNode) (tokens bytes : List ℕ) : Type 0 where
+  pub own : ℕ
+  pub own_most : own ≤ 32
+  pub own_fits : All (λ t. t < 2 ^ own) (tree_tokens nodes)
+  pub width : ℕ
+  pub most : width ≤ 32
+  pub fits : All (λ t. t < 2 ^ width) tokens
+  pub has : HasBits bytes 0 (header_bits ts ++ (tree_bits nodes own width ++ token_bits width tokens))

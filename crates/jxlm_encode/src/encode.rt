@@ -1,0 +1,178 @@
+//! A lossless encoder (ISO/IEC 18181-1, Modular), whose tokens are those of the plain decoder.
+
+ghost use Rattle.std.specs.Prelude.{◌≡◌, ◌≢◌, ℕ, ◌≤◌, ◌^◌, [], IfOk, IfErr, IsOk, length, map};
+ghost use Rattle.std.specs.List.{All};
+ghost use Rattle.jxlm_base.specs.Grid.{IsFull};
+ghost use Rattle.jxlm_base.specs.Regions.{grids_in, store_meanings};
+ghost use Rattle.jxlm_chain.specs.Shape.{SameShape};
+ghost use Rattle.jxlm_chain.specs.Steps.{CanUndoAll};
+ghost use Rattle.jxlm_chain.specs.Undo.{UndoesAll};
+ghost use Rattle.jxlm_chain.specs.Undoings.{undos_of};
+ghost use Rattle.jxlm_ma.specs.Tree.{AllLeaves};
+ghost use Rattle.jxlm_part.specs.Part.{cells_of};
+ghost use Rattle.jxlm_transform.specs.Transforms.{IsTransform};
+ghost use Rattle.jxlm_write.specs.Headers.{transform_of};
+ghost use Rattle.jxlm_write.specs.Nodes.{tree_tokens};
+ghost use Rattle.jxlm_encode.specs.Encoded.{EncodeFails, IsEncoded, IsSmall};
+ghost use Rattle.jxlm_encode.specs.Inner.Listing.{ListsOneTree};
+ghost use Rattle.jxlm_encode.specs.Inner.Writing.{AreWritten, ChannelsLie, part_at};
+ghost use Rattle.jxlm_redo.specs.Redo.{UndoesNoPalette};
+ghost use Rattle.jxlm_tokens.specs.Tokens.{AreTokensOf};
+
+pub use crate::error::EncodeError;
+use crate::listing::{tree_of, write_tree};
+use crate::placing::{infos_of, placed_by};
+use jxlm_base::grid::{AlignedGrid, OutOfMemory};
+use jxlm_base::sample::Sample;
+use jxlm_chain::placed::PlacedChannels;
+use jxlm_chain::undo::Undoing;
+use jxlm_ma::ma::MaConfig;
+use jxlm_part::part::PlacedPart;
+use jxlm_plain::plain::PlainDecoder;
+use jxlm_redo::redo::redo_all;
+use jxlm_tokens::part::sample_tokens;
+pub use jxlm_tokens::token::token_of;
+use jxlm_tree::predictor::WpHeader;
+use jxlm_write::header::write_header;
+pub use jxlm_write::header::{EncodeTransform, SqueezeStep};
+use jxlm_write::plain::{width_of, write_tokens};
+pub use jxlm_write::tree::EncodeNode;
+use jxlm_write::writer::BitWriter;
+use std::alloc::{AllocError, Global};
+
+/// The same grids, in their order.
+fn cloned<S: Sample>(
+    alloc: Global,
+    grids: &[AlignedGrid<S>],
+) -> Result<Vec<AlignedGrid<S>>, OutOfMemory>
+    ensures { IfOk result (λ v. v.items ≡ grids.now) }
+{
+    let mut clones = Vec::new(alloc);
+    for grid in grids {
+        clones.push(grid.try_clone(alloc)?)?;
+    }
+    Ok(clones)
+}
+
+/// The samples as they are coded: what these undo, run on copies of the grids.
+fn coded_store<S: Sample>(
+    alloc: Global,
+    undoings: &[Undoing],
+    grids: &[AlignedGrid<S>],
+) -> Result<Vec<AlignedGrid<S>>, OutOfMemory>
+    requires can { CanUndoAll grids.now (undos_of undoings.now) }
+    requires no_palettes { All UndoesNoPalette (undos_of undoings.now) }
+    requires full { All IsFull grids.now }
+    ensures redone { IfOk result (λ v. (depth : ℕ) → UndoesAll S.to_int S.width depth (undos_of undoings.now) v.items
+        grids.now) }
+    ensures shape { IfOk result (λ v. SameShape grids.now v.items) }
+{
+    let mut store = cloned(alloc, grids)?;
+    redo_all(alloc, undoings, &mut store)?;
+    Ok(store)
+}
+
+/// The tokens of all samples of the coded channels.
+fn tokens_in<S: Sample>(
+    alloc: Global,
+    placed: &PlacedChannels,
+    config: &MaConfig<PlainDecoder>,
+    store: &[AlignedGrid<S>],
+) -> Result<Vec<u32>, OutOfMemory>
+    requires lie { ChannelsLie placed.now store.now }
+    requires multipliers { AllLeaves (λ l. l.multiplier ≡ 1) config.now.tree }
+    ensures { IfOk result (λ v. AreTokensOf S.width (part_at placed.now config.now.tree)
+        (cells_of (grids_in placed.now.places.regions.items (store_meanings S.to_int store.now))) v.items) }
+{
+    let part = PlacedPart {
+        channels: &placed.channels.info,
+        regions: &placed.places.regions,
+        config,
+        weights: WpHeader::default(),
+        stream_index: 0,
+    };
+    sample_tokens(alloc, &part, store)
+}
+
+/// Header, tree and samples, by the tokens of both.
+fn written(
+    alloc: Global,
+    transforms: &[EncodeTransform],
+    tree: &[EncodeNode],
+    nodes: &[u32],
+    tokens: &[u32],
+) -> Result<Vec<u8>, AllocError>
+    requires few { length transforms.now ≤ 273 }
+    requires each { All (λ t. IsTransform (transform_of t)) transforms.now }
+    requires lists { ListsOneTree tree.now }
+    requires nodes { nodes.now ≡ tree_tokens tree.now }
+    ensures { IfOk result (λ v. AreWritten (map transform_of transforms.now) tree.now tokens.now v.items) }
+{
+    let width = width_of(tokens);
+    let mut bits = BitWriter::new(alloc);
+    write_header(&mut bits, transforms)?;
+    write_tree(&mut bits, tree, nodes, width_of(nodes), width)?;
+    write_tokens(&mut bits, tokens, width)?;
+    bits.into_bytes()
+}
+
+/// The bytes of an image that has channels.
+fn encoded<S: Sample>(
+    alloc: Global,
+    channels: &[AlignedGrid<S>],
+    transforms: &[EncodeTransform],
+    tree: &[EncodeNode],
+) -> Result<Vec<u8>, EncodeError>
+    requires sides { All IsSmall channels.now }
+    ensures ok { IfOk result (λ v. IsEncoded (map transform_of transforms.now) tree.now
+        (store_meanings S.to_int channels.now) S.width v.items) }
+    ensures err { IfErr result (λ e. EncodeFails (map transform_of transforms.now) tree.now
+        (store_meanings S.to_int channels.now) e) }
+{
+    let infos = infos_of(alloc, channels)?;
+    let placed = placed_by(alloc, &infos, transforms)?;
+    let (nodes, config) = tree_of(alloc, &placed.channels.info, tree)?;
+    let store = coded_store(alloc, &placed.undoings, channels)?;
+    let tokens = tokens_in(alloc, &placed, &config, &store)?;
+    Ok(written(alloc, transforms, tree, &nodes, &tokens)?)
+}
+
+/// Encodes an image without loss, for the plain decoder (ISO/IEC 18181-1, Modular): a header with these transforms,
+/// the tree that the nodes list, and the samples that the transforms make of the image, each by its token. Decoding
+/// gives the image back, without a global tree and at stream index 0, whatever the side of groups and the bit depth.
+///
+/// Each grid is a channel of its size, with shift 0. No side is above 2^30, and there are at most 2^20 channels.
+/// Transforms are applied in their order; a squeeze without steps is the default one. The nodes are listed level by
+/// level, the left child before the right. Without channels there are no bytes, and nothing else is looked at.
+///
+/// # Memory
+///
+/// Copies of the grids, a row and some columns of the largest, four bytes for each sample, and the bytes. None of it
+/// is kept.
+///
+/// # Errors
+///
+/// The first that fails of these checks, and nothing is left of it. `InvalidTransform(273)`: there are more
+/// transforms. `InvalidTransform(k)`: no header can spell transform `k`, or it does not suit the channels that the ones
+/// before it leave. `InvalidTransform(n)`: all `n` transforms leave more than 65536 channels. `InvalidTree`: the nodes
+/// are not those of exactly one tree; a property is `u32::MAX`; there are more than 1025 nodes and one for each sample,
+/// or more than 2^20 + 1; or the tree is deeper than 2048. `OutOfMemory` comes at any time.
+pub fn encode<S: Sample>(
+    alloc: Global,
+    channels: &[AlignedGrid<S>],
+    transforms: &[EncodeTransform],
+    tree: &[EncodeNode],
+) -> Result<Vec<u8>, EncodeError>
+    requires sides { All IsSmall channels.now }
+    requires count { length channels.now ≤ 2 ^ 20 }
+    ensures none { channels.now ≡ [] → IsOk result × IfOk result (λ v. v.items ≡ []) }
+    ensures ok { channels.now ≢ [] → IfOk result (λ v. IsEncoded (map transform_of transforms.now) tree.now
+        (store_meanings S.to_int channels.now) S.width v.items) }
+    ensures err { IfErr result (λ e. EncodeFails (map transform_of transforms.now) tree.now
+        (store_meanings S.to_int channels.now) e) }
+{
+    if channels.is_empty() {
+        return Ok(Vec::new(alloc));
+    }
+    encoded(alloc, channels, transforms, tree)
+}

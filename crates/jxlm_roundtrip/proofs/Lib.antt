@@ -1,0 +1,5 @@
+pub mod Decoding
+pub mod EncodedPictures
+pub mod OnePicture
+pub mod OwnParams
+pub mod SameSamples
