@@ -3,6 +3,7 @@
 #![tactic(auto)]
 
 mod files;
+mod frames;
 mod images;
 
 use jxlcheck_text::Row;
@@ -15,6 +16,7 @@ fn seen(alloc: Global, row: &Row<'_>) -> Option<String> {
         "file" => files::seen(alloc, row.asked),
         "cuts" => files::seen_of_cuts(alloc, row.asked),
         "image" => images::seen(alloc, row.asked),
+        "frame" => frames::seen(alloc, row.asked),
         _ => None,
     }
 }
