@@ -1,0 +1,6 @@
+pub mod Codings
+pub mod Passes
+pub mod Places
+pub mod Blendings
+pub mod Filters
+pub mod Frames

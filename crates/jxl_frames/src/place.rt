@@ -1,0 +1,217 @@
+//! The place of a frame in the picture.
+
+ghost use Rattle.std.specs.Prelude.{◌≡◌, ◌≤◌, ◌<◌, ◌^◌, IfOk};
+ghost use Rattle.jxlm_base.specs.Bits.{bytes_of, position_of};
+ghost use Rattle.jxlm_base.specs.Grammar.{Reads};
+ghost use Rattle.jxlm_base.specs.Numbers.{unpack};
+ghost use Rattle.jxl_frames.specs.Places.{is_shown as the_is_shown, is_lf as the_is_lf, is_reference as the_is_reference, lf_level as the_lf_level, extent as the_extent, extent_if as the_extent_if, covers as the_covers, crop, told_crop, optional_crop, place, usual_place, crop_partial, place_refusal};
+
+use crate::coding::FrameType;
+use crate::refusal::Refusal;
+use jxl_headers::fields::{Result, field};
+use jxl_headers::size::Size;
+use jxlm_base::bits::{Bitstream, U32Spec};
+
+/// A size and a place of a frame's own.
+#[derive(Clone, Copy, Debug, PartialEq, Eq)]
+pub struct Crop {
+    /// The column of the picture where the frame's first column lies, and its row; 0 for a frame that is not shown.
+    pub x0: i32,
+    pub y0: i32,
+    pub width: u32,
+    pub height: u32,
+    /// Whether a part of the picture lies outside the frame, and the frame is shown.
+    pub partial: bool,
+}
+
+/// Where a frame lies.
+#[derive(Clone, Copy, Debug, PartialEq, Eq)]
+pub struct Place {
+    /// Of a frame of low frequencies, how many times the picture's sides are divided by 8; else 0.
+    pub lf_level: u32,
+    /// A size and a place of its own; else it covers the picture.
+    pub crop: Option<Crop>,
+}
+
+impl FrameType {
+    /// Whether it is shown.
+    pub fn is_shown(&self) -> bool
+        ensures { result ≡ the_is_shown self.now }
+    {
+        match self {
+            FrameType::Regular => true,
+            FrameType::LfFrame => false,
+            FrameType::ReferenceOnly => false,
+            FrameType::SkipProgressive => true,
+        }
+    }
+
+    /// Whether it holds low frequencies of another.
+    pub fn is_lf(&self) -> bool
+        ensures { result ≡ the_is_lf self.now }
+    {
+        match self {
+            FrameType::Regular => false,
+            FrameType::LfFrame => true,
+            FrameType::ReferenceOnly => false,
+            FrameType::SkipProgressive => false,
+        }
+    }
+
+    /// Whether it is only for use by others.
+    pub fn is_reference(&self) -> bool
+        ensures { result ≡ the_is_reference self.now }
+    {
+        match self {
+            FrameType::Regular => false,
+            FrameType::LfFrame => false,
+            FrameType::ReferenceOnly => true,
+            FrameType::SkipProgressive => false,
+        }
+    }
+}
+
+fn lf_level(bits: &mut Bitstream<'_>, there: bool) -> Result<u32>
+    ensures gives { Reads (λ v. v) result (position_of bits.new)
+        ((the_lf_level there).read (bytes_of bits.old) (position_of bits.old)) }
+    ensures bytes { bytes_of bits.new ≡ bytes_of bits.old }
+{
+    if !there {
+        return Ok(0);
+    }
+    bits.read_u32(
+        U32Spec::Const(1),
+        U32Spec::Const(2),
+        U32Spec::Const(3),
+        U32Spec::Const(4),
+    )
+}
+
+fn extent(bits: &mut Bitstream<'_>) -> Result<u32>
+    ensures gives { Reads (λ v. v) result (position_of bits.new)
+        (the_extent.read (bytes_of bits.old) (position_of bits.old)) }
+    ensures most { IfOk result (λ v. v < 2 ^ 31) }
+    ensures bytes { bytes_of bits.new ≡ bytes_of bits.old }
+{
+    field(
+        bits,
+        U32Spec::Offset(0, 8),
+        U32Spec::Offset(256, 11),
+        U32Spec::Offset(2304, 14),
+        U32Spec::Offset(18688, 30),
+    )
+}
+
+fn extent_if(bits: &mut Bitstream<'_>, there: bool) -> Result<u32>
+    ensures gives { Reads (λ v. v) result (position_of bits.new)
+        ((the_extent_if there).read (bytes_of bits.old) (position_of bits.old)) }
+    ensures most { IfOk result (λ v. v < 2 ^ 31) }
+    ensures bytes { bytes_of bits.new ≡ bytes_of bits.old }
+{
+    if there { extent(bits) } else { Ok(0) }
+}
+
+fn unpacked(value: u32) -> i32
+    requires { value < 2 ^ 31 }
+    ensures { result ≡ unpack value }
+{
+    let half = (value / 2) as i32;
+    if value % 2 == 0 { half } else { -half - 1 }
+}
+
+fn covers(corner: u32, side: u32, whole: u32) -> bool
+    requires { corner < 2 ^ 31 }
+    ensures { result ≡ the_covers corner side whole }
+{
+    (corner == 0 || corner % 2 == 1)
+        && u64::from(side) >= u64::from(whole) + u64::from((corner + 1) / 2)
+}
+
+impl Crop {
+    fn parse(bits: &mut Bitstream<'_>, size: Size, shown: bool) -> Result<Crop>
+        ensures gives { Reads (λ v. v) result (position_of bits.new)
+            ((crop size shown).read (bytes_of bits.old) (position_of bits.old)) }
+        ensures bytes { bytes_of bits.new ≡ bytes_of bits.old }
+    {
+        let x = extent_if(bits, shown)?;
+        let y = extent_if(bits, shown)?;
+        let width = extent(bits)?;
+        let height = extent(bits)?;
+        let whole = covers(x, width, size.width) && covers(y, height, size.height);
+        Ok(Crop {
+            x0: unpacked(x),
+            y0: unpacked(y),
+            width,
+            height,
+            partial: shown && !whole,
+        })
+    }
+
+    fn told(bits: &mut Bitstream<'_>, size: Size, shown: bool) -> Result<Option<Crop>>
+        ensures gives { Reads (λ v. v) result (position_of bits.new)
+            ((told_crop size shown).read (bytes_of bits.old) (position_of bits.old)) }
+        ensures bytes { bytes_of bits.new ≡ bytes_of bits.old }
+    {
+        if !bits.read_bool()? {
+            return Ok(None);
+        }
+        let crop = Crop::parse(bits, size, shown)?;
+        Ok(Some(crop))
+    }
+
+    fn optional(bits: &mut Bitstream<'_>, size: Size, frame_type: FrameType) -> Result<Option<Crop>>
+        ensures gives { Reads (λ v. v) result (position_of bits.new)
+            ((optional_crop size frame_type).read (bytes_of bits.old) (position_of bits.old)) }
+        ensures bytes { bytes_of bits.new ≡ bytes_of bits.old }
+    {
+        if frame_type.is_lf() {
+            Ok(None)
+        } else {
+            Crop::told(bits, size, frame_type.is_shown())
+        }
+    }
+}
+
+impl Place {
+    /// The place of a frame of this type in a picture of this size, as it stands at the reader's position.
+    pub fn parse(bits: &mut Bitstream<'_>, size: Size, frame_type: FrameType) -> Result<Place>
+        ensures gives { Reads (λ v. v) result (position_of bits.new)
+            ((place size frame_type).read (bytes_of bits.old) (position_of bits.old)) }
+        ensures bytes { bytes_of bits.new ≡ bytes_of bits.old }
+    {
+        let lf_level = lf_level(bits, frame_type.is_lf())?;
+        let crop = Crop::optional(bits, size, frame_type)?;
+        Ok(Place { lf_level, crop })
+    }
+
+    /// The place of a frame that covers the picture.
+    pub fn usual() -> Place
+        ensures { result ≡ usual_place }
+    {
+        Place {
+            lf_level: 0,
+            crop: None,
+        }
+    }
+
+    /// Whether it is shown, and leaves a part of the picture to the frame before.
+    pub fn is_partial(&self) -> bool
+        ensures { result ≡ crop_partial self.now.crop }
+    {
+        match self.crop {
+            Some(crop) => crop.partial,
+            None => false,
+        }
+    }
+
+    /// Whether it is not supported: it has a size and a place of its own.
+    pub fn refused(&self) -> Option<Refusal>
+        ensures { result ≡ place_refusal self.now }
+    {
+        if self.crop.is_some() {
+            Some(Refusal::Crop)
+        } else {
+            None
+        }
+    }
+}

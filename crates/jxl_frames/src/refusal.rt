@@ -1,0 +1,60 @@
+//! What a frame may have that is not supported, by name.
+
+/// What a frame has that is not supported.
+#[derive(Clone, Copy, Debug, PartialEq, Eq, thiserror::Error)]
+pub enum Refusal {
+    /// The frame is coded as VarDCT.
+    #[error("VarDCT")]
+    VarDct,
+    /// The frame holds the low frequencies of another.
+    #[error("a frame of low frequencies")]
+    LfFrame,
+    /// The frame is not shown, but used by others.
+    #[error("a frame that is not shown")]
+    ReferenceFrame,
+    /// The frame is not shown while the image is loaded.
+    #[error("a frame that is skipped")]
+    SkippedFrame,
+    /// Noise is added.
+    #[error("noise")]
+    Noise,
+    /// Parts of other frames are put into it.
+    #[error("patches")]
+    Patches,
+    /// Curves are drawn.
+    #[error("splines")]
+    Splines,
+    /// Another frame holds its low frequencies.
+    #[error("low frequencies of another frame")]
+    UseLfFrame,
+    /// Colours are YCbCr.
+    #[error("YCbCr")]
+    YCbCr,
+    /// Colours have a lower resolution.
+    #[error("upsampling")]
+    Upsampling,
+    /// An extra channel has a lower resolution.
+    #[error("upsampling of an extra channel")]
+    ExtraUpsampling,
+    /// It comes in several passes.
+    #[error("several passes")]
+    Passes,
+    /// It has a size and a place of its own.
+    #[error("a cropped frame")]
+    Crop,
+    /// Its colours are blended with those of another frame.
+    #[error("blending")]
+    Blending,
+    /// An extra channel is blended with that of another frame.
+    #[error("blending of an extra channel")]
+    ExtraBlending,
+    /// Others follow it.
+    #[error("several frames")]
+    Frames,
+    /// A filter is applied to what was decoded.
+    #[error("a loop filter")]
+    LoopFilter,
+    /// There are extensions.
+    #[error("extensions")]
+    Extensions,
+}

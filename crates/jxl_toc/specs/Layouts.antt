@@ -1,0 +1,56 @@
+-- The groups of a frame, the parts that its sections hold, and the streams of these parts (ISO/IEC 18181-1, frame: groups,
+-- table of contents; Modular: stream index).
+use Rattle.std.specs.Prelude.{ℕ, ◌+◌, ◌-◌, ◌*◌, ◌/◌, ◌==◌, ◌&&◌, ◌<◌, ◌≤◌, nat_le, if◌then◌else◌, Option, Some, None}
+use Rattle.jxl_headers.specs.declared.size.Size.{Size}
+
+-- how many groups of this side a frame is cut into along a side of its own; the last may be smaller
+abbrev pub along : ℕ → ℕ → ℕ
+along side dim = (side + dim - 1) / dim
+
+-- how many groups, and how many groups of low frequencies (8 times as wide and as high), a frame of this size is cut into
+abbrev pub groups_of : Size → ℕ → ℕ
+groups_of size dim = along size.width dim * along size.height dim
+
+abbrev pub lf_groups_of : Size → ℕ → ℕ
+lf_groups_of size dim = groups_of size (8 * dim)
+
+-- what a frame is cut into: its groups, its groups of low frequencies, and its passes
+pub record Layout : Type 0 where
+  pub groups : ℕ
+  pub lf_groups : ℕ
+  pub passes : ℕ
+
+abbrev pub layout_of : Size → ℕ → ℕ → Layout
+layout_of size dim passes = record { groups = groups_of size dim; lf_groups = lf_groups_of size dim; passes = passes }
+
+-- how many sections there are: one where there is one group and one pass; else the global part, each group of low
+-- frequencies, the global part of high frequencies, and each group of each pass
+abbrev pub section_count_of : Layout → ℕ
+section_count_of l = if (l.groups == 1) && (l.passes == 1) then 1 else 2 + l.lf_groups + l.passes * l.groups
+
+-- the number of the section of a group of low frequencies, and of a group of a pass, where there is more than one section
+abbrev pub lf_section_of : ℕ → ℕ
+lf_section_of group = 1 + group
+
+abbrev pub pass_section_of : Layout → ℕ → ℕ → ℕ
+pass_section_of l pass group = 2 + l.lf_groups + pass * l.groups + group
+
+-- the stream indices of their samples; that of the global part is 0
+abbrev pub lf_stream_of : Layout → ℕ → ℕ
+lf_stream_of l group = 1 + l.lf_groups + group
+
+abbrev pub pass_stream_of : Layout → ℕ → ℕ → ℕ
+pass_stream_of l pass group = 18 + 3 * l.lf_groups + pass * l.groups + group
+
+-- the most sections that are supported
+abbrev pub max_sections : ℕ
+max_sections = 16777216
+
+abbrev pub layout_if : Layout → Option Layout
+layout_if l = if nat_le (section_count_of l) max_sections then Some l else None
+
+-- what is true of each of them
+pub record IsLayout (l : Layout) : Type 0 where
+  pub passes : 0 < l.passes
+  pub lf : l.lf_groups ≤ l.groups
+  pub sections : section_count_of l ≤ max_sections

@@ -1,0 +1,9 @@
+pub mod Coded
+pub mod Reading
+pub mod Layouts
+pub mod LayoutParts
+pub mod Starts
+pub mod Orders
+pub mod Tocs
+pub mod Profiles
+pub mod Inner

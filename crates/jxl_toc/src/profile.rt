@@ -1,0 +1,128 @@
+//! The profile between the image header and the first frame.
+
+ghost use Rattle.std.specs.Prelude.{◌≡◌, ◌≤◌, ◌<◌, IfOk, length};
+ghost use Rattle.jxlm_base.specs.Bits.{bytes_of, position_of};
+ghost use Rattle.jxlm_base.specs.Grammar.{Reads};
+ghost use Rattle.jxl_toc.specs.Reading.{Decodes};
+ghost use Rattle.jxl_toc.specs.Coded.{chained};
+ghost use Rattle.jxl_toc.specs.Profiles.{is_letter as the_is_letter, is_digit as the_is_digit, last_kind as the_last_kind, before_kind as the_before_kind, context_of as the_context_of, length_within as the_length_within, byte, profile};
+ghost use Rattle.jxl_toc.specs.Inner.Steps.{StateReads, bytes_from};
+
+use crate::order::{decoder, token};
+use jxl_headers::fields::{self, long};
+use jxlm_base::bits::{Bitstream, BitstreamError};
+use jxlm_base::decoder::Decoder;
+use jxlm_base::error::Result;
+use std::alloc::Global;
+
+fn is_letter(byte: u32) -> bool
+    ensures { result ≡ the_is_letter byte }
+{
+    97 <= byte && byte <= 122 || 65 <= byte && byte <= 90
+}
+
+fn is_digit(byte: u32) -> bool
+    ensures { result ≡ the_is_digit byte }
+{
+    48 <= byte && byte <= 57 || byte == 46 || byte == 44
+}
+
+fn last_kind(byte: u32) -> u32
+    ensures kind { result ≡ the_last_kind byte }
+    ensures below { result < 8 }
+{
+    if is_letter(byte) {
+        0
+    } else if is_digit(byte) {
+        1
+    } else if byte == 0 {
+        2
+    } else if byte == 1 {
+        3
+    } else if byte < 16 {
+        4
+    } else if byte == 255 {
+        6
+    } else if byte > 240 {
+        5
+    } else {
+        7
+    }
+}
+
+fn before_kind(byte: u32) -> u32
+    ensures kind { result ≡ the_before_kind byte }
+    ensures below { result < 5 }
+{
+    if is_letter(byte) {
+        0
+    } else if is_digit(byte) {
+        1
+    } else if byte < 16 {
+        2
+    } else if byte > 240 {
+        3
+    } else {
+        4
+    }
+}
+
+fn context_of(i: u64, last: u32, before: u32) -> u32
+    ensures context { result ≡ the_context_of i last before }
+    ensures below { result < 41 }
+{
+    if i <= 128 {
+        0
+    } else {
+        1 + last_kind(last) + 8 * before_kind(before)
+    }
+}
+
+fn length_within(bits: &mut Bitstream<'_>, limit: u64) -> fields::Result<u64>
+    ensures gives { Reads (λ v. v) result (position_of bits.new)
+        ((the_length_within limit).read (bytes_of bits.old) (position_of bits.old)) }
+    ensures bytes { bytes_of bits.new ≡ bytes_of bits.old }
+{
+    let length = long(bits)?;
+    if length <= limit {
+        Ok(length)
+    } else {
+        Err(BitstreamError::ProfileConformance("the profile is too long"))
+    }
+}
+
+// So many bytes.
+fn bytes<D: Decoder>(decoder: &mut D, bits: &mut Bitstream<'_>, count: u64) -> Result<()>
+    requires { length (D.meaning.cluster_map decoder.old) ≡ 41 }
+    ensures gives { StateReads (λ x. x.state) result decoder.new (position_of bits.new)
+        ((chained (byte D.meaning) count (bytes_from decoder.old)).read (bytes_of bits.old) (position_of bits.old)) }
+    ensures bytes { bytes_of bits.new ≡ bytes_of bits.old }
+{
+    let mut last = 0;
+    let mut before = 0;
+    for i in 0..count {
+        let value = token(decoder, bits, context_of(i, last, before))?;
+        before = last;
+        last = value % 256;
+    }
+    Ok(())
+}
+
+/// Passes the profile that stands at the reader's position, and returns how many bytes its stream has. Its tokens are
+/// read and their end is checked, in constant memory beside the decoder's; what they say is not looked at.
+///
+/// # Errors
+///
+/// The first in the order of the bits: `UnexpectedEof` if its length is truncated; `ProfileConformance` if that is
+/// above the limit, for a token may take no bits; the decoder's. Or it is out of memory.
+pub fn skip_profile<D: Decoder>(alloc: Global, bits: &mut Bitstream<'_>, limit: u64) -> Result<u64>
+    ensures gives { Decodes (λ v. v) result (position_of bits.new)
+        ((profile D.meaning limit).read (bytes_of bits.old) (position_of bits.old)) }
+    ensures bytes { bytes_of bits.new ≡ bytes_of bits.old }
+{
+    let length = length_within(bits, limit)?;
+    let mut decoder: D = decoder(alloc, bits, 41)?;
+    bytes(&mut decoder, bits, length)?;
+    decoder.finalize()?;
+    Ok(length)
+}
