@@ -103,12 +103,16 @@ fn tell(text: &mut String, header: &ImageHeader) -> Option<()> {
     Some(())
 }
 
-/// Adds the name of an error: `Eof`, or the name and the number of what has no meaning.
-fn tell_error(text: &mut String, error: Error) -> Option<()> {
+/// Adds the name of an error: `Eof`, the name and the number of what has no meaning, or the text of a
+/// limit.
+pub fn tell_error(text: &mut String, error: Error) -> Option<()> {
     match error {
         Error::Bitstream(BitstreamError::UnexpectedEof) => write!(text, "Eof").ok(),
         Error::Bitstream(BitstreamError::InvalidEnum { name, value }) => {
             write!(text, "{name} {value}").ok()
+        }
+        Error::Bitstream(BitstreamError::ProfileConformance(limit)) => {
+            write!(text, "{limit}").ok()
         }
         _ => None,
     }

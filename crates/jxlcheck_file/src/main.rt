@@ -3,6 +3,7 @@
 #![tactic(auto)]
 
 mod files;
+mod frames;
 mod images;
 mod writing;
 
@@ -17,6 +18,7 @@ fn seen(alloc: Global, row: &Row<'_>) -> Option<String> {
         "cuts" => files::seen_of_cuts(alloc, row.asked),
         "text" => writing::seen(alloc, row.asked),
         "image" => images::seen(alloc, row.asked),
+        "frame" => frames::seen(alloc, row.asked),
         _ => None,
     }
 }
