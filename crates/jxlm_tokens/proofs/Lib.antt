@@ -1,4 +1,5 @@
 pub mod OneToken
+pub mod OneList
 pub mod Inverse
 pub mod Lists
 pub mod Starting

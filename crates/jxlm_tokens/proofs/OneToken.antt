@@ -11,7 +11,7 @@ use Rattle.jxlm_write.specs.Nodes.{packed}
 use Rattle.jxlm_tokens.specs.Laws.{EachHasOneToken}
 use Rattle.jxlm_tokens.specs.Tokens.{IsSampleToken, MultipliesByOne}
 
-packed_unpack : (token : ℕ) → packed (unpack token) ≡ token
+pub packed_unpack : (token : ℕ) → packed (unpack token) ≡ token
 packed_unpack token =
     elim (cases_lt (token % 2) 1) [
       | inl even ↦ (

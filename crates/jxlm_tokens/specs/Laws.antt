@@ -1,21 +1,29 @@
 -- What follows for the tokens of samples.
-use Rattle.std.specs.Prelude.{◌≡◌, ℕ, ◌+◌, ◌^◌, ◌<◌, ℤ, List, [], ◌∷◌, length, Ok}
+use Rattle.std.specs.Prelude.{◌≡◌, ◌⊎◌, ℕ, ◌+◌, ◌^◌, ◌<◌, ℤ, List, [], ◌∷◌, length, Ok}
 use Rattle.std.specs.List.{All}
-use Rattle.std.specs.Int.{Width}
+use Rattle.std.specs.Int.{Width, w32}
 use Rattle.jxlm_base.specs.Decoding.{Meaning}
 use Rattle.jxlm_base.specs.Grid.{Grid}
 use Rattle.jxlm_ma.specs.declared.flat.Leaf.{Leaf}
+use Rattle.jxlm_ma.specs.Tree.{AllLeaves}
 use Rattle.jxlm_part.specs.Coded.{IsCodedToTheEnd}
 use Rattle.jxlm_part.specs.Part.{Part, next_leaf, cell_count, cells_of, max_width}
 use Rattle.jxlm_plain.specs.Plain.{plain}
 use Rattle.jxlm_write.specs.Tokens.{one_cluster, token_bits}
 use Rattle.jxlm_write.specs.Written.{HasBits}
-use Rattle.jxlm_tokens.specs.Tokens.{AreTokensOf, IsSampleToken, MultipliesByOne}
+use Rattle.jxlm_tokens.specs.Tokens.{AreTokensOf, IsSampleToken, MultipliesByOdd, MultipliesByOne}
 
 -- At a leaf that multiplies by 1 each sample has one token.
 abbrev pub EachHasOneToken : Type 0
 EachHasOneToken = (w : Width) (leaf : Leaf) (predicted sample : ℤ) (a b : ℕ) → MultipliesByOne leaf →
     IsSampleToken w leaf predicted sample a → IsSampleToken w leaf predicted sample b → a ≡ b
+
+-- The cells of a part have one list of tokens, where all multipliers of its tree are 1, or where they are odd and samples
+-- have 32 bits.
+abbrev pub EachPartHasOneList : Type 0
+EachPartHasOneList = (w : Width) (part : Part) (cells : List ℤ) (a b : List ℕ) →
+    (AllLeaves MultipliesByOne part.tree) ⊎ ((w ≡ w32) × AllLeaves MultipliesByOdd part.tree) →
+    AreTokensOf w part cells a → AreTokensOf w part cells b → a ≡ b
 
 -- in a state that stays, a decoder reads these tokens of cluster 0 one after another, from one position up to another
 abbrev pub AreRead : {S : Type 0} → Meaning S → List ℕ → S → ℕ → List ℕ → ℕ → ℕ → Type 0

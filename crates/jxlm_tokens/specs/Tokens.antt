@@ -1,5 +1,5 @@
 -- The tokens of samples, as an encoder writes them (ISO/IEC 18181-1, Modular: decoding of samples).
-use Rattle.std.specs.Prelude.{◌≡◌, ℕ, ◌<◌, ℤ, pos, List, length, take, get_or, FitsSigned}
+use Rattle.std.specs.Prelude.{◌≡◌, ℕ, ◌%◌, ◌<◌, ℤ, pos, List, length, take, get_or, FitsSigned}
 use Rattle.std.specs.Int.{Width}
 use Rattle.jxlm_base.specs.Numbers.{unpack}
 use Rattle.jxlm_ma.specs.declared.flat.Leaf.{Leaf}
@@ -9,6 +9,10 @@ use Rattle.jxlm_part.specs.Part.{Part, next_leaf}
 -- the leaf multiplies tokens by nothing but 1
 abbrev pub MultipliesByOne : Leaf → Type 0
 MultipliesByOne l = l.multiplier ≡ 1
+
+-- it multiplies them by an odd number
+abbrev pub MultipliesByOdd : Leaf → Type 0
+MultipliesByOdd l = l.multiplier % 2 ≡ 1
 
 -- the token stands for the sample, at a leaf and over a prediction, and its signed number is one of the sample's width
 pub record IsSampleToken (w : Width) (leaf : Leaf) (predicted sample : ℤ) (token : ℕ) : Type 0 where
