@@ -1,0 +1,2 @@
+pub mod Dims
+pub mod Fronts
