@@ -3,9 +3,10 @@
 # groups: the same on examples/groups.hex, a picture of two groups; it prints the samples.
 # build: proves and builds the program, and prints where it lies.
 # docs: looks up each name that the documents cite, and the code that they quote.
-# test: docs, and then every proof, every edit that the prover must refuse, every test and the program's run.
+# memory: refuses each request for memory of each call that takes memory, in turn; it proves nothing.
+# test: docs and memory, and then every proof, every edit that the prover must refuse, every test and the program's run.
 
-.PHONY: run triangle groups build docs test
+.PHONY: run triangle groups build docs memory test
 
 run:
 	@cd crates/jxlmod && rt try -- $$(cat args) < stdin
@@ -25,5 +26,8 @@ build:
 docs:
 	@sh scripts/check_docs.sh
 
-test: docs
+memory:
+	@python3 scripts/refuse_requests.py
+
+test: docs memory
 	rt ci

@@ -6,6 +6,7 @@
 # - Each path in backticks that begins with a folder of the repository or with a crate exists.
 # - docs/PROVED.md, in a section that names a crate: each function of a table's first column is in the crate's src/, the clauses of the
 #   second column are its clauses, and the definitions of the third stand in some specs/.
+# - docs/MEMORY.md: scripts/check_memory.py says what is compared.
 # - docs/DEFINITIONS.md: each word of a table's first column is defined in a file that its section names.
 set -eu
 cd "$(dirname "$0")/.."
@@ -154,6 +155,8 @@ for crate in crates/*/; do
         bad=1
     fi
 done
+
+python3 scripts/check_memory.py || bad=1
 
 if [ "$bad" = 0 ]; then echo "docs: each name is there, and each quotation"; fi
 exit "$bad"
