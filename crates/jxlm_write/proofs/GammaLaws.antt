@@ -1,5 +1,5 @@
 -- Decoders of the second format and gamma codes that were written are read.
-use Rattle.std.proofs.Common.{◌≡◌, inl, inr, ℕ, suc, ◌+◌, ◌-◌, ◌*◌, ◌^◌, ◌<◌, ◌≤◌, List, ◌++◌, length, replicate, false, Ok, refl, sym, ap, ◌∙◌, arith, append_assoc}
+use Rattle.std.proofs.Common.{◌≡◌, inl, inr, ℕ, suc, ◌+◌, ◌-◌, ◌*◌, ◌^◌, ◌<◌, ◌≤◌, List, ◌++◌, length, replicate, false, Result, Ok, Err, refl, sym, ap, ◌∙◌, arith, append_assoc}
 use Rattle.std.specs.List.{flat_map}
 use Rattle.std.proofs.lemmas.List.{length-append}
 use Rattle.std.proofs.lemmas.Nat.{pow_pos}
@@ -8,6 +8,8 @@ use Rattle.std.proofs.Math.Pow.{pow_mono}
 use Rattle.std.proofs.lemmas.Bool.{cases_lt}
 use Rattle.jxlm_base.specs.Bits.{bits_at}
 use Rattle.jxlm_base.specs.Decoding.{Taken}
+use Rattle.jxlm_base.specs.ErrorKind.{◌>>=◌}
+use Rattle.jxlm_base.specs.declared.decoder.DecoderError.{DecoderError}
 use Rattle.jxlm_base.proofs.BitsLemmas.{bits_at-join}
 use Rattle.jxlm_base.specs.Numbers.{floor_log2}
 use Rattle.jxlm_tree.proofs.Ranges.{floor_log2_is}
@@ -16,7 +18,6 @@ use Rattle.jxlm_plain.specs.declared.plain.Code.TheVariants.{Gamma}
 use Rattle.jxlm_plain.specs.declared.plain.Mode.{Mode}
 use Rattle.jxlm_plain.specs.declared.plain.Mode.TheVariants.{Unsealed}
 use Rattle.jxlm_plain.specs.GammaCodes.{GammaStands}
-use Rattle.jxlm_plain.specs.Inner.PlainLaws.{bind_ok, ok_same}
 use Rattle.jxlm_plain.proofs.GammaCodes.{gamma_tokens_are_codes}
 use Rattle.jxlm_write.specs.Written.{digits, HasBits}
 use Rattle.jxlm_write.specs.Tokens.{gamma_decoder_bits, gamma_bits, one_gamma_cluster}
@@ -120,6 +121,16 @@ code_stands bytes p n t least most h =
           ∙ ap (λ x. 0 + (x + bits_at bytes (p + n + 1) n * 2 ^ 1) * 2 ^ n) one ∙ ap (λ x. 0 + (1 + x * 2 ^ 1) * 2 ^ n) is
           ∙ product (2 ^ n) low ∙ ap (λ x. 2 ^ n + x * low) (sym twice);
     }
+
+bind_ok : {A B : Type 0} (r : Result A DecoderError) (f : A → Result B DecoderError) (y : B) → (r >>= f) ≡ Ok y → (x : A) × (r ≡ Ok x) × (f x ≡ Ok y)
+bind_ok (Ok x) f y h = (x, refl, h)
+bind_ok (Err e) f y h = cc
+
+abbrev ok : {A : Type 0} → A → Result A DecoderError
+ok x = Ok x
+
+ok_same : {A : Type 0} (x y : A) → ok x ≡ ok y → y ≡ x
+ok_same x y h = cc
 
 -- a read of a gamma cluster leaves the decoder as it is
 left_as_it_is : (contexts : ℕ) (bytes : List ℕ) (p m v q : ℕ) (after : PlainState) → plain_read (one_gamma_cluster contexts) bytes p 0 m ≡ Ok (record { value = v; state = after; position = q }) →
