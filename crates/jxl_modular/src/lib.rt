@@ -47,6 +47,7 @@ pub mod param {
 /// The plain decoder.
 pub mod plain {
     pub use jxlm_plain::plain::PlainDecoder;
+    pub use jxlm_plain::plain2::PlainDecoder2;
 }
 
 /// Predictors, and the properties of a cell of a channel.

@@ -6,7 +6,7 @@ mod image;
 mod plain;
 mod within;
 
-use jxl_modular::plain::PlainDecoder;
+use jxl_modular::plain::{PlainDecoder, PlainDecoder2};
 use jxlcheck_image::{picture, sections};
 use jxlcheck_text::Row;
 use jxlm_examples::bytewise::Bytewise;
@@ -17,7 +17,8 @@ use std::io;
 fn seen(alloc: Global, row: &Row<'_>) -> Option<String> {
     let summed = row.expected.contains('#');
     match row.kind {
-        "plain" => plain::seen(alloc, row.asked),
+        "plain" => plain::seen::<PlainDecoder>(alloc, row.asked),
+        "plain2" => plain::seen::<PlainDecoder2>(alloc, row.asked),
         "header" => image::seen_of_header(alloc, row.asked, row.expected.contains('@')),
         "image" => image::seen_of_image(alloc, row.asked),
         "global" => image::seen_of_global_part(alloc, row.asked),

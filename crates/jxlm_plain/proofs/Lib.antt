@@ -1,3 +1,5 @@
 mod ItemLoop
 pub mod PlainGives
 pub mod PlainTokens
+mod GammaBits
+pub mod GammaCodes

@@ -4,23 +4,23 @@ use Rattle.std.proofs.lemmas.Bool.Decides.{nat_tests}
 use Rattle.jxlm_base.specs.Bits.{bits_at}
 use Rattle.jxlm_base.specs.Decoding.{Found, Taken, Asked, reads}
 use Rattle.jxlm_base.specs.ErrorKind.{◌>>=◌}
-use Rattle.jxlm_plain.specs.Plain.{PlainState, Read, number_at, code_of, is_runs, owed_in, last_in, begin_mode, token_at, run_at, plain_begin, plain_read, plain}
+use Rattle.jxlm_plain.specs.Plain.{PlainState, Read, number_at, gamma_at, code_of, is_runs, owed_in, last_in, begin_mode, token_at, run_at, plain_begin, plain_read, plain}
 use Rattle.jxlm_plain.specs.Inner.PlainLaws.{bind_ok, ok_same}
 use Rattle.jxlm_plain.specs.PlainTokens.{FixedTokensAreNumbers, SealsAreSums, RunsRepeat, is_sealed, counted, fixed_sum}
 use Rattle.jxlm_base.specs.declared.decoder.DecoderError.{DecoderError}
 use Rattle.jxlm_base.specs.declared.decoder.DecoderError.TheVariants.{UnexpectedEof}
 use Rattle.jxlm_plain.specs.declared.plain.Code.{Code}
-use Rattle.jxlm_plain.specs.declared.plain.Code.TheVariants.{Constant, Fixed}
+use Rattle.jxlm_plain.specs.declared.plain.Code.TheVariants.{Constant, Fixed, Gamma}
 use Rattle.jxlm_plain.specs.declared.plain.Mode.{Mode}
 use Rattle.jxlm_plain.specs.declared.plain.Mode.TheVariants.{Unsealed, Sealed, Runs}
 use Rattle.jxlm_base.proofs.BitsLemmas.{bits_at-bound}
 use Rattle.jxlm_plain.proofs.PlainGives.{state}
 
 -- what is meant by a number at a bit position
-abbrev There : List ℕ → ℕ → ℕ → ℕ → ℕ → Type 0
+abbrev pub There : List ℕ → ℕ → ℕ → ℕ → ℕ → Type 0
 There bytes p b value q = (p + b ≤ 8 * length bytes) × (value ≡ bits_at bytes p b) × (q ≡ p + b)
 
-abbrev NotThere : List ℕ → ℕ → ℕ → DecoderError → Type 0
+abbrev pub NotThere : List ℕ → ℕ → ℕ → DecoderError → Type 0
 NotThere bytes p b e = (8 * length bytes < p + b) × (e ≡ UnexpectedEof)
 
 abbrev found : ℕ → ℕ → Found ℕ
@@ -35,10 +35,13 @@ number_is : (bytes : List ℕ) (p b : ℕ) → MatchResult (number_at bytes p b)
 unfolding number_at
 number_is bytes p b = number_when bytes p b (nat_lt (8 * length bytes) (p + b)) refl
 
-number_found : (bytes : List ℕ) (p b : ℕ) (x : Found ℕ) → number_at bytes p b ≡ Ok x → There bytes p b x.value x.position
+pub number_found : (bytes : List ℕ) (p b : ℕ) (x : Found ℕ) → number_at bytes p b ≡ Ok x → There bytes p b x.value x.position
 number_found bytes p b x h = let n = number_is bytes p b in rw h at n
 
-number_there : (bytes : List ℕ) (p b : ℕ) → p + b ≤ 8 * length bytes → number_at bytes p b ≡ Ok (record { value = bits_at bytes p b; position = p + b })
+pub number_cut : (bytes : List ℕ) (p b : ℕ) (e : DecoderError) → number_at bytes p b ≡ Err e → NotThere bytes p b e
+number_cut bytes p b e h = let n = number_is bytes p b in rw h at n
+
+pub number_there : (bytes : List ℕ) (p b : ℕ) → p + b ≤ 8 * length bytes → number_at bytes p b ≡ Ok (record { value = bits_at bytes p b; position = p + b })
 unfolding number_at
 number_there bytes p b h = let e : nat_lt (8 * length bytes) (p + b) ≡ false = grind (arith, nat_tests) in rw e refl
 
@@ -69,6 +72,9 @@ unfolding token_at
 token_counts v (Constant token) bytes p x lt h = rw (ok_same _ _ h) (v, refl, lt, omega arith)
 token_counts v (Fixed width) bytes p x lt h =
     let b = bind_ok (number_at bytes p width) _ x h in
+    rw (ok_same _ _ b.2) ((v + 256 - b.0.value % 256) % 256, refl, omega arith, taken v b.0.value lt)
+token_counts v Gamma bytes p x lt h =
+    let b = bind_ok (gamma_at bytes p) _ x h in
     rw (ok_same _ _ b.2) ((v + 256 - b.0.value % 256) % 256, refl, omega arith, taken v b.0.value lt)
 
 read_counts : (s : PlainState) (v : ℕ) (codes : List Code) (clusters : List ℕ) (bytes : List ℕ) (p c m : ℕ) (x : Taken ℕ PlainState) → s ≡ state (Sealed v) codes clusters → v < 256 →

@@ -1,2 +1,4 @@
+pub mod GammaReads
+pub mod PlainFormats
 pub mod PlainLaws
 pub mod PlainReads

@@ -1,3 +1,4 @@
 pub mod Plain
 pub mod PlainTokens
 pub mod Inner
+pub mod GammaCodes

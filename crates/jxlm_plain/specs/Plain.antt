@@ -1,6 +1,7 @@
 -- The plain decoder, field by field: what parse, begin, a read and finalize give, with each error at the field that
 -- causes it.
-use Rattle.std.specs.Prelude.{ℕ, zero, suc, ◌+◌, ◌-◌, ◌*◌, ◌%◌, List, [], ◌∷◌, length, Bool, true, false, if◌then◌else◌, nat_lt, ◌==◌, ◌&&◌, Option, Some, None, Result, Ok, Err, slice_index_or}
+use Rattle.std.specs.Prelude.{ℕ, zero, suc, ◌+◌, ◌-◌, ◌*◌, ◌%◌, ◌^◌, List, [], ◌∷◌, length, Bool, true, false, if◌then◌else◌, nat_lt, ◌==◌, ◌&&◌, Option, Some, None, Result, Ok, Err, slice_index_or}
+use Rattle.std.specs.Int.{w64, trailing_zeros}
 use Rattle.jxlm_base.specs.Bits.{bits_at}
 use Rattle.jxlm_base.specs.Decoding.{Found, Taken, Meaning}
 use Rattle.jxlm_base.specs.ErrorKind.{◌>>=◌}
@@ -9,7 +10,7 @@ use Rattle.jxlm_base.specs.declared.decoder.DecoderError.TheVariants.{Unexpected
 use Rattle.jxlm_base.specs.declared.decoder.RleToken.{RleToken}
 use Rattle.jxlm_base.specs.declared.decoder.RleToken.TheVariants.{Value, Repeat}
 use Rattle.jxlm_plain.specs.declared.plain.Code.{Code}
-use Rattle.jxlm_plain.specs.declared.plain.Code.TheVariants.{Constant, Fixed}
+use Rattle.jxlm_plain.specs.declared.plain.Code.TheVariants.{Constant, Fixed, Gamma}
 use Rattle.jxlm_plain.specs.declared.plain.Mode.{Mode}
 use Rattle.jxlm_plain.specs.declared.plain.Mode.TheVariants.{Unsealed, Sealed, Runs}
 
@@ -77,6 +78,25 @@ code_at bytes runs p = do
           Ok (record { value = Constant token.value; position = token.position }))
         else Ok (record { value = Fixed width.value; position = width.position }))
 
+-- what follows kind 0, a fixed code, or kind 1, a constant
+unfoldable pub code_after : List ℕ → Bool → Found ℕ → Result (Found Code) DecoderError
+code_after bytes runs kind =
+    if runs && (kind.value == 1) then Err (Invalid 3) else (do
+      width ← number_at bytes kind.position 6
+      if nat_lt 32 width.value then Err (Invalid 2) else
+          if kind.value == 1 then (do
+            token ← number_at bytes width.position width.value
+            Ok (record { value = Constant token.value; position = token.position }))
+          else Ok (record { value = Fixed width.value; position = width.position }))
+
+-- A code of the second format: a kind of two bits, where 3 is Invalid(6) and 2 a gamma code, which has no further field;
+-- kinds 0 and 1 go on as in the first format.
+unfoldable pub code2_at : List ℕ → Bool → ℕ → Result (Found Code) DecoderError
+code2_at bytes runs p = do
+  kind ← number_at bytes p 2
+  if kind.value == 3 then Err (Invalid 6) else
+      if kind.value == 2 then Ok (record { value = Gamma; position = kind.position }) else code_after bytes runs kind
+
 -- the decoder at a bit position: mode, count of clusters, the cluster of each context, the code of each cluster
 unfoldable pub plain_parse : List ℕ → ℕ → ℕ → Result (Found PlainState) DecoderError
 plain_parse bytes p contexts = do
@@ -85,6 +105,21 @@ plain_parse bytes p contexts = do
   clusters ← items_at (cluster_at bytes (1 + count.value)) contexts count.position
   codes ← items_at (code_at bytes (is_runs mode.value)) (1 + count.value) clusters.position
   Ok (record { value = record { mode = mode.value; codes = codes.value; clusters = clusters.value }; position = codes.position })
+
+-- what the first format has, with codes of the second
+unfoldable pub fields2_at : List ℕ → ℕ → ℕ → Result (Found PlainState) DecoderError
+fields2_at bytes p contexts = do
+  mode ← mode_at bytes p
+  count ← number_at bytes mode.position 4
+  clusters ← items_at (cluster_at bytes (1 + count.value)) contexts count.position
+  codes ← items_at (code2_at bytes (is_runs mode.value)) (1 + count.value) clusters.position
+  Ok (record { value = record { mode = mode.value; codes = codes.value; clusters = clusters.value }; position = codes.position })
+
+-- the decoder of the second format at a bit position: the version, which is Invalid(5) unless it is 2, and those fields
+unfoldable pub plain2_parse : List ℕ → ℕ → ℕ → Result (Found PlainState) DecoderError
+plain2_parse bytes p contexts = do
+  version ← number_at bytes p 4
+  if version.value == 2 then fields2_at bytes version.position contexts else Err (Invalid 5)
 
 -- runs begin anew, and a seal is read
 abbrev pub begin_mode : Mode → List ℕ → ℕ → Result (Found Mode) DecoderError
@@ -106,17 +141,48 @@ pub record Read : Type 0 where
   pub mode : Mode
   pub position : ℕ
 
--- the bits of a number; a constant takes none
+-- the bits of a number; a constant takes none, and a gamma token as many as its own zeros say
 abbrev pub width_of : Code → ℕ
 width_of (Constant token) = 0
 width_of (Fixed width) = width
+width_of Gamma = 0
+
+-- how many zero bits stand before the first one bit from a bit position on; 64 for all that are as many or more
+unfoldable pub zeros_at : List ℕ → ℕ → ℕ
+zeros_at bytes p = trailing_zeros w64 (bits_at bytes p 64)
+
+-- The zeros of a gamma token: how many there are, and the position after the one bit that ends them. A 33rd is Invalid(7).
+unfoldable pub zeros_end : List ℕ → ℕ → Result (Found ℕ) DecoderError
+zeros_end bytes p = if nat_lt 32 (zeros_at bytes p) then (do
+  all ← number_at bytes p 33
+  Err (Invalid 7))
+    else (do
+      all ← number_at bytes p (zeros_at bytes p + 1)
+      Ok (record { value = zeros_at bytes p; position = all.position }))
+
+-- the n bits after the one bit of a gamma token; of 32 each is 0, and the first that is not is Invalid(7)
+unfoldable pub low_bits : List ℕ → ℕ → ℕ → Result (Found ℕ) DecoderError
+low_bits bytes p n = if (n == 32) && nat_lt 0 (bits_at bytes p n) then Err (Invalid 7) else number_at bytes p n
+
+-- a gamma token: n zeros, a one, and n bits, whose number with 2 ^ n is the token and one more
+unfoldable pub gamma_at : List ℕ → ℕ → Result (Found ℕ) DecoderError
+gamma_at bytes p = do
+  zeros ← zeros_end bytes p
+  low ← low_bits bytes zeros.position zeros.value
+  Ok (record { value = 2 ^ zeros.value + low.value - 1; position = low.position })
+
+-- the number that a token of this code is where it is read, whatever the mode; a constant takes no bits
+abbrev pub own_at : Code → List ℕ → ℕ → Result (Found ℕ) DecoderError
+own_at (Constant token) bytes p = number_at bytes p 0
+own_at (Fixed width) bytes p = number_at bytes p width
+own_at Gamma bytes p = gamma_at bytes p
 
 -- under runs, a flag and what it announces: 0 a token, 1 a run of 1 + u(8) tokens
 unfoldable pub run_at : Code → List ℕ → ℕ → Result (Found RleToken) DecoderError
 run_at code bytes p = do
   flag ← number_at bytes p 1
   if flag.value == 0 then (do
-    token ← number_at bytes flag.position (width_of code)
+    token ← own_at code bytes flag.position
     Ok (record { value = Value token.value; position = token.position }))
       else (do
         more ← number_at bytes flag.position 8
@@ -133,9 +199,15 @@ token_at Unsealed (Constant token) bytes p = Ok (record { token = token; mode = 
 token_at Unsealed (Fixed width) bytes p = do
   number ← number_at bytes p width
   Ok (record { token = number.value; mode = Unsealed; position = number.position })
+token_at Unsealed Gamma bytes p = do
+  number ← gamma_at bytes p
+  Ok (record { token = number.value; mode = Unsealed; position = number.position })
 token_at (Sealed sum) (Constant token) bytes p = Ok (record { token = token; mode = Sealed sum; position = p })
 token_at (Sealed sum) (Fixed width) bytes p = do
   number ← number_at bytes p width
+  Ok (record { token = number.value; mode = Sealed ((sum + 256 - number.value % 256) % 256); position = number.position })
+token_at (Sealed sum) Gamma bytes p = do
+  number ← gamma_at bytes p
   Ok (record { token = number.value; mode = Sealed ((sum + 256 - number.value % 256) % 256); position = number.position })
 token_at (Runs last (suc left)) code bytes p = Ok (record { token = last; mode = Runs last left; position = p })
 token_at (Runs last zero) code bytes p = do
@@ -158,6 +230,7 @@ finalize_mode (Runs last left) = Ok tt
 abbrev pub constant_of : Code → Option ℕ
 constant_of (Constant token) = Some token
 constant_of (Fixed width) = None
+constant_of Gamma = None
 
 -- the only token of a constant cluster; there is none under runs
 abbrev pub single_of : Mode → Code → Option ℕ
@@ -218,3 +291,7 @@ plain = record {
   last = plain_last;
   next = plain_next;
 }
+
+-- the plain decoder of the second format: it differs in what is parsed alone
+abbrev pub plain2 : Meaning PlainState
+plain2 = record plain { parse = plain2_parse }

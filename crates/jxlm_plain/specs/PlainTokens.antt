@@ -5,7 +5,7 @@ use Rattle.jxlm_base.specs.Decoding.{Found, Taken, Asked, reads}
 use Rattle.jxlm_plain.specs.Plain.{PlainState, code_of, is_runs, owed_in, last_in, plain}
 use Rattle.jxlm_base.specs.declared.decoder.DecoderError.TheVariants.{UnexpectedEof, Invalid}
 use Rattle.jxlm_plain.specs.declared.plain.Code.{Code}
-use Rattle.jxlm_plain.specs.declared.plain.Code.TheVariants.{Constant, Fixed}
+use Rattle.jxlm_plain.specs.declared.plain.Code.TheVariants.{Constant, Fixed, Gamma}
 use Rattle.jxlm_plain.specs.declared.plain.Mode.{Mode}
 use Rattle.jxlm_plain.specs.declared.plain.Mode.TheVariants.{Unsealed, Sealed, Runs}
 
@@ -26,6 +26,7 @@ is_sealed (Runs last left) = false
 abbrev pub counted : Code → ℕ → ℕ
 counted (Constant constant) token = 0
 counted (Fixed width) token = token
+counted Gamma token = token
 
 -- the sum of the fixed tokens among those that were read
 abbrev pub fixed_sum : List Code → List Asked → List ℕ → ℕ

@@ -1,19 +1,21 @@
 -- Samples are coded where their tokens are read one after another, and where they were written.
 use Rattle.std.proofs.Common.{◌≡◌, ℕ, zero, suc, ◌+◌, ◌^◌, ◌<◌, ◌≤◌, ℤ, pos, List, [], ◌∷◌, length, take, get_or, Ok, Some, refl, sym, ap, ◌∙◌, subst, arith}
-use Rattle.std.specs.List.{All}
+use Rattle.std.specs.List.{All, flat_map}
 use Rattle.std.specs.Int.{Width}
 use Rattle.std.proofs.lemmas.List.Elements.{All-head, All-tail}
+use Rattle.std.proofs.lemmas.List.{length-append}
 use Rattle.std.proofs.lemmas.Option.{slice_get-get_or}
 use Rattle.jxlm_base.specs.Decoding.{Meaning}
-use Rattle.jxlm_plain.specs.Plain.{plain, plain_begin}
+use Rattle.jxlm_plain.specs.Plain.{plain, plain2, plain_begin}
 use Rattle.jxlm_part.specs.Coded.{part_rule}
 use Rattle.jxlm_part.specs.Part.{Part, max_width, cells_of}
 use Rattle.jxlm_part.specs.Rule.{CodedPrefix}
-use Rattle.jxlm_write.specs.Written.{HasBits}
-use Rattle.jxlm_write.specs.Tokens.{token_bits, one_cluster}
-use Rattle.jxlm_write.proofs.TokenLaws.{token_read}
-use Rattle.jxlm_write.proofs.TreeLaws.{first_has, length-first, others_have}
-use Rattle.jxlm_tokens.specs.Laws.{AreRead, HasOneCluster, ReadIsCoded, WrittenIsCoded}
+use Rattle.jxlm_write.specs.Written.{digits, HasBits}
+use Rattle.jxlm_write.specs.Tokens.{token_bits, one_cluster, gamma_bits, gamma_token_bits, one_gamma_cluster}
+use Rattle.jxlm_write.proofs.BitLists.{has_first, has_rest}
+use Rattle.jxlm_write.proofs.TokenLaws.{fixed_reads}
+use Rattle.jxlm_write.proofs.GammaLaws.{gamma_writable}
+use Rattle.jxlm_tokens.specs.Laws.{AreRead, HasOneCluster, ReadIsCoded, WrittenIsCoded, GammaWrittenIsCoded}
 use Rattle.jxlm_tokens.specs.Tokens.{AreTokensOf}
 
 module _ {S : Type 0} (d : Meaning S) (bytes : List ℕ) (s : S) (widest : ℕ) where
@@ -70,16 +72,17 @@ read_coded d w part bytes s p q grids tokens are count cluster begins read accep
       accepts = accepts;
     }
 
--- tokens that stand are read
-written_read : (bytes : List ℕ) (contexts width widest p : ℕ) (tokens : List ℕ) → All (λ t. t < 2 ^ width) tokens → HasBits bytes p (token_bits width tokens) →
-    AreRead plain bytes (one_cluster contexts width) widest tokens p (p + length (token_bits width tokens))
-written_read bytes contexts width widest p [] fit has = omega arith
-written_read bytes contexts width widest p (t ∷ tokens) fit has =
-    let more = written_read bytes contexts width widest (p + width) tokens (All-tail (λ v. v < 2 ^ width) t tokens fit) (others_have bytes p width t tokens has) in
-    let end : p + width + length (token_bits width tokens) ≡ p + length (token_bits width (t ∷ tokens)) = let n = length-first width t tokens in omega (arith, n) in (
-      p + width,
-      token_read contexts width bytes p widest t (All-head (λ v. v < 2 ^ width) t tokens fit) (first_has bytes p width t tokens has),
-      subst (AreRead plain bytes (one_cluster contexts width) widest tokens (p + width)) end more,
+-- tokens that stand are read, where each is read from its bits
+written_read : {S : Type 0} (d : Meaning S) (s : S) (one : ℕ → List ℕ) (Fits : ℕ → Type 0) (bytes : List ℕ) (widest : ℕ) →
+    ((q v : ℕ) → Fits v → HasBits bytes q (one v) → d.read s bytes q 0 widest ≡ Ok (record { value = v; state = s; position = q + length (one v) })) →
+    (p : ℕ) (tokens : List ℕ) → All Fits tokens → HasBits bytes p (flat_map one tokens) → AreRead d bytes s widest tokens p (p + length (flat_map one tokens))
+written_read d s one Fits bytes widest reads p [] fit has = omega arith
+written_read d s one Fits bytes widest reads p (t ∷ tokens) fit has =
+    let more = written_read d s one Fits bytes widest reads (p + length (one t)) tokens (All-tail Fits t tokens fit) (has_rest bytes p (one t) (flat_map one tokens) has) in
+    let end : p + length (one t) + length (flat_map one tokens) ≡ p + length (flat_map one (t ∷ tokens)) = let n = length-append (one t) (flat_map one tokens) in omega (arith, n) in (
+      p + length (one t),
+      reads p t (All-head Fits t tokens fit) (has_first bytes p (one t) (flat_map one tokens) has),
+      subst (AreRead d bytes s widest tokens (p + length (one t))) end more,
     )
 
 begun : (bytes : List ℕ) (contexts width p : ℕ) → plain_begin (one_cluster contexts width) bytes p ≡ Ok (record { value = one_cluster contexts width; position = p })
@@ -89,5 +92,13 @@ begun bytes contexts width p = refl
 -- samples whose tokens stand are coded to the end
 pub written_coded : WrittenIsCoded
 written_coded w part bytes contexts width p grids tokens are count fit cluster has =
-    read_coded plain w part bytes (one_cluster contexts width) p (p + length (token_bits width tokens)) grids tokens are count cluster
-    (begun bytes contexts width p) (written_read bytes contexts width (max_width part.channels) p tokens fit has) refl
+    read_coded plain w part bytes (one_cluster contexts width) p (p + length (token_bits width tokens)) grids tokens are count cluster (begun bytes contexts width p)
+    (written_read plain (one_cluster contexts width) (digits width) (λ t. t < 2 ^ width) bytes (max_width part.channels)
+    (λ q v small h. fixed_reads width contexts bytes q (max_width part.channels) v small h) p tokens fit has) refl
+
+-- and so are those whose tokens stand as gamma codes
+pub gamma_written_coded : GammaWrittenIsCoded
+gamma_written_coded w part bytes contexts p grids tokens are count fit cluster has =
+    read_coded plain2 w part bytes (one_gamma_cluster contexts) p (p + length (gamma_token_bits tokens)) grids tokens are count cluster (gamma_writable.begun bytes p contexts)
+    (written_read plain2 (one_gamma_cluster contexts) gamma_bits (λ t. t < 2 ^ 32) bytes (max_width part.channels)
+    (λ q v small h. gamma_writable.reads contexts bytes q (max_width part.channels) v small h) p tokens fit has) (gamma_writable.ended contexts)

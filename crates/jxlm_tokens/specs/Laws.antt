@@ -8,8 +8,8 @@ use Rattle.jxlm_ma.specs.declared.flat.Leaf.{Leaf}
 use Rattle.jxlm_ma.specs.Tree.{AllLeaves}
 use Rattle.jxlm_part.specs.Coded.{IsCodedToTheEnd}
 use Rattle.jxlm_part.specs.Part.{Part, next_leaf, cell_count, cells_of, max_width}
-use Rattle.jxlm_plain.specs.Plain.{plain}
-use Rattle.jxlm_write.specs.Tokens.{one_cluster, token_bits}
+use Rattle.jxlm_plain.specs.Plain.{plain, plain2}
+use Rattle.jxlm_write.specs.Tokens.{one_cluster, token_bits, one_gamma_cluster, gamma_token_bits}
 use Rattle.jxlm_write.specs.Written.{HasBits}
 use Rattle.jxlm_tokens.specs.Tokens.{AreTokensOf, IsSampleToken, MultipliesByOdd, MultipliesByOne}
 
@@ -48,3 +48,10 @@ WrittenIsCoded = (w : Width) (part : Part) (bytes : List ℕ) (contexts width p 
     AreTokensOf w part (cells_of grids) tokens → cell_count part.channels ≡ length (cells_of grids) → All (λ t. t < 2 ^ width) tokens →
     HasOneCluster part → HasBits bytes p (token_bits width tokens) →
     IsCodedToTheEnd plain w part bytes (one_cluster contexts width) p grids (p + length (token_bits width tokens))
+
+-- The same of the second format: samples whose tokens were written as gamma codes are coded from there to where they end.
+abbrev pub GammaWrittenIsCoded : Type 0
+GammaWrittenIsCoded = (w : Width) (part : Part) (bytes : List ℕ) (contexts p : ℕ) (grids : List (Grid ℤ)) (tokens : List ℕ) →
+    AreTokensOf w part (cells_of grids) tokens → cell_count part.channels ≡ length (cells_of grids) → All (λ t. t < 2 ^ 32) tokens →
+    HasOneCluster part → HasBits bytes p (gamma_token_bits tokens) →
+    IsCodedToTheEnd plain2 w part bytes (one_gamma_cluster contexts) p grids (p + length (gamma_token_bits tokens))

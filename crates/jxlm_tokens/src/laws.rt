@@ -1,6 +1,6 @@
 //! Laws of tokens.
 
-ghost use Rattle.jxlm_tokens.specs.Laws.{EachHasOneToken, EachPartHasOneList, ReadIsCoded, WrittenIsCoded};
+ghost use Rattle.jxlm_tokens.specs.Laws.{EachHasOneToken, EachPartHasOneList, ReadIsCoded, WrittenIsCoded, GammaWrittenIsCoded};
 
 use jxlm_base::decoder::Decoder;
 
@@ -23,4 +23,9 @@ pub fn read_is_coded<D: Decoder>()
 /// Samples whose tokens were written are coded.
 pub fn written_is_coded()
     ensures { WrittenIsCoded }
+{}
+
+/// Samples whose tokens were written as gamma codes are coded.
+pub fn gamma_written_is_coded()
+    ensures { GammaWrittenIsCoded }
 {}

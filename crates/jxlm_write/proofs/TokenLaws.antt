@@ -1,15 +1,16 @@
 -- Plain decoders and tokens that were written are read.
-use Rattle.std.proofs.Common.{◌≡◌, ℕ, zero, suc, ◌+◌, ◌*◌, ◌^◌, ◌<◌, ◌≤◌, List, [], ◌++◌, length, replicate, false, Ok, refl, ap, arith}
+use Rattle.std.proofs.Common.{◌≡◌, ℕ, zero, suc, ◌+◌, ◌*◌, ◌^◌, ◌<◌, ◌≤◌, List, [], ◌++◌, length, replicate, false, Ok, refl, sym, ap, ◌∙◌, arith}
 use Rattle.std.specs.List.{flat_map}
 use Rattle.std.proofs.lemmas.Bool.{le-ltb}
 use Rattle.std.proofs.lemmas.List.{length-append}
 use Rattle.std.proofs.Math.Nat.{mod-eq_of_lt}
-use Rattle.jxlm_plain.specs.Plain.{number_at, mode_at, cluster_at, items_at, code_at, plain_parse, plain_read, token_at}
+use Rattle.jxlm_plain.specs.Plain.{number_at, mode_at, cluster_at, items_at, code_at, plain, plain_parse, plain_begin, plain_read, token_at}
 use Rattle.jxlm_plain.specs.declared.plain.Code.TheVariants.{Fixed}
 use Rattle.jxlm_plain.specs.declared.plain.Mode.TheVariants.{Unsealed}
 use Rattle.jxlm_write.specs.Written.{digits, HasBits}
 use Rattle.jxlm_write.specs.Tokens.{decoder_bits, one_cluster}
 use Rattle.jxlm_write.specs.Laws.{TokensAreRead}
+use Rattle.jxlm_write.proofs.Writable.{IsWritable}
 use Rattle.jxlm_write.proofs.BitLists.{length-digits, number_stands, has_first, has_rest, has_moved}
 
 -- a number that stands is read
@@ -20,7 +21,7 @@ number_read bytes p n v small h =
     let i = h.inside in
     rw (le-ltb (8 * length bytes) (p + n) (omega (arith, l, i)), number_stands bytes p n v h, mod-eq_of_lt small) refl
 
-mode_read : (bytes : List ℕ) (p : ℕ) → HasBits bytes p (digits 6 0) → mode_at bytes p ≡ Ok (record { value = Unsealed; position = p + 2 })
+pub mode_read : (bytes : List ℕ) (p : ℕ) → HasBits bytes p (digits 6 0) → mode_at bytes p ≡ Ok (record { value = Unsealed; position = p + 2 })
 unfolding mode_at
 mode_read bytes p h =
     let e : p + 1 + 1 ≡ p + 2 = omega arith in
@@ -38,7 +39,7 @@ length-clusters (suc n) =
     let m = length-clusters n in
     omega (arith, l, m)
 
-clusters_read : (bytes : List ℕ) (p n q : ℕ) → HasBits bytes p (flat_map (digits 4) (replicate n 0)) → q ≡ p + 4 * n → items_at (cluster_at bytes 1) n p ≡ Ok (record { value = replicate n 0; position = q })
+pub clusters_read : (bytes : List ℕ) (p n q : ℕ) → HasBits bytes p (flat_map (digits 4) (replicate n 0)) → q ≡ p + 4 * n → items_at (cluster_at bytes 1) n p ≡ Ok (record { value = replicate n 0; position = q })
 clusters_read bytes p zero q h e = let s : p ≡ q = omega (arith, e) in ap (λ (r : ℕ). Ok (record { value = []; position = r })) s
 clusters_read bytes p (suc n) q h e =
     rw (
@@ -82,3 +83,23 @@ token_read contexts width bytes p m v small h = rw (number_read bytes p width v 
 
 pub tokens_are_read : TokensAreRead
 tokens_are_read contexts width bytes p m v small h = token_read contexts width bytes p m v small h
+
+begun : (bytes : List ℕ) (w contexts q : ℕ) → plain_begin (one_cluster contexts w) bytes q ≡ Ok (record { value = one_cluster contexts w; position = q })
+unfolding plain_begin
+begun bytes w contexts q = refl
+
+-- tokens of a width are read
+pub fixed_reads : (w contexts : ℕ) (bytes : List ℕ) (p m v : ℕ) → v < 2 ^ w → HasBits bytes p (digits w v) →
+    plain.read (one_cluster contexts w) bytes p 0 m ≡ Ok (record { value = v; state = one_cluster contexts w; position = p + length (digits w v) })
+fixed_reads w contexts bytes p m v small h =
+    token_read contexts w bytes p m v small h ∙ ap (λ (n : ℕ). Ok (record { value = v; state = one_cluster contexts w; position = p + n })) (sym (length-digits w v))
+
+-- decoders and tokens of a width are written and read
+pub fixed_writable : (w : ℕ) → w ≤ 32 → IsWritable plain (λ contexts. one_cluster contexts w) (λ contexts. decoder_bits contexts w) (digits w) (λ v. v < 2 ^ w)
+fixed_writable w narrow = record {
+  parsed = λ bytes p contexts q h e. decoder_read bytes p contexts w q narrow h e;
+  begun = λ bytes p contexts. begun bytes w contexts p;
+  reads = fixed_reads w;
+  ended = λ contexts. refl;
+  clusters = λ contexts. refl;
+}

@@ -1,16 +1,17 @@
 -- The plain decoder meets the laws of decoders. Proofs alone: nothing here has to be believed. They are here since the
 -- decoder's impl names the last of them, and an impl can name no file of proofs/.
-use Rattle.std.specs.Prelude.{◌≡◌, ◌≢◌, ℕ, zero, suc, ◌+◌, ◌-◌, ◌*◌, ◌<◌, List, length, Contains, Bool, true, false, cond, nat_lt, ◌==◌, ◌⊎◌, Some, None, Result, Ok, Err, refl}
+use Rattle.std.specs.Prelude.{◌≡◌, ◌≢◌, ℕ, zero, suc, ◌+◌, ◌-◌, ◌*◌, ◌<◌, List, length, Contains, Bool, true, false, cond, nat_lt, ◌==◌, ◌&&◌, ◌⊎◌, Some, None, Result, Ok, Err, refl}
 use Rattle.std.proofs.Common.{arith, ap, inl, inr}
-use Rattle.jxlm_base.specs.Decoding.{Found, Taken, Keeps, IsLawful}
+use Rattle.jxlm_base.specs.Bits.{bits_at}
+use Rattle.jxlm_base.specs.Decoding.{Found, Taken, Keeps, RunGives, IsLawful}
 use Rattle.jxlm_base.specs.ErrorKind.{◌>>=◌}
-use Rattle.jxlm_plain.specs.Plain.{PlainState, Read, number_at, mode_at, items_at, cluster_at, code_at, code_of, width_of, run_at, first_of_run, is_runs, single_of, owed_in, last_in, next_mode, begin_mode, token_at, finalize_mode, plain_parse, plain_begin, plain_read, plain_finalize, plain_clusters, plain_single, plain_runs, plain_owed, plain_last, plain_next, plain}
+use Rattle.jxlm_plain.specs.Plain.{PlainState, Read, number_at, zeros_at, zeros_end, low_bits, gamma_at, own_at, mode_at, items_at, cluster_at, code_at, code2_at, code_of, run_at, first_of_run, is_runs, single_of, owed_in, last_in, next_mode, begin_mode, token_at, finalize_mode, plain_parse, plain_begin, plain_read, plain_finalize, plain_clusters, plain_single, plain_runs, plain_owed, plain_last, plain_next, plain, fields2_at, plain2_parse, plain2}
 use Rattle.jxlm_base.specs.declared.decoder.DecoderError.{DecoderError}
 use Rattle.jxlm_base.specs.declared.decoder.DecoderError.TheVariants.{OutOfMemory}
 use Rattle.jxlm_base.specs.declared.decoder.RleToken.{RleToken}
 use Rattle.jxlm_base.specs.declared.decoder.RleToken.TheVariants.{Value, Repeat}
 use Rattle.jxlm_plain.specs.declared.plain.Code.{Code}
-use Rattle.jxlm_plain.specs.declared.plain.Code.TheVariants.{Constant, Fixed}
+use Rattle.jxlm_plain.specs.declared.plain.Code.TheVariants.{Constant, Fixed, Gamma}
 use Rattle.jxlm_plain.specs.declared.plain.Mode.{Mode}
 use Rattle.jxlm_plain.specs.declared.plain.Mode.TheVariants.{Unsealed, Sealed, Runs}
 
@@ -49,9 +50,15 @@ token_kind Unsealed (Constant token) bytes p x h = rw (ok_same _ _ h) (refl, λ 
 token_kind Unsealed (Fixed width) bytes p x h =
     let b = bind_ok (number_at bytes p width) _ x h in
     rw (ok_same _ _ b.2) (refl, λ k. refl)
+token_kind Unsealed Gamma bytes p x h =
+    let b = bind_ok (gamma_at bytes p) _ x h in
+    rw (ok_same _ _ b.2) (refl, λ k. refl)
 token_kind (Sealed sum) (Constant token) bytes p x h = rw (ok_same _ _ h) (refl, λ k. refl)
 token_kind (Sealed sum) (Fixed width) bytes p x h =
     let b = bind_ok (number_at bytes p width) _ x h in
+    rw (ok_same _ _ b.2) (refl, λ k. refl)
+token_kind (Sealed sum) Gamma bytes p x h =
+    let b = bind_ok (gamma_at bytes p) _ x h in
     rw (ok_same _ _ b.2) (refl, λ k. refl)
 token_kind (Runs last (suc left)) code bytes p x h = rw (ok_same _ _ h) (refl, λ k. refl)
 token_kind (Runs last zero) code bytes p x h =
@@ -84,8 +91,10 @@ token_single : (mode : Mode) (code : Code) (bytes : List ℕ) (p v : ℕ) → si
 unfolding token_at
 token_single Unsealed (Constant token) bytes p v h = let e : token ≡ v = cc in rw e refl
 token_single Unsealed (Fixed width) bytes p v h = cc
+token_single Unsealed Gamma bytes p v h = cc
 token_single (Sealed sum) (Constant token) bytes p v h = let e : token ≡ v = cc in rw e refl
 token_single (Sealed sum) (Fixed width) bytes p v h = cc
+token_single (Sealed sum) Gamma bytes p v h = cc
 token_single (Runs last left) code bytes p v h = cc
 
 pub plain_single_read : (s : PlainState) (bytes : List ℕ) (p c m v : ℕ) → Contains s.clusters c → plain_single s c ≡ Some v → plain_read s bytes p c m ≡ Ok (record { value = v; state = s; position = p })
@@ -178,6 +187,25 @@ number_memory : (bytes : List ℕ) (p n : ℕ) → NoMemory (number_at bytes p n
 unfolding number_at
 number_memory bytes p n = cond_memory (nat_lt (8 * length bytes) (p + n)) _ _ (λ w. cc) (ok_memory _)
 
+zeros_memory : (bytes : List ℕ) (p : ℕ) → NoMemory (zeros_end bytes p)
+unfolding zeros_end
+zeros_memory bytes p = cond_memory (nat_lt 32 (zeros_at bytes p)) _ _ (bind_memory (number_at bytes p 33) _ (number_memory bytes p 33) (λ x w. cc))
+    (bind_memory (number_at bytes p (zeros_at bytes p + 1)) _ (number_memory bytes p (zeros_at bytes p + 1)) (λ x. ok_memory _))
+
+low_memory : (bytes : List ℕ) (p n : ℕ) → NoMemory (low_bits bytes p n)
+unfolding low_bits
+low_memory bytes p n = cond_memory ((n == 32) && nat_lt 0 (bits_at bytes p n)) _ _ (λ w. cc) (number_memory bytes p n)
+
+gamma_memory : (bytes : List ℕ) (p : ℕ) → NoMemory (gamma_at bytes p)
+unfolding gamma_at
+gamma_memory bytes p = bind_memory (zeros_end bytes p) _ (zeros_memory bytes p)
+    (λ x. bind_memory (low_bits bytes x.position x.value) _ (low_memory bytes x.position x.value) (λ y. ok_memory _))
+
+own_memory : (code : Code) (bytes : List ℕ) (p : ℕ) → NoMemory (own_at code bytes p)
+own_memory (Constant token) bytes p = number_memory bytes p 0
+own_memory (Fixed width) bytes p = number_memory bytes p width
+own_memory Gamma bytes p = gamma_memory bytes p
+
 begin_mode_memory : (mode : Mode) (bytes : List ℕ) (p : ℕ) → NoMemory (begin_mode mode bytes p)
 begin_mode_memory Unsealed bytes p = ok_memory _
 begin_mode_memory (Sealed sum) bytes p = bind_memory (number_at bytes p 8) _ (number_memory bytes p 8) (λ x. ok_memory _)
@@ -191,15 +219,17 @@ run_memory : (code : Code) (bytes : List ℕ) (p : ℕ) → NoMemory (run_at cod
 unfolding run_at
 run_memory code bytes p =
     bind_memory (number_at bytes p 1) _ (number_memory bytes p 1) (λ x. cond_memory (x.value == 0) _ _
-    (bind_memory (number_at bytes x.position (width_of code)) _ (number_memory bytes x.position (width_of code)) (λ y. ok_memory _))
+    (bind_memory (own_at code bytes x.position) _ (own_memory code bytes x.position) (λ y. ok_memory _))
     (bind_memory (number_at bytes x.position 8) _ (number_memory bytes x.position 8) (λ y. ok_memory _)))
 
 token_memory : (mode : Mode) (code : Code) (bytes : List ℕ) (p : ℕ) → NoMemory (token_at mode code bytes p)
 unfolding token_at
 token_memory Unsealed (Constant token) bytes p = ok_memory _
 token_memory Unsealed (Fixed width) bytes p = bind_memory (number_at bytes p width) _ (number_memory bytes p width) (λ x. ok_memory _)
+token_memory Unsealed Gamma bytes p = bind_memory (gamma_at bytes p) _ (gamma_memory bytes p) (λ x. ok_memory _)
 token_memory (Sealed sum) (Constant token) bytes p = ok_memory _
 token_memory (Sealed sum) (Fixed width) bytes p = bind_memory (number_at bytes p width) _ (number_memory bytes p width) (λ x. ok_memory _)
+token_memory (Sealed sum) Gamma bytes p = bind_memory (gamma_at bytes p) _ (gamma_memory bytes p) (λ x. ok_memory _)
 token_memory (Runs last (suc left)) code bytes p = ok_memory _
 token_memory (Runs last zero) code bytes p = bind_memory (run_at code bytes p) _ (run_memory code bytes p) (λ x. ok_memory _)
 
@@ -249,3 +279,46 @@ plain_lawful = record {
   read_memory = plain_read_memory;
   finalize_memory = plain_finalize_memory;
 }
+
+-- what the second format keeps is what the first keeps
+pub keeps2 : (s t : PlainState) → Keeps plain s t → Keeps plain2 s t
+keeps2 s t k = record { clusters = k.clusters; single = k.single; rle = k.rle }
+
+chosen_ok : {A : Type 0} (is : Bool) (r : Result A DecoderError) (e : DecoderError) (x : A) → cond is r (Err e) ≡ Ok x → r ≡ Ok x
+chosen_ok true r e x h = h
+chosen_ok false r e x h = cc
+
+plain2_parse_clusters : (bytes : List ℕ) (p n : ℕ) (x : Found PlainState) → plain2_parse bytes p n ≡ Ok x → length (plain_clusters x.value) ≡ n
+unfolding plain2_parse fields2_at
+plain2_parse_clusters bytes p n x h =
+    let v = bind_ok (number_at bytes p 4) _ x h in
+    let a = bind_ok (mode_at bytes v.0.position) _ x (chosen_ok (v.0.value == 2) _ _ x v.2) in
+    let b = bind_ok (number_at bytes a.0.position 4) _ x a.2 in
+    let c = bind_ok (items_at (cluster_at bytes (1 + b.0.value)) n b.0.position) _ x b.2 in
+    let d = bind_ok (items_at (code2_at bytes (is_runs a.0.value)) (1 + b.0.value) c.0.position) _ x c.2 in
+    rw (ok_same _ _ d.2) (items_length (cluster_at bytes (1 + b.0.value)) n b.0.position c.0 c.1)
+
+pub plain2_lawful : IsLawful plain2
+plain2_lawful = record {
+  parse_clusters = plain2_parse_clusters;
+  begin_keeps = λ s bytes p x h. keeps2 s x.value (plain_begin_keeps s bytes p x h);
+  read_keeps = λ s bytes p c m x within h. keeps2 s x.state (plain_read_keeps s bytes p c m x within h);
+  next_keeps = λ s r owes. keeps2 s (plain_next s) (plain_next_keeps s r owes);
+  single_read = plain_single_read;
+  begin_owes = plain_begin_owes;
+  read_last = plain_read_last;
+  owed_read = plain_owed_read;
+  owed_next = plain_owed_next;
+  rle_finalize = plain_rle_finalize;
+  rle_single = plain_rle_single;
+  begin_memory = plain_begin_memory;
+  read_memory = plain_read_memory;
+  finalize_memory = plain_finalize_memory;
+}
+
+-- what is read of a run is so for the second format too
+pub runs2 : (r : Result RleToken DecoderError) (s t : PlainState) (p q : ℕ) (meaning : Result (Taken ℕ PlainState) DecoderError) →
+    RunGives plain r s t p q meaning → RunGives plain2 r s t p q meaning
+runs2 (Ok (Value v)) s t p q meaning h = h
+runs2 (Ok (Repeat n)) s t p q meaning h = record { first = h.first; read = h.read; owes = h.owes; ends = h.ends }
+runs2 (Err e) s t p q meaning h = h

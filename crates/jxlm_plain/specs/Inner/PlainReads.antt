@@ -1,8 +1,8 @@
 -- What the reads of the plain decoder returned, by the mode that they began and ended in.
-use Rattle.std.specs.Prelude.{◌≡◌, ℕ, ◌-◌, ◌<◌, Option, Some, None, Result, Ok, Err}
+use Rattle.std.specs.Prelude.{◌≡◌, ℕ, ◌-◌, ◌<◌, ◌⊎◌, Result, Ok, Err}
 use Rattle.jxlm_plain.specs.Plain.{Read, last_in, owed_in}
 use Rattle.jxlm_base.specs.declared.decoder.DecoderError.{DecoderError}
-use Rattle.jxlm_base.specs.declared.decoder.DecoderError.TheVariants.{UnexpectedEof}
+use Rattle.jxlm_base.specs.declared.decoder.DecoderError.TheVariants.{UnexpectedEof, Invalid}
 use Rattle.jxlm_base.specs.declared.decoder.RleToken.{RleToken}
 use Rattle.jxlm_base.specs.declared.decoder.RleToken.TheVariants.{Value, Repeat}
 use Rattle.jxlm_plain.specs.declared.plain.Mode.{Mode}
@@ -18,10 +18,9 @@ abbrev pub ReadsToken : Result ℕ DecoderError → Mode → Mode → ℕ → �
 ReadsToken (Ok v) s t p q meaning = meaning ≡ Ok (record { token = v; mode = t; position = q })
 ReadsToken (Err e) s t p q meaning = (meaning ≡ Err e) × (t ≡ s) × (q ≡ p)
 
--- the same, where the input is truncated if there is none
-abbrev pub ReadsAny : Option ℕ → Mode → Mode → ℕ → ℕ → Result Read DecoderError → Type 0
-ReadsAny (Some v) = ReadsToken (Ok v)
-ReadsAny None = ReadsToken (Err UnexpectedEof)
+-- an error that a token can have
+abbrev pub IsOfTokens : DecoderError → Type 0
+IsOfTokens e = (e ≡ UnexpectedEof) ⊎ (e ≡ Invalid 7)
 
 -- Under runs and between them a token was read, or a run of n tokens, and left mode t and position q.
 abbrev pub ReadsRun : Result RleToken DecoderError → Mode → Mode → ℕ → ℕ → Result Read DecoderError → Type 0

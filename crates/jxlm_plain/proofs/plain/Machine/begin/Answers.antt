@@ -1,6 +1,6 @@
 use Rattle.jxlm_base.specs.Bits.{bytes_of, position_of}
 use Rattle.jxlm_plain.proofs.PlainGives.{begin_given, begin_kept}
-use Rattle.jxlm_plain.proofs.plain.PlainDecoderDecoder.begin.Goals as goal
+use Rattle.jxlm_plain.proofs.plain.Machine.begin.Goals as goal
 
 pub returns-clause-gives : goal.returns-clause-gives
 returns-clause-gives c =

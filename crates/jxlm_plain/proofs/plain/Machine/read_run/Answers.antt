@@ -3,7 +3,7 @@ use Rattle.std.proofs.lemmas.List.Elements.{All-contains}
 use Rattle.jxlm_base.specs.Bits.{bytes_of, position_of}
 use Rattle.jxlm_plain.specs.Plain.{code_of}
 use Rattle.jxlm_plain.proofs.PlainGives.{run_given, code_read}
-use Rattle.jxlm_plain.proofs.plain.PlainDecoderDecoder.read_varint_clustered.Goals as goal
+use Rattle.jxlm_plain.proofs.plain.Machine.read_run.Goals as goal
 
 pub returns-clause-gives : goal.returns-clause-gives
 returns-clause-gives c =
