@@ -4,7 +4,7 @@
 # build: proves and builds the program, and prints where it lies.
 # docs: looks up each name that the documents cite, and the code that they quote.
 # memory: refuses each request for memory of each call that takes memory, in turn; it proves nothing.
-# test: docs, and then every proof, every edit that the prover must refuse, every test and the program's run.
+# test: docs and memory, and then every proof, every edit that the prover must refuse, every test and the program's run.
 
 .PHONY: run triangle groups build docs memory test
 
@@ -29,5 +29,5 @@ docs:
 memory:
 	@python3 scripts/refuse_requests.py
 
-test: docs
+test: docs memory
 	rt ci
