@@ -1,0 +1,4 @@
+pub mod Channels
+pub mod Cuts
+pub mod Frames
+pub mod Trees

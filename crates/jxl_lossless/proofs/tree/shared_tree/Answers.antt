@@ -1,0 +1,16 @@
+use Rattle.std.proofs.Common.{◌≡◌, true, rules, subst}
+use Rattle.jxlm_base.specs.Bits.{bytes_of, position_of}
+use Rattle.jxl_toc.specs.Starts.{section_start}
+use Rattle.jxl_front.specs.Fronts.{StandsAt}
+use Rattle.jxl_lossless.proofs.Trees.{a_tree}
+use Rattle.jxl_lossless.proofs.tree.shared_tree.Goals as goal
+
+pub returns-in-Ok-parse-clause-ok : goal.returns-in-Ok-parse-clause-ok
+returns-in-Ok-parse-clause-ok g c =
+    let first = bytes_of c.args.bits.now in
+    let p = position_of c.args.bits.now in
+    let q = position_of c.section_start.new.bits in
+    let there : c.in-Ok.there ≡ true = search rules in
+    let stands : StandsAt section_start first p true q = subst (λ b. StandsAt section_start first p b q) there c.in-Ok.ensures.gives in
+    a_tree g.D.Decoder.meaning c.args.size c.args.channels first p q c.requires.start stands (bytes_of c.section_start.new.bits) c.in-Ok.ensures.bytes c.tree_limit.result c.tree_limit.ensures c.in-Ok-parse.tree
+    (position_of c.parse.new.bits) c.in-Ok-parse.ensures.gives

@@ -1,0 +1,28 @@
+-- Where the sections of a frame lie in a codestream (ISO/IEC 18181-1, frame: table of contents, sections).
+use Rattle.std.specs.Prelude.{◌≡◌, ℕ, ◌<◌, ◌==◌, List, length, map, take, drop, slice_get, if◌then◌else◌}
+use Rattle.std.specs.Borrow.{Bor}
+use Rattle.jxl_toc.specs.Layouts.{Layout, section_count_of, lf_section_of, pass_section_of}
+use Rattle.jxl_toc.specs.declared.toc.TocEntry.{TocEntry}
+use Rattle.jxl_still.specs.declared.places.Places.{Places}
+
+-- the bytes of a section of a codestream, and of all sections, by their numbers
+abbrev pub section_of : List ℕ → TocEntry → List ℕ
+section_of bytes entry = take entry.size (drop entry.offset bytes)
+
+abbrev pub sections_of : List ℕ → List TocEntry → List (List ℕ)
+sections_of bytes entries = map (section_of bytes) entries
+
+-- the bytes that are lent
+abbrev pub lent : List (Bor (List ℕ)) → List (List ℕ)
+lent sections = map (λ s. s.now) sections
+
+-- how many of these groups have a section of their own: none in a frame of one section
+abbrev pub apart : Layout → ℕ → ℕ
+apart l n = if section_count_of l == 1 then 0 else n
+
+-- These are the sections of the groups, of all sections of a frame that is cut in this way: those with their numbers.
+pub record AreOfGroups (l : Layout) (sections : List (List ℕ)) (places : Places) : Type 0 where
+  pub low_count : length places.low.now ≡ apart l l.lf_groups
+  pub low : (k : ℕ) → k < length places.low.now → slice_get (lent places.low.now) k ≡ slice_get sections (lf_section_of k)
+  pub group_count : length places.groups.now ≡ apart l l.groups
+  pub groups : (k : ℕ) → k < length places.groups.now → slice_get (lent places.groups.now) k ≡ slice_get sections (pass_section_of l 0 k)

@@ -1,0 +1,42 @@
+//! Why a file is not decoded.
+
+ghost use Rattle.std.specs.Prelude.{◌≡◌};
+
+use jxl_file::error::FileError as BoxError;
+use jxl_front::error::FrontError;
+use jxl_still::error::FrameError;
+use jxlm_base::error::Error;
+use jxlm_base::grid::OutOfMemory;
+
+/// Why a file is not decoded: the first reason in the order of its bits.
+#[derive(Clone, Copy, Debug, PartialEq, Eq, thiserror::Error)]
+pub enum FileError {
+    /// The file has no codestream that is read, for this reason.
+    #[error("{0}")]
+    File(BoxError),
+    /// What comes before the sections of the frame has this error, or is not supported.
+    #[error("{0}")]
+    Front(FrontError),
+    /// What the first section begins with has this error.
+    #[error("first section: {0}")]
+    Start(Error),
+    /// The tree that sections share has this error.
+    #[error("global tree: {0}")]
+    Tree(Error),
+    /// The image, or its samples, have this error.
+    #[error("{0}")]
+    Samples(FrameError),
+    /// Out of memory.
+    #[error("out of memory")]
+    NoMemory,
+}
+
+impl From<OutOfMemory> for FileError {
+    ghost use Rattle.jxl_lossless.specs.declared.error.FileError.TheVariants.{NoMemory};
+
+    ghost from_gives = { λ _ e. e ≡ NoMemory };
+
+    fn from(_error: OutOfMemory) -> FileError {
+        FileError::NoMemory
+    }
+}

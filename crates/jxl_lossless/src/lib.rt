@@ -1,0 +1,13 @@
+//! Lossless pictures of JPEG XL files (ISO/IEC 18181-1, 18181-2): the container, the headers, and the frame.
+#![tactic(auto)]
+
+pub mod error;
+mod frame;
+mod picture;
+mod sections;
+mod tree;
+
+pub use error::FileError;
+pub use jxl_picture::limits::Limits;
+pub use jxl_picture::picture::Picture;
+pub use picture::decode_lossless;

@@ -1,0 +1,60 @@
+//! The picture of a file.
+
+ghost use Rattle.std.specs.Prelude.{IfErr, IfOk};
+ghost use Rattle.jxl_headers.specs.Images.{image_of};
+ghost use Rattle.jxl_picture.specs.Pictures.{IsWhole};
+ghost use Rattle.jxl_lossless.specs.Pictures.{FileFails, IsPictureOf, IsPictureOfFile, StreamFails};
+
+use crate::error::FileError;
+use crate::frame::decode_front;
+use jxl_file::codestream::find_codestream;
+use jxl_front::front::Front;
+use jxl_picture::limits::Limits;
+use jxl_picture::picture::Picture;
+use jxlm_entropy::decoder::EntropyDecoder;
+use jxlm_ma::flat::Steps;
+use std::alloc::Global;
+
+// The picture of a codestream.
+fn decode_codestream(alloc: Global, bytes: &[u8], limits: &Limits) -> Result<Picture, FileError>
+    ensures ok { IfOk result (IsPictureOf limits.now bytes.now) }
+    ensures whole { IfOk result (λ p. IsWhole (image_of p.header) p.channels.items) }
+    ensures err { IfErr result (StreamFails limits.now bytes.now) }
+{
+    let front = match Front::read::<EntropyDecoder>(alloc, bytes, limits) {
+        Ok(front) => front,
+        Err(error) => return Err(FileError::Front(error)),
+    };
+    let image = decode_front::<i32, EntropyDecoder>(alloc, bytes, &front, &mut Steps::new())?;
+    Ok(Picture {
+        header: front.image,
+        channels: image.into_image_channels(),
+    })
+}
+
+/// The picture of a JPEG XL file: a lossless still picture of one frame, bare or in boxes.
+///
+/// It has the samples that were coded, of which no decoder can make others: the file is a codestream, or boxes that
+/// hold one; image header, frame header and table of contents stand at its bits; each section lies where the table says;
+/// and the channels are the only ones that the transforms turn into the samples that the sections code, read by the
+/// entropy decoder with the indices of their streams.
+///
+/// # Errors
+///
+/// The first in the order of the bits, and `NoMemory` at any time; what is not supported is told by name
+/// (docs/FILES.md). Nothing is left behind. Sizes are compared with the limits before memory is taken for samples.
+///
+/// # What is not right yet
+///
+/// A palette with deltas is refused in the header of the whole image. One in the header of a group is not: its samples
+/// are not those that were coded.
+pub fn decode_lossless(alloc: Global, file: &[u8], limits: &Limits) -> Result<Picture, FileError>
+    ensures picture { IfOk result (IsPictureOfFile limits.now file.now) }
+    ensures whole { IfOk result (λ p. IsWhole (image_of p.header) p.channels.items) }
+    ensures err { IfErr result (FileFails limits.now file.now) }
+{
+    match find_codestream(alloc, file) {
+        Ok(stream) => decode_codestream(alloc, stream.bytes(), limits),
+        Err(error) => Err(FileError::File(error)),
+    }
+}

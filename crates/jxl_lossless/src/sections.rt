@@ -1,0 +1,51 @@
+//! Where the sections of a frame lie.
+
+ghost use Rattle.std.specs.Prelude.{◌≡◌, length, true, IfOk};
+ghost use Rattle.std.specs.List.{list_all};
+ghost use Rattle.jxl_toc.specs.Layouts.{section_count_of};
+ghost use Rattle.jxl_toc.specs.LayoutParts.{parts_of};
+ghost use Rattle.jxl_toc.specs.Tocs.{is_within};
+ghost use Rattle.jxl_still.specs.Places.{AreFew};
+ghost use Rattle.jxl_lossless.specs.Sections.{AreOfGroups, lent, sections_of};
+
+use jxl_still::places::Places;
+use jxl_toc::layout::Layout;
+use jxl_toc::toc::TocEntry;
+use jxlm_base::grid::OutOfMemory;
+use std::alloc::Global;
+
+/// The bytes of these sections, all of which lie in the codestream.
+pub fn sections<'a>(
+    alloc: Global,
+    bytes: &'a [u8],
+    entries: &[TocEntry],
+) -> Result<Vec<&'a [u8]>, OutOfMemory>
+    requires within { list_all (is_within (length bytes.now)) entries.now ≡ true }
+    ensures lie { IfOk result (λ v. lent v.items ≡ sections_of bytes.now entries.now) }
+{
+    let mut list = Vec::new(alloc);
+    for entry in entries {
+        list.push(entry.bytes(bytes).unwrap())?;
+    }
+    Ok(list)
+}
+
+/// Those of the groups, of all sections of a frame of one pass that is cut in this way.
+pub fn of_groups<'a, 't>(sections: &'t [&'a [u8]], layout: &Layout) -> Places<'a, 't>
+    requires count { length sections.now ≡ section_count_of (parts_of layout.now) }
+    requires pass { (parts_of layout.now).passes ≡ 1 }
+    ensures are { AreOfGroups (parts_of layout.now) (lent sections.now) result }
+    ensures few { AreFew result }
+{
+    if layout.section_count() == 1 {
+        return Places {
+            low: &sections[..0],
+            groups: &sections[..0],
+        };
+    }
+    let groups = 2 + layout.lf_groups() as usize;
+    Places {
+        low: &sections[1..groups - 1],
+        groups: &sections[groups..],
+    }
+}

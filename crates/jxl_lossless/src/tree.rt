@@ -1,0 +1,47 @@
+//! What the first section of a frame begins with: the tree that sections share.
+
+ghost use Rattle.std.specs.Prelude.{◌≡◌, IfErr, IfOk};
+ghost use Rattle.jxlm_base.specs.Bits.{bytes_of, position_of};
+ghost use Rattle.jxl_lossless.specs.Frames.{SharedTree};
+ghost use Rattle.jxl_lossless.specs.FrameFailures.{StartFails};
+
+use crate::error::FileError;
+use jxl_headers::size::Size;
+use jxl_toc::start::{section_start, tree_limit};
+use jxlm_base::bits::Bitstream;
+use jxlm_base::decoder::Decoder;
+use jxlm_base::error::Error;
+use jxlm_ma::ma::{MaConfig, MaConfigParams};
+use std::alloc::Global;
+
+/// The tree that sections share, where there is one, of a frame of this size with so many channels. The reader is left
+/// before the header of the image.
+pub fn shared_tree<D: Decoder>(
+    alloc: Global,
+    bits: &mut Bitstream<'_>,
+    size: Size,
+    channels: usize,
+) -> Result<Option<MaConfig<D>>, FileError>
+    requires start { position_of bits.old ≡ 0 }
+    ensures ok { IfOk result (λ tree. SharedTree D.meaning size channels (bytes_of bits.old) tree
+        (position_of bits.new)) }
+    ensures err { IfErr result (StartFails D.meaning size channels (bytes_of bits.old)) }
+    ensures bytes { bytes_of bits.new ≡ bytes_of bits.old }
+{
+    match section_start(bits) {
+        Ok(there) => {
+            if !there {
+                return Ok(None);
+            }
+        }
+        Err(error) => return Err(FileError::Start(Error::Bitstream(error))),
+    }
+    let params = MaConfigParams {
+        node_limit: tree_limit(size, channels as u64),
+        depth_limit: 2048,
+    };
+    match MaConfig::parse(alloc, bits, params) {
+        Ok(tree) => Ok(Some(tree)),
+        Err(error) => Err(FileError::Tree(error)),
+    }
+}
