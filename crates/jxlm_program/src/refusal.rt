@@ -1,5 +1,7 @@
 //! Why nothing is made of an input.
 
+ghost use Rattle.std.specs.Prelude.{◌≡◌};
+
 use jxlm_base::error::Error;
 use jxlm_encode::encode::EncodeError;
 use jxlm_text::reading::TextError;
