@@ -19,6 +19,13 @@ pub mod decoder {
     pub use jxlm_base::decoder::{Decoder, DecoderError, RleToken};
 }
 
+/// A lossless encoder.
+pub mod encode {
+    pub use jxlm_encode::encode::{
+        EncodeError, EncodeNode, EncodeTransform, SqueezeStep, encode, token_of,
+    };
+}
+
 /// Errors.
 pub mod error {
     pub use jxlm_base::error::{Error, Result};

@@ -5,6 +5,9 @@
 //! kind `broken`. The output takes as many bytes as the number says that comes first in a row of the kind `room`, and in
 //! one of the kind `stuck` it cannot pass them on, either.
 //!
+//! `text ARGUMENTS | TEXT -> STATUS | BYTES | ERRORS` is the same of a text, whose lines end with a slash, too; what is
+//! written on standard output is hexadecimal.
+//!
 //! `report FAILURE ROOM -> STATUS | ERRORS` is what is said of a failure where standard error takes so many bytes.
 
 use crate::streams::{BrokenReader, SmallWriter};
@@ -12,7 +15,10 @@ use jxlcheck_text::{number, repeated, word};
 use jxlm_base::decoder::DecoderError;
 use jxlm_base::error::Error;
 use jxlm_base::grid::OutOfMemory;
+use jxlm_encode::encode::EncodeError;
+use jxlm_program::refusal::Refusal;
 use jxlm_program::run::{Failure, report, run};
+use jxlm_text::reading::TextError;
 use std::alloc::Global;
 use std::io::{Read, Write};
 
@@ -28,13 +34,19 @@ impl Command {
     fn parse(alloc: Global, asked: &str) -> Option<Command> {
         let (line, bytes) = asked.rsplit_once('|')?;
         let line = line.strip_suffix(' ').unwrap_or(line);
-        let mut words = Vec::new(alloc);
-        for word in line.split(' ') {
-            words.push(String::from_str(alloc, word).ok()?).ok()?;
-        }
+        let words = words_in(alloc, line)?;
         let bytes = repeated(alloc, bytes)?;
         Some(Command { words, bytes })
     }
+}
+
+/// The words of a line.
+fn words_in(alloc: Global, line: &str) -> Option<Vec<String>> {
+    let mut words = Vec::new(alloc);
+    for word in line.split(' ') {
+        words.push(String::from_str(alloc, word).ok()?).ok()?;
+    }
+    Some(words)
 }
 
 /// Adds what was written, with a slash for each end of a line.
@@ -76,6 +88,27 @@ pub fn seen(alloc: Global, asked: &str) -> Option<String> {
     written(alloc, status, &output, &errors)
 }
 
+/// What it does with a text, and the bytes that it writes.
+pub fn seen_of_text(alloc: Global, asked: &str) -> Option<String> {
+    let (words, lines) = asked.split_once(" | ")?;
+    let words = words_in(alloc, words)?;
+    let mut text = Vec::new(alloc);
+    for byte in lines.bytes() {
+        text.push(if byte == b'/' { b'\n' } else { byte }).ok()?;
+    }
+    let mut input = text.as_slice();
+    let mut output = Vec::new(alloc);
+    let (status, errors) = ended(alloc, &words, &mut input, &mut output);
+    let mut seen = String::new(alloc);
+    write!(seen, "{status} | ").ok()?;
+    for byte in &output {
+        write!(seen, "{byte:02x}").ok()?;
+    }
+    write!(seen, " | ").ok()?;
+    add_lines(&mut seen, &errors)?;
+    Some(seen)
+}
+
 /// What it does where the input fails after its bytes.
 pub fn seen_of_broken_input(alloc: Global, asked: &str) -> Option<String> {
     let command = Command::parse(alloc, asked)?;
@@ -101,14 +134,21 @@ pub fn seen_of_full_output(alloc: Global, asked: &str, flushes: bool) -> Option<
     written(alloc, status, &output.taken, &errors)
 }
 
+/// The failure of an image that has this error.
+fn image_failure(error: Error) -> Option<Failure> {
+    Some(Failure::Refused(Refusal::Image(error)))
+}
+
 /// The failure of this name.
 fn failure(name: &str) -> Option<Failure> {
     match name {
         "wrong" => Some(Failure::WrongArguments),
         "unreadable" => Some(Failure::Unreadable),
         "unwritable" => Some(Failure::Unwritable),
-        "memory" => Some(Failure::Image(Error::Buffer(OutOfMemory))),
-        "memory_of_decoder" => Some(Failure::Image(Error::Decoder(DecoderError::OutOfMemory))),
+        "memory" => image_failure(Error::Buffer(OutOfMemory)),
+        "memory_of_decoder" => image_failure(Error::Decoder(DecoderError::OutOfMemory)),
+        "memory_of_text" => Some(Failure::Refused(Refusal::Text(TextError::OutOfMemory))),
+        "memory_of_encoder" => Some(Failure::Refused(Refusal::Encoder(EncodeError::OutOfMemory))),
         _ => None,
     }
 }

@@ -15,6 +15,7 @@ use std::io;
 fn seen(alloc: Global, row: &Row<'_>) -> Option<String> {
     match row.kind {
         "run" => command::seen(alloc, row.asked),
+        "text" => command::seen_of_text(alloc, row.asked),
         "broken" => command::seen_of_broken_input(alloc, row.asked),
         "room" => command::seen_of_full_output(alloc, row.asked, true),
         "stuck" => command::seen_of_full_output(alloc, row.asked, false),

@@ -5,7 +5,7 @@ use crate::command::add_lines;
 use jxlcheck_text::{numbers, signed, word};
 use jxlm_base::grid::AlignedGrid;
 use jxlm_base::sample::Sample;
-use jxlm_program::printing::print_image;
+use jxlm_text::printing::print_image;
 use std::alloc::Global;
 
 /// The grid of a channel.

@@ -3,7 +3,7 @@ use Rattle.std.proofs.Common.{◌≡◌, ℕ, List, get_or, refl, sym, ap, ◌�
 use Rattle.jxlm_program.specs.declared.arguments.Samples.{Samples}
 use Rattle.jxlm_program.specs.declared.arguments.Samples.TheVariants.{I16, I32}
 use Rattle.jxlm_program.specs.declared.arguments.Command.{Command}
-use Rattle.jxlm_program.specs.declared.arguments.Command.TheVariants.{Decode, Sections}
+use Rattle.jxlm_program.specs.declared.arguments.Command.TheVariants.{Decode, Sections, Encode}
 use Rattle.jxlm_program.specs.Arguments.{AreFor, NamePicture, samples_word}
 
 samples_word-one : (s t : Samples) → samples_word s ≡ samples_word t → s ≡ t
@@ -39,3 +39,10 @@ AreFor-one words (Sections w h n b s g) (Sections w' h' n' b' s' g') p q =
     cc
 AreFor-one words (Decode w h n b s) (Sections w' h' n' b' s' g') p q = absurd (omega (arith, p.0.count, q.0.count))
 AreFor-one words (Sections w h n b s g) (Decode w' h' n' b' s') p q = absurd (omega (arith, p.0.count, q.0.count))
+AreFor-one words (Encode s) (Encode s') p q =
+    let same : s ≡ s' = samples_word-one s s' (sym p.0.typed ∙ q.0.typed) in
+    cc
+AreFor-one words (Encode s) (Decode w h n b s') p q = absurd (omega (arith, p.0.count, q.0.count))
+AreFor-one words (Encode s) (Sections w h n b s' g) p q = absurd (omega (arith, p.0.count, q.0.count))
+AreFor-one words (Decode w h n b s) (Encode s') p q = absurd (omega (arith, p.0.count, q.0.count))
+AreFor-one words (Sections w h n b s g) (Encode s') p q = absurd (omega (arith, p.0.count, q.0.count))

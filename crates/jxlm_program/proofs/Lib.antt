@@ -1,4 +1,4 @@
 pub mod ArgumentLemmas
-pub mod TextLemmas
+pub mod Encodings
 pub mod Pictures
 pub mod WordLemmas

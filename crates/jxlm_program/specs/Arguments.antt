@@ -5,7 +5,7 @@ use Rattle.jxlm_program.specs.Decimals.{Writes}
 use Rattle.jxlm_program.specs.declared.arguments.Samples.{Samples}
 use Rattle.jxlm_program.specs.declared.arguments.Samples.TheVariants.{I16, I32}
 use Rattle.jxlm_program.specs.declared.arguments.Command.{Command}
-use Rattle.jxlm_program.specs.declared.arguments.Command.TheVariants.{Decode, Sections}
+use Rattle.jxlm_program.specs.declared.arguments.Command.TheVariants.{Decode, Sections, Encode}
 
 -- the word for a type of samples
 abbrev pub samples_word : Samples → List ℕ
@@ -37,16 +37,24 @@ pub record AsksSections (words : List (List ℕ)) (width height channels bit_dep
   pub picture : NamePicture words width height channels bit_depth samples
   pub side : Writes (slice_index_or words 6 []) group_dim
 
--- how many channels the command asks for
-abbrev pub channels_of : Command → ℕ
-channels_of (Decode width height channels bit_depth samples) = channels
-channels_of (Sections width height channels bit_depth samples group_dim) = channels
+-- `encode i16|i32`
+pub record AsksEncode (words : List (List ℕ)) (samples : Samples) : Type 0 where
+  pub count : length words ≡ 2
+  pub named : slice_index_or words 0 [] ≡ codes "encode"
+  pub typed : slice_index_or words 1 [] ≡ samples_word samples
+
+-- an image of no channels is asked for
+abbrev pub IsIdle : Command → Type 0
+IsIdle (Decode width height channels bit_depth samples) = channels ≡ 0
+IsIdle (Sections width height channels bit_depth samples group_dim) = channels ≡ 0
+IsIdle (Encode samples) = ⊥
 
 -- the words ask for the command
 abbrev pub Asks : List (List ℕ) → Command → Type 0
 Asks words (Decode width height channels bit_depth samples) = AsksDecode words width height channels bit_depth samples
 Asks words (Sections width height channels bit_depth samples group_dim) =
     AsksSections words width height channels bit_depth samples group_dim
+Asks words (Encode samples) = AsksEncode words samples
 
 -- they ask for no such command, whatever its numbers and its type
 abbrev pub AskForNoDecode : List (List ℕ) → Type 0
@@ -54,6 +62,9 @@ AskForNoDecode words = (w h n b : ℕ) (s : Samples) → ¬ (AsksDecode words w 
 
 abbrev pub AskForNoSections : List (List ℕ) → Type 0
 AskForNoSections words = (w h n b : ℕ) (s : Samples) (g : ℕ) → ¬ (AsksSections words w h n b s g)
+
+abbrev pub AskForNoEncode : List (List ℕ) → Type 0
+AskForNoEncode words = (s : Samples) → ¬ (AsksEncode words s)
 
 -- the library takes a picture of these numbers: the sides matter where there is a channel
 abbrev pub ArePossible : ℕ → ℕ → ℕ → ℕ → Type 0
@@ -65,6 +76,7 @@ abbrev pub IsWithinLimits : Command → Type 0
 IsWithinLimits (Decode width height channels bit_depth samples) = ArePossible width height channels bit_depth
 IsWithinLimits (Sections width height channels bit_depth samples group_dim) =
     IsGroupDim group_dim × ArePossible width height channels bit_depth
+IsWithinLimits (Encode samples) = Unit {0}
 
 -- the words ask for the command, and it is within the limits
 abbrev pub AreFor : List (List ℕ) → Command → Type 0

@@ -1,6 +1,6 @@
 pub mod Arguments
 pub mod Decimals
-pub mod Printing
+pub mod Encoding
 pub mod Printed
 pub mod Reading
 pub mod Run

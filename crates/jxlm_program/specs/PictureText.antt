@@ -1,4 +1,4 @@
--- What the program prints for the bytes of its input.
+-- What the program writes for the bytes of its input.
 use Rattle.std.specs.Prelude.{ℕ, ◌≡◌, ℤ, pos, List, None, replicate}
 use Rattle.std.specs.Int.{Width, w16, w32}
 use Rattle.jxlm_base.specs.Grid.{Grid}
@@ -7,9 +7,10 @@ use Rattle.jxlm_transform.specs.Channels.{ChannelList}
 use Rattle.jxlm_transform.specs.declared.param.ChannelShift.TheVariants.{Shifts}
 use Rattle.jxl_modular.specs.Picture.{IsPicture}
 use Rattle.jxlm_sections.specs.CutPicture.{IsCutPicture}
-use Rattle.jxlm_program.specs.Printing.{image_text}
+use Rattle.jxlm_text.specs.Printing.{image_text}
+use Rattle.jxlm_program.specs.Encoding.{IsEncodedText}
 use Rattle.jxlm_program.specs.declared.arguments.Command.{Command}
-use Rattle.jxlm_program.specs.declared.arguments.Command.TheVariants.{Decode, Sections}
+use Rattle.jxlm_program.specs.declared.arguments.Command.TheVariants.{Decode, Sections, Encode}
 use Rattle.jxlm_program.specs.declared.arguments.Samples.{Samples}
 use Rattle.jxlm_program.specs.declared.arguments.Samples.TheVariants.{I16, I32}
 
@@ -38,8 +39,9 @@ pub record IsCutPictureText {S : Type 0} (w : Width) (to_int : S → ℤ) (zero 
   pub picture : IsCutPicture plain w to_int zero given group_dim bit_depth bytes grids
   pub printed : text ≡ image_text grids
 
--- the text for the bytes and a command
+-- what is written for the bytes and a command
 abbrev pub Prints : List ℕ → Command → List ℕ → Type 0
 Prints bytes (Decode width height channels bit_depth samples) text = IsPictureText (width_of samples) width height channels bytes bit_depth text
 Prints bytes (Sections width height channels bit_depth samples group_dim) text =
     IsCutPictureText (width_of samples) (λ v. v) (pos 0) (channels_asked width height channels) group_dim bit_depth bytes text
+Prints bytes (Encode samples) made = IsEncodedText (width_of samples) bytes made

@@ -1,4 +1,4 @@
--- What the program's printer returns for the bytes of its input.
+-- What is made of the bytes of the program's input.
 use Rattle.std.specs.Prelude.{ℕ, ℤ, pos, List, None, false, Result, Ok, Err}
 use Rattle.std.specs.Int.{Width}
 use Rattle.jxlm_base.specs.ErrorKind.{UnlessMemory, kind_of}
@@ -9,7 +9,10 @@ use Rattle.jxl_modular.specs.Picture.{PictureFails}
 use Rattle.jxlm_sections.specs.CutErrors.{CutPictureFails}
 use Rattle.jxlm_program.specs.PictureText.{Prints, channels_asked, width_of}
 use Rattle.jxlm_program.specs.declared.arguments.Command.{Command}
-use Rattle.jxlm_program.specs.declared.arguments.Command.TheVariants.{Decode, Sections}
+use Rattle.jxlm_program.specs.declared.arguments.Command.TheVariants.{Decode, Sections, Encode}
+use Rattle.jxlm_program.specs.declared.refusal.Refusal.{Refusal}
+use Rattle.jxlm_program.specs.declared.refusal.Refusal.TheVariants.{Image, Text, Encoder}
+use Rattle.jxlm_program.specs.Encoding.{EncodingFails}
 
 -- there is no picture at the start of the bytes, by this error, or it was out of memory
 pub record IsPictureError (w : Width) (width height channels : ℕ) (bytes : List ℕ) (error : Error) : Type 0 where
@@ -22,13 +25,20 @@ abbrev pub IsCutPictureError : {S : Type 0} → Width → (S → ℤ) → S → 
 IsCutPictureError w to_int zero given group_dim bit_depth bytes error =
     UnlessMemory (kind_of error) (CutPictureFails plain w to_int zero given group_dim bit_depth bytes false (kind_of error))
 
--- there is no text for the bytes and a command, by this error
-abbrev pub FailsToPrint : List ℕ → Command → Error → Type 0
-FailsToPrint bytes (Decode width height channels bit_depth samples) error = IsPictureError (width_of samples) width height channels bytes error
-FailsToPrint bytes (Sections width height channels bit_depth samples group_dim) error =
-    IsCutPictureError (width_of samples) (λ v. v) (pos 0) (channels_asked width height channels) group_dim bit_depth bytes error
+-- the refusal is that of an image, by an error that this holds of
+abbrev pub IsOfImage : (Error → Type 0) → Refusal → Type 0
+IsOfImage holds (Image error) = holds error
+IsOfImage holds (Text error) = ⊥
+IsOfImage holds (Encoder error) = ⊥
+
+-- there is nothing to write for the bytes and a command, by this error
+abbrev pub FailsToPrint : List ℕ → Command → Refusal → Type 0
+FailsToPrint bytes (Decode width height channels bit_depth samples) refusal = IsOfImage (IsPictureError (width_of samples) width height channels bytes) refusal
+FailsToPrint bytes (Sections width height channels bit_depth samples group_dim) refusal =
+    IsOfImage (IsCutPictureError (width_of samples) (λ v. v) (pos 0) (channels_asked width height channels) group_dim bit_depth bytes) refusal
+FailsToPrint bytes (Encode samples) refusal = EncodingFails (width_of samples) bytes refusal
 
 -- what is returned for the bytes and a command
-abbrev pub PrintGives : List ℕ → Command → Result (List ℕ) Error → Type 0
-PrintGives bytes command (Ok text) = Prints bytes command text
-PrintGives bytes command (Err error) = FailsToPrint bytes command error
+abbrev pub PrintGives : List ℕ → Command → Result (List ℕ) Refusal → Type 0
+PrintGives bytes command (Ok made) = Prints bytes command made
+PrintGives bytes command (Err refusal) = FailsToPrint bytes command refusal

@@ -6,8 +6,8 @@ ghost use Rattle.jxlm_program.specs.Arguments.{ArePossible};
 ghost use Rattle.jxlm_program.specs.Decimals.{IsDecimal, IsOfDigits, decimal_value};
 
 /// What is printed for wrong arguments.
-pub const USAGE: &str =
-    "usage: jxlmod decode W H N BITS i16|i32 | jxlmod sections W H N BITS i16|i32 GROUP_DIM";
+pub const USAGE: &str = "usage: jxlmod decode W H N BITS i16|i32 | \
+    jxlmod sections W H N BITS i16|i32 GROUP_DIM | jxlmod encode i16|i32";
 
 /// The type of an image's samples.
 #[derive(Clone, Copy, Debug, PartialEq, Eq)]
@@ -98,17 +98,23 @@ pub enum Command {
         /// The side of a group.
         group_dim: u32,
     },
+    /// Encode the image whose text is read.
+    Encode {
+        /// What the samples are read as.
+        samples: Samples,
+    },
 }
 
 impl Command {
-    ghost use Rattle.jxlm_program.specs.Arguments.{AreFor, AreWrong, Asks, AskForNoDecode, AskForNoSections, IsWithinLimits, channels_of};
+    ghost use Rattle.jxlm_program.specs.Arguments.{AreFor, AreWrong, Asks, AskForNoDecode, AskForNoEncode, AskForNoSections, IsIdle, IsWithinLimits};
 
-    /// How many channels are asked for.
-    pub fn channels(&self) -> u32
-        ensures { result ≡ channels_of self.now }
+    /// Whether there is nothing to do, and nothing to read: an image of no channels is asked for.
+    pub fn is_idle(&self) -> bool
+        ensures { IsTrue result ↔ IsIdle self.now }
     {
         match *self {
-            Command::Decode { channels, .. } | Command::Sections { channels, .. } => channels,
+            Command::Decode { channels, .. } | Command::Sections { channels, .. } => channels == 0,
+            Command::Encode { .. } => false,
         }
     }
 
@@ -134,6 +140,7 @@ impl Command {
                 group_dim,
                 ..
             } => is_group_dim(group_dim) && are_possible(width, height, channels, bit_depth),
+            Command::Encode { .. } => true,
         }
     }
 
@@ -177,15 +184,30 @@ impl Command {
         })
     }
 
+    /// What the words `encode i16|i32` ask for.
+    fn encode(words: &[String]) -> Option<Command>
+        ensures { MatchOption result (AskForNoEncode (map string_bytes words.now)) (Asks (map string_bytes words.now)) }
+    {
+        let [name, samples] = words else {
+            return None;
+        };
+        if name.as_str() != "encode" {
+            return None;
+        }
+        Some(Command::Encode {
+            samples: Samples::parse(samples.as_str())?,
+        })
+    }
+
     /// The command that the words ask for, without the program's name. It is within the limits.
     pub fn parse(words: &[String]) -> Option<Command>
         ensures { MatchOption result (AreWrong (map string_bytes words.now))
             (AreFor (map string_bytes words.now)) }
     {
-        let command = if words.len() == 6 {
-            Command::decode(words)?
-        } else {
-            Command::sections(words)?
+        let command = match words.len() {
+            2 => Command::encode(words)?,
+            6 => Command::decode(words)?,
+            _ => Command::sections(words)?,
         };
         if command.is_within_limits() {
             Some(command)

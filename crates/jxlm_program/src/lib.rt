@@ -1,8 +1,10 @@
-//! What a program that prints Modular images is made of: its arguments, the text of a picture, and its run over a reader
-//! and two writers.
+//! What a program that prints and encodes Modular images is made of: its arguments, the text of a picture, the bytes of a
+//! text, and its run over a reader and two writers.
 #![tactic(auto)]
 
 pub mod arguments;
+mod encoding;
 pub mod picture;
-pub mod printing;
+pub mod printer;
+pub mod refusal;
 pub mod run;

@@ -4,11 +4,8 @@ ghost use Rattle.jxlm_transform.specs.Params.{IsGroupDim, sized};
 ghost use Rattle.jxlm_transform.specs.declared.param.ChannelShift.TheVariants.{Shifts};
 ghost use Rattle.jxlm_program.specs.Arguments.{ArePossible};
 ghost use Rattle.jxlm_program.specs.PictureText.{IsCutPictureText, IsPictureText, channels_asked};
-ghost use Rattle.jxlm_program.specs.Printed.{IsCutPictureError, IsPictureError, PrintGives};
+ghost use Rattle.jxlm_program.specs.Printed.{IsCutPictureError, IsPictureError};
 
-use crate::arguments::{Command, Samples};
-use crate::printing::print_image;
-use crate::run::Print;
 use jxl_modular::decode_picture;
 use jxlm_base::bits::Bitstream;
 use jxlm_base::error::Error;
@@ -17,58 +14,12 @@ use jxlm_base::sample::Sample;
 use jxlm_ma::flat::Steps;
 use jxlm_plain::plain::PlainDecoder;
 use jxlm_sections::decode_cut_picture;
+use jxlm_text::printing::print_image;
 use jxlm_transform::param::{ModularChannelParams, ModularParams};
 use std::alloc::Global;
 
 /// The side of a group of the pictures that are printed.
 const GROUP_DIM: u32 = 256;
-
-/// Makes the text of the picture that stands at the start of the bytes, in the format of the plain decoder: a header
-/// and the samples of one part, or a row of sections.
-#[derive(Clone, Copy)]
-pub struct PartPrinter;
-
-impl Print for PartPrinter {
-    ghost may_return = { PrintGives };
-
-    fn print(&self, alloc: Global, bytes: &[u8], command: Command) -> Result<String, Error> {
-        match command {
-            Command::Decode {
-                width,
-                height,
-                channels,
-                bit_depth,
-                samples,
-            } => match samples {
-                Samples::I16 => {
-                    picture_text::<i16>(alloc, bytes, width, height, channels, bit_depth)
-                }
-                Samples::I32 => {
-                    picture_text::<i32>(alloc, bytes, width, height, channels, bit_depth)
-                }
-            },
-            Command::Sections {
-                width,
-                height,
-                channels,
-                bit_depth,
-                samples,
-                group_dim,
-            } => match samples {
-                Samples::I16 => {
-                    cut_picture_text::<i16>(
-                        alloc, bytes, width, height, channels, bit_depth, group_dim,
-                    )
-                }
-                Samples::I32 => {
-                    cut_picture_text::<i32>(
-                        alloc, bytes, width, height, channels, bit_depth, group_dim,
-                    )
-                }
-            },
-        }
-    }
-}
 
 /// `count` channels of these sides and of shift 0.
 fn channel_list(
@@ -84,7 +35,7 @@ fn channel_list(
 }
 
 /// The text of the picture of `channels` channels of these sides.
-fn picture_text<S: Sample>(
+pub(crate) fn picture_text<S: Sample>(
     alloc: Global,
     bytes: &[u8],
     width: u32,
@@ -112,7 +63,7 @@ fn picture_text<S: Sample>(
 }
 
 /// The text of the picture of `channels` channels of these sides that is cut into sections, with groups of this side.
-fn cut_picture_text<S: Sample>(
+pub(crate) fn cut_picture_text<S: Sample>(
     alloc: Global,
     bytes: &[u8],
     width: u32,

@@ -1,18 +1,18 @@
 //! The program over a reader and two writers.
-ghost use Rattle.std.specs.Prelude.{◌≡◌, ◌≢◌, ℕ, ◌<◌, ◌≤◌, ◌↔◌, ◌⊎◌, List, map, drop, Result, Ok, Err, MatchResult, string_bytes, IfOk, IfErr, IsOk, IsOkAnd, IsErrAnd, IsErrOf, IsOkUnless, OnOk};
+ghost use Rattle.std.specs.Prelude.{◌≡◌, ◌≢◌, ℕ, ◌≤◌, ◌↔◌, ◌⊎◌, List, map, drop, Result, Ok, Err, MatchResult, string_bytes, IfOk, IfErr, IsOk, IsOkAnd, IsErrAnd, IsErrOf, IsOkUnless, OnOk};
 ghost use Rattle.std.specs.Io.KnownBytes.{Appends};
 ghost use Rattle.std.specs.IoError.{error_kind};
 ghost use Rattle.std.specs.Vec.Iter.{into_iter_items};
-ghost use Rattle.jxlm_base.specs.declared.error.Error.{Error};
+ghost use Rattle.jxlm_program.specs.declared.refusal.Refusal.{Refusal};
 ghost use Rattle.jxlm_program.specs.declared.arguments.Command.{Command};
-ghost use Rattle.jxlm_program.specs.Arguments.{AreFor, AreWrong, IsWithinLimits, channels_of};
+ghost use Rattle.jxlm_program.specs.Arguments.{AreFor, AreWrong, IsIdle, IsWithinLimits};
 ghost use Rattle.jxlm_program.specs.PictureText.{Prints};
 ghost use Rattle.jxlm_program.specs.Run.{IsPrinted, IsPartlyRead, status_of};
 ghost use Rattle.jxlm_program.specs.Reading.{IsReadWhole};
 
 use crate::arguments::{Command, USAGE};
-use crate::picture::PartPrinter;
-use jxlm_base::error::Error;
+use crate::printer::PartPrinter;
+use crate::refusal::Refusal;
 use std::alloc::{AllocError, Global};
 use std::env::Args;
 use std::io;
@@ -25,41 +25,41 @@ pub enum Failure {
     WrongArguments,
     /// The input cannot be read, or it is out of memory for it.
     Unreadable,
-    /// The image gives this error.
-    Image(Error),
+    /// Nothing can be made of the input, by this error.
+    Refused(Refusal),
     /// The output cannot be written.
     Unwritable,
 }
 
-impl From<Error> for Failure {
-    ghost use Rattle.jxlm_program.specs.declared.run.Failure.TheVariants.{Image};
+impl From<Refusal> for Failure {
+    ghost use Rattle.jxlm_program.specs.declared.run.Failure.TheVariants.{Refused};
 
-    ghost from_gives = { λ error failure. failure ≡ Image error };
+    ghost from_gives = { λ refusal failure. failure ≡ Refused refusal };
 
-    fn from(error: Error) -> Failure {
-        Failure::Image(error)
+    fn from(refusal: Refusal) -> Failure {
+        Failure::Refused(refusal)
     }
 }
 
-/// What makes the text of an image from the bytes of the input.
+/// What makes the output of the bytes of the input.
 pub trait Print {
-    // what may be returned for the bytes and the command: a text or an error
-    ghost may_return: { List ℕ → Command → Result (List ℕ) Error → Type 0 };
+    // what may be returned for the bytes and the command: the bytes to write, or an error
+    ghost may_return: { List ℕ → Command → Result (List ℕ) Refusal → Type 0 };
 
-    /// The text of the image that the command asks for, which has a channel.
-    fn print(&self, alloc: Global, bytes: &[u8], command: Command) -> Result<String, Error>
+    /// What is to be written for a command that is not idle.
+    fn print(&self, alloc: Global, bytes: &[u8], command: Command) -> Result<Vec<u8>, Refusal>
         requires within { IsWithinLimits command }
-        requires some { 0 < channels_of command }
+        requires busy { ¬ (IsIdle command) }
         ensures { MatchResult result
-            (λ text. may_return bytes.now command (Ok (string_bytes text)))
-            (λ error. may_return bytes.now command (Err error)) };
+            (λ made. may_return bytes.now command (Ok made.items))
+            (λ refusal. may_return bytes.now command (Err refusal)) };
 }
 
 /// Carries out what the words ask for, which are the arguments without the program's name, and
 /// returns the status to end with: 0 where it is done, 1 where it fails, and 2 where the words are
-/// wrong, and then nothing is read. The printer makes the text of the image from the bytes of the
-/// input. The output gets that text alone and `errors` a line on what failed, each as far as it can
-/// be written. An image of no channels is nothing: no stream is touched.
+/// wrong, and then nothing is read. The printer makes what is written from the bytes of the input. The
+/// output gets that alone and `errors` a line on what failed, each as far as it can be written. An image
+/// of no channels is nothing: no stream is touched.
 pub fn run_with<R: Read, W: Write, E: Write, P: Print>(
     alloc: Global,
     words: &[String],
@@ -74,17 +74,17 @@ pub fn run_with<R: Read, W: Write, E: Write, P: Print>(
     ensures wrong { (result ≡ 2) ↔ AreWrong (map string_bytes words.now) }
     ensures unread { result ≡ 2 → (input.new ≡ input.old) × (output.new ≡ output.old) }
 
-    // No channels: nothing is done.
-    ensures nothing { (c : Command) → AreFor (map string_bytes words.now) c → channels_of c ≡ 0
+    // An idle command: nothing is done.
+    ensures nothing { (c : Command) → AreFor (map string_bytes words.now) c → IsIdle c
         → (result ≡ 0) × (input.new ≡ input.old) × (output.new ≡ output.old) × (errors.new ≡ errors.old) }
 
-    // Done: the output has the text that was made of all the input, and no error is printed.
-    ensures done { result ≡ 0 → (c : Command) → AreFor (map string_bytes words.now) c → 0 < channels_of c
-        → IsPrinted (λ bytes text. P.may_return bytes c (Ok text))
+    // Done: the output has what was made of all the input, and no error is printed.
+    ensures done { result ≡ 0 → (c : Command) → AreFor (map string_bytes words.now) c → ¬ (IsIdle c)
+        → IsPrinted (λ bytes made. P.may_return bytes c (Ok made))
         (R.remaining input.old) (R.remaining input.new) (W.contents output.old) (W.contents output.new) }
     ensures quiet { result ≡ 0 → errors.new ≡ errors.old }
 
-    // An error, for a command with channels alone: it is printed, and the output stays; or the output cannot be
+    // An error, for a command that is not idle alone: it is printed, and the output stays; or the output cannot be
     // written, and nothing is printed. Of the input nothing is lost.
     ensures failed { result ≡ 1 → (output.new ≡ output.old) ⊎ (errors.new ≡ errors.old) }
     ensures asked { result ≡ 1
@@ -99,7 +99,8 @@ pub fn run_with<R: Read, W: Write, E: Write, P: Print>(
 /// Carries out what the words ask for, as `run_with` does: `decode W H N BITS i16|i32` reads a picture
 /// of `N` channels of `W` by `H` samples from the input, in one part and in the format of the plain
 /// decoder, and prints its samples; `sections W H N BITS i16|i32 GROUP_DIM` reads one that is cut into
-/// sections, with groups of the side `GROUP_DIM`.
+/// sections, with groups of the side `GROUP_DIM`; `encode i16|i32` reads an image as these print it, and
+/// writes the bytes that it has with no transform and one leaf, which predicts by `Gradient`.
 pub fn run<R: Read, W: Write, E: Write>(
     alloc: Global,
     words: &[String],
@@ -110,10 +111,10 @@ pub fn run<R: Read, W: Write, E: Write>(
     ensures status { result ≤ 2 }
     ensures wrong { (result ≡ 2) ↔ AreWrong (map string_bytes words.now) }
     ensures unread { result ≡ 2 → (input.new ≡ input.old) × (output.new ≡ output.old) }
-    ensures nothing { (c : Command) → AreFor (map string_bytes words.now) c → channels_of c ≡ 0
+    ensures nothing { (c : Command) → AreFor (map string_bytes words.now) c → IsIdle c
         → (result ≡ 0) × (input.new ≡ input.old) × (output.new ≡ output.old) × (errors.new ≡ errors.old) }
-    ensures done { result ≡ 0 → (c : Command) → AreFor (map string_bytes words.now) c → 0 < channels_of c
-        → IsPrinted (λ bytes text. Prints bytes c text)
+    ensures done { result ≡ 0 → (c : Command) → AreFor (map string_bytes words.now) c → ¬ (IsIdle c)
+        → IsPrinted (λ bytes made. Prints bytes c made)
         (R.remaining input.old) (R.remaining input.new) (W.contents output.old) (W.contents output.new) }
     ensures quiet { result ≡ 0 → errors.new ≡ errors.old }
     ensures failed { result ≡ 1 → (output.new ≡ output.old) ⊎ (errors.new ≡ errors.old) }
@@ -127,9 +128,9 @@ pub fn run<R: Read, W: Write, E: Write>(
 ///
 /// # Errors
 ///
-/// `WrongArguments` comes before the input is read. `Unreadable` shows only for a command with
-/// channels. `Image` is the error that the printer returns for all the bytes of the input, and the
-/// output stays then; `Unwritable` shows only when a text was made.
+/// `WrongArguments` comes before the input is read. `Unreadable` shows only for a command that
+/// is not idle. `Refused` has the error that the printer returns for all the bytes of the input, and the
+/// output stays then; `Unwritable` shows only when there was something to write.
 pub fn carry_out<R: Read, W: Write, P: Print>(
     alloc: Global,
     words: &[String],
@@ -142,37 +143,37 @@ pub fn carry_out<R: Read, W: Write, P: Print>(
     ensures kept { IfErr result (λ failure. failure ≢ Failure.Unwritable → output.new ≡ output.old) }
     ensures asked { IfErr result (λ failure. failure ≢ Failure.WrongArguments
         → IsPartlyRead (AreFor (map string_bytes words.now)) (R.remaining input.old) (R.remaining input.new)) }
-    ensures nothing { (c : Command) → AreFor (map string_bytes words.now) c → channels_of c ≡ 0
+    ensures nothing { (c : Command) → AreFor (map string_bytes words.now) c → IsIdle c
         → IsOk result × (input.new ≡ input.old) × (output.new ≡ output.old) }
-    ensures done { OnOk result ((c : Command) → AreFor (map string_bytes words.now) c → 0 < channels_of c
-        → IsPrinted (λ bytes text. P.may_return bytes c (Ok text))
+    ensures done { OnOk result ((c : Command) → AreFor (map string_bytes words.now) c → ¬ (IsIdle c)
+        → IsPrinted (λ bytes made. P.may_return bytes c (Ok made))
         (R.remaining input.old) (R.remaining input.new) (W.contents output.old) (W.contents output.new)) }
-    ensures failed { IfErr result (λ failure. (e : Error) → failure ≡ Failure.Image e
+    ensures failed { IfErr result (λ failure. (e : Refusal) → failure ≡ Failure.Refused e
         → IsReadWhole (λ c bytes. AreFor (map string_bytes words.now) c × P.may_return bytes c (Err e))
         (R.remaining input.old) (R.remaining input.new)) }
     ensures unwritten { IfErr result (λ failure. failure ≡ Failure.Unwritable → IsReadWhole (λ c bytes.
-        AreFor (map string_bytes words.now) c × ((text : List ℕ) × P.may_return bytes c (Ok text)))
+        AreFor (map string_bytes words.now) c × ((made : List ℕ) × P.may_return bytes c (Ok made)))
         (R.remaining input.old) (R.remaining input.new)) }
 {
     let Some(command) = Command::parse(words) else {
         return Err(Failure::WrongArguments);
     };
-    if command.channels() == 0 {
+    if command.is_idle() {
         return Ok(());
     }
     let mut bytes = Vec::new(alloc);
     if input.read_to_end(&mut bytes).is_err() {
         return Err(Failure::Unreadable);
     }
-    let text = printer.print(alloc, &bytes, command)?;
-    write_text(output, text.as_str())
+    let made = printer.print(alloc, &bytes, command)?;
+    write_bytes(output, &made)
 }
 
-fn write_text<W: Write>(output: &mut W, text: &str) -> Result<(), Failure>
-    ensures ok { OnOk result (Appends (W.contents output.old) (W.contents output.new) text.now) }
+fn write_bytes<W: Write>(output: &mut W, bytes: &[u8]) -> Result<(), Failure>
+    ensures ok { OnOk result (Appends (W.contents output.old) (W.contents output.new) bytes.now) }
     ensures err { IsOkUnless result Failure.Unwritable }
 {
-    if output.write_all(text.as_bytes()).is_err() || output.flush().is_err() {
+    if output.write_all(bytes).is_err() || output.flush().is_err() {
         return Err(Failure::Unwritable);
     }
     Ok(())
@@ -187,7 +188,7 @@ pub fn report<E: Write>(errors: &mut E, failure: Failure) -> u8
     let _ = match failure {
         Failure::WrongArguments => writeln!(errors, "{USAGE}"),
         Failure::Unreadable => writeln!(errors, "error: cannot read standard input"),
-        Failure::Image(error) => writeln!(errors, "error: {error}"),
+        Failure::Refused(refusal) => writeln!(errors, "error: {refusal}"),
         Failure::Unwritable => Ok(()),
     };
     match failure {

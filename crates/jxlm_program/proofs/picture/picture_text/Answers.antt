@@ -6,7 +6,7 @@ use Rattle.jxlm_base.specs.Bits.{bytes_of, position_of}
 use Rattle.jxlm_base.specs.Grid.{meanings}
 use Rattle.jxlm_transform.specs.Channels.{image_list}
 use Rattle.jxl_modular.specs.Image.{image_grids}
-use Rattle.jxlm_program.specs.Printing.{image_text}
+use Rattle.jxlm_text.specs.Printing.{image_text}
 use Rattle.jxlm_program.proofs.Pictures.{valid_params, asked, at_start, error_at_start, out_of_memory}
 use Rattle.jxlm_program.proofs.picture.picture_text.Goals as goal
 

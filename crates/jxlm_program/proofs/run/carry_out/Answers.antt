@@ -10,13 +10,13 @@ use Rattle.jxlm_program.proofs.run.carry_out.Goals as goal
 -- what was made for one command of the words was made for each, since they have one at most
 IsPrinted-each : (prints : Command → List ℕ → List ℕ → Type 0) (words : List (List ℕ)) (c : Command) → AreFor words c → {left rest held holds : Option (List ℕ)} → IsPrinted (prints c) left rest held holds → (d : Command) → AreFor words d → IsPrinted (prints d) left rest held holds
 IsPrinted-each prints words c asked printed d asked_too =
-    let P : Command → Type 0 = λ e. prints e printed.bytes printed.text in
-    record { bytes = printed.bytes; text = printed.text; read = printed.read; ended = printed.ended; printed = subst P (AreFor-one words c d asked asked_too) printed.printed; written = printed.written }
+    let P : Command → Type 0 = λ e. prints e printed.bytes printed.made in
+    record { bytes = printed.bytes; made = printed.made; read = printed.read; ended = printed.ended; printed = subst P (AreFor-one words c d asked asked_too) printed.printed; written = printed.written }
 
 pub returns-clause-done : goal.returns-clause-done
 returns-clause-done g c =
     let at_end : IsAtEnd (g.R.Read.remaining c.read_to_end.new.self) = search rules in
     let read : Consumes (g.R.Read.remaining c.args.input.now) (g.R.Read.remaining c.read_to_end.new.self) c.deref.result.now = search rules in
-    let prints = λ (d : Command) (bytes text : List ℕ). g.P.Print.may_return bytes d (Ok text) in
-    let printed : prints c.in-Some.command c.deref.result.now (string_bytes c.in_ok-text.text) = search rules in
-    on_ok_weaker c.write_text.result (λ wrote d asked _. IsPrinted-each prints (map string_bytes c.args.words.now) c.in-Some.command c.in-Some.ensures (record { bytes = c.deref.result.now; text = string_bytes c.in_ok-text.text; read = read; ended = at_end; printed = printed; written = rw c.as_str.ensures.value at wrote }) d asked) c.write_text.ensures.ok
+    let prints = λ (d : Command) (bytes made : List ℕ). g.P.Print.may_return bytes d (Ok made) in
+    let printed : prints c.in-Some.command c.deref.result.now c.in_ok-made.made.items = search rules in
+    on_ok_weaker c.write_bytes.result (λ wrote d asked _. IsPrinted-each prints (map string_bytes c.args.words.now) c.in-Some.command c.in-Some.ensures (record { bytes = c.deref.result.now; made = c.in_ok-made.made.items; read = read; ended = at_end; printed = printed; written = rw c.deref-2.ensures.value at wrote }) d asked) c.write_bytes.ensures.ok

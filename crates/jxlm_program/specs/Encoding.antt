@@ -1,0 +1,34 @@
+-- What is written for the text of an image.
+use Rattle.std.specs.Prelude.{◌≡◌, ◌≢◌, ℕ, ℤ, pos, List, [], ◌∷◌}
+use Rattle.std.specs.Int.{Width}
+use Rattle.jxlm_base.specs.Grid.{Grid}
+use Rattle.jxlm_encode.specs.Encoded.{IsEncoded, EncodeFails}
+use Rattle.jxlm_program.specs.declared.refusal.Refusal.{Refusal}
+use Rattle.jxlm_program.specs.declared.refusal.Refusal.TheVariants.{Image, Text, Encoder}
+use Rattle.jxlm_text.specs.Reading.{IsTextOf, TextFails}
+use Rattle.jxlm_tree.specs.declared.predictor.Predictor.TheVariants.{Gradient}
+use Rattle.jxlm_write.specs.declared.tree.EncodeNode.{EncodeNode}
+use Rattle.jxlm_write.specs.declared.tree.EncodeNode.TheVariants.{Leaf}
+
+-- one leaf, which predicts by the clamped gradient
+abbrev pub gradient_tree : List EncodeNode
+gradient_tree = Leaf Gradient (pos 0) ∷ []
+
+-- the bytes are those of the image whose text this is, with no transform and this tree; no channels have no bytes
+pub record IsEncodedText (w : Width) (text bytes : List ℕ) : Type 0 where
+  pub image : List (Grid ℤ)
+  pub read : IsTextOf w text image
+  pub none : image ≡ [] → bytes ≡ []
+  pub some : image ≢ [] → IsEncoded [] gradient_tree image w bytes
+
+-- the text is that of an image that is not encoded, by this error
+pub record IsNotEncoded (w : Width) (text : List ℕ) (holds : List (Grid ℤ) → Type 0) : Type 0 where
+  pub image : List (Grid ℤ)
+  pub read : IsTextOf w text image
+  pub fails : holds image
+
+-- there are no bytes for the text, by this error
+abbrev pub EncodingFails : Width → List ℕ → Refusal → Type 0
+EncodingFails w text (Image e) = ⊥
+EncodingFails w text (Text e) = TextFails w text e
+EncodingFails w text (Encoder e) = IsNotEncoded w text (λ image. EncodeFails [] gradient_tree image e)

@@ -1,0 +1,3 @@
+pub mod Printing
+pub mod Reading
+pub mod Inner
