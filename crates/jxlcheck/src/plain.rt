@@ -1,8 +1,7 @@
-//! Plain decoders, by what is asked of them in turn.
+//! Decoders, by what is asked of them in turn.
 
 use jxl_modular::bits::Bitstream;
 use jxl_modular::decoder::{Decoder, DecoderError};
-use jxl_modular::plain::PlainDecoder;
 use jxlcheck_text::{bytes, number, word};
 use std::alloc::{AllocError, Global};
 
@@ -77,26 +76,26 @@ fn skip(bits: &mut Bitstream<'_>, n: u32) {
 }
 
 /// What all words give of the decoder that stands in the bits, or its error.
-fn told(
+fn told<D: Decoder>(
     alloc: Global,
     mut bits: Bitstream<'_>,
     contexts: u32,
     words: &str,
 ) -> Result<String, DecoderError> {
-    let decoder = PlainDecoder::parse(alloc, &mut bits, contexts)?;
+    let decoder = D::parse(alloc, &mut bits, contexts)?;
     answers(alloc, decoder, bits, words)
 }
 
 /// A row asks with how many contexts there are, how many bits come before the decoder, and the bytes; and after a bar
 /// the words. It gives what they give, or the decoder's error.
-pub fn seen(alloc: Global, asked: &str) -> Option<String> {
+pub fn seen<D: Decoder>(alloc: Global, asked: &str) -> Option<String> {
     let (head, words) = asked.split_once('|')?;
     let (contexts, rest) = word(head);
     let (skipped, digits) = word(rest);
     let bytes = bytes(alloc, digits)?;
     let mut bits = Bitstream::new(&bytes);
     skip(&mut bits, number(skipped)?);
-    match told(alloc, bits, number(contexts)?, words) {
+    match told::<D>(alloc, bits, number(contexts)?, words) {
         Ok(text) => Some(text),
         Err(error) => format!(in alloc; "{error}").ok(),
     }
