@@ -3,6 +3,7 @@
 #![tactic(auto)]
 
 mod image;
+mod params;
 mod plain;
 mod within;
 
@@ -19,6 +20,9 @@ fn seen(alloc: Global, row: &Row<'_>) -> Option<String> {
     match row.kind {
         "plain" => plain::seen::<PlainDecoder>(alloc, row.asked),
         "plain2" => plain::seen::<PlainDecoder2>(alloc, row.asked),
+        "bytes" => plain::seen::<Bytewise>(alloc, row.asked),
+        "reads" => params::seen_of_reads(alloc, row.asked),
+        "params" => params::seen_of_params(alloc, row.asked),
         "header" => image::seen_of_header(alloc, row.asked, row.expected.contains('@')),
         "image" => image::seen_of_image(alloc, row.asked),
         "global" => image::seen_of_global_part(alloc, row.asked),

@@ -1,4 +1,4 @@
-//! Plain decoders of either format, by what is asked of them in turn.
+//! Decoders, by what is asked of them in turn.
 
 use jxl_modular::bits::Bitstream;
 use jxl_modular::decoder::{Decoder, DecoderError};

@@ -2,6 +2,7 @@
 // residuals of the second squeeze, of 2x2 each, are the global part, and the residuals of the first one are in four
 // groups of one pass, of 1x2 each.
 
+use crate::compare;
 use jxl_modular::bits::Bitstream;
 use jxl_modular::decoder::Decoder;
 use jxl_modular::error::Error;
@@ -61,7 +62,7 @@ fn check_shown<S: Sample>(
             samples.push(sample.to_i32())?;
         }
     }
-    assert_eq!(rt; samples.as_slice(), expected);
+    compare(rt, samples.as_slice(), expected);
     Ok(())
 }
 
@@ -108,21 +109,23 @@ fn follow_groups<S: Sample, D: Decoder>(
     groups: &mut TransformedGlobalModular<'_, S, D>,
 ) -> Result<(), Fail> {
     let [a, b, c, d] = GROUPS;
-    assert_eq!(rt;
+    compare(
+        rt,
         decode_two(alloc, groups, 0, &[a, b])?,
-        [true, false, false]
+        [true, false, false],
     );
     check_shown(rt, alloc, &groups.shown(alloc)?, &FINER)?;
-    assert_eq!(rt;
+    compare(
+        rt,
         decode_two(alloc, groups, 2, &[c, d])?,
-        [true, false, false]
+        [true, false, false],
     );
     check_shown(rt, alloc, &groups.shown(alloc)?, &WHOLE)
 }
 
 fn follow<S: Sample, D: Decoder>(rt: &impl Abort, alloc: Global) -> Result<(), Fail> {
     let mut image = read::<S, D>(alloc, params::<D>(alloc)?)?;
-    assert!(rt; !decode_global(alloc, &mut image)?);
+    compare(rt, decode_global(alloc, &mut image)?, false);
     check_shown(rt, alloc, &image.shown(alloc)?, &COARSE)?;
     let mut passes = BTreeMap::new(alloc);
     passes.insert(0, (0, 3))?;

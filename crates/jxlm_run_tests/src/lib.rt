@@ -2,6 +2,11 @@
 #![tactic(auto)]
 
 #[cfg(test)]
+mod compared;
+#[cfg(test)]
 mod follow;
 #[cfg(test)]
 mod surface;
+
+#[cfg(test)]
+use compared::compare;

@@ -3,6 +3,7 @@
 ghost use Rattle.std.specs.Prelude.{◌≡◌, None, IfOk};
 ghost use Rattle.jxl_modular.specs.Params.{IsValidParams};
 
+use crate::compare;
 use jxl_modular::bits::Bitstream;
 use jxl_modular::decoder::Decoder;
 use jxl_modular::error::Result;
@@ -258,12 +259,12 @@ fn check_values<S: Sample, D: Decoder>(
     alloc: Global,
 ) -> std::result::Result<(), Fail> {
     let modular = picture::<S, D>(alloc)?;
-    assert_eq!(rt; questions(alloc, &modular)?, ([false; 2], [false; 2]));
+    compare(rt, questions(alloc, &modular)?, ([false; 2], [false; 2]));
     let empty = Modular::<S, D>::empty();
-    assert_eq!(rt; questions(alloc, &empty)?, ([false; 2], [false; 2]));
+    compare(rt, questions(alloc, &empty)?, ([false; 2], [false; 2]));
     let image = modular.into_image().ok_or("no image")?;
     let last = Some((ChannelShift::Shifts(0), (2, 2)));
-    assert_eq!(rt; taken(alloc, image)?, (1, 1, last));
+    compare(rt, taken(alloc, image)?, (1, 1, last));
     Ok(())
 }
 
@@ -277,7 +278,7 @@ fn values(rt: HostRuntime) -> std::result::Result<(), Fail> {
         width: 1,
         height: 1,
     };
-    assert_eq!(rt; lies(TransformedGrid::from(region)), 3);
+    compare(&rt, lies(TransformedGrid::from(region)), 3);
     Ok(())
 }
 
@@ -290,18 +291,19 @@ fn check_parts<S: Sample, D: Decoder>(
     global: Option<&MaConfig<D>>,
 ) -> std::result::Result<(), Fail> {
     let mut bits = Bitstream::new(&PICTURE);
-    assert_eq!(rt;
+    compare(
+        rt,
         global_by_header(alloc, image, &mut bits, global)?,
-        [false, true, true]
+        [false, true, true],
     );
     let seen = shown(alloc, image, passes, global)?;
-    assert_eq!(rt; seen, (1, 1, [true; 3]));
+    compare(rt, seen, (1, 1, [true; 3]));
     let area = last_area(alloc, image, passes)?;
-    assert_eq!(rt; area, Some((SectionPart::Global, [0, 0, 2, 2])));
+    compare(rt, area, Some((SectionPart::Global, [0, 0, 2, 2])));
     let mut bits = Bitstream::new(&PICTURE);
     let seen = parts(alloc, image, passes, &mut bits)?;
-    assert_eq!(rt; seen, ([false, true, true], [0, 1, 0], true, false));
-    assert_eq!(rt; bits.position(), 0);
+    compare(rt, seen, ([false, true, true], [0, 1, 0], true, false));
+    compare(rt, bits.position(), 0);
     Ok(())
 }
 
@@ -329,20 +331,21 @@ fn check_sections<S: Sample, D: Decoder>(
     let mut image = picture::<S, D>(alloc)?.into_image().ok_or("no image")?;
     check_parts(rt, alloc, &mut image, &passes, global)?;
     let sections = [section()?];
-    assert_eq!(rt;
+    compare(
+        rt,
         run(alloc, &mut image, &passes, &sections, global)?,
-        (true, true)
+        (true, true),
     );
     let grid = image.image_channels().first().ok_or("no channel")?;
     assert!(rt; grid.width() > 1 && grid.height() > 0);
-    assert_eq!(rt; grid.get(1, 0).to_i32(), 3);
+    compare(rt, grid.get(1, 0).to_i32(), 3);
     Ok(())
 }
 
 #[test]
 fn parts_and_sections(rt: HostRuntime) -> std::result::Result<(), Fail> {
-    assert_eq!(rt; number(section()?.part), (0, 0));
-    assert_eq!(rt; number(Part::Lf(4).into()), (1, 4));
-    assert_eq!(rt; number(Part::Pass(2, 4).into()), (2, 4));
+    compare(&rt, number(section()?.part), (0, 0));
+    compare(&rt, number(Part::Lf(4).into()), (1, 4));
+    compare(&rt, number(Part::Pass(2, 4).into()), (2, 4));
     check_sections::<i32, PlainDecoder>(&rt, rt.alloc(), None)
 }
