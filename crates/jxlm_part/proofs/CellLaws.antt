@@ -1,9 +1,9 @@
 -- A cell of a part: what it holds, and what is read into it.
-use Rattle.std.proofs.Common.{Bool, ◌≡◌, ◌≢◌, ℕ, zero, suc, ◌+◌, ◌*◌, ◌/◌, ◌<◌, ◌≤◌, ◌^◌, List, [], ◌∷◌, ◌++◌, length, take, Some, refl, sym, ap, ◌∙◌, subst, arith, ℤ, slice_index_or, Bool, true, false, ◌||◌, None, Option, if◌then◌else◌}
-use Rattle.std.specs.Prelude.{slice_get, slice_set, Result, Err}
+use Rattle.std.proofs.Common.{Bool, ◌≡◌, ℕ, zero, suc, ◌+◌, ◌*◌, ◌/◌, ◌<◌, ◌≤◌, ◌^◌, List, [], ◌∷◌, ◌++◌, length, map, take, Some, refl, sym, ap, ◌∙◌, subst, arith, ℤ, slice_index_or, Bool, true, false, ◌||◌, None, Option, if◌then◌else◌}
+use Rattle.std.specs.Prelude.{slice_set, Result}
 use Rattle.std.specs.List.{All}
 use Rattle.std.specs.Int.{Width}
-use Rattle.std.proofs.lemmas.List.{append-nil, append_assoc, length-append, length-take-le, take-set, take_more_set}
+use Rattle.std.proofs.lemmas.List.{append-nil, append_assoc, length-append, length-map, length-take-le, map-set, take_more_set}
 use Rattle.std.proofs.lemmas.Nat.{div-mul-add, mul-add-lt}
 use Rattle.std.specs.Option.{option_map_or}
 use Rattle.std.proofs.lemmas.Option.{slice_get-get_or}
@@ -11,19 +11,20 @@ use Rattle.std.proofs.lemmas.List.Elements.{All-nil}
 use Rattle.jxlm_base.specs.Bits.{bytes_of, position_of}
 use Rattle.jxlm_base.specs.Decoding.{Meaning, Taken}
 use Rattle.jxlm_base.specs.Grid.{Grid}
-use Rattle.jxlm_base.specs.Regions.{AllLie, grid_of, region, store_meanings}
+use Rattle.jxlm_base.specs.Regions.{grid_of, region, store_meanings}
 use Rattle.jxlm_base.specs.declared.decoder.DecoderError.{DecoderError}
-use Rattle.jxlm_base.specs.declared.decoder.DecoderError.TheVariants.{OutOfMemory}
 use Rattle.jxlm_base.specs.declared.subgrid.Region.{Region}
 use Rattle.jxlm_base.proofs.Regions.{IsFull-grid_of}
-use Rattle.jxlm_base.proofs.Cells.{slice_get-set_same}
 use Rattle.jxlm_tree.specs.EarlierRows.{AreRowsOf, HoldRows}
+use Rattle.jxlm_tree.specs.Holding.{state_of, store_of}
 use Rattle.jxlm_ma.specs.FlatTree.{ClustersStandIn, FlatTree, GoesWithoutWeights, ReadsEarlierBelow}
 use Rattle.jxlm_tree.specs.Neighbours.{row as line}
 use Rattle.jxlm_tree.specs.Standing.{HasSameRoom, HoldsRow, IsInner, IsReady, Setting, StandsAt, row_of}
-use Rattle.jxlm_part.specs.Inner.Leaves.{steps_to}
+use Rattle.jxlm_part.specs.Inner.Paths.{steps_walked}
 use Rattle.jxlm_tree.specs.declared.earlier.EarlierRow.{EarlierRow}
 use Rattle.jxlm_ma.specs.declared.flat.Leaf.{Leaf}
+use Rattle.jxlm_ma.specs.declared.paths.Path.{Path}
+use Rattle.jxlm_tree.specs.declared.properties.Properties.{Properties}
 use Rattle.jxlm_tree.specs.declared.predictor.WpHeader.{WpHeader}
 use Rattle.jxlm_tree.specs.declared.state.PredictorState.{PredictorState}
 use Rattle.jxlm_tree.proofs.EarlierLaws.{in_state, of_setting}
@@ -31,19 +32,19 @@ use Rattle.jxlm_tree.proofs.StandingLaws.{stands_row}
 use Rattle.jxlm_part.specs.Coded.{next_prediction, sample_of}
 use Rattle.jxlm_part.specs.Part.{channel, max_width, no_channel}
 use Rattle.jxlm_part.specs.Reading.{FindsClusters, HasRoom, IsCodingOf, IsTreeOf, are_weighted, cost_of, flat, part_of, regions_of, row_width, weights_used}
-use Rattle.jxlm_part.specs.Inner.Cells.{ReadsNext, FailsNext, leaf_at, predicted_at}
+use Rattle.jxlm_part.specs.Inner.Cells.{FailsSample, ReadsSample, leaf_at, predicted_at}
 use Rattle.jxlm_part.specs.Inner.Channels.{StandsAfter, asked_at, handed, region_at, setting_of, weighted_at, weights_at}
 use Rattle.jxlm_part.specs.Progress.{grids_in}
 use Rattle.jxlm_part.specs.Inner.Progress.{preceding_cells}
-use Rattle.jxlm_part.specs.Inner.Rows.{FailsCell, FailsRow, IsAway, ReadsCell, ReadsCells, StandsInRow, row_rule}
+use Rattle.jxlm_part.specs.Inner.Rows.{FailsCell, IsAway, IsLine, ReadsCell, StandsInRow, region_on, rule_on}
 use Rattle.jxlm_part.specs.Inner.Source.{Source}
-use Rattle.jxlm_part.specs.Rule.{Rule, CodedPrefix}
+use Rattle.jxlm_part.specs.Rule.{Rule}
 use Rattle.jxlm_part.specs.declared.coding.ChannelTree.{ChannelTree}
 use Rattle.jxlm_part.specs.declared.coding.PartCoding.{PartCoding}
+use Rattle.jxlm_part.specs.declared.rows.Line.{Line}
 use Rattle.jxlm_part.proofs.Earlier.{earlier_all, same_sides}
 use Rattle.jxlm_part.proofs.Loops.{same_count, same_size}
 use Rattle.jxlm_part.proofs.NextSample.{IsNext, is_next}
-use Rattle.jxlm_part.proofs.Prefixes.{prefix_more}
 use Rattle.jxlm_part.proofs.RowSees.{sees_regions}
 
 -- what is known of a state is known of the same
@@ -114,9 +115,9 @@ module _ {D : Type 0} (c : PartCoding D) (coding : IsCodingOf c) (i : ℕ) (li :
   pub clusters_at : (other : ChannelTree) (clusters : List ℕ) → FindsClusters c clusters → ClustersStandIn clusters (slice_index_or c.flats.now i other).flat.tree
   clusters_at other clusters h = subst (λ (t : FlatTree). ClustersStandIn clusters t.tree) (sym (flat_at other)) h
 
-  pub cost_at : (other : ChannelTree) (by : Bool) (before after : ℕ) → after ≤ before + steps_to by (slice_index_or c.flats.now i other).flat.tree → steps_to by c.config.now.tree ≤ cost_of c → after ≤ before + cost_of c
-  cost_at other by before after h bound =
-      let same = ap (λ (t : FlatTree). steps_to by t.tree) (flat_at other) in
+  pub cost_at : (other : ChannelTree) (path : Path) (before after : ℕ) → after ≤ before + steps_walked path (slice_index_or c.flats.now i other).flat.tree → steps_walked path c.config.now.tree ≤ cost_of c → after ≤ before + cost_of c
+  cost_at other path before after h bound =
+      let same = ap (λ (t : FlatTree). steps_walked path t.tree) (flat_at other) in
       omega (arith, same, h, bound)
 
   pub roomy_still : {X : Type 0} (old new : PredictorState X) → HasSameRoom old new → HasRoom c old → HasRoom c new
@@ -134,146 +135,167 @@ module _ {D : Type 0} (c : PartCoding D) (coding : IsCodingOf c) (i : ℕ) (li :
       let sides = coding.narrow i no_channel (omega (arith, count)) in
       (subst (λ n. n ≤ 2 ^ 30) (sym same.0) sides.0, subst (λ n. n ≤ 2 ^ 30) (sym same.1) sides.1)
 
-  -- the read of the cell in column x of row y, after the cells of the row before it
-  module _ {X : Type 0} (to_int : X → ℤ) (store : List (Grid X)) (row : List ℤ) (x y : ℕ) (lie : AllLie (regions_of c) store) (px : x < (region_at (regions_of c) i).width) (qy : y < (region_at (regions_of c) i).height)
-      (long : length row ≡ (region_at (regions_of c) i).width) where
-    abbrev reg : Region
-    reg = region_at (regions_of c) i
+-- the read of the cell in column x of a line's row, after the cells of the row before it
+module _ {D X : Type 0} (l : Line X D) (to_int : X → ℤ) (is : IsLine l) (x : ℕ) (vs : List X) (wide : length vs ≡ (region_on l).width) (px : x < (region_on l).width) where
+  abbrev c : PartCoding D
+  c = l.coding.now
 
-    abbrev ints : List (Grid ℤ)
-    ints = store_meanings to_int store
+  abbrev i : ℕ
+  i = l.i
 
-    abbrev cells : List ℤ
-    cells = (grid_of ints reg).cells
+  abbrev y : ℕ
+  y = l.y
 
-    abbrev so_far : List ℤ
-    so_far = take x row
+  abbrev coding : IsCodingOf c
+  coding = is.here.part.coding
 
-    abbrev own : List ℤ
-    own = take (y * reg.width) cells ++ so_far
+  abbrev reg : Region
+  reg = region_on l
 
-    row_long : length so_far ≡ x
-    row_long = length-take-le x row (omega (arith, long, px))
+  abbrev ints : List (Grid ℤ)
+  ints = store_meanings to_int l.store.now
 
-    own_long : length own ≡ y * reg.width + x
-    own_long =
-        let full = IsFull-grid_of ints reg in
-        let n = mul-add-lt y reg.width x reg.height qy px in
-        let k : y * reg.width ≤ length cells = omega (arith, full, n) in
-        let a = length-take-le (y * reg.width) cells k in
-        let b = length-append (take (y * reg.width) cells) so_far in
-        b ∙ ap (λ j. j + length so_far) a ∙ ap (λ j. y * reg.width + j) row_long
+  abbrev row : List ℤ
+  row = map to_int vs
 
-    line_is : line own reg.width ≡ y
-    line_is = ap (λ j. j / reg.width) own_long ∙ div-mul-add y reg.width x px
+  long : length row ≡ reg.width
+  long = length-map vs to_int ∙ wide
 
-    -- the state is as far from the edges as the cell
-    pub is_inner : (state : PredictorState X) → StandsInRow c to_int store i y so_far state → IsAway x y reg.width → IsInner state
-    is_inner state stands away =
-        let place : y * reg.width + x ≡ state.y * reg.width + state.x = sym own_long ∙ stands.rolls.place in
-        let row_is : state.y ≡ y = sym (div-mul-add state.y reg.width state.x stands.rolls.in_row) ∙ ap (λ n. n / reg.width) (sym place) ∙ div-mul-add y reg.width x px in
-        let column_is : state.x ≡ x = let rows = ap (λ n. n * reg.width) row_is in omega (arith, place, rows) in
+  abbrev cells : List ℤ
+  cells = (grid_of ints reg).cells
+
+  abbrev so_far : List ℤ
+  so_far = take x row
+
+  abbrev pub own : List ℤ
+  own = take (y * reg.width) cells ++ so_far
+
+  row_long : length so_far ≡ x
+  row_long = length-take-le x row (omega (arith, long, px))
+
+  own_long : length own ≡ y * reg.width + x
+  own_long =
+      let full = IsFull-grid_of ints reg in
+      let n = mul-add-lt y reg.width x reg.height is.below px in
+      let k : y * reg.width ≤ length cells = omega (arith, full, n) in
+      let a = length-take-le (y * reg.width) cells k in
+      let b = length-append (take (y * reg.width) cells) so_far in
+      b ∙ ap (λ j. j + length so_far) a ∙ ap (λ j. y * reg.width + j) row_long
+
+  line_is : line own reg.width ≡ y
+  line_is = ap (λ j. j / reg.width) own_long ∙ div-mul-add y reg.width x px
+
+  -- the state is as far from the edges as the cell
+  pub is_inner : (state : PredictorState X) → StandsInRow c to_int l.store.now i y so_far state → IsAway x y reg.width → IsInner state
+  is_inner state stands away =
+      let place : y * reg.width + x ≡ state.y * reg.width + state.x = sym own_long ∙ stands.rolls.place in
+      let row_is : state.y ≡ y = sym (div-mul-add state.y reg.width state.x stands.rolls.in_row) ∙ ap (λ n. n / reg.width) (sym place) ∙ div-mul-add y reg.width x px in
+      let column_is : state.x ≡ x = let rows = ap (λ n. n * reg.width) row_is in omega (arith, place, rows) in
+      record {
+        rows_above = subst (λ n. 2 ≤ n) (sym row_is) away.rows_above;
+        columns_left = subst (λ n. 2 ≤ n) (sym column_is) away.columns_left;
+        columns_right = let wide : state.width ≡ reg.width = stands.same_width in let right = away.columns_right in omega (arith, wide, column_is, right);
+      }
+
+  -- the state can give the properties of the cell
+  pub is_ready : (state : PredictorState X) → StandsInRow c to_int l.store.now i y so_far state → IsReady state l.store.now
+  is_ready state stands = record {
+    where_set = setting_of c i;
+    before = own;
+    stands = stands;
+    few_rows = let n = (narrow_at c coding i is.here.channel).1 in subst (λ k. k < 2 ^ 30) (sym line_is) (let q = is.below in omega (arith, n, q));
+    earlier_hold = subst (λ k. All (λ r. HoldsRow r l.store.now reg.width k) (setting_of c i).earlier) (sym line_is)
+        (all_handed (asked_at c i) (λ r. HoldsRow r l.store.now reg.width y) _ (earlier_all (part_of c).channels i (λ r. HoldsRow r l.store.now reg.width y) (region_at (regions_of c)) (λ e less alike.
+        let le : e < length (regions_of c) = let q = is.here.channel in omega (arith, less, q) in
+        let here = same_size (part_of c).channels (regions_of c) i coding.sizes is.here.channel in
+        let there = same_size (part_of c).channels (regions_of c) e coding.sizes le in
+        let sides = same_sides (channel (part_of c).channels e) (channel (part_of c).channels i) alike in
         record {
-          rows_above = subst (λ n. 2 ≤ n) (sym row_is) away.rows_above;
-          columns_left = subst (λ n. 2 ≤ n) (sym column_is) away.columns_left;
-          columns_right = let wide : state.width ≡ reg.width = stands.same_width in let right = away.columns_right in omega (arith, wide, column_is, right);
-        }
+          lies = is.here.part.lie e (region 0 0 0 0 0) le;
+          as_wide = there.0 ∙ sides.0 ∙ sym here.0;
+          below = subst (λ n. y < n) (here.1 ∙ sym sides.1 ∙ sym there.1) is.below;
+        })));
+  }
 
-    -- the state can give the properties of the cell
-    pub is_ready : (state : PredictorState X) → StandsInRow c to_int store i y so_far state → IsReady state store
-    is_ready state stands = record {
-      where_set = setting_of c i;
-      before = own;
-      stands = stands;
-      few_rows = let n = narrow_at.1 in subst (λ k. k < 2 ^ 30) (sym line_is) (omega (arith, n, qy));
-      earlier_hold = subst (λ k. All (λ r. HoldsRow r store reg.width k) (setting_of c i).earlier) (sym line_is)
-          (all_handed (asked_at c i) (λ r. HoldsRow r store reg.width y) _ (earlier_all (part_of c).channels i (λ r. HoldsRow r store reg.width y) (region_at (regions_of c)) (λ e less alike.
-          let le : e < length (regions_of c) = omega (arith, less, li) in
-          let here = same_size (part_of c).channels (regions_of c) i coding.sizes li in
-          let there = same_size (part_of c).channels (regions_of c) e coding.sizes le in
-          let sides = same_sides (channel (part_of c).channels e) (channel (part_of c).channels i) alike in
-          record {
-            lies = lie e (region 0 0 0 0 0) le;
-            as_wide = there.0 ∙ sides.0 ∙ sym here.0;
-            below = subst (λ n. y < n) (here.1 ∙ sym sides.1 ∙ sym there.1) qy;
-          })));
-    }
+  module _ (state : PredictorState X) (stands : StandsInRow c to_int l.store.now i y so_far state) (rows : List (EarlierRow X)) where
+    in_row : row_of state ≡ y
+    in_row = sym (stands_row state (setting_of c i) own stands) ∙ line_is
 
-    module _ (state : PredictorState X) (stands : StandsInRow c to_int store i y so_far state) (rows : List (EarlierRow X)) where
-      in_row : row_of state ≡ y
-      in_row = sym (stands_row state (setting_of c i) own stands) ∙ line_is
+    -- rows of earlier channels that the state holds are those of row y
+    pub rows_are : HoldRows state l.store.now rows → AreRowsOf (setting_of c i).earlier l.store.now y rows
+    rows_are h = subst (λ n. AreRowsOf (setting_of c i).earlier l.store.now n rows) in_row (of_setting state (setting_of c i) own stands l.store.now rows h)
 
-      -- rows of earlier channels that the state holds are those of row y
-      pub rows_are : HoldRows state store rows → AreRowsOf (setting_of c i).earlier store y rows
-      rows_are h = subst (λ n. AreRowsOf (setting_of c i).earlier store n rows) in_row (of_setting state (setting_of c i) own stands store rows h)
+    -- and so it holds these
+    pub rows_held : AreRowsOf (setting_of c i).earlier l.store.now y rows → HoldRows state l.store.now rows
+    rows_held h = in_state state (setting_of c i) own stands l.store.now rows (subst (λ n. AreRowsOf (setting_of c i).earlier l.store.now n rows) (sym in_row) h)
 
-      -- and so it holds these
-      pub rows_held : AreRowsOf (setting_of c i).earlier store y rows → HoldRows state store rows
-      rows_held h = in_state state (setting_of c i) own stands store rows (subst (λ n. AreRowsOf (setting_of c i).earlier store n rows) (sym in_row) h)
+  -- after the cell, once it is in the row, the cells are those before it and its sample
+  pub stands_further : (sample : X) (state : PredictorState X) →
+      StandsAt state (setting_of c i) (own ++ to_int sample ∷ []) → StandsInRow c to_int l.store.now i y (take (x + 1) (map to_int (slice_set vs x sample))) state
+  stands_further sample state stands =
+      let inside : x < length row = omega (arith, long, px) in
+      let more : take (y * reg.width) cells ++ take (x + 1) (map to_int (slice_set vs x sample)) ≡ own ++ to_int sample ∷ [] =
+      ap (λ xs. take (y * reg.width) cells ++ take (x + 1) xs) (map-set to_int vs x sample) ∙ ap (λ xs. take (y * reg.width) cells ++ xs) (take_more_set row x (to_int sample) inside)
+      ∙ sym (append_assoc (take (y * reg.width) cells) so_far (to_int sample ∷ [])) in
+      subst (StandsAt state (setting_of c i)) (sym more) stands
 
-    -- after the cell, once it is in the row, the cells are those before it and its sample
-    pub stands_further : (sample : ℤ) (new : List ℤ) (state : PredictorState X) → new ≡ slice_set row x sample →
-        StandsAt state (setting_of c i) (own ++ sample ∷ []) → StandsInRow c to_int store i y (take (x + 1) new) state
-    stands_further sample new state written stands =
-        let inside : x < length row = omega (arith, long, px) in
-        let more : take (y * reg.width) cells ++ take (x + 1) new ≡ own ++ sample ∷ [] =
-        ap (λ xs. take (y * reg.width) cells ++ take (x + 1) xs) written ∙ ap (λ xs. take (y * reg.width) cells ++ xs) (take_more_set row x sample inside)
-        ∙ sym (append_assoc (take (y * reg.width) cells) so_far (sample ∷ [])) in
-        subst (StandsAt state (setting_of c i)) (sym more) stands
+  module _ (d : Meaning D) (w : Width) (old : Source D) (other : ChannelTree) where
+    abbrev the_flat : FlatTree
+    the_flat = (slice_index_or c.flats.now i other).flat
 
-    module _ (d : Meaning D) (w : Width) (old : Source D) (other : ChannelTree) where
-      abbrev the_flat : FlatTree
-      the_flat = (slice_index_or c.flats.now i other).flat
+    abbrev rule : Rule D
+    rule = rule_on l d to_int w (bytes_of old.bits)
 
-      abbrev rule : Rule D
-      rule = row_rule d w (part_of c) (bytes_of old.bits) (regions_of c) ints i y
+    abbrev here : List ℤ
+    here = preceding_cells (part_of c) (grids_in (regions_of c) ints) i 0 y ++ so_far
 
-      abbrev here : List ℤ
-      here = preceding_cells (part_of c) (grids_in (regions_of c) ints) i 0 y ++ so_far
+    next : IsNext (part_of c) (regions_of c) ints i here own (sees_regions (part_of c) (regions_of c) ints i y coding.sizes is.here.channel is.below so_far (omega (arith, row_long, px))) (setting_of c i)
+    next =
+        is_next (part_of c) (regions_of c) ints i here own (sees_regions (part_of c) (regions_of c) ints i y coding.sizes is.here.channel is.below so_far (omega (arith, row_long, px)))
+        (asked_at c i) (reads_below c coding i is.here.channel) (weighted_at c i) (goes_without c coding i is.here.channel)
 
-      next : IsNext (part_of c) (regions_of c) ints i here own (sees_regions (part_of c) (regions_of c) ints i y coding.sizes li qy so_far (omega (arith, row_long, px))) (setting_of c i)
-      next =
-          is_next (part_of c) (regions_of c) ints i here own (sees_regions (part_of c) (regions_of c) ints i y coding.sizes li qy so_far (omega (arith, row_long, px)))
-          (asked_at c i) reads_below (weighted_at c i) goes_without
+    -- how the leaf to which the flat tree leads reads its token
+    abbrev reading : Result (Taken ℕ D) DecoderError
+    reading = d.read old.decoder (bytes_of old.bits) (position_of old.bits) (leaf_at the_flat (setting_of c i) ints own).cluster c.widest
 
-      -- how the leaf to which the flat tree leads reads its token
-      abbrev reading : Result (Taken ℕ D) DecoderError
-      reading = d.read old.decoder (bytes_of old.bits) (position_of old.bits) (leaf_at the_flat (setting_of c i) ints own).cluster c.widest
+    -- the read of the rule is that of the leaf to which the flat tree leads
+    read_is : rule.read so_far old.decoder (position_of old.bits) ≡ d.read old.decoder (bytes_of old.bits) (position_of old.bits) (leaf_at the_flat (setting_of c i) ints own).cluster c.widest
+    read_is =
+        sym (ap (λ (k : Leaf). d.read old.decoder (bytes_of old.bits) (position_of old.bits) k.cluster (max_width (part_of c).channels)) next.leaf_is)
+        ∙ sym (ap (d.read old.decoder (bytes_of old.bits) (position_of old.bits) (leaf_at (flat c.config.now.tree c.stream_index i) (setting_of c i) ints own).cluster) coding.widest)
+        ∙ sym (ap (λ (t : FlatTree). d.read old.decoder (bytes_of old.bits) (position_of old.bits) (leaf_at t (setting_of c i) ints own).cluster c.widest) (flat_at c coding i is.here.channel other))
 
-      -- the read of the rule is that of the leaf to which the flat tree leads
-      read_is : rule.read so_far old.decoder (position_of old.bits) ≡ d.read old.decoder (bytes_of old.bits) (position_of old.bits) (leaf_at the_flat (setting_of c i) ints own).cluster c.widest
-      read_is =
-          sym (ap (λ (l : Leaf). d.read old.decoder (bytes_of old.bits) (position_of old.bits) l.cluster (max_width (part_of c).channels)) next.leaf_is)
-          ∙ sym (ap (d.read old.decoder (bytes_of old.bits) (position_of old.bits) (leaf_at (flat c.config.now.tree c.stream_index i) (setting_of c i) ints own).cluster) coding.widest)
-          ∙ sym (ap (λ (t : FlatTree). d.read old.decoder (bytes_of old.bits) (position_of old.bits) (leaf_at t (setting_of c i) ints own).cluster c.widest) (flat_at other))
+    value_is : (token : ℕ) → rule.value so_far token ≡ sample_of w (leaf_at the_flat (setting_of c i) ints own) (predicted_at the_flat (setting_of c i) ints own) token
+    value_is token =
+        sym (ap (λ (k : Leaf). sample_of w k (next_prediction (part_of c) here) token) next.leaf_is)
+        ∙ sym (ap (λ z. sample_of w (leaf_at (flat c.config.now.tree c.stream_index i) (setting_of c i) ints own) z token) next.predicted_is)
+        ∙ sym (ap (λ (t : FlatTree). sample_of w (leaf_at t (setting_of c i) ints own) (predicted_at t (setting_of c i) ints own) token) (flat_at c coding i is.here.channel other))
 
-      value_is : (token : ℕ) → rule.value so_far token ≡ sample_of w (leaf_at the_flat (setting_of c i) ints own) (predicted_at the_flat (setting_of c i) ints own) token
-      value_is token =
-          sym (ap (λ (l : Leaf). sample_of w l (next_prediction (part_of c) here) token) next.leaf_is)
-          ∙ sym (ap (λ z. sample_of w (leaf_at (flat c.config.now.tree c.stream_index i) (setting_of c i) ints own) z token) next.predicted_is)
-          ∙ sym (ap (λ (t : FlatTree). sample_of w (leaf_at t (setting_of c i) ints own) (predicted_at t (setting_of c i) ints own) token) (flat_at other))
-
-      pub fails_cell : (new : Source D) (e : DecoderError) → FailsNext old.decoder new.decoder (position_of old.bits) (position_of new.bits) e reading → e ≢ OutOfMemory →
-          bytes_of new.bits ≡ bytes_of old.bits → FailsCell rule row x old new row e
-      fails_cell new e refuses memory bytes = record {
-        error = read_is ∙ refuses.error;
+    module _ (bound : steps_walked l.path c.config.now.tree ≤ cost_of c) (new : Source D) (properties : Properties X) (same : store_of properties ≡ l.store.now) (at : StandsAt (state_of properties) (setting_of c i) own) where
+      pub fails_cell : (e : DecoderError) → FailsSample d to_int the_flat c.widest properties old new (steps_walked l.path the_flat.tree) e → FailsCell d (cost_of c) rule row x old new row e
+      fails_cell e h = record {
+        error = read_is ∙ rw same at (h.error (setting_of c i) own at);
         row_is = refl;
-        state_is = refuses.state_is;
-        place_is = refuses.place_is;
-        memory = memory;
-        bytes = bytes;
+        place_is = h.place_is;
+        memory = h.memory;
+        bytes = h.bytes;
+        work = cost_at c coding i is.here.channel other l.path old.steps new.steps h.work bound;
+        more = h.more;
       }
 
-      pub reads_cell : (from_int : ℤ → X) → ((n : ℤ) → to_int (from_int n) ≡ n) → (sample : X) (now : List ℤ) (new : Source D) → now ≡ slice_set row x (to_int sample) →
-          ReadsNext w from_int (leaf_at the_flat (setting_of c i) ints own) (predicted_at the_flat (setting_of c i) ints own) sample new.decoder (position_of new.bits) reading →
-          d.cluster_map new.decoder ≡ d.cluster_map old.decoder → bytes_of new.bits ≡ bytes_of old.bits → ReadsCell d rule row x old new now
-      reads_cell from_int back sample now new written reads clusters bytes = record {
-        token = reads.token;
-        read = read_is ∙ reads.read;
-        written = written ∙ ap (slice_set row x) (ap to_int reads.sample_is ∙ back _ ∙ sym (value_is reads.token));
-        clusters = clusters;
-        bytes = bytes;
-      }
+      pub reads_cell : (from_int : ℤ → X) → ((n : ℤ) → to_int (from_int n) ≡ n) → (sample : X) →
+          ReadsSample d to_int the_flat c.widest properties old new w from_int (steps_walked l.path the_flat.tree) sample → ReadsCell d (cost_of c) rule row x old new (map to_int (slice_set vs x sample))
+      reads_cell from_int back sample h =
+          let reads = rw same at (h.reads (setting_of c i) own at) in
+          record {
+            token = reads.token;
+            read = read_is ∙ reads.read;
+            written = map-set to_int vs x sample ∙ ap (slice_set row x) (ap to_int reads.sample_is ∙ back _ ∙ sym (value_is reads.token));
+            clusters = h.clusters;
+            bytes = h.bytes;
+            work = cost_at c coding i is.here.channel other l.path old.steps new.steps h.work bound;
+            more = h.more;
+          }
 
 -- where the trees of two channels may both ask for the weights, or neither, the state uses the same
 pub same_weights : {D : Type 0} (c : PartCoding D) (coding : IsCodingOf c) (e i : ℕ) → e < length (regions_of c) → i < length (regions_of c) → (a b : ChannelTree) →
@@ -285,35 +307,3 @@ same_weights c coding e i le li a b same =
 pub begins_row : {D X : Type 0} (c : PartCoding D) (i : ℕ) (to_int : X → ℤ) (store : List (Grid X)) (y : ℕ) (state : PredictorState X) →
     StandsAfter c to_int store i (y * (region_at (regions_of c) i).width) state → StandsInRow c to_int store i y [] state
 begins_row c i to_int store y state h = subst (StandsAt state (setting_of c i)) (sym (append-nil _)) h
-
--- ---- cells of a row, one after another
-
--- before the first cell none was read
-pub none_read : {S : Type 0} (d : Meaning S) (r : Rule S) (row : List ℤ) (start : Source S) → ReadsCells d r row 0 start start
-none_read d r row start = record { reads = (refl, refl); clusters = refl; bytes = refl }
-
-module _ {S : Type 0} (d : Meaning S) (rule : Rule S) (start : Source S) (row : List ℤ) (x : ℕ) (old : Source S) (inside : x < length row) (before : ReadsCells d rule row x start old) where
-  pub cell_more : (new : Source S) (now : List ℤ) → ReadsCell d rule row x old new now → ReadsCells d rule now (x + 1) start new
-  cell_more new now h =
-      let v : ℤ = rule.value (take x row) h.token in
-      let next : suc x ≡ x + 1 = omega arith in
-      let same : take x row ≡ take x now = sym (take-set row x v) ∙ ap (take x) (sym h.written) in
-      record {
-        reads = subst (λ n. CodedPrefix rule now start.decoder (position_of start.bits) n new.decoder (position_of new.bits)) next
-            (prefix_more rule start.decoder (position_of start.bits) row now x old.decoder (position_of old.bits) h.token new.decoder (position_of new.bits) same before.reads
-            (ap (λ r. rule.read r old.decoder (position_of old.bits)) (sym same) ∙ h.read)
-            (ap (λ r. slice_get r x) h.written ∙ slice_get-set_same row x v inside ∙ ap (λ r. Some (rule.value r h.token)) same));
-        clusters = h.clusters ∙ before.clusters;
-        bytes = h.bytes ∙ before.bytes;
-      }
-
-  pub cell_fails : (new : Source S) (now : List ℤ) (e : DecoderError) → FailsCell rule row x old new now e → FailsRow rule now start new (record { column = x; error = e })
-  cell_fails new now e h =
-      subst (λ r. FailsRow rule r start new (record { column = x; error = e })) (sym h.row_is) (record {
-        state = old.decoder;
-        inside = inside;
-        reads = subst (λ q. CodedPrefix rule row start.decoder (position_of start.bits) x old.decoder q) (sym h.place_is) before.reads;
-        error = subst (λ q. rule.read (take x row) old.decoder q ≡ Err e) (sym h.place_is) h.error;
-        memory = h.memory;
-        bytes = h.bytes ∙ before.bytes;
-      })

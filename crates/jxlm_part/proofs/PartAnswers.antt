@@ -12,11 +12,12 @@ use Rattle.jxlm_base.specs.declared.subgrid.Region.{Region}
 use Rattle.jxlm_transform.specs.Channels.{AreRegionsOf}
 use Rattle.jxlm_ma.specs.Steps.{most_steps}
 use Rattle.jxlm_part.specs.Decode.{DecodeGives, MovesWithin}
+use Rattle.jxlm_part.specs.Inner.Levels.{HasRooms}
 use Rattle.jxlm_part.specs.Inner.Ready.{IsReadyFor}
 use Rattle.jxlm_part.specs.Part.{Part, cell_count, max_width}
 use Rattle.jxlm_part.specs.Placed.{PartLies, standing_in}
 use Rattle.jxlm_part.specs.Progress.{DecodesAll, DecodesSome}
-use Rattle.jxlm_part.specs.Reading.{IsCodingOf, IsRoomy, regions_of}
+use Rattle.jxlm_part.specs.Reading.{IsCodingOf, regions_of}
 use Rattle.jxlm_part.specs.declared.coding.PartCoding.{PartCoding}
 use Rattle.jxlm_part.specs.declared.coding.Ready.{Ready}
 use Rattle.jxlm_part.specs.declared.part.PlacedPart.{PlacedPart}
@@ -40,8 +41,8 @@ module _ {D S : Type 0} (p : PlacedPart D) (store : List (Grid S)) (lies : PartL
   }
 
   -- the state has room for its samples
-  pub placed_roomy : IsRoomy c r.state
-  placed_roomy = roomy_for c r.state placed_coding (rw (channels, weights, flats) ready.roomy)
+  pub placed_roomy : HasRooms c r.state.predictor r.state.row.items
+  placed_roomy = let room = roomy_for c r.state placed_coding (rw (channels, weights, flats) ready.roomy) in record { predictor = room.predictor; row = room.row }
 
 none_is : (n : ℕ) → (0 < n → ⊥) → n ≡ 0
 none_is zero h = refl

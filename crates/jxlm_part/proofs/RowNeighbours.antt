@@ -16,10 +16,8 @@ use Rattle.jxlm_tree.specs.Neighbours.{at, column, neighbours, north, north_west
 use Rattle.jxlm_tree.specs.Predictions.{prediction}
 use Rattle.jxlm_tree.specs.Properties.{gradient_at}
 use Rattle.jxlm_tree.specs.declared.predictor.WpHeader.{WpHeader}
-use Rattle.jxlm_part.specs.Inner.Leaves.{next_by, north_in, north_west_in, predictor_of, row_above, west_in}
-use Rattle.jxlm_part.specs.Inner.TableRows.{property_9_in}
-use Rattle.jxlm_part.specs.declared.leaves.Path.{Path}
-use Rattle.jxlm_part.specs.declared.leaves.Path.TheVariants.{Zero, Gradient}
+use Rattle.jxlm_tree.specs.declared.predictor.Predictor.TheVariants as predictor
+use Rattle.jxlm_part.specs.Inner.Paths.{gradient_in, north_in, north_west_in, property_9_in, row_above, west_in}
 
 -- the row above, as it is read from a store
 pub row_above_is : {X : Type 0} (f : X → ℤ) (store : List (Grid X)) (r : Region) (y : ℕ) (vs : List X) → 0 < y → y < r.height → length vs ≡ r.width →
@@ -80,6 +78,9 @@ zero_reduced : int_wrap w32 (pos 0) ≡ pos 0
 unfolding int_wrap
 zero_reduced = refl
 
+pub zero_is : (weights : Option WpHeader) (samples : List ℤ) (width : ℕ) → prediction weights samples width predictor.Zero ≡ pos 0
+zero_is weights samples width = zero_reduced
+
 -- ---- the samples of a channel up to a cell of a row: the rows above, and the row so far
 
 module _ (g : Grid ℤ) (full : IsFull g) (y : ℕ) (below : y < g.height) (row : List ℤ) (short : length row < g.width) where
@@ -113,10 +114,9 @@ module _ (g : Grid ℤ) (full : IsFull g) (y : ℕ) (below : y < g.height) (row 
   none_over : y ≡ 0 → row_above g y ≡ []
   none_over first = ap (row_above g) first
 
-  -- the prediction of a path from the row is that from the samples
-  pub path_is : (weights : Option WpHeader) (path : Path) → prediction weights samples g.width (predictor_of path) ≡ next_by path (row_above g y) row
-  path_is weights Zero = zero_reduced
-  path_is weights Gradient = from_three samples (row_above g y) row g.width (λ n w nw. int_wrap w32 (clamped_gradient n w nw)) (length row) y samples_long short none_over over own
+  -- the gradient from the row is that from the samples
+  pub gradient_is : (weights : Option WpHeader) → prediction weights samples g.width predictor.Gradient ≡ gradient_in (row_above g y) row (length row)
+  gradient_is weights = from_three samples (row_above g y) row g.width (λ n w nw. int_wrap w32 (clamped_gradient n w nw)) (length row) y samples_long short none_over over own
 
   -- and so is property 9
   pub property_9_seen : gradient_at samples g.width (column samples g.width) (line samples g.width) ≡ property_9_in (row_above g y) row (length row)

@@ -1,21 +1,29 @@
 -- A part from its beginning to its end.
-use Rattle.std.proofs.Common.{◌≡◌, ℕ, suc, ◌+◌, ◌*◌, ◌≤◌, List, Ok, Err, refl, ℤ, inl, inr, arith}
+use Rattle.std.proofs.Common.{◌≡◌, ℕ, suc, ◌+◌, ◌*◌, ◌≤◌, List, Ok, Err, refl, sym, ap, ◌∙◌, subst, ℤ, inl, inr, arith}
 use Rattle.std.specs.Int.{Width}
-use Rattle.jxlm_base.specs.Decoding.{Found, Meaning}
+use Rattle.jxlm_base.specs.Bits.{bytes_of, position_of}
+use Rattle.jxlm_base.specs.Decoding.{Found, IsLawful, Meaning}
 use Rattle.jxlm_base.specs.Grid.{Grid}
 use Rattle.jxlm_base.specs.declared.decoder.DecoderError.{DecoderError}
+use Rattle.jxlm_base.specs.Regions.{store_meanings}
 use Rattle.jxlm_base.specs.declared.subgrid.Region.{Region}
+use Rattle.jxlm_base.proofs.Outside.{keeps_all}
 use Rattle.jxlm_transform.specs.Channels.{AreRegionsOf}
 use Rattle.jxlm_part.specs.Part.{Part, cell_count}
 use Rattle.jxlm_part.specs.Progress.{grids_in, DecodesAll, DecodesSome}
-use Rattle.jxlm_part.specs.Inner.Progress.{Reached, GoesOn, Stops, TakesSteps}
+use Rattle.jxlm_part.specs.Inner.Levels.{BeginsNot, HasBegun}
+use Rattle.jxlm_part.specs.Inner.Progress.{FailsInPart, GoesOn, IsPartDecoded, Moment, Reached, Stops, TakesSteps, WalkGives, moment}
+use Rattle.jxlm_part.specs.Inner.Source.{Source}
+use Rattle.jxlm_part.specs.Reading.{cost_of, part_of, regions_of}
+use Rattle.jxlm_part.specs.declared.coding.PartCoding.{PartCoding}
 use Rattle.jxlm_part.proofs.Loops.{fits_in}
+use Rattle.jxlm_part.proofs.Singles.{same_end}
 
-pub steps_from : (cost to before after : ℕ) → TakesSteps cost 0 to before after → after ≤ before + to * cost
+steps_from : (cost to before after : ℕ) → TakesSteps cost 0 to before after → after ≤ before + to * cost
 steps_from cost to before after h = omega (arith, h)
 
 module _ {S : Type 0} (d : Meaning S) (w : Width) (part : Part) (bytes : List ℕ) (regions : List Region) (decoder : S) (old : List (Grid ℤ)) (p : ℕ) where
-  pub refused_at_begin : (cost before : ℕ) (e : DecoderError) → d.begin decoder bytes p ≡ Err e → DecodesSome d w part bytes regions decoder old p old p cost before before e
+  refused_at_begin : (cost before : ℕ) (e : DecoderError) → d.begin decoder bytes p ≡ Err e → DecodesSome d w part bytes regions decoder old p old p cost before before e
   refused_at_begin cost before e error partial some = (0, (some, inl (record { error = error; unchanged = refl; tries = refl })), omega arith)
 
   module _ (sizes : AreRegionsOf part.channels regions) (start : Found S) (begins : d.begin decoder bytes p ≡ Ok start) (new : List (Grid ℤ)) where
@@ -23,7 +31,7 @@ module _ {S : Type 0} (d : Meaning S) (w : Width) (part : Part) (bytes : List �
     begun : Reached d w part bytes decoder p (grids_in regions old) 0 (grids_in regions old) start.value start.position
     begun = record { coded = record { start = start; begins = begins; joined = (refl, refl) }; rest = refl; fits = fits_in part.channels regions old sizes }
 
-    pub refused_at_read : (cost before after : ℕ) (q : ℕ) (e : DecoderError) → Stops d w part bytes regions cost before after 0 old start.value start.position new q e → DecodesSome d w part bytes regions decoder old p new q cost before after e
+    refused_at_read : (cost before after : ℕ) (q : ℕ) (e : DecoderError) → Stops d w part bytes regions cost before after 0 old start.value start.position new q e → DecodesSome d w part bytes regions decoder old p new q cost before after e
     refused_at_read cost before after q e stops partial some =
         let at = stops decoder p (grids_in regions old) begun in
         let r = at.0 in (
@@ -42,12 +50,12 @@ module _ {S : Type 0} (d : Meaning S) (w : Width) (part : Part) (bytes : List �
         )
 
     module _ (state : S) (q : ℕ) (goes : GoesOn d w part bytes regions 0 (cell_count part.channels) old start.value start.position new state q) where
-      pub decodes_all : d.finalize state ≡ Ok tt → DecodesAll d w part bytes regions decoder old p new q
+      decodes_all : d.finalize state ≡ Ok tt → DecodesAll d w part bytes regions decoder old p new q
       decodes_all accepts =
           let r = goes decoder p (grids_in regions old) begun in
           (record { state = state; coded = r.coded; accepts = accepts }, r.fits)
 
-      pub refused_at_end : (cost before after : ℕ) (e : DecoderError) → TakesSteps cost 0 (cell_count part.channels) before after → d.finalize state ≡ Err e → DecodesSome d w part bytes regions decoder old p new q cost before after e
+      refused_at_end : (cost before after : ℕ) (e : DecoderError) → TakesSteps cost 0 (cell_count part.channels) before after → d.finalize state ≡ Err e → DecodesSome d w part bytes regions decoder old p new q cost before after e
       refused_at_end cost before after e work error partial some =
           let r = goes decoder p (grids_in regions old) begun in (
             cell_count part.channels,
@@ -63,3 +71,75 @@ module _ {S : Type 0} (d : Meaning S) (w : Width) (part : Part) (bytes : List �
             ),
             steps_from cost (cell_count part.channels) before after work,
           )
+
+-- ---- a part that is decoded by a walk
+
+module _ {D X : Type 0} (c : PartCoding D) (d : Meaning D) (law : IsLawful d) (w : Width) (to_int : X → ℤ) (old : Moment D X) where
+  abbrev ints : List (Grid X) → List (Grid ℤ)
+  ints store = store_meanings to_int store
+
+  abbrev Ends : Moment D X → ℕ → DecoderError → Type 0
+  Ends new before e =
+      DecodesSome d w (part_of c) (bytes_of old.source.bits) (regions_of c) old.source.decoder (ints old.store) (position_of old.source.bits) (ints new.store) (position_of new.source.bits)
+      (cost_of c) before new.source.steps e
+
+  pub part_not_begun : (new : Source D) (e : DecoderError) → BeginsNot d old.source new e → FailsInPart c d w to_int old (moment new old.store) e
+  part_not_begun new e h = record {
+    decodes = rw (h.place_is, h.steps) (refused_at_begin d w (part_of c) (bytes_of old.source.bits) (regions_of c) old.source.decoder (ints old.store) (position_of old.source.bits) (cost_of c) old.source.steps e h.error);
+    more = let s = h.steps in omega (arith, s);
+    keeps = keeps_all (regions_of c) old.store;
+    memory = λ out. law.begin_memory old.source.decoder (bytes_of old.source.bits) (position_of old.source.bits) (h.error ∙ ap Err out);
+    bytes = h.bytes;
+  }
+
+  module _ (sizes : AreRegionsOf (part_of c).channels (regions_of c)) (begun : Source D) (has : HasBegun d c old.source begun) (new : Moment D X) where
+    pub part_fails : (e : DecoderError) → WalkGives c d w to_int 0 (cell_count (part_of c).channels) (Err e) (moment begun old.store) new → FailsInPart c d w to_int old new e
+    part_fails e gives =
+        let f = (gives.goes begun.decoder has.stands).1 in
+        record {
+          decodes = subst (λ n. Ends new n e) has.steps
+              (refused_at_read d w (part_of c) (bytes_of old.source.bits) (regions_of c) old.source.decoder (ints old.store) (position_of old.source.bits) sizes _ has.begins (ints new.store)
+              (cost_of c) begun.steps new.source.steps (position_of new.source.bits) e
+              (subst (λ bytes. Stops d w (part_of c) bytes (regions_of c) (cost_of c) begun.steps new.source.steps 0 (ints old.store) begun.decoder (position_of begun.bits) (ints new.store) (position_of new.source.bits) e)
+              has.bytes f.stops));
+          more = let m = f.more in let s = has.steps in omega (arith, m, s);
+          keeps = f.keeps;
+          memory = f.memory;
+          bytes = f.bytes ∙ has.bytes;
+        }
+
+    module _ (gives : WalkGives c d w to_int 0 (cell_count (part_of c).channels) (Ok tt) (moment begun old.store) new) where
+      abbrev end : D
+      end = (gives.goes begun.decoder has.stands).0
+
+      goes : GoesOn d w (part_of c) (bytes_of old.source.bits) (regions_of c) 0 (cell_count (part_of c).channels) (ints old.store) begun.decoder (position_of begun.bits) (ints new.store) end (position_of new.source.bits)
+      goes =
+          subst (λ bytes. GoesOn d w (part_of c) bytes (regions_of c) 0 (cell_count (part_of c).channels) (ints old.store) begun.decoder (position_of begun.bits) (ints new.store) end (position_of new.source.bits))
+          has.bytes (gives.goes begun.decoder has.stands).1.goes
+
+      same : d.finalize new.source.decoder ≡ d.finalize end
+      same = same_end d law end new.source (gives.goes begun.decoder has.stands).2
+
+      pub part_refused : (e : DecoderError) → d.finalize new.source.decoder ≡ Err e → FailsInPart c d w to_int old new e
+      part_refused e error =
+          let f = (gives.goes begun.decoder has.stands).1 in
+          record {
+            decodes = subst (λ n. Ends new n e) has.steps
+                (refused_at_end d w (part_of c) (bytes_of old.source.bits) (regions_of c) old.source.decoder (ints old.store) (position_of old.source.bits) sizes _ has.begins (ints new.store) end (position_of new.source.bits) goes
+                (cost_of c) begun.steps new.source.steps e f.work (sym same ∙ error));
+            more = let m = f.more in let s = has.steps in omega (arith, m, s);
+            keeps = f.keeps;
+            memory = λ out. law.finalize_memory new.source.decoder (error ∙ ap Err out);
+            bytes = f.bytes ∙ has.bytes;
+          }
+
+      pub part_decoded : d.finalize new.source.decoder ≡ Ok tt → IsPartDecoded c d w to_int old new
+      part_decoded accepts =
+          let f = (gives.goes begun.decoder has.stands).1 in
+          record {
+            decodes = decodes_all d w (part_of c) (bytes_of old.source.bits) (regions_of c) old.source.decoder (ints old.store) (position_of old.source.bits) sizes _ has.begins (ints new.store) end (position_of new.source.bits) goes (sym same ∙ accepts);
+            work = let m = steps_from (cost_of c) (cell_count (part_of c).channels) begun.steps new.source.steps f.work in let s = has.steps in omega (arith, m, s);
+            more = let m = f.more in let s = has.steps in omega (arith, m, s);
+            keeps = f.keeps;
+            bytes = f.bytes ∙ has.bytes;
+          }

@@ -1,30 +1,24 @@
-//! One cell of a part, and how it is read.
+//! Rows that are read cell by cell, each cell at the leaf to which its properties lead.
 
-ghost use Rattle.std.specs.Prelude.{◌≡◌, is_some, pos, ◌+ℤ◌, ◌*ℤ◌, ◌+◌, ◌^◌, ◌<◌, ◌≤◌, IfOk, OnOk, IfErr, ◌≢◌, false, length, map, take};
+ghost use Rattle.std.specs.Prelude.{◌≡◌, pos, ◌+ℤ◌, ◌*ℤ◌, ◌+◌, ◌^◌, ◌<◌, ◌≤◌, true, false, length, OnOk};
 ghost use Rattle.std.specs.Int.{int_wrap};
-ghost use Rattle.jxlm_base.specs.Bits.{bytes_of};
 ghost use Rattle.jxlm_base.specs.Numbers.{unpack};
-ghost use Rattle.jxlm_tree.specs.EarlierRows.{AreRowsOf};
 ghost use Rattle.jxlm_ma.specs.FlatTree.{ClustersStandIn, HasMultiplier};
-ghost use Rattle.jxlm_tree.specs.Holding.{IsCurrent};
+ghost use Rattle.jxlm_ma.specs.Paths.{Gives};
 ghost use Rattle.jxlm_ma.specs.Tree.{StandsAtLeaf};
-ghost use Rattle.jxlm_part.specs.Inner.Cells.{FailsSample, IsReached, ReadsSample};
-ghost use Rattle.jxlm_part.specs.Inner.Channels.{region_at, setting_of};
-ghost use Rattle.jxlm_part.specs.Inner.Leaves.{Leads, steps_to};
-ghost use Rattle.jxlm_part.specs.Inner.Rows.{FailsCell, IsAway, IsDecoding, ReadsCell, StandsInRow, rule_in};
-ghost use Rattle.jxlm_part.specs.Inner.Source.{source};
-ghost use Rattle.jxlm_part.specs.declared.leaves.Way.TheVariants as way;
-ghost use Rattle.jxlm_part.specs.Reading.{HasRoom, cost_of, regions_of, tree_of};
+ghost use Rattle.jxlm_tree.specs.Holding.{IsCurrent};
+ghost use Rattle.jxlm_part.specs.Inner.Cells.{IsReached, SampleGives};
+ghost use Rattle.jxlm_part.specs.Inner.Paths.{is_walked, steps_walked};
+ghost use Rattle.jxlm_part.specs.Inner.Rows.{AreAway, CellGives, CellsGive, IsAtCell, IsAway, IsLine, IsWalked, RowGives, region_on};
 
-use crate::coding::PartCoding;
-use jxlm_base::bits::Bitstream;
+use crate::rows::{Line, RowError};
+use crate::source::{Source, Walk};
 use jxlm_base::decoder::{Decoder, DecoderError};
-use jxlm_base::grid::AlignedGrid;
 use jxlm_base::sample::{Sample, Sealed};
 use jxlm_ma::flat::{FlatMaTree, Leaf, Steps};
-use jxlm_ma::paths::ClusterTable;
-use jxlm_tree::earlier::EarlierRow;
-use jxlm_tree::predictor::{PredictorState, Properties};
+use jxlm_ma::paths::Path;
+use jxlm_tree::earlier::{EarlierRow, EarlierRows};
+use jxlm_tree::predictor::Properties;
 
 /// The sample of a token: times the multiplier, plus the offset and the prediction.
 #[inline(always)]
@@ -37,110 +31,150 @@ pub(crate) fn sample_from<S: Sample>(token: u32, leaf: Leaf, predicted: i32) -> 
         .add(S::from_i32(predicted))
 }
 
-/// The leaf to which these properties lead in this tree: by its table, where it has one.
+/// The leaf to which these properties lead in this tree: by the path's table, where it has one.
 #[inline(always)]
 fn leaf_of<S: Sample>(
     flat: &FlatMaTree,
-    table: Option<&ClusterTable>,
+    path: Path<'_>,
     properties: &Properties<'_, S>,
     steps: &mut Steps,
 ) -> Leaf
     requires current { IsCurrent properties.now }
-    requires leads { Leads flat.now (way.Cells table) }
+    requires gives { Gives flat.now path }
     ensures leaf { IsReached flat.now S.to_int properties.now result }
     ensures stands { StandsAtLeaf flat.now.tree result }
     ensures multiplier { HasMultiplier result }
-    ensures cost { steps.new ≤ steps.old + steps_to (is_some table.entry) flat.now.tree }
+    ensures cost { steps.new ≤ steps.old + steps_walked path.entry flat.now.tree }
     ensures more { steps.old ≤ steps.new }
 {
-    match table {
-        Some(table) => table.leaf_by(properties, steps),
-        None => *flat.leaf(properties, steps),
+    match path {
+        Path::Clusters(table) => table.leaf_by(properties, steps),
+        _ => *flat.leaf(properties, steps),
     }
 }
 
 /// Reads the sample of the cell of these properties: at the leaf to which the tree leads, over that leaf's prediction.
 #[inline(always)]
 fn next_sample<S: Sample, D: Decoder>(
-    bits: &mut Bitstream<'_>,
-    decoder: &mut D,
-    steps: &mut Steps,
+    source: &mut Source<'_, D>,
     properties: &Properties<'_, S>,
     flat: &FlatMaTree,
-    table: Option<&ClusterTable>,
+    path: Path<'_>,
     widest: u32,
 ) -> Result<S, DecoderError>
-    requires leads { Leads flat.now (way.Cells table) }
+    requires gives { Gives flat.now path }
     requires current { IsCurrent properties.now }
-    requires clusters { ClustersStandIn (D.meaning.cluster_map decoder.old) flat.now.tree }
-    ensures ok { IfOk result (ReadsSample D.meaning S.to_int flat.now widest properties.now
-        (source decoder.old bits.old) (source decoder.new bits.new) S.width S.from_int) }
-    ensures err { IfErr result (FailsSample D.meaning S.to_int flat.now widest properties.now
-        (source decoder.old bits.old) (source decoder.new bits.new)) }
-    ensures clusters { OnOk result (D.meaning.cluster_map decoder.new ≡ D.meaning.cluster_map decoder.old) }
-    ensures memory { IfErr result (λ e. e ≢ DecoderError.OutOfMemory) }
-    ensures bytes { bytes_of bits.new ≡ bytes_of bits.old }
-    ensures cost { steps.new ≤ steps.old + steps_to (is_some table.entry) flat.now.tree }
-    ensures more { steps.old ≤ steps.new }
+    requires clusters { ClustersStandIn (D.meaning.cluster_map source.old.decoder) flat.now.tree }
+    ensures { SampleGives D.meaning S.to_int flat.now widest properties.now
+        source.old source.new S.width S.from_int (steps_walked path.entry flat.now.tree) result }
 {
-    let leaf = leaf_of(flat, table, properties, steps);
-    let token = decoder.read_varint_with_multiplier_clustered(bits, leaf.cluster, widest)?;
+    let leaf = leaf_of(flat, path, properties, &mut source.steps);
+    let token = source
+        .decoder
+        .read_varint_with_multiplier_clustered(&mut source.bits, leaf.cluster, widest)?;
     let predicted = leaf.predictor.predict(properties);
     Ok(sample_from(token, leaf, predicted))
 }
 
-/// Reads the cell in column `x` of row `y` of channel `i` into `row`; the state must be at this cell, and is at the
-/// next one afterwards. `rows` are the rows of the nearest earlier channels. Without `EDGE` the cell is two or more
-/// columns and rows away from every edge but the last row.
+/// Reads the cell in column `x` into `row`; `rows` are those of the nearest earlier channels. The walk must be at this
+/// cell, and is at the next one afterwards. Without `EDGE` the cell is two or more columns and rows away from every edge
+/// but the last row.
 #[inline(always)]
-pub(crate) fn decode_cell<S: Sample, D: Decoder, const EDGE: bool>(
-    bits: &mut Bitstream<'_>,
-    decoder: &mut D,
-    state: &mut PredictorState<S>,
-    steps: &mut Steps,
-    store: &[AlignedGrid<S>],
-    rows: &[EarlierRow<'_, S>],
-    coding: &PartCoding<'_, D>,
-    table: Option<&ClusterTable>,
+fn decode_cell<'s, S: Sample, D: Decoder, const EDGE: bool>(
+    walk: &mut Walk<'_, S, D>,
+    line: &Line<'_, 's, S, D>,
+    rows: &'s [EarlierRow<'s, S>],
     row: &mut [S],
-    i: usize,
     x: usize,
-    y: usize,
 ) -> Result<(), DecoderError>
-    requires here { IsDecoding coding.now i store.now (D.meaning.cluster_map decoder.old) }
-    requires leads { Leads (tree_of coding.now i) (way.Cells table) }
-    requires bound { steps_to (is_some table) coding.now.config.now.tree ≤ cost_of coding.now }
-    requires column { x < (region_at (regions_of coding.now) i).width }
-    requires in_rows { y < (region_at (regions_of coding.now) i).height }
-    requires inner { EDGE ≡ false → IsAway x y (region_at (regions_of coding.now) i).width }
-    requires long { length row.old ≡ (region_at (regions_of coding.now) i).width }
-    requires stands { StandsInRow coding.now S.to_int store.now i y (take x (map S.to_int row.old)) state.old }
-    requires roomy { HasRoom coding.now state.old }
-    requires rows { AreRowsOf (setting_of coding.now i).earlier store.now y rows.now }
-    ensures ok { OnOk result (ReadsCell D.meaning
-        (rule_in coding.now S.to_int store.now i y D.meaning S.width (bytes_of bits.old))
-        (map S.to_int row.old) x (source decoder.old bits.old) (source decoder.new bits.new) (map S.to_int row.new)) }
-    ensures err { IfErr result (FailsCell
-        (rule_in coding.now S.to_int store.now i y D.meaning S.width (bytes_of bits.old))
-        (map S.to_int row.old) x (source decoder.old bits.old) (source decoder.new bits.new) (map S.to_int row.new)) }
-    ensures stands { OnOk result
-        (StandsInRow coding.now S.to_int store.now i y (take (x + 1) (map S.to_int row.new)) state.new) }
-    ensures roomy { OnOk result (HasRoom coding.now state.new) }
-    ensures cost { steps.new ≤ steps.old + cost_of coding.now }
-    ensures more { steps.old ≤ steps.new }
+    requires line { IsWalked line.now rows.now }
+    requires column { x < (region_on line.now).width }
+    requires inner { EDGE ≡ false → IsAway x line.now.y (region_on line.now).width }
+    requires at { IsAtCell line.now D.meaning S.to_int S.width x row.old walk.old }
+    ensures { CellGives line.now D.meaning S.to_int S.width x row.old row.new walk.old walk.new result }
 {
-    let properties = state.properties_by_rows::<EDGE>(store, rows);
-    let flat = &coding.flats[i].flat;
+    let properties = walk.state.properties_by_rows::<EDGE>(line.store, rows);
+    let flat = &line.coding.flats[line.i].flat;
     let sample = next_sample(
-        bits,
-        decoder,
-        steps,
+        &mut walk.source,
         &properties,
         flat,
-        table,
-        coding.widest,
+        line.path,
+        line.coding.widest,
     )?;
     properties.record(sample.to_i32());
     row[x] = sample;
+    Ok(())
+}
+
+/// Where the columns of row `y` begin and end whose cells are two or more columns and rows away from every edge but the
+/// last row; where there are none, both are the row's end.
+fn inner_columns(width: usize, y: usize) -> (usize, usize)
+    ensures order { result.0 ≤ result.1 }
+    ensures in_row { result.1 ≤ width }
+    ensures inner { AreAway result.0 result.1 y width }
+{
+    if y < 2 || width < 4 {
+        (width, width)
+    } else {
+        (2, width - 2)
+    }
+}
+
+/// Reads the cells from column `from` to before column `to` into `row`; the walk must be at the first of them, and is
+/// after the last one then. Without `EDGE` they are two or more columns and rows away from every edge but the last row.
+///
+/// # Errors
+///
+/// That of the read of one cell; the cells before are in the row then.
+fn read_cells<'s, S: Sample, D: Decoder, const EDGE: bool>(
+    walk: &mut Walk<'_, S, D>,
+    line: &Line<'_, 's, S, D>,
+    rows: &'s [EarlierRow<'s, S>],
+    row: &mut [S],
+    from: usize,
+    to: usize,
+) -> Result<(), RowError>
+    requires line { IsWalked line.now rows.now }
+    requires order { from ≤ to }
+    requires in_row { to ≤ (region_on line.now).width }
+    requires inner { EDGE ≡ false → AreAway from to line.now.y (region_on line.now).width }
+    requires at { IsAtCell line.now D.meaning S.to_int S.width from row.old walk.old }
+    ensures { CellsGive line.now D.meaning S.to_int S.width from to row.old row.new walk.old walk.new result }
+{
+    let here = Line { ..*line };
+    for x in from..to {
+        match decode_cell::<S, D, EDGE>(walk, &here, rows, row, x) {
+            Ok(()) => (),
+            Err(error) => return Err(RowError { column: x, error }),
+        }
+    }
+    Ok(())
+}
+
+/// Reads the row cell by cell; the walk must be at its first cell, and is after its last one then.
+///
+/// # Errors
+///
+/// That of the read of one cell; the cells before are in the row then.
+pub(crate) fn read_by_cells<S: Sample, D: Decoder>(
+    walk: &mut Walk<'_, S, D>,
+    line: &Line<'_, '_, S, D>,
+    row: &mut [S],
+) -> Result<(), RowError>
+    requires line { IsLine line.now }
+    requires walked { is_walked line.now.path ≡ true }
+    requires at { IsAtCell line.now D.meaning S.to_int S.width 0 row.old walk.old }
+    ensures gives { RowGives line.now D.meaning S.to_int S.width row.new walk.old.source walk.new.source result }
+    ensures at { OnOk result (IsAtCell line.now D.meaning S.to_int S.width (length row.new) row.new walk.new) }
+{
+    let width = row.len();
+    let asked = line.coding.flats[line.i].asked;
+    let earlier = EarlierRows::of(&walk.state, line.store, asked);
+    let rows = earlier.rows();
+    let (from, to) = inner_columns(width, line.y);
+    read_cells::<S, D, true>(walk, line, rows, row, 0, from)?;
+    read_cells::<S, D, false>(walk, line, rows, row, from, to)?;
+    read_cells::<S, D, true>(walk, line, rows, row, to, width)?;
     Ok(())
 }

@@ -14,8 +14,9 @@ ghost use Rattle.jxlm_part.specs.Progress.{KeepsOutside};
 ghost use Rattle.jxlm_part.specs.Inner.Ready.{IsReadyFor};
 
 use crate::channels::{have_samples, max_width, sampled_width};
-use crate::coding::{PartCoding, Ready, flat_trees, roomy_state};
+use crate::coding::{PartCoding, PartState, Ready, flat_trees, roomy_state};
 use crate::decode::decode_part;
+use crate::source::{Source, Walk};
 use jxlm_base::bits::Bitstream;
 use jxlm_base::decoder::Decoder;
 use jxlm_base::error::{Error, Result};
@@ -26,6 +27,7 @@ use jxlm_ma::ma::MaConfig;
 use jxlm_transform::channels::ModularChannelInfo;
 use jxlm_tree::predictor::WpHeader;
 use std::alloc::Global;
+use std::mem;
 
 /// A part of an image: some channels, which lie in a store of grids, and the tree that their samples are read with.
 #[derive(Drop)]
@@ -108,9 +110,9 @@ impl<'a, D: Decoder> PlacedPart<'a, D> {
             return Ok(());
         }
         let Ready {
-            mut decoder,
+            decoder,
             flats,
-            mut state,
+            state,
         } = self.ready(alloc)?;
         let coding = PartCoding {
             channels: self.channels,
@@ -121,7 +123,21 @@ impl<'a, D: Decoder> PlacedPart<'a, D> {
             stream_index: self.stream_index,
             widest: max_width(self.channels),
         };
-        match decode_part(bits, &mut decoder, &mut state, steps, store, &coding) {
+        let PartState { predictor, mut row } = state;
+        let mut walk = Walk {
+            source: Source {
+                decoder,
+                bits: *bits,
+                run: None,
+                steps: mem::replace(steps, Steps::new()),
+            },
+            state: predictor,
+        };
+        let decoded = decode_part(&mut walk, &coding, store, &mut row);
+        let Walk { source, .. } = walk;
+        *bits = source.bits;
+        *steps = source.steps;
+        match decoded {
             Ok(()) => *partial = false,
             Err(e) if allow_partial && e.unexpected_eof() => {}
             Err(e) => return Err(Error::Decoder(e)),

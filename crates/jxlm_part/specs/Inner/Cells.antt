@@ -1,11 +1,12 @@
 -- How one cell of a part is read.
-use Rattle.std.specs.Prelude.{◌≡◌, ℕ, ℤ, List, Result, Ok, Err}
+use Rattle.std.specs.Prelude.{◌≡◌, ◌≢◌, ℕ, ◌+◌, ◌≤◌, ℤ, List, Result, Ok, Err}
 use Rattle.std.specs.Int.{Width}
 use Rattle.jxlm_base.specs.Bits.{bytes_of, position_of}
 use Rattle.jxlm_base.specs.Decoding.{Meaning, Taken}
 use Rattle.jxlm_base.specs.Grid.{Grid}
 use Rattle.jxlm_base.specs.Regions.{store_meanings}
 use Rattle.jxlm_base.specs.declared.decoder.DecoderError.{DecoderError}
+use Rattle.jxlm_base.specs.declared.decoder.DecoderError.TheVariants.{OutOfMemory}
 use Rattle.jxlm_ma.specs.FlatTree.{FlatTree, leaf_reached}
 use Rattle.jxlm_tree.specs.Holding.{state_of, store_of, surroundings}
 use Rattle.jxlm_tree.specs.Predictions.{prediction}
@@ -22,13 +23,6 @@ pub record ReadsNext {S X : Type 0} (w : Width) (from_int : ℤ → X) (l : Leaf
   pub token : ℕ
   pub read : reading ≡ Ok (record { value = token; state = t; position = q })
   pub sample_is : sample ≡ from_int (sample_of w l predicted token)
-
--- the read returned the error e, and state and position stay
-pub record FailsNext {S : Type 0} (s t : S) (p q : ℕ) (e : DecoderError)
-    (reading : Result (Taken ℕ S) DecoderError) : Type 0 where
-  pub error : reading ≡ Err e
-  pub state_is : t ≡ s
-  pub place_is : q ≡ p
 
 -- the leaf to which a flat tree leads where a state was set so, after these samples
 abbrev pub leaf_at : FlatTree → Setting → List (Grid ℤ) → List ℤ → Leaf
@@ -57,12 +51,27 @@ module _ {D X : Type 0} (d : Meaning D) (to_int : X → ℤ) (flat : FlatTree) (
       d.read old.decoder (bytes_of old.bits) (position_of old.bits) (leaf_at flat s numbers samples).cluster widest
 
   -- this sample
-  abbrev pub ReadsSample : Width → (ℤ → X) → X → Type 0
-  ReadsSample w from_int sample = (s : Setting) (samples : List ℤ) → StandsAt (state_of properties) s samples →
-      ReadsNext w from_int (leaf_at flat s numbers samples) (predicted_at flat s numbers samples) sample
-      new.decoder (position_of new.bits) (reading s samples)
+  pub record ReadsSample (w : Width) (from_int : ℤ → X) (cost : ℕ) (sample : X) : Type 0 where
+    pub reads : (s : Setting) (samples : List ℤ) → StandsAt (state_of properties) s samples →
+        ReadsNext w from_int (leaf_at flat s numbers samples) (predicted_at flat s numbers samples) sample
+        new.decoder (position_of new.bits) (reading s samples)
+    pub clusters : d.cluster_map new.decoder ≡ d.cluster_map old.decoder
+    pub run : new.run ≡ old.run
+    pub bytes : bytes_of new.bits ≡ bytes_of old.bits
+    pub work : new.steps ≤ old.steps + cost
+    pub more : old.steps ≤ new.steps
 
   -- this error
-  abbrev pub FailsSample : DecoderError → Type 0
-  FailsSample e = (s : Setting) (samples : List ℤ) → StandsAt (state_of properties) s samples →
-      FailsNext old.decoder new.decoder (position_of old.bits) (position_of new.bits) e (reading s samples)
+  pub record FailsSample (cost : ℕ) (e : DecoderError) : Type 0 where
+    pub error : (s : Setting) (samples : List ℤ) → StandsAt (state_of properties) s samples → reading s samples ≡ Err e
+    pub run : new.run ≡ old.run
+    pub place_is : position_of new.bits ≡ position_of old.bits
+    pub memory : e ≢ OutOfMemory
+    pub bytes : bytes_of new.bits ≡ bytes_of old.bits
+    pub work : new.steps ≤ old.steps + cost
+    pub more : old.steps ≤ new.steps
+
+  -- what was returned
+  abbrev pub SampleGives : Width → (ℤ → X) → ℕ → Result X DecoderError → Type 0
+  SampleGives w from_int cost (Ok sample) = ReadsSample w from_int cost sample
+  SampleGives w from_int cost (Err e) = FailsSample cost e

@@ -1,19 +1,20 @@
 -- How far the decoding of a part has come: what its loops over channels, rows and columns keep.
-use Rattle.std.specs.Prelude.{◌≡◌, ◌≢◌, ℕ, suc, ◌+◌, ◌*◌, ◌<◌, ◌≤◌, ℤ, List, take, drop, Err}
+use Rattle.std.specs.Prelude.{◌≡◌, ◌≢◌, ℕ, suc, ◌+◌, ◌*◌, ◌<◌, ◌≤◌, ℤ, List, take, drop, Result, Ok, Err}
 use Rattle.std.specs.Int.{Width}
 use Rattle.jxlm_base.specs.Bits.{bytes_of, position_of}
 use Rattle.jxlm_base.specs.Decoding.{Meaning}
 use Rattle.jxlm_base.specs.Grid.{Grid}
 use Rattle.jxlm_base.specs.Outside.{KeepsOutside}
 use Rattle.jxlm_base.specs.Regions.{grids_in, store_meanings}
-use Rattle.jxlm_base.specs.declared.bits.Bitstream.{Bitstream}
 use Rattle.jxlm_base.specs.declared.decoder.DecoderError.{DecoderError}
 use Rattle.jxlm_base.specs.declared.decoder.DecoderError.TheVariants.{OutOfMemory}
 use Rattle.jxlm_base.specs.declared.subgrid.Region.{Region}
 use Rattle.jxlm_transform.specs.Channels.{AreGridsOf}
 use Rattle.jxlm_part.specs.Coded.{part_rule, IsCoded}
+use Rattle.jxlm_part.specs.Progress.{DecodesAll, DecodesSome}
 use Rattle.jxlm_part.specs.Part.{Part, channel, cell_count, cells_before, cells_of}
 use Rattle.jxlm_part.specs.Reading.{cost_of, part_of, regions_of}
+use Rattle.jxlm_part.specs.Inner.Source.{InSingles, Source}
 use Rattle.jxlm_part.specs.declared.coding.PartCoding.{PartCoding}
 
 module _ {S : Type 0} (d : Meaning S) (w : Width) (part : Part) (bytes : List ℕ) (decoder : S)
@@ -59,35 +60,68 @@ module _ {S : Type 0} (d : Meaning S) (w : Width) (part : Part) (bytes : List �
       (stopped : Stopped d w part bytes decoder p0 old e (grids_in regions store') p') ×
       TakesSteps cost from (suc stopped.count) before after
 
--- how far decoding is: the decoder and the reader, the store, and the steps that were taken
+-- how far decoding is: what it goes through beside the store, and the store
 pub record Moment (D X : Type 0) : Type 0 where
-  pub decoder : D
-  pub bits : Bitstream
+  pub source : Source D
   pub store : List (Grid X)
-  pub steps : ℕ
 
-abbrev pub moment : {D X : Type 0} → D → Bitstream → List (Grid X) → ℕ → Moment D X
-moment decoder bits store steps = record { decoder = decoder; bits = bits; store = store; steps = steps }
+abbrev pub moment : {D X : Type 0} → Source D → List (Grid X) → Moment D X
+moment source store = record { source = source; store = store }
 
 -- what the loops over rows and channels return and leave
 module _ {D X : Type 0} (c : PartCoding D) (d : Meaning D) (w : Width) (to_int : X → ℤ) where
   -- cells `from` up to `to` of the part were decoded
   pub record DecodesCells (from to : ℕ) (old new : Moment D X) : Type 0 where
-    pub goes : GoesOn d w (part_of c) (bytes_of old.bits) (regions_of c) from to
-        (store_meanings to_int old.store) old.decoder (position_of old.bits)
-        (store_meanings to_int new.store) new.decoder (position_of new.bits)
-    pub work : TakesSteps (cost_of c) from to old.steps new.steps
-    pub more : old.steps ≤ new.steps
+    pub goes : GoesOn d w (part_of c) (bytes_of old.source.bits) (regions_of c) from to
+        (store_meanings to_int old.store) old.source.decoder (position_of old.source.bits)
+        (store_meanings to_int new.store) new.source.decoder (position_of new.source.bits)
+    pub work : TakesSteps (cost_of c) from to old.source.steps new.source.steps
+    pub more : old.source.steps ≤ new.source.steps
     pub keeps : KeepsOutside (regions_of c) old.store new.store
-    pub clusters : d.cluster_map new.decoder ≡ d.cluster_map old.decoder
-    pub bytes : bytes_of new.bits ≡ bytes_of old.bits
+    pub clusters : d.cluster_map new.source.decoder ≡ d.cluster_map old.source.decoder
+    pub bytes : bytes_of new.source.bits ≡ bytes_of old.source.bits
 
   -- the read of cell `from` or of a later one returned the error e, and the cells before it were decoded
   pub record FailsInCells (from : ℕ) (old new : Moment D X) (e : DecoderError) : Type 0 where
-    pub stops : Stops d w (part_of c) (bytes_of old.bits) (regions_of c) (cost_of c) old.steps new.steps from
-        (store_meanings to_int old.store) old.decoder (position_of old.bits)
-        (store_meanings to_int new.store) (position_of new.bits) e
-    pub more : old.steps ≤ new.steps
+    pub stops : Stops d w (part_of c) (bytes_of old.source.bits) (regions_of c) (cost_of c) old.source.steps new.source.steps from
+        (store_meanings to_int old.store) old.source.decoder (position_of old.source.bits)
+        (store_meanings to_int new.store) (position_of new.source.bits) e
+    pub more : old.source.steps ≤ new.source.steps
     pub keeps : KeepsOutside (regions_of c) old.store new.store
     pub memory : e ≢ OutOfMemory
-    pub bytes : bytes_of new.bits ≡ bytes_of old.bits
+    pub bytes : bytes_of new.source.bits ≡ bytes_of old.source.bits
+
+  abbrev pub Decodes : ℕ → ℕ → Result (Unit {0}) DecoderError → Moment D X → Moment D X → Type 0
+  Decodes from to (Ok u) old new = DecodesCells from to old new
+  Decodes from to (Err e) old new = FailsInCells from old new e
+
+  -- Cells `from` up to `to` were decoded, or the read of one of them returned an error: in whatever state single reads
+  -- would have been.
+  abbrev pub WalkGives : ℕ → ℕ → Result (Unit {0}) DecoderError → Moment D X → Moment D X → Type 0
+  WalkGives from to result old new = InSingles d old.source new.source (λ s t.
+      Decodes from to result (moment s old.store) (moment t new.store))
+
+  -- the part was decoded to its end
+  pub record IsPartDecoded (old new : Moment D X) : Type 0 where
+    pub decodes : DecodesAll d w (part_of c) (bytes_of old.source.bits) (regions_of c)
+        old.source.decoder (store_meanings to_int old.store) (position_of old.source.bits)
+        (store_meanings to_int new.store) (position_of new.source.bits)
+    pub work : new.source.steps ≤ old.source.steps + cell_count (part_of c).channels * cost_of c
+    pub more : old.source.steps ≤ new.source.steps
+    pub keeps : KeepsOutside (regions_of c) old.store new.store
+    pub bytes : bytes_of new.source.bits ≡ bytes_of old.source.bits
+
+  -- the beginning, the read of a cell or the end returned the error e
+  pub record FailsInPart (old new : Moment D X) (e : DecoderError) : Type 0 where
+    pub decodes : DecodesSome d w (part_of c) (bytes_of old.source.bits) (regions_of c)
+        old.source.decoder (store_meanings to_int old.store) (position_of old.source.bits)
+        (store_meanings to_int new.store) (position_of new.source.bits)
+        (cost_of c) old.source.steps new.source.steps e
+    pub more : old.source.steps ≤ new.source.steps
+    pub keeps : KeepsOutside (regions_of c) old.store new.store
+    pub memory : e ≢ OutOfMemory
+    pub bytes : bytes_of new.source.bits ≡ bytes_of old.source.bits
+
+  abbrev pub PartGives : Moment D X → Moment D X → Result (Unit {0}) DecoderError → Type 0
+  PartGives old new (Ok u) = IsPartDecoded old new
+  PartGives old new (Err e) = FailsInPart old new e

@@ -1,5 +1,5 @@
 -- Rows of cells that are read one after another.
-use Rattle.std.specs.Prelude.{◌≡◌, ◌≢◌, ℕ, ◌+◌, ◌*◌, ◌<◌, ◌≤◌, ℤ, List, ◌++◌, length, take, slice_set, Result, Ok, Err}
+use Rattle.std.specs.Prelude.{◌≡◌, ◌≢◌, ℕ, ◌+◌, ◌*◌, ◌<◌, ◌≤◌, ℤ, List, ◌++◌, length, map, take, slice_set, None, Result, Ok, Err}
 use Rattle.std.specs.Int.{Width}
 use Rattle.jxlm_base.specs.Bits.{bytes_of, position_of}
 use Rattle.jxlm_base.specs.Decoding.{Meaning}
@@ -9,20 +9,23 @@ use Rattle.jxlm_base.specs.Regions.{AllLie, LieApart, grid_of, grids_in, region,
 use Rattle.jxlm_base.specs.declared.decoder.DecoderError.{DecoderError}
 use Rattle.jxlm_base.specs.declared.decoder.DecoderError.TheVariants.{OutOfMemory}
 use Rattle.jxlm_base.specs.declared.subgrid.Region.{Region}
+use Rattle.jxlm_ma.specs.Paths.{Gives, steps_on}
+use Rattle.jxlm_tree.specs.EarlierRows.{AreRowsOf}
 use Rattle.jxlm_tree.specs.Standing.{StandsAt}
+use Rattle.jxlm_tree.specs.declared.earlier.EarlierRow.{EarlierRow}
 use Rattle.jxlm_tree.specs.declared.state.PredictorState.{PredictorState}
 use Rattle.jxlm_part.specs.Coded.{part_rule}
 use Rattle.jxlm_part.specs.Part.{Part}
 use Rattle.jxlm_part.specs.Reading.{FindsClusters, HasRoom, IsCodingOf, cost_of, part_of, regions_of, tree_of}
 use Rattle.jxlm_part.specs.Rule.{Rule, CodedPrefix}
-use Rattle.jxlm_part.specs.Inner.Channels.{StandsIn, region_at, setting_of}
-use Rattle.jxlm_part.specs.Inner.Leaves.{Leads, steps_by}
+use Rattle.jxlm_part.specs.Inner.Channels.{region_at, setting_of}
+use Rattle.jxlm_part.specs.Inner.Paths.{Allows, steps_walked}
 use Rattle.jxlm_part.specs.Inner.Progress.{preceding_cells}
-use Rattle.jxlm_part.specs.Inner.Source.{Source}
+use Rattle.jxlm_part.specs.Inner.Source.{InSingles, Source}
 use Rattle.jxlm_part.specs.declared.coding.PartCoding.{PartCoding}
-use Rattle.jxlm_part.specs.declared.leaves.Way.{Way}
-use Rattle.jxlm_part.specs.declared.leaves.Way.TheVariants as way
+use Rattle.jxlm_part.specs.declared.rows.Line.{Line}
 use Rattle.jxlm_part.specs.declared.rows.RowError.{RowError}
+use Rattle.jxlm_part.specs.declared.source.Walk.{Walk}
 
 -- a rule, for the cells that come after these
 abbrev pub rule_after : {S : Type 0} → Rule S → List ℤ → Rule S
@@ -31,16 +34,32 @@ rule_after rule before = record {
   value = λ row token. rule.value (before ++ row) token;
 }
 
-module _ {S : Type 0} (d : Meaning S) (rule : Rule S) (row : List ℤ) where
+-- ---- cells and rows by a rule, each in at most `cost` steps
+
+module _ {S : Type 0} (d : Meaning S) (cost : ℕ) (rule : Rule S) (row : List ℤ) where
   -- the cells before column x of the row were read
   pub record ReadsCells (x : ℕ) (old new : Source S) : Type 0 where
     pub reads : CodedPrefix rule row old.decoder (position_of old.bits) x new.decoder (position_of new.bits)
     pub clusters : d.cluster_map new.decoder ≡ d.cluster_map old.decoder
     pub bytes : bytes_of new.bits ≡ bytes_of old.bits
+    pub work : new.steps ≤ old.steps + x * cost
+    pub more : old.steps ≤ new.steps
 
-  -- all cells of the row were read
-  abbrev pub ReadsRow : Source S → Source S → Type 0
-  ReadsRow old new = ReadsCells (length row) old new
+  -- the cells of the row before one were read, and the read of that one returned an error
+  pub record FailsRow (old new : Source S) (r : RowError) : Type 0 where
+    pub state : S
+    pub inside : r.column < length row
+    pub reads : CodedPrefix rule row old.decoder (position_of old.bits) r.column state (position_of new.bits)
+    pub error : rule.read (take r.column row) state (position_of new.bits) ≡ Err r.error
+    pub memory : r.error ≢ OutOfMemory
+    pub bytes : bytes_of new.bits ≡ bytes_of old.bits
+    pub work : new.steps ≤ old.steps + (r.column + 1) * cost
+    pub more : old.steps ≤ new.steps
+
+  -- what the read of the whole row returned
+  abbrev pub ReadsRow : Result (Unit {0}) RowError → Source S → Source S → Type 0
+  ReadsRow (Ok u) old new = ReadsCells (length row) old new
+  ReadsRow (Err r) old new = FailsRow old new r
 
   -- cell x was read, and it is in the row now
   pub record ReadsCell (x : ℕ) (old new : Source S) (now : List ℤ) : Type 0 where
@@ -50,25 +69,25 @@ module _ {S : Type 0} (d : Meaning S) (rule : Rule S) (row : List ℤ) where
     pub written : now ≡ slice_set row x (rule.value (take x row) token)
     pub clusters : d.cluster_map new.decoder ≡ d.cluster_map old.decoder
     pub bytes : bytes_of new.bits ≡ bytes_of old.bits
+    pub work : new.steps ≤ old.steps + cost
+    pub more : old.steps ≤ new.steps
 
-module _ {S : Type 0} (rule : Rule S) (row : List ℤ) where
-  -- the cells of the row before one were read, and the read of that one returned an error
-  pub record FailsRow (old new : Source S) (r : RowError) : Type 0 where
-    pub state : S
-    pub inside : r.column < length row
-    pub reads : CodedPrefix rule row old.decoder (position_of old.bits) r.column state (position_of new.bits)
-    pub error : rule.read (take r.column row) state (position_of new.bits) ≡ Err r.error
-    pub memory : r.error ≢ OutOfMemory
-    pub bytes : bytes_of new.bits ≡ bytes_of old.bits
-
-  -- the read of cell x returned the error e, and nothing changed
+  -- the read of cell x returned the error e, and nothing else changed
   pub record FailsCell (x : ℕ) (old new : Source S) (now : List ℤ) (e : DecoderError) : Type 0 where
     pub error : rule.read (take x row) old.decoder (position_of old.bits) ≡ Err e
     pub row_is : now ≡ row
-    pub state_is : new.decoder ≡ old.decoder
     pub place_is : position_of new.bits ≡ position_of old.bits
     pub memory : e ≢ OutOfMemory
     pub bytes : bytes_of new.bits ≡ bytes_of old.bits
+    pub work : new.steps ≤ old.steps + cost
+    pub more : old.steps ≤ new.steps
+
+-- two rules read the same for each cell of a row of n cells
+abbrev pub AreAlike : {S : Type 0} → Rule S → Rule S → ℕ → Type 0
+AreAlike {S} a b n = (row : List ℤ) → length row < n →
+    ((s : S) (p : ℕ) → a.read row s p ≡ b.read row s p) × ((token : ℕ) → a.value row token ≡ b.value row token)
+
+-- ---- rows that are written
 
 -- the first n columns of a region
 abbrev pub first_columns : Region → ℕ → Region
@@ -82,25 +101,19 @@ SetsRead r y row (Ok u) old new result = SetsRow r y row old new × (result ≡ 
 SetsRead r y row (Err e) old new result =
     SetsRow (first_columns r e.column) y (take e.column row) old new × (result ≡ Err e.error)
 
--- two rules read the same for each cell of a row of n cells
-abbrev pub AreAlike : {S : Type 0} → Rule S → Rule S → ℕ → Type 0
-AreAlike {S} a b n = (row : List ℤ) → length row < n →
-    ((s : S) (p : ℕ) → a.read row s p ≡ b.read row s p) × ((token : ℕ) → a.value row token ≡ b.value row token)
+-- ---- rows of a part
 
--- What holds while a part is decoded: the regions lie in the store, no two of them share a cell, and the decoder has
--- the clusters that the tree asks for.
-pub record IsDecodingPart {D X : Type 0} (c : PartCoding D) (store : List (Grid X)) (clusters : List ℕ) : Type 0 where
+-- What holds while a part is decoded: the regions lie in the store, and no two of them share a cell.
+pub record IsDecodingPart {D X : Type 0} (c : PartCoding D) (store : List (Grid X)) : Type 0 where
   pub coding : IsCodingOf c
   pub lie : AllLie (regions_of c) store
   pub apart : LieApart (regions_of c)
-  pub clusters_found : FindsClusters c clusters
 
 -- the same for its channel i, which has columns
-pub record IsDecoding {D X : Type 0} (c : PartCoding D) (i : ℕ) (store : List (Grid X)) (clusters : List ℕ) : Type 0
-  where
-    pub part : IsDecodingPart c store clusters
-    pub channel : i < length (regions_of c)
-    pub columns : 0 < (region_at (regions_of c) i).width
+pub record IsDecoding {D X : Type 0} (c : PartCoding D) (i : ℕ) (store : List (Grid X)) : Type 0 where
+  pub part : IsDecodingPart c store
+  pub channel : i < length (regions_of c)
+  pub columns : 0 < (region_at (regions_of c) i).width
 
 -- the cell in column x of row y is two or more columns and rows away from every edge but the last row
 pub record IsAway (x y width : ℕ) : Type 0 where
@@ -117,39 +130,66 @@ abbrev pub row_rule : {S : Type 0} → Meaning S → Width → Part → List ℕ
 row_rule d w part bytes regions ints i y =
     rule_after (part_rule d w part bytes) (preceding_cells part (grids_in regions ints) i 0 y)
 
-module _ {D X : Type 0} (c : PartCoding D) (to_int : X → ℤ) (store : List (Grid X)) (i y : ℕ) where
-  -- the same, in a store
-  abbrev pub rule_in : Meaning D → Width → List ℕ → Rule D
-  rule_in d w bytes = row_rule d w (part_of c) bytes (regions_of c) (store_meanings to_int store) i y
+-- the state is at the cell after the rows above row y of channel i and these cells of that row
+abbrev pub StandsInRow : {D X : Type 0} → PartCoding D → (X → ℤ) → List (Grid X) → ℕ → ℕ → List ℤ → PredictorState X → Type 0
+StandsInRow c to_int store i y row state =
+    let r : Region = region_at (regions_of c) i in
+    StandsAt state (setting_of c i) (take (y * r.width) (grid_of (store_meanings to_int store) r).cells ++ row)
 
-  -- Cells of row y from one column to before another were read: wherever those before the first one were read from, all
-  -- before the other one were read from there then.
-  abbrev pub ReadsOn : Meaning D → Width → ℕ → ℕ → List ℤ → List ℤ → Source D → Source D → Type 0
-  ReadsOn d w from to row now old new = (start : Source D) →
-      ReadsCells d (rule_in d w (bytes_of start.bits)) row from start old →
-      ReadsCells d (rule_in d w (bytes_of start.bits)) now to start new
+module _ {D X : Type 0} (l : Line X D) where
+  -- the region of its channel
+  abbrev pub region_on : Region
+  region_on = region_at (regions_of l.coding.now) l.i
 
-  -- the same, up to a cell whose read returned an error
-  abbrev pub FailsOn : Meaning D → Width → ℕ → List ℤ → List ℤ → Source D → Source D → RowError → Type 0
-  FailsOn d w from row now old new r = (start : Source D) →
-      ReadsCells d (rule_in d w (bytes_of start.bits)) row from start old →
-      FailsRow (rule_in d w (bytes_of start.bits)) now start new r
+  -- the path of its channel gives what the tree gives
+  pub record IsLine : Type 0 where
+    pub here : IsDecoding l.coding.now l.i l.store.now
+    pub below : l.y < region_on.height
+    pub gives : Gives (tree_of l.coding.now l.i) l.path
+    pub allows : Allows l.path
+    pub steps : steps_on l.path l.coding.now.config.now.tree ≤ cost_of l.coding.now
 
-  -- the state is at the cell after the rows above row y of channel i and these cells of that row
-  abbrev pub StandsInRow : List ℤ → PredictorState X → Type 0
-  StandsInRow row state =
-      let r : Region = region_at (regions_of c) i in
-      StandsAt state (setting_of c i) (take (y * r.width) (grid_of (store_meanings to_int store) r).cells ++ row)
+  -- its cells are read one by one, with these rows of earlier channels at hand
+  pub record IsWalked (rows : List (EarlierRow X)) : Type 0 where
+    pub line : IsLine
+    pub steps : steps_walked l.path l.coding.now.config.now.tree ≤ cost_of l.coding.now
+    pub are_rows : AreRowsOf (setting_of l.coding.now l.i).earlier l.store.now l.y rows
 
-  -- the same; where rows are read at a leaf or from the row above, the state is anywhere in channel i
-  abbrev pub StandsBy : Way → List ℤ → PredictorState X → Type 0
-  StandsBy (way.Leaf l) row state = StandsIn c i state
-  StandsBy (way.Table t) row state = StandsIn c i state
-  StandsBy (way.Cells t) row state = StandsInRow row state
+  module _ (d : Meaning D) (to_int : X → ℤ) (w : Width) where
+    -- how its cells are read
+    abbrev pub rule_on : List ℕ → Rule D
+    rule_on bytes = row_rule d w (part_of l.coding.now) bytes (regions_of l.coding.now) (store_meanings to_int l.store.now) l.i l.y
 
-  -- so it is, and the tree leads where rows are read, in so many steps; there is room for each channel
-  pub record IsInRow (by : Way) (row : List ℤ) (state : PredictorState X) : Type 0 where
-    pub leads : Leads (tree_of c i) by
-    pub steps : steps_by by c.config.now.tree ≤ cost_of c
-    pub stands : StandsBy by row state
-    pub roomy : HasRoom c state
+    -- what the read of the row returned, and what it left
+    abbrev pub RowGives : List X → Source D → Source D → Result (Unit {0}) RowError → Type 0
+    RowGives row old new result = InSingles d old new
+        (ReadsRow d (cost_of l.coding.now) (rule_on (bytes_of old.bits)) (map to_int row) result)
+
+    -- the walk is before cell x of the row
+    pub record IsAtCell (x : ℕ) (row : List X) (walk : Walk X D) : Type 0 where
+      pub long : length row ≡ region_on.width
+      pub stands : StandsInRow l.coding.now to_int l.store.now l.i l.y (take x (map to_int row)) walk.state
+      pub roomy : HasRoom l.coding.now walk.state
+      pub clusters : FindsClusters l.coding.now (d.cluster_map walk.source.decoder)
+      pub single : walk.source.run ≡ None
+
+    -- what the read of cell x returned, and what it left
+    abbrev pub CellGives : ℕ → List X → List X → Walk X D → Walk X D → Result (Unit {0}) DecoderError → Type 0
+    CellGives x row now old new (Ok u) =
+        ReadsCell d (cost_of l.coding.now) (rule_on (bytes_of old.source.bits)) (map to_int row) x old.source new.source (map to_int now)
+        × IsAtCell (x + 1) now new
+    CellGives x row now old new (Err e) =
+        FailsCell d (cost_of l.coding.now) (rule_on (bytes_of old.source.bits)) (map to_int row) x old.source new.source (map to_int now) e
+        × (new.source.run ≡ None)
+
+    -- What the read of the cells from one column to before another returned, and what it left: wherever those before the
+    -- first one were read from.
+    abbrev pub CellsGive : ℕ → ℕ → List X → List X → Walk X D → Walk X D → Result (Unit {0}) RowError → Type 0
+    CellsGive from to row now old new (Ok u) =
+        ((start : Source D) → ReadsCells d (cost_of l.coding.now) (rule_on (bytes_of start.bits)) (map to_int row) from start old.source →
+        ReadsCells d (cost_of l.coding.now) (rule_on (bytes_of start.bits)) (map to_int now) to start new.source)
+        × IsAtCell to now new
+    CellsGive from to row now old new (Err r) =
+        ((start : Source D) → ReadsCells d (cost_of l.coding.now) (rule_on (bytes_of start.bits)) (map to_int row) from start old.source →
+        FailsRow d (cost_of l.coding.now) (rule_on (bytes_of start.bits)) (map to_int now) start new.source r)
+        × (new.source.run ≡ None)

@@ -1,24 +1,22 @@
 use Rattle.std.proofs.Common.{◌∙◌}
-use Rattle.jxlm_part.specs.Inner.Source.{source}
-use Rattle.jxlm_part.proofs.Decoding.{row_below, row_decoded, row_failed}
+use Rattle.jxlm_part.specs.declared.rows.Line.{Line}
+use Rattle.jxlm_part.proofs.Decoding.{error_inside, row_below, row_gives}
 use Rattle.jxlm_part.proofs.decode.decode_row.Goals as goal
 
-pub returns-clause-ok : goal.returns-clause-ok
-returns-clause-ok g c =
-    row_decoded c.args.coding.now g.D.Decoder.meaning g.S.Sealed.width g.S.Sealed.to_int c.args.i c.args.y c.args.store.now c.write_read.new.store c.read_any_row-read.new.row _
-    c.requires.here c.requires.in_rows (c.read_any_row-read.auto.row ∙ c.requires.long) c.read_any_row-read.result _ c.write_read.ensures
-    (source c.args.decoder.now c.args.bits.now) (source c.read_any_row-read.new.decoder c.read_any_row-read.new.bits) c.args.steps.now c.read_any_row-read.new.steps c.read_any_row-read.ensures.more
-    c.read_any_row-read.ensures.ok c.read_any_row-read.ensures.cost
+pub write_read-requires-clause-inside : goal.write_read-requires-clause-inside
+write_read-requires-clause-inside g c =
+    let l : Line g.row.S.Denot g.row.D.Denot = record { coding = c.args.coding; store = record { ref_ptr = c.args.store.ref_ptr; now = c.args.store.now }; path = c.args.path; i = c.args.i; y = c.args.y } in
+    error_inside l g.D.Decoder.meaning g.S.Sealed.width g.S.Sealed.to_int c.requires.at.here c.requires.below c.args.store.now c.read_row-read.new.row (c.read_row-read.auto.row ∙ c.requires.long) c.args.walk.now.source c.read_row-read.new.walk.source
+    c.read_row-read.result c.read_row-read.ensures.gives c.requires.at.ready.singles
 
-pub returns-clause-err : goal.returns-clause-err
-returns-clause-err g c =
-    row_failed c.args.coding.now g.D.Decoder.meaning g.S.Sealed.width g.S.Sealed.to_int c.args.i c.args.y c.args.store.now c.write_read.new.store c.read_any_row-read.new.row _
-    c.requires.here c.requires.in_rows (c.read_any_row-read.auto.row ∙ c.requires.long) c.read_any_row-read.result _ c.write_read.ensures
-    (source c.args.decoder.now c.args.bits.now) (source c.read_any_row-read.new.decoder c.read_any_row-read.new.bits) c.args.steps.now c.read_any_row-read.new.steps c.read_any_row-read.ensures.more
-    c.read_any_row-read.ensures.err c.read_any_row-read.ensures.cost_so_far
+pub returns-clause-gives : goal.returns-clause-gives
+returns-clause-gives g c =
+    let l : Line g.row.S.Denot g.row.D.Denot = record { coding = c.args.coding; store = record { ref_ptr = c.args.store.ref_ptr; now = c.args.store.now }; path = c.args.path; i = c.args.i; y = c.args.y } in
+    row_gives l g.D.Decoder.meaning g.S.Sealed.width g.S.Sealed.to_int c.requires.at.here c.requires.below c.write_read.new.store c.read_row-read.new.row (c.read_row-read.auto.row ∙ c.requires.long) c.args.walk.now.source c.read_row-read.new.walk.source
+    c.read_row-read.result c.read_row-read.ensures.gives c.write_read.result c.write_read.ensures
 
-pub returns-clause-at_row : goal.returns-clause-at_row
-returns-clause-at_row g c =
-    row_below c.args.coding.now g.D.Decoder.meaning g.S.Sealed.width g.S.Sealed.to_int c.args.i c.args.y c.args.store.now c.write_read.new.store c.read_any_row-read.new.row _
-    c.requires.here c.requires.in_rows (c.read_any_row-read.auto.row ∙ c.requires.long) c.read_any_row-read.result _ c.write_read.ensures
-    c.args.way c.read_any_row-read.new.state c.read_any_row-read.ensures.at_row
+pub returns-clause-at : goal.returns-clause-at
+returns-clause-at g c =
+    let l : Line g.row.S.Denot g.row.D.Denot = record { coding = c.args.coding; store = record { ref_ptr = c.args.store.ref_ptr; now = c.args.store.now }; path = c.args.path; i = c.args.i; y = c.args.y } in
+    row_below l g.D.Decoder.meaning g.S.Sealed.width g.S.Sealed.to_int c.requires.at.here c.requires.below c.write_read.new.store c.read_row-read.new.row (c.read_row-read.auto.row ∙ c.requires.long) c.args.walk.now c.read_row-read.new.walk
+    g.met.D.Decoder.lawful c.requires.at c.read_row-read.result c.write_read.result c.write_read.ensures c.read_row-read.ensures.gives c.read_row-read.ensures.state

@@ -1,0 +1,100 @@
+-- Rows whose cells are predicted by 0.
+use Rattle.std.proofs.Common.{◌≡◌, ℕ, zero, suc, ◌+◌, ◌<◌, ◌≤◌, List, [], ◌∷◌, ◌++◌, Contains, length, take, map, Some, Ok, Err, refl, sym, ap, ◌∙◌, subst, arith, ℤ, pos}
+use Rattle.std.specs.Prelude.{replicate, slice_get, slice_set}
+use Rattle.std.specs.Int.{Width}
+use Rattle.std.proofs.lemmas.List.{length-map, length-replicate, map-set, replicate_more, take_more_set}
+use Rattle.jxlm_base.specs.Bits.{bytes_of, position_of}
+use Rattle.jxlm_base.specs.Decoding.{IsLawful, Meaning, ReadGives}
+use Rattle.jxlm_base.specs.declared.decoder.DecoderError.{DecoderError}
+use Rattle.jxlm_ma.specs.declared.flat.Leaf.{Leaf}
+use Rattle.jxlm_part.specs.Coded.{sample_of}
+use Rattle.jxlm_part.specs.Inner.Paths.{zero_rule}
+use Rattle.jxlm_part.specs.Inner.Rows.{FailsRow, ReadsCells}
+use Rattle.jxlm_part.specs.Inner.Source.{Source}
+use Rattle.jxlm_part.specs.Rule.{Rule, CodedPrefix}
+use Rattle.jxlm_part.proofs.RowReads.{cell_fails, cell_more}
+
+-- The loop over the cells of a row: `start` is where the row began, `old` where the reader is at column x, `new` where it
+-- is after the next read.
+module _ {D X : Type 0} (d : Meaning D) (law : IsLawful d) (w : Width) (to_int : X → ℤ) (l : Leaf) (widest : ℕ) (start old new : Source D) (row : List X) (x : ℕ)
+    (known : Contains (d.cluster_map start.decoder) l.cluster) (inside : x < length row) where
+  abbrev rule : Rule D
+  rule = zero_rule d w (bytes_of start.bits) widest l
+
+  abbrev R : List ℤ
+  R = map to_int row
+
+  module _ (h : ReadsCells d 0 rule R x start old) (same : bytes_of new.bits ≡ bytes_of old.bits) (step : new.steps ≡ old.steps) where
+    pub known_here : Contains (d.cluster_map old.decoder) l.cluster
+    known_here = subst (λ clusters. Contains clusters l.cluster) (sym h.clusters) known
+
+    in_row : x < length R
+    in_row = let m = length-map row to_int in omega (arith, m, inside)
+
+    -- one more was read, and its sample written
+    pub zero_more : (token : ℕ) (v : X) → d.read old.decoder (bytes_of old.bits) (position_of old.bits) l.cluster widest ≡ Ok (record { value = token; state = new.decoder; position = position_of new.bits }) →
+        to_int v ≡ sample_of w l (pos 0) token → ReadsCells d 0 rule (map to_int (slice_set row x v)) (x + 1) start new
+    zero_more token v read value = cell_more d 0 rule start R x old in_row h new (map to_int (slice_set row x v)) (record {
+      token = token;
+      read = subst (λ bytes. d.read old.decoder bytes (position_of old.bits) l.cluster widest ≡ Ok (record { value = token; state = new.decoder; position = position_of new.bits })) h.bytes read;
+      written = map-set to_int row x v ∙ ap (slice_set R x) value;
+      clusters = (law.read_keeps old.decoder (bytes_of old.bits) (position_of old.bits) l.cluster widest _ known_here read).clusters;
+      bytes = same;
+      work = omega (arith, step);
+      more = omega (arith, step);
+    })
+
+    -- the read returned an error
+    pub zero_ends : (e : DecoderError) → ReadGives (Err e) old.decoder new.decoder (position_of old.bits) (position_of new.bits) (d.read old.decoder (bytes_of old.bits) (position_of old.bits) l.cluster widest) →
+        FailsRow d 0 rule R start new (record { column = x; error = e })
+    zero_ends e gives = cell_fails d 0 rule start R x old in_row h new R e (record {
+      error = subst (λ bytes. d.read old.decoder bytes (position_of old.bits) l.cluster widest ≡ Err e) h.bytes gives.0;
+      row_is = refl;
+      place_is = gives.2;
+      memory = λ out. law.read_memory old.decoder (bytes_of old.bits) (position_of old.bits) l.cluster widest known_here (gives.0 ∙ ap Err out);
+      bytes = same;
+      work = omega (arith, step);
+      more = omega (arith, step);
+    })
+
+-- ---- a row of one sample
+
+get_filled : (n k : ℕ) (v : ℤ) → k < n → slice_get (replicate n v) k ≡ Some v
+get_filled zero k v inside = absurd (omega arith)
+get_filled (suc n) zero v inside = refl
+get_filled (suc n) (suc k) v inside = get_filled n k v (omega arith)
+
+-- one cell more is filled
+pub fill_more : {X : Type 0} (to_int : X → ℤ) (row : List X) (x : ℕ) (v : X) (z : ℤ) → x < length row → take x (map to_int row) ≡ replicate x z → to_int v ≡ z →
+    take (x + 1) (map to_int (slice_set row x v)) ≡ replicate (x + 1) z
+fill_more to_int row x v z inside filled is =
+    let R = map to_int row in
+    let in_row : x < length R = let m = length-map row to_int in omega (arith, m, inside) in
+    let here : take (x + 1) (slice_set R x (to_int v)) ≡ replicate x z ++ to_int v ∷ [] = take_more_set R x (to_int v) in_row ∙ ap (λ r. r ++ to_int v ∷ []) filled in
+    ap (take (x + 1)) (map-set to_int row x v) ∙ here ∙ ap (λ y. replicate x z ++ y ∷ []) is ∙ replicate_more x z
+
+-- Where a cluster has one token, reading a row at a leaf that predicts by 0 fills the row with one sample.
+module _ {D : Type 0} (d : Meaning D) (lawful : IsLawful d) (w : Width) (l : Leaf) (widest : ℕ) (at : Source D) (token : ℕ) (known : Contains (d.cluster_map at.decoder) l.cluster)
+    (single : d.single_token at.decoder l.cluster ≡ Some token) where
+  abbrev fixed : Rule D
+  fixed = zero_rule d w (bytes_of at.bits) widest l
+
+  abbrev cells : ℕ → List ℤ
+  cells n = replicate n (sample_of w l (pos 0) token)
+
+  fixed_cells : (n k : ℕ) → k ≤ n → CodedPrefix fixed (cells n) at.decoder (position_of at.bits) k at.decoder (position_of at.bits)
+  fixed_cells n zero le = (refl, refl)
+  fixed_cells n (suc k) le = (
+    at.decoder,
+    position_of at.bits,
+    token,
+    fixed_cells n k (omega arith),
+    lawful.single_read at.decoder (bytes_of at.bits) (position_of at.bits) l.cluster widest token known single,
+    get_filled n k (sample_of w l (pos 0) token) (omega arith),
+  )
+
+  pub fills_row : (n : ℕ) (R : List ℤ) → R ≡ cells n → ReadsCells d 0 fixed R (length R) at at
+  fills_row n R is =
+      let long : length (cells n) ≡ n = length-replicate n (sample_of w l (pos 0) token) in
+      let all : ReadsCells d 0 fixed (cells n) (length (cells n)) at at = record { reads = fixed_cells n (length (cells n)) (omega (arith, long)); clusters = refl; bytes = refl; work = omega arith; more = omega arith } in
+      subst (λ r. ReadsCells d 0 fixed r (length r) at at) (sym is) all

@@ -1,0 +1,37 @@
+//! What tokens are taken from, and what the decoding of a part changes beside its store.
+
+use jxlm_base::bits::Bitstream;
+use jxlm_base::decoder::Decoder;
+use jxlm_ma::flat::Steps;
+use jxlm_tree::predictor::PredictorState;
+
+/// The run that is being taken.
+#[derive(Clone, Copy)]
+pub(crate) struct Run {
+    /// How many of its tokens are left.
+    pub(crate) left: u32,
+    /// The last token, or 0 before the first one.
+    pub(crate) token: u32,
+}
+
+/// What tokens are taken from.
+#[derive(Drop)]
+pub(crate) struct Source<'b, D: Decoder> {
+    /// The entropy decoder.
+    pub(crate) decoder: D,
+    /// The reader of its bits.
+    pub(crate) bits: Bitstream<'b>,
+    /// The run that is being taken, where tokens are taken in runs.
+    pub(crate) run: Option<Run>,
+    /// The steps that were taken in trees.
+    pub(crate) steps: Steps,
+}
+
+/// What the decoding of a part changes beside its store.
+#[derive(Drop)]
+pub(crate) struct Walk<'b, S, D: Decoder> {
+    /// What tokens are taken from.
+    pub(crate) source: Source<'b, D>,
+    /// The state of the predictors.
+    pub(crate) state: PredictorState<S>,
+}
