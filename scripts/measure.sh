@@ -1,5 +1,5 @@
 #!/bin/sh
-# Counts the instructions that decoding takes, a sample: measure.sh PROGRAM FOLDER [SIDE]
+# Counts the instructions that decoding takes, a sample, and encoding: measure.sh PROGRAM FOLDER [SIDE [JXLMOD]]
 #
 # PROGRAM is jxlbench, built; FOLDER has pictures of scripts/speed_inputs.py, of three channels of SIDE by SIDE samples,
 # 256 unless another side is given. A run of three decodes is counted and a run of one, and their difference is divided
@@ -9,37 +9,73 @@
 #
 # For each picture a line: its name, the instructions a sample at 16 and at 32 bits, and the two checksums. A picture
 # whose name ends in -cut is decoded from its sections. It needs valgrind.
+#
+# Where JXLMOD is given, which is jxlmod, built, a second line follows for each picture in one part that both widths hold:
+# its image is encoded under one leaf, which predicts by the gradient. The line has its name and the word encoded; the
+# instructions a sample of encoding it in the first plain format, of decoding what that wrote, and of both in the second
+# format, each at 16 and at 32 bits; and the bytes that the first format takes, and the second.
 set -eu
 program=$1
 folder=$2
 side=${3:-256}
+jxlmod=${4:-}
+if [ -n "$jxlmod" ]; then
+    made=$(mktemp -d)
+    trap 'rm -rf "$made"' EXIT
+fi
 
-# The arguments that a picture is decoded by, for samples of this type, so many times.
-arguments() {
+# The command that a picture is decoded by.
+command_of() {
     case $1 in
-        *-cut) echo "sections $side $side 3 8 $2 $((side / 4)) $3" ;;
-        *) echo "decode $side $side 3 8 $2 $3" ;;
+        *-cut) echo sections ;;
+        *) echo decode ;;
     esac
 }
 
+# The arguments of a command, for samples of this type, so many times.
+arguments() {
+    case $1 in
+        sections*) echo "$1 $side $side 3 8 $2 $((side / 4)) $3" ;;
+        *) echo "$1 $side $side 3 8 $2 $3" ;;
+    esac
+}
+
+# The instructions of a run on a file.
 counted() {
     # The arguments are words of their own.
     # shellcheck disable=SC2046
-    valgrind --tool=callgrind --callgrind-out-file=/dev/null "$program" $(arguments "$@") \
+    valgrind --tool=callgrind --callgrind-out-file=/dev/null "$program" $(arguments "$2" "$3" "$4") \
         < "$1" 2>&1 > /dev/null | sed -n 's/.*Collected : \([0-9]*\).*/\1/p'
+}
+
+# The instructions a sample of a command on a file, at 16 and at 32 bits.
+both_widths() {
+    for samples in i16 i32; do
+        three=$(counted "$1" "$2" "$samples" 3)
+        one=$(counted "$1" "$2" "$samples" 1)
+        echo "$three $one $side" | awk '{ printf " %.1f", ($1 - $2) / (6 * $3 * $3) }'
+    done
 }
 
 checksum() {
     # shellcheck disable=SC2046
-    "$program" $(arguments "$1" "$2" 1) < "$1" | sed -n 's/^checksum //p'
+    "$program" $(arguments "$2" "$3" 1) < "$1" | sed -n 's/^checksum //p'
+}
+
+encoded() {
+    "$jxlmod" decode "$side" "$side" 3 8 i32 < "$1" > "$made/text"
+    "$jxlmod" encode i32 < "$made/text" > "$made/first"
+    "$jxlmod" encode2 i32 < "$made/text" > "$made/second"
+    line="$(both_widths "$1" encode)$(both_widths "$made/first" decode)"
+    line="$line$(both_widths "$1" encode2)$(both_widths "$made/second" decode2)"
+    echo "$(basename "$1") encoded$line $(wc -c < "$made/first") $(wc -c < "$made/second")"
 }
 
 for picture in "$folder"/*; do
-    line=$(basename "$picture")
-    for samples in i16 i32; do
-        three=$(counted "$picture" "$samples" 3)
-        one=$(counted "$picture" "$samples" 1)
-        line="$line $(echo "$three $one $side" | awk '{ printf "%.1f", ($1 - $2) / (6 * $3 * $3) }')"
-    done
-    echo "$line $(checksum "$picture" i16) $(checksum "$picture" i32)"
+    command=$(command_of "$picture")
+    sums="$(checksum "$picture" "$command" i16) $(checksum "$picture" "$command" i32)"
+    echo "$(basename "$picture")$(both_widths "$picture" "$command") $sums"
+    if [ -n "$jxlmod" ] && [ "$command" = decode ] && [ "${sums% *}" = "${sums#* }" ]; then
+        encoded "$picture"
+    fi
 done

@@ -61,4 +61,6 @@ pub use Rattle.jxlm_part.specs.Rule
 pub use Rattle.jxlm_part.specs.Coded
 pub use Rattle.jxlm_part.specs.Decode
 pub use Rattle.jxlm_part.specs.Token
+pub use Rattle.jxlm_write.specs.Headers
+pub use Rattle.jxlm_encode.specs.Encoded
 pub mod Inner

@@ -16,3 +16,7 @@ pub use Rattle.jxlm_transform.specs.declared.param.ModularParams
 pub use Rattle.jxlm_transform.specs.declared.transform.Palette
 pub use Rattle.jxlm_transform.specs.declared.transform.Rct
 pub use Rattle.jxlm_transform.specs.declared.transform.SqueezeParams
+pub use Rattle.jxlm_write.specs.declared.header.EncodeTransform
+pub use Rattle.jxlm_write.specs.declared.header.SqueezeStep
+pub use Rattle.jxlm_write.specs.declared.tree.EncodeNode
+pub use Rattle.jxlm_encode.specs.declared.error.EncodeError

@@ -19,10 +19,10 @@ pub mod decoder {
     pub use jxlm_base::decoder::{Decoder, DecoderError, RleToken};
 }
 
-/// A lossless encoder.
+/// A lossless encoder, over either plain format.
 pub mod encode {
     pub use jxlm_encode::encode::{
-        EncodeError, EncodeNode, EncodeTransform, SqueezeStep, encode, token_of,
+        EncodeError, EncodeNode, EncodeTransform, SqueezeStep, encode, encode2, token_of,
     };
 }
 
@@ -51,7 +51,7 @@ pub mod param {
     pub use jxlm_transform::param::{ChannelShift, ModularChannelParams, ModularParams};
 }
 
-/// The plain decoder.
+/// The plain decoders.
 pub mod plain {
     pub use jxlm_plain::plain::PlainDecoder;
     pub use jxlm_plain::plain2::PlainDecoder2;

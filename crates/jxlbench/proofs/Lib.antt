@@ -1,2 +1,3 @@
 mod Alike
+mod Encodings
 mod Sums

@@ -31,3 +31,7 @@ with_samples sum samples = fold with_byte sum (flat_map sample_bytes samples)
 -- the checksum of an image
 abbrev pub checksum : List (Grid ℤ) → ℕ
 checksum grids = with_samples offset_basis (image_samples grids)
+
+-- the checksum of bytes
+abbrev pub bytes_checksum : List ℕ → ℕ
+bytes_checksum bytes = fold with_byte offset_basis bytes

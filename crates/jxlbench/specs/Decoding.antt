@@ -1,8 +1,8 @@
 -- What is measured: the picture at the start of the bytes.
 use Rattle.std.specs.Prelude.{◌≡◌, ℕ, ℤ, List, None}
 use Rattle.std.specs.Int.{Width}
+use Rattle.jxlm_base.specs.Decoding.{Meaning}
 use Rattle.jxlm_base.specs.Grid.{Grid}
-use Rattle.jxlm_plain.specs.Plain.{plain}
 use Rattle.jxlm_transform.specs.Channels.{ChannelList, image_list}
 use Rattle.jxlm_transform.specs.Params.{of_one_size}
 use Rattle.jxl_modular.specs.Picture.{IsPicture}
@@ -16,17 +16,17 @@ use Rattle.jxlbench.specs.declared.request.Source.TheVariants as sources
 abbrev pub channels_asked : Request → ChannelList
 channels_asked r = image_list (of_one_size r.channels r.width r.height)
 
-module _ {S : Type 0} (w : Width) (to_int : S → ℤ) (zero : S) (request : Request) (bytes : List ℕ) where
-  -- the grids are the picture at the start of the bytes, in the format of the plain decoder, at stream index 0
+module _ {V S : Type 0} (d : Meaning V) (w : Width) (to_int : S → ℤ) (zero : S) (request : Request) (bytes : List ℕ) where
+  -- the grids are the picture at the start of the bytes, in the format of a decoder, at stream index 0
   pub record IsPictureOf (grids : List (Grid ℤ)) : Type 0 where
     pub place : ℕ
-    pub picture : IsPicture plain w None bytes 0 (channels_asked request) 0 request.bit_depth grids place
+    pub picture : IsPicture d w None bytes 0 (channels_asked request) 0 request.bit_depth grids place
 
   -- they are the picture that stands there in this way: in one part, or cut into sections
   abbrev pub StandsAs : Source → List (Grid ℤ) → Type 0
   StandsAs sources.Picture grids = IsPictureOf grids
   StandsAs (sources.CutPicture group_dim) grids =
-      IsCutPicture plain w to_int zero (channels_asked request) group_dim request.bit_depth bytes grids
+      IsCutPicture d w to_int zero (channels_asked request) group_dim request.bit_depth bytes grids
 
   -- they are the picture that is asked for
   abbrev pub IsAsked : List (Grid ℤ) → Type 0

@@ -1,7 +1,7 @@
-//! The checksum of an image's samples: FNV-1a of 64 bits.
+//! The checksum of an image's samples, or of bytes: FNV-1a of 64 bits.
 ghost use Rattle.std.specs.Prelude.{◌≡◌, ◌∷◌, [], map};
 ghost use Rattle.jxlm_base.specs.Grid.{meanings};
-ghost use Rattle.jxlbench.specs.Checksum.{channel_samples, checksum, with_samples};
+ghost use Rattle.jxlbench.specs.Checksum.{bytes_checksum, channel_samples, checksum, with_samples};
 
 use jxl_modular::grid::AlignedGrid;
 use jxl_modular::sample::Sample;
@@ -50,6 +50,17 @@ fn with_sample(before: u64, sample: i32) -> u64
     let mut sum = before;
     for byte in sample.to_le_bytes() {
         sum = (sum ^ u64::from(byte)).wrapping_mul(PRIME);
+    }
+    sum
+}
+
+/// The checksum of bytes.
+pub fn checksum_of_bytes(bytes: &[u8]) -> u64
+    ensures { result ≡ bytes_checksum bytes.now }
+{
+    let mut sum = OFFSET_BASIS;
+    for byte in bytes {
+        sum = (sum ^ u64::from(*byte)).wrapping_mul(PRIME);
     }
     sum
 }

@@ -5,14 +5,15 @@ ghost use Rattle.jxlbench.specs.Decoding.{IsAsked, IsChecksumOf};
 
 use crate::checksum::checksum;
 use crate::request::{Request, Source};
-use crate::run::Failure;
+use crate::run::{Failure, Measured};
 use jxl_modular::bits::Bitstream;
+use jxl_modular::decoder::Decoder;
 use jxl_modular::error::Result;
 use jxl_modular::flat::Steps;
 use jxl_modular::image::ModularImageDestination;
-use jxl_modular::plain::PlainDecoder;
 use jxl_modular::sample::Sample;
-use jxl_modular::{ModularChannelParams, ModularParams, decode_picture};
+use jxl_modular::{ModularChannelParams, decode_picture};
+use jxlm_program::picture::without_tree;
 use jxlm_sections::decode_cut_picture;
 use std::alloc::Global;
 use std::time::{Clock, Instant};
@@ -20,23 +21,15 @@ use std::time::{Clock, Instant};
 /// The side of a group of the images that are in one part.
 const GROUP_DIM: u32 = 256;
 
-/// What was measured.
-pub struct Measured {
-    /// How long all runs together took.
-    pub nanoseconds: u128,
-    /// The checksum of the samples.
-    pub checksum: u64,
-}
-
-/// The image at the start of the bytes, or none where the library takes no such channels.
+/// The image at the start of the bytes, by the format of a decoder, or none where the library takes no such channels.
 #[inline(never)]
-fn image<S: Sample>(
+pub fn image<S: Sample, D: Decoder>(
     alloc: Global,
     bytes: &[u8],
     request: Request,
-) -> Result<Option<ModularImageDestination<S, PlainDecoder>>>
+) -> Result<Option<ModularImageDestination<S, D>>>
     ensures { IfOk result (λ made. IfSome made (λ image.
-        IsAsked S.width S.to_int (S.from_int (pos 0)) request bytes.now (image_grids S.to_int image))) }
+        IsAsked D.meaning S.width S.to_int (S.from_int (pos 0)) request bytes.now (image_grids S.to_int image))) }
 {
     let channel = ModularChannelParams::new(request.width, request.height);
     let channels = vec![in alloc; channel; request.channels as usize]?;
@@ -44,7 +37,7 @@ fn image<S: Sample>(
         Source::Picture => GROUP_DIM,
         Source::CutPicture { group_dim } => group_dim,
     };
-    let params = ModularParams::with_channels(group_dim, request.bit_depth, channels, None);
+    let params = without_tree(group_dim, request.bit_depth, channels);
     if !params.is_valid() {
         return Ok(None);
     }
@@ -58,16 +51,16 @@ fn image<S: Sample>(
 }
 
 /// The same image, parsed, decoded and finished as often as the request says; the last one is returned.
-fn image_again<S: Sample>(
+fn image_again<S: Sample, D: Decoder>(
     alloc: Global,
     bytes: &[u8],
     request: Request,
-) -> Result<Option<ModularImageDestination<S, PlainDecoder>>>
+) -> Result<Option<ModularImageDestination<S, D>>>
     ensures { IfOk result (λ made. IfSome made (λ image.
-        IsAsked S.width S.to_int (S.from_int (pos 0)) request bytes.now (image_grids S.to_int image))) }
+        IsAsked D.meaning S.width S.to_int (S.from_int (pos 0)) request bytes.now (image_grids S.to_int image))) }
 {
     for _ in 1..request.repeat {
-        image::<S>(alloc, bytes, request)?;
+        image::<S, D>(alloc, bytes, request)?;
     }
     image(alloc, bytes, request)
 }
@@ -78,17 +71,17 @@ fn image_again<S: Sample>(
 ///
 /// `WrongArguments` if the library takes no such channels, `ErrorAt` if the image has an error, `Unusable` if the clock
 /// cannot be read.
-pub fn measure<S: Sample, C: Clock>(
+pub fn measure_decoding<S: Sample, D: Decoder, C: Clock>(
     alloc: Global,
     clock: &C,
     bytes: &[u8],
     request: Request,
 ) -> std::result::Result<Measured, Failure>
-    ensures { IfOk result (λ measured. IsChecksumOf S.width S.to_int (S.from_int (pos 0)) request bytes.now
+    ensures { IfOk result (λ measured. IsChecksumOf D.meaning S.width S.to_int (S.from_int (pos 0)) request bytes.now
         measured.checksum) }
 {
     let start = Instant::now(clock)?;
-    let image = image_again::<S>(alloc, bytes, request)?;
+    let image = image_again::<S, D>(alloc, bytes, request)?;
     let passed = start.elapsed(clock)?;
     let Some(image) = image else {
         return Err(Failure::WrongArguments);
@@ -96,5 +89,6 @@ pub fn measure<S: Sample, C: Clock>(
     Ok(Measured {
         nanoseconds: passed.as_nanos(),
         checksum: checksum(image.image_channels()),
+        bytes: 0,
     })
 }

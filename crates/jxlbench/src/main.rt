@@ -1,8 +1,9 @@
-//! Decodes a Modular image of standard input again and again, and prints how long that took.
+//! Decodes a Modular image of standard input again and again, or encodes it, and prints how long that took.
 #![tactic(auto)]
 
 mod checksum;
 mod decoding;
+mod encoding;
 mod request;
 mod run;
 

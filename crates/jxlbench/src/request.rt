@@ -1,7 +1,7 @@
 //! What the arguments ask for.
 ghost use Rattle.std.specs.Prelude.{◌<◌, IfSome};
 
-use jxlm_program::arguments::{Samples, number};
+use jxlm_program::arguments::{Format, Samples, number};
 
 /// How the image stands in the input.
 #[derive(Clone, Copy, Debug, PartialEq, Eq)]
@@ -15,9 +15,22 @@ pub enum Source {
     },
 }
 
-/// What the program is to decode, and how often.
+/// What is done with the image again and again.
+#[derive(Clone, Copy, Debug, PartialEq, Eq)]
+pub enum Task {
+    /// It is decoded.
+    Decode,
+    /// It is encoded.
+    Encode,
+}
+
+/// What the program is to do, and how often.
 #[derive(Clone, Copy, Debug, PartialEq, Eq)]
 pub struct Request {
+    /// What is done.
+    pub task: Task,
+    /// The format that is decoded, or encoded to.
+    pub format: Format,
     /// How the image stands in the input.
     pub source: Source,
     /// How many columns each channel has.
@@ -30,27 +43,34 @@ pub struct Request {
     pub bit_depth: u32,
     /// What the samples are decoded to.
     pub samples: Samples,
-    /// How often the image is decoded.
+    /// How often it is done.
     pub repeat: u32,
 }
 
 impl Request {
-    /// What the words ask for, without the program's name: it is to be decoded at least once.
+    /// What the words ask for, without the program's name: it is to be done at least once.
     pub fn parse(words: &[String]) -> Option<Request>
         ensures { IfSome result (λ request. 0 < request.repeat) }
     {
         let [name, width, height, channels, bit_depth, samples, rest @ ..] = words else {
             return None;
         };
-        let (source, repeat) = match (name.as_str(), rest) {
-            ("decode", [repeat]) => (Source::Picture, repeat),
+        let (name, format) = match name.as_str().strip_suffix('2') {
+            Some(name) => (name, Format::Second),
+            None => (name.as_str(), Format::First),
+        };
+        let (task, source, repeat) = match (name, rest) {
+            ("decode", [repeat]) => (Task::Decode, Source::Picture, repeat),
             ("sections", [group_dim, repeat]) => {
                 let group_dim = number(group_dim.as_str())?;
-                (Source::CutPicture { group_dim }, repeat)
+                (Task::Decode, Source::CutPicture { group_dim }, repeat)
             }
+            ("encode", [repeat]) => (Task::Encode, Source::Picture, repeat),
             _ => return None,
         };
         let request = Request {
+            task,
+            format,
             source,
             width: number(width.as_str())?,
             height: number(height.as_str())?,

@@ -1,4 +1,5 @@
-//! Images that are encoded, and decoded again.
+//! Images that are encoded, and decoded again: rows of the kinds `i16` and `i32` in the first plain format, and of the kinds
+//! `gamma16` and `gamma32` in the second.
 //!
 //! A row asks with three lists, a bar between: the channels, each its sides and its samples, row by row, with a `;` after
 //! each; the transforms, each `rct BEGIN KIND` or `squeeze` and its steps, a step `h` or `v`, `i` in place or `e` at the
@@ -6,19 +7,27 @@
 //! `PREDICTOR:OFFSET`. It gives the bytes or the error. Where there are bytes, they are decoded; and where that is
 //! another image, it gives this.
 
-ghost use Rattle.std.specs.Prelude.{IsTrue};
+ghost use Rattle.std.specs.Prelude.{◌≡◌, None, IsTrue};
 ghost use Rattle.std.specs.List.{All};
 ghost use Rattle.jxlm_encode.specs.Encoded.{IsSmall};
 
 use jxl_modular::bits::Bitstream;
+use jxl_modular::decoder::Decoder;
 use jxl_modular::flat::Steps;
 use jxl_modular::grid::AlignedGrid;
-use jxl_modular::plain::PlainDecoder;
+use jxl_modular::plain::{PlainDecoder, PlainDecoder2};
 use jxl_modular::predictor::Predictor;
 use jxl_modular::{ModularChannelParams, ModularParams, Sample, decode_picture};
 use jxlcheck_text::{number, numbers, signed, word};
-use jxlm_encode::encode::{EncodeNode, EncodeTransform, SqueezeStep, encode};
+use jxlm_encode::encode::{EncodeNode, EncodeTransform, SqueezeStep, encode, encode2};
 use std::alloc::Global;
+
+/// The plain format that an image is encoded in.
+#[derive(Clone, Copy)]
+pub enum Format {
+    First,
+    Second,
+}
 
 /// An image with what it is to be encoded by.
 #[derive(Drop)]
@@ -165,8 +174,19 @@ fn is_same<S: Sample>(samples: &[S], others: &[S]) -> bool {
     same
 }
 
-/// Whether the bytes are decoded to these grids, which have channels.
-fn comes_back<S: Sample>(alloc: Global, bytes: &[u8], grids: &[AlignedGrid<S>]) -> Option<bool> {
+/// Parameters of these channels.
+fn params<'a, D: Decoder>(channels: Vec<ModularChannelParams>) -> ModularParams<'a, D>
+    ensures { result.ma_config ≡ None }
+{
+    ModularParams::with_channels(256, 8, channels, None)
+}
+
+/// Whether a decoder makes these grids of the bytes.
+fn comes_back<S: Sample, D: Decoder>(
+    alloc: Global,
+    bytes: &[u8],
+    grids: &[AlignedGrid<S>],
+) -> Option<bool> {
     let mut channels = Vec::new(alloc);
     for grid in grids {
         let width = u32::try_from(grid.width()).ok()?;
@@ -175,18 +195,12 @@ fn comes_back<S: Sample>(alloc: Global, bytes: &[u8], grids: &[AlignedGrid<S>]) 
             .push(ModularChannelParams::new(width, height))
             .ok()?;
     }
-    let params = ModularParams::with_channels(256, 8, channels, None);
+    let params = params(channels);
     if !params.is_valid() {
         return None;
     }
     let mut bits = Bitstream::new(bytes);
-    let picture = decode_picture::<S, PlainDecoder>(
-        alloc,
-        &mut bits,
-        params,
-        0,
-        &mut Steps::new(),
-    ).ok()?;
+    let picture = decode_picture::<S, D>(alloc, &mut bits, params, 0, &mut Steps::new()).ok()?;
     match picture {
         Some(picture) => Some(are_same(picture.image_channels(), grids)),
         None => Some(grids.is_empty()),
@@ -201,8 +215,17 @@ fn hexadecimal(alloc: Global, bytes: &[u8]) -> Option<String> {
     Some(text)
 }
 
+/// What is said of bytes that are decoded to the image, or to another one.
+fn bytes_or_fault(alloc: Global, bytes: &[u8], same: bool) -> Option<String> {
+    if same {
+        hexadecimal(alloc, bytes)
+    } else {
+        format!(in alloc; "comes back as another image").ok()
+    }
+}
+
 /// What comes of encoding the image of a row.
-pub fn seen<S: Sample>(alloc: Global, asked: &str) -> Option<String> {
+pub fn seen<S: Sample>(alloc: Global, asked: &str, format: Format) -> Option<String> {
     let Asked {
         channels,
         transforms,
@@ -211,14 +234,17 @@ pub fn seen<S: Sample>(alloc: Global, asked: &str) -> Option<String> {
     if !are_small(&channels) || channels.len() > 1 << 20 {
         return None;
     }
-    match encode::<S>(alloc, &channels, &transforms, &tree) {
-        Ok(bytes) => {
-            if comes_back::<S>(alloc, &bytes, &channels)? {
-                hexadecimal(alloc, &bytes)
-            } else {
-                format!(in alloc; "comes back as another image").ok()
-            }
-        }
-        Err(error) => format!(in alloc; "{error}").ok(),
-    }
+    let encoded = match format {
+        Format::First => encode::<S>(alloc, &channels, &transforms, &tree),
+        Format::Second => encode2::<S>(alloc, &channels, &transforms, &tree),
+    };
+    let bytes = match encoded {
+        Ok(bytes) => bytes,
+        Err(error) => return format!(in alloc; "{error}").ok(),
+    };
+    let same = match format {
+        Format::First => comes_back::<S, PlainDecoder>(alloc, &bytes, &channels)?,
+        Format::Second => comes_back::<S, PlainDecoder2>(alloc, &bytes, &channels)?,
+    };
+    bytes_or_fault(alloc, &bytes, same)
 }

@@ -5,6 +5,7 @@
 mod image;
 mod token;
 
+use crate::image::Format;
 use jxlcheck_text::Row;
 use std::alloc::Global;
 use std::io;
@@ -12,8 +13,10 @@ use std::io;
 /// What comes of a row, by its kind; none where the row cannot be read.
 fn seen(alloc: Global, row: &Row<'_>) -> Option<String> {
     match row.kind {
-        "i16" => image::seen::<i16>(alloc, row.asked),
-        "i32" => image::seen::<i32>(alloc, row.asked),
+        "i16" => image::seen::<i16>(alloc, row.asked, Format::First),
+        "i32" => image::seen::<i32>(alloc, row.asked, Format::First),
+        "gamma16" => image::seen::<i16>(alloc, row.asked, Format::Second),
+        "gamma32" => image::seen::<i32>(alloc, row.asked, Format::Second),
         "token" => token::seen(alloc, row.asked),
         _ => None,
     }

@@ -52,7 +52,7 @@ use Rattle.jxlm_write.proofs.Spelled.{each_of}
 use Rattle.jxlm_encode.specs.Encoded.{AreAccepted, EncodeFails, IsTransformRefused, IsEncoded, IsSmall, IsTreeGiven, given_list}
 use Rattle.jxlm_encode.specs.Inner.Listing.{IsNotGiven}
 use Rattle.jxlm_encode.specs.Inner.Placing.{ArePlaced, AreRefused, listed}
-use Rattle.jxlm_encode.specs.Inner.Writing.{AreWritten, ChannelsLie, part_at}
+use Rattle.jxlm_encode.specs.Inner.Writing.{ArePrepared, ChannelsLie, part_at}
 use Rattle.jxlm_redo.specs.Redo.{IsNoPalette, UndoesNoPalette}
 use Rattle.jxlm_tokens.specs.Tokens.{AreTokensOf}
 use Rattle.jxlm_encode.proofs.Accepted.{is_transform}
@@ -151,63 +151,20 @@ module _ {S : Type 0} (to_int : S → ℤ) (ts : List Transform) (grids : List (
           (subst (λ (l : Layout). Chain w depth steps (given_list (store_meanings to_int grids)) (grids_in (first_layout channels).regions (store_meanings to_int grids)) (grids_in l.regions (store_meanings to_int store)))
           (sym by.layout) made)
 
-      module _ (nodes : List EncodeNode) (tree : Shape Leaf) (given : IsTreeGiven nodes p.channels.info.items tree) (tokens bytes : List ℕ) (are : AreTokensOf w (part_at p tree) (cells_of samples) tokens)
-          (written : AreWritten ts nodes tokens bytes) where
-        abbrev header_end : ℕ
-        header_end = 0 + length (header_bits ts)
-
-        abbrev tree_end : ℕ
-        tree_end = header_end + length (tree_bits nodes written.own written.width)
-
-        second : HasBits bytes header_end (tree_bits nodes written.own written.width ++ token_bits written.width tokens)
-        second = has_rest bytes 0 (header_bits ts) (tree_bits nodes written.own written.width ++ token_bits written.width tokens) written.has
-
-        third : HasBits bytes tree_end (token_bits written.width tokens)
-        third = has_rest bytes header_end (tree_bits nodes written.own written.width) (token_bits written.width tokens) second
-
-        counted : cell_count p.channels.info.items ≡ length (cells_of samples)
-        counted = sym (all_cells p.channels.info.items samples are_grids)
-
-        clusters : (before : List ℤ) → (next_leaf (part_at p tree) before).cluster ≡ 0
-        clusters before = (reached_leaf IsGivenLeaf tree _ (leaves_given tree nodes given.listed)).0
-
-        no_tokens : (ts : List ℕ) → length ts ≡ 0 → length (token_bits written.width ts) ≡ 0
-        no_tokens [] none = refl
-        no_tokens (t ∷ ts) none = absurd (omega (arith, none))
-
-        codes : IsCodedWhole plain w (part_at p tree) bytes (one_cluster (leaves_in nodes) written.width) tree_end samples (tree_end + length (token_bits written.width tokens))
-        codes = of_count (cell_count p.channels.info.items) refl where
-          of_count : (n : ℕ) → cell_count p.channels.info.items ≡ n → IsCodedWhole plain w (part_at p tree) bytes (one_cluster (leaves_in nodes) written.width) tree_end samples (tree_end + length (token_bits written.width tokens))
-          of_count zero none =
-              let count = are.count in
-              let c = counted in
-              let empty = no_tokens tokens (omega (arith, count, c, none)) in
-              inr (none, omega (arith, empty))
-          of_count (suc n) some =
-              inl (omega (arith, some), written_coded w (part_at p tree) bytes (leaves_in nodes) written.width tree_end samples tokens are counted written.fits clusters third)
-
-        -- it is encoded
-        pub is_encoded : IsEncoded ts nodes (store_meanings to_int grids) w bytes
-        is_encoded =
-            let limit = given.limit in
-            record {
-              coded = coded;
-              accepted = accepted;
-              count = placed.count;
-              tree = tree;
-              given = given;
-              decoder = one_cluster (leaves_in nodes) written.width;
-              tree_at = header_end;
-              header_stands = headers_stand bytes 0 ts placed.few placed.come.written (has_first bytes 0 (header_bits ts) (tree_bits nodes written.own written.width ++ token_bits written.width tokens) written.has);
-              samples_at = tree_end;
-              tree_stands = trees_stand bytes header_end written.own written.width (node_limit p.channels.info.items) depth_limit tree nodes given.listed written.own_most written.most written.own_fits
-                  (omega (arith, limit)) given.limit given.within
-                  (has_first bytes header_end (tree_bits nodes written.own written.width) (token_bits written.width tokens) second);
-              samples = samples;
-              end = tree_end + length (token_bits written.width tokens);
-              codes = codes;
-              chain = chain;
-            }
+      -- and is ready to be written
+      pub are_prepared : (nodes : List EncodeNode) (tree : Shape Leaf) → IsTreeGiven nodes p.channels.info.items tree → (tokens : List ℕ) → AreTokensOf w (part_at p tree) (cells_of samples) tokens →
+          ArePrepared ts nodes (store_meanings to_int grids) w tokens
+      are_prepared nodes tree given tokens are = record {
+        coded = coded;
+        accepted = accepted;
+        count = placed.count;
+        tree = tree;
+        given = given;
+        samples = samples;
+        counted = sym (all_cells p.channels.info.items samples are_grids);
+        are = are;
+        chain = chain;
+      }
 
 -- ---- answers of calls
 

@@ -1,5 +1,6 @@
 pub mod Accepted
 pub mod Encodings
+pub mod Formats
 pub mod Listings
 pub mod NoPalettes
 pub mod OwnGrids

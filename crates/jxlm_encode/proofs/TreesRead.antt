@@ -13,8 +13,8 @@ use Rattle.jxlm_ma.specs.declared.flat.Leaf.{Leaf}
 use Rattle.jxlm_ma.proofs.Listing.{levels-injective}
 use Rattle.jxlm_plain.specs.Plain.{PlainState, plain}
 use Rattle.jxlm_write.specs.Nodes.{node_of, tree_tokens}
-use Rattle.jxlm_write.specs.Tokens.{decoder_bits, one_cluster, token_bits}
-use Rattle.jxlm_write.specs.Trees.{leaves_in, tree_bits}
+use Rattle.jxlm_write.specs.Tokens.{decoder_bits, gamma_decoder_bits, gamma_token_bits, one_cluster, token_bits}
+use Rattle.jxlm_write.specs.Trees.{gamma_tree_bits, leaves_in, tree_bits}
 use Rattle.jxlm_write.specs.Written.{AreFilled, HasBits}
 use Rattle.jxlm_write.proofs.BitLists.{filled_stands}
 use Rattle.jxlm_write.specs.declared.tree.EncodeNode.{EncodeNode}
@@ -115,3 +115,13 @@ tree_written (Ok u) old a b new tokens nodes own width n are count first second 
     ∙ append_assoc (old ++ decoder_bits 6 own) (token_bits own tokens) (decoder_bits n width) ∙ append_assoc old (decoder_bits 6 own) (token_bits own tokens ++ decoder_bits n width)
     ∙ ap (λ ts. old ++ (decoder_bits 6 own ++ (token_bits own ts ++ decoder_bits n width))) are
     ∙ ap (λ k. old ++ (decoder_bits 6 own ++ (token_bits own (tree_tokens nodes) ++ decoder_bits k width))) count
+
+-- in the second format
+pub gamma_tree_written : {U E : Type 0} (r : Result U E) (old a b new tokens : List ℕ) (nodes : List EncodeNode) (n : ℕ) → tokens ≡ tree_tokens nodes → n ≡ leaves_in nodes → a ≡ old ++ gamma_decoder_bits 6 →
+    b ≡ a ++ gamma_token_bits tokens → IfOk r (λ _. new ≡ b ++ gamma_decoder_bits n) → IfOk r (λ _. new ≡ old ++ gamma_tree_bits nodes)
+gamma_tree_written (Err e) old a b new tokens nodes n are count first second last = last
+gamma_tree_written (Ok u) old a b new tokens nodes n are count first second last =
+    last ∙ ap (λ xs. xs ++ gamma_decoder_bits n) (second ∙ ap (λ xs. xs ++ gamma_token_bits tokens) first)
+    ∙ append_assoc (old ++ gamma_decoder_bits 6) (gamma_token_bits tokens) (gamma_decoder_bits n) ∙ append_assoc old (gamma_decoder_bits 6) (gamma_token_bits tokens ++ gamma_decoder_bits n)
+    ∙ ap (λ ts. old ++ (gamma_decoder_bits 6 ++ (gamma_token_bits ts ++ gamma_decoder_bits n))) are
+    ∙ ap (λ k. old ++ (gamma_decoder_bits 6 ++ (gamma_token_bits (tree_tokens nodes) ++ gamma_decoder_bits k))) count

@@ -14,12 +14,12 @@ use Rattle.jxlm_tree.specs.SelfCorrecting.{IsHeader}
 use Rattle.jxlm_tree.specs.WeightsHeader.{default_weights}
 use Rattle.jxlm_write.specs.Headers.{header_bits}
 use Rattle.jxlm_write.specs.Nodes.{tree_tokens}
-use Rattle.jxlm_write.specs.Tokens.{token_bits}
-use Rattle.jxlm_write.specs.Trees.{tree_bits}
+use Rattle.jxlm_write.specs.Tokens.{gamma_token_bits, token_bits}
+use Rattle.jxlm_write.specs.Trees.{gamma_tree_bits, tree_bits}
 use Rattle.jxlm_write.specs.Written.{AreFilled}
 use Rattle.jxlm_write.specs.declared.tree.EncodeNode.{EncodeNode}
 use Rattle.jxlm_write.proofs.BitLists.{filled_stands}
-use Rattle.jxlm_encode.specs.Inner.Writing.{AreWritten, ChannelsLie}
+use Rattle.jxlm_encode.specs.Inner.Writing.{AreWritten, AreWritten2, ChannelsLie}
 
 -- header, tree and tokens, one after another
 pub all_written : {E : Type 0} (r : Result (Vec ℕ) E) (ts : List Transform) (nodes : List EncodeNode) (of_nodes tokens : List ℕ) (own width : ℕ) (start a b d : List ℕ) → start ≡ [] → a ≡ start ++ header_bits ts →
@@ -38,6 +38,21 @@ all_written (Ok v) ts nodes of_nodes tokens own width start a b d none header tr
       most = most;
       fits = fits;
       has = filled_stands v.items (header_bits ts ++ (tree_bits nodes own width ++ token_bits width tokens)) (subst (AreFilled v.items) all filled);
+    }
+
+-- so they are in the second format
+pub all_written2 : {E : Type 0} (r : Result (Vec ℕ) E) (ts : List Transform) (nodes : List EncodeNode) (of_nodes tokens : List ℕ) (start a b d : List ℕ) → start ≡ [] → a ≡ start ++ header_bits ts →
+    b ≡ a ++ gamma_tree_bits nodes → d ≡ b ++ gamma_token_bits tokens → All (λ t. t < 2 ^ 32) of_nodes → All (λ t. t < 2 ^ 32) tokens → of_nodes ≡ tree_tokens nodes →
+    IfOk r (λ v. AreFilled v.items d) → IfOk r (λ v. AreWritten2 ts nodes tokens v.items)
+all_written2 (Err e) ts nodes of_nodes tokens start a b d none header tree last own_fits fits are filled = filled
+all_written2 (Ok v) ts nodes of_nodes tokens start a b d none header tree last own_fits fits are filled =
+    let all : d ≡ header_bits ts ++ (gamma_tree_bits nodes ++ gamma_token_bits tokens) =
+    last ∙ ap (λ xs. xs ++ gamma_token_bits tokens) (tree ∙ ap (λ xs. xs ++ gamma_tree_bits nodes) (header ∙ ap (λ xs. xs ++ header_bits ts) none))
+    ∙ append_assoc (header_bits ts) (gamma_tree_bits nodes) (gamma_token_bits tokens) in
+    record {
+      own_fits = subst (All (λ t. t < 2 ^ 32)) are own_fits;
+      fits = fits;
+      has = filled_stands v.items (header_bits ts ++ (gamma_tree_bits nodes ++ gamma_token_bits tokens)) (subst (AreFilled v.items) all filled);
     }
 
 default_header : IsHeader default_weights

@@ -1,7 +1,8 @@
--- What an encoder writes, and what it refuses (a lossless encoder over the plain decoder's format).
+-- What an encoder writes, and what it refuses (a lossless encoder over the plain decoders' formats).
 use Rattle.std.specs.Prelude.{◌≡◌, ◌⊎◌, ℕ, ◌+◌, ◌<◌, ◌≤◌, ℤ, List, [], ◌∷◌, length, map, take, slice_get, true, false, Some, Ok, Err}
 use Rattle.std.specs.List.{All}
 use Rattle.std.specs.Int.{Width}
+use Rattle.jxlm_base.specs.Decoding.{Meaning}
 use Rattle.jxlm_base.specs.ErrorKind.{ErrorKind}
 use Rattle.jxlm_base.specs.Grid.{Grid}
 use Rattle.jxlm_chain.specs.Chain.{Chain}
@@ -12,7 +13,7 @@ use Rattle.jxlm_ma.specs.TreeStands.{TreeStands}
 use Rattle.jxlm_ma.specs.declared.flat.Leaf.{Leaf}
 use Rattle.jxlm_part.specs.Coded.{IsCodedWhole}
 use Rattle.jxlm_part.specs.Part.{Part}
-use Rattle.jxlm_plain.specs.Plain.{PlainState, plain}
+use Rattle.jxlm_plain.specs.Plain.{PlainState, plain, plain2}
 use Rattle.jxlm_transform.specs.Channels.{Channel, ChannelList, image_list}
 use Rattle.jxlm_transform.specs.ChannelSteps.{CodedList, coded_list}
 use Rattle.jxlm_transform.specs.Params.{sized, IsSide}
@@ -95,3 +96,24 @@ module _ (ts : List Transform) (nodes : List EncodeNode) (image : List (Grid ℤ
     pub end : ℕ
     pub codes : IsCodedWhole plain w (coded_part coded tree) bytes decoder samples_at samples end
     pub chain : (bit_depth : ℕ) → Chain w bit_depth coded.steps (given_list image) image samples
+
+  -- The same with a tree and samples that any decoder reads, instead of the plain one.
+  pub record IsEncodedFor {V : Type 0} (d : Meaning V) (w : Width) (bytes : List ℕ) : Type 0 where
+    pub coded : CodedList
+    pub accepted : AreAccepted ts (given_list image) coded
+    pub count : length coded.list.channels ≤ 65536
+    pub tree : Shape Leaf
+    pub given : IsTreeGiven nodes coded.list.channels tree
+    pub decoder : V
+    pub tree_at : ℕ
+    pub header_stands : header.Stands bytes 0 (record { use_global_tree = false; wp_params = default_weights; transform = ts }) tree_at
+    pub samples_at : ℕ
+    pub tree_stands : TreeStands d bytes (node_limit coded.list.channels) depth_limit tree_at (config_of tree decoder) samples_at
+    pub samples : List (Grid ℤ)
+    pub end : ℕ
+    pub codes : IsCodedWhole d w (coded_part coded tree) bytes decoder samples_at samples end
+    pub chain : (bit_depth : ℕ) → Chain w bit_depth coded.steps (given_list image) image samples
+
+  -- with those of the plain decoder of the second format
+  abbrev pub IsEncoded2 : Width → List ℕ → Type 0
+  IsEncoded2 w bytes = IsEncodedFor plain2 w bytes

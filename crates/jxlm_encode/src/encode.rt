@@ -1,6 +1,6 @@
-//! A lossless encoder (ISO/IEC 18181-1, Modular), whose tokens are those of the plain decoder.
+//! A lossless encoder (ISO/IEC 18181-1, Modular), whose tokens are those of the plain decoders.
 
-ghost use Rattle.std.specs.Prelude.{◌≡◌, ◌≢◌, ℕ, ◌≤◌, ◌^◌, [], IfOk, IfErr, IsOk, length, map};
+ghost use Rattle.std.specs.Prelude.{◌≡◌, ◌≢◌, ℕ, ◌<◌, ◌≤◌, ◌^◌, [], IfOk, IfErr, IsOk, length, map};
 ghost use Rattle.std.specs.List.{All};
 ghost use Rattle.jxlm_base.specs.Grid.{IsFull};
 ghost use Rattle.jxlm_base.specs.Regions.{grids_in, store_meanings};
@@ -13,14 +13,14 @@ ghost use Rattle.jxlm_part.specs.Part.{cells_of};
 ghost use Rattle.jxlm_transform.specs.Transforms.{IsTransform};
 ghost use Rattle.jxlm_write.specs.Headers.{transform_of};
 ghost use Rattle.jxlm_write.specs.Nodes.{tree_tokens};
-ghost use Rattle.jxlm_encode.specs.Encoded.{EncodeFails, IsEncoded, IsSmall};
+ghost use Rattle.jxlm_encode.specs.Encoded.{EncodeFails, IsEncoded, IsEncoded2, IsSmall};
 ghost use Rattle.jxlm_encode.specs.Inner.Listing.{ListsOneTree};
-ghost use Rattle.jxlm_encode.specs.Inner.Writing.{AreWritten, ChannelsLie, part_at};
+ghost use Rattle.jxlm_encode.specs.Inner.Writing.{ArePrepared, AreWritten, AreWritten2, ChannelsLie, part_at};
 ghost use Rattle.jxlm_redo.specs.Redo.{UndoesNoPalette};
 ghost use Rattle.jxlm_tokens.specs.Tokens.{AreTokensOf};
 
 pub use crate::error::EncodeError;
-use crate::listing::{tree_of, write_tree};
+use crate::listing::{tree_of, write_gamma_tree, write_tree};
 use crate::placing::{infos_of, placed_by};
 use jxlm_base::grid::{AlignedGrid, OutOfMemory};
 use jxlm_base::sample::Sample;
@@ -35,7 +35,7 @@ pub use jxlm_tokens::token::token_of;
 use jxlm_tree::predictor::WpHeader;
 use jxlm_write::header::write_header;
 pub use jxlm_write::header::{EncodeTransform, SqueezeStep};
-use jxlm_write::plain::{width_of, write_tokens};
+use jxlm_write::plain::{width_of, write_gamma_tokens, write_tokens};
 pub use jxlm_write::tree::EncodeNode;
 use jxlm_write::writer::BitWriter;
 use std::alloc::{AllocError, Global};
@@ -116,6 +116,68 @@ fn written(
     bits.into_bytes()
 }
 
+/// These are numbers of 32 bits.
+fn fit_32_bits(tokens: &[u32])
+    ensures { All (λ t. t < 2 ^ 32) tokens.now }
+{}
+
+/// The same in the second format, as gamma codes.
+fn written2(
+    alloc: Global,
+    transforms: &[EncodeTransform],
+    tree: &[EncodeNode],
+    nodes: &[u32],
+    tokens: &[u32],
+) -> Result<Vec<u8>, AllocError>
+    requires few { length transforms.now ≤ 273 }
+    requires each { All (λ t. IsTransform (transform_of t)) transforms.now }
+    requires lists { ListsOneTree tree.now }
+    requires nodes { nodes.now ≡ tree_tokens tree.now }
+    ensures { IfOk result (λ v. AreWritten2 (map transform_of transforms.now) tree.now tokens.now v.items) }
+{
+    fit_32_bits(nodes);
+    fit_32_bits(tokens);
+    let mut bits = BitWriter::new(alloc);
+    write_header(&mut bits, transforms)?;
+    write_gamma_tree(&mut bits, tree, nodes)?;
+    write_gamma_tokens(&mut bits, tokens)?;
+    bits.into_bytes()
+}
+
+/// The tokens that are written after a header.
+#[derive(Drop)]
+struct TokenLists {
+    /// Those of the tree's nodes.
+    nodes: Vec<u32>,
+    /// Those of the samples.
+    samples: Vec<u32>,
+}
+
+/// The tokens of an image that has channels, and of the tree.
+fn prepared<S: Sample>(
+    alloc: Global,
+    channels: &[AlignedGrid<S>],
+    transforms: &[EncodeTransform],
+    tree: &[EncodeNode],
+) -> Result<TokenLists, EncodeError>
+    requires sides { All IsSmall channels.now }
+    ensures few { IfOk result (λ _. length transforms.now ≤ 273) }
+    ensures each { IfOk result (λ _. All (λ t. IsTransform (transform_of t)) transforms.now) }
+    ensures lists { IfOk result (λ _. ListsOneTree tree.now) }
+    ensures nodes { IfOk result (λ p. p.nodes.items ≡ tree_tokens tree.now) }
+    ensures ok { IfOk result (λ p. ArePrepared (map transform_of transforms.now) tree.now
+        (store_meanings S.to_int channels.now) S.width p.samples.items) }
+    ensures err { IfErr result (λ e. EncodeFails (map transform_of transforms.now) tree.now
+        (store_meanings S.to_int channels.now) e) }
+{
+    let infos = infos_of(alloc, channels)?;
+    let placed = placed_by(alloc, &infos, transforms)?;
+    let (nodes, config) = tree_of(alloc, &placed.channels.info, tree)?;
+    let store = coded_store(alloc, &placed.undoings, channels)?;
+    let samples = tokens_in(alloc, &placed, &config, &store)?;
+    Ok(TokenLists { nodes, samples })
+}
+
 /// The bytes of an image that has channels.
 fn encoded<S: Sample>(
     alloc: Global,
@@ -129,12 +191,25 @@ fn encoded<S: Sample>(
     ensures err { IfErr result (λ e. EncodeFails (map transform_of transforms.now) tree.now
         (store_meanings S.to_int channels.now) e) }
 {
-    let infos = infos_of(alloc, channels)?;
-    let placed = placed_by(alloc, &infos, transforms)?;
-    let (nodes, config) = tree_of(alloc, &placed.channels.info, tree)?;
-    let store = coded_store(alloc, &placed.undoings, channels)?;
-    let tokens = tokens_in(alloc, &placed, &config, &store)?;
-    Ok(written(alloc, transforms, tree, &nodes, &tokens)?)
+    let TokenLists { nodes, samples } = prepared(alloc, channels, transforms, tree)?;
+    Ok(written(alloc, transforms, tree, &nodes, &samples)?)
+}
+
+/// The same in the second format.
+fn encoded2<S: Sample>(
+    alloc: Global,
+    channels: &[AlignedGrid<S>],
+    transforms: &[EncodeTransform],
+    tree: &[EncodeNode],
+) -> Result<Vec<u8>, EncodeError>
+    requires sides { All IsSmall channels.now }
+    ensures ok { IfOk result (λ v. IsEncoded2 (map transform_of transforms.now) tree.now
+        (store_meanings S.to_int channels.now) S.width v.items) }
+    ensures err { IfErr result (λ e. EncodeFails (map transform_of transforms.now) tree.now
+        (store_meanings S.to_int channels.now) e) }
+{
+    let TokenLists { nodes, samples } = prepared(alloc, channels, transforms, tree)?;
+    Ok(written2(alloc, transforms, tree, &nodes, &samples)?)
 }
 
 /// Encodes an image without loss, for the plain decoder (ISO/IEC 18181-1, Modular): a header with these transforms,
@@ -175,4 +250,29 @@ pub fn encode<S: Sample>(
         return Ok(Vec::new(alloc));
     }
     encoded(alloc, channels, transforms, tree)
+}
+
+/// Encodes an image as [`encode`] does, with its conditions and its errors, for the plain decoder of the second format:
+/// all tokens, those of the tree and those of the samples, are gamma codes.
+///
+/// A small token takes few bits, whatever the largest one is: n zeros, a one and n bits for the n + 1 binary digits of
+/// the token and one more.
+pub fn encode2<S: Sample>(
+    alloc: Global,
+    channels: &[AlignedGrid<S>],
+    transforms: &[EncodeTransform],
+    tree: &[EncodeNode],
+) -> Result<Vec<u8>, EncodeError>
+    requires sides { All IsSmall channels.now }
+    requires count { length channels.now ≤ 2 ^ 20 }
+    ensures none { channels.now ≡ [] → IsOk result × IfOk result (λ v. v.items ≡ []) }
+    ensures ok { channels.now ≢ [] → IfOk result (λ v. IsEncoded2 (map transform_of transforms.now) tree.now
+        (store_meanings S.to_int channels.now) S.width v.items) }
+    ensures err { IfErr result (λ e. EncodeFails (map transform_of transforms.now) tree.now
+        (store_meanings S.to_int channels.now) e) }
+{
+    if channels.is_empty() {
+        return Ok(Vec::new(alloc));
+    }
+    encoded2(alloc, channels, transforms, tree)
 }

@@ -2,7 +2,7 @@
 
 ghost use Rattle.std.specs.Prelude.{◌≡◌, ◌+◌, ◌<◌, ◌≤◌, ◌^◌, ◌++◌, ◌↔◌, IfOk, IfErr, IsTrue, length};
 ghost use Rattle.jxlm_write.specs.Nodes.{tree_tokens};
-ghost use Rattle.jxlm_write.specs.Trees.{tree_bits};
+ghost use Rattle.jxlm_write.specs.Trees.{gamma_tree_bits, tree_bits};
 ghost use Rattle.jxlm_encode.specs.Encoded.{IsTreeGiven};
 ghost use Rattle.jxlm_encode.specs.Inner.Listing.{IsNotGiven, IsNotRead, IsTreeRead, ListsOneTree, left_after};
 
@@ -12,7 +12,9 @@ use jxlm_header::opening::{DEPTH_LIMIT, node_limit};
 use jxlm_ma::ma::{MaConfig, MaConfigParams, each_tree_is_read_exactly};
 use jxlm_plain::plain::PlainDecoder;
 use jxlm_transform::channels::ModularChannelInfo;
-use jxlm_write::plain::{width_of, write_decoder, write_tokens};
+use jxlm_write::plain::{
+    width_of, write_decoder, write_gamma_decoder, write_gamma_tokens, write_tokens,
+};
 use jxlm_write::tree::{EncodeNode, has_tokens, tokens_of};
 use jxlm_write::writer::BitWriter;
 use std::alloc::{AllocError, Global};
@@ -62,6 +64,23 @@ pub(crate) fn write_tree(
     write_decoder(bits, 6, own)?;
     write_tokens(bits, tokens, own)?;
     write_decoder(bits, nodes.len() / 2 + 1, width)
+}
+
+/// Adds the tree of these nodes, which are those of one tree, by their tokens, and a decoder of its leaves: both of the
+/// second format, with gamma codes.
+#[tactic(auto, using(crate::proofs::Listings::half_are_leaves))]
+pub(crate) fn write_gamma_tree(
+    bits: &mut BitWriter,
+    nodes: &[EncodeNode],
+    tokens: &[u32],
+) -> Result<(), AllocError>
+    requires lists { ListsOneTree nodes.now }
+    requires tokens { tokens.now ≡ tree_tokens nodes.now }
+    ensures { IfOk result (λ _. bits.new ≡ bits.old ++ gamma_tree_bits nodes.now) }
+{
+    write_gamma_decoder(bits, 6)?;
+    write_gamma_tokens(bits, tokens)?;
+    write_gamma_decoder(bits, nodes.len() / 2 + 1)
 }
 
 /// The tree of these nodes, which are those of one tree, by their tokens, as a reader reads it.

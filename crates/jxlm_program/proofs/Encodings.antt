@@ -4,8 +4,9 @@ use Rattle.std.specs.Int.{Width}
 use Rattle.std.specs.List.{All}
 use Rattle.std.proofs.lemmas.List.{length-map, get_or-map}
 use Rattle.jxlm_base.specs.Grid.{Grid, meanings}
-use Rattle.jxlm_encode.specs.Encoded.{IsEncoded, IsSmall}
-use Rattle.jxlm_program.specs.Encoding.{IsEncodedText, gradient_tree}
+use Rattle.jxlm_encode.specs.Encoded.{IsSmall}
+use Rattle.jxlm_program.specs.Encoding.{IsEncodedIn, IsEncodedText}
+use Rattle.jxlm_program.specs.declared.arguments.Format.{Format}
 use Rattle.jxlm_text.specs.Reading.{IsTextOf}
 
 module _ {S : Type 0} (to_int : S → ℤ) (w : Width) (text : List ℕ) (channels : List (Grid S)) (read : IsTextOf w text (map (meanings to_int) channels)) where
@@ -25,8 +26,8 @@ module _ {S : Type 0} (to_int : S → ℤ) (w : Width) (text : List ℕ) (channe
   none_of [] e = refl
   none_of (g ∷ gs) e = absurd (omega (arith, ap length e))
 
-  pub encoded_text : (bytes : List ℕ) → (channels ≡ [] → bytes ≡ []) → (channels ≢ [] → IsEncoded [] gradient_tree (map (meanings to_int) channels) w bytes) → IsEncodedText w text bytes
-  encoded_text bytes none some = record {
+  pub encoded_text : (format : Format) (bytes : List ℕ) → (channels ≡ [] → bytes ≡ []) → (channels ≢ [] → IsEncodedIn format (map (meanings to_int) channels) w bytes) → IsEncodedText format w text bytes
+  encoded_text format bytes none some = record {
     image = map (meanings to_int) channels;
     read = read;
     none = λ e. none (none_of channels e);

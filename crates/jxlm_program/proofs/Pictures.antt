@@ -19,7 +19,7 @@ use Rattle.jxlm_program.specs.PictureText.{channels_asked}
 use Rattle.jxlm_program.specs.Printed.{IsCutPictureError, IsPictureError}
 use Rattle.jxlm_base.specs.ErrorKind.{NoMemory, kind_of}
 use Rattle.jxlm_base.specs.Grid.{Grid}
-use Rattle.jxlm_plain.specs.Plain.{PlainState, plain}
+use Rattle.jxlm_base.specs.Decoding.{Meaning}
 use Rattle.jxlm_base.specs.declared.error.Error.{Error}
 use Rattle.jxlm_ma.specs.Tree.{Config}
 use Rattle.jxl_modular.specs.Picture.{IsPicture, PictureFails}
@@ -70,41 +70,41 @@ alike_asked width height n given is = ap (λ (l : ChannelList). one_picture l.ch
 
 -- ---- what comes of a picture at the start of the bytes
 
-module _ (w : Width) (width height channels : ℕ) (bytes bytes' : List ℕ) (p : ℕ) (given : ChannelList) (global : Option (Config PlainState)) (same : bytes' ≡ bytes) (start : p ≡ 0)
+module _ {V : Type 0} (d : Meaning V) (w : Width) (width height channels : ℕ) (bytes bytes' : List ℕ) (p : ℕ) (given : ChannelList) (global : Option (Config V)) (same : bytes' ≡ bytes) (start : p ≡ 0)
     (are : given ≡ channels_asked width height channels) (alone : global ≡ None) where
-  pub at_start : (deep bit_depth : ℕ) (grids : List (Grid ℤ)) (q : ℕ) → deep ≡ bit_depth → IsPicture plain w global bytes' 0 given p deep grids q → IsPicture plain w None bytes 0 (channels_asked width height channels) 0 bit_depth grids q
+  pub at_start : (deep bit_depth : ℕ) (grids : List (Grid ℤ)) (q : ℕ) → deep ≡ bit_depth → IsPicture d w global bytes' 0 given p deep grids q → IsPicture d w None bytes 0 (channels_asked width height channels) 0 bit_depth grids q
   at_start deep bit_depth grids q depth h =
-      subst (λ (t : Option (Config PlainState)). IsPicture plain w t bytes 0 (channels_asked width height channels) 0 bit_depth grids q) alone
-      (subst (λ (l : ChannelList). IsPicture plain w global bytes 0 l 0 bit_depth grids q) are
-      (subst (λ (n : ℕ). IsPicture plain w global bytes 0 given n bit_depth grids q) start (subst (λ (b : List ℕ). IsPicture plain w global b 0 given p bit_depth grids q) same
-      (subst (λ (n : ℕ). IsPicture plain w global bytes' 0 given p n grids q) depth h))))
+      subst (λ (t : Option (Config V)). IsPicture d w t bytes 0 (channels_asked width height channels) 0 bit_depth grids q) alone
+      (subst (λ (l : ChannelList). IsPicture d w global bytes 0 l 0 bit_depth grids q) are
+      (subst (λ (n : ℕ). IsPicture d w global bytes 0 given n bit_depth grids q) start (subst (λ (b : List ℕ). IsPicture d w global b 0 given p bit_depth grids q) same
+      (subst (λ (n : ℕ). IsPicture d w global bytes' 0 given p n grids q) depth h))))
 
-  pub error_at_start : (error : Error) (q before after : ℕ) → before ≡ 0 → PictureFails plain w global bytes' 0 given p (kind_of error) q before after → IsPictureError w width height channels bytes error
+  pub error_at_start : (error : Error) (q before after : ℕ) → before ≡ 0 → PictureFails d w global bytes' 0 given p (kind_of error) q before after → IsPictureError d w width height channels bytes error
   error_at_start error q before after nought h = record {
     place = q;
     steps = after;
-    fails = subst (λ (t : Option (Config PlainState)). PictureFails plain w t bytes 0 (channels_asked width height channels) 0 (kind_of error) q 0 after) alone
-        (subst (λ (l : ChannelList). PictureFails plain w global bytes 0 l 0 (kind_of error) q 0 after) are
-        (subst (λ (n : ℕ). PictureFails plain w global bytes 0 given n (kind_of error) q 0 after) start
-        (subst (λ (b : List ℕ). PictureFails plain w global b 0 given p (kind_of error) q 0 after) same
-        (subst (λ (n : ℕ). PictureFails plain w global bytes' 0 given p (kind_of error) q n after) nought h))));
+    fails = subst (λ (t : Option (Config V)). PictureFails d w t bytes 0 (channels_asked width height channels) 0 (kind_of error) q 0 after) alone
+        (subst (λ (l : ChannelList). PictureFails d w global bytes 0 l 0 (kind_of error) q 0 after) are
+        (subst (λ (n : ℕ). PictureFails d w global bytes 0 given n (kind_of error) q 0 after) start
+        (subst (λ (b : List ℕ). PictureFails d w global b 0 given p (kind_of error) q 0 after) same
+        (subst (λ (n : ℕ). PictureFails d w global bytes' 0 given p (kind_of error) q n after) nought h))));
   }
 
 -- it was out of memory
-pub out_of_memory : (w : Width) (width height channels : ℕ) (bytes : List ℕ) (error : Error) → kind_of error ≡ NoMemory → IsPictureError w width height channels bytes error
-out_of_memory w width height channels bytes error is = record { place = 0; steps = 0; fails = no_memory (kind_of error) _ is }
+pub out_of_memory : {V : Type 0} (d : Meaning V) (w : Width) (width height channels : ℕ) (bytes : List ℕ) (error : Error) → kind_of error ≡ NoMemory → IsPictureError d w width height channels bytes error
+out_of_memory d w width height channels bytes error is = record { place = 0; steps = 0; fails = no_memory (kind_of error) _ is }
 
 -- ---- what comes of a picture that is cut into sections
 
-module _ {S : Type 0} (w : Width) (to_int : S → ℤ) (zero : S) (given given' : ChannelList) (dim dim' deep deep' : ℕ) (bytes : List ℕ) (are : given' ≡ given) (cut : dim' ≡ dim) (depth : deep' ≡ deep) where
-  pub cut_picture : (grids : List (Grid ℤ)) → IsCutPicture plain w to_int zero given' dim' deep' bytes grids → IsCutPicture plain w to_int zero given dim deep bytes grids
+module _ {V S : Type 0} (d : Meaning V) (w : Width) (to_int : S → ℤ) (zero : S) (given given' : ChannelList) (dim dim' deep deep' : ℕ) (bytes : List ℕ) (are : given' ≡ given) (cut : dim' ≡ dim) (depth : deep' ≡ deep) where
+  pub cut_picture : (grids : List (Grid ℤ)) → IsCutPicture d w to_int zero given' dim' deep' bytes grids → IsCutPicture d w to_int zero given dim deep bytes grids
   cut_picture grids h =
-      subst (λ (l : ChannelList). IsCutPicture plain w to_int zero l dim deep bytes grids) are
-      (subst (λ (n : ℕ). IsCutPicture plain w to_int zero given' n deep bytes grids) cut
-      (subst (λ (n : ℕ). IsCutPicture plain w to_int zero given' dim' n bytes grids) depth h))
+      subst (λ (l : ChannelList). IsCutPicture d w to_int zero l dim deep bytes grids) are
+      (subst (λ (n : ℕ). IsCutPicture d w to_int zero given' n deep bytes grids) cut
+      (subst (λ (n : ℕ). IsCutPicture d w to_int zero given' dim' n bytes grids) depth h))
 
-  pub cut_error : (error : Error) → IsCutPictureError w to_int zero given' dim' deep' bytes error → IsCutPictureError w to_int zero given dim deep bytes error
+  pub cut_error : (error : Error) → IsCutPictureError d w to_int zero given' dim' deep' bytes error → IsCutPictureError d w to_int zero given dim deep bytes error
   cut_error error h =
-      subst (λ (l : ChannelList). IsCutPictureError w to_int zero l dim deep bytes error) are
-      (subst (λ (n : ℕ). IsCutPictureError w to_int zero given' n deep bytes error) cut
-      (subst (λ (n : ℕ). IsCutPictureError w to_int zero given' dim' n bytes error) depth h))
+      subst (λ (l : ChannelList). IsCutPictureError d w to_int zero l dim deep bytes error) are
+      (subst (λ (n : ℕ). IsCutPictureError d w to_int zero given' n deep bytes error) cut
+      (subst (λ (n : ℕ). IsCutPictureError d w to_int zero given' dim' n bytes error) depth h))

@@ -2,6 +2,8 @@
 use Rattle.std.specs.Prelude.{◌≡◌, ◌≢◌, ℕ, ◌^◌, ◌<◌, ◌≤◌, List, [], length, slice_index_or, codes}
 use Rattle.jxlm_transform.specs.Params.{IsGroupDim}
 use Rattle.jxlm_program.specs.Decimals.{Writes}
+use Rattle.jxlm_program.specs.declared.arguments.Format.{Format}
+use Rattle.jxlm_program.specs.declared.arguments.Format.TheVariants.{First, Second}
 use Rattle.jxlm_program.specs.declared.arguments.Samples.{Samples}
 use Rattle.jxlm_program.specs.declared.arguments.Samples.TheVariants.{I16, I32}
 use Rattle.jxlm_program.specs.declared.arguments.Command.{Command}
@@ -16,6 +18,23 @@ samples_word I32 = codes "i32"
 abbrev pub IsNoSamples : List ℕ → Type 0
 IsNoSamples word = (s : Samples) → word ≢ samples_word s
 
+-- the first word for a format: of a picture in one part, of one in sections, and of an image to be encoded
+abbrev pub decode_word : Format → List ℕ
+decode_word First = codes "decode"
+decode_word Second = codes "decode2"
+
+abbrev pub sections_word : Format → List ℕ
+sections_word First = codes "sections"
+sections_word Second = codes "sections2"
+
+abbrev pub encode_word : Format → List ℕ
+encode_word First = codes "encode"
+encode_word Second = codes "encode2"
+
+-- the word is none of these
+abbrev pub IsOfNoFormat : (Format → List ℕ) → List ℕ → Type 0
+IsOfNoFormat word_of word = (f : Format) → word ≢ word_of f
+
 -- the words after the first are `W H N BITS i16|i32`, with these numbers and this type
 pub record NamePicture (words : List (List ℕ)) (width height channels bit_depth : ℕ) (samples : Samples) : Type 0 where
   pub wide : Writes (slice_index_or words 1 []) width
@@ -24,47 +43,47 @@ pub record NamePicture (words : List (List ℕ)) (width height channels bit_dept
   pub deep : Writes (slice_index_or words 4 []) bit_depth
   pub typed : slice_index_or words 5 [] ≡ samples_word samples
 
--- `decode W H N BITS i16|i32`
-pub record AsksDecode (words : List (List ℕ)) (width height channels bit_depth : ℕ) (samples : Samples) : Type 0 where
+-- `decode W H N BITS i16|i32`, or `decode2` and these
+pub record AsksDecode (words : List (List ℕ)) (format : Format) (width height channels bit_depth : ℕ) (samples : Samples) : Type 0 where
   pub count : length words ≡ 6
-  pub named : slice_index_or words 0 [] ≡ codes "decode"
+  pub named : slice_index_or words 0 [] ≡ decode_word format
   pub picture : NamePicture words width height channels bit_depth samples
 
--- `sections W H N BITS i16|i32 GROUP_DIM`
-pub record AsksSections (words : List (List ℕ)) (width height channels bit_depth : ℕ) (samples : Samples) (group_dim : ℕ) : Type 0 where
+-- `sections W H N BITS i16|i32 GROUP_DIM`, or `sections2` and these
+pub record AsksSections (words : List (List ℕ)) (format : Format) (width height channels bit_depth : ℕ) (samples : Samples) (group_dim : ℕ) : Type 0 where
   pub count : length words ≡ 7
-  pub named : slice_index_or words 0 [] ≡ codes "sections"
+  pub named : slice_index_or words 0 [] ≡ sections_word format
   pub picture : NamePicture words width height channels bit_depth samples
   pub side : Writes (slice_index_or words 6 []) group_dim
 
--- `encode i16|i32`
-pub record AsksEncode (words : List (List ℕ)) (samples : Samples) : Type 0 where
+-- `encode i16|i32`, or `encode2 i16|i32`
+pub record AsksEncode (words : List (List ℕ)) (format : Format) (samples : Samples) : Type 0 where
   pub count : length words ≡ 2
-  pub named : slice_index_or words 0 [] ≡ codes "encode"
+  pub named : slice_index_or words 0 [] ≡ encode_word format
   pub typed : slice_index_or words 1 [] ≡ samples_word samples
 
 -- an image of no channels is asked for
 abbrev pub IsIdle : Command → Type 0
-IsIdle (Decode width height channels bit_depth samples) = channels ≡ 0
-IsIdle (Sections width height channels bit_depth samples group_dim) = channels ≡ 0
-IsIdle (Encode samples) = ⊥
+IsIdle (Decode format width height channels bit_depth samples) = channels ≡ 0
+IsIdle (Sections format width height channels bit_depth samples group_dim) = channels ≡ 0
+IsIdle (Encode format samples) = ⊥
 
 -- the words ask for the command
 abbrev pub Asks : List (List ℕ) → Command → Type 0
-Asks words (Decode width height channels bit_depth samples) = AsksDecode words width height channels bit_depth samples
-Asks words (Sections width height channels bit_depth samples group_dim) =
-    AsksSections words width height channels bit_depth samples group_dim
-Asks words (Encode samples) = AsksEncode words samples
+Asks words (Decode format width height channels bit_depth samples) = AsksDecode words format width height channels bit_depth samples
+Asks words (Sections format width height channels bit_depth samples group_dim) =
+    AsksSections words format width height channels bit_depth samples group_dim
+Asks words (Encode format samples) = AsksEncode words format samples
 
 -- they ask for no such command, whatever its numbers and its type
 abbrev pub AskForNoDecode : List (List ℕ) → Type 0
-AskForNoDecode words = (w h n b : ℕ) (s : Samples) → ¬ (AsksDecode words w h n b s)
+AskForNoDecode words = (f : Format) (w h n b : ℕ) (s : Samples) → ¬ (AsksDecode words f w h n b s)
 
 abbrev pub AskForNoSections : List (List ℕ) → Type 0
-AskForNoSections words = (w h n b : ℕ) (s : Samples) (g : ℕ) → ¬ (AsksSections words w h n b s g)
+AskForNoSections words = (f : Format) (w h n b : ℕ) (s : Samples) (g : ℕ) → ¬ (AsksSections words f w h n b s g)
 
 abbrev pub AskForNoEncode : List (List ℕ) → Type 0
-AskForNoEncode words = (s : Samples) → ¬ (AsksEncode words s)
+AskForNoEncode words = (f : Format) (s : Samples) → ¬ (AsksEncode words f s)
 
 -- the library takes a picture of these numbers: the sides matter where there is a channel
 abbrev pub ArePossible : ℕ → ℕ → ℕ → ℕ → Type 0
@@ -73,10 +92,10 @@ ArePossible width height channels bit_depth =
 
 -- the command is one that the library takes
 abbrev pub IsWithinLimits : Command → Type 0
-IsWithinLimits (Decode width height channels bit_depth samples) = ArePossible width height channels bit_depth
-IsWithinLimits (Sections width height channels bit_depth samples group_dim) =
+IsWithinLimits (Decode format width height channels bit_depth samples) = ArePossible width height channels bit_depth
+IsWithinLimits (Sections format width height channels bit_depth samples group_dim) =
     IsGroupDim group_dim × ArePossible width height channels bit_depth
-IsWithinLimits (Encode samples) = Unit {0}
+IsWithinLimits (Encode format samples) = Unit {0}
 
 -- the words ask for the command, and it is within the limits
 abbrev pub AreFor : List (List ℕ) → Command → Type 0

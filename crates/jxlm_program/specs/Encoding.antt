@@ -2,7 +2,9 @@
 use Rattle.std.specs.Prelude.{◌≡◌, ◌≢◌, ℕ, ℤ, pos, List, [], ◌∷◌}
 use Rattle.std.specs.Int.{Width}
 use Rattle.jxlm_base.specs.Grid.{Grid}
-use Rattle.jxlm_encode.specs.Encoded.{IsEncoded, EncodeFails}
+use Rattle.jxlm_encode.specs.Encoded.{EncodeFails, IsEncoded, IsEncoded2}
+use Rattle.jxlm_program.specs.declared.arguments.Format.{Format}
+use Rattle.jxlm_program.specs.declared.arguments.Format.TheVariants.{First, Second}
 use Rattle.jxlm_program.specs.declared.refusal.Refusal.{Refusal}
 use Rattle.jxlm_program.specs.declared.refusal.Refusal.TheVariants.{Image, Text, Encoder}
 use Rattle.jxlm_text.specs.Reading.{IsTextOf, TextFails}
@@ -14,12 +16,17 @@ use Rattle.jxlm_write.specs.declared.tree.EncodeNode.TheVariants.{Leaf}
 abbrev pub gradient_tree : List EncodeNode
 gradient_tree = Leaf Gradient (pos 0) ∷ []
 
+-- header, tree and samples of this image stand in the bytes, in a format
+abbrev pub IsEncodedIn : Format → List (Grid ℤ) → Width → List ℕ → Type 0
+IsEncodedIn First image w bytes = IsEncoded [] gradient_tree image w bytes
+IsEncodedIn Second image w bytes = IsEncoded2 [] gradient_tree image w bytes
+
 -- the bytes are those of the image whose text this is, with no transform and this tree; no channels have no bytes
-pub record IsEncodedText (w : Width) (text bytes : List ℕ) : Type 0 where
+pub record IsEncodedText (format : Format) (w : Width) (text bytes : List ℕ) : Type 0 where
   pub image : List (Grid ℤ)
   pub read : IsTextOf w text image
   pub none : image ≡ [] → bytes ≡ []
-  pub some : image ≢ [] → IsEncoded [] gradient_tree image w bytes
+  pub some : image ≢ [] → IsEncodedIn format image w bytes
 
 -- the text is that of an image that is not encoded, by this error
 pub record IsNotEncoded (w : Width) (text : List ℕ) (holds : List (Grid ℤ) → Type 0) : Type 0 where

@@ -2,7 +2,8 @@
 use Rattle.std.specs.Prelude.{ℕ, ◌≡◌, ℤ, pos, List, None, replicate}
 use Rattle.std.specs.Int.{Width, w16, w32}
 use Rattle.jxlm_base.specs.Grid.{Grid}
-use Rattle.jxlm_plain.specs.Plain.{plain}
+use Rattle.jxlm_base.specs.Decoding.{Meaning}
+use Rattle.jxlm_plain.specs.Plain.{PlainState, plain, plain2}
 use Rattle.jxlm_transform.specs.Channels.{ChannelList}
 use Rattle.jxlm_transform.specs.declared.param.ChannelShift.TheVariants.{Shifts}
 use Rattle.jxl_modular.specs.Picture.{IsPicture}
@@ -11,6 +12,8 @@ use Rattle.jxlm_text.specs.Printing.{image_text}
 use Rattle.jxlm_program.specs.Encoding.{IsEncodedText}
 use Rattle.jxlm_program.specs.declared.arguments.Command.{Command}
 use Rattle.jxlm_program.specs.declared.arguments.Command.TheVariants.{Decode, Sections, Encode}
+use Rattle.jxlm_program.specs.declared.arguments.Format.{Format}
+use Rattle.jxlm_program.specs.declared.arguments.Format.TheVariants.{First, Second}
 use Rattle.jxlm_program.specs.declared.arguments.Samples.{Samples}
 use Rattle.jxlm_program.specs.declared.arguments.Samples.TheVariants.{I16, I32}
 
@@ -19,6 +22,11 @@ abbrev pub width_of : Samples → Width
 width_of I16 = w16
 width_of I32 = w32
 
+-- the decoder of a format
+abbrev pub decoder_of : Format → Meaning PlainState
+decoder_of First = plain
+decoder_of Second = plain2
+
 -- n channels of one size and of shift 0
 abbrev pub channels_asked : ℕ → ℕ → ℕ → ChannelList
 channels_asked width height n = record {
@@ -26,22 +34,22 @@ channels_asked width height n = record {
   nb_meta = 0;
 }
 
--- the text is that of the picture at the start of the bytes, in the format of the plain decoder, at stream index 0
-pub record IsPictureText (w : Width) (width height channels : ℕ) (bytes : List ℕ) (bit_depth : ℕ) (text : List ℕ) : Type 0 where
+-- the text is that of the picture at the start of the bytes, in the format of a decoder, at stream index 0
+pub record IsPictureText {V : Type 0} (d : Meaning V) (w : Width) (width height channels : ℕ) (bytes : List ℕ) (bit_depth : ℕ) (text : List ℕ) : Type 0 where
   pub grids : List (Grid ℤ)
   pub place : ℕ
-  pub picture : IsPicture plain w None bytes 0 (channels_asked width height channels) 0 bit_depth grids place
+  pub picture : IsPicture d w None bytes 0 (channels_asked width height channels) 0 bit_depth grids place
   pub printed : text ≡ image_text grids
 
 -- the text is that of the picture of these channels that is cut into sections, which stand at the start of the bytes
-pub record IsCutPictureText {S : Type 0} (w : Width) (to_int : S → ℤ) (zero : S) (given : ChannelList) (group_dim bit_depth : ℕ) (bytes text : List ℕ) : Type 0 where
+pub record IsCutPictureText {V S : Type 0} (d : Meaning V) (w : Width) (to_int : S → ℤ) (zero : S) (given : ChannelList) (group_dim bit_depth : ℕ) (bytes text : List ℕ) : Type 0 where
   pub grids : List (Grid ℤ)
-  pub picture : IsCutPicture plain w to_int zero given group_dim bit_depth bytes grids
+  pub picture : IsCutPicture d w to_int zero given group_dim bit_depth bytes grids
   pub printed : text ≡ image_text grids
 
 -- what is written for the bytes and a command
 abbrev pub Prints : List ℕ → Command → List ℕ → Type 0
-Prints bytes (Decode width height channels bit_depth samples) text = IsPictureText (width_of samples) width height channels bytes bit_depth text
-Prints bytes (Sections width height channels bit_depth samples group_dim) text =
-    IsCutPictureText (width_of samples) (λ v. v) (pos 0) (channels_asked width height channels) group_dim bit_depth bytes text
-Prints bytes (Encode samples) made = IsEncodedText (width_of samples) bytes made
+Prints bytes (Decode format width height channels bit_depth samples) text = IsPictureText (decoder_of format) (width_of samples) width height channels bytes bit_depth text
+Prints bytes (Sections format width height channels bit_depth samples group_dim) text =
+    IsCutPictureText (decoder_of format) (width_of samples) (λ v. v) (pos 0) (channels_asked width height channels) group_dim bit_depth bytes text
+Prints bytes (Encode format samples) made = IsEncodedText format (width_of samples) bytes made

@@ -7,7 +7,55 @@ ghost use Rattle.jxlm_program.specs.Decimals.{IsDecimal, IsOfDigits, decimal_val
 
 /// What is printed for wrong arguments.
 pub const USAGE: &str = "usage: jxlmod decode W H N BITS i16|i32 | \
-    jxlmod sections W H N BITS i16|i32 GROUP_DIM | jxlmod encode i16|i32";
+    jxlmod sections W H N BITS i16|i32 GROUP_DIM | jxlmod encode i16|i32 | \
+    jxlmod decode2 W H N BITS i16|i32 | jxlmod sections2 W H N BITS i16|i32 GROUP_DIM | \
+    jxlmod encode2 i16|i32";
+
+/// The plain format that is read or written.
+#[derive(Clone, Copy, Debug, PartialEq, Eq)]
+pub enum Format {
+    /// The first, of `PlainDecoder`.
+    First,
+    /// The second, of `PlainDecoder2`.
+    Second,
+}
+
+impl Format {
+    ghost use Rattle.jxlm_program.specs.Arguments.{IsOfNoFormat, decode_word, encode_word, sections_word};
+
+    /// The format that is read where this word comes first: `decode` or `decode2`.
+    fn of_decode(word: &str) -> Option<Format>
+        ensures { MatchOption result (IsOfNoFormat decode_word word.now) (λ f. word.now ≡ decode_word f) }
+    {
+        match word {
+            "decode" => Some(Format::First),
+            "decode2" => Some(Format::Second),
+            _ => None,
+        }
+    }
+
+    /// The format that sections are read in where this word comes first: `sections` or `sections2`.
+    fn of_sections(word: &str) -> Option<Format>
+        ensures { MatchOption result (IsOfNoFormat sections_word word.now) (λ f. word.now ≡ sections_word f) }
+    {
+        match word {
+            "sections" => Some(Format::First),
+            "sections2" => Some(Format::Second),
+            _ => None,
+        }
+    }
+
+    /// The format that is written where this word comes first: `encode` or `encode2`.
+    fn of_encode(word: &str) -> Option<Format>
+        ensures { MatchOption result (IsOfNoFormat encode_word word.now) (λ f. word.now ≡ encode_word f) }
+    {
+        match word {
+            "encode" => Some(Format::First),
+            "encode2" => Some(Format::Second),
+            _ => None,
+        }
+    }
+}
 
 /// The type of an image's samples.
 #[derive(Clone, Copy, Debug, PartialEq, Eq)]
@@ -72,6 +120,8 @@ pub enum Command {
     /// Decode one part, which has header and samples, to `channels` channels of `width` by `height`
     /// samples.
     Decode {
+        /// The format of the bytes.
+        format: Format,
         /// How many columns each channel has.
         width: u32,
         /// How many rows each channel has.
@@ -85,6 +135,8 @@ pub enum Command {
     },
     /// Decode an image of the same channels that is cut into sections.
     Sections {
+        /// The format of the bytes.
+        format: Format,
         /// How many columns each channel has.
         width: u32,
         /// How many rows each channel has.
@@ -100,6 +152,8 @@ pub enum Command {
     },
     /// Encode the image whose text is read.
     Encode {
+        /// The format of the bytes.
+        format: Format,
         /// What the samples are read as.
         samples: Samples,
     },
@@ -144,17 +198,15 @@ impl Command {
         }
     }
 
-    /// What the words `decode W H N BITS i16|i32` ask for, within the limits or not.
+    /// What the words `decode W H N BITS i16|i32` ask for, or `decode2` and these, within the limits or not.
     fn decode(words: &[String]) -> Option<Command>
         ensures { MatchOption result (AskForNoDecode (map string_bytes words.now)) (Asks (map string_bytes words.now)) }
     {
         let [name, width, height, channels, bit_depth, samples] = words else {
             return None;
         };
-        if name.as_str() != "decode" {
-            return None;
-        }
         Some(Command::Decode {
+            format: Format::of_decode(name.as_str())?,
             width: number(width.as_str())?,
             height: number(height.as_str())?,
             channels: number(channels.as_str())?,
@@ -163,7 +215,7 @@ impl Command {
         })
     }
 
-    /// What the words `sections W H N BITS i16|i32 GROUP_DIM` ask for, within the limits or not.
+    /// What the words `sections W H N BITS i16|i32 GROUP_DIM` ask for, or `sections2` and these, within the limits or not.
     fn sections(words: &[String]) -> Option<Command>
         ensures { MatchOption result (AskForNoSections (map string_bytes words.now))
             (Asks (map string_bytes words.now)) }
@@ -171,10 +223,8 @@ impl Command {
         let [name, width, height, channels, bit_depth, samples, group_dim] = words else {
             return None;
         };
-        if name.as_str() != "sections" {
-            return None;
-        }
         Some(Command::Sections {
+            format: Format::of_sections(name.as_str())?,
             width: number(width.as_str())?,
             height: number(height.as_str())?,
             channels: number(channels.as_str())?,
@@ -184,17 +234,15 @@ impl Command {
         })
     }
 
-    /// What the words `encode i16|i32` ask for.
+    /// What the words `encode i16|i32` or `encode2 i16|i32` ask for.
     fn encode(words: &[String]) -> Option<Command>
         ensures { MatchOption result (AskForNoEncode (map string_bytes words.now)) (Asks (map string_bytes words.now)) }
     {
         let [name, samples] = words else {
             return None;
         };
-        if name.as_str() != "encode" {
-            return None;
-        }
         Some(Command::Encode {
+            format: Format::of_encode(name.as_str())?,
             samples: Samples::parse(samples.as_str())?,
         })
     }

@@ -3,7 +3,7 @@
 #![tactic(auto)]
 
 pub mod arguments;
-mod encoding;
+pub mod encoding;
 pub mod picture;
 pub mod printer;
 pub mod refusal;

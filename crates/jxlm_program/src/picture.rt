@@ -1,6 +1,6 @@
 //! The text of a picture, from its bytes.
-ghost use Rattle.std.specs.Prelude.{◌≡◌, ◌≤◌, ◌<◌, ◌^◌, pos, MatchResult, IfOk, replicate, string_bytes};
-ghost use Rattle.jxlm_transform.specs.Params.{IsGroupDim, sized};
+ghost use Rattle.std.specs.Prelude.{◌≡◌, ◌≤◌, ◌<◌, ◌^◌, pos, MatchResult, IfOk, None, replicate, string_bytes};
+ghost use Rattle.jxlm_transform.specs.Params.{IsGroupDim, params_of, sized};
 ghost use Rattle.jxlm_transform.specs.declared.param.ChannelShift.TheVariants.{Shifts};
 ghost use Rattle.jxlm_program.specs.Arguments.{ArePossible};
 ghost use Rattle.jxlm_program.specs.PictureText.{IsCutPictureText, IsPictureText, channels_asked};
@@ -8,11 +8,11 @@ ghost use Rattle.jxlm_program.specs.Printed.{IsCutPictureError, IsPictureError};
 
 use jxl_modular::decode_picture;
 use jxlm_base::bits::Bitstream;
+use jxlm_base::decoder::Decoder;
 use jxlm_base::error::Error;
 use jxlm_base::grid::OutOfMemory;
 use jxlm_base::sample::Sample;
 use jxlm_ma::flat::Steps;
-use jxlm_plain::plain::PlainDecoder;
 use jxlm_sections::decode_cut_picture;
 use jxlm_text::printing::print_image;
 use jxlm_transform::param::{ModularChannelParams, ModularParams};
@@ -34,8 +34,19 @@ fn channel_list(
     Ok(vec![in alloc; channel; count as usize]?)
 }
 
-/// The text of the picture of `channels` channels of these sides.
-pub(crate) fn picture_text<S: Sample>(
+/// Parameters of these channels, without a global tree.
+pub fn without_tree<'a, D: Decoder>(
+    group_dim: u32,
+    bit_depth: u32,
+    channels: Vec<ModularChannelParams>,
+) -> ModularParams<'a, D>
+    ensures { result ≡ params_of group_dim bit_depth channels None }
+{
+    ModularParams::with_channels(group_dim, bit_depth, channels, None)
+}
+
+/// The text of the picture of `channels` channels of these sides, by the format of a decoder.
+pub(crate) fn picture_text<S: Sample, D: Decoder>(
     alloc: Global,
     bytes: &[u8],
     width: u32,
@@ -49,13 +60,13 @@ pub(crate) fn picture_text<S: Sample>(
     requires wide { width ≤ 2 ^ 30 }
     requires high { height ≤ 2 ^ 30 }
     ensures { MatchResult result
-        (λ text. IsPictureText S.width width height channels bytes.now bit_depth (string_bytes text))
-        (λ error. IsPictureError S.width width height channels bytes.now error) }
+        (λ text. IsPictureText D.meaning S.width width height channels bytes.now bit_depth (string_bytes text))
+        (λ error. IsPictureError D.meaning S.width width height channels bytes.now error) }
 {
     let channels = channel_list(alloc, width, height, channels)?;
-    let params = ModularParams::with_channels(GROUP_DIM, bit_depth, channels, None);
+    let params = without_tree(GROUP_DIM, bit_depth, channels);
     let mut bits = Bitstream::new(bytes);
-    let image = decode_picture::<S, PlainDecoder>(alloc, &mut bits, params, 0, &mut Steps::new())?;
+    let image = decode_picture::<S, D>(alloc, &mut bits, params, 0, &mut Steps::new())?;
     match image {
         Some(image) => Ok(print_image(alloc, image.image_channels())?),
         None => Ok(String::new(alloc)),
@@ -63,7 +74,7 @@ pub(crate) fn picture_text<S: Sample>(
 }
 
 /// The text of the picture of `channels` channels of these sides that is cut into sections, with groups of this side.
-pub(crate) fn cut_picture_text<S: Sample>(
+pub(crate) fn cut_picture_text<S: Sample, D: Decoder>(
     alloc: Global,
     bytes: &[u8],
     width: u32,
@@ -76,14 +87,14 @@ pub(crate) fn cut_picture_text<S: Sample>(
     requires possible { ArePossible width height channels bit_depth }
     requires side { IsGroupDim group_dim }
     ensures { MatchResult result
-        (λ text. IsCutPictureText S.width S.to_int (S.from_int (pos 0)) (channels_asked width height channels)
+        (λ text. IsCutPictureText D.meaning S.width S.to_int (S.from_int (pos 0)) (channels_asked width height channels)
         group_dim bit_depth bytes.now (string_bytes text))
-        (λ error. IsCutPictureError S.width S.to_int (S.from_int (pos 0)) (channels_asked width height channels)
+        (λ error. IsCutPictureError D.meaning S.width S.to_int (S.from_int (pos 0)) (channels_asked width height channels)
         group_dim bit_depth bytes.now error) }
 {
     let channels = channel_list(alloc, width, height, channels)?;
-    let params = ModularParams::with_channels(group_dim, bit_depth, channels, None);
-    let image = decode_cut_picture::<S, PlainDecoder>(alloc, bytes, params, &mut Steps::new())?;
+    let params = without_tree(group_dim, bit_depth, channels);
+    let image = decode_cut_picture::<S, D>(alloc, bytes, params, &mut Steps::new())?;
     match image {
         Some(image) => Ok(print_image(alloc, image.image_channels())?),
         None => Ok(String::new(alloc)),

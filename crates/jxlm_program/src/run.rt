@@ -100,7 +100,8 @@ pub fn run_with<R: Read, W: Write, E: Write, P: Print>(
 /// of `N` channels of `W` by `H` samples from the input, in one part and in the format of the plain
 /// decoder, and prints its samples; `sections W H N BITS i16|i32 GROUP_DIM` reads one that is cut into
 /// sections, with groups of the side `GROUP_DIM`; `encode i16|i32` reads an image as these print it, and
-/// writes the bytes that it has with no transform and one leaf, which predicts by `Gradient`.
+/// writes the bytes that it has with no transform and one leaf, which predicts by `Gradient`. `decode2`,
+/// `sections2` and `encode2` do so in the second plain format.
 pub fn run<R: Read, W: Write, E: Write>(
     alloc: Global,
     words: &[String],

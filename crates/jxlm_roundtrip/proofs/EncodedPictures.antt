@@ -1,19 +1,27 @@
 -- What is encoded is a picture.
-use Rattle.std.proofs.Common.{◌≡◌, length, false, Ok, refl}
+use Rattle.std.proofs.Common.{◌≡◌, ℕ, ℤ, List, length, false, None, Ok, refl}
+use Rattle.std.specs.Int.{Width}
 use Rattle.std.proofs.lemmas.Bool.{le-ltb}
+use Rattle.jxlm_base.specs.Decoding.{Meaning}
+use Rattle.jxlm_base.specs.Grid.{Grid}
 use Rattle.jxlm_chain.proofs.OneImage.{no_two_images}
 use Rattle.jxlm_header.specs.Header.{Header}
 use Rattle.jxlm_header.specs.Opening.{Opening, opening, opening_of, resolved}
 use Rattle.jxlm_header.proofs.HeaderLaws.{exact-opening}
 use Rattle.jxlm_ma.specs.Tree.{config_of}
 use Rattle.jxlm_ma.specs.TreeStands.{TreesAreReadExactly}
-use Rattle.jxlm_plain.specs.Plain.{plain}
+use Rattle.jxlm_plain.specs.Plain.{plain, plain2}
+use Rattle.jxlm_transform.specs.Transforms.{Transform}
 use Rattle.jxlm_tree.specs.WeightsHeader.{default_weights}
-use Rattle.jxlm_encode.specs.Encoded.{given_list}
-use Rattle.jxlm_roundtrip.specs.Pictures.{EncodedIsPicture}
+use Rattle.jxlm_write.specs.declared.tree.EncodeNode.{EncodeNode}
+use Rattle.jxlm_encode.specs.Encoded.{IsEncoded, IsEncodedFor, given_list}
+use Rattle.jxl_modular.specs.Picture.{IsPicture}
+use Rattle.jxlm_roundtrip.specs.Pictures.{Encoded2IsPicture, EncodedIsPicture}
 
-abbrev pub encoded_is_picture : TreesAreReadExactly plain → EncodedIsPicture
-encoded_is_picture exact w ts nodes image bytes bit_depth e =
+-- by whatever decoder that reads trees exactly
+abbrev pub encoded_is_picture : {V : Type 0} (d : Meaning V) → TreesAreReadExactly d → (w : Width) (ts : List Transform) (nodes : List EncodeNode) (image : List (Grid ℤ)) (bytes : List ℕ) (bit_depth : ℕ) (e : IsEncodedFor ts nodes image d w bytes) →
+    IsPicture d w None bytes 0 (given_list image) 0 bit_depth image e.end
+encoded_is_picture d exact w ts nodes image bytes bit_depth e =
     let h : Header = record { use_global_tree = false; wp_params = default_weights; transform = ts } in
     let head : Opening = opening_of h e.coded in
     let comes : resolved false (given_list image) h ≡ Ok head = rw (e.accepted.come, le-ltb 65536 (length e.coded.list.channels) e.count) refl in
@@ -35,3 +43,29 @@ encoded_is_picture exact w ts nodes image bytes bit_depth e =
         only = λ other c. no_two_images w bit_depth e.coded.steps (given_list image) other image e.samples c (e.chain bit_depth);
       };
     }
+
+-- what is encoded in the first plain format, as for its decoder
+abbrev for_first : (ts : List Transform) (nodes : List EncodeNode) (image : List (Grid ℤ)) (w : Width) (bytes : List ℕ) → IsEncoded ts nodes image w bytes → IsEncodedFor ts nodes image plain w bytes
+for_first ts nodes image w bytes e = record {
+  coded = e.coded;
+  accepted = e.accepted;
+  count = e.count;
+  tree = e.tree;
+  given = e.given;
+  decoder = e.decoder;
+  tree_at = e.tree_at;
+  header_stands = e.header_stands;
+  samples_at = e.samples_at;
+  tree_stands = e.tree_stands;
+  samples = e.samples;
+  end = e.end;
+  codes = e.codes;
+  chain = e.chain;
+}
+
+-- in either plain format
+pub first_is_picture : TreesAreReadExactly plain → EncodedIsPicture
+first_is_picture exact w ts nodes image bytes bit_depth e = encoded_is_picture plain exact w ts nodes image bytes bit_depth (for_first ts nodes image w bytes e)
+
+pub second_is_picture : TreesAreReadExactly plain2 → Encoded2IsPicture
+second_is_picture exact w ts nodes image bytes bit_depth e = encoded_is_picture plain2 exact w ts nodes image bytes bit_depth e

@@ -23,7 +23,6 @@ use Rattle.jxlm_part.specs.Rule.{CodedPrefix}
 use Rattle.jxlm_part.specs.Part.{Part, cell_count, cells_of}
 use Rattle.jxlm_part.proofs.Loops.{all_cells}
 use Rattle.jxlm_part.proofs.Prefixes.{prefix_one, prefix_part}
-use Rattle.jxlm_plain.specs.Plain.{PlainState, plain}
 use Rattle.jxlm_transform.specs.Channels.{AreGridsOf, Channel, ChannelList}
 use Rattle.jxlm_transform.specs.ChannelSteps.{Step, list_after_all}
 use Rattle.jxl_modular.specs.Picture.{IsPicture, PictureFails, SamplesFail}
@@ -33,7 +32,7 @@ use Rattle.jxlm_part.specs.Coded.{FailsAfter}
 use Rattle.jxlm_ma.specs.TreeReading.{IsTooDeep}
 use Rattle.jxlm_header.specs.Opening.{depth_limit, node_limit}
 use Rattle.jxlm_write.specs.declared.tree.EncodeNode.{EncodeNode}
-use Rattle.jxlm_encode.specs.Encoded.{IsEncoded, given_list}
+use Rattle.jxlm_encode.specs.Encoded.{IsEncodedFor, given_list}
 use Rattle.jxlm_roundtrip.proofs.EncodedPictures.{encoded_is_picture}
 
 -- ---- the coded samples of an image
@@ -137,9 +136,9 @@ module _ {D : Type 0} (d : Meaning D) (global : Option (Config D)) (bytes : List
 
 -- ---- an image that is encoded
 
-module _ (exact : TreesAreReadExactly plain) (w : Width) (ts : List Transform) (nodes : List EncodeNode) (image : List (Grid ℤ)) (bytes : List ℕ) (bit_depth : ℕ) (e : IsEncoded ts nodes image w bytes) where
-  abbrev here : IsPicture plain w None bytes 0 (given_list image) 0 bit_depth image e.end
-  here = encoded_is_picture exact w ts nodes image bytes bit_depth e
+module _ {V : Type 0} (d : Meaning V) (exact : TreesAreReadExactly d) (w : Width) (ts : List Transform) (nodes : List EncodeNode) (image : List (Grid ℤ)) (bytes : List ℕ) (bit_depth : ℕ) (e : IsEncodedFor ts nodes image d w bytes) where
+  abbrev here : IsPicture d w None bytes 0 (given_list image) 0 bit_depth image e.end
+  here = encoded_is_picture d exact w ts nodes image bytes bit_depth e
 
   ends_with : (steps : List Step) (other coded : List (Grid ℤ)) → steps ≡ e.coded.steps → Chain w bit_depth steps (given_list image) other coded → AreGridsOf e.coded.list.channels coded
   ends_with steps other coded is chain =
@@ -149,56 +148,56 @@ module _ (exact : TreesAreReadExactly plain) (w : Width) (ts : List Transform) (
       subst (λ (l : ChannelList). AreGridsOf l.channels coded) list last.2
 
   -- a picture that stands there is the image
-  pub comes_back : (other : List (Grid ℤ)) (r : ℕ) → IsPicture plain w None bytes 0 (given_list image) 0 bit_depth other r → other ≡ image
+  pub comes_back : (other : List (Grid ℤ)) (r : ℕ) → IsPicture d w None bytes 0 (given_list image) 0 bit_depth other r → other ≡ image
   comes_back other r y =
-      let starts = one_start plain None bytes (given_list image) 0 here.head y.head here.config y.config here.samples_at y.samples_at here.start y.start in
-      let placed : IsCodedWhole plain w (coded_part 0 y.head y.config) bytes y.config.decoder here.samples_at y.samples r =
-      subst (λ n. IsCodedWhole plain w (coded_part 0 y.head y.config) bytes y.config.decoder n y.samples r) (sym starts.2) y.coded in
-      let configured : IsCodedWhole plain w (coded_part 0 y.head here.config) bytes here.config.decoder here.samples_at y.samples r =
-      subst (λ (c : Config PlainState). IsCodedWhole plain w (coded_part 0 y.head c) bytes c.decoder here.samples_at y.samples r) (sym starts.1) placed in
-      let coded : IsCodedWhole plain w (coded_part 0 here.head here.config) bytes here.config.decoder here.samples_at y.samples r =
-      subst (λ (h : Opening). IsCodedWhole plain w (coded_part 0 h here.config) bytes here.config.decoder here.samples_at y.samples r) (sym starts.0) configured in
+      let starts = one_start d None bytes (given_list image) 0 here.head y.head here.config y.config here.samples_at y.samples_at here.start y.start in
+      let placed : IsCodedWhole d w (coded_part 0 y.head y.config) bytes y.config.decoder here.samples_at y.samples r =
+      subst (λ n. IsCodedWhole d w (coded_part 0 y.head y.config) bytes y.config.decoder n y.samples r) (sym starts.2) y.coded in
+      let configured : IsCodedWhole d w (coded_part 0 y.head here.config) bytes here.config.decoder here.samples_at y.samples r =
+      subst (λ (c : Config V). IsCodedWhole d w (coded_part 0 y.head c) bytes c.decoder here.samples_at y.samples r) (sym starts.1) placed in
+      let coded : IsCodedWhole d w (coded_part 0 here.head here.config) bytes here.config.decoder here.samples_at y.samples r =
+      subst (λ (h : Opening). IsCodedWhole d w (coded_part 0 h here.config) bytes here.config.decoder here.samples_at y.samples r) (sym starts.0) configured in
       let chain : Chain w bit_depth e.coded.steps (given_list image) other y.samples =
       subst (λ (h : Opening). Chain w bit_depth h.coded.steps (given_list image) other y.samples) (sym starts.0) y.only.chain in
       let own = ends_with e.coded.steps image e.samples refl (e.chain bit_depth) in
       let its = ends_with e.coded.steps other y.samples refl chain in
-      let same = one_coded plain w (coded_part 0 here.head here.config) bytes here.config.decoder here.samples_at e.samples y.samples e.end r own its here.coded coded in
+      let same = one_coded d w (coded_part 0 here.head here.config) bytes here.config.decoder here.samples_at e.samples y.samples e.end r own its here.coded coded in
       no_two_images w bit_depth e.coded.steps (given_list image) other image y.samples chain (subst (Chain w bit_depth e.coded.steps (given_list image) image) same (e.chain bit_depth))
 
   -- ---- and it is not refused
 
-  no_error : (error : ErrorKind) (q : ℕ) → IsErrorAt (opened {D = PlainState} None bytes (given_list image) 0) error q → ⊥
-  no_error error q h = refused _ _ (opened {D = PlainState} None bytes (given_list image) 0) here.start.header h.refuses
+  no_error : (error : ErrorKind) (q : ℕ) → IsErrorAt (opened {D = V} None bytes (given_list image) 0) error q → ⊥
+  no_error error q h = refused _ _ (opened {D = V} None bytes (given_list image) 0) here.start.header h.refuses
 
-  no_tree_error : (error : ErrorKind) (q : ℕ) → IsTreeErrorAt plain None bytes (given_list image) 0 error q → ⊥
+  no_tree_error : (error : ErrorKind) (q : ℕ) → IsTreeErrorAt d None bytes (given_list image) 0 error q → ⊥
   no_tree_error error q h =
-      let same = same_opening _ _ (opened {D = PlainState} None bytes (given_list image) 0) here.start.header h.header in
+      let same = same_opening _ _ (opened {D = V} None bytes (given_list image) 0) here.start.header h.header in
       let tree = h.tree.1 in
-      of (subst (λ (f : Found Opening). IsErrorAt (listing_at plain bytes (node_limit f.value.coded.list.channels) f.position) error q ⊎ IsTooDeep plain bytes (node_limit f.value.coded.list.channels) depth_limit f.position error q) (sym same) tree) where
-        of : IsErrorAt (listing_at plain bytes (node_limit e.coded.list.channels) e.tree_at) error q ⊎ IsTooDeep plain bytes (node_limit e.coded.list.channels) depth_limit e.tree_at error q → ⊥
-        of (inl failed) = refused _ _ (listing_at plain bytes (node_limit e.coded.list.channels) e.tree_at) here.start.tree.reads failed.refuses
+      of (subst (λ (f : Found Opening). IsErrorAt (listing_at d bytes (node_limit f.value.coded.list.channels) f.position) error q ⊎ IsTooDeep d bytes (node_limit f.value.coded.list.channels) depth_limit f.position error q) (sym same) tree) where
+        of : IsErrorAt (listing_at d bytes (node_limit e.coded.list.channels) e.tree_at) error q ⊎ IsTooDeep d bytes (node_limit e.coded.list.channels) depth_limit e.tree_at error q → ⊥
+        of (inl failed) = refused _ _ (listing_at d bytes (node_limit e.coded.list.channels) e.tree_at) here.start.tree.reads failed.refuses
         of (inr deep) =
-            let nodes : levels deep.config.tree ≡ levels e.tree = ap (λ (t : Taken (List (Node Leaf)) PlainState). t.value) (same_listing _ _ (listing_at plain bytes (node_limit e.coded.list.channels) e.tree_at) deep.reads here.start.tree.reads) in
+            let nodes : levels deep.config.tree ≡ levels e.tree = ap (λ (t : Taken (List (Node Leaf)) V). t.value) (same_listing _ _ (listing_at d bytes (node_limit e.coded.list.channels) e.tree_at) deep.reads here.start.tree.reads) in
             let is : deep.config.tree ≡ e.tree = levels-injective deep.config.tree e.tree nodes in
             let within = here.start.tree.within in
             let beyond = deep.beyond in
             omega (arith, within, beyond, ap depth is)
 
-  samples_come : (cause : DecoderError) (q tried : ℕ) → DecodingFails plain w (coded_part 0 here.head here.config) bytes here.config.decoder here.samples_at cause q tried → ⊥
+  samples_come : (cause : DecoderError) (q tried : ℕ) → DecodingFails d w (coded_part 0 here.head here.config) bytes here.config.decoder here.samples_at cause q tried → ⊥
   samples_come cause q tried h = of here.coded where
     part : Part
     part = coded_part 0 here.head here.config
 
-    of : IsCodedWhole plain w (coded_part 0 here.head here.config) bytes here.config.decoder here.samples_at e.samples e.end → ⊥
+    of : IsCodedWhole d w (coded_part 0 here.head here.config) bytes here.config.decoder here.samples_at e.samples e.end → ⊥
     of (inr none) = let zero_cells = none.0 in let some = h.0 in omega (arith, zero_cells, some)
     of (inl whole) = of_failure h.1 where
-      of_failure : ((plain.begin here.config.decoder bytes here.samples_at ≡ Err cause) × (q ≡ here.samples_at) × (tried ≡ 0)) ⊎ ((n : ℕ) × (grids : List (Grid ℤ)) × FailsAfter plain w (coded_part 0 here.head here.config) bytes here.config.decoder here.samples_at n grids q cause tried) → ⊥
-      of_failure (inl begins) = clash (plain.begin here.config.decoder bytes here.samples_at) _ _ whole.1.coded.begins begins.0
+      of_failure : ((d.begin here.config.decoder bytes here.samples_at ≡ Err cause) × (q ≡ here.samples_at) × (tried ≡ 0)) ⊎ ((n : ℕ) × (grids : List (Grid ℤ)) × FailsAfter d w (coded_part 0 here.head here.config) bytes here.config.decoder here.samples_at n grids q cause tried) → ⊥
+      of_failure (inl begins) = clash (d.begin here.config.decoder bytes here.samples_at) _ _ whole.1.coded.begins begins.0
       of_failure (inr later) =
           let f = later.2 in
           let n : ℕ = later.0 in
-          let x = same_found _ _ (plain.begin here.config.decoder bytes here.samples_at) whole.1.coded.begins f.coded.begins in
-          let rule = part_rule plain w (coded_part 0 here.head here.config) bytes in
+          let x = same_found _ _ (d.begin here.config.decoder bytes here.samples_at) whole.1.coded.begins f.coded.begins in
+          let rule = part_rule d w (coded_part 0 here.head here.config) bytes in
           elim f.error [
             | inl read ↦
                 let shorter = prefix_part rule whole.1.coded.start.value whole.1.coded.start.position (cells_of e.samples) (cell_count e.coded.list.channels) n whole.1.state e.end read.0 whole.1.coded.joined in
@@ -208,17 +207,17 @@ module _ (exact : TreesAreReadExactly plain) (w : Width) (ts : List Transform) (
             | inr end ↦
                 let joined = subst (λ k. CodedPrefix rule (cells_of later.1) f.coded.start.value f.coded.start.position k f.state q) end.0 f.coded.joined in
                 let one = prefix_one rule whole.1.coded.start.value whole.1.coded.start.position (cells_of e.samples) (cells_of later.1) (cell_count e.coded.list.channels) whole.1.state f.state e.end q whole.1.coded.joined (rw x joined) in
-                clash (plain.finalize f.state) _ _ (ap plain.finalize (sym one.state) ∙ whole.1.accepts) end.2
+                clash (d.finalize f.state) _ _ (ap d.finalize (sym one.state) ∙ whole.1.accepts) end.2
           ]
 
-  no_samples_error : (error : ErrorKind) (q before after : ℕ) → SamplesFail plain w None bytes 0 (given_list image) 0 error q before after → ⊥
+  no_samples_error : (error : ErrorKind) (q before after : ℕ) → SamplesFail d w None bytes 0 (given_list image) 0 error q before after → ⊥
   no_samples_error error q before after h =
-      let starts = one_start plain None bytes (given_list image) 0 here.head h.head here.config h.config here.samples_at h.samples_at here.start h.start in
-      let placed : DecodingFails plain w (coded_part 0 h.head h.config) bytes h.config.decoder here.samples_at h.cause q h.tried =
-      subst (λ n. DecodingFails plain w (coded_part 0 h.head h.config) bytes h.config.decoder n h.cause q h.tried) (sym starts.2) h.fails in
-      let configured : DecodingFails plain w (coded_part 0 h.head here.config) bytes here.config.decoder here.samples_at h.cause q h.tried =
-      subst (λ (c : Config PlainState). DecodingFails plain w (coded_part 0 h.head c) bytes c.decoder here.samples_at h.cause q h.tried) (sym starts.1) placed in
-      samples_come h.cause q h.tried (subst (λ (head : Opening). DecodingFails plain w (coded_part 0 head here.config) bytes here.config.decoder here.samples_at h.cause q h.tried) (sym starts.0) configured)
+      let starts = one_start d None bytes (given_list image) 0 here.head h.head here.config h.config here.samples_at h.samples_at here.start h.start in
+      let placed : DecodingFails d w (coded_part 0 h.head h.config) bytes h.config.decoder here.samples_at h.cause q h.tried =
+      subst (λ n. DecodingFails d w (coded_part 0 h.head h.config) bytes h.config.decoder n h.cause q h.tried) (sym starts.2) h.fails in
+      let configured : DecodingFails d w (coded_part 0 h.head here.config) bytes here.config.decoder here.samples_at h.cause q h.tried =
+      subst (λ (c : Config V). DecodingFails d w (coded_part 0 h.head c) bytes c.decoder here.samples_at h.cause q h.tried) (sym starts.1) placed in
+      samples_come h.cause q h.tried (subst (λ (head : Opening). DecodingFails d w (coded_part 0 head here.config) bytes here.config.decoder here.samples_at h.cause q h.tried) (sym starts.0) configured)
 
   weaker : (error : ErrorKind) (P : Type 0) → (P → ⊥) → UnlessMemory error P → IsOutOfMemory error
   weaker NoMemory P never h = tt
@@ -227,9 +226,9 @@ module _ (exact : TreesAreReadExactly plain) (w : Width) (ts : List Transform) (
   weaker error P never h = never h
 
   -- decoding it fails for want of memory alone
-  pub only_memory : (error : ErrorKind) (q before after : ℕ) → PictureFails plain w None bytes 0 (given_list image) 0 error q before after → IsOutOfMemory error
+  pub only_memory : (error : ErrorKind) (q before after : ℕ) → PictureFails d w None bytes 0 (given_list image) 0 error q before after → IsOutOfMemory error
   only_memory error q before after h = weaker error _ refuted h where
-    refuted : ((IsErrorAt (opened {D = PlainState} None bytes (given_list image) 0) error q ⊎ IsTreeErrorAt plain None bytes (given_list image) 0 error q) × (after ≡ before)) ⊎ SamplesFail plain w None bytes 0 (given_list image) 0 error q before after → ⊥
+    refuted : ((IsErrorAt (opened {D = V} None bytes (given_list image) 0) error q ⊎ IsTreeErrorAt d None bytes (given_list image) 0 error q) × (after ≡ before)) ⊎ SamplesFail d w None bytes 0 (given_list image) 0 error q before after → ⊥
     refuted (inl (inl opening, same)) = no_error error q opening
     refuted (inl (inr tree, same)) = no_tree_error error q tree
     refuted (inr samples) = no_samples_error error q before after samples

@@ -2,13 +2,18 @@
 use Rattle.std.specs.Prelude.{ℕ, ℤ, List, None}
 use Rattle.std.specs.Int.{Width}
 use Rattle.jxlm_base.specs.Grid.{Grid}
-use Rattle.jxlm_plain.specs.Plain.{plain}
+use Rattle.jxlm_plain.specs.Plain.{plain, plain2}
 use Rattle.jxlm_transform.specs.Transforms.{Transform}
 use Rattle.jxl_modular.specs.Picture.{IsPicture}
 use Rattle.jxlm_write.specs.declared.tree.EncodeNode.{EncodeNode}
-use Rattle.jxlm_encode.specs.Encoded.{IsEncoded, given_list}
+use Rattle.jxlm_encode.specs.Encoded.{IsEncoded, IsEncoded2, given_list}
 
 -- Where an image is encoded, it stands as a picture from the first bit on, at any bit depth.
 abbrev pub EncodedIsPicture : Type 0
 EncodedIsPicture = (w : Width) (ts : List Transform) (nodes : List EncodeNode) (image : List (Grid ℤ)) (bytes : List ℕ) (bit_depth : ℕ) (e : IsEncoded ts nodes image w bytes) →
     IsPicture plain w None bytes 0 (given_list image) 0 bit_depth image e.end
+
+-- So it does in the second plain format.
+abbrev pub Encoded2IsPicture : Type 0
+Encoded2IsPicture = (w : Width) (ts : List Transform) (nodes : List EncodeNode) (image : List (Grid ℤ)) (bytes : List ℕ) (bit_depth : ℕ) (e : IsEncoded2 ts nodes image w bytes) →
+    IsPicture plain2 w None bytes 0 (given_list image) 0 bit_depth image e.end

@@ -1,9 +1,10 @@
 //! Laws of what is encoded.
 
-ghost use Rattle.jxlm_roundtrip.specs.Pictures.{EncodedIsPicture};
+ghost use Rattle.jxlm_roundtrip.specs.Pictures.{Encoded2IsPicture, EncodedIsPicture};
 
 use jxlm_ma::ma::each_tree_is_read_exactly;
 use jxlm_plain::plain::PlainDecoder;
+use jxlm_plain::plain2::PlainDecoder2;
 
 /// What is encoded is a picture, at any bit depth: its grids are the only ones that the header's transforms turn into
 /// the samples that are coded.
@@ -11,4 +12,11 @@ pub fn encoded_is_a_picture()
     ensures { EncodedIsPicture }
 {
     each_tree_is_read_exactly::<PlainDecoder>();
+}
+
+/// What is encoded in the second plain format is a picture, too.
+pub fn encoded2_is_a_picture()
+    ensures { Encoded2IsPicture }
+{
+    each_tree_is_read_exactly::<PlainDecoder2>();
 }

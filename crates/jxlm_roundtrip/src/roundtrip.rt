@@ -1,11 +1,11 @@
 //! An image encoded, and decoded again.
 
-ghost use Rattle.std.specs.Prelude.{◌≡◌, ◌≤◌, ◌^◌, IfOk, IfErr, length, map};
+ghost use Rattle.std.specs.Prelude.{◌≡◌, ◌≤◌, ◌^◌, IfOk, IfErr, None, length, map};
 ghost use Rattle.std.specs.List.{All};
 ghost use Rattle.jxlm_base.specs.ErrorKind.{kind_of};
 ghost use Rattle.jxlm_base.specs.Regions.{store_meanings};
 ghost use Rattle.jxlm_transform.specs.Channels.{image_list};
-ghost use Rattle.jxlm_transform.specs.Params.{IsGroupDim, IsValidChannel};
+ghost use Rattle.jxlm_transform.specs.Params.{IsGroupDim, IsValidChannel, params_of as given_params};
 ghost use Rattle.jxlm_write.specs.Headers.{transform_of};
 ghost use Rattle.jxlm_encode.specs.Encoded.{IsSmall, given_list};
 ghost use Rattle.jxlm_roundtrip.specs.Inner.Decoded.{IsDecoded, IsNotDecoded};
@@ -13,13 +13,15 @@ ghost use Rattle.jxlm_roundtrip.specs.RoundTrip.{RoundTripFails};
 
 use jxl_modular::decode_picture;
 use jxlm_base::bits::Bitstream;
+use jxlm_base::decoder::Decoder;
 use jxlm_base::error::Error;
 use jxlm_base::grid::{AlignedGrid, OutOfMemory};
 use jxlm_base::sample::Sample;
-use jxlm_encode::encode::{EncodeError, EncodeNode, EncodeTransform, encode};
+use jxlm_encode::encode::{EncodeError, EncodeNode, EncodeTransform, encode, encode2};
 use jxlm_ma::flat::Steps;
 use jxlm_ma::ma::each_tree_is_read_exactly;
 use jxlm_plain::plain::PlainDecoder;
+use jxlm_plain::plain2::PlainDecoder2;
 use jxlm_transform::param::{ModularChannelParams, ModularParams};
 use std::alloc::Global;
 
@@ -61,8 +63,19 @@ fn params_of<S: Sample>(
     Ok(params)
 }
 
+/// Parameters of these channels, without a global tree.
+fn without_tree<'a, D: Decoder>(
+    group_dim: u32,
+    bit_depth: u32,
+    channels: Vec<ModularChannelParams>,
+) -> ModularParams<'a, D>
+    ensures { result ≡ given_params group_dim bit_depth channels None }
+{
+    ModularParams::with_channels(group_dim, bit_depth, channels, None)
+}
+
 /// The picture that stands at the start of the bytes, of the channels of these grids.
-fn decoded<S: Sample>(
+fn decoded<S: Sample, D: Decoder>(
     alloc: Global,
     bytes: &[u8],
     grids: &[AlignedGrid<S>],
@@ -73,15 +86,15 @@ fn decoded<S: Sample>(
     requires count { length grids.now ≤ 2 ^ 20 }
     requires group { IsGroupDim group_dim }
     requires deep { bit_depth ≤ 32 }
-    ensures ok { IfOk result (λ v. IsDecoded S.width bytes.now bit_depth (store_meanings S.to_int grids.now)
+    ensures ok { IfOk result (λ v. IsDecoded D.meaning S.width bytes.now bit_depth (store_meanings S.to_int grids.now)
         (store_meanings S.to_int v.items)) }
-    ensures err { IfErr result (λ e. IsNotDecoded S.width bytes.now (store_meanings S.to_int grids.now)
+    ensures err { IfErr result (λ e. IsNotDecoded D.meaning S.width bytes.now (store_meanings S.to_int grids.now)
         (kind_of e)) }
 {
     let list = params_of(alloc, grids)?;
-    let params = ModularParams::with_channels(group_dim, bit_depth, list, None);
+    let params = without_tree(group_dim, bit_depth, list);
     let mut bits = Bitstream::new(bytes);
-    let image = decode_picture::<S, PlainDecoder>(alloc, &mut bits, params, 0, &mut Steps::new())?;
+    let image = decode_picture::<S, D>(alloc, &mut bits, params, 0, &mut Steps::new())?;
     match image {
         Some(image) => Ok(image.into_image_channels()),
         None => Ok(Vec::new(alloc)),
@@ -114,7 +127,32 @@ pub fn encode_and_decode<S: Sample>(
 {
     let bytes = encode(alloc, channels, transforms, tree)?;
     each_tree_is_read_exactly::<PlainDecoder>();
-    match decoded(alloc, &bytes, channels, group_dim, bit_depth) {
+    match decoded::<S, PlainDecoder>(alloc, &bytes, channels, group_dim, bit_depth) {
+        Ok(grids) => Ok(grids),
+        Err(error) => Err(RoundTripError::Decode(error)),
+    }
+}
+
+/// The same in the second plain format: by [`encode2`], and read by its decoder.
+pub fn encode_and_decode2<S: Sample>(
+    alloc: Global,
+    channels: &[AlignedGrid<S>],
+    transforms: &[EncodeTransform],
+    tree: &[EncodeNode],
+    group_dim: u32,
+    bit_depth: u32,
+) -> Result<Vec<AlignedGrid<S>>, RoundTripError>
+    requires sides { All IsSmall channels.now }
+    requires count { length channels.now ≤ 2 ^ 20 }
+    requires group { IsGroupDim group_dim }
+    requires deep { bit_depth ≤ 32 }
+    ensures same { IfOk result (λ v. v.items ≡ channels.now) }
+    ensures err { IfErr result (λ e. RoundTripFails (map transform_of transforms.now) tree.now
+        (store_meanings S.to_int channels.now) e) }
+{
+    let bytes = encode2(alloc, channels, transforms, tree)?;
+    each_tree_is_read_exactly::<PlainDecoder2>();
+    match decoded::<S, PlainDecoder2>(alloc, &bytes, channels, group_dim, bit_depth) {
         Ok(grids) => Ok(grids),
         Err(error) => Err(RoundTripError::Decode(error)),
     }

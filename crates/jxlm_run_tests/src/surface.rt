@@ -2,4 +2,5 @@
 // One that is missing, or has another type, does not compile. What is computed on the way are worked examples.
 
 mod calls;
+mod encoder;
 mod images;

@@ -1,21 +1,26 @@
 -- What an encoder writes, and the part that it writes the samples of.
-use Rattle.std.specs.Prelude.{ℕ, ◌^◌, ◌<◌, ◌≤◌, List, ◌++◌, length}
+use Rattle.std.specs.Prelude.{◌≡◌, ℕ, ◌^◌, ◌<◌, ◌≤◌, ℤ, List, ◌++◌, length}
+use Rattle.std.specs.Int.{Width}
 use Rattle.std.specs.List.{All}
 use Rattle.jxlm_base.specs.Grid.{Grid}
 use Rattle.jxlm_base.specs.Regions.{AllLie, LieApart}
+use Rattle.jxlm_chain.specs.Chain.{Chain}
 use Rattle.jxlm_chain.specs.declared.placed.PlacedChannels.{PlacedChannels}
 use Rattle.jxlm_transform.specs.Channels.{AreRegionsOf, IsNarrow}
 use Rattle.jxlm_transform.specs.Transforms.{Transform}
 use Rattle.jxlm_ma.specs.Tree.{Shape}
 use Rattle.jxlm_ma.specs.declared.flat.Leaf.{Leaf}
-use Rattle.jxlm_part.specs.Part.{Part}
+use Rattle.jxlm_part.specs.Part.{Part, cell_count, cells_of}
+use Rattle.jxlm_tokens.specs.Tokens.{AreTokensOf}
+use Rattle.jxlm_transform.specs.ChannelSteps.{CodedList}
 use Rattle.jxlm_tree.specs.WeightsHeader.{default_weights}
 use Rattle.jxlm_write.specs.Headers.{header_bits}
 use Rattle.jxlm_write.specs.Nodes.{tree_tokens}
-use Rattle.jxlm_write.specs.Tokens.{token_bits}
-use Rattle.jxlm_write.specs.Trees.{tree_bits}
+use Rattle.jxlm_write.specs.Tokens.{gamma_token_bits, token_bits}
+use Rattle.jxlm_write.specs.Trees.{gamma_tree_bits, tree_bits}
 use Rattle.jxlm_write.specs.Written.{HasBits}
 use Rattle.jxlm_write.specs.declared.tree.EncodeNode.{EncodeNode}
+use Rattle.jxlm_encode.specs.Encoded.{AreAccepted, IsTreeGiven, coded_part, given_list}
 
 -- the coded channels lie in the store, narrow, at most 65536, and apart from one another
 pub record ChannelsLie {S : Type 0} (p : PlacedChannels) (store : List (Grid S)) : Type 0 where
@@ -38,3 +43,22 @@ pub record AreWritten (ts : List Transform) (nodes : List EncodeNode) (tokens by
   pub most : width ≤ 32
   pub fits : All (λ t. t < 2 ^ width) tokens
   pub has : HasBits bytes 0 (header_bits ts ++ (tree_bits nodes own width ++ token_bits width tokens))
+
+-- the same in the second format: the tree and the tokens are gamma codes
+pub record AreWritten2 (ts : List Transform) (nodes : List EncodeNode) (tokens bytes : List ℕ) : Type 0 where
+  pub own_fits : All (λ t. t < 2 ^ 32) (tree_tokens nodes)
+  pub fits : All (λ t. t < 2 ^ 32) tokens
+  pub has : HasBits bytes 0 (header_bits ts ++ (gamma_tree_bits nodes ++ gamma_token_bits tokens))
+
+-- The transforms are accepted and make samples of the image, at whatever bit depth; the nodes list the tree; and these
+-- are the tokens of the samples.
+pub record ArePrepared (ts : List Transform) (nodes : List EncodeNode) (image : List (Grid ℤ)) (w : Width) (tokens : List ℕ) : Type 0 where
+  pub coded : CodedList
+  pub accepted : AreAccepted ts (given_list image) coded
+  pub count : length coded.list.channels ≤ 65536
+  pub tree : Shape Leaf
+  pub given : IsTreeGiven nodes coded.list.channels tree
+  pub samples : List (Grid ℤ)
+  pub counted : cell_count coded.list.channels ≡ length (cells_of samples)
+  pub are : AreTokensOf w (coded_part coded tree) (cells_of samples) tokens
+  pub chain : (bit_depth : ℕ) → Chain w bit_depth coded.steps (given_list image) image samples

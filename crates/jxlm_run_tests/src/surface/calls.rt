@@ -17,7 +17,7 @@ use jxl_modular::grid::{AlignedGrid, MutableSubgrid, OutOfMemory, Region, Rows};
 use jxl_modular::image::{ModularImageDestination, TransformedGrid, TransformedModularSubimage};
 use jxl_modular::ma::{MaConfig, MaConfigParams};
 use jxl_modular::param::{ChannelShift, ModularChannelParams, ModularParams};
-use jxl_modular::plain::PlainDecoder;
+use jxl_modular::plain::{PlainDecoder, PlainDecoder2};
 use jxl_modular::predictor::{PredictionResult, Predictor, PredictorState, Properties, WpHeader};
 use jxl_modular::rct::inverse_rct;
 use jxl_modular::sample::{Sample, Sealed};
@@ -683,6 +683,8 @@ fn reading(rt: HostRuntime) -> Result<(), Fail> {
     compare(&rt, colour, (0, false, false));
     compare(&rt, params(alloc, None)?, (256, 8, 1, true, false));
     check_predictors(&rt)?;
+    let second = PlainDecoder2::parse(alloc, &mut Bitstream::new(&[0x12]), 6);
+    compare(&rt, second.is_err(), true);
     check_tree::<PlainDecoder>(&rt, alloc)
 }
 

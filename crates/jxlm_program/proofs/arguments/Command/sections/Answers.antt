@@ -1,5 +1,5 @@
 -- Each word of the list is what the code read of it.
-use Rattle.std.proofs.Common.{◌≡◌, length, arith, rules, codes, ◌∙◌}
+use Rattle.std.proofs.Common.{◌≡◌, length, arith, ◌∙◌}
 use Rattle.std.proofs.lemmas.List.{length-map}
 use Rattle.jxlm_program.proofs.WordLemmas.{word_at, number_at}
 use Rattle.jxlm_program.proofs.arguments.Command.sections.Goals as goal
@@ -8,10 +8,9 @@ pub returns : goal.returns
 returns c =
     let words = c.args.words.now in
     let count : length words ≡ 7 = omega arith in
-    let named : c.as_str.result.now ≡ codes "sections" = search rules in
     record {
       count = simp length-map count;
-      named = word_at _ words 0 c.name-item.result _ (omega arith) c.name-item.is c.as_str.ensures.value ∙ named;
+      named = word_at _ words 0 c.name-item.result _ (omega arith) c.name-item.is c.as_str.ensures.value ∙ c.in_ok-of_sections.ensures;
       picture = record {
         wide = number_at _ words 1 c.width-item.result _ _ (omega arith) c.width-item.is c.as_str-2.ensures.value c.in_ok-number.ensures;
         high = number_at _ words 2 c.height-item.result _ _ (omega arith) c.height-item.is c.as_str-3.ensures.value c.in_ok-number-2.ensures;
