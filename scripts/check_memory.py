@@ -33,9 +33,7 @@ def main():
     cited = {word.split("::")[-1] for word in re.findall(r"`([\w:]+)`", document)}
     surface = text_of("crates/jxlm_run_tests/src/surface/*.rt")
     called = set(re.findall(r"(?:\.|::)(\w+)(?:::<[^>]*>)?\(", surface))
-    called |= set(re.findall(r"(?<![\w.:])([a-z]\w+)(?:::<[^>]*>)?\(", surface)) & set(
-        re.findall(r"\w+", " ".join(re.findall(r"\nuse jxl_modular::[^;]*;", surface)))
-    )
+    called |= set(re.findall(r"\bnamed\(\s*(?:.*?::)?(\w+)(?:::<[^;]*>)?,?\s*\);", surface))
     wrong = [f"docs/MEMORY.md: no call {name}" for name in sorted((called & public_calls()) - cited)]
 
     made = {}

@@ -1,45 +1,14 @@
 //! Images as they are read: their headers, their channels before the first sample, and their global parts.
 
-ghost use Rattle.std.specs.Prelude.{IfSome};
-ghost use Rattle.jxlm_transform.specs.Params.{IsValidParams};
-
 use jxl_modular::bits::Bitstream;
 use jxl_modular::decoder::Decoder;
 use jxl_modular::error::Error;
 use jxl_modular::image::ModularImageDestination;
 use jxl_modular::plain::PlainDecoder;
-use jxl_modular::{Modular, ModularParams, Sample};
-use jxlcheck_image::{channels, samples};
+use jxl_modular::{Modular, Sample};
+use jxlcheck_image::{read, samples};
 use jxlcheck_text::{listed, number, repeated, word};
 use std::alloc::Global;
-
-/// The parameters of an image of these channels; none where they are not valid.
-fn params<'a, D: Decoder>(
-    alloc: Global,
-    channels_text: &str,
-    group_dim: u32,
-) -> Option<ModularParams<'a, D>>
-    ensures { IfSome result IsValidParams }
-{
-    let channels = channels(alloc, channels_text)?;
-    let params = ModularParams::with_channels(group_dim, 8, channels, None);
-    if params.is_valid() {
-        Some(params)
-    } else {
-        None
-    }
-}
-
-/// The image of these channels that stands in the bits, or its error; none where it cannot be asked for.
-pub fn read<S: Sample, D: Decoder>(
-    alloc: Global,
-    bits: &mut Bitstream<'_>,
-    channels_text: &str,
-    group_dim: u32,
-) -> Option<Result<Modular<S, D>, Error>> {
-    let params = params::<D>(alloc, channels_text, group_dim)?;
-    Some(Modular::parse(alloc, bits, params))
-}
 
 /// A row of a header asks with the channels, and after a bar the bytes. It gives the error, or that there is none, and
 /// where the row expects it the reader's position.
@@ -47,7 +16,7 @@ pub fn seen_of_header(alloc: Global, asked: &str, placed: bool) -> Option<String
     let (channels_text, digits) = asked.split_once('|')?;
     let bytes = repeated(alloc, digits)?;
     let mut bits = Bitstream::new(&bytes);
-    let mut text = match read::<i32, PlainDecoder>(alloc, &mut bits, channels_text, 256)? {
+    let mut text = match read::<i32, PlainDecoder>(alloc, &mut bits, (256, 8), channels_text)? {
         Ok(_) => format!(in alloc; "read").ok()?,
         Err(error) => format!(in alloc; "{error}").ok()?,
     };
@@ -108,7 +77,7 @@ fn seen_image_at<S: Sample, D: Decoder>(alloc: Global, asked: &str) -> Option<St
     let (channels_text, digits) = asked.split_once('|')?;
     let bytes = repeated(alloc, digits)?;
     let mut bits = Bitstream::new(&bytes);
-    match read::<S, D>(alloc, &mut bits, channels_text, 256)? {
+    match read::<S, D>(alloc, &mut bits, (256, 8), channels_text)? {
         Ok(modular) => {
             let text = seen_each_way(alloc, modular)?;
             format!(in alloc; "{text} @{}", bits.position()).ok()
@@ -148,7 +117,7 @@ fn global_part<D: Decoder>(
     channels_text: &str,
     group_dim: u32,
 ) -> Option<[bool; 4]> {
-    let mut modular = read::<i32, D>(alloc, bits, channels_text, group_dim)?.ok()?;
+    let mut modular = read::<i32, D>(alloc, bits, (group_dim, 8), channels_text)?.ok()?;
     decode_global_part(alloc, bits, modular.image_mut()?).ok()
 }
 

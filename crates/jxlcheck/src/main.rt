@@ -8,7 +8,7 @@ mod plain;
 mod within;
 
 use jxl_modular::plain::{PlainDecoder, PlainDecoder2};
-use jxlcheck_image::{picture, sections};
+use jxlcheck_image::{picture, sections, viewer};
 use jxlcheck_text::Row;
 use jxlm_examples::bytewise::Bytewise;
 use std::alloc::Global;
@@ -32,6 +32,7 @@ fn seen(alloc: Global, row: &Row<'_>) -> Option<String> {
         "sections" => sections::seen::<PlainDecoder>(alloc, row.asked, summed, false),
         "partial" => sections::seen::<PlainDecoder>(alloc, row.asked, summed, true),
         "beginnings" => sections::sum_of_beginnings::<PlainDecoder>(alloc, row.asked),
+        "viewer" => viewer::seen::<PlainDecoder>(alloc, row.asked),
         "within" => within::seen(alloc, row.asked),
         _ => None,
     }

@@ -4,14 +4,13 @@
 //! global part's own; and those of a header within that part, with its samples, of 32 bits. It gives whether these are
 //! whole, and after a bar the image's samples; or an error.
 
-use crate::image::read;
 use jxl_modular::bits::Bitstream;
 use jxl_modular::decoder::Decoder;
 use jxl_modular::error::Error;
 use jxl_modular::image::{ModularImageDestination, RecursiveModularImage};
 use jxl_modular::plain::PlainDecoder;
 use jxl_modular::{MaConfig, Sample};
-use jxlcheck_image::{decode_by_header, samples};
+use jxlcheck_image::{decode_by_header, read, samples};
 use jxlcheck_text::{bytes, listed};
 use std::alloc::Global;
 
@@ -71,8 +70,8 @@ fn seen_by<D: Decoder>(alloc: Global, asked: &str, global: Option<&MaConfig<D>>)
     let mut modular = read::<i32, D>(
         alloc,
         &mut Bitstream::new(&header),
+        (256, 8),
         channels_text,
-        256,
     )?.ok()?;
     decoded_within(alloc, modular.image_mut()?, &outer, &inner, global)
 }

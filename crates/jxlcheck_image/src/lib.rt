@@ -7,8 +7,11 @@ mod image_samples;
 mod input;
 mod parts;
 pub mod picture;
+mod reading;
 pub mod sections;
+pub mod viewer;
 
 pub use channel_words::channels;
 pub use image_samples::samples;
 pub use parts::decode_by_header;
+pub use reading::read;

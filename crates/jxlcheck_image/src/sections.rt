@@ -36,19 +36,31 @@ struct Options {
 
 /// The fields of a row.
 #[derive(Clone, Copy)]
-struct Fields<'t> {
+pub struct Fields<'t> {
     /// The type of samples.
     kind: &'t str,
-    channels: &'t str,
+    /// The channels.
+    pub channels: &'t str,
     group_dim: &'t str,
     depth: &'t str,
-    passes: &'t str,
-    header: &'t str,
+    /// The passes.
+    pub passes: &'t str,
+    /// The bytes of the header.
+    pub header: &'t str,
     trees: &'t str,
-    sections: &'t str,
+    /// The sections.
+    pub sections: &'t str,
 }
 
-fn split<'t>(kind: &'t str, row: &'t str) -> Option<Fields<'t>> {
+impl Fields<'_> {
+    /// The side of a group and the bit depth.
+    pub fn limits(&self) -> Option<(u32, u32)> {
+        Some((number(self.group_dim)?, number(self.depth)?))
+    }
+}
+
+/// The fields of a row for samples of this type.
+pub fn split<'t>(kind: &'t str, row: &'t str) -> Option<Fields<'t>> {
     let (channels, rest) = row.split_once('|')?;
     let (setting, rest) = rest.split_once('|')?;
     let (header, sections) = rest.split_once('|')?;
@@ -149,8 +161,8 @@ fn params<'a, D: Decoder>(
     global: Option<&'a MaConfig<D>>,
 ) -> Option<ModularParams<'a, D>> {
     let channels = channels(alloc, fields.channels)?;
-    let group_dim = number(fields.group_dim)?;
-    Some(ModularParams::with_channels(group_dim, number(fields.depth)?, channels, global))
+    let (group_dim, depth) = fields.limits()?;
+    Some(ModularParams::with_channels(group_dim, depth, channels, global))
 }
 
 /// What comes of these parameters, which are valid, and these sections.

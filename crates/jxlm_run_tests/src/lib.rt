@@ -1,10 +1,8 @@
-//! Tests of the public surface, by its names, and of a viewer.
+//! Tests of the public surface, by its names.
 #![tactic(auto)]
 
 #[cfg(test)]
 mod compared;
-#[cfg(test)]
-mod follow;
 #[cfg(test)]
 mod surface;
 

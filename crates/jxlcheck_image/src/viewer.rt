@@ -1,0 +1,113 @@
+//! Images as a viewer sees them, while their parts come.
+//!
+//! A row asks as one of sections does, for samples of 32 bits and without global trees; in place of sections it has the
+//! bytes of the global part, and groups after it, with a semicolon wherever the image is shown. It gives, with a semicolon
+//! after each: of the parts that came whether they are partial then, and the samples that are shown. Parts may end early.
+
+use crate::image_samples::samples_of;
+use crate::input::{owned_sections, passes, sections};
+use crate::reading::read;
+use crate::sections::{Fields, split};
+use jxl_modular::Sample;
+use jxl_modular::bits::Bitstream;
+use jxl_modular::decoder::Decoder;
+use jxl_modular::grid::AlignedGrid;
+use jxl_modular::groups::{Part, TransformedGlobalModular};
+use jxl_modular::image::ModularImageDestination;
+use jxl_modular::sections::{Section, SectionPart};
+use jxlcheck_text::{bytes, listed};
+use std::alloc::Global;
+
+/// Adds the samples that are shown.
+fn tell_shown<S: Sample>(alloc: Global, text: &mut String, shown: &[AlignedGrid<S>]) -> Option<()> {
+    let samples = samples_of(alloc, shown).ok()?;
+    let samples = listed(alloc, &samples, false).ok()?;
+    write!(text, "{samples};").ok()
+}
+
+/// Decodes the global part: whether it is partial then.
+fn decode_global<S: Sample, D: Decoder>(
+    alloc: Global,
+    image: &mut ModularImageDestination<S, D>,
+    bytes: &[u8],
+) -> Option<bool> {
+    let mut part = image.prepare_gmodular(alloc).ok()?;
+    part.decode(alloc, &mut Bitstream::new(bytes), 0, true)
+        .ok()?;
+    Some(part.is_partial())
+}
+
+/// Decodes a group: whether it is partial then.
+fn decode_group<S: Sample, D: Decoder>(
+    alloc: Global,
+    groups: &mut TransformedGlobalModular<'_, S, D>,
+    section: &Section<'_>,
+) -> Option<bool> {
+    let part = match section.part {
+        SectionPart::Global => return None,
+        SectionPart::Lf(group) => Part::Lf(group),
+        SectionPart::Pass(pass, group) => Part::Pass(pass, group),
+    };
+    let mut bits = section.bits;
+    groups
+        .decode(alloc, part, &mut bits, section.stream_index, true)
+        .ok()?;
+    Some(groups.is_partial(part))
+}
+
+/// Adds what becomes of some groups, and what is shown then.
+fn tell_groups<S: Sample, D: Decoder>(
+    alloc: Global,
+    text: &mut String,
+    groups: &mut TransformedGlobalModular<'_, S, D>,
+    sections: &[Section<'_>],
+) -> Option<()> {
+    for section in sections {
+        let partial = decode_group(alloc, groups, section)?;
+        write!(text, "{partial} ").ok()?;
+    }
+    tell_shown(alloc, text, &groups.shown(alloc).ok()?)
+}
+
+/// Adds the same of all groups, with a semicolon wherever the image is shown.
+fn tell_all_groups<S: Sample, D: Decoder>(
+    alloc: Global,
+    text: &mut String,
+    groups: &mut TransformedGlobalModular<'_, S, D>,
+    words: &str,
+) -> Option<()> {
+    for some in words.split(';') {
+        let owned = owned_sections(alloc, some)?;
+        let sections = sections(alloc, &owned, None)?;
+        tell_groups(alloc, text, groups, &sections)?;
+    }
+    Some(())
+}
+
+/// What a viewer sees of an image, whose header was read.
+fn told<S: Sample, D: Decoder>(
+    alloc: Global,
+    image: &mut ModularImageDestination<S, D>,
+    fields: Fields<'_>,
+) -> Option<String> {
+    let (global, groups) = fields.sections.split_once(';')?;
+    let passes = passes(alloc, fields.passes)?;
+    let partial = decode_global(alloc, image, &bytes(alloc, global)?)?;
+    let mut text = format!(in alloc; "{partial} ").ok()?;
+    tell_shown(alloc, &mut text, &image.shown(alloc).ok()?)?;
+    if !image.can_group(&passes) {
+        return None;
+    }
+    let mut parts = image.prepare_groups(alloc, &passes).ok()?;
+    tell_all_groups(alloc, &mut text, &mut parts, groups)?;
+    Some(text)
+}
+
+/// What comes of a row.
+pub fn seen<D: Decoder>(alloc: Global, asked: &str) -> Option<String> {
+    let fields = split("i32", asked)?;
+    let header = bytes(alloc, fields.header)?;
+    let mut bits = Bitstream::new(&header);
+    let mut modular = read::<i32, D>(alloc, &mut bits, fields.limits()?, fields.channels)?.ok()?;
+    told(alloc, modular.image_mut()?, fields)
+}
