@@ -1,10 +1,13 @@
-//! Checks rows of tables of JPEG XL files, which come on standard input: each says what is asked, and what is expected
-//! of it. A line that begins with # says what the rows after it are.
+//! Checks rows of tables of JPEG XL files and of decoders of entropy codes, which come on standard input: each says what
+//! is asked, and what is expected of it. A line that begins with # says what the rows after it are.
 #![tactic(auto)]
 
+mod answers;
+mod damaged;
 mod files;
 mod frames;
 mod images;
+mod names;
 mod writing;
 
 use jxlcheck_text::Row;
@@ -19,6 +22,9 @@ fn seen(alloc: Global, row: &Row<'_>) -> Option<String> {
         "text" => writing::seen(alloc, row.asked),
         "image" => images::seen(alloc, row.asked),
         "frame" => frames::seen(alloc, row.asked),
+        "entropy" => answers::seen(alloc, row.asked, row.expected.starts_with('#')),
+        "entropy_cuts" => damaged::seen_of_cuts(alloc, row.asked),
+        "damaged" => damaged::sum_of_damaged(alloc, row.asked),
         _ => None,
     }
 }
