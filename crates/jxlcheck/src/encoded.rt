@@ -9,17 +9,17 @@
 
 ghost use Rattle.std.specs.Prelude.{◌≡◌, None, IsTrue};
 ghost use Rattle.std.specs.List.{All};
-ghost use Rattle.jxlm_encode.specs.Encoded.{IsSmall};
+ghost use Rattle.jxl_modular.specs.Encoded.{IsSmall};
 
 use jxl_modular::bits::Bitstream;
 use jxl_modular::decoder::Decoder;
+use jxl_modular::encode::{EncodeNode, EncodeTransform, SqueezeStep, encode, encode2};
 use jxl_modular::flat::Steps;
 use jxl_modular::grid::AlignedGrid;
 use jxl_modular::plain::{PlainDecoder, PlainDecoder2};
 use jxl_modular::predictor::Predictor;
 use jxl_modular::{ModularChannelParams, ModularParams, Sample, decode_picture};
 use jxlcheck_text::{number, numbers, signed, word};
-use jxlm_encode::encode::{EncodeNode, EncodeTransform, SqueezeStep, encode, encode2};
 use std::alloc::Global;
 
 /// The plain format that an image is encoded in.

@@ -1,5 +1,5 @@
 use Rattle.std.proofs.Common.{◌≡◌}
-use Rattle.jxlcheck_fault.proofs.walks.walks.Given as goal
+use Rattle.jxlcheck.proofs.walks.walks.Given as goal
 
 abbrev pub invariant-loop-walk : goal.invariant-loop-walk
 invariant-loop-walk g l =
