@@ -7,7 +7,7 @@
 //! `PREDICTOR:OFFSET`. It gives the bytes or the error. Where there are bytes, they are decoded; and where that is
 //! another image, it gives this.
 
-ghost use Rattle.std.specs.Prelude.{◌≡◌, None, IsTrue};
+ghost use Rattle.std.specs.Prelude.{◌≡◌, IfSome, IsTrue, None};
 ghost use Rattle.std.specs.List.{All};
 ghost use Rattle.jxl_modular.specs.Encoded.{IsSmall};
 
@@ -174,19 +174,13 @@ fn is_same<S: Sample>(samples: &[S], others: &[S]) -> bool {
     same
 }
 
-/// Parameters of these channels.
-fn params<'a, D: Decoder>(channels: Vec<ModularChannelParams>) -> ModularParams<'a, D>
-    ensures { result.ma_config ≡ None }
-{
-    ModularParams::with_channels(256, 8, channels, None)
-}
-
-/// Whether a decoder makes these grids of the bytes.
-fn comes_back<S: Sample, D: Decoder>(
+/// The parameters of a picture that has the sides of these grids.
+fn params<'a, S: Sample, D: Decoder>(
     alloc: Global,
-    bytes: &[u8],
     grids: &[AlignedGrid<S>],
-) -> Option<bool> {
+) -> Option<ModularParams<'a, D>>
+    ensures { IfSome result (λ p. p.ma_config ≡ None) }
+{
     let mut channels = Vec::new(alloc);
     for grid in grids {
         let width = u32::try_from(grid.width()).ok()?;
@@ -195,7 +189,16 @@ fn comes_back<S: Sample, D: Decoder>(
             .push(ModularChannelParams::new(width, height))
             .ok()?;
     }
-    let params = params(channels);
+    Some(ModularParams::with_channels(256, 8, channels, None))
+}
+
+/// Whether a decoder makes these grids of the bytes.
+fn comes_back<S: Sample, D: Decoder>(
+    alloc: Global,
+    bytes: &[u8],
+    grids: &[AlignedGrid<S>],
+) -> Option<bool> {
+    let params = params::<S, D>(alloc, grids)?;
     if !params.is_valid() {
         return None;
     }
