@@ -12,6 +12,7 @@ pub described_fails : (size : Size) (bytes : List ℕ) (p : ℕ) (more : Bool) (
     flag.read bytes p ≡ Ok (record { value = more; position = a }) → (display more).read bytes a ≡ Ok (record { value = d; position = b }) →
     samples.read bytes b ≡ Ok (record { value = s; position = m }) → UnlessNoMemory error (IsErrorAt (extra_channels.read bytes m) error q) →
     UnlessNoMemory error (IsErrorAt ((described_image size).read bytes p) error q)
+unfolding described_image
 described_fails size bytes p more a d b s m error q first second third refused =
     unless_so error (IsErrorAt (extra_channels.read bytes m) error q) (IsErrorAt ((described_image size).read bytes p) error q)
     (λ r. record { place = r.place; refuses = rw (first, second, third, r.refuses) refl; stands = r.stands }) refused

@@ -7,7 +7,7 @@ use Rattle.jxl_headers.specs.declared.channel.BitDepth.{BitDepth}
 use Rattle.jxl_headers.specs.declared.channel.ExtraChannel.{ExtraChannel}
 
 -- whole numbers have 1 to 31 bits
-abbrev pub whole_depth : Grammar BitDepth
+unfoldable pub whole_depth : Grammar BitDepth
 whole_depth = do
   n ← u32 (Const 8) (Const 10) (Const 12) (Offset 1 6)
   bits ← meant (codes "bits_per_sample") (nat_lt n 32) n
@@ -17,7 +17,7 @@ whole_depth = do
 abbrev pub fits_float : ℕ → ℕ → Bool
 fits_float bits exponent = nat_le 2 exponent && nat_le exponent 8 && nat_le (exponent + 3) bits && nat_le bits (exponent + 24)
 
-abbrev pub float_depth : Grammar BitDepth
+unfoldable pub float_depth : Grammar BitDepth
 float_depth = do
   bits ← u32 (Const 32) (Const 16) (Const 24) (Offset 1 6)
   n ← number 4
@@ -25,25 +25,25 @@ float_depth = do
   give (record { bits = bits; exponent_bits = exponent })
 
 -- how a sample is stored
-abbrev pub bit_depth : Grammar BitDepth
+unfoldable pub bit_depth : Grammar BitDepth
 bit_depth = flag >>= λ float. either float float_depth whole_depth
 
 -- the kinds of extra channels that mean something
 abbrev pub is_kind : ℕ → Bool
 is_kind v = nat_lt v 7 || (v == 15) || (v == 16)
 
-abbrev pub channel_kind : Grammar ℕ
+unfoldable pub channel_kind : Grammar ℕ
 channel_kind = enumerated >>= λ v. meant (codes "ExtraChannelType") (is_kind v) v
 
 -- what follows by the kind: of alpha whether colours were multiplied by it; the four numbers of a spot colour; the
 -- number of a colour filter's channel
-abbrev pub by_kind : ℕ → Grammar Bool
+unfoldable pub by_kind : ℕ → Grammar Bool
 by_kind kind =
     either (kind == 0) flag (either (kind == 2) (skipped 8 >>= λ u. give false)
     (either (kind == 5) (u32 (Const 1) (Offset 0 2) (Offset 3 4) (Offset 19 8) >>= λ v. give false) (give false)))
 
 -- an extra channel that is described
-abbrev pub described : Grammar ExtraChannel
+unfoldable pub described : Grammar ExtraChannel
 described = do
   kind ← channel_kind
   depth ← bit_depth
@@ -56,5 +56,5 @@ described = do
 abbrev pub usual_channel : ExtraChannel
 usual_channel = record { kind = 0; depth = record { bits = 8; exponent_bits = 0 }; shift = 0; name_bytes = 0; premultiplied = false }
 
-abbrev pub extra_channel : Grammar ExtraChannel
+unfoldable pub extra_channel : Grammar ExtraChannel
 extra_channel = flag >>= λ usual. either usual (give usual_channel) described

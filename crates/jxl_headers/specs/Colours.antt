@@ -12,16 +12,16 @@ use Rattle.jxl_headers.specs.declared.colour.ColourEncoding.{ColourEncoding}
 use Rattle.jxl_headers.specs.declared.colour.ToneMapping.{ToneMapping}
 
 -- one coordinate of a colour, in millionths; negative ones are odd
-abbrev pub coordinate : Grammar ℕ
+unfoldable pub coordinate : Grammar ℕ
 coordinate = u32 (Offset 0 19) (Offset 524288 19) (Offset 1048576 20) (Offset 2097152 21)
 
-abbrev pub chromaticity : Grammar Chromaticity
+unfoldable pub chromaticity : Grammar Chromaticity
 chromaticity = coordinate >>= λ x. coordinate >>= λ y. give (record { x = x; y = y })
 
 abbrev pub no_colour : Chromaticity
 no_colour = record { x = 0; y = 0 }
 
-abbrev pub primary_colours : Grammar Primaries
+unfoldable pub primary_colours : Grammar Primaries
 primary_colours = chromaticity >>= λ r. chromaticity >>= λ g. chromaticity >>= λ b. give (record { red = r; green = g; blue = b })
 
 abbrev pub no_primaries : Primaries
@@ -31,47 +31,47 @@ no_primaries = record { red = no_colour; green = no_colour; blue = no_colour }
 abbrev pub is_white : ℕ → Bool
 is_white v = (v == 1) || (v == 2) || (v == 10) || (v == 11)
 
-abbrev pub white_number : Grammar ℕ
+unfoldable pub white_number : Grammar ℕ
 white_number = enumerated >>= λ v. meant (codes "WhitePoint") (is_white v) v
 
 abbrev pub usual_white : White
 usual_white = record { number = 1; own = no_colour }
 
-abbrev pub listed_white : Grammar White
+unfoldable pub listed_white : Grammar White
 listed_white = do
   number ← white_number
   own ← either (number == 2) chromaticity (give no_colour)
   give (record { number = number; own = own })
 
 -- XYB has its own
-abbrev pub white : ℕ → Grammar White
+unfoldable pub white : ℕ → Grammar White
 white space = either (space == 2) (give usual_white) listed_white
 
 -- the three colours that are mixed: their number, and for 2 their coordinates
 abbrev pub is_basis : ℕ → Bool
 is_basis v = (v == 1) || (v == 2) || (v == 9) || (v == 11)
 
-abbrev pub basis_number : Grammar ℕ
+unfoldable pub basis_number : Grammar ℕ
 basis_number = enumerated >>= λ v. meant (codes "Primaries") (is_basis v) v
 
 abbrev pub usual_basis : Basis
 usual_basis = record { number = 1; own = no_primaries }
 
-abbrev pub listed_basis : Grammar Basis
+unfoldable pub listed_basis : Grammar Basis
 listed_basis = do
   number ← basis_number
   own ← either (number == 2) primary_colours (give no_primaries)
   give (record { number = number; own = own })
 
 -- grey and XYB mix none
-abbrev pub basis : ℕ → Grammar Basis
+unfoldable pub basis : ℕ → Grammar Basis
 basis space = either ((space == 1) || (space == 2)) (give usual_basis) listed_basis
 
 -- the exponent of light by samples, in 10 millionths, from 1 in 8192 to 1
 abbrev pub is_gamma : ℕ → Bool
 is_gamma v = nat_le v 10000000 && nat_le 10000000 (8192 * v)
 
-abbrev pub gamma : Grammar Transfer
+unfoldable pub gamma : Grammar Transfer
 gamma = do
   v ← number 24
   gamma ← meant (codes "gamma") (is_gamma v) v
@@ -81,7 +81,7 @@ gamma = do
 abbrev pub is_curve : ℕ → Bool
 is_curve v = (v == 1) || (v == 8) || (v == 13) || (v == 16) || (v == 17) || (v == 18)
 
-abbrev pub curve : Grammar Transfer
+unfoldable pub curve : Grammar Transfer
 curve = do
   v ← enumerated
   number ← meant (codes "TransferFunction") (is_curve v) v
@@ -91,22 +91,22 @@ curve = do
 abbrev pub usual_transfer : Transfer
 usual_transfer = record { number = 13; gamma = 0 }
 
-abbrev pub listed_transfer : Grammar Transfer
+unfoldable pub listed_transfer : Grammar Transfer
 listed_transfer = flag >>= λ by_gamma. either by_gamma gamma curve
 
-abbrev pub transfer : ℕ → Grammar Transfer
+unfoldable pub transfer : ℕ → Grammar Transfer
 transfer space = either (space == 2) (give usual_transfer) listed_transfer
 
 -- how colours outside a range are shown
-abbrev pub intent : Grammar ℕ
+unfoldable pub intent : Grammar ℕ
 intent = enumerated >>= λ v. meant (codes "RenderingIntent") (nat_lt v 4) v
 
 -- the kind of colours: red, green and blue; grey; XYB; one that only a profile tells
-abbrev pub space : Bool → Grammar ℕ
+unfoldable pub space : Bool → Grammar ℕ
 space profile = enumerated >>= λ v. meant (codes "ColourSpace") (nat_lt v 3 || (v == 3) && profile) v
 
 -- what a colour space has that no profile tells
-abbrev pub described_colours : ℕ → Grammar ColourEncoding
+unfoldable pub described_colours : ℕ → Grammar ColourEncoding
 described_colours space = do
   white ← white space
   basis ← basis space
@@ -118,21 +118,21 @@ described_colours space = do
 abbrev pub told : Bool → ℕ → ColourEncoding
 told profile space = record { profile = profile; space = space; white = usual_white; basis = usual_basis; transfer = usual_transfer; intent = 1 }
 
-abbrev pub own_colours : Grammar ColourEncoding
+unfoldable pub own_colours : Grammar ColourEncoding
 own_colours = do
   profile ← flag
   space ← space profile
   either profile (give (told true space)) (described_colours space)
 
 -- the colours of an image: as by default, which are those of sRGB, or its own
-abbrev pub colour_encoding : Grammar ColourEncoding
+unfoldable pub colour_encoding : Grammar ColourEncoding
 colour_encoding = flag >>= λ usual. either usual (give (told false 0)) own_colours
 
 -- brightness, as floats of 16 bits that are kept as their numbers: 255, 0, not relative, 0 by default
 abbrev pub usual_tone : ToneMapping
 usual_tone = record { intensity_target = 0x5BF8; min_nits = 0; relative = false; linear_below = 0 }
 
-abbrev pub own_tone : Grammar ToneMapping
+unfoldable pub own_tone : Grammar ToneMapping
 own_tone = do
   target ← number 16
   least ← number 16
@@ -140,5 +140,5 @@ own_tone = do
   linear ← number 16
   give (record { intensity_target = target; min_nits = least; relative = relative; linear_below = linear })
 
-abbrev pub tone_mapping : Grammar ToneMapping
+unfoldable pub tone_mapping : Grammar ToneMapping
 tone_mapping = flag >>= λ usual. either usual (give usual_tone) own_tone

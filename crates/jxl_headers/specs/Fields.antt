@@ -10,17 +10,17 @@ groups zero = flag >>= λ more. either more (number 4) (give 0)
 groups (suc n) = flag >>= λ more. either more (number 8 >>= λ v. groups n >>= λ rest. give (v + 256 * rest)) (give 0)
 
 -- a U64 that has groups: 12 bits, and those
-abbrev pub grouped : Grammar ℕ
+unfoldable pub grouped : Grammar ℕ
 grouped = number 12 >>= λ v. groups 6 >>= λ rest. give (v + 4096 * rest)
 
 -- U64: 0, 4 bits above 1, 8 bits above 17, or 12 bits and groups
-abbrev pub long : Grammar ℕ
+unfoldable pub long : Grammar ℕ
 long = do
   selector ← number 2
   either (selector == 0) (give 0) (either (selector == 1) (number 4 >>= λ v. give (1 + v)) (either (selector == 2) (number 8 >>= λ v. give (17 + v)) grouped))
 
 -- the number of an enumeration, before it is known to mean something
-abbrev pub enumerated : Grammar ℕ
+unfoldable pub enumerated : Grammar ℕ
 enumerated = u32 (Const 0) (Const 1) (Offset 2 4) (Offset 18 6)
 
 -- a number that has a meaning, or the error of this name
@@ -35,7 +35,7 @@ skipped n = record {
 }
 
 -- a name: how many bytes it has, which are not looked at
-abbrev pub name : Grammar ℕ
+unfoldable pub name : Grammar ℕ
 name = do
   n ← u32 (Const 0) (Offset 0 4) (Offset 16 5) (Offset 48 10)
   u ← skipped n
@@ -53,7 +53,7 @@ abbrev pub left_of_byte : ℕ → ℕ
 left_of_byte p = (8 - p % 8) % 8
 
 -- the bits up to the next byte, which are 0
-abbrev pub aligned : Grammar ℕ
+unfoldable pub aligned : Grammar ℕ
 aligned = do
   p ← here
   v ← number (left_of_byte p)

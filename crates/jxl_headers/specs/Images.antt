@@ -31,11 +31,11 @@ abbrev pub image_of : ImageHeader → Image
 image_of h = record { size = h.size; display = h.display; samples = h.samples; extra = h.extra.items; shown = h.shown }
 
 -- a size after a flag that says whether it is there
-abbrev pub optional_size : Bool → Grammar (Option Size)
+unfoldable pub optional_size : Bool → Grammar (Option Size)
 optional_size preview = flag >>= λ there. either there (size preview >>= λ s. give (Some s)) (give None)
 
 -- how often pictures change a second, as a fraction; how often all are shown, 0 for ever; whether frames have time codes
-abbrev pub animation : Grammar Animation
+unfoldable pub animation : Grammar Animation
 animation = do
   numerator ← u32 (Const 100) (Const 1000) (Offset 1 10) (Offset 1 30)
   denominator ← u32 (Const 1) (Const 1001) (Offset 1 8) (Offset 1 10)
@@ -43,10 +43,10 @@ animation = do
   timecodes ← flag
   give (record { numerator = numerator; denominator = denominator; loops = loops; timecodes = timecodes })
 
-abbrev pub optional_animation : Grammar (Option Animation)
+unfoldable pub optional_animation : Grammar (Option Animation)
 optional_animation = flag >>= λ there. either there (animation >>= λ a. give (Some a)) (give None)
 
-abbrev pub listed_display : Grammar Display
+unfoldable pub listed_display : Grammar Display
 listed_display = do
   orientation ← number 3
   intrinsic ← optional_size false
@@ -58,21 +58,21 @@ listed_display = do
 abbrev pub usual_display : Display
 usual_display = record { orientation = 1; intrinsic = None; preview = None; animation = None }
 
-abbrev pub display : Bool → Grammar Display
+unfoldable pub display : Bool → Grammar Display
 display more = either more listed_display (give usual_display)
 
 -- how samples are stored, and whether 16 bits are enough for all of decoding
-abbrev pub samples : Grammar Samples
+unfoldable pub samples : Grammar Samples
 samples = bit_depth >>= λ depth. flag >>= λ narrow. give (record { depth = depth; narrow = narrow })
 
-abbrev pub extra_channels : Grammar (List ExtraChannel)
+unfoldable pub extra_channels : Grammar (List ExtraChannel)
 extra_channels = u32 (Const 0) (Const 1) (Offset 2 4) (Offset 1 12) >>= λ n. repeated n extra_channel
 
-abbrev pub brightness : Bool → Grammar ToneMapping
+unfoldable pub brightness : Bool → Grammar ToneMapping
 brightness more = either more tone_mapping (give usual_tone)
 
 -- what colours mean, brightness where more is told, and which extensions there are
-abbrev pub shown : Bool → Grammar Shown
+unfoldable pub shown : Bool → Grammar Shown
 shown more = do
   xyb ← flag
   colour ← colour_encoding
@@ -90,7 +90,7 @@ usual_image size = record {
   shown = record { xyb = true; colour = told false 0; tone = usual_tone; extensions = 0 };
 }
 
-abbrev pub described_image : Size → Grammar Image
+unfoldable pub described_image : Size → Grammar Image
 described_image size = do
   more ← flag
   display ← display more
@@ -100,36 +100,36 @@ described_image size = do
   give (record { size = size; display = display; samples = samples; extra = extra; shown = shown })
 
 -- bytes that are not looked at, where they are there
-abbrev pub skipped_if : Bool → ℕ → Grammar (Unit {0})
+unfoldable pub skipped_if : Bool → ℕ → Grammar (Unit {0})
 skipped_if there n = either there (skipped n) (give tt)
 
 -- weights of upsampling, which are not looked at: 15, 55 and 210 floats of 16 bits, each by a bit of the mask
-abbrev pub weights : ℕ → Grammar (Unit {0})
+unfoldable pub weights : ℕ → Grammar (Unit {0})
 weights mask = skipped_if (mask % 2 == 1) 30 >>= λ a. skipped_if (mask / 2 % 2 == 1) 110 >>= λ b. skipped_if (mask / 4 == 1) 420
 
 -- the matrix of XYB, of 16 such floats
-abbrev pub opsin : Bool → Grammar (Unit {0})
+unfoldable pub opsin : Bool → Grammar (Unit {0})
 opsin xyb = either xyb (flag >>= λ usual. skipped_if (not usual) 32) (give tt)
 
-abbrev pub own_matrices : Bool → Grammar (Unit {0})
+unfoldable pub own_matrices : Bool → Grammar (Unit {0})
 own_matrices xyb = opsin xyb >>= λ u. number 3 >>= λ mask. weights mask
 
-abbrev pub matrices : Bool → Grammar (Unit {0})
+unfoldable pub matrices : Bool → Grammar (Unit {0})
 matrices xyb = flag >>= λ usual. either usual (give tt) (own_matrices xyb)
 
-abbrev pub matrices_if : Bool → Bool → Grammar (Unit {0})
+unfoldable pub matrices_if : Bool → Bool → Grammar (Unit {0})
 matrices_if there xyb = either there (matrices xyb) (give tt)
 
 -- the first 16 bits of each codestream
-abbrev pub signature : Grammar ℕ
+unfoldable pub signature : Grammar ℕ
 signature = number 16 >>= λ v. meant (codes "signature") (v == 0x0AFF) v
 
 -- an image of this size: as by default, or described
-abbrev pub own_image : Size → Grammar Image
+unfoldable pub own_image : Size → Grammar Image
 own_image size = flag >>= λ usual. either usual (give (usual_image size)) (described_image size)
 
 -- the image header; where it has extensions, it is not read further
-abbrev pub image_header : Grammar Image
+unfoldable pub image_header : Grammar Image
 image_header = do
   v ← signature
   size ← size false

@@ -9,7 +9,7 @@ use crate::fields::{Result, enumerated, field, name, number, skip};
 use jxlm_base::bits::{Bitstream, BitstreamError, U32Spec};
 
 /// How a sample is stored.
-#[derive(Clone, Copy, Debug, PartialEq, Eq)]
+#[derive(Clone, Copy)]
 pub struct BitDepth {
     /// How many bits it has: of whole numbers from 1 to 31, of floats up to 32.
     pub bits: u32,
@@ -18,7 +18,7 @@ pub struct BitDepth {
 }
 
 /// What is told of a channel beside the colours.
-#[derive(Clone, Copy, Debug, PartialEq, Eq)]
+#[derive(Clone, Copy)]
 pub struct ExtraChannel {
     /// What it is: 0 alpha, 1 depth, 2 a spot colour, 3 a selection mask, 4 black, 5 a colour filter, 6 heat, 15 not
     /// known, 16 something that may be left out.
@@ -33,6 +33,7 @@ pub struct ExtraChannel {
     pub premultiplied: bool,
 }
 
+#[tactic(auto, unfolding(crate::specs::Channels::whole_depth))]
 fn whole_depth(bits: &mut Bitstream<'_>) -> Result<BitDepth>
     ensures gives { Reads (λ v. v) result (position_of bits.new)
         (the_whole_depth.read (bytes_of bits.old) (position_of bits.old)) }
@@ -62,6 +63,7 @@ fn fits_float(bits: u32, exponent: u32) -> bool
     2 <= exponent && exponent <= 8 && exponent + 3 <= bits && bits <= exponent + 24
 }
 
+#[tactic(auto, unfolding(crate::specs::Channels::float_depth))]
 fn float_depth(bits: &mut Bitstream<'_>) -> Result<BitDepth>
     ensures gives { Reads (λ v. v) result (position_of bits.new)
         (the_float_depth.read (bytes_of bits.old) (position_of bits.old)) }
@@ -88,6 +90,7 @@ fn float_depth(bits: &mut Bitstream<'_>) -> Result<BitDepth>
 impl BitDepth {
     /// How samples are stored, as it stands at the reader's position. `InvalidEnum` for whole numbers of more than 31
     /// bits, and for floats whose exponent or mantissa has a size that none may have.
+    #[tactic(auto, unfolding(crate::specs::Channels::bit_depth))]
     pub fn parse(bits: &mut Bitstream<'_>) -> Result<BitDepth>
         ensures gives { Reads (λ v. v) result (position_of bits.new)
             (bit_depth.read (bytes_of bits.old) (position_of bits.old)) }
@@ -101,6 +104,7 @@ impl BitDepth {
     }
 }
 
+#[tactic(auto, unfolding(crate::specs::Channels::channel_kind))]
 fn channel_kind(bits: &mut Bitstream<'_>) -> Result<u32>
     ensures gives { Reads (λ v. v) result (position_of bits.new)
         (the_channel_kind.read (bytes_of bits.old) (position_of bits.old)) }
@@ -116,6 +120,7 @@ fn channel_kind(bits: &mut Bitstream<'_>) -> Result<u32>
 }
 
 // What follows the name of an extra channel: of alpha, whether colours were multiplied by it.
+#[tactic(auto, unfolding(crate::specs::Channels::by_kind))]
 fn by_kind(bits: &mut Bitstream<'_>, kind: u32) -> Result<bool>
     ensures gives { Reads (λ v. v) result (position_of bits.new)
         ((the_by_kind kind).read (bytes_of bits.old) (position_of bits.old)) }
@@ -141,6 +146,7 @@ fn by_kind(bits: &mut Bitstream<'_>, kind: u32) -> Result<bool>
 
 impl ExtraChannel {
     /// The channel that stands at the reader's position; its name and what a kind has of its own are passed.
+    #[tactic(auto, unfolding(crate::specs::Channels::extra_channel))]
     pub fn parse(bits: &mut Bitstream<'_>) -> Result<ExtraChannel>
         ensures gives { Reads (λ v. v) result (position_of bits.new)
             (extra_channel.read (bytes_of bits.old) (position_of bits.old)) }
@@ -162,6 +168,7 @@ impl ExtraChannel {
         }
     }
 
+    #[tactic(auto, unfolding(crate::specs::Channels::described))]
     fn described(bits: &mut Bitstream<'_>) -> Result<ExtraChannel>
         ensures gives { Reads (λ v. v) result (position_of bits.new)
             (the_described.read (bytes_of bits.old) (position_of bits.old)) }

@@ -3,13 +3,13 @@
 ghost use Rattle.std.specs.Prelude.{◌≡◌};
 ghost use Rattle.jxlm_base.specs.Bits.{bytes_of, position_of};
 ghost use Rattle.jxlm_base.specs.Grammar.{Reads};
-ghost use Rattle.jxl_headers.specs.Colours.{coordinate as the_coordinate, chromaticity, no_colour, primary_colours, no_primaries, white_number as the_white_number, usual_white, listed_white, white, basis_number as the_basis_number, usual_basis, listed_basis, basis, gamma as the_gamma, curve as the_curve, usual_transfer, listed_transfer, transfer, intent as the_intent, space as the_space, described_colours, told as the_told, own_colours, colour_encoding, own_tone, tone_mapping};
+ghost use Rattle.jxl_headers.specs.Colours.{coordinate as the_coordinate, chromaticity, no_colour, primary_colours, no_primaries, white_number as the_white_number, usual_white, listed_white, white, basis_number as the_basis_number, usual_basis, listed_basis, basis, gamma as the_gamma, is_gamma as the_is_gamma, curve as the_curve, usual_transfer, listed_transfer, transfer, intent as the_intent, space as the_space, described_colours, told as the_told, own_colours, colour_encoding, own_tone, tone_mapping};
 
 use crate::fields::{Result, enumerated, number};
 use jxlm_base::bits::{Bitstream, BitstreamError, U32Spec};
 
 /// A colour without its brightness.
-#[derive(Clone, Copy, Debug, PartialEq, Eq)]
+#[derive(Clone, Copy)]
 pub struct Chromaticity {
     /// In millionths: twice the number, or for negative ones twice the amount less one.
     pub x: u32,
@@ -18,7 +18,7 @@ pub struct Chromaticity {
 }
 
 /// Three colours that are mixed.
-#[derive(Clone, Copy, Debug, PartialEq, Eq)]
+#[derive(Clone, Copy)]
 pub struct Primaries {
     pub red: Chromaticity,
     pub green: Chromaticity,
@@ -26,7 +26,7 @@ pub struct Primaries {
 }
 
 /// The colour of white.
-#[derive(Clone, Copy, Debug, PartialEq, Eq)]
+#[derive(Clone, Copy)]
 pub struct White {
     /// 1 for D65, 2 for one of its own, 10 for E, 11 for DCI.
     pub number: u32,
@@ -35,7 +35,7 @@ pub struct White {
 }
 
 /// The colours that are mixed.
-#[derive(Clone, Copy, Debug, PartialEq, Eq)]
+#[derive(Clone, Copy)]
 pub struct Basis {
     /// 1 for those of sRGB, 2 for its own, 9 for those of BT.2100, 11 for those of P3.
     pub number: u32,
@@ -44,7 +44,7 @@ pub struct Basis {
 }
 
 /// How light follows from samples.
-#[derive(Clone, Copy, Debug, PartialEq, Eq)]
+#[derive(Clone, Copy)]
 pub struct Transfer {
     /// 1 for BT.709, 8 for linear, 13 for sRGB, 16 for PQ, 17 for DCI, 18 for HLG; 0 where it is by an exponent.
     pub number: u32,
@@ -53,7 +53,7 @@ pub struct Transfer {
 }
 
 /// What the samples of colours mean. Of what is not told the usual is given: sRGB's.
-#[derive(Clone, Copy, Debug, PartialEq, Eq)]
+#[derive(Clone, Copy)]
 pub struct ColourEncoding {
     /// Whether a profile follows the headers, which tells it.
     pub profile: bool,
@@ -67,7 +67,7 @@ pub struct ColourEncoding {
 }
 
 /// What is told of brightness: floats of 16 bits, as the numbers of their bits.
-#[derive(Clone, Copy, Debug, PartialEq, Eq)]
+#[derive(Clone, Copy)]
 pub struct ToneMapping {
     /// The brightness of the maximum, in nits.
     pub intensity_target: u32,
@@ -102,6 +102,14 @@ const USUAL_TRANSFER: Transfer = Transfer {
     gamma: 0,
 };
 
+pub(crate) const USUAL_TONE: ToneMapping = ToneMapping {
+    intensity_target: 0x5BF8,
+    min_nits: 0,
+    relative: false,
+    linear_below: 0,
+};
+
+#[tactic(auto, unfolding(crate::specs::Colours::coordinate))]
 fn coordinate(bits: &mut Bitstream<'_>) -> Result<u32>
     ensures gives { Reads (λ v. v) result (position_of bits.new)
         (the_coordinate.read (bytes_of bits.old) (position_of bits.old)) }
@@ -116,6 +124,7 @@ fn coordinate(bits: &mut Bitstream<'_>) -> Result<u32>
 }
 
 impl Chromaticity {
+    #[tactic(auto, unfolding(crate::specs::Colours::chromaticity))]
     fn parse(bits: &mut Bitstream<'_>) -> Result<Chromaticity>
         ensures gives { Reads (λ v. v) result (position_of bits.new)
             (chromaticity.read (bytes_of bits.old) (position_of bits.old)) }
@@ -128,6 +137,7 @@ impl Chromaticity {
 }
 
 impl Primaries {
+    #[tactic(auto, unfolding(crate::specs::Colours::primary_colours))]
     fn parse(bits: &mut Bitstream<'_>) -> Result<Primaries>
         ensures gives { Reads (λ v. v) result (position_of bits.new)
             (primary_colours.read (bytes_of bits.old) (position_of bits.old)) }
@@ -140,6 +150,7 @@ impl Primaries {
     }
 }
 
+#[tactic(auto, unfolding(crate::specs::Colours::white_number))]
 fn white_number(bits: &mut Bitstream<'_>) -> Result<u32>
     ensures gives { Reads (λ v. v) result (position_of bits.new)
         (the_white_number.read (bytes_of bits.old) (position_of bits.old)) }
@@ -155,6 +166,7 @@ fn white_number(bits: &mut Bitstream<'_>) -> Result<u32>
 }
 
 impl White {
+    #[tactic(auto, unfolding(crate::specs::Colours::listed_white))]
     fn listed(bits: &mut Bitstream<'_>) -> Result<White>
         ensures gives { Reads (λ v. v) result (position_of bits.new)
             (listed_white.read (bytes_of bits.old) (position_of bits.old)) }
@@ -171,6 +183,7 @@ impl White {
         })
     }
 
+    #[tactic(auto, unfolding(crate::specs::Colours::white))]
     fn parse(bits: &mut Bitstream<'_>, space: u32) -> Result<White>
         ensures gives { Reads (λ v. v) result (position_of bits.new)
             ((white space).read (bytes_of bits.old) (position_of bits.old)) }
@@ -184,6 +197,7 @@ impl White {
     }
 }
 
+#[tactic(auto, unfolding(crate::specs::Colours::basis_number))]
 fn basis_number(bits: &mut Bitstream<'_>) -> Result<u32>
     ensures gives { Reads (λ v. v) result (position_of bits.new)
         (the_basis_number.read (bytes_of bits.old) (position_of bits.old)) }
@@ -199,6 +213,7 @@ fn basis_number(bits: &mut Bitstream<'_>) -> Result<u32>
 }
 
 impl Basis {
+    #[tactic(auto, unfolding(crate::specs::Colours::listed_basis))]
     fn listed(bits: &mut Bitstream<'_>) -> Result<Basis>
         ensures gives { Reads (λ v. v) result (position_of bits.new)
             (listed_basis.read (bytes_of bits.old) (position_of bits.old)) }
@@ -215,6 +230,7 @@ impl Basis {
         })
     }
 
+    #[tactic(auto, unfolding(crate::specs::Colours::basis))]
     fn parse(bits: &mut Bitstream<'_>, space: u32) -> Result<Basis>
         ensures gives { Reads (λ v. v) result (position_of bits.new)
             ((basis space).read (bytes_of bits.old) (position_of bits.old)) }
@@ -228,14 +244,22 @@ impl Basis {
     }
 }
 
+// Whether an exponent is one: from 1 in 8192 to 1.
+fn is_gamma(value: u32) -> bool
+    ensures { result ≡ the_is_gamma value }
+{
+    value <= 10000000 && 10000000 <= 8192 * u64::from(value)
+}
+
 impl Transfer {
+    #[tactic(auto, unfolding(crate::specs::Colours::gamma))]
     fn gamma(bits: &mut Bitstream<'_>) -> Result<Transfer>
         ensures gives { Reads (λ v. v) result (position_of bits.new)
             (the_gamma.read (bytes_of bits.old) (position_of bits.old)) }
         ensures bytes { bytes_of bits.new ≡ bytes_of bits.old }
     {
         let value = number(bits, 24)?;
-        if value <= 10000000 && 10000000 <= 8192 * u64::from(value) {
+        if is_gamma(value) {
             Ok(Transfer {
                 number: 0,
                 gamma: value,
@@ -246,6 +270,7 @@ impl Transfer {
         }
     }
 
+    #[tactic(auto, unfolding(crate::specs::Colours::curve))]
     fn curve(bits: &mut Bitstream<'_>) -> Result<Transfer>
         ensures gives { Reads (λ v. v) result (position_of bits.new)
             (the_curve.read (bytes_of bits.old) (position_of bits.old)) }
@@ -264,6 +289,7 @@ impl Transfer {
         }
     }
 
+    #[tactic(auto, unfolding(crate::specs::Colours::listed_transfer))]
     fn listed(bits: &mut Bitstream<'_>) -> Result<Transfer>
         ensures gives { Reads (λ v. v) result (position_of bits.new)
             (listed_transfer.read (bytes_of bits.old) (position_of bits.old)) }
@@ -276,6 +302,7 @@ impl Transfer {
         }
     }
 
+    #[tactic(auto, unfolding(crate::specs::Colours::transfer))]
     fn parse(bits: &mut Bitstream<'_>, space: u32) -> Result<Transfer>
         ensures gives { Reads (λ v. v) result (position_of bits.new)
             ((transfer space).read (bytes_of bits.old) (position_of bits.old)) }
@@ -289,6 +316,7 @@ impl Transfer {
     }
 }
 
+#[tactic(auto, unfolding(crate::specs::Colours::intent))]
 fn intent(bits: &mut Bitstream<'_>) -> Result<u32>
     ensures gives { Reads (λ v. v) result (position_of bits.new)
         (the_intent.read (bytes_of bits.old) (position_of bits.old)) }
@@ -303,6 +331,7 @@ fn intent(bits: &mut Bitstream<'_>) -> Result<u32>
     }
 }
 
+#[tactic(auto, unfolding(crate::specs::Colours::space))]
 fn space(bits: &mut Bitstream<'_>, profile: bool) -> Result<u32>
     ensures gives { Reads (λ v. v) result (position_of bits.new)
         ((the_space profile).read (bytes_of bits.old) (position_of bits.old)) }
@@ -318,7 +347,7 @@ fn space(bits: &mut Bitstream<'_>, profile: bool) -> Result<u32>
 }
 
 // Colours of this space, of which nothing else is told here.
-fn told(profile: bool, space: u32) -> ColourEncoding
+pub(crate) fn told(profile: bool, space: u32) -> ColourEncoding
     ensures { result ≡ the_told profile space }
 {
     ColourEncoding {
@@ -332,6 +361,7 @@ fn told(profile: bool, space: u32) -> ColourEncoding
 }
 
 impl ColourEncoding {
+    #[tactic(auto, unfolding(crate::specs::Colours::described_colours))]
     fn described(bits: &mut Bitstream<'_>, space: u32) -> Result<ColourEncoding>
         ensures gives { Reads (λ v. v) result (position_of bits.new)
             ((described_colours space).read (bytes_of bits.old) (position_of bits.old)) }
@@ -351,6 +381,7 @@ impl ColourEncoding {
         })
     }
 
+    #[tactic(auto, unfolding(crate::specs::Colours::own_colours))]
     fn own(bits: &mut Bitstream<'_>) -> Result<ColourEncoding>
         ensures gives { Reads (λ v. v) result (position_of bits.new)
             (own_colours.read (bytes_of bits.old) (position_of bits.old)) }
@@ -367,6 +398,7 @@ impl ColourEncoding {
 
     /// What the samples of colours mean, as it stands at the reader's position. `InvalidEnum` for a number that names
     /// nothing, for a space that only a profile could tell where there is none, and for an exponent out of range.
+    #[tactic(auto, unfolding(crate::specs::Colours::colour_encoding))]
     pub fn parse(bits: &mut Bitstream<'_>) -> Result<ColourEncoding>
         ensures gives { Reads (λ v. v) result (position_of bits.new)
             (colour_encoding.read (bytes_of bits.old) (position_of bits.old)) }
@@ -381,6 +413,7 @@ impl ColourEncoding {
 }
 
 impl ToneMapping {
+    #[tactic(auto, unfolding(crate::specs::Colours::own_tone))]
     fn own(bits: &mut Bitstream<'_>) -> Result<ToneMapping>
         ensures gives { Reads (λ v. v) result (position_of bits.new)
             (own_tone.read (bytes_of bits.old) (position_of bits.old)) }
@@ -399,18 +432,14 @@ impl ToneMapping {
     }
 
     /// What is told of brightness at the reader's position. The floats are not looked at.
+    #[tactic(auto, unfolding(crate::specs::Colours::tone_mapping))]
     pub fn parse(bits: &mut Bitstream<'_>) -> Result<ToneMapping>
         ensures gives { Reads (λ v. v) result (position_of bits.new)
             (tone_mapping.read (bytes_of bits.old) (position_of bits.old)) }
         ensures bytes { bytes_of bits.new ≡ bytes_of bits.old }
     {
         if bits.read_bool()? {
-            Ok(ToneMapping {
-                intensity_target: 0x5BF8,
-                min_nits: 0,
-                relative: false,
-                linear_below: 0,
-            })
+            Ok(USUAL_TONE)
         } else {
             ToneMapping::own(bits)
         }

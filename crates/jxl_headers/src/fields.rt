@@ -62,6 +62,7 @@ fn groups(bits: &mut Bitstream<'_>, n: u32) -> Result<u64>
 }
 
 // A `U64` that has groups, after the two bits that say so.
+#[tactic(auto, unfolding(crate::specs::Fields::grouped))]
 fn grouped(bits: &mut Bitstream<'_>) -> Result<u64>
     ensures gives { Reads (λ v. v) result (position_of bits.new)
         (the_grouped.read (bytes_of bits.old) (position_of bits.old)) }
@@ -73,6 +74,7 @@ fn grouped(bits: &mut Bitstream<'_>) -> Result<u64>
 }
 
 /// A `U64`.
+#[tactic(auto, unfolding(crate::specs::Fields::long))]
 pub fn long(bits: &mut Bitstream<'_>) -> Result<u64>
     ensures gives { Reads (λ v. v) result (position_of bits.new)
         (the_long.read (bytes_of bits.old) (position_of bits.old)) }
@@ -92,6 +94,7 @@ pub fn long(bits: &mut Bitstream<'_>) -> Result<u64>
 }
 
 /// The number of an enumeration, at most 81, before it is known to mean something.
+#[tactic(auto, unfolding(crate::specs::Fields::enumerated))]
 pub fn enumerated(bits: &mut Bitstream<'_>) -> Result<u32>
     ensures gives { Reads (λ v. v) result (position_of bits.new)
         (the_enumerated.read (bytes_of bits.old) (position_of bits.old)) }
@@ -120,6 +123,7 @@ pub fn skip(bits: &mut Bitstream<'_>, count: u32) -> Result<()>
 }
 
 /// Passes a name: how many bytes it has, at most 1071.
+#[tactic(auto, unfolding(crate::specs::Fields::name))]
 pub fn name(bits: &mut Bitstream<'_>) -> Result<u32>
     ensures gives { Reads (λ v. v) result (position_of bits.new)
         (the_name.read (bytes_of bits.old) (position_of bits.old)) }
@@ -136,6 +140,7 @@ pub fn name(bits: &mut Bitstream<'_>) -> Result<u32>
 }
 
 /// Passes the bits up to the next byte. `InvalidEnum` if one of them is not 0.
+#[tactic(auto, unfolding(crate::specs::Fields::aligned))]
 pub fn align(bits: &mut Bitstream<'_>) -> Result<u32>
     requires { 8 * length (bytes_of bits.old) < 2 ^ 64 }
     ensures gives { Reads (λ v. v) result (position_of bits.new)

@@ -8,7 +8,7 @@ ghost use Rattle.jxl_headers.specs.Images.{image_of, optional_size as the_option
 ghost use Rattle.jxl_headers.specs.Reading.{Parses};
 
 use crate::channel::{BitDepth, ExtraChannel};
-use crate::colour::{Basis, Chromaticity, ColourEncoding, Primaries, ToneMapping, Transfer, White};
+use crate::colour::{ColourEncoding, ToneMapping, USUAL_TONE, told};
 use crate::fields::{Result, long, number, skip};
 use crate::refusal::Refusal;
 use crate::size::{Size, read_size};
@@ -18,7 +18,7 @@ use jxlm_base::grid::OutOfMemory;
 use std::alloc::Global;
 
 /// When the pictures of an animation change.
-#[derive(Clone, Copy, Debug, PartialEq, Eq)]
+#[derive(Clone, Copy)]
 pub struct Animation {
     /// So many units of time, by the denominator, make a second.
     pub numerator: u32,
@@ -30,7 +30,7 @@ pub struct Animation {
 }
 
 /// How the image is to be shown.
-#[derive(Clone, Copy, Debug, PartialEq, Eq)]
+#[derive(Clone, Copy)]
 pub struct Display {
     /// From 1, as it is, to 8: mirrored or turned, as Exif numbers it.
     pub orientation: u32,
@@ -43,7 +43,7 @@ pub struct Display {
 }
 
 /// How the samples of colours are stored.
-#[derive(Clone, Copy, Debug, PartialEq, Eq)]
+#[derive(Clone, Copy)]
 pub struct Samples {
     pub depth: BitDepth,
     /// Whether 16 bits are enough for each number while it is decoded.
@@ -51,7 +51,7 @@ pub struct Samples {
 }
 
 /// What samples mean.
-#[derive(Clone, Copy, Debug, PartialEq, Eq)]
+#[derive(Clone, Copy)]
 pub struct Shown {
     /// Whether colours are stored as XYB.
     pub xyb: bool,
@@ -72,6 +72,7 @@ pub struct ImageHeader {
     pub shown: Shown,
 }
 
+#[tactic(auto, unfolding(crate::specs::Images::optional_size))]
 fn optional_size(bits: &mut Bitstream<'_>, preview: bool) -> Result<Option<Size>>
     ensures gives { Reads (λ v. v) result (position_of bits.new)
         ((the_optional_size preview).read (bytes_of bits.old) (position_of bits.old)) }
@@ -85,6 +86,7 @@ fn optional_size(bits: &mut Bitstream<'_>, preview: bool) -> Result<Option<Size>
 }
 
 impl Animation {
+    #[tactic(auto, unfolding(crate::specs::Images::animation))]
     fn parse(bits: &mut Bitstream<'_>) -> Result<Animation>
         ensures gives { Reads (λ v. v) result (position_of bits.new)
             (animation.read (bytes_of bits.old) (position_of bits.old)) }
@@ -117,6 +119,7 @@ impl Animation {
         })
     }
 
+    #[tactic(auto, unfolding(crate::specs::Images::optional_animation))]
     fn optional(bits: &mut Bitstream<'_>) -> Result<Option<Animation>>
         ensures gives { Reads (λ v. v) result (position_of bits.new)
             (optional_animation.read (bytes_of bits.old) (position_of bits.old)) }
@@ -131,6 +134,7 @@ impl Animation {
 }
 
 impl Display {
+    #[tactic(auto, unfolding(crate::specs::Images::listed_display))]
     fn listed(bits: &mut Bitstream<'_>) -> Result<Display>
         ensures gives { Reads (λ v. v) result (position_of bits.new)
             (listed_display.read (bytes_of bits.old) (position_of bits.old)) }
@@ -148,6 +152,7 @@ impl Display {
         })
     }
 
+    #[tactic(auto, unfolding(crate::specs::Images::display))]
     fn parse(bits: &mut Bitstream<'_>, more: bool) -> Result<Display>
         ensures gives { Reads (λ v. v) result (position_of bits.new)
             ((display more).read (bytes_of bits.old) (position_of bits.old)) }
@@ -181,6 +186,7 @@ impl Display {
 }
 
 impl Samples {
+    #[tactic(auto, unfolding(crate::specs::Images::samples))]
     fn parse(bits: &mut Bitstream<'_>) -> Result<Samples>
         ensures gives { Reads (λ v. v) result (position_of bits.new)
             (samples.read (bytes_of bits.old) (position_of bits.old)) }
@@ -192,6 +198,7 @@ impl Samples {
     }
 }
 
+#[tactic(auto, unfolding(crate::specs::Images::brightness))]
 fn brightness(bits: &mut Bitstream<'_>, more: bool) -> Result<ToneMapping>
     ensures gives { Reads (λ v. v) result (position_of bits.new)
         ((the_brightness more).read (bytes_of bits.old) (position_of bits.old)) }
@@ -200,16 +207,12 @@ fn brightness(bits: &mut Bitstream<'_>, more: bool) -> Result<ToneMapping>
     if more {
         ToneMapping::parse(bits)
     } else {
-        Ok(ToneMapping {
-            intensity_target: 0x5BF8,
-            min_nits: 0,
-            relative: false,
-            linear_below: 0,
-        })
+        Ok(USUAL_TONE)
     }
 }
 
 impl Shown {
+    #[tactic(auto, unfolding(crate::specs::Images::shown))]
     fn parse(bits: &mut Bitstream<'_>, more: bool) -> Result<Shown>
         ensures gives { Reads (λ v. v) result (position_of bits.new)
             ((shown more).read (bytes_of bits.old) (position_of bits.old)) }
@@ -258,6 +261,7 @@ fn read_channels(
     Ok(channels)
 }
 
+#[tactic(auto, unfolding(crate::specs::Images::extra_channels))]
 fn extra_channels(alloc: Global, bits: &mut Bitstream<'_>) -> error::Result<Vec<ExtraChannel>>
     ensures gives { Parses (λ v. v.items) result (position_of bits.new)
         (the_extra_channels.read (bytes_of bits.old) (position_of bits.old)) }
@@ -272,6 +276,7 @@ fn extra_channels(alloc: Global, bits: &mut Bitstream<'_>) -> error::Result<Vec<
     read_channels(alloc, bits, count)
 }
 
+#[tactic(auto, unfolding(crate::specs::Images::skipped_if))]
 fn skip_if(bits: &mut Bitstream<'_>, there: bool, count: u32) -> Result<()>
     ensures gives { Reads (λ v. v) result (position_of bits.new)
         ((skipped_if there count).read (bytes_of bits.old) (position_of bits.old)) }
@@ -281,6 +286,7 @@ fn skip_if(bits: &mut Bitstream<'_>, there: bool, count: u32) -> Result<()>
 }
 
 // The weights of upsampling that a mask says are there.
+#[tactic(auto, unfolding(crate::specs::Images::weights))]
 fn weights(bits: &mut Bitstream<'_>, mask: u32) -> Result<()>
     ensures gives { Reads (λ v. v) result (position_of bits.new)
         ((the_weights mask).read (bytes_of bits.old) (position_of bits.old)) }
@@ -291,6 +297,7 @@ fn weights(bits: &mut Bitstream<'_>, mask: u32) -> Result<()>
     skip_if(bits, mask / 4 == 1, 420)
 }
 
+#[tactic(auto, unfolding(crate::specs::Images::opsin))]
 fn opsin(bits: &mut Bitstream<'_>, xyb: bool) -> Result<()>
     ensures gives { Reads (λ v. v) result (position_of bits.new)
         ((the_opsin xyb).read (bytes_of bits.old) (position_of bits.old)) }
@@ -303,6 +310,7 @@ fn opsin(bits: &mut Bitstream<'_>, xyb: bool) -> Result<()>
     skip_if(bits, !usual, 32)
 }
 
+#[tactic(auto, unfolding(crate::specs::Images::own_matrices))]
 fn own_matrices(bits: &mut Bitstream<'_>, xyb: bool) -> Result<()>
     ensures gives { Reads (λ v. v) result (position_of bits.new)
         ((the_own_matrices xyb).read (bytes_of bits.old) (position_of bits.old)) }
@@ -313,6 +321,7 @@ fn own_matrices(bits: &mut Bitstream<'_>, xyb: bool) -> Result<()>
     weights(bits, mask)
 }
 
+#[tactic(auto, unfolding(crate::specs::Images::matrices))]
 fn matrices(bits: &mut Bitstream<'_>, xyb: bool) -> Result<()>
     ensures gives { Reads (λ v. v) result (position_of bits.new)
         ((the_matrices xyb).read (bytes_of bits.old) (position_of bits.old)) }
@@ -324,6 +333,7 @@ fn matrices(bits: &mut Bitstream<'_>, xyb: bool) -> Result<()>
     own_matrices(bits, xyb)
 }
 
+#[tactic(auto, unfolding(crate::specs::Images::matrices_if))]
 fn matrices_if(bits: &mut Bitstream<'_>, there: bool, xyb: bool) -> Result<()>
     ensures gives { Reads (λ v. v) result (position_of bits.new)
         ((the_matrices_if there xyb).read (bytes_of bits.old) (position_of bits.old)) }
@@ -332,6 +342,7 @@ fn matrices_if(bits: &mut Bitstream<'_>, there: bool, xyb: bool) -> Result<()>
     if there { matrices(bits, xyb) } else { Ok(()) }
 }
 
+#[tactic(auto, unfolding(crate::specs::Images::signature))]
 fn signature(bits: &mut Bitstream<'_>) -> Result<u32>
     ensures gives { Reads (λ v. v) result (position_of bits.new)
         (the_signature.read (bytes_of bits.old) (position_of bits.old)) }
@@ -384,12 +395,6 @@ impl ImageHeader {
     fn usual(alloc: Global, size: Size) -> ImageHeader
         ensures { image_of result ≡ usual_image size }
     {
-        let colour = Chromaticity { x: 0, y: 0 };
-        let own = Primaries {
-            red: colour,
-            green: colour,
-            blue: colour,
-        };
         ImageHeader {
             size,
             display: Display {
@@ -408,31 +413,14 @@ impl ImageHeader {
             extra: Vec::new(alloc),
             shown: Shown {
                 xyb: true,
-                colour: ColourEncoding {
-                    profile: false,
-                    space: 0,
-                    white: White {
-                        number: 1,
-                        own: colour,
-                    },
-                    basis: Basis { number: 1, own },
-                    transfer: Transfer {
-                        number: 13,
-                        gamma: 0,
-                    },
-                    intent: 1,
-                },
-                tone: ToneMapping {
-                    intensity_target: 0x5BF8,
-                    min_nits: 0,
-                    relative: false,
-                    linear_below: 0,
-                },
+                colour: told(false, 0),
+                tone: USUAL_TONE,
                 extensions: 0,
             },
         }
     }
 
+    #[tactic(auto, unfolding(crate::specs::Images::described_image))]
     fn described(alloc: Global, bits: &mut Bitstream<'_>, size: Size) -> error::Result<ImageHeader>
         ensures gives { Parses image_of result (position_of bits.new)
             ((described_image size).read (bytes_of bits.old) (position_of bits.old)) }
@@ -452,6 +440,7 @@ impl ImageHeader {
         })
     }
 
+    #[tactic(auto, unfolding(crate::specs::Images::own_image))]
     fn own(alloc: Global, bits: &mut Bitstream<'_>, size: Size) -> error::Result<ImageHeader>
         ensures gives { Parses image_of result (position_of bits.new)
             ((own_image size).read (bytes_of bits.old) (position_of bits.old)) }
@@ -472,6 +461,7 @@ impl ImageHeader {
     ///
     /// The first in the order of the bits: `UnexpectedEof` if the input is truncated, and `InvalidEnum` for a number
     /// that has no meaning, which names the field. `Buffer` if it is out of memory, at any extra channel.
+    #[tactic(auto, unfolding(crate::specs::Images::image_header))]
     pub fn parse(alloc: Global, bits: &mut Bitstream<'_>) -> error::Result<ImageHeader>
         ensures gives { Parses image_of result (position_of bits.new)
             (image_header.read (bytes_of bits.old) (position_of bits.old)) }

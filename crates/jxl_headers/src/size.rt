@@ -9,7 +9,7 @@ use crate::fields::{Result, field, number};
 use jxlm_base::bits::{Bitstream, U32Spec};
 
 /// The sides of a picture, in pixels.
-#[derive(Clone, Copy, Debug, PartialEq, Eq)]
+#[derive(Clone, Copy)]
 pub struct Size {
     /// From 1 to 2^31.
     pub width: u32,
@@ -17,6 +17,7 @@ pub struct Size {
     pub height: u32,
 }
 
+#[tactic(auto, unfolding(crate::specs::Sizes::image_side))]
 fn image_side(bits: &mut Bitstream<'_>, small: bool) -> Result<u32>
     ensures gives { Reads (λ v. v) result (position_of bits.new)
         ((the_image_side small).read (bytes_of bits.old) (position_of bits.old)) }
@@ -36,6 +37,7 @@ fn image_side(bits: &mut Bitstream<'_>, small: bool) -> Result<u32>
     }
 }
 
+#[tactic(auto, unfolding(crate::specs::Sizes::preview_side))]
 fn preview_side(bits: &mut Bitstream<'_>, eighths: bool) -> Result<u32>
     ensures gives { Reads (λ v. v) result (position_of bits.new)
         ((the_preview_side eighths).read (bytes_of bits.old) (position_of bits.old)) }
@@ -62,6 +64,7 @@ fn preview_side(bits: &mut Bitstream<'_>, eighths: bool) -> Result<u32>
     }
 }
 
+#[tactic(auto, unfolding(crate::specs::Sizes::side))]
 fn side(bits: &mut Bitstream<'_>, preview: bool, short: bool) -> Result<u32>
     ensures gives { Reads (λ v. v) result (position_of bits.new)
         ((the_side preview short).read (bytes_of bits.old) (position_of bits.old)) }
@@ -99,6 +102,7 @@ fn width(ratio: u32, height: u64) -> u64
 }
 
 // The width after its ratio.
+#[tactic(auto, unfolding(crate::specs::Sizes::width))]
 fn read_width(bits: &mut Bitstream<'_>, preview: bool, short: bool, height: u32) -> Result<u32>
     requires { height ≤ 2 ^ 30 }
     ensures gives { Reads (λ v. v) result (position_of bits.new)
@@ -113,6 +117,7 @@ fn read_width(bits: &mut Bitstream<'_>, preview: bool, short: bool, height: u32)
 }
 
 /// The size of the picture, or of a preview.
+#[tactic(auto, unfolding(crate::specs::Sizes::size))]
 pub fn read_size(bits: &mut Bitstream<'_>, preview: bool) -> Result<Size>
     ensures gives { Reads (λ v. v) result (position_of bits.new)
         ((the_size preview).read (bytes_of bits.old) (position_of bits.old)) }
