@@ -6,5 +6,6 @@ ghost use Rattle.jxl_file.specs.declared.error.FileError.{FileError};
 
 /// A file has one codestream, or one reason why it has none: the boxes up to a place are the only ones.
 pub fn each_file_has_one_codestream()
-    ensures { (bytes : List ℕ) (r s : Result (List ℕ) FileError) → HasCodestream bytes r → HasCodestream bytes s → r ≡ s }
+    ensures { (bytes : List ℕ) (r s : Result (List ℕ) FileError) → HasCodestream bytes r → HasCodestream bytes s
+        → r ≡ s }
 {}

@@ -151,7 +151,8 @@ pub fn with(file: &[u8], seen: Seen, found: FileBox) -> Result<Seen, FileError>
     requires within { found.end ≤ length file.now }
     requires ordered { found.body ≤ found.end }
     requires whole { IfSome seen.whole (λ b. (b.body ≤ b.end) × (b.end ≤ length file.now)) }
-    ensures gives { MatchResult result (λ s. (the_fault file.now seen found ≡ None) × (s ≡ with_box file.now seen found))
+    ensures gives { MatchResult result
+        (λ s. (the_fault file.now seen found ≡ None) × (s ≡ with_box file.now seen found))
         (λ e. the_fault file.now seen found ≡ Some e) }
     ensures whole { IfOk result (λ s. IfSome s.whole (λ b. (b.body ≤ b.end) × (b.end ≤ length file.now))) }
     ensures room { IfOk result (λ s. found.kind ≡ 0x6A786C70 → found.body + 4 ≤ found.end) }
