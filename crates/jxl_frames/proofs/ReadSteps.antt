@@ -16,6 +16,7 @@ pub rest_fails : (image : Image) (c : Coding) (factors : List ℕ) (dim : ℕ) (
     (passes (not (is_reference c.frame_type))).read bytes p ≡ Ok (record { value = ps; position = a }) → (place image.size c.frame_type).read bytes a ≡ Ok (record { value = pl; position = b }) →
     UnlessNoMemory error (IsErrorAt ((blending (is_shown c.frame_type) (length image.extra) (crop_partial pl.crop)).read bytes b) error q) →
     UnlessNoMemory error (IsErrorAt ((rest image c factors dim).read bytes p) error q)
+unfolding rest
 rest_fails image c factors dim bytes p ps a pl b error q first second refused =
     unless_so error (IsErrorAt ((blending (is_shown c.frame_type) (length image.extra) (crop_partial pl.crop)).read bytes b) error q) (IsErrorAt ((rest image c factors dim).read bytes p) error q)
     (λ r. record { place = r.place; refuses = rw (first, second, r.refuses) refl; stands = r.stands }) refused

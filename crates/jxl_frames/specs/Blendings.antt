@@ -19,7 +19,7 @@ use Rattle.jxl_frames.specs.declared.refusal.Refusal.TheVariants as refusals
 abbrev pub mode_of : ℕ → BlendMode
 mode_of n = if n == 0 then Replace else if n == 1 then Add else if n == 2 then Blend else if n == 3 then MulAdd else Mul
 
-abbrev pub mode_number : Grammar ℕ
+unfoldable pub mode_number : Grammar ℕ
 mode_number = u32 (Const 0) (Const 1) (Const 2) (Offset 3 2) >>= λ v. meant (codes "BlendMode") (nat_lt v 5) v
 
 -- the modes that look at alpha, where there are extra channels
@@ -27,20 +27,20 @@ abbrev pub by_alpha : ℕ → ℕ → Bool
 by_alpha extra mode = nat_lt 0 extra && ((mode == 2) || (mode == 3))
 
 -- which extra channel is alpha
-abbrev pub alpha : ℕ → Grammar ℕ
+unfoldable pub alpha : ℕ → Grammar ℕ
 alpha extra = u32 (Const 0) (Const 1) (Const 2) (Offset 3 3) >>= λ v. meant (codes "alpha_channel") (nat_lt v extra) v
 
-abbrev pub alpha_if : Bool → ℕ → Grammar ℕ
+unfoldable pub alpha_if : Bool → ℕ → Grammar ℕ
 alpha_if there extra = either there (alpha extra) (give 0)
 
-abbrev pub flag_if : Bool → Grammar Bool
+unfoldable pub flag_if : Bool → Grammar Bool
 flag_if there = either there flag (give false)
 
-abbrev pub two_bits_if : Bool → Grammar ℕ
+unfoldable pub two_bits_if : Bool → Grammar ℕ
 two_bits_if there = either there (number 2) (give 0)
 
 -- what is told of a mode
-abbrev pub blending_by : ℕ → Bool → ℕ → Grammar BlendingInfo
+unfoldable pub blending_by : ℕ → Bool → ℕ → Grammar BlendingInfo
 blending_by extra partial mode = do
   alpha ← alpha_if (by_alpha extra mode) extra
   clamp ← flag_if (by_alpha extra mode || (mode == 4))
@@ -48,7 +48,7 @@ blending_by extra partial mode = do
   give (record { mode = mode_of mode; alpha_channel = alpha; clamp = clamp; source = source })
 
 -- how some channels are blended, in an image with so many extra channels
-abbrev pub blending_info : ℕ → Bool → Grammar BlendingInfo
+unfoldable pub blending_info : ℕ → Bool → Grammar BlendingInfo
 blending_info extra partial = mode_number >>= λ mode. blending_by extra partial mode
 
 abbrev pub usual_info : BlendingInfo
@@ -65,21 +65,21 @@ blending_of b = record { colours = b.colours; extra = b.extra.items }
 abbrev pub usual_blending : Blending
 usual_blending = record { colours = usual_info; extra = [] }
 
-abbrev pub told_blending : ℕ → Bool → Grammar Blending
+unfoldable pub told_blending : ℕ → Bool → Grammar Blending
 told_blending extra partial = do
   colours ← blending_info extra partial
   others ← repeated extra (blending_info extra partial)
   give (record { colours = colours; extra = others })
 
 -- frames that are not shown are not blended
-abbrev pub blending : Bool → ℕ → Bool → Grammar Blending
+unfoldable pub blending : Bool → ℕ → Bool → Grammar Blending
 blending shown extra partial = either shown (told_blending extra partial) (give usual_blending)
 
 -- for how long a frame of an animation is shown
-abbrev pub duration : Bool → Grammar ℕ
+unfoldable pub duration : Bool → Grammar ℕ
 duration there = either there (u32 (Const 0) (Const 1) (Offset 0 8) (Offset 0 32)) (give 0)
 
-abbrev pub timecode : Bool → Grammar ℕ
+unfoldable pub timecode : Bool → Grammar ℕ
 timecode there = either there (number 32) (give 0)
 
 -- whether an image is animated, and whether its frames have time codes
@@ -103,11 +103,11 @@ abbrev pub may_save_before : FrameType → Bool → Bool → ℕ → ℕ → Boo
 may_save_before frame_type replaces is_last duration reference =
     is_reference frame_type || is_shown frame_type && replaces && not is_last && ((duration == 0) || not (reference == 0))
 
-abbrev pub saved_before : Bool → Bool → Grammar Bool
+unfoldable pub saved_before : Bool → Bool → Grammar Bool
 saved_before lf there = either lf (give true) (flag_if there)
 
 -- whether a frame that is shown for this time is the last, and how it is saved for others; it replaces the picture or not
-abbrev pub saved : FrameType → Bool → ℕ → ℕ → Grammar Ending
+unfoldable pub saved : FrameType → Bool → ℕ → ℕ → Grammar Ending
 saved frame_type replaces time code = do
   last ← flag_if (is_shown frame_type)
   reference ← two_bits_if (not (is_lf frame_type) && not last)
@@ -115,7 +115,7 @@ saved frame_type replaces time code = do
   give (record { duration = time; timecode = code; is_last = last; save_as_reference = reference; save_before_ct = before })
 
 -- when a frame is shown, and what becomes of it
-abbrev pub ending : Option Animation → FrameType → Bool → Grammar Ending
+unfoldable pub ending : Option Animation → FrameType → Bool → Grammar Ending
 ending animation frame_type replaces = do
   time ← duration (is_shown frame_type && is_animated animation)
   code ← timecode (is_shown frame_type && has_timecodes animation)

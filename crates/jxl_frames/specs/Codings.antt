@@ -31,22 +31,22 @@ flags_of v = record {
 }
 
 -- whether colours are YCbCr, where they are not XYB
-abbrev pub ycbcr_if : Bool → Grammar Bool
+unfoldable pub ycbcr_if : Bool → Grammar Bool
 ycbcr_if there = either there flag (give false)
 
 -- how the parts of YCbCr are sampled, which is not looked at
-abbrev pub chroma : Bool → Grammar (Unit {0})
+unfoldable pub chroma : Bool → Grammar (Unit {0})
 chroma there = either there (number 6 >>= λ v. give tt) (give tt)
 
 -- how much smaller than the picture something is coded
-abbrev pub factor : Grammar ℕ
+unfoldable pub factor : Grammar ℕ
 factor = u32 (Const 1) (Const 2) (Const 4) (Const 8)
 
-abbrev pub factor_if : Bool → Grammar ℕ
+unfoldable pub factor_if : Bool → Grammar ℕ
 factor_if there = either there factor (give 1)
 
 -- the colours of a frame with these flags
-abbrev pub colours : Bool → FrameType → Encoding → FrameFlags → Grammar Coding
+unfoldable pub colours : Bool → FrameType → Encoding → FrameFlags → Grammar Coding
 colours xyb frame_type encoding flags = do
   ycbcr ← ycbcr_if (not xyb)
   u ← chroma (ycbcr && not flags.use_lf_frame)
@@ -54,7 +54,7 @@ colours xyb frame_type encoding flags = do
   give (record { frame_type = frame_type; encoding = encoding; flags = flags; ycbcr = ycbcr; upsampling = upsampling })
 
 -- the type, the encoding, the flags and the colours of a frame, where colours are XYB or not
-abbrev pub coding : Bool → Grammar Coding
+unfoldable pub coding : Bool → Grammar Coding
 coding xyb = do
   type_number ← number 2
   modular ← flag

@@ -47,26 +47,26 @@ is_modular VarDct = false
 is_modular Modular = true
 
 -- how much smaller than the picture each extra channel is coded, where that is told
-abbrev pub extra_factors : Bool → ℕ → Grammar (List ℕ)
+unfoldable pub extra_factors : Bool → ℕ → Grammar (List ℕ)
 extra_factors there extra = either there (repeated extra factor) (give [])
 
 -- The side of a group: 128 times 2 to the power of two bits. VarDCT has 256, and with XYB two scales of three bits, which
 -- are not looked at.
-abbrev pub scales : Bool → Grammar ℕ
+unfoldable pub scales : Bool → Grammar ℕ
 scales there = either there (number 6 >>= λ v. give 256) (give 256)
 
-abbrev pub modular_dim : Grammar ℕ
+unfoldable pub modular_dim : Grammar ℕ
 modular_dim = number 2 >>= λ v. give (128 * 2 ^ v)
 
-abbrev pub group_dim : Bool → Bool → Grammar ℕ
+unfoldable pub group_dim : Bool → Bool → Grammar ℕ
 group_dim modular xyb = either modular modular_dim (scales xyb)
 
-abbrev pub extensions_if : Bool → Grammar ℕ
+unfoldable pub extensions_if : Bool → Grammar ℕ
 extensions_if there = either there long (give 0)
 
 -- the name, the filters and the extensions of a frame that is Modular or not; where filters have extensions, it is not read
 -- further
-abbrev pub closing : Bool → Grammar Closing
+unfoldable pub closing : Bool → Grammar Closing
 closing modular = do
   n ← name
   filter ← filter modular
@@ -77,7 +77,7 @@ abbrev pub usual_closing : Closing
 usual_closing = record { name_bytes = 0; filter = usual_filter; extensions = 0 }
 
 -- what is told of a frame after how it is coded, and its groups
-abbrev pub rest : Image → Coding → List ℕ → ℕ → Grammar Frame
+unfoldable pub rest : Image → Coding → List ℕ → ℕ → Grammar Frame
 rest image coding factors dim = do
   passes ← passes (not (is_reference coding.frame_type))
   place ← place image.size coding.frame_type
@@ -108,7 +108,7 @@ usual_frame = record {
   closing = usual_closing;
 }
 
-abbrev pub described_frame : Image → Grammar Frame
+unfoldable pub described_frame : Image → Grammar Frame
 described_frame image = do
   coding ← coding image.shown.xyb
   factors ← extra_factors (not coding.flags.use_lf_frame) (length image.extra)
@@ -116,7 +116,7 @@ described_frame image = do
   rest image coding factors dim
 
 -- the header of a frame of this image: as by default, or described
-abbrev pub frame_header : Image → Grammar Frame
+unfoldable pub frame_header : Image → Grammar Frame
 frame_header image = flag >>= λ usual. either usual (give usual_frame) (described_frame image)
 
 -- What a frame has that is not supported, by the first of its fields that says so.

@@ -23,14 +23,14 @@ abbrev pub one_pass : Passes
 one_pass = record { count = 1; shift = []; downsample = []; last_pass = [] }
 
 -- a shift, of two bits
-abbrev pub shift : Grammar ℕ
+unfoldable pub shift : Grammar ℕ
 shift = u32 (Const 0) (Const 1) (Const 2) (Const 3)
 
-abbrev pub last : Grammar ℕ
+unfoldable pub last : Grammar ℕ
 last = u32 (Const 0) (Const 1) (Const 2) (Offset 0 3)
 
 -- what is told of more than one pass
-abbrev pub more_passes : ℕ → Grammar Passes
+unfoldable pub more_passes : ℕ → Grammar Passes
 more_passes count = do
   n ← u32 (Const 0) (Const 1) (Const 2) (Offset 3 1)
   shifts ← repeated (count - 1) shift
@@ -38,11 +38,11 @@ more_passes count = do
   lasts ← repeated n last
   give (record { count = count; shift = shifts; downsample = factors; last_pass = lasts })
 
-abbrev pub told_passes : Grammar Passes
+unfoldable pub told_passes : Grammar Passes
 told_passes = u32 (Const 1) (Const 2) (Const 3) (Offset 4 3) >>= λ count. either (count == 1) (give one_pass) (more_passes count)
 
 -- frames that others use have one
-abbrev pub passes : Bool → Grammar Passes
+unfoldable pub passes : Bool → Grammar Passes
 passes there = either there told_passes (give one_pass)
 
 abbrev pub passes_refusal : Passes → Option Refusal

@@ -31,14 +31,14 @@ is_reference ReferenceOnly = true
 is_reference SkipProgressive = false
 
 -- how often the low frequencies of a frame are low frequencies
-abbrev pub lf_level : Bool → Grammar ℕ
+unfoldable pub lf_level : Bool → Grammar ℕ
 lf_level there = either there (u32 (Const 1) (Const 2) (Const 3) (Const 4)) (give 0)
 
 -- a side, or twice the number of a corner's coordinate (for a negative one twice its amount less one)
-abbrev pub extent : Grammar ℕ
+unfoldable pub extent : Grammar ℕ
 extent = u32 (Offset 0 8) (Offset 256 11) (Offset 2304 14) (Offset 18688 30)
 
-abbrev pub extent_if : Bool → Grammar ℕ
+unfoldable pub extent_if : Bool → Grammar ℕ
 extent_if there = either there extent (give 0)
 
 -- from a corner with this number on, a side covers one of the picture
@@ -46,7 +46,7 @@ abbrev pub covers : ℕ → ℕ → ℕ → Bool
 covers corner side whole = ((corner == 0) || (corner % 2 == 1)) && not (nat_lt side (whole + (corner + 1) / 2))
 
 -- a frame of a size and a place of its own; only frames that are shown have a corner
-abbrev pub crop : Size → Bool → Grammar Crop
+unfoldable pub crop : Size → Bool → Grammar Crop
 crop size shown = do
   x ← extent_if shown
   y ← extent_if shown
@@ -60,14 +60,14 @@ crop size shown = do
     partial = shown && not (covers x width size.width && covers y height size.height);
   })
 
-abbrev pub told_crop : Size → Bool → Grammar (Option Crop)
+unfoldable pub told_crop : Size → Bool → Grammar (Option Crop)
 told_crop size shown = flag >>= λ cropped. either cropped (crop size shown >>= λ c. give (Some c)) (give None)
 
-abbrev pub optional_crop : Size → FrameType → Grammar (Option Crop)
+unfoldable pub optional_crop : Size → FrameType → Grammar (Option Crop)
 optional_crop size frame_type = either (is_lf frame_type) (give None) (told_crop size (is_shown frame_type))
 
 -- the place of a frame of this type in a picture of this size
-abbrev pub place : Size → FrameType → Grammar Place
+unfoldable pub place : Size → FrameType → Grammar Place
 place size frame_type = do
   level ← lf_level (is_lf frame_type)
   crop ← optional_crop size frame_type

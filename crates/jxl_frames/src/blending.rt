@@ -31,7 +31,7 @@ pub enum BlendMode {
 }
 
 /// How some channels of a frame are blended.
-#[derive(Clone, Copy, Debug, PartialEq, Eq)]
+#[derive(Clone, Copy)]
 pub struct BlendingInfo {
     pub mode: BlendMode,
     /// Which extra channel is alpha, where the mode looks at it.
@@ -51,7 +51,7 @@ pub struct Blending {
 }
 
 /// What becomes of a frame.
-#[derive(Clone, Copy, Debug, PartialEq, Eq)]
+#[derive(Clone, Copy)]
 pub struct Ending {
     /// In an animation, for how many units of time it is shown.
     pub duration: u32,
@@ -80,6 +80,7 @@ fn mode_of(n: u32) -> BlendMode
     }
 }
 
+#[tactic(auto, unfolding(crate::specs::Blendings::mode_number))]
 fn mode_number(bits: &mut Bitstream<'_>) -> Result<u32>
     ensures gives { Reads (λ v. v) result (position_of bits.new)
         (the_mode_number.read (bytes_of bits.old) (position_of bits.old)) }
@@ -105,6 +106,7 @@ fn by_alpha(extra: usize, mode: u32) -> bool
     extra > 0 && (mode == 2 || mode == 3)
 }
 
+#[tactic(auto, unfolding(crate::specs::Blendings::alpha))]
 fn alpha(bits: &mut Bitstream<'_>, extra: usize) -> Result<u32>
     ensures gives { Reads (λ v. v) result (position_of bits.new)
         ((the_alpha extra).read (bytes_of bits.old) (position_of bits.old)) }
@@ -124,6 +126,7 @@ fn alpha(bits: &mut Bitstream<'_>, extra: usize) -> Result<u32>
     }
 }
 
+#[tactic(auto, unfolding(crate::specs::Blendings::alpha_if))]
 fn alpha_if(bits: &mut Bitstream<'_>, there: bool, extra: usize) -> Result<u32>
     ensures gives { Reads (λ v. v) result (position_of bits.new)
         ((the_alpha_if there extra).read (bytes_of bits.old) (position_of bits.old)) }
@@ -132,6 +135,7 @@ fn alpha_if(bits: &mut Bitstream<'_>, there: bool, extra: usize) -> Result<u32>
     if there { alpha(bits, extra) } else { Ok(0) }
 }
 
+#[tactic(auto, unfolding(crate::specs::Blendings::flag_if))]
 fn flag_if(bits: &mut Bitstream<'_>, there: bool) -> Result<bool>
     ensures gives { Reads (λ v. v) result (position_of bits.new)
         ((the_flag_if there).read (bytes_of bits.old) (position_of bits.old)) }
@@ -140,6 +144,7 @@ fn flag_if(bits: &mut Bitstream<'_>, there: bool) -> Result<bool>
     if there { bits.read_bool() } else { Ok(false) }
 }
 
+#[tactic(auto, unfolding(crate::specs::Blendings::two_bits_if))]
 fn two_bits_if(bits: &mut Bitstream<'_>, there: bool) -> Result<u32>
     ensures gives { Reads (λ v. v) result (position_of bits.new)
         ((the_two_bits_if there).read (bytes_of bits.old) (position_of bits.old)) }
@@ -149,6 +154,7 @@ fn two_bits_if(bits: &mut Bitstream<'_>, there: bool) -> Result<u32>
 }
 
 impl BlendingInfo {
+    #[tactic(auto, unfolding(crate::specs::Blendings::blending_by))]
     fn by_mode(
         bits: &mut Bitstream<'_>,
         extra: usize,
@@ -172,6 +178,7 @@ impl BlendingInfo {
 
     /// How some channels are blended, in an image with so many extra channels, of a frame that is partial or not.
     /// `InvalidEnum` for a mode that there is not, and for an alpha channel that there is not.
+    #[tactic(auto, unfolding(crate::specs::Blendings::blending_info))]
     pub fn parse(bits: &mut Bitstream<'_>, extra: usize, partial: bool) -> Result<BlendingInfo>
         ensures gives { Reads (λ v. v) result (position_of bits.new)
             ((blending_info extra partial).read (bytes_of bits.old) (position_of bits.old)) }
@@ -259,6 +266,7 @@ impl Blending {
         }
     }
 
+    #[tactic(auto, unfolding(crate::specs::Blendings::told_blending))]
     fn told(
         alloc: Global,
         bits: &mut Bitstream<'_>,
@@ -276,6 +284,7 @@ impl Blending {
 
     /// How a frame is blended, as it stands at the reader's position, where the frame is shown: in an image with so
     /// many extra channels, of a frame that is partial or not.
+    #[tactic(auto, unfolding(crate::specs::Blendings::blending))]
     pub fn parse(
         alloc: Global,
         bits: &mut Bitstream<'_>,
@@ -304,6 +313,7 @@ impl Blending {
     }
 }
 
+#[tactic(auto, unfolding(crate::specs::Blendings::duration))]
 fn duration(bits: &mut Bitstream<'_>, there: bool) -> Result<u32>
     ensures gives { Reads (λ v. v) result (position_of bits.new)
         ((the_duration there).read (bytes_of bits.old) (position_of bits.old)) }
@@ -320,6 +330,7 @@ fn duration(bits: &mut Bitstream<'_>, there: bool) -> Result<u32>
     )
 }
 
+#[tactic(auto, unfolding(crate::specs::Blendings::timecode))]
 fn timecode(bits: &mut Bitstream<'_>, there: bool) -> Result<u32>
     ensures gives { Reads (λ v. v) result (position_of bits.new)
         ((the_timecode there).read (bytes_of bits.old) (position_of bits.old)) }
@@ -356,6 +367,7 @@ fn may_save_before(
         || frame_type.is_shown() && replaces && !is_last && (duration == 0 || reference != 0)
 }
 
+#[tactic(auto, unfolding(crate::specs::Blendings::saved_before))]
 fn saved_before(bits: &mut Bitstream<'_>, lf: bool, there: bool) -> Result<bool>
     ensures gives { Reads (λ v. v) result (position_of bits.new)
         ((the_saved_before lf there).read (bytes_of bits.old) (position_of bits.old)) }
@@ -371,6 +383,7 @@ fn both(a: bool, b: bool) -> bool
 }
 
 impl Ending {
+    #[tactic(auto, unfolding(crate::specs::Blendings::saved))]
     fn saved(
         bits: &mut Bitstream<'_>,
         frame_type: FrameType,
@@ -398,6 +411,7 @@ impl Ending {
 
     /// What becomes of a frame of this type, as it stands at the reader's position; it replaces the whole picture or
     /// not.
+    #[tactic(auto, unfolding(crate::specs::Blendings::ending))]
     pub fn parse(
         bits: &mut Bitstream<'_>,
         animation: Option<Animation>,

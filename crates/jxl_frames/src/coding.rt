@@ -30,7 +30,7 @@ pub enum Encoding {
 }
 
 /// What a frame has beside its samples.
-#[derive(Clone, Copy, Debug, PartialEq, Eq)]
+#[derive(Clone, Copy)]
 pub struct FrameFlags {
     pub noise: bool,
     pub patches: bool,
@@ -42,7 +42,7 @@ pub struct FrameFlags {
 }
 
 /// How a frame is coded.
-#[derive(Clone, Copy, Debug, PartialEq, Eq)]
+#[derive(Clone, Copy)]
 pub struct Coding {
     pub frame_type: FrameType,
     pub encoding: Encoding,
@@ -89,6 +89,7 @@ fn flags_of(v: u64) -> FrameFlags
     }
 }
 
+#[tactic(auto, unfolding(crate::specs::Codings::ycbcr_if))]
 fn ycbcr_if(bits: &mut Bitstream<'_>, there: bool) -> Result<bool>
     ensures gives { Reads (λ v. v) result (position_of bits.new)
         ((the_ycbcr_if there).read (bytes_of bits.old) (position_of bits.old)) }
@@ -97,6 +98,7 @@ fn ycbcr_if(bits: &mut Bitstream<'_>, there: bool) -> Result<bool>
     if there { bits.read_bool() } else { Ok(false) }
 }
 
+#[tactic(auto, unfolding(crate::specs::Codings::chroma))]
 fn chroma(bits: &mut Bitstream<'_>, there: bool) -> Result<()>
     ensures gives { Reads (λ v. v) result (position_of bits.new)
         ((the_chroma there).read (bytes_of bits.old) (position_of bits.old)) }
@@ -108,6 +110,7 @@ fn chroma(bits: &mut Bitstream<'_>, there: bool) -> Result<()>
     Ok(())
 }
 
+#[tactic(auto, unfolding(crate::specs::Codings::factor_if, crate::specs::Codings::factor))]
 fn factor_if(bits: &mut Bitstream<'_>, there: bool) -> Result<u32>
     ensures gives { Reads (λ v. v) result (position_of bits.new)
         ((the_factor_if there).read (bytes_of bits.old) (position_of bits.old)) }
@@ -143,6 +146,7 @@ impl FrameFlags {
 }
 
 impl Coding {
+    #[tactic(auto, unfolding(crate::specs::Codings::colours))]
     fn colours(
         bits: &mut Bitstream<'_>,
         xyb: bool,
@@ -167,6 +171,7 @@ impl Coding {
     }
 
     /// How a frame of an image whose colours are XYB, or are not, is coded, as it stands at the reader's position.
+    #[tactic(auto, unfolding(crate::specs::Codings::coding))]
     pub fn parse(bits: &mut Bitstream<'_>, xyb: bool) -> Result<Coding>
         ensures gives { Reads (λ v. v) result (position_of bits.new)
             ((coding xyb).read (bytes_of bits.old) (position_of bits.old)) }

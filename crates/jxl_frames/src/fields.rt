@@ -36,6 +36,7 @@ pub fn fields(
 }
 
 /// Passes `count` bytes, where they are there.
+#[tactic(auto, unfolding(jxl_headers::specs::Images::skipped_if))]
 pub fn skip_if(bits: &mut Bitstream<'_>, there: bool, count: u32) -> Result<()>
     ensures gives { Reads (λ v. v) result (position_of bits.new)
         ((skipped_if there count).read (bytes_of bits.old) (position_of bits.old)) }

@@ -11,7 +11,7 @@ use jxl_headers::fields::{Result, long, number};
 use jxlm_base::bits::Bitstream;
 
 /// Filters of what was decoded.
-#[derive(Clone, Copy, Debug, PartialEq, Eq)]
+#[derive(Clone, Copy)]
 pub struct RestorationFilter {
     /// Whether a smoothing filter is applied.
     pub gab: bool,
@@ -21,6 +21,7 @@ pub struct RestorationFilter {
     pub extensions: u64,
 }
 
+#[tactic(auto, unfolding(crate::specs::Filters::own_floats))]
 fn own_floats(bits: &mut Bitstream<'_>, count: u32) -> Result<()>
     ensures gives { Reads (λ v. v) result (position_of bits.new)
         ((the_own_floats count).read (bytes_of bits.old) (position_of bits.old)) }
@@ -30,6 +31,7 @@ fn own_floats(bits: &mut Bitstream<'_>, count: u32) -> Result<()>
     skip_if(bits, own, count)
 }
 
+#[tactic(auto, unfolding(crate::specs::Filters::own_floats_if))]
 fn own_floats_if(bits: &mut Bitstream<'_>, there: bool, count: u32) -> Result<()>
     ensures gives { Reads (λ v. v) result (position_of bits.new)
         ((the_own_floats_if there count).read (bytes_of bits.old) (position_of bits.old)) }
@@ -48,6 +50,7 @@ fn sigma_bytes(modular: bool) -> u32
     if modular { 6 } else { 8 }
 }
 
+#[tactic(auto, unfolding(crate::specs::Filters::edges))]
 fn edges(bits: &mut Bitstream<'_>, modular: bool) -> Result<()>
     ensures gives { Reads (λ v. v) result (position_of bits.new)
         ((the_edges modular).read (bytes_of bits.old) (position_of bits.old)) }
@@ -59,6 +62,7 @@ fn edges(bits: &mut Bitstream<'_>, modular: bool) -> Result<()>
     skip_if(bits, modular, 2)
 }
 
+#[tactic(auto, unfolding(crate::specs::Filters::edges_if))]
 fn edges_if(bits: &mut Bitstream<'_>, there: bool, modular: bool) -> Result<()>
     ensures gives { Reads (λ v. v) result (position_of bits.new)
         ((the_edges_if there modular).read (bytes_of bits.old) (position_of bits.old)) }
@@ -68,6 +72,7 @@ fn edges_if(bits: &mut Bitstream<'_>, there: bool, modular: bool) -> Result<()>
 }
 
 impl RestorationFilter {
+    #[tactic(auto, unfolding(crate::specs::Filters::own_filter))]
     fn own(bits: &mut Bitstream<'_>, modular: bool) -> Result<RestorationFilter>
         ensures gives { Reads (λ v. v) result (position_of bits.new)
             ((own_filter modular).read (bytes_of bits.old) (position_of bits.old)) }
@@ -97,6 +102,7 @@ impl RestorationFilter {
     }
 
     /// The filters of a frame that is Modular or not, as they stand at the reader's position; their floats are passed.
+    #[tactic(auto, unfolding(crate::specs::Filters::filter))]
     pub fn parse(bits: &mut Bitstream<'_>, modular: bool) -> Result<RestorationFilter>
         ensures gives { Reads (λ v. v) result (position_of bits.new)
             ((filter modular).read (bytes_of bits.old) (position_of bits.old)) }

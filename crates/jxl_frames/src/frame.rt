@@ -20,7 +20,7 @@ use jxlm_base::error::Result;
 use std::alloc::Global;
 
 /// What stands at the end of a frame header.
-#[derive(Clone, Copy, Debug, PartialEq, Eq)]
+#[derive(Clone, Copy)]
 pub struct Closing {
     /// How many bytes the frame's name has, at most 1071; they are passed.
     pub name_bytes: u32,
@@ -54,6 +54,7 @@ fn is_modular(encoding: Encoding) -> bool
     }
 }
 
+#[tactic(auto, unfolding(crate::specs::Frames::extra_factors))]
 fn extra_factors(
     alloc: Global,
     bits: &mut Bitstream<'_>,
@@ -71,6 +72,7 @@ fn extra_factors(
     }
 }
 
+#[tactic(auto, unfolding(crate::specs::Frames::scales))]
 fn scales(bits: &mut Bitstream<'_>, there: bool) -> fields::Result<u32>
     ensures gives { Reads (λ v. v) result (position_of bits.new)
         ((the_scales there).read (bytes_of bits.old) (position_of bits.old)) }
@@ -83,6 +85,7 @@ fn scales(bits: &mut Bitstream<'_>, there: bool) -> fields::Result<u32>
     Ok(256)
 }
 
+#[tactic(auto, unfolding(crate::specs::Frames::modular_dim))]
 fn modular_dim(bits: &mut Bitstream<'_>) -> fields::Result<u32>
     ensures gives { Reads (λ v. v) result (position_of bits.new)
         (the_modular_dim.read (bytes_of bits.old) (position_of bits.old)) }
@@ -93,6 +96,7 @@ fn modular_dim(bits: &mut Bitstream<'_>) -> fields::Result<u32>
     Ok(128 << shift)
 }
 
+#[tactic(auto, unfolding(crate::specs::Frames::group_dim))]
 fn group_dim(bits: &mut Bitstream<'_>, modular: bool, xyb: bool) -> fields::Result<u32>
     ensures gives { Reads (λ v. v) result (position_of bits.new)
         ((the_group_dim modular xyb).read (bytes_of bits.old) (position_of bits.old)) }
@@ -106,6 +110,7 @@ fn group_dim(bits: &mut Bitstream<'_>, modular: bool, xyb: bool) -> fields::Resu
     }
 }
 
+#[tactic(auto, unfolding(crate::specs::Frames::extensions_if))]
 fn extensions_if(bits: &mut Bitstream<'_>, there: bool) -> fields::Result<u64>
     ensures gives { Reads (λ v. v) result (position_of bits.new)
         ((the_extensions_if there).read (bytes_of bits.old) (position_of bits.old)) }
@@ -126,6 +131,7 @@ fn factors_refusal(factors: &[u32]) -> Option<Refusal>
 }
 
 impl Closing {
+    #[tactic(auto, unfolding(crate::specs::Frames::closing))]
     fn parse(bits: &mut Bitstream<'_>, modular: bool) -> fields::Result<Closing>
         ensures gives { Reads (λ v. v) result (position_of bits.new)
             ((closing modular).read (bytes_of bits.old) (position_of bits.old)) }
@@ -179,6 +185,7 @@ impl FrameHeader {
         }
     }
 
+    #[tactic(auto, unfolding(crate::specs::Frames::rest))]
     fn rest(
         alloc: Global,
         bits: &mut Bitstream<'_>,
@@ -214,6 +221,7 @@ impl FrameHeader {
         })
     }
 
+    #[tactic(auto, unfolding(crate::specs::Frames::described_frame))]
     fn described(
         alloc: Global,
         bits: &mut Bitstream<'_>,
@@ -240,6 +248,7 @@ impl FrameHeader {
     ///
     /// The first in the order of the bits: `UnexpectedEof` if the input is truncated, and `InvalidEnum` for a mode of
     /// blending or an alpha channel that there is not. `Buffer` if it is out of memory, at extra channels or passes.
+    #[tactic(auto, unfolding(crate::specs::Frames::frame_header))]
     pub fn parse(
         alloc: Global,
         bits: &mut Bitstream<'_>,

@@ -26,6 +26,7 @@ pub struct Passes {
     pub last_pass: Vec<u32>,
 }
 
+#[tactic(auto, unfolding(crate::specs::Passes::shift))]
 fn shifts(alloc: Global, bits: &mut Bitstream<'_>, count: usize) -> Result<Vec<u32>>
     ensures gives { Parses (λ v. v.items) result (position_of bits.new)
         ((repeated count shift).read (bytes_of bits.old) (position_of bits.old)) }
@@ -43,6 +44,7 @@ fn shifts(alloc: Global, bits: &mut Bitstream<'_>, count: usize) -> Result<Vec<u
 }
 
 /// So many factors: 1, 2, 4 or 8.
+#[tactic(auto, unfolding(crate::specs::Codings::factor))]
 pub fn factors(alloc: Global, bits: &mut Bitstream<'_>, count: usize) -> Result<Vec<u32>>
     ensures gives { Parses (λ v. v.items) result (position_of bits.new)
         ((repeated count factor).read (bytes_of bits.old) (position_of bits.old)) }
@@ -59,6 +61,7 @@ pub fn factors(alloc: Global, bits: &mut Bitstream<'_>, count: usize) -> Result<
     )
 }
 
+#[tactic(auto, unfolding(crate::specs::Passes::last))]
 fn lasts(alloc: Global, bits: &mut Bitstream<'_>, count: usize) -> Result<Vec<u32>>
     ensures gives { Parses (λ v. v.items) result (position_of bits.new)
         ((repeated count last).read (bytes_of bits.old) (position_of bits.old)) }
@@ -88,6 +91,7 @@ impl Passes {
         }
     }
 
+    #[tactic(auto, unfolding(crate::specs::Passes::more_passes))]
     fn more(alloc: Global, bits: &mut Bitstream<'_>, count: u32) -> Result<Passes>
         ensures gives { Parses passes_of result (position_of bits.new)
             ((more_passes count).read (bytes_of bits.old) (position_of bits.old)) }
@@ -110,6 +114,7 @@ impl Passes {
         })
     }
 
+    #[tactic(auto, unfolding(crate::specs::Passes::told_passes))]
     fn told(alloc: Global, bits: &mut Bitstream<'_>) -> Result<Passes>
         ensures gives { Parses passes_of result (position_of bits.new)
             (told_passes.read (bytes_of bits.old) (position_of bits.old)) }
@@ -129,6 +134,7 @@ impl Passes {
     }
 
     /// The passes that stand at the reader's position, where they are told; else there is one.
+    #[tactic(auto, unfolding(crate::specs::Passes::passes))]
     pub fn parse(alloc: Global, bits: &mut Bitstream<'_>, there: bool) -> Result<Passes>
         ensures gives { Parses passes_of result (position_of bits.new)
             ((passes there).read (bytes_of bits.old) (position_of bits.old)) }

@@ -13,7 +13,7 @@ use jxl_headers::size::Size;
 use jxlm_base::bits::{Bitstream, U32Spec};
 
 /// A size and a place of a frame's own.
-#[derive(Clone, Copy, Debug, PartialEq, Eq)]
+#[derive(Clone, Copy)]
 pub struct Crop {
     /// The column of the picture where the frame's first column lies, and its row; 0 for a frame that is not shown.
     pub x0: i32,
@@ -25,7 +25,7 @@ pub struct Crop {
 }
 
 /// Where a frame lies.
-#[derive(Clone, Copy, Debug, PartialEq, Eq)]
+#[derive(Clone, Copy)]
 pub struct Place {
     /// Of a frame of low frequencies, how many times the picture's sides are divided by 8; else 0.
     pub lf_level: u32,
@@ -71,6 +71,7 @@ impl FrameType {
     }
 }
 
+#[tactic(auto, unfolding(crate::specs::Places::lf_level))]
 fn lf_level(bits: &mut Bitstream<'_>, there: bool) -> Result<u32>
     ensures gives { Reads (λ v. v) result (position_of bits.new)
         ((the_lf_level there).read (bytes_of bits.old) (position_of bits.old)) }
@@ -87,6 +88,7 @@ fn lf_level(bits: &mut Bitstream<'_>, there: bool) -> Result<u32>
     )
 }
 
+#[tactic(auto, unfolding(crate::specs::Places::extent))]
 fn extent(bits: &mut Bitstream<'_>) -> Result<u32>
     ensures gives { Reads (λ v. v) result (position_of bits.new)
         (the_extent.read (bytes_of bits.old) (position_of bits.old)) }
@@ -102,6 +104,7 @@ fn extent(bits: &mut Bitstream<'_>) -> Result<u32>
     )
 }
 
+#[tactic(auto, unfolding(crate::specs::Places::extent_if))]
 fn extent_if(bits: &mut Bitstream<'_>, there: bool) -> Result<u32>
     ensures gives { Reads (λ v. v) result (position_of bits.new)
         ((the_extent_if there).read (bytes_of bits.old) (position_of bits.old)) }
@@ -128,6 +131,7 @@ fn covers(corner: u32, side: u32, whole: u32) -> bool
 }
 
 impl Crop {
+    #[tactic(auto, unfolding(crate::specs::Places::crop))]
     fn parse(bits: &mut Bitstream<'_>, size: Size, shown: bool) -> Result<Crop>
         ensures gives { Reads (λ v. v) result (position_of bits.new)
             ((crop size shown).read (bytes_of bits.old) (position_of bits.old)) }
@@ -147,6 +151,7 @@ impl Crop {
         })
     }
 
+    #[tactic(auto, unfolding(crate::specs::Places::told_crop))]
     fn told(bits: &mut Bitstream<'_>, size: Size, shown: bool) -> Result<Option<Crop>>
         ensures gives { Reads (λ v. v) result (position_of bits.new)
             ((told_crop size shown).read (bytes_of bits.old) (position_of bits.old)) }
@@ -159,6 +164,7 @@ impl Crop {
         Ok(Some(crop))
     }
 
+    #[tactic(auto, unfolding(crate::specs::Places::optional_crop))]
     fn optional(bits: &mut Bitstream<'_>, size: Size, frame_type: FrameType) -> Result<Option<Crop>>
         ensures gives { Reads (λ v. v) result (position_of bits.new)
             ((optional_crop size frame_type).read (bytes_of bits.old) (position_of bits.old)) }
@@ -174,6 +180,7 @@ impl Crop {
 
 impl Place {
     /// The place of a frame of this type in a picture of this size, as it stands at the reader's position.
+    #[tactic(auto, unfolding(crate::specs::Places::place))]
     pub fn parse(bits: &mut Bitstream<'_>, size: Size, frame_type: FrameType) -> Result<Place>
         ensures gives { Reads (λ v. v) result (position_of bits.new)
             ((place size frame_type).read (bytes_of bits.old) (position_of bits.old)) }
