@@ -71,6 +71,15 @@ fn format_of_ending(path: &str) -> Option<Format> {
     format_of(ending)
 }
 
+// The format that is asked for: by its name, else by the ending of the picture's path.
+fn format_asked(name: Option<&str>, output: Option<&str>) -> Option<Format> {
+    match (name, output) {
+        (Some(name), _) => format_of(name),
+        (None, Some(path)) => format_of_ending(path),
+        (None, None) => None,
+    }
+}
+
 impl<'a> Options<'a> {
     /// What a command line asks for.
     pub fn of(matches: &ArgMatches<'a>) -> Options<'a> {
@@ -82,10 +91,7 @@ impl<'a> Options<'a> {
         Options {
             input: matches.get_str("input").unwrap_or(""),
             output,
-            format: match matches.get_str("format") {
-                Some(name) => format_of(name),
-                None => output.and_then(|path| format_of_ending(path)),
-            },
+            format: format_asked(matches.get_str("format"), output),
             limits,
         }
     }
