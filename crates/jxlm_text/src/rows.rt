@@ -43,7 +43,8 @@ pub(crate) fn read_rows<S: Sample>(
     width: usize,
     height: usize,
 ) -> Result<Vec<S>, TextError>
-    ensures ok { IfOk result (λ v. AreRows S.to_int S.width width height lines.old.rest.now lines.new.rest.now v.items) }
+    ensures ok { IfOk result (λ v. AreRows S.to_int S.width width height lines.old.rest.now lines.new.rest.now
+        v.items) }
     ensures taken { IfOk result (λ _. lines.new.taken ≡ lines.old.taken + height) }
     ensures err { IfErr result (λ e. RowsFail S.width width height lines.old.rest.now lines.old.taken e) }
 {
