@@ -77,7 +77,8 @@ impl<'a, 't> Places<'a, 't> {
     // Adds the section of an LF group.
     fn add_low(&self, list: &mut Vec<Section<'a>>, group: u64) -> Result<(), FrameError>
         requires { AreFew self.now }
-        ensures ok { OnOk result (AreAdded self.now (section_part (Part.Lf group) ∷ []) list.old.items list.new.items) }
+        ensures ok { OnOk result (AreAdded self.now (section_part (Part.Lf group) ∷ [])
+            list.old.items list.new.items) }
         ensures err { IfErr result (AddingFails self.now (section_part (Part.Lf group) ∷ [])) }
     {
         match self.low(group) {
