@@ -3,36 +3,17 @@ use Rattle.std.proofs.Common.{◌≡◌, ℕ, zero, suc, ◌+◌, ◌*◌, ◌/�
 use Rattle.std.specs.Prelude.{nat_lt, nat_le, codes, if◌then◌else◌}
 use Rattle.std.proofs.lemmas.Bool.{ltb-false, le-ltb}
 use Rattle.jxlm_base.specs.Decoding.{Found, Meaning}
-use Rattle.jxlm_base.specs.ErrorKind.{Eof, ErrorAt, BadEnum, BadProfile, OfDecoder}
-use Rattle.jxlm_base.specs.Grammar.{Grammar, IsExact, give, fail, ◌>>=◌}
+use Rattle.jxlm_base.specs.ErrorKind.{Eof, ErrorAt, BadProfile, OfDecoder}
+use Rattle.jxlm_base.specs.Grammar.{Grammar, IsExact}
 use Rattle.jxlm_base.specs.declared.decoder.DecoderError.{DecoderError}
 use Rattle.jxlm_base.specs.declared.bits.U32Spec.TheVariants.{Offset}
-use Rattle.jxlm_base.proofs.GrammarLaws.{exact-give, exact-fail, exact-bind, exact-either, exact-flag, exact-u32, exact-repeated}
-use Rattle.jxl_headers.proofs.HeaderLaws.{exact-long, exact-aligned}
-use Rattle.jxl_headers.specs.Fields.{meant, here}
+use Rattle.jxlm_base.proofs.GrammarLaws.{exact-give, exact-fail, exact-either, exact-flag, exact-u32, exact-repeated}
+use Rattle.jxl_headers.proofs.HeaderLaws.{bind, exact-aligned, exact-here, exact-long, exact-meant, found_same, none_found}
 use Rattle.jxl_toc.specs.Coded.{of_decoder, called, token, decoder, ended, ended_at, chained}
 use Rattle.jxl_toc.specs.Orders.{context_of, Digits, digit, one_more, told_digits, lehmer_code}
 use Rattle.jxl_toc.specs.Tocs.{room, entry_size, sizes, toc}
 use Rattle.jxl_toc.specs.Profiles as profiles
 use Rattle.jxl_toc.specs.Profiles.{Bytes, byte, length_within, profile}
-
-bind : {X Y : Type 0} {field : Grammar X} {next : X → Grammar Y} → IsExact field → ((x : X) → IsExact (next x)) → IsExact (field >>= next)
-bind {field} {next} first rest = exact-bind field next first rest
-
-found_same : {X : Type 0} (a b : Found X) → ◌≡◌ {A = Result (Found X) ErrorAt} (Ok a) (Ok b) → a ≡ b
-found_same a b e = cc
-
-none_found : {X : Type 0} (e : ErrorAt) (found : Found X) → ◌≡◌ {A = Result (Found X) ErrorAt} (Err e) (Ok found) → ⊥
-none_found e found same = cc
-
-exact-meant : (text : List ℕ) (means : Bool) (v : ℕ) → IsExact (meant text means v)
-exact-meant text means v = exact-either means (give v) (fail (BadEnum text v)) (exact-give v) (exact-fail (BadEnum text v))
-
-exact-here : IsExact here
-exact-here = record {
-  read_stands = λ bytes p found e. let same = found_same (record { value = p; position = p }) found e in (ap (λ f. f.value) (sym same), ap (λ f. f.position) (sym same));
-  stands_read = λ bytes p y q s. rw (s.0, s.1) refl;
-}
 
 rooms : (bytes : List ℕ) (p n : ℕ) (found : Found (Unit {0})) (b : Bool) → nat_lt (8 * length bytes) (p + n) ≡ b →
     if◌then◌else◌ {A = Result (Found (Unit {0})) ErrorAt} b (Err (record { error = Eof; position = Some p })) (Ok (record { value = tt; position = p })) ≡ Ok found →

@@ -10,7 +10,7 @@ use jxl_headers::size::Size;
 ///
 /// Its sections are: one that holds all, where there is one group and one pass; else the global part, the groups of low
 /// frequencies, a part of high frequencies that Modular does not use, and the groups of each pass, in this order.
-#[derive(Clone, Copy, Debug, PartialEq, Eq)]
+#[derive(Clone, Copy)]
 pub struct Layout {
     groups: u32,
     lf_groups: u32,

@@ -9,6 +9,7 @@ use jxl_headers::fields::{Result, skip};
 use jxl_headers::size::Size;
 use jxlm_base::bits::Bitstream;
 
+#[tactic(auto, unfolding(jxl_headers::specs::Images::skipped_if))]
 fn dequantisation(bits: &mut Bitstream<'_>) -> Result<()>
     ensures gives { Reads (λ v. v) result (position_of bits.new)
         (the_dequantisation.read (bytes_of bits.old) (position_of bits.old)) }

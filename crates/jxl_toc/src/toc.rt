@@ -21,7 +21,7 @@ use jxlm_base::grid::OutOfMemory;
 use std::alloc::Global;
 
 /// Where a section lies.
-#[derive(Clone, Copy, Debug, PartialEq, Eq)]
+#[derive(Clone, Copy)]
 pub struct TocEntry {
     /// The byte of the codestream where it begins.
     pub offset: u64,
