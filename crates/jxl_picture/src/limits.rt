@@ -9,7 +9,7 @@ use jxl_headers::image::ImageHeader;
 
 /// How large a picture may be. A picture of one colour needs no bits for its samples, so a short file may ask for any
 /// size: a reader compares what the header says with these before it takes memory.
-#[derive(Clone, Copy, Debug, PartialEq, Eq)]
+#[derive(Clone, Copy)]
 pub struct Limits {
     /// The maximum number of pixels.
     pub pixels: u64,
