@@ -43,11 +43,6 @@ fn decode_codestream(alloc: Global, bytes: &[u8], limits: &Limits) -> Result<Pic
 ///
 /// The first in the order of the bits, and `NoMemory` at any time; what is not supported is told by name
 /// (docs/FILES.md). Nothing is left behind. Sizes are compared with the limits before memory is taken for samples.
-///
-/// # What is not right yet
-///
-/// A palette with deltas is refused in the header of the whole image. One in the header of a group is not: its samples
-/// are not those that were coded.
 pub fn decode_lossless(alloc: Global, file: &[u8], limits: &Limits) -> Result<Picture, FileError>
     ensures picture { IfOk result (IsPictureOfFile limits.now file.now) }
     ensures whole { IfOk result (λ p. IsWhole (image_of p.header) p.channels.items) }

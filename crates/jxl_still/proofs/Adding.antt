@@ -67,6 +67,7 @@ fails_among x q ps among errors.NoMemory h = tt
 fails_among x q ps among (errors.Header e) h = absurd h
 fails_among x q ps among errors.DeltaPalette h = absurd h
 fails_among x q ps among errors.NoGroups h = absurd h
+fails_among x q ps among errors.GroupDeltaPalette h = absurd h
 fails_among x q ps among (errors.Samples e) h = absurd h
 
 -- the part of number k is among the first n with samples

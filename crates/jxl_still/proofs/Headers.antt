@@ -63,5 +63,6 @@ ahead_fails d global given bytes p (errors.Header e) h = unless_so (kind_of e) (
 ahead_fails d global given bytes p errors.DeltaPalette h = h
 ahead_fails d global given bytes p errors.NoGroups h = absurd h
 ahead_fails d global given bytes p errors.NoSection h = absurd h
+ahead_fails d global given bytes p errors.GroupDeltaPalette h = absurd h
 ahead_fails d global given bytes p (errors.Samples e) h = absurd h
 ahead_fails d global given bytes p errors.NoMemory h = absurd h

@@ -21,6 +21,7 @@ fails_for x image ps wider errors.NoMemory h = tt
 fails_for x image ps wider (errors.Header e) h = absurd h
 fails_for x image ps wider errors.DeltaPalette h = absurd h
 fails_for x image ps wider errors.NoGroups h = absurd h
+fails_for x image ps wider errors.GroupDeltaPalette h = absurd h
 fails_for x image ps wider (errors.Samples e) h = absurd h
 
 module _ {S D : Type 0} (x : Places) where

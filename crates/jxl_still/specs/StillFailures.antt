@@ -20,7 +20,7 @@ use Rattle.jxl_modular.specs.Sections.{SectionsStop}
 use Rattle.jxl_modular.specs.declared.sections.Section.{Section}
 use Rattle.jxlm_sections.specs.CutPicture.{IsOfGlobal, groups_in_order, one_pass}
 use Rattle.jxl_still.specs.Places.{IsOfGroup, held}
-use Rattle.jxl_still.specs.Stills.{has_deltas, HasNoDeltas}
+use Rattle.jxl_still.specs.Stills.{has_deltas, HasNoDeltas, section_has_deltas}
 use Rattle.jxl_still.specs.declared.error.FrameError.{FrameError}
 use Rattle.jxl_still.specs.declared.error.FrameError.TheVariants as errors
 use Rattle.jxl_still.specs.declared.places.Places.{Places}
@@ -61,7 +61,16 @@ module _ {S D : Type 0} (d : Meaning D) (w : Width) (to_int : S → ℤ) (zero :
     pub stands : HeaderStands
     pub lacks : Lacks places (groups_in_order (fresh zero given stands.head stands.config group_dim bit_depth))
 
-  -- all sections are there, and decoding them, one after another, returns this error
+  -- the section of a group begins with a header that has a palette with deltas
+  pub record GroupHasDeltas : Type 0 where
+    pub stands : HeaderStands
+    pub cut : IsTrue (can_cut group_dim stands.head.coded.list)
+    pub groups : List Section
+    pub parts : map (λ s. s.part) groups ≡ groups_in_order (fresh zero given stands.head stands.config group_dim bit_depth)
+    pub of_groups : All (IsOfGroup places) groups
+    pub some : list_any section_has_deltas groups ≡ true
+
+  -- all sections are there, without palettes with deltas, and decoding them, one after another, returns this error
   pub record SamplesFail (error : Error) : Type 0 where
     pub stands : HeaderStands
     pub first : Section
@@ -72,6 +81,7 @@ module _ {S D : Type 0} (d : Meaning D) (w : Width) (to_int : S → ℤ) (zero :
     pub groups : List Section
     pub parts : map (λ s. s.part) groups ≡ groups_in_order (fresh zero given stands.head stands.config group_dim bit_depth)
     pub of_groups : All (IsOfGroup places) groups
+    pub plain_groups : list_any section_has_deltas groups ≡ false
     pub left : List (Grid S)
     pub before : ℕ
     pub after : ℕ
@@ -84,5 +94,6 @@ module _ {S D : Type 0} (d : Meaning D) (w : Width) (to_int : S → ℤ) (zero :
   StillFails errors.DeltaPalette = HasDeltas bytes p
   StillFails errors.NoGroups = CannotBeCut
   StillFails errors.NoSection = LacksSection
+  StillFails errors.GroupDeltaPalette = GroupHasDeltas
   StillFails (errors.Samples e) = UnlessMemory (kind_of e) (SamplesFail e)
   StillFails errors.NoMemory = Unit {0}

@@ -1,9 +1,10 @@
 -- The samples of a frame, from its sections (ISO/IEC 18181-1, frame: sections, LF global, groups).
-use Rattle.std.specs.Prelude.{◌≡◌, ℕ, ℤ, List, ◌∷◌, map, Bool, false, nat_lt, IsTrue, Option, Ok}
+use Rattle.std.specs.Prelude.{◌≡◌, ℕ, ℤ, List, ◌∷◌, map, Bool, ◌&&◌, false, nat_lt, IsTrue, Option, Result, Ok, Err}
 use Rattle.std.specs.Int.{Width}
 use Rattle.std.specs.List.{All, list_any}
 use Rattle.jxlm_base.specs.Bits.{bytes_of, position_of}
-use Rattle.jxlm_base.specs.Decoding.{Meaning}
+use Rattle.jxlm_base.specs.Decoding.{Found, Meaning}
+use Rattle.jxlm_base.specs.ErrorKind.{ErrorAt}
 use Rattle.jxlm_base.specs.Grid.{Grid}
 use Rattle.jxlm_transform.specs.Channels.{ChannelList}
 use Rattle.jxlm_transform.specs.Transforms.{Transform, OfPalette}
@@ -31,10 +32,19 @@ pub record HasNoDeltas (bytes : List ℕ) (p : ℕ) : Type 0 where
   pub stands : header.read bytes p ≡ Ok (record { value = head; position = end })
   pub none : list_any has_deltas head.transform ≡ false
 
+-- whether a Modular header that has a palette with deltas is what was read
+abbrev pub found_deltas : Result (Found Header) ErrorAt → Bool
+found_deltas (Ok found) = list_any has_deltas found.value.transform
+found_deltas (Err e) = false
+
+-- whether a section begins with a header of its own that has a palette with deltas
+abbrev pub section_has_deltas : Section → Bool
+section_has_deltas s = s.nested && found_deltas (header.read (bytes_of s.bits) (position_of s.bits))
+
 -- These are the channels of a frame. In its first section stand, at bit p, the image's header and its tree, which may be
 -- the global one; the section goes on with the global part. Each group with samples has a section, with a header of its
--- own, whose stream has the index of its part. Each codes its part whole, with so many nodes of trees looked at before and
--- after, and together they code the image.
+-- own, without palettes with deltas, and a stream that has the index of its part. Each codes its part whole, with so many
+-- nodes of trees looked at before and after, and together they code the image.
 pub record IsStill {S D : Type 0} (d : Meaning D) (w : Width) (to_int : S → ℤ) (zero : S) (global : Option (Config D)) (given : ChannelList) (group_dim bit_depth : ℕ) (bytes : List ℕ) (p : ℕ) (places : Places) (grids : List (Grid ℤ)) (before after : ℕ) : Type 0 where
   pub head : Opening
   pub config : Config D
@@ -47,5 +57,6 @@ pub record IsStill {S D : Type 0} (d : Meaning D) (w : Width) (to_int : S → �
   pub groups : List Section
   pub parts : map (λ s. s.part) groups ≡ groups_in_order (fresh zero given head config group_dim bit_depth)
   pub of_groups : All (IsOfGroup places) groups
+  pub plain_groups : list_any section_has_deltas groups ≡ false
   pub decoded : AreDecoded d w to_int zero (fresh zero given head config group_dim bit_depth) one_pass global
       (first ∷ groups) grids before after

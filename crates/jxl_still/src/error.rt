@@ -20,6 +20,9 @@ pub enum FrameError {
     /// A group has samples, but no section.
     #[error("a group without a section")]
     NoSection,
+    /// The header of a group has a palette with deltas.
+    #[error("not supported: a palette with deltas in a group")]
+    GroupDeltaPalette,
     /// The samples have this error.
     #[error("samples: {0}")]
     Samples(Error),

@@ -16,7 +16,7 @@ ghost use Rattle.jxl_still.specs.Places.{AreFew};
 ghost use Rattle.jxl_still.specs.Inner.Listing.{SamplesStop};
 
 use crate::error::FrameError;
-use crate::opening::open_image;
+use crate::opening::{have_deltas, open_image};
 use crate::places::Places;
 use jxl_modular::image::ModularImageDestination;
 use jxl_modular::sections::{Section, decode_sections};
@@ -72,7 +72,8 @@ fn decode_all<S: Sample, D: Decoder>(
 ///
 /// The first in the order of the bits: `Header` for the header and the tree, as by
 /// [`Modular::parse`](jxl_modular::Modular::parse); `DeltaPalette` where that header has a palette with deltas;
-/// `NoGroups`; `NoSection`; `Samples` for the first section that cannot be decoded, as by
+/// `NoGroups`; `NoSection`; `GroupDeltaPalette` where the header of a group has a palette with deltas, which is looked for
+/// before samples are decoded; `Samples` for the first section that cannot be decoded, as by
 /// [`decode_sections`](jxl_modular::sections::decode_sections). Or it is out of memory, at any time.
 pub fn decode_frame<'a, S: Sample, D: Decoder>(
     alloc: Global,
@@ -103,6 +104,10 @@ pub fn decode_frame<'a, S: Sample, D: Decoder>(
     };
     let passes = one_pass(alloc)?;
     let sections = places.list(alloc, &mut image, &passes, bits)?;
+    let deltas = have_deltas(alloc, &sections)?;
+    if deltas {
+        return Err(FrameError::GroupDeltaPalette);
+    }
     decode_all(alloc, &mut image, &passes, &sections, global, steps)?;
     Ok(Some(image))
 }

@@ -7,14 +7,18 @@ ghost use Rattle.jxlm_base.specs.Bits.{bytes_of, position_of};
 ghost use Rattle.jxlm_transform.specs.Channels.{image_list};
 ghost use Rattle.jxlm_transform.specs.Params.{IsValidParams};
 ghost use Rattle.jxlm_transform.specs.Transforms.{transform_of};
-ghost use Rattle.jxl_still.specs.Stills.{HasNoDeltas, has_deltas as the_has_deltas};
+ghost use Rattle.jxlm_header.specs.Header.{header};
+ghost use Rattle.jxl_still.specs.Stills.{HasNoDeltas, found_deltas, has_deltas as the_has_deltas, section_has_deltas};
 ghost use Rattle.jxl_still.specs.Inner.Openings.{AheadFails, OpenFails, Opens};
 
 use crate::error::FrameError;
 use jxl_modular::Modular;
 use jxl_modular::image::ModularImageDestination;
+use jxl_modular::sections::Section;
 use jxlm_base::bits::Bitstream;
 use jxlm_base::decoder::Decoder;
+use jxlm_base::error::Error;
+use jxlm_base::grid::OutOfMemory;
 use jxlm_base::sample::Sample;
 use jxlm_header::header::ModularHeader;
 use jxlm_transform::param::ModularParams;
@@ -53,6 +57,30 @@ fn no_deltas(alloc: Global, bits: Bitstream<'_>) -> Result<(), FrameError>
         }
         Err(error) => Err(FrameError::Header(error)),
     }
+}
+
+// Whether a header stands there that has a palette with deltas; none where no header can be read.
+fn begins_with_deltas(alloc: Global, bits: Bitstream<'_>) -> Result<bool, OutOfMemory>
+    ensures { IfOk result (λ b. b ≡ found_deltas (header.read (bytes_of bits.entry) (position_of bits.entry))) }
+{
+    let mut ahead = bits;
+    match ModularHeader::parse(alloc, &mut ahead) {
+        Ok(header) => Ok(has_deltas(&header.transform)),
+        Err(Error::Buffer(_)) => Err(OutOfMemory),
+        Err(_) => Ok(false),
+    }
+}
+
+/// Whether one of these sections begins with a header of its own that has a palette with deltas.
+pub(crate) fn have_deltas(alloc: Global, sections: &[Section<'_>]) -> Result<bool, OutOfMemory>
+    ensures { IfOk result (λ b. b ≡ list_any section_has_deltas sections.now) }
+{
+    for section in sections {
+        if section.nested && begins_with_deltas(alloc, section.bits)? {
+            return Ok(true);
+        }
+    }
+    Ok(false)
 }
 
 // The image whose header stands there, or none where there are no channels.

@@ -8,6 +8,7 @@ mod files;
 mod frames;
 mod images;
 mod names;
+mod pictures;
 mod writing;
 
 use jxlcheck_text::Row;
@@ -25,6 +26,8 @@ fn seen(alloc: Global, row: &Row<'_>) -> Option<String> {
         "entropy" => answers::seen(alloc, row.asked, row.expected.starts_with('#')),
         "entropy_cuts" => damaged::seen_of_cuts(alloc, row.asked),
         "damaged" => damaged::sum_of_damaged(alloc, row.asked),
+        "decoded" => pictures::seen(alloc, row.asked),
+        "beginnings" => pictures::seen_of_beginnings(alloc, row.asked),
         _ => None,
     }
 }

@@ -1,4 +1,5 @@
-use Rattle.std.proofs.Common.{pos, List, refl, sym, subst}
+use Rattle.std.proofs.Common.{pos, List, ap, ◌∙◌, refl, sym, subst}
+use Rattle.std.specs.List.{list_any}
 use Rattle.std.specs.Option.{option_copied}
 use Rattle.std.proofs.lemmas.Result.{err_from_is_err_and}
 use Rattle.jxlm_base.specs.Bits.{bytes_of, position_of}
@@ -10,8 +11,9 @@ use Rattle.jxlm_sections.specs.CutPicture.{one_pass}
 use Rattle.jxl_still.specs.StillFailures.{StillFails}
 use Rattle.jxl_still.specs.Inner.Listing.{SamplesStop}
 use Rattle.jxl_still.specs.Inner.Openings.{Opens}
+use Rattle.jxl_still.specs.Stills.{section_has_deltas}
 use Rattle.jxl_still.proofs.Headers.{at_some}
-use Rattle.jxl_still.proofs.Frames.{all_there, fit, groups_possible, list_fails, made, open_fails, samples_fail, still_sides}
+use Rattle.jxl_still.proofs.Frames.{all_there, deltas_fail, fit, groups_possible, list_fails, made, open_fails, samples_fail, still_sides}
 use Rattle.jxl_still.proofs.frame.decode_frame.Goals as goal
 
 pub returns-in_err-opened-clause-err : goal.returns-in_err-opened-clause-err
@@ -54,6 +56,21 @@ returns-in_err-sections-clause-err g c =
     let p = err_from_is_err_and c.from_residual-in_err-sections.result c.from_residual-in_err-sections.ensures.1 in
     rw (p.1, p.2) fails
 
+pub returns-then-deltas-clause-err : goal.returns-then-deltas-clause-err
+returns-then-deltas-clause-err g c =
+    let zero = g.S.Sealed.from_int (pos 0) in
+    let global = option_copied c.args.params.ma_config in
+    let bytes = bytes_of c.args.first in
+    let place = position_of c.args.first in
+    let image = c.in-Some.image in
+    let q = position_of c.open_image.new.bits in
+    let o = at_some (λ (i : Image g.row.S.Denot g.row.D.Denot). Opens g.D.Decoder.meaning global (image_list c.args.params.channels.items) bytes place zero c.args.params.group_dim c.args.params.bit_depth i q)
+    c.in_ok-opened.opened image c.in-Some.is c.in_ok-opened.ensures.ok in
+    let sections = c.in_ok-sections.sections.items in
+    deltas_fail g.D.Decoder.meaning g.S.Sealed.width g.S.Sealed.to_int zero global c.args.params.channels.items c.args.params.group_dim c.args.params.bit_depth bytes place c.args.places image q o
+    c.open_image.new.bits c.in_ok-opened.ensures.bytes refl sections c.in_ok-sections.ensures.listed c.in_ok-sections.ensures.cut.cells
+    (ap (list_any section_has_deltas) (sym c.deref.ensures.value) ∙ sym c.in_ok-deltas.ensures ∙ c.if-deltas.true)
+
 pub decode_all-requires-clause-fit : goal.decode_all-requires-clause-fit
 decode_all-requires-clause-fit g c κs within =
     let zero = g.S.Sealed.from_int (pos 0) in
@@ -68,8 +85,8 @@ decode_all-requires-clause-fit g c κs within =
     let fits : SectionsFit image one_pass sections =
     fit g.D.Decoder.meaning g.S.Sealed.width g.S.Sealed.to_int zero global c.args.params.channels.items c.args.params.group_dim c.args.params.bit_depth bytes place c.args.places image q o
     c.open_image.new.bits c.in_ok-opened.ensures.bytes refl sections c.in_ok-sections.ensures.listed c.in_ok-sections.ensures.cut.cells c.requires.alike in
-    subst (λ (i : Image g.row.S.Denot g.row.D.Denot). SectionsFit i one_pass c.deref.result.now) (sym c.in_ok-sections.ensures.unchanged)
-    (subst (λ (ss : List Section). SectionsFit image one_pass ss) (sym c.deref.ensures.value) fits)
+    subst (λ (i : Image g.row.S.Denot g.row.D.Denot). SectionsFit i one_pass c.deref-2.result.now) (sym c.in_ok-sections.ensures.unchanged)
+    (subst (λ (ss : List Section). SectionsFit image one_pass ss) (sym c.deref-2.ensures.value) fits)
 
 pub decode_all-requires-clause-complete : goal.decode_all-requires-clause-complete
 decode_all-requires-clause-complete g c κs within =
@@ -85,8 +102,8 @@ decode_all-requires-clause-complete g c κs within =
     let there : IsComplete image one_pass sections =
     all_there g.D.Decoder.meaning g.S.Sealed.width g.S.Sealed.to_int zero global c.args.params.channels.items c.args.params.group_dim c.args.params.bit_depth bytes place c.args.places image q o
     c.open_image.new.bits c.in_ok-opened.ensures.bytes refl sections c.in_ok-sections.ensures.listed c.in_ok-sections.ensures.cut.cells c.requires.valid.channels c.requires.alike in
-    subst (λ (i : Image g.row.S.Denot g.row.D.Denot). IsComplete i one_pass c.deref.result.now) (sym c.in_ok-sections.ensures.unchanged)
-    (subst (λ (ss : List Section). IsComplete image one_pass ss) (sym c.deref.ensures.value) there)
+    subst (λ (i : Image g.row.S.Denot g.row.D.Denot). IsComplete i one_pass c.deref-2.result.now) (sym c.in_ok-sections.ensures.unchanged)
+    (subst (λ (ss : List Section). IsComplete image one_pass ss) (sym c.deref-2.ensures.value) there)
 
 pub returns-in_err-decode_all-clause-err : goal.returns-in_err-decode_all-clause-err
 returns-in_err-decode_all-clause-err g c =
@@ -101,11 +118,11 @@ returns-in_err-decode_all-clause-err g c =
     let sections = c.in_ok-sections.sections.items in
     let e = c.in_err-decode_all.field-0.0 in
     let stops : SamplesStop g.D.Decoder.meaning g.S.Sealed.width g.S.Sealed.to_int zero image global sections e =
-    subst (λ (ss : List Section). SamplesStop g.D.Decoder.meaning g.S.Sealed.width g.S.Sealed.to_int zero image global ss e) c.deref.ensures.value
-    (subst (λ (i : Image g.row.S.Denot g.row.D.Denot). SamplesStop g.D.Decoder.meaning g.S.Sealed.width g.S.Sealed.to_int zero i global c.deref.result.now e) c.in_ok-sections.ensures.unchanged c.in_err-decode_all.ensures.err) in
+    subst (λ (ss : List Section). SamplesStop g.D.Decoder.meaning g.S.Sealed.width g.S.Sealed.to_int zero image global ss e) c.deref-2.ensures.value
+    (subst (λ (i : Image g.row.S.Denot g.row.D.Denot). SamplesStop g.D.Decoder.meaning g.S.Sealed.width g.S.Sealed.to_int zero i global c.deref-2.result.now e) c.in_ok-sections.ensures.unchanged c.in_err-decode_all.ensures.err) in
     let fails : StillFails g.D.Decoder.meaning g.S.Sealed.width g.S.Sealed.to_int zero global (image_list c.args.params.channels.items) c.args.params.group_dim c.args.params.bit_depth bytes place c.args.places e =
     samples_fail g.D.Decoder.meaning g.S.Sealed.width g.S.Sealed.to_int zero global c.args.params.channels.items c.args.params.group_dim c.args.params.bit_depth bytes place c.args.places image q o
-    c.open_image.new.bits c.in_ok-opened.ensures.bytes refl sections c.in_ok-sections.ensures.listed c.in_ok-sections.ensures.cut.cells e stops in
+    c.open_image.new.bits c.in_ok-opened.ensures.bytes refl sections c.in_ok-sections.ensures.listed c.in_ok-sections.ensures.cut.cells e (ap (list_any section_has_deltas) (sym c.deref.ensures.value) ∙ sym c.in_ok-deltas.ensures ∙ c.if-deltas.false) stops in
     let p = err_from_is_err_and c.from_residual-in_err-decode_all.result c.from_residual-in_err-decode_all.ensures.1 in
     rw (p.1, p.2) fails
 
@@ -124,10 +141,10 @@ returns-clause-still g c =
     let before = c.args.steps.now in
     let after = c.decode_all.new.steps in
     let done : AreDecoded g.D.Decoder.meaning g.S.Sealed.width g.S.Sealed.to_int zero image one_pass global sections grids before after =
-    subst (λ (ss : List Section). AreDecoded g.D.Decoder.meaning g.S.Sealed.width g.S.Sealed.to_int zero image one_pass global ss grids before after) c.deref.ensures.value
-    (subst (λ (i : Image g.row.S.Denot g.row.D.Denot). AreDecoded g.D.Decoder.meaning g.S.Sealed.width g.S.Sealed.to_int zero i one_pass global c.deref.result.now grids before after) c.in_ok-sections.ensures.unchanged c.in_ok-decode_all.ensures.ok) in
+    subst (λ (ss : List Section). AreDecoded g.D.Decoder.meaning g.S.Sealed.width g.S.Sealed.to_int zero image one_pass global ss grids before after) c.deref-2.ensures.value
+    (subst (λ (i : Image g.row.S.Denot g.row.D.Denot). AreDecoded g.D.Decoder.meaning g.S.Sealed.width g.S.Sealed.to_int zero i one_pass global c.deref-2.result.now grids before after) c.in_ok-sections.ensures.unchanged c.in_ok-decode_all.ensures.ok) in
     made g.D.Decoder.meaning g.S.Sealed.width g.S.Sealed.to_int zero global c.args.params.channels.items c.args.params.group_dim c.args.params.bit_depth bytes place c.args.places image q o
-    c.open_image.new.bits c.in_ok-opened.ensures.bytes refl sections c.in_ok-sections.ensures.listed c.in_ok-sections.ensures.cut.cells grids before after done
+    c.open_image.new.bits c.in_ok-opened.ensures.bytes refl sections c.in_ok-sections.ensures.listed c.in_ok-sections.ensures.cut.cells (ap (list_any section_has_deltas) (sym c.deref.ensures.value) ∙ sym c.in_ok-deltas.ensures ∙ c.if-deltas.false) grids before after done
 
 pub returns-clause-sides : goal.returns-clause-sides
 returns-clause-sides g c =

@@ -1,0 +1,50 @@
+//! Files, decoded to pictures.
+
+use jxl_lossless::{Limits, decode_lossless};
+use jxl_picture::picture::Picture;
+use jxlcheck_text::{bytes, listed};
+use std::alloc::Global;
+
+/// Adds the sides and the depth of a picture, and after bars the samples of each channel, or their checksum.
+fn tell(alloc: Global, text: &mut String, picture: &Picture, summed: bool) -> Option<()> {
+    let size = picture.header.size;
+    let bits = picture.header.samples.depth.bits;
+    write!(text, "{}x{} {bits}", size.width, size.height).ok()?;
+    for channel in picture.channels.iter() {
+        let samples = listed(alloc, channel.buf(), summed).ok()?;
+        write!(text, " | {samples}").ok()?;
+    }
+    Some(())
+}
+
+/// A row asks with the bytes of a file, and before them a # where checksums are asked for. It gives the sides and the
+/// depth of its picture, and after bars the samples of each channel, row by row, or their checksum; or what the error
+/// prints.
+pub fn seen(alloc: Global, asked: &str) -> Option<String> {
+    let (digits, summed) = match asked.strip_prefix("# ") {
+        Some(digits) => (digits, true),
+        None => (asked, false),
+    };
+    let file = bytes(alloc, digits)?;
+    let mut text = String::new(alloc);
+    match decode_lossless(alloc, &file, &Limits::usual()) {
+        Ok(picture) => tell(alloc, &mut text, &picture, summed)?,
+        Err(error) => write!(text, "{error}").ok()?,
+    }
+    Some(text)
+}
+
+/// A row asks with the bytes of a file. It gives how many beginnings it has that are not the whole, and how many of them
+/// have a picture.
+pub fn seen_of_beginnings(alloc: Global, asked: &str) -> Option<String> {
+    let file = bytes(alloc, asked)?;
+    let mut decoded = 0u32;
+    for n in 0..file.len() {
+        if decode_lossless(alloc, &file[..n], &Limits::usual()).is_ok() {
+            decoded = decoded.saturating_add(1);
+        }
+    }
+    let mut text = String::new(alloc);
+    write!(text, "{decoded} of {}", file.len()).ok()?;
+    Some(text)
+}
