@@ -10,7 +10,7 @@ import re
 import sys
 
 os.chdir(os.path.dirname(os.path.dirname(os.path.abspath(__file__))))
-LIBRARY = "base plain tree ma transform chain cut part header nested".split()
+LIBRARY = "base plain tree ma transform chain cut part header nested write tokens encode".split()
 
 
 def text_of(pattern):
