@@ -1,4 +1,5 @@
--- Why a frame is not decoded: the first reason in the order of its bits.
+-- Why a frame is not decoded: the first reason in the order of its bits, but that what is not supported is told before what
+-- is wrong with samples.
 use Rattle.std.specs.Prelude.{◌≡◌, ℕ, ◌⊎◌, ℤ, List, slice_get, true, Option, Some}
 use Rattle.std.specs.Int.{Width}
 use Rattle.jxlm_base.specs.Decoding.{Meaning}

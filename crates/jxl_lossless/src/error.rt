@@ -8,7 +8,8 @@ use jxl_still::error::FrameError;
 use jxlm_base::error::Error;
 use jxlm_base::grid::OutOfMemory;
 
-/// Why a file is not decoded: the first reason in the order of its bits.
+/// Why a file is not decoded: the first reason in the order of its bits, but that what is not supported is told before
+/// what is wrong with samples.
 #[derive(Clone, Copy, Debug, PartialEq, Eq, thiserror::Error)]
 pub enum FileError {
     /// The file has no codestream that is read, for this reason.

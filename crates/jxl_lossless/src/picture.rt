@@ -41,8 +41,9 @@ fn decode_codestream(alloc: Global, bytes: &[u8], limits: &Limits) -> Result<Pic
 ///
 /// # Errors
 ///
-/// The first in the order of the bits, and `NoMemory` at any time; what is not supported is told by name
-/// (docs/FILES.md). Nothing is left behind. Sizes are compared with the limits before memory is taken for samples.
+/// The first in the order of the bits, but that what is not supported is told before what is wrong with samples, and by
+/// its name (docs/FILES.md); and `NoMemory` at any time. Nothing is left behind. Sizes are compared with the limits before
+/// memory is taken for samples.
 pub fn decode_lossless(alloc: Global, file: &[u8], limits: &Limits) -> Result<Picture, FileError>
     ensures picture { IfOk result (IsPictureOfFile limits.now file.now) }
     ensures whole { IfOk result (λ p. IsWhole (image_of p.header) p.channels.items) }

@@ -1,4 +1,5 @@
--- Why a frame is not decoded: the first reason in the order of its bits.
+-- Why a frame is not decoded: the first reason in the order of its bits, but that a palette with deltas in the header of a
+-- group is told before what is wrong with samples.
 use Rattle.std.specs.Prelude.{◌≡◌, ℕ, ◌⊎◌, ℤ, List, ◌∷◌, map, false, true, IsFalse, IsTrue, Option, None, Ok, Any}
 use Rattle.std.specs.Int.{Width}
 use Rattle.std.specs.List.{All, list_any}

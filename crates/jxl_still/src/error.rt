@@ -5,7 +5,8 @@ ghost use Rattle.std.specs.Prelude.{◌≡◌};
 use jxlm_base::error::Error;
 use jxlm_base::grid::OutOfMemory;
 
-/// Why a frame is not decoded: the first reason in the order of its bits.
+/// Why a frame is not decoded: the first reason in the order of its bits, but that a palette with deltas in the header of
+/// a group is told before what is wrong with samples.
 #[derive(Clone, Copy, Debug, PartialEq, Eq, thiserror::Error)]
 pub enum FrameError {
     /// The image's header, or its tree, has this error.

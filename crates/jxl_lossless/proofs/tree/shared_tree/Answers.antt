@@ -1,5 +1,7 @@
-use Rattle.std.proofs.Common.{◌≡◌, true, rules, subst}
+use Rattle.std.proofs.Common.{◌≡◌, ℕ, Result, Err, Some, true, refl, rules, subst}
 use Rattle.jxlm_base.specs.Bits.{bytes_of, position_of}
+use Rattle.jxlm_base.specs.Decoding.{Found}
+use Rattle.jxlm_base.specs.ErrorKind.{ErrorAt, bitstream_kind}
 use Rattle.jxl_toc.specs.Starts.{section_start}
 use Rattle.jxl_front.specs.Fronts.{StandsAt}
 use Rattle.jxl_lossless.proofs.Trees.{a_tree}
@@ -14,3 +16,15 @@ returns-in-Ok-parse-clause-ok g c =
     let stands : StandsAt section_start first p true q = subst (λ b. StandsAt section_start first p b q) there c.in-Ok.ensures.gives in
     a_tree g.D.Decoder.meaning c.args.size c.args.channels first p q c.requires.start stands (bytes_of c.section_start.new.bits) c.in-Ok.ensures.bytes c.tree_limit.result c.tree_limit.ensures c.in-Ok-parse.tree
     (position_of c.parse.new.bits) c.in-Ok-parse.ensures.gives
+
+pub returns-in-Err-clause-err : goal.returns-in-Err-clause-err
+returns-in-Err-clause-err g c =
+    let first = bytes_of c.args.bits.now in
+    let q = position_of c.section_start.new.bits in (
+      q,
+      record {
+        place = Some q;
+        refuses = subst (λ (p : ℕ). section_start.read first p ≡ Err (record { error = bitstream_kind c.in-Err.error; position = Some q })) c.requires.start c.in-Err.ensures.gives;
+        stands = refl;
+      },
+    )
