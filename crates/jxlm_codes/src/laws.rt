@@ -33,7 +33,11 @@ pub fn reading_undoes_writing()
     ensures read { (slot : Slot) (place state : ℕ) (bytes : List ℕ) (p : ℕ) → IsSlotFor slot place state
         → WordStands slot state bytes p
         → refilled_at slot.symbol (after_slot slot (written slot place state)) bytes p
-        ≡ Ok (record { symbol = slot.symbol; ans_state = state; position = if is_large slot state then p + 16 else p }) }
+        ≡ Ok (record {
+          symbol = slot.symbol;
+          ans_state = state;
+          position = if is_large slot state then p + 16 else p;
+        }) }
 {}
 
 /// The counts of each distribution that is read sum up to 4096.

@@ -35,7 +35,8 @@ fn read_row<S: Sample, D: Decoder>(
 ) -> Result<(), RowError>
     requires below { line.now.y < (region_on line.now).height }
     requires long { length row.old ≡ (region_on line.now).width }
-    requires at { IsAtRow D.meaning line.now.coding.now walk.old S.to_int line.now.store.now line.now.path line.now.i line.now.y }
+    requires at { IsAtRow D.meaning line.now.coding.now walk.old S.to_int line.now.store.now line.now.path line.now.i
+        line.now.y }
     ensures gives { RowGives line.now D.meaning S.to_int S.width row.new walk.old.source walk.new.source result }
     ensures state { OnOk result (IsOnPath line.now S.to_int row.new walk.new) }
 {

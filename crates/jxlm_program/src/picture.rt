@@ -89,8 +89,8 @@ pub(crate) fn cut_picture_text<S: Sample, D: Decoder>(
     ensures { MatchResult result
         (λ text. IsCutPictureText D.meaning S.width S.to_int (S.from_int (pos 0)) (channels_asked width height channels)
         group_dim bit_depth bytes.now (string_bytes text))
-        (λ error. IsCutPictureError D.meaning S.width S.to_int (S.from_int (pos 0)) (channels_asked width height channels)
-        group_dim bit_depth bytes.now error) }
+        (λ error. IsCutPictureError D.meaning S.width S.to_int (S.from_int (pos 0))
+        (channels_asked width height channels) group_dim bit_depth bytes.now error) }
 {
     let channels = channel_list(alloc, width, height, channels)?;
     let params = without_tree(group_dim, bit_depth, channels);

@@ -161,7 +161,7 @@ fn leaf(leaf: Leaf) -> (u8, Predictor, i32, u32) {
     (cluster, predictor, offset, multiplier)
 }
 
-// The number of a predictor, of which there are fourteen.
+/// The number of a predictor, of which there are fourteen.
 pub fn number_of(predictor: Predictor) -> u32 {
     match predictor {
         Predictor::Zero => 0,
@@ -181,7 +181,7 @@ pub fn number_of(predictor: Predictor) -> u32 {
     }
 }
 
-// The weights, in the order of their fields.
+/// The weights, in the order of their fields.
 pub fn weights(header: WpHeader) -> (bool, [u32; 11]) {
     let WpHeader {
         default_wp,
@@ -272,6 +272,7 @@ fn section(section: Section<'_>) -> (SectionPart, Bitstream<'_>, u32, bool) {
     (part, bits, stream_index, nested)
 }
 
+/// The number of a part: its kind or its pass, and its group.
 pub fn number(part: SectionPart) -> (u32, u64) {
     match part {
         SectionPart::Global => (0, 0),

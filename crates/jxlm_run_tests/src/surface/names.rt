@@ -21,7 +21,7 @@ use jxl_modular::squeeze::{inverse_h, inverse_v};
 use jxl_modular::transform::{Palette, Rct, Squeeze, TransformInfo};
 use jxl_modular::{Modular, ModularChannelInfo, decode_picture};
 
-// Takes what has this name.
+/// Takes what has this name.
 pub fn named<F: Drop>(_: F) {}
 
 fn of_bits() {
