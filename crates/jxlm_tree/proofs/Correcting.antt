@@ -7,7 +7,7 @@ use Rattle.std.proofs.lemmas.Bool.{cases_lt, lt-ltb, le-ltb}
 use Rattle.jxlm_tree.specs.Neighbours.{neighbours, column, row}
 use Rattle.jxlm_tree.specs.Correcting.{KeepsErrors}
 use Rattle.jxlm_tree.specs.Inner.CorrectingSteps.{errors_from, sums_from, errors_above_left, errors_above_right}
-use Rattle.jxlm_tree.specs.SelfCorrecting.{Four, Errors, ErrorsNear, no_errors, errors_at, errors_above, errors_left, errors_near, near, sub_predictions, predicted, errors_of, errors_after}
+use Rattle.jxlm_tree.specs.SelfCorrecting.{Errors, ErrorsNear, no_errors, errors_at, errors_above, errors_left, errors_near, near, sub_predictions, predicted, errors_of, errors_after}
 use Rattle.jxlm_tree.specs.declared.predictor.WpHeader.{WpHeader}
 use Rattle.jxlm_tree.proofs.Causal.{errors_same}
 
@@ -101,7 +101,7 @@ errors_of-push header samples width s =
     let last : get_or (samples ++ s ∷ []) (length samples) (pos 0) ≡ s = get_or_push samples s (pos 0) (length samples) refl in
     rw n (rw (same, before, last) refl)
 
-pub then_is : (header : WpHeader) (samples : List ℤ) (width : ℕ) (errors : List Errors) (p : ℤ) (f : Four ℤ) (s : ℤ) → p ≡ predicted header (neighbours samples width) (errors_near errors width (column samples width) (row samples width)) →
+pub then_is : (header : WpHeader) (samples : List ℤ) (width : ℕ) (errors : List Errors) (p : ℤ) (f : List ℤ) (s : ℤ) → p ≡ predicted header (neighbours samples width) (errors_near errors width (column samples width) (row samples width)) →
     f ≡ sub_predictions header (neighbours samples width) (errors_near errors width (column samples width) (row samples width)) → errors_from p f s ≡ errors_after header samples width errors s
 then_is header samples width errors p f s a b = rw (a, b) refl
 

@@ -1,12 +1,12 @@
 -- Which cell a state is at, and which after a sample more.
-use Rattle.std.proofs.Common.{◌≡◌, ℕ, ◌+◌, ◌-◌, ◌*◌, ◌<◌, ◌≤◌, inl, inr, ℤ, List, length, reverse, get_or, Some, None, Option, sym, ap, ◌∙◌, arith}
+use Rattle.std.proofs.Common.{◌≡◌, ℕ, ◌+◌, ◌-◌, ◌*◌, ◌<◌, ◌≤◌, inl, inr, ℤ, List, length, reverse, get_or, Some, None, Option, subst, sym, ap, ◌∙◌, arith}
 use Rattle.std.specs.Prelude.{slice_get}
 use Rattle.std.proofs.lemmas.Bool.{cases_lt}
 use Rattle.std.proofs.lemmas.List.{get_or-reverse, length-reverse, reverse-reverse}
 use Rattle.std.proofs.lemmas.Option.{slice_get-get_or}
 use Rattle.jxlm_tree.specs.Correcting.{Corrects, CorrectsBy, IsMade, IsMadeBy}
-use Rattle.jxlm_tree.specs.Inner.CorrectingSteps.{CorrectsAfter, CorrectsNext, HoldsColumn}
-use Rattle.jxlm_tree.specs.Neighbours.{column, row}
+use Rattle.jxlm_tree.specs.Inner.CorrectingSteps.{AtPlace, CorrectsAfter, CorrectsNext, HoldsColumn}
+use Rattle.jxlm_tree.specs.Neighbours.{Neighbours, neighbours, column, row}
 use Rattle.jxlm_tree.specs.Standing.{Setting, StandsAt, column_of, row_of, width_of, earlier_count, earlier_held}
 use Rattle.jxlm_tree.specs.declared.predictor.WpHeader.{WpHeader}
 use Rattle.jxlm_tree.specs.declared.self_correcting.Corrector.{Corrector}
@@ -31,6 +31,14 @@ pub recorded : (c d : Corrector) (r : PredictionResult) (weights : Option WpHead
     ((header : WpHeader) → CorrectsBy c header width x y samples → IsMadeBy r header width samples → CorrectsNext d header width x y more) → CorrectsAfter (Some d) weights width x y more
 recorded c d r None width x y samples more h made step = absurd h
 recorded c d r (Some w) width x y samples more h made step = step w h made
+
+-- what is made of a cell by a corrector that keeps errors there, where there are weights
+pub made_there : (o : Option Corrector) (c : Corrector) (r : PredictionResult) (weights : Option WpHeader) (width x y : ℕ) (a : Neighbours) (samples : List ℤ) → o ≡ Some c → Corrects o weights width x y samples →
+    length samples ≡ y * width + x → a ≡ neighbours samples width → AtPlace c x y a (IsMadeBy r) → IsMade (Some r) weights width samples
+made_there o c r weights width x y a samples is h place around at = of weights (subst (λ (o : Option Corrector). Corrects o weights width x y samples) is h) where
+  of : (weights : Option WpHeader) → Corrects (Some c) weights width x y samples → IsMade (Some r) weights width samples
+  of None h = absurd h
+  of (Some header) h = at header width samples h place around
 
 -- what a cell of a state says of the samples before it
 module _ {S : Type 0} (state : PredictorState S) (s : Setting) (samples : List ℤ) (stands : StandsAt state s samples) where

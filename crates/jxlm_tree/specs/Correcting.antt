@@ -1,8 +1,8 @@
 -- The errors of the weighted (self-correcting) predictor as the code keeps them, and what it makes of a cell.
-use Rattle.std.specs.Prelude.{◌≡◌, ℕ, suc, ◌<◌, ◌≤◌, ℤ, List, map, length, slice_index_or, vec_len, Option, Some, None}
+use Rattle.std.specs.Prelude.{◌≡◌, ℕ, suc, ◌<◌, ◌≤◌, ℤ, List, [], ◌∷◌, map, length, slice_index_or, vec_len, Option, Some, None}
 use Rattle.std.specs.Option.{ForSome}
 use Rattle.jxlm_tree.specs.Neighbours.{neighbours}
-use Rattle.jxlm_tree.specs.SelfCorrecting.{Four, Errors, no_errors, errors_at, errors_of, near, self_corrected, maximum_error, sub_predictions}
+use Rattle.jxlm_tree.specs.SelfCorrecting.{Errors, no_errors, errors_at, errors_of, near, self_corrected, maximum_error, sub_predictions}
 use Rattle.jxlm_tree.specs.declared.predictor.WpHeader.{WpHeader}
 use Rattle.jxlm_tree.specs.declared.self_correcting.CellErrors.{CellErrors}
 use Rattle.jxlm_tree.specs.declared.self_correcting.Corrector.{Corrector}
@@ -11,11 +11,11 @@ use Rattle.jxlm_tree.specs.declared.self_correcting.PredictionResult.{Prediction
 use Rattle.jxlm_tree.specs.declared.self_correcting.SubPredictions.{SubPredictions}
 
 -- the four numbers that the code keeps
-abbrev pub counted : Counts → Four ℕ
-counted c = record { s0 = c.s0; s1 = c.s1; s2 = c.s2; s3 = c.s3 }
+abbrev pub counted : Counts → List ℕ
+counted c = c.s0 ∷ c.s1 ∷ c.s2 ∷ c.s3 ∷ []
 
-abbrev pub predicted_by : SubPredictions → Four ℤ
-predicted_by s = record { s0 = s.s0; s1 = s.s1; s2 = s.s2; s3 = s.s3 }
+abbrev pub predicted_by : SubPredictions → List ℤ
+predicted_by s = s.s0 ∷ s.s1 ∷ s.s2 ∷ s.s3 ∷ []
 
 -- the errors of a cell
 abbrev pub cell_errors : CellErrors → Errors

@@ -1,34 +1,19 @@
 -- The weighted (self-correcting) predictor (ISO/IEC 18181-1, Modular: self-correcting predictor).
-use Rattle.std.specs.Prelude.{ℕ, zero, suc, ◌+◌, ◌-◌, ◌*◌, ◌/◌, ◌%◌, ◌^◌, ◌<◌, ℤ, pos, ◌+ℤ◌, ◌-ℤ◌, ◌*ℤ◌, List, [], ◌∷◌, ◌++◌, length, take, slice_index_or, unsigned_abs, nat_lt, Bool, not, ◌&&◌, ◌||◌, if◌then◌else◌}
+use Rattle.std.specs.Prelude.{ℕ, zero, suc, ◌+◌, ◌-◌, ◌*◌, ◌/◌, ◌%◌, ◌^◌, ◌<◌, ℤ, pos, ◌+ℤ◌, ◌-ℤ◌, ◌*ℤ◌, List, [], ◌∷◌, ◌++◌, length, take, map, zip, fold, sum, slice_index, slice_index_or, unsigned_abs, nat_lt, Bool, not, ◌&&◌, ◌||◌, if◌then◌else◌}
 use Rattle.std.specs.Int.{w32, int_wrap, int_shr, int_min, int_max, is_negative}
 use Rattle.std.specs.Ordering.{int_eq}
 use Rattle.jxlm_base.specs.Numbers.{clamped, floor_log2}
 use Rattle.jxlm_tree.specs.Neighbours.{Neighbours, neighbours, column, row}
 use Rattle.jxlm_tree.specs.declared.predictor.WpHeader.{WpHeader}
 
--- one value for each of the four sub-predictions
-pub record Four (X : Type 0) : Type 0 where
-  pub s0 : X
-  pub s1 : X
-  pub s2 : X
-  pub s3 : X
-
--- the same of each
-abbrev pub each : {X Y : Type 0} → (X → Y) → Four X → Four Y
-each f four = record { s0 = f four.s0; s1 = f four.s1; s2 = f four.s2; s3 = f four.s3 }
-
--- their sum
-abbrev pub total : Four ℕ → ℕ
-total four = four.s0 + four.s1 + four.s2 + four.s3
-
--- What is known of a cell after it: the true error, and the errors of the sub-predictions.
+-- What is known of a cell after it: the true error, and the errors of the four sub-predictions, in their order.
 pub record Errors : Type 0 where
   pub true_error : ℤ
-  pub sub_errors : Four ℕ
+  pub sub_errors : List ℕ
 
 -- where no cell is
 abbrev pub no_errors : Errors
-no_errors = record { true_error = pos 0; sub_errors = record { s0 = 0; s1 = 0; s2 = 0; s3 = 0 } }
+no_errors = record { true_error = pos 0; sub_errors = 0 ∷ 0 ∷ 0 ∷ 0 ∷ [] }
 
 -- What is known around a cell: the true errors at four neighbours, and the error sums of the sub-predictions.
 pub record ErrorsNear : Type 0 where
@@ -36,7 +21,7 @@ pub record ErrorsNear : Type 0 where
   pub n : ℤ
   pub nw : ℤ
   pub ne : ℤ
-  pub sums : Four ℕ
+  pub sums : List ℕ
 
 -- The errors of the cells before this one, in row order.
 module _ (errors : List Errors) (width : ℕ) where
@@ -54,25 +39,24 @@ module _ (errors : List Errors) (width : ℕ) where
   errors_left zero y = no_errors
   errors_left (suc x) y = errors_at x y
 
-  -- the sum of one sub-prediction's errors around (x, y); in the last column north plus west stands for north east
-  abbrev pub error_sum : ℕ → ℕ → (Four ℕ → ℕ) → ℕ
-  error_sum x y sub =
-      let n = sub (errors_above x y).sub_errors in
-      let w = sub (errors_left x y).sub_errors in
-      let ne = if nat_lt (x + 1) width then sub (errors_above (x + 1) y).sub_errors else n + w in
-      (sub (errors_above (x - 1) y).sub_errors + sub (errors_left (x - 1) y).sub_errors + n + w + ne) % 2 ^ 32
+  -- the sum of sub-prediction k's errors around (x, y); in the last column north plus west stands for north east
+  abbrev pub error_sum : ℕ → ℕ → ℕ → ℕ
+  error_sum x y k =
+      let sub : Errors → ℕ = λ e. slice_index e.sub_errors k in
+      let n = sub (errors_above x y) in
+      let w = sub (errors_left x y) in
+      let ne = if nat_lt (x + 1) width then sub (errors_above (x + 1) y) else n + w in
+      (sub (errors_above (x - 1) y) + sub (errors_left (x - 1) y) + n + w + ne) % 2 ^ 32
 
   -- the errors around (x, y); north stands for north west in column 0, and for north east in the last column
   abbrev pub errors_near : ℕ → ℕ → ErrorsNear
-  errors_near x y =
-      let sum = error_sum x y in
-      record {
-        w = (errors_left x y).true_error;
-        n = (errors_above x y).true_error;
-        nw = (errors_above (x - 1) y).true_error;
-        ne = (if nat_lt (x + 1) width then errors_above (x + 1) y else errors_above x y).true_error;
-        sums = record { s0 = sum (λ f. f.s0); s1 = sum (λ f. f.s1); s2 = sum (λ f. f.s2); s3 = sum (λ f. f.s3) };
-      }
+  errors_near x y = record {
+    w = (errors_left x y).true_error;
+    n = (errors_above x y).true_error;
+    nw = (errors_above (x - 1) y).true_error;
+    ne = (if nat_lt (x + 1) width then errors_above (x + 1) y else errors_above x y).true_error;
+    sums = map (error_sum x y) (0 ∷ 1 ∷ 2 ∷ 3 ∷ []);
+  }
 
 -- the maximum error: of the true errors at west, north, north west and north east the first that is furthest from 0
 abbrev pub greatest : ErrorsNear → ℤ
@@ -92,27 +76,21 @@ shift_of sum = floor_log2 ((sum + 1) / 32)
 abbrev pub weight_of : ℕ → ℕ → ℕ
 weight_of w sum = 4 + w * reciprocal (sum / 2 ^ shift_of sum + 1) / 2 ^ shift_of sum
 
--- the four weights, shifted so that their sum is small
-abbrev pub shifted : Four ℕ → Four ℕ
-shifted weights = each (λ weight. weight / 2 ^ floor_log2 (total weights / 16)) weights
+-- weights, shifted so that their sum is small
+abbrev pub shifted : List ℕ → List ℕ
+shifted weights = map (λ weight. weight / 2 ^ floor_log2 (sum weights / 16)) weights
 
--- how much each sub-prediction counts, by its error sum: the four weights, shifted so that their sum is small
-abbrev pub weights : WpHeader → Four ℕ → Four ℕ
-weights header sums = shifted (record {
-  s0 = weight_of header.wp_w0 sums.s0;
-  s1 = weight_of header.wp_w1 sums.s1;
-  s2 = weight_of header.wp_w2 sums.s2;
-  s3 = weight_of header.wp_w3 sums.s3;
-})
+-- how much each sub-prediction counts, by its error sum: the four weights, shifted
+abbrev pub weights : WpHeader → List ℕ → List ℕ
+weights header sums = shifted (map (λ (w, sum). weight_of w sum) (zip (header.wp_w0 ∷ header.wp_w1 ∷ header.wp_w2 ∷ header.wp_w3 ∷ []) sums))
 
--- the weighted sum of the sub-predictions s under weights v, and half the weights, for rounding
-abbrev pub weighted_sum : Four ℤ → Four ℕ → ℤ
-weighted_sum s v =
-    pos (total v / 2 - 1) +ℤ s.s0 *ℤ pos v.s0 +ℤ s.s1 *ℤ pos v.s1 +ℤ s.s2 *ℤ pos v.s2 +ℤ s.s3 *ℤ pos v.s3
+-- the sum of the sub-predictions s, each times its weight of v, and half the weights, for rounding
+abbrev pub weighted_sum : List ℤ → List ℕ → ℤ
+weighted_sum s v = fold (λ total (p, weight). total +ℤ p *ℤ pos weight) (pos (sum v / 2 - 1)) (zip s v)
 
 -- the prediction times 8, before it is clamped: the weighted sum divided by the sum of the weights
-abbrev pub unclamped : Four ℤ → Four ℕ → ℤ
-unclamped s v = int_shr (weighted_sum s v *ℤ pos (reciprocal (total v))) 24
+abbrev pub unclamped : List ℤ → List ℕ → ℤ
+unclamped s v = int_shr (weighted_sum s v *ℤ pos (reciprocal (sum v))) 24
 
 -- it is clamped unless the true errors at west, north and north west have one sign and are not all equal
 abbrev pub is_clamped : ErrorsNear → Bool
@@ -124,17 +102,16 @@ is_clamped e =
 -- With the header's weights, at a cell with these neighbours and these errors around it.
 module _ (header : WpHeader) (a : Neighbours) (e : ErrorsNear) where
   -- the four sub-predictions times 8
-  abbrev pub sub_predictions : Four ℤ
+  abbrev pub sub_predictions : List ℤ
   sub_predictions =
       let w = a.w *ℤ pos 8 in
       let n = a.n *ℤ pos 8 in
-      record {
-        s0 = w +ℤ a.ne *ℤ pos 8 -ℤ n;
-        s1 = n -ℤ int_shr ((e.w +ℤ e.n +ℤ e.ne) *ℤ pos header.wp_p1) 5;
-        s2 = w -ℤ int_shr ((e.w +ℤ e.n +ℤ e.nw) *ℤ pos header.wp_p2) 5;
-        s3 = n -ℤ int_shr (e.nw *ℤ pos header.wp_p3a +ℤ e.n *ℤ pos header.wp_p3b +ℤ e.ne *ℤ pos header.wp_p3c
-            +ℤ (a.nn *ℤ pos 8 -ℤ n) *ℤ pos header.wp_p3d +ℤ (a.nw *ℤ pos 8 -ℤ w) *ℤ pos header.wp_p3e) 5;
-      }
+      (w +ℤ a.ne *ℤ pos 8 -ℤ n)
+      ∷ (n -ℤ int_shr ((e.w +ℤ e.n +ℤ e.ne) *ℤ pos header.wp_p1) 5)
+      ∷ (w -ℤ int_shr ((e.w +ℤ e.n +ℤ e.nw) *ℤ pos header.wp_p2) 5)
+      ∷ (n -ℤ int_shr (e.nw *ℤ pos header.wp_p3a +ℤ e.n *ℤ pos header.wp_p3b +ℤ e.ne *ℤ pos header.wp_p3c
+      +ℤ (a.nn *ℤ pos 8 -ℤ n) *ℤ pos header.wp_p3d +ℤ (a.nw *ℤ pos 8 -ℤ w) *ℤ pos header.wp_p3e) 5)
+      ∷ []
 
   -- the prediction times 8: clamped between the minimum and the maximum of west, north and north east
   abbrev pub predicted : ℤ
@@ -152,7 +129,7 @@ errors_after header samples width errors sample =
     let e = errors_near errors width (column samples width) (row samples width) in
     record {
       true_error = int_wrap w32 (predicted header a e -ℤ sample *ℤ pos 8);
-      sub_errors = each (λ s. (unsigned_abs (s -ℤ sample *ℤ pos 8) + 3) / 8 % 2 ^ 32) (sub_predictions header a e);
+      sub_errors = map (λ s. (unsigned_abs (s -ℤ sample *ℤ pos 8) + 3) / 8 % 2 ^ 32) (sub_predictions header a e);
     }
 
 -- The errors of the first i samples: those of each sample follow from the samples before it and from their errors.

@@ -1,9 +1,9 @@
 //! The weighted (self-correcting) predictor: the errors that it remembers, and what it makes of a cell.
 
 ghost use Rattle.jxlm_base.specs.Numbers.{floor_log2};
-ghost use Rattle.jxlm_tree.specs.SelfCorrecting.{IsHeader, errors_above, errors_near, errors_of, greatest, is_clamped, predicted, reciprocal, self_unclamped, shifted, sub_predictions, total, unclamped, weight_of, weighted_sum, weights};
+ghost use Rattle.jxlm_tree.specs.SelfCorrecting.{IsHeader, errors_above, errors_near, errors_of, greatest, is_clamped, predicted, reciprocal, self_unclamped, shifted, sub_predictions, unclamped, weight_of, weighted_sum, weights};
 ghost use Rattle.std.specs.Int.{int_shr};
-ghost use Rattle.std.specs.Prelude.{◌≡◌, ◌+◌, ◌*◌, ◌<◌, ◌≤◌, ◌^◌, ◌+ℤ◌, ◌-ℤ◌, ◌*ℤ◌, pos, ℕ, ℤ, List, [], ◌∷◌, ◌++◌, length, Option, Some, ◌/◌, ◌%◌, nat_lt, if◌then◌else◌, not, IfOk, false, vec_len, unsigned_abs};
+ghost use Rattle.std.specs.Prelude.{◌≡◌, ◌+◌, ◌*◌, ◌<◌, ◌≤◌, ◌^◌, ◌+ℤ◌, ◌-ℤ◌, ◌*ℤ◌, pos, ℕ, ℤ, List, [], ◌∷◌, ◌++◌, length, Option, Some, ◌/◌, ◌%◌, nat_lt, if◌then◌else◌, not, IfOk, false, vec_len, slice_index_or, sum, unsigned_abs};
 
 use crate::around::Around;
 use crate::predictor::WpHeader;
@@ -247,14 +247,14 @@ impl Counts {
     ghost use Rattle.jxlm_tree.specs.Correcting.{counted};
 
     fn total(&self) -> u32
-        requires { total (counted self.now) < 2 ^ 32 }
-        ensures { result ≡ total (counted self.now) }
+        requires { sum (counted self.now) < 2 ^ 32 }
+        ensures { result ≡ sum (counted self.now) }
     {
         self.s0 + self.s1 + self.s2 + self.s3
     }
 
     fn shifted(&self) -> Counts
-        requires { total (counted self.now) < 2 ^ 32 }
+        requires { sum (counted self.now) < 2 ^ 32 }
         ensures { counted result ≡ shifted (counted self.now) }
     {
         let shift = floor_log2((self.total() / 16) as u64);
@@ -270,8 +270,8 @@ impl Counts {
     fn weights(&self, header: &WpHeader) -> Counts
         requires { IsHeader header.now }
         ensures value { counted result ≡ weights header.now (counted self.now) }
-        ensures least { 13 ≤ total (counted result) }
-        ensures greatest { total (counted result) ≤ 31 }
+        ensures least { 13 ≤ sum (counted result) }
+        ensures greatest { sum (counted result) ≤ 31 }
     {
         let weights = Counts {
             s0: weight(header.wp_w0, self.s0),
@@ -303,7 +303,7 @@ impl SubPredictions {
 
     fn last(header: &WpHeader, around: &Around, errors: &ErrorsAround) -> i64
         requires { IsHeader header.now }
-        ensures value { result ≡ (sub_predictions header.now (seen around.now) (near_of errors.now)).s3 }
+        ensures value { result ≡ slice_index_or (sub_predictions header.now (seen around.now) (near_of errors.now)) 3 (pos 0) }
         ensures bound { unsigned_abs result < 2 ^ 37 }
     {
         let down = scaled(difference(around.nn, around.n), header.wp_p3d);
@@ -313,8 +313,8 @@ impl SubPredictions {
     }
 
     fn sum(&self, weights: &Counts) -> i64
-        requires least { 13 ≤ total (counted weights.now) }
-        requires greatest { total (counted weights.now) ≤ 31 }
+        requires least { 13 ≤ sum (counted weights.now) }
+        requires greatest { sum (counted weights.now) ≤ 31 }
         ensures value { result ≡ weighted_sum (predicted_by self.now) (counted weights.now) }
         ensures bound { unsigned_abs result < 2 ^ 42 }
     {
@@ -327,8 +327,8 @@ impl SubPredictions {
 
     /// Their sum by these weights, divided by the sum of the weights.
     fn weighted(&self, weights: &Counts) -> i64
-        requires least { 13 ≤ total (counted weights.now) }
-        requires greatest { total (counted weights.now) ≤ 31 }
+        requires least { 13 ≤ sum (counted weights.now) }
+        requires greatest { sum (counted weights.now) ≤ 31 }
         ensures value { result ≡ unclamped (predicted_by self.now) (counted weights.now) }
         ensures bound { unsigned_abs result < 2 ^ 40 }
     {

@@ -1,10 +1,10 @@
 -- The steps of the weighted predictor: what the code makes of a cell, and how it goes on to the next.
-use Rattle.std.specs.Prelude.{◌≡◌, ℕ, zero, suc, ◌+◌, ◌*◌, ◌/◌, ◌%◌, ◌^◌, ◌<◌, ◌≤◌, ℤ, pos, ◌-ℤ◌, ◌*ℤ◌, unsigned_abs, nat_lt, Bool, if◌then◌else◌, List, length, Option, Some, None}
+use Rattle.std.specs.Prelude.{◌≡◌, ℕ, zero, suc, ◌+◌, ◌*◌, ◌/◌, ◌%◌, ◌^◌, ◌<◌, ◌≤◌, ℤ, pos, ◌-ℤ◌, ◌*ℤ◌, unsigned_abs, nat_lt, Bool, if◌then◌else◌, List, [], ◌∷◌, length, map, slice_index, Option, Some, None}
 use Rattle.std.specs.Int.{w32, int_wrap, int_min, int_max}
 use Rattle.jxlm_base.specs.Numbers.{clamped}
 use Rattle.jxlm_tree.specs.Correcting.{Corrects, CorrectsBy, counted}
 use Rattle.jxlm_tree.specs.Neighbours.{Neighbours, neighbours}
-use Rattle.jxlm_tree.specs.SelfCorrecting.{Errors, ErrorsNear, Four, each, errors_above}
+use Rattle.jxlm_tree.specs.SelfCorrecting.{Errors, ErrorsNear, errors_above}
 use Rattle.jxlm_tree.specs.declared.predictor.WpHeader.{WpHeader}
 use Rattle.jxlm_tree.specs.declared.self_correcting.Corrector.{Corrector}
 use Rattle.jxlm_tree.specs.declared.self_correcting.ErrorsAround.{ErrorsAround}
@@ -27,16 +27,16 @@ abbrev pub errors_above_right : List Errors → ℕ → ℕ → ℕ → Errors
 errors_above_right errors width x y = if nat_lt (x + 1) width then errors_above errors width (x + 1) y else errors_above errors width x y
 
 -- the sums of the errors at north west, two to the west, north, west and north east; whether the column is the last
-abbrev pub sums_from : Four ℕ → Four ℕ → Four ℕ → Four ℕ → Four ℕ → Bool → Four ℕ
-sums_from nw ww n w ne last = record { s0 = of_one nw.s0 ww.s0 n.s0 w.s0 ne.s0; s1 = of_one nw.s1 ww.s1 n.s1 w.s1 ne.s1; s2 = of_one nw.s2 ww.s2 n.s2 w.s2 ne.s2; s3 = of_one nw.s3 ww.s3 n.s3 w.s3 ne.s3 } where
-  of_one : ℕ → ℕ → ℕ → ℕ → ℕ → ℕ
-  of_one nw ww n w ne = (nw + ww + n + w + (if last then n + w else ne)) % 2 ^ 32
+abbrev pub sums_from : List ℕ → List ℕ → List ℕ → List ℕ → List ℕ → Bool → List ℕ
+sums_from nw ww n w ne last = map of_one (0 ∷ 1 ∷ 2 ∷ 3 ∷ []) where
+  of_one : ℕ → ℕ
+  of_one k = (slice_index nw k + slice_index ww k + slice_index n k + slice_index w k + (if last then slice_index n k + slice_index w k else slice_index ne k)) % 2 ^ 32
 
 -- the errors of a cell with this prediction and these sub-predictions after its sample
-abbrev pub errors_from : ℤ → Four ℤ → ℤ → Errors
+abbrev pub errors_from : ℤ → List ℤ → ℤ → Errors
 errors_from prediction subs sample = record {
   true_error = int_wrap w32 (prediction -ℤ sample *ℤ pos 8);
-  sub_errors = each (λ s. (unsigned_abs (s -ℤ sample *ℤ pos 8) + 3) / 8 % 2 ^ 32) subs;
+  sub_errors = map (λ s. (unsigned_abs (s -ℤ sample *ℤ pos 8) + 3) / 8 % 2 ^ 32) subs;
 }
 
 -- it holds at (x, y) with these neighbours, of the corrector's weights, the width and the samples

@@ -1,13 +1,13 @@
-use Rattle.std.proofs.Common.{◌≡◌, ℕ, ℤ, ◌+◌, not, FitsSigned, ◌∙◌, rules, ap, length}
+use Rattle.std.proofs.Common.{◌≡◌, ℕ, ℤ, List, ◌+◌, not, FitsSigned, ◌∙◌, rules, ap, length}
 use Rattle.std.specs.Prelude.{map, nat_lt}
 use Rattle.std.specs.Int.{w32}
 use Rattle.std.proofs.lemmas.Int.{to_z-of_z}
 use Rattle.jxlm_tree.specs.Correcting.{cell_errors}
-use Rattle.jxlm_tree.specs.SelfCorrecting.{Four, ErrorsNear, errors_of}
+use Rattle.jxlm_tree.specs.SelfCorrecting.{ErrorsNear, errors_of}
 use Rattle.jxlm_tree.proofs.Correcting.{near_is}
 use Rattle.jxlm_tree.proofs.self_correcting.Corrector.errors_around.Goals as goal
 
-abbrev near_with : ℤ → ℤ → ℤ → ℤ → Four ℕ → ErrorsNear
+abbrev near_with : ℤ → ℤ → ℤ → ℤ → List ℕ → ErrorsNear
 near_with w n nw ne sums = record { w = w; n = n; nw = nw; ne = ne; sums = sums }
 
 pub returns : goal.returns
@@ -27,5 +27,5 @@ returns g c = λ header width samples by.
     let f3 : FitsSigned w32 c.above_right-ne.result.true_error = search rules in
     let last : c.is_last-last.result ≡ not (nat_lt (x + 1) width) = c.is_last-last.ensures ∙ ap (λ (w : ℕ). not (nat_lt (x + 1) w)) by.same_width in
     rw (to_z-of_z w32 _ f0, to_z-of_z w32 _ f1, to_z-of_z w32 _ f2, to_z-of_z w32 _ f3)
-    (ap (λ (f : Four ℕ). near_with old.west.true_error c.above-n.result.true_error c.above_left-nw.result.true_error c.above_right-ne.result.true_error f) c.sums.ensures
+    (ap (λ (f : List ℕ). near_with old.west.true_error c.above-n.result.true_error c.above_left-nw.result.true_error c.above_right-ne.result.true_error f) c.sums.ensures
     ∙ near_is errors width x y (cell_errors c.above_left-nw.result) (cell_errors old.west_west) (cell_errors c.above-n.result) (cell_errors old.west) (cell_errors c.above_right-ne.result) c.is_last-last.result previous current by.keeps nw n ne last)

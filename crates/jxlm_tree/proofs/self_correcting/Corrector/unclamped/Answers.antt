@@ -1,11 +1,11 @@
-use Rattle.std.proofs.Common.{◌≡◌, ◌<◌, ℤ, FitsSigned, ◌∙◌, arith, rules, ap, w64}
+use Rattle.std.proofs.Common.{◌≡◌, ◌<◌, ℤ, List, FitsSigned, ◌∙◌, arith, rules, ap, w64}
 use Rattle.std.proofs.lemmas.Int.{to_z-of_z}
 use Rattle.std.proofs.lemmas.Nat.{mod-mul-add, div-mul-add}
 use Rattle.jxlm_tree.specs.Around.{seen}
 use Rattle.jxlm_tree.specs.Correcting.{counted}
 use Rattle.jxlm_tree.specs.Inner.CorrectingSteps.{near_of}
 use Rattle.jxlm_tree.specs.Neighbours.{Neighbours, column, row}
-use Rattle.jxlm_tree.specs.SelfCorrecting.{ErrorsNear, Four, near, sub_predictions, unclamped, weights}
+use Rattle.jxlm_tree.specs.SelfCorrecting.{ErrorsNear, near, sub_predictions, unclamped, weights}
 use Rattle.jxlm_tree.specs.declared.predictor.WpHeader.{WpHeader}
 use Rattle.jxlm_tree.proofs.Correcting.{near_at}
 use Rattle.jxlm_tree.proofs.self_correcting.Corrector.unclamped.Goals as goal
@@ -24,6 +24,6 @@ returns c = λ header width samples by place seen_is.
     let a = seen c.args.around.now in
     let e = near_of c.errors_around-errors.result in
     let u : FitsSigned w64 c.weighted.result = search rules in
-    let made = c.weighted.ensures.value ∙ ap (λ (f : Four ℤ). unclamped f (counted c.weights.result)) c.of_place-subpred.ensures ∙ ap (unclamped (sub_predictions own a e)) c.weights.ensures.value in
+    let made = c.weighted.ensures.value ∙ ap (λ (f : List ℤ). unclamped f (counted c.weights.result)) c.of_place-subpred.ensures ∙ ap (unclamped (sub_predictions own a e)) c.weights.ensures.value in
     let read = ap (λ (h : WpHeader). unclamped (sub_predictions h a e) (weights h e.sums)) by.same_header in
     to_z-of_z w64 c.weighted.result u ∙ made ∙ read ∙ ap (λ (f : ErrorsNear). unclamped (sub_predictions header a f) (weights header f.sums)) are ∙ ap (λ (b : Neighbours). unclamped (sub_predictions header b here) (weights header here.sums)) seen_is

@@ -1,10 +1,11 @@
-use Rattle.std.proofs.Common.{ℕ, ◌+◌, ◌*◌, ◌^◌, ◌≤◌, subst, sym, arith}
-use Rattle.jxlm_tree.specs.SelfCorrecting.{Four, total, shifted}
-use Rattle.jxlm_tree.proofs.Ranges.{shifted_total, weight_bounds}
+use Rattle.std.proofs.Common.{ℕ, List, ◌+◌, ◌*◌, ◌^◌, ◌≤◌, subst, sym, arith}
+use Rattle.std.specs.Prelude.{sum}
+use Rattle.jxlm_tree.specs.SelfCorrecting.{shifted}
+use Rattle.jxlm_tree.proofs.Ranges.{four, shifted_total, weight_bounds}
 use Rattle.jxlm_tree.proofs.self_correcting.Counts.weights.Goals as goal
 
-least_of : (f : Four ℕ) → 4 ≤ f.s0 → 4 ≤ f.s1 → 4 ≤ f.s2 → 4 ≤ f.s3 → f.s0 ≤ 4 + 15 * 2 ^ 24 → f.s1 ≤ 4 + 15 * 2 ^ 24 → f.s2 ≤ 4 + 15 * 2 ^ 24 → f.s3 ≤ 4 + 15 * 2 ^ 24 → (13 ≤ total (shifted f)) × (total (shifted f) ≤ 31)
-least_of f a b c d p q r s = shifted_total f (omega arith) (omega arith)
+least_of : (a b c e : ℕ) → 4 ≤ a → 4 ≤ b → 4 ≤ c → 4 ≤ e → a ≤ 4 + 15 * 2 ^ 24 → b ≤ 4 + 15 * 2 ^ 24 → c ≤ 4 + 15 * 2 ^ 24 → e ≤ 4 + 15 * 2 ^ 24 → (13 ≤ sum (shifted (four a b c e))) × (sum (shifted (four a b c e)) ≤ 31)
+least_of a b c e l m n o p q r s = shifted_total a b c e (omega arith) (omega arith)
 
 pub returns-clause-least : goal.returns-clause-least
 returns-clause-least c =
@@ -18,9 +19,8 @@ returns-clause-least c =
     let e1 = c.weight-2.ensures.value in
     let e2 = c.weight-3.ensures.value in
     let e3 = c.weight-4.ensures.value in
-    let f : Four ℕ = record { s0 = c.weight.result; s1 = c.weight-2.result; s2 = c.weight-3.result; s3 = c.weight-4.result } in
-    let both = least_of f (omega (arith, e0, l0.0)) (omega (arith, e1, l1.0)) (omega (arith, e2, l2.0)) (omega (arith, e3, l3.0)) (omega (arith, e0, l0.1)) (omega (arith, e1, l1.1)) (omega (arith, e2, l2.1)) (omega (arith, e3, l3.1)) in
-    let P : Four ℕ → Type 0 = λ g. 13 ≤ total g in
+    let both = least_of c.weight.result c.weight-2.result c.weight-3.result c.weight-4.result (omega (arith, e0, l0.0)) (omega (arith, e1, l1.0)) (omega (arith, e2, l2.0)) (omega (arith, e3, l3.0)) (omega (arith, e0, l0.1)) (omega (arith, e1, l1.1)) (omega (arith, e2, l2.1)) (omega (arith, e3, l3.1)) in
+    let P : List ℕ → Type 0 = λ g. 13 ≤ sum g in
     subst P (sym c.shifted.ensures) both.0
 
 pub returns-clause-greatest : goal.returns-clause-greatest
@@ -35,7 +35,6 @@ returns-clause-greatest c =
     let e1 = c.weight-2.ensures.value in
     let e2 = c.weight-3.ensures.value in
     let e3 = c.weight-4.ensures.value in
-    let f : Four ℕ = record { s0 = c.weight.result; s1 = c.weight-2.result; s2 = c.weight-3.result; s3 = c.weight-4.result } in
-    let both = least_of f (omega (arith, e0, l0.0)) (omega (arith, e1, l1.0)) (omega (arith, e2, l2.0)) (omega (arith, e3, l3.0)) (omega (arith, e0, l0.1)) (omega (arith, e1, l1.1)) (omega (arith, e2, l2.1)) (omega (arith, e3, l3.1)) in
-    let P : Four ℕ → Type 0 = λ g. total g ≤ 31 in
+    let both = least_of c.weight.result c.weight-2.result c.weight-3.result c.weight-4.result (omega (arith, e0, l0.0)) (omega (arith, e1, l1.0)) (omega (arith, e2, l2.0)) (omega (arith, e3, l3.0)) (omega (arith, e0, l0.1)) (omega (arith, e1, l1.1)) (omega (arith, e2, l2.1)) (omega (arith, e3, l3.1)) in
+    let P : List ℕ → Type 0 = λ g. sum g ≤ 31 in
     subst P (sym c.shifted.ensures) both.1

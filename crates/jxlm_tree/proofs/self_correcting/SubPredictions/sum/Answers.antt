@@ -1,7 +1,7 @@
 use Rattle.std.proofs.Common.{◌≡◌, ℕ, ℤ, ◌*◌, ◌<◌, ◌≤◌, ◌^◌, ◌-◌, ◌/◌, pos, ◌*ℤ◌, unsigned_abs, ◌∙◌, refl, arith, to_z, of_z}
 use Rattle.std.specs.Int.{w64}
-use Rattle.jxlm_tree.specs.Correcting.{predicted_by, counted}
-use Rattle.jxlm_tree.specs.SelfCorrecting.{total}
+use Rattle.std.specs.Prelude.{sum}
+use Rattle.jxlm_tree.specs.Correcting.{counted}
 use Rattle.jxlm_tree.specs.declared.self_correcting.Counts.{Counts}
 use Rattle.jxlm_tree.proofs.Ranges.{weighted}
 use Rattle.jxlm_tree.proofs.Sums.{IsNear, natural_near, scaled_is, scaled_near, sum_fits, sum_near}
@@ -19,7 +19,7 @@ module _ (v r : ℤ) (below : unsigned_abs v < 2 ^ 37) where
   part_is weight value = scaled_is v r (2 ^ 37) near (omega arith) weight value
 
 -- half the sum of the weights, less 1
-half : (weights : Counts) (n : ℕ) → n ≡ total (counted weights) → total (counted weights) ≤ 31 → IsNear (to_z w64 (n / 2 - 1)) (pos (n / 2 - 1)) 31
+half : (weights : Counts) (n : ℕ) → n ≡ sum (counted weights) → sum (counted weights) ≤ 31 → IsNear (to_z w64 (n / 2 - 1)) (pos (n / 2 - 1)) 31
 half weights n same most = natural_near (n / 2 - 1) 31 (omega (arith, same, most)) (omega arith)
 
 pub overflow_add-result : goal.overflow_add-result
@@ -71,4 +71,5 @@ returns-clause-value c =
 pub returns-clause-bound : goal.returns-clause-bound
 returns-clause-bound c =
     let s = c.args.self.now in
-    rw (returns-clause-value c) (weighted (predicted_by s) (counted c.args.weights.now) (s.below0, s.below1, s.below2, s.below3) c.requires.greatest)
+    let v = c.args.weights.now in
+    rw (returns-clause-value c) (weighted s.s0 s.s1 s.s2 s.s3 v.s0 v.s1 v.s2 v.s3 (s.below0, (s.below1, (s.below2, (s.below3, tt)))) c.requires.greatest)
