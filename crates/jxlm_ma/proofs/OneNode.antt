@@ -1,7 +1,7 @@
 -- A tree of which nothing is left to decide is one node.
-use Rattle.std.proofs.Common.{◌≡◌, ℤ, pos, Bool, true, false, cond, refl, sym, ap, ◌∙◌, subst}
+use Rattle.std.proofs.Common.{◌≡◌, pos, Bool, true, false, cond, refl, sym, ap, subst}
 use Rattle.std.specs.Prelude.{int_lt}
-use Rattle.jxlm_ma.specs.CompiledNodes.{AsksKnown, flat_nodes, is_known, takes, undecided}
+use Rattle.jxlm_ma.specs.CompiledNodes.{AsksKnown, flat_nodes, takes, undecided}
 use Rattle.jxlm_ma.specs.FlatTree.{FlatTree, asked}
 use Rattle.jxlm_ma.specs.Tree.{Shape, leaf, decision}
 use Rattle.jxlm_ma.specs.declared.flat.Leaf.{Leaf}

@@ -7,7 +7,7 @@ use Rattle.jxlm_base.specs.Grammar.{IsErrorAt}
 use Rattle.jxlm_ma.specs.Inner.DraftReading.{ListsTrees, is_endless}
 use Rattle.jxlm_ma.specs.Tree.{Shape, leaf, decision, Node, Config, leaf_node, decision_node, config_of, levels}
 use Rattle.jxlm_ma.specs.Inner.Queue.{IsTooDeepListing, ListsTooDeep}
-use Rattle.jxlm_ma.specs.TreeReading.{Draft, with_clusters, leaf_count, children, through, node_at, nodes_at, drafts_at, listing_at, limit_error, max_nodes, IsTooDeep, IsTreeAt}
+use Rattle.jxlm_ma.specs.TreeReading.{with_clusters, leaf_count, children, through, node_at, nodes_at, drafts_at, listing_at, limit_error, max_nodes, IsTooDeep, IsTreeAt}
 use Rattle.jxlm_ma.specs.declared.flat.Leaf.{Leaf}
 use Rattle.jxlm_ma.proofs.Memory.{own_so}
 use Rattle.jxlm_ma.proofs.Listing.{Lists, lists-levels, levels-injective}
@@ -52,14 +52,14 @@ forest (decision_node k v ∷ ns) (suc m) h =
     record { trees = decision k v last.0 last.1 ∷ ts; count = ap suc front; lists = ((refl, refl), subst (λ xs. Lists xs ns) whole f.lists) }
 
 -- a tree has one leaf more than decisions, and so each of n
-pub leaves_and_decisions : (ns : List (Node Draft)) (n : ℕ) → ListsTrees n ns → leaf_count ns + leaf_count ns ≡ length ns + n
+pub leaves_and_decisions : (ns : List (Node Leaf)) (n : ℕ) → ListsTrees n ns → leaf_count ns + leaf_count ns ≡ length ns + n
 leaves_and_decisions [] zero h = refl
 leaves_and_decisions (n ∷ ns) zero h = absurd h
 leaves_and_decisions [] (suc m) h = absurd h
 leaves_and_decisions (leaf_node l ∷ ns) (suc m) h = omega (arith, leaves_and_decisions ns m h)
 leaves_and_decisions (decision_node k v ∷ ns) (suc m) h = omega (arith, leaves_and_decisions ns (m + 2) h)
 
-clusters_close : (clusters : List ℕ) (k : ℕ) (ns : List (Node Draft)) (n : ℕ) → ListsTrees n ns → ListsTrees n (with_clusters clusters k ns)
+clusters_close : (clusters : List ℕ) (k : ℕ) (ns : List (Node Leaf)) (n : ℕ) → ListsTrees n ns → ListsTrees n (with_clusters clusters k ns)
 clusters_close clusters k [] zero h = h
 clusters_close clusters k (n ∷ ns) zero h = absurd h
 clusters_close clusters k [] (suc m) h = absurd h
@@ -74,15 +74,15 @@ single {L} ns f = of_list f.trees f.count f.lists where
   of_list (t ∷ (u ∷ ts)) h l = absurd (omega (arith, h))
 
 -- the tree that nodes make, whatever clusters its leaves get
-pub tree_of_listing : (clusters : List ℕ) (ns : List (Node Draft)) → ListsTrees 1 ns → (t : Shape Leaf) × (levels t ≡ with_clusters clusters 0 ns)
+pub tree_of_listing : (clusters : List ℕ) (ns : List (Node Leaf)) → ListsTrees 1 ns → (t : Shape Leaf) × (levels t ≡ with_clusters clusters 0 ns)
 tree_of_listing clusters ns h = single (with_clusters clusters 0 ns) (forest (with_clusters clusters 0 ns) 1 (clusters_close clusters 0 ns 1 h))
 
-children_close : (node : Node Draft) (ns : List (Node Draft)) (m : ℕ) → ListsTrees (m + children node) ns → ListsTrees (suc m) (node ∷ ns)
+children_close : (node : Node Leaf) (ns : List (Node Leaf)) (m : ℕ) → ListsTrees (m + children node) ns → ListsTrees (suc m) (node ∷ ns)
 children_close (leaf_node l) ns m h = let e : m + 0 ≡ m = omega arith in rw e at h
 children_close (decision_node k v) ns m h = h
 
 module _ {S : Type 0} (d : Meaning S) (bytes : List ℕ) where
-  nodes_close : (limit : ErrorKind) (room missing : ℕ) (s : S) (p : ℕ) (x : Taken (List (Node Draft)) S) → nodes_at d bytes limit room missing s p ≡ Ok x → ListsTrees missing x.value
+  nodes_close : (limit : ErrorKind) (room missing : ℕ) (s : S) (p : ℕ) (x : Taken (List (Node Leaf)) S) → nodes_at d bytes limit room missing s p ≡ Ok x → ListsTrees missing x.value
   unfolding nodes_at
   nodes_close limit zero zero s p x h = rw (same _ _ _ refl h) tt
   nodes_close limit zero (suc missing) s p x h = cc
@@ -92,7 +92,7 @@ module _ {S : Type 0} (d : Meaning S) (bytes : List ℕ) where
       let b = bind_ok (nodes_at d bytes limit room (missing + children a.0.value) a.0.state a.0.position) _ x a.2 in
       rw (same _ _ _ refl b.2) (children_close a.0.value b.0.value missing (nodes_close limit room (missing + children a.0.value) a.0.state a.0.position b.0 b.1))
 
-  pub drafts_close : (node_limit : ℕ) (s : S) (p : ℕ) (x : Found (List (Node Draft))) → drafts_at d bytes node_limit s p ≡ Ok x → ListsTrees 1 x.value
+  pub drafts_close : (node_limit : ℕ) (s : S) (p : ℕ) (x : Found (List (Node Leaf))) → drafts_at d bytes node_limit s p ≡ Ok x → ListsTrees 1 x.value
   unfolding drafts_at
   drafts_close node_limit s p x h =
       let rest = passed (is_endless d s) _ _ x h in

@@ -8,7 +8,7 @@ use Rattle.jxlm_ma.specs.Inner.Building.{leaves_in}
 use Rattle.jxlm_ma.specs.Inner.DraftReading.{AllDrafts, IsDraft}
 use Rattle.jxlm_ma.specs.Inner.Queue.{HasTooDeep, IsErrorInQueue, IsTooDeepListing, ListsTooDeep, deepest, taken_up}
 use Rattle.jxlm_ma.specs.Tree.{AllLeaves, Shape, leaf, decision, Node, leaf_node, decision_node, depth, levels, node_count}
-use Rattle.jxlm_ma.specs.TreeReading.{Draft, IsLeafOf, leaf_count, with_clusters}
+use Rattle.jxlm_ma.specs.TreeReading.{IsLeafOf, leaf_count, with_clusters}
 use Rattle.jxlm_ma.specs.declared.flat.Leaf.{Leaf}
 use Rattle.jxlm_ma.proofs.Listing.{Lists, queue_of, queue_of-levels, queue_of-lists}
 use Rattle.jxlm_ma.proofs.Memory.{or_so}
@@ -68,12 +68,12 @@ module _ {L : Type 0} where
   levels-leaves P t all = (leaves_of_listed P (levels t) (t ∷ []) (listed t) all).0
 
 module _ (clusters : List ℕ) where
-  pub with_clusters-length : (k : ℕ) (ns : List (Node Draft)) → length (with_clusters clusters k ns) ≡ length ns
+  pub with_clusters-length : (k : ℕ) (ns : List (Node Leaf)) → length (with_clusters clusters k ns) ≡ length ns
   with_clusters-length k [] = refl
   with_clusters-length k (leaf_node l ∷ ns) = ap suc (with_clusters-length (suc k) ns)
   with_clusters-length k (decision_node p v ∷ ns) = ap suc (with_clusters-length k ns)
 
-  clustered : (k : ℕ) (ns : List (Node Draft)) → k + leaf_count ns ≤ length clusters → AllDrafts ns → AllListed (IsLeafOf clusters) (with_clusters clusters k ns)
+  clustered : (k : ℕ) (ns : List (Node Leaf)) → k + leaf_count ns ≤ length clusters → AllDrafts ns → AllListed (IsLeafOf clusters) (with_clusters clusters k ns)
   clustered k [] h all = tt
   clustered k (leaf_node l ∷ ns) h all =
       let d : IsDraft l = all.0 in (
@@ -83,15 +83,15 @@ module _ (clusters : List ℕ) where
   clustered k (decision_node p v ∷ ns) h all = clustered k ns h all.1
 
   -- each leaf of a tree that was read is one of its decoder
-  pub leaves_are : (t : Shape Leaf) (ns : List (Node Draft)) → levels t ≡ with_clusters clusters 0 ns → leaf_count ns ≤ length clusters → AllDrafts ns → AllLeaves (IsLeafOf clusters) t
+  pub leaves_are : (t : Shape Leaf) (ns : List (Node Leaf)) → levels t ≡ with_clusters clusters 0 ns → leaf_count ns ≤ length clusters → AllDrafts ns → AllLeaves (IsLeafOf clusters) t
   leaves_are t ns e h all = levels-leaves (IsLeafOf clusters) t (subst (AllListed (IsLeafOf clusters)) (sym e) (clustered 0 ns (omega (arith, h)) all))
 
-  pub count_is : (t : Shape Leaf) (ns : List (Node Draft)) → levels t ≡ with_clusters clusters 0 ns → node_count t ≡ length ns
+  pub count_is : (t : Shape Leaf) (ns : List (Node Leaf)) → levels t ≡ with_clusters clusters 0 ns → node_count t ≡ length ns
   count_is t ns e = sym (levels-count t) ∙ ap length e ∙ with_clusters-length 0 ns
 
   -- ---- from the end of the listing
 
-  with_clusters-append : (k : ℕ) (xs ys : List (Node Draft)) → with_clusters clusters k (xs ++ ys) ≡ with_clusters clusters k xs ++ with_clusters clusters (k + leaf_count xs) ys
+  with_clusters-append : (k : ℕ) (xs ys : List (Node Leaf)) → with_clusters clusters k (xs ++ ys) ≡ with_clusters clusters k xs ++ with_clusters clusters (k + leaf_count xs) ys
   with_clusters-append k [] ys = let none : k + 0 ≡ k = omega arith in sym (ap (λ i. with_clusters clusters i ys) none)
   with_clusters-append k (leaf_node l ∷ xs) ys =
       let more : k + suc (leaf_count xs) ≡ suc k + leaf_count xs = omega arith in
@@ -99,13 +99,13 @@ module _ (clusters : List ℕ) where
   with_clusters-append k (decision_node p v ∷ xs) ys = ap (λ (ns : List (Node Leaf)). decision_node p v ∷ ns) (with_clusters-append k xs ys)
 
   -- how a queue is when a node has been taken up, where the whole listing is that of t
-  pub record TakenUp (t : Shape Leaf) (front rest : List (Node Draft)) (n : Node Draft) (listed_node : Node Leaf) (trees : List (Shape Leaf)) : Type 0 where
+  pub record TakenUp (t : Shape Leaf) (front rest : List (Node Leaf)) (n : Node Leaf) (listed_node : Node Leaf) (trees : List (Shape Leaf)) : Type 0 where
     pub queue : List (Shape Leaf)
     pub taken : taken_up listed_node trees ≡ Some queue
     pub stands : queue_of (with_clusters clusters (leaf_count front) (n ∷ rest)) ≡ Some queue
     pub shallow : deepest queue ≤ depth t
 
-  pub is_taken_up : (t : Shape Leaf) (ns front rest : List (Node Draft)) (n : Node Draft) (listed_node : Node Leaf) (k : ℕ) (trees : List (Shape Leaf)) → levels t ≡ with_clusters clusters 0 ns → ns ≡ front ++ n ∷ rest →
+  pub is_taken_up : (t : Shape Leaf) (ns front rest : List (Node Leaf)) (n : Node Leaf) (listed_node : Node Leaf) (k : ℕ) (trees : List (Shape Leaf)) → levels t ≡ with_clusters clusters 0 ns → ns ≡ front ++ n ∷ rest →
       with_clusters clusters (leaf_count front) (n ∷ rest) ≡ listed_node ∷ with_clusters clusters k rest → queue_of (with_clusters clusters k rest) ≡ Some trees → TakenUp t front rest n listed_node trees
   is_taken_up t ns front rest n listed_node k trees e split numbered stands =
       let from_zero : leaf_count front ≡ 0 + leaf_count front = omega arith in
@@ -125,33 +125,33 @@ module _ (clusters : List ℕ) where
       IsErrorInQueue limit queue error → IsTooDeepListing limit ns error
   too_deep_in_tree limit t ns queue q error e is h failed = let now = rw is at failed in or_so (too_deep_whole limit t ns q error e h) now
 
-leaf_count-append : (xs ys : List (Node Draft)) → leaf_count (xs ++ ys) ≡ leaf_count xs + leaf_count ys
+leaf_count-append : (xs ys : List (Node Leaf)) → leaf_count (xs ++ ys) ≡ leaf_count xs + leaf_count ys
 leaf_count-append [] ys = omega arith
 leaf_count-append (leaf_node l ∷ xs) ys = omega (arith, leaf_count-append xs ys)
 leaf_count-append (decision_node p v ∷ xs) ys = leaf_count-append xs ys
 
-pub leaf_count-last : (ns : List (Node Draft)) (n : Node Draft) → leaf_count (ns ++ n ∷ []) ≡ leaf_count ns + leaves_in n
+pub leaf_count-last : (ns : List (Node Leaf)) (n : Node Leaf) → leaf_count (ns ++ n ∷ []) ≡ leaf_count ns + leaves_in n
 leaf_count-last [] (leaf_node l) = refl
 leaf_count-last [] (decision_node p v) = refl
 leaf_count-last (leaf_node l ∷ ns) n = omega (arith, leaf_count-last ns n)
 leaf_count-last (decision_node p v ∷ ns) n = leaf_count-last ns n
 
 -- one node from the end of what is left comes before what was taken
-pub split_at : (ns left front rest : List (Node Draft)) (n : Node Draft) → ns ≡ left ++ rest → left ≡ front ++ n ∷ [] → ns ≡ front ++ n ∷ rest
+pub split_at : (ns left front rest : List (Node Leaf)) (n : Node Leaf) → ns ≡ left ++ rest → left ≡ front ++ n ∷ [] → ns ≡ front ++ n ∷ rest
 split_at ns left front rest n whole last = whole ∙ ap (λ xs. xs ++ rest) last ∙ append_assoc front (n ∷ []) rest
 
-pub place_is : (left front : List (Node Draft)) (n : Node Draft) (k less : ℕ) → left ≡ front ++ n ∷ [] → k ≡ leaf_count left → k ≡ less + leaves_in n → less ≡ leaf_count front
+pub place_is : (left front : List (Node Leaf)) (n : Node Leaf) (k less : ℕ) → left ≡ front ++ n ∷ [] → k ≡ leaf_count left → k ≡ less + leaves_in n → less ≡ leaf_count front
 place_is left front n k less last numbered step = omega (arith, ap leaf_count last, leaf_count-last front n, numbered, step)
 
-pub some_left : (left front : List (Node Draft)) (n : Node Draft) (k : ℕ) → left ≡ front ++ n ∷ [] → k ≡ leaf_count left → leaves_in n ≤ k
+pub some_left : (left front : List (Node Leaf)) (n : Node Leaf) (k : ℕ) → left ≡ front ++ n ∷ [] → k ≡ leaf_count left → leaves_in n ≤ k
 some_left left front n k last numbered = omega (arith, ap leaf_count last, leaf_count-last front n, numbered)
 
 -- no more leaves are left than there are
-pub fewer_left : (ns left rest : List (Node Draft)) (clusters : List ℕ) (k : ℕ) → ns ≡ left ++ rest → k ≡ leaf_count left → length clusters ≡ leaf_count ns → k ≤ length clusters
+pub fewer_left : (ns left rest : List (Node Leaf)) (clusters : List ℕ) (k : ℕ) → ns ≡ left ++ rest → k ≡ leaf_count left → length clusters ≡ leaf_count ns → k ≤ length clusters
 fewer_left ns left rest clusters k whole numbered all = omega (arith, ap leaf_count whole, leaf_count-append left rest, numbered, all)
 
 -- where all nodes are taken up, the queue has the one tree
-one_tree_left : (clusters : List ℕ) (t : Shape Leaf) (ns left rest : List (Node Draft)) (k : ℕ) (trees : List (Shape Leaf)) → levels t ≡ with_clusters clusters 0 ns → ns ≡ left ++ rest → left ≡ [] → k ≡ leaf_count left →
+one_tree_left : (clusters : List ℕ) (t : Shape Leaf) (ns left rest : List (Node Leaf)) (k : ℕ) (trees : List (Shape Leaf)) → levels t ≡ with_clusters clusters 0 ns → ns ≡ left ++ rest → left ≡ [] → k ≡ leaf_count left →
     queue_of (with_clusters clusters k rest) ≡ Some trees → trees ≡ t ∷ []
 one_tree_left clusters t ns left rest k trees e whole none numbered stands =
     let all : ns ≡ rest = whole ∙ ap (λ xs. xs ++ rest) none in
@@ -164,6 +164,6 @@ pub nothing_left : {X : Type 0} (xs : List X) → (0 < length xs → false ≡ t
 nothing_left [] h = refl
 nothing_left (x ∷ xs) h = let wrong = h (omega arith) in cc
 
-pub whole_taken : {X : Type 0} (f : X → Node Draft) (clusters : List ℕ) (t : Shape Leaf) (ns : List (Node Draft)) (left : List X) (rest : List (Node Draft)) (k : ℕ) (trees : List (Shape Leaf)) →
+pub whole_taken : {X : Type 0} (f : X → Node Leaf) (clusters : List ℕ) (t : Shape Leaf) (ns : List (Node Leaf)) (left : List X) (rest : List (Node Leaf)) (k : ℕ) (trees : List (Shape Leaf)) →
     levels t ≡ with_clusters clusters 0 ns → (0 < length left → false ≡ true) → ns ≡ map f left ++ rest → k ≡ leaf_count (map f left) → queue_of (with_clusters clusters k rest) ≡ Some trees → trees ≡ t ∷ []
 whole_taken f clusters t ns left rest k trees e none whole numbered stands = one_tree_left clusters t ns (map f left) rest k trees e whole (ap (map f) (nothing_left left none)) numbered stands

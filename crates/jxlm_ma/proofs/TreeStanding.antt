@@ -13,7 +13,7 @@ use Rattle.jxlm_base.specs.declared.decoder.DecoderError.{DecoderError}
 use Rattle.jxlm_ma.specs.Inner.DraftReading.{ListsTrees, is_endless}
 use Rattle.jxlm_tree.specs.Predictions.{predictors}
 use Rattle.jxlm_ma.specs.Tree.{Shape, leaf, decision, Node, Config, config_of, leaf_node, decision_node, levels, node_count}
-use Rattle.jxlm_ma.specs.TreeReading.{Draft, IsTreeAt, children, drafts_at, leaf_at, leaf_count, limit_error, listing_at, max_nodes, multiplier_at, node_at, nodes_at, predictor_at, read_context, through, with_clusters}
+use Rattle.jxlm_ma.specs.TreeReading.{IsTreeAt, children, drafts_at, leaf_at, leaf_count, limit_error, listing_at, max_nodes, multiplier_at, node_at, nodes_at, predictor_at, read_context, through, with_clusters}
 use Rattle.jxlm_ma.specs.TreeStands.{LeafStands, NodeStands, NodesStand, TokenStands, OneTreeStands, TreeStands, TreesAreReadExactly, leaf_clusters}
 use Rattle.jxlm_ma.specs.declared.flat.Leaf.{Leaf}
 use Rattle.jxlm_tree.specs.declared.predictor.Predictor.{Predictor}
@@ -34,7 +34,7 @@ abbrev cursor : {S : Type 0} → S → ℕ → Found S
 cursor s p = record { value = s; position = p }
 
 -- a leaf with a cluster
-abbrev in_cluster : ℕ → Draft → Leaf
+abbrev in_cluster : ℕ → Leaf → Leaf
 in_cluster c l = record { cluster = c; predictor = l.predictor; offset = l.offset; multiplier = l.multiplier }
 
 -- the predictor of a number, or the error of a number that names none
@@ -48,14 +48,14 @@ predictor_is number p x h = of (slice_get predictors number) refl where
   of None e = let k = rw e at h in cc
 
 -- the same leaf without it
-abbrev draft : Leaf → Draft
-draft l = record { predictor = l.predictor; offset = l.offset; multiplier = l.multiplier }
+abbrev draft : Leaf → Leaf
+draft l = record { cluster = 0; predictor = l.predictor; offset = l.offset; multiplier = l.multiplier }
 
-abbrev draft_node : Node Leaf → Node Draft
+abbrev draft_node : Node Leaf → Node Leaf
 draft_node (leaf_node l) = leaf_node (draft l)
 draft_node (decision_node property value) = decision_node property value
 
-abbrev drafts_of : List (Node Leaf) → List (Node Draft)
+abbrev drafts_of : List (Node Leaf) → List (Node Leaf)
 drafts_of [] = []
 drafts_of (n ∷ ns) = draft_node n ∷ drafts_of ns
 
@@ -73,7 +73,7 @@ token_of (Err e) = 0
 
 -- ---- clusters and counts
 
-clusters_back : (clusters : List ℕ) (k : ℕ) (ns : List (Node Draft)) → length clusters ≡ k + leaf_count ns → leaf_clusters (with_clusters clusters k ns) ≡ drop k clusters
+clusters_back : (clusters : List ℕ) (k : ℕ) (ns : List (Node Leaf)) → length clusters ≡ k + leaf_count ns → leaf_clusters (with_clusters clusters k ns) ≡ drop k clusters
 clusters_back clusters k [] h = sym (drop_of_length-le clusters (omega (arith, h)))
 clusters_back clusters k (leaf_node l ∷ ns) h =
     ap (λ (cs : List ℕ). slice_index clusters k ∷ cs) (clusters_back clusters (suc k) ns (omega (arith, h))) ∙ sym (drop-cons clusters k 0 (omega (arith, h)))
@@ -172,7 +172,7 @@ module _ {S : Type 0} (d : Meaning S) (bytes : List ℕ) where
         below = multiplier_below log.value small factor.value within;
       })))
 
-  leaf_there : (c : ℕ) (s : S) (p : ℕ) (x : Taken Draft S) → leaf_at d bytes s p ≡ Ok x → LeafStands d bytes (cursor s p) (in_cluster c x.value) (cursor x.state x.position)
+  leaf_there : (c : ℕ) (s : S) (p : ℕ) (x : Taken Leaf S) → leaf_at d bytes s p ≡ Ok x → LeafStands d bytes (cursor s p) (in_cluster c x.value) (cursor x.state x.position)
   unfolding leaf_at
   leaf_there c s p x h =
       bind_then (predictor_at d bytes s p) _ x h (λ a first rest.
@@ -199,11 +199,11 @@ module _ {S : Type 0} (d : Meaning S) (bytes : List ℕ) where
       }))))
 
   -- a node, whatever the cluster of its leaf
-  abbrev DraftStands : Found S → Node Draft → Found S → Type 0
+  abbrev DraftStands : Found S → Node Leaf → Found S → Type 0
   DraftStands a (leaf_node l) b = (c : ℕ) → NodeStands d bytes a (leaf_node (in_cluster c l)) b
   DraftStands a (decision_node property value) b = NodeStands d bytes a (decision_node property value) b
 
-  of_kind_there : (token : ℕ) (t : S) (q : ℕ) (s : S) (p : ℕ) (x : Taken (Node Draft) S) → read_context d bytes 1 s p ≡ Ok (record { value = token; state = t; position = q }) →
+  of_kind_there : (token : ℕ) (t : S) (q : ℕ) (s : S) (p : ℕ) (x : Taken (Node Leaf) S) → read_context d bytes 1 s p ≡ Ok (record { value = token; state = t; position = q }) →
       node_at d bytes s p ≡ Ok x → DraftStands (cursor s p) x.value (cursor x.state x.position)
   unfolding node_at
   of_kind_there zero t q s p x e h =
@@ -215,17 +215,17 @@ module _ {S : Type 0} (d : Meaning S) (bytes : List ℕ) where
       bind_then (read_context d bytes 0 t q) _ x k (λ value is ends.
       rw (same _ _ _ refl ends) (cursor t q, value.value, token_there 1 s p _ e, token_there 0 t q value is, refl))
 
-  node_there : (s : S) (p : ℕ) (x : Taken (Node Draft) S) → node_at d bytes s p ≡ Ok x → DraftStands (cursor s p) x.value (cursor x.state x.position)
+  node_there : (s : S) (p : ℕ) (x : Taken (Node Leaf) S) → node_at d bytes s p ≡ Ok x → DraftStands (cursor s p) x.value (cursor x.state x.position)
   unfolding node_at
   node_there s p x h =
       bind_then (read_context d bytes 1 s p) _ x h (λ kind is rest. of_kind_there kind.value kind.state kind.position s p x is h)
 
-  prepended : (clusters : List ℕ) (n : Node Draft) (ns : List (Node Draft)) (a m b : Found S) → DraftStands a n m → ((k : ℕ) → NodesStand d bytes m (with_clusters clusters k ns) b) →
+  prepended : (clusters : List ℕ) (n : Node Leaf) (ns : List (Node Leaf)) (a m b : Found S) → DraftStands a n m → ((k : ℕ) → NodesStand d bytes m (with_clusters clusters k ns) b) →
       (k : ℕ) → NodesStand d bytes a (with_clusters clusters k (n ∷ ns)) b
   prepended clusters (leaf_node l) ns a m b first rest k = (m, first (slice_index clusters k), rest (suc k))
   prepended clusters (decision_node property value) ns a m b first rest k = (m, first, rest k)
 
-  nodes_there : (clusters : List ℕ) (limit : ErrorKind) (room missing : ℕ) (s : S) (p : ℕ) (x : Taken (List (Node Draft)) S) → nodes_at d bytes limit room missing s p ≡ Ok x →
+  nodes_there : (clusters : List ℕ) (limit : ErrorKind) (room missing : ℕ) (s : S) (p : ℕ) (x : Taken (List (Node Leaf)) S) → nodes_at d bytes limit room missing s p ≡ Ok x →
       (k : ℕ) → NodesStand d bytes (cursor s p) (with_clusters clusters k x.value) (cursor x.state x.position)
   unfolding nodes_at
   nodes_there clusters limit zero zero s p x h = rw (same _ _ _ refl h) (λ k. refl)
@@ -238,7 +238,7 @@ module _ {S : Type 0} (d : Meaning S) (bytes : List ℕ) where
       (prepended clusters n.value ns.value (cursor s p) (cursor n.state n.position) (cursor ns.state ns.position) (node_there s p n is) (nodes_there clusters limit room (missing + children n.value) n.state n.position ns are))))
 
   -- no more than there is room for
-  nodes_few : (limit : ErrorKind) (room missing : ℕ) (s : S) (p : ℕ) (x : Taken (List (Node Draft)) S) → nodes_at d bytes limit room missing s p ≡ Ok x → length x.value ≤ room
+  nodes_few : (limit : ErrorKind) (room missing : ℕ) (s : S) (p : ℕ) (x : Taken (List (Node Leaf)) S) → nodes_at d bytes limit room missing s p ≡ Ok x → length x.value ≤ room
   unfolding nodes_at
   nodes_few limit zero zero s p x h = rw (same _ _ _ refl h) (omega arith)
   nodes_few limit zero (suc missing) s p x h = cc
@@ -249,7 +249,7 @@ module _ {S : Type 0} (d : Meaning S) (bytes : List ℕ) where
       rw (same _ _ _ refl ends) (let few = nodes_few limit room (missing + children n.value) n.state n.position ns are in omega (arith, few))))
 
   -- the nodes that were read, whatever the clusters of their leaves
-  record DraftsStand (node_limit : ℕ) (decoder : Found S) (ns : List (Node Draft)) (q : ℕ) : Type 0 where
+  record DraftsStand (node_limit : ℕ) (decoder : Found S) (ns : List (Node Leaf)) (q : ℕ) : Type 0 where
     first : Found S
     begins : d.begin decoder.value bytes decoder.position ≡ Ok first
     last : S
@@ -257,7 +257,7 @@ module _ {S : Type 0} (d : Meaning S) (bytes : List ℕ) where
     ends : d.finalize last ≡ Ok tt
     few : length ns ≤ max_nodes node_limit
 
-  drafts_there : (node_limit : ℕ) (s : S) (p : ℕ) (x : Found (List (Node Draft))) → drafts_at d bytes node_limit s p ≡ Ok x → DraftsStand node_limit (cursor s p) x.value x.position
+  drafts_there : (node_limit : ℕ) (s : S) (p : ℕ) (x : Found (List (Node Leaf))) → drafts_at d bytes node_limit s p ≡ Ok x → DraftsStand node_limit (cursor s p) x.value x.position
   unfolding drafts_at
   drafts_there node_limit s p x h =
       let limit = limit_error node_limit in

@@ -1,5 +1,5 @@
 -- How a tree is read (ISO/IEC 18181-1, Modular: decoding of meta-adaptive trees), by what a decoder means.
-use Rattle.std.specs.Prelude.{◌≡◌, ℕ, zero, suc, ◌+◌, ◌-◌, ◌*◌, ◌^◌, ◌<◌, ◌≤◌, ◌⊎◌, min, nat_lt, if◌then◌else◌, ℤ, FitsSigned, List, [], ◌∷◌, slice_get, slice_index, Contains, Option, None, Some, Result, Ok, Err, IsOk, codes, unwrap_or, ok_or}
+use Rattle.std.specs.Prelude.{◌≡◌, ℕ, zero, suc, ◌+◌, ◌-◌, ◌*◌, ◌^◌, ◌<◌, ◌≤◌, ◌⊎◌, min, nat_lt, if◌then◌else◌, FitsSigned, List, [], ◌∷◌, slice_get, slice_index, Contains, Option, None, Some, Result, Ok, Err, IsOk, codes, unwrap_or, ok_or}
 use Rattle.std.specs.Int.{w32}
 use Rattle.std.specs.Result.{result_map_both}
 use Rattle.jxlm_base.specs.Decoding.{Found, Taken, Meaning}
@@ -21,30 +21,20 @@ error_at_bit p error = Err (record { error = error; position = Some p })
 abbrev pub through : {X : Type 0} → Option ℕ → Result X DecoderError → Result X ErrorAt
 through place = result_map_both (λ x. x) (λ e. record { error = OfDecoder e; position = place })
 
--- what is read of a leaf: all but its cluster
-pub record Draft : Type 0 where
-  pub predictor : Predictor
-  pub offset : ℤ
-  pub multiplier : ℕ
-
--- the leaf with its cluster
-abbrev pub in_cluster : Draft → ℕ → Leaf
-in_cluster l cluster = record { cluster = cluster; predictor = l.predictor; offset = l.offset; multiplier = l.multiplier }
-
--- The leaves, numbered from k on in their order, have the clusters of their numbers.
-abbrev pub with_clusters : List ℕ → ℕ → List (Node Draft) → List (Node Leaf)
+-- The leaves, numbered from k on in their order, have the clusters of their numbers. They are read without one, as 0.
+abbrev pub with_clusters : List ℕ → ℕ → List (Node Leaf) → List (Node Leaf)
 with_clusters clusters k [] = []
 with_clusters clusters k (decision_node property value ∷ rest) = decision_node property value ∷ with_clusters clusters k rest
-with_clusters clusters k (leaf_node l ∷ rest) = leaf_node (in_cluster l (slice_index clusters k)) ∷ with_clusters clusters (suc k) rest
+with_clusters clusters k (leaf_node l ∷ rest) = leaf_node (record l { cluster = slice_index clusters k }) ∷ with_clusters clusters (suc k) rest
 
 -- how many leaves there are
-abbrev pub leaf_count : List (Node Draft) → ℕ
+abbrev pub leaf_count : List (Node Leaf) → ℕ
 leaf_count [] = 0
 leaf_count (decision_node k value ∷ rest) = leaf_count rest
 leaf_count (leaf_node l ∷ rest) = suc (leaf_count rest)
 
 -- how many nodes a node calls for after it
-abbrev pub children : Node Draft → ℕ
+abbrev pub children : Node Leaf → ℕ
 children (leaf_node l) = 0
 children (decision_node k value) = 2
 
@@ -89,22 +79,22 @@ module _ {S : Type 0} (d : Meaning S) (bytes : List ℕ) where
       if nat_lt (2 ^ (31 - log.value) - 2) factor.value then error_at_bit factor.position BadTree else
           Ok (record { value = (factor.value + 1) * 2 ^ log.value; state = factor.state; position = factor.position }))
 
-  -- a leaf: predictor, offset and multiplier
-  unfoldable pub leaf_at : S → ℕ → Result (Taken Draft S) ErrorAt
+  -- a leaf: predictor, offset and multiplier; its cluster comes later
+  unfoldable pub leaf_at : S → ℕ → Result (Taken Leaf S) ErrorAt
   leaf_at s p = do
     predictor ← predictor_at s p
     offset ← read_context 3 predictor.state predictor.position
     multiplier ← multiplier_at offset.state offset.position
-    let l : Draft = record { predictor = predictor.value; offset = unpack offset.value; multiplier = multiplier.value }
+    let l : Leaf = record { cluster = 0; predictor = predictor.value; offset = unpack offset.value; multiplier = multiplier.value }
     Ok (record { value = l; state = multiplier.state; position = multiplier.position })
 
   -- a node: 0 comes before a leaf, and k + 1 before a decision on property k, which its value follows
-  unfoldable pub node_at : S → ℕ → Result (Taken (Node Draft) S) ErrorAt
+  unfoldable pub node_at : S → ℕ → Result (Taken (Node Leaf) S) ErrorAt
   node_at s p = do
     kind ← read_context 1 s p
     of_kind kind.value kind.state kind.position
     where
-      of_kind : ℕ → S → ℕ → Result (Taken (Node Draft) S) ErrorAt
+      of_kind : ℕ → S → ℕ → Result (Taken (Node Leaf) S) ErrorAt
       of_kind zero s p = do
         read ← leaf_at s p
         Ok (record { value = leaf_node read.value; state = read.state; position = read.position })
@@ -113,7 +103,7 @@ module _ {S : Type 0} (d : Meaning S) (bytes : List ℕ) where
         Ok (record { value = decision_node k (unpack value.value); state = value.state; position = value.position })
 
   -- `missing` nodes, and those that they call for, of which `room` may be read; one more is the error `limit`
-  unfoldable pub nodes_at : ErrorKind → ℕ → ℕ → S → ℕ → Result (Taken (List (Node Draft)) S) ErrorAt
+  unfoldable pub nodes_at : ErrorKind → ℕ → ℕ → S → ℕ → Result (Taken (List (Node Leaf)) S) ErrorAt
   nodes_at limit room zero s p = Ok (record { value = []; state = s; position = p })
   nodes_at limit zero (suc missing) s p = error_at_bit p limit
   nodes_at limit (suc room) (suc missing) s p = do
@@ -122,7 +112,7 @@ module _ {S : Type 0} (d : Meaning S) (bytes : List ℕ) where
     Ok (record { value = first.value ∷ others.value; state = others.state; position = others.position })
 
   -- the nodes of a tree by a decoder before its tokens; if nodes begin with a single token, not 0, none is a leaf
-  unfoldable pub drafts_at : ℕ → S → ℕ → Result (Found (List (Node Draft))) ErrorAt
+  unfoldable pub drafts_at : ℕ → S → ℕ → Result (Found (List (Node Leaf))) ErrorAt
   drafts_at node_limit s p =
       let single = d.single_token s (slice_index (d.cluster_map s) 1) in
       if nat_lt 0 (unwrap_or single 0) then error_at_bit p BadTree else (do

@@ -6,8 +6,9 @@ ghost use Rattle.jxlm_ma.specs.Inner.Building.{leaves_in, listed_of, listing_wit
 ghost use Rattle.jxlm_ma.specs.Inner.DraftReading.{AllDrafts, ListsTrees, node_of};
 ghost use Rattle.jxlm_ma.specs.Inner.Queue.{IsErrorInQueue, IsTooDeepListing, deepest};
 ghost use Rattle.jxlm_ma.specs.Tree.{AllLeaves, Node, levels, node_count};
-ghost use Rattle.jxlm_ma.specs.TreeReading.{Draft as DraftLeaf, IsLeafOf, leaf_count, with_clusters};
+ghost use Rattle.jxlm_ma.specs.TreeReading.{IsLeafOf, leaf_count, with_clusters};
 ghost use Rattle.jxlm_ma.specs.Inner.TreeShape.{shape_of};
+ghost use Rattle.jxlm_ma.specs.declared.flat.Leaf.{Leaf};
 
 use crate::flat::Leaf;
 use crate::nodes::DraftNode;
@@ -28,7 +29,7 @@ pub enum ListedNode {
 fn numbered(node: DraftNode, clusters: &[u8], unnumbered: &mut usize) -> ListedNode
     requires some { leaves_in (node_of node) ≤ unnumbered.old }
     requires within { unnumbered.old ≤ length clusters.now }
-    ensures node { (ns : List (Node DraftLeaf)) → with_clusters clusters.now unnumbered.new (node_of node ∷ ns)
+    ensures node { (ns : List (Node Leaf)) → with_clusters clusters.now unnumbered.new (node_of node ∷ ns)
         ≡ listed_of result ∷ with_clusters clusters.now unnumbered.old ns }
     ensures left { unnumbered.old ≡ unnumbered.new + leaves_in (node_of node) }
 {

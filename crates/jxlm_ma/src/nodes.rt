@@ -4,7 +4,7 @@ ghost use Rattle.std.specs.Prelude.{◌≡◌, ◌≤◌, ◌<◌, ◌^◌, leng
 ghost use Rattle.jxlm_base.specs.Bits.{bytes_of};
 ghost use Rattle.jxlm_base.specs.ErrorKind.{kind_of};
 ghost use Rattle.jxlm_ma.specs.Inner.DraftReading.{AllDrafts, IsDraft, IsDraftNode, ListGives, ListsTrees, StepGives, StepsGive, draft_of, is_endless as has_no_end, node_of};
-ghost use Rattle.jxlm_ma.specs.TreeReading.{children as children_of, drafts_at, in_cluster, leaf_at, limit_error, max_nodes, multiplier_at, node_at, nodes_at, predictor_at, read_context as token_of};
+ghost use Rattle.jxlm_ma.specs.TreeReading.{children as children_of, drafts_at, leaf_at, limit_error, max_nodes, multiplier_at, node_at, nodes_at, predictor_at, read_context as token_of};
 
 use crate::flat::Leaf;
 use jxlm_base::bits::{Bitstream, BitstreamError};
@@ -29,7 +29,7 @@ pub struct Draft {
 impl Draft {
     /// The leaf, with this cluster.
     pub fn in_cluster(self, cluster: u8) -> Leaf
-        ensures { result ≡ in_cluster (draft_of self) cluster }
+        ensures { result ≡ record (draft_of self) { cluster = cluster } }
     {
         Leaf {
             cluster,

@@ -1,7 +1,7 @@
 -- The program's nodes and trees while a tree is put together, as the definitions have them.
 use Rattle.std.specs.Prelude.{ℕ, ℤ, List, Option, map}
 use Rattle.jxlm_ma.specs.Tree.{Shape, decision, Node, leaf_node, decision_node}
-use Rattle.jxlm_ma.specs.TreeReading.{Draft, with_clusters}
+use Rattle.jxlm_ma.specs.TreeReading.{with_clusters}
 use Rattle.jxlm_ma.specs.Inner.DraftReading.{node_of}
 use Rattle.jxlm_ma.specs.Inner.Queue.{taken_up}
 use Rattle.jxlm_ma.specs.Inner.TreeShape.{shape_of}
@@ -17,7 +17,7 @@ listed_of (node.Leaf l) = leaf_node l
 listed_of (node.Decision property value) = decision_node property value
 
 -- a leaf is one leaf
-abbrev pub leaves_in : Node Draft → ℕ
+abbrev pub leaves_in : Node Leaf → ℕ
 leaves_in (leaf_node l) = 1
 leaves_in (decision_node property value) = 0
 

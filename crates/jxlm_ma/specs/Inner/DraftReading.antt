@@ -8,8 +8,8 @@ use Rattle.jxlm_base.specs.Grammar.{IsErrorAt}
 use Rattle.jxlm_base.specs.declared.bits.Bitstream.{Bitstream}
 use Rattle.jxlm_base.specs.declared.error.Error.{Error}
 use Rattle.jxlm_ma.specs.Tree.{Node, leaf_node, decision_node}
-use Rattle.jxlm_ma.specs.TreeReading as reading
 use Rattle.jxlm_ma.specs.TreeReading.{through}
+use Rattle.jxlm_ma.specs.declared.flat.Leaf.{Leaf}
 use Rattle.jxlm_ma.specs.declared.nodes.Draft.{Draft}
 use Rattle.jxlm_ma.specs.declared.nodes.DraftNode.{DraftNode}
 use Rattle.jxlm_ma.specs.declared.nodes.DraftNode.TheVariants as node
@@ -19,27 +19,27 @@ abbrev pub is_endless : {S : Type 0} → Meaning S → S → Bool
 is_endless d s = nat_lt 0 (unwrap_or (d.single_token s (slice_index (d.cluster_map s) 1)) 0)
 
 -- a leaf without its cluster, as the definitions have it
-abbrev pub draft_of : Draft → reading.Draft
-draft_of x = record { predictor = x.predictor; offset = x.offset; multiplier = x.multiplier }
+abbrev pub draft_of : Draft → Leaf
+draft_of x = record { cluster = 0; predictor = x.predictor; offset = x.offset; multiplier = x.multiplier }
 
 -- the same of a node
-abbrev pub node_of : DraftNode → Node reading.Draft
+abbrev pub node_of : DraftNode → Node Leaf
 node_of (node.Leaf x) = leaf_node (draft_of x)
 node_of (node.Decision property value) = decision_node property value
 
 -- what is known of a leaf that was read
-pub record IsDraft (l : reading.Draft) : Type 0 where
+pub record IsDraft (l : Leaf) : Type 0 where
   pub offset : FitsSigned w32 l.offset
   pub least : 1 ≤ l.multiplier
   pub below : l.multiplier < 2 ^ 31
 
 -- it holds of the node, if that is a leaf
-abbrev pub IsDraftNode : Node reading.Draft → Type 0
+abbrev pub IsDraftNode : Node Leaf → Type 0
 IsDraftNode (leaf_node l) = IsDraft l
 IsDraftNode (decision_node property value) = Unit {0}
 
 -- it holds of each leaf
-abbrev pub AllDrafts : List (Node reading.Draft) → Type 0
+abbrev pub AllDrafts : List (Node Leaf) → Type 0
 AllDrafts [] = Unit {0}
 AllDrafts (n ∷ ns) = IsDraftNode n × AllDrafts ns
 

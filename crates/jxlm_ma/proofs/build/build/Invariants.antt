@@ -3,13 +3,14 @@ use Rattle.jxlm_ma.specs.Inner.Building.{trees_in}
 use Rattle.jxlm_ma.specs.Inner.DraftReading.{node_of}
 use Rattle.jxlm_ma.specs.Inner.Queue.{deepest}
 use Rattle.jxlm_ma.specs.Tree.{Node}
-use Rattle.jxlm_ma.specs.TreeReading.{Draft, leaf_count, with_clusters}
+use Rattle.jxlm_ma.specs.TreeReading.{leaf_count, with_clusters}
+use Rattle.jxlm_ma.specs.declared.flat.Leaf.{Leaf}
 use Rattle.jxlm_ma.proofs.Listing.{queue_of}
 use Rattle.jxlm_ma.proofs.build.build.Given as goal
 
 abbrev pub invariant-loop-node : goal.invariant-loop-node
 invariant-loop-node l = record {
-  rest : List (Node Draft);
+  rest : List (Node Leaf);
   whole : map node_of l.fn.nodes.items ≡ map node_of l.nodes.items ++ rest;
   numbered : l.unnumbered ≡ leaf_count (map node_of l.nodes.items);
   taken : queue_of (with_clusters l.fn.clusters l.unnumbered rest) ≡ Some (trees_in l.queue.items);
