@@ -65,20 +65,8 @@ cluster_at bytes k p = do
   cluster ← number_at bytes p 4
   if nat_lt cluster.value k then Ok cluster else Err (Invalid 1)
 
--- A code: kind, width, and the token of a constant. A constant under runs is Invalid(3) at its kind, a width above 32
--- is Invalid(2).
-unfoldable pub code_at : List ℕ → Bool → ℕ → Result (Found Code) DecoderError
-code_at bytes runs p = do
-  kind ← number_at bytes p 1
-  if runs && (kind.value == 1) then Err (Invalid 3) else (do
-    width ← number_at bytes kind.position 6
-    if nat_lt 32 width.value then Err (Invalid 2) else
-        if kind.value == 1 then (do
-          token ← number_at bytes width.position width.value
-          Ok (record { value = Constant token.value; position = token.position }))
-        else Ok (record { value = Fixed width.value; position = width.position }))
-
--- what follows kind 0, a fixed code, or kind 1, a constant
+-- What follows the kind of a code: its width, and the token of a constant, which is kind 1; kind 0 is a fixed code. A
+-- constant under runs is Invalid(3) at its kind, a width above 32 is Invalid(2).
 unfoldable pub code_after : List ℕ → Bool → Found ℕ → Result (Found Code) DecoderError
 code_after bytes runs kind =
     if runs && (kind.value == 1) then Err (Invalid 3) else (do
@@ -89,6 +77,10 @@ code_after bytes runs kind =
             Ok (record { value = Constant token.value; position = token.position }))
           else Ok (record { value = Fixed width.value; position = width.position }))
 
+-- a code: its kind, of one bit, and what follows it
+unfoldable pub code_at : List ℕ → Bool → ℕ → Result (Found Code) DecoderError
+code_at bytes runs p = number_at bytes p 1 >>= code_after bytes runs
+
 -- A code of the second format: a kind of two bits, where 3 is Invalid(6) and 2 a gamma code, which has no further field;
 -- kinds 0 and 1 go on as in the first format.
 unfoldable pub code2_at : List ℕ → Bool → ℕ → Result (Found Code) DecoderError
@@ -97,23 +89,22 @@ code2_at bytes runs p = do
   if kind.value == 3 then Err (Invalid 6) else
       if kind.value == 2 then Ok (record { value = Gamma; position = kind.position }) else code_after bytes runs kind
 
--- the decoder at a bit position: mode, count of clusters, the cluster of each context, the code of each cluster
-unfoldable pub plain_parse : List ℕ → ℕ → ℕ → Result (Found PlainState) DecoderError
-plain_parse bytes p contexts = do
+-- mode, count of clusters, the cluster of each context, the code of each cluster, where codes stand so
+abbrev pub fields_at : (List ℕ → Bool → ℕ → Result (Found Code) DecoderError) → List ℕ → ℕ → ℕ → Result (Found PlainState) DecoderError
+fields_at code bytes p contexts = do
   mode ← mode_at bytes p
   count ← number_at bytes mode.position 4
   clusters ← items_at (cluster_at bytes (1 + count.value)) contexts count.position
-  codes ← items_at (code_at bytes (is_runs mode.value)) (1 + count.value) clusters.position
+  codes ← items_at (code bytes (is_runs mode.value)) (1 + count.value) clusters.position
   Ok (record { value = record { mode = mode.value; codes = codes.value; clusters = clusters.value }; position = codes.position })
 
--- what the first format has, with codes of the second
+-- the decoder at a bit position
+unfoldable pub plain_parse : List ℕ → ℕ → ℕ → Result (Found PlainState) DecoderError
+plain_parse bytes p contexts = fields_at code_at bytes p contexts
+
+-- the same with codes of the second format
 unfoldable pub fields2_at : List ℕ → ℕ → ℕ → Result (Found PlainState) DecoderError
-fields2_at bytes p contexts = do
-  mode ← mode_at bytes p
-  count ← number_at bytes mode.position 4
-  clusters ← items_at (cluster_at bytes (1 + count.value)) contexts count.position
-  codes ← items_at (code2_at bytes (is_runs mode.value)) (1 + count.value) clusters.position
-  Ok (record { value = record { mode = mode.value; codes = codes.value; clusters = clusters.value }; position = codes.position })
+fields2_at bytes p contexts = fields_at code2_at bytes p contexts
 
 -- the decoder of the second format at a bit position: the version, which is Invalid(5) unless it is 2, and those fields
 unfoldable pub plain2_parse : List ℕ → ℕ → ℕ → Result (Found PlainState) DecoderError
@@ -193,21 +184,15 @@ abbrev pub first_of_run : ℕ → RleToken → ℕ → Read
 first_of_run last (Value token) q = record { token = token; mode = Runs token 0; position = q }
 first_of_run last (Repeat n) q = record { token = last; mode = Runs last (n - 1); position = q }
 
--- a token of this code in this mode
+-- A token of this code in this mode. A constant takes no bits, and counts for no seal.
 unfoldable pub token_at : Mode → Code → List ℕ → ℕ → Result Read DecoderError
 token_at Unsealed (Constant token) bytes p = Ok (record { token = token; mode = Unsealed; position = p })
-token_at Unsealed (Fixed width) bytes p = do
-  number ← number_at bytes p width
-  Ok (record { token = number.value; mode = Unsealed; position = number.position })
-token_at Unsealed Gamma bytes p = do
-  number ← gamma_at bytes p
-  Ok (record { token = number.value; mode = Unsealed; position = number.position })
 token_at (Sealed sum) (Constant token) bytes p = Ok (record { token = token; mode = Sealed sum; position = p })
-token_at (Sealed sum) (Fixed width) bytes p = do
-  number ← number_at bytes p width
-  Ok (record { token = number.value; mode = Sealed ((sum + 256 - number.value % 256) % 256); position = number.position })
-token_at (Sealed sum) Gamma bytes p = do
-  number ← gamma_at bytes p
+token_at Unsealed code bytes p = do
+  number ← own_at code bytes p
+  Ok (record { token = number.value; mode = Unsealed; position = number.position })
+token_at (Sealed sum) code bytes p = do
+  number ← own_at code bytes p
   Ok (record { token = number.value; mode = Sealed ((sum + 256 - number.value % 256) % 256); position = number.position })
 token_at (Runs last (suc left)) code bytes p = Ok (record { token = last; mode = Runs last left; position = p })
 token_at (Runs last zero) code bytes p = do
@@ -256,6 +241,26 @@ next_mode Unsealed = Unsealed
 next_mode (Sealed sum) = Sealed sum
 next_mode (Runs last left) = Runs last (left - 1)
 
+-- the plain decoder
+abbrev pub plain : Meaning PlainState
+plain = record {
+  parse = plain_parse;
+  begin = plain_begin;
+  read = plain_read;
+  finalize = λ s. finalize_mode s.mode;
+  cluster_map = λ s. s.clusters;
+  single_token = λ s c. single_of s.mode (code_of s.codes c);
+  as_rle = λ s. is_runs s.mode;
+  owed = λ s. owed_in s.mode;
+  last = λ s. last_in s.mode;
+  next = λ s. record s { mode = next_mode s.mode };
+}
+
+-- the plain decoder of the second format: it differs in what is parsed alone
+abbrev pub plain2 : Meaning PlainState
+plain2 = record plain { parse = plain2_parse }
+
+-- the calls of both, one by one
 abbrev pub plain_finalize : PlainState → Result (Unit {0}) DecoderError
 plain_finalize s = finalize_mode s.mode
 
@@ -276,22 +281,3 @@ plain_next s = record s { mode = next_mode s.mode }
 
 abbrev pub plain_clusters : PlainState → List ℕ
 plain_clusters s = s.clusters
-
--- the plain decoder
-abbrev pub plain : Meaning PlainState
-plain = record {
-  parse = plain_parse;
-  begin = plain_begin;
-  read = plain_read;
-  finalize = plain_finalize;
-  cluster_map = plain_clusters;
-  single_token = plain_single;
-  as_rle = plain_runs;
-  owed = plain_owed;
-  last = plain_last;
-  next = plain_next;
-}
-
--- the plain decoder of the second format: it differs in what is parsed alone
-abbrev pub plain2 : Meaning PlainState
-plain2 = record plain { parse = plain2_parse }

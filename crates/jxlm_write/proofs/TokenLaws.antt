@@ -4,7 +4,7 @@ use Rattle.std.specs.List.{flat_map}
 use Rattle.std.proofs.lemmas.Bool.{le-ltb}
 use Rattle.std.proofs.lemmas.List.{length-append}
 use Rattle.std.proofs.Math.Nat.{mod-eq_of_lt}
-use Rattle.jxlm_plain.specs.Plain.{number_at, mode_at, cluster_at, items_at, code_at, plain, plain_parse, plain_begin, plain_read, token_at}
+use Rattle.jxlm_plain.specs.Plain.{number_at, mode_at, cluster_at, items_at, code_after, code_at, plain, plain_parse, plain_begin, plain_read, token_at}
 use Rattle.jxlm_plain.specs.declared.plain.Code.TheVariants.{Fixed}
 use Rattle.jxlm_plain.specs.declared.plain.Mode.TheVariants.{Unsealed}
 use Rattle.jxlm_write.specs.Written.{digits, HasBits}
@@ -48,7 +48,7 @@ clusters_read bytes p (suc n) q h e =
     ) refl
 
 code_read : (bytes : List ℕ) (p width : ℕ) → width ≤ 32 → HasBits bytes p (digits 1 0) → HasBits bytes (p + 1) (digits 6 width) → code_at bytes false p ≡ Ok (record { value = Fixed width; position = p + 1 + 6 })
-unfolding code_at
+unfolding code_at code_after
 code_read bytes p width narrow h k =
     rw (number_read bytes p 1 0 (omega arith) h, number_read bytes (p + 1) 6 width (omega (arith, narrow)) k, le-ltb 32 width narrow) refl
 
