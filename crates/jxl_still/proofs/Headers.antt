@@ -8,9 +8,10 @@ use Rattle.jxlm_base.specs.ErrorKind.{ErrorAt, ErrorKind, UnlessMemory, kind_of}
 use Rattle.jxlm_base.specs.ErrorKind as reading
 use Rattle.jxlm_base.specs.Grammar.{Grammar, IsErrorAt, ◌>>=◌}
 use Rattle.jxlm_header.specs.Header.{Header, header}
-use Rattle.jxlm_header.specs.Opening.{checked, resolved}
+use Rattle.jxlm_header.specs.Opening.{resolved}
 use Rattle.jxlm_ma.specs.Tree.{Config}
 use Rattle.jxlm_transform.specs.Channels.{ChannelList}
+use Rattle.jxlm_transform.specs.Transforms.{checked}
 use Rattle.jxlm_base.specs.declared.error.Error.{Error}
 use Rattle.jxlm_ma.proofs.Memory.{unless_so}
 use Rattle.jxlm_transform.specs.Channels.{image_list}

@@ -1,7 +1,6 @@
 -- Undoing in regions without cells: the store as it is.
-use Rattle.std.proofs.Common.{◌≡◌, ℕ, zero, suc, ◌<◌, ◌⊎◌, inl, inr, List, [], ◌∷◌, length, map, Bool, true, false, ℤ, refl, sym, ap, ◌∙◌, subst, arith, get_or, ltb, ◌&&◌}
+use Rattle.std.proofs.Common.{◌≡◌, ℕ, zero, suc, ◌<◌, ◌⊎◌, inl, inr, List, [], ◌∷◌, length, Bool, true, false, ℤ, refl, sym, ap, ◌∙◌, arith, get_or, ltb, ◌&&◌}
 use Rattle.std.specs.Int.{Width}
-use Rattle.std.specs.List.{All}
 use Rattle.std.proofs.lemmas.Bool.Decides.{nat_tests}
 use Rattle.std.proofs.lemmas.List.{length-map}
 use Rattle.std.proofs.lemmas.List.Elements.{All-cons, All-nil, All-map}
@@ -13,7 +12,7 @@ use Rattle.jxlm_base.proofs.Outside.{keeps_all}
 use Rattle.jxlm_base.proofs.Regions.{IsFull-grid_of}
 use Rattle.jxlm_transform.specs.Channels.{HasSides}
 use Rattle.jxlm_transform.specs.Recoloured.{HaveOneSize, UndoesColour}
-use Rattle.jxlm_transform.specs.SqueezedRegions.{UndoesSqueeze, squeezed_grid}
+use Rattle.jxlm_transform.specs.SqueezedRegions.{squeezed_grid}
 use Rattle.jxlm_chain.specs.Layout.{no_region}
 use Rattle.jxlm_chain.specs.Scratch.{have_cells}
 use Rattle.jxlm_chain.specs.Steps.{CanUndo}

@@ -5,9 +5,9 @@ use Rattle.std.proofs.lemmas.List.{append-nil, drop_all, drop_more, map-set, map
 use Rattle.std.proofs.lemmas.List.Elements.{All-head, All-tail}
 use lib.ListN.{get_or-map}
 use lib.Seq.{drop-set-lt, map-set_same}
-use Rattle.jxlm_base.specs.ErrorKind.{ErrorKind, UnlessNoMemory}
+use Rattle.jxlm_base.specs.ErrorKind.{ErrorKind, UnlessNoMemory, ◌>>=◌}
 use Rattle.jxlm_transform.specs.Channels.{ChannelList}
-use Rattle.jxlm_transform.specs.ChannelSteps.{CodedList, Step, coded_list, list_after_all, listed_steps, steps_of, ◌>>=◌}
+use Rattle.jxlm_transform.specs.ChannelSteps.{CodedList, Step, coded_list, list_after_all, listed_steps, steps_of}
 use Rattle.jxlm_transform.specs.Transforms.{Transform, HasChannels, transform_of}
 use Rattle.jxlm_transform.specs.declared.transform.TransformInfo.{TransformInfo}
 use Rattle.jxlm_transform.proofs.CodedLists.{with_steps, all_applied, transform_applied, transform_refused}

@@ -1,11 +1,11 @@
 -- What transforms make of an image's samples, up to the coded channels (ISO/IEC 18181-1, Modular: inverse transforms).
-use Rattle.std.specs.Prelude.{◌≡◌, ℕ, List, [], ◌∷◌, map, ℤ, Ok}
+use Rattle.std.specs.Prelude.{◌≡◌, ℕ, List, [], ◌∷◌, ℤ, Ok}
 use Rattle.std.specs.List.{All}
 use Rattle.std.specs.Int.{Width}
 use Rattle.jxlm_base.specs.Grid.{Grid}
 use Rattle.jxlm_base.specs.Squeeze.{AreGridSamples}
 use Rattle.jxlm_transform.specs.Channels.{AreGridsOf, ChannelList}
-use Rattle.jxlm_transform.specs.ChannelSteps.{Step, RctStep, PaletteStep, SqueezeStep, range, with_range, with_halves, list_after}
+use Rattle.jxlm_transform.specs.ChannelSteps.{Step, RctStep, PaletteStep, SqueezeStep, range, with_range, with_each_halved, list_after}
 use Rattle.jxlm_transform.specs.Palette.{IsPaletteOf}
 use Rattle.jxlm_transform.specs.Recoloured.{recoloured}
 use Rattle.jxlm_transform.specs.SqueezedRegions.{average_grid, residual_grid}
@@ -20,8 +20,7 @@ module _ (w : Width) (depth : ℕ) where
   Codes (PaletteStep t) before after =
       (table : Grid ℤ) × (index : Grid ℤ) × IsPaletteOf w depth t table index (range t.begin_c t.num_c before) × (after ≡ table ∷ with_range t.begin_c t.num_c (index ∷ []) before)
   Codes (SqueezeStep t) before after =
-      All (AreGridSamples w) (range t.begin_c t.num_c before) ×
-      (after ≡ with_halves t (map (average_grid w t.horizontal) (range t.begin_c t.num_c before)) (map (residual_grid w t.horizontal) (range t.begin_c t.num_c before)) before)
+      All (AreGridSamples w) (range t.begin_c t.num_c before) × (after ≡ with_each_halved t (average_grid w t.horizontal) (residual_grid w t.horizontal) before)
 
   -- The image, of the channels of a list, becomes the coded grids: between each two steps there are grids, for the
   -- channels that the steps give.

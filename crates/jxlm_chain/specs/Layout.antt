@@ -5,7 +5,7 @@ use Rattle.jxlm_base.specs.Grid.{Grid}
 use Rattle.jxlm_base.specs.Regions.{region}
 use Rattle.jxlm_base.specs.declared.subgrid.Region.{Region}
 use Rattle.jxlm_transform.specs.Channels.{Channel, HasSides}
-use Rattle.jxlm_transform.specs.ChannelSteps.{Step, RctStep, PaletteStep, SqueezeStep, range, with_range, with_halves}
+use Rattle.jxlm_transform.specs.ChannelSteps.{Step, RctStep, PaletteStep, SqueezeStep, with_range, with_each_halved}
 use Rattle.jxlm_transform.specs.SqueezedRegions.{average_region, residual_region}
 use Rattle.jxlm_transform.specs.Steps.{Sides, tables_of}
 
@@ -36,7 +36,7 @@ layout_after (PaletteStep t) l = record {
   buffers = suc l.buffers;
 }
 layout_after (SqueezeStep t) l = record {
-  regions = with_halves t (map (average_region t.horizontal) (range t.begin_c t.num_c l.regions)) (map (residual_region t.horizontal) (range t.begin_c t.num_c l.regions)) l.regions;
+  regions = with_each_halved t (average_region t.horizontal) (residual_region t.horizontal) l.regions;
   buffers = l.buffers;
 }
 

@@ -1,5 +1,5 @@
 -- The steps of an image's transforms, and what they ask of a store in which they are undone.
-use Rattle.std.specs.Prelude.{◌≡◌, ◌≤◌, ◌^◌, List, length}
+use Rattle.std.specs.Prelude.{◌≡◌, List, length}
 use Rattle.std.specs.List.{All}
 use Rattle.jxlm_base.specs.Grid.{Grid}
 use Rattle.jxlm_base.specs.Regions.{Lies, AllLie, LieApart}

@@ -1,6 +1,5 @@
 -- Squares that cover a picture, and lists of parts with theirs.
-use Rattle.std.proofs.Common.{◌≡◌, ℕ, suc, ◌+◌, ◌*◌, ◌/◌, ◌<◌, ◌≤◌, Bool, true, false, not, ◌&&◌, ◌==◌, nat_lt, nat_le, if◌then◌else◌, IsTrue, List, [], ◌∷◌, ◌++◌, map, take, length, get_or, Some, Ok, refl, sym, ap, ◌∙◌, subst, append_assoc, add-one, zero, arith}
-use Rattle.std.specs.Prelude.{slice_get}
+use Rattle.std.proofs.Common.{◌≡◌, ℕ, suc, ◌+◌, ◌*◌, ◌<◌, ◌≤◌, Bool, true, false, not, ◌&&◌, ◌==◌, nat_lt, nat_le, if◌then◌else◌, IsTrue, List, [], ◌∷◌, ◌++◌, map, take, length, get_or, Ok, refl, sym, ap, ◌∙◌, subst, append_assoc, add-one, zero, arith}
 use Rattle.std.specs.List.{All, flat_map, list_all, range_with_len}
 use Rattle.std.specs.Int.{div_ceil}
 use Rattle.std.proofs.lemmas.Bool.{ltb-false}
@@ -19,9 +18,9 @@ use Rattle.jxlm_cut.proofs.Parts.{get_of, own_picture, own_picture-is}
 use Rattle.jxlm_cut.proofs.PieceFacts.{counted_of}
 use Rattle.jxlm_cut.proofs.Pictured.{IsOfPicture, IsOwn, image_of_picture}
 use Rattle.jxlm_cut.proofs.Steps.{pictured_after_all}
-use Rattle.jxlm_cut.specs.Areas.{AreOfPicture, area_of, areas_of, groups_by_number, parts_of, picture_of, squares, with_area}
+use Rattle.jxlm_cut.specs.Areas.{AreOfPicture, area_of, areas_of, groups_by_number, picture_of, squares, with_area}
 use Rattle.jxlm_cut.specs.Counts.{group_count, is_kind}
-use Rattle.jxlm_cut.specs.Cutting.{Kind, global_count, is_low_frequency, kind_of, pass_of}
+use Rattle.jxlm_cut.specs.Cutting.{Kind, global_count, is_low_frequency, pass_of}
 use Rattle.jxlm_cut.specs.Inner.Squares.{IsInPicture, first_groups}
 use Rattle.jxlm_cut.specs.Parts.{part_in}
 use Rattle.jxlm_cut.specs.Passes.{Pass, can_group, hold_shifts, one_picture}

@@ -1,6 +1,6 @@
 -- The parts of an image, in the order in which their sections stand, and the rectangle of the picture that each covers
 -- (ISO/IEC 18181-1, frame: groups, LF groups, passes and sections).
-use Rattle.std.specs.Prelude.{◌≡◌, ℕ, ◌*◌, ◌/◌, ◌%◌, ◌-◌, ◌<◌, ◌≤◌, min, List, [], ◌∷◌, ◌++◌, map, slice_get, Some}
+use Rattle.std.specs.Prelude.{◌≡◌, ℕ, ◌*◌, ◌/◌, ◌%◌, ◌-◌, ◌≤◌, min, List, [], ◌∷◌, ◌++◌, map, slice_get, Some}
 use Rattle.std.specs.List.{flat_map, range_with_len}
 use Rattle.std.specs.Int.{div_ceil}
 use Rattle.jxlm_transform.specs.Channels.{Channel, ChannelList}

@@ -1,19 +1,19 @@
 -- The laws of the fields that come before an image's tree.
-use Rattle.std.proofs.Common.{◌≡◌, ℕ, List, Bool, Result, Ok, Err, refl, ap, ◌∙◌}
+use Rattle.std.proofs.Common.{◌≡◌, ℕ, List, Bool, Ok, refl, ap, ◌∙◌}
 use Rattle.jxlm_base.specs.ErrorKind as reading
 use Rattle.jxlm_base.specs.ErrorKind.{ErrorKind, UnlessNoMemory}
 use Rattle.jxlm_base.specs.Grammar.{Grammar, IsExact, IsErrorAt, flag, repeated, u32, ◌>>=◌}
 use Rattle.jxlm_base.specs.declared.bits.U32Spec.TheVariants.{Const, Offset}
-use Rattle.jxlm_base.proofs.GrammarLaws.{exact-give, exact-fail, exact-bind, exact-repeated, exact-flag, exact-u32}
+use Rattle.jxlm_base.proofs.GrammarLaws.{exact-give, exact-bind, exact-repeated, exact-flag, exact-u32}
 use Rattle.jxlm_transform.specs.Channels.{ChannelList}
 use Rattle.jxlm_transform.specs.Transforms.{transform}
-use Rattle.jxlm_transform.proofs.TransformLaws.{exact-transform}
+use Rattle.jxlm_transform.proofs.TransformLaws.{exact-checked, exact-transform}
 use Rattle.jxlm_tree.proofs.WeightsLaws.{exact-wp_header}
 use Rattle.jxlm_transform.proofs.Failures.{unless_so}
 use Rattle.jxlm_tree.specs.WeightsHeader.{wp_header}
 use Rattle.jxlm_tree.specs.declared.predictor.WpHeader.{WpHeader}
 use Rattle.jxlm_header.specs.Header.{header}
-use Rattle.jxlm_header.specs.Opening.{checked, resolved, opening}
+use Rattle.jxlm_header.specs.Opening.{resolved, opening}
 
 bind : {X Y : Type 0} {field : Grammar X} {next : X → Grammar Y} → IsExact field → ((x : X) → IsExact (next x)) → IsExact (field >>= next)
 bind {field} {next} first rest = exact-bind field next first rest
@@ -25,10 +25,6 @@ exact-header =
     bind (exact-u32 (Const 0) (Const 1) (Offset 2 4) (Offset 18 8)) λ count.
     bind (exact-repeated count (transform weights) (exact-transform weights)) λ transforms.
     exact-give (record { use_global_tree = use_global_tree; wp_params = weights; transform = transforms })
-
-exact-checked : {X : Type 0} (r : Result X ErrorKind) → IsExact (checked r)
-exact-checked (Ok x) = exact-give x
-exact-checked (Err e) = exact-fail e
 
 -- and so is all that comes before the tree
 pub exact-opening : (has_global : Bool) (list : ChannelList) → IsExact (opening has_global list)

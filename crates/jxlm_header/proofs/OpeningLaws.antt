@@ -6,12 +6,12 @@ use Rattle.jxlm_base.specs.ErrorKind.{ErrorKind, BadProfile, NoGlobalTree, Unles
 use Rattle.jxlm_base.specs.Grammar.{IsErrorAt}
 use Rattle.jxlm_transform.specs.Channels.{ChannelList}
 use Rattle.jxlm_transform.specs.ChannelSteps.{CodedList, coded_list}
-use Rattle.jxlm_transform.specs.Transforms.{Transform, OfRct, OfPalette, OfSqueeze, HasChannels, IsTransform}
+use Rattle.jxlm_transform.specs.Transforms.{Transform, OfRct, OfPalette, OfSqueeze, HasChannels, IsTransform, checked}
 use Rattle.std.specs.List.{All}
 use Rattle.std.proofs.lemmas.List.Elements.{All-weaker}
 use Rattle.jxlm_transform.proofs.Failures.{unless_so}
 use Rattle.jxlm_header.specs.Header.{Header, header}
-use Rattle.jxlm_header.specs.Opening.{Opening, checked, conditions, resolved, opening, opening_of}
+use Rattle.jxlm_header.specs.Opening.{Opening, conditions, resolved, opening, opening_of}
 
 -- palettes that were read have channels
 has_channels : (t : Transform) → IsTransform t → HasChannels t

@@ -1,13 +1,15 @@
 -- What comes before an image's tree, and the order of its checks (ISO/IEC 18181-1, Modular: header and conditions).
 use Rattle.std.specs.Prelude.{◌≡◌, ◌+◌, ◌^◌, nat_lt, min, sum_by, List, length, codes, Bool, ℕ, not, ◌&&◌, if◌then◌else◌, Result, Ok, Err}
-use Rattle.jxlm_base.specs.ErrorKind.{ErrorKind, BadProfile, NoGlobalTree, kind_of}
-use Rattle.jxlm_base.specs.Grammar.{Grammar, IsExact, give, fail}
+use Rattle.std.specs.List.{list_any}
+use Rattle.jxlm_base.specs.ErrorKind.{ErrorKind, BadProfile, NoGlobalTree, kind_of, ◌>>=◌}
+use Rattle.jxlm_base.specs.Grammar.{Grammar, IsExact}
 use Rattle.jxlm_base.specs.Grammar as fields
 use Rattle.jxlm_base.specs.declared.error.Error.{Error}
 use Rattle.jxlm_tree.specs.declared.predictor.WpHeader.{WpHeader}
 use Rattle.jxlm_transform.specs.Channels.{Channel, ChannelList, area}
-use Rattle.jxlm_transform.specs.ChannelSteps.{CodedList, coded_list, ◌>>=◌}
-use Rattle.jxlm_transform.specs.Kinds.{has_palette, has_squeeze}
+use Rattle.jxlm_transform.specs.ChannelSteps.{CodedList, coded_list}
+use Rattle.jxlm_transform.specs.Kinds.{is_palette, is_squeeze}
+use Rattle.jxlm_transform.specs.Transforms.{checked}
 use Rattle.jxlm_header.specs.Header.{Header, header}
 
 -- whether the header uses the global tree, and whether a transform of it is a palette, and a squeeze; its weights, and what
@@ -23,16 +25,11 @@ pub record Opening : Type 0 where
 abbrev pub opening_of : Header → CodedList → Opening
 opening_of header coded = record {
   uses_global = header.use_global_tree;
-  has_palette = has_palette header.transform;
-  has_squeeze = has_squeeze header.transform;
+  has_palette = list_any is_palette header.transform;
+  has_squeeze = list_any is_squeeze header.transform;
   weights = header.wp_params;
   coded = coded;
 }
-
--- a value that is found without bits, or its error
-abbrev pub checked : {X : Type 0} → Result X ErrorKind → Grammar X
-checked (Ok x) = give x
-checked (Err e) = fail e
 
 -- the conditions, in order: at most 65536 channels are coded, and a global tree that the header asks for was given
 abbrev pub conditions : Bool → Header → ChannelList → Result (Unit {0}) ErrorKind

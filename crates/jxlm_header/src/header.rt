@@ -90,7 +90,6 @@ fn clone_transform(
 
 impl ModularHeader {
     ghost use Rattle.jxlm_header.specs.Header.{IsReadHeader, header, header_of};
-    ghost use Rattle.jxlm_transform.specs.Kinds.{has_palette as has_a_palette, has_squeeze as has_a_squeeze};
 
     /// The header that stands at the reader's position: whether the global tree is used, the weights
     /// of the weighted (self-correcting) predictor, and the transforms, at most 273. A palette keeps no
@@ -140,14 +139,14 @@ impl ModularHeader {
 
     /// Whether a transform is a palette.
     pub fn has_palette(&self) -> bool
-        ensures { result ≡ has_a_palette (header_of self.now).transform }
+        ensures { result ≡ list_any is_palette (header_of self.now).transform }
     {
         some_palette(&self.transform)
     }
 
     /// Whether a transform is a squeeze.
     pub fn has_squeeze(&self) -> bool
-        ensures { result ≡ has_a_squeeze (header_of self.now).transform }
+        ensures { result ≡ list_any is_squeeze (header_of self.now).transform }
     {
         some_squeeze(&self.transform)
     }

@@ -9,14 +9,14 @@ use Rattle.jxlm_tree.specs.declared.predictor.WpHeader.{WpHeader}
 use Rattle.jxlm_transform.specs.Channels.{ChannelList}
 use Rattle.jxlm_transform.specs.ChannelSteps.{CodedList, Step, RctStep, PaletteStep, SqueezeStep, coded_list, list_after_all, steps_of, steps_of_squeeze}
 use Rattle.jxlm_transform.specs.Steps.{HasChannels}
-use Rattle.jxlm_transform.specs.Transforms.{Transform, OfRct, OfPalette, OfSqueeze, palette, rct, seen, squeeze, transform}
+use Rattle.jxlm_transform.specs.Transforms.{Transform, OfRct, OfPalette, OfSqueeze, checked, palette, rct, squeeze, transform}
 use Rattle.jxlm_transform.specs.Transforms as listed
 use Rattle.jxlm_transform.specs.declared.transform.Palette.{Palette}
 use Rattle.jxlm_transform.specs.declared.transform.SqueezeParams.{SqueezeParams}
 use Rattle.jxlm_transform.proofs.SideBounds.{came}
 use Rattle.jxlm_transform.proofs.StepLaws.{steps_list}
 use Rattle.jxlm_header.specs.Header.{Header, header}
-use Rattle.jxlm_header.specs.Opening.{Opening, checked, conditions, opening, opening_of, resolved}
+use Rattle.jxlm_header.specs.Opening.{Opening, conditions, opening, opening_of, resolved}
 use Rattle.jxlm_header.proofs.HeaderLaws.{exact-opening}
 
 -- ---- palettes as they are listed

@@ -1,12 +1,12 @@
 -- Transforms are read exactly.
-use Rattle.std.specs.Prelude.{Option, Some, None, slice_get, codes}
+use Rattle.std.specs.Prelude.{Result, Ok, Err, ok_or, slice_get, codes}
 use Rattle.jxlm_base.specs.ErrorKind.{ErrorKind, BadEnum}
 use Rattle.jxlm_base.specs.Grammar.{Grammar, IsExact, ◌>>=◌}
 use Rattle.jxlm_base.specs.declared.bits.U32Spec.TheVariants.{Const, Offset}
 use Rattle.jxlm_base.proofs.GrammarLaws.{exact-give, exact-fail, exact-number, exact-bind, exact-either, exact-repeated, exact-flag, exact-u32}
 use Rattle.jxlm_tree.specs.Predictions.{predictors}
 use Rattle.jxlm_tree.specs.declared.predictor.WpHeader.{WpHeader}
-use Rattle.jxlm_transform.specs.Transforms.{OfRct, OfPalette, OfSqueeze, begin_channel, rct, present, predictor, weights_for, palette, squeeze_params, squeeze, transform}
+use Rattle.jxlm_transform.specs.Transforms.{OfRct, OfPalette, OfSqueeze, begin_channel, rct, checked, predictor, weights_for, palette, squeeze_params, squeeze, transform}
 
 bind : {X Y : Type 0} {field : Grammar X} {next : X → Grammar Y} → IsExact field → ((x : X) → IsExact (next x)) → IsExact (field >>= next)
 bind {field} {next} first rest = exact-bind field next first rest
@@ -17,12 +17,12 @@ exact-begin = exact-u32 (Offset 0 3) (Offset 8 6) (Offset 72 10) (Offset 1096 13
 pub exact-rct : IsExact rct
 exact-rct = bind exact-begin λ begin. bind (exact-u32 (Const 6) (Offset 0 2) (Offset 2 4) (Offset 10 6)) λ kind. exact-give (record { begin_c = begin; rct_type = kind })
 
-exact-present : {X : Type 0} (error : ErrorKind) (found : Option X) → IsExact (present error found)
-exact-present error (Some x) = exact-give x
-exact-present error None = exact-fail error
+pub exact-checked : {X : Type 0} (r : Result X ErrorKind) → IsExact (checked r)
+exact-checked (Ok x) = exact-give x
+exact-checked (Err e) = exact-fail e
 
 exact-predictor : IsExact predictor
-exact-predictor = bind (exact-number 4) λ n. exact-present (BadEnum (codes "MaProperty") n) (slice_get predictors n)
+exact-predictor = bind (exact-number 4) λ n. exact-checked (ok_or (slice_get predictors n) (BadEnum (codes "MaProperty") n))
 
 pub exact-palette : (weights : WpHeader) → IsExact (palette weights)
 exact-palette weights =

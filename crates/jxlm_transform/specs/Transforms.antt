@@ -1,5 +1,5 @@
 -- The transforms of a header, as they stand in the input (ISO/IEC 18181-1, Modular: TransformInfo and SqueezeParams).
-use Rattle.std.specs.Prelude.{◌≡◌, ◌⊎◌, ℕ, ◌≤◌, List, length, slice_get, ◌==◌, codes, Option, Some, None, Result, Ok, Err}
+use Rattle.std.specs.Prelude.{◌≡◌, ◌⊎◌, ℕ, ◌≤◌, List, length, slice_get, ok_or, ◌==◌, codes, Option, Some, None, Result, Ok, Err}
 use Rattle.std.specs.List.{All}
 use Rattle.jxlm_base.specs.Decoding.{Found}
 use Rattle.jxlm_base.specs.ErrorKind.{ErrorKind, BadEnum, ErrorAt, UnlessNoMemory, kind_of}
@@ -39,16 +39,16 @@ rct = do
   kind ← u32 (Const 6) (Offset 0 2) (Offset 2 4) (Offset 10 6)
   give (record { begin_c = begin; rct_type = kind })
 
--- what is there, or this error where nothing is
-abbrev pub present : {X : Type 0} → ErrorKind → Option X → Grammar X
-present error (Some x) = give x
-present error None = fail error
+-- a value that is found without bits, or its error
+abbrev pub checked : {X : Type 0} → Result X ErrorKind → Grammar X
+checked (Ok x) = give x
+checked (Err e) = fail e
 
 -- a predictor's number; 14 and 15 name none
 abbrev pub predictor : Grammar Predictor
 predictor = do
   n ← number 4
-  present (BadEnum (codes "MaProperty") n) (slice_get predictors n)
+  checked (ok_or (slice_get predictors n) (BadEnum (codes "MaProperty") n))
 
 -- the weights that a palette of this predictor keeps
 abbrev pub weights_for : Predictor → WpHeader → Option WpHeader
@@ -80,17 +80,12 @@ squeeze = do
   count ← u32 (Const 0) (Offset 1 4) (Offset 9 6) (Offset 41 8)
   repeated count squeeze_params
 
--- a field, seen by view
-abbrev pub seen : {X Y : Type 0} → (X → Y) → Grammar X → Grammar Y
-seen view field = do
-  x ← field
-  give (view x)
-
 -- a transform after its two bits of kind; kind 3 has no meaning
 abbrev pub transform : WpHeader → Grammar Transform
 transform weights = do
   kind ← number 2
-  either (kind == 0) (seen OfRct rct) (either (kind == 1) (seen OfPalette (palette weights)) (either (kind == 2) (seen OfSqueeze squeeze) (fail (BadEnum (codes "TransformId") kind))))
+  either (kind == 0) (rct >>= λ t. give (OfRct t)) (either (kind == 1) (palette weights >>= λ t. give (OfPalette t))
+      (either (kind == 2) (squeeze >>= λ steps. give (OfSqueeze steps)) (fail (BadEnum (codes "TransformId") kind))))
 
 -- the ranges of a colour transform that was read
 pub record IsRct (t : Rct) : Type 0 where

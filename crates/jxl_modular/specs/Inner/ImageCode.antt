@@ -1,12 +1,13 @@
 -- An image by its fields: as a program keeps it, and a code by which a proof distinguishes images.
 use Rattle.std.specs.Prelude.{ℕ, List, Bool, refl}
+use Rattle.std.specs.List.{list_any}
 use Rattle.std.specs.Coded.{Coded, code_by, coded×, coded_bool, coded_list, coded_ℕ}
 use Rattle.jxlm_base.specs.Grid.{Grid, grid_code}
 use Rattle.jxlm_base.specs.declared.subgrid.Region.{Region}
 use Rattle.jxlm_header.specs.Header.{Header}
 use Rattle.jxlm_transform.specs.Channels.{Channel}
 use Rattle.jxlm_transform.specs.ChannelSteps.{Step}
-use Rattle.jxlm_transform.specs.Kinds.{has_palette, has_squeeze}
+use Rattle.jxlm_transform.specs.Kinds.{is_palette, is_squeeze}
 use Rattle.jxlm_transform.specs.Steps.{steps_in}
 use Rattle.jxlm_ma.specs.Tree.{Config}
 use Rattle.jxlm_tree.specs.declared.predictor.WpHeader.{WpHeader}
@@ -15,8 +16,8 @@ use Rattle.jxl_modular.specs.Image.{Image}
 -- the image of these fields, in the order in which a program keeps them
 abbrev pub image_kept : {S D : Type 0} → Header → Config D → ℕ → ℕ → List Channel → List Channel → ℕ → List (Grid S) → List Region → Image S D
 image_kept header config group_dim bit_depth given channels nb_meta store coded = record {
-  has_palette = has_palette header.transform;
-  has_squeeze = has_squeeze header.transform;
+  has_palette = list_any is_palette header.transform;
+  has_squeeze = list_any is_squeeze header.transform;
   weights = header.wp_params;
   steps = steps_in header.transform;
   config = config;

@@ -1,5 +1,4 @@
-use Rattle.std.proofs.Common.{length, map, sym, ap, ◌∙◌}
-use Rattle.std.proofs.lemmas.List.{length-map}
+use Rattle.std.proofs.Common.{length, sym, ap, ◌∙◌}
 use Rattle.jxlm_chain.specs.Layout.{Layout}
 use Rattle.jxlm_chain.proofs.LayoutLaws.{length_first}
 use Rattle.jxlm_chain.proofs.placed.PlacedChannels.whole.Goals as goal
