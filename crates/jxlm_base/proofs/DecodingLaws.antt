@@ -1,8 +1,9 @@
 -- What follows from the laws of a decoder.
-use Rattle.std.proofs.Common.{◌≡◌, ℕ, zero, suc, ◌<◌, List, [], ◌∷◌, length, replicate, All, Contains, true, Ok, refl, sym, arith, ◌∙◌}
+use Rattle.std.proofs.Common.{◌≡◌, ℕ, zero, suc, ◌+◌, ◌<◌, ◌≤◌, List, [], ◌∷◌, length, replicate, All, Contains, true, Ok, refl, sym, arith, subst, ◌∙◌, slice_index, slice_set}
+use Rattle.std.proofs.lemmas.List.{get_or-set_other, get_or-set_same}
 use Rattle.jxlm_base.specs.declared.decoder.RleToken.{RleToken}
 use Rattle.jxlm_base.specs.declared.decoder.RleToken.TheVariants.{Value, Repeat}
-use Rattle.jxlm_base.specs.Decoding.{Meaning, IsLawful, Keeps, RunGives, Asked, RunIsReads, iterate, reads}
+use Rattle.jxlm_base.specs.Decoding.{Meaning, IsLawful, Keeps, RunGives, Asked, RunIsReads, Reading, TakesTokens, iterate, reads}
 
 -- the reads of all tokens that a run still owes
 pub owed_reads : {S : Type 0} (d : Meaning S) → IsLawful d → (others : List Asked) (s : S) (bytes : List ℕ) (p n : ℕ) → n ≡ d.owed s → length others ≡ n →
@@ -62,3 +63,23 @@ run_keeps d law (Repeat n) s t bytes p q c m within r h =
     let keeps = law.read_keeps s bytes p c m (record { value = d.last s; state = h.first; position = q }) within h.read in
     let over = run_over d law h.first (d.owed h.first) refl (keeps.rle ∙ r) in
     rw h.ends (keeps_on d s h.first (iterate d.next (d.owed h.first) h.first) keeps over.0, over.1)
+
+-- ---- tokens that are read one after another into a list
+
+module _ {S : Type 0} (reading : Reading S) where
+  -- they are what the list holds in their places
+  takes_same : (xs ys : List ℕ) (s0 : S) (p0 k : ℕ) (s : S) (p : ℕ) → ((j : ℕ) → j < k → slice_index ys j ≡ slice_index xs j) → TakesTokens reading xs s0 p0 k s p → TakesTokens reading ys s0 p0 k s p
+  takes_same xs ys s0 p0 zero s p same h = h
+  takes_same xs ys s0 p0 (suc k) s p same h = (h.0, h.1, takes_same xs ys s0 p0 k h.0 h.1 (λ j l. same j (omega arith)) h.2, rw (same k (omega arith)) h.3)
+
+  -- one more is read and written
+  pub takes_more : (xs : List ℕ) (s0 : S) (p0 k : ℕ) (s : S) (p v : ℕ) (t : S) (q : ℕ) → k < length xs → TakesTokens reading xs s0 p0 k s p → reading s p ≡ Ok (record { value = v; state = t; position = q }) →
+      TakesTokens reading (slice_set xs k v) s0 p0 (k + 1) t q
+  takes_more xs s0 p0 k s p v t q inside h read =
+      let next : suc k ≡ k + 1 = omega arith in
+      let other : (j : ℕ) → j < k → slice_index (slice_set xs k v) j ≡ slice_index xs j = λ j l. get_or-set_other xs k j v 0 (λ e. absurd (omega arith)) in
+      subst (λ n. TakesTokens reading (slice_set xs k v) s0 p0 n t q) next (s, p, takes_same xs (slice_set xs k v) s0 p0 k s p other h, rw (get_or-set_same xs k v 0 inside) read)
+
+-- what is not yet written is as it was
+pub rest_more : (xs ys : List ℕ) (k v : ℕ) → ((j : ℕ) → k ≤ j → slice_index xs j ≡ slice_index ys j) → (j : ℕ) → k + 1 ≤ j → slice_index (slice_set xs k v) j ≡ slice_index ys j
+rest_more xs ys k v same j l = get_or-set_other xs k j v 0 (λ e. absurd (omega arith)) ∙ same j (omega arith)

@@ -1,6 +1,6 @@
 //! Bits of the input, least significant first, and the numbers that they make (ISO/IEC 18181-1, bit packing).
 
-ghost use Rattle.std.specs.Prelude.{◌≡◌, ℕ, ◌+◌, ◌*◌, ◌/◌, ◌%◌, ◌^◌, ◌-◌, ◌<◌, ◌≤◌, ◌↔◌, min, length, slice_index, IfOk, IfErr, IsTrue, Bool};
+ghost use Rattle.std.specs.Prelude.{◌≡◌, ℕ, ◌+◌, ◌*◌, ◌/◌, ◌%◌, ◌^◌, ◌-◌, ◌<◌, ◌≤◌, ◌↔◌, min, length, slice_index, IfOk, IfErr, IsTrue, Bool, true};
 
 use thiserror::Error;
 
@@ -86,7 +86,7 @@ pub struct Bitstream<'a> {
 }
 
 impl<'a> Bitstream<'a> {
-    ghost use Rattle.jxlm_base.specs.Bits.{bytes_of, position_of, bits_at};
+    ghost use Rattle.jxlm_base.specs.Bits.{bytes_of, position_of, bits_at, ReadsNumbers};
     ghost use Rattle.jxlm_base.specs.Grammar.{flag, part, selected, u32 as the_u32, FitsU32, Reads};
 
     /// A reader at the start of these bytes, at bit 0.
@@ -112,17 +112,16 @@ impl<'a> Bitstream<'a> {
         }
     }
 
-    // The 64 bits from the start of the reader's byte on, where eight bytes are left.
+    // The 64 bits from the start of byte i on, where eight bytes are left.
     #[inline(always)]
-    fn full_word(&self) -> u64
-        requires { self.now.byte + 8 ≤ length self.now.bytes.now }
-        ensures { (b n : ℕ) → b + n ≤ 64
-            → result / 2 ^ b % 2 ^ n ≡ bits_at self.now.bytes.now (8 * self.now.byte + b) n }
+    fn word_at(bytes: &[u8], i: usize) -> u64
+        requires { i + 8 ≤ length bytes.now }
+        ensures { (b n : ℕ) → b + n ≤ 64 → result / 2 ^ b % 2 ^ n ≡ bits_at bytes.now (8 * i + b) n }
     {
-        u64::from_le_bytes(eight_at(self.bytes, self.byte))
+        u64::from_le_bytes(eight_at(bytes, i))
     }
 
-    // The same where fewer are left; bits after the end are 0.
+    // The 64 bits from the start of the reader's byte on, where fewer are left; bits after the end are 0.
     fn last_word(&self) -> u64
         requires { length self.now.bytes.now < self.now.byte + 8 }
         ensures { (b n : ℕ) → b + n ≤ 64
@@ -178,10 +177,84 @@ impl<'a> Bitstream<'a> {
             return Ok(value);
         }
         let end = self.bit + n;
-        let value = (self.full_word() >> self.bit) % (1 << n);
+        let value = (Self::word_at(self.bytes, self.byte) >> self.bit) % (1 << n);
         self.byte += (end / 8) as usize;
         self.bit = end % 8;
         Ok(value as u32)
+    }
+
+    // Whether so many numbers of n bits are followed by eight bytes. They are taken for less where they are 2^32 or more.
+    #[inline(always)]
+    fn has_many(&self, n: u32, count: usize) -> bool
+        requires { n ≤ 32 }
+        ensures few { result ≡ true → count < 2 ^ 32 }
+        ensures room { result ≡ true
+            → self.now.byte + (self.now.bit + n * count) / 8 + 8 ≤ length self.now.bytes.now }
+    {
+        let left = self.bytes.len() - self.byte;
+        if left < 8 || count > u32::MAX as usize {
+            return false;
+        }
+        (u64::from(self.bit) + u64::from(n) * count as u64) / 8 <= (left - 8) as u64
+    }
+
+    // Numbers of n bits, with no test for the end.
+    #[inline(always)]
+    fn take_many(&mut self, n: u32, numbers: &mut [u32])
+        requires narrow { n ≤ 32 }
+        requires few { length numbers.old < 2 ^ 32 }
+        requires room { self.old.byte + (self.old.bit + n * length numbers.old) / 8 + 8 ≤ length self.old.bytes.now }
+        ensures values { (k : ℕ) → k < length numbers.new
+            → slice_index numbers.new k ≡ bits_at (bytes_of self.old) (position_of self.old + n * k) n }
+        ensures position { position_of self.new ≡ position_of self.old + n * length numbers.new }
+        ensures bytes { bytes_of self.new ≡ bytes_of self.old }
+    {
+        let bytes = self.bytes;
+        let start = self.byte;
+        let size = 1u64 << n;
+        let mut at = u64::from(self.bit);
+        for k in 0..numbers.len() {
+            numbers[k] = ((Self::word_at(bytes, start + (at / 8) as usize) >> (at % 8))
+                % size) as u32;
+            at += u64::from(n);
+        }
+        self.byte = start + (at / 8) as usize;
+        self.bit = (at % 8) as u32;
+    }
+
+    // Numbers of n bits, each with a test for the end.
+    #[cold]
+    #[inline(never)]
+    fn take_some(&mut self, n: u32, numbers: &mut [u32]) -> usize
+        requires { n ≤ 32 }
+        ensures { ReadsNumbers n numbers.old numbers.new self.old self.new result }
+    {
+        for k in 0..numbers.len() {
+            match self.read_bits(n) {
+                Ok(value) => numbers[k] = value,
+                Err(_) => return k,
+            }
+        }
+        numbers.len()
+    }
+
+    /// The next numbers of `n` bits each, at most 32, one after another: as many as the slice holds, or as are whole
+    /// before the end. The result says how many there are. The reader is after them then, and the rest of the slice is
+    /// as it was.
+    #[inline(always)]
+    pub fn read_numbers(&mut self, n: u32, numbers: &mut [u32]) -> usize
+        requires { n ≤ 32 }
+        ensures { ReadsNumbers n numbers.old numbers.new self.old self.new result }
+    {
+        if self.has_many(n, numbers.len()) {
+            self.take_many(n, numbers);
+            return numbers.len();
+        }
+        // a copy, so that a reader in a local variable may stay in registers
+        let mut after = *self;
+        let count = after.take_some(n, numbers);
+        *self = after;
+        count
     }
 
     /// The next bit as a truth value: a `Bool` (ISO/IEC 18181-1, field types).

@@ -3,7 +3,7 @@
 ghost use Rattle.std.specs.Prelude.{◌≡◌, ◌<◌, ℕ, true, length, slice_index, IfOk, IfErr, Contains, IsTrue, ◌↔◌};
 ghost use Rattle.jxlm_base.specs.Bits.{bytes_of, position_of};
 ghost use Rattle.jxlm_base.specs.declared.decoder.DecoderError.TheVariants.{UnexpectedEof, OutOfMemory};
-ghost use Rattle.jxlm_base.specs.Decoding.{Meaning, IsLawful, Keeps, Gives, BeginGives, ReadGives, RunGives, RunIsReads};
+ghost use Rattle.jxlm_base.specs.Decoding.{Meaning, IsLawful, Keeps, Gives, BeginGives, ReadGives, RunGives, RunIsReads, TokensGive};
 
 use crate::bits::Bitstream;
 use std::alloc::{AllocError, AllocFailed, Global};
@@ -54,6 +54,15 @@ pub enum RleToken {
     Value(u32),
     /// The token before (0 if there is none), n times; n is at least 1.
     Repeat(u32),
+}
+
+/// Where a read of several tokens ended before the last, and why.
+#[derive(Clone, Copy, Debug, PartialEq, Eq)]
+pub struct TokensError {
+    /// How many tokens were read before.
+    pub read: usize,
+    /// What the read of the next one returned.
+    pub error: DecoderError,
 }
 
 /// An entropy decoder: the tokens of an image, read from its bits.
@@ -129,6 +138,37 @@ pub trait Decoder: Sized + Drop {
         ensures gives { ReadGives result self.old self.new (position_of bits.old) (position_of bits.new)
             (meaning.read self.old (bytes_of bits.old) (position_of bits.old) cluster multiplier) }
         ensures bytes { bytes_of bits.new ≡ bytes_of bits.old };
+
+    /// Reads tokens of a cluster, as many as the slice holds: each is what
+    /// `read_varint_with_multiplier_clustered` returns where the one before left decoder and reader.
+    ///
+    /// The cluster is one of `cluster_map`. A decoder that looks up once what all tokens of a cluster have in common has
+    /// a body of its own.
+    ///
+    /// # Errors
+    ///
+    /// That of the first read that returns one, with the number of tokens before it. These are in the slice then, and
+    /// the rest of it is as it was; decoder and reader are where that read left them, which is after these tokens.
+    fn read_varints_with_multiplier_clustered(
+        &mut self,
+        bits: &mut Bitstream<'_>,
+        cluster: u8,
+        multiplier: u32,
+        tokens: &mut [u32],
+    ) -> Result<(), TokensError>
+        requires { Contains (meaning.cluster_map self.old) cluster }
+        ensures gives { TokensGive result tokens.old tokens.new self.old self.new (position_of bits.old)
+            (position_of bits.new) (λ s p. meaning.read s (bytes_of bits.old) p cluster multiplier) }
+        ensures bytes { bytes_of bits.new ≡ bytes_of bits.old }
+    {
+        for k in 0..tokens.len() {
+            match self.read_varint_with_multiplier_clustered(bits, cluster, multiplier) {
+                Ok(token) => tokens[k] = token,
+                Err(error) => return Err(TokensError { read: k, error }),
+            }
+        }
+        Ok(())
+    }
 
     /// Reads a token of a cluster, or a whole run, where `as_rle` is true and no run is open.
     ///

@@ -18,6 +18,7 @@ pub mod RowsOn
 pub mod Samples
 pub mod Singles
 pub mod Starting
+pub mod Stretches
 pub mod TokenLaw
 pub mod Whole
 pub mod ZeroCells

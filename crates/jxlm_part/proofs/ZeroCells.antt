@@ -1,63 +1,16 @@
--- Rows whose cells are predicted by 0.
-use Rattle.std.proofs.Common.{◌≡◌, ℕ, zero, suc, ◌+◌, ◌<◌, ◌≤◌, List, [], ◌∷◌, ◌++◌, Contains, length, take, map, Some, Ok, Err, refl, sym, ap, ◌∙◌, subst, arith, ℤ, pos}
+-- Rows that are filled with one sample.
+use Rattle.std.proofs.Common.{◌≡◌, ℕ, zero, suc, ◌+◌, ◌<◌, ◌≤◌, List, [], ◌∷◌, ◌++◌, Contains, length, take, map, Some, refl, sym, ap, ◌∙◌, subst, arith, ℤ, pos}
 use Rattle.std.specs.Prelude.{replicate, slice_get, slice_set}
 use Rattle.std.specs.Int.{Width}
 use Rattle.std.proofs.lemmas.List.{length-map, length-replicate, map-set, replicate_more, take_more_set}
 use Rattle.jxlm_base.specs.Bits.{bytes_of, position_of}
-use Rattle.jxlm_base.specs.Decoding.{IsLawful, Meaning, ReadGives}
-use Rattle.jxlm_base.specs.declared.decoder.DecoderError.{DecoderError}
+use Rattle.jxlm_base.specs.Decoding.{IsLawful, Meaning}
 use Rattle.jxlm_ma.specs.declared.flat.Leaf.{Leaf}
 use Rattle.jxlm_part.specs.Coded.{sample_of}
 use Rattle.jxlm_part.specs.Inner.Paths.{zero_rule}
-use Rattle.jxlm_part.specs.Inner.Rows.{FailsRow, ReadsCells}
+use Rattle.jxlm_part.specs.Inner.Rows.{ReadsCells}
 use Rattle.jxlm_part.specs.Inner.Source.{Source}
 use Rattle.jxlm_part.specs.Rule.{Rule, CodedPrefix}
-use Rattle.jxlm_part.proofs.RowReads.{cell_fails, cell_more}
-
--- The loop over the cells of a row: `start` is where the row began, `old` where the reader is at column x, `new` where it
--- is after the next read.
-module _ {D X : Type 0} (d : Meaning D) (law : IsLawful d) (w : Width) (to_int : X → ℤ) (l : Leaf) (widest : ℕ) (start old new : Source D) (row : List X) (x : ℕ)
-    (known : Contains (d.cluster_map start.decoder) l.cluster) (inside : x < length row) where
-  abbrev rule : Rule D
-  rule = zero_rule d w (bytes_of start.bits) widest l
-
-  abbrev R : List ℤ
-  R = map to_int row
-
-  module _ (h : ReadsCells d 0 rule R x start old) (same : bytes_of new.bits ≡ bytes_of old.bits) (step : new.steps ≡ old.steps) where
-    pub known_here : Contains (d.cluster_map old.decoder) l.cluster
-    known_here = subst (λ clusters. Contains clusters l.cluster) (sym h.clusters) known
-
-    in_row : x < length R
-    in_row = let m = length-map row to_int in omega (arith, m, inside)
-
-    -- one more was read, and its sample written
-    pub zero_more : (token : ℕ) (v : X) → d.read old.decoder (bytes_of old.bits) (position_of old.bits) l.cluster widest ≡ Ok (record { value = token; state = new.decoder; position = position_of new.bits }) →
-        to_int v ≡ sample_of w l (pos 0) token → ReadsCells d 0 rule (map to_int (slice_set row x v)) (x + 1) start new
-    zero_more token v read value = cell_more d 0 rule start R x old in_row h new (map to_int (slice_set row x v)) (record {
-      token = token;
-      read = subst (λ bytes. d.read old.decoder bytes (position_of old.bits) l.cluster widest ≡ Ok (record { value = token; state = new.decoder; position = position_of new.bits })) h.bytes read;
-      written = map-set to_int row x v ∙ ap (slice_set R x) value;
-      clusters = (law.read_keeps old.decoder (bytes_of old.bits) (position_of old.bits) l.cluster widest _ known_here read).clusters;
-      bytes = same;
-      work = omega (arith, step);
-      more = omega (arith, step);
-    })
-
-    -- the read returned an error
-    pub zero_ends : (e : DecoderError) → ReadGives (Err e) old.decoder new.decoder (position_of old.bits) (position_of new.bits) (d.read old.decoder (bytes_of old.bits) (position_of old.bits) l.cluster widest) →
-        FailsRow d 0 rule R start new (record { column = x; error = e })
-    zero_ends e gives = cell_fails d 0 rule start R x old in_row h new R e (record {
-      error = subst (λ bytes. d.read old.decoder bytes (position_of old.bits) l.cluster widest ≡ Err e) h.bytes gives.0;
-      row_is = refl;
-      place_is = gives.2;
-      memory = λ out. law.read_memory old.decoder (bytes_of old.bits) (position_of old.bits) l.cluster widest known_here (gives.0 ∙ ap Err out);
-      bytes = same;
-      work = omega (arith, step);
-      more = omega (arith, step);
-    })
-
--- ---- a row of one sample
 
 get_filled : (n k : ℕ) (v : ℤ) → k < n → slice_get (replicate n v) k ≡ Some v
 get_filled zero k v inside = absurd (omega arith)

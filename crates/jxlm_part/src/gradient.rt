@@ -12,6 +12,7 @@ ghost use Rattle.jxlm_part.specs.Inner.Taking.{GradientGives, IsTaking, TakesNex
 ghost use Rattle.jxlm_part.specs.Reading.{FindsClusters, cost_of, tree_of};
 
 use crate::above::sample_above;
+use crate::one_gradient::read_one_gradient;
 use crate::rows::{Line, RowError};
 use crate::source::{Run, Source};
 use jxlm_base::bits::Bitstream;
@@ -196,8 +197,8 @@ fn read_by_kind<S: Sample, D: Decoder, const FIRST: bool>(
 {
     let none = Run { left: 0, token: 0 };
     match (leaves, source.run) {
-        (Leaves::One(_), None) => {
-            read_below::<S, D, FIRST, false, false>(source, none, leaves, widest, above, row)
+        (Leaves::One(leaf), None) => {
+            read_one_gradient::<S, D, FIRST>(source, leaf, widest, above, row)
         }
         (Leaves::Table(_), None) => {
             read_below::<S, D, FIRST, false, true>(source, none, leaves, widest, above, row)

@@ -9,6 +9,7 @@ pub mod coding;
 mod decode;
 mod gradient;
 pub mod laws;
+mod one_gradient;
 pub mod part;
 mod rows;
 mod source;

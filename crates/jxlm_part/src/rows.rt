@@ -10,6 +10,9 @@ use jxlm_base::grid::{AlignedGrid, Region};
 use jxlm_base::region::region_set_row;
 use jxlm_ma::paths::Path;
 
+/// How many tokens of a row of one leaf are read at a time.
+pub(crate) const STRETCH: usize = 64;
+
 /// What the cells of a row only look at.
 #[derive(Drop)]
 pub(crate) struct Line<'a, 's, S, D: Decoder> {

@@ -3,15 +3,15 @@
 //! No state of the predictors is needed for them, and no row above. Where the decoder has only one token for the leaf, a
 //! row is filled.
 
-ghost use Rattle.std.specs.Prelude.{◌≡◌, pos, true, map, length, replicate, Contains};
+ghost use Rattle.std.specs.Prelude.{◌≡◌, ◌+◌, ◌≤◌, pos, true, map, length, replicate, Contains};
 ghost use Rattle.jxlm_base.specs.Bits.{bytes_of};
 ghost use Rattle.jxlm_ma.specs.FlatTree.{HasMultiplier};
 ghost use Rattle.jxlm_part.specs.Coded.{sample_of};
 ghost use Rattle.jxlm_part.specs.Inner.Paths.{IsPlain, zero_rule};
-ghost use Rattle.jxlm_part.specs.Inner.Rows.{ReadsRow};
+ghost use Rattle.jxlm_part.specs.Inner.Rows.{MakesCells, ReadsRow, StretchGives};
 
 use crate::cell::sample_from;
-use crate::rows::RowError;
+use crate::rows::{RowError, STRETCH};
 use crate::source::Source;
 use jxlm_base::decoder::Decoder;
 use jxlm_base::sample::{Sample, Sealed};
@@ -42,6 +42,63 @@ fn sample_over_zero<S: Sample, const PLAIN: bool>(token: u32, leaf: Leaf) -> S
     }
 }
 
+/// Writes the samples of the first `count` tokens over a prediction of 0 into the row, from column `from` on.
+#[inline(always)]
+fn zero_samples<S: Sample, const PLAIN: bool>(
+    tokens: &[u32],
+    count: usize,
+    leaf: Leaf,
+    from: usize,
+    row: &mut [S],
+)
+    requires multiplier { HasMultiplier leaf }
+    requires plain { PLAIN ≡ true → IsPlain leaf }
+    requires tokens { count ≤ length tokens.now }
+    requires inside { from + count ≤ length row.old }
+    ensures { MakesCells (λ _ token. sample_of S.width leaf (pos 0) token) (map S.to_int row.old)
+        (map S.to_int row.new) from tokens.now count }
+{
+    for k in 0..count {
+        row[from + k] = sample_over_zero::<S, PLAIN>(tokens[k], leaf);
+    }
+}
+
+/// Reads as many cells of a row as there is room for tokens, from column `from` on, where each is predicted by 0.
+#[inline(always)]
+fn zero_stretch<S: Sample, D: Decoder, const PLAIN: bool>(
+    source: &mut Source<'_, D>,
+    leaf: Leaf,
+    widest: u32,
+    tokens: &mut [u32],
+    from: usize,
+    row: &mut [S],
+) -> Result<(), RowError>
+    requires multiplier { HasMultiplier leaf }
+    requires plain { PLAIN ≡ true → IsPlain leaf }
+    requires cluster { Contains (D.meaning.cluster_map source.old.decoder) leaf.cluster }
+    requires inside { from + length tokens.old ≤ length row.old }
+    ensures reads { StretchGives D.meaning (λ bytes. zero_rule D.meaning S.width bytes widest leaf) from
+        (length tokens.old) (map S.to_int row.old) (map S.to_int row.new) source.old source.new result }
+    ensures run { source.new.run ≡ source.old.run }
+{
+    match source
+        .decoder
+        .read_varints_with_multiplier_clustered(&mut source.bits, leaf.cluster, widest, tokens)
+    {
+        Ok(()) => {
+            zero_samples::<S, PLAIN>(tokens, tokens.len(), leaf, from, row);
+            Ok(())
+        }
+        Err(ended) => {
+            zero_samples::<S, PLAIN>(tokens, ended.read, leaf, from, row);
+            Err(RowError {
+                column: from + ended.read,
+                error: ended.error,
+            })
+        }
+    }
+}
+
 /// Reads the cells of a row where each is predicted by 0; with `PLAIN` the leaf adds nothing more.
 #[inline(never)]
 fn zero_cells<S: Sample, D: Decoder, const PLAIN: bool>(
@@ -57,14 +114,12 @@ fn zero_cells<S: Sample, D: Decoder, const PLAIN: bool>(
         (map S.to_int row.new) result source.old source.new }
     ensures run { source.new.run ≡ source.old.run }
 {
-    for x in 0..row.len() {
-        match source
-            .decoder
-            .read_varint_with_multiplier_clustered(&mut source.bits, leaf.cluster, widest)
-        {
-            Ok(token) => row[x] = sample_over_zero::<S, PLAIN>(token, leaf),
-            Err(error) => return Err(RowError { column: x, error }),
-        }
+    let mut room = [0; STRETCH];
+    let mut x = 0;
+    while x < row.len() {
+        let count = STRETCH.min(row.len() - x);
+        zero_stretch::<S, D, PLAIN>(source, leaf, widest, &mut room[..count], x, row)?;
+        x += count;
     }
     Ok(())
 }

@@ -1,5 +1,6 @@
 mod ItemLoop
 pub mod PlainGives
+pub mod PlainReads
 pub mod PlainTokens
 mod GammaBits
 pub mod GammaCodes

@@ -8,7 +8,7 @@ ghost use Rattle.jxlm_plain.specs.Plain.{PlainState, fields2_at, plain2_parse, p
 
 use crate::plain::{Format, Machine, number};
 use jxlm_base::bits::Bitstream;
-use jxlm_base::decoder::{Decoder, DecoderError, RleToken};
+use jxlm_base::decoder::{Decoder, DecoderError, RleToken, TokensError};
 use std::alloc::Global;
 use std::marker::Model;
 
@@ -95,6 +95,17 @@ impl Decoder for PlainDecoder2 {
         _multiplier: u32,
     ) -> Result<u32, DecoderError> {
         self.machine.read(bits, cluster)
+    }
+
+    #[inline(always)]
+    fn read_varints_with_multiplier_clustered(
+        &mut self,
+        bits: &mut Bitstream<'_>,
+        cluster: u8,
+        _multiplier: u32,
+        tokens: &mut [u32],
+    ) -> Result<(), TokensError> {
+        self.machine.read_some(bits, cluster, tokens)
     }
 
     #[tactic(auto, using(crate::specs::Inner::PlainLaws::runs2))]

@@ -1,5 +1,5 @@
 -- Rows of cells that are read one after another.
-use Rattle.std.specs.Prelude.{◌≡◌, ◌≢◌, ℕ, ◌+◌, ◌*◌, ◌<◌, ◌≤◌, ℤ, List, ◌++◌, length, map, take, slice_set, None, Result, Ok, Err}
+use Rattle.std.specs.Prelude.{◌≡◌, ◌≢◌, ℕ, ◌+◌, ◌*◌, ◌<◌, ◌≤◌, ℤ, List, ◌++◌, length, map, take, slice_get, slice_index, slice_set, Some, None, Result, Ok, Err}
 use Rattle.std.specs.Int.{Width}
 use Rattle.jxlm_base.specs.Bits.{bytes_of, position_of}
 use Rattle.jxlm_base.specs.Decoding.{Meaning}
@@ -81,6 +81,19 @@ module _ {S : Type 0} (d : Meaning S) (cost : ℕ) (rule : Rule S) (row : List �
     pub bytes : bytes_of new.bits ≡ bytes_of old.bits
     pub work : new.steps ≤ old.steps + cost
     pub more : old.steps ≤ new.steps
+
+-- the cells from column x on are what a rule says of the first n of these tokens, and those before are as they were
+pub record MakesCells (value : List ℤ → ℕ → ℤ) (row now : List ℤ) (x : ℕ) (tokens : List ℕ) (n : ℕ) : Type 0 where
+  pub before : take x now ≡ take x row
+  pub cells : (k : ℕ) → k < n → slice_get now (x + k) ≡ Some (value (take (x + k) now) (slice_index tokens k))
+
+-- What the read of n cells from column x on returned, and what it left: wherever those before were read from.
+module _ {S : Type 0} (d : Meaning S) (rule : List ℕ → Rule S) (x n : ℕ) (row now : List ℤ) (old new : Source S) where
+  abbrev pub StretchGives : Result (Unit {0}) RowError → Type 0
+  StretchGives (Ok u) = (start : Source S) → ReadsCells d 0 (rule (bytes_of start.bits)) row x start old →
+      ReadsCells d 0 (rule (bytes_of start.bits)) now (x + n) start new
+  StretchGives (Err r) = (start : Source S) → ReadsCells d 0 (rule (bytes_of start.bits)) row x start old →
+      FailsRow d 0 (rule (bytes_of start.bits)) now start new r
 
 -- two rules read the same for each cell of a row of n cells
 abbrev pub AreAlike : {S : Type 0} → Rule S → Rule S → ℕ → Type 0

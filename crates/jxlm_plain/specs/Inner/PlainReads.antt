@@ -1,10 +1,13 @@
 -- What the reads of the plain decoder returned, by the mode that they began and ended in.
-use Rattle.std.specs.Prelude.{◌≡◌, ℕ, ◌-◌, ◌<◌, ◌⊎◌, Result, Ok, Err}
-use Rattle.jxlm_plain.specs.Plain.{Read, last_in, owed_in}
+use Rattle.std.specs.Prelude.{◌≡◌, ℕ, ◌-◌, ◌<◌, ◌⊎◌, List, Result, Ok, Err}
+use Rattle.jxlm_base.specs.Decoding.{TokensGive}
+use Rattle.jxlm_plain.specs.Plain.{PlainState, Read, code_of, last_in, owed_in, plain_read}
 use Rattle.jxlm_base.specs.declared.decoder.DecoderError.{DecoderError}
 use Rattle.jxlm_base.specs.declared.decoder.DecoderError.TheVariants.{UnexpectedEof, Invalid}
 use Rattle.jxlm_base.specs.declared.decoder.RleToken.{RleToken}
 use Rattle.jxlm_base.specs.declared.decoder.RleToken.TheVariants.{Value, Repeat}
+use Rattle.jxlm_base.specs.declared.decoder.TokensError.{TokensError}
+use Rattle.jxlm_plain.specs.declared.plain.Code.{Code}
 use Rattle.jxlm_plain.specs.declared.plain.Mode.{Mode}
 use Rattle.jxlm_plain.specs.declared.plain.Mode.TheVariants.{Runs}
 
@@ -17,6 +20,12 @@ HasTokens (Repeat n) = 0 < n
 abbrev pub ReadsToken : Result ℕ DecoderError → Mode → Mode → ℕ → ℕ → Result Read DecoderError → Type 0
 ReadsToken (Ok v) s t p q meaning = meaning ≡ Ok (record { token = v; mode = t; position = q })
 ReadsToken (Err e) s t p q meaning = (meaning ≡ Err e) × (t ≡ s) × (q ≡ p)
+
+-- Tokens of this code were read in mode s at position p, and left mode t and position q, whatever the clusters.
+abbrev pub ReadsTokens : Result (Unit {0}) TokensError → List ℕ → List ℕ → Mode → Mode → Code → List ℕ → ℕ → ℕ → Type 0
+ReadsTokens r old new s t code bytes p q = (codes : List Code) (clusters : List ℕ) (c m : ℕ) → code ≡ code_of codes c →
+    TokensGive {S = PlainState} r old new (record { mode = s; codes = codes; clusters = clusters })
+    (record { mode = t; codes = codes; clusters = clusters }) p q (λ u k. plain_read u bytes k c m)
 
 -- an error that a token can have
 abbrev pub IsOfTokens : DecoderError → Type 0

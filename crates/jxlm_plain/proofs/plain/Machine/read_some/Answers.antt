@@ -1,0 +1,12 @@
+use Rattle.std.proofs.Common.{◌≡◌, ◌<◌, length}
+use Rattle.std.proofs.lemmas.List.Elements.{All-contains}
+use Rattle.jxlm_plain.specs.Plain.{code_of}
+use Rattle.jxlm_plain.proofs.PlainGives.{code_read}
+use Rattle.jxlm_plain.proofs.plain.Machine.read_some.Goals as goal
+
+pub returns-clause-gives : goal.returns-clause-gives
+returns-clause-gives c m =
+    let within : c.args.cluster < length c.self.inside.codes.items =
+    All-contains (λ k. k < length c.self.inside.codes.items) c.self.inside.clusters.items c.args.cluster c.self.invariant.1 (rw (← c.self.view_is) at c.requires) in
+    let code : c.index-code.result.now ≡ code_of c.self.inside.codes.items c.args.cluster = code_read _ _ _ c.index-code.ensures within in
+    rw (← c.self.view_is) (c.tokens_of.ensures.gives c.self.inside.codes.items c.self.inside.clusters.items c.args.cluster m code)
