@@ -11,7 +11,7 @@ use Rattle.jxlm_base.proofs.Eights.{chunk_fits, same}
 
 -- a chunk of numbers that fit
 pub chunk_eight : (xs : List ℤ) (i : ℕ) → i + 8 ≤ length xs → ((j : ℕ) → j < 8 → FitsSigned w16 (lane xs (i + j))) → AreEight (chunk i 8 xs)
-chunk_eight xs i le h = record { len = length-chunk i 8 xs le; fit = chunk_fits xs i le h }
+chunk_eight xs i le h = record { len = length-chunk i 8 xs le; fit = chunk_fits w16 xs i le h }
 
 -- cells that are not finished yet fit
 pub cell_fits : (t n : ℕ) (a b c a' b' c' : List ℤ) (i : ℕ) → FinishesCells w16 t 0 n a b c a' b' c' → n ≤ i → i < length a → IsTripleOf w16 (triple_at a b c i) → IsTripleOf w16 (triple_at a' b' c' i)

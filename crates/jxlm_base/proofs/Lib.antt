@@ -16,6 +16,8 @@ mod Digits
 mod Each
 mod Eights
 mod Lines
+mod Near
+mod NearPairs
 mod NumberAt
 mod RowLoop
 mod RowWrites

@@ -9,7 +9,7 @@ both : (x y : Bool) (s : ℤ) → cond x (cond y s (pos 0)) (pos 0) ≡ cond (x 
 both true y s = refl
 both false y s = refl
 
-and_true : (x y : Bool) → (x && y) ≡ true → (x ≡ true) × (y ≡ true)
+pub and_true : (x y : Bool) → (x && y) ≡ true → (x ≡ true) × (y ≡ true)
 and_true true y e = (refl, e)
 and_true false y e = absurd (subst (λ t. T (not t)) e tt)
 

@@ -10,7 +10,7 @@ use std::simd::prelude::*;
 
 /// The sums, reduced to 16 bits.
 #[inline(always)]
-fn sums(a: i16x8, b: i16x8) -> i16x8
+pub(crate) fn sums(a: i16x8, b: i16x8) -> i16x8
     requires a { AreEight a }
     requires b { AreEight b }
     ensures value { (j : ℕ) → j < 8 → lane result j ≡ plus w16 (lane a j) (lane b j) }
@@ -21,7 +21,7 @@ fn sums(a: i16x8, b: i16x8) -> i16x8
 
 /// The differences, reduced to 16 bits.
 #[inline(always)]
-fn differences(a: i16x8, b: i16x8) -> i16x8
+pub(crate) fn differences(a: i16x8, b: i16x8) -> i16x8
     requires a { AreEight a }
     requires b { AreEight b }
     ensures value { (j : ℕ) → j < 8 → lane result j ≡ minus w16 (lane a j) (lane b j) }

@@ -20,7 +20,7 @@ fn unsigned(a: i16x8) -> u16x8
 
 /// The signed numbers of bits.
 #[inline(always)]
-fn signed(a: u16x8) -> i16x8
+pub(crate) fn signed(a: u16x8) -> i16x8
     requires { length a ≡ 8 }
     ensures value { result ≡ map (to_z w16) a }
     ensures fit { Each1 (FitsSigned w16) result }
@@ -40,7 +40,7 @@ fn third(n: u16x8) -> u16x8
 
 /// Half of each number, rounded toward zero.
 #[inline(always)]
-fn half(n: i16x8) -> i16x8
+pub(crate) fn half(n: i16x8) -> i16x8
     requires len { length n ≡ 8 }
     requires fit { Each1 (FitsSigned w16) n }
     ensures value { (j : ℕ) → j < 8 → lane result j ≡ int_div (lane n j) (pos 2) }
@@ -62,7 +62,7 @@ fn lesser(a: u16x8, b: u16x8) -> u16x8
 
 /// The sum of two numbers, at most 65535.
 #[inline(always)]
-fn sum(a: u16x8, b: u16x8) -> u16x8
+pub(crate) fn sum(a: u16x8, b: u16x8) -> u16x8
     requires a_len { length a ≡ 8 }
     requires b_len { length b ≡ 8 }
     ensures value { (j : ℕ) → j < 8 → slice_index result j ≡ min (slice_index a j + slice_index b j) 65535 }
@@ -83,7 +83,7 @@ fn less_a_fourth(a: u16x8) -> u16x8
 
 /// The slopes of falls by `p` and then by `q`: exact where the whole fall fits.
 #[inline(always)]
-fn slopes(p: u16x8, q: u16x8) -> u16x8
+pub(crate) fn slopes(p: u16x8, q: u16x8) -> u16x8
     requires p_len { length p ≡ 8 }
     requires q_len { length q ≡ 8 }
     ensures value { (j : ℕ) → j < 8 → slice_index p j + slice_index q j < 65536 → slice_index result j
@@ -97,7 +97,7 @@ fn slopes(p: u16x8, q: u16x8) -> u16x8
 
 /// How far apart two numbers are.
 #[inline(always)]
-fn gap(a: i16x8, b: i16x8) -> u16x8
+pub(crate) fn gap(a: i16x8, b: i16x8) -> u16x8
     requires a_len { length a ≡ 8 }
     requires b_len { length b ≡ 8 }
     requires a_fit { Each1 (FitsSigned w16) a }
@@ -110,7 +110,7 @@ fn gap(a: i16x8, b: i16x8) -> u16x8
 
 /// `kept`, and 0 where `a` is below `b`.
 #[inline(always)]
-fn none_below(a: i16x8, b: i16x8, kept: i16x8) -> i16x8
+pub(crate) fn none_below(a: i16x8, b: i16x8, kept: i16x8) -> i16x8
     requires a_len { length a ≡ 8 }
     requires b_len { length b ≡ 8 }
     requires kept_len { length kept ≡ 8 }

@@ -10,6 +10,7 @@ pub mod error;
 pub mod grid;
 mod lanes;
 pub mod laws;
+mod near_lanes;
 pub mod region;
 pub mod sample;
 mod squeeze;

@@ -7,8 +7,8 @@ ghost use Rattle.jxlm_base.specs.Subgrid.{whole, IsSamePlace, IsSameOutside, Kee
 ghost use Rattle.jxlm_base.specs.Inner.Unsqueeze.{first_of, second_of, next_in, first_in, before_in, number_at, row_in, column_in, line_in, IsUnsqueezed, ArePairs};
 
 use crate::grid::OutOfMemory;
-use crate::lanes;
 use crate::subgrid::MutableSubgrid;
+use crate::{lanes, near_lanes};
 use std::alloc::Global;
 
 /// A sample's type as squeezing needs it. `Sealed` is built on it.
@@ -271,7 +271,8 @@ impl Lines for i32 {
         strip: &mut [i32],
         at: usize,
     ) {
-        unsqueeze_from(0, averages, next, residuals, strip, at);
+        let from = near_lanes::unsqueeze_near(averages, next, residuals, strip, at);
+        unsqueeze_from(from, averages, next, residuals, strip, at);
     }
 }
 

@@ -66,9 +66,9 @@ loop-k-preserved c =
     let still : (j : ℕ) → j < 8 → IsTripleOf w16 (triple_at a b d (i + j)) = λ j h.
     cell_fits c.args.ty i c.args.a.now c.args.b.now c.args.c.now a b d (i + j) u (omega arith) (omega arith) (fits (i + j) (omega arith)) in
     let next : i + 8 ≡ 8 * (c.loop-k.k + 1) = omega arith in
-    let x : List ℤ = back c.finished.result.0 in
-    let y : List ℤ = back c.finished.result.1 in
-    let z : List ℤ = back c.finished.result.2 in
+    let x : List ℤ = back w16 c.finished.result.0 in
+    let y : List ℤ = back w16 c.finished.result.1 in
+    let z : List ℤ = back w16 c.finished.result.2 in
     subst (λ m. FinishesCells w16 c.args.ty 0 m c.args.a.now c.args.b.now c.args.c.now (put_chunk i a x) (put_chunk i b y) (put_chunk i d z)) next
     (eight_cells c.args.ty i c.args.a.now c.args.b.now c.args.c.now a b d x y z (omega arith) second third
     (eight_back c.finished.result.0 c.finished.ensures.first) (eight_back c.finished.result.1 c.finished.ensures.second) (eight_back c.finished.result.2 c.finished.ensures.third)
@@ -76,8 +76,8 @@ loop-k-preserved c =
     (λ j h.
     triple_same _ _ _ _ _ _ (lane_back c.finished.result.0 j c.finished.ensures.first) (lane_back c.finished.result.1 j c.finished.ensures.second) (lane_back c.finished.result.2 j c.finished.ensures.third)
     ∙ c.finished.ensures.value j h
-    ∙ ap (finished_by w16 c.args.ty) (triple_same _ _ _ _ _ _ (moved a i j (omega arith) (λ k l. (still k l).first) h) (moved b i j (omega arith) (λ k l. (still k l).second) h)
-    (moved d i j (omega arith) (λ k l. (still k l).third) h))))
+    ∙ ap (finished_by w16 c.args.ty) (triple_same _ _ _ _ _ _ (moved w16 a i j (omega arith) (λ k l. (still k l).first) h) (moved w16 b i j (omega arith) (λ k l. (still k l).second) h)
+    (moved w16 d i j (omega arith) (λ k l. (still k l).third) h))))
 
 pub returns-clause-finished : goal.returns-clause-finished
 returns-clause-finished c =

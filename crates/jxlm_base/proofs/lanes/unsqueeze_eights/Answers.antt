@@ -19,28 +19,28 @@ pairs-requires-clause-before_fit c =
     let lt = c.loop-k-test.true in
     let so_far = c.loop-k.invariant in
     let len = so_far.len in
-    back_fits (chunk i 8 c.loop-k.strip) (chunk_fits c.loop-k.strip i (omega arith)
-    (λ j h. still_fits c.args.strip.now c.loop-k.strip (i + j) (so_far.kept (i + j) (omega arith)) (c.line_fits-4.ensures (i + j) (omega arith))))
+    back_fits w16 (chunk i 8 c.loop-k.strip) (chunk_fits w16 c.loop-k.strip i (omega arith)
+    (λ j h. still_fits w16 c.args.strip.now c.loop-k.strip (i + j) (so_far.kept (i + j) (omega arith)) (c.line_fits-4.ensures (i + j) (omega arith))))
 
 pub pairs-requires-clause-average_fit : goal.pairs-requires-clause-average_fit
 pairs-requires-clause-average_fit c =
     let i : ℕ = 8 * c.loop-k.k in
     let lt = c.loop-k-test.true in
-    back_fits (chunk i 8 c.args.averages.now) (chunk_fits c.args.averages.now i (omega arith) (λ j h. c.line_fits.ensures (i + j) (omega arith)))
+    back_fits w16 (chunk i 8 c.args.averages.now) (chunk_fits w16 c.args.averages.now i (omega arith) (λ j h. c.line_fits.ensures (i + j) (omega arith)))
 
 pub pairs-requires-clause-next_fit : goal.pairs-requires-clause-next_fit
 pairs-requires-clause-next_fit c =
     let i : ℕ = 8 * c.loop-k.k in
     let lt = c.loop-k-test.true in
     let len = c.requires.next_len in
-    back_fits (chunk i 8 c.args.next.now) (chunk_fits c.args.next.now i (omega arith) (λ j h. c.line_fits-2.ensures (i + j) (omega arith)))
+    back_fits w16 (chunk i 8 c.args.next.now) (chunk_fits w16 c.args.next.now i (omega arith) (λ j h. c.line_fits-2.ensures (i + j) (omega arith)))
 
 pub pairs-requires-clause-residual_fit : goal.pairs-requires-clause-residual_fit
 pairs-requires-clause-residual_fit c =
     let i : ℕ = 8 * c.loop-k.k in
     let lt = c.loop-k-test.true in
     let len = c.requires.residuals_len in
-    back_fits (chunk i 8 c.args.residuals.now) (chunk_fits c.args.residuals.now i (omega arith) (λ j h. c.line_fits-3.ensures (i + j) (omega arith)))
+    back_fits w16 (chunk i 8 c.args.residuals.now) (chunk_fits w16 c.args.residuals.now i (omega arith) (λ j h. c.line_fits-3.ensures (i + j) (omega arith)))
 
 pub loop-k-preserved : goal.loop-k-preserved
 loop-k-preserved c =
@@ -58,19 +58,19 @@ loop-k-preserved c =
     let ms = c.args.averages.now in
     let xs = c.args.next.now in
     let rs = c.args.residuals.now in
-    let one : back c.pairs.result.0 ≡ c.pairs.result.0 = same_numbers w16 c.pairs.result.0 c.pairs.ensures.first_fits in
-    let two : back c.pairs.result.1 ≡ c.pairs.result.1 = same_numbers w16 c.pairs.result.1 c.pairs.ensures.second_fits in
+    let one : back w16 c.pairs.result.0 ≡ c.pairs.result.0 = same_numbers w16 c.pairs.result.0 c.pairs.ensures.first_fits in
+    let two : back w16 c.pairs.result.1 ≡ c.pairs.result.1 = same_numbers w16 c.pairs.result.1 c.pairs.ensures.second_fits in
     let fits : (j : ℕ) → j < 8 → FitsSigned w16 (lane strip (at + i + j)) = λ j h.
-    still_fits old strip (at + i + j) (so_far.kept (at + i + j) (omega arith)) (c.line_fits-4.ensures (at + i + j) (omega arith)) in
+    still_fits w16 old strip (at + i + j) (so_far.kept (at + i + j) (omega arith)) (c.line_fits-4.ensures (at + i + j) (omega arith)) in
     let args : (p : ℤ → ℤ → ℤ → ℤ → ℤ) (j : ℕ) → j < 8 →
-    p (lane (back (chunk (at + i) 8 strip)) j) (lane (back (chunk i 8 ms)) j) (lane (back (chunk i 8 xs)) j) (lane (back (chunk i 8 rs)) j)
+    p (lane (back w16 (chunk (at + i) 8 strip)) j) (lane (back w16 (chunk i 8 ms)) j) (lane (back w16 (chunk i 8 xs)) j) (lane (back w16 (chunk i 8 rs)) j)
     ≡ p (lane strip (at + (i + j))) (lane ms (i + j)) (lane xs (i + j)) (lane rs (i + j)) = λ p j h.
     (let is : at + i + j ≡ at + (i + j) = omega arith in
-    four p _ _ _ _ _ _ _ _ (moved strip (at + i) j (omega arith) fits h ∙ ap (lane strip) is) (moved ms i j (omega arith) (λ k l. c.line_fits.ensures (i + k) (omega arith)) h)
-    (moved xs i j (omega arith) (λ k l. c.line_fits-2.ensures (i + k) (omega arith)) h) (moved rs i j (omega arith) (λ k l. c.line_fits-3.ensures (i + k) (omega arith)) h)) in
+    four p _ _ _ _ _ _ _ _ (moved w16 strip (at + i) j (omega arith) fits h ∙ ap (lane strip) is) (moved w16 ms i j (omega arith) (λ k l. c.line_fits.ensures (i + k) (omega arith)) h)
+    (moved w16 xs i j (omega arith) (λ k l. c.line_fits-2.ensures (i + k) (omega arith)) h) (moved w16 rs i j (omega arith) (λ k l. c.line_fits-3.ensures (i + k) (omega arith)) h)) in
     let next : i + 8 ≡ 8 * (c.loop-k.k + 1) = omega arith in
     subst (LinesSoFar (λ x. x) w16 ms xs rs old n at _) next
-    (eight_more ms xs rs old n at strip (back c.pairs.result.0) (back c.pairs.result.1) i (omega arith) room (ap length one ∙ c.pairs.ensures.first_len) (ap length two ∙ c.pairs.ensures.second_len)
+    (eight_more w16 ms xs rs old n at strip (back w16 c.pairs.result.0) (back w16 c.pairs.result.1) i (omega arith) room (ap length one ∙ c.pairs.ensures.first_len) (ap length two ∙ c.pairs.ensures.second_len)
     (λ j h. ap (λ l. lane l j) one ∙ c.pairs.ensures.first j h ∙ args (first_of w16) j h)
     (λ j h. ap (λ l. lane l j) two ∙ c.pairs.ensures.second j h ∙ args (second_of w16) j h)
     (λ j h. c.line_fits.ensures j h) (λ j h. c.line_fits-3.ensures j (omega arith)) so_far)
