@@ -2,7 +2,7 @@
 # Counts the instructions that decoding takes, a sample, and encoding: measure.sh PROGRAM FOLDER [SIDE [JXLMOD]]
 #
 # PROGRAM is jxlbench, built; FOLDER has pictures of scripts/speed_inputs.py, of three channels of SIDE by SIDE samples,
-# 256 unless another side is given. A run of three decodes is counted and a run of one, and their difference is divided
+# 256 unless another side is given; of four where their names begin with four-. A run of three decodes is counted and a run of one, and their difference is divided
 # by the samples of two decodes. So what comes once in each run falls out: the start, the reading, and the checksum,
 # which jxlbench makes once, after all decodes. The Rust crate's column in docs/SPEED.md is the same difference, of a
 # program around it that also sums the samples once, after all decodes.
@@ -10,7 +10,7 @@
 # For each picture a line: its name, the instructions a sample at 16 and at 32 bits, and the two checksums. A picture
 # whose name ends in -cut is decoded from its sections. It needs valgrind.
 #
-# Where JXLMOD is given, which is jxlmod, built, a second line follows for each picture in one part that both widths hold:
+# Where JXLMOD is given, which is jxlmod, built, a second line follows for each picture of three channels in one part that both widths hold:
 # its image is encoded under one leaf, which predicts by the gradient. The line has its name and the word encoded; the
 # instructions a sample of encoding it in the first plain format, of decoding what that wrote, and of both in the second
 # format, each at 16 and at 32 bits; and the bytes that the first format takes, and the second.
@@ -32,11 +32,20 @@ command_of() {
     esac
 }
 
-# The arguments of a command, for samples of this type, so many times.
+# How many channels a picture has.
+channels_of() {
+    case $(basename "$1") in
+        four-*) echo 4 ;;
+        *) echo 3 ;;
+    esac
+}
+
+# The arguments of a command on a file, for samples of this type, so many times.
 arguments() {
-    case $1 in
-        sections*) echo "$1 $side $side 3 8 $2 $((side / 4)) $3" ;;
-        *) echo "$1 $side $side 3 8 $2 $3" ;;
+    words="$2 $side $side $(channels_of "$1") 8 $3"
+    case $2 in
+        sections*) echo "$words $((side / 4)) $4" ;;
+        *) echo "$words $4" ;;
     esac
 }
 
@@ -44,7 +53,7 @@ arguments() {
 counted() {
     # The arguments are words of their own.
     # shellcheck disable=SC2046
-    valgrind --tool=callgrind --callgrind-out-file=/dev/null "$program" $(arguments "$2" "$3" "$4") \
+    valgrind --tool=callgrind --callgrind-out-file=/dev/null "$program" $(arguments "$1" "$2" "$3" "$4") \
         < "$1" 2>&1 > /dev/null | sed -n 's/.*Collected : \([0-9]*\).*/\1/p'
 }
 
@@ -53,13 +62,13 @@ both_widths() {
     for samples in i16 i32; do
         three=$(counted "$1" "$2" "$samples" 3)
         one=$(counted "$1" "$2" "$samples" 1)
-        echo "$three $one $side" | awk '{ printf " %.1f", ($1 - $2) / (6 * $3 * $3) }'
+        echo "$three $one $side $(channels_of "$1")" | awk '{ printf " %.1f", ($1 - $2) / (2 * $4 * $3 * $3) }'
     done
 }
 
 checksum() {
     # shellcheck disable=SC2046
-    "$program" $(arguments "$2" "$3" 1) < "$1" | sed -n 's/^checksum //p'
+    "$program" $(arguments "$1" "$2" "$3" 1) < "$1" | sed -n 's/^checksum //p'
 }
 
 encoded() {
@@ -75,7 +84,8 @@ for picture in "$folder"/*; do
     command=$(command_of "$picture")
     sums="$(checksum "$picture" "$command" i16) $(checksum "$picture" "$command" i32)"
     echo "$(basename "$picture")$(both_widths "$picture" "$command") $sums"
-    if [ -n "$jxlmod" ] && [ "$command" = decode ] && [ "${sums% *}" = "${sums#* }" ]; then
+    if [ -n "$jxlmod" ] && [ "$command" = decode ] && [ "$(channels_of "$picture")" = 3 ] \
+        && [ "${sums% *}" = "${sums#* }" ]; then
         encoded "$picture"
     fi
 done

@@ -2,7 +2,7 @@
 """Writes the pictures by which docs/SPEED.md counts: speed_inputs.py FOLDER [SIDE]
 
 Each has three channels of SIDE by SIDE samples, 256 unless another side is given, of bit depth 8, in the format of
-docs/FORMAT.md. Tokens take 8 bits; small ones are the most frequent, and they are the same at each call. Those whose
+docs/FORMAT.md; those whose names begin with four- have four. Tokens take 8 bits; small ones are the most frequent, and they are the same at each call. Those whose
 names end in -cut are cut into 16 groups, whose side is a quarter of SIDE, which is then a power of two.
 """
 import math
@@ -10,7 +10,7 @@ import pathlib
 import random
 import sys
 
-GRADIENT, ZERO, WEST, WEIGHTED = 5, 0, 1, 6
+GRADIENT, ZERO, WEST, SELECT, WEIGHTED = 5, 0, 1, 4, 6
 COLOUR = [(2, 0), (2, 0), (3, 0), (2, 0)]  # channels 0 to 2, type 6
 PALETTE = [(2, 1), (2, 0), (3, 0), (2, 1), (2, 1), (10, 0), (2, 0), (4, 0)]  # 256 colours of channels 0 to 2, no deltas
 SQUEEZE = [(2, 2), (2, 0)]  # the default steps
@@ -139,12 +139,16 @@ def pictures(side):
     samples = 3 * side * side
     sizes = bytes(min(255, int(-8 * math.log((byte + 0.5) / 256))) for byte in range(256))
     tokens = source.randbytes(samples + 16).translate(sizes)
+    four = tokens + random.Random(3).randbytes(side * side).translate(sizes)
     weighted = [leaf(WEIGHTED, i % 4, i % 3 - 1) for i in range(32)]
     mixed = [leaf(p, i % 4) for i, p in enumerate((1, 2, 3, 4, 5, 7, 8, 9, 10, 11, 12, 13, 5, 4, 3, 5))]
     errors, earlier = around_zero(p15=128, p9=512), around_zero(p17=128, p10=32, p6=256, p14=32)
     fused, tables = (15, 9, 15, 9, 15), (15, 15, 15, 9, 9)
     west, gradient = ([leaf(predictor, i % 4) for i in range(8)] for predictor in (WEST, GRADIENT))
     on_west, on_gradient = (halving(3 * (p,), {p: (-64, 64)}, iter(row)) for p, row in ((10, west), (9, gradient)))
+    alone = halving((9, 10, 6), around_zero(p9=64, p10=64, p6=64), iter(mixed))
+    for_last = (0, 2, halving(tables, errors, iter(weighted)), alone)
+    by_channel = (0, 0, (0, 1, leaf(SELECT), leaf(WEST, 1, 1)), alone)
     one = tree(leaf(GRADIENT))
     zero = tree(leaf(ZERO))
     yield "gradient", packed(header() + one, tokens)
@@ -160,6 +164,10 @@ def pictures(side):
     yield "gradient-cut", cut(side, header() + one, tokens)
     yield "zero-cut", cut(side, header() + zero, tokens)
     yield "palette", packed(header(PALETTE) + zero, bytes(token & 254 for token in tokens))
+    yield "select", packed(header() + tree(leaf(SELECT)), tokens)
+    yield "self-correcting", packed(header() + tree(leaf(WEIGHTED)), tokens)
+    yield "four-one-weighted", packed(header() + tree(for_last, clusters=4), four)
+    yield "by-channel", packed(header() + tree(by_channel, clusters=4), tokens)
     yield "large", packed(header() + tree(grown(random.Random(2), 6282, 37)), tokens)
 
 

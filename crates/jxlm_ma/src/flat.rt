@@ -380,6 +380,7 @@ impl FlatMaTree {
     }
 
     /// The leaf to which every walk leads, where no decision is left once those that are known beforehand are taken.
+    #[inline(always)]
     pub fn only_leaf(&self) -> Option<Leaf>
         ensures some { IfSome result (IsLeafOf self.now) }
         ensures none { result ≡ None → 0 < depth self.now.tree }

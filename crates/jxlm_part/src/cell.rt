@@ -1,12 +1,13 @@
 //! Rows that are read cell by cell, each cell at the leaf to which its properties lead.
 
-ghost use Rattle.std.specs.Prelude.{◌≡◌, pos, ◌+ℤ◌, ◌*ℤ◌, ◌+◌, ◌^◌, ◌<◌, ◌≤◌, true, false, length, OnOk};
+ghost use Rattle.std.specs.Prelude.{◌≡◌, pos, ◌+ℤ◌, ◌*ℤ◌, ◌+◌, ◌^◌, ◌<◌, ◌≤◌, true, false, length, None, OnOk};
 ghost use Rattle.std.specs.Int.{int_wrap};
 ghost use Rattle.jxlm_base.specs.Numbers.{unpack};
 ghost use Rattle.jxlm_ma.specs.FlatTree.{ClustersStandIn, HasMultiplier};
 ghost use Rattle.jxlm_ma.specs.Paths.{Gives};
-ghost use Rattle.jxlm_ma.specs.Tree.{StandsAtLeaf};
+ghost use Rattle.jxlm_ma.specs.Tree.{StandsAtLeaf, depth};
 ghost use Rattle.jxlm_tree.specs.Holding.{IsCurrent};
+ghost use Rattle.jxlm_tree.specs.Standing.{used_weights};
 ghost use Rattle.jxlm_part.specs.Inner.Cells.{IsReached, SampleGives};
 ghost use Rattle.jxlm_part.specs.Inner.Paths.{is_walked, steps_walked};
 ghost use Rattle.jxlm_part.specs.Inner.Rows.{AreAway, CellGives, CellsGive, IsAtCell, IsAway, IsLine, IsWalked, RowGives, region_on};
@@ -31,6 +32,29 @@ pub(crate) fn sample_from<S: Sample>(token: u32, leaf: Leaf, predicted: i32) -> 
         .add(S::from_i32(predicted))
 }
 
+/// The leaf to which these properties lead by the walk of this tree; where it has one leaf, nothing is walked.
+#[inline(always)]
+fn walked_leaf<S: Sample>(
+    flat: &FlatMaTree,
+    properties: &Properties<'_, S>,
+    steps: &mut Steps,
+) -> Leaf
+    requires { IsCurrent properties.now }
+    ensures leaf { IsReached flat.now S.to_int properties.now result }
+    ensures stands { StandsAtLeaf flat.now.tree result }
+    ensures multiplier { HasMultiplier result }
+    ensures cost { steps.new ≤ steps.old + depth flat.now.tree + 1 }
+    ensures more { steps.old ≤ steps.new }
+{
+    match flat.only_leaf() {
+        Some(leaf) => leaf,
+        None => {
+            let own = properties.own();
+            *flat.leaf(&properties.listed(&own), steps)
+        }
+    }
+}
+
 /// The leaf to which these properties lead in this tree: by the path's table, where it has one.
 #[inline(always)]
 fn leaf_of<S: Sample>(
@@ -49,7 +73,7 @@ fn leaf_of<S: Sample>(
 {
     match path {
         Path::Clusters(table) => table.leaf_by(properties, steps),
-        _ => *flat.leaf(properties, steps),
+        _ => walked_leaf(flat, properties, steps),
     }
 }
 
@@ -78,6 +102,40 @@ fn next_sample<S: Sample, D: Decoder>(
 
 /// Reads the cell in column `x` into `row`; `rows` are those of the nearest earlier channels. The walk must be at this
 /// cell, and is at the next one afterwards. Without `EDGE` the cell is two or more columns and rows away from every edge
+/// but the last row; without `WEIGHTED` no weights are used in the channel.
+#[inline(always)]
+fn decode_cell_by<'s, S: Sample, D: Decoder, const EDGE: bool, const WEIGHTED: bool>(
+    walk: &mut Walk<'_, S, D>,
+    line: &Line<'_, 's, S, D>,
+    rows: &'s [EarlierRow<'s, S>],
+    row: &mut [S],
+    x: usize,
+) -> Result<(), DecoderError>
+    requires line { IsWalked line.now rows.now }
+    requires column { x < (region_on line.now).width }
+    requires inner { EDGE ≡ false → IsAway x line.now.y (region_on line.now).width }
+    requires without { WEIGHTED ≡ false → used_weights walk.old.state ≡ None }
+    requires at { IsAtCell line.now D.meaning S.to_int S.width x row.old walk.old }
+    ensures { CellGives line.now D.meaning S.to_int S.width x row.old row.new walk.old walk.new result }
+{
+    let properties = walk
+        .state
+        .properties_in_row::<EDGE, WEIGHTED>(line.store, rows);
+    let flat = &line.coding.flats[line.i].flat;
+    let sample = next_sample(
+        &mut walk.source,
+        &properties,
+        flat,
+        line.path,
+        line.coding.widest,
+    )?;
+    properties.record(sample.to_i32());
+    row[x] = sample;
+    Ok(())
+}
+
+/// Reads the cell in column `x` into `row`; `rows` are those of the nearest earlier channels. The walk must be at this
+/// cell, and is at the next one afterwards. Without `EDGE` the cell is two or more columns and rows away from every edge
 /// but the last row.
 #[inline(always)]
 fn decode_cell<'s, S: Sample, D: Decoder, const EDGE: bool>(
@@ -93,18 +151,11 @@ fn decode_cell<'s, S: Sample, D: Decoder, const EDGE: bool>(
     requires at { IsAtCell line.now D.meaning S.to_int S.width x row.old walk.old }
     ensures { CellGives line.now D.meaning S.to_int S.width x row.old row.new walk.old walk.new result }
 {
-    let properties = walk.state.properties_by_rows::<EDGE>(line.store, rows);
-    let flat = &line.coding.flats[line.i].flat;
-    let sample = next_sample(
-        &mut walk.source,
-        &properties,
-        flat,
-        line.path,
-        line.coding.widest,
-    )?;
-    properties.record(sample.to_i32());
-    row[x] = sample;
-    Ok(())
+    if walk.state.is_weighted() {
+        decode_cell_by::<S, D, EDGE, true>(walk, line, rows, row, x)
+    } else {
+        decode_cell_by::<S, D, EDGE, false>(walk, line, rows, row, x)
+    }
 }
 
 /// Where the columns of row `y` begin and end whose cells are two or more columns and rows away from every edge but the

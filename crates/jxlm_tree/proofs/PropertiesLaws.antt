@@ -1,9 +1,9 @@
 -- Properties by what the state keeps.
-use Rattle.std.proofs.Common.{◌≡◌, ℕ, zero, suc, ◌-◌, ◌/◌, ◌%◌, ◌<◌, ◌≤◌, ℤ, pos, ◌-ℤ◌, List, [], length, get_or, Some, None, Option, sym, ap, ◌∙◌, refl, arith}
+use Rattle.std.proofs.Common.{◌≡◌, ℕ, zero, suc, ◌+◌, ◌-◌, ◌/◌, ◌%◌, ◌<◌, ◌≤◌, ℤ, pos, ◌-ℤ◌, List, [], ◌∷◌, length, get_or, Some, None, Option, FitsSigned, sym, ap, ◌∙◌, refl, arith, to_z, of_z}
 use Rattle.std.specs.Prelude.{map}
 use Rattle.std.specs.List.{slice_get}
 use Rattle.std.specs.Int.{w32, int_wrap}
-use Rattle.std.proofs.lemmas.Int.{int_wrap_fits, SFits-int_wrap, ints}
+use Rattle.std.proofs.lemmas.Int.{int_wrap_fits, SFits-int_wrap, ints, to_z-of_z}
 use Rattle.std.proofs.lemmas.List.{get_or-map}
 use Rattle.std.proofs.lemmas.Option.{slice_get_past}
 use Rattle.std.proofs.lemmas.Bool.{lt-ltb, le-ltb}
@@ -12,8 +12,9 @@ use Rattle.jxlm_tree.specs.Neighbours.{Neighbours, neighbours, column, row, west
 use Rattle.jxlm_tree.specs.Properties.{Surroundings, own_properties, earlier_property, earlier_properties, place_property, west_change, error_property}
 use Rattle.jxlm_tree.specs.Holding.{surroundings}
 use Rattle.jxlm_tree.specs.Inner.OwnProperties.{own_list, own_of}
-use Rattle.jxlm_tree.specs.Correcting.{IsMade}
+use Rattle.jxlm_tree.specs.Correcting.{IsMade, near_of}
 use Rattle.jxlm_tree.specs.Predictions.{corrected}
+use Rattle.jxlm_tree.specs.SelfCorrecting.{greatest}
 use Rattle.jxlm_tree.specs.Rolling.{Rolls}
 use Rattle.jxlm_tree.specs.Standing.{Setting}
 use Rattle.jxlm_tree.specs.declared.predictor.WpHeader.{WpHeader}
@@ -74,9 +75,9 @@ own_property_kept s x y w n nw g e previous current samples a k r is error h =
     sym (own-wraps (own_list x y a g e) k h) ∙ ap (λ xs. get_or xs k (pos 0)) (own_kept s x y w n nw g e previous current samples a r is error)
 
 -- without weights there is no maximum error
-pub error-some : (o : Option WpHeader) (r : PredictionResult) (width : ℕ) (samples : List ℤ) → IsMade (Some r) o width samples → r.max_error ≡ error_property o samples width
+pub error-some : (o : Option WpHeader) (r : PredictionResult) (width : ℕ) (samples : List ℤ) → IsMade (Some r) o width samples → greatest (near_of r.errors) ≡ error_property o samples width
 error-some None r width samples h = absurd h
-error-some (Some w) r width samples h = h.max_error_is
+error-some (Some w) r width samples h = h.errors_are
 
 pub error-none : (o : Option WpHeader) (width : ℕ) (samples : List ℤ) → IsMade None o width samples → pos 0 ≡ error_property o samples width
 error-none None width samples h = refl
@@ -90,3 +91,22 @@ corrected-some (Some w) r width samples h = h.prediction_is
 pub corrected-none : (o : Option WpHeader) (width : ℕ) (samples : List ℤ) → IsMade None o width samples → pos 0 ≡ corrected o samples width
 corrected-none None width samples h = refl
 corrected-none (Some w) width samples h = absurd h
+
+-- the numbers of a list are those of f, from n on
+pub record AreFrom (f : ℕ → ℤ) (n : ℕ) (vs : List ℤ) : Type 0 where
+  pub each : (k : ℕ) → k < length vs → get_or vs k (pos 0) ≡ f (n + k)
+
+pub from-none : (f : ℕ → ℤ) (n : ℕ) → AreFrom f n []
+from-none f n = record { each = λ k h. let no : ⊥ = omega (arith, h) in absurd no }
+
+more_at : (f : ℕ → ℤ) (n : ℕ) (v : ℤ) (vs : List ℤ) → FitsSigned w32 v → v ≡ f n → AreFrom f (suc n) vs → (k : ℕ) → k < suc (length vs) → get_or (to_z w32 (of_z w32 v) ∷ vs) k (pos 0) ≡ f (n + k)
+more_at f n v vs fits is rest zero h = to_z-of_z w32 v fits ∙ is ∙ ap f (omega arith)
+more_at f n v vs fits is rest (suc k) h = rest.each k (omega (arith, h)) ∙ ap f (omega arith)
+
+-- one more, before those of the next numbers; it is stored in 32 bits
+pub from-more : (f : ℕ → ℤ) (n : ℕ) (v : ℤ) (vs : List ℤ) → FitsSigned w32 v → v ≡ f n → AreFrom f (suc n) vs → AreFrom f n (to_z w32 (of_z w32 v) ∷ vs)
+from-more f n v vs fits is rest = record { each = more_at f n v vs fits is rest }
+
+-- the numbers of a list that begins with that of 0
+pub from-start : (f : ℕ → ℤ) (vs : List ℤ) → AreFrom f 0 vs → (k : ℕ) → k < length vs → get_or vs k (pos 0) ≡ f k
+from-start f vs are k h = are.each k h ∙ ap f (omega arith)

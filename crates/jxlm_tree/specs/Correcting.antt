@@ -2,11 +2,12 @@
 use Rattle.std.specs.Prelude.{◌≡◌, ℕ, suc, ◌<◌, ◌≤◌, ℤ, List, [], ◌∷◌, map, length, slice_index_or, vec_len, Option, Some, None}
 use Rattle.std.specs.Option.{ForSome}
 use Rattle.jxlm_tree.specs.Neighbours.{neighbours}
-use Rattle.jxlm_tree.specs.SelfCorrecting.{Errors, no_errors, errors_at, errors_of, near, self_corrected, maximum_error, sub_predictions}
+use Rattle.jxlm_tree.specs.SelfCorrecting.{Errors, ErrorsNear, no_errors, errors_at, errors_of, greatest, near, self_corrected, maximum_error, sub_predictions}
 use Rattle.jxlm_tree.specs.declared.predictor.WpHeader.{WpHeader}
 use Rattle.jxlm_tree.specs.declared.self_correcting.CellErrors.{CellErrors}
 use Rattle.jxlm_tree.specs.declared.self_correcting.Corrector.{Corrector}
 use Rattle.jxlm_tree.specs.declared.self_correcting.Counts.{Counts}
+use Rattle.jxlm_tree.specs.declared.self_correcting.ErrorsAround.{ErrorsAround}
 use Rattle.jxlm_tree.specs.declared.self_correcting.PredictionResult.{PredictionResult}
 use Rattle.jxlm_tree.specs.declared.self_correcting.SubPredictions.{SubPredictions}
 
@@ -20,6 +21,10 @@ predicted_by s = s.s0 ∷ s.s1 ∷ s.s2 ∷ s.s3 ∷ []
 -- the errors of a cell
 abbrev pub cell_errors : CellErrors → Errors
 cell_errors e = record { true_error = e.true_error; sub_errors = counted e.sub_errors }
+
+-- the errors around a cell
+abbrev pub near_of : ErrorsAround → ErrorsNear
+near_of e = record { w = e.w; n = e.n; nw = e.nw; ne = e.ne; sums = counted e.sums }
 
 -- At (x, y), with the errors of the cells before: those at the left and two to the left in the row, the current row
 -- up to x, and the row above.
@@ -61,7 +66,7 @@ header_of_either (Some c) other = Some c.header
 -- what was made is what the predictor makes of the cell after the samples
 pub record IsMadeBy (r : PredictionResult) (header : WpHeader) (width : ℕ) (samples : List ℤ) : Type 0 where
   pub prediction_is : r.prediction ≡ self_corrected header samples width
-  pub max_error_is : r.max_error ≡ maximum_error header samples width
+  pub errors_are : greatest (near_of r.errors) ≡ maximum_error header samples width
   pub subpred_is : predicted_by r.subpred ≡
       sub_predictions header (neighbours samples width) (near header samples width)
 

@@ -1,12 +1,12 @@
 -- What the properties of a cell hold.
-use Rattle.std.specs.Prelude.{◌≡◌, ℕ, ℤ, List, map, Option}
+use Rattle.std.specs.Prelude.{◌≡◌, ◌<◌, ℕ, ℤ, pos, List, map, Option, slice_index_or}
 use Rattle.jxlm_base.specs.Grid.{Grid}
-use Rattle.jxlm_base.specs.Regions.{grid_of}
+use Rattle.jxlm_base.specs.Regions.{grid_of, store_meanings}
 use Rattle.jxlm_tree.specs.Around.{seen}
 use Rattle.jxlm_tree.specs.Correcting.{IsMade}
 use Rattle.jxlm_tree.specs.EarlierRows.{HoldRows}
 use Rattle.jxlm_tree.specs.Neighbours.{neighbours}
-use Rattle.jxlm_tree.specs.Properties.{Surroundings}
+use Rattle.jxlm_tree.specs.Properties.{Surroundings, place_property}
 use Rattle.jxlm_tree.specs.Standing.{Setting, StandsAt, IsReady}
 use Rattle.jxlm_tree.specs.declared.earlier.EarlierRow.{EarlierRow}
 use Rattle.jxlm_tree.specs.declared.predictor.WpHeader.{WpHeader}
@@ -39,3 +39,13 @@ module _ {S : Type 0} where
     pub around_is : (s : Setting) (samples : List ℤ) → StandsAt (state_of p) s samples → seen p.around ≡ neighbours samples s.width
     pub correction_is : (s : Setting) (samples : List ℤ) → StandsAt (state_of p) s samples → IsMade p.correction s.weights s.width samples
     pub rows_are : HoldRows (state_of p) (store_of p) (rows_of p)
+
+  -- these are properties 0 to 15 of that cell
+  abbrev pub AreOwn : (S → ℤ) → Properties S → List ℤ → Type 0
+  AreOwn to_int p own = (s : Setting) (samples : List ℤ) (k : ℕ) → StandsAt (state_of p) s samples → k < 16 →
+      slice_index_or own k (pos 0) ≡ place_property (surroundings s (store_meanings to_int (store_of p)) samples) k
+
+  -- the properties are those of that cell, and so are those that are listed
+  pub record IsListed (to_int : S → ℤ) (p : Properties S) (own : List ℤ) : Type 0 where
+    pub current : IsCurrent p
+    pub own_are : AreOwn to_int p own

@@ -1,5 +1,4 @@
 pub mod Around
-pub mod Asked
 pub mod Correcting
 pub mod EarlierRows
 pub mod Holding

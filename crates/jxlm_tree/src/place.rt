@@ -4,43 +4,20 @@ ghost use Rattle.std.specs.Prelude.{◌≡◌, ℕ, ℤ};
 
 use std::marker::Model;
 
-// A property of a cell: one of its own, which have names, or that of an earlier channel, which have numbers.
-#[derive(Clone, Copy)]
-pub(crate) enum Kind {
-    Channel,
-    Stream,
-    Row,
-    Column,
-    NorthAbsolute,
-    WestAbsolute,
-    North,
-    West,
-    WestLessGradient,
-    Gradient,
-    WestLessNorthWest,
-    NorthWestLessNorth,
-    NorthLessNorthEast,
-    NorthLessNorthNorth,
-    WestLessWestWest,
-    MaximumError,
-    Earlier(u32),
-}
-
-/// The number of a property that a walk asks for, decoded beforehand.
+/// The number of a property that a walk asks for.
 #[derive(Drop)]
 pub struct AskedProperty {
-    pub(crate) kind: Kind,
+    number: u32,
 }
 
 impl Model for AskedProperty {
     ghost use Rattle.std.specs.Prelude.{ℕ, ◌<◌, ◌^◌};
-    ghost use Rattle.jxlm_tree.specs.Asked.{number_of};
 
     ghost Value = { ℕ };
 
-    ghost view = { λ a. number_of a.kind };
+    ghost view = { λ a. a.number };
 
-    ghost invariant = { λ a. number_of a.kind < 2 ^ 32 };
+    ghost invariant = { λ a. a.number < 2 ^ 32 };
 }
 
 impl AskedProperty {
@@ -48,51 +25,15 @@ impl AskedProperty {
     pub fn new(number: u32) -> AskedProperty
         ensures { result ≡ number }
     {
-        let kind = match number {
-            0 => Kind::Channel,
-            1 => Kind::Stream,
-            2 => Kind::Row,
-            3 => Kind::Column,
-            4 => Kind::NorthAbsolute,
-            5 => Kind::WestAbsolute,
-            6 => Kind::North,
-            7 => Kind::West,
-            8 => Kind::WestLessGradient,
-            9 => Kind::Gradient,
-            10 => Kind::WestLessNorthWest,
-            11 => Kind::NorthWestLessNorth,
-            12 => Kind::NorthLessNorthEast,
-            13 => Kind::NorthLessNorthNorth,
-            14 => Kind::WestLessWestWest,
-            15 => Kind::MaximumError,
-            _ => Kind::Earlier(number - 16),
-        };
-        AskedProperty { kind }
+        AskedProperty { number }
     }
 
     /// Its number.
+    #[inline(always)]
     pub fn number(&self) -> u32
         ensures { result ≡ self.now }
     {
-        match self.kind {
-            Kind::Channel => 0,
-            Kind::Stream => 1,
-            Kind::Row => 2,
-            Kind::Column => 3,
-            Kind::NorthAbsolute => 4,
-            Kind::WestAbsolute => 5,
-            Kind::North => 6,
-            Kind::West => 7,
-            Kind::WestLessGradient => 8,
-            Kind::Gradient => 9,
-            Kind::WestLessNorthWest => 10,
-            Kind::NorthWestLessNorth => 11,
-            Kind::NorthLessNorthEast => 12,
-            Kind::NorthLessNorthNorth => 13,
-            Kind::WestLessWestWest => 14,
-            Kind::MaximumError => 15,
-            Kind::Earlier(number) => 16 + number,
-        }
+        self.number
     }
 }
 

@@ -1,18 +1,18 @@
 //! The properties of a cell, which hold the state until the cell's sample is recorded.
 
-ghost use Rattle.std.specs.Prelude.{◌≡◌, ◌+◌, ◌-◌, ◌<◌, ◌≤◌, ◌^◌, ℕ, ℤ, pos, List, [], ◌∷◌, ◌++◌, false, slice_index_or};
+ghost use Rattle.std.specs.Prelude.{◌≡◌, ◌+◌, ◌-◌, ◌<◌, ◌≤◌, ◌^◌, ℕ, ℤ, pos, List, [], ◌∷◌, ◌++◌, false, None, slice_index_or};
 ghost use Rattle.std.specs.Int.{w32, int_wrap};
 ghost use Rattle.jxlm_base.specs.Regions.{store_meanings};
 ghost use Rattle.jxlm_tree.specs.Around.{seen};
 ghost use Rattle.jxlm_tree.specs.EarlierRows.{HoldRows};
 ghost use Rattle.jxlm_tree.specs.Inner.OwnProperties.{own_list};
-ghost use Rattle.jxlm_tree.specs.Holding.{IsCurrent, surroundings, state_of, store_of};
+ghost use Rattle.jxlm_tree.specs.Holding.{AreOwn, IsCurrent, surroundings, state_of, store_of};
 ghost use Rattle.jxlm_tree.specs.Properties.{place_property, earlier_property};
-ghost use Rattle.jxlm_tree.specs.Standing.{Setting, StandsAt, IsReady, IsInner, HasSameRoom};
+ghost use Rattle.jxlm_tree.specs.Standing.{Setting, StandsAt, IsReady, IsInner, HasSameRoom, used_weights};
 
 use crate::around::Around;
 use crate::earlier::EarlierRow;
-use crate::place::{AskedProperty, Kind, PlaceProperties};
+use crate::place::{AskedProperty, PlaceProperties};
 use crate::reduced::{read_as_signed, reduced_absolute};
 use crate::self_correcting::PredictionResult;
 use crate::state::PredictorState;
@@ -27,6 +27,14 @@ pub struct Properties<'p, S> {
     pub(crate) rows: &'p [EarlierRow<'p, S>],
     pub(crate) around: Around,
     pub(crate) correction: Option<PredictionResult>,
+}
+
+/// The same properties, of which those of the cell itself are listed beforehand: a walk that asks for many of them finds
+/// each by its number.
+#[derive(Drop)]
+pub struct ListedProperties<'l, 'p, S> {
+    pub(crate) properties: &'l Properties<'p, S>,
+    pub(crate) own: &'l [i32; 16],
 }
 
 impl<S> PredictorState<S> {
@@ -89,8 +97,27 @@ impl<S> PredictorState<S> {
         ensures store { store_of result ≡ store.now }
         ensures current { IsCurrent result }
     {
+        self.properties_in_row::<EDGE, true>(store, rows)
+    }
+
+    /// The same; without `WEIGHTED` no weights are used in the channel, and none are looked for.
+    #[inline(always)]
+    pub fn properties_in_row<'p, const EDGE: bool, const WEIGHTED: bool>(
+        &'p mut self,
+        store: &'p [AlignedGrid<S>],
+        rows: &'p [EarlierRow<'p, S>],
+    ) -> Properties<'p, S>
+        requires ready { IsReady self.old store.now }
+        requires inner { EDGE ≡ false → IsInner self.old }
+        requires rows { HoldRows self.old store.now rows.now }
+        requires without { WEIGHTED ≡ false → used_weights self.old ≡ None }
+        ensures same_reference { result.state.ghost_name ≡ self.entry.ghost_name }
+        ensures unchanged { state_of result ≡ self.old }
+        ensures store { store_of result ≡ store.now }
+        ensures current { IsCurrent result }
+    {
         let around = self.around::<EDGE>();
-        let correction = self.correction::<EDGE>(&around);
+        let correction = self.correction_by::<EDGE, WEIGHTED>(&around);
         Properties {
             state: self,
             store,
@@ -101,7 +128,7 @@ impl<S> PredictorState<S> {
     }
 }
 
-impl<S: Sample> Properties<'_, S> {
+impl<'p, S: Sample> Properties<'p, S> {
     /// A property by its number.
     #[inline(always)]
     pub fn get(&self, property: usize) -> i32
@@ -117,6 +144,47 @@ impl<S: Sample> Properties<'_, S> {
         }
     }
 
+    /// Properties 0 to 15, in order.
+    #[inline(always)]
+    pub fn own(&self) -> [i32; 16]
+        requires { IsCurrent self.now }
+        ensures { AreOwn S.to_int self.now result }
+    {
+        [
+            self.get(0),
+            self.get(1),
+            self.get(2),
+            self.get(3),
+            self.get(4),
+            self.get(5),
+            self.get(6),
+            self.get(7),
+            self.get(8),
+            self.get(9),
+            self.get(10),
+            self.get(11),
+            self.get(12),
+            self.get(13),
+            self.get(14),
+            self.get(15),
+        ]
+    }
+
+    /// The same properties for walks of trees, with those that `own` gave.
+    #[inline(always)]
+    pub fn listed<'l>(&'l self, own: &'l [i32; 16]) -> ListedProperties<'l, 'p, S>
+        requires current { IsCurrent self.now }
+        requires own { AreOwn S.to_int self.now own.now }
+        ensures properties { result.properties.now ≡ self.now }
+        ensures own { result.own.now ≡ own.now }
+    {
+        ListedProperties {
+            properties: self,
+            own,
+        }
+    }
+
+    #[inline(always)]
     fn of_earlier(&self, number: usize) -> i32
         requires { IsCurrent self.now }
         ensures { (s : Setting) (samples : List ℤ) → StandsAt (state_of self.now) s samples → result ≡ int_wrap w32
@@ -168,23 +236,29 @@ impl<S: Sample> PlaceProperties for Properties<'_, S> {
 
     #[inline(always)]
     fn property(&self, asked: &AskedProperty) -> i32 {
-        match asked.kind {
-            Kind::Channel | Kind::Stream => 0,
-            Kind::Row => self.get(2),
-            Kind::Column => self.get(3),
-            Kind::NorthAbsolute => self.get(4),
-            Kind::WestAbsolute => self.get(5),
-            Kind::North => self.get(6),
-            Kind::West => self.get(7),
-            Kind::WestLessGradient => self.get(8),
-            Kind::Gradient => self.get(9),
-            Kind::WestLessNorthWest => self.get(10),
-            Kind::NorthWestLessNorth => self.get(11),
-            Kind::NorthLessNorthEast => self.get(12),
-            Kind::NorthLessNorthNorth => self.get(13),
-            Kind::WestLessWestWest => self.get(14),
-            Kind::MaximumError => self.get(15),
-            Kind::Earlier(number) => self.get(16 + number as usize),
+        self.get(asked.number() as usize)
+    }
+}
+
+impl<S: Sample> PlaceProperties for ListedProperties<'_, '_, S> {
+    ghost use Rattle.std.specs.Prelude.{◌≡◌, ℕ, ℤ, List};
+    ghost use Rattle.jxlm_base.specs.Regions.{store_meanings};
+    ghost use Rattle.jxlm_tree.specs.Holding.{IsListed, state_of, store_of, surroundings};
+    ghost use Rattle.jxlm_tree.specs.Properties.{place_property};
+    ghost use Rattle.jxlm_tree.specs.Standing.{Setting, StandsAt};
+
+    ghost IsCurrent = { λ p. IsListed S.to_int p.properties.now p.own.now };
+
+    ghost gives = { λ p k v. (s : Setting) (samples : List ℤ) → StandsAt (state_of p.properties.now) s samples → v
+        ≡ place_property (surroundings s (store_meanings S.to_int (store_of p.properties.now)) samples) k };
+
+    #[inline(always)]
+    fn property(&self, asked: &AskedProperty) -> i32 {
+        let number = asked.number() as usize;
+        if number < 16 {
+            self.own[number]
+        } else {
+            self.properties.of_earlier(number - 16)
         }
     }
 }
@@ -193,6 +267,7 @@ impl<S> Properties<'_, S> {
     /// Records the sample of this cell in the state.
     ///
     /// The state is then after the samples before and this one, at the next cell, and has the room that it had.
+    #[inline(always)]
     pub fn record(self, sample: i32)
         requires { IsCurrent self }
         ensures stands { (s : Setting) (samples : List ℤ) → StandsAt self.entry.state.now s samples

@@ -85,8 +85,8 @@ pub(crate) struct ErrorsAround {
 pub struct PredictionResult {
     /// The prediction times 8.
     pub(crate) prediction: i64,
-    /// The maximum error around: property 15.
-    pub(crate) max_error: i32,
+    /// The errors around.
+    pub(crate) errors: ErrorsAround,
     /// The sub-predictions, times 8.
     pub(crate) subpred: SubPredictions,
     ghost bound: { unsigned_abs prediction < 2 ^ 41 },
@@ -201,7 +201,8 @@ fn steered(sample: i32, a: i32, b: i32, c: i32, factor: u32) -> i64
 
 impl ErrorsAround {
     ghost use Rattle.jxlm_tree.specs.Around.{seen};
-    ghost use Rattle.jxlm_tree.specs.Inner.CorrectingSteps.{clamped_around, near_of};
+    ghost use Rattle.jxlm_tree.specs.Correcting.{near_of};
+    ghost use Rattle.jxlm_tree.specs.Inner.CorrectingSteps.{clamped_around};
 
     fn greatest(&self) -> i32
         ensures { result ≡ greatest (near_of self.now) }
@@ -212,9 +213,8 @@ impl ErrorsAround {
     fn is_clamped(&self) -> bool
         ensures { result ≡ is_clamped (near_of self.now) }
     {
-        let all_negative = self.w < 0 && self.n < 0 && self.nw < 0;
-        let none_negative = !(self.w < 0 || self.n < 0 || self.nw < 0);
-        !(all_negative || none_negative) || (self.w == self.n && self.n == self.nw)
+        let two_signs = ((self.w < 0) != (self.n < 0)) | ((self.w < 0) != (self.nw < 0));
+        two_signs | ((self.w == self.n) & (self.w == self.nw))
     }
 
     /// The prediction: clamped where the errors say so.
@@ -285,8 +285,7 @@ impl Counts {
 
 impl SubPredictions {
     ghost use Rattle.jxlm_tree.specs.Around.{seen};
-    ghost use Rattle.jxlm_tree.specs.Correcting.{counted, predicted_by};
-    ghost use Rattle.jxlm_tree.specs.Inner.CorrectingSteps.{near_of};
+    ghost use Rattle.jxlm_tree.specs.Correcting.{counted, near_of, predicted_by};
 
     #[inline(always)]
     fn of_place(header: &WpHeader, around: &Around, errors: &ErrorsAround) -> SubPredictions
@@ -339,8 +338,8 @@ impl SubPredictions {
 
 impl PredictionResult {
     ghost use Rattle.jxlm_tree.specs.Around.{seen};
-    ghost use Rattle.jxlm_tree.specs.Correcting.{IsMade, cell_errors, predicted_by};
-    ghost use Rattle.jxlm_tree.specs.Inner.CorrectingSteps.{errors_from, near_of};
+    ghost use Rattle.jxlm_tree.specs.Correcting.{IsMade, cell_errors, near_of, predicted_by};
+    ghost use Rattle.jxlm_tree.specs.Inner.CorrectingSteps.{errors_from};
     ghost use Rattle.jxlm_tree.specs.Predictions.{corrected};
     ghost use Rattle.jxlm_tree.specs.Properties.{error_property};
     ghost use Rattle.jxlm_tree.specs.declared.predictor.WpHeader.{WpHeader};
@@ -351,7 +350,7 @@ impl PredictionResult {
             → result ≡ error_property weights samples width }
     {
         match made {
-            Some(made) => made.max_error,
+            Some(made) => made.errors.greatest(),
             None => 0,
         }
     }
@@ -372,7 +371,7 @@ impl PredictionResult {
     fn of_place(header: &WpHeader, around: &Around, errors: &ErrorsAround) -> PredictionResult
         requires { IsHeader header.now }
         ensures prediction { result.prediction ≡ predicted header.now (seen around.now) (near_of errors.now) }
-        ensures max_error { result.max_error ≡ greatest (near_of errors.now) }
+        ensures errors { result.errors ≡ errors.now }
         ensures subpred { predicted_by result.subpred ≡
             sub_predictions header.now (seen around.now) (near_of errors.now) }
     {
@@ -380,7 +379,7 @@ impl PredictionResult {
         let unclamped = subpred.weighted(&errors.sums.weights(header));
         PredictionResult {
             prediction: errors.settled(around, unclamped),
-            max_error: errors.greatest(),
+            errors: *errors,
             subpred,
         }
     }
@@ -402,8 +401,8 @@ impl PredictionResult {
 
 impl Corrector {
     ghost use Rattle.jxlm_tree.specs.Around.{seen};
-    ghost use Rattle.jxlm_tree.specs.Correcting.{Corrects, CorrectsBy, HasRows, IsMade, IsMadeBy, cell_errors, header_of, counted};
-    ghost use Rattle.jxlm_tree.specs.Inner.CorrectingSteps.{AtPlace, CorrectsAfter, CorrectsNext, HoldsColumn, errors_above_left, errors_above_right, near_of, sums_from};
+    ghost use Rattle.jxlm_tree.specs.Correcting.{Corrects, CorrectsBy, HasRows, IsMade, IsMadeBy, cell_errors, header_of, counted, near_of};
+    ghost use Rattle.jxlm_tree.specs.Inner.CorrectingSteps.{AtPlace, CorrectsAfter, CorrectsNext, HoldsColumn, errors_above_left, errors_above_right, sums_from};
     ghost use Rattle.jxlm_tree.specs.declared.predictor.WpHeader.{WpHeader};
 
     /// Rows for channels up to this width.
@@ -551,6 +550,7 @@ impl Corrector {
     }
 
     /// Goes on to the cell after the sample in column `x`, where there are weights and `made` was made.
+    #[inline(always)]
     pub(crate) fn record_where_made(
         corrector: &mut Option<Corrector>,
         x: usize,
@@ -575,6 +575,7 @@ impl Corrector {
     }
 
     /// Goes on to the cell after the sample in column `x`, of which `made` was made.
+    #[inline(always)]
     pub(crate) fn record(&mut self, x: usize, made: &PredictionResult, sample: i32)
         requires { x < self.old.width }
         ensures next { (header : WpHeader) (width y : ℕ) (samples : List ℤ) → CorrectsBy self.old header width x y

@@ -279,6 +279,14 @@ impl<S> PredictorState<S> {
         self.earlier.push_reserved(region);
     }
 
+    /// Whether weights are used in this channel.
+    #[inline(always)]
+    pub fn is_weighted(&self) -> bool
+        ensures { result ≡ false → used_weights self.now ≡ None }
+    {
+        self.corrector.is_some()
+    }
+
     fn north_east<const EDGE: bool>(&self) -> i32
         requires in_row { self.now.x < self.now.width }
         requires inner { EDGE ≡ false → IsInner self.now }
@@ -364,7 +372,27 @@ impl<S> PredictorState<S> {
         }
     }
 
+    /// The same; without `WEIGHTED` there are none.
+    #[inline(always)]
+    pub(crate) fn correction_by<const EDGE: bool, const WEIGHTED: bool>(
+        &self,
+        around: &Around,
+    ) -> Option<PredictionResult>
+        requires stands { Stands self.now }
+        requires inner { EDGE ≡ false → IsInner self.now }
+        requires without { WEIGHTED ≡ false → used_weights self.now ≡ None }
+        ensures { (s : Setting) (samples : List ℤ) → StandsAt self.now s samples → seen around.now
+            ≡ neighbours samples s.width → IsMade result s.weights s.width samples }
+    {
+        if WEIGHTED {
+            self.correction::<EDGE>(around)
+        } else {
+            None
+        }
+    }
+
     /// Goes on to the cell after `sample`; `correction` is what `correction` gave for the cell.
+    #[inline(always)]
     pub(crate) fn advance(&mut self, sample: i32, correction: Option<PredictionResult>)
         requires stands { Stands self.old }
         requires few_rows { self.old.y < 2 ^ 30 }
@@ -376,6 +404,7 @@ impl<S> PredictorState<S> {
         self.roll(sample);
     }
 
+    #[inline(always)]
     fn roll(&mut self, sample: i32)
         requires in_row { self.old.x < self.old.width }
         requires few_rows { self.old.y < 2 ^ 30 }

@@ -2,20 +2,15 @@
 use Rattle.std.specs.Prelude.{◌≡◌, ℕ, zero, suc, ◌+◌, ◌*◌, ◌/◌, ◌%◌, ◌^◌, ◌<◌, ◌≤◌, ℤ, pos, ◌-ℤ◌, ◌*ℤ◌, unsigned_abs, nat_lt, Bool, if◌then◌else◌, List, [], ◌∷◌, length, map, slice_index, Option, Some, None}
 use Rattle.std.specs.Int.{w32, int_wrap, int_min, int_max}
 use Rattle.jxlm_base.specs.Numbers.{clamped}
-use Rattle.jxlm_tree.specs.Correcting.{Corrects, CorrectsBy, counted}
+use Rattle.jxlm_tree.specs.Correcting.{Corrects, CorrectsBy}
 use Rattle.jxlm_tree.specs.Neighbours.{Neighbours, neighbours}
-use Rattle.jxlm_tree.specs.SelfCorrecting.{Errors, ErrorsNear, errors_above}
+use Rattle.jxlm_tree.specs.SelfCorrecting.{Errors, errors_above}
 use Rattle.jxlm_tree.specs.declared.predictor.WpHeader.{WpHeader}
 use Rattle.jxlm_tree.specs.declared.self_correcting.Corrector.{Corrector}
-use Rattle.jxlm_tree.specs.declared.self_correcting.ErrorsAround.{ErrorsAround}
 
 -- z, clamped between the minimum and the maximum of north, west and north east, each times 8
 abbrev pub clamped_around : Neighbours → ℤ → ℤ
 clamped_around a z = clamped (int_min (int_min (a.n *ℤ pos 8) (a.w *ℤ pos 8)) (a.ne *ℤ pos 8)) (int_max (int_max (a.n *ℤ pos 8) (a.w *ℤ pos 8)) (a.ne *ℤ pos 8)) z
-
--- the errors around a cell
-abbrev pub near_of : ErrorsAround → ErrorsNear
-near_of e = record { w = e.w; n = e.n; nw = e.nw; ne = e.ne; sums = counted e.sums }
 
 -- those above left; in column 0 those above
 abbrev pub errors_above_left : List Errors → ℕ → ℕ → ℕ → Errors

@@ -1,8 +1,9 @@
 use Rattle.std.proofs.Common.{◌≡◌, ◌<◌, ◌∙◌, ap, arith}
 use Rattle.std.proofs.lemmas.Nat.{mod-mul-add, div-mul-add}
 use Rattle.jxlm_tree.specs.Around.{seen}
-use Rattle.jxlm_tree.specs.Inner.CorrectingSteps.{near_of}
+use Rattle.jxlm_tree.specs.Correcting.{near_of}
 use Rattle.jxlm_tree.specs.Neighbours.{Neighbours, column, row}
+use Rattle.jxlm_tree.specs.declared.self_correcting.ErrorsAround.{ErrorsAround}
 use Rattle.jxlm_tree.specs.SelfCorrecting.{greatest, near, predicted, sub_predictions}
 use Rattle.jxlm_tree.proofs.Correcting.{near_at}
 use Rattle.jxlm_tree.proofs.self_correcting.Corrector.predict.Goals as goal
@@ -20,6 +21,6 @@ returns g c = λ header width samples by place seen_is.
     let a = seen c.args.around.now in
     record {
       prediction_is = (rw by.same_header at c.of_place.ensures.prediction) ∙ ap (predicted header a) are ∙ ap (λ (b : Neighbours). predicted header b here) seen_is;
-      max_error_is = c.of_place.ensures.max_error ∙ ap greatest are;
+      errors_are = ap (λ (e : ErrorsAround). greatest (near_of e)) c.of_place.ensures.errors ∙ ap greatest are;
       subpred_is = (rw by.same_header at c.of_place.ensures.subpred) ∙ ap (sub_predictions header a) are ∙ ap (λ (b : Neighbours). sub_predictions header b here) seen_is;
     }

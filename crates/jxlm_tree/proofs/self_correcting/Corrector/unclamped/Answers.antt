@@ -3,7 +3,7 @@ use Rattle.std.proofs.lemmas.Int.{to_z-of_z}
 use Rattle.std.proofs.lemmas.Nat.{mod-mul-add, div-mul-add}
 use Rattle.jxlm_tree.specs.Around.{seen}
 use Rattle.jxlm_tree.specs.Correcting.{counted}
-use Rattle.jxlm_tree.specs.Inner.CorrectingSteps.{near_of}
+use Rattle.jxlm_tree.specs.Correcting.{near_of}
 use Rattle.jxlm_tree.specs.Neighbours.{Neighbours, column, row}
 use Rattle.jxlm_tree.specs.SelfCorrecting.{ErrorsNear, near, sub_predictions, unclamped, weights}
 use Rattle.jxlm_tree.specs.declared.predictor.WpHeader.{WpHeader}

@@ -6,8 +6,8 @@ use Rattle.jxlm_tree.proofs.self_correcting.PredictionResult.maximum_error.Goals
 
 pub returns-in-Some : goal.returns-in-Some
 returns-in-Some c = λ weights width samples made.
-    let f : FitsSigned w32 c.in-Some.made.max_error = search rules in
-    to_z-of_z w32 c.in-Some.made.max_error f ∙ error-some weights c.in-Some.made width samples (rw c.in-Some.is at made)
+    let f : FitsSigned w32 c.greatest.result = search rules in
+    to_z-of_z w32 c.greatest.result f ∙ c.greatest.ensures ∙ error-some weights c.in-Some.made width samples (rw c.in-Some.is at made)
 
 pub returns-in-None : goal.returns-in-None
 returns-in-None c = λ weights width samples made. error-none weights width samples (rw c.in-None.is at made)

@@ -1,8 +1,8 @@
 use Rattle.std.proofs.Common.{ℤ, List, cond, FitsSigned, ◌∙◌, rules, ap, w64}
 use Rattle.std.proofs.lemmas.Int.{to_z-of_z}
 use Rattle.jxlm_tree.specs.Around.{seen}
-use Rattle.jxlm_tree.specs.Correcting.{counted}
-use Rattle.jxlm_tree.specs.Inner.CorrectingSteps.{near_of, clamped_around}
+use Rattle.jxlm_tree.specs.Correcting.{counted, near_of}
+use Rattle.jxlm_tree.specs.Inner.CorrectingSteps.{clamped_around}
 use Rattle.jxlm_tree.specs.SelfCorrecting.{is_clamped, sub_predictions, unclamped}
 use Rattle.jxlm_tree.proofs.self_correcting.PredictionResult.of_place.Goals as goal
 

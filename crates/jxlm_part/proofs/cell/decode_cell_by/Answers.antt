@@ -5,18 +5,18 @@ use Rattle.jxlm_ma.specs.Paths.{Gives}
 use Rattle.jxlm_part.specs.Inner.Channels.{setting_of}
 use Rattle.jxlm_part.specs.Reading.{FindsClusters}
 use Rattle.jxlm_part.proofs.CellLaws.{clusters_at, fails_cell, flat_at, is_inner, is_ready, own, reads_cell, room_so, roomy_still, rows_held, stands_further, stands_so}
-use Rattle.jxlm_part.proofs.cell.decode_cell.Goals as goal
+use Rattle.jxlm_part.proofs.cell.decode_cell_by.Goals as goal
 
-pub properties_by_rows-properties-requires-clause-ready : goal.properties_by_rows-properties-requires-clause-ready
-properties_by_rows-properties-requires-clause-ready g c =
+pub properties_in_row-properties-requires-clause-ready : goal.properties_in_row-properties-requires-clause-ready
+properties_in_row-properties-requires-clause-ready g c =
     is_ready c.args.line.now g.S.Sealed.to_int c.requires.line.line c.args.x c.args.row.now c.requires.at.long c.requires.column c.args.walk.now.state c.requires.at.stands
 
-pub properties_by_rows-properties-requires-clause-inner : goal.properties_by_rows-properties-requires-clause-inner
-properties_by_rows-properties-requires-clause-inner g c inside =
+pub properties_in_row-properties-requires-clause-inner : goal.properties_in_row-properties-requires-clause-inner
+properties_in_row-properties-requires-clause-inner g c inside =
     is_inner c.args.line.now g.S.Sealed.to_int c.requires.line.line c.args.x c.args.row.now c.requires.at.long c.requires.column c.args.walk.now.state c.requires.at.stands (c.requires.inner inside)
 
-pub properties_by_rows-properties-requires-clause-rows : goal.properties_by_rows-properties-requires-clause-rows
-properties_by_rows-properties-requires-clause-rows g c =
+pub properties_in_row-properties-requires-clause-rows : goal.properties_in_row-properties-requires-clause-rows
+properties_in_row-properties-requires-clause-rows g c =
     rows_held c.args.line.now g.S.Sealed.to_int c.requires.line.line c.args.x c.args.row.now c.requires.at.long c.requires.column c.args.walk.now.state c.requires.at.stands c.args.rows.now c.requires.line.are_rows
 
 pub next_sample-requires-clause-clusters : goal.next_sample-requires-clause-clusters
@@ -29,10 +29,10 @@ next_sample-requires-clause-gives g c κs within =
 pub returns-in_err-sample : goal.returns-in_err-sample
 returns-in_err-sample g c =
     let p = err_from_is_err_and c.from_residual.result c.from_residual.ensures.1 in
-    let seen = c.properties_by_rows-properties.ensures in
+    let seen = c.properties_in_row-properties.ensures in
     rw (p.1, p.2) (
       fails_cell c.args.line.now g.S.Sealed.to_int c.requires.line.line c.args.x c.args.row.now c.requires.at.long c.requires.column g.D.Decoder.meaning g.S.Sealed.width c.args.walk.now.source _ c.requires.line.steps c.next_sample.new.source
-          c.properties_by_rows-properties.result seen.store (stands_so _ _ _ _ seen.unchanged c.requires.at.stands) _ c.in_err-sample.ensures,
+          c.properties_in_row-properties.result seen.store (stands_so _ _ _ _ seen.unchanged c.requires.at.stands) _ c.in_err-sample.ensures,
       c.in_err-sample.ensures.run ∙ c.requires.at.single,
     )
 
@@ -43,13 +43,13 @@ returns g c =
     let is = c.requires.line.line in
     let at = c.requires.at in
     let sample = c.in_ok-sample.sample in
-    let seen = c.properties_by_rows-properties.ensures in
+    let seen = c.properties_in_row-properties.ensures in
     let fits : FitsSigned w32 c.to_i32.result = search rules in
     let number = to_z-of_z w32 c.to_i32.result fits ∙ c.to_i32.ensures.value in
     let after_it = rw number at (c.record.ensures.stands (setting_of l.coding.now l.i) (own l to_int is c.args.x c.args.row.now at.long c.requires.column) (rw seen.unchanged at.stands)) in
     let same = rw seen.unchanged at c.record.ensures.room in (
       reads_cell l to_int is c.args.x c.args.row.now at.long c.requires.column g.D.Decoder.meaning g.S.Sealed.width c.args.walk.now.source _ c.requires.line.steps c.next_sample.new.source
-          c.properties_by_rows-properties.result seen.store (stands_so _ _ _ _ seen.unchanged at.stands) g.S.Sealed.from_int g.met.S.Sealed.to_int_from_int sample c.in_ok-sample.ensures,
+          c.properties_in_row-properties.result seen.store (stands_so _ _ _ _ seen.unchanged at.stands) g.S.Sealed.from_int g.met.S.Sealed.to_int_from_int sample c.in_ok-sample.ensures,
       record {
         long = search rules;
         stands = stands_further l to_int is c.args.x c.args.row.now at.long c.requires.column sample _ (stands_so _ _ _ _ (search rules) after_it);
