@@ -5,7 +5,7 @@ use Rattle.jxlm_base.specs.Grammar.{IsExact}
 use Rattle.jxlm_base.specs.Numbers.{unpack}
 use Rattle.jxlm_base.specs.declared.bits.U32Spec.TheVariants.{Const, Offset}
 use Rattle.jxlm_base.proofs.GrammarLaws.{exact-give, exact-number, exact-either, exact-repeated, exact-flag, exact-u32}
-use Rattle.jxl_headers.proofs.HeaderLaws.{bind, exact-long, exact-meant, exact-name, exact-skipped_if}
+use Rattle.jxl_headers.proofs.HeaderLaws.{bind, exact-extensions, exact-long, exact-meant, exact-name, exact-skipped_if}
 use Rattle.jxl_headers.specs.Images.{Image}
 use Rattle.jxl_headers.specs.declared.size.Size.{Size}
 use Rattle.jxl_headers.specs.declared.image.Animation.{Animation}
@@ -14,7 +14,7 @@ use Rattle.jxl_frames.specs.Passes.{one_pass, shift, last, more_passes, passes, 
 use Rattle.jxl_frames.specs.Places.{is_shown, is_lf, is_reference, extent, extent_if, covers, crop, optional_crop, place, crop_partial, lf_level, told_crop}
 use Rattle.jxl_frames.specs.Blendings.{mode_of, by_alpha, alpha, flag_if, two_bits_if, blending_by, blending_info, usual_blending, blending, is_animated, has_timecodes, is_replace, may_save_before, saved, ending, alpha_if, duration, mode_number, saved_before, timecode, told_blending}
 use Rattle.jxl_frames.specs.Filters.{own_floats, own_floats_if, sigma_bytes, edges, own_filter, usual_filter, filter, edges_if}
-use Rattle.jxl_frames.specs.Frames.{is_modular, group_dim, closing, rest, usual_frame, described_frame, frame_header, extensions_if, extra_factors, modular_dim, scales}
+use Rattle.jxl_frames.specs.Frames.{is_modular, group_dim, closing, rest, usual_frame, described_frame, frame_header, extra_factors, modular_dim, scales}
 use Rattle.jxl_frames.specs.declared.coding.FrameType.{FrameType}
 use Rattle.jxl_frames.specs.declared.coding.Encoding.{Encoding}
 use Rattle.jxl_frames.specs.declared.coding.FrameFlags.{FrameFlags}
@@ -138,7 +138,7 @@ exact-own_filter : (modular : Bool) → IsExact (own_filter modular)
 unfolding own_filter edges_if
 exact-own_filter modular =
     bind exact-flag λ smooth. bind (exact-own_floats_if smooth 12) λ u. bind (exact-number 2) λ times.
-    bind (exact-either (not (times == 0)) _ _ (exact-edges modular) (exact-give tt)) λ v. bind exact-long λ e.
+    bind (exact-either (not (times == 0)) _ _ (exact-edges modular) (exact-give tt)) λ v. bind exact-extensions λ e.
     exact-give (record { gab = smooth; epf_iters = times; extensions = e })
 
 exact-filter : (modular : Bool) → IsExact (filter modular)
@@ -146,9 +146,9 @@ unfolding filter
 exact-filter modular = bind exact-flag λ usual. exact-either usual _ _ (exact-give usual_filter) (exact-own_filter modular)
 
 exact-closing : (modular : Bool) → IsExact (closing modular)
-unfolding closing extensions_if
+unfolding closing
 exact-closing modular =
-    bind exact-name λ n. bind (exact-filter modular) λ f. bind (exact-either (f.extensions == 0) _ _ exact-long (exact-give 0)) λ e.
+    bind exact-name λ n. bind (exact-filter modular) λ f. bind exact-extensions λ e.
     exact-give (record { name_bytes = n; filter = f; extensions = e })
 
 exact-group_dim : (modular xyb : Bool) → IsExact (group_dim modular xyb)

@@ -1,7 +1,7 @@
 -- Filters of what was decoded (ISO/IEC 18181-1, frame header: RestorationFilter).
 use Rattle.std.specs.Prelude.{ℕ, ◌==◌, ◌||◌, not, Bool, true, if◌then◌else◌, Option, Some, None}
 use Rattle.jxlm_base.specs.Grammar.{Grammar, number, flag, give, either, ◌>>=◌}
-use Rattle.jxl_headers.specs.Fields.{long}
+use Rattle.jxl_headers.specs.Fields.{extensions}
 use Rattle.jxl_headers.specs.Images.{skipped_if}
 use Rattle.jxl_frames.specs.declared.filter.RestorationFilter.{RestorationFilter}
 use Rattle.jxl_frames.specs.declared.refusal.Refusal.{Refusal}
@@ -37,7 +37,7 @@ own_filter modular = do
   u ← own_floats_if smooth 12
   times ← number 2
   v ← edges_if (not (times == 0)) modular
-  extensions ← long
+  extensions ← extensions
   give (record { gab = smooth; epf_iters = times; extensions = extensions })
 
 -- by default both are applied
@@ -48,6 +48,4 @@ unfoldable pub filter : Bool → Grammar RestorationFilter
 filter modular = flag >>= λ usual. either usual (give usual_filter) (own_filter modular)
 
 abbrev pub filter_refusal : RestorationFilter → Option Refusal
-filter_refusal f =
-    if f.gab || not (f.epf_iters == 0) then Some refusals.LoopFilter else
-    if f.extensions == 0 then None else Some refusals.Extensions
+filter_refusal f = if f.gab || not (f.epf_iters == 0) then Some refusals.LoopFilter else None

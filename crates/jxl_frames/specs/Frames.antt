@@ -2,7 +2,7 @@
 use Rattle.std.specs.Prelude.{ℕ, ◌*◌, ◌^◌, ◌==◌, ◌&&◌, not, List, [], ◌∷◌, length, Bool, true, false, if◌then◌else◌, Option, Some, None}
 use Rattle.std.specs.Option.{option_or}
 use Rattle.jxlm_base.specs.Grammar.{Grammar, number, flag, give, either, repeated, ◌>>=◌}
-use Rattle.jxl_headers.specs.Fields.{long, name}
+use Rattle.jxl_headers.specs.Fields.{extensions, name}
 use Rattle.jxl_headers.specs.Images.{Image}
 use Rattle.jxl_frames.specs.Codings.{factor, coding, usual_coding, coding_refusal}
 use Rattle.jxl_frames.specs.Passes.{Passes, passes, passes_of, one_pass, passes_refusal}
@@ -61,16 +61,12 @@ modular_dim = number 2 >>= λ v. give (128 * 2 ^ v)
 unfoldable pub group_dim : Bool → Bool → Grammar ℕ
 group_dim modular xyb = either modular modular_dim (scales xyb)
 
-unfoldable pub extensions_if : Bool → Grammar ℕ
-extensions_if there = either there long (give 0)
-
--- the name, the filters and the extensions of a frame that is Modular or not; where filters have extensions, it is not read
--- further
+-- the name, the filters and the extensions of a frame that is Modular or not
 unfoldable pub closing : Bool → Grammar Closing
 closing modular = do
   n ← name
   filter ← filter modular
-  extensions ← extensions_if (filter.extensions == 0)
+  extensions ← extensions
   give (record { name_bytes = n; filter = filter; extensions = extensions })
 
 abbrev pub usual_closing : Closing
@@ -124,15 +120,12 @@ abbrev pub factors_refusal : List ℕ → Option Refusal
 factors_refusal [] = None
 factors_refusal (f ∷ fs) = if f == 1 then factors_refusal fs else Some refusals.ExtraUpsampling
 
-abbrev pub closing_refusal : Closing → Option Refusal
-closing_refusal c = option_or (filter_refusal c.filter) (if c.extensions == 0 then None else Some refusals.Extensions)
-
 -- how it is coded, and where it lies; and what becomes of it
 abbrev pub form_refusal : Frame → Option Refusal
 form_refusal h = option_or (coding_refusal h.coding) (option_or (factors_refusal h.ec_upsampling) (option_or (passes_refusal h.passes) (place_refusal h.place)))
 
 abbrev pub use_refusal : Frame → Option Refusal
-use_refusal h = option_or (blending_refusal h.blending) (option_or (ending_refusal h.ending) (closing_refusal h.closing))
+use_refusal h = option_or (blending_refusal h.blending) (option_or (ending_refusal h.ending) (filter_refusal h.closing.filter))
 
 abbrev pub frame_refusal : Frame → Option Refusal
 frame_refusal h = option_or (form_refusal h) (use_refusal h)

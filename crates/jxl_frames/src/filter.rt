@@ -7,7 +7,7 @@ ghost use Rattle.jxl_frames.specs.Filters.{own_floats as the_own_floats, own_flo
 
 use crate::fields::skip_if;
 use crate::refusal::Refusal;
-use jxl_headers::fields::{Result, long, number};
+use jxl_headers::fields::{Result, extensions, number};
 use jxlm_base::bits::Bitstream;
 
 /// Filters of what was decoded.
@@ -17,7 +17,7 @@ pub struct RestorationFilter {
     pub gab: bool,
     /// How often a filter that keeps edges is applied, at most 3.
     pub epf_iters: u32,
-    /// A bit for each extension that there is. Where there is one, the header is not read further.
+    /// A bit for each extension that there is; what they hold is passed.
     pub extensions: u64,
 }
 
@@ -82,7 +82,7 @@ impl RestorationFilter {
         own_floats_if(bits, gab, 12)?;
         let epf_iters = number(bits, 2)?;
         edges_if(bits, epf_iters != 0, modular)?;
-        let extensions = long(bits)?;
+        let extensions = extensions(bits)?;
         Ok(RestorationFilter {
             gab,
             epf_iters,
@@ -101,7 +101,8 @@ impl RestorationFilter {
         }
     }
 
-    /// The filters of a frame that is Modular or not, as they stand at the reader's position; their floats are passed.
+    /// The filters of a frame that is Modular or not, as they stand at the reader's position; their floats and extensions are
+    /// passed.
     #[tactic(auto, unfolding(crate::specs::Filters::filter))]
     pub fn parse(bits: &mut Bitstream<'_>, modular: bool) -> Result<RestorationFilter>
         ensures gives { Reads (λ v. v) result (position_of bits.new)
@@ -115,16 +116,14 @@ impl RestorationFilter {
         }
     }
 
-    /// What of it is not supported: a filter, or extensions.
+    /// What of it is not supported: a filter.
     pub fn refused(&self) -> Option<Refusal>
         ensures { result ≡ filter_refusal self.now }
     {
         if self.gab || self.epf_iters != 0 {
             Some(Refusal::LoopFilter)
-        } else if self.extensions == 0 {
-            None
         } else {
-            Some(Refusal::Extensions)
+            None
         }
     }
 }

@@ -5,7 +5,7 @@ ghost use Rattle.jxlm_base.specs.Bits.{bytes_of, position_of};
 ghost use Rattle.jxlm_base.specs.Grammar.{Reads};
 ghost use Rattle.jxl_headers.specs.Images.{image_of};
 ghost use Rattle.jxl_headers.specs.Reading.{Parses};
-ghost use Rattle.jxl_frames.specs.Frames.{frame_of, is_modular as the_is_modular, extra_factors as the_extra_factors, scales as the_scales, modular_dim as the_modular_dim, group_dim as the_group_dim, extensions_if as the_extensions_if, closing, usual_closing, rest, usual_frame, described_frame, frame_header, factors_refusal as the_factors_refusal, closing_refusal, form_refusal, use_refusal, frame_refusal};
+ghost use Rattle.jxl_frames.specs.Frames.{frame_of, is_modular as the_is_modular, extra_factors as the_extra_factors, scales as the_scales, modular_dim as the_modular_dim, group_dim as the_group_dim, closing, usual_closing, rest, usual_frame, described_frame, frame_header, factors_refusal as the_factors_refusal, form_refusal, use_refusal, frame_refusal};
 
 use crate::blending::{Blending, Ending};
 use crate::coding::{Coding, Encoding};
@@ -13,7 +13,7 @@ use crate::filter::RestorationFilter;
 use crate::passes::{Passes, factors};
 use crate::place::Place;
 use crate::refusal::Refusal;
-use jxl_headers::fields::{self, long, name, number};
+use jxl_headers::fields::{self, extensions, name, number};
 use jxl_headers::image::ImageHeader;
 use jxlm_base::bits::Bitstream;
 use jxlm_base::error::Result;
@@ -25,7 +25,7 @@ pub struct Closing {
     /// How many bytes the frame's name has, at most 1071; they are passed.
     pub name_bytes: u32,
     pub filter: RestorationFilter,
-    /// A bit for each extension that there is. Where there is one, the header is not read further.
+    /// A bit for each extension that there is; what they hold is passed.
     pub extensions: u64,
 }
 
@@ -110,15 +110,6 @@ fn group_dim(bits: &mut Bitstream<'_>, modular: bool, xyb: bool) -> fields::Resu
     }
 }
 
-#[tactic(auto, unfolding(crate::specs::Frames::extensions_if))]
-fn extensions_if(bits: &mut Bitstream<'_>, there: bool) -> fields::Result<u64>
-    ensures gives { Reads (λ v. v) result (position_of bits.new)
-        ((the_extensions_if there).read (bytes_of bits.old) (position_of bits.old)) }
-    ensures bytes { bytes_of bits.new ≡ bytes_of bits.old }
-{
-    if there { long(bits) } else { Ok(0) }
-}
-
 fn factors_refusal(factors: &[u32]) -> Option<Refusal>
     ensures { result ≡ the_factors_refusal factors.now }
 {
@@ -139,7 +130,7 @@ impl Closing {
     {
         let name_bytes = name(bits)?;
         let filter = RestorationFilter::parse(bits, modular)?;
-        let extensions = extensions_if(bits, filter.extensions == 0)?;
+        let extensions = extensions(bits)?;
         Ok(Closing {
             name_bytes,
             filter,
@@ -155,17 +146,6 @@ impl Closing {
             filter: RestorationFilter::usual(),
             extensions: 0,
         }
-    }
-
-    fn refused(&self) -> Option<Refusal>
-        ensures { result ≡ closing_refusal self.now }
-    {
-        let extensions = if self.extensions == 0 {
-            None
-        } else {
-            Some(Refusal::Extensions)
-        };
-        self.filter.refused().or(extensions)
     }
 }
 
@@ -241,8 +221,7 @@ impl FrameHeader {
     }
 
     /// The header of a frame of this image that stands at the reader's position, which is the start of a byte. What is
-    /// not supported is read too, and `refused` names it; only where there are extensions, the reader is left after
-    /// their flags. Else it is left where the table of contents begins.
+    /// not supported is read too, and `refused` names it. The reader is left where the table of contents begins.
     ///
     /// # Errors
     ///
@@ -282,7 +261,7 @@ impl FrameHeader {
         self.blending
             .refused()
             .or(self.ending.refused())
-            .or(self.closing.refused())
+            .or(self.closing.filter.refused())
     }
 
     /// What the frame has that is not supported: the first in the order of the bits, or none.

@@ -54,7 +54,4 @@ pub enum Refusal {
     /// A filter is applied to what was decoded.
     #[error("a loop filter")]
     LoopFilter,
-    /// There are extensions.
-    #[error("extensions")]
-    Extensions,
 }

@@ -1,17 +1,17 @@
 -- Headers are read exactly: what is read stands there, and what stands there is read.
 use Rattle.std.proofs.Common.{◌≡◌, ℕ, zero, suc, ◌+◌, ◌*◌, ◌/◌, ◌%◌, Bool, true, false, List, length, Ok, Err, Some, None, Result, refl, ap, sym}
-use Rattle.std.specs.Prelude.{nat_lt, if◌then◌else◌, codes, ◌==◌, ◌&&◌, ◌||◌, not}
+use Rattle.std.specs.Prelude.{nat_lt, if◌then◌else◌, codes, ◌==◌, ◌&&◌, ◌||◌, not, count_ones, sum}
 use Rattle.std.proofs.lemmas.Bool.{ltb-false, le-ltb}
 use Rattle.jxlm_base.specs.Decoding.{Found}
 use Rattle.jxlm_base.specs.ErrorKind.{Eof, ErrorAt, BadEnum}
 use Rattle.jxlm_base.specs.Grammar.{Grammar, IsExact, give, fail, ◌>>=◌}
 use Rattle.jxlm_base.specs.declared.bits.U32Spec.TheVariants.{Const, Offset}
 use Rattle.jxlm_base.proofs.GrammarLaws.{exact-give, exact-fail, exact-number, exact-bind, exact-either, exact-repeated, exact-flag, exact-u32}
-use Rattle.jxl_headers.specs.Fields.{groups, grouped, long, enumerated, meant, skipped, name, here, aligned, left_of_byte}
+use Rattle.jxl_headers.specs.Fields.{groups, grouped, long, enumerated, meant, skipped, skipped_bits, extension_bits, extensions, name, here, aligned, left_of_byte}
 use Rattle.jxl_headers.specs.Sizes.{image_side, preview_side, side, width, size, width_at}
 use Rattle.jxl_headers.specs.Channels.{whole_depth, fits_float, float_depth, bit_depth, is_kind, by_kind, described, usual_channel, extra_channel, channel_kind}
 use Rattle.jxl_headers.specs.Colours.{coordinate, chromaticity, no_colour, primary_colours, no_primaries, is_white, usual_white, listed_white, white, is_basis, usual_basis, listed_basis, basis, is_gamma, gamma, is_curve, curve, usual_transfer, listed_transfer, transfer, intent, space, told, described_colours, own_colours, colour_encoding, usual_tone, own_tone, tone_mapping, basis_number, white_number}
-use Rattle.jxl_headers.specs.Images.{optional_size, animation, optional_animation, listed_display, usual_display, display, samples, extra_channels, brightness, shown, usual_image, described_image, own_image, skipped_if, weights, opsin, own_matrices, matrices, matrices_if, signature, image_header}
+use Rattle.jxl_headers.specs.Images.{optional_size, animation, optional_animation, listed_display, usual_display, display, samples, extra_channels, brightness, shown, usual_image, described_image, own_image, skipped_if, weights, opsin, own_matrices, matrices, signature, image_header}
 use Rattle.jxl_headers.specs.declared.size.Size.{Size}
 
 pub bind : {X Y : Type 0} {field : Grammar X} {next : X → Grammar Y} → IsExact field → ((x : X) → IsExact (next x)) → IsExact (field >>= next)
@@ -23,19 +23,22 @@ found_same a b e = cc
 pub none_found : {X : Type 0} (e : ErrorAt) (found : Found X) → ◌≡◌ {A = Result (Found X) ErrorAt} (Err e) (Ok found) → ⊥
 none_found e found same = cc
 
-skips : (bytes : List ℕ) (p n : ℕ) (found : Found (Unit {0})) (b : Bool) → nat_lt (8 * length bytes) (p + 8 * n) ≡ b →
-    if◌then◌else◌ {A = Result (Found (Unit {0})) ErrorAt} b (Err (record { error = Eof; position = Some p })) (Ok (record { value = tt; position = p + 8 * n })) ≡ Ok found →
-    (skipped n).Stands bytes p found.value found.position
+skips : (bytes : List ℕ) (p n : ℕ) (found : Found (Unit {0})) (b : Bool) → nat_lt (8 * length bytes) (p + n) ≡ b →
+    if◌then◌else◌ {A = Result (Found (Unit {0})) ErrorAt} b (Err (record { error = Eof; position = Some p })) (Ok (record { value = tt; position = p + n })) ≡ Ok found →
+    (skipped_bits n).Stands bytes p found.value found.position
 skips bytes p n found true t e = absurd (none_found (record { error = Eof; position = Some p }) found e)
 skips bytes p n found false t e =
-    let same = found_same (record { value = tt; position = p + 8 * n }) found e in
-    (ltb-false (8 * length bytes) (p + 8 * n) t, ap (λ f. f.position) (sym same))
+    let same = found_same (record { value = tt; position = p + n }) found e in
+    (ltb-false (8 * length bytes) (p + n) t, ap (λ f. f.position) (sym same))
+
+exact-skipped_bits : (n : ℕ) → IsExact (skipped_bits n)
+exact-skipped_bits n = record {
+  read_stands = λ bytes p found e. skips bytes p n found (nat_lt (8 * length bytes) (p + n)) refl e;
+  stands_read = λ bytes p v q s. rw (le-ltb (8 * length bytes) (p + n) s.0, s.1) refl;
+}
 
 exact-skipped : (n : ℕ) → IsExact (skipped n)
-exact-skipped n = record {
-  read_stands = λ bytes p found e. skips bytes p n found (nat_lt (8 * length bytes) (p + 8 * n)) refl e;
-  stands_read = λ bytes p v q s. rw (le-ltb (8 * length bytes) (p + 8 * n) s.0, s.1) refl;
-}
+exact-skipped n = exact-skipped_bits (8 * n)
 
 pub exact-here : IsExact here
 exact-here = record {
@@ -64,6 +67,14 @@ unfolding long
 exact-long =
     bind (exact-number 2) λ s. exact-either (s == 0) _ _ (exact-give 0) (exact-either (s == 1) _ _ (bind (exact-number 4) λ v. exact-give (1 + v))
     (exact-either (s == 2) _ _ (bind (exact-number 8) λ v. exact-give (17 + v)) exact-grouped))
+
+exact-extension_bits : (n : ℕ) → IsExact (extension_bits n)
+unfolding extension_bits
+exact-extension_bits n = bind (exact-repeated n long exact-long) λ sizes. exact-give (sum sizes)
+
+pub exact-extensions : IsExact extensions
+unfolding extensions
+exact-extensions = bind exact-long λ mask. bind (exact-extension_bits (count_ones mask)) λ n. bind (exact-skipped_bits n) λ u. exact-give mask
 
 exact-enumerated : IsExact enumerated
 unfolding enumerated
@@ -247,7 +258,7 @@ exact-extra_channels = bind (exact-u32 (Const 0) (Const 1) (Offset 2 4) (Offset 
 exact-shown : (more : Bool) → IsExact (shown more)
 unfolding shown
 exact-shown more =
-    bind exact-flag λ xyb. bind exact-colours λ c. bind (exact-brightness more) λ t. bind exact-long λ e. exact-give (record { xyb = xyb; colour = c; tone = t; extensions = e })
+    bind exact-flag λ xyb. bind exact-colours λ c. bind (exact-brightness more) λ t. bind exact-extensions λ e. exact-give (record { xyb = xyb; colour = c; tone = t; extensions = e })
 
 exact-described_image : (size : Size) → IsExact (described_image size)
 unfolding described_image
@@ -279,10 +290,6 @@ exact-matrices : (xyb : Bool) → IsExact (matrices xyb)
 unfolding matrices
 exact-matrices xyb = bind exact-flag λ usual. exact-either usual _ _ (exact-give tt) (exact-own_matrices xyb)
 
-exact-matrices_if : (there xyb : Bool) → IsExact (matrices_if there xyb)
-unfolding matrices_if
-exact-matrices_if there xyb = exact-either there _ _ (exact-matrices xyb) (exact-give tt)
-
 exact-signature : IsExact signature
 unfolding signature
 exact-signature = bind (exact-number 16) λ v. exact-meant (codes "signature") (v == 0x0AFF) v
@@ -291,4 +298,4 @@ pub exact-image_header : IsExact image_header
 unfolding image_header
 exact-image_header =
     bind exact-signature λ v. bind (exact-size false) λ size. bind (exact-own_image size) λ image.
-    bind (exact-matrices_if (image.shown.extensions == 0) image.shown.xyb) λ u. exact-give image
+    bind (exact-matrices image.shown.xyb) λ u. exact-give image

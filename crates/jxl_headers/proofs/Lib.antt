@@ -3,4 +3,5 @@ pub mod GroupLaws
 pub mod HeaderLaws
 pub mod ImageSteps
 pub mod RepeatedLoop
+pub mod SummedLoop
 pub mod UnlessMemory

@@ -1,7 +1,7 @@
 -- Fields of headers (ISO/IEC 18181-1, notation of bundles and fields).
-use Rattle.std.specs.Prelude.{◌≡◌, ℕ, zero, suc, ◌+◌, ◌-◌, ◌*◌, ◌%◌, ◌≤◌, List, length, Bool, nat_lt, ◌==◌, if◌then◌else◌, Some, Ok, Err, codes}
+use Rattle.std.specs.Prelude.{◌≡◌, ℕ, zero, suc, ◌+◌, ◌-◌, ◌*◌, ◌%◌, ◌≤◌, List, length, Bool, nat_lt, ◌==◌, if◌then◌else◌, Some, Ok, Err, codes, count_ones, sum}
 use Rattle.jxlm_base.specs.ErrorKind.{Eof, BadEnum}
-use Rattle.jxlm_base.specs.Grammar.{Grammar, number, flag, u32, give, fail, either, ◌>>=◌}
+use Rattle.jxlm_base.specs.Grammar.{Grammar, number, flag, u32, give, fail, either, repeated, ◌>>=◌}
 use Rattle.jxlm_base.specs.declared.bits.U32Spec.TheVariants.{Const, Offset}
 
 -- n groups of 8 bits and one of 4, each after a flag that says whether it is there; the first the least significant
@@ -27,12 +27,28 @@ enumerated = u32 (Const 0) (Const 1) (Offset 2 4) (Offset 18 6)
 abbrev pub meant : List ℕ → Bool → ℕ → Grammar ℕ
 meant name means v = either means (give v) (fail (BadEnum name v))
 
+-- n bits that are not looked at
+abbrev pub skipped_bits : ℕ → Grammar (Unit {0})
+skipped_bits n = record {
+  read = λ bytes p. if nat_lt (8 * length bytes) (p + n) then Err (record { error = Eof; position = Some p }) else Ok (record { value = tt; position = p + n });
+  Stands = λ bytes p u q. (p + n ≤ 8 * length bytes) × (q ≡ p + n);
+}
+
 -- n bytes that are not looked at
 abbrev pub skipped : ℕ → Grammar (Unit {0})
-skipped n = record {
-  read = λ bytes p. if nat_lt (8 * length bytes) (p + 8 * n) then Err (record { error = Eof; position = Some p }) else Ok (record { value = tt; position = p + 8 * n });
-  Stands = λ bytes p u q. (p + 8 * n ≤ 8 * length bytes) × (q ≡ p + 8 * n);
-}
+skipped n = skipped_bits (8 * n)
+
+-- how many bits n extensions have: a U64 for each
+unfoldable pub extension_bits : ℕ → Grammar ℕ
+extension_bits n = repeated n long >>= λ sizes. give (sum sizes)
+
+-- extensions: which there are, as the bits of a mask, how many bits each has, and these, which are not looked at
+unfoldable pub extensions : Grammar ℕ
+extensions = do
+  mask ← long
+  n ← extension_bits (count_ones mask)
+  u ← skipped_bits n
+  give mask
 
 -- a name: how many bytes it has, which are not looked at
 unfoldable pub name : Grammar ℕ

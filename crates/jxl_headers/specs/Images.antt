@@ -3,7 +3,7 @@ use Rattle.std.specs.Prelude.{ℕ, ◌+◌, ◌/◌, ◌%◌, ◌==◌, ◌&&◌
 use Rattle.std.specs.Option.{option_or}
 use Rattle.jxlm_base.specs.Grammar.{Grammar, number, flag, u32, give, either, repeated, ◌>>=◌}
 use Rattle.jxlm_base.specs.declared.bits.U32Spec.TheVariants.{Const, Offset}
-use Rattle.jxl_headers.specs.Fields.{long, meant, skipped}
+use Rattle.jxl_headers.specs.Fields.{extensions, meant, skipped}
 use Rattle.jxl_headers.specs.Sizes.{size}
 use Rattle.jxl_headers.specs.Channels.{bit_depth, extra_channel}
 use Rattle.jxl_headers.specs.Colours.{colour_encoding, told, tone_mapping, usual_tone}
@@ -17,7 +17,7 @@ use Rattle.jxl_headers.specs.declared.image.Samples.{Samples}
 use Rattle.jxl_headers.specs.declared.image.Shown.{Shown}
 use Rattle.jxl_headers.specs.declared.image.ImageHeader.{ImageHeader}
 use Rattle.jxl_headers.specs.declared.refusal.Refusal.{Refusal}
-use Rattle.jxl_headers.specs.declared.refusal.Refusal.TheVariants.{Orientation, Preview, Animation as Animated, FloatDepth, ExtraFloats, ExtraSize, Xyb, Extensions}
+use Rattle.jxl_headers.specs.declared.refusal.Refusal.TheVariants.{Orientation, Preview, Animation as Animated, FloatDepth, ExtraFloats, ExtraSize, Xyb}
 
 -- an image header, seen without its memory
 pub record Image : Type 0 where
@@ -77,7 +77,7 @@ shown more = do
   xyb ← flag
   colour ← colour_encoding
   tone ← brightness more
-  extensions ← long
+  extensions ← extensions
   give (record { xyb = xyb; colour = colour; tone = tone; extensions = extensions })
 
 -- an image of this size whose header says nothing else
@@ -117,9 +117,6 @@ own_matrices xyb = opsin xyb >>= λ u. number 3 >>= λ mask. weights mask
 unfoldable pub matrices : Bool → Grammar (Unit {0})
 matrices xyb = flag >>= λ usual. either usual (give tt) (own_matrices xyb)
 
-unfoldable pub matrices_if : Bool → Bool → Grammar (Unit {0})
-matrices_if there xyb = either there (matrices xyb) (give tt)
-
 -- the first 16 bits of each codestream
 unfoldable pub signature : Grammar ℕ
 signature = number 16 >>= λ v. meant (codes "signature") (v == 0x0AFF) v
@@ -128,13 +125,13 @@ signature = number 16 >>= λ v. meant (codes "signature") (v == 0x0AFF) v
 unfoldable pub own_image : Size → Grammar Image
 own_image size = flag >>= λ usual. either usual (give (usual_image size)) (described_image size)
 
--- the image header; where it has extensions, it is not read further
+-- the image header
 unfoldable pub image_header : Grammar Image
 image_header = do
   v ← signature
   size ← size false
   image ← own_image size
-  u ← matrices_if (image.shown.extensions == 0) image.shown.xyb
+  u ← matrices image.shown.xyb
   give image
 
 -- What an image has that is not supported, by the first of its fields that says so.
@@ -155,7 +152,7 @@ abbrev pub depth_refusal : BitDepth → Option Refusal
 depth_refusal d = if (d.exponent_bits == 0) || ((d.exponent_bits == 8) && (d.bits == 32)) then None else Some FloatDepth
 
 abbrev pub shown_refusal : Shown → Option Refusal
-shown_refusal s = if s.xyb then Some Xyb else if s.extensions == 0 then None else Some Extensions
+shown_refusal s = if s.xyb then Some Xyb else None
 
 abbrev pub image_refusal : Image → Option Refusal
 image_refusal h = option_or (display_refusal h.display) (option_or (depth_refusal h.samples.depth) (option_or (channels_refusal h.extra) (shown_refusal h.shown)))

@@ -3,7 +3,7 @@
 ghost use Rattle.std.specs.Prelude.{◌≡◌, ℕ, ◌+◌, ◌-◌, ◌*◌, ◌%◌, ◌^◌, ◌<◌, ◌≤◌, IfOk, length};
 ghost use Rattle.jxlm_base.specs.Bits.{bytes_of, position_of};
 ghost use Rattle.jxlm_base.specs.Grammar.{FitsU32, Reads, number as the_number, u32 as the_u32};
-ghost use Rattle.jxl_headers.specs.Fields.{groups as the_groups, grouped as the_grouped, long as the_long, enumerated as the_enumerated, skipped, name as the_name, aligned};
+ghost use Rattle.jxl_headers.specs.Fields.{groups as the_groups, grouped as the_grouped, long as the_long, enumerated as the_enumerated, skipped, skipped_bits, extension_bits as the_extension_bits, extensions as the_extensions, name as the_name, aligned};
 ghost use Rattle.jxl_headers.specs.Inner.FieldRanges.{max_of};
 ghost use Rattle.jxl_headers.specs.Inner.Groups.{group_bound};
 
@@ -108,18 +108,58 @@ pub fn enumerated(bits: &mut Bitstream<'_>) -> Result<u32>
     )
 }
 
+// Passes `count` bits; where there are fewer, the reader stays.
+fn skip_bits(bits: &mut Bitstream<'_>, count: u128) -> Result<()>
+    ensures gives { Reads (λ v. v) result (position_of bits.new)
+        ((skipped_bits count).read (bytes_of bits.old) (position_of bits.old)) }
+    ensures bytes { bytes_of bits.new ≡ bytes_of bits.old }
+{
+    let mut after = *bits;
+    let mut left = count;
+    while left > 32 {
+        after.read_bits(32)?;
+        left -= 32;
+    }
+    after.read_bits(left as u32)?;
+    *bits = after;
+    Ok(())
+}
+
 /// Passes `count` bytes, from any bit on; where there are fewer, the reader stays.
 pub fn skip(bits: &mut Bitstream<'_>, count: u32) -> Result<()>
     ensures gives { Reads (λ v. v) result (position_of bits.new)
         ((skipped count).read (bytes_of bits.old) (position_of bits.old)) }
     ensures bytes { bytes_of bits.new ≡ bytes_of bits.old }
 {
-    let mut after = *bits;
+    skip_bits(bits, 8 * u128::from(count))
+}
+
+// How many bits `count` extensions have.
+fn extension_bits(bits: &mut Bitstream<'_>, count: u32) -> Result<u128>
+    requires few { count ≤ 64 }
+    ensures gives { Reads (λ v. v) result (position_of bits.new)
+        ((the_extension_bits count).read (bytes_of bits.old) (position_of bits.old)) }
+    ensures bytes { bytes_of bits.new ≡ bytes_of bits.old }
+{
+    let mut total = 0u128;
     for _ in 0..count {
-        after.read_bits(8)?;
+        let size = long(bits)?;
+        total += u128::from(size);
     }
-    *bits = after;
-    Ok(())
+    Ok(total)
+}
+
+/// Passes extensions: a bit for each that there is.
+#[tactic(auto, unfolding(crate::specs::Fields::extensions))]
+pub fn extensions(bits: &mut Bitstream<'_>) -> Result<u64>
+    ensures gives { Reads (λ v. v) result (position_of bits.new)
+        (the_extensions.read (bytes_of bits.old) (position_of bits.old)) }
+    ensures bytes { bytes_of bits.new ≡ bytes_of bits.old }
+{
+    let mask = long(bits)?;
+    let count = extension_bits(bits, mask.count_ones())?;
+    skip_bits(bits, count)?;
+    Ok(mask)
 }
 
 /// Passes a name: how many bytes it has, at most 1071.

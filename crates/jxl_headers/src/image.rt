@@ -4,12 +4,12 @@ ghost use Rattle.std.specs.Prelude.{◌≡◌};
 ghost use Rattle.jxlm_base.specs.Bits.{bytes_of, position_of};
 ghost use Rattle.jxlm_base.specs.Grammar.{Reads, repeated};
 ghost use Rattle.jxl_headers.specs.Channels.{extra_channel};
-ghost use Rattle.jxl_headers.specs.Images.{image_of, optional_size as the_optional_size, animation, optional_animation, listed_display, display, samples, extra_channels as the_extra_channels, brightness as the_brightness, shown, described_image, own_image, usual_image, skipped_if, matrices_if as the_matrices_if, weights as the_weights, opsin as the_opsin, own_matrices as the_own_matrices, matrices as the_matrices, signature as the_signature, image_header, channel_refusal as the_channel_refusal, channels_refusal as the_channels_refusal, display_refusal, depth_refusal as the_depth_refusal, shown_refusal, image_refusal};
+ghost use Rattle.jxl_headers.specs.Images.{image_of, optional_size as the_optional_size, animation, optional_animation, listed_display, display, samples, extra_channels as the_extra_channels, brightness as the_brightness, shown, described_image, own_image, usual_image, skipped_if, weights as the_weights, opsin as the_opsin, own_matrices as the_own_matrices, matrices as the_matrices, signature as the_signature, image_header, channel_refusal as the_channel_refusal, channels_refusal as the_channels_refusal, display_refusal, depth_refusal as the_depth_refusal, shown_refusal, image_refusal};
 ghost use Rattle.jxl_headers.specs.Reading.{Parses};
 
 use crate::channel::{BitDepth, ExtraChannel};
 use crate::colour::{ColourEncoding, ToneMapping, USUAL_TONE, told};
-use crate::fields::{Result, long, number, skip};
+use crate::fields::{Result, extensions, number, skip};
 use crate::refusal::Refusal;
 use crate::size::{Size, read_size};
 use jxlm_base::bits::{Bitstream, BitstreamError, U32Spec};
@@ -57,7 +57,7 @@ pub struct Shown {
     pub xyb: bool,
     pub colour: ColourEncoding,
     pub tone: ToneMapping,
-    /// A bit for each extension that there is. Where there is one, the header is not read further.
+    /// A bit for each extension that there is; what they hold is passed.
     pub extensions: u64,
 }
 
@@ -221,7 +221,7 @@ impl Shown {
         let xyb = bits.read_bool()?;
         let colour = ColourEncoding::parse(bits)?;
         let tone = brightness(bits, more)?;
-        let extensions = long(bits)?;
+        let extensions = extensions(bits)?;
         Ok(Shown {
             xyb,
             colour,
@@ -233,13 +233,7 @@ impl Shown {
     fn refused(&self) -> Option<Refusal>
         ensures { result ≡ shown_refusal self.now }
     {
-        if self.xyb {
-            Some(Refusal::Xyb)
-        } else if self.extensions == 0 {
-            None
-        } else {
-            Some(Refusal::Extensions)
-        }
+        if self.xyb { Some(Refusal::Xyb) } else { None }
     }
 }
 
@@ -331,15 +325,6 @@ fn matrices(bits: &mut Bitstream<'_>, xyb: bool) -> Result<()>
         return Ok(());
     }
     own_matrices(bits, xyb)
-}
-
-#[tactic(auto, unfolding(crate::specs::Images::matrices_if))]
-fn matrices_if(bits: &mut Bitstream<'_>, there: bool, xyb: bool) -> Result<()>
-    ensures gives { Reads (λ v. v) result (position_of bits.new)
-        ((the_matrices_if there xyb).read (bytes_of bits.old) (position_of bits.old)) }
-    ensures bytes { bytes_of bits.new ≡ bytes_of bits.old }
-{
-    if there { matrices(bits, xyb) } else { Ok(()) }
 }
 
 #[tactic(auto, unfolding(crate::specs::Images::signature))]
@@ -454,8 +439,7 @@ impl ImageHeader {
     }
 
     /// The header that stands at the reader's position, from its signature on. What is not supported is read too, and
-    /// `refused` names it; only where there are extensions, the reader is left after their flags. Else it is left
-    /// where the profile begins, if there is one, or the bits up to the next byte.
+    /// `refused` names it. The reader is left where the profile begins, if there is one, or the bits up to the next byte.
     ///
     /// # Errors
     ///
@@ -470,7 +454,7 @@ impl ImageHeader {
         signature(bits)?;
         let size = read_size(bits, false)?;
         let header = ImageHeader::own(alloc, bits, size)?;
-        matrices_if(bits, header.shown.extensions == 0, header.shown.xyb)?;
+        matrices(bits, header.shown.xyb)?;
         Ok(header)
     }
 

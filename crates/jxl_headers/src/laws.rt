@@ -3,12 +3,13 @@
 ghost use Rattle.jxlm_base.specs.Grammar.{IsExact};
 ghost use Rattle.jxl_headers.specs.Channels.{bit_depth, extra_channel};
 ghost use Rattle.jxl_headers.specs.Colours.{colour_encoding};
-ghost use Rattle.jxl_headers.specs.Fields.{long, name, aligned};
+ghost use Rattle.jxl_headers.specs.Fields.{long, extensions, name, aligned};
 ghost use Rattle.jxl_headers.specs.Images.{image_header};
 
 /// What is read as a field of headers stands there, and what stands there is read.
 pub fn header_fields_are_read_exactly()
     ensures long { IsExact long }
+    ensures extensions { IsExact extensions }
     ensures name { IsExact name }
     ensures aligned { IsExact aligned }
     ensures depth { IsExact bit_depth }

@@ -24,7 +24,4 @@ pub enum Refusal {
     /// Colours are XYB.
     #[error("XYB")]
     Xyb,
-    /// There are extensions.
-    #[error("extensions")]
-    Extensions,
 }

@@ -1,0 +1,50 @@
+-- Reading numbers of one kind one after another and adding them, as a loop does.
+use Rattle.std.proofs.Common.{◌≡◌, ℕ, suc, ◌-◌, ◌+◌, ◌≤◌, ◌<◌, List, ◌∷◌, Result, Ok, Err, refl, sym, ◌∙◌, arith}
+use Rattle.std.specs.Prelude.{fold, sum}
+use Rattle.jxlm_base.specs.Decoding.{Found}
+use Rattle.jxlm_base.specs.ErrorKind.{ErrorAt, ◌>>=◌}
+use Rattle.jxlm_base.specs.Grammar.{Grammar, repeated}
+use Rattle.jxl_headers.specs.Fields.{long, extension_bits}
+
+-- the sum of what was read before, and of what is still read
+abbrev pub with_sum : ℕ → Result (Found (List ℕ)) ErrorAt → Result (Found ℕ) ErrorAt
+with_sum total r = r >>= (λ f. Ok (record { value = fold ◌+◌ total f.value; position = f.position }))
+
+regroup : (total y : ℕ) (r : Result (Found (List ℕ)) ErrorAt) →
+    with_sum total (r >>= (λ f. Ok (record { value = y ∷ f.value; position = f.position }))) ≡ with_sum (total + y) r
+regroup total y (Ok f) = refl
+regroup total y (Err e) = refl
+
+-- one more number was read
+pub adds : (g : Grammar ℕ) (bytes : List ℕ) (total count i p y q : ℕ) (all : Result (Found ℕ) ErrorAt) → i < count →
+    g.read bytes p ≡ Ok (record { value = y; position = q }) → with_sum total ((repeated (count - i) g).read bytes p) ≡ all →
+    with_sum (total + y) ((repeated (count - (i + 1)) g).read bytes q) ≡ all
+adds g bytes total count i p y q all lt h so_far =
+    let k : count - i ≡ suc (count - (i + 1)) = omega arith in
+    let one : with_sum total ((repeated (count - i) g).read bytes p) ≡ with_sum (total + y) ((repeated (count - (i + 1)) g).read bytes q) = rw (k, h) (regroup total y ((repeated (count - (i + 1)) g).read bytes q)) in
+    sym one ∙ so_far
+
+-- one gave an error
+pub stops_adding : (g : Grammar ℕ) (bytes : List ℕ) (total count i p : ℕ) (e : ErrorAt) (all : Result (Found ℕ) ErrorAt) → i < count →
+    g.read bytes p ≡ Err e → with_sum total ((repeated (count - i) g).read bytes p) ≡ all → all ≡ Err e
+stops_adding g bytes total count i p e all lt h so_far =
+    let k : count - i ≡ suc (count - (i + 1)) = omega arith in
+    let one : with_sum total ((repeated (count - i) g).read bytes p) ≡ Err e = rw (k, h) refl in
+    sym so_far ∙ one
+
+-- all were read
+pub added : (g : Grammar ℕ) (bytes : List ℕ) (total count i p : ℕ) (all : Result (Found ℕ) ErrorAt) → count ≤ i →
+    with_sum total ((repeated (count - i) g).read bytes p) ≡ all → all ≡ Ok (record { value = total; position = p })
+added g bytes total count i p all le so_far =
+    let k : count - i ≡ 0 = omega arith in
+    let one : with_sum total ((repeated (count - i) g).read bytes p) ≡ Ok (record { value = total; position = p }) = rw k refl in
+    sym so_far ∙ one
+
+from_none : (r : Result (Found (List ℕ)) ErrorAt) → with_sum 0 r ≡ (r >>= (λ f. Ok (record { value = sum f.value; position = f.position })))
+from_none (Ok f) = refl
+from_none (Err e) = refl
+
+-- the sizes of extensions are added in this way
+pub sizes_added : (n : ℕ) (bytes : List ℕ) (p : ℕ) → with_sum 0 ((repeated (n - 0) long).read bytes p) ≡ (extension_bits n).read bytes p
+unfolding extension_bits
+sizes_added n bytes p = let e : n - 0 ≡ n = omega arith in rw e (from_none ((repeated n long).read bytes p))
