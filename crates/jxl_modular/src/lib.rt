@@ -16,7 +16,7 @@ pub mod bits {
 
 /// Entropy decoders.
 pub mod decoder {
-    pub use jxlm_base::decoder::{Decoder, DecoderError, RleToken};
+    pub use jxlm_base::decoder::{Decoder, DecoderError, RleToken, TokensError};
 }
 
 /// A lossless encoder, over either plain format.

@@ -28,8 +28,30 @@ fn token<D: Decoder>(
     decoder.read_varint(bits, context)
 }
 
-/// Adds what a word asks of a decoder: to begin, to end, what it is, or a token of a context; `at` is the reader's
-/// position.
+/// Adds tokens of a context that are read together into a list of sevens: the list, and where an error ended them, how
+/// many there are, and the error.
+fn together<D: Decoder>(
+    text: &mut String,
+    decoder: &mut D,
+    bits: &mut Bitstream<'_>,
+    context: usize,
+    count: usize,
+) -> Result<(), AllocError> {
+    if context >= decoder.cluster_map().len() || count > 80 {
+        return write!(text, "none ");
+    }
+    let cluster = decoder.cluster_map()[context];
+    let mut room = [7; 80];
+    let read = decoder.read_varints_with_multiplier_clustered(bits, cluster, 0, &mut room[..count]);
+    let tokens = &room[..count];
+    match read {
+        Ok(()) => write!(text, "{tokens:?} "),
+        Err(ended) => write!(text, "{tokens:?} {} {} ", ended.read, ended.error),
+    }
+}
+
+/// Adds what a word asks of a decoder: to begin, to end, what it is, a token of a context, or as in `0x5`, five tokens
+/// of context 0 together; `at` is the reader's position.
 fn ask<D: Decoder>(
     text: &mut String,
     decoder: &mut D,
@@ -41,7 +63,19 @@ fn ask<D: Decoder>(
         "about" => return about(text, decoder),
         "begin" => decoder.begin(bits).and(Ok(0)),
         "end" => decoder.finalize().and(Ok(0)),
-        _ => token(decoder, bits, word.parse::<u32>().unwrap_or(99)),
+        _ => match word.split_once('x') {
+            Some((context, count)) => {
+                let (context, count) = (context.parse::<usize>(), count.parse::<usize>());
+                return together(
+                    text,
+                    decoder,
+                    bits,
+                    context.unwrap_or(99),
+                    count.unwrap_or(99),
+                );
+            }
+            None => token(decoder, bits, word.parse::<u32>().unwrap_or(99)),
+        },
     };
     match answer {
         Ok(number) => write!(text, "{number} "),

@@ -1,5 +1,6 @@
 pub mod BitsLemmas
 pub mod Cells
+pub mod Clamping
 pub mod ColourLaws
 pub mod ColourRows
 mod ColourEights

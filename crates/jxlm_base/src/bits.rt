@@ -1,6 +1,6 @@
 //! Bits of the input, least significant first, and the numbers that they make (ISO/IEC 18181-1, bit packing).
 
-ghost use Rattle.std.specs.Prelude.{◌≡◌, ℕ, ◌+◌, ◌*◌, ◌/◌, ◌%◌, ◌^◌, ◌-◌, ◌<◌, ◌≤◌, ◌↔◌, min, length, slice_index, IfOk, IfErr, IsTrue, Bool, true};
+ghost use Rattle.std.specs.Prelude.{◌≡◌, ℕ, ◌+◌, ◌*◌, ◌/◌, ◌%◌, ◌^◌, ◌-◌, ◌<◌, ◌≤◌, ◌↔◌, min, length, slice_index, IfOk, IfErr, IsTrue, Bool, true, if◌then◌else◌};
 
 use thiserror::Error;
 
@@ -71,6 +71,17 @@ fn last_at(b: &[u8], i: usize) -> [u8; 8]
     eight
 }
 
+// The width of a number that comes after a bit.
+#[inline(always)]
+fn width_by(bit: bool, zero: u32, one: u32) -> u32
+    requires zero { zero ≤ 32 }
+    requires one { one ≤ 32 }
+    ensures is { result ≡ (if bit then one else zero) }
+    ensures narrow { result ≤ 32 }
+{
+    if bit { one } else { zero }
+}
+
 /// A reader of the input: its bytes, and a bit position in it.
 ///
 /// Bit i of the input is bit i mod 8, least significant first, of byte i div 8. A copy reads on by itself from the
@@ -86,7 +97,7 @@ pub struct Bitstream<'a> {
 }
 
 impl<'a> Bitstream<'a> {
-    ghost use Rattle.jxlm_base.specs.Bits.{bytes_of, position_of, bits_at, ReadsNumbers};
+    ghost use Rattle.jxlm_base.specs.Bits.{bytes_of, position_of, bits_at, ReadsNumbers, IsEither, EndsEither};
     ghost use Rattle.jxlm_base.specs.Grammar.{flag, part, selected, u32 as the_u32, FitsU32, Reads};
 
     /// A reader at the start of these bytes, at bit 0.
@@ -181,6 +192,56 @@ impl<'a> Bitstream<'a> {
         self.byte += (end / 8) as usize;
         self.bit = end % 8;
         Ok(value as u32)
+    }
+
+    // `read_either` where fewer than eight bytes are left; an error may leave the reader after the bit.
+    #[cold]
+    #[inline(never)]
+    fn either_near_end(&mut self, zero: u32, one: u32) -> Result<(bool, u32), BitstreamError>
+        requires zero { zero ≤ 32 }
+        requires one { one ≤ 32 }
+        ensures ok { IfOk result (λ r. IsEither zero one (bytes_of self.old) (position_of self.old) r.0 r.1
+            (position_of self.new)) }
+        ensures err { IfErr result (λ _. EndsEither zero one (bytes_of self.old) (position_of self.old)) }
+        ensures bytes { bytes_of self.new ≡ bytes_of self.old }
+    {
+        let flag = self.read_bits(1)? == 1;
+        let value = self.read_bits(width_by(flag, zero, one))?;
+        Ok((flag, value))
+    }
+
+    /// The next bit, and the number after it: of `zero` bits where the bit is 0, of `one` bits where it is 1, either at
+    /// most 32.
+    ///
+    /// `UnexpectedEof` if the bit, or the number, passes the end: the reader is then unchanged.
+    #[inline(always)]
+    pub fn read_either(&mut self, zero: u32, one: u32) -> Result<(bool, u32), BitstreamError>
+        requires zero { zero ≤ 32 }
+        requires one { one ≤ 32 }
+        ensures ok { IfOk result (λ r. IsEither zero one (bytes_of self.old) (position_of self.old) r.0 r.1
+            (position_of self.new)) }
+        ensures err { IfErr result (λ e. EndsEither zero one (bytes_of self.old) (position_of self.old)
+            × (e ≡ BitstreamError.UnexpectedEof) × (self.new ≡ self.old)) }
+        ensures bytes { bytes_of self.new ≡ bytes_of self.old }
+    {
+        if self.bytes.len() - self.byte < 8 {
+            let mut after = *self;
+            return match after.either_near_end(zero, one) {
+                Ok(either) => {
+                    *self = after;
+                    Ok(either)
+                }
+                Err(_) => Err(BitstreamError::UnexpectedEof),
+            };
+        }
+        let word = Self::word_at(self.bytes, self.byte) >> self.bit;
+        let flag = word % 2 == 1;
+        let n = width_by(flag, zero, one);
+        let end = self.bit + 1 + n;
+        let value = (word / 2) % (1 << n);
+        self.byte += (end / 8) as usize;
+        self.bit = end % 8;
+        Ok((flag, value as u32))
     }
 
     // Whether so many numbers of n bits are followed by eight bytes. They are taken for less where they are 2^32 or more.

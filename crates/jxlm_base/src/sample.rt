@@ -177,9 +177,15 @@ impl Sealed for i32 {
     }
 
     fn grad_clamped(n: i32, w: i32, nw: i32) -> i32 {
-        let low = n.min(w) as i64;
-        let high = n.max(w) as i64;
-        (n as i64 + w as i64 - nw as i64).clamp(low, high) as i32
+        let low = n.min(w);
+        let high = n.max(w);
+        if nw < low {
+            high
+        } else if high < nw {
+            low
+        } else {
+            n.wrapping_sub(nw).wrapping_add(w)
+        }
     }
 
     fn try_into_grid_i32(grid: AlignedGrid<i32>) -> Result<AlignedGrid<i32>, AlignedGrid<i32>>
@@ -255,9 +261,15 @@ impl Sealed for i16 {
     }
 
     fn grad_clamped(n: i16, w: i16, nw: i16) -> i16 {
-        let low = n.min(w) as i32;
-        let high = n.max(w) as i32;
-        (n as i32 + w as i32 - nw as i32).clamp(low, high) as i16
+        let low = n.min(w);
+        let high = n.max(w);
+        if nw < low {
+            high
+        } else if high < nw {
+            low
+        } else {
+            n.wrapping_sub(nw).wrapping_add(w)
+        }
     }
 
     fn try_into_grid_i32(grid: AlignedGrid<i16>) -> Result<AlignedGrid<i32>, AlignedGrid<i16>>

@@ -30,6 +30,8 @@ fn of_bits() {
     named(Bitstream::read_bits);
     named(Bitstream::read_bool);
     named(Bitstream::read_u32);
+    named(Bitstream::read_numbers);
+    named(Bitstream::read_either);
     named(BitstreamError::unexpected_eof);
     named(DecoderError::unexpected_eof);
     named(Error::unexpected_eof);
@@ -41,6 +43,7 @@ fn of_decoders<D: Decoder>() {
     named(D::begin);
     named(D::read_varint);
     named(D::read_varint_with_multiplier_clustered);
+    named(D::read_varints_with_multiplier_clustered);
     named(D::read_varint_clustered);
     named(D::single_token);
     named(D::cluster_map);
