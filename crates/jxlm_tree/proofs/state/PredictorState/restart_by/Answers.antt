@@ -1,5 +1,5 @@
-use Rattle.std.proofs.Common.{[], None, true, false, if◌then◌else◌, ◌∙◌, sym, ap, subst}
-use Rattle.jxlm_tree.specs.Standing.{StandsAt, setting, used_weights, weights_of}
+use Rattle.std.proofs.Common.{[], ◌∙◌, ap, subst}
+use Rattle.jxlm_tree.specs.Standing.{StandsAt, setting, used_weights}
 use Rattle.jxlm_tree.proofs.state.PredictorState.restart_by.Goals.{then-weighted, else-weighted}
 use Rattle.jxlm_tree.proofs.state.PredictorState.restart_by.Goals as goal
 
