@@ -1,15 +1,16 @@
--- The text of a picture in the netpbm formats.
-use Rattle.std.specs.Prelude.{ℕ, ◌+◌, ◌==◌, ◌&&◌, ◌||◌, not, ℤ, List, [], ◌∷◌, ◌++◌, map, take, drop, nat_le, Bool, if◌then◌else◌, Option, Some, None, codes}
+-- The text of a picture in the netpbm formats, and in decimal numbers.
+use Rattle.std.specs.Prelude.{ℕ, ◌+◌, ◌-◌, ◌==◌, ◌&&◌, ◌||◌, not, ℤ, List, [], ◌∷◌, ◌++◌, map, take, drop, length, nat_le, Bool, true, if◌then◌else◌, Option, Some, None, codes}
 use Rattle.std.specs.List.{list_all}
 use Rattle.std.specs.Fmt.{decimal}
 use Rattle.jxlm_base.specs.Grid.{Grid}
+use Rattle.jxlm_text.specs.Printing.{image_text}
 use Rattle.jxl_headers.specs.Images.{Image}
 use Rattle.jxl_headers.specs.declared.channel.BitDepth.{BitDepth}
 use Rattle.jxl_headers.specs.declared.channel.ExtraChannel.{ExtraChannel}
 use Rattle.jxl_picture.specs.Pictures.{is_grey, colour_count, has_alpha, is_alpha}
 use Rattle.jxl_picture.specs.Rasters.{Layer, maximum, raster_text, float_rows}
 use Rattle.jxl_picture.specs.declared.format.Format.{Format}
-use Rattle.jxl_picture.specs.declared.format.Format.TheVariants.{Pgm, Ppm, Pam, Pfm}
+use Rattle.jxl_picture.specs.declared.format.Format.TheVariants.{Pgm, Ppm, Pam, Pfm, Text}
 
 -- a text, and the end of its line
 abbrev pub line : List ℕ → List ℕ
@@ -23,12 +24,19 @@ is_whole most d = (d.exponent_bits == 0) && nat_le 1 d.bits && nat_le d.bits mos
 abbrev pub can_stand : ExtraChannel → Bool
 can_stand c = not (is_alpha c) || is_whole 31 c.depth
 
--- the format can hold the picture's colours, and PAM its alpha too
+-- the format can hold the picture's colours, PAM its alpha too, and decimal numbers all of it
 abbrev pub suits : Format → Image → Bool
 suits Pgm image = is_grey image && is_whole 16 image.samples.depth
 suits Ppm image = not (is_grey image) && is_whole 16 image.samples.depth
 suits Pam image = is_whole 16 image.samples.depth && list_all can_stand image.extra
 suits Pfm image = (image.samples.depth.exponent_bits == 8) && (image.samples.depth.bits == 32)
+suits Text image = true
+
+-- how many channels the format leaves out
+abbrev pub left_out : Format → Image → ℕ
+left_out Text image = 0
+left_out Pam image = if has_alpha image then length image.extra - 1 else length image.extra
+left_out format image = length image.extra
 
 -- the format in which a picture is written where none is asked for: PGM or PPM, PAM where there is alpha, PFM for floats
 abbrev pub usual_whole : Image → Format
@@ -94,3 +102,4 @@ text_of Ppm image channels = pnm_head (codes "P6") image ++ raster_of image (col
 text_of Pam image channels = pam_head image ++ raster_of image (pam_layers image channels)
 text_of Pfm image channels =
     pfm_head image ++ float_rows (colours_of image channels) image.size.width image.size.height image.size.height
+text_of Text image channels = image_text channels

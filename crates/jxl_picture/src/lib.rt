@@ -1,4 +1,5 @@
-//! Pictures that were decoded from JPEG XL files, and their text in the formats PGM, PPM, PAM and PFM.
+//! Pictures that were decoded from JPEG XL files, and their text in the formats PGM, PPM, PAM and PFM, and in decimal
+//! numbers.
 #![tactic(auto)]
 
 pub mod format;

@@ -1,0 +1,3 @@
+pub mod KindNames
+pub mod Lines
+pub mod TextPieces

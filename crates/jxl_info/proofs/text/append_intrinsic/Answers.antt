@@ -1,0 +1,12 @@
+use Rattle.std.proofs.Common.{◌++◌, ◌∙◌, ap, sym, Option, string_bytes, codes}
+use Rattle.jxl_headers.specs.declared.size.Size.{Size}
+use Rattle.jxl_info.specs.Texts.{intrinsic_line, size_text}
+use Rattle.jxl_info.proofs.TextPieces.{line_grown}
+use Rattle.jxl_info.proofs.text.append_intrinsic.Goals as goal
+
+pub returns-in_ok-writeln : goal.returns-in_ok-writeln
+unfolding intrinsic_line
+returns-in_ok-writeln c =
+    let s = string_bytes c.args.text.now in
+    line_grown s (string_bytes c.write.new.self) (string_bytes c.append_size.new.text) (string_bytes c.writeln.new.self) (codes "Intrinsic dimensions: ") (size_text c.in-Some.size) c.in_ok-write.ensures.bytes c.in_ok-append_size.ensures c.in_ok-writeln.ensures.bytes
+    ∙ ap (λ (size : Option Size). s ++ intrinsic_line size) (sym c.in-Some.is)

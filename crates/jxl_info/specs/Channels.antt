@@ -1,0 +1,57 @@
+-- The channels of a picture.
+use Rattle.std.specs.Prelude.{ℕ, ◌==◌, List, [], ◌∷◌, ◌++◌, Bool, if◌then◌else◌, codes}
+use Rattle.std.specs.List.{list_any, flat_map, enumerate_from}
+use Rattle.std.specs.Fmt.{decimal}
+use Rattle.jxl_headers.specs.Images.{Image}
+use Rattle.jxl_headers.specs.declared.channel.BitDepth.{BitDepth}
+use Rattle.jxl_headers.specs.declared.channel.ExtraChannel.{ExtraChannel}
+use Rattle.jxl_picture.specs.Formats.{line}
+use Rattle.jxl_picture.specs.Pictures.{has_alpha, is_grey}
+use Rattle.jxl_info.specs.Names.{kind_name}
+
+-- how samples are stored
+unfoldable pub depth_text : BitDepth → List ℕ
+depth_text d =
+    decimal d.bits ++ codes "-bit" ++ (if d.exponent_bits == 0 then [] else codes " float (" ++ decimal d.exponent_bits ++ codes " exponent bits)")
+
+-- one of them is black
+abbrev pub has_black : Image → Bool
+has_black image = list_any (λ c. c.kind == 4) image.extra
+
+-- the kind of colours, with black or alpha
+unfoldable pub colours_name : Image → List ℕ
+colours_name image =
+    if is_grey image then codes "Grayscale" else if has_black image then codes "CMYK" else if has_alpha image then codes "RGBA" else codes "RGB"
+
+-- the kind of extra channels whose first is told with the colours; 17 is none
+abbrev pub told_kind : Image → ℕ
+told_kind image = if is_grey image then 17 else if has_black image then 4 else 0
+
+-- the kinds of extra channels, each after a plus
+abbrev pub kinds : List ExtraChannel → List ℕ
+kinds channels = flat_map (λ c. codes "+" ++ kind_name c.kind) channels
+
+-- those but the first of this kind
+abbrev pub kinds_but : ℕ → List ExtraChannel → List ℕ
+kinds_but told [] = []
+kinds_but told (c ∷ cs) = if c.kind == told then kinds cs else codes "+" ++ kind_name c.kind ++ kinds_but told cs
+
+unfoldable pub channels_text : Image → List ℕ
+channels_text image = colours_name image ++ kinds_but (told_kind image) image.extra
+
+-- its sides are those of the picture by 2 to the power of its shift
+unfoldable pub shift_text : ℕ → List ℕ
+shift_text shift = if shift == 0 then [] else codes ", dim_shift " ++ decimal shift
+
+-- colours were multiplied by it
+unfoldable pub premultiplied_text : Bool → List ℕ
+premultiplied_text premultiplied = if premultiplied then codes ", premultiplied" else []
+
+-- what is told of an extra channel
+unfoldable pub extra_line : ℕ → ExtraChannel → List ℕ
+extra_line number c = line (codes "extra channel " ++ decimal number ++ codes ": " ++ kind_name c.kind ++ codes ", " ++ depth_text c.depth
+    ++ shift_text c.shift ++ premultiplied_text c.premultiplied)
+
+-- the extra channels, which are numbered from 0
+abbrev pub extra_lines : List ExtraChannel → List ℕ
+extra_lines channels = flat_map (λ c. extra_line c.0 c.1) (enumerate_from 0 channels)

@@ -1,0 +1,57 @@
+-- Why a codestream is not decoded whose headers stand, in words.
+use Rattle.std.specs.Prelude.{ℕ, List, [], ◌++◌, Bool, true, false, codes}
+use Rattle.std.specs.Fmt.{decimal}
+use Rattle.jxl_headers.specs.declared.refusal.Refusal.{Refusal as ImageRefusal}
+use Rattle.jxl_headers.specs.declared.refusal.Refusal.TheVariants as images
+use Rattle.jxl_frames.specs.declared.refusal.Refusal.{Refusal as FrameRefusal}
+use Rattle.jxl_frames.specs.declared.refusal.Refusal.TheVariants as frames
+use Rattle.jxl_front.specs.declared.error.FrontError.{FrontError}
+use Rattle.jxl_front.specs.declared.error.FrontError.TheVariants as errors
+
+unfoldable pub image_reason : ImageRefusal → List ℕ
+image_reason images.Orientation = codes "an orientation"
+image_reason images.Preview = codes "a preview"
+image_reason images.Animation = codes "an animation"
+image_reason images.FloatDepth = codes "floats of other than 32 bits"
+image_reason images.ExtraFloats = codes "an extra channel of floats"
+image_reason images.ExtraSize = codes "an extra channel of another size"
+image_reason images.Xyb = codes "XYB"
+image_reason images.Extensions = codes "extensions"
+
+unfoldable pub frame_reason : FrameRefusal → List ℕ
+frame_reason frames.VarDct = codes "VarDCT"
+frame_reason frames.LfFrame = codes "a frame of low frequencies"
+frame_reason frames.ReferenceFrame = codes "a frame that is not shown"
+frame_reason frames.SkippedFrame = codes "a frame that is skipped"
+frame_reason frames.Noise = codes "noise"
+frame_reason frames.Patches = codes "patches"
+frame_reason frames.Splines = codes "splines"
+frame_reason frames.UseLfFrame = codes "low frequencies of another frame"
+frame_reason frames.YCbCr = codes "YCbCr"
+frame_reason frames.Upsampling = codes "upsampling"
+frame_reason frames.ExtraUpsampling = codes "upsampling of an extra channel"
+frame_reason frames.Passes = codes "several passes"
+frame_reason frames.Crop = codes "a cropped frame"
+frame_reason frames.Blending = codes "blending"
+frame_reason frames.ExtraBlending = codes "blending of an extra channel"
+frame_reason frames.Frames = codes "several frames"
+frame_reason frames.LoopFilter = codes "a loop filter"
+frame_reason frames.Extensions = codes "extensions"
+
+-- the headers stand, but the codestream is not decoded
+abbrev pub is_refusal : FrontError → Bool
+is_refusal (errors.Image reason) = true
+is_refusal (errors.Frame reason) = true
+is_refusal errors.TooLarge = true
+is_refusal errors.TooManySections = true
+is_refusal (errors.TruncatedSection number) = true
+is_refusal error = false
+
+-- the reason, as the error prints it
+unfoldable pub reason_text : FrontError → List ℕ
+reason_text (errors.Image reason) = codes "not supported: " ++ image_reason reason
+reason_text (errors.Frame reason) = codes "not supported: " ++ frame_reason reason
+reason_text errors.TooLarge = codes "a picture above the limits"
+reason_text errors.TooManySections = codes "not supported: more than 16777216 sections"
+reason_text (errors.TruncatedSection number) = codes "section " ++ decimal number ++ codes " is truncated"
+reason_text error = []

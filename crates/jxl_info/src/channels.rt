@@ -1,0 +1,126 @@
+//! The channels of a picture.
+
+ghost use Rattle.std.specs.Prelude.{◌≡◌, ◌++◌, OnOk, string_bytes};
+ghost use Rattle.jxl_headers.specs.Images.{image_of};
+ghost use Rattle.jxl_info.specs.Channels.{depth_text, has_black as the_has_black, colours_name as the_colours_name, told_kind as the_told_kind, kinds_but, channels_text, shift_text, premultiplied_text, extra_line, extra_lines};
+
+use crate::names::kind_name;
+use jxl_headers::channel::{BitDepth, ExtraChannel};
+use jxl_headers::image::ImageHeader;
+use jxl_picture::picture::{has_alpha, is_grey};
+use jxlm_base::grid::OutOfMemory;
+
+/// Adds how samples are stored.
+#[tactic(auto, unfolding(crate::specs::Channels::depth_text))]
+pub fn append_depth(text: &mut String, depth: BitDepth) -> Result<(), OutOfMemory>
+    ensures { OnOk result (string_bytes text.new ≡ string_bytes text.old ++ depth_text depth) }
+{
+    let (bits, exponent) = (depth.bits, depth.exponent_bits);
+    write!(text, "{bits}-bit")?;
+    if exponent != 0 {
+        write!(text, " float ({exponent} exponent bits)")?;
+    }
+    Ok(())
+}
+
+fn has_black(header: &ImageHeader) -> bool
+    ensures { result ≡ the_has_black (image_of header.now) }
+{
+    header.extra.iter().any(|channel| channel.kind == 4)
+}
+
+#[tactic(auto, unfolding(crate::specs::Channels::colours_name))]
+fn colours_name(header: &ImageHeader) -> &'static str
+    ensures { result.now ≡ the_colours_name (image_of header.now) }
+{
+    if is_grey(header) {
+        "Grayscale"
+    } else if has_black(header) {
+        "CMYK"
+    } else if has_alpha(header) {
+        "RGBA"
+    } else {
+        "RGB"
+    }
+}
+
+fn told_kind(header: &ImageHeader) -> u32
+    ensures { result ≡ the_told_kind (image_of header.now) }
+{
+    if is_grey(header) {
+        17
+    } else if has_black(header) {
+        4
+    } else {
+        0
+    }
+}
+
+// The kinds of extra channels but the first of the kind that is told already, each after a plus.
+fn append_kinds(text: &mut String, told: u32, extra: &[ExtraChannel]) -> Result<(), OutOfMemory>
+    ensures { OnOk result (string_bytes text.new ≡ string_bytes text.old ++ kinds_but told extra.now) }
+{
+    let mut passed = false;
+    for channel in extra {
+        if !passed && channel.kind == told {
+            passed = true;
+        } else {
+            let name = kind_name(channel.kind);
+            write!(text, "+{name}")?;
+        }
+    }
+    Ok(())
+}
+
+/// Adds the names of all channels.
+#[tactic(auto, unfolding(crate::specs::Channels::channels_text))]
+pub fn append_channels(text: &mut String, header: &ImageHeader) -> Result<(), OutOfMemory>
+    ensures { OnOk result (string_bytes text.new ≡ string_bytes text.old ++ channels_text (image_of header.now)) }
+{
+    let name = colours_name(header);
+    write!(text, "{name}")?;
+    append_kinds(text, told_kind(header), &header.extra)
+}
+
+#[tactic(auto, unfolding(crate::specs::Channels::shift_text))]
+fn append_shift(text: &mut String, shift: u32) -> Result<(), OutOfMemory>
+    ensures { OnOk result (string_bytes text.new ≡ string_bytes text.old ++ shift_text shift) }
+{
+    if shift != 0 {
+        write!(text, ", dim_shift {shift}")?;
+    }
+    Ok(())
+}
+
+#[tactic(auto, unfolding(crate::specs::Channels::premultiplied_text))]
+fn append_premultiplied(text: &mut String, premultiplied: bool) -> Result<(), OutOfMemory>
+    ensures { OnOk result (string_bytes text.new ≡ string_bytes text.old ++ premultiplied_text premultiplied) }
+{
+    if premultiplied {
+        write!(text, ", premultiplied")?;
+    }
+    Ok(())
+}
+
+#[tactic(auto, unfolding(crate::specs::Channels::extra_line))]
+fn append_extra(text: &mut String, number: usize, channel: &ExtraChannel) -> Result<(), OutOfMemory>
+    ensures { OnOk result (string_bytes text.new ≡ string_bytes text.old ++ extra_line number channel.now) }
+{
+    let name = kind_name(channel.kind);
+    write!(text, "extra channel {number}: {name}, ")?;
+    append_depth(text, channel.depth)?;
+    append_shift(text, channel.shift)?;
+    append_premultiplied(text, channel.premultiplied)?;
+    writeln!(text)?;
+    Ok(())
+}
+
+/// Adds a line for each extra channel.
+pub fn append_extras(text: &mut String, extra: &[ExtraChannel]) -> Result<(), OutOfMemory>
+    ensures { OnOk result (string_bytes text.new ≡ string_bytes text.old ++ extra_lines extra.now) }
+{
+    for (number, channel) in extra.iter().enumerate() {
+        append_extra(text, number, channel)?;
+    }
+    Ok(())
+}

@@ -1,0 +1,149 @@
+//! The line of colours.
+
+ghost use Rattle.std.specs.Prelude.{◌≡◌, ◌++◌, ◌<◌, codes, OnOk, string_bytes};
+ghost use Rattle.jxl_info.specs.Colours.{three_digits, millionths, coordinate_text, point_text, white_text, basis_text, transfer_text, mixed_text, light_text, meaning_text, colour_text};
+
+use crate::names::{basis_name, curve_name, intent_name, space_name, white_name};
+use jxl_headers::colour::{Basis, Chromaticity, ColourEncoding, Transfer, White};
+use jxlm_base::grid::OutOfMemory;
+
+// Three digits of a number below 1000.
+#[tactic(auto, unfolding(crate::specs::Colours::three_digits))]
+fn append_digits(text: &mut String, n: u32) -> Result<(), OutOfMemory>
+    ensures { OnOk result (string_bytes text.new ≡ string_bytes text.old ++ three_digits n) }
+{
+    let (first, second, third) = (n / 100, n / 10 % 10, n % 10);
+    write!(text, "{first}{second}{third}")?;
+    Ok(())
+}
+
+// Millionths, with six digits after the point.
+#[tactic(auto, unfolding(crate::specs::Colours::millionths))]
+fn append_millionths(text: &mut String, n: u32) -> Result<(), OutOfMemory>
+    ensures { OnOk result (string_bytes text.new ≡ string_bytes text.old ++ millionths n) }
+{
+    let (whole, part) = (n / 1_000_000, n % 1_000_000);
+    write!(text, "{whole}.")?;
+    append_digits(text, part / 1000)?;
+    append_digits(text, part % 1000)
+}
+
+#[tactic(auto, unfolding(crate::specs::Colours::coordinate_text))]
+fn append_coordinate(text: &mut String, v: u32) -> Result<(), OutOfMemory>
+    ensures { OnOk result (string_bytes text.new ≡ string_bytes text.old ++ coordinate_text v) }
+{
+    if v % 2 == 0 {
+        return append_millionths(text, v / 2);
+    }
+    write!(text, "-")?;
+    append_millionths(text, v / 2 + 1)
+}
+
+#[tactic(auto, unfolding(crate::specs::Colours::point_text))]
+fn append_point(text: &mut String, point: Chromaticity) -> Result<(), OutOfMemory>
+    ensures { OnOk result (string_bytes text.new ≡ string_bytes text.old ++ point_text point) }
+{
+    write!(text, "(x=")?;
+    append_coordinate(text, point.x)?;
+    write!(text, ",y=")?;
+    append_coordinate(text, point.y)?;
+    write!(text, ")")?;
+    Ok(())
+}
+
+#[tactic(auto, unfolding(crate::specs::Colours::white_text))]
+fn append_white(text: &mut String, white: White) -> Result<(), OutOfMemory>
+    ensures { OnOk result (string_bytes text.new ≡ string_bytes text.old ++ white_text white) }
+{
+    if white.number == 2 {
+        write!(text, "Custom, white_point")?;
+        append_point(text, white.own)?;
+    } else {
+        let name = white_name(white.number);
+        write!(text, "{name}")?;
+    }
+    Ok(())
+}
+
+#[tactic(auto, unfolding(crate::specs::Colours::basis_text))]
+fn append_basis(text: &mut String, basis: Basis) -> Result<(), OutOfMemory>
+    ensures { OnOk result (string_bytes text.new ≡ string_bytes text.old ++ basis_text basis) }
+{
+    if basis.number == 2 {
+        write!(text, "Custom primaries: red")?;
+        append_point(text, basis.own.red)?;
+        write!(text, ", green")?;
+        append_point(text, basis.own.green)?;
+        write!(text, ", blue")?;
+        return append_point(text, basis.own.blue);
+    }
+    let name = basis_name(basis.number);
+    write!(text, "{name} primaries")?;
+    Ok(())
+}
+
+#[tactic(auto, unfolding(crate::specs::Colours::transfer_text))]
+fn append_transfer(text: &mut String, transfer: Transfer) -> Result<(), OutOfMemory>
+    ensures { OnOk result (string_bytes text.new ≡ string_bytes text.old ++ transfer_text transfer) }
+{
+    if transfer.number == 0 {
+        let last = transfer.gamma % 10;
+        write!(text, "gamma(")?;
+        append_millionths(text, transfer.gamma / 10)?;
+        write!(text, "{last})")?;
+        return Ok(());
+    }
+    let name = curve_name(transfer.number);
+    write!(text, "{name}")?;
+    Ok(())
+}
+
+#[tactic(auto, unfolding(crate::specs::Colours::mixed_text))]
+fn append_mixed(text: &mut String, colour: ColourEncoding) -> Result<(), OutOfMemory>
+    ensures { OnOk result (string_bytes text.new ≡ string_bytes text.old ++ mixed_text colour) }
+{
+    if colour.space != 1 {
+        write!(text, ", ")?;
+        append_basis(text, colour.basis)?;
+    }
+    Ok(())
+}
+
+#[tactic(auto, unfolding(crate::specs::Colours::light_text))]
+fn append_light(text: &mut String, colour: ColourEncoding) -> Result<(), OutOfMemory>
+    ensures { OnOk result (string_bytes text.new ≡ string_bytes text.old ++ light_text colour) }
+{
+    if colour.space != 2 {
+        write!(text, ", ")?;
+        append_white(text, colour.white)?;
+        append_mixed(text, colour)?;
+        write!(text, ", ")?;
+        append_transfer(text, colour.transfer)?;
+        write!(text, " transfer function")?;
+    }
+    Ok(())
+}
+
+#[tactic(auto, unfolding(crate::specs::Colours::meaning_text))]
+fn append_meaning(text: &mut String, colour: ColourEncoding) -> Result<(), OutOfMemory>
+    ensures { OnOk result (string_bytes text.new ≡ string_bytes text.old ++ meaning_text colour) }
+{
+    if colour.profile {
+        write!(text, ", ICC profile")?;
+    } else {
+        let intent = intent_name(colour.intent);
+        append_light(text, colour)?;
+        write!(text, ", rendering intent: {intent}")?;
+    }
+    Ok(())
+}
+
+/// Adds what samples of colours mean.
+#[tactic(auto, unfolding(crate::specs::Colours::colour_text))]
+pub fn append_colour(text: &mut String, colour: ColourEncoding) -> Result<(), OutOfMemory>
+    ensures { OnOk result (string_bytes text.new ≡ string_bytes text.old ++ colour_text colour) }
+{
+    let space = space_name(colour.space);
+    write!(text, "Color space: {space}")?;
+    append_meaning(text, colour)
+}

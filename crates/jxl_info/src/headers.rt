@@ -1,0 +1,116 @@
+//! The headers of a file.
+
+ghost use Rattle.std.specs.Prelude.{◌≡◌, true, IfErr, IfOk};
+ghost use Rattle.jxl_headers.specs.Images.{image_of};
+ghost use Rattle.jxl_front.specs.FrontFailures.{FrontFails};
+ghost use Rattle.jxl_info.specs.Reasons.{is_refusal as the_is_refusal};
+ghost use Rattle.jxl_info.specs.Headers.{HeadersFail, HeadersOfFile, HeadersStand, is_boxed as the_is_boxed};
+
+use crate::reasons::is_refusal;
+use jxl_file::codestream::find_codestream;
+use jxl_file::error::FileError;
+use jxl_front::error::FrontError;
+use jxl_front::front::Front;
+use jxl_headers::image::ImageHeader;
+use jxl_picture::limits::Limits;
+use jxlm_base::bits::Bitstream;
+use jxlm_base::decoder::Decoder;
+use std::alloc::Global;
+
+/// What the headers of a file tell.
+#[derive(Drop)]
+pub struct Headers {
+    /// The image header.
+    pub image: ImageHeader,
+    /// Why the file is not decoded; none where all that comes before the sections of its frame is supported.
+    pub reason: Option<FrontError>,
+}
+
+/// Why the headers of a file cannot be told.
+#[derive(Clone, Copy)]
+pub enum HeadersError {
+    /// The file has no codestream that is read.
+    File(FileError),
+    /// What comes before the sections of the frame has this error.
+    Front(FrontError),
+}
+
+/// Whether a file has boxes: it does not begin as a codestream.
+pub fn is_boxed(file: &[u8]) -> bool
+    ensures { result ≡ the_is_boxed file.now }
+{
+    !file.starts_with(&[255, 10])
+}
+
+// The image header, of a codestream that is not decoded for this reason.
+fn read_refused<D: Decoder>(
+    alloc: Global,
+    bytes: &[u8],
+    limits: &Limits,
+    reason: FrontError,
+) -> Result<Headers, FrontError>
+    requires fails { FrontFails D.meaning limits.now bytes.now reason }
+    requires refusal { the_is_refusal reason ≡ true }
+    ensures ok { IfOk result (λ h. HeadersStand D.meaning limits.now bytes.now (image_of h.image) h.reason) }
+    ensures err { IfErr result (FrontFails D.meaning limits.now bytes.now) }
+{
+    let mut bits = Bitstream::new(bytes);
+    match ImageHeader::parse(alloc, &mut bits) {
+        Ok(image) => Ok(Headers {
+            image,
+            reason: Some(reason),
+        }),
+        Err(error) => Err(FrontError::ImageHeader(error)),
+    }
+}
+
+// The headers of a codestream.
+fn read_codestream<D: Decoder>(
+    alloc: Global,
+    bytes: &[u8],
+    limits: &Limits,
+) -> Result<Headers, FrontError>
+    ensures ok { IfOk result (λ h. HeadersStand D.meaning limits.now bytes.now (image_of h.image) h.reason) }
+    ensures err { IfErr result (FrontFails D.meaning limits.now bytes.now) }
+{
+    match Front::read::<D>(alloc, bytes, limits) {
+        Ok(front) => Ok(Headers {
+            image: front.image,
+            reason: None,
+        }),
+        Err(error) => {
+            if is_refusal(error) {
+                read_refused::<D>(alloc, bytes, limits, error)
+            } else {
+                Err(error)
+            }
+        }
+    }
+}
+
+impl Headers {
+    /// The headers of a file, bare or in boxes, and why it is not decoded, as far as they tell; no sample is decoded,
+    /// and no memory is taken for samples. What is coded is read by any decoder.
+    ///
+    /// # Errors
+    ///
+    /// The first reason in the order of the bits why the headers do not stand: of the boxes, of the image header, the
+    /// profile, the frame header or the table of contents. Where a header says what is not supported, those after it
+    /// are not looked at. Or it is out of memory, within any of these.
+    pub fn read<D: Decoder>(
+        alloc: Global,
+        file: &[u8],
+        limits: &Limits,
+    ) -> Result<Headers, HeadersError>
+        ensures ok { IfOk result (λ h. HeadersOfFile D.meaning limits.now file.now (image_of h.image) h.reason) }
+        ensures err { IfErr result (HeadersFail D.meaning limits.now file.now) }
+    {
+        match find_codestream(alloc, file) {
+            Ok(stream) => match read_codestream::<D>(alloc, stream.bytes(), limits) {
+                Ok(headers) => Ok(headers),
+                Err(error) => Err(HeadersError::Front(error)),
+            },
+            Err(error) => Err(HeadersError::File(error)),
+        }
+    }
+}

@@ -1,0 +1,87 @@
+//! Why a codestream is not decoded whose headers stand, in words.
+
+ghost use Rattle.std.specs.Prelude.{◌≡◌, ◌++◌, OnOk, IsTrue, string_bytes};
+ghost use Rattle.jxl_info.specs.Reasons.{image_reason as the_image_reason, frame_reason as the_frame_reason, is_refusal as the_is_refusal, reason_text};
+
+use jxl_frames::refusal::Refusal as FrameRefusal;
+use jxl_front::error::FrontError;
+use jxl_headers::refusal::Refusal as ImageRefusal;
+use jxlm_base::grid::OutOfMemory;
+
+#[tactic(auto, unfolding(crate::specs::Reasons::image_reason))]
+fn image_reason(refusal: ImageRefusal) -> &'static str
+    ensures { result.now ≡ the_image_reason refusal }
+{
+    match refusal {
+        ImageRefusal::Orientation => "an orientation",
+        ImageRefusal::Preview => "a preview",
+        ImageRefusal::Animation => "an animation",
+        ImageRefusal::FloatDepth => "floats of other than 32 bits",
+        ImageRefusal::ExtraFloats => "an extra channel of floats",
+        ImageRefusal::ExtraSize => "an extra channel of another size",
+        ImageRefusal::Xyb => "XYB",
+        ImageRefusal::Extensions => "extensions",
+    }
+}
+
+#[tactic(auto, unfolding(crate::specs::Reasons::frame_reason))]
+fn frame_reason(refusal: FrameRefusal) -> &'static str
+    ensures { result.now ≡ the_frame_reason refusal }
+{
+    match refusal {
+        FrameRefusal::VarDct => "VarDCT",
+        FrameRefusal::LfFrame => "a frame of low frequencies",
+        FrameRefusal::ReferenceFrame => "a frame that is not shown",
+        FrameRefusal::SkippedFrame => "a frame that is skipped",
+        FrameRefusal::Noise => "noise",
+        FrameRefusal::Patches => "patches",
+        FrameRefusal::Splines => "splines",
+        FrameRefusal::UseLfFrame => "low frequencies of another frame",
+        FrameRefusal::YCbCr => "YCbCr",
+        FrameRefusal::Upsampling => "upsampling",
+        FrameRefusal::ExtraUpsampling => "upsampling of an extra channel",
+        FrameRefusal::Passes => "several passes",
+        FrameRefusal::Crop => "a cropped frame",
+        FrameRefusal::Blending => "blending",
+        FrameRefusal::ExtraBlending => "blending of an extra channel",
+        FrameRefusal::Frames => "several frames",
+        FrameRefusal::LoopFilter => "a loop filter",
+        FrameRefusal::Extensions => "extensions",
+    }
+}
+
+/// Whether the headers stand, and yet the codestream is not decoded.
+pub fn is_refusal(error: FrontError) -> bool
+    ensures { result ≡ the_is_refusal error }
+{
+    match error {
+        FrontError::Image(_) | FrontError::Frame(_) => true,
+        FrontError::TooLarge | FrontError::TooManySections => true,
+        FrontError::TruncatedSection(_) => true,
+        _ => false,
+    }
+}
+
+/// Adds the reason, as the error prints it; of an error that is no refusal, nothing.
+#[tactic(auto, unfolding(crate::specs::Reasons::reason_text))]
+pub fn append_reason(text: &mut String, error: FrontError) -> Result<(), OutOfMemory>
+    ensures { OnOk result (string_bytes text.new ≡ string_bytes text.old ++ reason_text error) }
+{
+    match error {
+        FrontError::Image(refusal) => {
+            let reason = image_reason(refusal);
+            write!(text, "not supported: {reason}")?;
+        }
+        FrontError::Frame(refusal) => {
+            let reason = frame_reason(refusal);
+            write!(text, "not supported: {reason}")?;
+        }
+        FrontError::TooLarge => write!(text, "a picture above the limits")?,
+        FrontError::TooManySections => {
+            write!(text, "not supported: more than 16777216 sections")?;
+        }
+        FrontError::TruncatedSection(number) => write!(text, "section {number} is truncated")?,
+        _ => {}
+    }
+    Ok(())
+}
