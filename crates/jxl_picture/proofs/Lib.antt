@@ -1,3 +1,5 @@
 pub mod Growing
 pub mod Pieces
 pub mod LayerLaws
+pub mod Orienting
+pub mod Undoing

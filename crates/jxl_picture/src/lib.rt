@@ -3,5 +3,6 @@
 
 pub mod format;
 pub mod limits;
+pub mod orientation;
 pub mod picture;
 mod raster;
