@@ -17,7 +17,7 @@ use Rattle.jxl_headers.specs.declared.image.Samples.{Samples}
 use Rattle.jxl_headers.specs.declared.image.Shown.{Shown}
 use Rattle.jxl_headers.specs.declared.image.ImageHeader.{ImageHeader}
 use Rattle.jxl_headers.specs.declared.refusal.Refusal.{Refusal}
-use Rattle.jxl_headers.specs.declared.refusal.Refusal.TheVariants.{Orientation, Preview, Animation as Animated, FloatDepth, ExtraFloats, ExtraSize, Xyb}
+use Rattle.jxl_headers.specs.declared.refusal.Refusal.TheVariants.{Preview, Animation as Animated, FloatDepth, ExtraFloats, ExtraSize, Xyb}
 
 -- an image header, seen without its memory
 pub record Image : Type 0 where
@@ -144,7 +144,6 @@ channels_refusal (c ∷ cs) = option_or (channel_refusal c) (channels_refusal cs
 
 abbrev pub display_refusal : Display → Option Refusal
 display_refusal d =
-    if not (d.orientation == 1) then Some Orientation else
     if is_some d.preview then Some Preview else
     if is_some d.animation then Some Animated else None
 

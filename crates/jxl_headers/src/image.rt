@@ -173,9 +173,7 @@ impl Display {
     fn refused(&self) -> Option<Refusal>
         ensures { result ≡ display_refusal self.now }
     {
-        if self.orientation != 1 {
-            Some(Refusal::Orientation)
-        } else if self.preview.is_some() {
+        if self.preview.is_some() {
             Some(Refusal::Preview)
         } else if self.animation.is_some() {
             Some(Refusal::Animation)

@@ -3,9 +3,6 @@
 /// What a codestream has that is not supported.
 #[derive(Clone, Copy, Debug, PartialEq, Eq, thiserror::Error)]
 pub enum Refusal {
-    /// The picture is to be turned or mirrored.
-    #[error("an orientation")]
-    Orientation,
     /// A smaller picture comes first.
     #[error("a preview")]
     Preview,

@@ -1,11 +1,11 @@
 -- The channels of a picture, all of its size.
-use Rattle.std.proofs.Common.{◌≡◌, ℕ, zero, suc, true, ◌%◌, ◌^◌, List, [], ◌∷◌, length, map, ℤ, refl, arith, ◌∙◌, ap}
-use Rattle.std.specs.Prelude.{replicate}
+use Rattle.std.proofs.Common.{◌≡◌, ℕ, zero, suc, Bool, true, false, ◌%◌, ◌^◌, List, [], ◌∷◌, length, map, ℤ, refl, arith, ◌∙◌, ap, sym, subst}
+use Rattle.std.specs.Prelude.{if◌then◌else◌, replicate}
 use Rattle.std.specs.Int.{div_ceil}
-use Rattle.std.specs.List.{All, list_all}
+use Rattle.std.specs.List.{All, AllZip, list_all}
 use Rattle.std.proofs.Math.Nat.{div-one}
 use Rattle.std.proofs.lemmas.List.{map-id}
-use Rattle.std.proofs.lemmas.List.Elements.{All-cons, All-nil}
+use Rattle.std.proofs.lemmas.List.Elements.{All-cons, All-head, All-nil, All-tail}
 use Rattle.std.proofs.lemmas.Bool.Decides.{nat_tests}
 use Rattle.jxlm_base.specs.Grid.{Grid, grid}
 use Rattle.jxlm_base.specs.Regions.{store_meanings}
@@ -16,6 +16,8 @@ use Rattle.jxlm_transform.specs.declared.param.ChannelShift.TheVariants.{Shifts}
 use Rattle.jxlm_transform.specs.declared.param.ModularChannelParams.{ModularChannelParams}
 use Rattle.jxl_headers.specs.Images.{Image}
 use Rattle.jxl_picture.specs.Limits.{channel_count}
+use Rattle.jxl_headers.specs.declared.size.Size.{Size}
+use Rattle.jxl_picture.specs.Orientations.{IsOriented, IsUpright, is_turned, shown_size}
 use Rattle.jxl_picture.specs.Pictures.{HasSides, IsWhole}
 use Rattle.jxl_lossless.specs.Frames.{channels_given}
 
@@ -50,6 +52,35 @@ pub whole : (image : Image) (grids : List (Grid ℤ)) → AreGridsOf (channels_g
 whole image grids s =
     let known = sides (channel_count image) image.size.width image.size.height grids s in
     record { count = known.0; sides = known.1 }
+
+-- and so are those of the picture that is shown upright
+shown_wide : (t : Bool) (size : Size) → (if t then size.height else size.width) ≡ (if t then record { width = size.height; height = size.width } else size).width
+shown_wide true size = refl
+shown_wide false size = refl
+
+shown_high : (t : Bool) (size : Size) → (if t then size.width else size.height) ≡ (if t then record { width = size.height; height = size.width } else size).height
+shown_high true size = refl
+shown_high false size = refl
+
+shown_sides : (o : ℕ) (size : Size) (f g : Grid ℤ) → IsOriented o f g → HasSides size.width size.height f → HasSides (shown_size o size).width (shown_size o size).height g
+shown_sides o size f g s sides =
+    let wide : g.width ≡ (if is_turned o then size.height else size.width) = rw (sides.wide, sides.high) at s.wide in
+    let high : g.height ≡ (if is_turned o then size.width else size.height) = rw (sides.wide, sides.high) at s.high in
+    record { wide = wide ∙ shown_wide (is_turned o) size; high = high ∙ shown_high (is_turned o) size }
+
+all_shown : (o : ℕ) (size : Size) (coded shown : List (Grid ℤ)) → AllZip (IsOriented o) coded shown → All (HasSides size.width size.height) coded →
+    (length shown ≡ length coded) × All (HasSides (shown_size o size).width (shown_size o size).height) shown
+all_shown o size [] [] s all = (refl, All-nil (HasSides (shown_size o size).width (shown_size o size).height))
+all_shown o size [] (g ∷ gs) s all = absurd s
+all_shown o size (f ∷ fs) [] s all = absurd s
+all_shown o size (f ∷ fs) (g ∷ gs) s all =
+    let rest = all_shown o size fs gs s.1 (All-tail (HasSides size.width size.height) f fs all) in
+    (ap suc rest.0, All-cons (HasSides (shown_size o size).width (shown_size o size).height) g gs (shown_sides o size f g s.0 (All-head (HasSides size.width size.height) f fs all)) rest.1)
+
+pub whole_upright : (image : Image) (coded : List (Grid ℤ)) (shown : Image) (channels : List (Grid ℤ)) → IsWhole image coded → IsUpright image coded shown channels → IsWhole shown channels
+whole_upright image coded shown channels is turned =
+    let all = all_shown image.display.orientation image.size coded channels turned.oriented is.sides in
+    subst (λ (i : Image). IsWhole i channels) (sym turned.header) (record { count = all.0 ∙ is.count; sides = all.1 })
 
 -- samples of 32 bits are the numbers that they stand for
 pub same_grids : (gs : List (Grid ℤ)) → store_meanings (λ (v : ℤ). v) gs ≡ gs

@@ -26,10 +26,12 @@ fn decode_codestream(alloc: Global, bytes: &[u8], limits: &Limits) -> Result<Pic
         Err(error) => return Err(FileError::Front(error)),
     };
     let image = decode_front::<i32, EntropyDecoder>(alloc, bytes, &front, &mut Steps::new())?;
-    Ok(Picture {
+    let coded = Picture {
         header: front.image,
         channels: image.into_image_channels(),
-    })
+    };
+    let shown = coded.upright(alloc)?;
+    Ok(shown)
 }
 
 /// The picture of a JPEG XL file: a lossless still picture of one frame, bare or in boxes.
@@ -37,7 +39,8 @@ fn decode_codestream(alloc: Global, bytes: &[u8], limits: &Limits) -> Result<Pic
 /// It has the samples that were coded, of which no decoder can make others: the file is a codestream, or boxes that
 /// hold one; image header, frame header and table of contents stand at its bits; each section lies where the table says;
 /// and the channels are the only ones that the transforms turn into the samples that the sections code, read by the
-/// entropy decoder with the indices of their streams.
+/// entropy decoder with the indices of their streams. They are shown upright: mirrored or turned as the image header
+/// says. The picture's header is that of the file, but that it has the size of what is shown, and orientation 1.
 ///
 /// # Errors
 ///

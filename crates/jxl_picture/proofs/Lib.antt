@@ -2,3 +2,5 @@ pub mod Growing
 pub mod Pieces
 pub mod LayerLaws
 pub mod Numbers
+pub mod Orienting
+pub mod Undoing

@@ -4,5 +4,6 @@
 
 pub mod format;
 pub mod limits;
+pub mod orientation;
 pub mod picture;
 mod raster;

@@ -1,11 +1,14 @@
 //! A decoded picture.
 
-ghost use Rattle.std.specs.Prelude.{◌≡◌, ◌+◌, ◌↔◌, IsTrue, length};
+ghost use Rattle.std.specs.Prelude.{◌≡◌, ◌+◌, ◌↔◌, IfOk, IsTrue, length};
 ghost use Rattle.jxl_headers.specs.Images.{image_of};
 ghost use Rattle.jxl_picture.specs.Pictures.{IsWhole, colour_count, is_grey as colours_are_grey, has_alpha as there_is_alpha};
+ghost use Rattle.jxl_picture.specs.Orientations.{IsUpright};
 
+use crate::orientation::{shown_channels, shown_size};
 use jxl_headers::image::ImageHeader;
-use jxlm_base::grid::AlignedGrid;
+use jxlm_base::grid::{AlignedGrid, OutOfMemory};
+use std::alloc::Global;
 
 /// A picture: what is told of it, and its samples.
 #[derive(Drop)]
@@ -51,5 +54,19 @@ impl Picture {
             && self.channels.len() - extra == colours(&self.header)
             && self.channels.iter().all(|channel| channel.width() == width
                 && channel.height() == height)
+    }
+
+    /// The picture as it is shown: its cells are mirrored or turned as the header says, its size is that of what is shown,
+    /// and its orientation 1. Memory is taken for one more channel, where the picture is not upright as it is.
+    pub fn upright(self, alloc: Global) -> Result<Picture, OutOfMemory>
+        ensures { IfOk result (λ p. IsUpright (image_of self.header) self.channels.items (image_of p.header)
+            p.channels.items) }
+    {
+        let mut header = self.header;
+        let orientation = header.display.orientation;
+        header.size = shown_size(orientation, header.size);
+        header.display.orientation = 1;
+        let channels = shown_channels(alloc, self.channels, orientation)?;
+        Ok(Picture { header, channels })
     }
 }
