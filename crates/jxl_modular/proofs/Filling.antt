@@ -109,7 +109,7 @@ module _ {S D : Type 0} (d : Meaning D) (w : Width) (to_int : S → ℤ) (bytes 
   -- all samples were decoded
   coded_whole : Gives (Ok tt) → SameButCells old mid → IsCodedWhole d w (whole_part old stream) bytes old.config.decoder p (coded_grids to_int mid) q
   coded_whole h kept = elim (whole (Ok tt) h).1 [
-    | inl all ↦ rw kept.coded all.coded
+    | inl all ↦ rw (ap (λ (z : Image S D). z.coded) kept.rest) all.coded
     | inr cut ↦ (let no = cut.0 in cc)
   ]
 
@@ -118,7 +118,7 @@ module _ {S D : Type 0} (d : Meaning D) (w : Width) (to_int : S → ℤ) (bytes 
   filled new h kept only same = record {
     samples = coded_grids to_int mid;
     coded = coded_whole h kept;
-    only = only_of w old new (image_grids to_int new) (coded_grids to_int mid) (same.bit_depth ∙ kept.bit_depth) (same.steps ∙ kept.steps) (same.given ∙ kept.given) only;
+    only = only_of w old new (image_grids to_int new) (coded_grids to_int mid) ((ap (λ (z : Image S D). z.bit_depth) same.rest) ∙ (ap (λ (z : Image S D). z.bit_depth) kept.rest)) ((ap (λ (z : Image S D). z.steps) same.rest) ∙ (ap (λ (z : Image S D). z.steps) kept.rest)) ((ap (λ (z : Image S D). z.given) same.rest) ∙ (ap (λ (z : Image S D). z.given) kept.rest)) only;
   }
 
   -- and their transforms are undone

@@ -129,7 +129,7 @@ module _ {S D : Type 0} (d : Meaning D) (w : Width) (to_int : S → ℤ) (bytes 
       PartOfGives d w to_int bytes stream (passes_in x) (section_part part) (image_of x) p (is_partial x part) (steps_of x part) y q (nat_lt 0 (cell_count (channels_in y progress.passes.items (section_part part))) && (state_in progress part).partial) (state_in progress part).steps allow result
   full_gives x part p q s t y allow result passes name progress some passes_are name_is taken put kept same h =
       let samples : nat_lt 0 (cell_count (channels_of x part)) ≡ true = lt-ltb 0 (cell_count (channels_of x part)) some in
-      let channels : channels_in y progress.passes.items (section_part part) ≡ channels_of x part = rw (same.group_dim, same.channels, same.nb_meta, kept) refl in
+      let channels : channels_in y progress.passes.items (section_part part) ≡ channels_of x part = rw ((ap (λ (z : Image S D). z.group_dim) same.rest), (ap (λ (z : Image S D). z.channels) same.rest), (ap (λ (z : Image S D). z.nb_meta) same.rest), kept) refl in
       let state : state_in progress part ≡ t = ap or_new put in
       moved passes (passes_in x) name (section_part part) (image_of x) y p q
       s.partial (is_partial x part) t.partial (nat_lt 0 (cell_count (channels_in y progress.passes.items (section_part part))) && (state_in progress part).partial)
@@ -148,7 +148,7 @@ module _ {S D : Type 0} (d : Meaning D) (w : Width) (to_int : S → ℤ) (bytes 
       (subst (λ (n : ℕ). NestedGives d w to_int nought (image_of x) (passes_in x) global bytes p (section_part part) stream allow (Err e) (image_of x).store (image_of x).store p (steps_of x part) n)
       (sym (ap (λ (o : Option PartState). (or_new o).steps) same)) (
         record { position = p; partial = false; tried = 0; tree = (image_of x).config.tree },
-        inl (record { fails = rw memory tt; unchanged = refl; tries = refl }),
+        inl (record { because = rw memory tt; unchanged = refl; tries = refl }),
         refl,
         (omega arith, omega arith),
       ))
@@ -168,7 +168,7 @@ module _ {S D : Type 0} (x : TransformedGlobalModular S D) (part : Part) (s t : 
   -- whether the part is partial by the state that is put back
   by_state : partial_then ≡ (has_cells && t.partial)
   by_state =
-      let channels : channels_in y progress.passes.items (section_part part) ≡ channels_of x part = rw (same.group_dim, same.channels, same.nb_meta, kept) refl in
+      let channels : channels_in y progress.passes.items (section_part part) ≡ channels_of x part = rw ((ap (λ (z : Image S D). z.group_dim) same.rest), (ap (λ (z : Image S D). z.channels) same.rest), (ap (λ (z : Image S D). z.nb_meta) same.rest), kept) refl in
       let state : state_in progress part ≡ t = ap or_new put in
       rw (channels, state) refl
 
@@ -193,7 +193,7 @@ pub others_kept : {S D : Type 0} (to_int : S → ℤ) (x new : TransformedGlobal
     KeepsOtherGrids to_int (passes_in x) (section_part part) (image_of x) (image_of new) → KeepsOtherParts to_int part x new
 others_kept to_int x new part states passes same grids = record {
   partial = λ other unlike.
-      let channels : channels_of new other ≡ channels_of x other = rw (same.group_dim, same.channels, same.nb_meta, passes) refl in
+      let channels : channels_of new other ≡ channels_of x other = rw ((ap (λ (z : Image S D). z.group_dim) same.rest), (ap (λ (z : Image S D). z.channels) same.rest), (ap (λ (z : Image S D). z.nb_meta) same.rest), passes) refl in
       let state : state_of new other ≡ state_of x other = ap or_new (states other unlike) in
       rw (channels, state) refl;
   steps = λ other unlike. ap (λ (o : Option PartState). (or_new o).steps) (states other unlike);

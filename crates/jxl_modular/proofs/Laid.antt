@@ -65,37 +65,24 @@ module _ {S D : Type 0} (x : Image S D) (laid : IsLaidOut x) where
 
 -- An image stays laid out where only cells change.
 pub still_laid : {S D : Type 0} (x y : Image S D) → IsLaidOut x → SameButCells x y → IsLaidOut y
-still_laid x y laid same = record {
-  list = rw (same.steps, same.given, same.channels, same.nb_meta) laid.list;
-  regions = rw (same.coded, same.steps, same.given) laid.regions;
-  buffers = rw (same.steps, same.given) (buffers_kept _ x.store y.store same.shape laid.buffers);
+still_laid x y laid same = subst IsLaidOut (sym same.rest) (record {
+  list = laid.list;
+  regions = laid.regions;
+  buffers = buffers_kept _ x.store y.store same.shape laid.buffers;
   narrow_store = narrow_kept x.store y.store same.shape laid.narrow_store;
-  narrow = rw same.channels laid.narrow;
-  few = rw same.channels laid.few;
-  weights = rw same.weights laid.weights;
-  steps = rw same.steps laid.steps;
-  palettes = rw (same.weights, same.steps) laid.palettes;
-  deep = rw same.bit_depth laid.deep;
-  groups = rw same.group_dim laid.groups;
-  asked = rw same.given laid.asked;
-}
+  narrow = laid.narrow;
+  few = laid.few;
+  weights = laid.weights;
+  steps = laid.steps;
+  palettes = laid.palettes;
+  deep = laid.deep;
+  groups = laid.groups;
+  asked = laid.asked;
+})
 
 -- the image with cells that were written in these regions
 pub same_but_store : {S D : Type 0} (x : Image S D) (s : List (Grid S)) → SameShape x.store s → SameButCells x (record x { store = s })
-same_but_store x s shape = record {
-  palette = refl;
-  squeeze = refl;
-  weights = refl;
-  steps = refl;
-  config = refl;
-  group_dim = refl;
-  bit_depth = refl;
-  given = refl;
-  channels = refl;
-  nb_meta = refl;
-  coded = refl;
-  shape = shape;
-}
+same_but_store x s shape = record { rest = refl; shape = shape }
 
 -- Where all steps of an image were undone, its channels are the only ones that become the coded grids as they were.
 pub only_image : {S D : Type 0} (to_int : S → ℤ) (w : Width) (x y : Image S D) → IsLaidOut x → IsLaidOut y → SameButCells x y →
@@ -106,14 +93,14 @@ only_image to_int w x y laid laid_y same undone =
     let chain : Chain w x.bit_depth x.steps (given_list x) (grids_in first.regions (store_meanings to_int y.store)) (grids_in (layout_after_all x.steps first).regions (store_meanings to_int x.store)) =
     chain_of to_int w x.bit_depth x.steps (given_list x) (coded_list x) first x.store y.store laid.list laid.steps here.0 here.1 undone in
     let coded : grids_in (layout_after_all x.steps first).regions (store_meanings to_int x.store) ≡ coded_grids to_int x = ap (λ (rs : List Region). grids_in rs (store_meanings to_int x.store)) (sym laid.regions) in
-    let own : grids_in first.regions (store_meanings to_int y.store) ≡ image_grids to_int y = ap (λ (cs : List Channel). grids_in (first_layout cs).regions (store_meanings to_int y.store)) (sym same.given) ∙ given_first y laid_y to_int in
+    let own : grids_in first.regions (store_meanings to_int y.store) ≡ image_grids to_int y = ap (λ (cs : List Channel). grids_in (first_layout cs).regions (store_meanings to_int y.store)) (sym (ap (λ (z : Image S D). z.given) same.rest)) ∙ given_first y laid_y to_int in
     let own_chain : Chain w x.bit_depth x.steps (given_list x) (image_grids to_int y) (coded_grids to_int x) =
     subst (λ gs. Chain w x.bit_depth x.steps (given_list x) gs (coded_grids to_int x)) own
     (subst (λ gs. Chain w x.bit_depth x.steps (given_list x) (grids_in first.regions (store_meanings to_int y.store)) gs) coded chain) in
     let this : Chain w y.bit_depth y.steps (given_list y) (image_grids to_int y) (coded_grids to_int x) =
-    subst (λ n. Chain w n y.steps (given_list y) (image_grids to_int y) (coded_grids to_int x)) (sym same.bit_depth)
-    (subst (λ ss. Chain w x.bit_depth ss (given_list y) (image_grids to_int y) (coded_grids to_int x)) (sym same.steps)
-    (subst (λ (cs : List Channel). Chain w x.bit_depth x.steps (record { channels = cs; nb_meta = 0 }) (image_grids to_int y) (coded_grids to_int x)) (sym same.given) own_chain)) in
+    subst (λ n. Chain w n y.steps (given_list y) (image_grids to_int y) (coded_grids to_int x)) (sym (ap (λ (z : Image S D). z.bit_depth) same.rest))
+    (subst (λ ss. Chain w x.bit_depth ss (given_list y) (image_grids to_int y) (coded_grids to_int x)) (sym (ap (λ (z : Image S D). z.steps) same.rest))
+    (subst (λ (cs : List Channel). Chain w x.bit_depth x.steps (record { channels = cs; nb_meta = 0 }) (image_grids to_int y) (coded_grids to_int x)) (sym (ap (λ (z : Image S D). z.given) same.rest)) own_chain)) in
     record {
       chain = this;
       only = λ other h. no_two_images w y.bit_depth y.steps (given_list y) other (image_grids to_int y) (coded_grids to_int x) h this;

@@ -80,7 +80,7 @@ module _ {S D : Type 0} (x : Image S D) (laid : IsLaidOut x) (passes : List Pass
         Gives (Err e) x.store q n n
     not_begun e q n fails = (
       record { position = q; partial = false; tried = 0; tree = x.config.tree },
-      inl (record { fails = fails; unchanged = refl; tries = refl }),
+      inl (record { because = fails; unchanged = refl; tries = refl }),
       refl,
       (omega arith, omega arith),
     )

@@ -41,7 +41,7 @@ use Rattle.jxlm_ma.specs.TreeReading.{IsOutOfMemory}
 use Rattle.jxlm_nested.specs.Zeros.{zeros}
 use Rattle.jxlm_nested.specs.NestedParts.{CanFill, Decodes, FillsIn, IsNested, head_of, nested_channels, nested_places, regions_in, with_own_tables}
 use Rattle.jxlm_nested.specs.Opened.{steps_of_header}
-use Rattle.jxlm_nested.specs.Nested.{NestedDecodes, NestedFails, NestedStart, NestedStops, NestedTurn, Turn, nested_regions, with_tables}
+use Rattle.jxlm_nested.specs.Nested.{NestedDecodes, NestedDone, NestedStart, NestedStops, NestedTurn, Turn, nested_regions, with_tables}
 use Rattle.jxlm_nested.specs.Starts.{coded_part}
 use Rattle.jxlm_nested.specs.declared.nested.NestedPart.{NestedPart}
 use Rattle.jxl_modular.proofs.FreshLaws.{zeros_fit}
@@ -205,7 +205,7 @@ module _ {S D : Type 0} (d : Meaning D) (w : Width) (to_int : S → ℤ) (zero :
   -- Decoded and undone, the part has the only image of its samples.
   turned : (partly : Bool) (t : Turn) (now finished : List (Grid S)) → NestedDecodes d w to_int zero bit_depth global bytes p list held stream partly start (Ok tt) t old now →
       UndoesAll to_int w bit_depth (undo_of_all steps places) now finished →
-      NestedTurn d w to_int zero bit_depth global bytes p list held stream partly t old (take (length old) finished)
+      NestedDone d w to_int zero bit_depth global bytes p list held stream partly t old (take (length old) finished)
   turned partly t now finished decoded undone =
       let decoding = shape_kept (nested_regions held steps old) begun now decoded.outside in
       let undoing = shape_all_undone to_int w bit_depth (undo_of_all steps places) now finished undone in
@@ -233,16 +233,16 @@ module _ {S D : Type 0} (d : Meaning D) (w : Width) (to_int : S → ℤ) (zero :
 
   -- what filling it returns is its turn, or its error
   pub turned_ok : (partly whole : Bool) (t : Turn) (new : List (Grid S)) → FillsIn d w to_int bytes stream q n partly zero bit_depth (Ok whole) t old new →
-      NestedTurn d w to_int zero bit_depth global bytes p list held stream partly t old new × (whole ≡ not t.partial)
+      NestedDone d w to_int zero bit_depth global bytes p list held stream partly t old new × (whole ≡ not t.partial)
   turned_ok partly whole t new (last, (now, decoded, undone, says), cut) = (
-    subst (NestedTurn d w to_int zero bit_depth global bytes p list held stream partly t old) (sym cut)
+    subst (NestedDone d w to_int zero bit_depth global bytes p list held stream partly t old) (sym cut)
         (turned partly t now last (decodes partly (Ok tt) t now decoded) (subst (λ (us : List Undo). UndoesAll to_int w bit_depth us now last) is.placed.undos undone)),
     says,
   )
 
   pub turned_err : (partly : Bool) (e : Error) (t : Turn) (new : List (Grid S)) → FillsIn d w to_int bytes stream q n partly zero bit_depth (Err e) t old new →
-      NestedFails d w to_int zero bit_depth global bytes p list held stream partly e t old new
-  turned_err partly e t new (inl (memory, unchanged, tries)) = inl (record { fails = no_memory (kind_of e) _ memory; unchanged = unchanged; tries = tries })
+      NestedTurn d w to_int zero bit_depth global bytes p list held stream partly (Err e) t old new
+  turned_err partly e t new (inl (memory, unchanged, tries)) = inl (record { because = no_memory (kind_of e) _ memory; unchanged = unchanged; tries = tries })
   turned_err partly e t new (inr (last, (answer, decoded, cause), cut)) = inr (record {
     start = start;
     now = last;

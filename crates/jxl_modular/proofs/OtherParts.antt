@@ -1,5 +1,5 @@
 -- An image's parts hold each coded cell once, and what is decoded in one keeps the grids of each other.
-use Rattle.std.proofs.Common.{ℤ, List, sym}
+use Rattle.std.proofs.Common.{ℤ, List, ap, sym}
 use Rattle.jxlm_cut.specs.declared.part.SectionPart.{SectionPart}
 use Rattle.jxlm_cut.specs.declared.pass.Pass.{Pass}
 use Rattle.jxlm_cut.proofs.Apart.{part_kept, parts_apart}
@@ -22,6 +22,6 @@ module _ {S D : Type 0} (x : Image S D) (laid : IsLaidOut x) (passes : List Pass
 
   pub others_stay : (to_int : S → ℤ) (part : SectionPart) (new : Image S D) → SameButIn (held_in x passes part) x new → KeepsOtherGrids to_int passes part x new
   others_stay to_int part new same other unlike =
-      rw (same.cells.group_dim, same.cells.channels, same.cells.nb_meta, same.cells.coded)
+      rw ((ap (λ (z : Image S D). z.group_dim) same.cells.rest), (ap (λ (z : Image S D). z.channels) same.cells.rest), (ap (λ (z : Image S D). z.nb_meta) same.cells.rest), (ap (λ (z : Image S D). z.coded) same.cells.rest))
       (part_kept x.group_dim passes (coded_list x) x.coded (coded_apart x laid) (held_inside x laid passes) part other (λ e. unlike (sym e)) to_int x.store new.store
       (held_lie x laid passes other) same.outside)

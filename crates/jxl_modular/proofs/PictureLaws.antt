@@ -19,7 +19,7 @@ use Rattle.jxl_modular.specs.Inner.Filled.{IsFilled, FillFails, samples_in}
 use Rattle.jxl_modular.specs.Fresh.{fresh}
 use Rattle.jxl_modular.specs.Image.{Image, cost_of, image_grids}
 use Rattle.jxl_modular.specs.Parsing.{ParseGives, IsImageAt, image_of}
-use Rattle.jxl_modular.specs.Picture.{IsPicture, IsPictureRead, PictureFails, SamplesFail, StepsFor, StepsWithin}
+use Rattle.jxl_modular.specs.Picture.{IsPicture, IsPictureRead, PictureFails, SamplesFail, StepsWithin}
 use Rattle.jxl_modular.specs.declared.root.Modular.{Modular}
 
 -- it was out of memory
@@ -86,7 +86,7 @@ module _ {S D : Type 0} (d : Meaning D) (w : Width) (to_int : S → ℤ) (bytes 
   begun = fresh z given stands.head read.config params.group_dim params.bit_depth
 
   -- what holds of steps for its samples
-  steps_for : (before after : ℕ) → MovesWithin before after (samples_in read * cost_of read) → StepsFor read.config.tree (sum_by area coded) before after
+  steps_for : (before after : ℕ) → MovesWithin before after (samples_in read * cost_of read) → MovesWithin before after (sum_by area coded * cost_of read)
   steps_for before after h =
       let same : samples_in read ≡ sum_by area coded = ap (λ (x : Image S D). samples_in x) stands.cells in
       subst (λ n. MovesWithin before after (n * cost_of read)) same h

@@ -6,7 +6,7 @@ use Rattle.std.specs.Int.{Width}
 use Rattle.std.proofs.lemmas.Bool.{lt-ltb}
 use Rattle.std.proofs.lemmas.List.{get_or-map}
 use Rattle.std.proofs.lemmas.List.Elements.{All-head, All-tail}
-use Rattle.jxlm_base.specs.Bits.{bytes_of}
+use Rattle.jxlm_base.specs.Bits.{bytes_of, position_of}
 use Rattle.jxlm_base.specs.Decoding.{Meaning}
 use Rattle.jxlm_base.specs.Grid.{Grid, at, grid}
 use Rattle.jxlm_base.specs.Outside.{KeepsOutside}
@@ -31,9 +31,9 @@ use Rattle.jxlm_part.proofs.Loops.{fits_in}
 use Rattle.jxl_modular.specs.Groups.{channels_in, held_in, pieces_of}
 use Rattle.jxl_modular.specs.Image.{Image, coded_list}
 use Rattle.jxl_modular.specs.Inner.Laid.{IsLaidOut}
-use Rattle.jxlm_nested.specs.Nested.{nested_regions}
+use Rattle.jxlm_nested.specs.Nested.{NestedDone, nested_regions}
 use Rattle.jxlm_ma.specs.Tree.{Config, depth}
-use Rattle.jxl_modular.specs.Sections.{AllTurn, AllWhole, AreDecoded, AreUnlike, CodesNested, CodesPart, CodesPlain, IsNone, NestedOk, PlainTurn, Section, SectionsFit, SectionsLeave, Turn, Turned, most}
+use Rattle.jxl_modular.specs.Sections.{AllTurn, AllWhole, AreDecoded, AreUnlike, CodesNested, CodesPart, CodesPlain, PlainTurn, Section, SectionTurn, SectionsFit, SectionsLeave, Turn, list_in, most}
 use Rattle.jxl_modular.proofs.Laid.{coded_apart, coded_lie, coded_sizes}
 
 -- ---- a piece of coded grids is the grid of its region in the store
@@ -111,10 +111,13 @@ module _ {S D : Type 0} (d : Meaning D) (w : Width) (to_int : S → ℤ) (zero :
   match_both false f g h = g h
 
   -- either kind of turn keeps the cells of other parts
-  turned_outside : (partly : Bool) (s : Section) (t : Turn) (old new : List (Grid S)) → Turned d w to_int zero x passes global partly s t old new → KeepsOutside (held_in x passes s.part) old new
-  turned_outside partly s t old new h = match_either {P = NestedOk d w to_int zero x passes global partly s t old new} {Q = PlainTurn d w to_int x passes partly s (Ok tt) t old new} s.nested (λ n. n.outside) (λ p. p.outside) h
+  abbrev Nested : Bool → Section → Turn → List (Grid S) → List (Grid S) → Type 0
+  Nested partly s t old new = NestedDone d w to_int zero x.bit_depth global (bytes_of s.bits) (position_of s.bits) (list_in x passes s.part) (held_in x passes s.part) s.stream_index partly t old new
 
-  later_keep : (partly : Bool) (part : SectionPart) (ss : List Section) (ts : List Turn) (old new : List (Grid S)) → AllLie x.coded old → IsNone part ss → Left partly ss ts old new → stand part new ≡ stand part old
+  turned_outside : (partly : Bool) (s : Section) (t : Turn) (old new : List (Grid S)) → SectionTurn d w to_int zero x passes global partly s (Ok tt) t old new → KeepsOutside (held_in x passes s.part) old new
+  turned_outside partly s t old new h = match_either {P = Nested partly s t old new} {Q = PlainTurn d w to_int x passes partly s (Ok tt) t old new} s.nested (λ n. n.outside) (λ p. p.outside) h
+
+  later_keep : (partly : Bool) (part : SectionPart) (ss : List Section) (ts : List Turn) (old new : List (Grid S)) → AllLie x.coded old → All (λ s. s.part ≡ part → ⊥) ss → Left partly ss ts old new → stand part new ≡ stand part old
   later_keep partly part [] [] old new lie none left = ap (stand part) left
   later_keep partly part [] (t ∷ ts) old new lie none left = absurd left
   later_keep partly part (s ∷ ss) [] old new lie none left = absurd left
@@ -135,7 +138,7 @@ module _ {S D : Type 0} (d : Meaning D) (w : Width) (to_int : S → ℤ) (zero :
         costs = ap (λ n. n * (depth t.tree + 1)) whole.tries ∙ ap (λ tree. cell_count (channels_in x passes s.part) * (depth tree + 1)) h.tree;
       }
 
-  whole_nested : (partly : Bool) (s : Section) (t : Turn) (old new : List (Grid S)) → t.partial ≡ false → NestedOk d w to_int zero x passes global partly s t old new →
+  whole_nested : (partly : Bool) (s : Section) (t : Turn) (old new : List (Grid S)) → t.partial ≡ false → Nested partly s t old new →
       CodesNested d w to_int zero x passes global s (stand s.part new) (most t)
   whole_nested partly s t old new none h =
       let whole = whole_of d w _ (bytes_of s.bits) h.start.config.decoder _ _ partly t.tried refl none h.decoded.answers in
@@ -152,7 +155,7 @@ module _ {S D : Type 0} (d : Meaning D) (w : Width) (to_int : S → ℤ) (zero :
         costs = ap (λ n. n * (depth t.tree + 1)) whole.tries ∙ ap (λ tree. cell_count h.start.head.coded.list.channels * (depth tree + 1)) h.decoded.tree;
       }
 
-  whole_turn : (partly : Bool) (s : Section) (t : Turn) (old new : List (Grid S)) → t.partial ≡ false → Turned d w to_int zero x passes global partly s t old new → Codes s (stand s.part new) (most t)
+  whole_turn : (partly : Bool) (s : Section) (t : Turn) (old new : List (Grid S)) → t.partial ≡ false → SectionTurn d w to_int zero x passes global partly s (Ok tt) t old new → Codes s (stand s.part new) (most t)
   whole_turn partly s t old new none h = match_both s.nested (whole_nested partly s t old new none) (whole_plain partly s t old new none) h
 
   each_whole : (partly : Bool) (ss : List Section) (ts : List Turn) (old new : List (Grid S)) → AllLie x.coded old → AreUnlike ss → AllWhole ts → Left partly ss ts old new →

@@ -9,7 +9,7 @@ use Rattle.std.proofs.lemmas.List.Folds.{Any-from_list_any, list_any-from_Any, l
 use Rattle.jxlm_cut.proofs.PartSets.{is_part, one_part, part_back, part_itself}
 use Rattle.jxlm_cut.specs.declared.part.SectionPart.{SectionPart}
 use Rattle.jxlm_cut.specs.PartSets.{part_order}
-use Rattle.jxl_modular.specs.Sections.{AreUnlike, IsNone, Section}
+use Rattle.jxl_modular.specs.Sections.{AreUnlike, Section}
 use Rattle.jxl_modular.specs.Inner.SectionParts.{HoldsParts}
 
 -- a set has the parts of these sections, and no other
@@ -47,7 +47,7 @@ holds_last set ss i le holds = subst (HoldsAll set) (take_all i ss le) holds
 
 -- ---- sections of parts that are not one
 
-unlike_push : (ss : List Section) (s : Section) → AreUnlike ss → IsNone s.part ss → AreUnlike (ss ++ s ∷ [])
+unlike_push : (ss : List Section) (s : Section) → AreUnlike ss → All (λ t. t.part ≡ s.part → ⊥) ss → AreUnlike (ss ++ s ∷ [])
 unlike_push [] s u none = (λ k d lt. absurd (omega (arith, lt)), tt)
 unlike_push (r ∷ ss) s u none = (
   All-push (λ t. t.part ≡ r.part → ⊥) ss s u.0 (λ e. All-head (λ t. t.part ≡ s.part → ⊥) r ss none (sym e)),

@@ -26,33 +26,19 @@ use Rattle.jxl_modular.proofs.PartLaws.{by_depth}
 use Rattle.jxlm_nested.proofs.PartFacts.{as_test}
 use Rattle.jxl_modular.specs.Groups.{PartOfGives, channels_in, held_in}
 use Rattle.jxl_modular.specs.NestedTurns.{NestedGives}
-use Rattle.jxl_modular.specs.Sections.{AllTurn, AllWhole, EndsAt, IsComplete, PlainTurn, Section, SectionsLeave, SectionsStop, Turn, TurnFails, Turned, most}
+use Rattle.jxl_modular.specs.Sections.{AllTurn, AllWhole, EndsAt, IsComplete, PlainTurn, Section, SectionTurn, SectionsLeave, SectionsStop, Turn, most}
 
 -- ---- images that differ in cells alone
 
 module _ {S D : Type 0} where
   pub same_both : (x y z : Image S D) → SameButCells x y → SameButCells y z → SameButCells x z
   same_both x y z a b = record {
-    palette = b.palette ∙ a.palette;
-    squeeze = b.squeeze ∙ a.squeeze;
-    weights = b.weights ∙ a.weights;
-    steps = b.steps ∙ a.steps;
-    config = b.config ∙ a.config;
-    group_dim = b.group_dim ∙ a.group_dim;
-    bit_depth = b.bit_depth ∙ a.bit_depth;
-    given = b.given ∙ a.given;
-    channels = b.channels ∙ a.channels;
-    nb_meta = b.nb_meta ∙ a.nb_meta;
-    coded = b.coded ∙ a.coded;
+    rest = b.rest ∙ ap (λ (i : Image S D). record i { store = z.store }) a.rest;
     shape = shape_both x.store y.store z.store a.shape b.shape;
   }
 
   pub same_here : (x : Image S D) → SameButCells x x
   same_here x = same_but_store x x.store (shape_same x.store)
-
-  -- such an image is the earlier one with its own store
-  with_store : (x y : Image S D) → SameButCells x y → record x { store = y.store } ≡ y
-  with_store x y same = rw (← same.palette, ← same.squeeze, ← same.weights, ← same.steps, ← same.config, ← same.group_dim, ← same.bit_depth, ← same.given, ← same.channels, ← same.nb_meta, ← same.coded) refl
 
 -- ---- counts and flags
 
@@ -134,17 +120,11 @@ module _ {S D : Type 0} (d : Meaning D) (w : Width) (to_int : S → ℤ) (zero :
       PlainTurn d w to_int (record x { store = store }) passes partly s r t old new → PlainTurn d w to_int x passes partly s r t old new
   plain_of_store store s r t old new h = record { answers = h.answers; outside = h.outside; tree = h.tree }
 
-  ok_of_image : (y : Image S D) (s : Section) (t : Turn) (old new : List (Grid S)) → SameButCells x y →
-      Turned d w to_int zero y passes global partly s t old new → Turned d w to_int zero x passes global partly s t old new
-  ok_of_image y s t old new same h =
-      match_both s.nested (λ n. n) (plain_of_store y.store s (Ok tt) t old new)
-      (subst (λ (z : Image S D). Turned d w to_int zero z passes global partly s t old new) (sym (with_store x y same)) h)
-
-  err_of_image : (y : Image S D) (s : Section) (e : Error) (t : Turn) (old new : List (Grid S)) → SameButCells x y →
-      TurnFails d w to_int zero y passes global partly s e t old new → TurnFails d w to_int zero x passes global partly s e t old new
-  err_of_image y s e t old new same h =
-      match_both s.nested (λ n. n) (plain_of_store y.store s (Err e) t old new)
-      (subst (λ (z : Image S D). TurnFails d w to_int zero z passes global partly s e t old new) (sym (with_store x y same)) h)
+  of_image : (y : Image S D) (s : Section) (r : Result (Unit {0}) Error) (t : Turn) (old new : List (Grid S)) → SameButCells x y →
+      SectionTurn d w to_int zero y passes global partly s r t old new → SectionTurn d w to_int zero x passes global partly s r t old new
+  of_image y s r t old new same h =
+      match_both s.nested (λ n. n) (plain_of_store y.store s r t old new)
+      (subst (λ (z : Image S D). SectionTurn d w to_int zero z passes global partly s r t old new) same.rest h)
 
   -- a section with a header of its own: what decoding its part gives is its turn
   match_true : {P : Type 0} (Q : Type 0) (b : Bool) → b ≡ true → P → MatchBool b P Q
@@ -158,9 +138,9 @@ module _ {S D : Type 0} (d : Meaning D) (w : Width) (to_int : S → ℤ) (zero :
   nested_turn s (Err e) old new q before after is (t, turn, at, moves) = (t, match_true _ s.nested is turn, by_depth before after t.tried t.tree moves)
 
   left_next : (ss : List Section) (ts : List Turn) (s : Section) (t : Turn) (old between new : List (Grid S)) → Left ss ts old between →
-      Turned d w to_int zero x passes global partly s t between new → Left (ss ++ s ∷ []) (ts ++ t ∷ []) old new
+      SectionTurn d w to_int zero x passes global partly s (Ok tt) t between new → Left (ss ++ s ∷ []) (ts ++ t ∷ []) old new
   left_next [] [] s t old between new left turn =
-      (new, subst (λ (store : List (Grid S)). Turned d w to_int zero x passes global partly s t store new) left turn, refl)
+      (new, subst (λ (store : List (Grid S)). SectionTurn d w to_int zero x passes global partly s (Ok tt) t store new) left turn, refl)
   left_next [] (u ∷ ts) s t old between new left turn = absurd left
   left_next (r ∷ ss) [] s t old between new left turn = absurd left
   left_next (r ∷ ss) (u ∷ ts) s t old between new left turn = (left.0, left.1, left_next ss ts s t left.0 between new left.2 turn)
@@ -183,7 +163,7 @@ module _ {S D : Type 0} (d : Meaning D) (w : Width) (to_int : S → ℤ) (zero :
     turned_next b then is (t, turn, moves) = record {
       turns = turned.turns ++ t ∷ [];
       left = subst (λ (rs : List Section). Left rs (turned.turns ++ t ∷ []) old new) (sym more)
-          (left_next (take i ss) turned.turns s t old y.store new turned.left (ok_of_image y s t y.store new same turn.0));
+          (left_next (take i ss) turned.turns s t old y.store new turned.left (of_image y s (Ok tt) t y.store new same turn.0));
       says = (
         λ so. let both = parts_true whole b (sym is ∙ so) in whole_next turned.turns t (turned.says.0 both.0) (whole_is b t.partial turn.1 both.1),
         λ all. let parts = whole_parts turned.turns t all in is ∙ both_true whole b (turned.says.1 parts.0) (is_whole b t.partial turn.1 parts.1),
@@ -202,7 +182,7 @@ module _ {S D : Type 0} (d : Meaning D) (w : Width) (to_int : S → ℤ) (zero :
       between = y.store;
       left = turned.left;
       last = t;
-      ends = err_of_image y s error t y.store new same turn;
+      ends = of_image y s (Err error) t y.store new same turn;
       counted = moves_both before now after (sum (map most turned.turns)) (most t) turned.counted moves;
     }
 
@@ -216,8 +196,8 @@ module _ {S D : Type 0} (d : Meaning D) (w : Width) (to_int : S → ℤ) (zero :
     turns = turned.turns;
     between = mid.store;
     left = turned.left;
-    only = only_of w x new (image_grids to_int new) (grids_in x.coded (store_meanings to_int mid.store)) (last.bit_depth ∙ same.bit_depth) (last.steps ∙ same.steps) (last.given ∙ same.given)
-        (rw same.coded at only);
+    only = only_of w x new (image_grids to_int new) (grids_in x.coded (store_meanings to_int mid.store)) ((ap (λ (z : Image S D). z.bit_depth) last.rest) ∙ (ap (λ (z : Image S D). z.bit_depth) same.rest)) ((ap (λ (z : Image S D). z.steps) last.rest) ∙ (ap (λ (z : Image S D). z.steps) same.rest)) ((ap (λ (z : Image S D). z.given) last.rest) ∙ (ap (λ (z : Image S D). z.given) same.rest))
+        (rw (ap (λ (z : Image S D). z.coded) same.rest) at only);
     says = (
       λ so. let both = parts_true whole complete (sym is ∙ so) in (turned.says.0 both.0, all.0 both.1),
       λ h. is ∙ both_true whole complete (turned.says.1 h.0) (all.1 h.1),
@@ -230,8 +210,8 @@ module _ {S D : Type 0} (d : Meaning D) (w : Width) (to_int : S → ℤ) (zero :
   no_turn = record { position = 0; partial = false; tried = 0; tree = x.config.tree }
 
   not_begun : (ss : List Section) (e : Error) (old : List (Grid S)) → kind_of e ≡ NoMemory → EndsAt d w to_int zero x passes global partly ss e no_turn old old
-  not_begun [] e old memory = record { memory = memory; unchanged = refl; tries = refl }
-  not_begun (s ∷ ss) e old memory = inl (record { memory = memory; unchanged = refl; tries = refl })
+  not_begun [] e old memory = record { because = memory; unchanged = refl; tries = refl }
+  not_begun (s ∷ ss) e old memory = inl (record { because = memory; unchanged = refl; tries = refl })
 
   -- out of memory before the first section
   pub stops_first : (ss : List Section) (e : Error) (old : List (Grid S)) (n : ℕ) → kind_of e ≡ NoMemory → SectionsStop d w to_int zero x passes global partly ss e old old n n
@@ -273,6 +253,6 @@ module _ {S D : Type 0} (d : Meaning D) (w : Width) (to_int : S → ℤ) (zero :
     between = new;
     left = turned.left;
     last = no_turn;
-    ends = record { memory = memory; unchanged = refl; tries = refl };
+    ends = record { because = memory; unchanged = refl; tries = refl };
     counted = let (a, b) = turned.counted in (a, omega (arith, b));
   }

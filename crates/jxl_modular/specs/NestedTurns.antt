@@ -12,20 +12,22 @@ use Rattle.jxlm_ma.specs.Steps.{most_steps}
 use Rattle.jxlm_ma.specs.Tree.{Config}
 use Rattle.jxl_modular.specs.Groups.{held_in}
 use Rattle.jxl_modular.specs.Image.{Image}
-use Rattle.jxlm_nested.specs.Nested.{NestedFails, NestedTurn, Turn}
+use Rattle.jxlm_nested.specs.Nested.{NestedTurn, Turn}
 use Rattle.jxl_modular.specs.Sections.{list_in}
 
 -- a part that begins at bit position p
 module _ {S D : Type 0} (d : Meaning D) (w : Width) (to_int : S → ℤ) (zero : S) (x : Image S D) (passes : List Pass)
     (global : Option (Config D)) (bytes : List ℕ) (p : ℕ) (part : SectionPart) (stream : ℕ) (partly : Bool) where
   -- what decoding it returns, with what the turn shows, and the store before and after
-  abbrev pub NestedTurns : Result Bool Error → Turn → List (Grid S) → List (Grid S) → Type 0
-  NestedTurns (Ok whole) t old new =
+  abbrev pub Turns : Result (Unit {0}) Error → Turn → List (Grid S) → List (Grid S) → Type 0
+  Turns result t old new =
       NestedTurn d w to_int zero x.bit_depth global bytes p (list_in x passes part) (held_in x passes part) stream
-      partly t old new × (whole ≡ not t.partial)
-  NestedTurns (Err e) t old new =
-      NestedFails d w to_int zero x.bit_depth global bytes p (list_in x passes part) (held_in x passes part) stream
-      partly e t old new
+      partly result t old new
+
+  -- the same, and whether all samples were decoded
+  abbrev pub NestedTurns : Result Bool Error → Turn → List (Grid S) → List (Grid S) → Type 0
+  NestedTurns (Ok whole) t old new = Turns (Ok tt) t old new × (whole ≡ not t.partial)
+  NestedTurns (Err e) t old new = Turns (Err e) t old new
 
   -- with the reader's position afterwards, and what it took of steps: for each sample whose read was tried, no more than
   -- `most_steps` of the tree

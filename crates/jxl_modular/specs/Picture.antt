@@ -8,16 +8,11 @@ use Rattle.jxlm_base.specs.Grid.{Grid}
 use Rattle.jxlm_base.specs.declared.decoder.DecoderError.{DecoderError}
 use Rattle.jxlm_chain.specs.Chain.{IsOnlyImage}
 use Rattle.jxlm_transform.specs.Channels.{ChannelList, area}
-use Rattle.jxlm_ma.specs.Tree.{Config, Shape, depth}
-use Rattle.jxlm_ma.specs.declared.flat.Leaf.{Leaf}
+use Rattle.jxlm_ma.specs.Tree.{Config, depth}
 use Rattle.jxlm_part.specs.Coded.{DecodingFails, IsCodedWhole}
 use Rattle.jxlm_part.specs.Decode.{MovesWithin}
 use Rattle.jxlm_header.specs.Opening.{Opening}
 use Rattle.jxlm_nested.specs.Starts.{IsStartAt, IsTreeErrorAt, coded_part, opened}
-
--- for each of n samples at most as many nodes were looked at as the tree is deep, and one more
-abbrev pub StepsFor : Shape Leaf → ℕ → ℕ → ℕ → Type 0
-StepsFor tree n before after = MovesWithin before after (n * (depth tree + 1))
 
 module _ {D : Type 0} (d : Meaning D) (w : Width) (global : Option (Config D)) (bytes : List ℕ) (stream : ℕ) (given : ChannelList) (p : ℕ) where
   -- At bit position p, up to q, stands a picture of the given channels: header, MA tree, and the samples of the coded
@@ -31,12 +26,12 @@ module _ {D : Type 0} (d : Meaning D) (w : Width) (global : Option (Config D)) (
     pub coded : IsCodedWhole d w (coded_part stream head config) bytes config.decoder samples_at samples q
     pub only : IsOnlyImage w bit_depth head.coded.steps given grids samples
 
-  -- Such a picture was read, and the count of steps went on by no more than all coded samples allow.
+  -- Such a picture was read, and for each coded sample at most as many nodes were looked at as the tree is deep, and one more.
   pub record IsPictureRead (bit_depth : ℕ) (grids : List (Grid ℤ)) (q before after : ℕ) : Type 0 where
     pub picture : IsPicture bit_depth grids q
-    pub steps : StepsFor picture.config.tree (sum_by area picture.head.coded.list.channels) before after
+    pub steps : MovesWithin before after (sum_by area picture.head.coded.list.channels * (depth picture.config.tree + 1))
 
-  -- After header and MA tree at p, decoding the samples returns this error at q, with steps for the samples tried.
+  -- After header and MA tree at p, decoding the samples returns this error at q, with as many nodes for each sample tried.
   pub record SamplesFail (error : ErrorKind) (q before after : ℕ) : Type 0 where
     pub head : Opening
     pub config : Config D
@@ -46,7 +41,7 @@ module _ {D : Type 0} (d : Meaning D) (w : Width) (global : Option (Config D)) (
     pub tried : ℕ
     pub fails : DecodingFails d w (coded_part stream head config) bytes config.decoder samples_at cause q tried
     pub cause_is : error ≡ OfDecoder cause
-    pub steps : StepsFor config.tree tried before after
+    pub steps : MovesWithin before after (tried * (depth config.tree + 1))
 
   -- there is no picture, by the first error of header, tree or samples; it may be out of memory at any time
   abbrev pub PictureFails : ErrorKind → ℕ → ℕ → ℕ → Type 0
@@ -56,4 +51,4 @@ module _ {D : Type 0} (d : Meaning D) (w : Width) (global : Option (Config D)) (
 -- whatever is returned, no step was taken, or header and tree stand there, and steps are within those for all samples
 abbrev pub StepsWithin : {D : Type 0} → Meaning D → Option (Config D) → List ℕ → ChannelList → ℕ → ℕ → ℕ → Type 0
 StepsWithin {D} d global bytes given p before after =
-    (after ≡ before) ⊎ ((head : Opening) × (config : Config D) × (q : ℕ) × IsStartAt d global bytes given p head config q × StepsFor config.tree (sum_by area head.coded.list.channels) before after)
+    (after ≡ before) ⊎ ((head : Opening) × (config : Config D) × (q : ℕ) × IsStartAt d global bytes given p head config q × MovesWithin before after (sum_by area head.coded.list.channels * (depth config.tree + 1)))

@@ -23,21 +23,17 @@ use Rattle.jxlm_part.specs.Coded.{IsCodedWhole}
 use Rattle.jxlm_part.specs.Decode.{DecodeGives, MovesWithin}
 use Rattle.jxlm_part.specs.Part.{cell_count}
 use Rattle.jxlm_part.specs.Placed.{standing_in}
-use Rattle.jxlm_nested.specs.Nested.{NestedFails, NestedTurn}
+use Rattle.jxlm_nested.specs.Nested.{NestedTurn, NotBegun}
 use Rattle.jxlm_nested.specs.Starts.{IsStartAt, coded_part}
 use Rattle.jxl_modular.specs.Groups.{Exists, IsCut, channels_in, held_in, part_in, pieces_of}
-use Rattle.jxl_modular.specs.Image.{Image, IsOnlyImage, coded_list, cost_of}
+use Rattle.jxl_modular.specs.Image.{Image, IsOnlyImage, coded_list}
 pub use Rattle.jxlm_nested.specs.Nested.{Turn, most}
 pub use Rattle.jxl_modular.specs.declared.sections.Section.{Section}
-
--- none of the sections is of this part
-abbrev pub IsNone : SectionPart → List Section → Type 0
-IsNone part sections = All (λ s. s.part ≡ part → ⊥) sections
 
 -- no two sections are of one part
 abbrev pub AreUnlike : List Section → Type 0
 AreUnlike [] = Unit {0}
-AreUnlike (s ∷ ss) = IsNone s.part ss × AreUnlike ss
+AreUnlike (s ∷ ss) = All (λ t. t.part ≡ s.part → ⊥) ss × AreUnlike ss
 
 -- no turn has samples missing
 abbrev pub AllWhole : List Turn → Type 0
@@ -70,12 +66,12 @@ module _ {S D : Type 0} (x : Image S D) (passes : List Pass) where
 -- sections, and its passes
 module _ {S D : Type 0} (d : Meaning D) (w : Width) (to_int : S → ℤ) (x : Image S D) (passes : List Pass) where
   -- it codes these grids of its part whole, whose samples may take so many nodes
-  pub record CodesPlain (s : Section) (held : List (Grid ℤ)) (nodes : ℕ) : Type 0 where
+  pub record CodesPlain (s : Section) (grids : List (Grid ℤ)) (nodes : ℕ) : Type 0 where
     pub end : ℕ
     pub coded : IsCodedWhole d w (part_in x passes s.part s.stream_index) (bytes_of s.bits) x.config.decoder
-        (position_of s.bits) held end
-    pub sizes : AreGridsOf (channels_in x passes s.part) held
-    pub costs : nodes ≡ cell_count (channels_in x passes s.part) * cost_of x
+        (position_of s.bits) grids end
+    pub sizes : AreGridsOf (channels_in x passes s.part) grids
+    pub costs : nodes ≡ cell_count (channels_in x passes s.part) * (depth x.config.tree + 1)
 
   -- what decoding it returns, and what it leaves: samples of other parts stay
   pub record PlainTurn (partly : Bool) (s : Section) (result : Result (Unit {0}) Error) (t : Turn) (old new : List (Grid S)) : Type 0 where
@@ -92,7 +88,7 @@ module _ {S D : Type 0} (d : Meaning D) (w : Width) (to_int : S → ℤ) (zero :
   -- A section with a header of its own: header and tree stand in its bits; behind them it codes samples of the header's
   -- channels whole, which may take so many nodes; and these grids of its part are the only ones that the header's
   -- transforms turn into those samples.
-  pub record CodesNested (s : Section) (held : List (Grid ℤ)) (nodes : ℕ) : Type 0 where
+  pub record CodesNested (s : Section) (grids : List (Grid ℤ)) (nodes : ℕ) : Type 0 where
     pub head : Opening
     pub config : Config D
     pub samples_at : ℕ
@@ -103,12 +99,12 @@ module _ {S D : Type 0} (d : Meaning D) (w : Width) (to_int : S → ℤ) (zero :
     pub coded : IsCodedWhole d w (coded_part s.stream_index head config) (bytes_of s.bits) config.decoder samples_at
         samples end
     pub sizes : AreGridsOf head.coded.list.channels samples
-    pub only : chain.IsOnlyImage w x.bit_depth head.coded.steps (list_in x passes s.part) held samples
+    pub only : chain.IsOnlyImage w x.bit_depth head.coded.steps (list_in x passes s.part) grids samples
     pub costs : nodes ≡ cell_count head.coded.list.channels * (depth config.tree + 1)
 
   -- either, as the section says
   abbrev pub CodesPart : Section → List (Grid ℤ) → ℕ → Type 0
-  CodesPart s held nodes = MatchBool s.nested (CodesNested s held nodes) (CodesPlain d w to_int x passes s held nodes)
+  CodesPart s grids nodes = MatchBool s.nested (CodesNested s grids nodes) (CodesPlain d w to_int x passes s grids nodes)
 
   -- The headline: there is one list of coded grids; each section codes its part of them whole, each part with samples
   -- has a section, the image is the only one that the transforms turn into these grids, and so many nodes were read.
@@ -121,33 +117,19 @@ module _ {S D : Type 0} (d : Meaning D) (w : Width) (to_int : S → ℤ) (zero :
     pub only : IsOnlyImage w x image coded
     pub counted : MovesWithin before after (sum costs)
 
-  -- what decoding a section with a header of its own leaves: samples of other parts stay
-  abbrev pub NestedOk : Bool → Section → Turn → List (Grid S) → List (Grid S) → Type 0
-  NestedOk partly s t old new =
-      NestedTurn d w to_int zero x.bit_depth global (bytes_of s.bits) (position_of s.bits) (list_in x passes s.part)
-      (held_in x passes s.part) s.stream_index partly t old new
-
-  -- which error it returns, and what it leaves then
-  abbrev pub NestedErr : Bool → Section → Error → Turn → List (Grid S) → List (Grid S) → Type 0
-  NestedErr partly s e t old new =
-      NestedFails d w to_int zero x.bit_depth global (bytes_of s.bits) (position_of s.bits) (list_in x passes s.part)
-      (held_in x passes s.part) s.stream_index partly e t old new
-
-  -- a section's turn without an error, whether it has a header of its own or not
-  abbrev pub Turned : Bool → Section → Turn → List (Grid S) → List (Grid S) → Type 0
-  Turned partly s t old new =
-      MatchBool s.nested (NestedOk partly s t old new) (PlainTurn d w to_int x passes partly s (Ok tt) t old new)
-
-  -- its turn with an error
-  abbrev pub TurnFails : Bool → Section → Error → Turn → List (Grid S) → List (Grid S) → Type 0
-  TurnFails partly s e t old new =
-      MatchBool s.nested (NestedErr partly s e t old new) (PlainTurn d w to_int x passes partly s (Err e) t old new)
+  -- a section's turn, whether it has a header of its own or not: what decoding it returns, and what it leaves; samples of
+  -- other parts stay
+  abbrev pub SectionTurn : Bool → Section → Result (Unit {0}) Error → Turn → List (Grid S) → List (Grid S) → Type 0
+  SectionTurn partly s result t old new = MatchBool s.nested
+      (NestedTurn d w to_int zero x.bit_depth global (bytes_of s.bits) (position_of s.bits) (list_in x passes s.part)
+      (held_in x passes s.part) s.stream_index partly result t old new)
+      (PlainTurn d w to_int x passes partly s result t old new)
 
   -- sections one after another, each decoded without an error
   abbrev pub AllTurn : Bool → List Section → List Turn → List (Grid S) → List (Grid S) → Type 0
   AllTurn partly [] [] old new = new ≡ old
   AllTurn partly (s ∷ ss) (t ∷ ts) old new =
-      (between : List (Grid S)) × Turned partly s t old between × AllTurn partly ss ts between new
+      (between : List (Grid S)) × SectionTurn partly s (Ok tt) t old between × AllTurn partly ss ts between new
   AllTurn partly _ _ old new = ⊥
 
   -- Ok: each section left its samples, and the image is the only one that the transforms turn into all samples as they
@@ -160,16 +142,11 @@ module _ {S D : Type 0} (d : Meaning D) (w : Width) (to_int : S → ℤ) (zero :
     pub says : IsTrue whole ↔ (AllWhole turns × IsComplete x passes sections)
     pub counted : MovesWithin before after (sum (map most turns))
 
-  -- out of memory before the next section's samples, or before the transforms are undone: nothing more changed
-  pub record NotBegun (e : Error) (t : Turn) (old new : List (Grid S)) : Type 0 where
-    pub memory : kind_of e ≡ NoMemory
-    pub unchanged : new ≡ old
-    pub tries : t.tried ≡ 0
-
-  -- where decoding ends early: at the next section, or, after the last one, before the transforms are undone
+  -- where decoding ends early: at the next section, or out of memory before it, or, after the last one, before the
+  -- transforms are undone
   abbrev pub EndsAt : Bool → List Section → Error → Turn → List (Grid S) → List (Grid S) → Type 0
-  EndsAt partly [] e t old new = NotBegun e t old new
-  EndsAt partly (s ∷ ss) e t old new = NotBegun e t old new ⊎ TurnFails partly s e t old new
+  EndsAt partly [] e t old new = NotBegun (kind_of e ≡ NoMemory) t old new
+  EndsAt partly (s ∷ ss) e t old new = NotBegun (kind_of e ≡ NoMemory) t old new ⊎ SectionTurn partly s (Err e) t old new
 
   -- Err: the sections before the failing one left their samples, no later one was begun, and no transform is undone.
   pub record SectionsStop (partly : Bool) (sections : List Section) (e : Error) (old new : List (Grid S)) (before after : ℕ) : Type 0 where

@@ -68,7 +68,7 @@ module _ (ts : List Transform) (nodes : List EncodeNode) (image : List (Grid ℤ
     of_count (suc n) e = inl (omega (arith, e), coded)
 
   -- in the first format
-  encoded_first : AreWritten ts nodes tokens bytes → IsEncodedFor ts nodes image plain w bytes
+  pub encoded_first : AreWritten ts nodes tokens bytes → IsEncoded ts nodes image w bytes
   encoded_first written =
       let limit = p.given.limit in
       let tree : List ℕ = tree_bits nodes written.own written.width in
@@ -96,45 +96,3 @@ module _ (ts : List Transform) (nodes : List EncodeNode) (image : List (Grid ℤ
       (omega (arith, limit)) p.given.limit p.given.within (has_first bytes header_end tree samples second))
       (gamma_written_coded w part bytes (leaves_in nodes) tree_end p.samples tokens p.are p.counted written.fits one_cluster_each third)
       (λ none. let empty = no_bits gamma_bits tokens none in omega (arith, empty))
-
--- ---- the plain decoder is one decoder
-
-module _ (ts : List Transform) (nodes : List EncodeNode) (image : List (Grid ℤ)) (w : Width) (bytes : List ℕ) where
-  of_plain : IsEncodedFor ts nodes image plain w bytes → IsEncoded ts nodes image w bytes
-  of_plain e = record {
-    coded = e.coded;
-    accepted = e.accepted;
-    count = e.count;
-    tree = e.tree;
-    given = e.given;
-    decoder = e.decoder;
-    tree_at = e.tree_at;
-    header_stands = e.header_stands;
-    samples_at = e.samples_at;
-    tree_stands = e.tree_stands;
-    samples = e.samples;
-    end = e.end;
-    codes = e.codes;
-    chain = e.chain;
-  }
-
-  pub for_plain : IsEncoded ts nodes image w bytes → IsEncodedFor ts nodes image plain w bytes
-  for_plain e = record {
-    coded = e.coded;
-    accepted = e.accepted;
-    count = e.count;
-    tree = e.tree;
-    given = e.given;
-    decoder = e.decoder;
-    tree_at = e.tree_at;
-    header_stands = e.header_stands;
-    samples_at = e.samples_at;
-    tree_stands = e.tree_stands;
-    samples = e.samples;
-    end = e.end;
-    codes = e.codes;
-    chain = e.chain;
-  }
-
-  pub is_encoded : (tokens : List ℕ) → ArePrepared ts nodes image w tokens → AreWritten ts nodes tokens bytes → IsEncoded ts nodes image w bytes
-  is_encoded tokens p written = of_plain (encoded_first ts nodes image w tokens bytes p written)

@@ -13,7 +13,7 @@ use Rattle.jxlm_ma.specs.TreeStands.{TreeStands}
 use Rattle.jxlm_ma.specs.declared.flat.Leaf.{Leaf}
 use Rattle.jxlm_part.specs.Coded.{IsCodedWhole}
 use Rattle.jxlm_part.specs.Part.{Part}
-use Rattle.jxlm_plain.specs.Plain.{PlainState, plain, plain2}
+use Rattle.jxlm_plain.specs.Plain.{plain, plain2}
 use Rattle.jxlm_transform.specs.Channels.{Channel, ChannelList, image_list}
 use Rattle.jxlm_transform.specs.ChannelSteps.{CodedList, coded_list}
 use Rattle.jxlm_transform.specs.Params.{sized, IsSide}
@@ -80,24 +80,7 @@ module _ (ts : List Transform) (nodes : List EncodeNode) (image : List (Grid ℤ
   EncodeFails OutOfMemory = Unit {0}
 
   -- From the first bit on stand: a header with no global tree, the default weights and these transforms; this tree, and
-  -- a plain decoder; and, coded whole at stream index 0, samples that the transforms make of this image.
-  pub record IsEncoded (w : Width) (bytes : List ℕ) : Type 0 where
-    pub coded : CodedList
-    pub accepted : AreAccepted ts (given_list image) coded
-    pub count : length coded.list.channels ≤ 65536
-    pub tree : Shape Leaf
-    pub given : IsTreeGiven nodes coded.list.channels tree
-    pub decoder : PlainState
-    pub tree_at : ℕ
-    pub header_stands : header.Stands bytes 0 (record { use_global_tree = false; wp_params = default_weights; transform = ts }) tree_at
-    pub samples_at : ℕ
-    pub tree_stands : TreeStands plain bytes (node_limit coded.list.channels) depth_limit tree_at (config_of tree decoder) samples_at
-    pub samples : List (Grid ℤ)
-    pub end : ℕ
-    pub codes : IsCodedWhole plain w (coded_part coded tree) bytes decoder samples_at samples end
-    pub chain : (bit_depth : ℕ) → Chain w bit_depth coded.steps (given_list image) image samples
-
-  -- The same with a tree and samples that any decoder reads, instead of the plain one.
+  -- a decoder; and, coded whole at stream index 0, samples that the transforms make of this image.
   pub record IsEncodedFor {V : Type 0} (d : Meaning V) (w : Width) (bytes : List ℕ) : Type 0 where
     pub coded : CodedList
     pub accepted : AreAccepted ts (given_list image) coded
@@ -113,6 +96,10 @@ module _ (ts : List Transform) (nodes : List EncodeNode) (image : List (Grid ℤ
     pub end : ℕ
     pub codes : IsCodedWhole d w (coded_part coded tree) bytes decoder samples_at samples end
     pub chain : (bit_depth : ℕ) → Chain w bit_depth coded.steps (given_list image) image samples
+
+  -- with those of a plain decoder
+  abbrev pub IsEncoded : Width → List ℕ → Type 0
+  IsEncoded w bytes = IsEncodedFor plain w bytes
 
   -- with those of the plain decoder of the second format
   abbrev pub IsEncoded2 : Width → List ℕ → Type 0

@@ -39,14 +39,20 @@ most t = t.tried * (depth t.tree + 1)
 
 -- where the channels of a header within a part lie: in the part's regions of a store, and in tables after its buffers
 abbrev pub nested_regions : {S : Type 0} → List Region → List Step → List (Grid S) → List Region
-nested_regions held steps store = (layout_after_all steps (record { regions = held; buffers = length store })).regions
+nested_regions regions steps store = (layout_after_all steps (record { regions = regions; buffers = length store })).regions
 
 -- a store, and after it the tables, whose cells are 0
 abbrev pub with_tables : {S : Type 0} → S → List Step → List (Grid S) → List (Grid S)
 with_tables zero steps store = store ++ zeros zero (tables_of steps)
 
+-- an error before the first sample, for this reason: nothing changed
+pub record NotBegun {S : Type 0} (reason : Type 0) (t : Turn) (old new : List (Grid S)) : Type 0 where
+  pub because : reason
+  pub unchanged : new ≡ old
+  pub tries : t.tried ≡ 0
+
 -- a part that begins at bit position p: its channels, its regions in the store, and the index of its stream
-module _ {S D : Type 0} (d : Meaning D) (w : Width) (to_int : S → ℤ) (zero : S) (bit_depth : ℕ) (global : Option (Config D)) (bytes : List ℕ) (p : ℕ) (list : ChannelList) (held : List Region) (stream : ℕ) where
+module _ {S D : Type 0} (d : Meaning D) (w : Width) (to_int : S → ℤ) (zero : S) (bit_depth : ℕ) (global : Option (Config D)) (bytes : List ℕ) (p : ℕ) (list : ChannelList) (regions : List Region) (stream : ℕ) where
   -- its header and its tree, and where its samples begin
   pub record NestedStart : Type 0 where
     pub head : Opening
@@ -57,24 +63,18 @@ module _ {S D : Type 0} (d : Meaning D) (w : Width) (to_int : S → ℤ) (zero :
   -- what decoding its samples returns, and what it leaves: cells of other parts stay
   pub record NestedDecodes (partly : Bool) (s : NestedStart) (result : Result (Unit {0}) Error) (t : Turn) (store now : List (Grid S)) : Type 0 where
     pub answers : DecodeGives d w (coded_part stream s.head s.config) bytes s.config.decoder
-        (standing_in to_int (nested_regions held s.head.coded.steps store) (with_tables zero s.head.coded.steps store) s.samples_at (nat_lt 0 (cell_count s.head.coded.list.channels)))
-        (standing_in to_int (nested_regions held s.head.coded.steps store) now t.position t.partial) partly result t.tried
-    pub outside : KeepsOutside (nested_regions held s.head.coded.steps store) (with_tables zero s.head.coded.steps store) now
+        (standing_in to_int (nested_regions regions s.head.coded.steps store) (with_tables zero s.head.coded.steps store) s.samples_at (nat_lt 0 (cell_count s.head.coded.list.channels)))
+        (standing_in to_int (nested_regions regions s.head.coded.steps store) now t.position t.partial) partly result t.tried
+    pub outside : KeepsOutside (nested_regions regions s.head.coded.steps store) (with_tables zero s.head.coded.steps store) now
     pub tree : t.tree ≡ s.config.tree
 
   -- Ok: its samples were decoded, and what the part has then is the only image that the transforms turn into them.
-  pub record NestedTurn (partly : Bool) (t : Turn) (old new : List (Grid S)) : Type 0 where
+  pub record NestedDone (partly : Bool) (t : Turn) (old new : List (Grid S)) : Type 0 where
     pub start : NestedStart
     pub now : List (Grid S)
     pub decoded : NestedDecodes partly start (Ok tt) t old now
-    pub only : IsOnlyImage w bit_depth start.head.coded.steps list (grids_in held (store_meanings to_int new)) (grids_in (nested_regions held start.head.coded.steps old) (store_meanings to_int now))
-    pub outside : KeepsOutside held old new
-
-  -- header or tree returns this error, or it is out of memory before the first sample: nothing changed
-  pub record NestedNotBegun (e : Error) (t : Turn) (old new : List (Grid S)) : Type 0 where
-    pub fails : UnlessMemory (kind_of e) (IsErrorAt (opened global bytes list p) (kind_of e) t.position ⊎ IsTreeErrorAt d global bytes list p (kind_of e) t.position)
-    pub unchanged : new ≡ old
-    pub tries : t.tried ≡ 0
+    pub only : IsOnlyImage w bit_depth start.head.coded.steps list (grids_in regions (store_meanings to_int new)) (grids_in (nested_regions regions start.head.coded.steps old) (store_meanings to_int now))
+    pub outside : KeepsOutside regions old new
 
   -- decoding returns this error, or it is out of memory after it: the samples stay as decoding left them, without tables
   pub record NestedStops (partly : Bool) (e : Error) (t : Turn) (old new : List (Grid S)) : Type 0 where
@@ -85,6 +85,10 @@ module _ {S D : Type 0} (d : Meaning D) (w : Width) (to_int : S → ℤ) (zero :
     pub cause : (answer ≡ Err e) ⊎ ((answer ≡ Ok tt) × IsOutOfMemory (kind_of e))
     pub cut : new ≡ take (length old) now
 
-  -- an error
-  abbrev pub NestedFails : Bool → Error → Turn → List (Grid S) → List (Grid S) → Type 0
-  NestedFails partly e t old new = NestedNotBegun e t old new ⊎ NestedStops partly e t old new
+  -- What decoding the part returns, and what it leaves. Before its first sample header or tree returns an error, or it is
+  -- out of memory.
+  abbrev pub NestedTurn : Bool → Result (Unit {0}) Error → Turn → List (Grid S) → List (Grid S) → Type 0
+  NestedTurn partly (Ok u) t old new = NestedDone partly t old new
+  NestedTurn partly (Err e) t old new =
+      NotBegun (UnlessMemory (kind_of e) (IsErrorAt (opened global bytes list p) (kind_of e) t.position ⊎ IsTreeErrorAt d global bytes list p (kind_of e) t.position)) t old new
+      ⊎ NestedStops partly e t old new

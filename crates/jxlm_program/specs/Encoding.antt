@@ -2,7 +2,9 @@
 use Rattle.std.specs.Prelude.{◌≡◌, ◌≢◌, ℕ, ℤ, pos, List, [], ◌∷◌}
 use Rattle.std.specs.Int.{Width}
 use Rattle.jxlm_base.specs.Grid.{Grid}
-use Rattle.jxlm_encode.specs.Encoded.{EncodeFails, IsEncoded, IsEncoded2}
+use Rattle.jxlm_base.specs.Decoding.{Meaning}
+use Rattle.jxlm_plain.specs.Plain.{PlainState, plain, plain2}
+use Rattle.jxlm_encode.specs.Encoded.{EncodeFails, IsEncodedFor}
 use Rattle.jxlm_program.specs.declared.arguments.Format.{Format}
 use Rattle.jxlm_program.specs.declared.arguments.Format.TheVariants.{First, Second}
 use Rattle.jxlm_program.specs.declared.refusal.Refusal.{Refusal}
@@ -16,10 +18,14 @@ use Rattle.jxlm_write.specs.declared.tree.EncodeNode.TheVariants.{Leaf}
 abbrev pub gradient_tree : List EncodeNode
 gradient_tree = Leaf Gradient (pos 0) ∷ []
 
+-- the decoder of a format
+abbrev pub decoder_of : Format → Meaning PlainState
+decoder_of First = plain
+decoder_of Second = plain2
+
 -- header, tree and samples of this image stand in the bytes, in a format
 abbrev pub IsEncodedIn : Format → List (Grid ℤ) → Width → List ℕ → Type 0
-IsEncodedIn First image w bytes = IsEncoded [] gradient_tree image w bytes
-IsEncodedIn Second image w bytes = IsEncoded2 [] gradient_tree image w bytes
+IsEncodedIn format image w bytes = IsEncodedFor [] gradient_tree image (decoder_of format) w bytes
 
 -- the bytes are those of the image whose text this is, with no transform and this tree; no channels have no bytes
 pub record IsEncodedText (format : Format) (w : Width) (text bytes : List ℕ) : Type 0 where

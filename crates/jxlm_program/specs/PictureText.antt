@@ -3,17 +3,14 @@ use Rattle.std.specs.Prelude.{ℕ, ◌≡◌, ℤ, pos, List, None, replicate}
 use Rattle.std.specs.Int.{Width, w16, w32}
 use Rattle.jxlm_base.specs.Grid.{Grid}
 use Rattle.jxlm_base.specs.Decoding.{Meaning}
-use Rattle.jxlm_plain.specs.Plain.{PlainState, plain, plain2}
 use Rattle.jxlm_transform.specs.Channels.{ChannelList}
 use Rattle.jxlm_transform.specs.declared.param.ChannelShift.TheVariants.{Shifts}
 use Rattle.jxl_modular.specs.Picture.{IsPicture}
 use Rattle.jxlm_sections.specs.CutPicture.{IsCutPicture}
 use Rattle.jxlm_text.specs.Printing.{image_text}
-use Rattle.jxlm_program.specs.Encoding.{IsEncodedText}
+use Rattle.jxlm_program.specs.Encoding.{IsEncodedText, decoder_of}
 use Rattle.jxlm_program.specs.declared.arguments.Command.{Command}
 use Rattle.jxlm_program.specs.declared.arguments.Command.TheVariants.{Decode, Sections, Encode}
-use Rattle.jxlm_program.specs.declared.arguments.Format.{Format}
-use Rattle.jxlm_program.specs.declared.arguments.Format.TheVariants.{First, Second}
 use Rattle.jxlm_program.specs.declared.arguments.Samples.{Samples}
 use Rattle.jxlm_program.specs.declared.arguments.Samples.TheVariants.{I16, I32}
 
@@ -21,11 +18,6 @@ use Rattle.jxlm_program.specs.declared.arguments.Samples.TheVariants.{I16, I32}
 abbrev pub width_of : Samples → Width
 width_of I16 = w16
 width_of I32 = w32
-
--- the decoder of a format
-abbrev pub decoder_of : Format → Meaning PlainState
-decoder_of First = plain
-decoder_of Second = plain2
 
 -- n channels of one size and of shift 0
 abbrev pub channels_asked : ℕ → ℕ → ℕ → ChannelList

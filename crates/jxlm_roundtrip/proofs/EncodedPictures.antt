@@ -44,28 +44,9 @@ encoded_is_picture d exact w ts nodes image bytes bit_depth e =
       };
     }
 
--- what is encoded in the first plain format, as for its decoder
-abbrev for_first : (ts : List Transform) (nodes : List EncodeNode) (image : List (Grid ℤ)) (w : Width) (bytes : List ℕ) → IsEncoded ts nodes image w bytes → IsEncodedFor ts nodes image plain w bytes
-for_first ts nodes image w bytes e = record {
-  coded = e.coded;
-  accepted = e.accepted;
-  count = e.count;
-  tree = e.tree;
-  given = e.given;
-  decoder = e.decoder;
-  tree_at = e.tree_at;
-  header_stands = e.header_stands;
-  samples_at = e.samples_at;
-  tree_stands = e.tree_stands;
-  samples = e.samples;
-  end = e.end;
-  codes = e.codes;
-  chain = e.chain;
-}
-
 -- in either plain format
 pub first_is_picture : TreesAreReadExactly plain → EncodedIsPicture
-first_is_picture exact w ts nodes image bytes bit_depth e = encoded_is_picture plain exact w ts nodes image bytes bit_depth (for_first ts nodes image w bytes e)
+first_is_picture exact w ts nodes image bytes bit_depth e = encoded_is_picture plain exact w ts nodes image bytes bit_depth e
 
 pub second_is_picture : TreesAreReadExactly plain2 → Encoded2IsPicture
 second_is_picture exact w ts nodes image bytes bit_depth e = encoded_is_picture plain2 exact w ts nodes image bytes bit_depth e

@@ -3,15 +3,17 @@ use Rattle.std.proofs.Common.{◌≡◌, ℕ, Bool, true, false, inl, inr, List,
 use Rattle.std.specs.Prelude.{MatchBool, Option}
 use Rattle.std.specs.Int.{Width}
 use Rattle.std.proofs.lemmas.List.Elements.{All-cons, All-nil}
+use Rattle.jxlm_base.specs.Bits.{bytes_of, position_of}
 use Rattle.jxlm_base.specs.Decoding.{Meaning}
 use Rattle.jxlm_base.specs.Grid.{Grid}
 use Rattle.jxlm_ma.specs.Tree.{Config}
 use Rattle.jxlm_cut.specs.declared.pass.Pass.{Pass}
 use Rattle.jxlm_part.specs.Decode.{DecodeGives, Standing}
 use Rattle.jxlm_part.specs.Part.{Part}
+use Rattle.jxl_modular.specs.Groups.{held_in}
 use Rattle.jxl_modular.specs.Image.{Image}
-use Rattle.jxl_modular.specs.Sections.{AllTurn, AllWhole, NestedOk, PlainTurn, Turned}
-use Rattle.jxl_modular.specs.Nested.{Turn}
+use Rattle.jxl_modular.specs.Sections.{AllTurn, AllWhole, PlainTurn, SectionTurn, list_in}
+use Rattle.jxl_modular.specs.Nested.{NestedDone, Turn}
 use Rattle.jxl_modular.specs.declared.sections.Section.{Section}
 
 never : {X : Type 0} → false ≡ true → X
@@ -26,9 +28,9 @@ either_of true f g h = f h
 either_of false f g h = g h
 
 module _ {S D : Type 0} (d : Meaning D) (w : Width) (to_int : S → ℤ) (zero : S) (x : Image S D) (passes : List Pass) (global : Option (Config D)) where
-  whole_turn : (s : Section) (t : Turn) (old new : List (Grid S)) → Turned d w to_int zero x passes global false s t old new → t.partial ≡ false
+  whole_turn : (s : Section) (t : Turn) (old new : List (Grid S)) → SectionTurn d w to_int zero x passes global false s (Ok tt) t old new → t.partial ≡ false
   whole_turn s t old new h =
-      either_of {P = NestedOk d w to_int zero x passes global false s t old new} {Q = PlainTurn d w to_int x passes false s (Ok tt) t old new} s.nested
+      either_of {P = NestedDone d w to_int zero x.bit_depth global (bytes_of s.bits) (position_of s.bits) (list_in x passes s.part) (held_in x passes s.part) s.stream_index false t old new} {Q = PlainTurn d w to_int x passes false s (Ok tt) t old new} s.nested
       (λ n. whole_answer d w _ _ n.start.config.decoder _ _ t.tried n.decoded.answers)
       (λ p. whole_answer d w _ _ x.config.decoder _ _ t.tried p.answers) h
 

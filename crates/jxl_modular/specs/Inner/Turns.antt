@@ -8,14 +8,14 @@ use Rattle.jxlm_cut.specs.declared.pass.Pass.{Pass}
 use Rattle.jxlm_part.specs.Decode.{MovesWithin}
 use Rattle.jxlm_ma.specs.Tree.{Config}
 use Rattle.jxl_modular.specs.Image.{Image}
-use Rattle.jxl_modular.specs.Sections.{AllTurn, AllWhole, PlainTurn, Section, Turn, TurnFails, Turned, most}
+use Rattle.jxl_modular.specs.Sections.{AllTurn, AllWhole, PlainTurn, Section, Turn, SectionTurn, most}
 
 module _ {S D : Type 0} (d : Meaning D) (w : Width) (to_int : S → ℤ) (zero : S) (x : Image S D) (passes : List Pass)
     (global : Option (Config D)) (partly : Bool) where
   -- a section's turn: its samples were decoded, all of them or not, or there was an error
   abbrev pub Turns : Section → Result Bool Error → Turn → List (Grid S) → List (Grid S) → Type 0
-  Turns s (Ok whole) t old new = Turned d w to_int zero x passes global partly s t old new × (whole ≡ not t.partial)
-  Turns s (Err e) t old new = TurnFails d w to_int zero x passes global partly s e t old new
+  Turns s (Ok whole) t old new = SectionTurn d w to_int zero x passes global partly s (Ok tt) t old new × (whole ≡ not t.partial)
+  Turns s (Err e) t old new = SectionTurn d w to_int zero x passes global partly s (Err e) t old new
 
   -- and what it took of steps
   abbrev pub TurnGives : Section → Result Bool Error → List (Grid S) → List (Grid S) → ℕ → ℕ → Type 0
@@ -38,7 +38,7 @@ module _ {S D : Type 0} (d : Meaning D) (w : Width) (to_int : S → ℤ) (zero :
     pub between : List (Grid S)
     pub left : AllTurn d w to_int zero x passes global partly done turns old between
     pub last : Turn
-    pub ends : TurnFails d w to_int zero x passes global partly next e last between new
+    pub ends : SectionTurn d w to_int zero x passes global partly next (Err e) last between new
     pub counted : MovesWithin before after (sum (map most turns) + most last)
 
 -- what decoding a section without a header of its own returns, with what it took of steps
