@@ -9,6 +9,7 @@ mod frames;
 mod images;
 mod names;
 mod pictures;
+mod told;
 mod writing;
 
 use jxlcheck_text::Row;
@@ -21,6 +22,7 @@ fn seen(alloc: Global, row: &Row<'_>) -> Option<String> {
         "file" => files::seen(alloc, row.asked),
         "cuts" => files::seen_of_cuts(alloc, row.asked),
         "text" => writing::seen(alloc, row.asked),
+        "info" => told::seen(alloc, row.asked),
         "image" => images::seen(alloc, row.asked),
         "frame" => frames::seen(alloc, row.asked),
         "entropy" => answers::seen(alloc, row.asked, row.expected.starts_with('#')),

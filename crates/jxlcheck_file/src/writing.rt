@@ -15,6 +15,7 @@ fn format(name: &str) -> Option<Format> {
         "ppm" => Some(Format::Ppm),
         "pam" => Some(Format::Pam),
         "pfm" => Some(Format::Pfm),
+        "text" => Some(Format::Text),
         _ => None,
     }
 }

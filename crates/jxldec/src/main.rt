@@ -1,4 +1,4 @@
-//! Decodes a lossless JPEG XL file to a picture in a netpbm format.
+//! Decodes a lossless JPEG XL file to a picture in a netpbm format, or tells what its headers say.
 #![tactic(auto)]
 
 mod options;
@@ -8,22 +8,37 @@ mod run;
 use crate::options::Options;
 use crate::output::OutputFile;
 use crate::run::{Failure, report, run};
+use std::io::Read;
 use std::process::ExitCode;
 use std::{env, fs};
 
-// Decodes the file as the options ask, and returns the status to end with.
-fn decode(rt: &HostRuntime, options: Options<'_>) -> u8 {
+// Does what the options ask with the file that the reader gives, and returns the status to end with.
+fn carry_out<R: Read>(rt: &HostRuntime, options: Options<'_>, input: &mut R) -> u8 {
     let alloc = rt.alloc();
     let errors = &mut rt.stderr();
-    let Ok(mut input) = fs::open(rt, options.input) else {
-        return report(errors, options.input, Failure::Unreadable);
-    };
     match options.output {
-        Some(path) => {
-            let mut output = OutputFile::new(rt, path);
-            run(alloc, options, &mut input, &mut output, errors)
-        }
-        None => run(alloc, options, &mut input, &mut rt.stdout(), errors),
+        Some(path) => run(
+            alloc,
+            options,
+            input,
+            &mut OutputFile::new(rt, path),
+            errors,
+        ),
+        None => run(alloc, options, input, &mut rt.stdout(), errors),
+    }
+}
+
+// Does what the options ask, and returns the status to end with.
+fn decode(rt: &HostRuntime, options: Options<'_>) -> u8 {
+    if options.has_other_ending() {
+        return report(&mut rt.stderr(), options.input, Failure::Ending);
+    }
+    if options.input == "-" {
+        return carry_out(rt, options, &mut rt.stdin());
+    }
+    match fs::open(rt, options.input) {
+        Ok(mut file) => carry_out(rt, options, &mut file),
+        Err(_) => report(&mut rt.stderr(), options.input, Failure::Unreadable),
     }
 }
 

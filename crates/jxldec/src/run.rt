@@ -1,30 +1,47 @@
 //! The program over a reader and two writers.
 
-ghost use Rattle.std.specs.Prelude.{◌≡◌, ◌≢◌, IfErr, IfOk, IsOkUnless, OnOk};
+ghost use Rattle.std.specs.Prelude.{◌≡◌, ◌≢◌, true, IfErr, IfOk, IsOkUnless, OnOk, string_bytes};
 ghost use Rattle.std.specs.Io.KnownBytes.{Appends};
+ghost use Rattle.jxlm_entropy.specs.Parse.{decoder_at};
+ghost use Rattle.jxlm_entropy.specs.Tokens.{entropy};
 ghost use Rattle.jxl_headers.specs.Images.{image_of};
-ghost use Rattle.jxldec.specs.Texts.{IsTextOfFile, IsWritten, TextFails, chosen};
+ghost use Rattle.jxl_info.specs.Headers.{IsInfoOfFile};
+ghost use Rattle.jxl_lossless.specs.Pictures.{IsPictureOfFile};
+ghost use Rattle.jxl_picture.specs.Pictures.{IsWhole};
+ghost use Rattle.jxldec.specs.Texts.{IsAsked, IsDone, IsTextOfFile, IsWritten, TextFails, chosen};
 
 use crate::options::Options;
 use jxl_headers::image::ImageHeader;
-use jxl_lossless::{FileError, Limits, decode_lossless};
+use jxl_info::headers::{Headers, HeadersError, is_boxed};
+use jxl_info::text::info_text;
+use jxl_lossless::{FileError, Limits, Picture, decode_lossless};
 use jxl_picture::format::Format;
+use jxlm_entropy::decoder::EntropyDecoder;
 use std::alloc::Global;
 use std::io::{Read, Write};
 
-/// Why there is no picture.
+/// Why nothing is written.
 #[derive(Clone, Copy)]
 pub enum Failure {
     /// The file cannot be read, or it is out of memory for it.
     Unreadable,
-    /// It is not decoded, by this error.
+    /// It is not decoded, or its headers do not stand, by this error.
     File(FileError),
     /// The picture cannot be written in the format that is asked for, or in any.
     NoFormat,
-    /// Out of memory for the text of the picture.
+    /// Out of memory for the text.
     NoMemory,
+    /// The ending of the output's name is that of no format.
+    Ending,
     /// The output cannot be written.
     Unwritable,
+}
+
+/// The text of a file, and how many channels of its picture are left out in it.
+#[derive(Drop)]
+pub struct Output {
+    pub text: Vec<u8>,
+    pub left_out: usize,
 }
 
 // The format in which a picture is written: the one that is asked for, where it suits the picture, or that of its kind.
@@ -43,48 +60,94 @@ fn format_for(asked: Option<Format>, header: &ImageHeader) -> Option<Format>
     }
 }
 
-/// The text of the picture of a file, in the format that is asked for, or in that of its kind.
+// What the headers of a file tell.
+fn info_of_file(alloc: Global, file: &[u8], limits: &Limits) -> Result<Output, Failure>
+    ensures text { IfOk result (λ o. IsInfoOfFile (entropy decoder_at) limits.now file.now o.text.items) }
+    ensures err { IfErr result (λ e. TextFails limits.now file.now None e) }
+{
+    match Headers::read::<EntropyDecoder>(alloc, file, limits) {
+        Ok(headers) => match info_text(alloc, is_boxed(file), &headers.image, headers.reason) {
+            Ok(text) => Ok(Output {
+                text: text.into_bytes(),
+                left_out: 0,
+            }),
+            Err(_) => Err(Failure::NoMemory),
+        },
+        Err(HeadersError::File(error)) => Err(Failure::File(FileError::File(error))),
+        Err(HeadersError::Front(error)) => Err(Failure::File(FileError::Front(error))),
+    }
+}
+
+// That a picture whose headers stand can be written: what else is wrong with the file is told when it is decoded.
+fn check_format(
+    alloc: Global,
+    file: &[u8],
+    asked: Option<Format>,
+    limits: &Limits,
+) -> Result<(), Failure>
+    ensures err { IfErr result (TextFails limits.now file.now asked) }
+{
+    if let Ok(headers) = Headers::read::<EntropyDecoder>(alloc, file, limits) {
+        if headers.reason.is_none() && format_for(asked, &headers.image).is_none() {
+            return Err(Failure::NoFormat);
+        }
+    }
+    Ok(())
+}
+
+// The text of a picture that was decoded from a file.
+fn write_picture(
+    alloc: Global,
+    file: &[u8],
+    picture: &Picture,
+    asked: Option<Format>,
+    limits: &Limits,
+) -> Result<Output, Failure>
+    requires whole { IsWhole (image_of picture.now.header) picture.now.channels.items }
+    requires is { IsPictureOfFile limits.now file.now picture.now }
+    ensures text { IfOk result (λ o. IsTextOfFile limits.now file.now asked o.text.items o.left_out) }
+    ensures err { IfErr result (TextFails limits.now file.now asked) }
+{
+    let Some(format) = format_for(asked, &picture.header) else {
+        return Err(Failure::NoFormat);
+    };
+    match format.write(alloc, picture) {
+        Ok(text) => Ok(Output {
+            text,
+            left_out: format.left_out(&picture.header),
+        }),
+        Err(_) => Err(Failure::NoMemory),
+    }
+}
+
+/// The text of the picture of a file, in the format that is asked for, or in that of its kind. Where the headers stand
+/// and there is no such format, no sample is decoded.
 pub fn picture_text(
     alloc: Global,
     file: &[u8],
     asked: Option<Format>,
     limits: &Limits,
-) -> Result<Vec<u8>, Failure>
-    ensures text { IfOk result (λ text. IsTextOfFile limits.now file.now asked text.items) }
+) -> Result<Output, Failure>
+    ensures text { IfOk result (λ o. IsTextOfFile limits.now file.now asked o.text.items o.left_out) }
     ensures err { IfErr result (TextFails limits.now file.now asked) }
 {
+    check_format(alloc, file, asked, limits)?;
     match decode_lossless(alloc, file, limits) {
-        Ok(picture) => {
-            let Some(format) = format_for(asked, &picture.header) else {
-                return Err(Failure::NoFormat);
-            };
-            match format.write(alloc, &picture) {
-                Ok(text) => Ok(text),
-                Err(_) => Err(Failure::NoMemory),
-            }
-        }
+        Ok(picture) => write_picture(alloc, file, &picture, asked, limits),
         Err(error) => Err(Failure::File(error)),
     }
 }
 
-// Reads the file, and writes the text of its picture.
-fn carry_out<R: Read, W: Write>(
-    alloc: Global,
-    asked: Option<Format>,
-    limits: &Limits,
-    input: &mut R,
-    output: &mut W,
-) -> Result<(), Failure>
-    ensures done { OnOk result (IsWritten limits.now asked (R.remaining input.old) (R.remaining input.new)
-        (W.contents output.old) (W.contents output.new)) }
-    ensures kept { IfErr result (λ failure. failure ≢ Failure.Unwritable → output.new ≡ output.old) }
+// What is asked of the file: what its headers tell, or its picture.
+fn text_asked(alloc: Global, file: &[u8], options: &Options<'_>) -> Result<Output, Failure>
+    ensures { IfOk result (λ o. IsAsked options.now.info options.now.limits options.now.format file.now o.text.items
+        o.left_out) }
 {
-    let mut file = Vec::new(alloc);
-    if input.read_to_end(&mut file).is_err() {
-        return Err(Failure::Unreadable);
+    if options.info {
+        info_of_file(alloc, file, &options.limits)
+    } else {
+        picture_text(alloc, file, options.format, &options.limits)
     }
-    let text = picture_text(alloc, &file, asked, limits)?;
-    write_bytes(output, &text)
 }
 
 fn write_bytes<W: Write>(output: &mut W, bytes: &[u8]) -> Result<(), Failure>
@@ -97,6 +160,28 @@ fn write_bytes<W: Write>(output: &mut W, bytes: &[u8]) -> Result<(), Failure>
     Ok(())
 }
 
+// Reads the file, and writes what is asked of it. It returns how many channels were left out.
+fn carry_out<R: Read, W: Write>(
+    alloc: Global,
+    options: &Options<'_>,
+    input: &mut R,
+    output: &mut W,
+) -> Result<usize, Failure>
+    ensures done { IfOk result (IsWritten options.now.info options.now.limits options.now.format
+        (R.remaining input.old) (R.remaining input.new) (W.contents output.old) (W.contents output.new)) }
+    ensures kept { IfErr result (λ failure. failure ≢ Failure.Unwritable → output.new ≡ output.old) }
+{
+    let mut file = Vec::new(alloc);
+    if input.read_to_end(&mut file).is_err() {
+        return Err(Failure::Unreadable);
+    }
+    let asked = text_asked(alloc, &file, options)?;
+    match write_bytes(output, &asked.text) {
+        Ok(()) => Ok(asked.left_out),
+        Err(failure) => Err(failure),
+    }
+}
+
 /// Writes the line of a failure, as far as it can be written, and returns the status to end with.
 pub fn report<E: Write>(errors: &mut E, name: &str, failure: Failure) -> u8
     ensures { result ≡ 1 }
@@ -106,14 +191,31 @@ pub fn report<E: Write>(errors: &mut E, name: &str, failure: Failure) -> u8
         Failure::File(error) => writeln!(errors, "jxldec: {name}: {error}"),
         Failure::NoFormat => writeln!(errors, "jxldec: {name}: no such picture in this format"),
         Failure::NoMemory => writeln!(errors, "jxldec: {name}: out of memory"),
+        Failure::Ending => writeln!(
+            errors,
+            "jxldec: {name}: no format has the ending of the output"
+        ),
         Failure::Unwritable => writeln!(errors, "jxldec: {name}: the output cannot be written"),
     };
     1
 }
 
-/// Decodes the file that the reader gives, and writes its picture in a netpbm format. It returns the status to end with:
-/// 0 where the output got the text of the picture, alone and whole; else 1, and `errors` got a line. Nothing is written
-/// to the output unless the whole picture was decoded.
+// Writes a line that warns of channels that were left out, as far as it can be written, unless there are none or
+// nothing but errors is to be printed.
+fn warn<E: Write>(errors: &mut E, options: &Options<'_>, left_out: usize)
+    ensures none { left_out ≡ 0 → errors.new ≡ errors.old }
+    ensures quiet { options.now.quiet ≡ true → errors.new ≡ errors.old }
+{
+    if left_out > 0 && !options.quiet {
+        let name = options.input;
+        let _ = writeln!(errors, "jxldec: {name}: channels left out: {left_out}");
+    }
+}
+
+/// Reads a file from `input`, and writes to `output` what its headers tell, or its picture in a netpbm format or in
+/// decimal numbers. It returns the status to end with: 0 where the output got that text, alone and whole; else 1, and
+/// `errors` got a line. Nothing is written to the output unless the whole picture was decoded. With status 0 `errors`
+/// got nothing but a line where channels were left out.
 pub fn run<R: Read, W: Write, E: Write>(
     alloc: Global,
     options: Options<'_>,
@@ -121,12 +223,15 @@ pub fn run<R: Read, W: Write, E: Write>(
     output: &mut W,
     errors: &mut E,
 ) -> u8
-    ensures done { result ≡ 0 → IsWritten options.entry.limits options.entry.format (R.remaining input.old)
-        (R.remaining input.new) (W.contents output.old) (W.contents output.new) }
-    ensures quiet { result ≡ 0 → errors.new ≡ errors.old }
+    ensures done { result ≡ 0 → IsDone options.entry.info options.entry.quiet options.entry.limits options.entry.format
+        (R.remaining input.old) (R.remaining input.new) (W.contents output.old) (W.contents output.new)
+        (errors.new ≡ errors.old) }
 {
-    match carry_out(alloc, options.format, &options.limits, input, output) {
-        Ok(()) => 0,
+    match carry_out(alloc, &options, input, output) {
+        Ok(left_out) => {
+            warn(errors, &options, left_out);
+            0
+        }
         Err(failure) => report(errors, options.input, failure),
     }
 }
