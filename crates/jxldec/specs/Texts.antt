@@ -70,4 +70,4 @@ pub record IsDone (info quiet : Bool) (limits : Limits) (asked : Option Format) 
   pub others : ℕ
   pub written : IsWritten info limits asked left rest held holds others
   pub none : others ≡ 0 → Silent
-  pub quiet : quiet ≡ true → Silent
+  pub kept : quiet ≡ true → Silent
