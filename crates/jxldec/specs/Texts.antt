@@ -1,5 +1,5 @@
 -- What the program writes of a file: its picture, or what its headers tell.
-use Rattle.std.specs.Prelude.{◌≡◌, ℕ, List, Bool, true, MatchBool, Option, Some, None, if◌then◌else◌}
+use Rattle.std.specs.Prelude.{◌≡◌, ◌⊎◌, ℕ, List, Bool, true, MatchBool, Option, Some, None, if◌then◌else◌}
 use Rattle.std.specs.Io.KnownBytes.{Appends, Consumes, IsAtEnd}
 use Rattle.jxlm_entropy.specs.Parse.{decoder_at}
 use Rattle.jxlm_entropy.specs.Tokens.{entropy}
@@ -27,11 +27,20 @@ pub record IsTextOfFile (limits : Limits) (file : List ℕ) (asked : Option Form
   pub written : text ≡ text_of format (image_of picture.header) picture.channels.items
   pub without : others ≡ left_out format (image_of picture.header)
 
--- the file has headers that are supported, of a picture that is not written in the format that is asked for, or in any
-pub record HasNoFormat (limits : Limits) (file : List ℕ) (asked : Option Format) : Type 0 where
+-- The headers of the file are supported, of a picture that is not written in the format that is asked for, or in any;
+pub record HeadersHaveNoFormat (limits : Limits) (file : List ℕ) (asked : Option Format) : Type 0 where
   pub image : Image
   pub headers : HeadersOfFile (entropy decoder_at) limits file image None
   pub none : chosen asked image ≡ None
+
+-- so it is of the picture that was decoded.
+pub record PictureHasNoFormat (limits : Limits) (file : List ℕ) (asked : Option Format) : Type 0 where
+  pub picture : Picture
+  pub is : IsPictureOfFile limits file picture
+  pub none : chosen asked (image_of picture.header) ≡ None
+
+abbrev pub HasNoFormat : Limits → List ℕ → Option Format → Type 0
+HasNoFormat limits file asked = HeadersHaveNoFormat limits file asked ⊎ PictureHasNoFormat limits file asked
 
 -- what each failure says of the file
 abbrev pub TextFails : Limits → List ℕ → Option Format → Failure → Type 0
@@ -61,4 +70,4 @@ pub record IsDone (info quiet : Bool) (limits : Limits) (asked : Option Format) 
   pub others : ℕ
   pub written : IsWritten info limits asked left rest held holds others
   pub none : others ≡ 0 → Silent
-  pub quiet : quiet ≡ true → Silent
+  pub kept : quiet ≡ true → Silent
