@@ -9,14 +9,12 @@ use Rattle.jxl_front.specs.declared.error.FrontError.{FrontError}
 use Rattle.jxl_front.specs.declared.error.FrontError.TheVariants as errors
 
 unfoldable pub image_reason : ImageRefusal → List ℕ
-image_reason images.Orientation = codes "an orientation"
 image_reason images.Preview = codes "a preview"
 image_reason images.Animation = codes "an animation"
 image_reason images.FloatDepth = codes "floats of other than 32 bits"
 image_reason images.ExtraFloats = codes "an extra channel of floats"
 image_reason images.ExtraSize = codes "an extra channel of another size"
 image_reason images.Xyb = codes "XYB"
-image_reason images.Extensions = codes "extensions"
 
 unfoldable pub frame_reason : FrameRefusal → List ℕ
 frame_reason frames.VarDct = codes "VarDCT"
@@ -36,7 +34,6 @@ frame_reason frames.Blending = codes "blending"
 frame_reason frames.ExtraBlending = codes "blending of an extra channel"
 frame_reason frames.Frames = codes "several frames"
 frame_reason frames.LoopFilter = codes "a loop filter"
-frame_reason frames.Extensions = codes "extensions"
 
 -- the headers stand, but the codestream is not decoded
 abbrev pub is_refusal : FrontError → Bool

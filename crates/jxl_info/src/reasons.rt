@@ -13,14 +13,12 @@ fn image_reason(refusal: ImageRefusal) -> &'static str
     ensures { result.now ≡ the_image_reason refusal }
 {
     match refusal {
-        ImageRefusal::Orientation => "an orientation",
         ImageRefusal::Preview => "a preview",
         ImageRefusal::Animation => "an animation",
         ImageRefusal::FloatDepth => "floats of other than 32 bits",
         ImageRefusal::ExtraFloats => "an extra channel of floats",
         ImageRefusal::ExtraSize => "an extra channel of another size",
         ImageRefusal::Xyb => "XYB",
-        ImageRefusal::Extensions => "extensions",
     }
 }
 
@@ -46,7 +44,6 @@ fn frame_reason(refusal: FrameRefusal) -> &'static str
         FrameRefusal::ExtraBlending => "blending of an extra channel",
         FrameRefusal::Frames => "several frames",
         FrameRefusal::LoopFilter => "a loop filter",
-        FrameRefusal::Extensions => "extensions",
     }
 }
 
