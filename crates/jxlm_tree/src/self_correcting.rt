@@ -80,6 +80,14 @@ pub(crate) struct ErrorsAround {
     pub(crate) sums: Counts,
 }
 
+/// A true error, and how far it is from 0.
+#[derive(Clone, Copy)]
+struct Distant {
+    error: i32,
+    distance: u32,
+    ghost distance_is: { distance ≡ unsigned_abs error },
+}
+
 /// What the weighted predictor makes of a cell.
 #[derive(Clone, Copy)]
 pub struct PredictionResult {
@@ -111,7 +119,7 @@ fn floor_log2(n: u64) -> u32
     ensures value { result ≡ floor_log2 n }
     ensures narrow { n < 2 ^ 32 → result < 32 }
 {
-    63u32.saturating_sub(n.max(1).leading_zeros())
+    63u32.saturating_sub((n | 1).leading_zeros())
 }
 
 /// 2^24 divided by `i`, rounded down.
@@ -144,14 +152,11 @@ fn error_sum(nw: u32, ww: u32, n: u32, w: u32, ne: u32, last: bool) -> u32
 }
 
 /// The one that is further from 0; `a` where neither is.
-fn further(a: i32, b: i32) -> i32
-    ensures { result ≡ if nat_lt (unsigned_abs a) (unsigned_abs b) then b else a }
+fn further(a: Distant, b: i32) -> Distant
+    ensures { result.error ≡ if nat_lt (unsigned_abs a.error) (unsigned_abs b) then b else a.error }
 {
-    if a.unsigned_abs() < b.unsigned_abs() {
-        b
-    } else {
-        a
-    }
+    let b = Distant::of(b);
+    if a.distance < b.distance { b } else { a }
 }
 
 /// How far a sub-prediction times 8 was from the sample.
@@ -199,6 +204,17 @@ fn steered(sample: i32, a: i32, b: i32, c: i32, factor: u32) -> i64
     eased(sample, scaled(errors, factor))
 }
 
+impl Distant {
+    fn of(error: i32) -> Distant
+        ensures { result.error ≡ error }
+    {
+        Distant {
+            error,
+            distance: error.unsigned_abs(),
+        }
+    }
+}
+
 impl ErrorsAround {
     ghost use Rattle.jxlm_tree.specs.Around.{seen};
     ghost use Rattle.jxlm_tree.specs.Correcting.{near_of};
@@ -207,7 +223,8 @@ impl ErrorsAround {
     fn greatest(&self) -> i32
         ensures { result ≡ greatest (near_of self.now) }
     {
-        further(further(further(self.w, self.n), self.nw), self.ne)
+        let farther = further(further(Distant::of(self.w), self.n), self.nw);
+        further(farther, self.ne).error
     }
 
     fn is_clamped(&self) -> bool
