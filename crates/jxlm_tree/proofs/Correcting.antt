@@ -18,24 +18,13 @@ module _ (errors : List Errors) (width : ℕ) where
   above_left_is zero y = refl
   above_left_is (suc x) y = let e : suc x - 1 ≡ x = omega arith in rw e refl
 
-  module _ (w ww : Errors) (previous current : List Errors) where
-    left_is : (x y : ℕ) → KeepsErrors width x y w ww previous current errors → w ≡ errors_left errors width x y
-    left_is zero y k = k.west_none refl
-    left_is (suc x) y k = k.west_is x refl
-
-    two_left_is : (x y : ℕ) → KeepsErrors width x y w ww previous current errors → ww ≡ errors_left errors width (x - 1) y
-    two_left_is zero y k = k.west_west_none (omega arith)
-    two_left_is (suc zero) y k = k.west_west_none (omega arith)
-    two_left_is (suc (suc x)) y k = let e : suc (suc x) - 1 ≡ suc x = omega arith in rw e (k.west_west_is x refl)
-
-module _ (errors : List Errors) (width x y : ℕ) (nw ww n w ne : Errors) (last : Bool) (previous current : List Errors) where
+module _ (errors : List Errors) (width x y : ℕ) (nw ww n w ne : Errors) (last : Bool) where
   -- what is known at the neighbours is what is known around the cell
-  pub near_is : KeepsErrors width x y w ww previous current errors → nw ≡ errors_above_left errors width x y → n ≡ errors_above errors width x y → ne ≡ errors_above_right errors width x y → last ≡ not (nat_lt (x + 1) width) →
+  pub near_is : nw ≡ errors_above_left errors width x y → n ≡ errors_above errors width x y → ne ≡ errors_above_right errors width x y → w ≡ errors_left errors width x y → ww ≡ errors_left errors width (x - 1) y →
+      last ≡ not (nat_lt (x + 1) width) →
       ◌≡◌ {A = ErrorsNear} (record { w = w.true_error; n = n.true_error; nw = nw.true_error; ne = ne.true_error; sums = sums_from nw.sub_errors ww.sub_errors n.sub_errors w.sub_errors ne.sub_errors last })
       (errors_near errors width x y)
-  near_is k a b c d =
-      let left = left_is errors width w ww previous current x y k in
-      let two_left = two_left_is errors width w ww previous current x y k in
+  near_is a b c left two_left d =
       let above_left = a ∙ above_left_is errors width x y in
       elim (cases_lt (x + 1) width) [
         | inl lt ↦ (let t = lt-ltb (x + 1) width lt in rw (above_left, b, c, d, left, two_left) (rw t refl))
@@ -50,8 +39,8 @@ errors_at-push errors e width x y h = get_or_append_left errors (e ∷ []) no_er
 errors_at-push_last : (errors : List Errors) (e : Errors) (width x y : ℕ) → length errors ≡ y * width + x → errors_at (errors ++ e ∷ []) width x y ≡ e
 errors_at-push_last errors e width x y h = get_or_push errors e no_errors (y * width + x) h
 
-module _ (width x y : ℕ) (w ww e : Errors) (previous current errors : List Errors) where
-  current_more : KeepsErrors width x y w ww previous current errors → length errors ≡ y * width + x → x < width → width ≤ length current →
+module _ (width x y : ℕ) (e : Errors) (previous current errors : List Errors) where
+  current_more : KeepsErrors width x y previous current errors → length errors ≡ y * width + x → x < width → width ≤ length current →
       (i : ℕ) → i < x + 1 → get_or (set current x e) i no_errors ≡ errors_at (errors ++ e ∷ []) width i y
   current_more k place in_row len i h =
       elim (cases_lt i x) [
@@ -62,25 +51,17 @@ module _ (width x y : ℕ) (w ww e : Errors) (previous current errors : List Err
       ]
 
   -- in the row
-  pub KeepsErrors_row : KeepsErrors width x y w ww previous current errors → length errors ≡ y * width + x → x + 1 < width → width ≤ length current →
-      KeepsErrors width (x + 1) y e w previous (set current x e) (errors ++ e ∷ [])
+  pub KeepsErrors_row : KeepsErrors width x y previous current errors → length errors ≡ y * width + x → x + 1 < width → width ≤ length current →
+      KeepsErrors width (x + 1) y previous (set current x e) (errors ++ e ∷ [])
   KeepsErrors_row k place in_row len = record {
-    west_none = λ d. absurd (omega arith);
-    west_is = λ before d. let d' : x ≡ before = omega arith in rw (← d') (sym (errors_at-push_last errors e width x y place));
-    west_west_none = λ d. k.west_none (omega arith);
-    west_west_is = λ before d. let d' : x ≡ suc before = omega arith in k.west_is before d' ∙ sym (errors_at-push errors e width before y (omega arith));
     current_is = current_more k place (omega arith) len;
     previous_is = λ i above lt d. k.previous_is i above lt d ∙ sym (errors_at-push errors e width i above (let p = rw d at place in omega arith));
   }
 
   -- at its end
-  pub KeepsErrors_end : KeepsErrors width x y w ww previous current errors → length errors ≡ y * width + x → x < width → width ≤ x + 1 → width ≤ length current →
-      KeepsErrors width 0 (y + 1) no_errors no_errors (set current x e) previous (errors ++ e ∷ [])
+  pub KeepsErrors_end : KeepsErrors width x y previous current errors → length errors ≡ y * width + x → x < width → width ≤ x + 1 → width ≤ length current →
+      KeepsErrors width 0 (y + 1) (set current x e) previous (errors ++ e ∷ [])
   KeepsErrors_end k place in_row ends len = record {
-    west_none = λ d. refl;
-    west_is = λ before d. absurd (omega arith);
-    west_west_none = λ d. refl;
-    west_west_is = λ before d. absurd (omega arith);
     current_is = λ i lt. absurd (omega arith);
     previous_is = λ i above lt d. let d' : y ≡ above = omega arith in rw (← d') (current_more k place in_row len i (omega arith));
   }

@@ -26,13 +26,8 @@ cell_errors e = record { true_error = e.true_error; sub_errors = counted e.sub_e
 abbrev pub near_of : ErrorsAround → ErrorsNear
 near_of e = record { w = e.w; n = e.n; nw = e.nw; ne = e.ne; sums = counted e.sums }
 
--- At (x, y), with the errors of the cells before: those at the left and two to the left in the row, the current row
--- up to x, and the row above.
-pub record KeepsErrors (width x y : ℕ) (west west_west : Errors) (previous current errors : List Errors) : Type 0 where
-  pub west_none : x ≡ 0 → west ≡ no_errors
-  pub west_is : (before : ℕ) → x ≡ suc before → west ≡ errors_at errors width before y
-  pub west_west_none : x < 2 → west_west ≡ no_errors
-  pub west_west_is : (before : ℕ) → x ≡ suc (suc before) → west_west ≡ errors_at errors width before y
+-- At (x, y), with the errors of the cells before: the current row up to x, and the row above.
+pub record KeepsErrors (width x y : ℕ) (previous current errors : List Errors) : Type 0 where
   pub current_is : (i : ℕ) → i < x → slice_index_or current i no_errors ≡ errors_at errors width i y
   pub previous_is : (i above : ℕ) → i < width → y ≡ suc above → slice_index_or previous i no_errors ≡ errors_at errors width i above
 
@@ -40,7 +35,7 @@ pub record KeepsErrors (width x y : ℕ) (west west_west : Errors) (previous cur
 pub record CorrectsBy (c : Corrector) (header : WpHeader) (width x y : ℕ) (samples : List ℤ) : Type 0 where
   pub same_width : c.width ≡ width
   pub same_header : c.header ≡ header
-  pub keeps : KeepsErrors width x y (cell_errors c.west) (cell_errors c.west_west) (map cell_errors c.previous.items) (map cell_errors c.current.items) (errors_of header samples width (length samples))
+  pub keeps : KeepsErrors width x y (map cell_errors c.previous.items) (map cell_errors c.current.items) (errors_of header samples width (length samples))
 
 -- errors are kept where there are weights
 abbrev pub Corrects : Option Corrector → Option WpHeader → ℕ → ℕ → ℕ → List ℤ → Type 0

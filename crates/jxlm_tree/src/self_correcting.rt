@@ -1,9 +1,9 @@
 //! The weighted (self-correcting) predictor: the errors that it remembers, and what it makes of a cell.
 
 ghost use Rattle.jxlm_base.specs.Numbers.{floor_log2};
-ghost use Rattle.jxlm_tree.specs.SelfCorrecting.{IsHeader, errors_above, errors_near, errors_of, greatest, is_clamped, predicted, reciprocal, self_unclamped, shifted, sub_predictions, unclamped, weight_of, weighted_sum, weights};
+ghost use Rattle.jxlm_tree.specs.SelfCorrecting.{IsHeader, errors_above, errors_left, errors_near, errors_of, greatest, is_clamped, predicted, reciprocal, self_unclamped, shifted, sub_predictions, unclamped, weight_of, weighted_sum, weights};
 ghost use Rattle.std.specs.Int.{int_shr};
-ghost use Rattle.std.specs.Prelude.{◌≡◌, ◌+◌, ◌*◌, ◌<◌, ◌≤◌, ◌^◌, ◌+ℤ◌, ◌-ℤ◌, ◌*ℤ◌, pos, ℕ, ℤ, List, [], ◌∷◌, ◌++◌, length, Option, Some, ◌/◌, ◌%◌, nat_lt, if◌then◌else◌, not, IfOk, false, vec_len, slice_index_or, sum, unsigned_abs};
+ghost use Rattle.std.specs.Prelude.{◌≡◌, ◌+◌, ◌-◌, ◌*◌, ◌<◌, ◌≤◌, ◌^◌, ◌+ℤ◌, ◌-ℤ◌, ◌*ℤ◌, pos, ℕ, ℤ, List, [], ◌∷◌, ◌++◌, length, Option, Some, ◌/◌, ◌%◌, nat_lt, if◌then◌else◌, not, IfOk, false, vec_len, slice_index_or, sum, unsigned_abs};
 
 use crate::around::Around;
 use crate::predictor::WpHeader;
@@ -80,6 +80,14 @@ pub(crate) struct ErrorsAround {
     pub(crate) sums: Counts,
 }
 
+/// A true error, and how far it is from 0.
+#[derive(Clone, Copy)]
+struct Distant {
+    error: i32,
+    distance: u32,
+    ghost distance_is: { distance ≡ unsigned_abs error },
+}
+
 /// What the weighted predictor makes of a cell.
 #[derive(Clone, Copy)]
 pub struct PredictionResult {
@@ -97,8 +105,6 @@ pub struct PredictionResult {
 pub(crate) struct Corrector {
     pub(crate) header: WpHeader,
     pub(crate) width: u32,
-    pub(crate) west: CellErrors,
-    pub(crate) west_west: CellErrors,
     pub(crate) previous: Vec<CellErrors>,
     pub(crate) current: Vec<CellErrors>,
     ghost is_header: { IsHeader header },
@@ -111,7 +117,7 @@ fn floor_log2(n: u64) -> u32
     ensures value { result ≡ floor_log2 n }
     ensures narrow { n < 2 ^ 32 → result < 32 }
 {
-    63u32.saturating_sub(n.max(1).leading_zeros())
+    63u32.saturating_sub((n | 1).leading_zeros())
 }
 
 /// 2^24 divided by `i`, rounded down.
@@ -144,14 +150,11 @@ fn error_sum(nw: u32, ww: u32, n: u32, w: u32, ne: u32, last: bool) -> u32
 }
 
 /// The one that is further from 0; `a` where neither is.
-fn further(a: i32, b: i32) -> i32
-    ensures { result ≡ if nat_lt (unsigned_abs a) (unsigned_abs b) then b else a }
+fn further(a: Distant, b: i32) -> Distant
+    ensures { result.error ≡ if nat_lt (unsigned_abs a.error) (unsigned_abs b) then b else a.error }
 {
-    if a.unsigned_abs() < b.unsigned_abs() {
-        b
-    } else {
-        a
-    }
+    let b = Distant::of(b);
+    if a.distance < b.distance { b } else { a }
 }
 
 /// How far a sub-prediction times 8 was from the sample.
@@ -199,6 +202,17 @@ fn steered(sample: i32, a: i32, b: i32, c: i32, factor: u32) -> i64
     eased(sample, scaled(errors, factor))
 }
 
+impl Distant {
+    fn of(error: i32) -> Distant
+        ensures { result.error ≡ error }
+    {
+        Distant {
+            error,
+            distance: error.unsigned_abs(),
+        }
+    }
+}
+
 impl ErrorsAround {
     ghost use Rattle.jxlm_tree.specs.Around.{seen};
     ghost use Rattle.jxlm_tree.specs.Correcting.{near_of};
@@ -207,7 +221,8 @@ impl ErrorsAround {
     fn greatest(&self) -> i32
         ensures { result ≡ greatest (near_of self.now) }
     {
-        further(further(further(self.w, self.n), self.nw), self.ne)
+        let farther = further(further(Distant::of(self.w), self.n), self.nw);
+        further(farther, self.ne).error
     }
 
     fn is_clamped(&self) -> bool
@@ -245,6 +260,20 @@ impl ErrorsAround {
 
 impl Counts {
     ghost use Rattle.jxlm_tree.specs.Correcting.{counted};
+    ghost use Rattle.jxlm_tree.specs.Inner.CorrectingSteps.{sums_from};
+
+    /// The sums of the errors: these are two columns to the left, and the others at the other neighbours.
+    fn summed(&self, nw: &Counts, n: &Counts, w: &Counts, ne: &Counts, last: bool) -> Counts
+        ensures { counted result ≡ sums_from (counted nw.now) (counted self.now) (counted n.now) (counted w.now)
+            (counted ne.now) last }
+    {
+        Counts {
+            s0: error_sum(nw.s0, self.s0, n.s0, w.s0, ne.s0, last),
+            s1: error_sum(nw.s1, self.s1, n.s1, w.s1, ne.s1, last),
+            s2: error_sum(nw.s2, self.s2, n.s2, w.s2, ne.s2, last),
+            s3: error_sum(nw.s3, self.s3, n.s3, w.s3, ne.s3, last),
+        }
+    }
 
     fn total(&self) -> u32
         requires { sum (counted self.now) < 2 ^ 32 }
@@ -402,7 +431,7 @@ impl PredictionResult {
 impl Corrector {
     ghost use Rattle.jxlm_tree.specs.Around.{seen};
     ghost use Rattle.jxlm_tree.specs.Correcting.{Corrects, CorrectsBy, HasRows, IsMade, IsMadeBy, cell_errors, header_of, counted, near_of};
-    ghost use Rattle.jxlm_tree.specs.Inner.CorrectingSteps.{AtPlace, CorrectsAfter, CorrectsNext, HoldsColumn, errors_above_left, errors_above_right, sums_from};
+    ghost use Rattle.jxlm_tree.specs.Inner.CorrectingSteps.{AtPlace, CorrectsAfter, CorrectsNext, HoldsColumn, errors_above_left, errors_above_right};
     ghost use Rattle.jxlm_tree.specs.declared.predictor.WpHeader.{WpHeader};
 
     /// Rows for channels up to this width.
@@ -418,8 +447,6 @@ impl Corrector {
         Ok(Corrector {
             header,
             width: 0,
-            west: NO_ERRORS,
-            west_west: NO_ERRORS,
             previous: vec![in alloc; NO_ERRORS; widest as usize]?,
             current: vec![in alloc; NO_ERRORS; widest as usize]?,
         })
@@ -433,11 +460,7 @@ impl Corrector {
         ensures rows { (room : ℕ) → HasRows corrector.old room → HasRows corrector.new room }
     {
         match corrector {
-            Some(corrector) => {
-                corrector.width = width;
-                corrector.west = NO_ERRORS;
-                corrector.west_west = NO_ERRORS;
-            }
+            Some(corrector) => corrector.width = width,
             None => (),
         }
     }
@@ -517,6 +540,32 @@ impl Corrector {
         }
     }
 
+    fn left<const EDGE: bool>(&self, x: usize) -> CellErrors
+        requires in_row { x < self.now.width }
+        requires inner { EDGE ≡ false → 1 ≤ x }
+        ensures { (header : WpHeader) (width y : ℕ) (samples : List ℤ) → CorrectsBy self.now header width x y samples →
+            cell_errors result ≡ errors_left (errors_of header samples width (length samples)) width x y }
+    {
+        if EDGE && x == 0 {
+            NO_ERRORS
+        } else {
+            self.current[x - 1]
+        }
+    }
+
+    fn two_left<const EDGE: bool>(&self, x: usize) -> CellErrors
+        requires in_row { x < self.now.width }
+        requires inner { EDGE ≡ false → 2 ≤ x }
+        ensures { (header : WpHeader) (width y : ℕ) (samples : List ℤ) → CorrectsBy self.now header width x y samples →
+            cell_errors result ≡ errors_left (errors_of header samples width (length samples)) width (x - 1) y }
+    {
+        if EDGE && x == 0 {
+            NO_ERRORS
+        } else {
+            self.left::<EDGE>(x - 1)
+        }
+    }
+
     fn errors_around<const EDGE: bool>(&self, x: usize, y: usize) -> ErrorsAround
         requires in_row { x < self.now.width }
         requires inner { EDGE ≡ false → (2 ≤ y) × (2 ≤ x) × (x + 2 < self.now.width) }
@@ -527,25 +576,20 @@ impl Corrector {
         let nw = self.above_left::<EDGE>(x, y);
         let last = self.is_last::<EDGE>(x);
         let ne = self.above_right::<EDGE>(x, y, last);
+        let w = self.left::<EDGE>(x);
+        let ww = self.two_left::<EDGE>(x).sub_errors;
         ErrorsAround {
-            w: self.west.true_error,
+            w: w.true_error,
             n: n.true_error,
             nw: nw.true_error,
             ne: ne.true_error,
-            sums: self.sums(&nw.sub_errors, &n.sub_errors, &ne.sub_errors, last),
-        }
-    }
-
-    fn sums(&self, nw: &Counts, n: &Counts, ne: &Counts, last: bool) -> Counts
-        ensures { counted result ≡ sums_from (counted nw.now) (counted self.now.west_west.sub_errors) (counted n.now)
-            (counted self.now.west.sub_errors) (counted ne.now) last }
-    {
-        let (w, ww) = (self.west.sub_errors, self.west_west.sub_errors);
-        Counts {
-            s0: error_sum(nw.s0, ww.s0, n.s0, w.s0, ne.s0, last),
-            s1: error_sum(nw.s1, ww.s1, n.s1, w.s1, ne.s1, last),
-            s2: error_sum(nw.s2, ww.s2, n.s2, w.s2, ne.s2, last),
-            s3: error_sum(nw.s3, ww.s3, n.s3, w.s3, ne.s3, last),
+            sums: ww.summed(
+                &nw.sub_errors,
+                &n.sub_errors,
+                &w.sub_errors,
+                &ne.sub_errors,
+                last,
+            ),
         }
     }
 
@@ -584,14 +628,8 @@ impl Corrector {
         ensures header { self.new.header ≡ self.old.header }
         ensures rows { (room : ℕ) → HasRows (Some self.old) room → HasRows (Some self.new) room }
     {
-        let errors = made.errors_after(sample);
-        self.current[x] = errors;
-        if x + 1 < self.width as usize {
-            self.west_west = self.west;
-            self.west = errors;
-        } else {
-            self.west_west = NO_ERRORS;
-            self.west = NO_ERRORS;
+        self.current[x] = made.errors_after(sample);
+        if x + 1 >= self.width as usize {
             mem::swap(&mut self.previous, &mut self.current);
         }
     }
