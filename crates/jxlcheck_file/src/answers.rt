@@ -61,12 +61,31 @@ fn tokens(
     Some(Ok(()))
 }
 
-/// Tokens that a word asks for: a context, and after a star how many.
+/// Adds so many tokens of a context that are read together into a list of sevens: the list, and where an error ended
+/// them, how many there are, and the error. The words after it are asked where that left decoder and reader.
+fn together(text: &mut String, asked: &mut Asked<'_>, context: u32, count: usize) -> Option<()> {
+    let cluster = *asked.decoder.cluster_map().get(context as usize)?;
+    let mut room = [7; 80];
+    let tokens = room.get_mut(..count)?;
+    let read = asked
+        .decoder
+        .read_varints_with_multiplier_clustered(&mut asked.bits, cluster, asked.multiplier, tokens);
+    match read {
+        Ok(()) => write!(text, "{tokens:?} ").ok(),
+        Err(ended) => write!(text, "{tokens:?} {} {} ", ended.read, ended.error).ok(),
+    }
+}
+
+/// Tokens that a word asks for: a context, and how many after a star, or after an `x` where they are read together.
 fn of_word(
     text: &mut String,
     asked: &mut Asked<'_>,
     word: &str,
 ) -> Option<Result<(), DecoderError>> {
+    if let Some((context, count)) = numbers(word, 'x') {
+        together(text, asked, context, count as usize)?;
+        return Some(Ok(()));
+    }
     let (context, count) = match numbers(word, '*') {
         Some(both) => both,
         None => (number(word)?, 1),

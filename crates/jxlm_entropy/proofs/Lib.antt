@@ -1,3 +1,4 @@
+mod PlainReads
 mod FirstToken
 mod SpecialDistances
 mod AnyMultiplier

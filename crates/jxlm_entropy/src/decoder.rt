@@ -10,9 +10,9 @@ ghost use Rattle.jxlm_entropy.specs.Parse.{decoder_at};
 use crate::parse::decoder_codes;
 use crate::state::State;
 use crate::tables::Tables;
-use crate::tokens::{begin, copy_state, finalize, only_token, read_token};
+use crate::tokens::{begin, copy_state, finalize, only_token, read_token, read_tokens};
 use jxlm_base::bits::Bitstream;
-use jxlm_base::decoder::{Decoder, DecoderError, RleToken};
+use jxlm_base::decoder::{Decoder, DecoderError, RleToken, TokensError};
 use std::alloc::Global;
 use std::marker::Model;
 use std::rc::Rc;
@@ -69,6 +69,23 @@ impl Decoder for EntropyDecoder {
         multiplier: u32,
     ) -> Result<u32, DecoderError> {
         read_token(&self.tables, &mut self.state, bits, cluster, multiplier)
+    }
+
+    fn read_varints_with_multiplier_clustered(
+        &mut self,
+        bits: &mut Bitstream<'_>,
+        cluster: u8,
+        multiplier: u32,
+        tokens: &mut [u32],
+    ) -> Result<(), TokensError> {
+        read_tokens(
+            &self.tables,
+            &mut self.state,
+            bits,
+            cluster,
+            multiplier,
+            tokens,
+        )
     }
 
     fn read_varint_clustered(
