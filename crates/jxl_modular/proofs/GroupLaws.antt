@@ -191,7 +191,7 @@ module _ {S D : Type 0} (x : TransformedGlobalModular S D) (part : Part) (s t : 
 pub others_kept : {S D : Type 0} (to_int : S → ℤ) (x new : TransformedGlobalModular S D) (part : Part) →
     ((other : Part) → other ≢ part → state_kept new.progress other ≡ state_kept x.progress other) → passes_in new ≡ passes_in x → SameButCells (image_of x) (image_of new) →
     KeepsOtherGrids to_int (passes_in x) (section_part part) (image_of x) (image_of new) → KeepsOtherParts to_int part x new
-others_kept to_int x new part states passes same grids = record {
+others_kept {S = S} {D = D} to_int x new part states passes same grids = record {
   partial = λ other unlike.
       let channels : channels_of new other ≡ channels_of x other = rw ((ap (λ (z : Image S D). z.group_dim) same.rest), (ap (λ (z : Image S D). z.channels) same.rest), (ap (λ (z : Image S D). z.nb_meta) same.rest), passes) refl in
       let state : state_of new other ≡ state_of x other = ap or_new (states other unlike) in

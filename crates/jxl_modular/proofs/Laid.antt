@@ -87,7 +87,7 @@ same_but_store x s shape = record { rest = refl; shape = shape }
 -- Where all steps of an image were undone, its channels are the only ones that become the coded grids as they were.
 pub only_image : {S D : Type 0} (to_int : S → ℤ) (w : Width) (x y : Image S D) → IsLaidOut x → IsLaidOut y → SameButCells x y →
     UndoesAll to_int w x.bit_depth (undo_of_all x.steps (first_layout (given_list x).channels)) x.store y.store → IsOnlyImage w y (image_grids to_int y) (coded_grids to_int x)
-only_image to_int w x y laid laid_y same undone =
+only_image {S = S} {D = D} to_int w x y laid laid_y same undone =
     let here = lie_first (given_list x).channels x.steps x.store laid.buffers in
     let first = first_layout (given_list x).channels in
     let chain : Chain w x.bit_depth x.steps (given_list x) (grids_in first.regions (store_meanings to_int y.store)) (grids_in (layout_after_all x.steps first).regions (store_meanings to_int x.store)) =
