@@ -1,14 +1,7 @@
 -- The format in which a picture is written suits it.
-use Rattle.std.proofs.Common.{◌≡◌, ℕ, List, Bool, true, false, Option, Some, None, refl, subst}
+use Rattle.std.proofs.Common.{◌≡◌, Bool, true, false, Option, Some, None, refl, subst}
 use Rattle.std.specs.Prelude.{if◌then◌else◌}
-use Rattle.jxlm_entropy.specs.Parse.{decoder_at}
-use Rattle.jxlm_entropy.specs.Tokens.{entropy}
 use Rattle.jxl_headers.specs.Images.{Image}
-use Rattle.jxl_picture.specs.declared.limits.Limits.{Limits}
-use Rattle.jxl_front.specs.declared.error.FrontError.{FrontError}
-use Rattle.jxl_info.specs.Headers.{FrontOfFileFails}
-use Rattle.jxl_lossless.specs.Pictures.{FileFails}
-use Rattle.jxl_lossless.specs.declared.error.FileError.TheVariants as errors
 use Rattle.jxl_picture.specs.Formats.{suits, usual, usual_whole}
 use Rattle.jxl_picture.specs.declared.format.Format.{Format}
 use Rattle.jxl_picture.specs.declared.format.Format.TheVariants.{Pfm}
@@ -27,7 +20,3 @@ usual_suits image format e = by (suits Pfm image) refl e where
 pub chosen_suits : (asked : Option Format) (image : Image) (format : Format) → chosen asked image ≡ Some format → suits format image ≡ true
 chosen_suits (Some f) image format e = let p = if_some (suits f image) f format e in subst (λ g. suits g image ≡ true) p.1 p.0
 chosen_suits None image format e = usual_suits image format e
-
--- what fails before the sections of a codestream fails where it is decoded
-pub front_fails : (limits : Limits) (file : List ℕ) (error : FrontError) → FrontOfFileFails (entropy decoder_at) limits file error → FileFails limits file (errors.Front error)
-front_fails limits file error f = record { stream = f.bytes; found = f.codestream; fails = f.fails }

@@ -1,10 +1,7 @@
-use Rattle.std.proofs.Common.{sym, ◌∙◌, inr}
+use Rattle.std.proofs.Common.{sym, ◌∙◌}
 use Rattle.jxl_headers.specs.Images.{image_of}
 use Rattle.jxldec.proofs.Texts.{chosen_suits}
 use Rattle.jxldec.proofs.run.write_picture.Goals as goal
-
-pub returns-in_default-clause-err : goal.returns-in_default-clause-err
-returns-in_default-clause-err c = inr (record { picture = c.args.picture.now; is = c.requires.is; none = sym c.format_for.ensures ∙ c.in_default.is })
 
 pub write-requires-clause-suits : goal.write-requires-clause-suits
 write-requires-clause-suits c = chosen_suits c.args.asked (image_of c.args.picture.now.header) c.in-Some.format (sym c.format_for.ensures ∙ c.in-Some.is)
