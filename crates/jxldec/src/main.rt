@@ -30,7 +30,7 @@ fn carry_out<R: Read>(rt: &HostRuntime, options: Options<'_>, input: &mut R) -> 
 
 // Does what the options ask, and returns the status to end with.
 fn decode(rt: &HostRuntime, options: Options<'_>) -> u8 {
-    if options.has_other_ending() {
+    if !options.info && options.has_other_ending() {
         return report(&mut rt.stderr(), options.input, Failure::Ending);
     }
     if options.input == "-" {
