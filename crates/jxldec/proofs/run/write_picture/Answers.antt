@@ -1,4 +1,4 @@
-use Rattle.std.proofs.Common.{sym, ◌∙◌}
+use Rattle.std.proofs.Common.{sym, ◌∙◌, inr}
 use Rattle.jxl_headers.specs.Images.{image_of}
 use Rattle.jxldec.proofs.Texts.{chosen_suits}
 use Rattle.jxldec.proofs.run.write_picture.Goals as goal
@@ -15,3 +15,10 @@ returns-in-Ok-clause-text c = record {
   written = c.in-Ok.ensures;
   without = c.left_out.ensures;
 }
+
+pub returns-in_default-clause-err : goal.returns-in_default-clause-err
+returns-in_default-clause-err c = inr (record {
+  picture = c.args.picture.now;
+  is = c.requires.is;
+  none = sym c.format_for.ensures ∙ c.in_default.is;
+})
