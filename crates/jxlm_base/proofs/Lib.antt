@@ -20,6 +20,7 @@ mod Lines
 mod Near
 mod NearPairs
 mod NumberAt
+mod Resized
 mod RowLoop
 mod RowWrites
 mod Strips

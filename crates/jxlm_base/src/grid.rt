@@ -1,5 +1,5 @@
 //! Grids of samples.
-ghost use Rattle.std.specs.Prelude.{◌≡◌, ◌+◌, ◌+ℤ◌, ◌*◌, ◌^◌, ◌<◌, ◌≤◌, pos, length, IfOk, IsOk, Some, vec_len};
+ghost use Rattle.std.specs.Prelude.{◌≡◌, ◌+◌, ◌+ℤ◌, ◌*◌, ◌^◌, ◌<◌, ◌≤◌, pos, length, replicate, IfOk, IsOk, Some, vec_len};
 ghost use Rattle.std.specs.Int.{int_wrap};
 ghost use Rattle.std.specs.Borrow.{sem};
 ghost use Rattle.std.specs.Iterator.{YieldsFirstRef, item_count};
@@ -29,6 +29,19 @@ impl<T: Drop> From<AllocFailed<T>> for OutOfMemory {
     fn from(_error: AllocFailed<T>) -> OutOfMemory {
         OutOfMemory
     }
+}
+
+/// So many zeros. Memory is asked for once, and written by pieces, each of which is in the nearest cache.
+fn zeros<S: Sealed>(alloc: Global, count: usize) -> Result<Vec<S>, OutOfMemory>
+    ensures { IfOk result (λ v. v.items ≡ replicate count (S.from_int (pos 0))) }
+{
+    let zero = S::default();
+    let mut cells = Vec::with_capacity(alloc, count)?;
+    for _ in 0..count / 256 {
+        cells.resize(cells.len() + 256, zero)?;
+    }
+    cells.resize(count, zero)?;
+    Ok(cells)
 }
 
 /// A grid of cells, in columns from left to right and rows from top to bottom, both counted from 0.
@@ -71,7 +84,7 @@ impl<S: Sealed> AlignedGrid<S> {
         let cells = if count == 0 {
             Vec::new(alloc)
         } else {
-            vec![in alloc; S::default(); count]?
+            zeros(alloc, count)?
         };
         Ok(AlignedGrid {
             width,
