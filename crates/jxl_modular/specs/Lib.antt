@@ -16,7 +16,7 @@ pub mod ImageLends
 pub mod Types
 -- what public contracts cite of the crates below
 pub use Rattle.jxlm_base.specs.Bits
-pub use Rattle.jxlm_base.specs.Colour
+pub use Rattle.jxlm_lanes.specs.Colour
 pub use Rattle.jxlm_base.specs.Decoding
 pub use Rattle.jxlm_base.specs.ErrorKind
 pub use Rattle.jxlm_base.specs.Grammar
@@ -26,7 +26,8 @@ pub use Rattle.jxlm_base.specs.Numbers
 pub use Rattle.jxlm_base.specs.Outside
 pub use Rattle.jxlm_plain.specs.Plain
 pub use Rattle.jxlm_base.specs.Regions
-pub use Rattle.jxlm_base.specs.Squeeze
+pub use Rattle.jxlm_lanes.specs.Squeeze
+pub use Rattle.jxlm_base.specs.SqueezedGrids
 pub use Rattle.jxlm_base.specs.Subgrid
 pub use Rattle.jxlm_ma.specs.DecodingSamples
 pub use Rattle.jxlm_ma.specs.FlatTree

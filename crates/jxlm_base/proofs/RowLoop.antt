@@ -3,9 +3,9 @@ use Rattle.std.proofs.Common.{◌≡◌, ℕ, suc, ◌+◌, ◌-◌, ◌*◌, �
 use Rattle.std.specs.Int.{Width}
 use Rattle.std.proofs.Math.ListN.{length-set}
 use Rattle.std.proofs.lemmas.Bool.{cases_lt}
-use Rattle.jxlm_base.specs.Squeeze.{averages, AreSamples}
-use Rattle.jxlm_base.specs.Inner.Unsqueeze.{number_at, first_in, before_in, IsUnsqueezed}
-use Rattle.jxlm_base.proofs.NumberAt.{number_set_same, number_set_other}
+use Rattle.jxlm_lanes.specs.Squeeze.{averages, AreSamples}
+use Rattle.jxlm_lanes.specs.Inner.Unsqueeze.{number_at, first_in, before_in, IsUnsqueezed}
+use Rattle.jxlm_lanes.proofs.NumberAt.{number_set_same, number_set_other}
 
 module _ {S : Type 0} (f : S → ℤ) (w : Width) (n : ℕ) (code : ℕ → ℤ) where
   -- the first k pairs are undone

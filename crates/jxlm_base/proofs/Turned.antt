@@ -6,9 +6,11 @@ use Rattle.std.proofs.Math.Nat.{mul-le-mul_right, mul_comm}
 use Rattle.std.proofs.lemmas.Bool.{cases_lt}
 use Rattle.std.proofs.lemmas.Nat.{same_from_place}
 use Rattle.jxlm_base.specs.Grid.{Grid, at, cell, place, meanings, IsFull}
-use Rattle.jxlm_base.specs.Inner.Unsqueeze.{number_at, line_in}
-use Rattle.jxlm_base.proofs.Cells.{slice_get-set_same, slice_get-set_other}
-use Rattle.jxlm_base.proofs.NumberAt.{number_same, get-slice_range}
+use Rattle.jxlm_lanes.specs.Inner.Unsqueeze.{number_at, line_in}
+use Rattle.jxlm_lanes.proofs.NumberAt.{slice_get-set_other}
+use Rattle.jxlm_base.proofs.Cells.{slice_get-set_same}
+use Rattle.jxlm_lanes.proofs.NumberAt.{number_same}
+use Rattle.jxlm_base.proofs.Parts.{get-slice_range}
 
 pub turned_within : (i n rows j room : ℕ) → i < n → j < rows → n * rows ≤ room → i * rows + j < room
 turned_within i n rows j room p q r = let m = mul-le-mul_right {m = suc i} {n = n} rows (omega arith) in omega arith

@@ -5,12 +5,13 @@ use Rattle.std.specs.Int.{Width}
 use Rattle.std.proofs.Math.Nat.{mul-le-mul_left, mul-div-le, le-div_iff_mul-le}
 use Rattle.std.proofs.lemmas.Bool.{cases_lt}
 use Rattle.jxlm_base.specs.Grid.{Grid, at, row, place, written, with_row, meanings, grid_by, IsFull}
-use Rattle.jxlm_base.specs.Squeeze.{AreSamples, AreSame, AreGridSamples, squeezed, squeezed_rows, squeezed_columns}
+use Rattle.jxlm_lanes.specs.Squeeze.{AreSamples, AreSame, squeezed}
+use Rattle.jxlm_base.specs.SqueezedGrids.{AreGridSamples, squeezed_rows, squeezed_columns}
 use Rattle.jxlm_base.specs.Subgrid.{IsSameOutside}
-use Rattle.jxlm_base.specs.Inner.Unsqueeze.{number_at, IsUnsqueezed}
-use Rattle.jxlm_base.proofs.NumberAt.{number_same}
+use Rattle.jxlm_lanes.specs.Inner.Unsqueeze.{number_at, IsUnsqueezed}
+use Rattle.jxlm_lanes.proofs.NumberAt.{number_same}
 use Rattle.jxlm_base.proofs.GridLaws.{grid_by_same, at-grid_by}
-use Rattle.jxlm_base.proofs.SqueezeLaws.{IsUnsqueezed_same, squeezed_is, samples_of_undone}
+use Rattle.jxlm_lanes.proofs.SqueezeLaws.{IsUnsqueezed_same, squeezed_is, samples_of_undone}
 use Rattle.jxlm_base.proofs.RowWrites.{part_numbers, changed_in, changed_outside, at_same}
 
 -- ---- one row

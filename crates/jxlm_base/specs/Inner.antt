@@ -1,4 +1,2 @@
-pub mod ColourRows
-pub mod Lanes
 pub mod SampleLaws
 pub mod Unsqueeze

@@ -1,5 +1,4 @@
 pub mod Bits
-pub mod Colour
 pub mod Decoding
 pub mod ErrorKind
 pub mod Grammar
@@ -9,6 +8,6 @@ pub mod GridRows
 pub mod Numbers
 pub mod Outside
 pub mod Regions
-pub mod Squeeze
+pub mod SqueezedGrids
 pub mod Subgrid
 pub mod Inner

@@ -1,10 +1,10 @@
 //! The colour of rows of samples, inverse-transformed for both types by one body.
 ghost use Rattle.std.specs.Prelude.{◌≡◌, ℤ, FitsSigned, length, map};
 ghost use Rattle.std.specs.Int.{Width, w16, w32};
-ghost use Rattle.jxlm_base.specs.Colour.{triple, plus, minus, halved, finished_by, FinishesRows, from_luma as the_luma_undone, from_differences as the_differences_undone};
-ghost use Rattle.jxlm_base.specs.Inner.ColourRows.{FinishesCells};
+ghost use Rattle.jxlm_lanes.specs.Colour.{triple, plus, minus, halved, finished_by, FinishesRows, from_luma as the_luma_undone, from_differences as the_differences_undone};
+ghost use Rattle.jxlm_lanes.specs.Inner.ColourRows.{FinishesCells};
 
-use crate::colour_lanes;
+use jxlm_lanes::colour_lanes;
 
 /// Numbers of one width. What is computed is reduced to it.
 pub(crate) trait Arithmetic: Copy {

@@ -1,11 +1,11 @@
 //! Laws of the definitions that contracts cite: each is the contract of a function that does nothing.
 ghost use Rattle.std.specs.Prelude.{◌≡◌, ◌↔◌, ℕ, ℤ, ◌+◌, ◌+ℤ◌, ◌*ℤ◌, ◌^◌, ◌<◌, FitsSigned, List, Some};
 ghost use Rattle.std.specs.Int.{Width, w16, w32, int_wrap};
-ghost use Rattle.jxlm_base.specs.Colour.{ColourIsLossless, ColourIsOneToOne};
+ghost use Rattle.jxlm_lanes.specs.Colour.{ColourIsLossless, ColourIsOneToOne};
 ghost use Rattle.jxlm_base.specs.Grid.{Grid, IsFull, cell, grid_by};
 ghost use Rattle.jxlm_base.specs.Numbers.{unpack, clamped_gradient};
 ghost use Rattle.jxlm_base.specs.Regions.{Region, LieApart, WritesChangeOneGrid};
-ghost use Rattle.jxlm_base.specs.Squeeze.{SqueezeLosesNothing};
+ghost use Rattle.jxlm_lanes.specs.Squeeze.{SqueezeLosesNothing};
 
 /// What is computed in 16 bits is what is computed in 32, reduced.
 pub fn narrow_samples_are_wide_ones_reduced()

@@ -4,13 +4,10 @@
 pub mod bit_laws;
 pub mod bits;
 mod colour;
-mod colour_lanes;
 pub mod decoder;
 pub mod error;
 pub mod grid;
-mod lanes;
 pub mod laws;
-mod near_lanes;
 pub mod region;
 pub mod sample;
 mod squeeze;

@@ -1,10 +1,10 @@
 //! The two types of a sample.
 ghost use Rattle.std.specs.Prelude.{◌≡◌, ◌↔◌, ◌⊎◌, ◌+◌, ◌≤◌, ℤ, pos, IsOk, ◌+ℤ◌, ◌*ℤ◌, FitsSigned, refl, length, map, IfOk, IfErr, MatchResult};
 ghost use Rattle.std.specs.Int.{Width, w16, w32, int_wrap};
-ghost use Rattle.jxlm_base.specs.Colour.{FinishesRows};
+ghost use Rattle.jxlm_lanes.specs.Colour.{FinishesRows};
 ghost use Rattle.jxlm_base.specs.Grid.{meanings};
 ghost use Rattle.jxlm_base.specs.Numbers.{unpack, clamped_gradient};
-ghost use Rattle.jxlm_base.specs.Squeeze.{AreGridSamples, squeezed_rows, squeezed_columns};
+ghost use Rattle.jxlm_base.specs.SqueezedGrids.{AreGridSamples, squeezed_rows, squeezed_columns};
 ghost use Rattle.jxlm_base.specs.Subgrid.{whole, KeepsOutside, numbers_in};
 ghost use Rattle.jxlm_base.specs.Inner.SampleLaws.{fits_wider, int_wrap-narrow, int_wrap_again};
 

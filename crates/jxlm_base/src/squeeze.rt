@@ -2,13 +2,15 @@
 ghost use Rattle.std.specs.Prelude.{◌≡◌, ℕ, suc, ℤ, ◌+◌, ◌-◌, ◌*◌, ◌/◌, ◌^◌, ◌<◌, ◌≤◌, ◌⊎◌, FitsSigned, length, min, slice_get, slice_range, IfOk, IfErr, IsOk};
 ghost use Rattle.std.specs.Int.{Width, w16, w32};
 ghost use Rattle.jxlm_base.specs.Grid.{cell};
-ghost use Rattle.jxlm_base.specs.Squeeze.{slope, tendency, averages, AreSamples, AreGridSamples, squeezed_rows, squeezed_columns};
+ghost use Rattle.jxlm_lanes.specs.Squeeze.{slope, tendency, averages, AreSamples};
+ghost use Rattle.jxlm_base.specs.SqueezedGrids.{AreGridSamples, squeezed_rows, squeezed_columns};
 ghost use Rattle.jxlm_base.specs.Subgrid.{whole, IsSamePlace, IsSameOutside, KeepsOutside, numbers_in};
-ghost use Rattle.jxlm_base.specs.Inner.Unsqueeze.{first_of, second_of, next_in, first_in, before_in, number_at, row_in, column_in, line_in, IsUnsqueezed, ArePairs};
+ghost use Rattle.jxlm_lanes.specs.Inner.Unsqueeze.{first_of, second_of, next_in, first_in, before_in, number_at, line_in, IsUnsqueezed, ArePairs};
+ghost use Rattle.jxlm_base.specs.Inner.Unsqueeze.{row_in, column_in};
 
 use crate::grid::OutOfMemory;
 use crate::subgrid::MutableSubgrid;
-use crate::{lanes, near_lanes};
+use jxlm_lanes::{lanes, near_lanes};
 use std::alloc::Global;
 
 /// A sample's type as squeezing needs it. `Sealed` is built on it.

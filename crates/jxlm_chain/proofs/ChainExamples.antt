@@ -2,7 +2,7 @@
 use Rattle.std.proofs.Common.{◌≡◌, refl, true, false, ℕ, suc, zero, List, [], ◌∷◌, ℤ, pos, Ok, arith, rules}
 use Rattle.std.specs.Int.{w16, w32, int_wrap}
 use Rattle.jxlm_base.specs.Grid.{Grid, grid}
-use Rattle.jxlm_base.specs.Squeeze.{AreGridSamples}
+use Rattle.jxlm_base.specs.SqueezedGrids.{AreGridSamples}
 use Rattle.jxlm_transform.specs.Channels.{Channel, ChannelList}
 use Rattle.jxlm_transform.specs.ChannelSteps.{RctStep, SqueezeStep, Step, list_after}
 use Rattle.jxlm_transform.specs.declared.param.ChannelShift.TheVariants.{Raw}

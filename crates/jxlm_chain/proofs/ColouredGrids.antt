@@ -4,9 +4,9 @@ use Rattle.std.specs.Prelude.{◌==◌}
 use Rattle.std.specs.List.{AllZip, list_all}
 use Rattle.std.specs.Int.{Width}
 use Rattle.std.proofs.lemmas.Bool.{eqb-true, and_parts}
-use Rattle.jxlm_base.specs.Colour.{Triple, IsTripleOf, coded_triple}
+use Rattle.jxlm_lanes.specs.Colour.{Triple, IsTripleOf, coded_triple}
 use Rattle.jxlm_base.specs.Grid.{Grid, grid_by, at}
-use Rattle.jxlm_base.proofs.ColourLaws.{colour_is_one_to_one, triple_same}
+use Rattle.jxlm_lanes.proofs.ColourLaws.{colour_is_one_to_one, triple_same}
 use Rattle.jxlm_transform.specs.Channels.{Channel}
 use Rattle.jxlm_transform.specs.ChannelSteps.{one_size, has_size_of}
 use Rattle.jxlm_transform.specs.Recoloured.{recoloured, triple_in}

@@ -8,7 +8,7 @@ use Rattle.std.proofs.lemmas.List.Elements.{All-cons, All-head, All-tail, All-we
 use Rattle.jxlm_base.specs.Grid.{Grid, grid, IsFull}
 use Rattle.jxlm_base.specs.Outside.{buffer_at}
 use Rattle.jxlm_base.specs.Regions.{region, buffer_of, Lies, AllLie, AreApart, LieApart, HasCell}
-use Rattle.jxlm_base.specs.Squeeze.{averages}
+use Rattle.jxlm_lanes.specs.Squeeze.{averages}
 use Rattle.jxlm_base.specs.declared.subgrid.Region.{Region}
 use Rattle.jxlm_base.proofs.Regions.{AreApart_sym, apart_by_buffer, apart_by_columns, apart_by_rows}
 use Rattle.jxlm_transform.specs.Channels.{Channel, ChannelList, HasSides}

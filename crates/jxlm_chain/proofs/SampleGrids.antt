@@ -4,7 +4,7 @@ use Rattle.std.specs.List.{All, AllZip}
 use Rattle.std.specs.Int.{Width}
 use Rattle.std.proofs.lemmas.List.Elements.{All-head, All-tail}
 use Rattle.jxlm_base.specs.Grid.{Grid, IsFull}
-use Rattle.jxlm_base.specs.Squeeze.{AreGridSamples}
+use Rattle.jxlm_base.specs.SqueezedGrids.{AreGridSamples}
 use Rattle.jxlm_transform.specs.Channels.{AreGridsOf, Channel}
 
 -- each number is a w-bit sample

@@ -4,10 +4,10 @@ use Rattle.std.specs.List.{AllZip}
 use Rattle.std.specs.Int.{Width}
 use Rattle.std.proofs.lemmas.Bool.{cases_lt, lt-ltb, le-ltb}
 use Rattle.jxlm_base.specs.Grid.{Grid, grid_by, at}
-use Rattle.jxlm_base.specs.Squeeze.{averages, average_at, residual_at, squeezed, AreSamples, AreSame}
+use Rattle.jxlm_lanes.specs.Squeeze.{averages, average_at, residual_at, squeezed, AreSamples, AreSame}
 use Rattle.jxlm_base.proofs.Cells.{grid_same}
 use Rattle.jxlm_base.proofs.GridLaws.{at-grid_by, cell_from_at}
-use Rattle.jxlm_base.proofs.SqueezeLaws.{squeeze_loses_nothing}
+use Rattle.jxlm_lanes.proofs.SqueezeLaws.{squeeze_loses_nothing}
 use Rattle.jxlm_transform.specs.Channels.{Channel}
 use Rattle.jxlm_transform.specs.SqueezedRegions.{average_grid, residual_grid}
 use Rattle.jxlm_chain.proofs.SampleGrids.{IsGridOf}

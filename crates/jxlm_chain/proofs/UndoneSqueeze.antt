@@ -7,7 +7,7 @@ use Rattle.std.proofs.lemmas.List.Elements.{All-map}
 use Rattle.jxlm_base.specs.Grid.{Grid}
 use Rattle.jxlm_base.specs.Outside.{KeepsOutside}
 use Rattle.jxlm_base.specs.Regions.{grid_of, Lies, AllLie, AreApart, LieApart, store_meanings, HasCell, grids_in}
-use Rattle.jxlm_base.specs.Squeeze.{AreGridSamples}
+use Rattle.jxlm_base.specs.SqueezedGrids.{AreGridSamples}
 use Rattle.jxlm_base.specs.declared.subgrid.Region.{Region}
 use Rattle.jxlm_base.proofs.Outside.{keeps_all, keeps_both, keeps_wider, all_one, all_lie_still}
 use Rattle.jxlm_base.proofs.Regions.{AreApart_sym}

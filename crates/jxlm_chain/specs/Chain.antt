@@ -3,7 +3,7 @@ use Rattle.std.specs.Prelude.{◌≡◌, ℕ, List, [], ◌∷◌, ℤ, Ok}
 use Rattle.std.specs.List.{All}
 use Rattle.std.specs.Int.{Width}
 use Rattle.jxlm_base.specs.Grid.{Grid}
-use Rattle.jxlm_base.specs.Squeeze.{AreGridSamples}
+use Rattle.jxlm_base.specs.SqueezedGrids.{AreGridSamples}
 use Rattle.jxlm_transform.specs.Channels.{AreGridsOf, ChannelList}
 use Rattle.jxlm_transform.specs.ChannelSteps.{Step, RctStep, PaletteStep, SqueezeStep, range, with_range, with_each_halved, list_after}
 use Rattle.jxlm_transform.specs.Palette.{IsPaletteOf}

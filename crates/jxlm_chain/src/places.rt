@@ -2,7 +2,7 @@
 
 ghost use Rattle.std.specs.Prelude.{◌≡◌, ℕ, ◌+◌, ◌^◌, ◌<◌, ◌≤◌, ◌++◌, length, map, take, drop, IfOk, IfErr};
 ghost use Rattle.std.specs.List.{All};
-ghost use Rattle.jxlm_base.specs.Squeeze.{averages as the_averages};
+ghost use Rattle.jxlm_lanes.specs.Squeeze.{averages as the_averages};
 ghost use Rattle.jxlm_transform.specs.SqueezedRegions.{average_region, residual_region};
 ghost use Rattle.jxlm_chain.specs.Ends.{HasEnds};
 ghost use Rattle.jxlm_chain.specs.Layout.{first_layout, layout_after, whole_regions};

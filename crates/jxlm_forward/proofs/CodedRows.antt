@@ -1,7 +1,7 @@
 -- Rows of three channels, coded cell by cell.
 use Rattle.std.proofs.Common.{◌≡◌, ℕ, ◌+◌, ◌<◌, ℤ, List, length, set, ◌∙◌, arith}
-use Rattle.jxlm_base.specs.Colour.{Triple, triple}
-use Rattle.jxlm_base.proofs.ColourLaws.{triple_same}
+use Rattle.jxlm_lanes.specs.Colour.{Triple, triple}
+use Rattle.jxlm_lanes.proofs.ColourLaws.{triple_same}
 use Rattle.jxlm_forward.specs.Colours.{AreCoded, triple_in}
 use Rattle.jxlm_forward.proofs.Numbers.{below_next, number_set_same, number_set_other}
 

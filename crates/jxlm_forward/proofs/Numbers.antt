@@ -4,8 +4,8 @@ use Rattle.std.specs.Int.{Width, int_wrap}
 use Rattle.std.proofs.Math.ListN.{length-set, get_or-map}
 use Rattle.std.proofs.lemmas.Bool.{cases_lt}
 use Rattle.std.proofs.lemmas.List.{get_or-set_same, get_or-set_other, get_or_default, get_or_append_left, get_or-append_right, length-map, map-set, map-append}
-use Rattle.jxlm_base.specs.Squeeze.{tendency, difference, averages, average_at, residual_at, squeezed, AreSame}
-use Rattle.jxlm_base.proofs.SqueezeLaws.{if_lt, if_ge}
+use Rattle.jxlm_lanes.specs.Squeeze.{tendency, difference, averages, average_at, residual_at, squeezed, AreSame}
+use Rattle.jxlm_lanes.proofs.SqueezeLaws.{if_lt, if_ge}
 use Rattle.jxlm_forward.specs.Lines.{number_in, AreAverages, AreResiduals}
 
 -- what holds below k and at k holds below k + 1

@@ -4,7 +4,7 @@ use Rattle.std.specs.Int.{Width, int_wrap}
 use Rattle.std.proofs.lemmas.Int.{ints, to_z-of_z, quot_fits}
 use Rattle.std.proofs.lemmas.List.{length-map, get_or_default}
 use Rattle.std.proofs.Math.ListN.{get_or-map}
-use Rattle.jxlm_base.specs.Squeeze.{tendency, difference, average}
+use Rattle.jxlm_lanes.specs.Squeeze.{tendency, difference, average}
 use Rattle.jxlm_forward.specs.Lines.{number_in}
 
 -- a number of 32 bits, as it is handed on

@@ -1,8 +1,8 @@
 -- Rows of three channels, coded cell by cell (ISO/IEC 18181-1, Modular: reversible colour transforms).
 use Rattle.std.specs.Prelude.{◌≡◌, ℕ, ◌<◌, ℤ, List, length}
 use Rattle.std.specs.Int.{Width}
-use Rattle.jxlm_base.specs.Colour.{Triple, triple}
-use Rattle.jxlm_base.specs.Squeeze.{AreSamples}
+use Rattle.jxlm_lanes.specs.Colour.{Triple, triple}
+use Rattle.jxlm_lanes.specs.Squeeze.{AreSamples}
 use Rattle.jxlm_forward.specs.Lines.{number_in}
 
 module _ {S : Type 0} where

@@ -1,8 +1,8 @@
 //! Colours of cells coded (ISO/IEC 18181-1, Modular: reversible colour transforms).
 
 ghost use Rattle.std.specs.Prelude.{◌≡◌, length};
-ghost use Rattle.jxlm_base.specs.Colour.{triple, plus as the_sum, minus as the_difference, halved, coded_triple};
-ghost use Rattle.jxlm_base.specs.Colour.{to_luma as luma_of, to_differences as differences_of, coded_by as the_code};
+ghost use Rattle.jxlm_lanes.specs.Colour.{triple, plus as the_sum, minus as the_difference, halved, coded_triple};
+ghost use Rattle.jxlm_lanes.specs.Colour.{to_luma as luma_of, to_differences as differences_of, coded_by as the_code};
 ghost use Rattle.jxlm_forward.specs.Colours.{AreCoded, AreSampleRows, HaveOneLength};
 
 use crate::lines::{difference, known};

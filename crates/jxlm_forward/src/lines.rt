@@ -2,11 +2,11 @@
 
 ghost use Rattle.std.specs.Prelude.{◌≡◌, ℕ, ◌+◌, ◌-ℤ◌, ◌*◌, ◌/◌, ◌<◌, ◌≤◌, ◌^◌, FitsSigned, length, unsigned_abs};
 ghost use Rattle.std.specs.Int.{w32, int_wrap};
-ghost use Rattle.jxlm_base.specs.Squeeze.{slope as the_slope, tendency as the_tendency, difference as the_difference};
-ghost use Rattle.jxlm_base.specs.Squeeze.{average as the_average, averages as the_averages};
-ghost use Rattle.jxlm_base.specs.Squeeze.{average_at as the_average_at, residual_at as the_residual_at, squeezed};
-ghost use Rattle.jxlm_base.specs.Squeeze.{sample_before as the_sample_before, average_after as the_average_after};
-ghost use Rattle.jxlm_base.specs.Squeeze.{AreSame, AreSamples};
+ghost use Rattle.jxlm_lanes.specs.Squeeze.{slope as the_slope, tendency as the_tendency, difference as the_difference};
+ghost use Rattle.jxlm_lanes.specs.Squeeze.{average as the_average, averages as the_averages};
+ghost use Rattle.jxlm_lanes.specs.Squeeze.{average_at as the_average_at, residual_at as the_residual_at, squeezed};
+ghost use Rattle.jxlm_lanes.specs.Squeeze.{sample_before as the_sample_before, average_after as the_average_after};
+ghost use Rattle.jxlm_lanes.specs.Squeeze.{AreSame, AreSamples};
 ghost use Rattle.jxlm_forward.specs.Lines.{number_in, AreAverages, AreResiduals};
 
 use jxlm_base::sample::{Sample, Sealed};

@@ -2,7 +2,7 @@
 
 ghost use Rattle.std.specs.Prelude.{◌≡◌, ℕ, ◌-ℤ◌, ◌<◌, length};
 ghost use Rattle.std.specs.Int.{int_wrap};
-ghost use Rattle.jxlm_base.specs.Squeeze.{average, difference, tendency, AreSame, AreSamples};
+ghost use Rattle.jxlm_lanes.specs.Squeeze.{average, difference, tendency, AreSame, AreSamples};
 ghost use Rattle.jxlm_forward.specs.Lines.{number_in};
 
 use crate::lines::{average, known, residual};

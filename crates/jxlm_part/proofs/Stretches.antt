@@ -6,7 +6,8 @@ use Rattle.std.proofs.lemmas.List.{length-map, map-set, take-set-le}
 use Rattle.jxlm_base.specs.Bits.{bytes_of, position_of}
 use Rattle.jxlm_base.specs.Decoding.{IsLawful, Meaning, Reading, TakesTokens}
 use Rattle.jxlm_base.specs.declared.decoder.DecoderError.{DecoderError}
-use Rattle.jxlm_base.proofs.Cells.{slice_get-set_other, slice_get-set_same}
+use Rattle.jxlm_lanes.proofs.NumberAt.{slice_get-set_other}
+use Rattle.jxlm_base.proofs.Cells.{slice_get-set_same}
 use Rattle.jxlm_part.specs.Inner.Rows.{FailsRow, MakesCells, ReadsCells}
 use Rattle.jxlm_part.specs.Inner.Source.{Source}
 use Rattle.jxlm_part.specs.Rule.{Rule, CodedPrefix}

@@ -5,9 +5,9 @@ use Rattle.std.specs.Int.{Width, int_wrap}
 use Rattle.jxlm_base.specs.Grid.{Grid}
 use Rattle.jxlm_base.specs.Regions.{region_cell}
 use Rattle.jxlm_base.specs.declared.subgrid.Region.{Region}
-use Rattle.jxlm_base.specs.Squeeze.{average, averages, average_at, sample_before, average_after, squeezed, tendency, difference}
+use Rattle.jxlm_lanes.specs.Squeeze.{average, averages, average_at, sample_before, average_after, squeezed, tendency, difference}
 use Rattle.jxlm_base.proofs.Outside.{number_of_row}
-use Rattle.jxlm_base.proofs.SqueezeLaws.{if_lt, if_ge}
+use Rattle.jxlm_lanes.proofs.SqueezeLaws.{if_lt, if_ge}
 use Rattle.jxlm_forward.specs.Lines.{number_in}
 use Rattle.jxlm_forward.proofs.Numbers.{residual_same}
 use Rattle.jxlm_redo.specs.Inner.Squeezed.{AreLines, average_of, residual_of, number_of}

@@ -2,13 +2,13 @@
 use Rattle.std.proofs.Common.{◌≡◌, ◌≢◌, ℕ, ◌+◌, ◌<◌, List, [], ◌∷◌, length, ℤ, refl, sym, ap, ◌∙◌, subst, arith}
 use Rattle.std.specs.Prelude.{get_or, slice_get}
 use Rattle.std.specs.Int.{Width}
-use Rattle.jxlm_base.specs.Colour.{Triple, IsTripleOf, coded_triple}
+use Rattle.jxlm_lanes.specs.Colour.{Triple, IsTripleOf, coded_triple}
 use Rattle.jxlm_base.specs.Grid.{Grid, grid_by}
 use Rattle.jxlm_base.specs.Outside.{KeepsOutside, SetsRow, row_of}
 use Rattle.jxlm_base.specs.Regions.{region_cell, AllLie, HasCell, AreApart, LieApart, store_meanings, grid_of}
 use Rattle.jxlm_base.specs.declared.subgrid.Region.{Region}
-use Rattle.jxlm_base.specs.Squeeze.{AreGridSamples}
-use Rattle.jxlm_base.proofs.ColourLaws.{triple_same}
+use Rattle.jxlm_base.specs.SqueezedGrids.{AreGridSamples}
+use Rattle.jxlm_lanes.proofs.ColourLaws.{triple_same}
 use Rattle.jxlm_base.proofs.GridLaws.{grid_by_same}
 use Rattle.jxlm_base.proofs.Outside.{keeps_all, keeps_both, keeps_wider, lies_still, region_cell_kept, all_one, all_three, number_of_row, number_same}
 use Rattle.jxlm_base.proofs.Regions.{AreApart_sym, HasCell_at, at-grid_of}

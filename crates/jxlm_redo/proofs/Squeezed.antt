@@ -9,11 +9,11 @@ use Rattle.jxlm_base.specs.Grid.{Grid, grid, at, IsFull}
 use Rattle.jxlm_base.specs.Outside.{KeepsOutside, SetsRow, buffer_at, row_of}
 use Rattle.jxlm_base.specs.Regions.{Lies, HasCell, buffer_of, grid_of, region_cell, store_meanings}
 use Rattle.jxlm_base.specs.declared.subgrid.Region.{Region}
-use Rattle.jxlm_base.specs.Squeeze.{AreSame, AreSamples, average, averages, average_at, sample_before, average_after, residual_at, squeezed}
+use Rattle.jxlm_lanes.specs.Squeeze.{AreSame, AreSamples, average, averages, average_at, sample_before, average_after, residual_at, squeezed}
 use Rattle.jxlm_base.proofs.GridLaws.{grid_by_same}
 use Rattle.jxlm_base.proofs.Outside.{all_one, keeps_all, keeps_both, keeps_wider, number_of_row, number_same, region_cell_kept}
 use Rattle.jxlm_base.proofs.Regions.{at-grid_of}
-use Rattle.jxlm_base.proofs.SqueezeLaws.{if_lt, if_ge}
+use Rattle.jxlm_lanes.proofs.SqueezeLaws.{if_lt, if_ge}
 use Rattle.jxlm_forward.specs.Lines.{number_in}
 use Rattle.jxlm_forward.proofs.Numbers.{below_next, residual_same}
 use Rattle.jxlm_redo.specs.Inner.Squeezed.{AreLines, SqueezedColumns, SqueezedRows, SqueezesRow, number_of, strip_of}

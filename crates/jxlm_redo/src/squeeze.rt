@@ -6,7 +6,7 @@ ghost use Rattle.std.specs.List.{All};
 ghost use Rattle.jxlm_base.specs.Grid.{IsFull};
 ghost use Rattle.jxlm_base.specs.Outside.{KeepsOutside};
 ghost use Rattle.jxlm_base.specs.Regions.{Lies};
-ghost use Rattle.jxlm_base.specs.Squeeze.{averages as the_averages, sample_before, squeezed, AreSamples};
+ghost use Rattle.jxlm_lanes.specs.Squeeze.{averages as the_averages, sample_before, squeezed, AreSamples};
 ghost use Rattle.jxlm_chain.specs.Undo.{UndoSqueeze, Undoes};
 ghost use Rattle.jxlm_forward.specs.Lines.{number_in};
 ghost use Rattle.jxlm_redo.specs.Inner.Squeezed.{AreLines, SqueezedColumns, SqueezedRows, SqueezesRow};

@@ -5,16 +5,16 @@ use Rattle.std.specs.List.{All}
 use Rattle.std.specs.Int.{Width}
 use Rattle.std.proofs.lemmas.Bool.{cases_eq}
 use Rattle.std.proofs.lemmas.List.{length-map}
-use Rattle.jxlm_base.specs.Colour.{Triple, IsTripleOf, permuted, finished_by, finished_triple, coded_triple, triple_at, FinishesRows}
+use Rattle.jxlm_lanes.specs.Colour.{Triple, IsTripleOf, permuted, finished_by, finished_triple, coded_triple, triple_at, FinishesRows}
 use Rattle.jxlm_base.specs.Grid.{Grid, grid_by}
 use Rattle.jxlm_base.specs.Outside.{KeepsOutside, SetsRow, row_of}
 use Rattle.jxlm_base.specs.declared.subgrid.Region.{Region}
 use Rattle.jxlm_base.specs.Regions.{region_cell, AllLie, HasCell, AreApart, LieApart, store_meanings, grid_of}
-use Rattle.jxlm_base.proofs.ColourLaws.{triple_same, permuted_fits, finished_fits, colour_is_lossless}
+use Rattle.jxlm_lanes.proofs.ColourLaws.{triple_same, permuted_fits, finished_fits, colour_is_lossless}
 use Rattle.jxlm_base.proofs.GridLaws.{grid_by_same}
 use Rattle.jxlm_base.proofs.Outside.{keeps_all, keeps_both, keeps_wider, lies_still, region_cell_kept, all_one, all_three, number_of_row, number_same}
 use Rattle.jxlm_base.proofs.Regions.{AreApart_sym, HasCell_at, at-grid_of}
-use Rattle.jxlm_base.specs.Squeeze.{AreGridSamples}
+use Rattle.jxlm_base.specs.SqueezedGrids.{AreGridSamples}
 use Rattle.jxlm_transform.specs.Inner.ColourRows.{AreThree, triple_of, rows_of, PutsRow, FinishesRow, FinishedUntil}
 use Rattle.jxlm_transform.specs.Recoloured.{triple_in, HaveOneSize, UndoesColour}
 

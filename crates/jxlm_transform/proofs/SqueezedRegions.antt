@@ -9,7 +9,8 @@ use Rattle.std.proofs.lemmas.List.{get_or-set_same, get_or-set_other, get_or_def
 use Rattle.jxlm_base.specs.Grid.{Grid, grid, grid_by, at, cell, meanings, IsFull}
 use Rattle.jxlm_base.specs.Outside.{buffer_at, KeepsOutside}
 use Rattle.jxlm_base.specs.Regions.{buffer_of, grid_of, store_meanings, Lies, HasCell}
-use Rattle.jxlm_base.specs.Squeeze.{averages, average_at, residual_at, squeezed, squeezed_rows, squeezed_columns, AreGridSamples}
+use Rattle.jxlm_lanes.specs.Squeeze.{averages, average_at, residual_at, squeezed}
+use Rattle.jxlm_base.specs.SqueezedGrids.{squeezed_rows, squeezed_columns, AreGridSamples}
 use Rattle.jxlm_base.specs.Subgrid.{whole, IsAt, IsOutside, IsSameOutside, KeepsOutside as KeepsRest, numbers_in}
 use Rattle.jxlm_base.specs.declared.subgrid.MutableSubgrid.{MutableSubgrid}
 use Rattle.jxlm_base.specs.declared.subgrid.Region.{Region}

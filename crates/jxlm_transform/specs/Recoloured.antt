@@ -2,10 +2,10 @@
 use Rattle.std.specs.Prelude.{◌≡◌, ℕ, List, [], ◌∷◌, map, ℤ}
 use Rattle.std.specs.List.{All, AllPairs}
 use Rattle.std.specs.Int.{Width}
-use Rattle.jxlm_base.specs.Colour.{Triple, triple, coded_triple}
+use Rattle.jxlm_lanes.specs.Colour.{Triple, triple, coded_triple}
 use Rattle.jxlm_base.specs.Grid.{Grid, grid_by, at}
 use Rattle.jxlm_base.specs.Regions.{grid_of}
-use Rattle.jxlm_base.specs.Squeeze.{AreGridSamples}
+use Rattle.jxlm_base.specs.SqueezedGrids.{AreGridSamples}
 use Rattle.jxlm_base.specs.declared.subgrid.Region.{Region}
 
 -- the triple in column x of row y of three grids

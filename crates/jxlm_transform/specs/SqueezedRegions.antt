@@ -3,7 +3,8 @@ use Rattle.std.specs.Prelude.{◌≡◌, ◌+◌, ◌/◌, List, Bool, true, fal
 use Rattle.std.specs.Int.{Width}
 use Rattle.jxlm_base.specs.Grid.{Grid, grid_by, at}
 use Rattle.jxlm_base.specs.Regions.{grid_of}
-use Rattle.jxlm_base.specs.Squeeze.{averages, average_at, residual_at, AreGridSamples, squeezed_rows, squeezed_columns}
+use Rattle.jxlm_lanes.specs.Squeeze.{averages, average_at, residual_at}
+use Rattle.jxlm_base.specs.SqueezedGrids.{AreGridSamples, squeezed_rows, squeezed_columns}
 use Rattle.jxlm_base.specs.declared.subgrid.Region.{Region}
 
 -- the part of a squeezed region that has the averages: the left one, or the upper one

@@ -1,7 +1,7 @@
 //! The colour of three channels, inverse-transformed.
 
 ghost use Rattle.std.specs.Prelude.{◌≡◌, ◌+◌, ◌*◌, ◌<◌, ◌≤◌, length, map, get_or, IfOk, IfErr, OnOk, OnErr};
-ghost use Rattle.jxlm_base.specs.Colour.{permuted, triple_at};
+ghost use Rattle.jxlm_lanes.specs.Colour.{permuted, triple_at};
 ghost use Rattle.jxlm_base.specs.ErrorKind.{NoMemory, kind_of};
 ghost use Rattle.jxlm_base.specs.Outside.{KeepsOutside};
 ghost use Rattle.jxlm_base.specs.Regions.{AllLie, LieApart, region, store_meanings};

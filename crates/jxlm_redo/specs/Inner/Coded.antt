@@ -1,7 +1,7 @@
 -- How far the colours of three regions are coded in place.
 use Rattle.std.specs.Prelude.{◌≡◌, ℕ, ◌<◌, ◌≤◌, ℤ, List, [], ◌∷◌}
 use Rattle.std.specs.Int.{Width}
-use Rattle.jxlm_base.specs.Colour.{IsTripleOf, Triple, coded_triple, triple}
+use Rattle.jxlm_lanes.specs.Colour.{IsTripleOf, Triple, coded_triple, triple}
 use Rattle.jxlm_base.specs.Grid.{Grid}
 use Rattle.jxlm_base.specs.Outside.{KeepsOutside, row_of}
 use Rattle.jxlm_base.specs.Regions.{Lies, AreApart}

@@ -5,7 +5,7 @@ use Rattle.jxlm_base.specs.Grid.{Grid, at}
 use Rattle.jxlm_base.specs.Outside.{KeepsOutside, row_of}
 use Rattle.jxlm_base.specs.Regions.{region, buffer_of, store_meanings}
 use Rattle.jxlm_base.specs.declared.subgrid.Region.{Region}
-use Rattle.jxlm_base.specs.Squeeze.{AreSamples, average_at, residual_at, squeezed}
+use Rattle.jxlm_lanes.specs.Squeeze.{AreSamples, average_at, residual_at, squeezed}
 use Rattle.jxlm_forward.specs.Lines.{number_in}
 
 -- n columns of a region, from column x on

@@ -1,7 +1,7 @@
 -- How far the colour of three regions is undone, row by row.
 use Rattle.std.specs.Prelude.{◌≡◌, ℕ, ◌+◌, ◌<◌, ◌≤◌, List, [], ◌∷◌, ℤ}
 use Rattle.std.specs.Int.{Width}
-use Rattle.jxlm_base.specs.Colour.{Triple, triple, IsTripleOf, permuted, finished_by}
+use Rattle.jxlm_lanes.specs.Colour.{Triple, triple, IsTripleOf, permuted, finished_by}
 use Rattle.jxlm_base.specs.Grid.{Grid, at}
 use Rattle.jxlm_base.specs.Outside.{KeepsOutside, row_of}
 use Rattle.jxlm_base.specs.Regions.{buffer_of, store_meanings, Lies, AreApart}

@@ -1,5 +1,5 @@
 use Rattle.std.proofs.Common.{arith}
-use Rattle.jxlm_base.proofs.ColourRows.{start, more, end}
+use Rattle.jxlm_lanes.proofs.ColourRows.{start, more, end}
 use Rattle.jxlm_base.proofs.colour.finish_from.Goals as goal
 
 pub loop-i-init : goal.loop-i-init

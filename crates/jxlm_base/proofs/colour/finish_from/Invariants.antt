@@ -1,5 +1,5 @@
 use Rattle.std.proofs.Common.{◌≤◌}
-use Rattle.jxlm_base.proofs.ColourRows.{Cells}
+use Rattle.jxlm_lanes.proofs.ColourRows.{Cells}
 use Rattle.jxlm_base.proofs.colour.finish_from.Given as goal
 
 abbrev pub invariant-loop-i : goal.invariant-loop-i

@@ -1,6 +1,6 @@
 use Rattle.std.proofs.Common.{map, subst, sym}
 use Rattle.std.proofs.lemmas.List.{length-map}
-use Rattle.jxlm_base.proofs.ColourRows.{Cells, all_rows}
+use Rattle.jxlm_lanes.proofs.ColourRows.{Cells, all_rows}
 use Rattle.jxlm_base.proofs.colour.finish_rows.Goals as goal
 
 pub returns : goal.returns

@@ -1,4 +1,4 @@
-use Rattle.std.proofs.Common.{◌≡◌, ◌+◌, ◌*◌, ◌≤◌, ◌++◌, ◌-◌, pos, sym, subst, ◌∙◌, arith}
+use Rattle.std.proofs.Common.{◌≡◌, ◌+◌, ◌*◌, ◌++◌, ◌-◌, pos, subst, arith}
 use Rattle.std.specs.Prelude.{replicate, take}
 use Rattle.jxlm_base.proofs.Resized.{copies, resized}
 use Rattle.jxlm_base.proofs.grid.zeros.Goals as goal

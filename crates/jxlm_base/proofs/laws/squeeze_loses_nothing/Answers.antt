@@ -1,4 +1,4 @@
-use Rattle.jxlm_base.proofs.SqueezeLaws.{squeeze_loses_nothing}
+use Rattle.jxlm_lanes.proofs.SqueezeLaws.{squeeze_loses_nothing}
 use Rattle.jxlm_base.proofs.laws.squeeze_loses_nothing.Goals as goal
 
 pub returns : goal.returns

@@ -1,7 +1,7 @@
 use Rattle.std.proofs.Common.{◌≡◌, ◌&&◌, false}
 use Rattle.std.specs.Int.{w16}
 use Rattle.std.specs.Prelude.{int_le}
-use Rattle.jxlm_base.proofs.Tendency.{falls, falls_fit, first_false, le_is, negated_fits, narrow, rises, rises_fit, second_false, tendency_turns}
+use Rattle.jxlm_lanes.proofs.Tendency.{falls, falls_fit, first_false, le_is, negated_fits, narrow, rises, rises_fit, second_false, tendency_turns}
 use Rattle.jxlm_base.proofs.squeeze.narrow_tendency.Goals as goal
 use Rattle.jxlm_base.proofs.squeeze.narrow_tendency.Goals.{else-a-b-via-else-a-b, else-a-b-via-then-a-b+else-b-c, else-b-a-via-then-b-a+else-c-b, else-b-a-via-else-b-a}
 

@@ -1,6 +1,6 @@
 use Rattle.std.proofs.Common.{◌≡◌, ◌∙◌, ap, FitsSigned, length, arith, subst, sym}
-use Rattle.jxlm_base.proofs.NumberAt.{number_read}
-use Rattle.jxlm_base.proofs.Lines.{CopiedSoFar, copied_none, copied_more}
+use Rattle.jxlm_lanes.proofs.NumberAt.{number_read}
+use Rattle.jxlm_lanes.proofs.Lines.{CopiedSoFar, copied_none, copied_more}
 use Rattle.jxlm_base.proofs.squeeze.single_line.Goals as goal
 
 pub loop-j-init : goal.loop-j-init

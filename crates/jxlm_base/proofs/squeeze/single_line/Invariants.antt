@@ -1,4 +1,4 @@
-use Rattle.jxlm_base.proofs.Lines.{CopiedSoFar}
+use Rattle.jxlm_lanes.proofs.Lines.{CopiedSoFar}
 use Rattle.jxlm_base.proofs.squeeze.single_line.Given as goal
 
 abbrev pub invariant-loop-j : goal.invariant-loop-j

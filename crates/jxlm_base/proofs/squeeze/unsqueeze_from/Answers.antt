@@ -1,6 +1,6 @@
 use Rattle.std.proofs.Common.{◌≤◌, ◌+◌, length, arith}
-use Rattle.jxlm_base.proofs.NumberAt.{number_read}
-use Rattle.jxlm_base.proofs.Lines.{lines_from, lines_more, fewer_pairs}
+use Rattle.jxlm_lanes.proofs.NumberAt.{number_read}
+use Rattle.jxlm_lanes.proofs.Lines.{lines_from, lines_more, fewer_pairs}
 use Rattle.jxlm_base.proofs.squeeze.unsqueeze_from.Goals as goal
 
 pub loop-j-init : goal.loop-j-init

@@ -1,5 +1,5 @@
 use Rattle.std.proofs.Common.{length}
-use Rattle.jxlm_base.proofs.Lines.{LinesSoFar}
+use Rattle.jxlm_lanes.proofs.Lines.{LinesSoFar}
 use Rattle.jxlm_base.proofs.squeeze.unsqueeze_from.Given as goal
 
 abbrev pub invariant-loop-j : goal.invariant-loop-j

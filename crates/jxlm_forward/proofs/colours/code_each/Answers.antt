@@ -1,6 +1,6 @@
 use Rattle.std.proofs.Common.{◌≡◌, ◌∙◌, ℕ, sym, ap, subst, FitsSigned, arith}
-use Rattle.jxlm_base.specs.Colour.{coded_by}
-use Rattle.jxlm_base.proofs.ColourLaws.{triple_same}
+use Rattle.jxlm_lanes.specs.Colour.{coded_by}
+use Rattle.jxlm_lanes.proofs.ColourLaws.{triple_same}
 use Rattle.jxlm_forward.specs.Lines.{number_in}
 use Rattle.jxlm_forward.proofs.Numbers.{below_next, number_read}
 use Rattle.jxlm_forward.proofs.CodedRows.{coded_next}

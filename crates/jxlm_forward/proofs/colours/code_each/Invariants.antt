@@ -1,4 +1,4 @@
-use Rattle.jxlm_base.specs.Colour.{coded_by}
+use Rattle.jxlm_lanes.specs.Colour.{coded_by}
 use Rattle.jxlm_forward.specs.Colours.{AreCoded, AreSampleRows}
 use Rattle.jxlm_forward.proofs.colours.code_each.Given as goal
 

@@ -1,5 +1,5 @@
 use Rattle.std.proofs.Common.{ℕ, ◌<◌, length, arith, FitsSigned}
-use Rattle.jxlm_base.specs.Squeeze.{average_at}
+use Rattle.jxlm_lanes.specs.Squeeze.{average_at}
 use Rattle.jxlm_forward.specs.Lines.{number_in}
 use Rattle.jxlm_forward.proofs.Numbers.{put_next, pair_next}
 use Rattle.jxlm_forward.proofs.lines.put_averages.Goals as goal

@@ -1,5 +1,5 @@
 use Rattle.std.proofs.Common.{length, arith}
-use Rattle.jxlm_base.specs.Squeeze.{residual_at}
+use Rattle.jxlm_lanes.specs.Squeeze.{residual_at}
 use Rattle.jxlm_forward.specs.Lines.{number_in}
 use Rattle.jxlm_forward.proofs.Numbers.{put_next}
 use Rattle.jxlm_forward.proofs.lines.put_residuals.Goals as goal

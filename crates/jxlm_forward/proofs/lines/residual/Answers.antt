@@ -1,5 +1,5 @@
 use Rattle.std.proofs.Common.{◌∙◌, arith}
-use Rattle.jxlm_base.specs.Squeeze.{difference}
+use Rattle.jxlm_lanes.specs.Squeeze.{difference}
 use Rattle.jxlm_forward.proofs.Reduced.{difference_fits, small32, residual_is}
 use Rattle.jxlm_forward.proofs.lines.residual.Goals as goal
 

@@ -1,5 +1,5 @@
 use Rattle.std.proofs.Common.{◌≡◌, length, arith}
-use Rattle.jxlm_base.specs.Squeeze.{averages}
+use Rattle.jxlm_lanes.specs.Squeeze.{averages}
 use Rattle.jxlm_forward.proofs.Numbers.{squeezed_halves}
 use Rattle.jxlm_forward.proofs.lines.squeeze_line.Goals as goal
 

@@ -1,5 +1,5 @@
 use Rattle.std.proofs.Common.{◌≡◌, ◌∙◌, ℕ, sym, ap, subst, FitsSigned, arith}
-use Rattle.jxlm_base.specs.Squeeze.{average}
+use Rattle.jxlm_lanes.specs.Squeeze.{average}
 use Rattle.jxlm_forward.specs.Lines.{number_in}
 use Rattle.jxlm_forward.proofs.Numbers.{below_next, number_read, put_next}
 use Rattle.jxlm_forward.proofs.strips.average_lines.Goals as goal

@@ -1,4 +1,4 @@
-use Rattle.jxlm_base.specs.Squeeze.{average, AreSame, AreSamples}
+use Rattle.jxlm_lanes.specs.Squeeze.{average, AreSame, AreSamples}
 use Rattle.jxlm_forward.specs.Lines.{number_in}
 use Rattle.jxlm_forward.proofs.strips.average_lines.Given as goal
 

@@ -1,6 +1,6 @@
 use Rattle.std.proofs.Common.{◌∙◌, ℕ, ◌-ℤ◌, sym, arith}
 use Rattle.std.specs.Int.{int_wrap}
-use Rattle.jxlm_base.specs.Squeeze.{difference, tendency}
+use Rattle.jxlm_lanes.specs.Squeeze.{difference, tendency}
 use Rattle.jxlm_forward.specs.Lines.{number_in}
 use Rattle.jxlm_forward.proofs.Numbers.{number_read, put_next, residual_same}
 use Rattle.jxlm_forward.proofs.strips.residual_lines.Goals as goal

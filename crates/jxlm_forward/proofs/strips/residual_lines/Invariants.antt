@@ -1,6 +1,6 @@
 use Rattle.std.proofs.Common.{◌-ℤ◌}
 use Rattle.std.specs.Int.{int_wrap}
-use Rattle.jxlm_base.specs.Squeeze.{difference, tendency, AreSame}
+use Rattle.jxlm_lanes.specs.Squeeze.{difference, tendency, AreSame}
 use Rattle.jxlm_forward.specs.Lines.{number_in}
 use Rattle.jxlm_forward.proofs.strips.residual_lines.Given as goal
 

@@ -1,4 +1,4 @@
-use Rattle.jxlm_base.specs.Squeeze.{AreSame, AreSamples}
+use Rattle.jxlm_lanes.specs.Squeeze.{AreSame, AreSamples}
 use Rattle.jxlm_forward.specs.Lines.{number_in}
 use Rattle.jxlm_forward.proofs.strips.single_line.Given as goal
 

@@ -1,5 +1,5 @@
 use Rattle.std.proofs.Common.{length, arith}
-use Rattle.jxlm_base.specs.Squeeze.{averages}
+use Rattle.jxlm_lanes.specs.Squeeze.{averages}
 use Rattle.jxlm_redo.proofs.Averaged.{before_first, before_others}
 use Rattle.jxlm_redo.proofs.Strips.{line_within}
 use Rattle.jxlm_redo.proofs.squeeze.line_before.Goals as goal

@@ -1,5 +1,5 @@
 use Rattle.std.proofs.Common.{◌≡◌, ◌∙◌, ℕ, ◌+◌, ◌*◌, ◌<◌, ◌≤◌, ◌-◌, drop, length, FitsSigned, arith}
-use Rattle.jxlm_base.specs.Squeeze.{averages}
+use Rattle.jxlm_lanes.specs.Squeeze.{averages}
 use Rattle.jxlm_base.proofs.RegionRows.{length-part}
 use Rattle.jxlm_forward.proofs.Numbers.{pair_next}
 use Rattle.jxlm_redo.specs.Inner.Squeezed.{average_of, number_of}

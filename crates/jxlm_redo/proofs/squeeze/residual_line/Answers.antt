@@ -1,5 +1,5 @@
 use Rattle.std.proofs.Common.{◌∙◌, length, arith}
-use Rattle.jxlm_base.specs.Squeeze.{averages}
+use Rattle.jxlm_lanes.specs.Squeeze.{averages}
 use Rattle.jxlm_redo.proofs.Averaged.{residual_in}
 use Rattle.jxlm_redo.proofs.Strips.{line_within}
 use Rattle.jxlm_redo.proofs.squeeze.residual_line.Goals as goal

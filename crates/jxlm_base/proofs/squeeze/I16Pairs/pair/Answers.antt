@@ -1,7 +1,7 @@
 use Rattle.std.proofs.Common.{rules, FitsSigned}
 use Rattle.std.specs.Int.{w16}
 use Rattle.std.proofs.lemmas.Int.{to_z-of_z}
-use Rattle.jxlm_base.proofs.Tendency.{first_is, second_is}
+use Rattle.jxlm_lanes.proofs.Tendency.{first_is, second_is}
 use Rattle.jxlm_base.proofs.squeeze.I16Pairs.pair.Goals as goal
 
 pub returns-clause-first : goal.returns-clause-first

@@ -1,6 +1,0 @@
-use Rattle.std.proofs.Common.{◌*◌, length, w16}
-use Rattle.jxlm_base.proofs.Lines.{LinesSoFar}
-use Rattle.jxlm_base.proofs.lanes.unsqueeze_eights.Given as goal
-
-abbrev pub invariant-loop-k : goal.invariant-loop-k
-invariant-loop-k l = LinesSoFar (λ x. x) w16 l.averages l.next l.residuals l.fn.strip (length l.averages) l.at l.strip (8 * l.k)

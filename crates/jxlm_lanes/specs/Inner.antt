@@ -1,0 +1,3 @@
+pub mod ColourRows
+pub mod Lanes
+pub mod Unsqueeze
