@@ -4,7 +4,7 @@ use Rattle.std.specs.Int.{Width}
 use Rattle.std.proofs.Math.ListN.{length-set}
 use Rattle.std.proofs.lemmas.Bool.{cases_lt}
 use Rattle.jxlm_lanes.specs.Squeeze.{averages, AreSamples}
-use Rattle.jxlm_lanes.specs.Inner.Unsqueeze.{number_at, first_in, before_in, IsUnsqueezed}
+use Rattle.jxlm_lanes.specs.Pairs.{number_at, first_in, before_in, IsUnsqueezed}
 use Rattle.jxlm_lanes.proofs.NumberAt.{number_set_same, number_set_other}
 
 module _ {S : Type 0} (f : S → ℤ) (w : Width) (n : ℕ) (code : ℕ → ℤ) where

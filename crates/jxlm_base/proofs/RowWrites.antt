@@ -6,7 +6,7 @@ use Rattle.std.proofs.lemmas.Bool.{cases_lt}
 use Rattle.std.proofs.lemmas.List.{length-take-le, length-drop}
 use Rattle.jxlm_base.specs.Grid.{Grid, at, cell, row, place, written, with_row, meanings, IsFull}
 use Rattle.jxlm_base.specs.Subgrid.{IsOutside, IsSameOutside}
-use Rattle.jxlm_lanes.specs.Inner.Unsqueeze.{number_at}
+use Rattle.jxlm_lanes.specs.Pairs.{number_at}
 use Rattle.jxlm_base.proofs.Cells.{place_within}
 use Rattle.jxlm_lanes.proofs.NumberAt.{number_same}
 use Rattle.jxlm_base.proofs.Parts.{get-slice_range, get-written_in, get-written_before, get-written_after, length-written}

@@ -5,7 +5,7 @@ use Rattle.std.specs.Int.{Width}
 use Rattle.std.proofs.Math.Nat.{mul-le-mul_left, mul-le-mul_right}
 use Rattle.std.proofs.lemmas.Bool.{cases_lt}
 use Rattle.jxlm_lanes.specs.Squeeze.{averages, AreSamples}
-use Rattle.jxlm_lanes.specs.Inner.Unsqueeze.{number_at, next_in, first_in, before_in, IsUnsqueezed}
+use Rattle.jxlm_lanes.specs.Pairs.{number_at, next_in, first_in, before_in, IsUnsqueezed}
 
 -- a line ends before the next one starts
 line_end : (a b c : ℕ) → a < b → a * c + c ≤ b * c

@@ -6,7 +6,7 @@ use Rattle.std.proofs.Math.Nat.{mul-le-mul_right, mul_comm}
 use Rattle.std.proofs.lemmas.Bool.{cases_lt}
 use Rattle.std.proofs.lemmas.Nat.{same_from_place}
 use Rattle.jxlm_base.specs.Grid.{Grid, at, cell, place, meanings, IsFull}
-use Rattle.jxlm_lanes.specs.Inner.Unsqueeze.{number_at, line_in}
+use Rattle.jxlm_lanes.specs.Pairs.{number_at, line_in}
 use Rattle.jxlm_lanes.proofs.NumberAt.{slice_get-set_other}
 use Rattle.jxlm_base.proofs.Cells.{slice_get-set_same}
 use Rattle.jxlm_lanes.proofs.NumberAt.{number_same}

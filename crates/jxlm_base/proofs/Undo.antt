@@ -8,7 +8,7 @@ use Rattle.jxlm_base.specs.Grid.{Grid, at, row, place, written, with_row, meanin
 use Rattle.jxlm_lanes.specs.Squeeze.{AreSamples, AreSame, squeezed}
 use Rattle.jxlm_base.specs.SqueezedGrids.{AreGridSamples, squeezed_rows, squeezed_columns}
 use Rattle.jxlm_base.specs.Subgrid.{IsSameOutside}
-use Rattle.jxlm_lanes.specs.Inner.Unsqueeze.{number_at, IsUnsqueezed}
+use Rattle.jxlm_lanes.specs.Pairs.{number_at, IsUnsqueezed}
 use Rattle.jxlm_lanes.proofs.NumberAt.{number_same}
 use Rattle.jxlm_base.proofs.GridLaws.{grid_by_same, at-grid_by}
 use Rattle.jxlm_lanes.proofs.SqueezeLaws.{IsUnsqueezed_same, squeezed_is, samples_of_undone}

@@ -2,7 +2,7 @@
 ghost use Rattle.std.specs.Prelude.{◌≡◌, ℤ, FitsSigned, length, map};
 ghost use Rattle.std.specs.Int.{Width, w16, w32};
 ghost use Rattle.jxlm_lanes.specs.Colour.{triple, plus, minus, halved, finished_by, FinishesRows, from_luma as the_luma_undone, from_differences as the_differences_undone};
-ghost use Rattle.jxlm_lanes.specs.Inner.ColourRows.{FinishesCells};
+ghost use Rattle.jxlm_lanes.specs.FinishedCells.{FinishesCells};
 
 use jxlm_lanes::colour_lanes;
 

@@ -5,7 +5,7 @@ ghost use Rattle.jxlm_base.specs.Grid.{cell};
 ghost use Rattle.jxlm_lanes.specs.Squeeze.{slope, tendency, averages, AreSamples};
 ghost use Rattle.jxlm_base.specs.SqueezedGrids.{AreGridSamples, squeezed_rows, squeezed_columns};
 ghost use Rattle.jxlm_base.specs.Subgrid.{whole, IsSamePlace, IsSameOutside, KeepsOutside, numbers_in};
-ghost use Rattle.jxlm_lanes.specs.Inner.Unsqueeze.{first_of, second_of, next_in, first_in, before_in, number_at, line_in, IsUnsqueezed, ArePairs};
+ghost use Rattle.jxlm_lanes.specs.Pairs.{first_of, second_of, next_in, first_in, before_in, number_at, line_in, IsUnsqueezed, ArePairs};
 ghost use Rattle.jxlm_base.specs.Inner.Unsqueeze.{row_in, column_in};
 
 use crate::grid::OutOfMemory;

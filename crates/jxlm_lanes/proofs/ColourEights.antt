@@ -3,7 +3,7 @@ use Rattle.std.proofs.Common.{◌≡◌, ℕ, ◌+◌, ◌-◌, ◌<◌, ◌≤�
 use Rattle.std.proofs.lemmas.Simd.{length-put_chunk, get_or-put_chunk_below, get_or-put_chunk_at, get_or-put_chunk_above, length-chunk}
 use lib.Lanes.{chunk, put_chunk}
 use Rattle.jxlm_lanes.specs.Colour.{triple, IsTripleOf, triple_at, finished_by}
-use Rattle.jxlm_lanes.specs.Inner.ColourRows.{FinishesCells}
+use Rattle.jxlm_lanes.specs.FinishedCells.{FinishesCells}
 use Rattle.jxlm_lanes.specs.Inner.Lanes.{lane, AreEight}
 use Rattle.jxlm_lanes.proofs.ColourLaws.{triple_same}
 use Rattle.jxlm_lanes.proofs.ColourRows.{cells_more}

@@ -6,7 +6,7 @@ use Rattle.std.proofs.Math.ListN.{length-set}
 use Rattle.std.proofs.lemmas.Bool.{cases_lt}
 use Rattle.std.proofs.lemmas.List.{get_or-set_same, get_or-set_other, get_or-map, length-map, map-set}
 use Rattle.jxlm_lanes.specs.Colour.{triple, IsTripleOf, finished_by, triple_at, FinishesRows}
-use Rattle.jxlm_lanes.specs.Inner.ColourRows.{FinishesCells}
+use Rattle.jxlm_lanes.specs.FinishedCells.{FinishesCells}
 use Rattle.jxlm_lanes.proofs.ColourLaws.{triple_same}
 
 module _ (w : Width) (t : ℕ) where

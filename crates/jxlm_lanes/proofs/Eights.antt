@@ -4,7 +4,7 @@ use Rattle.std.specs.Int.{Width}
 use Rattle.std.proofs.lemmas.Simd.{length-put_chunk, get_or-put_chunk_below, get_or-put_chunk_at, get_or-put_chunk_above, get_or-chunk, length-chunk, Each1-from_get_or}
 use lib.Lanes.{Each1, chunk, put_chunk}
 use Rattle.jxlm_lanes.specs.Inner.Lanes.{lane}
-use Rattle.jxlm_lanes.specs.Inner.Unsqueeze.{number_at, first_of, second_of, of_column}
+use Rattle.jxlm_lanes.specs.Pairs.{number_at, first_of, second_of, of_column}
 use Rattle.jxlm_lanes.proofs.Each.{same_numbers}
 use Rattle.jxlm_lanes.proofs.Lines.{LinesSoFar, more_pairs}
 

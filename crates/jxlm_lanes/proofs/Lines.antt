@@ -3,7 +3,7 @@ use Rattle.std.proofs.Common.{◌≡◌, ◌≢◌, ℕ, ◌+◌, ◌*◌, ◌<�
 use Rattle.std.specs.Int.{Width}
 use Rattle.std.proofs.Math.ListN.{length-set}
 use Rattle.std.proofs.lemmas.Bool.{cases_lt}
-use Rattle.jxlm_lanes.specs.Inner.Unsqueeze.{number_at, first_of, second_of, of_column, ArePairs}
+use Rattle.jxlm_lanes.specs.Pairs.{number_at, first_of, second_of, of_column, ArePairs}
 use Rattle.jxlm_lanes.proofs.NumberAt.{number_set_same, number_set_other}
 
 below_next : (P : ℕ → Type 0) (k : ℕ) → ((j : ℕ) → j < k → P j) → P k → (j : ℕ) → j < k + 1 → P j

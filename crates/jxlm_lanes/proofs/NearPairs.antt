@@ -4,7 +4,7 @@ use Rattle.std.specs.Int.{Width, int_wrap}
 use Rattle.std.proofs.lemmas.Int.{ints, int_wrap_fits, fits_signed_from_abs, to_z_pos}
 use Rattle.jxlm_lanes.specs.Squeeze.{slope, tendency}
 use Rattle.jxlm_lanes.specs.Inner.Lanes.{lane, spread, AreEight, AreWideEight}
-use Rattle.jxlm_lanes.specs.Inner.Unsqueeze.{first_of, second_of, pair_difference}
+use Rattle.jxlm_lanes.specs.Pairs.{first_of, second_of, pair_difference}
 use Rattle.std.proofs.lemmas.List.{get_or-map}
 use lib.Lanes.{Each1}
 use lib.ListN.{replicate}

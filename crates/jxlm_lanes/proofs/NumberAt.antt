@@ -5,7 +5,7 @@ use Rattle.std.specs.Option.{unwrap_or, option_map}
 use Rattle.std.proofs.Math.ListN.{length-set}
 use Rattle.std.proofs.lemmas.List.{get_or-map, get_or-set_same}
 use Rattle.std.proofs.lemmas.Option.{unwrap_or-slice_get, slice_get-map}
-use Rattle.jxlm_lanes.specs.Inner.Unsqueeze.{number_at}
+use Rattle.jxlm_lanes.specs.Pairs.{number_at}
 
 pub slice_get-set_other : {X : Type 0} (xs : List X) (i j : ℕ) (v : X) → (i ≡ j → ⊥) → slice_get (set xs i v) j ≡ slice_get xs j
 slice_get-set_other [] i j v h = refl

@@ -5,7 +5,7 @@ use Rattle.std.proofs.lemmas.Bool.{cases_lt, lt-ltb, le-ltb}
 use Rattle.std.proofs.lemmas.Int.{int_wrap_fits, int_wrap-add_left, int_wrap-sub_right, SFits-int_wrap}
 use Rattle.std.proofs.Math.IntN.{+ℤ-neg_ℤ_cancel, -ℤ-+ℤ_cancel, +ℤ_assoc, +ℤ_invr, +ℤ_idl, neg_ℤ-+ℤ, neg_ℤ-neg_ℤ}
 use Rattle.jxlm_lanes.specs.Squeeze.{tendency, averages, AreSamples, difference, average, average_at, sample_before, average_after, residual_at, squeezed, AreSame, SqueezeLosesNothing}
-use Rattle.jxlm_lanes.specs.Inner.Unsqueeze.{pair_difference, first_of, second_of, next_in, before_in, first_in, IsUnsqueezed}
+use Rattle.jxlm_lanes.specs.Pairs.{pair_difference, first_of, second_of, next_in, before_in, first_in, IsUnsqueezed}
 
 taken_back : (a b : ℤ) → a -ℤ (a -ℤ b) ≡ b
 taken_back a b =

@@ -4,7 +4,7 @@ use Rattle.std.specs.Int.{Width, w16, w32, int_wrap, int_wrapping_add, cast_sign
 use Rattle.std.proofs.lemmas.Bool.{cases_lt}
 use Rattle.std.proofs.lemmas.Int.{fits_signed_from_abs, ints, to_z-of_z, to_z_pos, wrapping_add_is, wrapping_sub-bits, quot_fits, SFits-int_wrap}
 use Rattle.jxlm_lanes.specs.Squeeze.{slope, tendency}
-use Rattle.jxlm_lanes.specs.Inner.Unsqueeze.{pair_difference, first_of, second_of}
+use Rattle.jxlm_lanes.specs.Pairs.{pair_difference, first_of, second_of}
 use Rattle.jxlm_lanes.proofs.SqueezeLaws.{if_lt, if_ge}
 
 -- what a comparison says of numbers that fit

@@ -1,3 +1,5 @@
 pub mod Colour
 pub mod Squeeze
+pub mod Pairs
+pub mod FinishedCells
 pub mod Inner

@@ -2,7 +2,7 @@
 ghost use Rattle.std.specs.Prelude.{◌≡◌, ◌==◌, ◌<◌, ◌*◌, ◌/◌, ◌%◌, ℕ, length, if◌then◌else◌};
 ghost use Rattle.std.specs.Int.{w16};
 ghost use Rattle.jxlm_lanes.specs.Colour.{triple, plus, minus, halved, finished_by, from_luma as the_luma_undone, from_differences as the_differences_undone};
-ghost use Rattle.jxlm_lanes.specs.Inner.ColourRows.{FinishesCells};
+ghost use Rattle.jxlm_lanes.specs.FinishedCells.{FinishesCells};
 ghost use Rattle.jxlm_lanes.specs.Inner.Lanes.{lane, AreEight};
 
 use crate::lanes::line_fits;

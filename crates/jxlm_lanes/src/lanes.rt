@@ -4,7 +4,7 @@ ghost use Rattle.std.specs.Int.{w16};
 ghost use Rattle.std.specs.Simd.Lanes.{Each1};
 ghost use Rattle.jxlm_lanes.specs.Squeeze.{slope, tendency};
 ghost use Rattle.jxlm_lanes.specs.Inner.Lanes.{lane, of_z, to_z};
-ghost use Rattle.jxlm_lanes.specs.Inner.Unsqueeze.{first_of, second_of, number_at, ArePairs};
+ghost use Rattle.jxlm_lanes.specs.Pairs.{first_of, second_of, number_at, ArePairs};
 
 use std::simd::prelude::*;
 

@@ -3,7 +3,7 @@ ghost use Rattle.std.specs.Prelude.{◌≡◌, ◌≤◌, ◌<◌, ◌+◌, ◌*
 ghost use Rattle.std.specs.Int.{w16, w32};
 ghost use Rattle.jxlm_lanes.specs.Squeeze.{slope, tendency};
 ghost use Rattle.jxlm_lanes.specs.Inner.Lanes.{lane, spread, AreEight, AreWideEight};
-ghost use Rattle.jxlm_lanes.specs.Inner.Unsqueeze.{first_of, second_of, number_at, ArePairs};
+ghost use Rattle.jxlm_lanes.specs.Pairs.{first_of, second_of, number_at, ArePairs};
 
 use crate::colour_lanes::{differences, sums};
 use crate::lanes::{gap, half, none_below, signed, slopes, sum};

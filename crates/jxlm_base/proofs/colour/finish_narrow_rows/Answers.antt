@@ -1,6 +1,6 @@
 use Rattle.std.proofs.Common.{sym, subst, w16}
 use Rattle.std.proofs.lemmas.List.{length-map}
-use Rattle.jxlm_lanes.specs.Inner.ColourRows.{FinishesCells}
+use Rattle.jxlm_lanes.specs.FinishedCells.{FinishesCells}
 use Rattle.jxlm_lanes.proofs.ColourRows.{rows_joined}
 use Rattle.jxlm_lanes.proofs.ColourEights.{numbers, six_numbers}
 use Rattle.jxlm_base.proofs.colour.finish_narrow_rows.Goals as goal

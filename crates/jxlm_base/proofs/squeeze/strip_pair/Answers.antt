@@ -1,7 +1,7 @@
 use Rattle.std.proofs.Common.{◌≡◌, ℕ, ◌+◌, ◌*◌, ◌<◌, ℤ, FitsSigned, length, arith, sym, ap, subst}
 use Rattle.std.specs.Int.{Width}
 use Rattle.jxlm_lanes.specs.Squeeze.{averages}
-use Rattle.jxlm_lanes.specs.Inner.Unsqueeze.{number_at, first_of, second_of, line_in}
+use Rattle.jxlm_lanes.specs.Pairs.{number_at, first_of, second_of, line_in}
 use Rattle.jxlm_base.proofs.Strips.{lines_within, pair_line}
 use Rattle.jxlm_base.proofs.Turned.{line_numbers}
 use Rattle.jxlm_base.proofs.squeeze.strip_pair.Goals as goal

@@ -2,7 +2,7 @@ use Rattle.std.proofs.Common.{◌≡◌, ℕ, ◌+◌, ◌<◌, ◌≤◌, inr, 
 use Rattle.std.specs.Int.{Width}
 use Rattle.jxlm_base.specs.Grid.{at as at_of, meanings}
 use Rattle.jxlm_lanes.specs.Squeeze.{AreSamples}
-use Rattle.jxlm_lanes.specs.Inner.Unsqueeze.{IsUnsqueezed}
+use Rattle.jxlm_lanes.specs.Pairs.{IsUnsqueezed}
 use Rattle.jxlm_base.specs.Subgrid.{whole, IsSameOutside}
 use Rattle.jxlm_base.proofs.RowWrites.{outside_none, outside_columns_more}
 use Rattle.jxlm_base.proofs.Undo.{moved, undone_columns_more, column_samples_more, all_columns, column_samples_all, no_columns, no_samples}

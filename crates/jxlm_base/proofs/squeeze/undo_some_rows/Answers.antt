@@ -1,7 +1,7 @@
 use Rattle.std.proofs.Common.{◌≡◌, ◌+◌, arith, subst}
 use Rattle.jxlm_lanes.specs.Squeeze.{AreSamples}
 use Rattle.jxlm_base.specs.Subgrid.{whole}
-use Rattle.jxlm_lanes.specs.Inner.Unsqueeze.{IsUnsqueezed}
+use Rattle.jxlm_lanes.specs.Pairs.{IsUnsqueezed}
 use Rattle.jxlm_base.specs.Inner.Unsqueeze.{row_in}
 use Rattle.jxlm_base.proofs.squeeze.undo_some_rows.Goals as goal
 

@@ -2,7 +2,7 @@ use Rattle.std.proofs.Common.{◌≡◌, ℕ, ◌+◌, ◌*◌, ℤ, FitsSigned,
 use Rattle.std.specs.Int.{Width}
 use Rattle.jxlm_base.specs.Grid.{at, place, meanings}
 use Rattle.jxlm_base.specs.Subgrid.{whole}
-use Rattle.jxlm_lanes.specs.Inner.Unsqueeze.{number_at, line_in}
+use Rattle.jxlm_lanes.specs.Pairs.{number_at, line_in}
 use Rattle.jxlm_base.specs.Inner.Unsqueeze.{column_in}
 use Rattle.jxlm_lanes.proofs.NumberAt.{number_same}
 use Rattle.jxlm_lanes.proofs.SqueezeLaws.{IsUnsqueezed_same}

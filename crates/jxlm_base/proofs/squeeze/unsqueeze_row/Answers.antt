@@ -1,6 +1,6 @@
 use Rattle.std.proofs.Common.{◌≡◌, ℕ, suc, ℤ, ◌+◌, ◌-◌, ◌/◌, FitsSigned, length, sym, ap, ◌∙◌, subst, arith}
 use Rattle.std.specs.Int.{Width}
-use Rattle.jxlm_lanes.specs.Inner.Unsqueeze.{number_at, before_in}
+use Rattle.jxlm_lanes.specs.Pairs.{number_at, before_in}
 use Rattle.jxlm_lanes.proofs.NumberAt.{number_read}
 use Rattle.jxlm_base.proofs.RowLoop.{RowSoFar, row_more, row_even, row_odd}
 use Rattle.jxlm_base.proofs.squeeze.unsqueeze_row.Goals as goal

@@ -1,5 +1,5 @@
 use Rattle.std.proofs.Common.{◌≡◌, length}
-use Rattle.jxlm_lanes.specs.Inner.Unsqueeze.{number_at, before_in}
+use Rattle.jxlm_lanes.specs.Pairs.{number_at, before_in}
 use Rattle.jxlm_base.proofs.RowLoop.{RowSoFar}
 use Rattle.jxlm_base.proofs.squeeze.unsqueeze_row.Given as goal
 

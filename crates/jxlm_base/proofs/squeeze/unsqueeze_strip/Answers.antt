@@ -1,6 +1,6 @@
 use Rattle.std.proofs.Common.{◌≡◌, ℕ, ◌/◌, ◌<◌, ℤ, FitsSigned, length, arith, ◌∙◌, subst}
 use Rattle.std.specs.Int.{Width}
-use Rattle.jxlm_lanes.specs.Inner.Unsqueeze.{number_at, line_in}
+use Rattle.jxlm_lanes.specs.Pairs.{number_at, line_in}
 use Rattle.jxlm_base.proofs.Strips.{StripSoFar, strip_none, strip_more, strip_even, strip_odd}
 use Rattle.jxlm_base.proofs.Turned.{line_numbers}
 use Rattle.jxlm_base.proofs.squeeze.unsqueeze_strip.Goals as goal

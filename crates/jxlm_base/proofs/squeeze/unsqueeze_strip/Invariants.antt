@@ -1,5 +1,5 @@
 use Rattle.std.proofs.Common.{◌≡◌, length}
-use Rattle.jxlm_lanes.specs.Inner.Unsqueeze.{line_in}
+use Rattle.jxlm_lanes.specs.Pairs.{line_in}
 use Rattle.jxlm_base.proofs.Strips.{StripSoFar}
 use Rattle.jxlm_base.proofs.squeeze.unsqueeze_strip.Given as goal
 

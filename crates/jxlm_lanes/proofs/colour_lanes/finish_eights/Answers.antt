@@ -1,7 +1,7 @@
 use Rattle.std.proofs.Common.{◌≡◌, ◌<◌, ◌∙◌, ◌+◌, ◌*◌, ◌/◌, ap, subst, ℕ, ℤ, List, length, w16, arith}
 use lib.Lanes.{chunk, put_chunk}
 use Rattle.jxlm_lanes.specs.Colour.{IsTripleOf, triple_at, finished_by}
-use Rattle.jxlm_lanes.specs.Inner.ColourRows.{FinishesCells}
+use Rattle.jxlm_lanes.specs.FinishedCells.{FinishesCells}
 use Rattle.jxlm_lanes.proofs.ColourLaws.{triple_same}
 use Rattle.jxlm_lanes.proofs.ColourRows.{cells_start}
 use Rattle.jxlm_lanes.proofs.Eights.{back, moved}

@@ -1,5 +1,5 @@
 use Rattle.std.proofs.Common.{◌*◌, w16}
-use Rattle.jxlm_lanes.specs.Inner.ColourRows.{FinishesCells}
+use Rattle.jxlm_lanes.specs.FinishedCells.{FinishesCells}
 use Rattle.jxlm_lanes.proofs.colour_lanes.finish_eights.Given as goal
 
 abbrev pub invariant-loop-k : goal.invariant-loop-k

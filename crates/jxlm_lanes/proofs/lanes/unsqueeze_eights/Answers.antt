@@ -1,6 +1,6 @@
 use Rattle.std.proofs.Common.{◌≡◌, ◌∙◌, ap, subst, ◌<◌, ◌+◌, ◌*◌, ◌/◌, ℕ, ℤ, length, FitsSigned, arith, w16}
 use lib.Lanes.{chunk}
-use Rattle.jxlm_lanes.specs.Inner.Unsqueeze.{first_of, second_of, ArePairs}
+use Rattle.jxlm_lanes.specs.Pairs.{first_of, second_of, ArePairs}
 use Rattle.jxlm_lanes.specs.Inner.Lanes.{lane}
 use Rattle.jxlm_lanes.proofs.Each.{same_numbers}
 use Rattle.jxlm_lanes.proofs.Lines.{LinesSoFar, lines_from, no_pairs}

@@ -1,6 +1,6 @@
 use Rattle.std.proofs.Common.{◌≡◌, ◌∙◌, ◌<◌, ℕ, w32}
 use Rattle.jxlm_lanes.specs.Inner.Lanes.{lane}
-use Rattle.jxlm_lanes.specs.Inner.Unsqueeze.{first_of, second_of}
+use Rattle.jxlm_lanes.specs.Pairs.{first_of, second_of}
 use Rattle.jxlm_lanes.proofs.Each.{eight_back, lane_back}
 use Rattle.jxlm_lanes.proofs.Eights.{four}
 use Rattle.jxlm_lanes.proofs.NearPairs.{back, wide_eight_back, wide_lane_back, same_at, before_within, average_within, next_within, residual_within, four_spread}

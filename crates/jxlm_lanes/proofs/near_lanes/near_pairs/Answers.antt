@@ -4,7 +4,7 @@ use Rattle.std.proofs.lemmas.Int.{quot_fits}
 use Rattle.std.proofs.lemmas.Simd.{Each1-get_or, Each1-from_get_or}
 use Rattle.jxlm_lanes.specs.Squeeze.{tendency}
 use Rattle.jxlm_lanes.specs.Inner.Lanes.{lane, AreEight}
-use Rattle.jxlm_lanes.specs.Inner.Unsqueeze.{first_of, pair_difference}
+use Rattle.jxlm_lanes.specs.Pairs.{first_of, pair_difference}
 use Rattle.jxlm_lanes.proofs.Each.{eight_back, lane_back, two}
 use Rattle.jxlm_lanes.proofs.NearPairs.{back, again, lane_again, three, three_as, first_in_32, second_in_32}
 use Rattle.jxlm_lanes.proofs.near_lanes.near_pairs.Goals as goal

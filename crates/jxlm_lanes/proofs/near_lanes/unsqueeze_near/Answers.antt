@@ -1,7 +1,7 @@
 use Rattle.std.proofs.Common.{◌≡◌, ◌∙◌, ap, subst, ◌<◌, ◌+◌, ◌*◌, ◌≤◌, ℕ, ℤ, List, length, FitsSigned, arith, w32}
 use Rattle.std.proofs.lemmas.Simd.{length-chunk}
 use lib.Lanes.{chunk}
-use Rattle.jxlm_lanes.specs.Inner.Unsqueeze.{first_of, second_of}
+use Rattle.jxlm_lanes.specs.Pairs.{first_of, second_of}
 use Rattle.jxlm_lanes.specs.Inner.Lanes.{lane, AreWideEight}
 use Rattle.jxlm_lanes.proofs.Each.{same_numbers}
 use Rattle.jxlm_lanes.proofs.Lines.{LinesSoFar}

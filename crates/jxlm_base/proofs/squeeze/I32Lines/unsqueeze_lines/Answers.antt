@@ -1,6 +1,6 @@
 use Rattle.std.proofs.Common.{◌≡◌, ◌∙◌, ◌<◌, ◌+◌, ℕ, length}
 use Rattle.std.specs.Int.{w32}
-use Rattle.jxlm_lanes.specs.Inner.Unsqueeze.{number_at}
+use Rattle.jxlm_lanes.specs.Pairs.{number_at}
 use Rattle.jxlm_lanes.proofs.Lines.{firsts, seconds}
 use Rattle.jxlm_base.proofs.squeeze.I32Lines.unsqueeze_lines.Goals as goal
 

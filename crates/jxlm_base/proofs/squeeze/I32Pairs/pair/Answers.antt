@@ -1,7 +1,7 @@
 use Rattle.std.proofs.Common.{rules, ◌+◌, ◌%◌, ◌-ℤ◌, FitsSigned, int_div, pos, to_z, of_z, ap, ◌∙◌, arith, ℕ}
 use Rattle.std.specs.Int.{w32, int_wrap, cast_signed}
 use Rattle.std.proofs.lemmas.Int.{to_z-of_z, wrapping_sub-bits}
-use Rattle.jxlm_lanes.specs.Inner.Unsqueeze.{first_of}
+use Rattle.jxlm_lanes.specs.Pairs.{first_of}
 use Rattle.jxlm_lanes.proofs.Tendency.{sum_is, first_is}
 use Rattle.jxlm_base.proofs.squeeze.I32Pairs.pair.Goals as goal
 
