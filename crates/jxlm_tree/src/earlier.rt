@@ -71,15 +71,22 @@ impl<'s, S: Sample> EarlierRow<'s, S> {
         ensures { (r : Region) (store : List (Grid S)) → IsRowOf r store y self.entry → result ≡ expected
             (grid_of (store_meanings S.to_int store) r).cells r.width x y }
     {
-        if x > 0 && y > 0 {
-            i32::grad_clamped(self.cell_above(x), self.cell(x - 1), self.cell_above(x - 1))
-        } else if x > 0 {
+        if x == 0 {
+            self.expected_first(y)
+        } else if y == 0 {
             self.cell(x - 1)
-        } else if y > 0 {
-            self.cell_above(0)
         } else {
-            0
+            i32::grad_clamped(self.cell_above(x), self.cell(x - 1), self.cell_above(x - 1))
         }
+    }
+
+    // The same in the first column.
+    fn expected_first(self, y: usize) -> i32
+        requires { 0 < length self.above.now }
+        ensures { (r : Region) (store : List (Grid S)) → IsRowOf r store y self.entry → result ≡ expected
+            (grid_of (store_meanings S.to_int store) r).cells r.width 0 y }
+    {
+        if y == 0 { 0 } else { self.cell_above(0) }
     }
 
     fn cell(self, x: usize) -> i32

@@ -274,8 +274,20 @@ impl<S> Properties<'_, S> {
             → StandsAt self.exit.0.now s (samples ++ sample ∷ []) }
         ensures room { HasSameRoom self.entry.state.now self.exit.0.now }
     {
+        self.record_in_row::<true>(sample);
+    }
+
+    /// The same. Without `EDGE` the cell is two or more columns and rows away from every edge but the last row.
+    #[inline(always)]
+    pub fn record_in_row<const EDGE: bool>(self, sample: i32)
+        requires current { IsCurrent self }
+        requires inner { EDGE ≡ false → IsInner (state_of self) }
+        ensures stands { (s : Setting) (samples : List ℤ) → StandsAt self.entry.state.now s samples
+            → StandsAt self.exit.0.now s (samples ++ sample ∷ []) }
+        ensures room { HasSameRoom self.entry.state.now self.exit.0.now }
+    {
         let correction = self.correction;
         let Properties { state, .. } = self;
-        state.advance(sample, correction);
+        state.advance::<EDGE>(sample, correction);
     }
 }

@@ -3,7 +3,7 @@
 ghost use Rattle.jxlm_base.specs.Numbers.{floor_log2};
 ghost use Rattle.jxlm_tree.specs.SelfCorrecting.{IsHeader, errors_above, errors_left, errors_near, errors_of, greatest, is_clamped, predicted, reciprocal, self_unclamped, shifted, sub_predictions, unclamped, weight_of, weighted_sum, weights};
 ghost use Rattle.std.specs.Int.{int_shr};
-ghost use Rattle.std.specs.Prelude.{◌≡◌, ◌+◌, ◌-◌, ◌*◌, ◌<◌, ◌≤◌, ◌^◌, ◌+ℤ◌, ◌-ℤ◌, ◌*ℤ◌, pos, ℕ, ℤ, List, [], ◌∷◌, ◌++◌, length, Option, Some, ◌/◌, ◌%◌, nat_lt, if◌then◌else◌, not, IfOk, false, vec_len, slice_index_or, sum, unsigned_abs};
+ghost use Rattle.std.specs.Prelude.{◌≡◌, ◌+◌, ◌-◌, ◌*◌, ◌<◌, ◌≤◌, ◌^◌, ◌+ℤ◌, ◌-ℤ◌, ◌*ℤ◌, pos, ℕ, ℤ, List, [], ◌∷◌, ◌++◌, length, Option, Some, ◌/◌, ◌%◌, nat_lt, max, if◌then◌else◌, not, IfOk, false, vec_len, slice_index_or, sum, unsigned_abs};
 
 use crate::around::Around;
 use crate::predictor::WpHeader;
@@ -80,14 +80,6 @@ pub(crate) struct ErrorsAround {
     pub(crate) sums: Counts,
 }
 
-/// A true error, and how far it is from 0.
-#[derive(Clone, Copy)]
-struct Distant {
-    error: i32,
-    distance: u32,
-    ghost distance_is: { distance ≡ unsigned_abs error },
-}
-
 /// What the weighted predictor makes of a cell.
 #[derive(Clone, Copy)]
 pub struct PredictionResult {
@@ -149,12 +141,15 @@ fn error_sum(nw: u32, ww: u32, n: u32, w: u32, ne: u32, last: bool) -> u32
     (sum % 4294967296) as u32
 }
 
-/// The one that is further from 0; `a` where neither is.
-fn further(a: Distant, b: i32) -> Distant
-    ensures { result.error ≡ if nat_lt (unsigned_abs a.error) (unsigned_abs b) then b else a.error }
+/// The one that is further from 0; `a` where neither is. `far` and `other` are how far they are.
+#[inline(always)]
+fn further(a: i32, b: i32, far: u32, other: u32) -> i32
+    requires far { far ≡ unsigned_abs a }
+    requires other { other ≡ unsigned_abs b }
+    ensures value { result ≡ if nat_lt (unsigned_abs a) (unsigned_abs b) then b else a }
+    ensures far { unsigned_abs result ≡ max far other }
 {
-    let b = Distant::of(b);
-    if a.distance < b.distance { b } else { a }
+    if far < other { b } else { a }
 }
 
 /// How far a sub-prediction times 8 was from the sample.
@@ -202,17 +197,6 @@ fn steered(sample: i32, a: i32, b: i32, c: i32, factor: u32) -> i64
     eased(sample, scaled(errors, factor))
 }
 
-impl Distant {
-    fn of(error: i32) -> Distant
-        ensures { result.error ≡ error }
-    {
-        Distant {
-            error,
-            distance: error.unsigned_abs(),
-        }
-    }
-}
-
 impl ErrorsAround {
     ghost use Rattle.jxlm_tree.specs.Around.{seen};
     ghost use Rattle.jxlm_tree.specs.Correcting.{near_of};
@@ -221,8 +205,11 @@ impl ErrorsAround {
     fn greatest(&self) -> i32
         ensures { result ≡ greatest (near_of self.now) }
     {
-        let farther = further(further(Distant::of(self.w), self.n), self.nw);
-        further(farther, self.ne).error
+        let (w, n) = (self.w.unsigned_abs(), self.n.unsigned_abs());
+        let (nw, ne) = (self.nw.unsigned_abs(), self.ne.unsigned_abs());
+        let above = further(self.w, self.n, w, n);
+        let left = further(above, self.nw, w.max(n), nw);
+        further(left, self.ne, w.max(n).max(nw), ne)
     }
 
     fn is_clamped(&self) -> bool
@@ -331,7 +318,8 @@ impl SubPredictions {
 
     fn last(header: &WpHeader, around: &Around, errors: &ErrorsAround) -> i64
         requires { IsHeader header.now }
-        ensures value { result ≡ slice_index_or (sub_predictions header.now (seen around.now) (near_of errors.now)) 3 (pos 0) }
+        ensures value { result ≡
+            slice_index_or (sub_predictions header.now (seen around.now) (near_of errors.now)) 3 (pos 0) }
         ensures bound { unsigned_abs result < 2 ^ 37 }
     {
         let down = scaled(difference(around.nn, around.n), header.wp_p3d);
@@ -593,15 +581,17 @@ impl Corrector {
         }
     }
 
-    /// Goes on to the cell after the sample in column `x`, where there are weights and `made` was made.
+    /// Goes on to the cell after the sample in column `x`, where there are weights and `made` was made. Without `EDGE`
+    /// the column is not one of the last two.
     #[inline(always)]
-    pub(crate) fn record_where_made(
+    pub(crate) fn record_where_made<const EDGE: bool>(
         corrector: &mut Option<Corrector>,
         x: usize,
         made: Option<PredictionResult>,
         sample: i32,
     )
-        requires { HoldsColumn corrector.old x }
+        requires in_row { HoldsColumn corrector.old x }
+        requires inner { EDGE ≡ false → HoldsColumn corrector.old (x + 2) }
         ensures corrects { (weights : Option WpHeader) (width y : ℕ) (samples : List ℤ)
             → Corrects corrector.old weights width x y samples → length samples ≡ y * width + x
             → IsMade made weights width samples → CorrectsAfter corrector.new weights width x y
@@ -611,7 +601,7 @@ impl Corrector {
     {
         match corrector {
             Some(corrector) => match made {
-                Some(made) => corrector.record(x, &made, sample),
+                Some(made) => corrector.record::<EDGE>(x, &made, sample),
                 None => (),
             },
             None => (),
@@ -620,16 +610,23 @@ impl Corrector {
 
     /// Goes on to the cell after the sample in column `x`, of which `made` was made.
     #[inline(always)]
-    pub(crate) fn record(&mut self, x: usize, made: &PredictionResult, sample: i32)
-        requires { x < self.old.width }
+    pub(crate) fn record<const EDGE: bool>(
+        &mut self,
+        x: usize,
+        made: &PredictionResult,
+        sample: i32,
+    )
+        requires in_row { x < self.old.width }
+        requires inner { EDGE ≡ false → x + 2 < self.old.width }
         ensures next { (header : WpHeader) (width y : ℕ) (samples : List ℤ) → CorrectsBy self.old header width x y
             samples → length samples ≡ y * width + x → IsMadeBy made.now header width samples
             → CorrectsNext self.new header width x y (samples ++ sample ∷ []) }
         ensures header { self.new.header ≡ self.old.header }
         ensures rows { (room : ℕ) → HasRows (Some self.old) room → HasRows (Some self.new) room }
     {
+        let last = self.is_last::<EDGE>(x);
         self.current[x] = made.errors_after(sample);
-        if x + 1 >= self.width as usize {
+        if last {
             mem::swap(&mut self.previous, &mut self.current);
         }
     }

@@ -391,17 +391,59 @@ impl<S> PredictorState<S> {
         }
     }
 
-    /// Goes on to the cell after `sample`; `correction` is what `correction` gave for the cell.
+    /// Goes on to the cell after `sample`; `correction` is what `correction` gave for the cell. Without `EDGE` the cell is
+    /// two or more columns and rows away from every edge but the last row.
     #[inline(always)]
-    pub(crate) fn advance(&mut self, sample: i32, correction: Option<PredictionResult>)
+    pub(crate) fn advance<const EDGE: bool>(
+        &mut self,
+        sample: i32,
+        correction: Option<PredictionResult>,
+    )
         requires stands { Stands self.old }
+        requires inner { EDGE ≡ false → IsInner self.old }
         requires few_rows { self.old.y < 2 ^ 30 }
         ensures stands { (s : Setting) (samples : List ℤ) → StandsAt self.old s samples → IsMade correction s.weights
             s.width samples → StandsAt self.new s (samples ++ sample ∷ []) }
         ensures room { HasSameRoom self.old self.new }
     {
-        Corrector::record_where_made(&mut self.corrector, self.x as usize, correction, sample);
-        self.roll(sample);
+        let column = self.x as usize;
+        Corrector::record_where_made::<EDGE>(&mut self.corrector, column, correction, sample);
+        self.roll_by::<EDGE>(sample);
+    }
+
+    #[inline(always)]
+    fn roll_by<const EDGE: bool>(&mut self, sample: i32)
+        requires in_row { self.old.x < self.old.width }
+        requires few_rows { self.old.y < 2 ^ 30 }
+        requires inner { EDGE ≡ false → IsInner self.old }
+        ensures rolls { (samples : List ℤ) → RollsIn self.old samples → RollsIn self.new (samples ++ sample ∷ []) }
+        ensures kept { KeepsSetting self.old self.new }
+        ensures place { IsNext self.old self.new }
+    {
+        if EDGE {
+            self.roll(sample);
+        } else {
+            self.roll_within(sample);
+        }
+    }
+
+    // In a cell that is neither in the first row nor the last of its row.
+    #[inline(always)]
+    fn roll_within(&mut self, sample: i32)
+        requires below { 0 < self.old.y }
+        requires in_row { self.old.x + 1 < self.old.width }
+        ensures rolls { (samples : List ℤ) → RollsIn self.old samples → RollsIn self.new (samples ++ sample ∷ []) }
+        ensures kept { KeepsSetting self.old self.new }
+        ensures place { IsNext self.old self.new }
+    {
+        let x = self.x;
+        let above = self.n;
+        self.gradient = self.w.wrapping_sub(self.nw).wrapping_add(above);
+        self.current[x as usize] = sample;
+        self.x = x + 1;
+        self.w = sample;
+        self.nw = above;
+        self.n = self.previous[x as usize + 1];
     }
 
     #[inline(always)]

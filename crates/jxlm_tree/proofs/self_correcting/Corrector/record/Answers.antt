@@ -1,5 +1,6 @@
-use Rattle.std.proofs.Common.{◌≡◌, ◌+◌, ◌<◌, ◌≤◌, [], ◌∷◌, ◌++◌, set, ◌∙◌, sym, arith, ap, length, w32}
-use Rattle.std.specs.Prelude.{map}
+use Rattle.std.proofs.Common.{◌≡◌, ℕ, Bool, true, false, not, ◌+◌, ◌<◌, ◌≤◌, [], ◌∷◌, ◌++◌, set, ◌∙◌, sym, arith, ap, length, w32}
+use Rattle.std.specs.Prelude.{map, nat_lt}
+use Rattle.std.proofs.lemmas.Bool.Decides.{nat_tests}
 use Rattle.std.proofs.lemmas.Int.{to_z-of_z}
 use Rattle.std.proofs.lemmas.List.{length-map}
 use Rattle.jxlm_tree.specs.Correcting.{KeepsErrors, cell_errors, predicted_by}
@@ -7,8 +8,14 @@ use Rattle.jxlm_tree.specs.SelfCorrecting.{Errors, errors_of, errors_after}
 use Rattle.jxlm_tree.proofs.Correcting.{KeepsErrors_row, KeepsErrors_end, then_is, errors_of-push, length-errors_of, map-set}
 use Rattle.jxlm_tree.proofs.self_correcting.Corrector.record.Goals as goal
 
-pub returns-then-x-self-clause-next : goal.returns-then-x-self-clause-next
-returns-then-x-self-clause-next c = λ header width y samples by place made.
+is_last_column : (last : Bool) (x width : ℕ) → last ≡ not (nat_lt (x + 1) width) → last ≡ true → width ≤ x + 1
+is_last_column last x width e t = grind (arith, nat_tests)
+
+is_no_last_column : (last : Bool) (x width : ℕ) → last ≡ not (nat_lt (x + 1) width) → last ≡ false → x + 1 < width
+is_no_last_column last x width e t = grind (arith, nat_tests)
+
+pub returns-then-last-clause-next : goal.returns-then-last-clause-next
+returns-then-last-clause-next g c = λ header width y samples by place made.
     let old = c.args.self.now in
     let errors = errors_of header samples width (length samples) in
     let previous = map cell_errors old.previous.items in
@@ -16,7 +23,8 @@ returns-then-x-self-clause-next c = λ header width y samples by place made.
     let x = c.args.x in
     let s = c.args.sample in
     let wide = by.same_width in
-    let in_row = c.requires in
+    let in_row = c.requires.in_row in
+    let ends = is_last_column c.is_last-last.result x old.width c.is_last-last.ensures c.if-last.true in
     let made_errors = c.errors_after.result in
     let e : cell_errors c.errors_after.result ≡ errors_after header samples width errors s =
     (rw (to_z-of_z w32 c.args.sample c.ranges.sample) at c.errors_after.ensures) ∙ then_is header samples width errors c.args.made.now.prediction (predicted_by c.args.made.now.subpred) s made.prediction_is made.subpred_is in
@@ -34,8 +42,8 @@ returns-then-x-self-clause-next c = λ header width y samples by place made.
       },
     )
 
-pub returns-else-x-self-clause-next : goal.returns-else-x-self-clause-next
-returns-else-x-self-clause-next c = λ header width y samples by place made.
+pub returns-else-last-clause-next : goal.returns-else-last-clause-next
+returns-else-last-clause-next g c = λ header width y samples by place made.
     let old = c.args.self.now in
     let errors = errors_of header samples width (length samples) in
     let previous = map cell_errors old.previous.items in
@@ -43,6 +51,8 @@ returns-else-x-self-clause-next c = λ header width y samples by place made.
     let x = c.args.x in
     let s = c.args.sample in
     let wide = by.same_width in
+    let in_row = c.requires.in_row in
+    let goes_on = is_no_last_column c.is_last-last.result x old.width c.is_last-last.ensures c.if-last.false in
     let made_errors = c.errors_after.result in
     let e : cell_errors c.errors_after.result ≡ errors_after header samples width errors s =
     (rw (to_z-of_z w32 c.args.sample c.ranges.sample) at c.errors_after.ensures) ∙ then_is header samples width errors c.args.made.now.prediction (predicted_by c.args.made.now.subpred) s made.prediction_is made.subpred_is in

@@ -1,18 +1,10 @@
-use Rattle.std.proofs.Common.{◌≡◌, ◌+◌, ◌-◌, ◌%◌, ◌<◌, ◌≤◌, ℤ, pos, ◌+ℤ◌, ◌-ℤ◌, length, FitsSigned, get_or, set, ap, ◌∙◌, arith, rules, to_z, of_z}
-use Rattle.std.specs.Int.{w32, int_wrap}
-use Rattle.std.proofs.lemmas.Int.{to_z-of_z, wraps}
+use Rattle.std.proofs.Common.{◌≡◌, ◌+◌, ◌<◌, pos, FitsSigned, get_or, set, ap, ◌∙◌, arith, rules}
+use Rattle.std.specs.Int.{w32}
+use Rattle.std.proofs.lemmas.Int.{to_z-of_z}
 use Rattle.std.proofs.lemmas.List.{get_or_read_under}
-use Rattle.jxlm_tree.specs.declared.state.PredictorState.{PredictorState}
+use Rattle.jxlm_tree.proofs.RollingSteps.{current_long, gradient_wraps}
 use Rattle.jxlm_tree.proofs.Rolling.{Rolls_first, Rolls_row, Rolls_end}
 use Rattle.jxlm_tree.proofs.state.PredictorState.roll.Goals as goal
-
--- property 9, by sums that wrap
-gradient_wraps : (w n nw : ℤ) → FitsSigned w32 w → FitsSigned w32 n → FitsSigned w32 nw →
-    to_z w32 (((of_z w32 w + (4294967296 - of_z w32 nw)) % 4294967296 + of_z w32 n) % 4294967296) ≡ int_wrap w32 (w -ℤ nw +ℤ n)
-gradient_wraps w n nw fw fn fnw = search (rules, wraps)
-
-current_long : {S : Type 0} (state : PredictorState S) → state.width ≤ length state.current.items
-current_long state = let h = state.current_len in let r = state.within_room in let l = state.current.ok.0 in omega (arith, h, r, l)
 
 pub returns-then-self-eq0-clause-rolls : goal.returns-then-self-eq0-clause-rolls
 returns-then-self-eq0-clause-rolls g c = λ samples rolls.
