@@ -12,10 +12,10 @@ loop-preserved g c =
     let now : c.len.result + 256 ≡ (c.loop.counter + 1) * 256 = omega (arith, many, is) in
     let e = subst (λ m. c.resize.new.self.items ≡ take m c.loop.cells.items ++ replicate (m - c.loop.cells.len) c.default-zero.result) now c.in_ok-resize.ensures.items in
     resized (c.loop.counter * 256) ((c.loop.counter + 1) * 256) c.loop.cells.len z c.default-zero.result c.loop.cells.items c.resize.new.self.items
-        c.loop.invariant c.loop.cells.ok.0 zero (omega arith) e
+    c.loop.invariant c.loop.cells.ok.0 zero (omega arith) e
 
 pub returns : goal.returns
 returns g c =
     let zero = g.met.S.Sealed.default_is_zero c.default-zero.result c.default-zero.ensures in
     resized (c.loop.counter * 256) c.args.count c.loop.cells.len (g.S.Sealed.from_int (pos 0)) c.default-zero.result c.loop.cells.items c.resize-2.new.self.items
-        c.loop.invariant c.loop.cells.ok.0 zero (omega arith) c.in_ok-resize-2.ensures.items
+    c.loop.invariant c.loop.cells.ok.0 zero (omega arith) c.in_ok-resize-2.ensures.items
