@@ -1,5 +1,5 @@
 -- The samples of a frame, from its sections (ISO/IEC 18181-1, frame: sections, LF global, groups).
-use Rattle.std.specs.Prelude.{◌≡◌, ℕ, ℤ, List, ◌∷◌, map, Bool, ◌&&◌, false, nat_lt, IsTrue, Option, Result, Ok, Err}
+use Rattle.std.specs.Prelude.{◌≡◌, ℕ, ℤ, List, ◌∷◌, map, Bool, ◌&&◌, ◌||◌, true, false, nat_lt, IsTrue, Option, Result, Ok, Err}
 use Rattle.std.specs.Int.{Width}
 use Rattle.std.specs.List.{All, list_any}
 use Rattle.jxlm_base.specs.Bits.{bytes_of, position_of}
@@ -8,6 +8,8 @@ use Rattle.jxlm_base.specs.ErrorKind.{ErrorAt}
 use Rattle.jxlm_base.specs.Grid.{Grid}
 use Rattle.jxlm_transform.specs.Channels.{ChannelList}
 use Rattle.jxlm_transform.specs.Transforms.{Transform, OfPalette}
+use Rattle.jxlm_tree.specs.declared.predictor.Predictor.{Predictor}
+use Rattle.jxlm_tree.specs.declared.predictor.Predictor.TheVariants.{SelfCorrecting}
 use Rattle.jxlm_cut.specs.Cutting.{can_cut}
 use Rattle.jxlm_header.specs.Header.{Header, header}
 use Rattle.jxlm_header.specs.Opening.{Opening}
@@ -20,9 +22,15 @@ use Rattle.jxlm_sections.specs.CutPicture.{IsOfGlobal, groups_in_order, one_pass
 use Rattle.jxl_still.specs.Places.{IsOfGroup}
 use Rattle.jxl_still.specs.declared.places.Places.{Places}
 
--- a palette that has colours which are told by what they differ from a prediction
+-- the weighted (self-correcting) predictor
+abbrev pub weighted : Predictor → Bool
+weighted SelfCorrecting = true
+weighted other = false
+
+-- a palette that has colours which are told by what they differ from a prediction; or whose predictor is the weighted one,
+-- by which indices below 0, which are deltas too, would be predicted in another way
 abbrev pub has_deltas : Transform → Bool
-has_deltas (OfPalette p) = nat_lt 0 p.nb_deltas
+has_deltas (OfPalette p) = nat_lt 0 p.nb_deltas || weighted p.d_pred
 has_deltas t = false
 
 -- the transforms of the Modular header that is read at bit p have no palette with deltas

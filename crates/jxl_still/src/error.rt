@@ -12,7 +12,8 @@ pub enum FrameError {
     /// The image's header, or its tree, has this error.
     #[error("image: {0}")]
     Header(Error),
-    /// A palette of the image's header has colours that are told by what they differ from a prediction.
+    /// A palette of the image's header has colours that are told by what they differ from a prediction, or the weighted
+    /// predictor, by which indices below 0 would be.
     #[error("not supported: a palette with deltas")]
     DeltaPalette,
     /// A group has a side of 0 in a coded channel, because of a squeeze.

@@ -8,7 +8,7 @@ ghost use Rattle.jxlm_transform.specs.Channels.{image_list};
 ghost use Rattle.jxlm_transform.specs.Params.{IsValidParams};
 ghost use Rattle.jxlm_transform.specs.Transforms.{transform_of};
 ghost use Rattle.jxlm_header.specs.Header.{header};
-ghost use Rattle.jxl_still.specs.Stills.{HasNoDeltas, found_deltas, has_deltas as the_has_deltas, section_has_deltas};
+ghost use Rattle.jxl_still.specs.Stills.{HasNoDeltas, found_deltas, has_deltas as the_has_deltas, section_has_deltas, weighted};
 ghost use Rattle.jxl_still.specs.Inner.Openings.{AheadFails, OpenFails, Opens};
 
 use crate::error::FrameError;
@@ -23,14 +23,22 @@ use jxlm_base::sample::Sample;
 use jxlm_header::header::ModularHeader;
 use jxlm_transform::param::ModularParams;
 use jxlm_transform::transform::TransformInfo;
+use jxlm_tree::predictor::Predictor;
 use std::alloc::Global;
 
-// Whether the transform is a palette with deltas.
+// Whether the predictor is the weighted one.
+fn is_weighted(predictor: Predictor) -> bool
+    ensures { result ≡ weighted predictor }
+{
+    matches!(predictor, Predictor::SelfCorrecting)
+}
+
+// Whether the transform is a palette with deltas, or one whose deltas would be weighted.
 fn is_delta(transform: &TransformInfo) -> bool
     ensures { result ≡ the_has_deltas (transform_of transform.now) }
 {
     match transform {
-        TransformInfo::Palette(palette) => palette.nb_deltas > 0,
+        TransformInfo::Palette(palette) => palette.nb_deltas > 0 || is_weighted(palette.d_pred),
         _ => false,
     }
 }
