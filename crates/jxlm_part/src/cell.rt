@@ -129,7 +129,7 @@ fn decode_cell_by<'s, S: Sample, D: Decoder, const EDGE: bool, const WEIGHTED: b
         line.path,
         line.coding.widest,
     )?;
-    properties.record(sample.to_i32());
+    properties.record_in_row::<EDGE>(sample.to_i32());
     row[x] = sample;
     Ok(())
 }

@@ -2,6 +2,7 @@ use Rattle.std.proofs.Common.{subst, sym, ◌∙◌, rules, w32, FitsSigned}
 use Rattle.std.proofs.lemmas.Int.{to_z-of_z}
 use Rattle.std.proofs.lemmas.Result.{err_from_is_err_and}
 use Rattle.jxlm_ma.specs.Paths.{Gives}
+use Rattle.jxlm_tree.specs.Standing.{IsInner}
 use Rattle.jxlm_part.specs.Inner.Channels.{setting_of}
 use Rattle.jxlm_part.specs.Reading.{FindsClusters}
 use Rattle.jxlm_part.proofs.CellLaws.{clusters_at, fails_cell, flat_at, is_inner, is_ready, own, reads_cell, room_so, roomy_still, rows_held, stands_further, stands_so}
@@ -26,6 +27,11 @@ pub next_sample-requires-clause-gives : goal.next_sample-requires-clause-gives
 next_sample-requires-clause-gives g c κs within =
     subst (λ t. Gives t c.args.line.now.path) (sym (flat_at c.args.line.now.coding.now c.requires.line.line.here.part.coding c.args.line.now.i c.requires.line.line.here.channel _)) c.requires.line.line.gives
 
+pub record_in_row-requires-clause-inner : goal.record_in_row-requires-clause-inner
+record_in_row-requires-clause-inner g c inside =
+    subst IsInner (sym c.properties_in_row-properties.ensures.unchanged)
+        (is_inner c.args.line.now g.S.Sealed.to_int c.requires.line.line c.args.x c.args.row.now c.requires.at.long c.requires.column c.args.walk.now.state c.requires.at.stands (c.requires.inner inside))
+
 pub returns-in_err-sample : goal.returns-in_err-sample
 returns-in_err-sample g c =
     let p = err_from_is_err_and c.from_residual.result c.from_residual.ensures.1 in
@@ -46,8 +52,8 @@ returns g c =
     let seen = c.properties_in_row-properties.ensures in
     let fits : FitsSigned w32 c.to_i32.result = search rules in
     let number = to_z-of_z w32 c.to_i32.result fits ∙ c.to_i32.ensures.value in
-    let after_it = rw number at (c.record.ensures.stands (setting_of l.coding.now l.i) (own l to_int is c.args.x c.args.row.now at.long c.requires.column) (rw seen.unchanged at.stands)) in
-    let same = rw seen.unchanged at c.record.ensures.room in (
+    let after_it = rw number at (c.record_in_row.ensures.stands (setting_of l.coding.now l.i) (own l to_int is c.args.x c.args.row.now at.long c.requires.column) (rw seen.unchanged at.stands)) in
+    let same = rw seen.unchanged at c.record_in_row.ensures.room in (
       reads_cell l to_int is c.args.x c.args.row.now at.long c.requires.column g.D.Decoder.meaning g.S.Sealed.width c.args.walk.now.source _ c.requires.line.steps c.next_sample.new.source
           c.properties_in_row-properties.result seen.store (stands_so _ _ _ _ seen.unchanged at.stands) g.S.Sealed.from_int g.met.S.Sealed.to_int_from_int sample c.in_ok-sample.ensures,
       record {
