@@ -1,0 +1,49 @@
+use Rattle.std.proofs.Common.{◌≡◌, ◌<◌, ◌∙◌, Err, Ok, arith, length, rules, subst}
+use Rattle.jxlm_base.specs.Bits.{bytes_of, position_of}
+use Rattle.jxlm_base.specs.Decoding.{TakesTokens}
+use Rattle.jxlm_base.proofs.DecodingLaws.{rest_more, takes_more}
+use Rattle.jxlm_plain.specs.Plain.{plain_read, token_at}
+use Rattle.jxlm_plain.specs.Inner.PlainReads.{ReadsToken}
+use Rattle.jxlm_plain.specs.declared.plain.Code.TheVariants.{Fixed}
+use Rattle.jxlm_plain.proofs.PlainGives.{read_given, state}
+use Rattle.jxlm_plain.proofs.plain.numbers_in_runs.Goals as goal
+
+pub returns-in-Err-clause-gives : goal.returns-in-Err-clause-gives
+returns-in-Err-clause-gives c = λ codes clusters k m is.
+    let h = c.loop-k.invariant in
+    let same = h.len in
+    let end = c.loop-k.auto.k-end in
+    let gives = subst (λ bytes. ReadsToken (Err c.in-Err.error) c.loop-k.now c.token_in_runs.new.mode (position_of c.loop-k.reader) (position_of c.token_in_runs.new.bits) (token_at c.loop-k.now (Fixed c.args.width) bytes (position_of c.loop-k.reader))) h.bytes c.in-Err.ensures.gives in
+    let read = read_given c.loop-k.now c.token_in_runs.new.mode codes clusters (Fixed c.args.width) (Err c.in-Err.error) (bytes_of c.args.bits.now) (position_of c.loop-k.reader) (position_of c.token_in_runs.new.bits) k m is gives in
+    let place : position_of c.token_in_runs.new.bits ≡ position_of c.loop-k.reader = read.2 in
+    rw (read.1, place) (record {
+      inside = omega (arith, same, end, c.loop-k-test.true);
+      tokens = h.tokens codes clusters k m is;
+      error = read.0;
+      rest = h.rest;
+    })
+
+pub loop-k-preserved : goal.loop-k-preserved
+loop-k-preserved c =
+    let h = c.loop-k.invariant in
+    let same = h.len in
+    let end = c.loop-k.auto.k-end in
+    let inside : c.loop-k.k < length c.loop-k.tokens = omega (arith, same, end, c.loop-k-test.true) in
+    let gives = subst (λ bytes. ReadsToken (Ok c.in-Ok.token) c.loop-k.now c.token_in_runs.new.mode (position_of c.loop-k.reader) (position_of c.token_in_runs.new.bits) (token_at c.loop-k.now (Fixed c.args.width) bytes (position_of c.loop-k.reader))) h.bytes c.in-Ok.ensures.gives in
+    record {
+      len = search rules;
+      runs = c.in-Ok.ensures.runs;
+      tokens = λ codes clusters k m is. takes_more (λ u p. plain_read u (bytes_of c.args.bits.now) p k m) c.loop-k.tokens (state c.args.mode.now codes clusters) (position_of c.args.bits.now) c.loop-k.k (state c.loop-k.now codes clusters) (position_of c.loop-k.reader) c.in-Ok.token
+          (state c.token_in_runs.new.mode codes clusters) (position_of c.token_in_runs.new.bits) inside (h.tokens codes clusters k m is)
+          (read_given c.loop-k.now c.token_in_runs.new.mode codes clusters (Fixed c.args.width) (Ok c.in-Ok.token) (bytes_of c.args.bits.now) (position_of c.loop-k.reader) (position_of c.token_in_runs.new.bits) k m is gives);
+      rest = rest_more c.loop-k.tokens c.args.tokens.now c.loop-k.k c.in-Ok.token h.rest;
+      bytes = c.in-Ok.ensures.bytes ∙ h.bytes;
+    }
+
+pub returns-clause-gives : goal.returns-clause-gives
+returns-clause-gives c = λ codes clusters k m is.
+    let h = c.loop-k.invariant in
+    let end = c.loop-k.auto.k-end in
+    let same = h.len in
+    let all : c.loop-k.k ≡ length c.loop-k.tokens = omega (arith, end, same, c.loop-k-test.false) in
+    subst (λ n. TakesTokens (λ u p. plain_read u (bytes_of c.args.bits.now) p k m) c.loop-k.tokens (state c.args.mode.now codes clusters) (position_of c.args.bits.now) n (state c.loop-k.now codes clusters) (position_of c.loop-k.reader)) all (h.tokens codes clusters k m is)
