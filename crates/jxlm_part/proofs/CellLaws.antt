@@ -37,7 +37,7 @@ use Rattle.jxlm_part.specs.Inner.Channels.{StandsAfter, asked_at, handed, region
 use Rattle.jxlm_part.specs.Progress.{grids_in}
 use Rattle.jxlm_part.specs.Inner.Progress.{preceding_cells}
 use Rattle.jxlm_part.specs.Inner.Rows.{FailsCell, IsAway, IsLine, ReadsCell, StandsInRow, region_on, rule_on}
-use Rattle.jxlm_part.specs.Inner.Source.{Source}
+use Rattle.jxlm_part.specs.declared.source.Source.{Source}
 use Rattle.jxlm_part.specs.Rule.{Rule}
 use Rattle.jxlm_part.specs.declared.coding.ChannelTree.{ChannelTree}
 use Rattle.jxlm_part.specs.declared.coding.PartCoding.{PartCoding}
@@ -88,7 +88,7 @@ module _ {D : Type 0} (c : PartCoding D) (coding : IsCodingOf c) (i : ℕ) (li :
 
   -- a channel tree, any of them
   any_tree : ChannelTree
-  any_tree = record { flat = flat c.config.now.tree c.stream_index i; weighted = true; asked = 0; run = None }
+  any_tree = record { flat = flat c.config.now.tree c.stream_index i; weighted = true; asked = 0 }
 
   reads_below : ReadsEarlierBelow (flat c.config.now.tree c.stream_index i) (asked_at c i)
   reads_below = subst (ReadsEarlierBelow (flat c.config.now.tree c.stream_index i)) (sym (asked_is any_tree)) (tree_at any_tree).below

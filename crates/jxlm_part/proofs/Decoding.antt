@@ -1,10 +1,10 @@
 -- What the loops over rows and channels promise one another: a row more, a channel more.
-use Rattle.std.proofs.Common.{◌≡◌, ℕ, suc, ◌+◌, ◌*◌, ◌<◌, ◌≤◌, true, false, List, [], length, map, None, Ok, Err, refl, sym, ◌∙◌, subst, arith, ℤ}
+use Rattle.std.proofs.Common.{◌≡◌, ℕ, suc, ◌+◌, ◌*◌, ◌<◌, ◌≤◌, true, false, List, [], length, map, Ok, Err, refl, sym, ◌∙◌, subst, arith, ℤ}
 use Rattle.std.specs.Prelude.{Result, OnOk, IfErr}
 use Rattle.std.specs.Int.{Width}
 use Rattle.std.proofs.lemmas.List.{length-map, take_all}
 use Rattle.jxlm_base.specs.Bits.{bytes_of, position_of}
-use Rattle.jxlm_base.specs.Decoding.{IsLawful, Meaning}
+use Rattle.jxlm_base.specs.Decoding.{Meaning}
 use Rattle.jxlm_base.specs.Grid.{Grid}
 use Rattle.jxlm_base.specs.Regions.{store_meanings}
 use Rattle.jxlm_base.specs.declared.decoder.DecoderError.{DecoderError}
@@ -12,10 +12,10 @@ use Rattle.jxlm_base.proofs.Outside.{all_lie_still, keeps_all, keeps_both}
 use Rattle.jxlm_tree.specs.declared.state.PredictorState.{PredictorState}
 use Rattle.jxlm_part.specs.Inner.Channels.{StandsAfter, StandsIn, region_at}
 use Rattle.jxlm_part.specs.Inner.Levels.{IsAtRow, IsOnPath, IsReady}
-use Rattle.jxlm_part.specs.Inner.Paths.{is_walked, may_run}
-use Rattle.jxlm_part.specs.Inner.Progress.{Decodes, DecodesCells, GoesOn, Moment, Stops, TakesSteps, WalkGives, moment, place_of}
-use Rattle.jxlm_part.specs.Inner.Rows.{IsAtCell, IsDecoding, IsDecodingPart, IsLine, ReadsRow, RowGives, SetsRead, StandsInRow, region_on, rule_on}
-use Rattle.jxlm_part.specs.Inner.Source.{IsOpen, Source, in_state}
+use Rattle.jxlm_part.specs.Inner.Paths.{is_walked}
+use Rattle.jxlm_part.specs.Inner.Progress.{GoesOn, Moment, Stops, TakesSteps, WalkGives, moment, place_of}
+use Rattle.jxlm_part.specs.Inner.Rows.{IsAtCell, IsDecoding, IsDecodingPart, IsLine, RowGives, SetsRead, StandsInRow, region_on, rule_on}
+use Rattle.jxlm_part.specs.declared.source.Source.{Source}
 use Rattle.jxlm_part.specs.Reading.{FindsClusters, HasRoom, cost_of, part_of, regions_of}
 use Rattle.jxlm_part.specs.declared.coding.PartCoding.{PartCoding}
 use Rattle.jxlm_part.specs.declared.rows.Line.{Line}
@@ -25,31 +25,23 @@ use Rattle.jxlm_part.proofs.CellLaws.{begins_row}
 use Rattle.jxlm_part.proofs.Loops.{goes_further, row_done, stays, stops_further, takes_further, takes_none, takes_some}
 use Rattle.jxlm_part.proofs.RowSees.{stands_below}
 use Rattle.jxlm_part.proofs.RowsOn.{row_keeps_rest, row_read, row_refused}
-use Rattle.jxlm_part.proofs.Singles.{same_clusters, singles_so, singles_then}
 
 -- ---- one after another
 
 module _ {D X : Type 0} (c : PartCoding D) (d : Meaning D) (w : Width) (to_int : X → ℤ) where
   pub none_decoded : (from to : ℕ) (m : Moment D X) → from ≡ to → WalkGives c d w to_int from to (Ok tt) m m
   none_decoded from to m same = record {
-    kept = refl;
-    goes = λ single o. (
-      single,
-      record {
-        goes = stays d w (part_of c) (bytes_of m.source.bits) (regions_of c) (store_meanings to_int m.store) single (position_of m.source.bits) from to same;
-        work = subst (λ n. TakesSteps (cost_of c) from n m.source.steps m.source.steps) same (takes_none (cost_of c) from m.source.steps);
-        more = omega arith;
-        keeps = keeps_all (regions_of c) m.store;
-        clusters = refl;
-        bytes = refl;
-      },
-      o,
-    );
+    goes = stays d w (part_of c) (bytes_of m.source.bits) (regions_of c) (store_meanings to_int m.store) m.source.decoder (position_of m.source.bits) from to same;
+    work = subst (λ n. TakesSteps (cost_of c) from n m.source.steps m.source.steps) same (takes_none (cost_of c) from m.source.steps);
+    more = omega arith;
+    keeps = keeps_all (regions_of c) m.store;
+    clusters = refl;
+    bytes = refl;
   }
 
-  decodes_then : (from middle to : ℕ) (result : Result (Unit {0}) DecoderError) (old now new : Moment D X) → DecodesCells c d w to_int from middle old now → Decodes c d w to_int middle to result now new →
-      Decodes c d w to_int from to result old new
-  decodes_then from middle to (Ok u) old now new first next = record {
+  pub walks_on : (from middle to : ℕ) (result : Result (Unit {0}) DecoderError) (old now new : Moment D X) → WalkGives c d w to_int from middle (Ok tt) old now → WalkGives c d w to_int middle to result now new →
+      WalkGives c d w to_int from to result old new
+  walks_on from middle to (Ok u) old now new first next = record {
     goes = goes_further d w (part_of c) (bytes_of old.source.bits) (regions_of c) (store_meanings to_int old.store) old.source.decoder (position_of old.source.bits)
         from middle (store_meanings to_int now.store) now.source.decoder (position_of now.source.bits) first.goes to (store_meanings to_int new.store) new.source.decoder (position_of new.source.bits)
         (subst (λ bytes. GoesOn d w (part_of c) bytes (regions_of c) middle to (store_meanings to_int now.store) now.source.decoder (position_of now.source.bits)
@@ -60,7 +52,7 @@ module _ {D X : Type 0} (c : PartCoding D) (d : Meaning D) (w : Width) (to_int :
     clusters = next.clusters ∙ first.clusters;
     bytes = next.bytes ∙ first.bytes;
   }
-  decodes_then from middle to (Err e) old now new first next = record {
+  walks_on from middle to (Err e) old now new first next = record {
     stops = stops_further d w (part_of c) (bytes_of old.source.bits) (regions_of c) (store_meanings to_int old.store) old.source.decoder (position_of old.source.bits)
         from middle (store_meanings to_int now.store) now.source.decoder (position_of now.source.bits) first.goes (cost_of c) old.source.steps now.source.steps new.source.steps
         (store_meanings to_int new.store) (position_of new.source.bits) e first.work
@@ -72,13 +64,6 @@ module _ {D X : Type 0} (c : PartCoding D) (d : Meaning D) (w : Width) (to_int :
     bytes = next.bytes ∙ first.bytes;
   }
 
-  pub walks_on : (from middle to : ℕ) (result : Result (Unit {0}) DecoderError) (old now new : Moment D X) → WalkGives c d w to_int from middle (Ok tt) old now → WalkGives c d w to_int middle to result now new →
-      WalkGives c d w to_int from to result old new
-  walks_on from middle to result old now new =
-      singles_then d old.source now.source new.source (λ s t. Decodes c d w to_int from middle (Ok tt) (moment s old.store) (moment t now.store)) (λ s t. Decodes c d w to_int middle to result (moment s now.store) (moment t new.store))
-      (λ s t. Decodes c d w to_int from to result (moment s old.store) (moment t new.store))
-      (λ s t u. decodes_then from middle to result (moment (in_state old.source s) old.store) (moment (in_state now.source t) now.store) (moment (in_state new.source u) new.store))
-
   -- the same, where the numbers are others but equal
   pub walks_between : (from to a b : ℕ) (result : Result (Unit {0}) DecoderError) (old new : Moment D X) → from ≡ a → to ≡ b → WalkGives c d w to_int from to result old new → WalkGives c d w to_int a b result old new
   walks_between from to a b result old new from_is to_is h =
@@ -86,18 +71,12 @@ module _ {D X : Type 0} (c : PartCoding D) (d : Meaning D) (w : Width) (to_int :
 
   -- ---- what holds while a part is decoded holds afterwards
 
-  module _ (from to : ℕ) (old new : Moment D X) (singles : IsOpen d old.source) (first : WalkGives c d w to_int from to (Ok tt) old new) where
-    abbrev one : DecodesCells c d w to_int from to (moment (in_state old.source singles.0) old.store) (moment (in_state new.source (first.goes singles.0 singles.1).0) new.store)
-    one = (first.goes singles.0 singles.1).1
-
+  module _ (from to : ℕ) (old new : Moment D X) (first : WalkGives c d w to_int from to (Ok tt) old new) where
     pub still_part : IsDecodingPart c old.store → IsDecodingPart c new.store
-    still_part h = record { coding = h.coding; lie = all_lie_still (regions_of c) (regions_of c) old.store new.store one.keeps h.lie; apart = h.apart }
+    still_part h = record { coding = h.coding; lie = all_lie_still (regions_of c) (regions_of c) old.store new.store first.keeps h.lie; apart = h.apart }
 
-    pub still_ready : IsLawful d → FindsClusters c (d.cluster_map old.source.decoder) → (state : PredictorState X) → HasRoom c state → IsReady d c (record { source = new.source; state = state })
-    still_ready law found state room =
-        let r = first.goes singles.0 singles.1 in
-        let same = same_clusters d law r.0 new.source r.2 ∙ one.clusters ∙ sym (same_clusters d law singles.0 old.source singles.1) in
-        record { singles = (r.0, r.2); clusters = subst (FindsClusters c) (sym same) found; roomy = room }
+    pub still_ready : FindsClusters c (d.cluster_map old.source.decoder) → (state : PredictorState X) → HasRoom c state → IsReady d c (record { source = new.source; state = state })
+    still_ready found state room = record { clusters = subst (FindsClusters c) (sym first.clusters) found; roomy = room }
 
 -- ---- a row
 
@@ -116,8 +95,8 @@ module _ {D X : Type 0} (l : Line X D) (d : Meaning D) (w : Width) (to_int : X �
   abbrev R : List ℤ
   R = map to_int row
 
-  row_written : (read : Result (Unit {0}) RowError) (result : Result (Unit {0}) DecoderError) → SetsRead (region_on l) l.y row read l.store.now new result → (old now : Source D) →
-      ReadsRow d (cost_of c) (rule_on l d to_int w (bytes_of old.bits)) R read old now → Decodes c d w to_int from to result (moment old l.store.now) (moment now new)
+  pub row_written : (read : Result (Unit {0}) RowError) (result : Result (Unit {0}) DecoderError) → SetsRead (region_on l) l.y row read l.store.now new result → (old now : Source D) →
+      RowGives l d to_int w row old now read → WalkGives c d w to_int from to result (moment old l.store.now) (moment now new)
   row_written (Ok u) result sets old now h =
       let width : ℕ = (region_on l).width in
       let at : from + width ≡ place_of (part_of c) l.i width l.y = omega arith in
@@ -148,44 +127,30 @@ module _ {D X : Type 0} (l : Line X D) (d : Meaning D) (w : Width) (to_int : X �
         bytes = h.bytes;
       })
 
-  module _ (old now : Source D) (read : Result (Unit {0}) RowError) (gives : RowGives l d to_int w row old now read) where
-    pub row_gives : (result : Result (Unit {0}) DecoderError) → SetsRead (region_on l) l.y row read l.store.now new result →
-        WalkGives c d w to_int from to result (moment old l.store.now) (moment now new)
-    row_gives result sets =
-        singles_so d old now (ReadsRow d (cost_of c) (rule_on l d to_int w (bytes_of old.bits)) R read) (λ s t. Decodes c d w to_int from to result (moment s l.store.now) (moment t new))
-        (λ s t. row_written read result sets (in_state old s) (in_state now t)) gives
-
-    -- the read that returned an error was of a cell of the row
-    pub error_inside : IsOpen d old → IfErr read (λ r. r.column < length row)
-    error_inside = by read gives where
-      by : (read : Result (Unit {0}) RowError) → RowGives l d to_int w row old now read → IsOpen d old → IfErr read (λ r. r.column < length row)
-      by (Ok u) gives singles = tt
-      by (Err e) gives singles =
-          let inside = (gives.goes singles.0 singles.1).1.inside in
-          let m = length-map row to_int in
-          omega (arith, m, inside)
+  -- the read that returned an error was of a cell of the row
+  pub error_inside : (old now : Source D) (read : Result (Unit {0}) RowError) → RowGives l d to_int w row old now read → IfErr read (λ r. r.column < length row)
+  error_inside old now (Ok u) gives = tt
+  error_inside old now (Err e) gives = let inside = gives.inside in let m = length-map row to_int in omega (arith, m, inside)
 
   -- the walk is before the next row
-  module _ (old now : Walk X D) (law : IsLawful d) (at : IsAtRow d c old to_int l.store.now l.path l.i l.y) where
+  module _ (old now : Walk X D) (at : IsAtRow d c old to_int l.store.now l.path l.i l.y) where
     pub row_below : (read : Result (Unit {0}) RowError) (result : Result (Unit {0}) DecoderError) → SetsRead (region_on l) l.y row read l.store.now new result →
         RowGives l d to_int w row old.source now.source read → OnOk read (IsOnPath l to_int row now) → OnOk result (IsAtRow d c now to_int new l.path l.i (l.y + 1))
     row_below (Err e) result sets gives on = rw sets.1 tt
     row_below (Ok u) result sets gives on =
-        let goes = row_gives old.source now.source (Ok u) gives (Ok tt) (sets.0, refl) in
+        let goes = row_written (Ok u) (Ok tt) (sets.0, refl) old.source now.source gives in
         rw sets.1 (record {
           here = record {
-            part = still_part c d w to_int from to (moment old.source l.store.now) (moment now.source new) at.ready.singles goes here.part;
+            part = still_part c d w to_int from to (moment old.source l.store.now) (moment now.source new) goes here.part;
             channel = here.channel;
             columns = here.columns;
           };
           gives = at.gives;
           allows = at.allows;
           steps = at.steps;
-          ready = still_ready c d w to_int from to (moment old.source l.store.now) (moment now.source new) at.ready.singles goes law at.ready.clusters now.state on.roomy;
+          ready = still_ready c d w to_int from to (moment old.source l.store.now) (moment now.source new) goes at.ready.clusters now.state on.roomy;
           within = on.within;
           stands = λ walked. begins_row c l.i to_int new (l.y + 1) now.state (stands_below c l.i l.y to_int l.store.now new row now.state here.part.lie here.channel below long sets.0 (on.stands walked));
-          single = on.single;
-          runs = λ some. at.runs (sym gives.kept ∙ some);
         })
 
 -- ---- a channel
@@ -203,13 +168,11 @@ module _ {D X : Type 0} (l : Line X D) (d : Meaning D) (to_int : X → ℤ) wher
   is_line walk at below = record { here = at.here; below = below; gives = at.gives; allows = at.allows; steps = at.steps }
 
   -- where the path needs no state of the predictors, it stays
-  pub state_stays : (old new : Walk X D) (row : List X) → IsAtRow d l.coding.now old to_int l.store.now l.path l.i l.y → is_walked l.path ≡ false → new.state ≡ old.state → (may_run l.path ≡ false → new.source.run ≡ None) →
-      IsOnPath l to_int row new
-  state_stays old new row at none same single = record {
+  pub state_stays : (old new : Walk X D) (row : List X) → IsAtRow d l.coding.now old to_int l.store.now l.path l.i l.y → is_walked l.path ≡ false → new.state ≡ old.state → IsOnPath l to_int row new
+  state_stays old new row at none same = record {
     within = subst (StandsIn l.coding.now l.i) (sym same) at.within;
     stands = λ walked. let no : true ≡ false = sym walked ∙ none in absurd (cc);
     roomy = subst (HasRoom l.coding.now) (sym same) at.ready.roomy;
-    single = single;
   }
 
   -- else it is after the row
@@ -219,5 +182,4 @@ module _ {D X : Type 0} (l : Line X D) (d : Meaning D) (to_int : X → ℤ) wher
     stands = λ walked. let m = length-map row to_int in
         subst (λ r. StandsInRow l.coding.now to_int l.store.now l.i l.y r walk.state) (take_all (length row) (map to_int row) (omega (arith, m))) at.stands;
     roomy = at.roomy;
-    single = λ other. at.single;
   }

@@ -1,5 +1,5 @@
 -- One more cell of a row is read from the row above it.
-use Rattle.std.proofs.Common.{◌≡◌, Bool, true, false, ℕ, zero, suc, ◌+◌, ◌<◌, List, Contains, length, take, map, Ok, Err, Result, refl, sym, ap, ◌∙◌, subst, arith, ℤ, pos, ◌+ℤ◌, ◌-ℤ◌, ◌*ℤ◌}
+use Rattle.std.proofs.Common.{◌≡◌, ℕ, zero, suc, ◌+◌, ◌<◌, List, Contains, length, take, map, Ok, Err, Result, refl, sym, ap, ◌∙◌, subst, arith, ℤ, pos, ◌+ℤ◌, ◌-ℤ◌, ◌*ℤ◌}
 use Rattle.std.specs.Prelude.{get_or, slice_set}
 use Rattle.std.specs.Int.{Width, w32, int_wrap}
 use Rattle.std.proofs.Math.IntN.{+ℤ_idr, *ℤ_comm, suc_ℤ-*ℤ, zero-*ℤ, +ℤ_idl}
@@ -7,20 +7,17 @@ use Rattle.std.proofs.Math.ListN.{get_or-map}
 use Rattle.std.proofs.lemmas.Int.{SFits-int_wrap, int_wrap-add_left, int_wrap-add_right}
 use Rattle.std.proofs.lemmas.List.{get_or-set_same, get_or-take, length-map, length-take-le, map-set}
 use Rattle.jxlm_base.specs.Bits.{bytes_of, position_of}
-use Rattle.jxlm_base.specs.Decoding.{IsLawful, Meaning}
+use Rattle.jxlm_base.specs.Decoding.{IsLawful, Meaning, Taken}
 use Rattle.jxlm_base.specs.Numbers.{clamped_gradient, unpack}
-use Rattle.jxlm_base.specs.declared.bits.Bitstream.{Bitstream}
 use Rattle.jxlm_base.specs.declared.decoder.DecoderError.{DecoderError}
 use Rattle.jxlm_ma.specs.declared.flat.Leaf.{Leaf}
 use Rattle.jxlm_part.specs.Coded.{sample_of}
 use Rattle.jxlm_part.specs.Inner.Paths.{AreGradients, IsPlain, gradient_in, gradient_rule, leaf_by, north_in, north_west_in, property_9_in, steps_by, west_in}
 use Rattle.jxlm_part.specs.Inner.Rows.{FailsRow, ReadsCells}
-use Rattle.jxlm_part.specs.Inner.Source.{InSingles, IsOpen, Source, TakesToken, in_state}
-use Rattle.jxlm_part.specs.Inner.Taking.{Taking, reader_by, source_by}
+use Rattle.jxlm_part.specs.declared.source.Source.{Source}
 use Rattle.jxlm_part.specs.Rule.{Rule}
 use Rattle.jxlm_part.specs.declared.gradient.Leaves.{Leaves}
 use Rattle.jxlm_part.proofs.RowReads.{cell_fails, cell_more}
-use Rattle.jxlm_part.proofs.Singles.{same_clusters}
 
 -- at a leaf that adds nothing more, tokens and predictions are added as samples
 plain_sample : (w : Width) (l : Leaf) (token : ℕ) (g : ℤ) → IsPlain l → sample_of w l g token ≡ int_wrap w (unpack token +ℤ g)
@@ -113,86 +110,43 @@ module _ {D X : Type 0} (d : Meaning D) (law : IsLawful d) (w : Width) (to_int :
   abbrev R : List ℤ
   R = map to_int row
 
-  abbrev here : ℤ
-  here = property_9_in above (take x R) (length (take x R))
-
-  -- the cells before column x were read
-  abbrev pub ReadsBelow : Type 0
-  ReadsBelow = InSingles d start old (ReadsCells d (steps_by leaves) rule R x)
+  abbrev leaf : Leaf
+  leaf = leaf_by leaves (property_9_in above (take x R) (length (take x R)))
 
   in_row : x < length R
   in_row = let m = length-map row to_int in omega (arith, m, inside)
 
-  known : (clusters : List ℕ) → clusters ≡ d.cluster_map start.decoder → Contains clusters (leaf_by leaves here).cluster
-  known clusters same = subst (λ cs. Contains cs (leaf_by leaves here).cluster) (sym same) (grads.known here (SFits-int_wrap w32 _))
-
-  module _ (h : ReadsBelow) (k : ℕ) (is : k ≡ (leaf_by leaves here).cluster) where
+  module _ (h : ReadsCells d (steps_by leaves) rule R x start old) (k : ℕ) (is : k ≡ leaf.cluster) where
     -- the cluster that was looked up is one of the decoder's
-    pub known_now : IsOpen d start → Contains (d.cluster_map old.decoder) k
-    known_now (single, o) =
-        let r = h.goes single o in
-        subst (Contains (d.cluster_map old.decoder)) (sym is) (known (d.cluster_map old.decoder) (same_clusters d law r.0 old r.2 ∙ r.1.clusters ∙ sym (same_clusters d law single start o)))
+    pub known_now : Contains (d.cluster_map old.decoder) k
+    known_now = rw (is, h.clusters) (grads.known _ (SFits-int_wrap w32 _))
+
+    -- so its read is that of the leaf
+    read_at_leaf : (r : Result (Taken ℕ D) DecoderError) → d.read old.decoder (bytes_of old.bits) (position_of old.bits) k widest ≡ r → d.read old.decoder (bytes_of start.bits) (position_of old.bits) leaf.cluster widest ≡ r
+    read_at_leaf r read = rw (← is, ← h.bytes) read
 
     module _ (new : Source D) (same : bytes_of new.bits ≡ bytes_of old.bits) (step : new.steps ≡ old.steps + steps_by leaves) where
-      -- the token of one more was taken
-      pub below_more : (token : ℕ) (v : X) → TakesToken d k widest (Ok token) old new → to_int v ≡ sample_of w (leaf_by leaves here) (gradient_in above (take x R) (length (take x R))) token →
-          InSingles d start new (ReadsCells d (steps_by leaves) rule (map to_int (slice_set row x v)) (x + 1))
-      below_more token v takes value = record {
-        kept = takes.kept ∙ h.kept;
-        goes = λ single o.
-            let r = h.goes single o in
-            let t = takes.goes r.0 r.2 in
-            let read : d.read r.0 (bytes_of start.bits) (position_of old.bits) (leaf_by leaves here).cluster widest ≡ Ok (record { value = token; state = t.0; position = position_of new.bits }) =
-            subst (λ c. d.read r.0 (bytes_of start.bits) (position_of old.bits) c widest ≡ Ok (record { value = token; state = t.0; position = position_of new.bits })) is
-            (subst (λ bytes. d.read r.0 bytes (position_of old.bits) k widest ≡ Ok (record { value = token; state = t.0; position = position_of new.bits })) r.1.bytes t.1) in (
-              t.0,
-              cell_more d (steps_by leaves) rule (in_state start single) R x (in_state old r.0) in_row r.1 (in_state new t.0) (map to_int (slice_set row x v)) (record {
-                token = token;
-                read = read;
-                written = map-set to_int row x v ∙ ap (slice_set R x) value;
-                clusters = (law.read_keeps r.0 (bytes_of start.bits) (position_of old.bits) (leaf_by leaves here).cluster widest _ (known (d.cluster_map r.0) (r.1.clusters ∙ sym (same_clusters d law single start o))) read).clusters;
-                bytes = same;
-                work = omega (arith, step);
-                more = omega (arith, step);
-              }),
-              t.2,
-            );
-      }
+      -- the token of one more was read
+      pub below_more : (token : ℕ) (v : X) → d.read old.decoder (bytes_of old.bits) (position_of old.bits) k widest ≡ Ok (record { value = token; state = new.decoder; position = position_of new.bits }) →
+          to_int v ≡ sample_of w leaf (gradient_in above (take x R) (length (take x R))) token → ReadsCells d (steps_by leaves) rule (map to_int (slice_set row x v)) (x + 1) start new
+      below_more token v read value = cell_more d (steps_by leaves) rule start R x old in_row h new (map to_int (slice_set row x v)) (record {
+        token = token;
+        read = read_at_leaf _ read;
+        written = map-set to_int row x v ∙ ap (slice_set R x) value;
+        clusters = (law.read_keeps old.decoder (bytes_of old.bits) (position_of old.bits) k widest _ known_now read).clusters;
+        bytes = same;
+        work = omega (arith, step);
+        more = omega (arith, step);
+      })
 
       -- its read returned an error
-      pub below_ends : (e : DecoderError) → TakesToken d k widest (Err e) old new → InSingles d start new (λ s t. FailsRow d (steps_by leaves) rule R s t (record { column = x; error = e }))
-      below_ends e takes = record {
-        kept = takes.kept ∙ h.kept;
-        goes = λ single o.
-            let r = h.goes single o in
-            let t = takes.goes r.0 r.2 in
-            let error : d.read r.0 (bytes_of start.bits) (position_of old.bits) (leaf_by leaves here).cluster widest ≡ Err e =
-            subst (λ c. d.read r.0 (bytes_of start.bits) (position_of old.bits) c widest ≡ Err e) is (subst (λ bytes. d.read r.0 bytes (position_of old.bits) k widest ≡ Err e) r.1.bytes t.1.0) in (
-              t.0,
-              cell_fails d (steps_by leaves) rule (in_state start single) R x (in_state old r.0) in_row r.1 (in_state new t.0) R e (record {
-                error = error;
-                row_is = refl;
-                place_is = t.1.2;
-                memory = λ out. law.read_memory r.0 (bytes_of start.bits) (position_of old.bits) (leaf_by leaves here).cluster widest (known (d.cluster_map r.0) (r.1.clusters ∙ sym (same_clusters d law single start o))) (error ∙ ap Err out);
-                bytes = same;
-                work = omega (arith, step);
-                more = omega (arith, step);
-              }),
-              t.2,
-            );
-      }
-
--- before the row both readers are where it begins
-pub same_reader : (runs : Bool) (bits : Bitstream) → reader_by runs bits bits ≡ bits
-same_reader true bits = refl
-same_reader false bits = refl
-
--- a token is taken whatever steps were taken
-pub retaken : {D : Type 0} (d : Meaning D) (cluster multiplier : ℕ) (result : Result ℕ DecoderError) (runs : Bool) (s t : D) (old new : Taking) (a b : ℕ) →
-    TakesToken d cluster multiplier result (source_by runs s old 0) (source_by runs t new 0) → TakesToken d cluster multiplier result (source_by runs s old a) (source_by runs t new b)
-retaken d cluster multiplier result runs s t old new a b h = record { kept = h.kept; goes = h.goes }
-
--- all of them were read
-pub below_whole : {D X : Type 0} (d : Meaning D) (cost : ℕ) (rule : Rule D) (to_int : X → ℤ) (old new : Source D) (row : List X) (x : ℕ) → InSingles d old new (ReadsCells d cost rule (map to_int row) x) → x ≡ length row →
-    InSingles d old new (ReadsCells d cost rule (map to_int row) (length (map to_int row)))
-below_whole d cost rule to_int old new row x h all = subst (λ n. InSingles d old new (ReadsCells d cost rule (map to_int row) n)) (all ∙ sym (length-map row to_int)) h
+      pub below_ends : (e : DecoderError) → d.read old.decoder (bytes_of old.bits) (position_of old.bits) k widest ≡ Err e → position_of new.bits ≡ position_of old.bits → FailsRow d (steps_by leaves) rule R start new (record { column = x; error = e })
+      below_ends e read place = cell_fails d (steps_by leaves) rule start R x old in_row h new R e (record {
+        error = read_at_leaf _ read;
+        row_is = refl;
+        place_is = place;
+        memory = λ out. law.read_memory old.decoder (bytes_of old.bits) (position_of old.bits) k widest known_now (read ∙ ap Err out);
+        bytes = same;
+        work = omega (arith, step);
+        more = omega (arith, step);
+      })

@@ -16,7 +16,6 @@ pub mod RowWrites
 pub mod RowsAlike
 pub mod RowsOn
 pub mod Samples
-pub mod Singles
 pub mod Starting
 pub mod Stretches
 pub mod TokenLaw

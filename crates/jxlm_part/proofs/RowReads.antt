@@ -8,7 +8,7 @@ use Rattle.jxlm_base.specs.Decoding.{Meaning}
 use Rattle.jxlm_base.specs.declared.decoder.DecoderError.{DecoderError}
 use Rattle.jxlm_base.proofs.Cells.{slice_get-set_same}
 use Rattle.jxlm_part.specs.Inner.Rows.{AreAlike, FailsCell, FailsRow, ReadsCell, ReadsCells, ReadsRow}
-use Rattle.jxlm_part.specs.Inner.Source.{Source}
+use Rattle.jxlm_part.specs.declared.source.Source.{Source}
 use Rattle.jxlm_part.specs.Rule.{Rule, CodedPrefix}
 use Rattle.jxlm_part.specs.declared.rows.RowError.{RowError}
 use Rattle.jxlm_part.proofs.Prefixes.{prefix_more}

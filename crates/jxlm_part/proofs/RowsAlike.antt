@@ -1,5 +1,5 @@
 -- Rows that are read at one leaf or from the row above are those of a part whose tree leads there in the channel.
-use Rattle.std.proofs.Common.{◌≡◌, ℕ, ◌<◌, ◌≤◌, List, ◌++◌, length, map, None, Some, Result, Contains, sym, ap, ◌∙◌, subst, arith, ℤ, pos}
+use Rattle.std.proofs.Common.{◌≡◌, ℕ, ◌<◌, ◌≤◌, List, ◌++◌, length, map, Some, Result, Contains, sym, ap, ◌∙◌, subst, arith, ℤ, pos}
 use Rattle.std.specs.Int.{Width, w32}
 use Rattle.std.proofs.lemmas.Int.{SFits-int_wrap, int_wrap_fits, ints}
 use Rattle.std.proofs.lemmas.List.{length-map}
@@ -27,9 +27,8 @@ use Rattle.jxlm_part.specs.Reading.{FindsClusters, cost_of, flat, part_of, regio
 use Rattle.jxlm_part.specs.Inner.Channels.{region_at}
 use Rattle.jxlm_part.specs.Inner.Paths.{AreGradients, AreLeavesOf, gradient_in, gradient_rule, leaf_by, leaf_rule, property_9_in, row_above, steps_by, zero_rule}
 use Rattle.jxlm_part.specs.Inner.Progress.{preceding_cells}
-use Rattle.jxlm_part.specs.Inner.Rows.{AreAlike, IsLine, ReadsRow, RowGives, region_on, row_rule, rule_on}
-use Rattle.jxlm_part.specs.Inner.Source.{Source, in_state}
-use Rattle.jxlm_part.specs.Inner.Taking.{GradientGives}
+use Rattle.jxlm_part.specs.Inner.Rows.{AreAlike, GradientGives, IsLine, ReadsRow, RowGives, region_on, row_rule, rule_on}
+use Rattle.jxlm_part.specs.declared.source.Source.{Source}
 use Rattle.jxlm_part.specs.declared.coding.PartCoding.{PartCoding}
 use Rattle.jxlm_part.specs.declared.gradient.Leaves.{Leaves}
 use Rattle.jxlm_part.specs.declared.gradient.Leaves.TheVariants.{One, Table}
@@ -39,7 +38,6 @@ use Rattle.jxlm_part.proofs.NextSample.{SeesRegions, leaf_with, place-fit, seen_
 use Rattle.jxlm_part.proofs.RowNeighbours.{gradient_is, property_9_seen, samples, zero_is}
 use Rattle.jxlm_part.proofs.RowReads.{alike_row}
 use Rattle.jxlm_part.proofs.RowSees.{sees_regions}
-use Rattle.jxlm_part.proofs.Singles.{plainly, singles_so}
 
 module _ {S : Type 0} (d : Meaning S) (w : Width) (part : Part) (bytes : List ℕ) (regions : List Region) (ints : List (Grid ℤ)) (i y : ℕ) (sizes : AreRegionsOf part.channels regions) (li : i < length regions)
     (qy : y < (region_at regions i).height) where
@@ -159,15 +157,11 @@ module _ {D X : Type 0} (l : Line X D) (d : Meaning D) (to_int : X → ℤ) (w :
         (gradient_rows d w (part_of c) bytes (regions_of c) numbers l.i l.y is.here.part.coding.sizes is.here.channel is.below leaves to))
 
   module _ (old new : Source D) (result : Result (Unit {0}) RowError) where
-    pub row_of_zeros : (k : Leaf) → IsLeafOf (tree_of c l.i) k → k.predictor ≡ predictor.Zero → old.run ≡ None → new.run ≡ None →
-        ReadsRow d 0 (zero_rule d w (bytes_of old.bits) c.widest k) R result old new → RowGives l d to_int w row old new result
-    row_of_zeros k only zero o n h =
-        plainly d old new (ReadsRow d (cost_of c) (rule_on l d to_int w (bytes_of old.bits)) R result) o n
-        (alike_row d 0 (cost_of c) (zero_rule d w (bytes_of old.bits) c.widest k) (rule_on l d to_int w (bytes_of old.bits)) R (zeros (bytes_of old.bits) k only zero) (omega arith) result old new h)
+    pub row_of_zeros : (k : Leaf) → IsLeafOf (tree_of c l.i) k → k.predictor ≡ predictor.Zero → ReadsRow d 0 (zero_rule d w (bytes_of old.bits) c.widest k) R result old new → RowGives l d to_int w row old new result
+    row_of_zeros k only zero h =
+        alike_row d 0 (cost_of c) (zero_rule d w (bytes_of old.bits) c.widest k) (rule_on l d to_int w (bytes_of old.bits)) R (zeros (bytes_of old.bits) k only zero) (omega arith) result old new h
 
     pub row_of_gradients : (leaves : Leaves) → AreLeavesOf (tree_of c l.i) leaves → steps_by leaves ≤ cost_of c →
         GradientGives d w leaves c.widest above R old new result → RowGives l d to_int w row old new result
     row_of_gradients leaves to few h =
-        singles_so d old new (ReadsRow d (steps_by leaves) (gradient_rule d w (bytes_of old.bits) c.widest leaves above) R result) (ReadsRow d (cost_of c) (rule_on l d to_int w (bytes_of old.bits)) R result)
-        (λ s t. alike_row d (steps_by leaves) (cost_of c) (gradient_rule d w (bytes_of old.bits) c.widest leaves above) (rule_on l d to_int w (bytes_of old.bits)) R (gradients (bytes_of old.bits) leaves to) few result
-        (in_state old s) (in_state new t)) h
+        alike_row d (steps_by leaves) (cost_of c) (gradient_rule d w (bytes_of old.bits) c.widest leaves above) (rule_on l d to_int w (bytes_of old.bits)) R (gradients (bytes_of old.bits) leaves to) few result old new h

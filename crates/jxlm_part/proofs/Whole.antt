@@ -1,9 +1,10 @@
 -- A part from its beginning to its end.
-use Rattle.std.proofs.Common.{◌≡◌, ℕ, suc, ◌+◌, ◌*◌, ◌≤◌, List, Ok, Err, refl, sym, ap, ◌∙◌, subst, ℤ, inl, inr, arith}
+use Rattle.std.proofs.Common.{◌≡◌, ℕ, suc, ◌+◌, ◌*◌, ◌≤◌, List, Result, Ok, Err, refl, sym, ap, ◌∙◌, subst, ℤ, inl, inr, arith}
 use Rattle.std.specs.Int.{Width}
 use Rattle.jxlm_base.specs.Bits.{bytes_of, position_of}
 use Rattle.jxlm_base.specs.Decoding.{Found, IsLawful, Meaning}
 use Rattle.jxlm_base.specs.Grid.{Grid}
+use Rattle.jxlm_base.specs.declared.bits.Bitstream.{Bitstream}
 use Rattle.jxlm_base.specs.declared.decoder.DecoderError.{DecoderError}
 use Rattle.jxlm_base.specs.Regions.{store_meanings}
 use Rattle.jxlm_base.specs.declared.subgrid.Region.{Region}
@@ -11,13 +12,11 @@ use Rattle.jxlm_base.proofs.Outside.{keeps_all}
 use Rattle.jxlm_transform.specs.Channels.{AreRegionsOf}
 use Rattle.jxlm_part.specs.Part.{Part, cell_count}
 use Rattle.jxlm_part.specs.Progress.{grids_in, DecodesAll, DecodesSome}
-use Rattle.jxlm_part.specs.Inner.Levels.{BeginsNot, HasBegun}
 use Rattle.jxlm_part.specs.Inner.Progress.{FailsInPart, GoesOn, IsPartDecoded, Moment, Reached, Stops, TakesSteps, WalkGives, moment}
-use Rattle.jxlm_part.specs.Inner.Source.{Source}
+use Rattle.jxlm_part.specs.declared.source.Source.{Source}
 use Rattle.jxlm_part.specs.Reading.{cost_of, part_of, regions_of}
 use Rattle.jxlm_part.specs.declared.coding.PartCoding.{PartCoding}
 use Rattle.jxlm_part.proofs.Loops.{fits_in}
-use Rattle.jxlm_part.proofs.Singles.{same_end}
 
 steps_from : (cost to before after : ℕ) → TakesSteps cost 0 to before after → after ≤ before + to * cost
 steps_from cost to before after h = omega (arith, h)
@@ -83,63 +82,60 @@ module _ {D X : Type 0} (c : PartCoding D) (d : Meaning D) (law : IsLawful d) (w
       DecodesSome d w (part_of c) (bytes_of old.source.bits) (regions_of c) old.source.decoder (ints old.store) (position_of old.source.bits) (ints new.store) (position_of new.source.bits)
       (cost_of c) before new.source.steps e
 
-  pub part_not_begun : (new : Source D) (e : DecoderError) → BeginsNot d old.source new e → FailsInPart c d w to_int old (moment new old.store) e
-  part_not_begun new e h = record {
-    decodes = rw (h.place_is, h.steps) (refused_at_begin d w (part_of c) (bytes_of old.source.bits) (regions_of c) old.source.decoder (ints old.store) (position_of old.source.bits) (cost_of c) old.source.steps e h.error);
-    more = let s = h.steps in omega (arith, s);
+  abbrev begin_here : Result (Found D) DecoderError
+  begin_here = d.begin old.source.decoder (bytes_of old.source.bits) (position_of old.source.bits)
+
+  abbrev after : D → Bitstream → Source D
+  after decoder bits = record { decoder = decoder; bits = bits; steps = old.source.steps }
+
+  pub part_not_begun : (decoder : D) (bits : Bitstream) (e : DecoderError) → begin_here ≡ Err e → position_of bits ≡ position_of old.source.bits → bytes_of bits ≡ bytes_of old.source.bits →
+      FailsInPart c d w to_int old (moment (after decoder bits) old.store) e
+  part_not_begun decoder bits e error place same = record {
+    decodes = rw place (refused_at_begin d w (part_of c) (bytes_of old.source.bits) (regions_of c) old.source.decoder (ints old.store) (position_of old.source.bits) (cost_of c) old.source.steps e error);
+    more = omega arith;
     keeps = keeps_all (regions_of c) old.store;
-    memory = λ out. law.begin_memory old.source.decoder (bytes_of old.source.bits) (position_of old.source.bits) (h.error ∙ ap Err out);
-    bytes = h.bytes;
+    memory = λ out. law.begin_memory old.source.decoder (bytes_of old.source.bits) (position_of old.source.bits) (error ∙ ap Err out);
+    bytes = same;
   }
 
-  module _ (sizes : AreRegionsOf (part_of c).channels (regions_of c)) (begun : Source D) (has : HasBegun d c old.source begun) (new : Moment D X) where
-    pub part_fails : (e : DecoderError) → WalkGives c d w to_int 0 (cell_count (part_of c).channels) (Err e) (moment begun old.store) new → FailsInPart c d w to_int old new e
-    part_fails e gives =
-        let f = (gives.goes begun.decoder has.stands).1 in
-        record {
-          decodes = subst (λ n. Ends new n e) has.steps
-              (refused_at_read d w (part_of c) (bytes_of old.source.bits) (regions_of c) old.source.decoder (ints old.store) (position_of old.source.bits) sizes _ has.begins (ints new.store)
-              (cost_of c) begun.steps new.source.steps (position_of new.source.bits) e
-              (subst (λ bytes. Stops d w (part_of c) bytes (regions_of c) (cost_of c) begun.steps new.source.steps 0 (ints old.store) begun.decoder (position_of begun.bits) (ints new.store) (position_of new.source.bits) e)
-              has.bytes f.stops));
-          more = let m = f.more in let s = has.steps in omega (arith, m, s);
-          keeps = f.keeps;
-          memory = f.memory;
-          bytes = f.bytes ∙ has.bytes;
-        }
+  module _ (sizes : AreRegionsOf (part_of c).channels (regions_of c)) (decoder : D) (bits : Bitstream) (begins : begin_here ≡ Ok (record { value = decoder; position = position_of bits }))
+      (same : bytes_of bits ≡ bytes_of old.source.bits) (new : Moment D X) where
+    abbrev source_begun : Source D
+    source_begun = after decoder bits
 
-    module _ (gives : WalkGives c d w to_int 0 (cell_count (part_of c).channels) (Ok tt) (moment begun old.store) new) where
-      abbrev end : D
-      end = (gives.goes begun.decoder has.stands).0
+    pub part_fails : (e : DecoderError) → WalkGives c d w to_int 0 (cell_count (part_of c).channels) (Err e) (moment source_begun old.store) new → FailsInPart c d w to_int old new e
+    part_fails e f = record {
+      decodes = refused_at_read d w (part_of c) (bytes_of old.source.bits) (regions_of c) old.source.decoder (ints old.store) (position_of old.source.bits) sizes _ begins (ints new.store)
+          (cost_of c) old.source.steps new.source.steps (position_of new.source.bits) e
+          (subst (λ bytes. Stops d w (part_of c) bytes (regions_of c) (cost_of c) old.source.steps new.source.steps 0 (ints old.store) decoder (position_of bits) (ints new.store) (position_of new.source.bits) e)
+          same f.stops);
+      more = f.more;
+      keeps = f.keeps;
+      memory = f.memory;
+      bytes = f.bytes ∙ same;
+    }
 
-      goes : GoesOn d w (part_of c) (bytes_of old.source.bits) (regions_of c) 0 (cell_count (part_of c).channels) (ints old.store) begun.decoder (position_of begun.bits) (ints new.store) end (position_of new.source.bits)
+    module _ (f : WalkGives c d w to_int 0 (cell_count (part_of c).channels) (Ok tt) (moment source_begun old.store) new) where
+      goes : GoesOn d w (part_of c) (bytes_of old.source.bits) (regions_of c) 0 (cell_count (part_of c).channels) (ints old.store) decoder (position_of bits) (ints new.store) new.source.decoder (position_of new.source.bits)
       goes =
-          subst (λ bytes. GoesOn d w (part_of c) bytes (regions_of c) 0 (cell_count (part_of c).channels) (ints old.store) begun.decoder (position_of begun.bits) (ints new.store) end (position_of new.source.bits))
-          has.bytes (gives.goes begun.decoder has.stands).1.goes
-
-      same : d.finalize new.source.decoder ≡ d.finalize end
-      same = same_end d law end new.source (gives.goes begun.decoder has.stands).2
+          subst (λ bytes. GoesOn d w (part_of c) bytes (regions_of c) 0 (cell_count (part_of c).channels) (ints old.store) decoder (position_of bits) (ints new.store) new.source.decoder (position_of new.source.bits))
+          same f.goes
 
       pub part_refused : (e : DecoderError) → d.finalize new.source.decoder ≡ Err e → FailsInPart c d w to_int old new e
-      part_refused e error =
-          let f = (gives.goes begun.decoder has.stands).1 in
-          record {
-            decodes = subst (λ n. Ends new n e) has.steps
-                (refused_at_end d w (part_of c) (bytes_of old.source.bits) (regions_of c) old.source.decoder (ints old.store) (position_of old.source.bits) sizes _ has.begins (ints new.store) end (position_of new.source.bits) goes
-                (cost_of c) begun.steps new.source.steps e f.work (sym same ∙ error));
-            more = let m = f.more in let s = has.steps in omega (arith, m, s);
-            keeps = f.keeps;
-            memory = λ out. law.finalize_memory new.source.decoder (error ∙ ap Err out);
-            bytes = f.bytes ∙ has.bytes;
-          }
+      part_refused e error = record {
+        decodes = refused_at_end d w (part_of c) (bytes_of old.source.bits) (regions_of c) old.source.decoder (ints old.store) (position_of old.source.bits) sizes _ begins (ints new.store) new.source.decoder (position_of new.source.bits) goes
+            (cost_of c) old.source.steps new.source.steps e f.work error;
+        more = f.more;
+        keeps = f.keeps;
+        memory = λ out. law.finalize_memory new.source.decoder (error ∙ ap Err out);
+        bytes = f.bytes ∙ same;
+      }
 
       pub part_decoded : d.finalize new.source.decoder ≡ Ok tt → IsPartDecoded c d w to_int old new
-      part_decoded accepts =
-          let f = (gives.goes begun.decoder has.stands).1 in
-          record {
-            decodes = decodes_all d w (part_of c) (bytes_of old.source.bits) (regions_of c) old.source.decoder (ints old.store) (position_of old.source.bits) sizes _ has.begins (ints new.store) end (position_of new.source.bits) goes (sym same ∙ accepts);
-            work = let m = steps_from (cost_of c) (cell_count (part_of c).channels) begun.steps new.source.steps f.work in let s = has.steps in omega (arith, m, s);
-            more = let m = f.more in let s = has.steps in omega (arith, m, s);
-            keeps = f.keeps;
-            bytes = f.bytes ∙ has.bytes;
-          }
+      part_decoded accepts = record {
+        decodes = decodes_all d w (part_of c) (bytes_of old.source.bits) (regions_of c) old.source.decoder (ints old.store) (position_of old.source.bits) sizes _ begins (ints new.store) new.source.decoder (position_of new.source.bits) goes accepts;
+        work = steps_from (cost_of c) (cell_count (part_of c).channels) old.source.steps new.source.steps f.work;
+        more = f.more;
+        keeps = f.keeps;
+        bytes = f.bytes ∙ same;
+      }

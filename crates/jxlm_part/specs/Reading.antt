@@ -1,11 +1,10 @@
 -- Everything a part is decoded with, and what it must be.
-use Rattle.std.specs.Prelude.{◌≡◌, ℕ, ◌<◌, ◌≤◌, Bool, false, List, [], ◌∷◌, ◌==◌, length, max, get_or, if◌then◌else◌, IfSome, Option, None, Some}
+use Rattle.std.specs.Prelude.{◌≡◌, ℕ, ◌<◌, ◌≤◌, Bool, false, List, [], ◌∷◌, ◌==◌, length, max, get_or, if◌then◌else◌, Option, None, Some}
 use Rattle.std.specs.List.{All, list_any}
 use Rattle.jxlm_base.specs.declared.subgrid.Region.{Region}
 use Rattle.jxlm_ma.specs.FlatTree.{FlatTree, ClustersStandIn, GoesWithoutWeights, ReadsEarlierBelow}
 use Rattle.jxlm_tree.specs.SelfCorrecting.{IsHeader}
 use Rattle.jxlm_tree.specs.Standing.{room_of, earlier_room_of, weights_of}
-use Rattle.jxlm_ma.specs.Paths.{IsLeafOf, IsPlainGradient}
 use Rattle.jxlm_ma.specs.Steps.{most_steps}
 use Rattle.jxlm_ma.specs.Tree.{Shape}
 use Rattle.jxlm_ma.specs.declared.flat.Leaf.{Leaf}
@@ -21,18 +20,12 @@ use Rattle.jxlm_part.specs.declared.coding.PartState.{PartState}
 abbrev pub flat : Shape Leaf → ℕ → ℕ → FlatTree
 flat t stream i = record { tree = t; channel = i; stream_idx = stream; prev_channels = i }
 
--- all walks lead to this leaf, which predicts by the gradient with nothing to add and nothing to multiply by
-pub record IsRunLeaf (t : FlatTree) (l : Leaf) : Type 0 where
-  pub leaf : IsLeafOf t l
-  pub plain : IsPlainGradient l
-
--- It is this flat tree, and asks for no more than it says; a leaf for runs is its only one.
+-- it is this flat tree, and asks for no more than it says
 pub record IsTreeOf (t : FlatTree) (c : ChannelTree) : Type 0 where
   pub flat_is : c.flat ≡ t
   pub without : c.weighted ≡ false → GoesWithoutWeights t
   pub below : ReadsEarlierBelow t c.asked
   pub few : c.asked ≤ t.prev_channels
-  pub run : IfSome c.run (IsRunLeaf t)
 
 -- There are `count` flat trees, each of this tree for its channel.
 pub record HasFlats (t : Shape Leaf) (stream count : ℕ) (flats : List ChannelTree) : Type 0 where

@@ -1,22 +1,22 @@
 //! Everything a part is decoded with, and what is made ready before its first bit is read.
 
-ghost use Rattle.std.specs.Prelude.{◌≡◌, ℤ, ◌^◌, ◌<◌, ◌≤◌, List, IfOk, IfErr, IfSome, length};
+ghost use Rattle.std.specs.Prelude.{◌≡◌, ℤ, ◌^◌, ◌<◌, ◌≤◌, List, IfOk, IfErr, length};
 ghost use Rattle.jxlm_base.specs.ErrorKind.{NoMemory, kind_of};
 ghost use Rattle.jxlm_base.specs.Grid.{Grid};
 ghost use Rattle.jxlm_tree.specs.SelfCorrecting.{IsHeader};
 ghost use Rattle.jxlm_part.specs.Part.{is_alike as alike};
 ghost use Rattle.jxlm_tree.specs.Standing.{Setting, StandsAt, earlier_count, setting};
-ghost use Rattle.jxlm_part.specs.Reading.{HasFlats, HasRoom, IsCodingOf, IsRoomyFor, IsRunLeaf, IsTreeOf, flat, regions_of};
+ghost use Rattle.jxlm_part.specs.Reading.{HasFlats, HasRoom, IsCodingOf, IsRoomyFor, IsTreeOf, flat, regions_of};
 ghost use Rattle.jxlm_part.specs.Inner.Channels.{IsAfterChannel, StandsAfter, all_alike, region_at};
 
 use jxlm_base::decoder::Decoder;
 use jxlm_base::error::Result;
 use jxlm_base::grid::{OutOfMemory, Region};
 use jxlm_base::sample::{Sample, Sealed};
-use jxlm_ma::flat::{FlatMaTree, Leaf};
+use jxlm_ma::flat::FlatMaTree;
 use jxlm_ma::ma::MaConfig;
 use jxlm_transform::channels::ModularChannelInfo;
-use jxlm_tree::predictor::{Predictor, PredictorState, WpHeader};
+use jxlm_tree::predictor::{PredictorState, WpHeader};
 use std::alloc::Global;
 
 /// The tree as one channel walks it, and what it may ask for.
@@ -28,8 +28,6 @@ pub struct ChannelTree {
     pub weighted: bool,
     /// How many of the earlier channels it may ask for, the nearest first.
     pub asked: usize,
-    /// The leaf at which tokens may be taken in runs: the only one, where it predicts by the clamped gradient alone.
-    pub run: Option<Leaf>,
 }
 
 /// Everything the samples of a part are decoded with.
@@ -134,30 +132,16 @@ fn add_all_earlier<S: Sample, D: Decoder>(
     }
 }
 
-/// The only leaf of a tree, where it predicts by the clamped gradient and adds nothing to it.
-fn run_leaf(flat: &FlatMaTree) -> Option<Leaf>
-    ensures { IfSome result (IsRunLeaf flat.now) }
-{
-    let leaf = flat.only_leaf()?;
-    if leaf.predictor == Predictor::Gradient && leaf.offset == 0 && leaf.multiplier == 1 {
-        Some(leaf)
-    } else {
-        None
-    }
-}
-
 /// The tree as a channel walks it, with what it may ask for.
 fn channel_tree(flat: FlatMaTree) -> ChannelTree
     ensures { IsTreeOf flat result }
 {
     let weighted = flat.need_self_correcting();
     let asked = flat.max_prev_channel_depth();
-    let run = run_leaf(&flat);
     ChannelTree {
         flat,
         weighted,
         asked,
-        run,
     }
 }
 

@@ -1,22 +1,18 @@
 //! The loops that decode the samples of a part, in the order of its cells.
-//!
-//! Where the tokens of a part come in runs, and each of its channels has one leaf, which predicts by the clamped
-//! gradient, it is read run by run: the walk has an open run then.
 
-ghost use Rattle.std.specs.Prelude.{◌≡◌, true, ◌+◌, ◌<◌, ◌≤◌, OnOk, IfSome, IsSome, None, is_some, length};
-ghost use Rattle.jxlm_ma.specs.FlatTree.{ClustersStandIn};
+ghost use Rattle.std.specs.Prelude.{◌≡◌, ◌+◌, ◌<◌, ◌≤◌, OnOk, length};
 ghost use Rattle.jxlm_part.specs.Part.{cells_before, cell_count};
 ghost use Rattle.jxlm_part.specs.Inner.Channels.{region_at};
-ghost use Rattle.jxlm_part.specs.Inner.Levels.{Begins, HasRooms, HaveRunLeaves, IsAtChannel, IsAtRow, IsOnPath, IsPathOf};
+ghost use Rattle.jxlm_part.specs.Inner.Levels.{HasRooms, IsAtChannel, IsAtRow, IsOnPath};
 ghost use Rattle.jxlm_part.specs.Inner.Progress.{PartGives, WalkGives, moment, place_of};
 ghost use Rattle.jxlm_part.specs.Inner.Rows.{IsDecodingPart, RowGives, region_on};
-ghost use Rattle.jxlm_part.specs.Reading.{FindsClusters, IsCodingOf, IsRunLeaf, part_of, regions_of, row_width};
+ghost use Rattle.jxlm_part.specs.Reading.{FindsClusters, part_of, regions_of, row_width};
 
 use crate::cell::read_by_cells;
-use crate::coding::{ChannelTree, PartCoding, start_channel};
+use crate::coding::{PartCoding, start_channel};
 use crate::gradient::{Leaves, read_gradients};
 use crate::rows::{Line, RowError, write_read};
-use crate::source::{Run, Source, Walk};
+use crate::source::Walk;
 use crate::zeros::read_zeros;
 use jxlm_base::decoder::{Decoder, DecoderError};
 use jxlm_base::grid::AlignedGrid;
@@ -106,22 +102,6 @@ fn decode_rows<'x, S: Sample, D: Decoder>(
     Ok(())
 }
 
-/// How the rows of a channel with this tree are read: in runs, where tokens are taken so.
-fn path_by<'t, D: Decoder>(tree: &'t ChannelTree, source: &Source<'_, D>) -> Path<'t>
-    requires clusters { ClustersStandIn (D.meaning.cluster_map source.now.decoder) tree.now.flat.tree }
-    requires leaf { IfSome tree.now.run (IsRunLeaf tree.now.flat) }
-    requires runs { is_some source.now.run ≡ true → IsSome tree.now.run }
-    ensures { IsPathOf tree.now.flat (is_some source.now.run) result }
-{
-    if source.run.is_none() {
-        return tree.flat.path_of(&source.decoder);
-    }
-    match tree.run {
-        Some(leaf) => Path::Runs(leaf),
-        None => unreachable!(),
-    }
-}
-
 /// Reads channel `i`, row by row; one without columns or rows has no cell. `scratch` has room for a row.
 fn decode_channel<'x, S: Sample, D: Decoder>(
     walk: &mut Walk<'_, S, D>,
@@ -143,7 +123,7 @@ fn decode_channel<'x, S: Sample, D: Decoder>(
         return Ok(());
     }
     start_channel(&mut walk.state, coding, i);
-    let path = path_by(&coding.flats[i], &walk.source);
+    let path = coding.flats[i].flat.path_of(&walk.source.decoder);
     let row = &mut scratch[..region.width];
     decode_rows(walk, coding, store, path, row, i)
 }
@@ -166,40 +146,6 @@ fn decode_channels<'x, S: Sample, D: Decoder>(
     Ok(())
 }
 
-/// Whether the decoder's tokens come in runs, and each channel with cells has a leaf at which they can be taken so.
-fn comes_in_runs<D: Decoder>(decoder: &D, coding: &PartCoding<'_, D>) -> bool
-    requires coding { IsCodingOf coding.now }
-    ensures rle { result ≡ true → D.meaning.as_rle decoder.now ≡ true }
-    ensures only { result ≡ true → HaveRunLeaves coding.now (length (regions_of coding.now)) }
-{
-    if !decoder.as_rle() {
-        return false;
-    }
-    for i in 0..coding.regions.len() {
-        let region = coding.regions[i];
-        if region.width > 0 && region.height > 0 && coding.flats[i].run.is_none() {
-            return false;
-        }
-    }
-    true
-}
-
-/// Begins the tokens of a part: with a run of which no token is left, where they are taken in runs.
-fn begin<D: Decoder>(
-    source: &mut Source<'_, D>,
-    coding: &PartCoding<'_, D>,
-) -> Result<(), DecoderError>
-    requires coding { IsCodingOf coding.now }
-    requires none { source.old.run ≡ None }
-    ensures { Begins D.meaning coding.now source.old source.new result }
-{
-    source.decoder.begin(&mut source.bits)?;
-    if comes_in_runs(&source.decoder, coding) {
-        source.run = Some(Run { left: 0, token: 0 });
-    }
-    Ok(())
-}
-
 /// Decodes all samples of a part (ISO/IEC 18181-1, Modular: decoding of samples): the decoder begins, the channels are
 /// read in order, and the decoder accepts the end. `scratch` has room for a row of each channel that has cells.
 ///
@@ -216,11 +162,12 @@ pub(crate) fn decode_part<'x, S: Sample, D: Decoder>(
     requires part { IsDecodingPart coding.now store.old }
     requires clusters { FindsClusters coding.now (D.meaning.cluster_map walk.old.source.decoder) }
     requires rooms { HasRooms coding.now walk.old.state scratch.old }
-    requires none { walk.old.source.run ≡ None }
     ensures { PartGives coding.now D.meaning S.width S.to_int
         (moment walk.old.source store.old) (moment walk.new.source store.new) result }
 {
-    begin(&mut walk.source, coding)?;
+    let mut bits = walk.source.bits;
+    walk.source.decoder.begin(&mut bits)?;
+    walk.source.bits = bits;
     decode_channels(walk, coding, store, scratch)?;
     walk.source.decoder.finalize()?;
     Ok(())

@@ -79,10 +79,9 @@ fn gradient_stretch<S: Sample, D: Decoder, const FIRST: bool>(
     requires column { from < length row.old }
     requires inside { from + length tokens.old ≤ length row.old }
     requires above { length above.now ≡ (if FIRST then 0 else length row.old) }
-    ensures reads { StretchGives D.meaning
+    ensures { StretchGives D.meaning
         (λ bytes. gradient_rule D.meaning S.width bytes widest (One leaf) (map S.to_int above.now)) from
         (length tokens.old) (map S.to_int row.old) (map S.to_int row.new) source.old source.new result }
-    ensures run { source.new.run ≡ source.old.run }
 {
     match source
         .decoder
@@ -118,10 +117,9 @@ pub(crate) fn read_one_gradient<S: Sample, D: Decoder, const FIRST: bool>(
     requires plain { IsPlain leaf }
     requires cluster { Contains (D.meaning.cluster_map source.old.decoder) leaf.cluster }
     requires above { length above.now ≡ (if FIRST then 0 else length row.old) }
-    ensures reads { ReadsRow D.meaning 0
+    ensures { ReadsRow D.meaning 0
         (gradient_rule D.meaning S.width (bytes_of source.old.bits) widest (One leaf) (map S.to_int above.now))
         (map S.to_int row.new) result source.old source.new }
-    ensures run { source.new.run ≡ source.old.run }
 {
     let mut room = [0; STRETCH];
     let mut x = 0;

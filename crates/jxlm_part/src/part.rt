@@ -128,7 +128,6 @@ impl<'a, D: Decoder> PlacedPart<'a, D> {
             source: Source {
                 decoder,
                 bits: *bits,
-                run: None,
                 steps: mem::replace(steps, Steps::new()),
             },
             state: predictor,

@@ -5,15 +5,6 @@ use jxlm_base::decoder::Decoder;
 use jxlm_ma::flat::Steps;
 use jxlm_tree::predictor::PredictorState;
 
-/// The run that is being taken.
-#[derive(Clone, Copy)]
-pub(crate) struct Run {
-    /// How many of its tokens are left.
-    pub(crate) left: u32,
-    /// The last token, or 0 before the first one.
-    pub(crate) token: u32,
-}
-
 /// What tokens are taken from.
 #[derive(Drop)]
 pub(crate) struct Source<'b, D: Decoder> {
@@ -21,8 +12,6 @@ pub(crate) struct Source<'b, D: Decoder> {
     pub(crate) decoder: D,
     /// The reader of its bits.
     pub(crate) bits: Bitstream<'b>,
-    /// The run that is being taken, where tokens are taken in runs.
-    pub(crate) run: Option<Run>,
     /// The steps that were taken in trees.
     pub(crate) steps: Steps,
 }

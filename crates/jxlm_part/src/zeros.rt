@@ -77,9 +77,8 @@ fn zero_stretch<S: Sample, D: Decoder, const PLAIN: bool>(
     requires plain { PLAIN ≡ true → IsPlain leaf }
     requires cluster { Contains (D.meaning.cluster_map source.old.decoder) leaf.cluster }
     requires inside { from + length tokens.old ≤ length row.old }
-    ensures reads { StretchGives D.meaning (λ bytes. zero_rule D.meaning S.width bytes widest leaf) from
+    ensures { StretchGives D.meaning (λ bytes. zero_rule D.meaning S.width bytes widest leaf) from
         (length tokens.old) (map S.to_int row.old) (map S.to_int row.new) source.old source.new result }
-    ensures run { source.new.run ≡ source.old.run }
 {
     match source
         .decoder
@@ -110,9 +109,8 @@ fn zero_cells<S: Sample, D: Decoder, const PLAIN: bool>(
     requires multiplier { HasMultiplier leaf }
     requires plain { PLAIN ≡ true → IsPlain leaf }
     requires cluster { Contains (D.meaning.cluster_map source.old.decoder) leaf.cluster }
-    ensures reads { ReadsRow D.meaning 0 (zero_rule D.meaning S.width (bytes_of source.old.bits) widest leaf)
+    ensures { ReadsRow D.meaning 0 (zero_rule D.meaning S.width (bytes_of source.old.bits) widest leaf)
         (map S.to_int row.new) result source.old source.new }
-    ensures run { source.new.run ≡ source.old.run }
 {
     let mut room = [0; STRETCH];
     let mut x = 0;
@@ -137,9 +135,8 @@ pub(crate) fn read_zeros<S: Sample, D: Decoder>(
 ) -> Result<(), RowError>
     requires multiplier { HasMultiplier leaf }
     requires cluster { Contains (D.meaning.cluster_map source.old.decoder) leaf.cluster }
-    ensures reads { ReadsRow D.meaning 0 (zero_rule D.meaning S.width (bytes_of source.old.bits) widest leaf)
+    ensures { ReadsRow D.meaning 0 (zero_rule D.meaning S.width (bytes_of source.old.bits) widest leaf)
         (map S.to_int row.new) result source.old source.new }
-    ensures run { source.new.run ≡ source.old.run }
 {
     if let Some(token) = source.decoder.single_token(leaf.cluster) {
         fill_row(token, leaf, row);

@@ -15,7 +15,7 @@ use Rattle.jxlm_tree.specs.Standing.{Setting, StandsAt}
 use Rattle.jxlm_ma.specs.declared.flat.Leaf.{Leaf}
 use Rattle.jxlm_tree.specs.declared.properties.Properties.{Properties}
 use Rattle.jxlm_part.specs.Coded.{sample_of}
-use Rattle.jxlm_part.specs.Inner.Source.{Source}
+use Rattle.jxlm_part.specs.declared.source.Source.{Source}
 
 -- a sample was read at this leaf, over this prediction, from this reading; it left state t and position q
 pub record ReadsNext {S X : Type 0} (w : Width) (from_int : ℤ → X) (l : Leaf) (predicted : ℤ) (sample : X)
@@ -56,7 +56,6 @@ module _ {D X : Type 0} (d : Meaning D) (to_int : X → ℤ) (flat : FlatTree) (
         ReadsNext w from_int (leaf_at flat s numbers samples) (predicted_at flat s numbers samples) sample
         new.decoder (position_of new.bits) (reading s samples)
     pub clusters : d.cluster_map new.decoder ≡ d.cluster_map old.decoder
-    pub run : new.run ≡ old.run
     pub bytes : bytes_of new.bits ≡ bytes_of old.bits
     pub work : new.steps ≤ old.steps + cost
     pub more : old.steps ≤ new.steps
@@ -64,7 +63,6 @@ module _ {D X : Type 0} (d : Meaning D) (to_int : X → ℤ) (flat : FlatTree) (
   -- this error
   pub record FailsSample (cost : ℕ) (e : DecoderError) : Type 0 where
     pub error : (s : Setting) (samples : List ℤ) → StandsAt (state_of properties) s samples → reading s samples ≡ Err e
-    pub run : new.run ≡ old.run
     pub place_is : position_of new.bits ≡ position_of old.bits
     pub memory : e ≢ OutOfMemory
     pub bytes : bytes_of new.bits ≡ bytes_of old.bits

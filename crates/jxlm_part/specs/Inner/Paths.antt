@@ -37,16 +37,6 @@ is_walked (path.Clusters c) = true
 is_walked (path.GradientClusters c) = false
 is_walked path.Tree = true
 
--- the path's tokens may be taken in runs
-abbrev pub may_run : Path → Bool
-may_run (path.Constant l) = false
-may_run (path.Zero l) = false
-may_run (path.Gradient l) = true
-may_run (path.Runs l) = true
-may_run (path.Clusters c) = false
-may_run (path.GradientClusters c) = true
-may_run path.Tree = false
-
 -- the steps of a cell that is read so: by a table, or by the walk of the tree
 abbrev pub steps_walked : Path → Shape Leaf → ℕ
 steps_walked (path.Constant l) t = depth t + 1

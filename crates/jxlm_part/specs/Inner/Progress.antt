@@ -14,7 +14,7 @@ use Rattle.jxlm_part.specs.Coded.{part_rule, IsCoded}
 use Rattle.jxlm_part.specs.Progress.{DecodesAll, DecodesSome}
 use Rattle.jxlm_part.specs.Part.{Part, channel, cell_count, cells_before, cells_of}
 use Rattle.jxlm_part.specs.Reading.{cost_of, part_of, regions_of}
-use Rattle.jxlm_part.specs.Inner.Source.{InSingles, Source}
+use Rattle.jxlm_part.specs.declared.source.Source.{Source}
 use Rattle.jxlm_part.specs.declared.coding.PartCoding.{PartCoding}
 
 module _ {S : Type 0} (d : Meaning S) (w : Width) (part : Part) (bytes : List ℕ) (decoder : S)
@@ -91,15 +91,10 @@ module _ {D X : Type 0} (c : PartCoding D) (d : Meaning D) (w : Width) (to_int :
     pub memory : e ≢ OutOfMemory
     pub bytes : bytes_of new.source.bits ≡ bytes_of old.source.bits
 
-  abbrev pub Decodes : ℕ → ℕ → Result (Unit {0}) DecoderError → Moment D X → Moment D X → Type 0
-  Decodes from to (Ok u) old new = DecodesCells from to old new
-  Decodes from to (Err e) old new = FailsInCells from old new e
-
-  -- Cells `from` up to `to` were decoded, or the read of one of them returned an error: in whatever state single reads
-  -- would have been.
+  -- cells `from` up to `to` were decoded, or the read of one of them returned an error
   abbrev pub WalkGives : ℕ → ℕ → Result (Unit {0}) DecoderError → Moment D X → Moment D X → Type 0
-  WalkGives from to result old new = InSingles d old.source new.source (λ s t.
-      Decodes from to result (moment s old.store) (moment t new.store))
+  WalkGives from to (Ok u) old new = DecodesCells from to old new
+  WalkGives from to (Err e) old new = FailsInCells from old new e
 
   -- the part was decoded to its end
   pub record IsPartDecoded (old new : Moment D X) : Type 0 where

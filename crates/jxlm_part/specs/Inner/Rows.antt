@@ -1,5 +1,5 @@
 -- Rows of cells that are read one after another.
-use Rattle.std.specs.Prelude.{◌≡◌, ◌≢◌, ℕ, ◌+◌, ◌*◌, ◌<◌, ◌≤◌, ℤ, List, ◌++◌, length, map, take, slice_get, slice_index, slice_set, Some, None, Result, Ok, Err}
+use Rattle.std.specs.Prelude.{◌≡◌, ◌≢◌, ℕ, ◌+◌, ◌*◌, ◌<◌, ◌≤◌, ℤ, List, ◌++◌, length, map, take, slice_get, slice_index, slice_set, Some, Result, Ok, Err}
 use Rattle.std.specs.Int.{Width}
 use Rattle.jxlm_base.specs.Bits.{bytes_of, position_of}
 use Rattle.jxlm_base.specs.Decoding.{Meaning}
@@ -19,10 +19,11 @@ use Rattle.jxlm_part.specs.Part.{Part}
 use Rattle.jxlm_part.specs.Reading.{FindsClusters, HasRoom, IsCodingOf, cost_of, part_of, regions_of, tree_of}
 use Rattle.jxlm_part.specs.Rule.{Rule, CodedPrefix}
 use Rattle.jxlm_part.specs.Inner.Channels.{region_at, setting_of}
-use Rattle.jxlm_part.specs.Inner.Paths.{Allows, steps_walked}
+use Rattle.jxlm_part.specs.Inner.Paths.{Allows, gradient_rule, steps_by, steps_walked}
 use Rattle.jxlm_part.specs.Inner.Progress.{preceding_cells}
-use Rattle.jxlm_part.specs.Inner.Source.{InSingles, Source}
+use Rattle.jxlm_part.specs.declared.source.Source.{Source}
 use Rattle.jxlm_part.specs.declared.coding.PartCoding.{PartCoding}
+use Rattle.jxlm_part.specs.declared.gradient.Leaves.{Leaves}
 use Rattle.jxlm_part.specs.declared.rows.Line.{Line}
 use Rattle.jxlm_part.specs.declared.rows.RowError.{RowError}
 use Rattle.jxlm_part.specs.declared.source.Walk.{Walk}
@@ -94,6 +95,12 @@ module _ {S : Type 0} (d : Meaning S) (rule : List ℕ → Rule S) (x n : ℕ) (
       ReadsCells d 0 (rule (bytes_of start.bits)) now (x + n) start new
   StretchGives (Err r) = (start : Source S) → ReadsCells d 0 (rule (bytes_of start.bits)) row x start old →
       FailsRow d 0 (rule (bytes_of start.bits)) now start new r
+
+-- what the read of a row below another returned, and what it left
+abbrev pub GradientGives : {D : Type 0} → Meaning D → Width → Leaves → ℕ → List ℤ → List ℤ → Source D → Source D →
+    Result (Unit {0}) RowError → Type 0
+GradientGives d w leaves widest above row old new result =
+    ReadsRow d (steps_by leaves) (gradient_rule d w (bytes_of old.bits) widest leaves above) row result old new
 
 -- two rules read the same for each cell of a row of n cells
 abbrev pub AreAlike : {S : Type 0} → Rule S → Rule S → ℕ → Type 0
@@ -175,8 +182,8 @@ module _ {D X : Type 0} (l : Line X D) where
 
     -- what the read of the row returned, and what it left
     abbrev pub RowGives : List X → Source D → Source D → Result (Unit {0}) RowError → Type 0
-    RowGives row old new result = InSingles d old new
-        (ReadsRow d (cost_of l.coding.now) (rule_on (bytes_of old.bits)) (map to_int row) result)
+    RowGives row old new result =
+        ReadsRow d (cost_of l.coding.now) (rule_on (bytes_of old.bits)) (map to_int row) result old new
 
     -- the walk is before cell x of the row
     pub record IsAtCell (x : ℕ) (row : List X) (walk : Walk X D) : Type 0 where
@@ -184,7 +191,6 @@ module _ {D X : Type 0} (l : Line X D) where
       pub stands : StandsInRow l.coding.now to_int l.store.now l.i l.y (take x (map to_int row)) walk.state
       pub roomy : HasRoom l.coding.now walk.state
       pub clusters : FindsClusters l.coding.now (d.cluster_map walk.source.decoder)
-      pub single : walk.source.run ≡ None
 
     -- what the read of cell x returned, and what it left
     abbrev pub CellGives : ℕ → List X → List X → Walk X D → Walk X D → Result (Unit {0}) DecoderError → Type 0
@@ -193,7 +199,6 @@ module _ {D X : Type 0} (l : Line X D) where
         × IsAtCell (x + 1) now new
     CellGives x row now old new (Err e) =
         FailsCell d (cost_of l.coding.now) (rule_on (bytes_of old.source.bits)) (map to_int row) x old.source new.source (map to_int now) e
-        × (new.source.run ≡ None)
 
     -- What the read of the cells from one column to before another returned, and what it left: wherever those before the
     -- first one were read from.
@@ -203,6 +208,5 @@ module _ {D X : Type 0} (l : Line X D) where
         ReadsCells d (cost_of l.coding.now) (rule_on (bytes_of start.bits)) (map to_int now) to start new.source)
         × IsAtCell to now new
     CellsGive from to row now old new (Err r) =
-        ((start : Source D) → ReadsCells d (cost_of l.coding.now) (rule_on (bytes_of start.bits)) (map to_int row) from start old.source →
-        FailsRow d (cost_of l.coding.now) (rule_on (bytes_of start.bits)) (map to_int now) start new.source r)
-        × (new.source.run ≡ None)
+        (start : Source D) → ReadsCells d (cost_of l.coding.now) (rule_on (bytes_of start.bits)) (map to_int row) from start old.source →
+        FailsRow d (cost_of l.coding.now) (rule_on (bytes_of start.bits)) (map to_int now) start new.source r

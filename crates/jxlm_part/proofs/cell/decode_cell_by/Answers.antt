@@ -36,11 +36,9 @@ pub returns-in_err-sample : goal.returns-in_err-sample
 returns-in_err-sample g c =
     let p = err_from_is_err_and c.from_residual.result c.from_residual.ensures.1 in
     let seen = c.properties_in_row-properties.ensures in
-    rw (p.1, p.2) (
-      fails_cell c.args.line.now g.S.Sealed.to_int c.requires.line.line c.args.x c.args.row.now c.requires.at.long c.requires.column g.D.Decoder.meaning g.S.Sealed.width c.args.walk.now.source _ c.requires.line.steps c.next_sample.new.source
-          c.properties_in_row-properties.result seen.store (stands_so _ _ _ _ seen.unchanged c.requires.at.stands) _ c.in_err-sample.ensures,
-      c.in_err-sample.ensures.run ∙ c.requires.at.single,
-    )
+    rw (p.1, p.2)
+    (fails_cell c.args.line.now g.S.Sealed.to_int c.requires.line.line c.args.x c.args.row.now c.requires.at.long c.requires.column g.D.Decoder.meaning g.S.Sealed.width c.args.walk.now.source _ c.requires.line.steps c.next_sample.new.source
+    c.properties_in_row-properties.result seen.store (stands_so _ _ _ _ seen.unchanged c.requires.at.stands) _ c.in_err-sample.ensures)
 
 pub returns : goal.returns
 returns g c =
@@ -61,6 +59,5 @@ returns g c =
         stands = stands_further l to_int is c.args.x c.args.row.now at.long c.requires.column sample _ (stands_so _ _ _ _ (search rules) after_it);
         roomy = roomy_still l.coding.now is.here.part.coding l.i is.here.channel c.args.walk.now.state _ (room_so c.args.walk.now.state _ _ (search rules) same) at.roomy;
         clusters = subst (FindsClusters l.coding.now) (sym c.in_ok-sample.ensures.clusters) at.clusters;
-        single = c.in_ok-sample.ensures.run ∙ at.single;
       },
     )

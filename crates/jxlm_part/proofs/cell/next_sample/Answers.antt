@@ -18,7 +18,6 @@ returns-in_err-token g c =
     let gives = c.in_err-token.ensures.gives in
     rw (p.1, p.2) (record {
       error = λ s samples stands. ap (λ (l : Leaf). d.read old.decoder (bytes_of old.bits) (position_of old.bits) l.cluster c.args.widest) (sym (c.leaf_of-leaf.ensures.leaf s samples stands)) ∙ gives.0;
-      run = search rules;
       place_is = gives.2;
       memory = λ is. g.met.D.Decoder.lawful.read_memory old.decoder (bytes_of old.bits) (position_of old.bits) c.leaf_of-leaf.result.cluster c.args.widest known (rw (← is) gives.0);
       bytes = c.in_err-token.ensures.bytes;
@@ -33,7 +32,6 @@ returns g c =
     record {
       reads = λ s samples stands. search rules;
       clusters = (g.met.D.Decoder.lawful.read_keeps old.decoder (bytes_of old.bits) (position_of old.bits) c.leaf_of-leaf.result.cluster c.args.widest _ known c.in_ok-token.ensures.gives).clusters;
-      run = search rules;
       bytes = c.in_ok-token.ensures.bytes;
       work = c.leaf_of-leaf.ensures.cost;
       more = c.leaf_of-leaf.ensures.more;

@@ -1,5 +1,4 @@
-use Rattle.std.proofs.Common.{◌≡◌, ℕ, ℤ, ◌≤◌, true, None, List, map, length, arith, subst}
-use Rattle.std.specs.Prelude.{Result, Ok, Err}
+use Rattle.std.proofs.Common.{◌≡◌, ℕ, ℤ, ◌≤◌, true, List, map, length, arith, subst}
 use Rattle.std.specs.Int.{Width}
 use Rattle.std.proofs.lemmas.List.{length-map}
 use Rattle.std.proofs.lemmas.Result.{err_from_is_err_and}
@@ -14,14 +13,12 @@ use Rattle.jxlm_tree.specs.EarlierRows.{HoldRows}
 use Rattle.jxlm_tree.specs.Standing.{IsReady}
 use Rattle.jxlm_tree.specs.declared.earlier.EarlierRow.{EarlierRow}
 use Rattle.jxlm_part.specs.Inner.Paths.{is_walked, steps_walked}
-use Rattle.jxlm_part.specs.Inner.Rows.{IsAtCell, IsAway, IsLine, IsWalked, ReadsCells, ReadsRow, RowGives, rule_on}
+use Rattle.jxlm_part.specs.Inner.Rows.{IsAtCell, IsAway, IsLine, IsWalked, ReadsCells, rule_on}
 use Rattle.jxlm_part.specs.Reading.{cost_of}
 use Rattle.jxlm_part.specs.declared.rows.Line.{Line}
-use Rattle.jxlm_part.specs.declared.rows.RowError.{RowError}
 use Rattle.jxlm_part.specs.declared.source.Walk.{Walk}
 use Rattle.jxlm_part.proofs.CellLaws.{is_ready, rows_are}
 use Rattle.jxlm_part.proofs.RowReads.{none_read}
-use Rattle.jxlm_part.proofs.Singles.{plainly}
 use Rattle.jxlm_part.proofs.cell.read_by_cells.Goals as goal
 
 walked_within : (p : Path) (t : Shape Leaf) (n : ℕ) → is_walked p ≡ true → steps_on p t ≤ n → steps_walked p t ≤ n
@@ -49,11 +46,6 @@ module _ {D X : Type 0} (l : Line X D) (d : Meaning D) (to_int : X → ℤ) (w :
   abbrev first : ReadsCells d (cost_of l.coding.now) (rule_on l d to_int w (bytes_of walk.source.bits)) (map to_int row) 0 walk.source walk.source
   first = none_read d (cost_of l.coding.now) (rule_on l d to_int w (bytes_of walk.source.bits)) (map to_int row) walk.source
 
-  -- what the reads of its cells give
-  gives : (new : Walk X D) (now : List X) (result : Result (Unit {0}) RowError) → new.source.run ≡ None →
-      ReadsRow d (cost_of l.coding.now) (rule_on l d to_int w (bytes_of walk.source.bits)) (map to_int now) result walk.source new.source → RowGives l d to_int w now walk.source new.source result
-  gives new now result none h = plainly d walk.source new.source (ReadsRow d (cost_of l.coding.now) (rule_on l d to_int w (bytes_of walk.source.bits)) (map to_int now) result) at.single none h
-
 pub of-earlier-requires-after_bounds : goal.of-earlier-requires-after_bounds
 of-earlier-requires-after_bounds g c κs within =
     (omega arith, ready c.args.line.now g.D.Decoder.meaning g.S.Sealed.to_int g.S.Sealed.width c.requires.line c.args.row.now c.args.walk.now c.requires.at)
@@ -65,10 +57,8 @@ read_cells-requires-clause-line g c κs within =
 pub returns-in_err-read_cells-clause-gives : goal.returns-in_err-read_cells-clause-gives
 returns-in_err-read_cells-clause-gives g c =
     let p = err_from_is_err_and c.from_residual.result c.from_residual.ensures.1 in
-    let line = c.args.line.now in
     rw (p.1, p.2)
-    (gives line g.D.Decoder.meaning g.S.Sealed.to_int g.S.Sealed.width c.requires.line c.args.row.now c.args.walk.now c.requires.at c.read_cells.new.walk c.read_cells.new.row (Err _) c.in_err-read_cells.ensures.1
-    (c.in_err-read_cells.ensures.0 c.args.walk.now.source (first line g.D.Decoder.meaning g.S.Sealed.to_int g.S.Sealed.width c.requires.line c.args.row.now c.args.walk.now c.requires.at)))
+    (c.in_err-read_cells.ensures c.args.walk.now.source (first c.args.line.now g.D.Decoder.meaning g.S.Sealed.to_int g.S.Sealed.width c.requires.line c.args.row.now c.args.walk.now c.requires.at))
 
 pub read_cells-requires-2-clause-line : goal.read_cells-requires-2-clause-line
 read_cells-requires-2-clause-line g c κs within =
@@ -80,11 +70,9 @@ read_cells-requires-2-clause-inner g c κs within inside x after before = subst 
 pub returns-in_err-read_cells-2-clause-gives : goal.returns-in_err-read_cells-2-clause-gives
 returns-in_err-read_cells-2-clause-gives g c =
     let p = err_from_is_err_and c.from_residual-in_err-read_cells-2.result c.from_residual-in_err-read_cells-2.ensures.1 in
-    let line = c.args.line.now in
     rw (p.1, p.2)
-    (gives line g.D.Decoder.meaning g.S.Sealed.to_int g.S.Sealed.width c.requires.line c.args.row.now c.args.walk.now c.requires.at c.read_cells-2.new.walk c.read_cells-2.new.row (Err _) c.in_err-read_cells-2.ensures.1
-    (c.in_err-read_cells-2.ensures.0 c.args.walk.now.source
-    (c.in_ok-read_cells.ensures.0 c.args.walk.now.source (first line g.D.Decoder.meaning g.S.Sealed.to_int g.S.Sealed.width c.requires.line c.args.row.now c.args.walk.now c.requires.at))))
+    (c.in_err-read_cells-2.ensures c.args.walk.now.source
+    (c.in_ok-read_cells.ensures.0 c.args.walk.now.source (first c.args.line.now g.D.Decoder.meaning g.S.Sealed.to_int g.S.Sealed.width c.requires.line c.args.row.now c.args.walk.now c.requires.at)))
 
 pub read_cells-requires-3-clause-line : goal.read_cells-requires-3-clause-line
 read_cells-requires-3-clause-line g c κs within =
@@ -93,11 +81,9 @@ read_cells-requires-3-clause-line g c κs within =
 pub returns-in_err-read_cells-3-clause-gives : goal.returns-in_err-read_cells-3-clause-gives
 returns-in_err-read_cells-3-clause-gives g c =
     let p = err_from_is_err_and c.from_residual-in_err-read_cells-3.result c.from_residual-in_err-read_cells-3.ensures.1 in
-    let line = c.args.line.now in
     rw (p.1, p.2)
-    (gives line g.D.Decoder.meaning g.S.Sealed.to_int g.S.Sealed.width c.requires.line c.args.row.now c.args.walk.now c.requires.at c.read_cells-3.new.walk c.read_cells-3.new.row (Err _) c.in_err-read_cells-3.ensures.1
-    (c.in_err-read_cells-3.ensures.0 c.args.walk.now.source (c.in_ok-read_cells-2.ensures.0 c.args.walk.now.source
-    (c.in_ok-read_cells.ensures.0 c.args.walk.now.source (first line g.D.Decoder.meaning g.S.Sealed.to_int g.S.Sealed.width c.requires.line c.args.row.now c.args.walk.now c.requires.at)))))
+    (c.in_err-read_cells-3.ensures c.args.walk.now.source (c.in_ok-read_cells-2.ensures.0 c.args.walk.now.source
+    (c.in_ok-read_cells.ensures.0 c.args.walk.now.source (first c.args.line.now g.D.Decoder.meaning g.S.Sealed.to_int g.S.Sealed.width c.requires.line c.args.row.now c.args.walk.now c.requires.at))))
 
 pub returns-clause-gives : goal.returns-clause-gives
 returns-clause-gives g c =
@@ -105,10 +91,9 @@ returns-clause-gives g c =
     let to_int = g.S.Sealed.to_int in
     let whole : length c.args.row.now ≡ length (map to_int c.read_cells-3.new.row) =
     let m = length-map c.read_cells-3.new.row to_int in let long = c.in_ok-read_cells-3.ensures.1.long in let before = c.requires.at.long in omega (arith, m, long, before) in
-    gives line g.D.Decoder.meaning to_int g.S.Sealed.width c.requires.line c.args.row.now c.args.walk.now c.requires.at c.read_cells-3.new.walk c.read_cells-3.new.row (Ok tt) c.in_ok-read_cells-3.ensures.1.single
-    (subst (λ n. ReadsCells g.D.Decoder.meaning (cost_of line.coding.now) (rule_on line g.D.Decoder.meaning to_int g.S.Sealed.width (bytes_of c.args.walk.now.source.bits)) (map to_int c.read_cells-3.new.row) n c.args.walk.now.source c.read_cells-3.new.walk.source) whole
+    subst (λ n. ReadsCells g.D.Decoder.meaning (cost_of line.coding.now) (rule_on line g.D.Decoder.meaning to_int g.S.Sealed.width (bytes_of c.args.walk.now.source.bits)) (map to_int c.read_cells-3.new.row) n c.args.walk.now.source c.read_cells-3.new.walk.source) whole
     (c.in_ok-read_cells-3.ensures.0 c.args.walk.now.source (c.in_ok-read_cells-2.ensures.0 c.args.walk.now.source
-    (c.in_ok-read_cells.ensures.0 c.args.walk.now.source (first line g.D.Decoder.meaning to_int g.S.Sealed.width c.requires.line c.args.row.now c.args.walk.now c.requires.at)))))
+    (c.in_ok-read_cells.ensures.0 c.args.walk.now.source (first line g.D.Decoder.meaning to_int g.S.Sealed.width c.requires.line c.args.row.now c.args.walk.now c.requires.at))))
 
 pub returns-clause-at : goal.returns-clause-at
 returns-clause-at g c =

@@ -1,24 +1,33 @@
-use Rattle.std.proofs.Common.{◌≡◌, ℕ, ◌+◌, ◌<◌, ◌≤◌, false, Option, None, Some, is_some, refl, sym, subst, arith}
-use Rattle.std.specs.Prelude.{IfSome, slice_index_or}
+use Rattle.std.proofs.Common.{◌≡◌, ℕ, ◌+◌, ◌<◌, ◌≤◌, sym, subst, arith}
 use Rattle.std.proofs.lemmas.List.{length-take-le}
 use Rattle.jxlm_ma.specs.FlatTree.{FlatTree}
-use Rattle.jxlm_ma.specs.Paths.{Gives, steps_on}
+use Rattle.jxlm_ma.specs.Paths.{Gives, IsNamed, steps_on}
 use Rattle.jxlm_ma.specs.Steps.{most_steps}
+use Rattle.jxlm_ma.specs.declared.paths.Path.{Path}
+use Rattle.jxlm_ma.specs.declared.paths.Path.TheVariants as path
+use Rattle.jxlm_base.specs.Decoding.{Meaning}
 use Rattle.jxlm_tree.specs.declared.state.PredictorState.{PredictorState}
 use Rattle.jxlm_part.specs.Inner.Channels.{IsAfterChannel, region_at}
+use Rattle.jxlm_part.specs.Inner.Paths.{Allows}
 use Rattle.jxlm_part.specs.Inner.Progress.{moment}
-use Rattle.jxlm_part.specs.Reading.{IsRunLeaf, part_of, regions_of}
+use Rattle.jxlm_part.specs.Reading.{part_of, regions_of}
 use Rattle.jxlm_part.specs.declared.coding.PartCoding.{PartCoding}
-use Rattle.jxlm_part.proofs.CellLaws.{clusters_at, flat_at, tree_at}
+use Rattle.jxlm_part.proofs.CellLaws.{clusters_at, flat_at}
 use Rattle.jxlm_part.proofs.Decoding.{at_first_row, none_decoded}
 use Rattle.jxlm_part.proofs.Loops.{channel_empty, channel_flat, ok_so}
 use Rattle.jxlm_part.proofs.Starting.{after_channel, fits_widest}
 use Rattle.jxlm_part.proofs.decode.decode_channel.Goals.{then-region-eq0-via-then-region-eq0, then-region-eq0-via-else-region-eq0+then-region-eq0-2}
 use Rattle.jxlm_part.proofs.decode.decode_channel.Goals as goal
 
-none_of : {A : Type 0} (o : Option A) → is_some o ≡ false → o ≡ None
-none_of None h = refl
-none_of (Some a) h = cc
+-- what a path is named by says what it says of its leaves
+allowed : {D : Type 0} (m : Meaning D) (decoder : D) (p : Path) → IsNamed m decoder p → Allows p
+allowed m decoder (path.Constant l) named = named.0
+allowed m decoder (path.Zero l) named = named.0
+allowed m decoder (path.Gradient l) named = named.0
+allowed m decoder (path.Runs l) named = named.0
+allowed m decoder (path.Clusters t) named = tt
+allowed m decoder (path.GradientClusters t) named = named
+allowed m decoder path.Tree named = tt
 
 -- a channel without columns or rows has no state after it
 module _ {D X : Type 0} (c : PartCoding D) (i : ℕ) (state : PredictorState X) where
@@ -36,16 +45,8 @@ slice_bounds-row-end-2 g c =
     let n = fits_widest c.args.coding.now c.requires.at.part.coding c.args.i c.requires.channel (omega (arith, c.if-region-eq0-2.false)) in
     sym (length-take-le (region_at (regions_of c.args.coding.now) c.args.i).width c.args.scratch.now (omega (arith, n, c.requires.room)))
 
-pub path_by-path-requires-clause-clusters : goal.path_by-path-requires-clause-clusters
-path_by-path-requires-clause-clusters g c = clusters_at c.args.coding.now c.requires.at.part.coding c.args.i c.requires.channel _ _ c.requires.at.ready.clusters
-
-pub path_by-path-requires-clause-leaf : goal.path_by-path-requires-clause-leaf
-path_by-path-requires-clause-leaf g c =
-    let tree = tree_at c.args.coding.now c.requires.at.part.coding c.args.i c.requires.channel c.index-coding-i.result in
-    subst (λ t. IfSome (slice_index_or c.args.coding.now.flats.now c.args.i c.index-coding-i.result).run (IsRunLeaf t)) (sym tree.flat_is) tree.run
-
-pub path_by-path-requires-clause-runs : goal.path_by-path-requires-clause-runs
-path_by-path-requires-clause-runs g c some = c.requires.at.runs some c.args.i c.requires.channel (omega (arith, c.if-region-eq0.false)) (omega (arith, c.if-region-eq0-2.false)) _
+pub path_of-path-requires : goal.path_of-path-requires
+path_of-path-requires g c = clusters_at c.args.coding.now c.requires.at.part.coding c.args.i c.requires.channel c.index-coding-i.result _ c.requires.at.ready.clusters
 
 pub decode_rows-requires-clause-long : goal.decode_rows-requires-clause-long
 decode_rows-requires-clause-long g c κs within =
@@ -58,14 +59,12 @@ decode_rows-requires-clause-at g c κs within =
     let at = c.requires.at in
     record {
       here = record { part = at.part; channel = c.requires.channel; columns = omega (arith, c.if-region-eq0.false) };
-      gives = subst (λ t. Gives t c.path_by-path.result) same c.path_by-path.ensures.gives;
-      allows = c.path_by-path.ensures.allows;
-      steps = subst (λ (t : FlatTree). steps_on c.path_by-path.result t.tree ≤ most_steps t.tree) same c.path_by-path.ensures.steps;
-      ready = record { singles = at.ready.singles; clusters = at.ready.clusters; roomy = c.start_channel.ensures.roomy };
+      gives = subst (λ t. Gives t c.path_of-path.result) same c.path_of-path.ensures.gives;
+      allows = allowed g.D.Decoder.meaning c.args.walk.now.source.decoder c.path_of-path.result c.path_of-path.ensures.named;
+      steps = subst (λ (t : FlatTree). steps_on c.path_of-path.result t.tree ≤ most_steps t.tree) same c.path_of-path.ensures.steps;
+      ready = record { clusters = at.ready.clusters; roomy = c.start_channel.ensures.roomy };
       within = record { before = _; stands = c.start_channel.ensures.stands c.args.store.now };
       stands = λ walked. at_first_row c.args.coding.now c.args.i g.S.Sealed.to_int c.args.store.now c.start_channel.new.state (c.start_channel.ensures.stands c.args.store.now);
-      single = λ other. none_of c.args.walk.now.source.run (c.path_by-path.ensures.kind other);
-      runs = at.runs;
     }
 
 pub returns-then-region-eq0-clause-gives : goal.returns-then-region-eq0-clause-gives
@@ -86,11 +85,10 @@ returns-then-region-eq0-clause-at g c = record {
     | then-region-eq0-via-then-region-eq0 w ↦ no_columns c.args.coding.now c.args.i c.args.walk.now.state w.if-region-eq0.true
     | then-region-eq0-via-else-region-eq0+then-region-eq0-2 w ↦ no_rows c.args.coding.now c.args.i c.args.walk.now.state w.if-region-eq0-2.true
   ];
-  runs = c.requires.at.runs;
 }
 
 pub returns-clause-at : goal.returns-clause-at
 returns-clause-at g c =
     ok_so c.decode_rows.result _ _
-    (λ h. record { part = h.here.part; ready = h.ready; last = after_channel c.args.coding.now c.args.i c.decode_rows.new.walk.state h.within; runs = h.runs })
+    (λ h. record { part = h.here.part; ready = h.ready; last = after_channel c.args.coding.now c.args.i c.decode_rows.new.walk.state h.within })
     c.decode_rows.ensures.at

@@ -1,4 +1,4 @@
-use Rattle.std.proofs.Common.{◌≡◌, ◌⊎◌, inl, inr, false, Contains, ap, subst, ◌∙◌}
+use Rattle.std.proofs.Common.{◌≡◌, ◌⊎◌, inl, inr, Contains, subst, ◌∙◌}
 use Rattle.jxlm_ma.specs.FlatTree.{FlatTree}
 use Rattle.jxlm_ma.specs.Paths.{Gives, IsLeafOf}
 use Rattle.jxlm_ma.specs.declared.flat.Leaf.{Leaf}
@@ -6,7 +6,7 @@ use Rattle.jxlm_ma.specs.declared.paths.Path.{Path}
 use Rattle.jxlm_ma.specs.declared.paths.Path.TheVariants as path
 use Rattle.jxlm_ma.proofs.FlatTrees.{standing_leaf}
 use Rattle.jxlm_tree.specs.declared.predictor.Predictor.TheVariants as predictor
-use Rattle.jxlm_part.specs.Inner.Paths.{Allows, may_run}
+use Rattle.jxlm_part.specs.Inner.Paths.{Allows}
 use Rattle.jxlm_part.specs.Reading.{tree_of}
 use Rattle.jxlm_part.proofs.Decoding.{is_line}
 use Rattle.jxlm_part.proofs.RowsAlike.{row_of_zeros}
@@ -17,11 +17,10 @@ use Rattle.jxlm_part.proofs.decode.read_row.Goals as goal
 record IsZero (t : FlatTree) (p : Path) (k : Leaf) : Type 0 where
   only : IsLeafOf t k
   predicts : k.predictor ≡ predictor.Zero
-  alone : may_run p ≡ false
 
 is_zero : (t : FlatTree) (p : Path) (k : Leaf) → (p ≡ path.Constant k) ⊎ (p ≡ path.Zero k) → Gives t p → Allows p → IsZero t p k
-is_zero t p k (inl is) gives allows = record { only = subst (Gives t) is gives; predicts = subst Allows is allows; alone = ap may_run is }
-is_zero t p k (inr is) gives allows = record { only = subst (Gives t) is gives; predicts = subst Allows is allows; alone = ap may_run is }
+is_zero t p k (inl is) gives allows = record { only = subst (Gives t) is gives; predicts = subst Allows is allows }
+is_zero t p k (inr is) gives allows = record { only = subst (Gives t) is gives; predicts = subst Allows is allows }
 
 pub read_zeros-requires-clause-cluster : goal.read_zeros-requires-clause-cluster
 read_zeros-requires-clause-cluster g c κs within =
@@ -42,6 +41,5 @@ returns-in-Constant-clause-gives g c =
       | in-Constant w ↦ rw w.leaf-is (is_zero t l.path w.in-Constant.leaf w.in-Constant.is at.gives at.allows)
       | in-Constant-2 w ↦ rw w.leaf-is (is_zero t l.path w.in-Constant.leaf w.in-Constant.is at.gives at.allows)
     ] in
-    let none = at.single zero.alone in
     row_of_zeros l g.D.Decoder.meaning g.S.Sealed.to_int g.S.Sealed.width (is_line l g.D.Decoder.meaning g.S.Sealed.to_int c.args.walk.now at c.requires.below) c.read_zeros.new.row (c.read_zeros.auto.row ∙ c.requires.long)
-    c.args.walk.now.source c.read_zeros.new.source c.read_zeros.result c.in-Constant-1.leaf zero.only zero.predicts none (c.read_zeros.ensures.run ∙ none) c.read_zeros.ensures.reads
+    c.args.walk.now.source c.read_zeros.new.source c.read_zeros.result c.in-Constant-1.leaf zero.only zero.predicts c.read_zeros.ensures

@@ -1,11 +1,7 @@
-use Rattle.std.proofs.Common.{nat_eq, ◌≡◌, map, length}
-use denote.Param.{number, value_of}
-use mathlib.Core.Bool.{not}
+use Rattle.std.proofs.Common.{◌≡◌, map, length}
 use Rattle.jxlm_base.specs.Bits.{bytes_of}
 use Rattle.jxlm_part.specs.Inner.Paths.{gradient_rule, north_west_in, steps_by, west_in}
 use Rattle.jxlm_part.specs.Inner.Rows.{ReadsCells}
-use Rattle.jxlm_part.specs.Inner.Source.{InSingles}
-use Rattle.jxlm_part.specs.Inner.Taking.{IsNumber, reader_by, source_by, taking}
 use Rattle.jxlm_part.proofs.gradient.read_below.Given as goal
 
 abbrev pub invariant-loop-x : goal.invariant-loop-x
@@ -14,9 +10,7 @@ invariant-loop-x g l =
     let to_int = g.S.Sealed.to_int in
     record {
       len : length l.row ≡ length l.fn.row;
-      reads : InSingles d l.fn.source (source_by (not (nat_eq (value_of (number g.row.RUNS)) 0)) l.source.decoder (taking (reader_by (not (nat_eq (value_of (number g.row.RUNS)) 0)) l.source.bits l.reader) l.now) l.source.steps)
-          (ReadsCells d (steps_by l.leaves) (gradient_rule d g.S.Sealed.width (bytes_of l.fn.source.bits) l.widest l.leaves (map to_int l.above)) (map to_int l.row) l.x);
-      number : IsNumber d g.S.Sealed.from_int g.S.Sealed.width (not (nat_eq (value_of (number g.row.RUNS)) 0)) (taking (reader_by (not (nat_eq (value_of (number g.row.RUNS)) 0)) l.source.bits l.reader) l.now) l.residual;
+      reads : ReadsCells d (steps_by l.leaves) (gradient_rule d g.S.Sealed.width (bytes_of l.fn.source.bits) l.widest l.leaves (map to_int l.above)) (map to_int l.row) l.x l.fn.source (record l.source { bits = l.reader });
       west : to_int l.w ≡ west_in (map to_int l.above) (map to_int l.row) l.x;
       north_west : to_int l.nw ≡ north_west_in (map to_int l.above) (map to_int l.row) l.x;
     }

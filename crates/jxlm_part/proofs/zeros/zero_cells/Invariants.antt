@@ -10,7 +10,6 @@ invariant-loop-x g l = record {
   room : length l.room ≡ 64;
   within : l.x ≤ length l.row;
   reads : ReadsCells g.D.Decoder.meaning 0 (zero_rule g.D.Decoder.meaning g.S.Sealed.width (bytes_of l.fn.source.bits) l.widest l.leaf) (map g.S.Sealed.to_int l.row) l.x l.fn.source l.source;
-  run : l.source.run ≡ l.fn.source.run;
 }
 
 abbrev pub decreases-loop-x : goal.decreases-loop-x

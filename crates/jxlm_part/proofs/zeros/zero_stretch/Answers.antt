@@ -1,33 +1,20 @@
-use Rattle.std.proofs.Common.{◌+◌, ◌<◌, ap, arith, length, map, refl, subst, sym}
+use Rattle.std.proofs.Common.{◌+◌, ◌≤◌, arith, length, map, refl}
 use Rattle.std.proofs.lemmas.List.{length-map}
-use Rattle.jxlm_base.specs.Bits.{bytes_of}
 use Rattle.jxlm_part.specs.Inner.Paths.{zero_rule}
-use Rattle.jxlm_part.specs.Inner.Rows.{ReadsCells}
 use Rattle.jxlm_part.proofs.Stretches.{stretch_fails, stretch_read}
 use Rattle.jxlm_part.proofs.zeros.zero_stretch.Goals as goal
 
-pub returns-in-Ok-clause-reads : goal.returns-in-Ok-clause-reads
-returns-in-Ok-clause-reads g c = λ start before.
+pub returns-in-Ok : goal.returns-in-Ok
+returns-in-Ok g c =
     let d = g.D.Decoder.meaning in
-    let to_int = g.S.Sealed.to_int in
-    let rule = zero_rule d g.S.Sealed.width (bytes_of start.bits) c.args.widest c.args.leaf in
-    let new = record c.args.source.now { decoder = c.read_varints_with_multiplier_clustered.new.self; bits = c.read_varints_with_multiplier_clustered.new.bits } in
-    subst (λ n. ReadsCells d 0 rule (map to_int c.zero_samples.new.row) (c.args.from + n) start new) c.read_varints_with_multiplier_clustered.auto.tokens
-    (stretch_read d g.met.D.Decoder.lawful rule (bytes_of c.args.source.now.bits) c.args.leaf.cluster c.args.widest (λ r s p. ap (λ b. d.read s b p c.args.leaf.cluster c.args.widest) (sym before.bytes))
-    (map to_int c.args.row.now) (map to_int c.zero_samples.new.row) c.args.from (length c.read_varints_with_multiplier_clustered.new.tokens) c.read_varints_with_multiplier_clustered.new.tokens c.zero_samples.ensures
-    start c.args.source.now new c.requires.cluster before c.in-Ok.ensures.bytes refl c.in-Ok.ensures.gives)
+    stretch_read d g.met.D.Decoder.lawful (λ bytes. zero_rule d g.S.Sealed.width bytes c.args.widest c.args.leaf) c.args.leaf.cluster c.args.widest (λ bytes r s p. refl) _ _ c.args.from _ c.args.source.now _ c.requires.cluster
+    c.in-Ok.ensures.bytes refl _ c.read_varints_with_multiplier_clustered.auto.tokens (λ bytes. c.zero_samples.ensures) c.in-Ok.ensures.gives
 
-pub returns-in-Err-clause-reads : goal.returns-in-Err-clause-reads
-returns-in-Err-clause-reads g c = λ start before.
+pub returns-in-Err : goal.returns-in-Err
+returns-in-Err g c =
     let d = g.D.Decoder.meaning in
-    let to_int = g.S.Sealed.to_int in
-    let rule = zero_rule d g.S.Sealed.width (bytes_of start.bits) c.args.widest c.args.leaf in
-    let new = record c.args.source.now { decoder = c.read_varints_with_multiplier_clustered.new.self; bits = c.read_varints_with_multiplier_clustered.new.bits } in
-    let h = c.in-Err.ensures.gives in
-    let some = h.inside in
     let same = c.zero_samples-in-Err.auto.row in
     let kept = c.read_varints_with_multiplier_clustered.auto.tokens in
-    let inside : c.args.from + c.in-Err.ended.read < length (map to_int c.zero_samples-in-Err.new.row) = omega (arith, some, same, kept, c.requires.inside, length-map c.zero_samples-in-Err.new.row to_int) in
-    stretch_fails d g.met.D.Decoder.lawful rule (bytes_of c.args.source.now.bits) c.args.leaf.cluster c.args.widest (λ r s p. ap (λ b. d.read s b p c.args.leaf.cluster c.args.widest) (sym before.bytes))
-    (map to_int c.args.row.now) (map to_int c.zero_samples-in-Err.new.row) c.args.from c.in-Err.ended.read c.read_varints_with_multiplier_clustered.new.tokens c.zero_samples-in-Err.ensures
-    start c.args.source.now new c.requires.cluster before c.in-Err.ensures.bytes refl c.in-Err.ended.error inside h.tokens h.error
+    let inside : c.args.from + length c.read_varints_with_multiplier_clustered.new.tokens ≤ length (map g.S.Sealed.to_int c.zero_samples-in-Err.new.row) = omega (arith, same, kept, c.requires.inside, length-map c.zero_samples-in-Err.new.row g.S.Sealed.to_int) in
+    stretch_fails d g.met.D.Decoder.lawful (λ bytes. zero_rule d g.S.Sealed.width bytes c.args.widest c.args.leaf) c.args.leaf.cluster c.args.widest (λ bytes r s p. refl) _ _ c.args.from _ c.args.source.now _ c.requires.cluster
+    c.in-Err.ensures.bytes refl (length c.args.tokens.now) _ c.in-Err.ended (λ bytes. c.zero_samples-in-Err.ensures) inside c.in-Err.ensures.gives
