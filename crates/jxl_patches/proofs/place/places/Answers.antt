@@ -1,0 +1,45 @@
+use Rattle.std.proofs.Common.{sym, ◌∙◌}
+use Rattle.std.proofs.lemmas.Result.{err_from_is_err_and}
+use Rattle.jxlm_base.specs.Bits.{bytes_of, position_of}
+use Rattle.jxlm_base.specs.ErrorKind.{UnlessMemory}
+use Rattle.jxlm_base.specs.Grammar.{IsErrorAt}
+use Rattle.jxl_toc.proofs.Chains.{chain_step, chain_fails, chain_ends}
+use Rattle.jxl_patches.specs.Errors.{patch_kind}
+use Rattle.jxl_patches.specs.Patches.{one_place}
+use Rattle.jxl_patches.specs.Inner.Steps.{told_of}
+use Rattle.jxl_patches.proofs.place.places.Goals as goal
+
+pub returns-in_err-place-clause-gives : goal.returns-in_err-place-clause-gives
+returns-in_err-place-clause-gives g c =
+    let p = err_from_is_err_and c.from_residual.result c.from_residual.ensures.1 in
+    let d = g.D.Decoder.meaning in
+    let error = patch_kind c.in_err-place.field-0.0 in
+    let bytes = bytes_of c.args.bits.now in
+    let x = told_of c.loop.decoder c.loop.growing in
+    let at = position_of c.loop.bits in
+    let q = position_of c.place.new.bits in
+    let one : UnlessMemory error (IsErrorAt ((one_place d c.args.size c.args.kinds c.args.source x).read bytes at) error q) = rw c.loop.invariant.same at c.in_err-place.ensures.gives in
+    let this = chain_fails (one_place d c.args.size c.args.kinds c.args.source) bytes c.args.count c.loop.counter at q x error c.loop-test.true one in
+    rw (p.1, p.2) (rw c.loop.invariant.read at this)
+
+pub loop-preserved : goal.loop-preserved
+loop-preserved g c =
+    let d = g.D.Decoder.meaning in
+    let bytes = bytes_of c.args.bits.now in
+    let x = told_of c.loop.decoder c.loop.growing in
+    let y = told_of c.place.new.decoder c.place.new.growing in
+    let at = position_of c.loop.bits in
+    let q = position_of c.place.new.bits in
+    let one = rw c.loop.invariant.same at c.in_ok-place.ensures.gives in
+    record {
+      same = c.place.ensures.bytes ∙ c.loop.invariant.same;
+      clusters = c.in_ok-place.ensures.clusters;
+      read = sym (chain_step (one_place d c.args.size c.args.kinds c.args.source) bytes c.args.count c.loop.counter at q x y c.loop-test.true one) ∙ c.loop.invariant.read;
+    }
+
+pub returns-clause-gives : goal.returns-clause-gives
+returns-clause-gives g c =
+    let d = g.D.Decoder.meaning in
+    let x = told_of c.loop.decoder c.loop.growing in
+    let end = chain_ends (one_place d c.args.size c.args.kinds c.args.source) (bytes_of c.args.bits.now) c.args.count c.loop.counter (position_of c.loop.bits) x c.loop-test.false in
+    sym c.loop.invariant.read ∙ end

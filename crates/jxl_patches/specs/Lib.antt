@@ -1,0 +1,6 @@
+pub mod Errors
+pub mod Patches
+pub mod Reading
+pub mod Dictionaries
+pub mod Patched
+pub mod Inner

@@ -1,0 +1,187 @@
+//! The dictionary of patches.
+
+ghost use Rattle.std.specs.Prelude.{◌≡◌, ◌<◌, ◌^◌, length, IfOk};
+ghost use Rattle.jxlm_base.specs.Bits.{bytes_of, position_of};
+ghost use Rattle.jxl_toc.specs.Coded.{chained};
+ghost use Rattle.jxl_patches.specs.Reading.{PatchesRead};
+ghost use Rattle.jxl_patches.specs.Patches.{one_rectangle as the_one_rectangle, dictionary as the_dictionary};
+ghost use Rattle.jxl_patches.specs.Inner.Steps.{StepRead, told_of};
+ghost use Rattle.jxl_patches.specs.Dictionaries.{AreWithin, patches_of};
+
+use crate::error::Result;
+use crate::place::{Growing, places};
+use crate::source::{cells_within, place_count, rectangle_count, source};
+use crate::token::decoder;
+use jxl_headers::size::Size;
+use jxlm_base::bits::Bitstream;
+use jxlm_base::decoder::Decoder;
+use std::alloc::Global;
+
+/// A rectangle of the frame that a slot holds.
+#[derive(Clone, Copy)]
+pub struct Rectangle {
+    /// The slot, from 0 to 3.
+    pub slot: u32,
+    /// Its left column, and its top row.
+    pub x0: u32,
+    pub y0: u32,
+    /// How many columns and rows it has, at least 1.
+    pub width: u32,
+    pub height: u32,
+}
+
+/// A rectangle, and where it is put.
+#[derive(Clone, Copy)]
+pub struct Place {
+    pub source: Rectangle,
+    /// The column of the frame where its left one lies, and the row where its top one lies.
+    pub x: u32,
+    pub y: u32,
+}
+
+/// What a patch does with the samples of a channel.
+#[derive(Clone, Copy, Debug, PartialEq, Eq)]
+pub enum PatchMode {
+    /// They stay.
+    Keep,
+    /// Those of the rectangle stand in their place.
+    Replace,
+    /// Those of the rectangle are added.
+    Add,
+}
+
+/// Patches, in the order in which they are put.
+#[derive(Drop)]
+pub struct Dictionary {
+    pub places: Vec<Place>,
+    /// Of each place one mode for the colours, and one for each extra channel.
+    pub modes: Vec<PatchMode>,
+}
+
+// One rectangle more, and its places.
+fn one_rectangle<D: Decoder>(
+    decoder: &mut D,
+    bits: &mut Bitstream<'_>,
+    size: Size,
+    kinds: usize,
+    slots: &[Option<Size>],
+    limit: u64,
+    growing: &mut Growing,
+) -> Result<()>
+    requires { length (D.meaning.cluster_map decoder.old) ≡ 10 }
+    ensures gives { StepRead result decoder.new growing.new (position_of bits.new)
+        ((the_one_rectangle D.meaning size kinds slots.now limit (told_of decoder.old growing.old)).read (bytes_of bits.old)
+        (position_of bits.old)) }
+    ensures clusters { IfOk result (λ _. length (D.meaning.cluster_map decoder.new) ≡ 10) }
+    ensures bytes { bytes_of bits.new ≡ bytes_of bits.old }
+{
+    let rectangle = source(decoder, bits, slots)?;
+    let count = place_count(decoder, bits, size, growing.places.len())?;
+    growing.cells = cells_within(growing.cells, rectangle, count, limit)?;
+    growing.later = false;
+    growing.x = 0;
+    growing.y = 0;
+    places(decoder, bits, size, kinds, rectangle, count, growing)
+}
+
+// So many rectangles.
+fn rectangles<D: Decoder>(
+    decoder: &mut D,
+    bits: &mut Bitstream<'_>,
+    size: Size,
+    kinds: usize,
+    slots: &[Option<Size>],
+    limit: u64,
+    count: u32,
+    growing: &mut Growing,
+) -> Result<()>
+    requires { length (D.meaning.cluster_map decoder.old) ≡ 10 }
+    ensures gives { StepRead result decoder.new growing.new (position_of bits.new)
+        ((chained (the_one_rectangle D.meaning size kinds slots.now limit) count (told_of decoder.old growing.old)).read
+        (bytes_of bits.old) (position_of bits.old)) }
+    ensures bytes { bytes_of bits.new ≡ bytes_of bits.old }
+{
+    for _ in 0..count {
+        one_rectangle(decoder, bits, size, kinds, slots, limit, growing)?;
+    }
+    Ok(())
+}
+
+// The dictionary that stands at the reader's position.
+fn read<D: Decoder>(
+    alloc: Global,
+    bits: &mut Bitstream<'_>,
+    size: Size,
+    extra: usize,
+    slots: &[Option<Size>],
+    limit: u64,
+) -> Result<Dictionary>
+    requires { extra < 2 ^ 63 }
+    ensures gives { PatchesRead patches_of result (position_of bits.new)
+        ((the_dictionary D.meaning size extra slots.now limit).read (bytes_of bits.old) (position_of bits.old)) }
+    ensures bytes { bytes_of bits.new ≡ bytes_of bits.old }
+{
+    let mut decoder: D = decoder(alloc, bits, 10)?;
+    let count = rectangle_count(&mut decoder, bits, size)?;
+    let mut growing = Growing {
+        places: Vec::new(alloc),
+        modes: Vec::new(alloc),
+        cells: 0,
+        later: false,
+        x: 0,
+        y: 0,
+    };
+    let kinds = 1 + extra;
+    rectangles(
+        &mut decoder,
+        bits,
+        size,
+        kinds,
+        slots,
+        limit,
+        count,
+        &mut growing,
+    )?;
+    decoder.finalize()?;
+    let Growing {
+        places,
+        modes,
+        cells: _,
+        later: _,
+        x: _,
+        y: _,
+    } = growing;
+    Ok(Dictionary { places, modes })
+}
+
+impl Dictionary {
+    /// The dictionary of patches of a frame of this size with so many extra channels, which stands at the reader's
+    /// position. Each of the four slots holds a saved frame of its size, or none. At most so many cells are put, counted
+    /// with their repetitions and once for all channels: `apply` takes this many steps for each channel, and those of a
+    /// place besides.
+    ///
+    /// # Errors
+    ///
+    /// The first in the order of the bits: the decoder's; `Invalid` of `count of patches`, above 1024 rectangles and one
+    /// for each 4 pixels; of `slot of a patch`, that holds no frame; of `rectangle of a patch`, that passes its frame
+    /// (with its slot); of `places of a patch`, with those before above four times as many as there may be rectangles;
+    /// `TooLarge`, of cells above the limit; `Invalid` of `place of a patch`, that passes the frame; `Blended`; `Invalid`
+    /// of `mode of a patch`. Or it is out of memory.
+    pub fn parse<D: Decoder>(
+        alloc: Global,
+        bits: &mut Bitstream<'_>,
+        size: Size,
+        extra: usize,
+        slots: &[Option<Size>],
+        limit: u64,
+    ) -> Result<Dictionary>
+        requires { extra < 2 ^ 63 }
+        ensures gives { PatchesRead patches_of result (position_of bits.new)
+            ((the_dictionary D.meaning size extra slots.now limit).read (bytes_of bits.old) (position_of bits.old)) }
+        ensures fits { IfOk result (λ d. AreWithin size extra slots.now (patches_of d)) }
+        ensures bytes { bytes_of bits.new ≡ bytes_of bits.old }
+    {
+        let dictionary = read::<D>(alloc, bits, size, extra, slots, limit)?;
+        Ok(dictionary)
+    }
+}

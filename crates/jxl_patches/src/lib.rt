@@ -1,0 +1,11 @@
+//! Patches of a JPEG XL frame (ISO/IEC 18181-1, frame: LF global, patches): rectangles of saved frames, which are put
+//! into it.
+#![tactic(auto)]
+
+mod apply;
+pub mod dictionary;
+pub mod error;
+pub mod laws;
+mod place;
+mod source;
+mod token;

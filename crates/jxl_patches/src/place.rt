@@ -1,0 +1,198 @@
+//! The places at which a rectangle is put, and how.
+
+ghost use Rattle.std.specs.Prelude.{◌≡◌, ◌<◌, ◌^◌, length, IfOk, IfSome};
+ghost use Rattle.jxlm_base.specs.Bits.{bytes_of, position_of};
+ghost use Rattle.jxl_toc.specs.Coded.{chained};
+ghost use Rattle.jxl_patches.specs.Patches.{moved as the_moved, inside as the_inside, coordinate as the_coordinate, mode_of as the_mode_of, one_mode, corner as the_corner, one_place};
+ghost use Rattle.jxl_patches.specs.Inner.Steps.{TokenRead, Checks, StepRead, told_of};
+
+use crate::dictionary::{PatchMode, Place, Rectangle};
+use crate::error::{PatchError, Result};
+use crate::token::token;
+use jxl_headers::size::Size;
+use jxlm_base::bits::Bitstream;
+use jxlm_base::decoder::Decoder;
+
+/// What was read so far.
+#[derive(Drop)]
+pub struct Growing {
+    pub places: Vec<Place>,
+    pub modes: Vec<PatchMode>,
+    /// How many cells are put.
+    pub cells: u64,
+    /// Of the rectangle at hand, whether a place was read, and the last one.
+    pub later: bool,
+    pub x: u32,
+    pub y: u32,
+}
+
+fn moved(later: bool, before: u32, value: u32) -> Option<u64>
+    ensures value { result ≡ the_moved later before value }
+    ensures small { IfSome result (λ c. c < 2 ^ 33) }
+{
+    if !later {
+        return Some(u64::from(value));
+    }
+    let half = value / 2;
+    if value % 2 == 0 {
+        Some(u64::from(before) + u64::from(half))
+    } else if half < before {
+        Some(u64::from(before) - (u64::from(half) + 1))
+    } else {
+        None
+    }
+}
+
+fn inside(extent: u32, side: u32, value: u32, place: Option<u64>) -> Result<u32>
+    requires { IfSome place (λ c. c < 2 ^ 33) }
+    ensures { Checks result (the_inside extent side value place) }
+{
+    let name = "place of a patch";
+    let Some(c) = place else {
+        return Err(PatchError::Invalid { name, value });
+    };
+    if c + u64::from(extent) <= u64::from(side) {
+        Ok(c as u32)
+    } else {
+        Err(PatchError::Invalid { name, value })
+    }
+}
+
+// Such a coordinate, from which so much lies within a side.
+fn coordinate<D: Decoder>(
+    decoder: &mut D,
+    bits: &mut Bitstream<'_>,
+    later: bool,
+    before: u32,
+    extent: u32,
+    side: u32,
+) -> Result<u32>
+    requires { length (D.meaning.cluster_map decoder.old) ≡ 10 }
+    ensures gives { TokenRead result decoder.new (position_of bits.new)
+        ((the_coordinate D.meaning later before extent side decoder.old).read (bytes_of bits.old)
+        (position_of bits.old)) }
+    ensures clusters { IfOk result (λ _. D.meaning.cluster_map decoder.new ≡ D.meaning.cluster_map decoder.old) }
+    ensures bytes { bytes_of bits.new ≡ bytes_of bits.old }
+{
+    let context = if later { 6 } else { 4 };
+    let value = token(decoder, bits, context)?;
+    inside(extent, side, value, moved(later, before, value))
+}
+
+fn mode_of(value: u32) -> Result<PatchMode>
+    ensures { Checks result (the_mode_of value) }
+{
+    if value == 0 {
+        Ok(PatchMode::Keep)
+    } else if value == 1 {
+        Ok(PatchMode::Replace)
+    } else if value == 2 {
+        Ok(PatchMode::Add)
+    } else if value < 8 {
+        Err(PatchError::Blended)
+    } else {
+        let name = "mode of a patch";
+        Err(PatchError::Invalid { name, value })
+    }
+}
+
+// One mode more.
+fn mode<D: Decoder>(decoder: &mut D, bits: &mut Bitstream<'_>, growing: &mut Growing) -> Result<()>
+    requires { length (D.meaning.cluster_map decoder.old) ≡ 10 }
+    ensures gives { StepRead result decoder.new growing.new (position_of bits.new)
+        ((one_mode D.meaning (told_of decoder.old growing.old)).read (bytes_of bits.old) (position_of bits.old)) }
+    ensures clusters { IfOk result (λ _. D.meaning.cluster_map decoder.new ≡ D.meaning.cluster_map decoder.old) }
+    ensures bytes { bytes_of bits.new ≡ bytes_of bits.old }
+{
+    let value = token(decoder, bits, 5)?;
+    let mode = mode_of(value)?;
+    growing.modes.push(mode)?;
+    Ok(())
+}
+
+// So many modes.
+fn modes<D: Decoder>(
+    decoder: &mut D,
+    bits: &mut Bitstream<'_>,
+    kinds: usize,
+    growing: &mut Growing,
+) -> Result<()>
+    requires { length (D.meaning.cluster_map decoder.old) ≡ 10 }
+    ensures gives { StepRead result decoder.new growing.new (position_of bits.new)
+        ((chained (one_mode D.meaning) kinds (told_of decoder.old growing.old)).read (bytes_of bits.old)
+        (position_of bits.old)) }
+    ensures clusters { IfOk result (λ _. length (D.meaning.cluster_map decoder.new) ≡ 10) }
+    ensures bytes { bytes_of bits.new ≡ bytes_of bits.old }
+{
+    for _ in 0..kinds {
+        mode(decoder, bits, growing)?;
+    }
+    Ok(())
+}
+
+// One place more, without its modes.
+fn corner<D: Decoder>(
+    decoder: &mut D,
+    bits: &mut Bitstream<'_>,
+    size: Size,
+    source: Rectangle,
+    growing: &mut Growing,
+) -> Result<()>
+    requires { length (D.meaning.cluster_map decoder.old) ≡ 10 }
+    ensures gives { StepRead result decoder.new growing.new (position_of bits.new)
+        ((the_corner D.meaning size source (told_of decoder.old growing.old)).read (bytes_of bits.old)
+        (position_of bits.old)) }
+    ensures clusters { IfOk result (λ _. length (D.meaning.cluster_map decoder.new) ≡ 10) }
+    ensures bytes { bytes_of bits.new ≡ bytes_of bits.old }
+{
+    let later = growing.later;
+    let x = coordinate(decoder, bits, later, growing.x, source.width, size.width)?;
+    let y = coordinate(decoder, bits, later, growing.y, source.height, size.height)?;
+    growing.places.push(Place { source, x, y })?;
+    growing.later = true;
+    growing.x = x;
+    growing.y = y;
+    Ok(())
+}
+
+fn place<D: Decoder>(
+    decoder: &mut D,
+    bits: &mut Bitstream<'_>,
+    size: Size,
+    kinds: usize,
+    source: Rectangle,
+    growing: &mut Growing,
+) -> Result<()>
+    requires { length (D.meaning.cluster_map decoder.old) ≡ 10 }
+    ensures gives { StepRead result decoder.new growing.new (position_of bits.new)
+        ((one_place D.meaning size kinds source (told_of decoder.old growing.old)).read (bytes_of bits.old)
+        (position_of bits.old)) }
+    ensures clusters { IfOk result (λ _. length (D.meaning.cluster_map decoder.new) ≡ 10) }
+    ensures bytes { bytes_of bits.new ≡ bytes_of bits.old }
+{
+    corner(decoder, bits, size, source, growing)?;
+    modes(decoder, bits, kinds, growing)
+}
+
+/// So many places of a rectangle.
+pub fn places<D: Decoder>(
+    decoder: &mut D,
+    bits: &mut Bitstream<'_>,
+    size: Size,
+    kinds: usize,
+    source: Rectangle,
+    count: u64,
+    growing: &mut Growing,
+) -> Result<()>
+    requires { length (D.meaning.cluster_map decoder.old) ≡ 10 }
+    ensures gives { StepRead result decoder.new growing.new (position_of bits.new)
+        ((chained (one_place D.meaning size kinds source) count (told_of decoder.old growing.old)).read
+        (bytes_of bits.old) (position_of bits.old)) }
+    ensures clusters { IfOk result (λ _. length (D.meaning.cluster_map decoder.new) ≡ 10) }
+    ensures bytes { bytes_of bits.new ≡ bytes_of bits.old }
+{
+    for _ in 0..count {
+        place(decoder, bits, size, kinds, source, growing)?;
+    }
+    Ok(())
+}

@@ -1,0 +1,60 @@
+//! Tokens of a decoder.
+
+ghost use Rattle.std.specs.Prelude.{◌≡◌, ◌<◌, length, IfOk};
+ghost use Rattle.jxlm_base.specs.Bits.{bytes_of, position_of};
+ghost use Rattle.jxl_toc.specs.Coded.{decoder as the_decoder, token as the_token};
+ghost use Rattle.jxl_patches.specs.Reading.{PatchesRead};
+ghost use Rattle.jxl_patches.specs.Patches.{pair as the_pair};
+ghost use Rattle.jxl_patches.specs.Inner.Steps.{TokenRead, PairRead};
+
+use crate::error::Result;
+use jxlm_base::bits::Bitstream;
+use jxlm_base::decoder::Decoder;
+use std::alloc::Global;
+
+/// A decoder of so many contexts, at the begin of its tokens.
+pub fn decoder<D: Decoder>(alloc: Global, bits: &mut Bitstream<'_>, contexts: u32) -> Result<D>
+    ensures gives { PatchesRead (λ v. v) result (position_of bits.new)
+        ((the_decoder D.meaning contexts).read (bytes_of bits.old) (position_of bits.old)) }
+    ensures clusters { IfOk result (λ d. length (D.meaning.cluster_map d) ≡ contexts) }
+    ensures bytes { bytes_of bits.new ≡ bytes_of bits.old }
+{
+    let mut decoder = D::parse(alloc, bits, contexts)?;
+    decoder.begin(bits)?;
+    Ok(decoder)
+}
+
+/// The next token of a context.
+pub fn token<D: Decoder>(decoder: &mut D, bits: &mut Bitstream<'_>, context: u32) -> Result<u32>
+    requires { context < length (D.meaning.cluster_map decoder.old) }
+    ensures gives { TokenRead result decoder.new (position_of bits.new)
+        ((the_token D.meaning decoder.old context).read (bytes_of bits.old) (position_of bits.old)) }
+    ensures clusters { IfOk result (λ _. D.meaning.cluster_map decoder.new ≡ D.meaning.cluster_map decoder.old) }
+    ensures bytes { bytes_of bits.new ≡ bytes_of bits.old }
+{
+    Ok(decoder.read_varint(bits, context)?)
+}
+
+/// Two numbers.
+#[derive(Clone, Copy)]
+pub struct Pair {
+    pub first: u32,
+    pub second: u32,
+}
+
+/// The next two tokens of a context.
+pub fn two_tokens<D: Decoder>(
+    decoder: &mut D,
+    bits: &mut Bitstream<'_>,
+    context: u32,
+) -> Result<Pair>
+    requires { context < length (D.meaning.cluster_map decoder.old) }
+    ensures gives { PairRead result decoder.new (position_of bits.new)
+        ((the_pair D.meaning decoder.old context).read (bytes_of bits.old) (position_of bits.old)) }
+    ensures clusters { IfOk result (λ _. D.meaning.cluster_map decoder.new ≡ D.meaning.cluster_map decoder.old) }
+    ensures bytes { bytes_of bits.new ≡ bytes_of bits.old }
+{
+    let first = token(decoder, bits, context)?;
+    let second = token(decoder, bits, context)?;
+    Ok(Pair { first, second })
+}
