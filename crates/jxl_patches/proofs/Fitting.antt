@@ -22,7 +22,7 @@ record InFrame (slots : List (Option Size)) (r : Rectangle) : Type 0 where
   rows : r.y0 + r.height ≤ frame.height
 
 -- a value that stands was checked
-was_ok : {X : Type 0} (r : Result X ErrorKind) (bytes : List ℕ) (p : ℕ) (x : X) (q : ℕ) → (checked r).Stands bytes p x q → r ≡ Ok x
+pub was_ok : {X : Type 0} (r : Result X ErrorKind) (bytes : List ℕ) (p : ℕ) (x : X) (q : ℕ) → (checked r).Stands bytes p x q → r ≡ Ok x
 was_ok (Ok y) bytes p x q s = ap Ok (sym s.0)
 was_ok (Err e) bytes p x q s = absurd s
 

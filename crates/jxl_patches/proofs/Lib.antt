@@ -5,3 +5,4 @@ pub mod Putting
 pub mod PatchedLaws
 pub mod Moves
 pub mod Channels
+pub mod Bounding

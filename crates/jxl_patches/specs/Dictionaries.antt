@@ -15,6 +15,10 @@ nowhere = record { source = record { slot = 0; x0 = 0; y0 = 0; width = 0; height
 abbrev pub place_at : Patches → ℕ → Place
 place_at patches n = get_or patches.places n nowhere
 
+-- how many cells a place puts
+abbrev pub area : Place → ℕ
+area p = p.source.width * p.source.height
+
 -- A rectangle lies in the frame that its slot holds, and its place in a frame of this size.
 pub record IsWithin (size : Size) (slots : List (Option Size)) (p : Place) : Type 0 where
   pub frame : Size

@@ -1,12 +1,13 @@
 //! The dictionary of patches.
 
-ghost use Rattle.std.specs.Prelude.{◌≡◌, ◌<◌, ◌^◌, length, IfOk};
+ghost use Rattle.std.specs.Prelude.{◌≡◌, ◌+◌, ◌<◌, ◌≤◌, ◌^◌, length, IfOk};
+ghost use Rattle.std.specs.List.{sum_by};
 ghost use Rattle.jxlm_base.specs.Bits.{bytes_of, position_of};
 ghost use Rattle.jxl_toc.specs.Coded.{chained};
 ghost use Rattle.jxl_patches.specs.Reading.{PatchesRead};
 ghost use Rattle.jxl_patches.specs.Patches.{one_rectangle as the_one_rectangle, dictionary as the_dictionary};
 ghost use Rattle.jxl_patches.specs.Inner.Steps.{StepRead, told_of};
-ghost use Rattle.jxl_patches.specs.Dictionaries.{AreWithin, patches_of};
+ghost use Rattle.jxl_patches.specs.Dictionaries.{AreWithin, area, patches_of};
 
 use crate::error::Result;
 use crate::place::{Growing, places};
@@ -179,6 +180,7 @@ impl Dictionary {
         ensures gives { PatchesRead patches_of result (position_of bits.new)
             ((the_dictionary D.meaning size extra slots.now limit).read (bytes_of bits.old) (position_of bits.old)) }
         ensures fits { IfOk result (λ d. AreWithin size extra slots.now (patches_of d)) }
+        ensures bounded { IfOk result (λ d. sum_by area d.places.items ≤ limit) }
         ensures bytes { bytes_of bits.new ≡ bytes_of bits.old }
     {
         let dictionary = read::<D>(alloc, bits, size, extra, slots, limit)?;
