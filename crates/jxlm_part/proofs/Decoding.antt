@@ -14,7 +14,7 @@ use Rattle.jxlm_part.specs.Inner.Channels.{StandsAfter, StandsIn, region_at}
 use Rattle.jxlm_part.specs.Inner.Levels.{IsAtRow, IsOnPath, IsReady}
 use Rattle.jxlm_part.specs.Inner.Paths.{is_walked}
 use Rattle.jxlm_part.specs.Inner.Progress.{GoesOn, Moment, Stops, TakesSteps, WalkGives, moment, place_of}
-use Rattle.jxlm_part.specs.Inner.Rows.{IsAtCell, IsDecoding, IsDecodingPart, IsLine, RowGives, SetsRead, StandsInRow, region_on, rule_on}
+use Rattle.jxlm_part.specs.Inner.Rows.{IsAtCell, IsDecoding, IsDecodingPart, IsLine, RowGives, SetsRead, StandsInRow, region_on}
 use Rattle.jxlm_part.specs.declared.source.Source.{Source}
 use Rattle.jxlm_part.specs.Reading.{FindsClusters, HasRoom, cost_of, part_of, regions_of}
 use Rattle.jxlm_part.specs.declared.coding.PartCoding.{PartCoding}

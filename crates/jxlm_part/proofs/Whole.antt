@@ -1,5 +1,5 @@
 -- A part from its beginning to its end.
-use Rattle.std.proofs.Common.{◌≡◌, ℕ, suc, ◌+◌, ◌*◌, ◌≤◌, List, Result, Ok, Err, refl, sym, ap, ◌∙◌, subst, ℤ, inl, inr, arith}
+use Rattle.std.proofs.Common.{◌≡◌, ℕ, suc, ◌+◌, ◌*◌, ◌≤◌, List, Result, Ok, Err, refl, ap, ◌∙◌, subst, ℤ, inl, inr, arith}
 use Rattle.std.specs.Int.{Width}
 use Rattle.jxlm_base.specs.Bits.{bytes_of, position_of}
 use Rattle.jxlm_base.specs.Decoding.{Found, IsLawful, Meaning}

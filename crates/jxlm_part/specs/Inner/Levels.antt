@@ -1,14 +1,14 @@
 -- Where the loops over rows and channels are.
-use Rattle.std.specs.Prelude.{◌≡◌, ℕ, ◌<◌, ◌≤◌, ℤ, List, [], length, map, true}
+use Rattle.std.specs.Prelude.{◌≡◌, ℕ, ◌≤◌, ℤ, List, [], length, map, true}
 use Rattle.jxlm_base.specs.Decoding.{Meaning}
 use Rattle.jxlm_base.specs.Grid.{Grid}
 use Rattle.jxlm_ma.specs.Paths.{Gives, steps_on}
 use Rattle.jxlm_ma.specs.declared.paths.Path.{Path}
 use Rattle.jxlm_tree.specs.declared.state.PredictorState.{PredictorState}
-use Rattle.jxlm_part.specs.Inner.Channels.{IsAfterChannel, StandsIn, region_at}
+use Rattle.jxlm_part.specs.Inner.Channels.{IsAfterChannel, StandsIn}
 use Rattle.jxlm_part.specs.Inner.Paths.{Allows, is_walked}
 use Rattle.jxlm_part.specs.Inner.Rows.{IsDecoding, IsDecodingPart, StandsInRow}
-use Rattle.jxlm_part.specs.Reading.{FindsClusters, HasRoom, cost_of, regions_of, row_width, tree_of}
+use Rattle.jxlm_part.specs.Reading.{FindsClusters, HasRoom, cost_of, row_width, tree_of}
 use Rattle.jxlm_part.specs.declared.coding.PartCoding.{PartCoding}
 use Rattle.jxlm_part.specs.declared.rows.Line.{Line}
 use Rattle.jxlm_part.specs.declared.source.Walk.{Walk}

@@ -30,7 +30,7 @@ next_sample-requires-clause-gives g c κs within =
 pub record_in_row-requires-clause-inner : goal.record_in_row-requires-clause-inner
 record_in_row-requires-clause-inner g c inside =
     subst IsInner (sym c.properties_in_row-properties.ensures.unchanged)
-        (is_inner c.args.line.now g.S.Sealed.to_int c.requires.line.line c.args.x c.args.row.now c.requires.at.long c.requires.column c.args.walk.now.state c.requires.at.stands (c.requires.inner inside))
+    (is_inner c.args.line.now g.S.Sealed.to_int c.requires.line.line c.args.x c.args.row.now c.requires.at.long c.requires.column c.args.walk.now.state c.requires.at.stands (c.requires.inner inside))
 
 pub returns-in_err-sample : goal.returns-in_err-sample
 returns-in_err-sample g c =

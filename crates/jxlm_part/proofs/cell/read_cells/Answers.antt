@@ -45,9 +45,9 @@ returns-in-Err g c =
     let long = c.loop-x.invariant.reads.1.long in
     let inside : c.loop-x.x < length (map to_int row) = let m = length-map row to_int in omega (arith, m, long, c.requires.in_row, c.loop-x-test.true) in
     λ start h.
-        let so_far = c.loop-x.invariant.reads.0 start h in
-        cell_fails d (cost_of l.coding.now) (rule_on l d to_int g.S.Sealed.width (bytes_of start.bits)) start (map to_int row) c.loop-x.x old inside so_far c.decode_cell.new.walk.source (map to_int c.decode_cell.new.row) c.in-Err.error
-        (subst (λ bytes. FailsCell d (cost_of l.coding.now) (rule_on l d to_int g.S.Sealed.width bytes) (map to_int row) c.loop-x.x old c.decode_cell.new.walk.source (map to_int c.decode_cell.new.row) c.in-Err.error) so_far.bytes c.in-Err.ensures)
+    let so_far = c.loop-x.invariant.reads.0 start h in
+    cell_fails d (cost_of l.coding.now) (rule_on l d to_int g.S.Sealed.width (bytes_of start.bits)) start (map to_int row) c.loop-x.x old inside so_far c.decode_cell.new.walk.source (map to_int c.decode_cell.new.row) c.in-Err.error
+    (subst (λ bytes. FailsCell d (cost_of l.coding.now) (rule_on l d to_int g.S.Sealed.width bytes) (map to_int row) c.loop-x.x old c.decode_cell.new.walk.source (map to_int c.decode_cell.new.row) c.in-Err.error) so_far.bytes c.in-Err.ensures)
 
 pub returns : goal.returns
 returns g c =

@@ -46,7 +46,7 @@ slice_bounds-row-end-2 g c =
     sym (length-take-le (region_at (regions_of c.args.coding.now) c.args.i).width c.args.scratch.now (omega (arith, n, c.requires.room)))
 
 pub path_of-path-requires : goal.path_of-path-requires
-path_of-path-requires g c = clusters_at c.args.coding.now c.requires.at.part.coding c.args.i c.requires.channel c.index-coding-i.result _ c.requires.at.ready.clusters
+path_of-path-requires g c = record { clusters = clusters_at c.args.coding.now c.requires.at.part.coding c.args.i c.requires.channel c.index-coding-i.result _ c.requires.at.ready.clusters }
 
 pub decode_rows-requires-clause-long : goal.decode_rows-requires-clause-long
 decode_rows-requires-clause-long g c κs within =

@@ -1,4 +1,4 @@
-use Rattle.std.proofs.Common.{pos, ℕ, rules, ◌≡◌, ◌<◌, map, length, take, ◌+◌, ◌∙◌, arith, ap, refl, subst, sym}
+use Rattle.std.proofs.Common.{pos, rules, ◌≡◌, ◌<◌, map, length, take, ◌+◌, ◌∙◌, arith, ap, refl, subst, sym}
 use Rattle.std.specs.Prelude.{slice_set}
 use Rattle.std.proofs.lemmas.Grind.{common_steps}
 use Rattle.std.proofs.lemmas.List.{length-map, map-set}
