@@ -1,4 +1,3 @@
--- Squeeze of a grid, row by row or column by column (ISO/IEC 18181-1, Modular: squeeze).
 use Rattle.std.specs.Prelude.{ℕ, ◌<◌, ℤ, FitsSigned}
 use Rattle.std.specs.Int.{Width}
 use Rattle.jxlm_base.specs.Grid.{Grid, at, grid_by}

@@ -244,6 +244,42 @@ impl<'a> Bitstream<'a> {
         Ok((flag, value as u32))
     }
 
+    /// Whether the next n bits are followed by eight bytes: what `ahead` asks for, at each of them.
+    #[inline(always)]
+    pub fn has_ahead(&self, n: u64) -> bool
+        requires { n < 2 ^ 63 }
+        ensures { result ≡ true → (position_of self.now + n) / 8 + 8 ≤ length (bytes_of self.now) }
+    {
+        let left = self.bytes.len() - self.byte;
+        left >= 8 && (u64::from(self.bit) + n) / 8 <= (left - 8) as u64
+    }
+
+    /// The bits from so many after the reader's position on, as a number: the first is the least significant, and at
+    /// least 57 are there. The reader stays where it is.
+    #[inline(always)]
+    pub fn ahead(&self, at: u64) -> u64
+        requires few { at < 2 ^ 63 }
+        requires room { (position_of self.now + at) / 8 + 8 ≤ length (bytes_of self.now) }
+        ensures { (b n : ℕ) → b + n ≤ 57
+            → result / 2 ^ b % 2 ^ n ≡ bits_at (bytes_of self.now) (position_of self.now + at + b) n }
+    {
+        let from = u64::from(self.bit) + at;
+        Self::word_at(self.bytes, self.byte + (from / 8) as usize) >> (from % 8)
+    }
+
+    /// Passes n bits, all of which are there.
+    #[inline(always)]
+    pub fn skip(&mut self, n: u64)
+        requires few { n < 2 ^ 63 }
+        requires room { position_of self.old + n ≤ 8 * length (bytes_of self.old) }
+        ensures position { position_of self.new ≡ position_of self.old + n }
+        ensures bytes { bytes_of self.new ≡ bytes_of self.old }
+    {
+        let end = u64::from(self.bit) + n;
+        self.byte += (end / 8) as usize;
+        self.bit = (end % 8) as u32;
+    }
+
     // Whether so many numbers of n bits are followed by eight bytes. They are taken for less where they are 2^32 or more.
     #[inline(always)]
     fn has_many(&self, n: u32, count: usize) -> bool
@@ -252,11 +288,7 @@ impl<'a> Bitstream<'a> {
         ensures room { result ≡ true
             → self.now.byte + (self.now.bit + n * count) / 8 + 8 ≤ length self.now.bytes.now }
     {
-        let left = self.bytes.len() - self.byte;
-        if left < 8 || count > u32::MAX as usize {
-            return false;
-        }
-        (u64::from(self.bit) + u64::from(n) * count as u64) / 8 <= (left - 8) as u64
+        count <= u32::MAX as usize && self.has_ahead(u64::from(n) * count as u64)
     }
 
     // Numbers of n bits, with no test for the end.
