@@ -4,3 +4,4 @@ pub mod PlainReads
 pub mod PlainTokens
 mod GammaBits
 pub mod GammaCodes
+pub mod RunsAhead

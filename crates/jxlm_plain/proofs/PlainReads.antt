@@ -1,5 +1,5 @@
 -- Tokens that are read one after another, and flags with what they announce.
-use Rattle.std.proofs.Common.{◌≡◌, ℕ, zero, suc, inl, inr, ◌+◌, ◌*◌, ◌^◌, ◌<◌, ◌≤◌, ◌∙◌, Bool, List, length, slice_index, Ok, Err, ap, sym, refl, arith, nat_lt, true, false}
+use Rattle.std.proofs.Common.{◌≡◌, ℕ, zero, suc, inl, inr, ◌+◌, ◌*◌, ◌<◌, ◌≤◌, ◌∙◌, Bool, List, length, slice_index, Ok, Err, ap, sym, refl, arith, nat_lt, true, false}
 use Rattle.std.proofs.lemmas.Bool.{cases_lt}
 use Rattle.std.proofs.lemmas.Bool.Decides.{nat_tests}
 use Rattle.jxlm_base.specs.Bits.{EndsEither, IsEither, bits_at, width_after}

@@ -4,3 +4,4 @@
 mod gamma;
 pub mod plain;
 pub mod plain2;
+mod runs;

@@ -1,43 +1,51 @@
-use Rattle.std.proofs.Common.{◌≡◌, ◌<◌, ◌∙◌, Err, Ok, arith, length, rules, subst}
+use Rattle.std.proofs.Common.{◌≡◌, ◌+◌, ◌<◌, Ok, arith, length, refl, rules, subst}
 use Rattle.jxlm_base.specs.Bits.{bytes_of, position_of}
 use Rattle.jxlm_base.specs.Decoding.{TakesTokens}
-use Rattle.jxlm_base.proofs.DecodingLaws.{rest_more, takes_more}
-use Rattle.jxlm_plain.specs.Plain.{plain_read, token_at}
-use Rattle.jxlm_plain.specs.Inner.PlainReads.{ReadsToken}
+use Rattle.jxlm_base.proofs.DecodingLaws.{takes_more}
+use Rattle.jxlm_plain.specs.Plain.{plain_read}
 use Rattle.jxlm_plain.specs.declared.plain.Code.TheVariants.{Fixed}
+use Rattle.jxlm_plain.specs.declared.plain.Mode.TheVariants.{Runs}
 use Rattle.jxlm_plain.proofs.PlainGives.{read_given, state}
-use Rattle.jxlm_plain.proofs.plain.numbers_in_runs.Goals as goal
+use Rattle.jxlm_plain.proofs.runs.tokens_ahead.Goals as goal
 
-pub returns-in-Err-clause-gives : goal.returns-in-Err-clause-gives
-returns-in-Err-clause-gives c = λ codes clusters k m is.
-    let h = c.loop-k.invariant in
-    let same = h.len in
-    let end = c.loop-k.auto.k-end in
-    let gives = subst (λ bytes. ReadsToken (Err c.in-Err.error) c.loop-k.now c.token_in_runs.new.mode (position_of c.loop-k.reader) (position_of c.token_in_runs.new.bits) (token_at c.loop-k.now (Fixed c.args.width) bytes (position_of c.loop-k.reader))) h.bytes c.in-Err.ensures.gives in
-    let read = read_given c.loop-k.now c.token_in_runs.new.mode codes clusters (Fixed c.args.width) (Err c.in-Err.error) (bytes_of c.args.bits.now) (position_of c.loop-k.reader) (position_of c.token_in_runs.new.bits) k m is gives in
-    let place : position_of c.token_in_runs.new.bits ≡ position_of c.loop-k.reader = read.2 in
-    rw (read.1, place) (record {
-      inside = omega (arith, same, end, c.loop-k-test.true);
-      tokens = h.tokens codes clusters k m is;
-      error = read.0;
-      rest = h.rest;
-    })
+pub loop-k-init : goal.loop-k-init
+loop-k-init c =
+    let here = c.requires.here in
+    record {
+      len = refl;
+      near = omega (arith, here);
+      tokens = λ codes clusters k m is. (refl, omega (arith, here));
+    }
+
+pub token_ahead-now-requires-clause-few : goal.token_ahead-now-requires-clause-few
+token_ahead-now-requires-clause-few c =
+    let near = c.loop-k.invariant.near in
+    let few = c.requires.few in
+    omega (arith, near, few, c.loop-k-test.true)
+
+pub token_ahead-now-requires-clause-room : goal.token_ahead-now-requires-clause-room
+token_ahead-now-requires-clause-room c =
+    let near = c.loop-k.invariant.near in
+    let room = c.requires.room in
+    omega (arith, near, room, c.loop-k-test.true)
 
 pub loop-k-preserved : goal.loop-k-preserved
 loop-k-preserved c =
     let h = c.loop-k.invariant in
+    let bytes = bytes_of c.args.bits.now in
+    let p = position_of c.args.bits.now in
     let same = h.len in
-    let end = c.loop-k.auto.k-end in
-    let inside : c.loop-k.k < length c.loop-k.tokens = omega (arith, same, end, c.loop-k-test.true) in
-    let gives = subst (λ bytes. ReadsToken (Ok c.in-Ok.token) c.loop-k.now c.token_in_runs.new.mode (position_of c.loop-k.reader) (position_of c.token_in_runs.new.bits) (token_at c.loop-k.now (Fixed c.args.width) bytes (position_of c.loop-k.reader))) h.bytes c.in-Ok.ensures.gives in
+    let near = h.near in
+    let step = c.token_ahead-now.ensures.near in
+    let old = c.loop-k.now in
+    let new = c.token_ahead-now.result in
+    let inside : c.loop-k.k < length c.loop-k.tokens = omega (arith, same, c.loop-k-test.true) in
     record {
       len = search rules;
-      runs = c.in-Ok.ensures.runs;
-      tokens = λ codes clusters k m is. takes_more (λ u p. plain_read u (bytes_of c.args.bits.now) p k m) c.loop-k.tokens (state c.args.mode.now codes clusters) (position_of c.args.bits.now) c.loop-k.k (state c.loop-k.now codes clusters) (position_of c.loop-k.reader) c.in-Ok.token
-          (state c.token_in_runs.new.mode codes clusters) (position_of c.token_in_runs.new.bits) inside (h.tokens codes clusters k m is)
-          (read_given c.loop-k.now c.token_in_runs.new.mode codes clusters (Fixed c.args.width) (Ok c.in-Ok.token) (bytes_of c.args.bits.now) (position_of c.loop-k.reader) (position_of c.token_in_runs.new.bits) k m is gives);
-      rest = rest_more c.loop-k.tokens c.args.tokens.now c.loop-k.k c.in-Ok.token h.rest;
-      bytes = c.in-Ok.ensures.bytes ∙ h.bytes;
+      near = omega (arith, near, step);
+      tokens = λ codes clusters k m is. takes_more (λ u q. plain_read u bytes q k m) c.loop-k.tokens (state (Runs c.args.before.last c.args.before.left) codes clusters) p c.loop-k.k (state (Runs old.last old.left) codes clusters) (p + old.at) new.last
+          (state (Runs new.last new.left) codes clusters) (p + new.at) inside (h.tokens codes clusters k m is)
+          (read_given (Runs old.last old.left) (Runs new.last new.left) codes clusters (Fixed c.args.width) (Ok new.last) bytes (p + old.at) (p + new.at) k m is c.token_ahead-now.ensures.gives);
     }
 
 pub returns-clause-gives : goal.returns-clause-gives
@@ -45,5 +53,12 @@ returns-clause-gives c = λ codes clusters k m is.
     let h = c.loop-k.invariant in
     let end = c.loop-k.auto.k-end in
     let same = h.len in
+    let p = position_of c.args.bits.now in
     let all : c.loop-k.k ≡ length c.loop-k.tokens = omega (arith, end, same, c.loop-k-test.false) in
-    subst (λ n. TakesTokens (λ u p. plain_read u (bytes_of c.args.bits.now) p k m) c.loop-k.tokens (state c.args.mode.now codes clusters) (position_of c.args.bits.now) n (state c.loop-k.now codes clusters) (position_of c.loop-k.reader)) all (h.tokens codes clusters k m is)
+    subst (λ n. TakesTokens (λ u q. plain_read u (bytes_of c.args.bits.now) q k m) c.loop-k.tokens (state (Runs c.args.before.last c.args.before.left) codes clusters) p n (state (Runs c.loop-k.now.last c.loop-k.now.left) codes clusters) (p + c.loop-k.now.at)) all (h.tokens codes clusters k m is)
+
+pub returns-clause-near : goal.returns-clause-near
+returns-clause-near c =
+    let near = c.loop-k.invariant.near in
+    let end = c.loop-k.auto.k-end in
+    omega (arith, near, end)

@@ -1,18 +1,18 @@
-use Rattle.std.proofs.Common.{◌≡◌, ℕ, ◌≤◌, true, List, length, slice_index}
+use Rattle.std.proofs.Common.{◌≡◌, ℕ, ◌+◌, ◌*◌, ◌≤◌, List, length}
 use Rattle.jxlm_base.specs.Bits.{bytes_of, position_of}
 use Rattle.jxlm_base.specs.Decoding.{TakesTokens}
-use Rattle.jxlm_plain.specs.Plain.{code_of, is_runs, plain_read}
+use Rattle.jxlm_plain.specs.Plain.{code_of, plain_read}
 use Rattle.jxlm_plain.specs.declared.plain.Code.{Code}
 use Rattle.jxlm_plain.specs.declared.plain.Code.TheVariants.{Fixed}
+use Rattle.jxlm_plain.specs.declared.plain.Mode.TheVariants.{Runs}
 use Rattle.jxlm_plain.proofs.PlainGives.{state}
-use Rattle.jxlm_plain.proofs.plain.numbers_in_runs.Given as goal
+use Rattle.jxlm_plain.proofs.runs.tokens_ahead.Given as goal
 
 abbrev pub invariant-loop-k : goal.invariant-loop-k
 invariant-loop-k l = record {
   len : length l.tokens ≡ length l.fn.tokens;
-  runs : is_runs l.now ≡ true;
+  near : l.now.at ≤ 33 * l.k;
   tokens : (codes : List Code) (clusters : List ℕ) (c m : ℕ) → Fixed l.width ≡ code_of codes c →
-      TakesTokens (λ u p. plain_read u (bytes_of l.fn.bits) p c m) l.tokens (state l.fn.mode codes clusters) (position_of l.fn.bits) l.k (state l.now codes clusters) (position_of l.reader);
-  rest : (j : ℕ) → l.k ≤ j → slice_index l.tokens j ≡ slice_index l.fn.tokens j;
-  bytes : bytes_of l.reader ≡ bytes_of l.fn.bits;
+      TakesTokens (λ u p. plain_read u (bytes_of l.bits) p c m) l.tokens (state (Runs l.fn.before.last l.fn.before.left) codes clusters) (position_of l.bits) l.k
+      (state (Runs l.now.last l.now.left) codes clusters) (position_of l.bits + l.now.at);
 }

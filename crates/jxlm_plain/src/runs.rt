@@ -1,0 +1,108 @@
+//! Tokens of one width under runs, many at a time.
+
+ghost use Rattle.std.specs.Prelude.{◌≡◌, ◌+◌, ◌*◌, ◌/◌, ◌^◌, ◌<◌, ◌≤◌, true, length, Ok};
+ghost use Rattle.jxlm_base.specs.Bits.{bytes_of, position_of};
+ghost use Rattle.jxlm_plain.specs.Plain.{is_runs, token_at};
+ghost use Rattle.jxlm_plain.specs.Inner.PlainReads.{ReadsTokens};
+ghost use Rattle.jxlm_plain.specs.declared.plain.Code.TheVariants.{Fixed};
+ghost use Rattle.jxlm_plain.specs.declared.plain.Mode.TheVariants.{Runs};
+
+use crate::plain::{Code, Mode, each_token};
+use jxlm_base::bits::Bitstream;
+use jxlm_base::decoder::TokensError;
+
+/// A place between two tokens: the token before, how often it is still owed, and how many bits after the reader's position
+/// it lies.
+#[derive(Clone, Copy)]
+struct Ahead {
+    last: u32,
+    left: u32,
+    at: u64,
+}
+
+/// The next token, which is then the last one.
+#[tactic(auto, unfolding(crate::specs::Plain::token_at))]
+#[inline(always)]
+fn token_ahead(bits: &Bitstream<'_>, width: u32, before: Ahead) -> Ahead
+    requires narrow { width ≤ 32 }
+    requires few { before.at < 2 ^ 62 }
+    requires room { (position_of bits.now + before.at) / 8 + 8 ≤ length (bytes_of bits.now) }
+    ensures gives { token_at (Runs before.last before.left) (Fixed width) (bytes_of bits.now)
+        (position_of bits.now + before.at)
+        ≡ Ok (record { token = result.last; mode = Runs result.last result.left; position = position_of bits.now + result.at }) }
+    ensures near { result.at ≤ before.at + 33 }
+{
+    if before.left > 0 {
+        return Ahead {
+            last: before.last,
+            left: before.left - 1,
+            at: before.at,
+        };
+    }
+    let word = bits.ahead(before.at);
+    if word % 2 == 1 {
+        Ahead {
+            last: before.last,
+            left: (word / 2 % 256) as u32,
+            at: before.at + 9,
+        }
+    } else {
+        Ahead {
+            last: (word / 2 % (1 << width)) as u32,
+            left: 0,
+            at: before.at + 1 + u64::from(width),
+        }
+    }
+}
+
+/// Tokens that are all there, and eight bytes after them, from the reader's position on.
+#[inline(always)]
+fn tokens_ahead(bits: &Bitstream<'_>, width: u32, before: Ahead, tokens: &mut [u32]) -> Ahead
+    requires narrow { width ≤ 32 }
+    requires here { before.at ≡ 0 }
+    requires few { length tokens.old < 2 ^ 32 }
+    requires room { (position_of bits.now + 33 * length tokens.old) / 8 + 8 ≤ length (bytes_of bits.now) }
+    ensures gives { ReadsTokens (Ok tt) tokens.old tokens.new (Runs before.last before.left)
+        (Runs result.last result.left) (Fixed width) (bytes_of bits.now) (position_of bits.now)
+        (position_of bits.now + result.at) }
+    ensures near { result.at ≤ 33 * length tokens.old }
+{
+    let mut now = before;
+    for k in 0..tokens.len() {
+        now = token_ahead(bits, width, now);
+        tokens[k] = now.last;
+    }
+    now
+}
+
+/// Tokens of a fixed width under runs.
+#[inline(never)]
+pub(crate) fn numbers_in_runs(
+    mode: &mut Mode,
+    bits: &mut Bitstream<'_>,
+    width: u32,
+    tokens: &mut [u32],
+) -> Result<(), TokensError>
+    requires narrow { width ≤ 32 }
+    requires runs { is_runs mode.old ≡ true }
+    ensures gives { ReadsTokens result tokens.old tokens.new mode.old mode.new (Fixed width) (bytes_of bits.old)
+        (position_of bits.old) (position_of bits.new) }
+    ensures bytes { bytes_of bits.new ≡ bytes_of bits.old }
+{
+    let Mode::Runs { last, left } = *mode else {
+        unreachable!()
+    };
+    let few = tokens.len() <= u32::MAX as usize;
+    if few && bits.has_ahead(33 * tokens.len() as u64) {
+        // a copy, so that it may stay in registers
+        let reader = *bits;
+        let end = tokens_ahead(&reader, width, Ahead { last, left, at: 0 }, tokens);
+        bits.skip(end.at);
+        *mode = Mode::Runs {
+            last: end.last,
+            left: end.left,
+        };
+        return Ok(());
+    }
+    each_token(mode, bits, Code::Fixed(width), tokens)
+}
