@@ -17,7 +17,7 @@ use Rattle.jxlm_tree.specs.declared.state.PredictorState.{PredictorState}
 use Rattle.jxlm_tree.proofs.StandingLaws.{stands_earlier}
 use Rattle.jxlm_transform.specs.Channels.{Channel, IsNarrow}
 use Rattle.jxlm_part.specs.Part.{channel, no_channel, downward, earlier_alike, is_alike}
-use Rattle.jxlm_part.specs.Reading.{HasFlats, HasRoom, IsCodingOf, IsLoneLeaf, IsRoomy, IsRoomyFor, IsTreeOf, alone_at, alone_in, flat, part_of, regions_of, row_width, sampled_width, state_width, tree_of, walked_width, width_in_state}
+use Rattle.jxlm_part.specs.Reading.{HasFlats, HasRoom, HasRoomFor, IsCodingOf, IsLoneLeaf, IsRoomy, IsRoomyFor, IsTreeOf, alone_at, alone_in, flat, part_of, regions_of, row_width, sampled_width, state_width, tree_of, walked_width, width_in_state}
 use Rattle.jxlm_part.specs.Inner.Channels.{IsAfterChannel, StandsIn, all_alike, asked_at, earlier_regions, handed, region_at, setting_of, weights_at}
 use Rattle.jxlm_part.specs.declared.coding.ChannelTree.{ChannelTree}
 use Rattle.jxlm_part.specs.declared.coding.PartCoding.{PartCoding}
@@ -126,16 +126,16 @@ module _ {D : Type 0} (c : PartCoding D) (i : ℕ) where
 
 module _ {D X : Type 0} (c : PartCoding D) (i : ℕ) where
   -- The channels below e were looked at: a state is given the regions of those that are like channel i.
-  pub record IsUnderWay (e : ℕ) (old state : PredictorState X) : Type 0 where
+  pub record IsUnderWay (room e : ℕ) (old state : PredictorState X) : Type 0 where
     pub stands : (width : ℕ) (weights : Option WpHeader) (samples : List ℤ) → StandsAt old (setting width weights []) samples → StandsAt state (setting width weights (below c i e)) samples
     pub counted : earlier_count state ≡ length (below c i e)
-    pub roomy : HasRoom c state
+    pub roomy : HasRoomFor room c state
 
-  pub begun : (state : PredictorState X) → earlier_count state ≡ 0 → HasRoom c state → IsUnderWay 0 state state
+  pub begun : {room : ℕ} (state : PredictorState X) → earlier_count state ≡ 0 → HasRoomFor room c state → IsUnderWay room 0 state state
   begun state none roomy = record { stands = λ width weights samples h. h; counted = none; roomy = roomy }
 
   -- there is room for one more
-  pub has_room : (e : ℕ) (old state : PredictorState X) → i < length (regions_of c) → e < i → IsUnderWay e old state → earlier_count state < earlier_room_of state
+  pub has_room : {room : ℕ} (e : ℕ) (old state : PredictorState X) → i < length (regions_of c) → e < i → IsUnderWay room e old state → earlier_count state < earlier_room_of state
   has_room e old state li less h =
       let few = few (passes c i) e in
       let long = length-map (filter (passes c i) (downward e)) (region_at (regions_of c)) in
@@ -143,16 +143,16 @@ module _ {D X : Type 0} (c : PartCoding D) (i : ℕ) where
       let room = h.roomy.earlier in
       omega (arith, few, long, count, room, li, less)
 
-  pub takes_alike : (coding : IsCodingOf c) (li : i < length (regions_of c)) (e : ℕ) (old state new : PredictorState X) → passes c i e ≡ true → IsUnderWay e old state →
+  pub takes_alike : {room : ℕ} (coding : IsCodingOf c) (li : i < length (regions_of c)) (e : ℕ) (old state new : PredictorState X) → passes c i e ≡ true → IsUnderWay room e old state →
       ((s : Setting) (samples : List ℤ) → StandsAt state s samples → StandsAt new (setting s.width s.weights (region_at (regions_of c) e ∷ s.earlier)) samples) →
-      earlier_count new ≡ earlier_count state + 1 → HasSameRoom state new → IsUnderWay (e + 1) old new
+      earlier_count new ≡ earlier_count state + 1 → HasSameRoom state new → IsUnderWay room (e + 1) old new
   takes_alike coding li e old state new is h adds more same = record {
     stands = λ width weights samples at. subst (λ rs. StandsAt new (setting width weights rs) samples) (sym (one_more c i e true is)) (adds _ samples (h.stands width weights samples at));
     counted = let n = ap length (one_more c i e true is) in let m = h.counted in omega (arith, n, m, more);
     roomy = roomy_still c coding i li state new same h.roomy;
   }
 
-  pub passes_over : (e : ℕ) (old state : PredictorState X) → passes c i e ≡ false → IsUnderWay e old state → IsUnderWay (e + 1) old state
+  pub passes_over : {room : ℕ} (e : ℕ) (old state : PredictorState X) → passes c i e ≡ false → IsUnderWay room e old state → IsUnderWay room (e + 1) old state
   passes_over e old state is h = record {
     stands = λ width weights samples at. subst (λ rs. StandsAt state (setting width weights rs) samples) (sym (one_more c i e false is)) (h.stands width weights samples at);
     counted = h.counted ∙ ap length (sym (one_more c i e false is));
