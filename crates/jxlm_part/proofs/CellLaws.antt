@@ -31,7 +31,7 @@ use Rattle.jxlm_tree.proofs.EarlierLaws.{in_state, of_setting}
 use Rattle.jxlm_tree.proofs.StandingLaws.{stands_row}
 use Rattle.jxlm_part.specs.Coded.{next_prediction, sample_of}
 use Rattle.jxlm_part.specs.Part.{channel, max_width, no_channel}
-use Rattle.jxlm_part.specs.Reading.{FindsClusters, HasRoom, IsCodingOf, IsTreeOf, are_weighted, cost_of, flat, part_of, regions_of, row_width, weights_used}
+use Rattle.jxlm_part.specs.Reading.{FindsClusters, HasRoomFor, IsCodingOf, IsTreeOf, alone_at, are_weighted, cost_of, flat, part_of, regions_of, weights_used}
 use Rattle.jxlm_part.specs.Inner.Cells.{FailsSample, ReadsSample, leaf_at, predicted_at}
 use Rattle.jxlm_part.specs.Inner.Channels.{StandsAfter, asked_at, handed, region_at, setting_of, weighted_at, weights_at}
 use Rattle.jxlm_part.specs.Progress.{grids_in}
@@ -88,7 +88,13 @@ module _ {D : Type 0} (c : PartCoding D) (coding : IsCodingOf c) (i : ℕ) (li :
 
   -- a channel tree, any of them
   any_tree : ChannelTree
-  any_tree = record { flat = flat c.config.now.tree c.stream_index i; weighted = true; asked = 0 }
+  any_tree = record { flat = flat c.config.now.tree c.stream_index i; weighted = true; asked = 0; alone = None }
+
+  -- the leaf that it is read by alone
+  pub alone_is : (other : ChannelTree) → alone_at c i ≡ (slice_index_or c.flats.now i other).alone
+  alone_is other =
+      let n = coding.flats.count_is in
+      ap (λ o. option_map_or (λ (t : ChannelTree). t.alone) o None) (slice_get-get_or c.flats.now i other (omega (arith, n, li)))
 
   reads_below : ReadsEarlierBelow (flat c.config.now.tree c.stream_index i) (asked_at c i)
   reads_below = subst (ReadsEarlierBelow (flat c.config.now.tree c.stream_index i)) (sym (asked_is any_tree)) (tree_at any_tree).below
@@ -120,9 +126,9 @@ module _ {D : Type 0} (c : PartCoding D) (coding : IsCodingOf c) (i : ℕ) (li :
       let same = ap (λ (t : FlatTree). steps_walked path t.tree) (flat_at other) in
       omega (arith, same, h, bound)
 
-  pub roomy_still : {X : Type 0} (old new : PredictorState X) → HasSameRoom old new → HasRoom c old → HasRoom c new
-  roomy_still old new same h = record {
-    widest = subst (λ n. row_width c ≤ n) (sym same.same_room) h.widest;
+  pub roomy_still : {X : Type 0} {width : ℕ} (old new : PredictorState X) → HasSameRoom old new → HasRoomFor width c old → HasRoomFor width c new
+  roomy_still {width = width} old new same h = record {
+    widest = subst (λ n. width ≤ n) (sym same.same_room) h.widest;
     earlier = subst (λ n. length (regions_of c) ≤ n) (sym same.same_earlier_room) h.earlier;
     weights = same.same_weights ∙ h.weights;
   }

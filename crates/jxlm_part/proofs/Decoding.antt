@@ -170,7 +170,7 @@ module _ {D X : Type 0} (l : Line X D) (d : Meaning D) (to_int : X → ℤ) wher
   -- where the path needs no state of the predictors, it stays
   pub state_stays : (old new : Walk X D) (row : List X) → IsAtRow d l.coding.now old to_int l.store.now l.path l.i l.y → is_walked l.path ≡ false → new.state ≡ old.state → IsOnPath l to_int row new
   state_stays old new row at none same = record {
-    within = subst (StandsIn l.coding.now l.i) (sym same) at.within;
+    within = λ walked. subst (StandsIn l.coding.now l.i) (sym same) (at.within walked);
     stands = λ walked. let no : true ≡ false = sym walked ∙ none in absurd (cc);
     roomy = subst (HasRoom l.coding.now) (sym same) at.ready.roomy;
   }
@@ -178,7 +178,7 @@ module _ {D X : Type 0} (l : Line X D) (d : Meaning D) (to_int : X → ℤ) wher
   -- else it is after the row
   pub cells_done : (w : Width) (row : List X) (walk : Walk X D) → IsAtCell l d to_int w (length row) row walk → IsOnPath l to_int row walk
   cells_done w row walk at = record {
-    within = record { before = _; stands = at.stands };
+    within = λ alone. record { before = _; stands = at.stands };
     stands = λ walked. let m = length-map row to_int in
         subst (λ r. StandsInRow l.coding.now to_int l.store.now l.i l.y r walk.state) (take_all (length row) (map to_int row) (omega (arith, m))) at.stands;
     roomy = at.roomy;

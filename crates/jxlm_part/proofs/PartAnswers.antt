@@ -17,7 +17,7 @@ use Rattle.jxlm_part.specs.Inner.Ready.{IsReadyFor}
 use Rattle.jxlm_part.specs.Part.{Part, cell_count, max_width}
 use Rattle.jxlm_part.specs.Placed.{PartLies, standing_in}
 use Rattle.jxlm_part.specs.Progress.{DecodesAll, DecodesSome}
-use Rattle.jxlm_part.specs.Reading.{IsCodingOf, regions_of}
+use Rattle.jxlm_part.specs.Reading.{IsCodingOf, regions_of, state_width}
 use Rattle.jxlm_part.specs.declared.coding.PartCoding.{PartCoding}
 use Rattle.jxlm_part.specs.declared.coding.Ready.{Ready}
 use Rattle.jxlm_part.specs.declared.part.PlacedPart.{PlacedPart}
@@ -42,7 +42,7 @@ module _ {D S : Type 0} (p : PlacedPart D) (store : List (Grid S)) (lies : PartL
 
   -- the state has room for its samples
   pub placed_roomy : HasRooms c r.state.predictor r.state.row.items
-  placed_roomy = let room = roomy_for c r.state placed_coding (rw (channels, weights, flats) ready.roomy) in record { predictor = room.predictor; row = room.row }
+  placed_roomy = let room = roomy_for c (state_width c) r.state placed_coding (rw (channels, weights, flats) ready.roomy) in record { predictor = room.predictor; row = room.row }
 
 none_is : (n : ℕ) → (0 < n → ⊥) → n ≡ 0
 none_is zero h = refl

@@ -1,6 +1,6 @@
 -- How a state is set for a channel, and what is made ready for it.
-use Rattle.std.proofs.Common.{◌≡◌, ℕ, zero, suc, ◌+◌, ◌-◌, ◌^◌, ◌<◌, ◌≤◌, ◌⊎◌, inl, inr, List, [], ◌∷◌, ◌++◌, length, map, Bool, true, false, if◌then◌else◌, Option, refl, sym, ap, ◌∙◌, subst, arith, get_or, slice_index_or, ℤ}
-use Rattle.std.specs.Prelude.{◌==◌, filter, max}
+use Rattle.std.proofs.Common.{◌≡◌, ℕ, zero, suc, ◌+◌, ◌-◌, ◌^◌, ◌<◌, ◌≤◌, ◌⊎◌, inl, inr, List, [], ◌∷◌, ◌++◌, length, map, Bool, true, false, if◌then◌else◌, Option, None, Some, refl, sym, ap, ◌∙◌, subst, arith, get_or, slice_index_or, ℤ}
+use Rattle.std.specs.Prelude.{◌==◌, filter, is_some, max, IfSome}
 use Rattle.std.specs.List.{All}
 use Rattle.std.proofs.lemmas.Bool.{cases_lt}
 use Rattle.std.proofs.lemmas.Bool.Decides.{nat_tests}
@@ -17,12 +17,12 @@ use Rattle.jxlm_tree.specs.declared.state.PredictorState.{PredictorState}
 use Rattle.jxlm_tree.proofs.StandingLaws.{stands_earlier}
 use Rattle.jxlm_transform.specs.Channels.{Channel, IsNarrow}
 use Rattle.jxlm_part.specs.Part.{channel, no_channel, downward, earlier_alike, is_alike}
-use Rattle.jxlm_part.specs.Reading.{HasFlats, HasRoom, IsCodingOf, IsRoomy, IsRoomyFor, IsTreeOf, flat, part_of, regions_of, row_width, sampled_width}
+use Rattle.jxlm_part.specs.Reading.{HasFlats, HasRoom, HasRoomFor, IsCodingOf, IsLoneLeaf, IsRoomy, IsRoomyFor, IsTreeOf, alone_at, alone_in, flat, part_of, regions_of, row_width, sampled_width, state_width, tree_of, walked_width, width_in_state}
 use Rattle.jxlm_part.specs.Inner.Channels.{IsAfterChannel, StandsIn, all_alike, asked_at, earlier_regions, handed, region_at, setting_of, weights_at}
 use Rattle.jxlm_part.specs.declared.coding.ChannelTree.{ChannelTree}
 use Rattle.jxlm_part.specs.declared.coding.PartCoding.{PartCoding}
 use Rattle.jxlm_part.specs.declared.coding.PartState.{PartState}
-use Rattle.jxlm_part.proofs.CellLaws.{roomy_still, tree_at}
+use Rattle.jxlm_part.proofs.CellLaws.{alone_is, roomy_still, tree_at}
 use Rattle.jxlm_part.proofs.Earlier.{few, few_earlier, same_alike, same_sides}
 use Rattle.jxlm_part.proofs.Loops.{same_count, same_size}
 
@@ -59,6 +59,45 @@ narrow_widest [] h = omega arith
 narrow_widest (c ∷ cs) h =
     max_below (if c.height == 0 then 0 else c.width) (sampled_width cs) (2 ^ 30) (row_within (c.height == 0) c.width (2 ^ 30) (All-head IsNarrow c cs h).0) (narrow_widest cs (All-tail IsNarrow c cs h))
 
+-- ---- channels that are read in the predictors' state
+
+none_by : (o : Option Leaf) → is_some o ≡ false → o ≡ None
+none_by None is = refl
+none_by (Some l) is = cc
+
+whole_width : (none : Bool) (width : ℕ) → none ≡ false → width ≤ (if none then 0 else width)
+whole_width true width some = cc
+whole_width false width some = omega arith
+
+-- one that is, and has rows, takes its width
+takes_width : (alone : Option Leaf) (c : Channel) → alone ≡ None → 0 < c.height → c.width ≤ width_in_state alone c
+takes_width None c walked some = whole_width (c.height == 0) c.width (grind (arith, nat_tests))
+takes_width (Some l) c walked some = cc
+
+-- no such channel is wider than the widest of them
+pub within_walked : (channels : List Channel) (flats : List ChannelTree) (n i : ℕ) → i < n → alone_in flats i ≡ None → 0 < (channel channels i).height → (channel channels i).width ≤ walked_width channels flats n
+within_walked channels flats zero i l walked some = absurd (omega arith)
+within_walked channels flats (suc n) i l walked some = either (cases_lt i n) (λ lt. within_walked channels flats n i lt walked some) where
+  either : (i < n) ⊎ (n ≤ i) → (i < n → (channel channels i).width ≤ walked_width channels flats n) → (channel channels i).width ≤ max (walked_width channels flats n) (width_in_state (alone_in flats n) (channel channels n))
+  either (inl lt) before = let h = before lt in omega (arith, h)
+  either (inr ge) before =
+      let last : i ≡ n = omega (arith, l, ge) in
+      let h = takes_width (alone_in flats i) (channel channels i) walked some in
+      let same = ap (λ k. width_in_state (alone_in flats k) (channel channels k)) last in
+      omega (arith, h, same)
+
+-- they are channels with rows
+width_within : (alone : Option Leaf) (channels : List Channel) (i : ℕ) → i < length channels → width_in_state alone (channel channels i) ≤ sampled_width channels
+width_within alone [] i l = absurd (omega arith)
+width_within (Some k) (c ∷ cs) i l = omega arith
+width_within None (c ∷ cs) zero l = max_first (if c.height == 0 then 0 else c.width) (sampled_width cs)
+width_within None (c ∷ cs) (suc i) l = max_rest (if c.height == 0 then 0 else c.width) (sampled_width cs) _ (width_within None cs i (omega arith))
+
+pub walked_within : (channels : List Channel) (flats : List ChannelTree) (n : ℕ) → n ≤ length channels → walked_width channels flats n ≤ sampled_width channels
+walked_within channels flats zero l = omega arith
+walked_within channels flats (suc n) l =
+    max_below (walked_width channels flats n) (width_in_state (alone_in flats n) (channel channels n)) (sampled_width channels) (walked_within channels flats n (omega arith)) (width_within (alone_in flats n) channels n (omega arith))
+
 -- where a tree asks for earlier channels, all are given
 pub some_asked : (n : ℕ) (all : List Region) → 0 < n → handed n all ≡ all
 some_asked zero all h = absurd (omega (arith, h))
@@ -87,16 +126,16 @@ module _ {D : Type 0} (c : PartCoding D) (i : ℕ) where
 
 module _ {D X : Type 0} (c : PartCoding D) (i : ℕ) where
   -- The channels below e were looked at: a state is given the regions of those that are like channel i.
-  pub record IsUnderWay (e : ℕ) (old state : PredictorState X) : Type 0 where
+  pub record IsUnderWay (room e : ℕ) (old state : PredictorState X) : Type 0 where
     pub stands : (width : ℕ) (weights : Option WpHeader) (samples : List ℤ) → StandsAt old (setting width weights []) samples → StandsAt state (setting width weights (below c i e)) samples
     pub counted : earlier_count state ≡ length (below c i e)
-    pub roomy : HasRoom c state
+    pub roomy : HasRoomFor room c state
 
-  pub begun : (state : PredictorState X) → earlier_count state ≡ 0 → HasRoom c state → IsUnderWay 0 state state
+  pub begun : {room : ℕ} (state : PredictorState X) → earlier_count state ≡ 0 → HasRoomFor room c state → IsUnderWay room 0 state state
   begun state none roomy = record { stands = λ width weights samples h. h; counted = none; roomy = roomy }
 
   -- there is room for one more
-  pub has_room : (e : ℕ) (old state : PredictorState X) → i < length (regions_of c) → e < i → IsUnderWay e old state → earlier_count state < earlier_room_of state
+  pub has_room : {room : ℕ} (e : ℕ) (old state : PredictorState X) → i < length (regions_of c) → e < i → IsUnderWay room e old state → earlier_count state < earlier_room_of state
   has_room e old state li less h =
       let few = few (passes c i) e in
       let long = length-map (filter (passes c i) (downward e)) (region_at (regions_of c)) in
@@ -104,16 +143,16 @@ module _ {D X : Type 0} (c : PartCoding D) (i : ℕ) where
       let room = h.roomy.earlier in
       omega (arith, few, long, count, room, li, less)
 
-  pub takes_alike : (coding : IsCodingOf c) (li : i < length (regions_of c)) (e : ℕ) (old state new : PredictorState X) → passes c i e ≡ true → IsUnderWay e old state →
+  pub takes_alike : {room : ℕ} (coding : IsCodingOf c) (li : i < length (regions_of c)) (e : ℕ) (old state new : PredictorState X) → passes c i e ≡ true → IsUnderWay room e old state →
       ((s : Setting) (samples : List ℤ) → StandsAt state s samples → StandsAt new (setting s.width s.weights (region_at (regions_of c) e ∷ s.earlier)) samples) →
-      earlier_count new ≡ earlier_count state + 1 → HasSameRoom state new → IsUnderWay (e + 1) old new
+      earlier_count new ≡ earlier_count state + 1 → HasSameRoom state new → IsUnderWay room (e + 1) old new
   takes_alike coding li e old state new is h adds more same = record {
     stands = λ width weights samples at. subst (λ rs. StandsAt new (setting width weights rs) samples) (sym (one_more c i e true is)) (adds _ samples (h.stands width weights samples at));
     counted = let n = ap length (one_more c i e true is) in let m = h.counted in omega (arith, n, m, more);
     roomy = roomy_still c coding i li state new same h.roomy;
   }
 
-  pub passes_over : (e : ℕ) (old state : PredictorState X) → passes c i e ≡ false → IsUnderWay e old state → IsUnderWay (e + 1) old state
+  pub passes_over : {room : ℕ} (e : ℕ) (old state : PredictorState X) → passes c i e ≡ false → IsUnderWay room e old state → IsUnderWay room (e + 1) old state
   passes_over e old state is h = record {
     stands = λ width weights samples at. subst (λ rs. StandsAt state (setting width weights rs) samples) (sym (one_more c i e false is)) (h.stands width weights samples at);
     counted = h.counted ∙ ap length (sym (one_more c i e false is));
@@ -132,6 +171,15 @@ module _ {D : Type 0} (c : PartCoding D) (coding : IsCodingOf c) where
   -- there is a channel for each region
   pub as_many_channels : length c.channels.now ≡ length (regions_of c)
   as_many_channels = same_count (part_of c).channels (regions_of c) coding.sizes
+
+  -- the same for the width of the state
+  pub fits_state : (i : ℕ) → i < length (regions_of c) → 0 < (region_at (regions_of c) i).height → alone_at c i ≡ None → (region_at (regions_of c) i).width ≤ state_width c
+  fits_state i li rows walked =
+      let count = same_count (part_of c).channels (regions_of c) coding.sizes in
+      let sizes = same_size (part_of c).channels (regions_of c) i coding.sizes li in
+      let same = sizes.0 in
+      let most = within_walked (part_of c).channels c.flats.now (length (part_of c).channels) i (omega (arith, count, li)) walked (subst (λ n. 0 < n) sizes.1 rows) in
+      omega (arith, same, most)
 
   pub fits_widest : (i : ℕ) → i < length (regions_of c) → 0 < (region_at (regions_of c) i).height → (region_at (regions_of c) i).width ≤ row_width c
   fits_widest i li rows =
@@ -154,13 +202,25 @@ module _ {D : Type 0} (c : PartCoding D) (coding : IsCodingOf c) (i : ℕ) (li :
       (same_size (part_of c).channels (regions_of c) last coding.sizes (omega (arith, next, li))).1 ∙ (same_sides (channel (part_of c).channels last) (channel (part_of c).channels i) alike).1
       ∙ sym (same_size (part_of c).channels (regions_of c) i coding.sizes li).1
 
-  -- so the state was last in it
-  pub was_last : {X : Type 0} (state : PredictorState X) → 0 < (region_at (regions_of c) i).width → 0 < (region_at (regions_of c) i).height → IsAfterChannel c i state → StandsIn c last state
-  was_last state columns rows after = after last next (subst (λ n. 0 < n) (sym same_width) columns) (subst (λ n. 0 < n) (sym same_height) rows)
+  -- so the state was last in it, where it was read in the state
+  pub was_last : {X : Type 0} (state : PredictorState X) → 0 < (region_at (regions_of c) i).width → 0 < (region_at (regions_of c) i).height → alone_at c last ≡ None → IsAfterChannel c i state → StandsIn c last state
+  was_last state columns rows walked after = after last next (subst (λ n. 0 < n) (sym same_width) columns) (subst (λ n. 0 < n) (sym same_height) rows) walked
 
 -- a channel whose tree asks for earlier ones has one before it
 pub is_later : {D : Type 0} (c : PartCoding D) (coding : IsCodingOf c) (i : ℕ) (li : i < length (regions_of c)) (other : ChannelTree) → 0 < (slice_index_or c.flats.now i other).asked → 0 < i
 is_later c coding i li other some = let n = (tree_at c coding i li other).few in omega (arith, n, some)
+
+module _ {D : Type 0} (c : PartCoding D) (coding : IsCodingOf c) (i : ℕ) (li : i < length (regions_of c)) (other : ChannelTree) where
+  -- a channel that is read by a leaf alone is not read in the state
+  pub lone_at : (l : Leaf) → (slice_index_or c.flats.now i other).alone ≡ Some l → IsLoneLeaf (tree_of c i) l
+  lone_at l is = subst (λ o. IfSome o (IsLoneLeaf (tree_of c i))) is (tree_at c coding i li other).alone
+
+  pub not_walked : (l : Leaf) → (slice_index_or c.flats.now i other).alone ≡ Some l → alone_at c i ≡ None → ⊥
+  not_walked l is none = let a = alone_is c coding i li other in cc
+
+  -- one that is not, is
+  pub walked_at : is_some (slice_index_or c.flats.now i other).alone ≡ false → alone_at c i ≡ None
+  walked_at is = alone_is c coding i li other ∙ none_by (slice_index_or c.flats.now i other).alone is
 
 -- The channel before channel i is like it, and the state was last in it.
 pub record ComesAfterAlike {D X : Type 0} (c : PartCoding D) (i : ℕ) (state : PredictorState X) : Type 0 where
@@ -169,13 +229,13 @@ pub record ComesAfterAlike {D X : Type 0} (c : PartCoding D) (i : ℕ) (state : 
   pub stood : StandsIn c (i - 1) state
 
 pub comes_after_alike : {D X : Type 0} (c : PartCoding D) (coding : IsCodingOf c) (i : ℕ) → i < length (regions_of c) → 0 < (region_at (regions_of c) i).width → 0 < (region_at (regions_of c) i).height → (state : PredictorState X) →
-    IsAfterChannel c i state → 0 < i → (a b : Channel) → true ≡ is_alike (get_or c.channels.now (i - 1) a) (get_or c.channels.now i b) →
+    IsAfterChannel c i state → 0 < i → alone_at c (i - 1) ≡ None → (a b : Channel) → true ≡ is_alike (get_or c.channels.now (i - 1) a) (get_or c.channels.now i b) →
     ComesAfterAlike c i state
-comes_after_alike c coding i li columns rows state last asked a b same =
+comes_after_alike c coding i li columns rows state last asked walked a b same =
     let next : i ≡ i - 1 + 1 = omega (arith, asked) in
     let n = as_many_channels c coding in
     let alike = passes_is c i (i - 1) a b true (omega (arith, n, next, li)) (omega (arith, n, li)) same in
-    record { next = next; alike = alike; stood = was_last c coding i li (i - 1) next alike state columns rows last }
+    record { next = next; alike = alike; stood = was_last c coding i li (i - 1) next alike state columns rows walked last }
 
 module _ {D X : Type 0} (c : PartCoding D) (i : ℕ) where
   -- a state without earlier channels is set for a channel whose tree asks for none
@@ -197,12 +257,12 @@ module _ {D X : Type 0} (c : PartCoding D) (i : ℕ) where
   somewhere state h = record { where_set = setting_of c i; before = h.before; stands = h.stands }
 
   -- it was last in the channel before the next one
-  pub after_channel : (state : PredictorState X) → StandsIn c i state → IsAfterChannel c (i + 1) state
-  after_channel state h = λ last next columns rows. let is : i ≡ last = omega (arith, next) in subst (λ n. StandsIn c n state) is h
+  pub after_channel : (state : PredictorState X) → (alone_at c i ≡ None → StandsIn c i state) → IsAfterChannel c (i + 1) state
+  after_channel state h = λ last next columns rows walked. let is : last ≡ i = omega (arith, next) in subst (λ n. StandsIn c n state) (sym is) (h (subst (λ n. alone_at c n ≡ None) is walked))
 
   -- none was before the first channel
   pub after_none : (state : PredictorState X) → IsAfterChannel c 0 state
-  after_none state = λ last next columns rows. absurd (omega (arith, next))
+  after_none state = λ last next columns rows walked. absurd (omega (arith, next))
 
   module _ (last : ℕ) (asked : 0 < asked_at c last) (next : i ≡ last + 1) where
     -- there is room for the channel before
@@ -256,8 +316,8 @@ flat_next t stream channel flats other next h some is =
     is ∙ ap (λ (u : FlatTree). flat_tree u.tree (u.channel + 1) u.stream_idx (u.prev_channels + 1)) tree.flat_is ∙ ap (flat t stream) (let n : channel - 1 + 1 ≡ channel = omega (arith, some) in n)
 
 -- a state that has room for channels of flat trees has room for those of a part
-pub roomy_for : {D X : Type 0} (c : PartCoding D) (state : PartState X) → IsCodingOf c → IsRoomyFor (row_width c) c.weights c.flats.now state → IsRoomy c state
-roomy_for c state coding h =
+pub roomy_for : {D X : Type 0} (c : PartCoding D) (width : ℕ) (state : PartState X) → IsCodingOf c → IsRoomyFor width (row_width c) c.weights c.flats.now state → IsRoomy width c state
+roomy_for c width state coding h =
     let wide = h.widest_is in
     let earlier = h.earlier_is in
     let long = h.row_is in

@@ -1,17 +1,20 @@
 -- Everything a part is decoded with, and what it must be.
-use Rattle.std.specs.Prelude.{◌≡◌, ℕ, ◌<◌, ◌≤◌, Bool, false, List, [], ◌∷◌, ◌==◌, length, max, get_or, if◌then◌else◌, Option, None, Some}
+use Rattle.std.specs.Prelude.{◌≡◌, ◌⊎◌, ℕ, zero, suc, ◌<◌, ◌≤◌, Bool, false, List, [], ◌∷◌, ◌==◌, length, max, get_or, slice_get, if◌then◌else◌, IfSome, Option, None, Some}
 use Rattle.std.specs.List.{All, list_any}
+use Rattle.std.specs.Option.{option_map_or}
 use Rattle.jxlm_base.specs.declared.subgrid.Region.{Region}
 use Rattle.jxlm_ma.specs.FlatTree.{FlatTree, ClustersStandIn, GoesWithoutWeights, ReadsEarlierBelow}
+use Rattle.jxlm_ma.specs.Paths.{IsLeafOf, IsPlainGradient}
 use Rattle.jxlm_tree.specs.SelfCorrecting.{IsHeader}
 use Rattle.jxlm_tree.specs.Standing.{room_of, earlier_room_of, weights_of}
 use Rattle.jxlm_ma.specs.Steps.{most_steps}
-use Rattle.jxlm_ma.specs.Tree.{Shape}
+use Rattle.jxlm_ma.specs.Tree.{Shape, leaf, decision}
 use Rattle.jxlm_ma.specs.declared.flat.Leaf.{Leaf}
+use Rattle.jxlm_tree.specs.declared.predictor.Predictor.TheVariants as predictor
 use Rattle.jxlm_tree.specs.declared.predictor.WpHeader.{WpHeader}
 use Rattle.jxlm_tree.specs.declared.state.PredictorState.{PredictorState}
 use Rattle.jxlm_transform.specs.Channels.{AreRegionsOf, Channel, IsNarrow}
-use Rattle.jxlm_part.specs.Part.{Part, max_width}
+use Rattle.jxlm_part.specs.Part.{Part, channel, max_width}
 use Rattle.jxlm_part.specs.declared.coding.ChannelTree.{ChannelTree}
 use Rattle.jxlm_part.specs.declared.coding.PartCoding.{PartCoding}
 use Rattle.jxlm_part.specs.declared.coding.PartState.{PartState}
@@ -20,12 +23,28 @@ use Rattle.jxlm_part.specs.declared.coding.PartState.{PartState}
 abbrev pub flat : Shape Leaf → ℕ → ℕ → FlatTree
 flat t stream i = record { tree = t; channel = i; stream_idx = stream; prev_channels = i }
 
--- it is this flat tree, and asks for no more than it says
+-- a leaf whose rows need no state of the predictors: it predicts by 0, or by the clamped gradient alone
+abbrev pub ReadsAlone : Leaf → Type 0
+ReadsAlone l = (l.predictor ≡ predictor.Zero) ⊎ IsPlainGradient l
+
+-- every walk of the tree leads to this leaf, and its rows need no state of the predictors
+abbrev pub IsLoneLeaf : FlatTree → Leaf → Type 0
+IsLoneLeaf t l = IsLeafOf t l × ReadsAlone l
+
+-- the tree is one such leaf
+abbrev pub IsLone : Shape Leaf → Type 0
+IsLone (leaf l) = ReadsAlone l
+IsLone (decision k value left right) = ⊥
+
+-- It is this flat tree, and asks for no more than it says. The leaf that it is read by alone, where there is one, is its
+-- only leaf; there is one where the tree has only such a leaf.
 pub record IsTreeOf (t : FlatTree) (c : ChannelTree) : Type 0 where
   pub flat_is : c.flat ≡ t
   pub without : c.weighted ≡ false → GoesWithoutWeights t
   pub below : ReadsEarlierBelow t c.asked
   pub few : c.asked ≤ t.prev_channels
+  pub alone : IfSome c.alone (IsLoneLeaf t)
+  pub walked : c.alone ≡ None → IsLone t.tree → ⊥
 
 -- There are `count` flat trees, each of this tree for its channel.
 pub record HasFlats (t : Shape Leaf) (stream count : ℕ) (flats : List ChannelTree) : Type 0 where
@@ -41,14 +60,30 @@ abbrev pub sampled_width : List Channel → ℕ
 sampled_width [] = 0
 sampled_width (c ∷ channels) = max (if c.height == 0 then 0 else c.width) (sampled_width channels)
 
--- the state has room for channels of these flat trees up to this width and for a row of one, and the weights, where
--- one of the trees may ask for them
-pub record IsRoomyFor {X : Type 0} (widest : ℕ) (weights : WpHeader) (flats : List ChannelTree) (state : PartState X) :
-    Type 0 where
+-- the width of a channel's rows where they are read in the predictors' state: 0 where they are read by a leaf alone,
+-- and where there are none
+abbrev pub width_in_state : Option Leaf → Channel → ℕ
+width_in_state None c = if c.height == 0 then 0 else c.width
+width_in_state (Some l) c = 0
+
+-- the leaf that channel i is read by alone, if there is one
+abbrev pub alone_in : List ChannelTree → ℕ → Option Leaf
+alone_in flats i = option_map_or (λ (t : ChannelTree). t.alone) (slice_get flats i) None
+
+-- the maximum of it, of the first channels
+abbrev pub walked_width : List Channel → List ChannelTree → ℕ → ℕ
+walked_width channels flats zero = 0
+walked_width channels flats (suc i) =
+    max (walked_width channels flats i) (width_in_state (alone_in flats i) (channel channels i))
+
+-- the predictors' state has room for channels of these flat trees up to this width, and the weights, where one of the
+-- trees may ask for them; and there is room for a row
+pub record IsRoomyFor {X : Type 0} (widest row : ℕ) (weights : WpHeader) (flats : List ChannelTree)
+    (state : PartState X) : Type 0 where
   pub widest_is : room_of state.predictor ≡ widest
   pub earlier_is : earlier_room_of state.predictor ≡ length flats
   pub weights_is : weights_of state.predictor ≡ (if are_weighted flats then Some weights else None)
-  pub row_is : length state.row.items ≡ widest
+  pub row_is : length state.row.items ≡ row
 
 module _ {D : Type 0} where
   -- the part that is coded so
@@ -73,6 +108,14 @@ module _ {D : Type 0} where
   abbrev pub row_width : PartCoding D → ℕ
   row_width c = sampled_width (part_of c).channels
 
+  -- the leaf that channel i is read by alone, if there is one
+  abbrev pub alone_at : PartCoding D → ℕ → Option Leaf
+  alone_at c i = alone_in c.flats.now i
+
+  -- the maximum width of a row that is read in the predictors' state
+  abbrev pub state_width : PartCoding D → ℕ
+  state_width c = walked_width (part_of c).channels c.flats.now (length (part_of c).channels)
+
   -- the clusters that the tree asks for are among these
   abbrev pub FindsClusters : PartCoding D → List ℕ → Type 0
   FindsClusters c clusters = ClustersStandIn clusters c.config.now.tree
@@ -90,13 +133,17 @@ module _ {D : Type 0} where
   cost_of c = most_steps c.config.now.tree
 
   module _ {X : Type 0} where
-    -- the predictors' state has room for each channel with cells, and the weights that are used
-    pub record HasRoom (c : PartCoding D) (state : PredictorState X) : Type 0 where
-      pub widest : row_width c ≤ room_of state
+    -- the predictors' state has room for channels up to this width, and the weights that are used
+    pub record HasRoomFor (width : ℕ) (c : PartCoding D) (state : PredictorState X) : Type 0 where
+      pub widest : width ≤ room_of state
       pub earlier : length (regions_of c) ≤ earlier_room_of state
       pub weights : weights_of state ≡ weights_used c
 
-    -- so it is, and there is room for a row of each channel with cells
-    pub record IsRoomy (c : PartCoding D) (state : PartState X) : Type 0 where
-      pub predictor : HasRoom c state.predictor
+    -- it has room for each channel that is read in it
+    abbrev pub HasRoom : PartCoding D → PredictorState X → Type 0
+    HasRoom c state = HasRoomFor (state_width c) c state
+
+    -- it has room up to this width, and there is room for a row of each channel with cells
+    pub record IsRoomy (width : ℕ) (c : PartCoding D) (state : PartState X) : Type 0 where
+      pub predictor : HasRoomFor width c state.predictor
       pub row : row_width c ≤ length state.row.items

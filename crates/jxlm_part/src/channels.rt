@@ -1,9 +1,11 @@
 //! The channels of an image.
 
-ghost use Rattle.std.specs.Prelude.{◌≡◌, ◌<◌, ◌↔◌, IsTrue};
+ghost use Rattle.std.specs.Prelude.{◌≡◌, ◌<◌, ◌↔◌, IsTrue, length};
 ghost use Rattle.jxlm_part.specs.Part.{cell_count, max_width as the_maximum_width};
 ghost use Rattle.jxlm_part.specs.Reading.{sampled_width as the_sampled_width};
+ghost use Rattle.jxlm_part.specs.Reading.{walked_width as the_walked_width, width_in_state as the_width_in_state};
 
+use crate::coding::ChannelTree;
 use jxlm_transform::channels::ModularChannelInfo;
 
 /// The maximum width of the channels, also of those without samples; 0 where there are none.
@@ -27,6 +29,34 @@ pub fn sampled_width(channels: &[ModularChannelInfo]) -> u32
     for channel in channels {
         if channel.height != 0 && channel.width > widest {
             widest = channel.width;
+        }
+    }
+    widest
+}
+
+/// The width of a channel's rows where they are read in the state of the predictors; 0 where they are read by a leaf
+/// alone, or there are none.
+fn width_in_state(channel: &ModularChannelInfo, tree: &ChannelTree) -> u32
+    ensures { result ≡ the_width_in_state tree.now.alone channel.now }
+{
+    if channel.height == 0 || tree.alone.is_some() {
+        0
+    } else {
+        channel.width
+    }
+}
+
+/// The maximum width of the channels that have samples which are read in the state of the predictors, as these trees
+/// say; 0 where none has.
+pub fn walked_width(channels: &[ModularChannelInfo], flats: &[ChannelTree]) -> u32
+    requires { length flats.now ≡ length channels.now }
+    ensures { result ≡ the_walked_width channels.now flats.now (length channels.now) }
+{
+    let mut widest = 0;
+    for i in 0..channels.len() {
+        let width = width_in_state(&channels[i], &flats[i]);
+        if width > widest {
+            widest = width;
         }
     }
     widest

@@ -1,22 +1,22 @@
 //! Everything a part is decoded with, and what is made ready before its first bit is read.
 
-ghost use Rattle.std.specs.Prelude.{◌≡◌, ℤ, ◌^◌, ◌<◌, ◌≤◌, List, IfOk, IfErr, length};
+ghost use Rattle.std.specs.Prelude.{◌≡◌, ◌↔◌, ℤ, ◌^◌, ◌<◌, ◌≤◌, List, IfOk, IfErr, IfSome, IsTrue, None, length};
 ghost use Rattle.jxlm_base.specs.ErrorKind.{NoMemory, kind_of};
 ghost use Rattle.jxlm_base.specs.Grid.{Grid};
 ghost use Rattle.jxlm_tree.specs.SelfCorrecting.{IsHeader};
 ghost use Rattle.jxlm_part.specs.Part.{is_alike as alike};
 ghost use Rattle.jxlm_tree.specs.Standing.{Setting, StandsAt, earlier_count, setting};
-ghost use Rattle.jxlm_part.specs.Reading.{HasFlats, HasRoom, IsCodingOf, IsRoomyFor, IsTreeOf, flat, regions_of};
+ghost use Rattle.jxlm_part.specs.Reading.{HasFlats, HasRoom, IsCodingOf, IsLone, IsLoneLeaf, IsRoomyFor, IsTreeOf, ReadsAlone, alone_at, flat, regions_of};
 ghost use Rattle.jxlm_part.specs.Inner.Channels.{IsAfterChannel, StandsAfter, all_alike, region_at};
 
 use jxlm_base::decoder::Decoder;
 use jxlm_base::error::Result;
 use jxlm_base::grid::{OutOfMemory, Region};
 use jxlm_base::sample::{Sample, Sealed};
-use jxlm_ma::flat::FlatMaTree;
+use jxlm_ma::flat::{FlatMaTree, Leaf};
 use jxlm_ma::ma::MaConfig;
 use jxlm_transform::channels::ModularChannelInfo;
-use jxlm_tree::predictor::{PredictorState, WpHeader};
+use jxlm_tree::predictor::{Predictor, PredictorState, WpHeader};
 use std::alloc::Global;
 
 /// The tree as one channel walks it, and what it may ask for.
@@ -28,6 +28,8 @@ pub struct ChannelTree {
     pub weighted: bool,
     /// How many of the earlier channels it may ask for, the nearest first.
     pub asked: usize,
+    /// Its only leaf, where rows are read by that alone, without the state of the predictors.
+    pub alone: Option<Leaf>,
 }
 
 /// Everything the samples of a part are decoded with.
@@ -65,7 +67,7 @@ pub struct Ready<S, D: Decoder> {
     pub decoder: D,
     /// The tree as each channel walks it.
     pub flats: Vec<ChannelTree>,
-    /// The state, with room for each channel that has samples.
+    /// The state, with room for each channel that is read in it, and for a row of each that has samples.
     pub state: PartState<S>,
 }
 
@@ -79,8 +81,8 @@ fn is_alike(a: &ModularChannelInfo, b: &ModularChannelInfo) -> bool
 /// Puts the state at the first cell of channel `i`, with the regions of the channels before that are like it, the
 /// nearest first, where the tree asks for any.
 ///
-/// Where the channel before is like it and asked for any, the state has all of them but that one, and is given only
-/// that. The weights are used only where this channel's own tree may ask for them.
+/// Where the channel before was read in the state, is like it and asked for any, the state has all of them but that one,
+/// and is given only that. The weights are used only where this channel's own tree may ask for them.
 pub(crate) fn start_channel<S: Sample, D: Decoder>(
     state: &mut PredictorState<S>,
     coding: &PartCoding<'_, D>,
@@ -89,6 +91,7 @@ pub(crate) fn start_channel<S: Sample, D: Decoder>(
     requires channel { i < length (regions_of coding.now) }
     requires columns { 0 < (region_at (regions_of coding.now) i).width }
     requires rows { 0 < (region_at (regions_of coding.now) i).height }
+    requires walked { alone_at coding.now i ≡ None }
     requires coding { IsCodingOf coding.now }
     requires roomy { HasRoom coding.now state.old }
     requires last { IsAfterChannel coding.now i state.old }
@@ -99,7 +102,8 @@ pub(crate) fn start_channel<S: Sample, D: Decoder>(
     let weighted = coding.flats[i].weighted;
     if coding.flats[i].asked == 0 {
         state.restart_by(width, weighted);
-    } else if coding.flats[i - 1].asked > 0
+    } else if coding.flats[i - 1].alone.is_none()
+        && coding.flats[i - 1].asked > 0
         && coding.flats[i - 1].weighted == weighted
         && is_alike(&coding.channels[i - 1], &coding.channels[i])
     {
@@ -132,16 +136,35 @@ fn add_all_earlier<S: Sample, D: Decoder>(
     }
 }
 
+/// Whether rows of this leaf need no state of the predictors.
+fn reads_alone(leaf: Leaf) -> bool
+    ensures { IsTrue result ↔ ReadsAlone leaf }
+{
+    leaf.predictor == Predictor::Zero
+        || (leaf.predictor == Predictor::Gradient && leaf.offset == 0 && leaf.multiplier == 1)
+}
+
+/// The only leaf of a tree, where rows need no state of the predictors.
+fn lone_leaf(flat: &FlatMaTree) -> Option<Leaf>
+    ensures some { IfSome result (IsLoneLeaf flat.now) }
+    ensures none { result ≡ None → IsLone flat.now.tree → ⊥ }
+{
+    let leaf = flat.only_leaf()?;
+    if reads_alone(leaf) { Some(leaf) } else { None }
+}
+
 /// The tree as a channel walks it, with what it may ask for.
 fn channel_tree(flat: FlatMaTree) -> ChannelTree
     ensures { IsTreeOf flat result }
 {
     let weighted = flat.need_self_correcting();
     let asked = flat.max_prev_channel_depth();
+    let alone = lone_leaf(&flat);
     ChannelTree {
         flat,
         weighted,
         asked,
+        alone,
     }
 }
 
@@ -195,8 +218,8 @@ pub fn flat_trees<D: Decoder>(
     Ok(flats)
 }
 
-/// A state with room for channels of these flat trees and up to this width, and for a row of one; it has the weights
-/// where one of the trees may ask for them.
+/// A state with room for channels of these flat trees up to the width `widest`, and for a row of so many samples; it has
+/// the weights where one of the trees may ask for them.
 ///
 /// # Errors
 ///
@@ -205,11 +228,12 @@ pub fn roomy_state<S: Sample>(
     alloc: Global,
     flats: &[ChannelTree],
     widest: u32,
+    samples: u32,
     weights: &WpHeader,
 ) -> Result<PartState<S>>
     requires weights { IsHeader weights.now }
     requires narrow { widest ≤ 2 ^ 30 }
-    ensures ok { IfOk result (λ s. IsRoomyFor widest weights.now flats.now s) }
+    ensures ok { IfOk result (λ s. IsRoomyFor widest samples weights.now flats.now s) }
     ensures err { IfErr result (λ e. kind_of e ≡ NoMemory) }
 {
     let used = if flats.iter().any(|tree| tree.weighted) {
@@ -218,6 +242,6 @@ pub fn roomy_state<S: Sample>(
         None
     };
     let predictor = PredictorState::with_room(alloc, widest, flats.len(), used)?;
-    let row = vec![in alloc; S::default(); widest as usize].map_err(|_| OutOfMemory)?;
+    let row = vec![in alloc; S::default(); samples as usize].map_err(|_| OutOfMemory)?;
     Ok(PartState { predictor, row })
 }

@@ -1,12 +1,15 @@
 //! The loops that decode the samples of a part, in the order of its cells.
 
-ghost use Rattle.std.specs.Prelude.{◌≡◌, ◌+◌, ◌<◌, ◌≤◌, OnOk, length};
+ghost use Rattle.std.specs.Prelude.{◌≡◌, ◌+◌, ◌<◌, ◌≤◌, OnOk, false, length};
 ghost use Rattle.jxlm_part.specs.Part.{cells_before, cell_count};
-ghost use Rattle.jxlm_part.specs.Inner.Channels.{region_at};
-ghost use Rattle.jxlm_part.specs.Inner.Levels.{HasRooms, IsAtChannel, IsAtRow, IsOnPath};
+ghost use Rattle.jxlm_ma.specs.FlatTree.{FlatTree};
+ghost use Rattle.jxlm_ma.specs.Paths.{Gives, IsLeafOf, steps_on};
+ghost use Rattle.jxlm_part.specs.Inner.Channels.{IsAfterChannel, region_at};
+ghost use Rattle.jxlm_part.specs.Inner.Levels.{CanBegin, HasRooms, IsAtChannel, IsAtRow, IsOnPath};
+ghost use Rattle.jxlm_part.specs.Inner.Paths.{Allows, is_walked};
 ghost use Rattle.jxlm_part.specs.Inner.Progress.{PartGives, WalkGives, moment, place_of};
 ghost use Rattle.jxlm_part.specs.Inner.Rows.{IsDecodingPart, RowGives, region_on};
-ghost use Rattle.jxlm_part.specs.Reading.{FindsClusters, part_of, regions_of, row_width};
+ghost use Rattle.jxlm_part.specs.Reading.{FindsClusters, HasRoom, IsCodingOf, ReadsAlone, part_of, regions_of, row_width};
 
 use crate::cell::read_by_cells;
 use crate::coding::{PartCoding, start_channel};
@@ -17,7 +20,9 @@ use crate::zeros::read_zeros;
 use jxlm_base::decoder::{Decoder, DecoderError};
 use jxlm_base::grid::AlignedGrid;
 use jxlm_base::sample::Sample;
+use jxlm_ma::flat::Leaf;
 use jxlm_ma::paths::Path;
+use jxlm_tree::predictor::{Predictor, PredictorState};
 
 /// Reads a row: at a leaf, from the row above, or cell by cell.
 ///
@@ -79,7 +84,7 @@ fn decode_row<'x, S: Sample, D: Decoder>(
     write_read(store, coding.regions[i], y, row, read)
 }
 
-/// Reads the rows of channel `i`, which is started; `row` is room for one.
+/// Reads the rows of channel `i`, which is begun; `row` is room for one.
 fn decode_rows<'x, S: Sample, D: Decoder>(
     walk: &mut Walk<'_, S, D>,
     coding: &'x PartCoding<'x, D>,
@@ -102,6 +107,45 @@ fn decode_rows<'x, S: Sample, D: Decoder>(
     Ok(())
 }
 
+/// How the rows of a channel are read by its only leaf alone.
+fn lone_path<'x>(leaf: Leaf) -> Path<'x>
+    requires { ReadsAlone leaf }
+    ensures gives { (t : FlatTree) → IsLeafOf t leaf → Gives t result × (steps_on result t.tree ≡ 0) }
+    ensures allows { Allows result }
+    ensures needs { is_walked result ≡ false }
+{
+    if leaf.predictor == Predictor::Zero {
+        Path::Zero(leaf)
+    } else {
+        Path::Gradient(leaf)
+    }
+}
+
+/// How the rows of channel `i` are read. Where they are read in the state of the predictors, it is put at the first cell
+/// of the channel; else it is left alone.
+fn begin_channel<'x, S: Sample, D: Decoder>(
+    state: &mut PredictorState<S>,
+    coding: &'x PartCoding<'x, D>,
+    decoder: &D,
+    i: usize,
+) -> Path<'x>
+    requires channel { i < length (regions_of coding.now) }
+    requires columns { 0 < (region_at (regions_of coding.now) i).width }
+    requires rows { 0 < (region_at (regions_of coding.now) i).height }
+    requires coding { IsCodingOf coding.now }
+    requires clusters { FindsClusters coding.now (D.meaning.cluster_map decoder.now) }
+    requires roomy { HasRoom coding.now state.old }
+    requires last { IsAfterChannel coding.now i state.old }
+    ensures { CanBegin coding.now S.to_int i result state.new }
+{
+    let alone = coding.flats[i].alone;
+    if let Some(leaf) = alone {
+        return lone_path(leaf);
+    }
+    start_channel(state, coding, i);
+    coding.flats[i].flat.path_of(decoder)
+}
+
 /// Reads channel `i`, row by row; one without columns or rows has no cell. `scratch` has room for a row.
 fn decode_channel<'x, S: Sample, D: Decoder>(
     walk: &mut Walk<'_, S, D>,
@@ -122,8 +166,7 @@ fn decode_channel<'x, S: Sample, D: Decoder>(
     if region.width == 0 || region.height == 0 {
         return Ok(());
     }
-    start_channel(&mut walk.state, coding, i);
-    let path = coding.flats[i].flat.path_of(&walk.source.decoder);
+    let path = begin_channel(&mut walk.state, coding, &walk.source.decoder, i);
     let row = &mut scratch[..region.width];
     decode_rows(walk, coding, store, path, row, i)
 }

@@ -13,7 +13,7 @@ ghost use Rattle.jxlm_part.specs.Placed.{PartLies, most_steps, part_placed, stan
 ghost use Rattle.jxlm_part.specs.Progress.{KeepsOutside};
 ghost use Rattle.jxlm_part.specs.Inner.Ready.{IsReadyFor};
 
-use crate::channels::{have_samples, max_width, sampled_width};
+use crate::channels::{have_samples, max_width, sampled_width, walked_width};
 use crate::coding::{PartCoding, PartState, Ready, flat_trees, roomy_state};
 use crate::decode::decode_part;
 use crate::source::{Source, Walk};
@@ -69,8 +69,9 @@ impl<'a, D: Decoder> PlacedPart<'a, D> {
             self.stream_index,
             self.channels.len() as u32,
         )?;
-        let widest = sampled_width(self.channels);
-        let state = roomy_state(alloc, &flats, widest, &self.weights)?;
+        let widest = walked_width(self.channels, &flats);
+        let samples = sampled_width(self.channels);
+        let state = roomy_state(alloc, &flats, widest, samples, &self.weights)?;
         Ok(Ready {
             decoder,
             flats,

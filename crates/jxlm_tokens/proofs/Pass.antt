@@ -6,10 +6,10 @@ use Rattle.std.proofs.lemmas.List.{length-append}
 use Rattle.jxlm_base.specs.Grid.{Grid}
 use Rattle.jxlm_base.specs.Regions.{grids_in, store_meanings}
 use Rattle.jxlm_ma.specs.Tree.{AllLeaves}
-use Rattle.jxlm_tokens.specs.Inner.Channels.{region_at}
+use Rattle.jxlm_tokens.specs.Inner.Channels.{HasRoom, region_at}
 use Rattle.jxlm_part.specs.Part.{cells_before, cells_of, channel, max_width}
 use Rattle.jxlm_part.specs.Placed.{PartLies}
-use Rattle.jxlm_part.specs.Reading.{HasFlats, HasRoom, IsCodingOf, IsRoomyFor, part_of, regions_of, sampled_width}
+use Rattle.jxlm_part.specs.Reading.{HasFlats, IsCodingOf, IsRoomyFor, part_of, regions_of, sampled_width}
 use Rattle.jxlm_part.specs.declared.coding.PartCoding.{PartCoding}
 use Rattle.jxlm_part.specs.declared.coding.PartState.{PartState}
 use Rattle.jxlm_part.specs.declared.part.PlacedPart.{PlacedPart}
@@ -99,8 +99,8 @@ module _ {D X : Type 0} (p : PlacedPart D) (store : List (Grid X)) (lies : PartL
   pub placed_walk : AllLeaves MultipliesByOne p.config.now.tree → IsWalked c store
   placed_walk ones = record { coding = placed_coding; lie = rw regions lies.lie; ones = rw config ones }
 
-  pub placed_room : (state : PartState X) → IsRoomyFor (sampled_width p.channels.now) p.weights c.flats.now state → HasRoom c state.predictor
-  placed_room state h = (roomy_for c state placed_coding (rw (channels, weights) h)).predictor
+  pub placed_room : (state : PartState X) → IsRoomyFor (sampled_width p.channels.now) (sampled_width p.channels.now) p.weights c.flats.now state → HasRoom c state.predictor
+  placed_room state h = (roomy_for c (sampled_width c.channels.now) state placed_coding (rw (channels, weights) h)).predictor
 
 -- what holds anyway holds where there is no error
 pub on_ok : {A E : Type 0} (r : Result A E) (P : Type 0) → P → OnOk r P

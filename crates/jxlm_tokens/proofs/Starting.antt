@@ -8,12 +8,12 @@ use Rattle.jxlm_tree.specs.declared.state.PredictorState.{PredictorState}
 use Rattle.jxlm_tree.proofs.StandingLaws.{stands_earlier}
 use Rattle.jxlm_transform.specs.Channels.{Channel}
 use Rattle.jxlm_part.specs.Part.{channel, earlier_alike, is_alike}
-use Rattle.jxlm_part.specs.Reading.{HasRoom, IsCodingOf, part_of, regions_of}
+use Rattle.jxlm_part.specs.Reading.{IsCodingOf, part_of, regions_of}
 use Rattle.jxlm_part.specs.declared.coding.PartCoding.{PartCoding}
 use Rattle.jxlm_part.proofs.Earlier.{few_earlier, same_sides}
 use Rattle.jxlm_part.proofs.Loops.{same_size}
 use Rattle.jxlm_part.proofs.Starting.{as_many_channels, next_alike, passes_is, same_width}
-use Rattle.jxlm_tokens.specs.Inner.Channels.{IsAfterChannel, StandsIn, all_alike, asked_at, earlier_regions, handed, region_at, setting_of, weights_at}
+use Rattle.jxlm_tokens.specs.Inner.Channels.{HasRoom, IsAfterChannel, StandsIn, all_alike, asked_at, earlier_regions, handed, region_at, setting_of, weights_at}
 
 -- where a tree asks for earlier channels, all are given
 some_asked : (n : ℕ) (all : List Region) → 0 < n → handed n all ≡ all

@@ -3,12 +3,12 @@
 ghost use Rattle.std.specs.Prelude.{◌≡◌, ◌⊎◌, ◌+◌, ◌*◌, ◌^◌, ◌<◌, ◌≤◌, IfOk, IfSome, OnOk, length};
 ghost use Rattle.jxlm_base.specs.Regions.{grids_in, store_meanings};
 ghost use Rattle.jxlm_ma.specs.Tree.{AllLeaves};
-ghost use Rattle.jxlm_tokens.specs.Inner.Channels.{IsAfterChannel, StandsAfter, region_at};
+ghost use Rattle.jxlm_tokens.specs.Inner.Channels.{HasRoom, IsAfterChannel, StandsAfter, region_at};
 ghost use Rattle.jxlm_part.specs.Part.{cells_before, cells_of};
 ghost use Rattle.jxlm_part.specs.Placed.{PartLies, part_placed};
 ghost use Rattle.jxlm_tree.specs.SelfCorrecting.{IsHeader};
 ghost use Rattle.jxlm_part.specs.Reading.{sampled_width as the_sampled_width};
-ghost use Rattle.jxlm_part.specs.Reading.{HasFlats, HasRoom, IsRoomyFor, part_of, regions_of, row_width, tree_of};
+ghost use Rattle.jxlm_part.specs.Reading.{HasFlats, IsRoomyFor, part_of, regions_of, row_width, tree_of};
 ghost use Rattle.jxlm_tokens.specs.Tokens.{AreTokensOf, MultipliesByOne};
 ghost use Rattle.jxlm_tokens.specs.Inner.Walks.{AreFirstTokens, AreRowTokens, IsInChannel, IsLoneLeaf, IsWalked};
 
@@ -201,8 +201,8 @@ fn make_ready<S: Sample, D: Decoder>(alloc: Global, part: &PlacedPart<'_, D>) ->
     requires few { length part.now.channels.now ≤ 65536 }
     ensures flats { IfOk result (λ m. HasFlats part.now.config.now.tree part.now.stream_index
         (length part.now.channels.now) m.flats.items) }
-    ensures room { IfOk result (λ m. IsRoomyFor (the_sampled_width part.now.channels.now) part.now.weights
-        m.flats.items m.state) }
+    ensures room { IfOk result (λ m. IsRoomyFor (the_sampled_width part.now.channels.now)
+        (the_sampled_width part.now.channels.now) part.now.weights m.flats.items m.state) }
 {
     let flats = flat_trees(
         alloc,
@@ -211,7 +211,7 @@ fn make_ready<S: Sample, D: Decoder>(alloc: Global, part: &PlacedPart<'_, D>) ->
         part.channels.len() as u32,
     )?;
     let widest = sampled_width(part.channels);
-    let state = roomy_state(alloc, &flats, widest, &part.weights)?;
+    let state = roomy_state(alloc, &flats, widest, widest, &part.weights)?;
     Ok(Made { flats, state })
 }
 

@@ -4,8 +4,8 @@ ghost use Rattle.std.specs.Prelude.{◌≡◌, ℤ, ◌<◌, List, length};
 ghost use Rattle.jxlm_base.specs.Grid.{Grid};
 ghost use Rattle.jxlm_part.specs.Part.{is_alike as alike};
 ghost use Rattle.jxlm_tree.specs.Standing.{Setting, StandsAt, earlier_count, setting};
-ghost use Rattle.jxlm_part.specs.Reading.{HasRoom, IsCodingOf, regions_of};
-ghost use Rattle.jxlm_tokens.specs.Inner.Channels.{IsAfterChannel, StandsAfter, all_alike, region_at};
+ghost use Rattle.jxlm_part.specs.Reading.{IsCodingOf, regions_of};
+ghost use Rattle.jxlm_tokens.specs.Inner.Channels.{HasRoom, IsAfterChannel, StandsAfter, all_alike, region_at};
 
 use jxlm_base::decoder::Decoder;
 use jxlm_base::sample::{Sample, Sealed};

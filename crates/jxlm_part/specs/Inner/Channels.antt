@@ -8,7 +8,7 @@ use Rattle.jxlm_tree.specs.Standing.{Setting, StandsAt, setting}
 use Rattle.jxlm_tree.specs.declared.predictor.WpHeader.{WpHeader}
 use Rattle.jxlm_tree.specs.declared.state.PredictorState.{PredictorState}
 use Rattle.jxlm_part.specs.Part.{earlier_alike}
-use Rattle.jxlm_part.specs.Reading.{part_of, regions_of}
+use Rattle.jxlm_part.specs.Reading.{alone_at, part_of, regions_of}
 use Rattle.jxlm_part.specs.declared.coding.ChannelTree.{ChannelTree}
 use Rattle.jxlm_part.specs.declared.coding.PartCoding.{PartCoding}
 
@@ -58,8 +58,8 @@ module _ {D : Type 0} where
       pub before : List ℤ
       pub stands : StandsAt state (setting_of c i) before
 
-    -- of the channels before channel i, the state was last in the one before, where that has cells
+    -- of the channels before channel i, the state was last in the one before, where that has cells and is read in it
     abbrev pub IsAfterChannel : PartCoding D → ℕ → PredictorState X → Type 0
     IsAfterChannel c i state =
         (last : ℕ) → i ≡ last + 1 → 0 < (region_at (regions_of c) last).width →
-        0 < (region_at (regions_of c) last).height → StandsIn c last state
+        0 < (region_at (regions_of c) last).height → alone_at c last ≡ None → StandsIn c last state

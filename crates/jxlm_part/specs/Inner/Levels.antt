@@ -1,28 +1,38 @@
 -- Where the loops over rows and channels are.
-use Rattle.std.specs.Prelude.{◌≡◌, ℕ, ◌≤◌, ℤ, List, [], length, map, true}
+use Rattle.std.specs.Prelude.{◌≡◌, ℕ, ◌≤◌, ℤ, List, [], length, map, true, None}
 use Rattle.jxlm_base.specs.Decoding.{Meaning}
 use Rattle.jxlm_base.specs.Grid.{Grid}
 use Rattle.jxlm_ma.specs.Paths.{Gives, steps_on}
 use Rattle.jxlm_ma.specs.declared.paths.Path.{Path}
 use Rattle.jxlm_tree.specs.declared.state.PredictorState.{PredictorState}
-use Rattle.jxlm_part.specs.Inner.Channels.{IsAfterChannel, StandsIn}
+use Rattle.jxlm_part.specs.Inner.Channels.{IsAfterChannel, StandsAfter, StandsIn}
 use Rattle.jxlm_part.specs.Inner.Paths.{Allows, is_walked}
 use Rattle.jxlm_part.specs.Inner.Rows.{IsDecoding, IsDecodingPart, StandsInRow}
-use Rattle.jxlm_part.specs.Reading.{FindsClusters, HasRoom, cost_of, row_width, tree_of}
+use Rattle.jxlm_part.specs.Reading.{FindsClusters, HasRoom, alone_at, cost_of, row_width, tree_of}
 use Rattle.jxlm_part.specs.declared.coding.PartCoding.{PartCoding}
 use Rattle.jxlm_part.specs.declared.rows.Line.{Line}
 use Rattle.jxlm_part.specs.declared.source.Walk.{Walk}
 
--- there is room for each channel with cells, and for a row of it
+-- there is room for each channel that is read in the predictors' state, and for a row of each with cells
 pub record HasRooms {D X : Type 0} (c : PartCoding D) (state : PredictorState X) (scratch : List X) : Type 0 where
   pub predictor : HasRoom c state
   pub row : row_width c ≤ length scratch
 
 -- after the read of a row, the predictors' state is after it, where the path needs that
 pub record IsOnPath {D X : Type 0} (l : Line X D) (to_int : X → ℤ) (row : List X) (walk : Walk X D) : Type 0 where
-  pub within : StandsIn l.coding.now l.i walk.state
+  pub within : alone_at l.coding.now l.i ≡ None → StandsIn l.coding.now l.i walk.state
   pub stands : is_walked l.path ≡ true → StandsInRow l.coding.now to_int l.store.now l.i l.y (map to_int row) walk.state
   pub roomy : HasRoom l.coding.now walk.state
+
+-- The rows of channel i can be read so, and where they are read in the predictors' state, it is before the first one.
+pub record CanBegin {D X : Type 0} (c : PartCoding D) (to_int : X → ℤ) (i : ℕ) (path : Path) (state : PredictorState X) :
+    Type 0 where
+  pub gives : Gives (tree_of c i) path
+  pub allows : Allows path
+  pub steps : steps_on path c.config.now.tree ≤ cost_of c
+  pub roomy : HasRoom c state
+  pub within : alone_at c i ≡ None → StandsIn c i state
+  pub stands : is_walked path ≡ true → (store : List (Grid X)) → StandsAfter c to_int store i 0 state
 
 module _ {D X : Type 0} (d : Meaning D) (c : PartCoding D) (walk : Walk X D) where
   -- the decoder has the clusters that the tree asks for, and there is room for each channel
@@ -37,7 +47,7 @@ module _ {D X : Type 0} (d : Meaning D) (c : PartCoding D) (walk : Walk X D) whe
     pub allows : Allows path
     pub steps : steps_on path c.config.now.tree ≤ cost_of c
     pub ready : IsReady
-    pub within : StandsIn c i walk.state
+    pub within : alone_at c i ≡ None → StandsIn c i walk.state
     pub stands : is_walked path ≡ true → StandsInRow c to_int store i y [] walk.state
 
   -- the walk is before channel i

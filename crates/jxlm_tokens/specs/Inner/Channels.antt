@@ -8,7 +8,7 @@ use Rattle.jxlm_tree.specs.Standing.{Setting, StandsAt, setting}
 use Rattle.jxlm_tree.specs.declared.predictor.WpHeader.{WpHeader}
 use Rattle.jxlm_tree.specs.declared.state.PredictorState.{PredictorState}
 use Rattle.jxlm_part.specs.Part.{earlier_alike}
-use Rattle.jxlm_part.specs.Reading.{part_of, regions_of}
+use Rattle.jxlm_part.specs.Reading.{HasRoomFor, part_of, regions_of, row_width}
 use Rattle.jxlm_part.specs.declared.coding.ChannelTree.{ChannelTree}
 use Rattle.jxlm_part.specs.declared.coding.PartCoding.{PartCoding}
 
@@ -47,6 +47,10 @@ module _ {D : Type 0} where
   setting_of c i = setting (region_at (regions_of c) i).width (weights_at c i) (earlier_regions c i)
 
   module _ {X : Type 0} where
+    -- the predictors' state has room for each channel with cells, and the weights that are used
+    abbrev pub HasRoom : PartCoding D → PredictorState X → Type 0
+    HasRoom c state = HasRoomFor (row_width c) c state
+
     -- the state is at the cell after the first n of channel i
     abbrev pub StandsAfter : PartCoding D → (X → ℤ) → List (Grid X) → ℕ → ℕ → PredictorState X → Type 0
     StandsAfter c to_int store i n state =

@@ -1,4 +1,5 @@
 use Rattle.std.proofs.Common.{◌+◌, true, false, sym, subst, arith}
+use Rattle.jxlm_part.specs.Reading.{state_width}
 use Rattle.jxlm_part.proofs.Starting.{IsUnderWay, as_many_channels, has_room, passes_is, passes_over, takes_alike}
 use Rattle.jxlm_part.proofs.coding.add_all_earlier.Goals.{then-is_alike, else-is_alike}
 use Rattle.jxlm_part.proofs.coding.add_all_earlier.Goals as goal
@@ -19,11 +20,11 @@ loop-e-preserved g c =
     elim c.if-is_alike.branch [
       | then-is_alike w ↦
           let passes = passes_is c.args.coding.now c.args.i c.loop-e.e _ _ true (omega (arith, n, c.requires.channel, c.loop-e-test.true)) (omega (arith, n, c.requires.channel)) w.if-is_alike.ensures in
-          subst (IsUnderWay c.args.coding.now c.args.i (c.loop-e.e + 1) c.args.state.now) (sym w.state-is)
+          subst (IsUnderWay c.args.coding.now c.args.i (state_width c.args.coding.now) (c.loop-e.e + 1) c.args.state.now) (sym w.state-is)
           (takes_alike c.args.coding.now c.args.i c.requires.coding c.requires.channel c.loop-e.e c.args.state.now c.loop-e.state w.add_earlier.new.self passes c.loop-e.invariant
           w.add_earlier.ensures.stands w.add_earlier.ensures.more w.add_earlier.ensures.room)
       | else-is_alike w ↦
           let passes = passes_is c.args.coding.now c.args.i c.loop-e.e _ _ false (omega (arith, n, c.requires.channel, c.loop-e-test.true)) (omega (arith, n, c.requires.channel)) w.if-is_alike.ensures in
-          subst (IsUnderWay c.args.coding.now c.args.i (c.loop-e.e + 1) c.args.state.now) (sym w.state-is)
+          subst (IsUnderWay c.args.coding.now c.args.i (state_width c.args.coding.now) (c.loop-e.e + 1) c.args.state.now) (sym w.state-is)
           (passes_over c.args.coding.now c.args.i c.loop-e.e c.args.state.now c.loop-e.state passes c.loop-e.invariant)
     ]

@@ -1,7 +1,7 @@
-use Rattle.std.proofs.Common.{◌-◌, ◌<◌, [], arith, rules, slice_index_or}
+use Rattle.std.proofs.Common.{◌-◌, ◌<◌, [], arith, rules, slice_index_or, ap, not, ◌∙◌}
 use Rattle.jxlm_part.specs.Inner.Channels.{asked_at}
 use Rattle.jxlm_part.proofs.CellLaws.{asked_is, narrow_at, same_weights, weights_are}
-use Rattle.jxlm_part.proofs.Starting.{as_many_channels, comes_after_alike, fits_widest, is_later, room_for_last, set_by_last, set_for_all, set_for_none, somewhere}
+use Rattle.jxlm_part.proofs.Starting.{as_many_channels, comes_after_alike, fits_state, is_later, room_for_last, set_by_last, set_for_all, set_for_none, somewhere, walked_at}
 use Rattle.jxlm_part.proofs.coding.start_channel.Goals as goal
 
 pub overflow_cast-width : goal.overflow_cast-width
@@ -9,7 +9,7 @@ overflow_cast-width g c = let n = (narrow_at c.args.coding.now c.requires.coding
 
 pub restart_by-requires-clause-roomy : goal.restart_by-requires-clause-roomy
 restart_by-requires-clause-roomy g c =
-    let n = fits_widest c.args.coding.now c.requires.coding c.args.i c.requires.channel c.requires.rows in
+    let n = fits_state c.args.coding.now c.requires.coding c.args.i c.requires.channel c.requires.rows c.requires.walked in
     let room = c.requires.roomy.widest in
     omega (arith, n, room)
 
@@ -23,7 +23,8 @@ pub restart_alike-requires : goal.restart_alike-requires
 restart_alike-requires g c =
     let some : 0 < (slice_index_or c.args.coding.now.flats.now c.args.i c.index-coding-i-2.result).asked = omega (arith, c.if-coding-i-eq0.false) in
     let later = is_later c.args.coding.now c.requires.coding c.args.i c.requires.channel _ some in
-    let last = comes_after_alike c.args.coding.now c.requires.coding c.args.i c.requires.channel c.requires.columns c.requires.rows c.args.state.now c.requires.last later _ _ c.if-is_alike.ensures in
+    let walked = walked_at c.args.coding.now c.requires.coding (c.args.i - 1) (omega (arith, c.requires.channel)) c.index-coding-i-else-coding-i-eq0.result (c.is_none.ensures ∙ ap not c.if-is_none.true) in
+    let last = comes_after_alike c.args.coding.now c.requires.coding c.args.i c.requires.channel c.requires.columns c.requires.rows c.args.state.now c.requires.last later walked _ _ c.if-is_alike.ensures in
     record { stands = somewhere c.args.coding.now (c.args.i - 1) c.args.state.now last.stood }
 
 pub overflow_sub-i-then-is_alike : goal.overflow_sub-i-then-is_alike
@@ -36,14 +37,15 @@ pub add_earlier-requires : goal.add_earlier-requires
 add_earlier-requires g c =
     let some : 0 < (slice_index_or c.args.coding.now.flats.now c.args.i c.index-coding-i-2.result).asked = omega (arith, c.if-coding-i-eq0.false) in
     let later = is_later c.args.coding.now c.requires.coding c.args.i c.requires.channel _ some in
-    let last = comes_after_alike c.args.coding.now c.requires.coding c.args.i c.requires.channel c.requires.columns c.requires.rows c.args.state.now c.requires.last later _ _ c.if-is_alike.ensures in
+    let walked = walked_at c.args.coding.now c.requires.coding (c.args.i - 1) (omega (arith, c.requires.channel)) c.index-coding-i-else-coding-i-eq0.result (c.is_none.ensures ∙ ap not c.if-is_none.true) in
+    let last = comes_after_alike c.args.coding.now c.requires.coding c.args.i c.requires.channel c.requires.columns c.requires.rows c.args.state.now c.requires.last later walked _ _ c.if-is_alike.ensures in
     let before : 0 < asked_at c.args.coding.now (c.args.i - 1) =
-    let is = asked_is c.args.coding.now c.requires.coding (c.args.i - 1) (omega (arith, c.requires.channel)) c.index-coding-i-else-coding-i-eq0.result in omega (arith, is, c.if-coding-i-gt0.true) in
+    let is = asked_is c.args.coding.now c.requires.coding (c.args.i - 1) (omega (arith, c.requires.channel)) c.index-coding-i-then-is_none.result in omega (arith, is, c.if-coding-i-gt0.true) in
     room_for_last c.args.coding.now c.args.i (c.args.i - 1) before last.next c.requires.channel c.args.state.now c.restart_alike.new.self last.stood c.restart_alike.ensures.same c.restart_alike.ensures.room c.requires.roomy
 
-pub restart_by-requires-else-coding-i-gt0-clause-roomy : goal.restart_by-requires-else-coding-i-gt0-clause-roomy
-restart_by-requires-else-coding-i-gt0-clause-roomy g c =
-    let n = fits_widest c.args.coding.now c.requires.coding c.args.i c.requires.channel c.requires.rows in
+pub restart_by-requires-else-is_none-clause-roomy : goal.restart_by-requires-else-is_none-clause-roomy
+restart_by-requires-else-is_none-clause-roomy g c =
+    let n = fits_state c.args.coding.now c.requires.coding c.args.i c.requires.channel c.requires.rows c.requires.walked in
     let room = c.requires.roomy.widest in
     omega (arith, n, room)
 
@@ -58,14 +60,15 @@ returns-then-is_alike-clause-stands g c = λ store.
     let later = is_later c.args.coding.now c.requires.coding c.args.i c.requires.channel _ some in
     let here : 0 < asked_at c.args.coding.now c.args.i = let is = asked_is c.args.coding.now c.requires.coding c.args.i c.requires.channel c.index-coding-i-2.result in omega (arith, is, some) in
     let before : 0 < asked_at c.args.coding.now (c.args.i - 1) =
-    let is = asked_is c.args.coding.now c.requires.coding (c.args.i - 1) (omega (arith, c.requires.channel)) c.index-coding-i-else-coding-i-eq0.result in omega (arith, is, c.if-coding-i-gt0.true) in
-    let last = comes_after_alike c.args.coding.now c.requires.coding c.args.i c.requires.channel c.requires.columns c.requires.rows c.args.state.now c.requires.last later _ _ c.if-is_alike.ensures in
+    let is = asked_is c.args.coding.now c.requires.coding (c.args.i - 1) (omega (arith, c.requires.channel)) c.index-coding-i-then-is_none.result in omega (arith, is, c.if-coding-i-gt0.true) in
+    let walked = walked_at c.args.coding.now c.requires.coding (c.args.i - 1) (omega (arith, c.requires.channel)) c.index-coding-i-else-coding-i-eq0.result (c.is_none.ensures ∙ ap not c.if-is_none.true) in
+    let last = comes_after_alike c.args.coding.now c.requires.coding c.args.i c.requires.channel c.requires.columns c.requires.rows c.args.state.now c.requires.last later walked _ _ c.if-is_alike.ensures in
     let weights = same_weights c.args.coding.now c.requires.coding (c.args.i - 1) c.args.i (omega (arith, c.requires.channel)) c.requires.channel c.index-coding-i-then-coding-i-gt0.result c.index-coding-i.result (search rules) in
     set_by_last c.args.coding.now c.args.i (c.args.i - 1) before last.next c.requires.coding c.requires.channel here weights last.alike c.args.state.now c.restart_alike.new.self c.add_earlier.new.self last.stood
     c.restart_alike.ensures.stands c.add_earlier.ensures.stands
 
-pub returns-else-coding-i-gt0-clause-stands : goal.returns-else-coding-i-gt0-clause-stands
-returns-else-coding-i-gt0-clause-stands g c = λ store.
+pub returns-else-is_none-clause-stands : goal.returns-else-is_none-clause-stands
+returns-else-is_none-clause-stands g c = λ store.
     let some : 0 < (slice_index_or c.args.coding.now.flats.now c.args.i c.index-coding-i-2.result).asked = omega (arith, c.if-coding-i-eq0.false) in
     let here : 0 < asked_at c.args.coding.now c.args.i = let is = asked_is c.args.coding.now c.requires.coding c.args.i c.requires.channel c.index-coding-i-2.result in omega (arith, is, some) in
-    set_for_all c.args.coding.now c.args.i c.add_all_earlier.new.state _ (weights_are c.args.coding.now c.requires.coding c.args.i c.requires.channel _ _ c.requires.roomy.weights) here (c.add_all_earlier.ensures.stands _ [] c.restart_by-else-coding-i-gt0.ensures.stands)
+    set_for_all c.args.coding.now c.args.i c.add_all_earlier.new.state _ (weights_are c.args.coding.now c.requires.coding c.args.i c.requires.channel _ _ c.requires.roomy.weights) here (c.add_all_earlier.ensures.stands _ [] c.restart_by-else-is_none.ensures.stands)

@@ -1,7 +1,7 @@
 use Rattle.std.proofs.Common.{◌≡◌, ◌+◌, ◌*◌, length}
-use Rattle.jxlm_tokens.specs.Inner.Channels.{StandsAfter, region_at}
+use Rattle.jxlm_tokens.specs.Inner.Channels.{HasRoom, StandsAfter, region_at}
 use Rattle.jxlm_part.specs.Part.{cells_before}
-use Rattle.jxlm_part.specs.Reading.{HasRoom, part_of, regions_of}
+use Rattle.jxlm_part.specs.Reading.{part_of, regions_of}
 use Rattle.jxlm_tokens.specs.Inner.Walks.{AreFirstTokens}
 use Rattle.jxlm_tokens.proofs.part.push_walked_rows.Given as goal
 

@@ -34,7 +34,7 @@ push_channels-requires-clause-roomy g c κs within =
       widest = c.max_width.result;
     } in
     let flats : HasFlats c.args.part.now.config.now.tree c.args.part.now.stream_index (length c.args.part.now.channels.now) c.deref.result.now = rw c.deref.ensures.value c.in-Ok.ensures.flats in
-    let room : IsRoomyFor (sampled_width c.args.part.now.channels.now) c.args.part.now.weights c.deref.result.now c.in-Ok.field-0.state = rw c.deref.ensures.value c.in-Ok.ensures.room in
+    let room : IsRoomyFor (sampled_width c.args.part.now.channels.now) (sampled_width c.args.part.now.channels.now) c.args.part.now.weights c.deref.result.now c.in-Ok.field-0.state = rw c.deref.ensures.value c.in-Ok.ensures.room in
     placed_room c.args.part.now c.args.store.now c.requires.lies coding refl refl refl refl refl c.max_width.ensures flats c.in-Ok.field-0.state room
 
 pub push_channels-requires-clause-room : goal.push_channels-requires-clause-room

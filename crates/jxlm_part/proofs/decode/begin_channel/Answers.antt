@@ -1,0 +1,58 @@
+use Rattle.std.proofs.Common.{◌≡◌, ◌≤◌, [], true, false, sym, subst, arith, ◌∙◌}
+use Rattle.jxlm_base.specs.Decoding.{Meaning}
+use Rattle.jxlm_ma.specs.FlatTree.{FlatTree}
+use Rattle.jxlm_ma.specs.Paths.{Gives, IsNamed, steps_on}
+use Rattle.jxlm_ma.specs.Steps.{most_steps}
+use Rattle.jxlm_ma.specs.declared.paths.Path.{Path}
+use Rattle.jxlm_ma.specs.declared.paths.Path.TheVariants as path
+use Rattle.jxlm_part.specs.Inner.Paths.{Allows}
+use Rattle.jxlm_part.specs.Reading.{tree_of}
+use Rattle.jxlm_part.proofs.CellLaws.{alone_is, clusters_at, flat_at}
+use Rattle.jxlm_part.proofs.Starting.{lone_at, not_walked}
+use Rattle.jxlm_part.proofs.decode.begin_channel.Goals as goal
+
+-- what a path is named by says what it says of its leaves
+allowed : {D : Type 0} (m : Meaning D) (decoder : D) (p : Path) → IsNamed m decoder p → Allows p
+allowed m decoder (path.Constant l) named = named.0
+allowed m decoder (path.Zero l) named = named.0
+allowed m decoder (path.Gradient l) named = named.0
+allowed m decoder (path.Runs l) named = named.0
+allowed m decoder (path.Clusters t) named = tt
+allowed m decoder (path.GradientClusters t) named = named
+allowed m decoder path.Tree named = tt
+
+pub lone_path-requires : goal.lone_path-requires
+lone_path-requires g c = (lone_at c.args.coding.now c.requires.coding c.args.i c.requires.channel c.index-coding-i.result c.in-Some.leaf c.in-Some.is).1
+
+pub returns-in-Some : goal.returns-in-Some
+returns-in-Some g c =
+    let t = tree_of c.args.coding.now c.args.i in
+    let lone = lone_at c.args.coding.now c.requires.coding c.args.i c.requires.channel c.index-coding-i.result c.in-Some.leaf c.in-Some.is in
+    let gives = c.lone_path.ensures.gives t lone.0 in
+    let none = gives.1 in
+    record {
+      gives = gives.0;
+      allows = c.lone_path.ensures.allows;
+      steps = omega (arith, none);
+      roomy = c.requires.roomy;
+      within = λ walked. absurd (not_walked c.args.coding.now c.requires.coding c.args.i c.requires.channel c.index-coding-i.result c.in-Some.leaf c.in-Some.is walked);
+      stands = λ walked. let no : true ≡ false = sym walked ∙ c.lone_path.ensures.needs in absurd (cc);
+    }
+
+pub start_channel-requires-clause-walked : goal.start_channel-requires-clause-walked
+start_channel-requires-clause-walked g c κs within = alone_is c.args.coding.now c.requires.coding c.args.i c.requires.channel c.index-coding-i.result ∙ c.in_default.is
+
+pub path_of-requires : goal.path_of-requires
+path_of-requires g c = record { clusters = clusters_at c.args.coding.now c.requires.coding c.args.i c.requires.channel c.index-coding-i-2.result _ c.requires.clusters }
+
+pub returns : goal.returns
+returns g c =
+    let same = flat_at c.args.coding.now c.requires.coding c.args.i c.requires.channel _ in
+    record {
+      gives = subst (λ t. Gives t c.path_of.result) same c.path_of.ensures.gives;
+      allows = allowed g.D.Decoder.meaning c.args.decoder.now c.path_of.result c.path_of.ensures.named;
+      steps = subst (λ (t : FlatTree). steps_on c.path_of.result t.tree ≤ most_steps t.tree) same c.path_of.ensures.steps;
+      roomy = c.start_channel.ensures.roomy;
+      within = λ walked. record { before = _; stands = c.start_channel.ensures.stands [] };
+      stands = λ walked store. c.start_channel.ensures.stands store;
+    }
