@@ -6,3 +6,4 @@ pub mod PatchedLaws
 pub mod Moves
 pub mod Channels
 pub mod Bounding
+pub mod Holding

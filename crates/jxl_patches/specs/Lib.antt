@@ -3,4 +3,6 @@ pub mod Patches
 pub mod Reading
 pub mod Dictionaries
 pub mod Patched
+pub mod Slots
+pub mod SavedParts
 pub mod Inner

@@ -6,6 +6,8 @@ mod apply;
 pub mod dictionary;
 pub mod error;
 pub mod laws;
+pub mod patches;
 mod place;
+pub mod slots;
 mod source;
 mod token;

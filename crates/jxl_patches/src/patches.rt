@@ -1,0 +1,73 @@
+//! The patches of a frame: they stand at the begin of its first section, and are put into its channels.
+
+ghost use Rattle.std.specs.Prelude.{◌≡◌, ◌+◌, ◌<◌, ◌≤◌, ◌^◌, length, IfOk};
+ghost use Rattle.std.specs.Option.{IfSome, option_map};
+ghost use Rattle.jxlm_base.specs.Bits.{bytes_of, position_of};
+ghost use Rattle.jxl_patches.specs.Dictionaries.{AreWithin, patches_of};
+ghost use Rattle.jxl_patches.specs.Reading.{PatchesRead};
+ghost use Rattle.jxl_patches.specs.Slots.{ArePut, AreOfSize, HoldFrames, optional_patches, patch_limit as the_patch_limit};
+ghost use Rattle.jxl_patches.specs.SavedParts.{slots_of};
+
+use crate::dictionary::Dictionary;
+use crate::error::PatchError;
+use crate::slots::SavedFrames;
+use jxl_headers::size::Size;
+use jxlm_base::bits::Bitstream;
+use jxlm_base::decoder::Decoder;
+use jxlm_base::grid::AlignedGrid;
+use std::alloc::Global;
+
+// How many cells the patches of a frame of this size may put.
+fn patch_limit(size: Size) -> u64
+    requires wide { size.width ≤ 2 ^ 30 }
+    requires high { size.height ≤ 2 ^ 30 }
+    ensures { result ≡ the_patch_limit size }
+{
+    4096 + 4 * (u64::from(size.width) * u64::from(size.height))
+}
+
+/// The dictionary of patches, if there is one, of a frame of this size with so many extra channels. Slots hold frames of
+/// these sizes.
+pub fn read_patches<D: Decoder>(
+    alloc: Global,
+    bits: &mut Bitstream<'_>,
+    there: bool,
+    size: Size,
+    extra: usize,
+    sizes: &[Option<Size>],
+) -> Result<Option<Dictionary>, PatchError>
+    requires wide { size.width ≤ 2 ^ 30 }
+    requires high { size.height ≤ 2 ^ 30 }
+    requires extra { extra < 2 ^ 63 }
+    ensures gives { PatchesRead (option_map patches_of) result (position_of bits.new)
+        ((optional_patches D.meaning there size extra sizes.now).read (bytes_of bits.old) (position_of bits.old)) }
+    ensures fits { IfOk result (λ p. IfSome p (λ d. AreWithin size extra sizes.now (patches_of d))) }
+    ensures bytes { bytes_of bits.new ≡ bytes_of bits.old }
+{
+    if !there {
+        return Ok(None);
+    }
+    let limit = patch_limit(size);
+    let dictionary = Dictionary::parse::<D>(alloc, bits, size, extra, sizes, limit)?;
+    Ok(Some(dictionary))
+}
+
+/// Puts patches, if there are any, into channels of this size, of which so many are colours and so many are extra ones.
+pub fn put_patches(
+    patches: &Option<Dictionary>,
+    size: Size,
+    colours: usize,
+    extra: usize,
+    slots: &SavedFrames,
+    channels: &mut [AlignedGrid<i32>],
+)
+    requires fits { IfSome patches.now (λ d. AreWithin size extra (slots_of slots.now).sizes (patches_of d)) }
+    requires held { HoldFrames (colours + extra) (slots_of slots.now) }
+    requires sides { AreOfSize (colours + extra) size channels.old }
+    ensures put { ArePut (slots_of slots.now) colours (option_map patches_of patches.now) channels.old channels.new }
+    ensures sides { AreOfSize (colours + extra) size channels.new }
+{
+    if let Some(dictionary) = patches {
+        dictionary.apply(colours, channels, &slots.frames);
+    }
+}
