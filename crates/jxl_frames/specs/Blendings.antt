@@ -135,5 +135,7 @@ colours_refusal b = if is_replace b.mode then None else Some refusals.Blending
 abbrev pub blending_refusal : Blending → Option Refusal
 blending_refusal b = option_or (colours_refusal b.colours) (infos_refusal b.extra)
 
-abbrev pub ending_refusal : Ending → Option Refusal
-ending_refusal e = if e.is_last then None else Some refusals.Frames
+-- A frame that is shown is the last; one that only others use is saved before its colours are transformed.
+abbrev pub ending_refusal : FrameType → Ending → Option Refusal
+ending_refusal t e =
+    if is_reference t then (if e.save_before_ct then None else Some refusals.SavedAfter) else if e.is_last then None else Some refusals.Frames

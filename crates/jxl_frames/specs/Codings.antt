@@ -72,20 +72,22 @@ usual_coding = record { frame_type = Regular; encoding = VarDct; flags = no_flag
 abbrev pub type_refusal : FrameType → Option Refusal
 type_refusal Regular = None
 type_refusal LfFrame = Some refusals.LfFrame
-type_refusal ReferenceOnly = Some refusals.ReferenceFrame
+type_refusal ReferenceOnly = None
 type_refusal SkipProgressive = Some refusals.SkippedFrame
 
 abbrev pub encoding_refusal : Encoding → Option Refusal
 encoding_refusal VarDct = Some refusals.VarDct
 encoding_refusal Modular = None
 
-abbrev pub flags_refusal : FrameFlags → Option Refusal
-flags_refusal f =
-    if f.noise then Some refusals.Noise else if f.patches then Some refusals.Patches else
+-- Patches are added to whole numbers alone, and not to floats.
+abbrev pub flags_refusal : Bool → FrameFlags → Option Refusal
+flags_refusal floats f =
+    if f.noise then Some refusals.Noise else if f.patches && floats then Some refusals.FloatPatches else
     if f.splines then Some refusals.Splines else if f.use_lf_frame then Some refusals.UseLfFrame else None
 
 abbrev pub colours_refusal : Coding → Option Refusal
 colours_refusal c = if c.ycbcr then Some refusals.YCbCr else if c.upsampling == 1 then None else Some refusals.Upsampling
 
-abbrev pub coding_refusal : Coding → Option Refusal
-coding_refusal c = option_or (type_refusal c.frame_type) (option_or (encoding_refusal c.encoding) (option_or (flags_refusal c.flags) (colours_refusal c)))
+abbrev pub coding_refusal : Bool → Coding → Option Refusal
+coding_refusal floats c =
+    option_or (type_refusal c.frame_type) (option_or (encoding_refusal c.encoding) (option_or (flags_refusal floats c.flags) (colours_refusal c)))

@@ -4,9 +4,10 @@ use Rattle.std.specs.Option.{option_or}
 use Rattle.jxlm_base.specs.Grammar.{Grammar, number, flag, give, either, repeated, ◌>>=◌}
 use Rattle.jxl_headers.specs.Fields.{extensions, name}
 use Rattle.jxl_headers.specs.Images.{Image}
+use Rattle.jxl_headers.specs.declared.size.Size.{Size}
 use Rattle.jxl_frames.specs.Codings.{factor, coding, usual_coding, coding_refusal}
 use Rattle.jxl_frames.specs.Passes.{Passes, passes, passes_of, one_pass, passes_refusal}
-use Rattle.jxl_frames.specs.Places.{place, usual_place, crop_partial, place_refusal, is_shown, is_reference}
+use Rattle.jxl_frames.specs.Places.{place, usual_place, crop_partial, place_refusal, sides_in, is_shown, is_reference}
 use Rattle.jxl_frames.specs.Blendings.{Blending, blending, blending_of, usual_blending, is_replace, ending, usual_ending, blending_refusal, ending_refusal}
 use Rattle.jxl_frames.specs.Filters.{filter, usual_filter, filter_refusal}
 use Rattle.jxl_frames.specs.declared.coding.Coding.{Coding}
@@ -120,12 +121,23 @@ abbrev pub factors_refusal : List ℕ → Option Refusal
 factors_refusal [] = None
 factors_refusal (f ∷ fs) = if f == 1 then factors_refusal fs else Some refusals.ExtraUpsampling
 
+-- samples of colours are floats
+abbrev pub has_floats : Image → Bool
+has_floats image = not (image.samples.depth.exponent_bits == 0)
+
 -- how it is coded, and where it lies; and what becomes of it
-abbrev pub form_refusal : Frame → Option Refusal
-form_refusal h = option_or (coding_refusal h.coding) (option_or (factors_refusal h.ec_upsampling) (option_or (passes_refusal h.passes) (place_refusal h.place)))
+abbrev pub form_refusal : Image → Frame → Option Refusal
+form_refusal image h = option_or (coding_refusal (has_floats image) h.coding) (option_or (factors_refusal h.ec_upsampling) (option_or (passes_refusal h.passes) (place_refusal h.coding.frame_type h.place.crop)))
 
 abbrev pub use_refusal : Frame → Option Refusal
-use_refusal h = option_or (blending_refusal h.blending) (option_or (ending_refusal h.ending) (filter_refusal h.closing.filter))
+use_refusal h = option_or (blending_refusal h.blending) (option_or (ending_refusal h.coding.frame_type h.ending) (filter_refusal h.closing.filter))
 
-abbrev pub frame_refusal : Frame → Option Refusal
-frame_refusal h = option_or (form_refusal h) (use_refusal h)
+abbrev pub frame_refusal : Image → Frame → Option Refusal
+frame_refusal image h = option_or (form_refusal image h) (use_refusal h)
+
+-- a frame is not shown, and saved for others; its sides, in a picture of this size
+abbrev pub is_saved : Frame → Bool
+is_saved h = is_reference h.coding.frame_type
+
+abbrev pub frame_size : Size → Frame → Size
+frame_size picture h = sides_in picture h.place.crop

@@ -1,5 +1,5 @@
 -- The place of a frame in the picture (ISO/IEC 18181-1, frame header: level of low frequencies, crop).
-use Rattle.std.specs.Prelude.{ℕ, ◌+◌, ◌/◌, ◌%◌, ◌==◌, ◌&&◌, ◌||◌, not, nat_lt, Bool, true, false, if◌then◌else◌, Option, Some, None, is_some}
+use Rattle.std.specs.Prelude.{ℕ, ◌+◌, ◌/◌, ◌%◌, ◌==◌, ◌&&◌, ◌||◌, not, nat_lt, Bool, true, false, if◌then◌else◌, Option, Some, None}
 use Rattle.jxlm_base.specs.Grammar.{Grammar, flag, u32, give, either, ◌>>=◌}
 use Rattle.jxlm_base.specs.Numbers.{unpack}
 use Rattle.jxlm_base.specs.declared.bits.U32Spec.TheVariants.{Const, Offset}
@@ -81,5 +81,16 @@ abbrev pub crop_partial : Option Crop → Bool
 crop_partial None = false
 crop_partial (Some c) = c.partial
 
-abbrev pub place_refusal : Place → Option Refusal
-place_refusal p = if is_some p.crop then Some refusals.Crop else None
+-- the sides of a frame: its own, or those of the picture
+abbrev pub sides_in : Size → Option Crop → Size
+sides_in picture None = picture
+sides_in picture (Some c) = record { width = c.width; height = c.height }
+
+-- A frame that is shown covers the picture; one that only others use may have sides of its own, but none of 0.
+abbrev pub crop_refusal : FrameType → Crop → Option Refusal
+crop_refusal t c =
+    if not (is_reference t) then Some refusals.Crop else if (c.width == 0) || (c.height == 0) then Some refusals.EmptyFrame else None
+
+abbrev pub place_refusal : FrameType → Option Crop → Option Refusal
+place_refusal t None = None
+place_refusal t (Some c) = crop_refusal t c

@@ -442,11 +442,18 @@ impl Ending {
         }
     }
 
-    /// Whether it is not supported: other frames follow.
-    pub fn refused(&self) -> Option<Refusal>
-        ensures { result ≡ ending_refusal self.now }
+    /// Whether it is not supported, of a frame of this type: other frames follow one that is shown, or another is saved
+    /// after its colours were transformed.
+    pub fn refused(&self, frame_type: FrameType) -> Option<Refusal>
+        ensures { result ≡ ending_refusal frame_type self.now }
     {
-        if self.is_last {
+        if frame_type.is_reference() {
+            if self.save_before_ct {
+                None
+            } else {
+                Some(Refusal::SavedAfter)
+            }
+        } else if self.is_last {
             None
         } else {
             Some(Refusal::Frames)

@@ -128,13 +128,13 @@ fn factor_if(bits: &mut Bitstream<'_>, there: bool) -> Result<u32>
 }
 
 impl FrameFlags {
-    fn refused(&self) -> Option<Refusal>
-        ensures { result ≡ flags_refusal self.now }
+    fn refused(&self, floats: bool) -> Option<Refusal>
+        ensures { result ≡ flags_refusal floats self.now }
     {
         if self.noise {
             Some(Refusal::Noise)
-        } else if self.patches {
-            Some(Refusal::Patches)
+        } else if self.patches && floats {
+            Some(Refusal::FloatPatches)
         } else if self.splines {
             Some(Refusal::Splines)
         } else if self.use_lf_frame {
@@ -214,7 +214,7 @@ impl Coding {
         match self.frame_type {
             FrameType::Regular => None,
             FrameType::LfFrame => Some(Refusal::LfFrame),
-            FrameType::ReferenceOnly => Some(Refusal::ReferenceFrame),
+            FrameType::ReferenceOnly => None,
             FrameType::SkipProgressive => Some(Refusal::SkippedFrame),
         }
     }
@@ -240,13 +240,14 @@ impl Coding {
         }
     }
 
-    /// What of it is not supported: the first in the order of the bits, or none.
-    pub fn refused(&self) -> Option<Refusal>
-        ensures { result ≡ coding_refusal self.now }
+    /// What of it is not supported, of an image whose samples are floats or not: the first in the order of the bits, or
+    /// none.
+    pub fn refused(&self, floats: bool) -> Option<Refusal>
+        ensures { result ≡ coding_refusal floats self.now }
     {
         self.type_refused()
             .or(self.encoding_refused())
-            .or(self.flags.refused())
+            .or(self.flags.refused(floats))
             .or(self.colours_refused())
     }
 }

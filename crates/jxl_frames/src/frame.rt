@@ -5,7 +5,7 @@ ghost use Rattle.jxlm_base.specs.Bits.{bytes_of, position_of};
 ghost use Rattle.jxlm_base.specs.Grammar.{Reads};
 ghost use Rattle.jxl_headers.specs.Images.{image_of};
 ghost use Rattle.jxl_headers.specs.Reading.{Parses};
-ghost use Rattle.jxl_frames.specs.Frames.{frame_of, is_modular as the_is_modular, extra_factors as the_extra_factors, scales as the_scales, modular_dim as the_modular_dim, group_dim as the_group_dim, closing, usual_closing, rest, usual_frame, described_frame, frame_header, factors_refusal as the_factors_refusal, form_refusal, use_refusal, frame_refusal};
+ghost use Rattle.jxl_frames.specs.Frames.{frame_of, is_modular as the_is_modular, extra_factors as the_extra_factors, scales as the_scales, modular_dim as the_modular_dim, group_dim as the_group_dim, closing, usual_closing, rest, usual_frame, described_frame, frame_header, factors_refusal as the_factors_refusal, has_floats as the_has_floats, form_refusal, use_refusal, frame_refusal, is_saved as the_is_saved, frame_size};
 
 use crate::blending::{Blending, Ending};
 use crate::coding::{Coding, Encoding};
@@ -15,6 +15,7 @@ use crate::place::Place;
 use crate::refusal::Refusal;
 use jxl_headers::fields::{self, extensions, name, number};
 use jxl_headers::image::ImageHeader;
+use jxl_headers::size::Size;
 use jxlm_base::bits::Bitstream;
 use jxlm_base::error::Result;
 use std::alloc::Global;
@@ -119,6 +120,13 @@ fn factors_refusal(factors: &[u32]) -> Option<Refusal>
         }
     }
     None
+}
+
+// Whether samples of colours are floats.
+fn has_floats(image: &ImageHeader) -> bool
+    ensures { result ≡ the_has_floats (image_of image.now) }
+{
+    image.samples.depth.exponent_bits != 0
 }
 
 impl Closing {
@@ -245,14 +253,14 @@ impl FrameHeader {
         }
     }
 
-    fn form_refused(&self) -> Option<Refusal>
-        ensures { result ≡ form_refusal (frame_of self.now) }
+    fn form_refused(&self, image: &ImageHeader) -> Option<Refusal>
+        ensures { result ≡ form_refusal (image_of image.now) (frame_of self.now) }
     {
         self.coding
-            .refused()
+            .refused(has_floats(image))
             .or(factors_refusal(&self.ec_upsampling))
             .or(self.passes.refused())
-            .or(self.place.refused())
+            .or(self.place.refused(self.coding.frame_type))
     }
 
     fn use_refused(&self) -> Option<Refusal>
@@ -260,14 +268,28 @@ impl FrameHeader {
     {
         self.blending
             .refused()
-            .or(self.ending.refused())
+            .or(self.ending.refused(self.coding.frame_type))
             .or(self.closing.filter.refused())
     }
 
-    /// What the frame has that is not supported: the first in the order of the bits, or none.
-    pub fn refused(&self) -> Option<Refusal>
-        ensures { result ≡ frame_refusal (frame_of self.now) }
+    /// What the frame of this image has that is not supported: the first in the order of the bits, or none.
+    pub fn refused(&self, image: &ImageHeader) -> Option<Refusal>
+        ensures { result ≡ frame_refusal (image_of image.now) (frame_of self.now) }
     {
-        self.form_refused().or(self.use_refused())
+        self.form_refused(image).or(self.use_refused())
+    }
+
+    /// Whether the frame is not shown, but saved for those after it.
+    pub fn is_saved(&self) -> bool
+        ensures { result ≡ the_is_saved (frame_of self.now) }
+    {
+        self.coding.frame_type.is_reference()
+    }
+
+    /// The sides of the frame, in a picture of this size.
+    pub fn size(&self, picture: Size) -> Size
+        ensures { result ≡ frame_size picture (frame_of self.now) }
+    {
+        self.place.size(picture)
     }
 }

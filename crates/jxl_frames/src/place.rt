@@ -4,7 +4,7 @@ ghost use Rattle.std.specs.Prelude.{◌≡◌, ◌≤◌, ◌<◌, ◌^◌, IfOk
 ghost use Rattle.jxlm_base.specs.Bits.{bytes_of, position_of};
 ghost use Rattle.jxlm_base.specs.Grammar.{Reads};
 ghost use Rattle.jxlm_base.specs.Numbers.{unpack};
-ghost use Rattle.jxl_frames.specs.Places.{is_shown as the_is_shown, is_lf as the_is_lf, is_reference as the_is_reference, lf_level as the_lf_level, extent as the_extent, extent_if as the_extent_if, covers as the_covers, crop, told_crop, optional_crop, place, usual_place, crop_partial, place_refusal};
+ghost use Rattle.jxl_frames.specs.Places.{is_shown as the_is_shown, is_lf as the_is_lf, is_reference as the_is_reference, lf_level as the_lf_level, extent as the_extent, extent_if as the_extent_if, covers as the_covers, crop, told_crop, optional_crop, place, usual_place, crop_partial, sides_in, crop_refusal, place_refusal};
 
 use crate::coding::FrameType;
 use crate::refusal::Refusal;
@@ -176,6 +176,18 @@ impl Crop {
             Crop::told(bits, size, frame_type.is_shown())
         }
     }
+
+    fn refused(&self, frame_type: FrameType) -> Option<Refusal>
+        ensures { result ≡ crop_refusal frame_type self.now }
+    {
+        if !frame_type.is_reference() {
+            Some(Refusal::Crop)
+        } else if self.width == 0 || self.height == 0 {
+            Some(Refusal::EmptyFrame)
+        } else {
+            None
+        }
+    }
 }
 
 impl Place {
@@ -211,14 +223,27 @@ impl Place {
         }
     }
 
-    /// Whether it is not supported: it has a size and a place of its own.
-    pub fn refused(&self) -> Option<Refusal>
-        ensures { result ≡ place_refusal self.now }
+    /// The sides of the frame, in a picture of this size.
+    pub fn size(&self, picture: Size) -> Size
+        ensures { result ≡ sides_in picture self.now.crop }
     {
-        if self.crop.is_some() {
-            Some(Refusal::Crop)
-        } else {
-            None
+        match self.crop {
+            Some(crop) => Size {
+                width: crop.width,
+                height: crop.height,
+            },
+            None => picture,
+        }
+    }
+
+    /// Whether it is not supported, of a frame of this type: one that is shown has a size and a place of its own, or
+    /// another has no samples.
+    pub fn refused(&self, frame_type: FrameType) -> Option<Refusal>
+        ensures { result ≡ place_refusal frame_type self.now.crop }
+    {
+        match self.crop {
+            Some(crop) => crop.refused(frame_type),
+            None => None,
         }
     }
 }

@@ -9,18 +9,15 @@ pub enum Refusal {
     /// The frame holds the low frequencies of another.
     #[error("a frame of low frequencies")]
     LfFrame,
-    /// The frame is not shown, but used by others.
-    #[error("a frame that is not shown")]
-    ReferenceFrame,
     /// The frame is not shown while the image is loaded.
     #[error("a frame that is skipped")]
     SkippedFrame,
     /// Noise is added.
     #[error("noise")]
     Noise,
-    /// Parts of other frames are put into it.
-    #[error("patches")]
-    Patches,
+    /// Parts of other frames are put into it, and samples are floats.
+    #[error("patches on floats")]
+    FloatPatches,
     /// Curves are drawn.
     #[error("splines")]
     Splines,
@@ -39,18 +36,24 @@ pub enum Refusal {
     /// It comes in several passes.
     #[error("several passes")]
     Passes,
-    /// It has a size and a place of its own.
+    /// It is shown, and has a size and a place of its own.
     #[error("a cropped frame")]
     Crop,
+    /// It has a side of 0.
+    #[error("a frame without samples")]
+    EmptyFrame,
     /// Its colours are blended with those of another frame.
     #[error("blending")]
     Blending,
     /// An extra channel is blended with that of another frame.
     #[error("blending of an extra channel")]
     ExtraBlending,
-    /// Others follow it.
+    /// It is shown, and others follow it.
     #[error("several frames")]
     Frames,
+    /// It is saved for others after its colours were transformed.
+    #[error("a frame saved after its colours were changed")]
+    SavedAfter,
     /// A filter is applied to what was decoded.
     #[error("a loop filter")]
     LoopFilter,

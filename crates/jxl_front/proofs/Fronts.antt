@@ -1,7 +1,10 @@
 -- What reading the front of a codestream gives.
-use Rattle.std.proofs.Common.{◌≡◌, ℕ, ◌<◌, ◌≤◌, ◌^◌, Bool, true, false, List, Option, Ok, Some, None, ap, subst, sym, ◌∙◌, inl, inr}
-use Rattle.std.specs.Prelude.{if◌then◌else◌, nat_le}
-use Rattle.std.proofs.lemmas.Bool.{cases_lt, le-leb}
+use Rattle.std.proofs.Common.{◌≡◌, ℕ, ◌+◌, ◌<◌, ◌≤◌, ◌^◌, ◌/◌, Bool, true, false, List, [], ◌∷◌, ◌++◌, length, drop, Option, Ok, Some, None, ap, subst, sym, refl, ◌∙◌, inl, inr, arith}
+use Rattle.std.specs.Prelude.{if◌then◌else◌, nat_le, not, ◌||◌, ◌&&◌, ◌==◌}
+use Rattle.std.specs.List.{list_all}
+use Rattle.std.specs.Option.{option_or}
+use Rattle.std.proofs.Math.Nat.{max-le}
+use Rattle.std.proofs.lemmas.Bool.{cases_lt, le-leb, leb-true}
 use Rattle.jxlm_base.specs.Decoding.{Meaning}
 use Rattle.jxlm_base.specs.ErrorKind.{ErrorKind, UnlessMemory, UnlessNoMemory, kind_of}
 use Rattle.jxlm_base.specs.Grammar.{Grammar, IsErrorAt}
@@ -10,14 +13,22 @@ use Rattle.jxlm_ma.proofs.Memory.{unless_so}
 use Rattle.jxlm_transform.proofs.Failures.{unless_memory}
 use Rattle.jxl_headers.specs.Images.{Image, image_header, image_refusal}
 use Rattle.jxl_headers.specs.declared.refusal.Refusal.{Refusal as ImageRefusal}
-use Rattle.jxl_frames.specs.Frames.{Frame, frame_header}
+use Rattle.jxl_headers.specs.declared.size.Size.{Size}
+use Rattle.jxl_frames.specs.Codings.{coding_refusal}
+use Rattle.jxl_frames.specs.Frames.{Frame, factors_refusal, form_refusal, frame_header, frame_refusal, frame_size, has_floats, is_saved, use_refusal}
+use Rattle.jxl_frames.specs.Passes.{passes_refusal}
+use Rattle.jxl_frames.specs.Places.{is_reference, place_refusal, sides_in}
+use Rattle.jxl_frames.specs.declared.coding.FrameType.{FrameType}
+use Rattle.jxl_frames.specs.declared.place.Crop.{Crop}
+use Rattle.jxl_frames.specs.declared.refusal.Refusal.{Refusal as FrameRefusal}
+use Rattle.jxl_frames.specs.declared.refusal.Refusal.TheVariants as refusals
 use Rattle.jxl_toc.specs.Layouts.{Layout, layout_if, max_sections, section_count_of}
-use Rattle.jxl_toc.specs.Tocs.{IsToc, Table, toc}
+use Rattle.jxl_toc.specs.Tocs.{IsFirstTruncated, IsToc, Table, is_within, toc}
 use Rattle.jxl_toc.specs.declared.toc.TocEntry.{TocEntry}
 use Rattle.jxl_picture.specs.Limits.{Allow}
 use Rattle.jxl_picture.specs.declared.limits.Limits.{Limits}
-use Rattle.jxl_front.specs.Fronts.{ContentsStand, FrameBegins, FrameStands, ImageStands, StandsAt, between, layout_in}
-use Rattle.jxl_front.specs.FrontFailures.{FailsAt, FrontFails, HasTooMany, ImageIsRefused, IsTooLarge}
+use Rattle.jxl_front.specs.Fronts.{AllowFrame, AreBefore, ContentsStand, Follow, FrameAt, FrameStands, ImageStands, StandsAt, between, cells_in, end_of, layout_in}
+use Rattle.jxl_front.specs.FrontFailures.{FailsAt, FrameGoesOn, FrameIsRefused, FramesAreTooLarge, FrontFails, HasTooMany, ImageIsRefused, IsNext, IsTooLarge, IsTruncated}
 use Rattle.jxl_front.specs.declared.error.FrontError.TheVariants as errors
 
 -- a call without a decoder failed at a position that is this one
@@ -41,37 +52,129 @@ module _ {D : Type 0} (d : Meaning D) (limits : Limits) (bytes : List ℕ) where
   pub profile_fails : (image : Image) (p q : ℕ) (e : Error) → ImageStands d limits bytes image p → UnlessMemory (kind_of e) (IsErrorAt ((between d limits.profile image.shown.colour.profile).read bytes p) (kind_of e) q) → FrontFails d limits bytes (errors.Profile e)
   profile_fails image p q e stands h = unless_so (kind_of e) (λ f. record { image = image; end = p; stands = stands; fails = (q, f) }) h
 
-  pub frame_fails : (image : Image) (p q : ℕ) (e : Error) → FrameBegins d limits bytes image p → UnlessNoMemory (kind_of e) (IsErrorAt ((frame_header image).read bytes p) (kind_of e) q) → FrontFails d limits bytes (errors.FrameHeader e)
-  frame_fails image p q e begins h = unless_so (kind_of e) (λ f. record { image = image; begin = p; begins = begins; fails = (q, f) }) (unless_memory (kind_of e) (IsErrorAt ((frame_header image).read bytes p) (kind_of e) q) h)
+  -- a frame's header, where it begins
+  pub frame_fails : (image : Image) (start used : ℕ) (here : List ℕ) (p q : ℕ) (e : Error) → IsNext d limits bytes image start used → here ≡ drop start bytes → p ≡ 0 →
+      UnlessNoMemory (kind_of e) (IsErrorAt ((frame_header image).read here p) (kind_of e) q) → FrontFails d limits bytes (errors.FrameHeader e)
+  frame_fails image start used here p q e next lies begin h =
+      let at : UnlessNoMemory (kind_of e) (IsErrorAt ((frame_header image).read (drop start bytes) 0) (kind_of e) q) =
+      subst (λ n. UnlessNoMemory (kind_of e) (IsErrorAt ((frame_header image).read (drop start bytes) n) (kind_of e) q)) begin
+      (subst (λ (b : List ℕ). UnlessNoMemory (kind_of e) (IsErrorAt ((frame_header image).read b p) (kind_of e) q)) lies h) in
+      unless_so (kind_of e) (λ f. record { image = image; start = start; used = used; next = next; fails = (q, f) })
+      (unless_memory (kind_of e) (IsErrorAt ((frame_header image).read (drop start bytes) 0) (kind_of e) q) at)
 
-  pub contents_fail : (image : Image) (frame : Frame) (n p q : ℕ) (e : Error) → FrameStands d limits bytes image frame p → n ≡ section_count_of (layout_in image frame) → n ≤ 2 ^ 24 → UnlessMemory (kind_of e) (IsErrorAt ((toc d n).read bytes p) (kind_of e) q) → FrontFails d limits bytes (errors.Contents e)
-  contents_fail image frame n p q e stands count few h =
-      unless_so (kind_of e) (λ f. record { image = image; frame = frame; end = p; stands = stands; few = subst (λ m. m ≤ max_sections) count few; fails = subst (λ m. FailsAt (toc d m) bytes p (kind_of e)) count (q, f) }) h
+  pub header_stands : (image : Image) (start : ℕ) (here : List ℕ) (p q : ℕ) (frame : Frame) → here ≡ drop start bytes → p ≡ 0 →
+      (frame_header image).read here p ≡ Ok (record { value = frame; position = q }) → StandsAt (frame_header image) (drop start bytes) 0 frame q
+  header_stands image start here p q frame lies begin e =
+      subst (λ n. StandsAt (frame_header image) (drop start bytes) n frame q) begin (subst (λ (b : List ℕ). StandsAt (frame_header image) b p frame q) lies e)
 
-  pub contents_stand : (image : Image) (frame : Frame) (n p q : ℕ) (entries : List TocEntry) → FrameStands d limits bytes image frame p → n ≡ section_count_of (layout_in image frame) → n ≤ 2 ^ 24 →
-      ((table : Table) × ((toc d n).read bytes p ≡ Ok (record { value = table; position = q })) × IsToc table entries) → ContentsStand d limits bytes image frame entries
-  contents_stand image frame n p q entries stands count few h = record {
+  pub frame_refused : (image : Image) (start used q : ℕ) (frame : Frame) (r : FrameRefusal) → IsNext d limits bytes image start used → StandsAt (frame_header image) (drop start bytes) 0 frame q →
+      frame_refusal image frame ≡ Some r → FrameIsRefused d limits bytes r
+  frame_refused image start used q frame r next header refused = record { image = image; start = start; used = used; next = next; frame = frame; end = q; header = header; refused = refused }
+
+  pub frames_too_large : (image : Image) (start used q : ℕ) (frame : Frame) → IsNext d limits bytes image start used → StandsAt (frame_header image) (drop start bytes) 0 frame q →
+      frame_refusal image frame ≡ None → ¬ (AllowFrame limits image used (frame_size image.size frame)) → FramesAreTooLarge d limits bytes
+  frames_too_large image start used q frame next header supported beyond =
+      record { image = image; start = start; used = used; next = next; frame = frame; end = q; stands = record { header = header; supported = supported }; beyond = beyond }
+
+  pub goes_on : (image : Image) (start used q : ℕ) (frame : Frame) → IsNext d limits bytes image start used → StandsAt (frame_header image) (drop start bytes) 0 frame q →
+      frame_refusal image frame ≡ None → AllowFrame limits image used (frame_size image.size frame) → FrameGoesOn d limits bytes image start used frame q
+  goes_on image start used q frame next header supported allowed = record { next = next; stands = record { header = header; supported = supported }; allowed = allowed }
+
+  pub contents_fail : (image : Image) (start used : ℕ) (frame : Frame) (here : List ℕ) (n p q : ℕ) (e : Error) → FrameGoesOn d limits bytes image start used frame p → here ≡ drop start bytes →
+      n ≡ section_count_of (layout_in image frame) → n ≤ 2 ^ 24 → UnlessMemory (kind_of e) (IsErrorAt ((toc d n).read here p) (kind_of e) q) → FrontFails d limits bytes (errors.Contents e)
+  contents_fail image start used frame here n p q e goes lies count few h =
+      unless_so (kind_of e) (λ f. record {
+        image = image;
+        start = start;
+        used = used;
+        frame = frame;
+        end = p;
+        goes = goes;
+        few = subst (λ m. m ≤ max_sections) count few;
+        fails = subst (λ m. FailsAt (toc d m) (drop start bytes) p (kind_of e)) count (q, f);
+      })
+      (subst (λ (b : List ℕ). UnlessMemory (kind_of e) (IsErrorAt ((toc d n).read b p) (kind_of e) q)) lies h)
+
+  pub contents_stand : (image : Image) (start used : ℕ) (frame : Frame) (here : List ℕ) (n p q : ℕ) (entries : List TocEntry) → FrameGoesOn d limits bytes image start used frame p → here ≡ drop start bytes →
+      n ≡ section_count_of (layout_in image frame) → n ≤ 2 ^ 24 → ((table : Table) × ((toc d n).read here p ≡ Ok (record { value = table; position = q })) × IsToc table entries) →
+      ContentsStand d limits bytes image used (record { start = start; header = frame; entries = entries })
+  contents_stand image start used frame here n p q entries goes lies count few h = record {
     end = p;
-    stands = stands;
+    stands = goes.stands;
+    allowed = goes.allowed;
     few = subst (λ m. m ≤ max_sections) count few;
     table = h.0;
     table_end = q;
-    contents = subst (λ m. StandsAt (toc d m) bytes p h.0 q) count h.1;
+    contents = subst (λ m. StandsAt (toc d m) (drop start bytes) p h.0 q) count (subst (λ (b : List ℕ). StandsAt (toc d n) b p h.0 q) lies h.1);
     sections = h.2;
   }
 
-  pub too_many : (image : Image) (frame : Frame) (p : ℕ) → FrameStands d limits bytes image frame p → layout_if (layout_in image frame) ≡ None → HasTooMany d limits bytes
-  too_many image frame p stands none = record { image = image; frame = frame; end = p; stands = stands; many = beyond (section_count_of (layout_in image frame)) (layout_in image frame) none } where
-    beyond : (n : ℕ) (l : Layout) → (if nat_le n max_sections then Some l else None) ≡ None → max_sections < n
-    beyond n l e = elim (cases_lt max_sections n) [
-      | inl lt ↦ lt
-      | inr le ↦ absurd (some_none (sym (ap (λ b. if b then Some l else None) (le-leb n max_sections le)) ∙ e))
-    ] where
-      some_none : {X : Type 0} {a : X} → ◌≡◌ {A = Option X} (Some a) None → ⊥
-      some_none e = cc
+  pub too_many : (image : Image) (start used : ℕ) (frame : Frame) (p : ℕ) → FrameGoesOn d limits bytes image start used frame p → layout_if (layout_in image frame) ≡ None → HasTooMany d limits bytes
+  too_many image start used frame p goes none =
+      record { image = image; start = start; used = used; frame = frame; end = p; goes = goes; many = beyond (section_count_of (layout_in image frame)) (layout_in image frame) none } where
+        beyond : (n : ℕ) (l : Layout) → (if nat_le n max_sections then Some l else None) ≡ None → max_sections < n
+        beyond n l e = elim (cases_lt max_sections n) [
+          | inl lt ↦ lt
+          | inr le ↦ absurd (some_none (sym (ap (λ b. if b then Some l else None) (le-leb n max_sections le)) ∙ e))
+        ] where
+          some_none : {X : Type 0} {a : X} → ◌≡◌ {A = Option X} (Some a) None → ⊥
+          some_none e = cc
 
-  pub layout_is : (image : Image) (frame : Frame) (l : Layout) → Some l ≡ layout_if (layout_in image frame) → l ≡ layout_in image frame
-  layout_is image frame l e = by (nat_le (section_count_of (layout_in image frame)) max_sections) e where
-    by : (b : Bool) → Some l ≡ (if b then Some (layout_in image frame) else None) → l ≡ layout_in image frame
-    by true e = cc
-    by false e = cc
+  pub truncated : (image : Image) (frame : FrameAt) (used number : ℕ) → IsNext d limits bytes image frame.start used → ContentsStand d limits bytes image used frame →
+      IsFirstTruncated (length (drop frame.start bytes)) frame.entries number → IsTruncated d limits bytes number
+  truncated image frame used number next contents first = record { image = image; frame = frame; used = used; next = next; contents = contents; first = first }
+
+  -- one saved frame more
+  pub follow_more : (image : Image) (p m : ℕ) (fs : List FrameAt) (q n : ℕ) (f : FrameAt) → Follow d limits bytes image p m fs q n → f.start ≡ q → is_saved f.header ≡ true →
+      FrameStands d limits bytes image n f → Follow d limits bytes image p m (fs ++ f ∷ []) (q + end_of f.entries) (n + cells_in image f.header)
+  follow_more image p m [] q n f (at, used) start saved stands =
+      (start ∙ at, saved, subst (λ k. FrameStands d limits bytes image k f) used stands, (ap (λ k. k + end_of f.entries) at, ap (λ k. k + cells_in image f.header) used))
+  follow_more image p m (g ∷ gs) q n f (at, is, first, rest) start saved stands =
+      (at, is, first, follow_more image (p + end_of g.entries) (m + cells_in image g.header) gs q n f rest start saved stands)
+
+  pub before_more : (image : Image) (fs : List FrameAt) (q n : ℕ) (f : FrameAt) → AreBefore d limits bytes image fs q n → f.start ≡ q → is_saved f.header ≡ true → FrameStands d limits bytes image n f →
+      AreBefore d limits bytes image (fs ++ f ∷ []) (q + end_of f.entries) (n + cells_in image f.header)
+  before_more image fs q n f before start saved stands =
+      record { begin = before.begin; begins = before.begins; follow = follow_more image (before.begin / 8) 0 fs q n f before.follow start saved stands }
+
+pub layout_is : (image : Image) (frame : Frame) (l : Layout) → Some l ≡ layout_if (layout_in image frame) → l ≡ layout_in image frame
+layout_is image frame l e = by (nat_le (section_count_of (layout_in image frame)) max_sections) e where
+  by : (b : Bool) → Some l ≡ (if b then Some (layout_in image frame) else None) → l ≡ layout_in image frame
+  by true e = cc
+  by false e = cc
+
+-- a frame that is shown and supported covers the picture
+covers_by : (t : FrameType) (size : Size) (crop : Option Crop) → is_reference t ≡ false → place_refusal t crop ≡ None → sides_in size crop ≡ size
+covers_by t size None shown none = refl
+covers_by t size (Some c) shown none = absurd (some_none (sym (ap (λ b. if not b then Some refusals.Crop else if (c.width == 0) || (c.height == 0) then Some refusals.EmptyFrame else None) shown) ∙ none)) where
+  some_none : {X : Type 0} {a : X} → ◌≡◌ {A = Option X} (Some a) None → ⊥
+  some_none e = cc
+
+first_none : {X : Type 0} (a b : Option X) → option_or a b ≡ None → a ≡ None
+first_none None b e = refl
+first_none (Some x) b e = cc
+
+second_none : {X : Type 0} (a b : Option X) → option_or a b ≡ None → b ≡ None
+second_none None b e = e
+second_none (Some x) b e = cc
+
+pub covers : (image : Image) (size : Size) (frame : Frame) → frame_refusal image frame ≡ None → is_saved frame ≡ false → frame_size size frame ≡ size
+covers image size frame supported shown =
+    let form = first_none (form_refusal image frame) (use_refusal frame) supported in
+    let coded = second_none (coding_refusal (has_floats image) frame.coding) _ form in
+    let factors = second_none (factors_refusal frame.ec_upsampling) _ coded in
+    let place = second_none (passes_refusal frame.passes) (place_refusal frame.coding.frame_type frame.place.crop) factors in
+    covers_by frame.coding.frame_type size frame.place.crop shown place
+
+both : (a b : Bool) → (a && b) ≡ true → (a ≡ true) × (b ≡ true)
+both true b e = (refl, e)
+both false b e = absurd (no e) where
+  no : false ≡ true → ⊥
+  no e = cc
+
+-- where sections end that lie within so many bytes
+pub end_within : (most : ℕ) (entries : List TocEntry) → list_all (is_within most) entries ≡ true → end_of entries ≤ most
+end_within most [] all = omega arith
+end_within most (e ∷ es) all =
+    let parts = both (is_within most e) (list_all (is_within most) es) all in
+    max-le (leb-true (e.offset + e.size) most parts.0) (end_within most es parts.1)

@@ -1,30 +1,43 @@
 -- What is known of what a codestream tells before its sections.
-use Rattle.std.specs.Prelude.{◌≡◌, ℕ, ◌≤◌, ◌^◌, List, length, true}
+use Rattle.std.specs.Prelude.{◌≡◌, ℕ, ◌≤◌, ◌^◌, List, length, drop, map, All, true}
+use Rattle.std.specs.List.{list_all}
 use Rattle.jxlm_base.specs.Decoding.{Meaning}
-use Rattle.jxl_headers.specs.Images.{image_of}
-use Rattle.jxl_frames.specs.Frames.{frame_of}
+use Rattle.jxlm_transform.specs.Params.{IsGroupDim}
+use Rattle.jxl_headers.specs.Images.{Image, image_of}
+use Rattle.jxl_frames.specs.Frames.{frame_of, frame_size}
 use Rattle.jxl_toc.specs.Layouts.{section_count_of}
 use Rattle.jxl_toc.specs.LayoutParts.{parts_of}
-use Rattle.jxl_picture.specs.declared.limits.Limits.{Limits}
-use Rattle.std.specs.List.{list_all}
-use Rattle.jxlm_transform.specs.Params.{IsGroupDim}
 use Rattle.jxl_toc.specs.Tocs.{is_within}
 use Rattle.jxl_picture.specs.Limits.{channel_count}
-use Rattle.jxl_front.specs.Fronts.{FrontStands, layout_in}
+use Rattle.jxl_picture.specs.declared.limits.Limits.{Limits}
+use Rattle.jxl_front.specs.Fronts.{FrameAt, FrontStands, layout_in}
+use Rattle.jxl_front.specs.declared.frame.FrameFront.{FrameFront}
 use Rattle.jxl_front.specs.declared.front.Front.{Front}
 
--- What decoding the frame needs of it: sizes that an image may have, groups, and sections that lie in the codestream.
+-- what was read of a frame, without its memory
+abbrev pub frame_at : FrameFront → FrameAt
+frame_at f = record { start = f.start; header = frame_of f.header; entries = f.toc.entries.items }
+
+-- What decoding a frame needs of it: sides that an image may have, groups, and sections that lie in the codestream.
+pub record IsReadyFrame (bytes : List ℕ) (image : Image) (f : FrameFront) : Type 0 where
+  pub inside : f.start ≤ length bytes
+  pub wide : (frame_size image.size (frame_of f.header)).width ≤ 2 ^ 30
+  pub high : (frame_size image.size (frame_of f.header)).height ≤ 2 ^ 30
+  pub dim : IsGroupDim f.header.group_dim
+  pub cut : parts_of f.layout ≡ layout_in image (frame_of f.header)
+  pub count : length f.toc.entries.items ≡ section_count_of (layout_in image (frame_of f.header))
+  pub within : list_all (is_within (length (drop f.start bytes))) f.toc.entries.items ≡ true
+
+-- What decoding the frames of an image needs: so is each of them, samples and channels are not too many, and the frame that
+-- is shown covers the picture.
 pub record IsReady (bytes : List ℕ) (front : Front) : Type 0 where
-  pub wide : front.image.size.width ≤ 2 ^ 30
-  pub high : front.image.size.height ≤ 2 ^ 30
   pub deep : front.image.samples.depth.bits ≤ 32
   pub many : channel_count (image_of front.image) ≤ 2 ^ 20
-  pub dim : IsGroupDim front.frame.group_dim
-  pub cut : parts_of front.layout ≡ layout_in (image_of front.image) (frame_of front.frame)
-  pub count : length front.toc.entries.items ≡ section_count_of (layout_in (image_of front.image) (frame_of front.frame))
-  pub within : list_all (is_within (length bytes)) front.toc.entries.items ≡ true
+  pub saved : All (IsReadyFrame bytes (image_of front.image)) front.saved.items
+  pub shown : IsReadyFrame bytes (image_of front.image) front.shown
+  pub covers : frame_size front.image.size (frame_of front.shown.header) ≡ front.image.size
 
 -- what was read stands there
 pub record IsFrontOf {D : Type 0} (d : Meaning D) (limits : Limits) (bytes : List ℕ) (front : Front) : Type 0 where
-  pub stands : FrontStands d limits bytes (image_of front.image) (frame_of front.frame) front.toc.entries.items
+  pub stands : FrontStands d limits bytes (image_of front.image) (map frame_at front.saved.items) (frame_at front.shown)
   pub ready : IsReady bytes front

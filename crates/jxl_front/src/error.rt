@@ -1,10 +1,10 @@
-//! Why a codestream has no frame that is decoded.
+//! Why the frames of a codestream are not decoded.
 
 use jxl_frames::refusal::Refusal as FrameRefusal;
 use jxl_headers::refusal::Refusal as ImageRefusal;
 use jxlm_base::error::Error;
 
-/// Why a codestream has no frame that is decoded: the first reason in the order of its bits.
+/// Why the frames of a codestream are not decoded: the first reason in the order of its bits.
 #[derive(Clone, Copy, Debug, PartialEq, Eq, thiserror::Error)]
 pub enum FrontError {
     /// The codestream has 2^61 bytes or more.
@@ -22,19 +22,22 @@ pub enum FrontError {
     /// The colour profile, or the bits between it and the frame, have this error.
     #[error("colour profile: {0}")]
     Profile(Error),
-    /// The frame header has this error.
+    /// The header of a frame has this error.
     #[error("frame header: {0}")]
     FrameHeader(Error),
-    /// The frame header says what is not supported.
+    /// The header of a frame says what is not supported.
     #[error("not supported: {0}")]
     Frame(FrameRefusal),
-    /// The frame has more than 2^24 sections.
+    /// The frames up to this one are together larger than the limits allow a picture to be.
+    #[error("frames above the limits")]
+    FramesTooLarge,
+    /// A frame has more than 2^24 sections.
     #[error("not supported: more than 16777216 sections")]
     TooManySections,
-    /// The table of contents has this error.
+    /// The table of contents of a frame has this error.
     #[error("table of contents: {0}")]
     Contents(Error),
-    /// The section of this number passes the end of the codestream.
+    /// The section of this number, of a frame, passes the end of the codestream.
     #[error("section {0} is truncated")]
     TruncatedSection(usize),
 }

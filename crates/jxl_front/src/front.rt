@@ -1,40 +1,34 @@
-//! What comes before the sections of a frame.
+//! What comes before the sections of the frames.
 
-ghost use Rattle.std.specs.Prelude.{◌≡◌, ℕ, ◌*◌, ◌<◌, ◌^◌, IfErr, IfOk, length};
+ghost use Rattle.std.specs.Prelude.{◌≡◌, ℕ, ◌*◌, ◌/◌, ◌<◌, ◌^◌, ◌≤◌, [], IfErr, IfOk, length};
 ghost use Rattle.jxlm_base.specs.Bits.{bytes_of, position_of};
-ghost use Rattle.jxlm_transform.specs.Params.{IsGroupDim};
 ghost use Rattle.jxl_headers.specs.Images.{image_of};
-ghost use Rattle.jxl_frames.specs.Frames.{frame_of};
-ghost use Rattle.jxl_toc.specs.Layouts.{section_count_of};
-ghost use Rattle.jxl_toc.specs.LayoutParts.{parts_of};
 ghost use Rattle.jxl_toc.specs.Reading.{Decodes};
-ghost use Rattle.jxl_front.specs.Fronts.{ContentsStand, FrameBegins, FrameStands, FrontStands, ImageStands, between, layout_in};
+ghost use Rattle.jxl_picture.specs.Limits.{Allow};
+ghost use Rattle.jxl_front.specs.Fronts.{AreBefore, FrameBegins, ImageStands, between};
 ghost use Rattle.jxl_front.specs.FrontFailures.{FrontFails};
 
 use crate::error::FrontError;
-use jxl_frames::frame::FrameHeader;
+use crate::frame::FrameFront;
 use jxl_headers::fields::align;
 use jxl_headers::image::ImageHeader;
 use jxl_picture::limits::Limits;
-use jxl_toc::layout::Layout;
 use jxl_toc::profile::skip_profile;
-use jxl_toc::toc::Toc;
 use jxlm_base::bits::Bitstream;
 use jxlm_base::decoder::Decoder;
 use jxlm_base::error::Error;
+use jxlm_base::grid::OutOfMemory;
 use std::alloc::Global;
 
-/// What a codestream tells before the sections of its frame.
+/// What a codestream tells before the sections of its frames.
 #[derive(Drop)]
 pub struct Front {
     /// The image header.
     pub image: ImageHeader,
-    /// The header of the frame.
-    pub frame: FrameHeader,
-    /// How the frame is cut, in one pass.
-    pub layout: Layout,
-    /// Where each of its sections lies in the codestream.
-    pub toc: Toc,
+    /// The frames that are saved for others, in their order.
+    pub saved: Vec<FrameFront>,
+    /// The frame that is shown.
+    pub shown: FrameFront,
 }
 
 /// The image header at the start, of a picture that is supported and within the limits.
@@ -93,6 +87,7 @@ fn read_begin<D: Decoder>(
     requires short { 8 * length (bytes_of bits.old) < 2 ^ 64 }
     ensures ok { IfOk result (λ h. FrameBegins D.meaning limits.now (bytes_of bits.old) (image_of h)
         (position_of bits.new)) }
+    ensures inside { position_of bits.new ≤ 8 * length (bytes_of bits.old) }
     ensures err { IfErr result (FrontFails D.meaning limits.now (bytes_of bits.old)) }
     ensures bytes { bytes_of bits.new ≡ bytes_of bits.old }
 {
@@ -103,61 +98,59 @@ fn read_begin<D: Decoder>(
     }
 }
 
-// The frame header, of a frame that is supported.
-fn read_frame<D: Decoder>(
-    alloc: Global,
-    bits: &mut Bitstream<'_>,
-    limits: &Limits,
-    image: &ImageHeader,
-) -> Result<FrameHeader, FrontError>
-    requires begins { FrameBegins D.meaning limits.now (bytes_of bits.old) (image_of image.now)
-        (position_of bits.old) }
-    ensures ok { IfOk result (λ f. FrameStands D.meaning limits.now (bytes_of bits.old) (image_of image.now)
-        (frame_of f) (position_of bits.new)) }
-    ensures dim { IfOk result (λ f. IsGroupDim f.group_dim) }
-    ensures err { IfErr result (FrontFails D.meaning limits.now (bytes_of bits.old)) }
-    ensures bytes { bytes_of bits.new ≡ bytes_of bits.old }
+// The byte where the reader stands.
+fn byte_of(bits: &Bitstream<'_>) -> usize
+    requires short { 8 * length (bytes_of bits.now) < 2 ^ 64 }
+    ensures is { result ≡ position_of bits.now / 8 }
+    ensures inside { result ≤ length (bytes_of bits.now) }
 {
-    match FrameHeader::parse(alloc, bits, image) {
-        Ok(frame) => match frame.refused() {
-            Some(refusal) => Err(FrontError::Frame(refusal)),
-            None => Ok(frame),
-        },
-        Err(error) => Err(FrontError::FrameHeader(error)),
-    }
-}
-
-// The table of contents of the frame, whose sections lie in the codestream.
-fn read_contents<D: Decoder>(
-    alloc: Global,
-    bits: &mut Bitstream<'_>,
-    limits: &Limits,
-    image: &ImageHeader,
-    frame: &FrameHeader,
-    layout: &Layout,
-) -> Result<Toc, FrontError>
-    requires stands { FrameStands D.meaning limits.now (bytes_of bits.old) (image_of image.now)
-        (frame_of frame.now) (position_of bits.old) }
-    requires cut { parts_of layout.now ≡ layout_in (image_of image.now) (frame_of frame.now) }
-    requires short { 8 * length (bytes_of bits.old) < 2 ^ 64 }
-    ensures ok { IfOk result (λ t. ContentsStand D.meaning limits.now (bytes_of bits.old) (image_of image.now)
-        (frame_of frame.now) t.entries.items) }
-    ensures count { IfOk result (λ t. length t.entries.items
-        ≡ section_count_of (layout_in (image_of image.now) (frame_of frame.now))) }
-    ensures err { IfErr result (FrontFails D.meaning limits.now (bytes_of bits.old)) }
-{
-    match Toc::parse::<D>(alloc, bits, layout.section_count()) {
-        Ok(toc) => Ok(toc),
-        Err(error) => Err(FrontError::Contents(error)),
-    }
+    (bits.position() / 8) as usize
 }
 
 impl Front {
-    ghost use Rattle.jxl_front.specs.FrontParts.{IsFrontOf};
+    ghost use Rattle.jxl_front.specs.FrontParts.{IsFrontOf, frame_at};
 
-    /// What comes before the sections of the first frame: the image header, at the start of the bytes; the profile, if
-    /// there is one, which is passed; the frame header and the table of contents. Picture and frame are supported, the
-    /// picture is within the limits, and all sections lie in the codestream. What is coded is read by any decoder.
+    // The frames of a codestream, from this byte on.
+    fn read_frames<D: Decoder>(
+        alloc: Global,
+        bytes: &[u8],
+        limits: &Limits,
+        image: ImageHeader,
+        begin: usize,
+    ) -> Result<Front, FrontError>
+        requires begins { AreBefore D.meaning limits.now bytes.now (image_of image) [] begin 0 }
+        requires allowed { Allow limits.now (image_of image) }
+        requires short { 8 * length bytes.now < 2 ^ 64 }
+        requires inside { begin ≤ length bytes.now }
+        ensures ok { IfOk result (IsFrontOf D.meaning limits.now bytes.now) }
+        ensures err { IfErr result (FrontFails D.meaning limits.now bytes.now) }
+    {
+        let mut saved = Vec::new(alloc);
+        let mut start = begin;
+        let mut used = 0;
+        for _ in 0..u64::MAX {
+            let frame = FrameFront::read::<D>(alloc, bytes, limits, &image, start, used)?;
+            if !frame.header.is_saved() {
+                return Ok(Front {
+                    image,
+                    saved,
+                    shown: frame,
+                });
+            }
+            used = frame.cells_with(&image, used, limits.pixels);
+            start = frame.end(bytes, &image);
+            if saved.push(frame).is_err() {
+                break;
+            }
+        }
+        Err(FrontError::FrameHeader(Error::from(OutOfMemory)))
+    }
+
+    /// What comes before the sections of the frames: the image header, at the start of the bytes; the profile, if there
+    /// is one, which is passed; and of each frame its header and table of contents. Frames that are saved for others
+    /// stand one after another, each followed by its sections, and after them the one that is shown, which is the last.
+    /// Picture and frames are supported and within the limits, and all sections lie in the codestream. What is coded is
+    /// read by any decoder.
     ///
     /// No memory is taken for samples: that of the lists of the headers, 16 bytes for each section, and the decoder's.
     ///
@@ -178,19 +171,7 @@ impl Front {
         }
         let mut bits = Bitstream::new(bytes);
         let image = read_begin::<D>(alloc, &mut bits, limits)?;
-        let frame = read_frame::<D>(alloc, &mut bits, limits, &image)?;
-        let Some(layout) = Layout::new(image.size, frame.group_dim, 1) else {
-            return Err(FrontError::TooManySections);
-        };
-        let toc = read_contents::<D>(alloc, &mut bits, limits, &image, &frame, &layout)?;
-        if let Some(number) = toc.truncated(bytes.len() as u64) {
-            return Err(FrontError::TruncatedSection(number));
-        }
-        Ok(Front {
-            image,
-            frame,
-            layout,
-            toc,
-        })
+        let begin = byte_of(&bits);
+        Front::read_frames::<D>(alloc, bytes, limits, image, begin)
     }
 }

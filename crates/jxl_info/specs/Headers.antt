@@ -4,10 +4,8 @@ use Rattle.std.specs.List.{starts_with}
 use Rattle.jxlm_base.specs.Decoding.{Meaning}
 use Rattle.jxl_file.specs.Files.{HasCodestream, UnlessMemory}
 use Rattle.jxl_headers.specs.Images.{Image, image_header}
-use Rattle.jxl_frames.specs.Frames.{Frame}
-use Rattle.jxl_toc.specs.declared.toc.TocEntry.{TocEntry}
 use Rattle.jxl_picture.specs.declared.limits.Limits.{Limits}
-use Rattle.jxl_front.specs.Fronts.{FrontStands, StandsAt}
+use Rattle.jxl_front.specs.Fronts.{FrameAt, FrontStands, StandsAt}
 use Rattle.jxl_front.specs.FrontFailures.{FrontFails}
 use Rattle.jxl_front.specs.declared.error.FrontError.{FrontError}
 use Rattle.jxl_info.specs.Reasons.{is_refusal}
@@ -20,13 +18,13 @@ abbrev pub is_boxed : List ℕ → Bool
 is_boxed file = not (starts_with nat_eq file (255 ∷ 10 ∷ []))
 
 module _ {D : Type 0} (d : Meaning D) (limits : Limits) where
-  -- all that comes before the sections of the frame stands there, under this image header
+  -- all that comes before the sections of the frames stands there, under this image header
   pub record IsSupported (bytes : List ℕ) (image : Image) : Type 0 where
-    pub frame : Frame
-    pub entries : List TocEntry
-    pub stands : FrontStands d limits bytes image frame entries
+    pub saved : List FrameAt
+    pub shown : FrameAt
+    pub stands : FrontStands d limits bytes image saved shown
 
-  -- the codestream is not decoded for this reason, or where there is none, what comes before the sections of its frame
+  -- the codestream is not decoded for this reason, or where there is none, what comes before the sections of its frames
   -- is supported
   abbrev pub IsReason : List ℕ → Image → Option FrontError → Type 0
   IsReason bytes image None = IsSupported bytes image

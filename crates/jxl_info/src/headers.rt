@@ -22,7 +22,7 @@ use std::alloc::Global;
 pub struct Headers {
     /// The image header.
     pub image: ImageHeader,
-    /// Why the file is not decoded; none where all that comes before the sections of its frame is supported.
+    /// Why the file is not decoded; none where all that comes before the sections of its frames is supported.
     pub reason: Option<FrontError>,
 }
 
@@ -31,7 +31,7 @@ pub struct Headers {
 pub enum HeadersError {
     /// The file has no codestream that is read.
     File(FileError),
-    /// What comes before the sections of the frame has this error.
+    /// What comes before the sections of the frames has this error.
     Front(FrontError),
 }
 
@@ -95,8 +95,8 @@ impl Headers {
     /// # Errors
     ///
     /// The first reason in the order of the bits why the headers do not stand: of the boxes, of the image header, the
-    /// profile, the frame header or the table of contents. Where a header says what is not supported, those after it
-    /// are not looked at. Or it is out of memory, within any of these.
+    /// profile, a frame header or a table of contents. Where a header says what is not supported, those after it are not
+    /// looked at. Or it is out of memory, within any of these.
     pub fn read<D: Decoder>(
         alloc: Global,
         file: &[u8],

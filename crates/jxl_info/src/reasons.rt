@@ -29,10 +29,9 @@ fn frame_reason(refusal: FrameRefusal) -> &'static str
     match refusal {
         FrameRefusal::VarDct => "VarDCT",
         FrameRefusal::LfFrame => "a frame of low frequencies",
-        FrameRefusal::ReferenceFrame => "a frame that is not shown",
         FrameRefusal::SkippedFrame => "a frame that is skipped",
         FrameRefusal::Noise => "noise",
-        FrameRefusal::Patches => "patches",
+        FrameRefusal::FloatPatches => "patches on floats",
         FrameRefusal::Splines => "splines",
         FrameRefusal::UseLfFrame => "low frequencies of another frame",
         FrameRefusal::YCbCr => "YCbCr",
@@ -40,9 +39,11 @@ fn frame_reason(refusal: FrameRefusal) -> &'static str
         FrameRefusal::ExtraUpsampling => "upsampling of an extra channel",
         FrameRefusal::Passes => "several passes",
         FrameRefusal::Crop => "a cropped frame",
+        FrameRefusal::EmptyFrame => "a frame without samples",
         FrameRefusal::Blending => "blending",
         FrameRefusal::ExtraBlending => "blending of an extra channel",
         FrameRefusal::Frames => "several frames",
+        FrameRefusal::SavedAfter => "a frame saved after its colours were changed",
         FrameRefusal::LoopFilter => "a loop filter",
     }
 }
@@ -53,7 +54,8 @@ pub fn is_refusal(error: FrontError) -> bool
 {
     match error {
         FrontError::Image(_) | FrontError::Frame(_) => true,
-        FrontError::TooLarge | FrontError::TooManySections => true,
+        FrontError::TooLarge | FrontError::FramesTooLarge => true,
+        FrontError::TooManySections => true,
         FrontError::TruncatedSection(_) => true,
         _ => false,
     }
@@ -74,6 +76,7 @@ pub fn append_reason(text: &mut String, error: FrontError) -> Result<(), OutOfMe
             write!(text, "not supported: {reason}")?;
         }
         FrontError::TooLarge => write!(text, "a picture above the limits")?,
+        FrontError::FramesTooLarge => write!(text, "frames above the limits")?,
         FrontError::TooManySections => {
             write!(text, "not supported: more than 16777216 sections")?;
         }

@@ -1,11 +1,11 @@
 -- The channels of a picture, all of its size.
-use Rattle.std.proofs.Common.{◌≡◌, ℕ, zero, suc, Bool, true, false, ◌%◌, ◌^◌, List, [], ◌∷◌, length, map, ℤ, refl, arith, ◌∙◌, ap, sym, subst}
+use Rattle.std.proofs.Common.{◌≡◌, ℕ, zero, suc, Bool, true, false, ◌%◌, ◌^◌, ◌<◌, get_or, List, [], ◌∷◌, length, map, ℤ, refl, arith, ◌∙◌, ap, sym, subst}
 use Rattle.std.specs.Prelude.{if◌then◌else◌, replicate}
 use Rattle.std.specs.Int.{div_ceil}
 use Rattle.std.specs.List.{All, AllZip, list_all}
 use Rattle.std.proofs.Math.Nat.{div-one}
 use Rattle.std.proofs.lemmas.List.{map-id}
-use Rattle.std.proofs.lemmas.List.Elements.{All-cons, All-head, All-nil, All-tail}
+use Rattle.std.proofs.lemmas.List.Elements.{All-cons, All-from_get_or, All-get_or, All-head, All-nil, All-tail}
 use Rattle.std.proofs.lemmas.Bool.Decides.{nat_tests}
 use Rattle.jxlm_base.specs.Grid.{Grid, grid}
 use Rattle.jxlm_base.specs.Regions.{store_meanings}
@@ -19,6 +19,7 @@ use Rattle.jxl_picture.specs.Limits.{channel_count}
 use Rattle.jxl_headers.specs.declared.size.Size.{Size}
 use Rattle.jxl_picture.specs.Orientations.{IsOriented, IsUpright, is_turned, shown_size}
 use Rattle.jxl_picture.specs.Pictures.{HasSides, IsWhole}
+use Rattle.jxl_patches.specs.Slots.{AreOfSize}
 use Rattle.jxl_lossless.specs.Frames.{channels_given}
 
 -- they are of one picture
@@ -48,10 +49,27 @@ sides (suc n) w h (g ∷ gs) s =
     let rest = sides n w h gs s.1 in
     (ap suc rest.0, All-cons (HasSides w h) g gs (record { wide = s.0.same_width ∙ size_same w; high = s.0.same_height ∙ size_same h }) rest.1)
 
-pub whole : (image : Image) (grids : List (Grid ℤ)) → AreGridsOf (channels_given image).channels grids → IsWhole image grids
-whole image grids s =
-    let known = sides (channel_count image) image.size.width image.size.height grids s in
-    record { count = known.0; sides = known.1 }
+has_wide : (w h : ℕ) (grids : List (Grid ℤ)) (c : ℕ) → All (HasSides w h) grids → c < length grids → (get_or grids c (grid 0 0 [])).width ≡ w
+has_wide w h grids c all lt = (All-get_or (HasSides w h) grids c (grid 0 0 []) lt all).wide
+
+has_high : (w h : ℕ) (grids : List (Grid ℤ)) (c : ℕ) → All (HasSides w h) grids → c < length grids → (get_or grids c (grid 0 0 [])).height ≡ h
+has_high w h grids c all lt = (All-get_or (HasSides w h) grids c (grid 0 0 []) lt all).high
+
+pub of_size : (image : Image) (size : Size) (grids : List (Grid ℤ)) → AreGridsOf (channels_given image size).channels grids → AreOfSize (channel_count image) size grids
+of_size image size grids given =
+    let known = sides (channel_count image) size.width size.height grids given in
+    record {
+      count = known.0;
+      sides = record { width = λ c lt. has_wide size.width size.height grids c known.1 lt; height = λ c lt. has_high size.width size.height grids c known.1 lt };
+    }
+
+pub whole : (image : Image) (size : Size) (grids : List (Grid ℤ)) → size ≡ image.size → AreOfSize (channel_count image) size grids → IsWhole image grids
+whole image size grids same given =
+    let s = subst (λ (z : Size). AreOfSize (channel_count image) z grids) same given in
+    record {
+      count = s.count;
+      sides = All-from_get_or (HasSides image.size.width image.size.height) grids (grid 0 0 []) (λ c lt. record { wide = s.sides.width c lt; high = s.sides.height c lt });
+    }
 
 -- and so are those of the picture that is shown upright
 shown_wide : (t : Bool) (size : Size) → (if t then size.height else size.width) ≡ (if t then record { width = size.height; height = size.width } else size).width

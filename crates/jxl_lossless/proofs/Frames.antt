@@ -1,35 +1,76 @@
 -- What decoding a frame gives.
-use Rattle.std.proofs.Common.{◌≡◌, ℕ, ℤ, List, Some, Result, Ok, Err}
+use Rattle.std.proofs.Common.{◌≡◌, ◌∙◌, ℕ, pos, ℤ, List, length, Some, Option, Result, Ok, Err, ap, sym, subst}
 use Rattle.std.specs.Prelude.{IfErr, IfOk, slice_get}
-use Rattle.std.specs.Int.{Width}
-use Rattle.jxlm_base.specs.Decoding.{Meaning}
+use Rattle.std.specs.Int.{w32}
+use Rattle.jxlm_base.specs.Decoding.{Found, Meaning}
+use Rattle.jxlm_base.specs.ErrorKind.{ErrorAt, UnlessMemory}
+use Rattle.jxlm_base.specs.Grammar.{IsErrorAt}
 use Rattle.jxlm_base.specs.Grid.{Grid}
+use Rattle.jxlm_ma.proofs.Memory.{unless_so}
 use Rattle.jxl_headers.specs.Images.{Image}
-use Rattle.jxl_frames.specs.Frames.{Frame}
-use Rattle.jxl_toc.specs.declared.toc.TocEntry.{TocEntry}
+use Rattle.jxl_headers.specs.declared.size.Size.{Size}
+use Rattle.jxl_frames.specs.Frames.{Frame, frame_size}
 use Rattle.jxl_still.specs.declared.places.Places.{Places}
-use Rattle.jxl_front.specs.Fronts.{layout_in}
-use Rattle.jxl_lossless.specs.Sections.{AreOfGroups, sections_of}
-use Rattle.jxl_lossless.specs.Frames.{IsCoded, IsFrame}
-use Rattle.jxl_lossless.specs.FrameFailures.{CodedFails, FrameFails}
+use Rattle.jxl_front.specs.Fronts.{FrameAt, layout_in}
+use Rattle.jxl_patches.specs.Patches.{Patches}
+use Rattle.jxl_patches.specs.Errors.{patch_kind}
+use Rattle.jxl_patches.specs.declared.error.PatchError.{PatchError}
+use Rattle.jxl_lossless.specs.Sections.{AreOfGroups, sections_in}
+use Rattle.jxl_patches.specs.Slots.{Slots, optional_patches}
+use Rattle.jxl_lossless.specs.Frames.{BeginsWith, IsFrame, IsMade}
+use Rattle.jxl_lossless.specs.FrameFailures.{CodedFails, FrameFails, MadeFails}
 use Rattle.jxl_lossless.specs.declared.error.FileError.{FileError}
 use Rattle.jxl_lossless.specs.declared.error.FileError.TheVariants as errors
 
-module _ {S D : Type 0} (d : Meaning D) (w : Width) (to_int : S → ℤ) (zero : S) (bytes : List ℕ) (image : Image) (frame : Frame) (entries : List TocEntry)
-    (first : List ℕ) (lies : slice_get (sections_of bytes entries) 0 ≡ Some first) (places : Places) (groups : AreOfGroups (layout_in image frame) (sections_of bytes entries) places) where
-  pub framed : {X : Type 0} (grids : X → List (Grid ℤ)) (before after : ℕ) (result : Result X FileError) → IfOk result (λ x. IsCoded d w to_int zero image frame.group_dim first places (grids x) before after) →
-      IfOk result (λ x. IsFrame d w to_int zero bytes image frame entries (grids x) before after)
-  framed grids before after (Ok x) h = record { first = first; lies = lies; places = places; groups = groups; coded = h }
+module _ {D : Type 0} (d : Meaning D) (image : Image) (slots : Slots) (frame : Frame) (first : List ℕ) (places : Places) where
+  -- patches were read, and what comes after them has this error
+  pub made_fails : (patches : Option Patches) (begin : ℕ) → BeginsWith d image slots frame first patches begin → (e : FileError) →
+      CodedFails {S = ℤ} d w32 (λ (v : ℤ). v) (pos 0) image (frame_size image.size frame) frame.group_dim first begin places e → MadeFails d image slots frame first places e
+  made_fails patches begin stands errors.NoMemory h = tt
+  made_fails patches begin stands (errors.Start e) h = record { patches = patches; begin = begin; dictionary = stands; fails = h }
+  made_fails patches begin stands (errors.Tree e) h = record { patches = patches; begin = begin; dictionary = stands; fails = h }
+  made_fails patches begin stands (errors.Samples e) h = record { patches = patches; begin = begin; dictionary = stands; fails = h }
+  made_fails patches begin stands (errors.Patches e) h = absurd h
+  made_fails patches begin stands (errors.File e) h = absurd h
+  made_fails patches begin stands (errors.Front e) h = absurd h
+
+  module _ (size : Size) (extra : ℕ) (sizes : List (Option Size)) (bytes : List ℕ) (p q : ℕ) (is_size : size ≡ frame_size image.size frame) (is_extra : extra ≡ length image.extra)
+      (are : sizes ≡ slots.sizes) (lies : bytes ≡ first) (start : p ≡ 0) where
+    -- what was read is what stands at the begin of the first section
+    read_there : (optional_patches d frame.coding.flags.patches size extra sizes).read bytes p ≡
+        (optional_patches d frame.coding.flags.patches (frame_size image.size frame) (length image.extra) slots.sizes).read first 0
+    read_there =
+        ap (λ (z : Size). (optional_patches d frame.coding.flags.patches z extra sizes).read bytes p) is_size
+        ∙ ap (λ n. (optional_patches d frame.coding.flags.patches (frame_size image.size frame) n sizes).read bytes p) is_extra
+        ∙ ap (λ (zs : List (Option Size)). (optional_patches d frame.coding.flags.patches (frame_size image.size frame) (length image.extra) zs).read bytes p) are
+        ∙ ap (λ (b : List ℕ). (optional_patches d frame.coding.flags.patches (frame_size image.size frame) (length image.extra) slots.sizes).read b p) lies
+        ∙ ap (λ n. (optional_patches d frame.coding.flags.patches (frame_size image.size frame) (length image.extra) slots.sizes).read first n) start
+
+    pub begins : (patches : Option Patches) → (optional_patches d frame.coding.flags.patches size extra sizes).read bytes p ≡ Ok (record { value = patches; position = q }) →
+        BeginsWith d image slots frame first patches q
+    begins patches e = sym read_there ∙ e
+
+    pub patches_fail : (e : PatchError) → UnlessMemory (patch_kind e) (IsErrorAt ((optional_patches d frame.coding.flags.patches size extra sizes).read bytes p) (patch_kind e) q) →
+        MadeFails d image slots frame first places (errors.Patches e)
+    patches_fail e h =
+        unless_so (patch_kind e) (λ f. (q, f)) (subst (λ (r : Result (Found (Option Patches)) ErrorAt). UnlessMemory (patch_kind e) (IsErrorAt r (patch_kind e) q)) read_there h)
+
+module _ {D : Type 0} (d : Meaning D) (image : Image) (slots : Slots) (bytes : List ℕ) (frame : FrameAt)
+    (first : List ℕ) (lies : slice_get (sections_in bytes frame) 0 ≡ Some first) (places : Places) (groups : AreOfGroups (layout_in image frame.header) (sections_in bytes frame) places) where
+  pub framed : {X : Type 0} (grids : X → List (Grid ℤ)) (before after : ℕ) (result : Result X FileError) →
+      IfOk result (λ x. IsMade d image slots frame.header first places (grids x) before after) → IfOk result (λ x. IsFrame d image slots bytes frame (grids x) before after)
+  framed grids before after (Ok x) h = record { first = first; lies = lies; places = places; groups = groups; made = h }
   framed grids before after (Err e) h = tt
 
-  fails : (e : FileError) → CodedFails d w to_int zero image frame.group_dim first places e → FrameFails d w to_int zero image bytes frame entries e
-  fails errors.NoMemory h = tt
-  fails (errors.Start e) h = record { first = first; lies = lies; places = places; groups = groups; fails = h }
-  fails (errors.Tree e) h = record { first = first; lies = lies; places = places; groups = groups; fails = h }
-  fails (errors.Samples e) h = record { first = first; lies = lies; places = places; groups = groups; fails = h }
-  fails (errors.File e) h = absurd h
-  fails (errors.Front e) h = absurd h
+  bad : (e : FileError) → MadeFails d image slots frame.header first places e → FrameFails d image slots bytes frame e
+  bad errors.NoMemory h = tt
+  bad (errors.Patches e) h = record { first = first; lies = lies; places = places; groups = groups; fails = h }
+  bad (errors.Start e) h = record { first = first; lies = lies; places = places; groups = groups; fails = h }
+  bad (errors.Tree e) h = record { first = first; lies = lies; places = places; groups = groups; fails = h }
+  bad (errors.Samples e) h = record { first = first; lies = lies; places = places; groups = groups; fails = h }
+  bad (errors.File e) h = record { first = first; lies = lies; places = places; groups = groups; fails = h }
+  bad (errors.Front e) h = record { first = first; lies = lies; places = places; groups = groups; fails = h }
 
-  pub frame_fails : {X : Type 0} (result : Result X FileError) → IfErr result (CodedFails d w to_int zero image frame.group_dim first places) → IfErr result (FrameFails d w to_int zero image bytes frame entries)
+  pub frame_fails : {X : Type 0} (result : Result X FileError) → IfErr result (MadeFails d image slots frame.header first places) → IfErr result (FrameFails d image slots bytes frame)
   frame_fails (Ok x) h = tt
-  frame_fails (Err e) h = fails e h
+  frame_fails (Err e) h = bad e h

@@ -9,11 +9,11 @@ use Rattle.jxl_front.specs.Fronts.{StandsAt}
 use Rattle.jxl_lossless.specs.Frames.{SharedTree}
 
 -- a tree was read, from the same bytes
-pub a_tree : {D : Type 0} (d : Meaning D) (size : Size) (n : ℕ) (first : List ℕ) (p q : ℕ) → p ≡ 0 → StandsAt section_start first p true q → (bytes : List ℕ) → bytes ≡ first →
-    (limit : ℕ) → limit ≡ tree_limit size n → (tree : Config D) (r : ℕ) → TreeGives d bytes limit 2048 q (Ok tree) r → SharedTree d size n first (Some tree) r
-a_tree d size n first p q start there bytes same limit most tree r gives = record {
+pub a_tree : {D : Type 0} (d : Meaning D) (size : Size) (n : ℕ) (first : List ℕ) (p q : ℕ) → StandsAt section_start first p true q → (bytes : List ℕ) → bytes ≡ first →
+    (limit : ℕ) → limit ≡ tree_limit size n → (tree : Config D) (r : ℕ) → TreeGives d bytes limit 2048 q (Ok tree) r → SharedTree d size n first p (Some tree) r
+a_tree d size n first p q there bytes same limit most tree r gives = record {
   there = true;
   begin = q;
-  start = subst (λ m. StandsAt section_start first m true q) start there;
+  start = there;
   tree = (tree, refl, subst (λ (b : List ℕ). TreeGives d b (tree_limit size n) 2048 q (Ok tree) r) same (subst (λ m. TreeGives d bytes m 2048 q (Ok tree) r) most gives));
 }

@@ -4,6 +4,7 @@ use Rattle.std.specs.Borrow.{Bor}
 use Rattle.jxl_toc.specs.Layouts.{Layout, section_count_of, lf_section_of, pass_section_of}
 use Rattle.jxl_toc.specs.declared.toc.TocEntry.{TocEntry}
 use Rattle.jxl_still.specs.declared.places.Places.{Places}
+use Rattle.jxl_front.specs.Fronts.{FrameAt}
 
 -- the bytes of a section of a codestream, and of all sections, by their numbers
 abbrev pub section_of : List ℕ → TocEntry → List ℕ
@@ -11,6 +12,10 @@ section_of bytes entry = take entry.size (drop entry.offset bytes)
 
 abbrev pub sections_of : List ℕ → List TocEntry → List (List ℕ)
 sections_of bytes entries = map (section_of bytes) entries
+
+-- those of a frame of a codestream, which begins at a byte of its own
+abbrev pub sections_in : List ℕ → FrameAt → List (List ℕ)
+sections_in bytes frame = sections_of (drop frame.start bytes) frame.entries
 
 -- the bytes that are lent
 abbrev pub lent : List (Bor (List ℕ)) → List (List ℕ)

@@ -4,6 +4,7 @@ ghost use Rattle.std.specs.Prelude.{◌≡◌};
 
 use jxl_file::error::FileError as BoxError;
 use jxl_front::error::FrontError;
+use jxl_patches::error::PatchError;
 use jxl_still::error::FrameError;
 use jxlm_base::error::Error;
 use jxlm_base::grid::OutOfMemory;
@@ -15,16 +16,19 @@ pub enum FileError {
     /// The file has no codestream that is read, for this reason.
     #[error("{0}")]
     File(BoxError),
-    /// What comes before the sections of the frame has this error, or is not supported.
+    /// What comes before the sections of the frames has this error, or is not supported.
     #[error("{0}")]
     Front(FrontError),
-    /// What the first section begins with has this error.
+    /// The patches of a frame have this error.
+    #[error("patches: {0}")]
+    Patches(PatchError),
+    /// What the first section of a frame begins with, after patches, has this error.
     #[error("first section: {0}")]
     Start(Error),
-    /// The tree that sections share has this error.
+    /// The tree that sections of a frame share has this error.
     #[error("global tree: {0}")]
     Tree(Error),
-    /// The image, or its samples, have this error.
+    /// The image of a frame, or its samples, have this error.
     #[error("{0}")]
     Samples(FrameError),
     /// Out of memory.

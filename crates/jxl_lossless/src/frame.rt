@@ -1,30 +1,37 @@
-//! The frame of a codestream, by its sections.
+//! A frame of a codestream, by its sections.
 
-ghost use Rattle.std.specs.Prelude.{◌≡◌, ◌≤◌, ◌^◌, pos, IfErr, IfOk};
+ghost use Rattle.std.specs.Prelude.{◌≡◌, ◌≤◌, ◌^◌, pos, ℤ, IfErr, IfOk};
+ghost use Rattle.std.specs.Int.{w32};
+ghost use Rattle.jxlm_base.specs.Bits.{bytes_of, position_of};
 ghost use Rattle.jxl_headers.specs.Images.{image_of};
-ghost use Rattle.jxl_frames.specs.Frames.{frame_of};
-ghost use Rattle.jxl_front.specs.FrontParts.{IsReady};
+ghost use Rattle.jxl_frames.specs.Frames.{frame_of, frame_size};
+ghost use Rattle.jxl_front.specs.FrontParts.{IsReadyFrame, frame_at};
 ghost use Rattle.jxl_modular.specs.Image.{image_grids};
 ghost use Rattle.jxl_picture.specs.Limits.{channel_count};
 ghost use Rattle.jxl_still.specs.Places.{AreFew};
 ghost use Rattle.jxlm_transform.specs.Channels.{AreGridsOf};
 ghost use Rattle.jxlm_transform.specs.Params.{IsGroupDim, of_one_size};
-ghost use Rattle.jxl_lossless.specs.Frames.{IsCoded, IsFrame, channels_given};
-ghost use Rattle.jxl_lossless.specs.FrameFailures.{CodedFails, FrameFails};
+ghost use Rattle.jxl_patches.specs.Slots.{AreOfSize, HoldFrames};
+ghost use Rattle.jxl_patches.specs.SavedParts.{slots_of};
+ghost use Rattle.jxl_lossless.specs.Frames.{IsCoded, IsFrame, IsMade, channels_given};
+ghost use Rattle.jxl_lossless.specs.FrameFailures.{CodedFails, FrameFails, MadeFails};
 
 use crate::error::FileError;
 use crate::sections::{of_groups, sections};
 use crate::tree::shared_tree;
-use jxl_front::front::Front;
+use jxl_frames::frame::FrameHeader;
+use jxl_front::frame::FrameFront;
 use jxl_headers::image::ImageHeader;
 use jxl_headers::size::Size;
 use jxl_modular::image::ModularImageDestination;
+use jxl_patches::patches::{put_patches, read_patches};
+use jxl_patches::slots::SavedFrames;
 use jxl_picture::picture::colours;
 use jxl_still::frame::decode_frame;
 use jxl_still::places::Places;
 use jxlm_base::bits::Bitstream;
 use jxlm_base::decoder::Decoder;
-use jxlm_base::grid::OutOfMemory;
+use jxlm_base::grid::{AlignedGrid, OutOfMemory};
 use jxlm_base::sample::Sample;
 use jxlm_ma::flat::Steps;
 use jxlm_transform::param::{ModularChannelParams, ModularParams};
@@ -42,32 +49,33 @@ fn channel_list(
     Ok(vec![in alloc; channel; count]?)
 }
 
-// The image of a frame, by its first section and those of its groups.
+// The image of a frame of this size, by its first section, from the reader's position on, and those of its groups.
 fn decode_coded<'a, S: Sample, D: Decoder>(
     alloc: Global,
-    first: &'a [u8],
+    mut bits: Bitstream<'a>,
     places: Places<'a, '_>,
     image: &ImageHeader,
+    size: Size,
     group_dim: u32,
     steps: &mut Steps,
 ) -> Result<ModularImageDestination<S, D>, FileError>
-    requires wide { image.now.size.width ≤ 2 ^ 30 }
-    requires high { image.now.size.height ≤ 2 ^ 30 }
+    requires wide { size.width ≤ 2 ^ 30 }
+    requires high { size.height ≤ 2 ^ 30 }
     requires deep { image.now.samples.depth.bits ≤ 32 }
     requires many { channel_count (image_of image.now) ≤ 2 ^ 20 }
     requires dim { IsGroupDim group_dim }
     requires few { AreFew places }
-    ensures ok { IfOk result (λ x. IsCoded D.meaning S.width S.to_int (S.from_int (pos 0)) (image_of image.now)
-        group_dim first.now places.entry (image_grids S.to_int x) steps.old steps.new) }
-    ensures sides { IfOk result (λ x. AreGridsOf (channels_given (image_of image.now)).channels
+    ensures ok { IfOk result (λ x. IsCoded D.meaning S.width S.to_int (S.from_int (pos 0)) (image_of image.now) size
+        group_dim (bytes_of bits.entry) (position_of bits.entry) places.entry (image_grids S.to_int x) steps.old
+        steps.new) }
+    ensures sides { IfOk result (λ x. AreGridsOf (channels_given (image_of image.now) size).channels
         (image_grids S.to_int x)) }
-    ensures err { IfErr result (CodedFails D.meaning S.width S.to_int (S.from_int (pos 0)) (image_of image.now)
-        group_dim first.now places.entry) }
+    ensures err { IfErr result (CodedFails D.meaning S.width S.to_int (S.from_int (pos 0)) (image_of image.now) size
+        group_dim (bytes_of bits.entry) (position_of bits.entry) places.entry) }
 {
     let channels = colours(image) + image.extra.len();
-    let mut bits = Bitstream::new(first);
-    let tree = shared_tree::<D>(alloc, &mut bits, image.size, channels)?;
-    let list = channel_list(alloc, image.size, channels)?;
+    let tree = shared_tree::<D>(alloc, &mut bits, size, channels)?;
+    let list = channel_list(alloc, size, channels)?;
     let depth = image.samples.depth.bits;
     let params = ModularParams::with_channels(group_dim, depth, list, tree.as_ref());
     match decode_frame::<S, D>(alloc, bits, params, places, steps) {
@@ -77,30 +85,99 @@ fn decode_coded<'a, S: Sample, D: Decoder>(
     }
 }
 
-/// Decodes the frame of a codestream whose headers were read, and undoes its transforms.
-pub fn decode_front<S: Sample, D: Decoder>(
+// Its channels, with samples of 32 bits.
+fn decode_grids<'a, D: Decoder>(
+    alloc: Global,
+    bits: Bitstream<'a>,
+    places: Places<'a, '_>,
+    image: &ImageHeader,
+    size: Size,
+    group_dim: u32,
+    steps: &mut Steps,
+) -> Result<Vec<AlignedGrid<i32>>, FileError>
+    requires wide { size.width ≤ 2 ^ 30 }
+    requires high { size.height ≤ 2 ^ 30 }
+    requires deep { image.now.samples.depth.bits ≤ 32 }
+    requires many { channel_count (image_of image.now) ≤ 2 ^ 20 }
+    requires dim { IsGroupDim group_dim }
+    requires few { AreFew places }
+    ensures ok { IfOk result (λ v. IsCoded D.meaning w32 (λ (v : ℤ). v) (pos 0) (image_of image.now) size group_dim
+        (bytes_of bits.entry) (position_of bits.entry) places.entry v.items steps.old steps.new) }
+    ensures sides { IfOk result (λ v. AreGridsOf (channels_given (image_of image.now) size).channels v.items) }
+    ensures err { IfErr result (CodedFails D.meaning w32 (λ (v : ℤ). v) (pos 0) (image_of image.now) size group_dim
+        (bytes_of bits.entry) (position_of bits.entry) places.entry) }
+{
+    let decoded = decode_coded::<i32, D>(alloc, bits, places, image, size, group_dim, steps)?;
+    Ok(decoded.into_image_channels())
+}
+
+// The channels of a frame by its first section and those of its groups, with its patches.
+fn decode_made<'a, D: Decoder>(
+    alloc: Global,
+    first: &'a [u8],
+    places: Places<'a, '_>,
+    image: &ImageHeader,
+    header: &FrameHeader,
+    slots: &SavedFrames,
+    steps: &mut Steps,
+) -> Result<Vec<AlignedGrid<i32>>, FileError>
+    requires wide { (frame_size image.now.size (frame_of header.now)).width ≤ 2 ^ 30 }
+    requires high { (frame_size image.now.size (frame_of header.now)).height ≤ 2 ^ 30 }
+    requires deep { image.now.samples.depth.bits ≤ 32 }
+    requires many { channel_count (image_of image.now) ≤ 2 ^ 20 }
+    requires dim { IsGroupDim header.now.group_dim }
+    requires few { AreFew places }
+    requires held { HoldFrames (channel_count (image_of image.now)) (slots_of slots.now) }
+    ensures ok { IfOk result (λ v. IsMade D.meaning (image_of image.now) (slots_of slots.now) (frame_of header.now)
+        first.now places.entry v.items steps.old steps.new) }
+    ensures sides { IfOk result (λ v. AreOfSize (channel_count (image_of image.now))
+        (frame_size image.now.size (frame_of header.now)) v.items) }
+    ensures err { IfErr result (MadeFails D.meaning (image_of image.now) (slots_of slots.now) (frame_of header.now)
+        first.now places.entry) }
+{
+    let size = header.size(image.size);
+    let there = header.coding.flags.patches;
+    let extra = image.extra.len();
+    let mut bits = Bitstream::new(first);
+    let patches = match read_patches::<D>(alloc, &mut bits, there, size, extra, &slots.sizes) {
+        Ok(patches) => patches,
+        Err(error) => return Err(FileError::Patches(error)),
+    };
+    let mut channels = decode_grids::<D>(
+        alloc,
+        bits,
+        places,
+        image,
+        size,
+        header.group_dim,
+        steps,
+    )?;
+    put_patches(&patches, size, colours(image), extra, slots, &mut channels);
+    Ok(channels)
+}
+
+/// The channels of a frame of a codestream whose headers were read, with samples of 32 bits and with patches of the
+/// frames that were saved before it.
+pub fn decode_channels<D: Decoder>(
     alloc: Global,
     bytes: &[u8],
-    front: &Front,
+    image: &ImageHeader,
+    frame: &FrameFront,
+    slots: &SavedFrames,
     steps: &mut Steps,
-) -> Result<ModularImageDestination<S, D>, FileError>
-    requires ready { IsReady bytes.now front.now }
-    ensures ok { IfOk result (λ x. IsFrame D.meaning S.width S.to_int (S.from_int (pos 0)) bytes.now
-        (image_of front.now.image) (frame_of front.now.frame) front.now.toc.entries.items
-        (image_grids S.to_int x) steps.old steps.new) }
-    ensures sides { IfOk result (λ x. AreGridsOf (channels_given (image_of front.now.image)).channels
-        (image_grids S.to_int x)) }
-    ensures err { IfErr result (FrameFails D.meaning S.width S.to_int (S.from_int (pos 0))
-        (image_of front.now.image) bytes.now (frame_of front.now.frame) front.now.toc.entries.items) }
+) -> Result<Vec<AlignedGrid<i32>>, FileError>
+    requires ready { IsReadyFrame bytes.now (image_of image.now) frame.now }
+    requires deep { image.now.samples.depth.bits ≤ 32 }
+    requires many { channel_count (image_of image.now) ≤ 2 ^ 20 }
+    requires held { HoldFrames (channel_count (image_of image.now)) (slots_of slots.now) }
+    ensures ok { IfOk result (λ v. IsFrame D.meaning (image_of image.now) (slots_of slots.now) bytes.now
+        (frame_at frame.now) v.items steps.old steps.new) }
+    ensures sides { IfOk result (λ v. AreOfSize (channel_count (image_of image.now))
+        (frame_size image.now.size (frame_of frame.now.header)) v.items) }
+    ensures err { IfErr result (FrameFails D.meaning (image_of image.now) (slots_of slots.now) bytes.now
+        (frame_at frame.now)) }
 {
-    let list = sections(alloc, bytes, &front.toc.entries)?;
-    let places = of_groups(&list, &front.layout);
-    decode_coded(
-        alloc,
-        list[0],
-        places,
-        &front.image,
-        front.frame.group_dim,
-        steps,
-    )
+    let list = sections(alloc, &bytes[frame.start..], &frame.toc.entries)?;
+    let places = of_groups(&list, &frame.layout);
+    decode_made::<D>(alloc, list[0], places, image, &frame.header, slots, steps)
 }

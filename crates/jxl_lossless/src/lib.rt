@@ -1,9 +1,10 @@
-//! Lossless pictures of JPEG XL files (ISO/IEC 18181-1, 18181-2): the container, the headers, and the frame.
+//! Lossless pictures of JPEG XL files (ISO/IEC 18181-1, 18181-2): the container, the headers, and the frames.
 #![tactic(auto)]
 
 pub mod error;
 mod frame;
 mod picture;
+mod saved;
 mod sections;
 mod tree;
 

@@ -1,19 +1,43 @@
 //! The picture of a file.
 
-ghost use Rattle.std.specs.Prelude.{IfErr, IfOk};
+ghost use Rattle.std.specs.Prelude.{List, [], ◌∷◌, ◌++◌, map, IfErr, IfOk};
+ghost use Rattle.jxlm_entropy.specs.Parse.{decoder_at};
+ghost use Rattle.jxlm_entropy.specs.Tokens.{entropy};
 ghost use Rattle.jxl_headers.specs.Images.{image_of};
+ghost use Rattle.jxl_front.specs.FrontParts.{IsReady, frame_at};
 ghost use Rattle.jxl_picture.specs.Pictures.{IsWhole};
+ghost use Rattle.jxl_lossless.specs.Saved.{AreDecoded, FramesFail};
 ghost use Rattle.jxl_lossless.specs.Pictures.{FileFails, IsPictureOf, IsPictureOfFile, StreamFails};
 
 use crate::error::FileError;
-use crate::frame::decode_front;
+use crate::frame::decode_channels;
+use crate::saved::decode_saved;
 use jxl_file::codestream::find_codestream;
 use jxl_front::front::Front;
 use jxl_picture::limits::Limits;
 use jxl_picture::picture::Picture;
+use jxlm_base::grid::AlignedGrid;
 use jxlm_entropy::decoder::EntropyDecoder;
 use jxlm_ma::flat::Steps;
 use std::alloc::Global;
+
+// The channels of the frame that is shown, with patches of the saved frames.
+fn decode_frames(
+    alloc: Global,
+    bytes: &[u8],
+    front: &Front,
+) -> Result<Vec<AlignedGrid<i32>>, FileError>
+    requires ready { IsReady bytes.now front.now }
+    ensures ok { IfOk result (λ v. AreDecoded (entropy decoder_at) bytes.now
+        (image_of front.now.image) (map frame_at front.now.saved.items) (frame_at front.now.shown) v.items) }
+    ensures whole { IfOk result (λ v. IsWhole (image_of front.now.image) v.items) }
+    ensures err { IfErr result (FramesFail (entropy decoder_at) bytes.now
+        (image_of front.now.image) (map frame_at front.now.saved.items ++ frame_at front.now.shown ∷ [])) }
+{
+    let mut steps = Steps::new();
+    let slots = decode_saved::<EntropyDecoder>(alloc, bytes, front, &mut steps)?;
+    decode_channels::<EntropyDecoder>(alloc, bytes, &front.image, &front.shown, &slots, &mut steps)
+}
 
 // The picture of a codestream.
 fn decode_codestream(alloc: Global, bytes: &[u8], limits: &Limits) -> Result<Picture, FileError>
@@ -25,21 +49,22 @@ fn decode_codestream(alloc: Global, bytes: &[u8], limits: &Limits) -> Result<Pic
         Ok(front) => front,
         Err(error) => return Err(FileError::Front(error)),
     };
-    let image = decode_front::<i32, EntropyDecoder>(alloc, bytes, &front, &mut Steps::new())?;
+    let channels = decode_frames(alloc, bytes, &front)?;
     let coded = Picture {
         header: front.image,
-        channels: image.into_image_channels(),
+        channels,
     };
     let shown = coded.upright(alloc)?;
     Ok(shown)
 }
 
-/// The picture of a JPEG XL file: a lossless still picture of one frame, bare or in boxes.
+/// The picture of a JPEG XL file: a lossless still picture of one frame, bare or in boxes, which frames may stand before
+/// that are saved for others and not shown.
 ///
 /// It has the samples that were coded, of which no decoder can make others: the file is a codestream, or boxes that
-/// hold one; image header, frame header and table of contents stand at its bits; each section lies where the table says;
-/// and the channels are the only ones that the transforms turn into the samples that the sections code, read by the
-/// entropy decoder with the indices of their streams. They are shown upright: mirrored or turned as the image header
+/// hold one; image header, frame headers and tables of contents stand at its bits; each section lies where the table
+/// says; and the channels are the only ones that the transforms turn into the samples that the sections code, read by
+/// the entropy decoder with the indices of their streams. They are shown upright: mirrored or turned as the image header
 /// says. The picture's header is that of the file, but that it has the size of what is shown, and orientation 1.
 ///
 /// # Errors

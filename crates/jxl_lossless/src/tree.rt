@@ -1,4 +1,4 @@
-//! What the first section of a frame begins with: the tree that sections share.
+//! What the first section of a frame has before its image: the tree that sections share.
 
 ghost use Rattle.std.specs.Prelude.{◌≡◌, IfErr, IfOk};
 ghost use Rattle.jxlm_base.specs.Bits.{bytes_of, position_of};
@@ -22,10 +22,9 @@ pub fn shared_tree<D: Decoder>(
     size: Size,
     channels: usize,
 ) -> Result<Option<MaConfig<D>>, FileError>
-    requires start { position_of bits.old ≡ 0 }
-    ensures ok { IfOk result (λ tree. SharedTree D.meaning size channels (bytes_of bits.old) tree
+    ensures ok { IfOk result (λ tree. SharedTree D.meaning size channels (bytes_of bits.old) (position_of bits.old) tree
         (position_of bits.new)) }
-    ensures err { IfErr result (StartFails D.meaning size channels (bytes_of bits.old)) }
+    ensures err { IfErr result (StartFails D.meaning size channels (bytes_of bits.old) (position_of bits.old)) }
     ensures bytes { bytes_of bits.new ≡ bytes_of bits.old }
 {
     match section_start(bits) {

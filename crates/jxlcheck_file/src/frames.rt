@@ -202,10 +202,10 @@ fn tell_sections(
     requires bytes { 8 * length (bytes_of bits.old) < 2 ^ 64 }
     requires dim { 0 < header.now.group_dim }
 {
-    if let Some(refusal) = header.refused() {
+    if let Some(refusal) = header.refused(image) {
         return write!(text, " refused {refusal:?}").ok();
     }
-    let layout = Layout::new(image.size, header.group_dim, 1)?;
+    let layout = Layout::new(header.size(image.size), header.group_dim, 1)?;
     match Toc::parse::<EntropyDecoder>(alloc, bits, layout.section_count()) {
         Ok(toc) => tell_toc(text, &toc),
         Err(error) => {

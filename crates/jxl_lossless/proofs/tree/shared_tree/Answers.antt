@@ -14,7 +14,7 @@ returns-in-Ok-parse-clause-ok g c =
     let q = position_of c.section_start.new.bits in
     let there : c.in-Ok.there ≡ true = search rules in
     let stands : StandsAt section_start first p true q = subst (λ b. StandsAt section_start first p b q) there c.in-Ok.ensures.gives in
-    a_tree g.D.Decoder.meaning c.args.size c.args.channels first p q c.requires.start stands (bytes_of c.section_start.new.bits) c.in-Ok.ensures.bytes c.tree_limit.result c.tree_limit.ensures c.in-Ok-parse.tree
+    a_tree g.D.Decoder.meaning c.args.size c.args.channels first p q stands (bytes_of c.section_start.new.bits) c.in-Ok.ensures.bytes c.tree_limit.result c.tree_limit.ensures c.in-Ok-parse.tree
     (position_of c.parse.new.bits) c.in-Ok-parse.ensures.gives
 
 pub returns-in-Err-clause-err : goal.returns-in-Err-clause-err
@@ -24,7 +24,7 @@ returns-in-Err-clause-err g c =
       q,
       record {
         place = Some q;
-        refuses = subst (λ (p : ℕ). section_start.read first p ≡ Err (record { error = bitstream_kind c.in-Err.error; position = Some q })) c.requires.start c.in-Err.ensures.gives;
+        refuses = c.in-Err.ensures.gives;
         stands = refl;
       },
     )

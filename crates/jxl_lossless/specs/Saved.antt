@@ -1,0 +1,47 @@
+-- The frames of a codestream that are saved for others, and the frame after them (ISO/IEC 18181-1, frame header: saving).
+use Rattle.std.specs.Prelude.{◌≡◌, ℕ, ℤ, List, [], ◌∷◌, ◌++◌}
+use Rattle.jxlm_base.specs.Decoding.{Meaning}
+use Rattle.jxlm_base.specs.Grid.{Grid}
+use Rattle.jxl_headers.specs.Images.{Image}
+use Rattle.jxl_frames.specs.Frames.{frame_size}
+use Rattle.jxl_front.specs.Fronts.{FrameAt}
+use Rattle.jxl_patches.specs.Slots.{Slots, no_slots, saved_in}
+use Rattle.jxl_lossless.specs.Frames.{IsFrame}
+use Rattle.jxl_lossless.specs.FrameFailures.{FrameFails}
+use Rattle.jxl_lossless.specs.declared.error.FileError.{FileError}
+use Rattle.jxl_lossless.specs.declared.error.FileError.TheVariants as errors
+
+module _ {D : Type 0} (d : Meaning D) (bytes : List ℕ) (image : Image) where
+  -- These frames are decoded one after another, with patches of what the slots hold then, and the channels of each are saved
+  -- in the slot that its header names.
+  abbrev pub AreSaved : List FrameAt → Slots → Slots → ℕ → ℕ → Type 0
+  AreSaved [] old new before after = (new ≡ old) × (after ≡ before)
+  AreSaved (f ∷ fs) old new before after =
+      (grids : List (Grid ℤ)) × (between : ℕ) × IsFrame d image old bytes f grids before between
+      × AreSaved fs (saved_in old f.header.ending.save_as_reference (frame_size image.size f.header) grids) new between after
+
+  -- the saved frames are decoded, and after them these are the channels of the frame that is shown
+  pub record AreDecoded (saved : List FrameAt) (shown : FrameAt) (grids : List (Grid ℤ)) : Type 0 where
+    pub slots : Slots
+    pub begin : ℕ
+    pub before : ℕ
+    pub after : ℕ
+    pub frames : AreSaved saved no_slots slots begin before
+    pub last : IsFrame d image slots bytes shown grids before after
+
+  -- the frames before this one are decoded, and it has this error
+  pub record IsFirstBad (frames : List FrameAt) (error : FileError) : Type 0 where
+    pub decoded : List FrameAt
+    pub frame : FrameAt
+    pub others : List FrameAt
+    pub are : frames ≡ decoded ++ frame ∷ others
+    pub slots : Slots
+    pub before : ℕ
+    pub after : ℕ
+    pub saved : AreSaved decoded no_slots slots before after
+    pub fails : FrameFails d image slots bytes frame error
+
+  -- what each error says of the frames of a codestream
+  abbrev pub FramesFail : List FrameAt → FileError → Type 0
+  FramesFail frames errors.NoMemory = Unit {0}
+  FramesFail frames e = IsFirstBad frames e

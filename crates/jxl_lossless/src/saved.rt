@@ -1,0 +1,41 @@
+//! The frames of a codestream that are saved for others.
+
+ghost use Rattle.std.specs.Prelude.{List, [], ◌∷◌, ◌++◌, map, IfErr, IfOk};
+ghost use Rattle.jxl_headers.specs.Images.{image_of};
+ghost use Rattle.jxl_picture.specs.Limits.{channel_count};
+ghost use Rattle.jxl_front.specs.FrontParts.{IsReady, frame_at};
+ghost use Rattle.jxl_patches.specs.Slots.{HoldFrames, no_slots};
+ghost use Rattle.jxl_lossless.specs.Saved.{AreSaved, FramesFail};
+ghost use Rattle.jxl_patches.specs.SavedParts.{slots_of};
+
+use crate::error::FileError;
+use crate::frame::decode_channels;
+use jxl_front::front::Front;
+use jxl_patches::slots::SavedFrames;
+use jxlm_base::decoder::Decoder;
+use jxlm_ma::flat::Steps;
+use std::alloc::Global;
+
+/// Decodes the frames that are saved for others, and returns what the four slots hold then: each the last frame that was
+/// saved in it, or none.
+pub fn decode_saved<D: Decoder>(
+    alloc: Global,
+    bytes: &[u8],
+    front: &Front,
+    steps: &mut Steps,
+) -> Result<SavedFrames, FileError>
+    requires ready { IsReady bytes.now front.now }
+    ensures ok { IfOk result (λ s. AreSaved D.meaning bytes.now (image_of front.now.image)
+        (map frame_at front.now.saved.items) no_slots (slots_of s) steps.old steps.new) }
+    ensures held { IfOk result (λ s. HoldFrames (channel_count (image_of front.now.image)) (slots_of s)) }
+    ensures err { IfErr result (FramesFail D.meaning bytes.now (image_of front.now.image)
+        (map frame_at front.now.saved.items ++ frame_at front.now.shown ∷ [])) }
+{
+    let mut slots = SavedFrames::none(alloc)?;
+    for frame in &front.saved {
+        let channels = decode_channels::<D>(alloc, bytes, &front.image, frame, &slots, steps)?;
+        let size = frame.header.size(front.image.size);
+        slots.save(frame.header.ending.save_as_reference, size, channels);
+    }
+    Ok(slots)
+}
