@@ -71,8 +71,8 @@ fn one_rectangle<D: Decoder>(
 ) -> Result<()>
     requires { length (D.meaning.cluster_map decoder.old) ≡ 10 }
     ensures gives { StepRead result decoder.new growing.new (position_of bits.new)
-        ((the_one_rectangle D.meaning size kinds slots.now limit (told_of decoder.old growing.old)).read (bytes_of bits.old)
-        (position_of bits.old)) }
+        ((the_one_rectangle D.meaning size kinds slots.now limit (told_of decoder.old growing.old)).read
+        (bytes_of bits.old) (position_of bits.old)) }
     ensures clusters { IfOk result (λ _. length (D.meaning.cluster_map decoder.new) ≡ 10) }
     ensures bytes { bytes_of bits.new ≡ bytes_of bits.old }
 {
