@@ -84,9 +84,14 @@ asked-only q p (decision k v a b) e h =
     let is : k ≡ q = (Decides-eqb k q).0 e in
     subst (λ z. TestsOnly z (decision k v a b)) (sym h.0 ∙ is) h
 
--- the root of such a tree is a table, and its entries lead to one leaf
-pub record Forced (nodes : List FlatNode) (n : FlatNode) (l : Leaf) : Type 0 where
+asked-is : (q p : ℕ) (t : Shape Leaf) → asks_for q t ≡ true → TestsOnly p t → q ≡ p
+asked-is q p (leaf l) e h = cc
+asked-is q p (decision k v a b) e h = sym ((Decides-eqb k q).0 e) ∙ h.0
+
+-- the root of such a tree is a table on its property, and its entries lead to one leaf
+pub record Forced (nodes : List FlatNode) (n : FlatNode) (p : ℕ) (l : Leaf) : Type 0 where
   pub property : ℕ
+  pub on : property ≡ p
   pub base : ℤ
   pub entries : Vec ℕ
   pub cluster : ℕ → ℕ
@@ -98,7 +103,7 @@ cluster_at (node.Leaf l) = l.cluster
 cluster_at (node.Table p base entries) = 0
 cluster_at (node.Fused p v l r) = 0
 
-forced-top : (nodes older : List FlatNode) (top : FlatNode) (p : ℕ) (t : Shape Leaf) → reverse nodes ≡ top ∷ older → IsSound (reverse nodes) → (h : Tabular p t) → IsTableOf top older t → Forced nodes top h.leaf
+forced-top : (nodes older : List FlatNode) (top : FlatNode) (p : ℕ) (t : Shape Leaf) → reverse nodes ≡ top ∷ older → IsSound (reverse nodes) → (h : Tabular p t) → IsTableOf top older t → Forced nodes top p h.leaf
 unfolding served-leaf cluster_at
 forced-top nodes older (node.Leaf l) p t newest sound h of = absurd of
 forced-top nodes older (node.Fused q v l r) p t newest sound h of = absurd of
@@ -107,6 +112,7 @@ forced-top nodes older (node.Table q base entries) p t newest sound h of =
     let only = asked-only q p t of.0 h.only in
     record {
       property = q;
+      on = asked-is q p t of.0 h.only;
       base = base;
       entries = entries;
       cluster = λ j. cluster_at (get_or nodes (slice_index entries.items j) top);
@@ -127,11 +133,11 @@ forced-top nodes older (node.Table q base entries) p t newest sound h of =
     }
 
 pub forced : (t : Shape Leaf) (channel stream earlier root named p : ℕ) (nodes : List FlatNode) (needs : Bool) (n : FlatNode) → IsCompiled t (known_at channel stream earlier) nodes root needs named → n ≡ get_or nodes root n → (h : Tabular p t) →
-    Forced nodes n h.leaf
+    Forced nodes n p h.leaf
 forced t channel stream earlier root named p nodes needs n c at h =
     let same = same-pruned (known_at channel stream earlier) p t h.from h.to h.only in
     let of = subst (IsTableOf c.tops.node c.tops.older) same (c.tops.table (subst IsTable (sym same) h.table)) in
-    subst (λ (z : FlatNode). Forced nodes z h.leaf) (sym (top-is nodes c.tops.older root n c.tops.node c.tops.newest c.tops.place at))
+    subst (λ (z : FlatNode). Forced nodes z p h.leaf) (sym (top-is nodes c.tops.older root n c.tops.node c.tops.newest c.tops.place at))
     (forced-top nodes c.tops.older c.tops.node p t c.tops.newest c.sound h of)
 
 -- the root of one leaf is that leaf

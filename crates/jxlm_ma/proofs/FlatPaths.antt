@@ -2,7 +2,9 @@
 use Rattle.std.proofs.Common.{◌≡◌, ℕ, ℤ, ◌-◌, ◌<◌, pos, List, [], ◌∷◌, ◌++◌, Some, length, reverse, get_or, slice_index, refl, sym, ap, ◌∙◌, subst, arith}
 use Rattle.std.proofs.lemmas.Int.{ints}
 use Rattle.std.proofs.lemmas.Option.{get_or_from_slice_get, slice_get_within}
+use Rattle.std.specs.Option.{option_map}
 use Rattle.std.specs.Prelude.{slice_get, Bool}
+use Rattle.std.specs.Rc.{rc_value}
 use Rattle.jxlm_ma.specs.FlatTree.{FlatTree, HasMultiplier, flat_tree}
 use Rattle.jxlm_ma.specs.ClusterTables.{Clusters, IsTableOf, slot, table_leaf}
 use Rattle.jxlm_ma.specs.Paths.{Gives, IsLeafOf}
@@ -116,7 +118,7 @@ pub leaf-here : (t : Shape Leaf) (channel stream earlier : ℕ) (v : FlatTree) (
 leaf-here t channel stream earlier v d1 d2 e n l c is1 is2 at is same =
     subst (λ u. IsLeafOf u l) same (leaf-root t channel stream earlier e.root e.prev_channels_named e.nodes.items e.need_self_correcting n l c.tree (root-at d1 d2 e n is1 is2 at) is)
 
-pub table-here : (t : Shape Leaf) (channel stream earlier : ℕ) (v : FlatTree) (d e : CompiledTree) (l : Clusters) → IsCompiledFor t channel stream earlier e → d ≡ e → d.table ≡ Some l → flat_tree t channel stream earlier ≡ v → IsTableOf v l
+pub table-here : (t : Shape Leaf) (channel stream earlier : ℕ) (v : FlatTree) (d e : CompiledTree) (l : Clusters) → IsCompiledFor t channel stream earlier e → d ≡ e → option_map rc_value d.table ≡ Some l → flat_tree t channel stream earlier ≡ v → IsTableOf v l
 table-here t channel stream earlier v d e l c is found same =
-    let at : IsTableAt e.nodes.items e.root l = subst (TableAt e.nodes.items e.root) (sym (ap (λ (u : CompiledTree). u.table) is) ∙ found) c.table in
+    let at : IsTableAt e.nodes.items e.root l = subst (TableAt e.nodes.items e.root) (sym (ap (λ (u : CompiledTree). option_map rc_value u.table) is) ∙ found) c.table in
     subst (λ u. IsTableOf u l) same (table-root t channel stream earlier e.root e.prev_channels_named e.nodes.items e.need_self_correcting l c.tree at)

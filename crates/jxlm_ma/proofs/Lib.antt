@@ -8,6 +8,7 @@ pub mod Reading
 pub mod Shapes
 pub mod TreeStanding
 pub mod FlatWalks
+pub mod GradientTables
 pub mod FlatTables
 pub mod FlatCuts
 pub mod FlatCounts

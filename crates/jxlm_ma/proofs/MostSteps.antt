@@ -213,6 +213,10 @@ tabular p t e =
       agree = (decides-each_leaf {P = λ m. m ≡ in_cluster m.cluster (leftmost t)} (alike (leftmost t)) (decides-alike (leftmost t)) t).0 leaves.1;
     }
 
+pub tabular-leaf : (p : ℕ) (t : Shape Leaf) (e : is_tabular p t ≡ true) → (tabular p t e).leaf ≡ leftmost t
+unfolding tabular
+tabular-leaf p t e = refl
+
 -- ---- the bound
 
 some_steps : (b : Bool) (n : ℕ) → 1 ≤ cond b 1 (n + 1)

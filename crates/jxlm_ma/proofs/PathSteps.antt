@@ -1,7 +1,9 @@
 -- How many steps a sample takes on the path that is found.
 use Rattle.std.proofs.Common.{◌≡◌, ℕ, ◌+◌, ◌<◌, ◌≤◌, Some, None, false, length, get_or, refl, sym, ap, ◌∙◌, subst, arith}
 use Rattle.std.proofs.lemmas.Option.{slice_get_read}
+use Rattle.std.specs.Option.{option_map}
 use Rattle.std.specs.Prelude.{◌==◌, ◌||◌}
+use Rattle.std.specs.Rc.{rc_value}
 use Rattle.jxlm_ma.specs.FlatTree.{FlatTree, flat_tree}
 use Rattle.jxlm_ma.specs.ClusterTables.{Clusters}
 use Rattle.jxlm_ma.specs.Paths.{steps_on}
@@ -69,10 +71,10 @@ table-steps t channel stream earlier v d1 d2 e n k p c is1 is2 at never same on 
     subst (λ (u : FlatTree). steps_on p u.tree ≤ most_steps u.tree) same (steps-table t k p on (table_steps t (never-leaf t channel stream earlier e n c (root-at d1 d2 e n is1 is2 at) never)))
 
 pub tree-steps : (t : Shape Leaf) (channel stream earlier : ℕ) (v : FlatTree) (d1 d2 d3 e : CompiledTree) (n : FlatNode) → IsCompiledFor t channel stream earlier e → d1 ≡ e → d2 ≡ e → d3 ≡ e → n ≡ get_or d1.nodes.items d2.root n →
-    ((x : Leaf) → n ≡ node.Leaf x → ⊥) → d3.table ≡ None → flat_tree t channel stream earlier ≡ v → depth v.tree + 1 ≤ most_steps v.tree
+    ((x : Leaf) → n ≡ node.Leaf x → ⊥) → option_map rc_value d3.table ≡ None → flat_tree t channel stream earlier ≡ v → depth v.tree + 1 ≤ most_steps v.tree
 tree-steps t channel stream earlier v d1 d2 d3 e n c is1 is2 is3 at never none same =
     let here = root-at d1 d2 e n is1 is2 at in
-    let without : TableAt e.nodes.items e.root None = subst (TableAt e.nodes.items e.root) (sym (ap (λ (u : CompiledTree). u.table) is3) ∙ none) c.table in
+    let without : TableAt e.nodes.items e.root None = subst (TableAt e.nodes.items e.root) (sym (ap (λ (u : CompiledTree). option_map rc_value u.table) is3) ∙ none) c.table in
     let found = slice_get_read e.nodes.items (length e.nodes.items) e.root n refl c.tree.rooted here in
     subst (λ (u : FlatTree). depth u.tree + 1 ≤ most_steps u.tree) same
     (tree_steps t (λ m only. absurd (never-leaf t channel stream earlier e n c here never m only))

@@ -1,8 +1,9 @@
 -- How the samples of a channel are decoded, where that takes less than a walk of the tree.
-use Rattle.std.specs.Prelude.{◌≡◌, ℕ, ◌+◌, ℤ, pos, IsSome, None, true, false}
+use Rattle.std.specs.Prelude.{◌≡◌, ℕ, ◌+◌, ◌≤◌, ℤ, pos, IsSome, None, true, false}
 use Rattle.jxlm_base.specs.Decoding.{Meaning}
 use Rattle.jxlm_ma.specs.ClusterTables.{Clusters, IsTableOf}
 use Rattle.jxlm_ma.specs.FlatTree.{FlatTree, HasMultiplier, leaf_reached}
+use Rattle.jxlm_ma.specs.Steps.{is_tabular, leftmost, most_steps}
 use Rattle.jxlm_ma.specs.Tree.{Shape, StandsAtLeaf, depth}
 use Rattle.jxlm_ma.specs.declared.flat.Leaf.{Leaf}
 use Rattle.jxlm_ma.specs.declared.paths.Path.{Path}
@@ -32,6 +33,16 @@ IsPlainGradient l = (l.predictor ≡ predictor.Gradient) × ((l.offset ≡ pos 0
 -- a table of such leaves on property 9, which is the gradient itself
 abbrev pub IsOnGradient : Clusters → Type 0
 IsOnGradient c = (c.property ≡ 9) × IsPlainGradient c.leaf
+
+-- all samples of the tree's channel are read by such a table, in one step
+pub record IsGradientTable (t : FlatTree) (c : Clusters) : Type 0 where
+  pub table : IsTableOf t c
+  pub gradient : IsOnGradient c
+  pub step : 1 ≤ most_steps t.tree
+
+-- a tree that such a table serves
+abbrev pub TakesGradientTable : Shape Leaf → Type 0
+TakesGradientTable t = (is_tabular 9 t ≡ true) × IsPlainGradient (leftmost t)
 
 -- which path is named so, under a decoder in this state
 abbrev pub IsNamed : {D : Type 0} → Meaning D → D → Path → Type 0

@@ -108,7 +108,7 @@ pub(crate) struct CompiledTree {
     pub(crate) root: u32,
     pub(crate) need_self_correcting: bool,
     pub(crate) prev_channels_named: u32,
-    pub(crate) table: Option<ClusterTable>,
+    pub(crate) table: Option<Rc<ClusterTable>>,
     /// The last channel that it serves, if each channel after the first has one earlier channel more.
     pub(crate) last_alike: u32,
 }
@@ -254,7 +254,8 @@ impl CompiledTree {
         let prev_channels_named = nodes
             .iter()
             .fold(0, |most: u32, node| most.max(node.earlier_named()));
-        let table = ClusterTable::of(alloc, &nodes, root).map_err(|_| OutOfMemory)?;
+        let found = ClusterTable::of(alloc, &nodes, root).map_err(|_| OutOfMemory)?;
+        let table = ClusterTable::shared(alloc, found)?;
         let last_alike = last_channel(channel, channels_alike(&tree.root, &known));
         Ok(CompiledTree {
             nodes,

@@ -1,14 +1,19 @@
 //! What the samples of one channel are decoded by, where that is less than a walk of the tree.
 
-ghost use Rattle.std.specs.Prelude.{◌≡◌, ◌≤◌, ◌<◌, ◌+◌, ◌↔◌, ℕ, ℤ, length, slice_index, Contains, IfOk, IsTrue};
+ghost use Rattle.std.specs.Prelude.{◌≡◌, ◌≤◌, ◌<◌, ◌+◌, ◌↔◌, ℕ, ℤ, length, slice_index, Contains, IfErr, IfOk, IfSome, IsTrue, None};
+ghost use Rattle.std.specs.Option.{option_map};
+ghost use Rattle.std.specs.Rc.{rc_value};
 
 use crate::flat::{FlatMaTree, FlatNode, Leaf, entry_of};
 use crate::steps::Steps;
 use jxlm_base::decoder::Decoder;
+use jxlm_base::error::Error;
+use jxlm_base::grid::OutOfMemory;
 use jxlm_tree::place::{AskedProperty, PlaceProperties};
 use jxlm_tree::predictor::Predictor;
 use std::alloc::{AllocError, Global};
 use std::marker::Model;
+use std::rc::Rc;
 
 /// The leaves of a tree that agree in all but the cluster, where one property tells which of them is reached.
 #[derive(Drop)]
@@ -101,7 +106,7 @@ impl ClusterTable {
     ghost use Rattle.std.proofs.Common.{reverse};
     ghost use Rattle.jxlm_ma.specs.FlatTree.{FlatTree, HasMultiplier, PropertiesAre, leaf_reached};
     ghost use Rattle.jxlm_ma.specs.ClusterTables.{IsTableOf, table_leaf};
-    ghost use Rattle.jxlm_ma.specs.Paths.{IsNamed};
+    ghost use Rattle.jxlm_ma.specs.Paths.{IsNamed, IsOnGradient};
     ghost use Rattle.jxlm_ma.specs.Tree.{StandsAtLeaf};
     ghost use Rattle.jxlm_ma.specs.Inner.FlatNodes.{IsSound};
     ghost use Rattle.jxlm_ma.specs.Inner.Tables.{AreClusters, IsPathOfTable, TableAt};
@@ -158,6 +163,26 @@ impl ClusterTable {
         }))
     }
 
+    // The table in memory that is shared.
+    pub(crate) fn shared(
+        alloc: Global,
+        table: Option<ClusterTable>,
+    ) -> Result<Option<Rc<ClusterTable>>, OutOfMemory>
+        ensures { IfOk result (λ o. option_map rc_value o ≡ table) }
+    {
+        match table {
+            Some(table) => Ok(Some(Rc::new(alloc, table).map_err(|_| OutOfMemory)?)),
+            None => Ok(None),
+        }
+    }
+
+    // Whether it is on property 9, with leaves that predict by the gradient and add nothing more.
+    fn is_on_gradient(&self) -> bool
+        ensures { IsTrue result ↔ IsOnGradient self.now }
+    {
+        self.property.number() == 9 && self.leaf.is_plain_gradient()
+    }
+
     /// The property that tells which leaf is reached.
     pub fn property(&self) -> u32
         ensures { result ≡ self.now.property }
@@ -204,7 +229,7 @@ impl ClusterTable {
         ensures table { IsPathOfTable self.now result }
         ensures named { IsNamed D.meaning _decoder.now result }
     {
-        if self.property.number() == 9 && self.leaf.is_plain_gradient() {
+        if self.is_on_gradient() {
             Path::GradientClusters(self)
         } else {
             Path::Clusters(self)
@@ -214,8 +239,30 @@ impl ClusterTable {
 
 impl FlatMaTree {
     ghost use Rattle.jxlm_ma.specs.FlatTree.{ClustersStandIn};
-    ghost use Rattle.jxlm_ma.specs.Paths.{Gives, IsNamed, steps_on};
+    ghost use Rattle.jxlm_base.specs.ErrorKind.{NoMemory, kind_of};
+    ghost use Rattle.jxlm_ma.specs.Paths.{Gives, IsGradientTable, IsNamed, TakesGradientTable, steps_on};
     ghost use Rattle.jxlm_ma.specs.Steps.{most_steps};
+
+    /// The table that all samples of the channel are decoded by, where it is one on property 9 whose leaves predict by
+    /// `Gradient`, with offset 0 and multiplier 1. The tree shares it.
+    ///
+    /// # Errors
+    ///
+    /// `Buffer` if it is out of memory, and no other.
+    pub fn gradient_table(&self) -> Result<Option<Rc<ClusterTable>>, Error>
+        ensures some { IfOk result (λ o. IfSome o (λ c. IsGradientTable self.now c.value)) }
+        ensures none { IfOk result (λ o. o ≡ None → TakesGradientTable self.now.tree → ⊥) }
+        ensures err { IfErr result (λ e. kind_of e ≡ NoMemory) }
+    {
+        let Some(table) = &self.compiled.table else {
+            return Ok(None);
+        };
+        if !table.is_on_gradient() {
+            return Ok(None);
+        }
+        let shared = table.clone().map_err(|_| OutOfMemory)?;
+        Ok(Some(shared))
+    }
 
     /// How the samples of the channel are decoded: by one leaf or by a table where that gives what `leaf` gives.
     ///

@@ -90,7 +90,7 @@ module _ {D : Type 0} (c : PartCoding D) (coding : IsCodingOf c) (i : ℕ) (li :
   any_tree : ChannelTree
   any_tree = record { flat = flat c.config.now.tree c.stream_index i; weighted = true; asked = 0; alone = None }
 
-  -- the leaf that it is read by alone
+  -- what it is read by alone
   pub alone_is : (other : ChannelTree) → alone_at c i ≡ (slice_index_or c.flats.now i other).alone
   alone_is other =
       let n = coding.flats.count_is in

@@ -11,14 +11,14 @@ use Rattle.jxlm_base.specs.declared.subgrid.Region.{Region}
 use Rattle.jxlm_tree.specs.Standing.{HasSameRoom, Setting, Stands, StandsAt, earlier_count, earlier_room_of, setting}
 use Rattle.jxlm_ma.specs.FlatTree.{FlatTree, flat_tree}
 use Rattle.jxlm_ma.specs.Tree.{Shape}
-use Rattle.jxlm_ma.specs.declared.flat.Leaf.{Leaf}
 use Rattle.jxlm_tree.specs.declared.predictor.WpHeader.{WpHeader}
 use Rattle.jxlm_tree.specs.declared.state.PredictorState.{PredictorState}
 use Rattle.jxlm_tree.proofs.StandingLaws.{stands_earlier}
 use Rattle.jxlm_transform.specs.Channels.{Channel, IsNarrow}
 use Rattle.jxlm_part.specs.Part.{channel, no_channel, downward, earlier_alike, is_alike}
-use Rattle.jxlm_part.specs.Reading.{HasFlats, HasRoom, HasRoomFor, IsCodingOf, IsLoneLeaf, IsRoomy, IsRoomyFor, IsTreeOf, alone_at, alone_in, flat, part_of, regions_of, row_width, sampled_width, state_width, tree_of, walked_width, width_in_state}
+use Rattle.jxlm_part.specs.Reading.{HasFlats, HasRoom, HasRoomFor, IsCodingOf, IsRoomy, IsRoomyFor, IsTreeOf, LeadsAlone, alone_at, alone_in, flat, part_of, regions_of, row_width, sampled_width, state_width, tree_of, walked_width, width_in_state}
 use Rattle.jxlm_part.specs.Inner.Channels.{IsAfterChannel, StandsIn, all_alike, asked_at, earlier_regions, handed, region_at, setting_of, weights_at}
+use Rattle.jxlm_part.specs.declared.coding.Alone.{Alone}
 use Rattle.jxlm_part.specs.declared.coding.ChannelTree.{ChannelTree}
 use Rattle.jxlm_part.specs.declared.coding.PartCoding.{PartCoding}
 use Rattle.jxlm_part.specs.declared.coding.PartState.{PartState}
@@ -61,18 +61,18 @@ narrow_widest (c ∷ cs) h =
 
 -- ---- channels that are read in the predictors' state
 
-none_by : (o : Option Leaf) → is_some o ≡ false → o ≡ None
+none_by : (o : Option Alone) → is_some o ≡ false → o ≡ None
 none_by None is = refl
-none_by (Some l) is = cc
+none_by (Some a) is = cc
 
 whole_width : (none : Bool) (width : ℕ) → none ≡ false → width ≤ (if none then 0 else width)
 whole_width true width some = cc
 whole_width false width some = omega arith
 
 -- one that is, and has rows, takes its width
-takes_width : (alone : Option Leaf) (c : Channel) → alone ≡ None → 0 < c.height → c.width ≤ width_in_state alone c
+takes_width : (alone : Option Alone) (c : Channel) → alone ≡ None → 0 < c.height → c.width ≤ width_in_state alone c
 takes_width None c walked some = whole_width (c.height == 0) c.width (grind (arith, nat_tests))
-takes_width (Some l) c walked some = cc
+takes_width (Some a) c walked some = cc
 
 -- no such channel is wider than the widest of them
 pub within_walked : (channels : List Channel) (flats : List ChannelTree) (n i : ℕ) → i < n → alone_in flats i ≡ None → 0 < (channel channels i).height → (channel channels i).width ≤ walked_width channels flats n
@@ -87,7 +87,7 @@ within_walked channels flats (suc n) i l walked some = either (cases_lt i n) (λ
       omega (arith, h, same)
 
 -- they are channels with rows
-width_within : (alone : Option Leaf) (channels : List Channel) (i : ℕ) → i < length channels → width_in_state alone (channel channels i) ≤ sampled_width channels
+width_within : (alone : Option Alone) (channels : List Channel) (i : ℕ) → i < length channels → width_in_state alone (channel channels i) ≤ sampled_width channels
 width_within alone [] i l = absurd (omega arith)
 width_within (Some k) (c ∷ cs) i l = omega arith
 width_within None (c ∷ cs) zero l = max_first (if c.height == 0 then 0 else c.width) (sampled_width cs)
@@ -211,12 +211,12 @@ pub is_later : {D : Type 0} (c : PartCoding D) (coding : IsCodingOf c) (i : ℕ)
 is_later c coding i li other some = let n = (tree_at c coding i li other).few in omega (arith, n, some)
 
 module _ {D : Type 0} (c : PartCoding D) (coding : IsCodingOf c) (i : ℕ) (li : i < length (regions_of c)) (other : ChannelTree) where
-  -- a channel that is read by a leaf alone is not read in the state
-  pub lone_at : (l : Leaf) → (slice_index_or c.flats.now i other).alone ≡ Some l → IsLoneLeaf (tree_of c i) l
-  lone_at l is = subst (λ o. IfSome o (IsLoneLeaf (tree_of c i))) is (tree_at c coding i li other).alone
+  -- a channel that is read by a leaf or a table alone is not read in the state
+  pub lone_at : (a : Alone) → (slice_index_or c.flats.now i other).alone ≡ Some a → LeadsAlone (tree_of c i) a
+  lone_at a is = subst (λ o. IfSome o (LeadsAlone (tree_of c i))) is (tree_at c coding i li other).alone
 
-  pub not_walked : (l : Leaf) → (slice_index_or c.flats.now i other).alone ≡ Some l → alone_at c i ≡ None → ⊥
-  not_walked l is none = let a = alone_is c coding i li other in cc
+  pub not_walked : (a : Alone) → (slice_index_or c.flats.now i other).alone ≡ Some a → alone_at c i ≡ None → ⊥
+  not_walked a is none = let same = alone_is c coding i li other in cc
 
   -- one that is not, is
   pub walked_at : is_some (slice_index_or c.flats.now i other).alone ≡ false → alone_at c i ≡ None

@@ -4,7 +4,7 @@ use Rattle.std.specs.List.{All, list_any}
 use Rattle.std.specs.Option.{option_map_or}
 use Rattle.jxlm_base.specs.declared.subgrid.Region.{Region}
 use Rattle.jxlm_ma.specs.FlatTree.{FlatTree, ClustersStandIn, GoesWithoutWeights, ReadsEarlierBelow}
-use Rattle.jxlm_ma.specs.Paths.{IsLeafOf, IsPlainGradient}
+use Rattle.jxlm_ma.specs.Paths.{IsGradientTable, IsLeafOf, IsPlainGradient}
 use Rattle.jxlm_tree.specs.SelfCorrecting.{IsHeader}
 use Rattle.jxlm_tree.specs.Standing.{room_of, earlier_room_of, weights_of}
 use Rattle.jxlm_ma.specs.Steps.{most_steps}
@@ -15,6 +15,8 @@ use Rattle.jxlm_tree.specs.declared.predictor.WpHeader.{WpHeader}
 use Rattle.jxlm_tree.specs.declared.state.PredictorState.{PredictorState}
 use Rattle.jxlm_transform.specs.Channels.{AreRegionsOf, Channel, IsNarrow}
 use Rattle.jxlm_part.specs.Part.{Part, channel, max_width}
+use Rattle.jxlm_part.specs.declared.coding.Alone.{Alone}
+use Rattle.jxlm_part.specs.declared.coding.Alone.TheVariants as alone
 use Rattle.jxlm_part.specs.declared.coding.ChannelTree.{ChannelTree}
 use Rattle.jxlm_part.specs.declared.coding.PartCoding.{PartCoding}
 use Rattle.jxlm_part.specs.declared.coding.PartState.{PartState}
@@ -27,23 +29,24 @@ flat t stream i = record { tree = t; channel = i; stream_idx = stream; prev_chan
 abbrev pub ReadsAlone : Leaf → Type 0
 ReadsAlone l = (l.predictor ≡ predictor.Zero) ⊎ IsPlainGradient l
 
--- every walk of the tree leads to this leaf, and its rows need no state of the predictors
-abbrev pub IsLoneLeaf : FlatTree → Leaf → Type 0
-IsLoneLeaf t l = IsLeafOf t l × ReadsAlone l
+-- every walk of the tree leads to this leaf, or where this table says, and its rows need no state of the predictors
+abbrev pub LeadsAlone : FlatTree → Alone → Type 0
+LeadsAlone t (alone.Leaf l) = IsLeafOf t l × ReadsAlone l
+LeadsAlone t (alone.Table c) = IsGradientTable t c.value
 
 -- the tree is one such leaf
 abbrev pub IsLone : Shape Leaf → Type 0
 IsLone (leaf l) = ReadsAlone l
 IsLone (decision k value left right) = ⊥
 
--- It is this flat tree, and asks for no more than it says. The leaf that it is read by alone, where there is one, is its
--- only leaf; there is one where the tree has only such a leaf.
+-- It is this flat tree, and asks for no more than it says. What its rows are read by alone, where there is that, gives
+-- its leaves; there is that where the tree has only such a leaf.
 pub record IsTreeOf (t : FlatTree) (c : ChannelTree) : Type 0 where
   pub flat_is : c.flat ≡ t
   pub without : c.weighted ≡ false → GoesWithoutWeights t
   pub below : ReadsEarlierBelow t c.asked
   pub few : c.asked ≤ t.prev_channels
-  pub alone : IfSome c.alone (IsLoneLeaf t)
+  pub alone : IfSome c.alone (LeadsAlone t)
   pub walked : c.alone ≡ None → IsLone t.tree → ⊥
 
 -- There are `count` flat trees, each of this tree for its channel.
@@ -60,14 +63,14 @@ abbrev pub sampled_width : List Channel → ℕ
 sampled_width [] = 0
 sampled_width (c ∷ channels) = max (if c.height == 0 then 0 else c.width) (sampled_width channels)
 
--- the width of a channel's rows where they are read in the predictors' state: 0 where they are read by a leaf alone,
--- and where there are none
-abbrev pub width_in_state : Option Leaf → Channel → ℕ
+-- the width of a channel's rows where they are read in the predictors' state: 0 where they are read by a leaf or a table
+-- alone, and where there are none
+abbrev pub width_in_state : Option Alone → Channel → ℕ
 width_in_state None c = if c.height == 0 then 0 else c.width
-width_in_state (Some l) c = 0
+width_in_state (Some a) c = 0
 
--- the leaf that channel i is read by alone, if there is one
-abbrev pub alone_in : List ChannelTree → ℕ → Option Leaf
+-- what channel i is read by alone, if there is that
+abbrev pub alone_in : List ChannelTree → ℕ → Option Alone
 alone_in flats i = option_map_or (λ (t : ChannelTree). t.alone) (slice_get flats i) None
 
 -- the maximum of it, of the first channels
@@ -108,8 +111,8 @@ module _ {D : Type 0} where
   abbrev pub row_width : PartCoding D → ℕ
   row_width c = sampled_width (part_of c).channels
 
-  -- the leaf that channel i is read by alone, if there is one
-  abbrev pub alone_at : PartCoding D → ℕ → Option Leaf
+  -- what channel i is read by alone, if there is that
+  abbrev pub alone_at : PartCoding D → ℕ → Option Alone
   alone_at c i = alone_in c.flats.now i
 
   -- the maximum width of a row that is read in the predictors' state

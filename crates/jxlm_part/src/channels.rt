@@ -34,8 +34,8 @@ pub fn sampled_width(channels: &[ModularChannelInfo]) -> u32
     widest
 }
 
-/// The width of a channel's rows where they are read in the state of the predictors; 0 where they are read by a leaf
-/// alone, or there are none.
+/// The width of a channel's rows where they are read in the state of the predictors; 0 where they are read by a leaf or
+/// a table alone, or there are none.
 fn width_in_state(channel: &ModularChannelInfo, tree: &ChannelTree) -> u32
     ensures { result ≡ the_width_in_state tree.now.alone channel.now }
 {

@@ -6,7 +6,7 @@ ghost use Rattle.jxlm_base.specs.Grid.{Grid};
 ghost use Rattle.jxlm_tree.specs.SelfCorrecting.{IsHeader};
 ghost use Rattle.jxlm_part.specs.Part.{is_alike as alike};
 ghost use Rattle.jxlm_tree.specs.Standing.{Setting, StandsAt, earlier_count, setting};
-ghost use Rattle.jxlm_part.specs.Reading.{HasFlats, HasRoom, IsCodingOf, IsLone, IsLoneLeaf, IsRoomyFor, IsTreeOf, ReadsAlone, alone_at, flat, regions_of};
+ghost use Rattle.jxlm_part.specs.Reading.{HasFlats, HasRoom, IsCodingOf, IsLone, IsRoomyFor, IsTreeOf, LeadsAlone, ReadsAlone, alone_at, flat, regions_of};
 ghost use Rattle.jxlm_part.specs.Inner.Channels.{IsAfterChannel, StandsAfter, all_alike, region_at};
 
 use jxlm_base::decoder::Decoder;
@@ -15,9 +15,11 @@ use jxlm_base::grid::{OutOfMemory, Region};
 use jxlm_base::sample::{Sample, Sealed};
 use jxlm_ma::flat::{FlatMaTree, Leaf};
 use jxlm_ma::ma::MaConfig;
+use jxlm_ma::paths::ClusterTable;
 use jxlm_transform::channels::ModularChannelInfo;
 use jxlm_tree::predictor::{Predictor, PredictorState, WpHeader};
 use std::alloc::Global;
+use std::rc::Rc;
 
 /// The tree as one channel walks it, and what it may ask for.
 #[derive(Drop)]
@@ -28,8 +30,17 @@ pub struct ChannelTree {
     pub weighted: bool,
     /// How many of the earlier channels it may ask for, the nearest first.
     pub asked: usize,
-    /// Its only leaf, where rows are read by that alone, without the state of the predictors.
-    pub alone: Option<Leaf>,
+    /// What rows are read by without the state of the predictors, where that can be.
+    pub alone: Option<Alone>,
+}
+
+/// What rows of a channel are read by without the state of the predictors.
+#[derive(Drop)]
+pub enum Alone {
+    /// Its only leaf, which predicts by `Zero`, or by `Gradient` with nothing more to add.
+    Leaf(Leaf),
+    /// The table of its leaves, on property 9, which predict by such a `Gradient`.
+    Table(Rc<ClusterTable>),
 }
 
 /// Everything the samples of a part are decoded with.
@@ -144,28 +155,44 @@ fn reads_alone(leaf: Leaf) -> bool
         || (leaf.predictor == Predictor::Gradient && leaf.offset == 0 && leaf.multiplier == 1)
 }
 
-/// The only leaf of a tree, where rows need no state of the predictors.
-fn lone_leaf(flat: &FlatMaTree) -> Option<Leaf>
-    ensures some { IfSome result (IsLoneLeaf flat.now) }
-    ensures none { result ≡ None → IsLone flat.now.tree → ⊥ }
+/// The leaf or the table that rows of a channel are read by without the state of the predictors, where there is one.
+///
+/// # Errors
+///
+/// `Buffer` if it is out of memory, and no other.
+fn read_alone(flat: &FlatMaTree) -> Result<Option<Alone>>
+    ensures some { IfOk result (λ o. IfSome o (LeadsAlone flat.now)) }
+    ensures none { IfOk result (λ o. o ≡ None → IsLone flat.now.tree → ⊥) }
+    ensures err { IfErr result (λ e. kind_of e ≡ NoMemory) }
 {
-    let leaf = flat.only_leaf()?;
-    if reads_alone(leaf) { Some(leaf) } else { None }
+    match flat.only_leaf() {
+        Some(leaf) if reads_alone(leaf) => Ok(Some(Alone::Leaf(leaf))),
+        Some(_) => Ok(None),
+        None => match flat.gradient_table()? {
+            Some(table) => Ok(Some(Alone::Table(table))),
+            None => Ok(None),
+        },
+    }
 }
 
 /// The tree as a channel walks it, with what it may ask for.
-fn channel_tree(flat: FlatMaTree) -> ChannelTree
-    ensures { IsTreeOf flat result }
+///
+/// # Errors
+///
+/// `Buffer` if it is out of memory, and no other.
+fn channel_tree(flat: FlatMaTree) -> Result<ChannelTree>
+    ensures ok { IfOk result (IsTreeOf flat) }
+    ensures err { IfErr result (λ e. kind_of e ≡ NoMemory) }
 {
     let weighted = flat.need_self_correcting();
     let asked = flat.max_prev_channel_depth();
-    let alone = lone_leaf(&flat);
-    ChannelTree {
+    let alone = read_alone(&flat)?;
+    Ok(ChannelTree {
         flat,
         weighted,
         asked,
         alone,
-    }
+    })
 }
 
 /// The tree as a channel walks it, after those of the channels before it. It shares the nodes of the last of these,
@@ -212,7 +239,7 @@ pub fn flat_trees<D: Decoder>(
     let mut flats = Vec::new(alloc);
     for channel in 0..channels {
         let flat = next_flat(alloc, config, stream_index, channel, &flats)?;
-        let tree = channel_tree(flat);
+        let tree = channel_tree(flat)?;
         flats.push(tree).map_err(|_| OutOfMemory)?;
     }
     Ok(flats)

@@ -3,16 +3,15 @@
 ghost use Rattle.std.specs.Prelude.{◌≡◌, ◌+◌, ◌<◌, ◌≤◌, OnOk, false, length};
 ghost use Rattle.jxlm_part.specs.Part.{cells_before, cell_count};
 ghost use Rattle.jxlm_ma.specs.FlatTree.{FlatTree};
-ghost use Rattle.jxlm_ma.specs.Paths.{Gives, IsLeafOf, steps_on};
 ghost use Rattle.jxlm_part.specs.Inner.Channels.{IsAfterChannel, region_at};
 ghost use Rattle.jxlm_part.specs.Inner.Levels.{CanBegin, HasRooms, IsAtChannel, IsAtRow, IsOnPath};
-ghost use Rattle.jxlm_part.specs.Inner.Paths.{Allows, is_walked};
+ghost use Rattle.jxlm_part.specs.Inner.Paths.{IsLonePath};
 ghost use Rattle.jxlm_part.specs.Inner.Progress.{PartGives, WalkGives, moment, place_of};
 ghost use Rattle.jxlm_part.specs.Inner.Rows.{IsDecodingPart, RowGives, region_on};
-ghost use Rattle.jxlm_part.specs.Reading.{FindsClusters, HasRoom, IsCodingOf, ReadsAlone, part_of, regions_of, row_width};
+ghost use Rattle.jxlm_part.specs.Reading.{FindsClusters, HasRoom, IsCodingOf, LeadsAlone, part_of, regions_of, row_width};
 
 use crate::cell::read_by_cells;
-use crate::coding::{PartCoding, start_channel};
+use crate::coding::{Alone, PartCoding, start_channel};
 use crate::gradient::{Leaves, read_gradients};
 use crate::rows::{Line, RowError, write_read};
 use crate::source::Walk;
@@ -20,7 +19,6 @@ use crate::zeros::read_zeros;
 use jxlm_base::decoder::{Decoder, DecoderError};
 use jxlm_base::grid::AlignedGrid;
 use jxlm_base::sample::Sample;
-use jxlm_ma::flat::Leaf;
 use jxlm_ma::paths::Path;
 use jxlm_tree::predictor::{Predictor, PredictorState};
 
@@ -107,17 +105,14 @@ fn decode_rows<'x, S: Sample, D: Decoder>(
     Ok(())
 }
 
-/// How the rows of a channel are read by its only leaf alone.
-fn lone_path<'x>(leaf: Leaf) -> Path<'x>
-    requires { ReadsAlone leaf }
-    ensures gives { (t : FlatTree) → IsLeafOf t leaf → Gives t result × (steps_on result t.tree ≡ 0) }
-    ensures allows { Allows result }
-    ensures needs { is_walked result ≡ false }
+/// How the rows of a channel are read by a leaf or a table alone.
+fn lone_path(alone: &Alone) -> Path<'_>
+    ensures { (t : FlatTree) → LeadsAlone t alone.now → IsLonePath t result }
 {
-    if leaf.predictor == Predictor::Zero {
-        Path::Zero(leaf)
-    } else {
-        Path::Gradient(leaf)
+    match alone {
+        Alone::Leaf(leaf) if leaf.predictor == Predictor::Zero => Path::Zero(*leaf),
+        Alone::Leaf(leaf) => Path::Gradient(*leaf),
+        Alone::Table(table) => Path::GradientClusters(table),
     }
 }
 
@@ -138,9 +133,8 @@ fn begin_channel<'x, S: Sample, D: Decoder>(
     requires last { IsAfterChannel coding.now i state.old }
     ensures { CanBegin coding.now S.to_int i result state.new }
 {
-    let alone = coding.flats[i].alone;
-    if let Some(leaf) = alone {
-        return lone_path(leaf);
+    if let Some(alone) = &coding.flats[i].alone {
+        return lone_path(alone);
     }
     start_channel(state, coding, i);
     coding.flats[i].flat.path_of(decoder)

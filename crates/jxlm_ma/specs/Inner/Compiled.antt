@@ -2,6 +2,8 @@
 use Rattle.std.specs.Prelude.{◌≡◌, ℕ, ◌+◌, ◌<◌, ◌≤◌, ◌^◌, pos, Bool, false, List, [], length}
 use Rattle.std.specs.Int.{w32, int_wrap}
 use Rattle.std.specs.List.{list_any}
+use Rattle.std.specs.Option.{option_map}
+use Rattle.std.specs.Rc.{rc_value}
 use Rattle.std.proofs.Common.{reverse}
 use Rattle.jxlm_ma.specs.CompiledNodes.{takes}
 use Rattle.jxlm_ma.specs.FlatTree.{HasMultiplier}
@@ -49,7 +51,7 @@ EndsAlike t channel stream earlier last =
 -- the tree is compiled for this channel of this stream, with so many earlier channels, and its table is that of the root
 pub record IsCompiledFor (t : Shape Leaf) (channel stream earlier : ℕ) (c : CompiledTree) : Type 0 where
   pub tree : IsCompiled t (known_at channel stream earlier) c.nodes.items c.root c.need_self_correcting c.prev_channels_named
-  pub table : TableAt c.nodes.items c.root c.table
+  pub table : TableAt c.nodes.items c.root (option_map rc_value c.table)
   pub alike : IsLeftAlike t channel stream earlier c.last_alike
   pub ends : EndsAlike t channel stream earlier c.last_alike
   pub reaches : channel < 2 ^ 31 → channel ≤ c.last_alike

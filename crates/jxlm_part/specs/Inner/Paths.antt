@@ -1,12 +1,13 @@
 -- How the rows of a channel are read, and the cells of a row.
-use Rattle.std.specs.Prelude.{◌≡◌, ℕ, zero, suc, ◌+◌, ℤ, pos, ◌+ℤ◌, ◌-ℤ◌, FitsSigned, List, [], length, get_or, Bool, true, false, Contains}
+use Rattle.std.specs.Prelude.{◌≡◌, ℕ, zero, suc, ◌+◌, ◌≤◌, ℤ, pos, ◌+ℤ◌, ◌-ℤ◌, FitsSigned, List, [], length, get_or, Bool, true, false, Contains}
 use Rattle.std.specs.Int.{Width, w32, int_wrap}
 use Rattle.jxlm_base.specs.Decoding.{Meaning}
 use Rattle.jxlm_base.specs.Grid.{Grid, row as grid_row}
 use Rattle.jxlm_base.specs.Numbers.{clamped_gradient}
 use Rattle.jxlm_ma.specs.ClusterTables.{IsTableOf, table_leaf}
 use Rattle.jxlm_ma.specs.FlatTree.{FlatTree}
-use Rattle.jxlm_ma.specs.Paths.{IsLeafOf, IsOnGradient, IsPlainGradient}
+use Rattle.jxlm_ma.specs.Paths.{Gives, IsLeafOf, IsOnGradient, IsPlainGradient, steps_on}
+use Rattle.jxlm_ma.specs.Steps.{most_steps}
 use Rattle.jxlm_ma.specs.Tree.{Shape, depth}
 use Rattle.jxlm_ma.specs.declared.flat.Leaf.{Leaf}
 use Rattle.jxlm_ma.specs.declared.paths.Path.{Path}
@@ -36,6 +37,13 @@ is_walked (path.Runs l) = false
 is_walked (path.Clusters c) = true
 is_walked (path.GradientClusters c) = false
 is_walked path.Tree = true
+
+-- a path that gives what the tree's walks give, in no more steps, and needs no state of the predictors
+pub record IsLonePath (t : FlatTree) (p : Path) : Type 0 where
+  pub gives : Gives t p
+  pub allows : Allows p
+  pub steps : steps_on p t.tree ≤ most_steps t.tree
+  pub alone : is_walked p ≡ false
 
 -- the steps of a cell that is read so: by a table, or by the walk of the tree
 abbrev pub steps_walked : Path → Shape Leaf → ℕ

@@ -1,4 +1,4 @@
-use Rattle.std.proofs.Common.{rules, to_z, of_z, tests, ◌≡◌, w32, ap, ◌∙◌, arith, SFits, true, Result, Ok, Err, MatchResult, is_ok, List, subst}
+use Rattle.std.proofs.Common.{rules, to_z, of_z, tests, ◌≡◌, w32, ap, sym, ◌∙◌, arith, SFits, true, Result, Ok, Err, MatchResult, is_ok, List, subst}
 use Rattle.std.specs.List.{list_any}
 use Rattle.std.proofs.lemmas.Int.{to_z-of_z}
 use Rattle.std.proofs.lemmas.Grind.{common_steps}
@@ -39,11 +39,12 @@ returns-clause-compiled c =
     let kept : c.compile.result ≡ Ok c.in_ok-root.root = came_through c.compile.result c.map_err-2.result _ _ c.map_err-2.ensures.cases c.map_err-2.ensures.variant c.in_ok-root.was in
     let compiles = compiles-as _ _ _ _ _ same (ok_at _ _ _ kept c.compile.ensures) in
     let made = made_of (shape_of c.args.tree.now.root) _ _ _ _ c.args.prev_channels _ c.compile.new.nodes.items _ c.new-nodes.ensures.items (to_z-of_z w32 c.read_as_signed.result channel_fits ∙ c.read_as_signed.ensures) (to_z-of_z w32 c.read_as_signed-2.result stream_fits ∙ c.read_as_signed-2.ensures) compiles in
-    let found : c.of.result ≡ Ok c.in_ok-table.table = came_through c.of.result c.map_err-3.result _ _ c.map_err-3.ensures.cases c.map_err-3.ensures.variant c.in_ok-table.was in
+    let found : c.of.result ≡ Ok c.in_ok-found.found = came_through c.of.result c.map_err-3.result _ _ c.map_err-3.ensures.cases c.map_err-3.ensures.variant c.in_ok-found.was in
     let last = c.last_channel-last_alike.ensures in
     record {
       tree = is_compiled _ _ c.compile.new.nodes.items _ _ _ c.requires.multipliers made (needs ∙ ap (list_any sees_error) c.deref.ensures.value) named;
-      table = subst (λ (ns : List FlatNode). TableAt ns c.in_ok-root.root c.in_ok-table.table) c.deref-3.ensures.value (ok_at _ _ _ found c.of.ensures);
+      table = subst (TableAt c.compile.new.nodes.items c.in_ok-root.root) (sym c.in_ok-table.ensures)
+          (subst (λ (ns : List FlatNode). TableAt ns c.in_ok-root.root c.in_ok-found.found) c.deref-3.ensures.value (ok_at _ _ _ found c.of.ensures));
       alike = alike-up-to (shape_of c.args.tree.now.root) c.args.channel c.args.stream_idx c.args.prev_channels c.channels_alike.result _ _ _
           (to_z-of_z w32 c.read_as_signed.result channel_fits ∙ c.read_as_signed.ensures) (to_z-of_z w32 c.read_as_signed-2.result stream_fits ∙ c.read_as_signed-2.ensures)
           c.channels_alike.ensures.same last.within last.signed;

@@ -1,4 +1,8 @@
+use Rattle.std.proofs.Common.{ap, subst}
+use Rattle.std.specs.Option.{option_map}
 use Rattle.std.specs.Prelude.{Contains}
+use Rattle.std.specs.Rc.{rc_value}
+use Rattle.jxlm_ma.specs.Inner.Tables.{IsPathOfTable}
 use Rattle.jxlm_ma.specs.Inner.TreeShape.{shape_of}
 use Rattle.jxlm_ma.specs.declared.flat.Leaf.{Leaf}
 use Rattle.jxlm_ma.proofs.FlatPaths.{gives-leaf, gives-table, leaf-here, table-here}
@@ -26,11 +30,12 @@ returns-in-Leaf-clause-steps g c =
 pub returns-in-Some : goal.returns-in-Some
 returns-in-Some g c =
     let t = c.self.inside in
-    let of = table-here (shape_of t.tree.value.root) t.channel t.stream_idx t.prev_channels c.args.self.now c.deref-3.result.now t.compiled.value c.in-Some.table c.self.invariant c.deref-3.ensures c.in-Some.is c.self.view_is in
+    let of = table-here (shape_of t.tree.value.root) t.channel t.stream_idx t.prev_channels c.args.self.now c.deref-3.result.now t.compiled.value c.in-Some.table.value c.self.invariant c.deref-3.ensures (ap (option_map rc_value) c.in-Some.is) c.self.view_is in
+    let on = subst (λ k. IsPathOfTable k c.path-in-Some.result) c.deref-in-Some.ensures c.path-in-Some.ensures.table in
     record {
-      gives = gives-table c.args.self.now c.in-Some.table c.path-in-Some.result c.path-in-Some.ensures.table of;
+      gives = gives-table c.args.self.now c.in-Some.table.value c.path-in-Some.result on of;
       named = c.path-in-Some.ensures.named;
-      steps = table-steps (shape_of t.tree.value.root) t.channel t.stream_idx t.prev_channels c.args.self.now c.deref.result.now c.deref-2.result.now t.compiled.value c.index.result.now c.in-Some.table c.path-in-Some.result c.self.invariant c.deref.ensures c.deref-2.ensures c.index.ensures c.in_default.not-Leaf c.self.view_is c.path-in-Some.ensures.table;
+      steps = table-steps (shape_of t.tree.value.root) t.channel t.stream_idx t.prev_channels c.args.self.now c.deref.result.now c.deref-2.result.now t.compiled.value c.index.result.now c.in-Some.table.value c.path-in-Some.result c.self.invariant c.deref.ensures c.deref-2.ensures c.index.ensures c.in_default.not-Leaf c.self.view_is on;
     }
 
 pub returns-in-None : goal.returns-in-None
@@ -39,5 +44,5 @@ returns-in-None g c =
     record {
       gives = tt;
       named = tt;
-      steps = tree-steps (shape_of t.tree.value.root) t.channel t.stream_idx t.prev_channels c.args.self.now c.deref.result.now c.deref-2.result.now c.deref-3.result.now t.compiled.value c.index.result.now c.self.invariant c.deref.ensures c.deref-2.ensures c.deref-3.ensures c.index.ensures c.in_default.not-Leaf c.in-None.is c.self.view_is;
+      steps = tree-steps (shape_of t.tree.value.root) t.channel t.stream_idx t.prev_channels c.args.self.now c.deref.result.now c.deref-2.result.now c.deref-3.result.now t.compiled.value c.index.result.now c.self.invariant c.deref.ensures c.deref-2.ensures c.deref-3.ensures c.index.ensures c.in_default.not-Leaf (ap (option_map rc_value) c.in-None.is) c.self.view_is;
     }
