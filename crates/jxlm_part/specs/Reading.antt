@@ -4,7 +4,7 @@ use Rattle.std.specs.List.{All, list_any}
 use Rattle.std.specs.Option.{option_map_or}
 use Rattle.jxlm_base.specs.declared.subgrid.Region.{Region}
 use Rattle.jxlm_ma.specs.FlatTree.{FlatTree, ClustersStandIn, GoesWithoutWeights, ReadsEarlierBelow}
-use Rattle.jxlm_ma.specs.Paths.{IsGradientTable, IsLeafOf, IsPlainGradient}
+use Rattle.jxlm_ma.specs.Paths.{IsGradientTable, IsLeafOf, IsPlainGradient, TakesGradientTable}
 use Rattle.jxlm_tree.specs.SelfCorrecting.{IsHeader}
 use Rattle.jxlm_tree.specs.Standing.{room_of, earlier_room_of, weights_of}
 use Rattle.jxlm_ma.specs.Steps.{most_steps}
@@ -34,13 +34,13 @@ abbrev pub LeadsAlone : FlatTree → Alone → Type 0
 LeadsAlone t (alone.Leaf l) = IsLeafOf t l × ReadsAlone l
 LeadsAlone t (alone.Table c) = IsGradientTable t c.value
 
--- the tree is one such leaf
+-- the tree is one such leaf, or one that such a table serves
 abbrev pub IsLone : Shape Leaf → Type 0
 IsLone (leaf l) = ReadsAlone l
-IsLone (decision k value left right) = ⊥
+IsLone (decision k value left right) = TakesGradientTable (decision k value left right)
 
 -- It is this flat tree, and asks for no more than it says. What its rows are read by alone, where there is that, gives
--- its leaves; there is that where the tree has only such a leaf.
+-- its leaves; there is that where the tree is one such leaf, or one that such a table serves.
 pub record IsTreeOf (t : FlatTree) (c : ChannelTree) : Type 0 where
   pub flat_is : c.flat ≡ t
   pub without : c.weighted ≡ false → GoesWithoutWeights t

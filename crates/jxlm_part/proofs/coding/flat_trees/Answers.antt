@@ -11,9 +11,9 @@ loop-channel-init g c =
 
 pub loop-channel-preserved : goal.loop-channel-preserved
 loop-channel-preserved g c =
-    let pushed : c.push.new.self.items ≡ c.loop-channel.flats.items ++ c.channel_tree-tree.result ∷ [] = search rules in
+    let pushed : c.push.new.self.items ≡ c.loop-channel.flats.items ++ c.in_ok-tree.tree ∷ [] = search rules in
     subst (HasFlats c.args.config.now.tree c.args.stream_index (c.loop-channel.channel + 1)) (sym pushed)
-    (flats_more c.args.config.now.tree c.args.stream_index c.loop-channel.channel c.loop-channel.flats.items c.channel_tree-tree.result c.loop-channel.invariant (subst (λ (t : FlatTree). IsTreeOf t c.channel_tree-tree.result) c.in_ok-flat.ensures.ok c.channel_tree-tree.ensures))
+    (flats_more c.args.config.now.tree c.args.stream_index c.loop-channel.channel c.loop-channel.flats.items c.in_ok-tree.tree c.loop-channel.invariant (subst (λ (t : FlatTree). IsTreeOf t c.in_ok-tree.tree) c.in_ok-flat.ensures.ok c.in_ok-tree.ensures.ok))
 
 pub returns-clause-ok : goal.returns-clause-ok
 returns-clause-ok g c =

@@ -1,4 +1,4 @@
-use Rattle.std.proofs.Common.{◌≡◌, ◌≤◌, [], true, false, sym, subst, arith, ◌∙◌}
+use Rattle.std.proofs.Common.{◌≡◌, ◌≤◌, [], true, false, sym, subst, ◌∙◌}
 use Rattle.jxlm_base.specs.Decoding.{Meaning}
 use Rattle.jxlm_ma.specs.FlatTree.{FlatTree}
 use Rattle.jxlm_ma.specs.Paths.{Gives, IsNamed, steps_on}
@@ -21,22 +21,17 @@ allowed m decoder (path.Clusters t) named = tt
 allowed m decoder (path.GradientClusters t) named = named
 allowed m decoder path.Tree named = tt
 
-pub lone_path-requires : goal.lone_path-requires
-lone_path-requires g c = (lone_at c.args.coding.now c.requires.coding c.args.i c.requires.channel c.index-coding-i.result c.in-Some.leaf c.in-Some.is).1
-
 pub returns-in-Some : goal.returns-in-Some
 returns-in-Some g c =
-    let t = tree_of c.args.coding.now c.args.i in
-    let lone = lone_at c.args.coding.now c.requires.coding c.args.i c.requires.channel c.index-coding-i.result c.in-Some.leaf c.in-Some.is in
-    let gives = c.lone_path.ensures.gives t lone.0 in
-    let none = gives.1 in
+    let lone = lone_at c.args.coding.now c.requires.coding c.args.i c.requires.channel c.index-coding-i.result c.in-Some.alone c.in-Some.is in
+    let path = c.lone_path.ensures (tree_of c.args.coding.now c.args.i) lone in
     record {
-      gives = gives.0;
-      allows = c.lone_path.ensures.allows;
-      steps = omega (arith, none);
+      gives = path.gives;
+      allows = path.allows;
+      steps = path.steps;
       roomy = c.requires.roomy;
-      within = λ walked. absurd (not_walked c.args.coding.now c.requires.coding c.args.i c.requires.channel c.index-coding-i.result c.in-Some.leaf c.in-Some.is walked);
-      stands = λ walked. let no : true ≡ false = sym walked ∙ c.lone_path.ensures.needs in absurd (cc);
+      within = λ walked. absurd (not_walked c.args.coding.now c.requires.coding c.args.i c.requires.channel c.index-coding-i.result c.in-Some.alone c.in-Some.is walked);
+      stands = λ walked. let no : true ≡ false = sym walked ∙ path.alone in absurd (cc);
     }
 
 pub start_channel-requires-clause-walked : goal.start_channel-requires-clause-walked

@@ -1,7 +1,6 @@
-use Rattle.std.proofs.Common.{◌≡◌, ◌∙◌, Some, None, true, false, not, sym, ap, subst, rules}
+use Rattle.std.proofs.Common.{◌≡◌, ◌∙◌, Some, true, false, sym, ap, subst, rules}
 use Rattle.std.specs.Option.{option_map}
 use Rattle.std.specs.Rc.{rc_value}
-use Rattle.jxlm_ma.specs.ClusterTables.{Clusters}
 use Rattle.jxlm_ma.specs.Paths.{IsGradientTable, IsOnGradient}
 use Rattle.jxlm_ma.specs.Inner.TreeShape.{shape_of}
 use Rattle.jxlm_ma.proofs.FlatPaths.{table-here}
