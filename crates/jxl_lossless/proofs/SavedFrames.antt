@@ -52,8 +52,8 @@ module _ {D : Type 0} (d : Meaning D) (bytes : List ℕ) (image : Image) (saved 
     (are : AreSaved d bytes image saved no_slots slots begin before) where
   -- the frame that is shown, after the saved ones
   pub all_decoded : (after : ℕ) (result : Result (Vec (Grid ℤ)) FileError) → IfOk result (λ v. IsFrame d image slots bytes shown v.items before after) →
-      IfOk result (λ v. AreDecoded d bytes image saved shown v.items)
-  all_decoded after (Ok v) h = record { slots = slots; begin = begin; before = before; after = after; frames = are; last = h }
+      IfOk result (λ v. AreDecoded d bytes image saved shown v.items begin after)
+  all_decoded after (Ok v) h = record { slots = slots; between = before; frames = are; last = h }
   all_decoded after (Err e) h = tt
 
   pub last_fails : (result : Result (Vec (Grid ℤ)) FileError) → IfErr result (FrameFails d image slots bytes shown) → IfErr result (FramesFail d bytes image (saved ++ shown ∷ []))

@@ -15,21 +15,21 @@ use Rattle.jxl_lossless.specs.declared.error.FileError.{FileError}
 use Rattle.jxl_lossless.specs.declared.error.FileError.TheVariants as errors
 
 -- The picture of a codestream: headers and tables stand at its bits; the saved frames are decoded; and its channels are those
--- of the frame that is shown, upright.
-pub record IsPictureOf (limits : Limits) (bytes : List ℕ) (picture : Picture) : Type 0 where
+-- of the frame that is shown, upright. The steps in trees are counted from `before` to `after`.
+pub record IsPictureOf (limits : Limits) (bytes : List ℕ) (picture : Picture) (before after : ℕ) : Type 0 where
   pub image : Image
   pub saved : List FrameAt
   pub shown : FrameAt
   pub front : FrontStands (entropy decoder_at) limits bytes image saved shown
   pub coded : List (Grid ℤ)
-  pub decoded : AreDecoded (entropy decoder_at) bytes image saved shown coded
+  pub decoded : AreDecoded (entropy decoder_at) bytes image saved shown coded before after
   pub upright : IsUpright image coded (image_of picture.header) picture.channels.items
 
 -- The picture of a file: that of its codestream.
-pub record IsPictureOfFile (limits : Limits) (file : List ℕ) (picture : Picture) : Type 0 where
+pub record IsPictureOfFile (limits : Limits) (file : List ℕ) (picture : Picture) (before after : ℕ) : Type 0 where
   pub stream : List ℕ
   pub found : HasCodestream file (Ok stream)
-  pub is : IsPictureOf limits stream picture
+  pub is : IsPictureOf limits stream picture before after
 
 -- headers and tables stand there, and a frame has this error: the first that has one
 pub record HasBadFrame (limits : Limits) (bytes : List ℕ) (error : FileError) : Type 0 where

@@ -21,13 +21,11 @@ module _ {D : Type 0} (d : Meaning D) (bytes : List ℕ) (image : Image) where
       × AreSaved fs (saved_in old f.header.ending.save_as_reference (frame_size image.size f.header) grids) new between after
 
   -- the saved frames are decoded, and after them these are the channels of the frame that is shown
-  pub record AreDecoded (saved : List FrameAt) (shown : FrameAt) (grids : List (Grid ℤ)) : Type 0 where
+  pub record AreDecoded (saved : List FrameAt) (shown : FrameAt) (grids : List (Grid ℤ)) (before after : ℕ) : Type 0 where
     pub slots : Slots
-    pub begin : ℕ
-    pub before : ℕ
-    pub after : ℕ
-    pub frames : AreSaved saved no_slots slots begin before
-    pub last : IsFrame d image slots bytes shown grids before after
+    pub between : ℕ
+    pub frames : AreSaved saved no_slots slots before between
+    pub last : IsFrame d image slots bytes shown grids between after
 
   -- the frames before this one are decoded, and it has this error
   pub record IsFirstBad (frames : List FrameAt) (error : FileError) : Type 0 where

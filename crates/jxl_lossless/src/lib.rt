@@ -11,4 +11,5 @@ mod tree;
 pub use error::FileError;
 pub use jxl_picture::limits::Limits;
 pub use jxl_picture::picture::Picture;
+pub use jxlm_ma::flat::Steps;
 pub use picture::decode_lossless;

@@ -26,22 +26,28 @@ fn decode_frames(
     alloc: Global,
     bytes: &[u8],
     front: &Front,
+    steps: &mut Steps,
 ) -> Result<Vec<AlignedGrid<i32>>, FileError>
     requires ready { IsReady bytes.now front.now }
     ensures ok { IfOk result (λ v. AreDecoded (entropy decoder_at) bytes.now
-        (image_of front.now.image) (map frame_at front.now.saved.items) (frame_at front.now.shown) v.items) }
+        (image_of front.now.image) (map frame_at front.now.saved.items) (frame_at front.now.shown) v.items steps.old
+        steps.new) }
     ensures whole { IfOk result (λ v. IsWhole (image_of front.now.image) v.items) }
     ensures err { IfErr result (FramesFail (entropy decoder_at) bytes.now
         (image_of front.now.image) (map frame_at front.now.saved.items ++ frame_at front.now.shown ∷ [])) }
 {
-    let mut steps = Steps::new();
-    let slots = decode_saved::<EntropyDecoder>(alloc, bytes, front, &mut steps)?;
-    decode_channels::<EntropyDecoder>(alloc, bytes, &front.image, &front.shown, &slots, &mut steps)
+    let slots = decode_saved::<EntropyDecoder>(alloc, bytes, front, steps)?;
+    decode_channels::<EntropyDecoder>(alloc, bytes, &front.image, &front.shown, &slots, steps)
 }
 
 // The picture of a codestream.
-fn decode_codestream(alloc: Global, bytes: &[u8], limits: &Limits) -> Result<Picture, FileError>
-    ensures ok { IfOk result (IsPictureOf limits.now bytes.now) }
+fn decode_codestream(
+    alloc: Global,
+    bytes: &[u8],
+    limits: &Limits,
+    steps: &mut Steps,
+) -> Result<Picture, FileError>
+    ensures ok { IfOk result (λ p. IsPictureOf limits.now bytes.now p steps.old steps.new) }
     ensures whole { IfOk result (λ p. IsWhole (image_of p.header) p.channels.items) }
     ensures err { IfErr result (StreamFails limits.now bytes.now) }
 {
@@ -49,7 +55,7 @@ fn decode_codestream(alloc: Global, bytes: &[u8], limits: &Limits) -> Result<Pic
         Ok(front) => front,
         Err(error) => return Err(FileError::Front(error)),
     };
-    let channels = decode_frames(alloc, bytes, &front)?;
+    let channels = decode_frames(alloc, bytes, &front, steps)?;
     let coded = Picture {
         header: front.image,
         channels,
@@ -65,20 +71,26 @@ fn decode_codestream(alloc: Global, bytes: &[u8], limits: &Limits) -> Result<Pic
 /// hold one; image header, frame headers and tables of contents stand at its bits; each section lies where the table
 /// says; and the channels are the only ones that the transforms turn into the samples that the sections code, read by
 /// the entropy decoder with the indices of their streams. They are shown upright: mirrored or turned as the image header
-/// says. The picture's header is that of the file, but that it has the size of what is shown, and orientation 1.
+/// says. The picture's header is that of the file, but that it has the size of what is shown, and orientation 1. Of each
+/// frame's trees, `steps` counts at most the depth and one more for each sample.
 ///
 /// # Errors
 ///
 /// The first in the order of the bits, but that what is not supported is told before what is wrong with samples, and by
 /// its name (docs/FILES.md); and `NoMemory` at any time. Nothing is left behind. Sizes are compared with the limits before
 /// memory is taken for samples.
-pub fn decode_lossless(alloc: Global, file: &[u8], limits: &Limits) -> Result<Picture, FileError>
-    ensures picture { IfOk result (IsPictureOfFile limits.now file.now) }
+pub fn decode_lossless(
+    alloc: Global,
+    file: &[u8],
+    limits: &Limits,
+    steps: &mut Steps,
+) -> Result<Picture, FileError>
+    ensures picture { IfOk result (λ p. IsPictureOfFile limits.now file.now p steps.old steps.new) }
     ensures whole { IfOk result (λ p. IsWhole (image_of p.header) p.channels.items) }
     ensures err { IfErr result (FileFails limits.now file.now) }
 {
     match find_codestream(alloc, file) {
-        Ok(stream) => decode_codestream(alloc, stream.bytes(), limits),
+        Ok(stream) => decode_codestream(alloc, stream.bytes(), limits, steps),
         Err(error) => Err(FileError::File(error)),
     }
 }

@@ -1,6 +1,6 @@
 //! Files, decoded to pictures.
 
-use jxl_lossless::{Limits, decode_lossless};
+use jxl_lossless::{Limits, Steps, decode_lossless};
 use jxl_picture::picture::Picture;
 use jxlcheck_text::{bytes, listed};
 use std::alloc::Global;
@@ -27,7 +27,7 @@ pub fn seen(alloc: Global, asked: &str) -> Option<String> {
     };
     let file = bytes(alloc, digits)?;
     let mut text = String::new(alloc);
-    match decode_lossless(alloc, &file, &Limits::usual()) {
+    match decode_lossless(alloc, &file, &Limits::usual(), &mut Steps::new()) {
         Ok(picture) => tell(alloc, &mut text, &picture, summed)?,
         Err(error) => write!(text, "{error}").ok()?,
     }
@@ -40,7 +40,8 @@ pub fn seen_of_beginnings(alloc: Global, asked: &str) -> Option<String> {
     let file = bytes(alloc, asked)?;
     let mut decoded = 0u32;
     for n in 0..file.len() {
-        if decode_lossless(alloc, &file[..n], &Limits::usual()).is_ok() {
+        let mut steps = Steps::new();
+        if decode_lossless(alloc, &file[..n], &Limits::usual(), &mut steps).is_ok() {
             decoded = decoded.saturating_add(1);
         }
     }

@@ -21,7 +21,8 @@ chosen None image = usual image
 -- The text is that of the picture of the file, and leaves out so many of its channels.
 pub record IsTextOfFile (limits : Limits) (file : List ℕ) (asked : Option Format) (text : List ℕ) (others : ℕ) : Type 0 where
   pub picture : Picture
-  pub is : IsPictureOfFile limits file picture
+  pub steps : ℕ
+  pub is : IsPictureOfFile limits file picture 0 steps
   pub format : Format
   pub suited : chosen asked (image_of picture.header) ≡ Some format
   pub written : text ≡ text_of format (image_of picture.header) picture.channels.items
@@ -36,7 +37,8 @@ pub record HeadersHaveNoFormat (limits : Limits) (file : List ℕ) (asked : Opti
 -- so it is of the picture that was decoded.
 pub record PictureHasNoFormat (limits : Limits) (file : List ℕ) (asked : Option Format) : Type 0 where
   pub picture : Picture
-  pub is : IsPictureOfFile limits file picture
+  pub steps : ℕ
+  pub is : IsPictureOfFile limits file picture 0 steps
   pub none : chosen asked (image_of picture.header) ≡ None
 
 abbrev pub HasNoFormat : Limits → List ℕ → Option Format → Type 0

@@ -14,7 +14,7 @@ use crate::options::Options;
 use jxl_headers::image::ImageHeader;
 use jxl_info::headers::{Headers, HeadersError, is_boxed};
 use jxl_info::text::info_text;
-use jxl_lossless::{FileError, Limits, Picture, decode_lossless};
+use jxl_lossless::{FileError, Limits, Picture, Steps, decode_lossless};
 use jxl_picture::format::Format;
 use jxlm_entropy::decoder::EntropyDecoder;
 use std::alloc::Global;
@@ -102,9 +102,10 @@ fn write_picture(
     picture: &Picture,
     asked: Option<Format>,
     limits: &Limits,
+    steps: &Steps,
 ) -> Result<Output, Failure>
     requires whole { IsWhole (image_of picture.now.header) picture.now.channels.items }
-    requires is { IsPictureOfFile limits.now file.now picture.now }
+    requires is { IsPictureOfFile limits.now file.now picture.now 0 steps.now }
     ensures text { IfOk result (λ o. IsTextOfFile limits.now file.now asked o.text.items o.left_out) }
     ensures err { IfErr result (TextFails limits.now file.now asked) }
 {
@@ -132,8 +133,9 @@ pub fn picture_text(
     ensures err { IfErr result (TextFails limits.now file.now asked) }
 {
     check_format(alloc, file, asked, limits)?;
-    match decode_lossless(alloc, file, limits) {
-        Ok(picture) => write_picture(alloc, file, &picture, asked, limits),
+    let mut steps = Steps::new();
+    match decode_lossless(alloc, file, limits, &mut steps) {
+        Ok(picture) => write_picture(alloc, file, &picture, asked, limits, &steps),
         Err(error) => Err(Failure::File(error)),
     }
 }

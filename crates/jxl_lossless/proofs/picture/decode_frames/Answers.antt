@@ -11,7 +11,7 @@ use Rattle.jxl_lossless.proofs.picture.decode_frames.Goals as goal
 pub returns-clause-ok : goal.returns-clause-ok
 returns-clause-ok c =
     let front = c.args.front.now in
-    all_decoded (entropy decoder_at) c.args.bytes.now (image_of front.image) (map frame_at front.saved.items) (frame_at front.shown) (slots_of c.in_ok-slots.slots) c.new-steps.result c.decode_saved.new.steps c.in_ok-slots.ensures.ok
+    all_decoded (entropy decoder_at) c.args.bytes.now (image_of front.image) (map frame_at front.saved.items) (frame_at front.shown) (slots_of c.in_ok-slots.slots) c.args.steps.now c.decode_saved.new.steps c.in_ok-slots.ensures.ok
     c.decode_channels.new.steps c.decode_channels.result c.decode_channels.ensures.ok
 
 pub returns-clause-whole : goal.returns-clause-whole
@@ -22,5 +22,5 @@ returns-clause-whole c =
 pub returns-clause-err : goal.returns-clause-err
 returns-clause-err c =
     let front = c.args.front.now in
-    last_fails (entropy decoder_at) c.args.bytes.now (image_of front.image) (map frame_at front.saved.items) (frame_at front.shown) (slots_of c.in_ok-slots.slots) c.new-steps.result c.decode_saved.new.steps c.in_ok-slots.ensures.ok
+    last_fails (entropy decoder_at) c.args.bytes.now (image_of front.image) (map frame_at front.saved.items) (frame_at front.shown) (slots_of c.in_ok-slots.slots) c.args.steps.now c.decode_saved.new.steps c.in_ok-slots.ensures.ok
     c.decode_channels.result c.decode_channels.ensures.err

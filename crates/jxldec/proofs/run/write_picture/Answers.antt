@@ -9,6 +9,7 @@ write-requires-clause-suits c = chosen_suits c.args.asked (image_of c.args.pictu
 pub returns-in-Ok-clause-text : goal.returns-in-Ok-clause-text
 returns-in-Ok-clause-text c = record {
   picture = c.args.picture.now;
+  steps = c.args.steps.now;
   is = c.requires.is;
   format = c.in-Some.format;
   suited = sym c.format_for.ensures ∙ c.in-Some.is;
@@ -19,6 +20,7 @@ returns-in-Ok-clause-text c = record {
 pub returns-in_default-clause-err : goal.returns-in_default-clause-err
 returns-in_default-clause-err c = inr (record {
   picture = c.args.picture.now;
+  steps = c.args.steps.now;
   is = c.requires.is;
   none = sym c.format_for.ensures ∙ c.in_default.is;
 })
