@@ -3,12 +3,12 @@
 ghost use Rattle.std.specs.Prelude.{◌≡◌, pos, ◌+ℤ◌, ◌*ℤ◌, ◌+◌, ◌^◌, ◌<◌, ◌≤◌, true, false, length, None, OnOk};
 ghost use Rattle.std.specs.Int.{int_wrap};
 ghost use Rattle.jxlm_base.specs.Numbers.{unpack};
-ghost use Rattle.jxlm_ma.specs.FlatTree.{ClustersStandIn, HasMultiplier};
+ghost use Rattle.jxlm_ma.specs.FlatTree.{ClustersStandIn};
 ghost use Rattle.jxlm_ma.specs.Paths.{Gives};
-ghost use Rattle.jxlm_ma.specs.Tree.{StandsAtLeaf, depth};
+ghost use Rattle.jxlm_ma.specs.Tree.{depth};
 ghost use Rattle.jxlm_tree.specs.Holding.{IsCurrent};
 ghost use Rattle.jxlm_tree.specs.Standing.{used_weights};
-ghost use Rattle.jxlm_part.specs.Inner.Cells.{IsReached, SampleGives};
+ghost use Rattle.jxlm_part.specs.Inner.Cells.{IsFound, SampleGives};
 ghost use Rattle.jxlm_part.specs.Inner.Paths.{is_walked, steps_walked};
 ghost use Rattle.jxlm_part.specs.Inner.Rows.{AreAway, CellGives, CellsGive, IsAtCell, IsAway, IsLine, IsWalked, RowGives, region_on};
 
@@ -40,11 +40,7 @@ fn walked_leaf<S: Sample>(
     steps: &mut Steps,
 ) -> Leaf
     requires { IsCurrent properties.now }
-    ensures leaf { IsReached flat.now S.to_int properties.now result }
-    ensures stands { StandsAtLeaf flat.now.tree result }
-    ensures multiplier { HasMultiplier result }
-    ensures cost { steps.new ≤ steps.old + depth flat.now.tree + 1 }
-    ensures more { steps.old ≤ steps.new }
+    ensures { IsFound flat.now S.to_int properties.now steps.old steps.new (depth flat.now.tree + 1) result }
 {
     match flat.only_leaf() {
         Some(leaf) => leaf,
@@ -65,11 +61,8 @@ fn leaf_of<S: Sample>(
 ) -> Leaf
     requires current { IsCurrent properties.now }
     requires gives { Gives flat.now path }
-    ensures leaf { IsReached flat.now S.to_int properties.now result }
-    ensures stands { StandsAtLeaf flat.now.tree result }
-    ensures multiplier { HasMultiplier result }
-    ensures cost { steps.new ≤ steps.old + steps_walked path.entry flat.now.tree }
-    ensures more { steps.old ≤ steps.new }
+    ensures { IsFound flat.now S.to_int properties.now steps.old steps.new (steps_walked path.entry flat.now.tree)
+        result }
 {
     match path {
         Path::Clusters(table) => table.leaf_by(properties, steps),

@@ -7,7 +7,7 @@ ghost use Rattle.jxlm_tree.specs.SelfCorrecting.{IsHeader};
 ghost use Rattle.jxlm_part.specs.Part.{is_alike as alike};
 ghost use Rattle.jxlm_tree.specs.Standing.{Setting, StandsAt, earlier_count, setting};
 ghost use Rattle.jxlm_part.specs.Reading.{HasFlats, HasRoom, IsCodingOf, IsLone, IsRoomyFor, IsTreeOf, LeadsAlone, ReadsAlone, alone_at, flat, regions_of};
-ghost use Rattle.jxlm_part.specs.Inner.Channels.{IsAfterChannel, StandsAfter, all_alike, region_at};
+ghost use Rattle.jxlm_part.specs.Inner.Channels.{IsNext, StandsAfter, all_alike};
 
 use jxlm_base::decoder::Decoder;
 use jxlm_base::error::Result;
@@ -99,13 +99,8 @@ pub(crate) fn start_channel<S: Sample, D: Decoder>(
     coding: &PartCoding<'_, D>,
     i: usize,
 )
-    requires channel { i < length (regions_of coding.now) }
-    requires columns { 0 < (region_at (regions_of coding.now) i).width }
-    requires rows { 0 < (region_at (regions_of coding.now) i).height }
+    requires next { IsNext coding.now i state.old }
     requires walked { alone_at coding.now i ≡ None }
-    requires coding { IsCodingOf coding.now }
-    requires roomy { HasRoom coding.now state.old }
-    requires last { IsAfterChannel coding.now i state.old }
     ensures stands { (store : List (Grid S)) → StandsAfter coding.now S.to_int store i 0 state.new }
     ensures roomy { HasRoom coding.now state.new }
 {

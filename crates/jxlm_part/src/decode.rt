@@ -3,12 +3,12 @@
 ghost use Rattle.std.specs.Prelude.{◌≡◌, ◌+◌, ◌<◌, ◌≤◌, OnOk, false, length};
 ghost use Rattle.jxlm_part.specs.Part.{cells_before, cell_count};
 ghost use Rattle.jxlm_ma.specs.FlatTree.{FlatTree};
-ghost use Rattle.jxlm_part.specs.Inner.Channels.{IsAfterChannel, region_at};
+ghost use Rattle.jxlm_part.specs.Inner.Channels.{IsNext, region_at};
 ghost use Rattle.jxlm_part.specs.Inner.Levels.{CanBegin, HasRooms, IsAtChannel, IsAtRow, IsOnPath};
 ghost use Rattle.jxlm_part.specs.Inner.Paths.{IsLonePath};
 ghost use Rattle.jxlm_part.specs.Inner.Progress.{PartGives, WalkGives, moment, place_of};
 ghost use Rattle.jxlm_part.specs.Inner.Rows.{IsDecodingPart, RowGives, region_on};
-ghost use Rattle.jxlm_part.specs.Reading.{FindsClusters, HasRoom, IsCodingOf, LeadsAlone, part_of, regions_of, row_width};
+ghost use Rattle.jxlm_part.specs.Reading.{FindsClusters, LeadsAlone, part_of, regions_of, row_width};
 
 use crate::cell::read_by_cells;
 use crate::coding::{Alone, PartCoding, start_channel};
@@ -124,13 +124,8 @@ fn begin_channel<'x, S: Sample, D: Decoder>(
     decoder: &D,
     i: usize,
 ) -> Path<'x>
-    requires channel { i < length (regions_of coding.now) }
-    requires columns { 0 < (region_at (regions_of coding.now) i).width }
-    requires rows { 0 < (region_at (regions_of coding.now) i).height }
-    requires coding { IsCodingOf coding.now }
+    requires next { IsNext coding.now i state.old }
     requires clusters { FindsClusters coding.now (D.meaning.cluster_map decoder.now) }
-    requires roomy { HasRoom coding.now state.old }
-    requires last { IsAfterChannel coding.now i state.old }
     ensures { CanBegin coding.now S.to_int i result state.new }
 {
     if let Some(alone) = &coding.flats[i].alone {

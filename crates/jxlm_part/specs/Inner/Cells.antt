@@ -7,7 +7,8 @@ use Rattle.jxlm_base.specs.Grid.{Grid}
 use Rattle.jxlm_base.specs.Regions.{store_meanings}
 use Rattle.jxlm_base.specs.declared.decoder.DecoderError.{DecoderError}
 use Rattle.jxlm_base.specs.declared.decoder.DecoderError.TheVariants.{OutOfMemory}
-use Rattle.jxlm_ma.specs.FlatTree.{FlatTree, leaf_reached}
+use Rattle.jxlm_ma.specs.FlatTree.{FlatTree, HasMultiplier, leaf_reached}
+use Rattle.jxlm_ma.specs.Tree.{StandsAtLeaf}
 use Rattle.jxlm_tree.specs.Holding.{state_of, store_of, surroundings}
 use Rattle.jxlm_tree.specs.Predictions.{prediction}
 use Rattle.jxlm_tree.specs.Properties.{place_property}
@@ -32,6 +33,15 @@ leaf_at flat s store samples = leaf_reached flat (place_property (surroundings s
 abbrev pub IsReached : {X : Type 0} → FlatTree → (X → ℤ) → Properties X → Leaf → Type 0
 IsReached flat to_int properties l = (s : Setting) (samples : List ℤ) → StandsAt (state_of properties) s samples →
     l ≡ leaf_at flat s (store_meanings to_int (store_of properties)) samples
+
+-- it is that leaf, found in at most so many steps
+pub record IsFound {X : Type 0} (flat : FlatTree) (to_int : X → ℤ) (properties : Properties X) (before after most : ℕ)
+    (l : Leaf) : Type 0 where
+  pub leaf : IsReached flat to_int properties l
+  pub stands : StandsAtLeaf flat.tree l
+  pub multiplier : HasMultiplier l
+  pub cost : after ≤ before + most
+  pub more : before ≤ after
 
 -- the prediction there
 abbrev pub predicted_at : FlatTree → Setting → List (Grid ℤ) → List ℤ → ℤ

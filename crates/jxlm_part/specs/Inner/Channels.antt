@@ -1,5 +1,5 @@
 -- What the predictors' state is set for in each channel of a part, and where it is.
-use Rattle.std.specs.Prelude.{◌≡◌, ℕ, zero, suc, ◌+◌, ◌<◌, ℤ, List, [], map, take, get_or, slice_get, Bool, false, if◌then◌else◌, Option, Some, None}
+use Rattle.std.specs.Prelude.{◌≡◌, ℕ, zero, suc, ◌+◌, ◌<◌, ℤ, List, [], length, map, take, get_or, slice_get, Bool, false, if◌then◌else◌, Option, Some, None}
 use Rattle.std.specs.Option.{option_map_or}
 use Rattle.jxlm_base.specs.Grid.{Grid}
 use Rattle.jxlm_base.specs.Regions.{region, grid_of, store_meanings}
@@ -8,7 +8,7 @@ use Rattle.jxlm_tree.specs.Standing.{Setting, StandsAt, setting}
 use Rattle.jxlm_tree.specs.declared.predictor.WpHeader.{WpHeader}
 use Rattle.jxlm_tree.specs.declared.state.PredictorState.{PredictorState}
 use Rattle.jxlm_part.specs.Part.{earlier_alike}
-use Rattle.jxlm_part.specs.Reading.{alone_at, part_of, regions_of}
+use Rattle.jxlm_part.specs.Reading.{HasRoom, IsCodingOf, alone_at, part_of, regions_of}
 use Rattle.jxlm_part.specs.declared.coding.ChannelTree.{ChannelTree}
 use Rattle.jxlm_part.specs.declared.coding.PartCoding.{PartCoding}
 
@@ -63,3 +63,12 @@ module _ {D : Type 0} where
     IsAfterChannel c i state =
         (last : ℕ) → i ≡ last + 1 → 0 < (region_at (regions_of c) last).width →
         0 < (region_at (regions_of c) last).height → alone_at c last ≡ None → StandsIn c last state
+
+    -- channel i has cells and is next: the state has room for it, and was last in the channel before
+    pub record IsNext (c : PartCoding D) (i : ℕ) (state : PredictorState X) : Type 0 where
+      pub channel : i < length (regions_of c)
+      pub columns : 0 < (region_at (regions_of c) i).width
+      pub rows : 0 < (region_at (regions_of c) i).height
+      pub coding : IsCodingOf c
+      pub roomy : HasRoom c state
+      pub last : IsAfterChannel c i state

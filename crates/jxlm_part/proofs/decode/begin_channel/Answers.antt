@@ -23,26 +23,26 @@ allowed m decoder path.Tree named = tt
 
 pub returns-in-Some : goal.returns-in-Some
 returns-in-Some g c =
-    let lone = lone_at c.args.coding.now c.requires.coding c.args.i c.requires.channel c.index-coding-i.result c.in-Some.alone c.in-Some.is in
+    let lone = lone_at c.args.coding.now c.requires.next.coding c.args.i c.requires.next.channel c.index-coding-i.result c.in-Some.alone c.in-Some.is in
     let path = c.lone_path.ensures (tree_of c.args.coding.now c.args.i) lone in
     record {
       gives = path.gives;
       allows = path.allows;
       steps = path.steps;
-      roomy = c.requires.roomy;
-      within = λ walked. absurd (not_walked c.args.coding.now c.requires.coding c.args.i c.requires.channel c.index-coding-i.result c.in-Some.alone c.in-Some.is walked);
+      roomy = c.requires.next.roomy;
+      within = λ walked. absurd (not_walked c.args.coding.now c.requires.next.coding c.args.i c.requires.next.channel c.index-coding-i.result c.in-Some.alone c.in-Some.is walked);
       stands = λ walked. let no : true ≡ false = sym walked ∙ path.alone in absurd (cc);
     }
 
 pub start_channel-requires-clause-walked : goal.start_channel-requires-clause-walked
-start_channel-requires-clause-walked g c κs within = alone_is c.args.coding.now c.requires.coding c.args.i c.requires.channel c.index-coding-i.result ∙ c.in_default.is
+start_channel-requires-clause-walked g c κs within = alone_is c.args.coding.now c.requires.next.coding c.args.i c.requires.next.channel c.index-coding-i.result ∙ c.in_default.is
 
 pub path_of-requires : goal.path_of-requires
-path_of-requires g c = record { clusters = clusters_at c.args.coding.now c.requires.coding c.args.i c.requires.channel c.index-coding-i-2.result _ c.requires.clusters }
+path_of-requires g c = record { clusters = clusters_at c.args.coding.now c.requires.next.coding c.args.i c.requires.next.channel c.index-coding-i-2.result _ c.requires.clusters }
 
 pub returns : goal.returns
 returns g c =
-    let same = flat_at c.args.coding.now c.requires.coding c.args.i c.requires.channel _ in
+    let same = flat_at c.args.coding.now c.requires.next.coding c.args.i c.requires.next.channel _ in
     record {
       gives = subst (λ t. Gives t c.path_of.result) same c.path_of.ensures.gives;
       allows = allowed g.D.Decoder.meaning c.args.decoder.now c.path_of.result c.path_of.ensures.named;
