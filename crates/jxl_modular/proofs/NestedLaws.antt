@@ -1,14 +1,13 @@
 -- A part with a header of its own: its coded channels lie in its regions, and in tables after the store's buffers; once
 -- they are decoded and its transforms undone, the part has their only image, and no cell outside it changed.
 use Rattle.std.proofs.Common.{◌≡◌, ℕ, Bool, not, ◌+◌, ◌<◌, ◌≤◌, inl, inr, List, [], ◌++◌, take, length, get_or, Ok, Err, Result, Option, Some, ℤ, sym, ap, ◌∙◌, subst, arith}
-use Rattle.std.specs.Prelude.{◌⊎◌, nat_lt}
 use Rattle.std.specs.List.{All}
 use Rattle.std.specs.Int.{Width}
 use Rattle.std.proofs.lemmas.Bool.{cases_lt}
 use Rattle.std.proofs.lemmas.List.{get_or-take, get_or_append_left, get_or_past, length-append, length-take}
 use Rattle.std.proofs.Math.Seq.{drop-append_seam}
 use Rattle.jxlm_base.specs.Decoding.{Meaning}
-use Rattle.jxlm_base.specs.ErrorKind.{NoMemory, kind_of}
+use Rattle.jxlm_base.specs.ErrorKind.{kind_of}
 use Rattle.jxlm_base.specs.Grid.{Grid, IsFull, at, cell, grid, grid_by, meanings}
 use Rattle.jxlm_base.specs.Outside.{KeepsOutside, buffer_at}
 use Rattle.jxlm_base.specs.Regions.{AllLie, HasCell, LieApart, Lies, buffer_of, grid_of, grids_in, store_meanings}
@@ -30,19 +29,15 @@ use Rattle.jxlm_chain.proofs.Undone.{chain_of}
 use Rattle.jxlm_cut.specs.Parts.{HaveCell}
 use Rattle.jxlm_cut.proofs.Apart.{map_same}
 use Rattle.jxlm_cut.proofs.Outside.{all_inside, finish_outside, never_has, none_has}
-use Rattle.jxlm_part.specs.Decode.{DecodeGives}
-use Rattle.jxlm_part.specs.Part.{cell_count}
-use Rattle.jxlm_part.specs.Placed.{standing_in}
 use Rattle.jxlm_transform.specs.Channels.{AreRegionsOf, ChannelList}
 use Rattle.jxlm_transform.specs.ChannelSteps.{Step}
 use Rattle.jxlm_transform.specs.Steps.{Sides, tables_of}
 use Rattle.jxlm_ma.specs.Tree.{Config}
-use Rattle.jxlm_ma.specs.TreeReading.{IsOutOfMemory}
 use Rattle.jxlm_nested.specs.Zeros.{zeros}
 use Rattle.jxlm_nested.specs.NestedParts.{CanFill, Decodes, FillsIn, IsNested, head_of, nested_channels, nested_places, regions_in, with_own_tables}
 use Rattle.jxlm_nested.specs.Opened.{steps_of_header}
-use Rattle.jxlm_nested.specs.Nested.{NestedDecodes, NestedDone, NestedStart, NestedStops, NestedTurn, Turn, nested_regions, with_tables}
-use Rattle.jxlm_nested.specs.Starts.{coded_part}
+use Rattle.jxlm_nested.specs.Nested.{NestedDecodes, NestedDone, NestedStops, NestedTurn, PartTurn, Turn, nested_regions, with_tables}
+use Rattle.jxlm_nested.specs.Starts.{Start, coded_part}
 use Rattle.jxlm_nested.specs.declared.nested.NestedPart.{NestedPart}
 use Rattle.jxl_modular.proofs.FreshLaws.{zeros_fit}
 use Rattle.jxl_modular.proofs.PictureLaws.{no_memory}
@@ -150,7 +145,7 @@ module _ {S D : Type 0} (d : Meaning D) (w : Width) (to_int : S → ℤ) (zero :
   abbrev begun : List (Grid S)
   begun = with_tables zero steps old
 
-  abbrev start : NestedStart d w to_int zero bit_depth global bytes p list held stream
+  abbrev start : Start d global bytes list p
   start = record { head = head_of n; config = n.config; samples_at = q; start = is.start }
 
   -- where its coded channels lie, by the steps
@@ -191,16 +186,11 @@ module _ {S D : Type 0} (d : Meaning D) (w : Width) (to_int : S → ℤ) (zero :
   }
 
   -- what decoding its samples returns, in these regions of a store
-  abbrev Answers : Bool → Result (Unit {0}) Error → Turn → List (Grid S) → List Region → List (Grid S) → Type 0
-  Answers partly result t now rs store = DecodeGives d w (coded_part stream (head_of n) n.config) bytes n.config.decoder (standing_in to_int rs store q (nat_lt 0 (cell_count (nested_channels n)))) (standing_in to_int rs now t.position t.partial) partly result t.tried
-
   decodes : (partly : Bool) (result : Result (Unit {0}) Error) (t : Turn) (now : List (Grid S)) → Decodes d w to_int bytes stream q n partly result t (with_own_tables zero n old) now →
       NestedDecodes d w to_int zero bit_depth global bytes p list held stream partly start result t old now
-  decodes partly result t now h = record {
-    answers = subst (λ (rs : List Region). Answers partly result t now rs begun) regions_are (subst (λ (store : List (Grid S)). Answers partly result t now (regions_in n) store) tables_are h.answers);
-    outside = subst (λ (rs : List Region). KeepsOutside rs begun now) regions_are (subst (λ (store : List (Grid S)). KeepsOutside (regions_in n) store now) tables_are h.outside);
-    tree = h.tree;
-  }
+  decodes partly result t now h =
+      let Turned : List Region → List (Grid S) → Type 0 = λ rs store. PartTurn d w to_int (coded_part stream (head_of n) n.config) bytes n.config.decoder q rs partly result t store now in
+      subst (λ (rs : List Region). Turned rs begun) regions_are (subst (Turned (regions_in n)) tables_are h)
 
   -- Decoded and undone, the part has the only image of its samples.
   turned : (partly : Bool) (t : Turn) (now finished : List (Grid S)) → NestedDecodes d w to_int zero bit_depth global bytes p list held stream partly start (Ok tt) t old now →
@@ -248,9 +238,6 @@ module _ {S D : Type 0} (d : Meaning D) (w : Width) (to_int : S → ℤ) (zero :
     now = last;
     answer = answer;
     decoded = decodes partly answer t last decoded;
-    cause = cause_is cause;
+    cause = cause;
     cut = cut;
-  }) where
-    cause_is : (answer ≡ Err e) ⊎ ((answer ≡ Ok tt) × (kind_of e ≡ NoMemory)) → (answer ≡ Err e) ⊎ ((answer ≡ Ok tt) × IsOutOfMemory (kind_of e))
-    cause_is (inl is) = inl is
-    cause_is (inr (is, memory)) = inr (is, no_memory (kind_of e) ⊥ memory)
+  })

@@ -1,6 +1,6 @@
 -- What each section left still is there when all have had their turn: where no samples are missing, all is decoded.
-use Rattle.std.proofs.Common.{◌≡◌, ℕ, Bool, true, false, nat_lt, ◌+◌, ◌*◌, inl, inr, List, [], ◌∷◌, map, get_or, Result, Ok, ℤ, refl, sym, ap, ◌∙◌, subst, arith}
-use Rattle.std.specs.List.{All, AllZip}
+use Rattle.std.proofs.Common.{◌≡◌, ◌≢◌, ℕ, suc, Bool, true, false, nat_lt, ◌+◌, ◌*◌, inl, inr, List, [], ◌∷◌, map, get_or, Result, Ok, ℤ, refl, sym, ap, ◌∙◌, subst, arith}
+use Rattle.std.specs.List.{All, AllPairs, AllZip}
 use Rattle.std.specs.Prelude.{MatchBool, Option}
 use Rattle.std.specs.Int.{Width}
 use Rattle.std.proofs.lemmas.Bool.{lt-ltb}
@@ -28,12 +28,13 @@ use Rattle.jxlm_part.specs.Decode.{DecodeGives, Fails, Standing}
 use Rattle.jxlm_part.specs.Decode as decode
 use Rattle.jxlm_part.specs.Part.{Part, cell_count}
 use Rattle.jxlm_part.proofs.Loops.{fits_in}
-use Rattle.jxl_modular.specs.Groups.{channels_in, held_in, pieces_of}
+use Rattle.jxl_modular.specs.Groups.{held_in, part_in, pieces_of}
 use Rattle.jxl_modular.specs.Image.{Image, coded_list}
 use Rattle.jxl_modular.specs.Inner.Laid.{IsLaidOut}
-use Rattle.jxlm_nested.specs.Nested.{NestedDone, nested_regions}
+use Rattle.jxl_modular.specs.Inner.Turns.{PlainTurn}
+use Rattle.jxlm_nested.specs.Nested.{NestedDone, PartTurn, nested_regions}
 use Rattle.jxlm_ma.specs.Tree.{Config, depth}
-use Rattle.jxl_modular.specs.Sections.{AllTurn, AllWhole, AreDecoded, AreUnlike, CodesNested, CodesPart, CodesPlain, PlainTurn, Section, SectionTurn, SectionsFit, SectionsLeave, Turn, list_in, most}
+use Rattle.jxl_modular.specs.Sections.{AllTurn, AreDecoded, CodesNested, CodesPart, CodesWhole, Section, SectionTurn, SectionsFit, SectionsLeave, Turn, list_in, most}
 use Rattle.jxl_modular.proofs.Laid.{coded_apart, coded_lie, coded_sizes}
 
 -- ---- a piece of coded grids is the grid of its region in the store
@@ -126,39 +127,33 @@ module _ {S D : Type 0} (d : Meaning D) (w : Width) (to_int : S → ℤ) (zero :
       later_keep partly part ss ts between new (still_lie s.part old between (turned_outside partly s t old between turn) lie) (All-tail (λ (s : Section). s.part ≡ part → ⊥) s ss none) rest
       ∙ other_stands s.part part old between (All-head (λ (s : Section). s.part ≡ part → ⊥) s ss none) lie (turned_outside partly s t old between turn)
 
-  -- a section that has no samples missing is coded whole, for so many nodes
-  whole_plain : (partly : Bool) (s : Section) (t : Turn) (old new : List (Grid S)) → t.partial ≡ false → PlainTurn d w to_int x passes partly s (Ok tt) t old new →
-      CodesPlain d w to_int x passes s (stand s.part new) (most t)
-  whole_plain partly s t old new none h =
-      let whole = whole_of d w _ (bytes_of s.bits) x.config.decoder _ _ partly t.tried refl none h.answers in
+  -- a part that has no samples missing is coded whole, for so many nodes
+  part_whole : (part : Part) (bytes : List ℕ) (decoder : D) (p : ℕ) (regions : List Region) (partly : Bool) (t : Turn) (old new : List (Grid S)) → t.partial ≡ false →
+      PartTurn d w to_int part bytes decoder p regions partly (Ok tt) t old new → CodesWhole d w part bytes decoder p (grids_in regions (store_meanings to_int new)) (most t)
+  part_whole part bytes decoder p regions partly t old new none h =
+      let whole = whole_of d w _ bytes decoder _ _ partly t.tried refl none h.answers in
       record {
         end = t.position;
         coded = whole.coded;
         sizes = whole.fits;
-        costs = ap (λ n. n * (depth t.tree + 1)) whole.tries ∙ ap (λ tree. cell_count (channels_in x passes s.part) * (depth tree + 1)) h.tree;
+        costs = ap (λ n. n * (depth t.tree + 1)) whole.tries ∙ ap (λ tree. cell_count part.channels * (depth tree + 1)) h.tree;
       }
 
   whole_nested : (partly : Bool) (s : Section) (t : Turn) (old new : List (Grid S)) → t.partial ≡ false → Nested partly s t old new →
       CodesNested d w to_int zero x passes global s (stand s.part new) (most t)
-  whole_nested partly s t old new none h =
-      let whole = whole_of d w _ (bytes_of s.bits) h.start.config.decoder _ _ partly t.tried refl none h.decoded.answers in
-      record {
-        head = h.start.head;
-        config = h.start.config;
-        samples_at = h.start.samples_at;
-        samples = grids_in (nested_regions (held_in x passes s.part) h.start.head.coded.steps old) (store_meanings to_int h.now);
-        end = t.position;
-        start = h.start.start;
-        coded = whole.coded;
-        sizes = whole.fits;
-        only = h.only;
-        costs = ap (λ n. n * (depth t.tree + 1)) whole.tries ∙ ap (λ tree. cell_count h.start.head.coded.list.channels * (depth tree + 1)) h.decoded.tree;
-      }
+  whole_nested partly s t old new none h = record {
+    start = h.start;
+    samples = grids_in (nested_regions (held_in x passes s.part) h.start.head.coded.steps old) (store_meanings to_int h.now);
+    coded = part_whole _ _ _ _ _ partly t _ h.now none h.decoded;
+    only = h.only;
+  }
 
   whole_turn : (partly : Bool) (s : Section) (t : Turn) (old new : List (Grid S)) → t.partial ≡ false → SectionTurn d w to_int zero x passes global partly s (Ok tt) t old new → Codes s (stand s.part new) (most t)
-  whole_turn partly s t old new none h = match_both s.nested (whole_nested partly s t old new none) (whole_plain partly s t old new none) h
+  whole_turn partly s t old new none h =
+      match_both s.nested (whole_nested partly s t old new none)
+      (part_whole (part_in x passes s.part s.stream_index) (bytes_of s.bits) x.config.decoder (position_of s.bits) (held_in x passes s.part) partly t old new none) h
 
-  each_whole : (partly : Bool) (ss : List Section) (ts : List Turn) (old new : List (Grid S)) → AllLie x.coded old → AreUnlike ss → AllWhole ts → Left partly ss ts old new →
+  each_whole : (partly : Bool) (ss : List Section) (ts : List Turn) (old new : List (Grid S)) → AllLie x.coded old → AllPairs (λ s t. s.part ≢ t.part) ss → All (λ t. t.partial ≡ false) ts → Left partly ss ts old new →
       AllZip (λ s n. Codes s (stand s.part new) n) ss (map most ts)
   each_whole partly [] [] old new lie unlike whole left = tt
   each_whole partly [] (t ∷ ts) old new lie unlike whole left = absurd left
@@ -167,8 +162,8 @@ module _ {S D : Type 0} (d : Meaning D) (w : Width) (to_int : S → ℤ) (zero :
       let (between, turn, rest) = left in
       let next = still_lie s.part old between (turned_outside partly s t old between turn) lie in
       let here = whole_turn partly s t old between (All-head (λ (t : Turn). t.partial ≡ false) t ts whole) turn in (
-        subst (λ gs. Codes s gs (most t)) (sym (later_keep partly s.part ss ts between new next unlike.0 rest)) here,
-        each_whole partly ss ts between new next unlike.1 (All-tail (λ (t : Turn). t.partial ≡ false) t ts whole) rest,
+        subst (λ gs. Codes s gs (most t)) (sym (later_keep partly s.part ss ts between new next (λ k e l same. unlike 0 (suc k) e (omega arith) (omega (arith, l)) (sym same)) rest)) here,
+        each_whole partly ss ts between new next (λ j k e lt l. unlike (suc j) (suc k) e (omega (arith, lt)) (omega (arith, l))) (All-tail (λ (t : Turn). t.partial ≡ false) t ts whole) rest,
       )
 
   -- what is in a part of the store is what is in it of the coded grids
@@ -181,7 +176,7 @@ module _ {S D : Type 0} (d : Meaning D) (w : Width) (to_int : S → ℤ) (zero :
         ∙ ap (λ (gs : List (Grid ℤ)). grid_of (store_meanings to_int store) (within (get_or x.coded p.buffer no_region) p) ∷ gs) (pieces_same ps (All-tail (IsInside x.coded) p ps all))
 
   -- Where the answer is true, there is one list of coded grids that all sections code.
-  are_decoded : (partly : Bool) (ss : List Section) (old : List (Grid S)) (image : List (Grid ℤ)) (before after : ℕ) → AllLie x.coded old → AreUnlike ss →
+  are_decoded : (partly : Bool) (ss : List Section) (old : List (Grid S)) (image : List (Grid ℤ)) (before after : ℕ) → AllLie x.coded old → AllPairs (λ s t. s.part ≢ t.part) ss →
       SectionsLeave d w to_int zero x passes global partly ss true old image before after → AreDecoded d w to_int zero x passes global ss image before after
   are_decoded partly ss old image before after lie unlike leave =
       let (whole, complete) = leave.says.0 refl in

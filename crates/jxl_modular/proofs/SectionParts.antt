@@ -1,15 +1,16 @@
 -- The parts of sections in a set, one after another; and sections of parts that are not one.
-use Rattle.std.proofs.Common.{◌≡◌, IsTrue, ℕ, zero, suc, ◌+◌, ◌<◌, ◌≤◌, Bool, true, false, ◌||◌, not, cond, List, [], ◌∷◌, ◌++◌, take, length, get_or, refl, sym, ap, ◌∙◌, subst, arith}
+use Rattle.std.proofs.Common.{◌≡◌, ◌≢◌, IsTrue, ℕ, zero, suc, ◌+◌, ◌<◌, ◌≤◌, Bool, true, false, ◌||◌, not, cond, List, [], ◌∷◌, ◌++◌, take, length, get_or, refl, sym, ap, ◌∙◌, subst, arith}
 use Rattle.std.specs.BTreeSet.{BTreeSet, Updates, contains}
-use Rattle.std.specs.List.{All, list_any}
+use Rattle.std.specs.List.{All, AllPairs, list_any}
 use Rattle.std.proofs.lemmas.Grind.{take_at_read}
 use Rattle.std.proofs.lemmas.List.{get_or-take, length-take, take_all}
-use Rattle.std.proofs.lemmas.List.Elements.{All-head, All-more, All-push, All-tail}
+use Rattle.std.proofs.lemmas.List.Elements.{All-more}
 use Rattle.std.proofs.lemmas.List.Folds.{Any-from_list_any, list_any-from_Any, list_any_more}
+use Rattle.std.proofs.lemmas.List.Quantifiers.{all_pairs_push}
 use Rattle.jxlm_cut.proofs.PartSets.{is_part, one_part, part_back, part_itself}
 use Rattle.jxlm_cut.specs.declared.part.SectionPart.{SectionPart}
 use Rattle.jxlm_cut.specs.PartSets.{part_order}
-use Rattle.jxl_modular.specs.Sections.{AreUnlike, Section}
+use Rattle.jxl_modular.specs.Sections.{Section}
 use Rattle.jxl_modular.specs.Inner.SectionParts.{HoldsParts}
 
 -- a set has the parts of these sections, and no other
@@ -47,20 +48,13 @@ holds_last set ss i le holds = subst (HoldsAll set) (take_all i ss le) holds
 
 -- ---- sections of parts that are not one
 
-unlike_push : (ss : List Section) (s : Section) → AreUnlike ss → All (λ t. t.part ≡ s.part → ⊥) ss → AreUnlike (ss ++ s ∷ [])
-unlike_push [] s u none = (λ k d lt. absurd (omega (arith, lt)), tt)
-unlike_push (r ∷ ss) s u none = (
-  All-push (λ t. t.part ≡ r.part → ⊥) ss s u.0 (λ e. All-head (λ t. t.part ≡ s.part → ⊥) r ss none (sym e)),
-  unlike_push ss s u.1 (All-tail (λ t. t.part ≡ s.part → ⊥) r ss none),
-)
-
 -- a part that no earlier section is of
 pub unlike_more : (set : BTreeSet SectionPart) (ss : List Section) (i : ℕ) (s : Section) (added : Bool) → i < length ss → s ≡ get_or ss i s → HoldsAll set (take i ss) →
-    added ≡ not (contains part_order set s.part) → added ≡ true → AreUnlike (take i ss) → AreUnlike (take (i + 1) ss)
+    added ≡ not (contains part_order set s.part) → added ≡ true → AllPairs (λ s t. s.part ≢ t.part) (take i ss) → AllPairs (λ s t. s.part ≢ t.part) (take (i + 1) ss)
 unlike_more set ss i s added lt here holds is new_one unlike =
     let absent : contains part_order set s.part ≡ false = not_there (contains part_order set s.part) (sym is ∙ new_one) in
     let more : take (i + 1) ss ≡ take i ss ++ s ∷ [] = (take_at_read ss i s lt).1 ∙ ap (λ t. take i ss ++ t ∷ []) (sym here) in
-    subst AreUnlike (sym more) (unlike_push (take i ss) s unlike (λ k e l same.
+    subst (AllPairs (λ s t. s.part ≢ t.part)) (sym more) (all_pairs_push (λ s t. s.part ≢ t.part) (take i ss) s unlike (λ k e l same.
     different (sym absent ∙ (holds_any set (take i ss) holds s.part).1 (k, get_or (take i ss) k e, l, at_default (take i ss) k e l, same)))) where
       different : ◌≡◌ {A = Bool} false true → ⊥
       different e = cc
@@ -74,22 +68,16 @@ unlike_more set ss i s added lt here holds is new_one unlike =
       at_default (x ∷ xs) zero e l = refl
       at_default (x ∷ xs) (suc k) e l = at_default xs k e (omega (arith, l))
 
-two_unlike : (ss : List Section) (i k : ℕ) (d : Section) → k < i → i < length ss → AreUnlike ss → (get_or ss k d).part ≡ (get_or ss i d).part → ⊥
-two_unlike [] i k d lt l u e = absurd (omega (arith, l))
-two_unlike (s ∷ ss) zero k d lt l u e = absurd (omega (arith, lt))
-two_unlike (s ∷ ss) (suc i) zero d lt l u e = u.0 i d (omega (arith, l)) (sym e)
-two_unlike (s ∷ ss) (suc i) (suc k) d lt l u e = two_unlike ss i k d (omega (arith, lt)) (omega (arith, l)) u.1 e
-
 -- a part that an earlier section is of
 pub not_unlike : (set : BTreeSet SectionPart) (ss : List Section) (i : ℕ) (s : Section) (added : Bool) → i < length ss → s ≡ get_or ss i s → HoldsAll set (take i ss) →
-    added ≡ not (contains part_order set s.part) → added ≡ false → AreUnlike ss → ⊥
+    added ≡ not (contains part_order set s.part) → added ≡ false → AllPairs (λ s t. s.part ≢ t.part) ss → ⊥
 not_unlike set ss i s added lt here holds is old_one unlike =
     let (k, t, l, at, same) = (holds_any set (take i ss) holds s.part).0 (there_already (contains part_order set s.part) (sym is ∙ old_one)) in
     let len = length-take i ss in
     let below : k < i = omega (arith, l, len) in
     let there : k < length ss = omega (arith, below, lt) in
     let earlier : get_or ss k s ≡ t = same_get ss k s t there ∙ sym (get_or-take i ss k t below) ∙ at in
-    two_unlike ss i k s below lt unlike (ap (λ (s : Section). s.part) earlier ∙ same ∙ ap (λ (s : Section). s.part) here) where
+    unlike k i s below lt (ap (λ (s : Section). s.part) earlier ∙ same ∙ ap (λ (s : Section). s.part) here) where
       there_already : (b : Bool) → not b ≡ false → b ≡ true
       there_already true e = refl
       there_already false e = cc

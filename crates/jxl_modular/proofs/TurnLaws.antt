@@ -1,6 +1,7 @@
 -- One section after another: what the loop over sections keeps, how it goes on by one turn, and how it ends.
 use Rattle.std.proofs.Common.{◌≡◌, ◌↔◌, ℕ, Bool, true, false, not, ◌&&◌, ◌+◌, ◌<◌, inl, inr, List, [], ◌∷◌, ◌++◌, map, take, drop, length, get_or, Result, Ok, Err, ℤ, refl, sym, ap, ◌∙◌, subst, arith, append_assoc}
 use Rattle.std.specs.Prelude.{sum, IsTrue, MatchBool, Option}
+use Rattle.std.specs.List.{All}
 use Rattle.std.specs.Int.{Width}
 use Rattle.std.proofs.lemmas.List.{take_more, take-append-drop, append-nil}
 use Rattle.std.proofs.lemmas.List.Sums.{sum-map, sum_by_push}
@@ -18,7 +19,7 @@ use Rattle.jxlm_part.specs.Decode.{MovesWithin}
 use Rattle.jxlm_part.specs.Part.{cell_count}
 use Rattle.jxlm_ma.specs.Tree.{Config}
 use Rattle.jxl_modular.specs.Image.{Image, IsOnlyImage, coded_grids, image_grids}
-use Rattle.jxl_modular.specs.Inner.Turns.{HasStopped, HasTurned, PlainGives, TurnGives}
+use Rattle.jxl_modular.specs.Inner.Turns.{HasStopped, HasTurned, PlainGives, PlainTurn, TurnGives}
 use Rattle.jxl_modular.specs.SameButCells.{SameButCells}
 use Rattle.jxl_modular.proofs.Filling.{only_of}
 use Rattle.jxl_modular.proofs.Laid.{same_but_store}
@@ -26,7 +27,7 @@ use Rattle.jxl_modular.proofs.PartLaws.{by_depth}
 use Rattle.jxlm_nested.proofs.PartFacts.{as_test}
 use Rattle.jxl_modular.specs.Groups.{PartOfGives, channels_in, held_in}
 use Rattle.jxl_modular.specs.NestedTurns.{NestedGives}
-use Rattle.jxl_modular.specs.Sections.{AllTurn, AllWhole, EndsAt, IsComplete, PlainTurn, Section, SectionTurn, SectionsLeave, SectionsStop, Turn, most}
+use Rattle.jxl_modular.specs.Sections.{AllTurn, IsComplete, Section, SectionTurn, SectionsLeave, SectionsStop, Turn, most}
 
 -- ---- images that differ in cells alone
 
@@ -50,10 +51,10 @@ moves_next before now after ts t h k =
     let same : sum (map most (ts ++ t ∷ [])) ≡ sum (map most ts) + most t = sum-map most (ts ++ t ∷ []) ∙ sum_by_push most ts t ∙ ap (λ n. n + most t) (sym (sum-map most ts)) in
     subst (MovesWithin before after) (sym same) (moves_both before now after (sum (map most ts)) (most t) h k)
 
-whole_next : (ts : List Turn) (t : Turn) → AllWhole ts → t.partial ≡ false → AllWhole (ts ++ t ∷ [])
+whole_next : (ts : List Turn) (t : Turn) → All (λ t. t.partial ≡ false) ts → t.partial ≡ false → All (λ t. t.partial ≡ false) (ts ++ t ∷ [])
 whole_next ts t all one = let P : Turn → Type 0 = λ t. t.partial ≡ false in All-append P ts (t ∷ []) all (All-cons P t [] one (λ k d l. absurd (omega (arith, l))))
 
-whole_parts : (ts : List Turn) (t : Turn) → AllWhole (ts ++ t ∷ []) → AllWhole ts × (t.partial ≡ false)
+whole_parts : (ts : List Turn) (t : Turn) → All (λ t. t.partial ≡ false) (ts ++ t ∷ []) → All (λ t. t.partial ≡ false) ts × (t.partial ≡ false)
 whole_parts [] t all = (λ k d l. absurd (omega (arith, l)), All-head (λ (t : Turn). t.partial ≡ false) t [] all)
 whole_parts (u ∷ ts) t all =
     let rest = whole_parts ts t (All-tail (λ (t : Turn). t.partial ≡ false) u (ts ++ t ∷ []) all) in
@@ -112,19 +113,9 @@ module _ {S D : Type 0} (d : Meaning D) (w : Width) (to_int : S → ℤ) (zero :
   Left = AllTurn d w to_int zero x passes global partly
 
   -- the turn of an image that differs in cells alone is one of the earlier image
-  match_both : {P Q R T : Type 0} (b : Bool) → (P → R) → (Q → T) → MatchBool b P Q → MatchBool b R T
-  match_both true f g h = f h
-  match_both false f g h = g h
-
-  plain_of_store : (store : List (Grid S)) (s : Section) (r : Result (Unit {0}) Error) (t : Turn) (old new : List (Grid S)) →
-      PlainTurn d w to_int (record x { store = store }) passes partly s r t old new → PlainTurn d w to_int x passes partly s r t old new
-  plain_of_store store s r t old new h = record { answers = h.answers; outside = h.outside; tree = h.tree }
-
   of_image : (y : Image S D) (s : Section) (r : Result (Unit {0}) Error) (t : Turn) (old new : List (Grid S)) → SameButCells x y →
       SectionTurn d w to_int zero y passes global partly s r t old new → SectionTurn d w to_int zero x passes global partly s r t old new
-  of_image y s r t old new same h =
-      match_both s.nested (λ n. n) (plain_of_store y.store s r t old new)
-      (subst (λ (z : Image S D). SectionTurn d w to_int zero z passes global partly s r t old new) same.rest h)
+  of_image y s r t old new same = subst (λ (z : Image S D). SectionTurn d w to_int zero z passes global partly s r t old new) same.rest
 
   -- a section with a header of its own: what decoding its part gives is its turn
   match_true : {P : Type 0} (Q : Type 0) (b : Bool) → b ≡ true → P → MatchBool b P Q
@@ -209,10 +200,6 @@ module _ {S D : Type 0} (d : Meaning D) (w : Width) (to_int : S → ℤ) (zero :
   abbrev no_turn : Turn
   no_turn = record { position = 0; partial = false; tried = 0; tree = x.config.tree }
 
-  not_begun : (ss : List Section) (e : Error) (old : List (Grid S)) → kind_of e ≡ NoMemory → EndsAt d w to_int zero x passes global partly ss e no_turn old old
-  not_begun [] e old memory = record { because = memory; unchanged = refl; tries = refl }
-  not_begun (s ∷ ss) e old memory = inl (record { because = memory; unchanged = refl; tries = refl })
-
   -- out of memory before the first section
   pub stops_first : (ss : List Section) (e : Error) (old : List (Grid S)) (n : ℕ) → kind_of e ≡ NoMemory → SectionsStop d w to_int zero x passes global partly ss e old old n n
   stops_first ss e old n memory = record {
@@ -223,7 +210,7 @@ module _ {S D : Type 0} (d : Meaning D) (w : Width) (to_int : S → ℤ) (zero :
     between = old;
     left = refl;
     last = no_turn;
-    ends = not_begun ss e old memory;
+    ends = inl (record { because = memory; unchanged = refl; tries = refl });
     counted = (omega arith, omega arith);
   }
 
@@ -238,7 +225,7 @@ module _ {S D : Type 0} (d : Meaning D) (w : Width) (to_int : S → ℤ) (zero :
     between = h.between;
     left = h.left;
     last = h.last;
-    ends = inr h.ends;
+    ends = inr (h.next, h.rest, refl, h.ends);
     counted = h.counted;
   }
 
@@ -253,6 +240,6 @@ module _ {S D : Type 0} (d : Meaning D) (w : Width) (to_int : S → ℤ) (zero :
     between = new;
     left = turned.left;
     last = no_turn;
-    ends = record { because = memory; unchanged = refl; tries = refl };
+    ends = inl (record { because = memory; unchanged = refl; tries = refl });
     counted = let (a, b) = turned.counted in (a, omega (arith, b));
   }

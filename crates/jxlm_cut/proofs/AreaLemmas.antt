@@ -23,7 +23,7 @@ use Rattle.jxlm_cut.specs.Counts.{group_count, is_kind}
 use Rattle.jxlm_cut.specs.Cutting.{Kind, global_count, is_low_frequency, pass_of}
 use Rattle.jxlm_cut.specs.Inner.Squares.{IsInPicture, first_groups}
 use Rattle.jxlm_cut.specs.Parts.{part_in}
-use Rattle.jxlm_cut.specs.Passes.{Pass, can_group, hold_shifts, one_picture}
+use Rattle.jxlm_cut.specs.Passes.{Pass, can_group, one_picture}
 use Rattle.jxlm_cut.specs.Pieces.{SectionPart}
 use Rattle.jxlm_cut.specs.declared.area.Area.{Area}
 use Rattle.jxlm_cut.specs.declared.area.PartArea.{PartArea}
@@ -140,7 +140,7 @@ of_picture dim passes given steps l own some can applies n c e le =
     let one : Bool = one_picture cs in
     let there : Bool = not (length passes == 0) in
     let numbers : Bool = list_all (λ (p : Pass). nat_le p.number 255) passes in
-    let alike : one ≡ true = (both_of one there (both_of (one && there) numbers (both_of (one && there && numbers) (hold_shifts passes) can).0).0).0 in
+    let alike : one ≡ true = (both_of one there (both_of (one && there) numbers (both_of (one && there && numbers) _ can).0).0).0 in
     let picture = own_picture cs own alike in
     let sides = own_picture-is cs own alike in
     let pictured = pictured_after_all picture.w picture.h steps given l applies some (λ i d le lt. picture.each i d lt) in

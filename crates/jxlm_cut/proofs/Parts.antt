@@ -15,7 +15,7 @@ use Rattle.jxlm_cut.proofs.Pictured.{IsOfPicture, IsOwn, image_of_picture, is_cu
 use Rattle.jxlm_cut.proofs.HeldCells.{hold_each}
 use Rattle.jxlm_cut.proofs.Steps.{IsPictured, pictured_after_all}
 use Rattle.jxlm_cut.specs.Areas.{picture_of}
-use Rattle.jxlm_cut.specs.Passes.{Pass, can_group, hold_shifts, is_of_picture_of, one_picture}
+use Rattle.jxlm_cut.specs.Passes.{Pass, can_group, is_of_picture_of, one_picture}
 use Rattle.jxlm_cut.specs.Cutting.{can_cut, cell_width, cell_height, global_count}
 use Rattle.jxlm_cut.specs.Parts.{HoldEachCellOnce, PartsHoldEachCellOnce}
 
@@ -83,7 +83,7 @@ own_once dim passes given steps l group own some can applies cut =
     let a : Bool = one_picture cs in
     let b : Bool = not (length passes == 0) in
     let c : Bool = list_all (λ (p : Pass). nat_le p.number 255) passes in
-    let picture = own_picture cs own (both_of a b (both_of (a && b) c (both_of (a && b && c) (hold_shifts passes) can).0).0).0 in
+    let picture = own_picture cs own (both_of a b (both_of (a && b) c (both_of (a && b && c) _ can).0).0).0 in
     let pictured : IsPictured picture.w picture.h l = pictured_after_all picture.w picture.h steps given l applies some (λ i d le lt. picture.each i d lt) in
     hold_each dim passes l (each_cut dim picture.w picture.h l group pictured cut)
 

@@ -1,7 +1,7 @@
 -- Each piece lies inside its channel, and is as large as the part's channel of it; parts with cells exist.
-use Rattle.std.proofs.Common.{◌≡◌, ◌≢◌, ℕ, zero, suc, ◌+◌, ◌*◌, ◌-◌, ◌<◌, ◌≤◌, min, ◌==◌, ◌&&◌, if◌then◌else◌, inl, inr, Bool, true, false, nat_lt, List, [], ◌∷◌, map, length, get_or, Option, Some, None, refl, sym, ap, ◌∙◌, subst, arith}
-use Rattle.std.specs.List.{All, AllPairs, filter_map, enumerate_from, cons_option, slice_get}
-use Rattle.std.proofs.lemmas.Bool.{cases_lt, ltb-true, lt-ltb}
+use Rattle.std.proofs.Common.{◌≡◌, ◌≢◌, ℕ, zero, suc, ◌+◌, ◌*◌, ◌-◌, ◌<◌, ◌≤◌, min, ◌==◌, ◌&&◌, ◌||◌, max, if◌then◌else◌, inl, inr, Bool, true, false, nat_lt, List, [], ◌∷◌, map, length, get_or, Option, Some, None, refl, sym, ap, ◌∙◌, subst, arith}
+use Rattle.std.specs.List.{All, AllPairs, filter_map, enumerate_from, cons_option, list_any, slice_get}
+use Rattle.std.proofs.lemmas.Bool.{cases_lt, le-ltb, lt-ltb, ltb-true, or_left, or_right}
 use Rattle.std.specs.Int.{div_ceil}
 use Rattle.std.proofs.lemmas.List.Elements.{All-cons, All-head, All-tail, All-map}
 use Rattle.jxlm_base.specs.Grid.{Grid}
@@ -10,7 +10,6 @@ use Rattle.jxlm_base.specs.declared.subgrid.Region.{Region}
 use Rattle.jxlm_chain.specs.Layout.{no_region}
 use Rattle.jxlm_base.proofs.Regions.{apart_at}
 use Rattle.jxlm_chain.proofs.ListsApart.{pairs_cons}
-use Rattle.jxlm_chain.proofs.StepFacts.{both_of}
 use Rattle.jxlm_transform.specs.Channels.{AreRegionsOf, Channel, ChannelList}
 use Rattle.jxlm_transform.specs.ChannelSteps.{table_channel}
 use Rattle.jxlm_cut.proofs.Apart.{IsInside, outer_cell}
@@ -21,7 +20,7 @@ use Rattle.jxlm_cut.proofs.HeldCells.{into, own_piece, same_some, none_some}
 use Rattle.jxlm_cut.specs.Passes.{Pass}
 use Rattle.jxlm_cut.specs.Cutting.{Kind, columns, rows, is_low_frequency, span, cell_width, cell_height, global_count, kind_of}
 use Rattle.jxlm_cut.specs.Pieces.{SectionPart, piece, piece_in, piece_of_group, pieces, where_some, channel_in, part_channels, within, in_store}
-use Rattle.jxlm_cut.specs.Counts.{is_kind, maximum, groups_of, group_count, exists}
+use Rattle.jxlm_cut.specs.Counts.{is_kind, maximum, groups_of, group_count, exists, has_group}
 use Rattle.jxlm_cut.specs.Parts.{HaveCell}
 use Rattle.jxlm_cut.specs.declared.part.Kind.TheVariants as kinds
 use Rattle.jxlm_cut.specs.declared.part.SectionPart.TheVariants as parts
@@ -155,56 +154,82 @@ pieces_lie store coded ps lie inside =
 
 -- ---- counts
 
-maximum_above : (n : ℕ) (ns : List ℕ) (i : ℕ) (d : ℕ) → i < length ns → n < get_or ns i d → n < maximum ns
-maximum_above n [] i d l h = absurd (omega (arith, l))
-maximum_above n (m ∷ ns) zero d l h = omega (arith, h)
-maximum_above n (m ∷ ns) (suc i) d l h = let k = maximum_above n ns i d (omega (arith, l)) h in omega (arith, k)
+-- a channel of which a test holds is found
+found_from : (test : ℕ × Channel → Bool) (m : ℕ) (cs : List Channel) (i : ℕ) (c : Channel) → slice_get cs i ≡ Some c → test (m + i, c) ≡ true → list_any test (enumerate_from m cs) ≡ true
+found_from test m [] i c e h = absurd (none_some e)
+found_from test m (d ∷ cs) zero c e h =
+    let same : m + 0 ≡ m = omega arith in
+    or_left (test (m, d)) _ (subst (λ z. test (m, z) ≡ true) (sym (same_some e)) (subst (λ n. test (n, c) ≡ true) same h))
+found_from test m (d ∷ cs) (suc i) c e h =
+    let same : m + suc i ≡ m + 1 + i = omega arith in
+    or_right (test (m, d)) _ (found_from test (m + 1) cs i c e (subst (λ n. test (n, c) ≡ true) same h))
+
+-- some count is above k where the maximum is
+module _ (k : ℕ) (f : ℕ × Channel → ℕ) (test : ℕ × Channel → Bool) (same : (p : ℕ × Channel) → test p ≡ nat_lt k (f p)) where
+  above : (m n : ℕ) → (nat_lt k m || nat_lt k n) ≡ nat_lt k (max m n)
+  above m n = elim (cases_lt k m) [
+    | inl lt ↦ or_left (nat_lt k m) (nat_lt k n) (lt-ltb k m lt) ∙ sym (lt-ltb k (max m n) (omega (arith, lt)))
+    | inr ge ↦
+        ap (λ b. b || nat_lt k n) (le-ltb k m ge)
+        ∙ elim (cases_lt k n) [
+          | inl lt ↦ lt-ltb k n lt ∙ sym (lt-ltb k (max m n) (omega (arith, lt)))
+          | inr low ↦ le-ltb k n low ∙ sym (le-ltb k (max m n) (omega (arith, ge, low)))
+        ]
+  ]
+
+  any_counted : (ps : List (ℕ × Channel)) → list_any test ps ≡ nat_lt k (maximum (map f ps))
+  any_counted [] = sym (le-ltb k 0 (omega arith))
+  any_counted (p ∷ ps) = ap (λ b. b || list_any test ps) (same p) ∙ ap (λ b. nat_lt k (f p) || b) (any_counted ps) ∙ above (f p) (maximum (map f ps))
 
 module _ (dim : ℕ) (passes : List Pass) (l : ChannelList) where
-  -- a channel's groups count
-  counted_from : (f : ℕ × Channel → ℕ) (m : ℕ) (cs : List Channel) (i : ℕ) (c : Channel) (k : ℕ) → slice_get cs i ≡ Some c → k < f (m + i, c) → k < maximum (map f (enumerate_from m cs))
-  counted_from f m [] i c k e h = absurd (none_some e)
-  counted_from f m (d ∷ cs) zero c k e h =
-      let same : m + 0 ≡ m = omega arith in
-      let h' : k < f (m, d) = subst (λ z. k < f (m, z)) (sym (same_some e)) (subst (λ n. k < f (n, c)) same h) in
-      omega (arith, h')
-  counted_from f m (d ∷ cs) (suc i) c k e h =
-      let same : m + suc i ≡ m + 1 + i = omega arith in
-      let r = counted_from f (m + 1) cs i c k e (subst (λ n. k < f (n, c)) same h) in
-      omega (arith, r)
+  -- a group that has a cell of a channel is one that the channel is cut into
+  group_held : (kind : Kind) (name : SectionPart) (n x y : ℕ) (c : Channel) → name ≢ parts.Global → HasIn (piece_in dim kind name n c) n x y → has_group dim kind name c ≡ true
+  group_held kinds.Lf (parts.Lf k) n x y c group h = (some_in (nat_lt k (columns dim c * rows dim c)) (piece_of_group dim k n c) n x y h).0
+  group_held (kinds.Pass q) (parts.Pass p k) n x y c group h = (some_in ((p == q) && nat_lt k (columns dim c * rows dim c)) (piece_of_group dim k n c) n x y h).0
+  group_held kind parts.Global n x y c group h = absurd (group refl)
+  group_held kinds.Global (parts.Lf k) n x y c group h = absurd h
+  group_held kinds.Global (parts.Pass p k) n x y c group h = absurd h
+  group_held kinds.Lf (parts.Pass p k) n x y c group h = absurd h
+  group_held (kinds.Pass q) (parts.Lf k) n x y c group h = absurd h
 
-  kind_has : (kind mine : Kind) (c : Channel) (k : ℕ) → is_kind kind mine ≡ true → k < columns dim c * rows dim c → k < (if is_kind kind mine then columns dim c * rows dim c else 0)
-  kind_has kind mine c k is h = rw is h
-
-  group_there : (kind : Kind) (n : ℕ) (c : Channel) (k : ℕ) → slice_get l.channels n ≡ Some c → is_kind kind (kind_of passes (global_count dim l) n c) ≡ true → k < columns dim c * rows dim c → k < group_count dim passes l kind
-  group_there kind n c k e is h =
-      let f : ℕ × Channel → ℕ = groups_of dim passes (global_count dim l) kind in
-      let more : n ≡ 0 + n = omega arith in
-      counted_from f 0 l.channels n c k e (subst (λ i. k < f (i, c)) more (kind_has kind (kind_of passes (global_count dim l) n c) c k is h))
-
-  exists_in : (kind : Kind) (name : SectionPart) (n x y : ℕ) (c : Channel) → slice_get l.channels n ≡ Some c → kind_of passes (global_count dim l) n c ≡ kind → HasIn (piece_in dim kind name n c) n x y → exists dim passes l name ≡ true
-  exists_in kinds.Global parts.Global n x y c e is h = refl
-  exists_in kinds.Lf (parts.Lf k) n x y c e is h =
-      let t = some_in (nat_lt k (columns dim c * rows dim c)) (piece_of_group dim k n c) n x y h in
-      lt-ltb k (group_count dim passes l kinds.Lf) (group_there kinds.Lf n c k e (ap (is_kind kinds.Lf) is) (ltb-true k (columns dim c * rows dim c) t.0))
-  exists_in (kinds.Pass q) (parts.Pass p k) n x y c e is h =
-      let t = some_in ((p == q) && nat_lt k (columns dim c * rows dim c)) (piece_of_group dim k n c) n x y h in
-      let b = both_of (p == q) (nat_lt k (columns dim c * rows dim c)) t.0 in
-      lt-ltb k (group_count dim passes l (kinds.Pass p)) (group_there (kinds.Pass p) n c k e (ap (is_kind (kinds.Pass p)) is ∙ b.0) (ltb-true k (columns dim c * rows dim c) b.1))
-  exists_in kinds.Global (parts.Lf k) n x y c e is h = absurd h
-  exists_in kinds.Global (parts.Pass p k) n x y c e is h = absurd h
-  exists_in kinds.Lf parts.Global n x y c e is h = absurd h
-  exists_in kinds.Lf (parts.Pass p k) n x y c e is h = absurd h
-  exists_in (kinds.Pass q) parts.Global n x y c e is h = absurd h
-  exists_in (kinds.Pass q) (parts.Lf k) n x y c e is h = absurd h
-
-  -- A part that holds a cell exists.
-  pub held_exists : (name : SectionPart) (n x y : ℕ) → HaveCell (pieces dim passes l name) n x y → exists dim passes l name ≡ true
-  held_exists name n x y h =
+  group_there : (name : SectionPart) (n x y : ℕ) → name ≢ parts.Global → HaveCell (pieces dim passes l name) n x y →
+      list_any (λ p. has_group dim (kind_of passes (global_count dim l) p.0 p.1) name p.1) (enumerate_from 0 l.channels) ≡ true
+  group_there name n x y group h =
+      let test : ℕ × Channel → Bool = λ p. has_group dim (kind_of passes (global_count dim l) p.0 p.1) name p.1 in
       let r = into (piece dim passes (global_count dim l) name) (own_piece dim passes l name) 0 l.channels n x y h in
       let p = r.place in
       let same : r.i ≡ n = omega (arith, p) in
-      exists_in (kind_of passes (global_count dim l) n r.c) name n x y r.c (subst (λ k. slice_get l.channels k ≡ Some r.c) same r.channel) refl r.has
+      let more : n ≡ 0 + n = omega arith in
+      found_from test 0 l.channels n r.c (subst (λ k. slice_get l.channels k ≡ Some r.c) same r.channel)
+      (subst (λ i. test (i, r.c) ≡ true) more (group_held (kind_of passes (global_count dim l) n r.c) name n x y r.c group r.has))
+
+  -- A part that holds a cell exists.
+  pub held_exists : (name : SectionPart) (n x y : ℕ) → HaveCell (pieces dim passes l name) n x y → exists dim passes l name ≡ true
+  held_exists parts.Global n x y h = refl
+  held_exists (parts.Lf k) n x y h = group_there (parts.Lf k) n x y (λ e. cc) h
+  held_exists (parts.Pass p k) n x y h = group_there (parts.Pass p k) n x y (λ e. cc) h
+
+  -- A group exists where its number is below the count of them.
+  gate : (b : Bool) (k n : ℕ) → (b && nat_lt k n) ≡ nat_lt k (if b then n else 0)
+  gate true k n = refl
+  gate false k n = sym (le-ltb k 0 (omega arith))
+
+  lf_by : (kind : Kind) (k : ℕ) (c : Channel) → has_group dim kind (parts.Lf k) c ≡ nat_lt k (if is_kind kinds.Lf kind then columns dim c * rows dim c else 0)
+  lf_by kinds.Global k c = gate false k 0
+  lf_by kinds.Lf k c = refl
+  lf_by (kinds.Pass q) k c = gate false k 0
+
+  pass_by : (p : ℕ) (kind : Kind) (k : ℕ) (c : Channel) → has_group dim kind (parts.Pass p k) c ≡ nat_lt k (if is_kind (kinds.Pass p) kind then columns dim c * rows dim c else 0)
+  pass_by p kinds.Global k c = gate false k 0
+  pass_by p kinds.Lf k c = gate false k 0
+  pass_by p (kinds.Pass q) k c = gate (p == q) k (columns dim c * rows dim c)
+
+  pub lf_exists : (k : ℕ) → exists dim passes l (parts.Lf k) ≡ nat_lt k (group_count dim passes l kinds.Lf)
+  lf_exists k = any_counted k (groups_of dim passes (global_count dim l) kinds.Lf) _ (λ p. lf_by (kind_of passes (global_count dim l) p.0 p.1) k p.1) (enumerate_from 0 l.channels)
+
+  pub pass_exists : (p k : ℕ) → exists dim passes l (parts.Pass p k) ≡ nat_lt k (group_count dim passes l (kinds.Pass p))
+  pass_exists p k =
+      any_counted k (groups_of dim passes (global_count dim l) (kinds.Pass p)) _ (λ i. pass_by p (kind_of passes (global_count dim l) i.0 i.1) k i.1) (enumerate_from 0 l.channels)
 
 -- ---- a count is that of some channel, and all channels of a kind have it
 

@@ -1,6 +1,6 @@
 -- How many groups there are, and which parts exist (ISO/IEC 18181-1, frame: groups, LF groups and passes).
-use Rattle.std.specs.Prelude.{ℕ, ◌*◌, max, List, [], ◌∷◌, map, Bool, true, false, ◌==◌, nat_lt, if◌then◌else◌}
-use Rattle.std.specs.List.{enumerate_from}
+use Rattle.std.specs.Prelude.{ℕ, ◌*◌, max, List, [], ◌∷◌, map, Bool, true, false, ◌&&◌, ◌==◌, nat_lt, if◌then◌else◌}
+use Rattle.std.specs.List.{enumerate_from, list_any}
 use Rattle.jxlm_transform.specs.Channels.{Channel, ChannelList}
 use Rattle.jxlm_cut.specs.Passes.{Pass}
 use Rattle.jxlm_cut.specs.Cutting.{Kind, columns, rows, global_count, kind_of}
@@ -30,8 +30,14 @@ abbrev pub group_count : ℕ → List Pass → ChannelList → Kind → ℕ
 group_count dim passes l kind =
     maximum (map (groups_of dim passes (global_count dim l) kind) (enumerate_from 0 l.channels))
 
--- there is such a part: the global part is always there
+-- the part is one of the groups that a channel with its number is cut into
+abbrev pub has_group : ℕ → Kind → SectionPart → Channel → Bool
+has_group dim kinds.Lf (parts.Lf k) c = nat_lt k (columns dim c * rows dim c)
+has_group dim (kinds.Pass q) (parts.Pass p k) c = (p == q) && nat_lt k (columns dim c * rows dim c)
+has_group dim other name c = false
+
+-- there is such a part: the global part is always there, and a group where some channel is cut into it
 abbrev pub exists : ℕ → List Pass → ChannelList → SectionPart → Bool
 exists dim passes l parts.Global = true
-exists dim passes l (parts.Lf k) = nat_lt k (group_count dim passes l kinds.Lf)
-exists dim passes l (parts.Pass p k) = nat_lt k (group_count dim passes l (kinds.Pass p))
+exists dim passes l name =
+    list_any (λ p. has_group dim (kind_of passes (global_count dim l) p.0 p.1) name p.1) (enumerate_from 0 l.channels)

@@ -1,8 +1,9 @@
 -- How each coded channel is cut: whole, into LF groups, or into the groups of a pass
 -- (ISO/IEC 18181-1, frame: groups, LF groups and passes; Modular: global and group sub-bitstreams).
-use Rattle.std.specs.Prelude.{ℕ, ◌+◌, ◌*◌, ◌/◌, ◌^◌, List, drop, find, Bool, ◌&&◌, nat_lt, nat_le, if◌then◌else◌, ℤ, pos, int_le, unsigned_abs, Option, Some, None}
+use Rattle.std.specs.Prelude.{ℕ, ◌+◌, ◌*◌, ◌/◌, ◌^◌, List, drop, find, Bool, ◌&&◌, nat_lt, nat_le, if◌then◌else◌, ℤ, pos, int_le, unsigned_abs}
 use Rattle.std.specs.List.{list_all, prefix_len}
 use Rattle.std.specs.Int.{div_ceil}
+use Rattle.std.specs.Option.{option_map_or}
 use Rattle.jxlm_transform.specs.Channels.{Channel, ChannelList}
 use Rattle.jxlm_cut.specs.Passes.{Pass, holds}
 pub use Rattle.jxlm_cut.specs.declared.part.Kind.{Kind}
@@ -29,14 +30,10 @@ least_shift c = if int_le c.hshift c.vshift then c.hshift else c.vshift
 abbrev pub is_low_frequency : Channel → Bool
 is_low_frequency c = int_le (pos 3) (least_shift c)
 
--- the number of a pass; where there is none, 256, which is no pass's number where an image can be cut
-abbrev pub number_of : Option Pass → ℕ
-number_of (Some p) = p.number
-number_of None = 256
-
--- the number of the first pass that holds the smaller shift of a channel (Modular: the pass of a channel)
+-- the number of the first pass that holds the smaller shift of a channel (Modular: the pass of a channel); where none
+-- does, 256, which is no pass's number where an image can be cut
 abbrev pub pass_of : List Pass → Channel → ℕ
-pass_of passes c = number_of (find (holds (least_shift c)) passes)
+pass_of passes c = option_map_or (λ p. p.number) (find (holds (least_shift c)) passes) 256
 
 -- how channel n, of which the global part has the first count, is held: whole, by LF groups, or by the groups of a pass
 abbrev pub kind_of : List Pass → ℕ → ℕ → Channel → Kind

@@ -22,13 +22,9 @@ abbrev pub one_picture : List Channel → Bool
 one_picture [] = true
 one_picture (c ∷ cs) = list_all (is_of_picture_of c) cs
 
--- each shift from 0 to 2 is held by some pass: no channel that is not of the LF groups is left over
-abbrev pub hold_shifts : List Pass → Bool
-hold_shifts passes =
-    list_any (holds (pos 0)) passes && list_any (holds (pos 1)) passes && list_any (holds (pos 2)) passes
-
 -- An image of these channels, before its transforms, can be cut into groups: its channels are of one picture, there is
 -- a pass, pass numbers are at most 255, and each shift from 0 to 2 has its pass (own: what cutting needs of a frame).
 abbrev pub can_group : List Pass → List Channel → Bool
 can_group passes given =
-    one_picture given && not (length passes == 0) && list_all (λ p. nat_le p.number 255) passes && hold_shifts passes
+    one_picture given && not (length passes == 0) && list_all (λ p. nat_le p.number 255) passes
+    && (list_any (holds (pos 0)) passes && list_any (holds (pos 1)) passes && list_any (holds (pos 2)) passes)

@@ -2,8 +2,8 @@
 
 ghost use Rattle.std.specs.Prelude.{◌≡◌, pos, IfOk, find, nat_le};
 ghost use Rattle.std.specs.List.{list_all, list_any};
+ghost use Rattle.std.specs.Option.{option_map_or};
 ghost use Rattle.jxlm_cut.specs.Passes.{can_group as the_groupable, holds as the_held, is_of_picture_of as the_alike, one_picture as the_one_picture, passes_of};
-ghost use Rattle.jxlm_cut.specs.Cutting.{number_of};
 
 use jxlm_base::grid::OutOfMemory;
 use jxlm_transform::channels::ModularChannelInfo;
@@ -62,7 +62,7 @@ pub fn passes(
 
 /// The number of the first pass that holds a shift; 256 where none does.
 pub(crate) fn pass_with(passes: &[Pass], shift: i32) -> u32
-    ensures { result ≡ number_of (find (the_held shift) passes.now) }
+    ensures { result ≡ option_map_or (λ p. p.number) (find (the_held shift) passes.now) 256 }
 {
     match passes.iter().find(|pass| pass.holds(shift)) {
         Some(pass) => pass.number,

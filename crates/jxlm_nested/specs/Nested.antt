@@ -3,7 +3,7 @@
 use Rattle.std.specs.Prelude.{◌≡◌, ◌⊎◌, ℕ, ◌+◌, ◌*◌, ℤ, List, ◌++◌, length, take, Bool, nat_lt, Option, Result, Ok, Err}
 use Rattle.std.specs.Int.{Width}
 use Rattle.jxlm_base.specs.Decoding.{Meaning}
-use Rattle.jxlm_base.specs.ErrorKind.{UnlessMemory, kind_of}
+use Rattle.jxlm_base.specs.ErrorKind.{NoMemory, UnlessMemory, kind_of}
 use Rattle.jxlm_base.specs.Grammar.{IsErrorAt}
 use Rattle.jxlm_base.specs.Grid.{Grid}
 use Rattle.jxlm_base.specs.Outside.{KeepsOutside}
@@ -12,18 +12,16 @@ use Rattle.jxlm_base.specs.declared.error.Error.{Error}
 use Rattle.jxlm_base.specs.declared.subgrid.Region.{Region}
 use Rattle.jxlm_chain.specs.Chain.{IsOnlyImage}
 use Rattle.jxlm_chain.specs.Layout.{layout_after_all}
-use Rattle.jxlm_header.specs.Opening.{Opening}
 use Rattle.jxlm_part.specs.Decode.{DecodeGives}
-use Rattle.jxlm_part.specs.Part.{cell_count}
+use Rattle.jxlm_part.specs.Part.{Part, cell_count}
 use Rattle.jxlm_part.specs.Placed.{standing_in}
 use Rattle.jxlm_transform.specs.Channels.{ChannelList}
 use Rattle.jxlm_transform.specs.ChannelSteps.{Step}
 use Rattle.jxlm_transform.specs.Steps.{tables_of}
 use Rattle.jxlm_ma.specs.Tree.{Config, Shape, depth}
-use Rattle.jxlm_ma.specs.TreeReading.{IsOutOfMemory}
 use Rattle.jxlm_ma.specs.declared.flat.Leaf.{Leaf}
 use Rattle.jxlm_nested.specs.Zeros.{zeros}
-use Rattle.jxlm_nested.specs.Starts.{IsStartAt, IsTreeErrorAt, coded_part, opened}
+use Rattle.jxlm_nested.specs.Starts.{IsTreeErrorAt, Start, coded_part, opened}
 
 -- what the decoding of a part shows beside samples: where its reader is afterwards, whether samples are missing, for how
 -- many samples a read was tried, and by which tree
@@ -51,26 +49,27 @@ pub record NotBegun {S : Type 0} (reason : Type 0) (t : Turn) (old new : List (G
   pub unchanged : new ≡ old
   pub tries : t.tried ≡ 0
 
+-- What decoding the samples of a part from bit position p returns, where its channels lie in these regions, and what it
+-- leaves: cells of other parts stay.
+pub record PartTurn {S D : Type 0} (d : Meaning D) (w : Width) (to_int : S → ℤ) (part : Part) (bytes : List ℕ) (decoder : D)
+    (p : ℕ) (regions : List Region) (partly : Bool) (result : Result (Unit {0}) Error) (t : Turn) (old new : List (Grid S)) : Type 0 where
+  pub answers : DecodeGives d w part bytes decoder
+      (standing_in to_int regions old p (nat_lt 0 (cell_count part.channels)))
+      (standing_in to_int regions new t.position t.partial) partly result t.tried
+  pub outside : KeepsOutside regions old new
+  pub tree : t.tree ≡ part.tree
+
 -- a part that begins at bit position p: its channels, its regions in the store, and the index of its stream
 module _ {S D : Type 0} (d : Meaning D) (w : Width) (to_int : S → ℤ) (zero : S) (bit_depth : ℕ) (global : Option (Config D)) (bytes : List ℕ) (p : ℕ) (list : ChannelList) (regions : List Region) (stream : ℕ) where
-  -- its header and its tree, and where its samples begin
-  pub record NestedStart : Type 0 where
-    pub head : Opening
-    pub config : Config D
-    pub samples_at : ℕ
-    pub start : IsStartAt d global bytes list p head config samples_at
-
-  -- what decoding its samples returns, and what it leaves: cells of other parts stay
-  pub record NestedDecodes (partly : Bool) (s : NestedStart) (result : Result (Unit {0}) Error) (t : Turn) (store now : List (Grid S)) : Type 0 where
-    pub answers : DecodeGives d w (coded_part stream s.head s.config) bytes s.config.decoder
-        (standing_in to_int (nested_regions regions s.head.coded.steps store) (with_tables zero s.head.coded.steps store) s.samples_at (nat_lt 0 (cell_count s.head.coded.list.channels)))
-        (standing_in to_int (nested_regions regions s.head.coded.steps store) now t.position t.partial) partly result t.tried
-    pub outside : KeepsOutside (nested_regions regions s.head.coded.steps store) (with_tables zero s.head.coded.steps store) now
-    pub tree : t.tree ≡ s.config.tree
+  -- the turn of its samples, where header and tree end, in a store with the tables
+  abbrev pub NestedDecodes : Bool → Start d global bytes list p → Result (Unit {0}) Error → Turn → List (Grid S) → List (Grid S) → Type 0
+  NestedDecodes partly s result t store now =
+      PartTurn d w to_int (coded_part stream s.head s.config) bytes s.config.decoder s.samples_at
+      (nested_regions regions s.head.coded.steps store) partly result t (with_tables zero s.head.coded.steps store) now
 
   -- Ok: its samples were decoded, and what the part has then is the only image that the transforms turn into them.
   pub record NestedDone (partly : Bool) (t : Turn) (old new : List (Grid S)) : Type 0 where
-    pub start : NestedStart
+    pub start : Start d global bytes list p
     pub now : List (Grid S)
     pub decoded : NestedDecodes partly start (Ok tt) t old now
     pub only : IsOnlyImage w bit_depth start.head.coded.steps list (grids_in regions (store_meanings to_int new)) (grids_in (nested_regions regions start.head.coded.steps old) (store_meanings to_int now))
@@ -78,11 +77,11 @@ module _ {S D : Type 0} (d : Meaning D) (w : Width) (to_int : S → ℤ) (zero :
 
   -- decoding returns this error, or it is out of memory after it: the samples stay as decoding left them, without tables
   pub record NestedStops (partly : Bool) (e : Error) (t : Turn) (old new : List (Grid S)) : Type 0 where
-    pub start : NestedStart
+    pub start : Start d global bytes list p
     pub now : List (Grid S)
     pub answer : Result (Unit {0}) Error
     pub decoded : NestedDecodes partly start answer t old now
-    pub cause : (answer ≡ Err e) ⊎ ((answer ≡ Ok tt) × IsOutOfMemory (kind_of e))
+    pub cause : (answer ≡ Err e) ⊎ ((answer ≡ Ok tt) × (kind_of e ≡ NoMemory))
     pub cut : new ≡ take (length old) now
 
   -- What decoding the part returns, and what it leaves. Before its first sample header or tree returns an error, or it is

@@ -1,11 +1,10 @@
 -- A part with a header of its own, as a program keeps it.
-use Rattle.std.specs.Prelude.{◌≡◌, ◌≤◌, ◌⊎◌, ℕ, ◌*◌, ℤ, List, ◌++◌, length, take, Bool, not, nat_lt, Option, Some, Result, Ok, Err}
+use Rattle.std.specs.Prelude.{◌≡◌, ◌≤◌, ◌⊎◌, ℕ, ◌*◌, ℤ, List, ◌++◌, length, take, Bool, not, Option, Some, Result, Ok, Err}
 use Rattle.std.specs.List.{All}
 use Rattle.std.specs.Int.{Width}
 use Rattle.jxlm_base.specs.Decoding.{Meaning}
 use Rattle.jxlm_base.specs.ErrorKind.{NoMemory, kind_of}
 use Rattle.jxlm_base.specs.Grid.{Grid}
-use Rattle.jxlm_base.specs.Outside.{KeepsOutside}
 use Rattle.jxlm_base.specs.Regions.{AllLie, LieApart}
 use Rattle.jxlm_base.specs.declared.error.Error.{Error}
 use Rattle.jxlm_base.specs.declared.subgrid.Region.{Region}
@@ -15,16 +14,14 @@ use Rattle.jxlm_chain.specs.Steps.{CanUndoAll, IsNarrowStore}
 use Rattle.jxlm_chain.specs.Undo.{UndoesAll}
 use Rattle.jxlm_chain.specs.Undoings.{SuitsWeights, undos_of}
 use Rattle.jxlm_header.specs.Opening.{Opening}
-use Rattle.jxlm_part.specs.Decode.{DecodeGives, MovesWithin}
-use Rattle.jxlm_part.specs.Part.{cell_count}
-use Rattle.jxlm_part.specs.Placed.{standing_in}
+use Rattle.jxlm_part.specs.Decode.{MovesWithin}
 use Rattle.jxlm_transform.specs.Channels.{AreRegionsOf, Channel, ChannelList, IsNarrow}
 use Rattle.jxlm_tree.specs.SelfCorrecting.{IsHeader}
 use Rattle.jxlm_ma.specs.Steps.{most_steps}
 use Rattle.jxlm_ma.specs.Tree.{Config}
 use Rattle.jxlm_nested.specs.Zeros.{zeros}
 use Rattle.jxlm_nested.specs.Opened.{IsOpened, opened_of, steps_of_header}
-use Rattle.jxlm_nested.specs.Nested.{Turn}
+use Rattle.jxlm_nested.specs.Nested.{PartTurn, Turn}
 use Rattle.jxlm_nested.specs.Starts.{IsStartAt, coded_part}
 use Rattle.jxlm_nested.specs.declared.nested.NestedPart.{NestedPart}
 
@@ -72,12 +69,8 @@ module _ {D : Type 0} where
 
 module _ {S D : Type 0} (d : Meaning D) (w : Width) (to_int : S → ℤ) (bytes : List ℕ) (stream : ℕ) (p : ℕ) (n : NestedPart D) (partly : Bool) where
   -- what decoding its samples from position p returns
-  pub record Decodes (result : Result (Unit {0}) Error) (t : Turn) (old now : List (Grid S)) : Type 0 where
-    pub answers : DecodeGives d w (coded_part stream (head_of n) n.config) bytes n.config.decoder
-        (standing_in to_int (regions_in n) old p (nat_lt 0 (cell_count (nested_channels n))))
-        (standing_in to_int (regions_in n) now t.position t.partial) partly result t.tried
-    pub outside : KeepsOutside (regions_in n) old now
-    pub tree : t.tree ≡ n.config.tree
+  abbrev pub Decodes : Result (Unit {0}) Error → Turn → List (Grid S) → List (Grid S) → Type 0
+  Decodes = PartTurn d w to_int (coded_part stream (head_of n) n.config) bytes n.config.decoder p (regions_in n) partly
 
   -- the same, and whether all samples were decoded
   abbrev pub DecodesTo : Result Bool Error → Turn → List (Grid S) → List (Grid S) → Type 0

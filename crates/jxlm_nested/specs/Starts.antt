@@ -21,6 +21,13 @@ module _ {D : Type 0} (d : Meaning D) (global : Option (Config D)) (bytes : List
     pub header : opened global bytes given p ≡ Ok (record { value = head; position = tree_at })
     pub tree : MatchBool head.uses_global ((global ≡ Some config) × (q ≡ tree_at)) (IsTreeAt d bytes (node_limit head.coded.list.channels) depth_limit tree_at config q)
 
+  -- there are such a header and tree, and this is where they end
+  pub record Start : Type 0 where
+    pub head : Opening
+    pub config : Config D
+    pub samples_at : ℕ
+    pub start : IsStartAt head config samples_at
+
   -- at p stands a header, and reading the MA tree after it returns this error, and the reader is at q then
   pub record IsTreeErrorAt (error : ErrorKind) (q : ℕ) : Type 0 where
     pub head : Opening

@@ -1,7 +1,8 @@
 -- The parts of an image by the one pass: which have cells, and that each of them is in order.
-use Rattle.std.proofs.Common.{◌≡◌, ℕ, zero, suc, ◌+◌, ◌*◌, ◌<◌, ◌≤◌, ◌⊎◌, inl, inr, ◌==◌, ◌&&◌, Bool, true, false, nat_lt, if◌then◌else◌, ℤ, pos, List, [], ◌∷◌, map, Option, Some, None, refl, sym, ap, ◌∙◌, subst, arith, eqb-true}
+use Rattle.std.proofs.Common.{◌≡◌, ◌≢◌, ℕ, zero, suc, ◌+◌, ◌*◌, ◌<◌, ◌≤◌, ◌⊎◌, inl, inr, ◌==◌, ◌&&◌, Bool, true, false, nat_lt, if◌then◌else◌, ℤ, pos, List, [], ◌∷◌, map, Option, Some, None, refl, sym, ap, ◌∙◌, subst, arith, eqb-true}
 use Rattle.std.specs.Prelude.{find, int_le, slice_get}
-use Rattle.std.specs.List.{All, enumerate_from}
+use Rattle.std.specs.List.{All, AllPairs, enumerate_from}
+use Rattle.std.specs.Option.{option_map_or}
 use Rattle.std.proofs.lemmas.Bool.{cases_lt, le-leb, lt-ltb, ltb-true}
 use Rattle.std.proofs.lemmas.List.Elements.{All-append, All-filter}
 use Rattle.jxlm_chain.proofs.StepFacts.{both_of}
@@ -9,11 +10,12 @@ use Rattle.jxlm_transform.specs.Channels.{Channel, ChannelList}
 use Rattle.jxlm_cut.proofs.Cover.{HasIn, some_in}
 use Rattle.jxlm_cut.proofs.HeldCells.{into, own_piece}
 use Rattle.jxlm_cut.proofs.PartChannels.{counts_cells}
+use Rattle.jxlm_cut.proofs.PieceFacts.{lf_exists, pass_exists}
 use Rattle.jxlm_cut.proofs.Parts.{get_of}
 use Rattle.jxlm_cut.proofs.Pictured.{IsOfPicture}
 use Rattle.jxlm_cut.proofs.Steps.{IsPictured}
 use Rattle.jxlm_cut.specs.Counts.{group_count, groups_of, maximum}
-use Rattle.jxlm_cut.specs.Cutting.{columns, global_count, is_low_frequency, kind_of, number_of, pass_of, rows}
+use Rattle.jxlm_cut.specs.Cutting.{columns, global_count, is_low_frequency, kind_of, pass_of, rows}
 use Rattle.jxlm_cut.specs.Parts.{HaveCell}
 use Rattle.jxlm_cut.specs.Passes.{holds}
 use Rattle.jxlm_cut.specs.Pieces.{piece, piece_in, piece_of_group, pieces}
@@ -22,7 +24,7 @@ use Rattle.jxlm_cut.specs.declared.part.SectionPart.TheVariants as parts
 use Rattle.jxlm_part.specs.Part.{cell_count}
 use Rattle.jxl_modular.specs.Groups.{Exists, channels_in, pieces_of}
 use Rattle.jxl_modular.specs.Image.{Image, coded_list}
-use Rattle.jxl_modular.specs.Sections.{AreUnlike, IsComplete}
+use Rattle.jxl_modular.specs.Sections.{IsComplete}
 use Rattle.jxl_modular.specs.declared.sections.Section.{Section}
 use Rattle.jxlm_cut.specs.declared.part.Kind.{Kind}
 use Rattle.jxlm_cut.specs.declared.part.SectionPart.{SectionPart}
@@ -31,7 +33,7 @@ use Rattle.jxlm_sections.proofs.PartLists.{AllDiffer, Differ, IsAmong, among_fil
 
 -- ---- a channel of a picture is whole, of the LF groups, or of the groups of the pass
 
-in_pass : (m : ℕ) → int_le (pos 3) (pos m) ≡ false → number_of (find (holds (pos m)) one_pass) ≡ 0
+in_pass : (m : ℕ) → int_le (pos 3) (pos m) ≡ false → option_map_or (λ p. p.number) (find (holds (pos m)) one_pass) 256 ≡ 0
 in_pass zero e = refl
 in_pass (suc zero) e = refl
 in_pass (suc (suc zero)) e = refl
@@ -46,7 +48,7 @@ least_of false h v m n p q = (n, q)
 pass_is : (w h : ℕ) (c : Channel) → IsOfPicture w h c → is_low_frequency c ≡ false → pass_of one_pass c ≡ 0
 pass_is w h c is high =
     let (m, least) = least_of (int_le c.hshift c.vshift) c.hshift c.vshift is.across.shift is.down.shift is.across.is is.down.is in
-    ap (λ s. number_of (find (holds s) one_pass)) least ∙ in_pass m (sym (ap (λ s. int_le (pos 3) s) least) ∙ high)
+    ap (λ s. option_map_or (λ p. p.number) (find (holds s) one_pass) 256) least ∙ in_pass m (sym (ap (λ s. int_le (pos 3) s) least) ∙ high)
 
 data IsKnown (kind : Kind) : Type 0 where
   OfGlobal : kind ≡ kinds.Global → IsKnown kind
@@ -177,8 +179,8 @@ module _ {S D : Type 0} (x : Image S D) where
     groups_exist : All (Exists x one_pass) (groups_in_order x)
     groups_exist =
         All-append (Exists x one_pass) (with_samples x (lf_groups lf_count)) (with_samples x (pass_groups pass_count))
-        (All-filter has_samples (Exists x one_pass) (lf_groups lf_count) (each_of_range (λ k. parts.Lf k) (Exists x one_pass) 0 lf_count (λ k low lt. lt-ltb k lf_count (omega (arith, lt)))))
-        (All-filter has_samples (Exists x one_pass) (pass_groups pass_count) (each_of_range (λ k. parts.Pass 0 k) (Exists x one_pass) 0 pass_count (λ k low lt. lt-ltb k pass_count (omega (arith, lt)))))
+        (All-filter has_samples (Exists x one_pass) (lf_groups lf_count) (each_of_range (λ k. parts.Lf k) (Exists x one_pass) 0 lf_count (λ k low lt. lf_exists x.group_dim one_pass (coded_list x) k ∙ lt-ltb k lf_count (omega (arith, lt)))))
+        (All-filter has_samples (Exists x one_pass) (pass_groups pass_count) (each_of_range (λ k. parts.Pass 0 k) (Exists x one_pass) 0 pass_count (λ k low lt. pass_exists x.group_dim one_pass (coded_list x) 0 k ∙ lt-ltb k pass_count (omega (arith, lt)))))
 
     -- each part is there
     pub exist : All (λ s. Exists x one_pass s.part) (first ∷ groups)
@@ -225,5 +227,5 @@ module _ {S D : Type 0} (x : Image S D) where
         (All-filter has_samples (λ q. q ≡ parts.Global → ⊥) (pass_groups pass_count) (each_of_range (λ k. parts.Pass 0 k) (λ q. q ≡ parts.Global → ⊥) 0 pass_count (λ k low lt. pass_not_global k)))
 
     -- and no two sections are of one part
-    pub unlike : AreUnlike (first ∷ groups)
+    pub unlike : AllPairs (λ s t. s.part ≢ t.part) (first ∷ groups)
     unlike = sections_unlike (first ∷ groups) (subst AllDiffer (sym all_parts) (no_global, groups_differ))

@@ -1,10 +1,10 @@
 -- Lists of parts: that none is there twice, and what is among them.
-use Rattle.std.proofs.Common.{◌≡◌, ℕ, zero, suc, ◌+◌, ◌<◌, ◌≤◌, ◌⊎◌, inl, inr, Bool, true, false, cond, List, [], ◌∷◌, ◌++◌, map, refl, ap, ◌∙◌, arith}
-use Rattle.std.specs.List.{All, filter, range_with_len}
+use Rattle.std.proofs.Common.{◌≡◌, ◌≢◌, ℕ, zero, suc, ◌+◌, ◌<◌, ◌≤◌, ◌⊎◌, inl, inr, Bool, true, false, cond, List, [], ◌∷◌, ◌++◌, map, refl, sym, ap, ◌∙◌, arith}
+use Rattle.std.specs.List.{All, AllPairs, filter, range_with_len}
 use Rattle.std.specs.Prelude.{Any}
 use Rattle.std.proofs.lemmas.List.Elements.{All-nil, All-cons, All-head, All-tail, All-append, All-filter}
+use Rattle.std.proofs.lemmas.List.Kept.{AllPairs-cons}
 use Rattle.jxlm_cut.specs.declared.part.SectionPart.{SectionPart}
-use Rattle.jxl_modular.specs.Sections.{AreUnlike}
 use Rattle.jxl_modular.specs.declared.sections.Section.{Section}
 
 -- ---- no element is there twice
@@ -105,6 +105,6 @@ of_parts P (s ∷ ss) all =
 pub each_section : (P : SectionPart → Type 0) (ss : List Section) → All P (map (λ s. s.part) ss) → All (λ s. P s.part) ss
 each_section = of_parts
 
-pub sections_unlike : (ss : List Section) → AllDiffer (map (λ s. s.part) ss) → AreUnlike ss
-sections_unlike [] a = tt
-sections_unlike (s ∷ ss) a = (of_parts (λ q. q ≡ s.part → ⊥) ss a.0, sections_unlike ss a.1)
+pub sections_unlike : (ss : List Section) → AllDiffer (map (λ s. s.part) ss) → AllPairs (λ s t. s.part ≢ t.part) ss
+sections_unlike [] a = λ i j d lt within. absurd (omega (arith, within))
+sections_unlike (s ∷ ss) a = AllPairs-cons (λ s t. s.part ≢ t.part) s ss (λ k d lt same. of_parts (λ q. q ≡ s.part → ⊥) ss a.0 k d lt (sym same)) (sections_unlike ss a.1)

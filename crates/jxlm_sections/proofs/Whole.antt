@@ -2,6 +2,7 @@
 use Rattle.std.proofs.Common.{◌≡◌, ℕ, Bool, true, false, inl, inr, List, [], ◌∷◌, Ok, ℤ}
 use Rattle.std.specs.Prelude.{MatchBool, Option}
 use Rattle.std.specs.Int.{Width}
+use Rattle.std.specs.List.{All}
 use Rattle.std.proofs.lemmas.List.Elements.{All-cons, All-nil}
 use Rattle.jxlm_base.specs.Bits.{bytes_of, position_of}
 use Rattle.jxlm_base.specs.Decoding.{Meaning}
@@ -10,10 +11,10 @@ use Rattle.jxlm_ma.specs.Tree.{Config}
 use Rattle.jxlm_cut.specs.declared.pass.Pass.{Pass}
 use Rattle.jxlm_part.specs.Decode.{DecodeGives, Standing}
 use Rattle.jxlm_part.specs.Part.{Part}
-use Rattle.jxl_modular.specs.Groups.{held_in}
+use Rattle.jxl_modular.specs.Groups.{held_in, part_in}
 use Rattle.jxl_modular.specs.Image.{Image}
-use Rattle.jxl_modular.specs.Sections.{AllTurn, AllWhole, PlainTurn, SectionTurn, list_in}
-use Rattle.jxl_modular.specs.Nested.{NestedDone, Turn}
+use Rattle.jxl_modular.specs.Sections.{AllTurn, SectionTurn, list_in}
+use Rattle.jxl_modular.specs.Nested.{NestedDone, PartTurn, Turn}
 use Rattle.jxl_modular.specs.declared.sections.Section.{Section}
 
 never : {X : Type 0} → false ≡ true → X
@@ -30,11 +31,11 @@ either_of false f g h = g h
 module _ {S D : Type 0} (d : Meaning D) (w : Width) (to_int : S → ℤ) (zero : S) (x : Image S D) (passes : List Pass) (global : Option (Config D)) where
   whole_turn : (s : Section) (t : Turn) (old new : List (Grid S)) → SectionTurn d w to_int zero x passes global false s (Ok tt) t old new → t.partial ≡ false
   whole_turn s t old new h =
-      either_of {P = NestedDone d w to_int zero x.bit_depth global (bytes_of s.bits) (position_of s.bits) (list_in x passes s.part) (held_in x passes s.part) s.stream_index false t old new} {Q = PlainTurn d w to_int x passes false s (Ok tt) t old new} s.nested
+      either_of {P = NestedDone d w to_int zero x.bit_depth global (bytes_of s.bits) (position_of s.bits) (list_in x passes s.part) (held_in x passes s.part) s.stream_index false t old new} {Q = PartTurn d w to_int (part_in x passes s.part s.stream_index) (bytes_of s.bits) x.config.decoder (position_of s.bits) (held_in x passes s.part) false (Ok tt) t old new} s.nested
       (λ n. whole_answer d w _ _ n.start.config.decoder _ _ t.tried n.decoded.answers)
       (λ p. whole_answer d w _ _ x.config.decoder _ _ t.tried p.answers) h
 
-  pub all_whole : (ss : List Section) (ts : List Turn) (old new : List (Grid S)) → AllTurn d w to_int zero x passes global false ss ts old new → AllWhole ts
+  pub all_whole : (ss : List Section) (ts : List Turn) (old new : List (Grid S)) → AllTurn d w to_int zero x passes global false ss ts old new → All (λ t. t.partial ≡ false) ts
   all_whole [] [] old new h = All-nil (λ (t : Turn). t.partial ≡ false)
   all_whole [] (t ∷ ts) old new h = absurd h
   all_whole (s ∷ ss) [] old new h = absurd h

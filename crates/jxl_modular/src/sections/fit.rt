@@ -1,11 +1,11 @@
 //! Whether sections fit an image.
 
-ghost use Rattle.std.specs.Prelude.{◌≡◌, ◌↔◌, IfOk, IfErr, IsTrue};
-ghost use Rattle.std.specs.List.{All};
+ghost use Rattle.std.specs.Prelude.{◌≡◌, ◌≢◌, ◌↔◌, IfOk, IfErr, IsTrue};
+ghost use Rattle.std.specs.List.{All, AllPairs};
 ghost use Rattle.jxlm_base.specs.ErrorKind.{NoMemory, kind_of};
 ghost use Rattle.jxlm_cut.specs.Passes.{passes_of};
 ghost use Rattle.jxl_modular.specs.Groups.{Exists};
-ghost use Rattle.jxl_modular.specs.Sections.{AreUnlike, FitGives};
+ghost use Rattle.jxl_modular.specs.Sections.{FitGives};
 
 use super::Section;
 use crate::image::ModularImageDestination;
@@ -44,7 +44,8 @@ impl<S: Sample, D: Decoder> ModularImageDestination<S, D> {
     /// Whether each section's part is there, and no two sections are of one part. Out of memory is its only error.
     fn have_parts(&self, alloc: Global, passes: &[Pass], sections: &[Section<'_>]) -> Result<bool>
         ensures ok { IfOk result (λ b. IsTrue b ↔
-            (All (λ s. Exists self.now passes.now s.part) sections.now × AreUnlike sections.now)) }
+            (All (λ s. Exists self.now passes.now s.part) sections.now
+            × AllPairs (λ s t. s.part ≢ t.part) sections.now)) }
         ensures err { IfErr result (λ e. kind_of e ≡ NoMemory) }
     {
         let mut seen = BTreeSet::new(alloc);

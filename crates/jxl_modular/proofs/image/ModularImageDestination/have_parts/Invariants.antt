@@ -1,7 +1,6 @@
-use Rattle.std.proofs.Common.{take}
-use Rattle.std.specs.List.{All}
+use Rattle.std.proofs.Common.{◌≢◌, take}
+use Rattle.std.specs.List.{All, AllPairs}
 use Rattle.jxl_modular.specs.Groups.{Exists}
-use Rattle.jxl_modular.specs.Sections.{AreUnlike}
 use Rattle.jxl_modular.proofs.SectionParts.{HoldsAll}
 use Rattle.jxl_modular.proofs.image.ModularImageDestination.have_parts.Given as goal
 
@@ -9,5 +8,5 @@ abbrev pub invariant-loop-section : goal.invariant-loop-section
 invariant-loop-section g l = record {
   seen : HoldsAll l.seen (take l.section-index l.sections);
   exist : All (λ s. Exists l.self l.passes s.part) (take l.section-index l.sections);
-  unlike : AreUnlike (take l.section-index l.sections);
+  unlike : AllPairs (λ s t. s.part ≢ t.part) (take l.section-index l.sections);
 }
