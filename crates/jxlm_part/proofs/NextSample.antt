@@ -1,7 +1,8 @@
 -- The next sample of a part, by its flat trees and by what the predictor's state was set for.
-use Rattle.std.proofs.Common.{◌≡◌, ◌≢◌, ℕ, zero, suc, ◌+◌, ◌-◌, ◌*◌, ◌/◌, ◌<◌, ◌≤◌, List, [], ◌∷◌, length, take, map, Bool, true, false, if◌then◌else◌, Option, Some, None, refl, sym, ap, ◌∙◌, arith, ℤ, pos, neg_ℤ, ◌^◌, ◌≤ℤ◌, ◌<ℤ◌, nat_lt}
-use Rattle.std.specs.Prelude.{slice_get}
+use Rattle.std.proofs.Common.{◌≡◌, ◌≢◌, ℕ, zero, suc, ◌+◌, ◌-◌, ◌*◌, ◌/◌, ◌<◌, ◌≤◌, List, [], ◌∷◌, ◌++◌, length, take, map, Bool, true, false, if◌then◌else◌, Option, Some, None, refl, sym, ap, ◌∙◌, arith, ℤ, pos, neg_ℤ, ◌^◌, ◌≤ℤ◌, ◌<ℤ◌, nat_lt}
+use Rattle.std.specs.Prelude.{slice_get, slice_index_or}
 use Rattle.std.specs.Int.{w32, int_wrap}
+use Rattle.std.proofs.lemmas.Bool.{ltb-false}
 use Rattle.std.proofs.lemmas.Int.{SFits-int_wrap, ints}
 use Rattle.std.proofs.lemmas.List.{length-map}
 use Rattle.std.proofs.lemmas.Simd.{map-map}
@@ -12,7 +13,7 @@ use Rattle.jxlm_ma.specs.FlatTree.{GoesWithoutWeights, ReadsEarlierBelow, leaf_r
 use Rattle.jxlm_ma.specs.ShortTrees.{Fits}
 use Rattle.jxlm_tree.specs.Holding.{surroundings as surroundings_of}
 use Rattle.jxlm_tree.specs.Predictions.{prediction}
-use Rattle.jxlm_tree.specs.Properties.{Surroundings, place_property, property}
+use Rattle.jxlm_tree.specs.Properties.{Surroundings, earlier_property, error_property, own_properties, place_property, property}
 use Rattle.jxlm_tree.specs.Standing.{Setting, setting}
 use Rattle.jxlm_ma.specs.Tree.{walk}
 use Rattle.jxlm_ma.specs.declared.flat.Leaf.{Leaf}
@@ -20,7 +21,6 @@ use Rattle.jxlm_tree.specs.declared.predictor.Predictor.{Predictor}
 use Rattle.jxlm_tree.specs.declared.predictor.Predictor.TheVariants.{Zero, West, North, AvgWestAndNorth, Select, Gradient, SelfCorrecting, NorthEast, NorthWest, WestWest, AvgWestAndNorthWest, AvgNorthAndNorthWest, AvgNorthAndNorthEast, AvgAll}
 use Rattle.jxlm_tree.specs.declared.predictor.WpHeader.{WpHeader}
 use Rattle.jxlm_ma.proofs.FlatTrees.{walks_by_properties}
-use Rattle.jxlm_tree.proofs.PropertiesLaws.{later_property}
 use Rattle.jxlm_part.specs.Coded.{next_prediction}
 use Rattle.jxlm_part.specs.Reading.{flat}
 use Rattle.jxlm_part.specs.Inner.Cells.{leaf_at, predicted_at}
@@ -32,27 +32,25 @@ use Rattle.jxlm_part.proofs.Earlier.{earlier_mapped, few_earlier}
 abbrev with_weights : Surroundings → Option WpHeader → Surroundings
 with_weights s weights = record s { weights = weights }
 
+-- properties are the same where those of the place are, and those of earlier channels
+chosen : (known own : Bool) (a b c d : ℤ) → (own ≡ true → a ≡ b) → (own ≡ false → c ≡ d) → (if known then pos 0 else if own then a else c) ≡ (if known then pos 0 else if own then b else d)
+chosen true own a b c d h k = refl
+chosen false true a b c d h k = h refl
+chosen false false a b c d h k = k refl
+
+-- lists that differ in their last element
+last_differs : (xs : List ℤ) (x y : ℤ) (j : ℕ) → j ≢ length xs → slice_index_or (xs ++ x ∷ []) j (pos 0) ≡ slice_index_or (xs ++ y ∷ []) j (pos 0)
+last_differs [] x y zero h = absurd (h refl)
+last_differs [] x y (suc j) h = refl
+last_differs (z ∷ xs) x y zero h = refl
+last_differs (z ∷ xs) x y (suc j) h = last_differs xs x y j (λ e. h (ap suc e))
+
 -- a property other than 15 is the same without weights
 weightless : (s : Surroundings) (a b : Option WpHeader) (k : ℕ) → k ≢ 15 → place_property (with_weights s a) k ≡ place_property (with_weights s b) k
-weightless s a b zero h = refl
-weightless s a b (suc zero) h = refl
-weightless s a b (suc (suc zero)) h = refl
-weightless s a b (suc (suc (suc zero))) h = refl
-weightless s a b (suc (suc (suc (suc zero)))) h = refl
-weightless s a b (suc (suc (suc (suc (suc zero))))) h = refl
-weightless s a b (suc (suc (suc (suc (suc (suc zero)))))) h = refl
-weightless s a b (suc (suc (suc (suc (suc (suc (suc zero))))))) h = refl
-weightless s a b (suc (suc (suc (suc (suc (suc (suc (suc zero)))))))) h = refl
-weightless s a b (suc (suc (suc (suc (suc (suc (suc (suc (suc zero))))))))) h = refl
-weightless s a b (suc (suc (suc (suc (suc (suc (suc (suc (suc (suc zero)))))))))) h = refl
-weightless s a b (suc (suc (suc (suc (suc (suc (suc (suc (suc (suc (suc zero))))))))))) h = refl
-weightless s a b (suc (suc (suc (suc (suc (suc (suc (suc (suc (suc (suc (suc zero)))))))))))) h = refl
-weightless s a b (suc (suc (suc (suc (suc (suc (suc (suc (suc (suc (suc (suc (suc zero))))))))))))) h = refl
-weightless s a b (suc (suc (suc (suc (suc (suc (suc (suc (suc (suc (suc (suc (suc (suc zero)))))))))))))) h = refl
-weightless s a b (suc (suc (suc (suc (suc (suc (suc (suc (suc (suc (suc (suc (suc (suc (suc zero))))))))))))))) h = absurd (h refl)
-weightless s a b (suc (suc (suc (suc (suc (suc (suc (suc (suc (suc (suc (suc (suc (suc (suc (suc k)))))))))))))))) h =
-    let past : 16 ≤ (suc (suc (suc (suc (suc (suc (suc (suc (suc (suc (suc (suc (suc (suc (suc (suc k)))))))))))))))) = omega arith in
-    later_property (with_weights s a) (suc (suc (suc (suc (suc (suc (suc (suc (suc (suc (suc (suc (suc (suc (suc (suc k)))))))))))))))) past ∙ sym (later_property (with_weights s b) (suc (suc (suc (suc (suc (suc (suc (suc (suc (suc (suc (suc (suc (suc (suc (suc k)))))))))))))))) past)
+weightless s a b k h =
+    let other : k - 2 ≢ 13 = λ e. h (omega (arith, e)) in
+    let same = last_differs (take 13 (own_properties s)) (error_property a s.samples s.width) (error_property b s.samples s.width) (k - 2) other in
+    chosen (nat_lt k 2) (nat_lt k 16) _ _ _ _ (λ own. ap (int_wrap w32) same) (λ past. refl)
 
 -- the first of a list are found in it
 got : {X Y : Type 0} (f : X → Y) (n : ℕ) (xs : List X) (j : ℕ) → j < n → slice_get (map f (take n xs)) j ≡ slice_get (map f xs) j
@@ -66,26 +64,10 @@ with_earlier s grids = record s { earlier = grids }
 
 -- a property of the first earlier channels is the same where there are no others
 cut_same : {X : Type 0} (s : Surroundings) (f : X → Grid ℤ) (xs : List X) (n k : ℕ) → k < 16 + 4 * n → place_property (with_earlier s (map f (take n xs))) k ≡ place_property (with_earlier s (map f xs)) k
-cut_same s f xs n zero h = refl
-cut_same s f xs n (suc zero) h = refl
-cut_same s f xs n (suc (suc zero)) h = refl
-cut_same s f xs n (suc (suc (suc zero))) h = refl
-cut_same s f xs n (suc (suc (suc (suc zero)))) h = refl
-cut_same s f xs n (suc (suc (suc (suc (suc zero))))) h = refl
-cut_same s f xs n (suc (suc (suc (suc (suc (suc zero)))))) h = refl
-cut_same s f xs n (suc (suc (suc (suc (suc (suc (suc zero))))))) h = refl
-cut_same s f xs n (suc (suc (suc (suc (suc (suc (suc (suc zero)))))))) h = refl
-cut_same s f xs n (suc (suc (suc (suc (suc (suc (suc (suc (suc zero))))))))) h = refl
-cut_same s f xs n (suc (suc (suc (suc (suc (suc (suc (suc (suc (suc zero)))))))))) h = refl
-cut_same s f xs n (suc (suc (suc (suc (suc (suc (suc (suc (suc (suc (suc zero))))))))))) h = refl
-cut_same s f xs n (suc (suc (suc (suc (suc (suc (suc (suc (suc (suc (suc (suc zero)))))))))))) h = refl
-cut_same s f xs n (suc (suc (suc (suc (suc (suc (suc (suc (suc (suc (suc (suc (suc zero))))))))))))) h = refl
-cut_same s f xs n (suc (suc (suc (suc (suc (suc (suc (suc (suc (suc (suc (suc (suc (suc zero)))))))))))))) h = refl
-cut_same s f xs n (suc (suc (suc (suc (suc (suc (suc (suc (suc (suc (suc (suc (suc (suc (suc zero))))))))))))))) h = refl
-cut_same s f xs n (suc (suc (suc (suc (suc (suc (suc (suc (suc (suc (suc (suc (suc (suc (suc (suc k)))))))))))))))) h =
-    let past : 16 ≤ (suc (suc (suc (suc (suc (suc (suc (suc (suc (suc (suc (suc (suc (suc (suc (suc k)))))))))))))))) = omega arith in
-    let there : ((suc (suc (suc (suc (suc (suc (suc (suc (suc (suc (suc (suc (suc (suc (suc (suc k)))))))))))))))) - 16) / 4 < n = omega (arith, h) in
-    later_property (with_earlier s (map f (take n xs))) (suc (suc (suc (suc (suc (suc (suc (suc (suc (suc (suc (suc (suc (suc (suc (suc k)))))))))))))))) past ∙ ap (int_wrap w32) (rw (got f n xs (((suc (suc (suc (suc (suc (suc (suc (suc (suc (suc (suc (suc (suc (suc (suc (suc k)))))))))))))))) - 16) / 4) there) refl) ∙ sym (later_property (with_earlier s (map f xs)) (suc (suc (suc (suc (suc (suc (suc (suc (suc (suc (suc (suc (suc (suc (suc (suc k)))))))))))))))) past)
+cut_same s f xs n k h = chosen (nat_lt k 2) (nat_lt k 16) _ _ _ _ (λ own. refl) (λ past.
+    let there : (k - 16) / 4 < n = let m = ltb-false k 16 past in omega (arith, h, m) in
+    let same : earlier_property (with_earlier s (map f (take n xs))) (k - 16) ≡ earlier_property (with_earlier s (map f xs)) (k - 16) = rw (got f n xs ((k - 16) / 4) there) refl in
+    ap (int_wrap w32) same)
 
 -- so it is where a tree that asks for none is given none
 cut_handed : {X : Type 0} (s : Surroundings) (f : X → Grid ℤ) (xs : List X) (n k : ℕ) → k < 16 + 4 * n →

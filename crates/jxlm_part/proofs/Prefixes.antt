@@ -1,7 +1,8 @@
 -- A prefix depends on its own cells alone, it grows at its end, and there is one; so no part is both whole and failed.
-use Rattle.std.proofs.Common.{◌≡◌, ℕ, zero, suc, ◌<◌, ◌≤◌, inl, inr, List, [], ◌∷◌, Some, Result, Ok, Err, take, refl, sym, ap, ◌∙◌, subst, arith, add-one, ℤ}
+use Rattle.std.proofs.Common.{◌≡◌, ℕ, zero, suc, ◌+◌, ◌<◌, ◌≤◌, inl, inr, List, [], ◌∷◌, ◌++◌, length, Some, Result, Ok, Err, take, refl, sym, ap, ◌∙◌, subst, arith, add-one, ℤ}
 use Rattle.std.specs.Prelude.{slice_get}
 use Rattle.std.specs.Int.{Width}
+use Rattle.std.proofs.Math.Seq.{take-append-add}
 use Rattle.std.proofs.lemmas.Bool.{cases_lt}
 use Rattle.std.proofs.lemmas.List.{take-take, take_more_same}
 use Rattle.std.proofs.lemmas.Option.{slice_get_within, get_or_from_slice_get}
@@ -10,6 +11,7 @@ use Rattle.jxlm_base.specs.Decoding.{Found, Taken, Meaning}
 use Rattle.jxlm_base.specs.Grid.{Grid}
 use Rattle.jxlm_part.specs.Part.{Part, cell_count, cells_of}
 use Rattle.jxlm_part.specs.Rule.{Rule, CodedPrefix}
+use Rattle.jxlm_part.specs.Inner.Rows.{rule_after}
 use Rattle.jxlm_part.specs.Coded.{part_rule, IsCodedToTheEnd}
 use Rattle.jxlm_part.specs.Decode.{Standing, Fails}
 
@@ -27,6 +29,10 @@ take_same : (f g : List ℤ) (k : ℕ) (v : ℤ) → take k f ≡ take k g → s
 take_same f g k v h a b =
     rw (← add-one) (take_more_same f g k v (slice_get_within f k v a) (slice_get_within g k v b) h (get_or_from_slice_get f k v v a ∙ sym (get_or_from_slice_get g k v v b)))
 
+get_after : (xs ys : List ℤ) (n : ℕ) → slice_get (xs ++ ys) (length xs + n) ≡ slice_get ys n
+get_after [] ys n = let same : 0 + n ≡ n = omega arith in ap (slice_get ys) same
+get_after (x ∷ xs) ys n = let same : suc (length xs) + n ≡ suc (length xs + n) = omega arith in ap (slice_get (x ∷ xs ++ ys)) same ∙ get_after xs ys n
+
 module _ {S : Type 0} (rule : Rule S) (s0 : S) (p0 : ℕ) where
   -- a prefix depends on its own cells alone
   pub prefix_same : (f g : List ℤ) (k : ℕ) (s : S) (p : ℕ) → take k f ≡ take k g → CodedPrefix rule f s0 p0 k s p → CodedPrefix rule g s0 p0 k s p
@@ -40,6 +46,24 @@ module _ {S : Type 0} (rule : Rule S) (s0 : S) (p0 : ℕ) where
   pub prefix_more : (f g : List ℤ) (k : ℕ) (s : S) (p token : ℕ) (t : S) (q : ℕ) → take k f ≡ take k g → CodedPrefix rule f s0 p0 k s p →
       rule.read (take k g) s p ≡ Ok (record { value = token; state = t; position = q }) → slice_get g k ≡ Some (rule.value (take k g) token) → CodedPrefix rule g s0 p0 (suc k) t q
   prefix_more f g k s p token t q same h read value = (s, p, token, prefix_same f g k s p same h, read, value)
+
+  -- the cells of a row after those before it
+  pub prefix_after : (before row : List ℤ) (s : S) (p : ℕ) → CodedPrefix rule (before ++ row) s0 p0 (length before) s p → (n : ℕ) (t : S) (q : ℕ) → CodedPrefix (rule_after rule before) row s p n t q →
+      CodedPrefix rule (before ++ row) s0 p0 (length before + n) t q
+  prefix_after before row s p h zero t q k =
+      let none : length before ≡ length before + zero = omega arith in
+      rw (k.0, k.1) (subst (λ n. CodedPrefix rule (before ++ row) s0 p0 n s p) none h)
+  prefix_after before row s p h (suc n) t q k =
+      let next : suc (length before + n) ≡ length before + suc n = omega arith in
+      let first : take (length before + n) (before ++ row) ≡ before ++ take n row = take-append-add before row n in
+      subst (λ m. CodedPrefix rule (before ++ row) s0 p0 m t q) next (
+        k.0,
+        k.1,
+        k.2,
+        prefix_after before row s p h n k.0 k.1 k.3,
+        ap (λ f. rule.read f k.0 k.1) first ∙ k.4,
+        get_after before row n ∙ k.5 ∙ ap (λ f. Some (rule.value f k.2)) (sym first),
+      )
 
   -- two prefixes of one length are one
   pub record One (k : ℕ) (f g : List ℤ) (s t : S) (p q : ℕ) : Type 0 where

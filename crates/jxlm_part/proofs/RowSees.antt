@@ -1,11 +1,8 @@
 -- What the next cell of a row sees: the rows before and the row so far, and the channels before.
-use Rattle.std.proofs.Common.{◌≡◌, ℕ, zero, suc, ◌+◌, ◌*◌, ◌<◌, ◌≤◌, List, [], ◌∷◌, ◌++◌, length, map, take, sym, ap, ◌∙◌, subst, arith, ℤ, pos}
-use Rattle.std.specs.Prelude.{get_or}
-use Rattle.std.proofs.Math.ListN.{set}
-use Rattle.std.proofs.Math.Seq.{take-length, take-suc, take-suc-set}
-use Rattle.std.proofs.lemmas.List.{append_assoc, append-nil, get_or-set_other, get_or-set_same, length-map, take_all}
+use Rattle.std.proofs.Common.{◌≡◌, ℕ, ◌+◌, ◌*◌, ◌<◌, List, ◌++◌, length, map, take, sym, ap, ◌∙◌, subst, arith, ℤ}
+use Rattle.std.proofs.lemmas.List.{get_or-set_other, get_or-set_same, length-map}
 use Rattle.std.proofs.lemmas.Nat.{mul-add-lt}
-use Rattle.jxlm_base.specs.Grid.{Grid, IsFull}
+use Rattle.jxlm_base.specs.Grid.{Grid, with_row}
 use Rattle.jxlm_base.specs.Outside.{SetsRow}
 use Rattle.jxlm_base.specs.Regions.{AllLie, grid_of, region, store_meanings}
 use Rattle.jxlm_base.specs.declared.subgrid.Region.{Region}
@@ -23,28 +20,7 @@ use Rattle.jxlm_part.specs.declared.coding.PartCoding.{PartCoding}
 use Rattle.jxlm_part.proofs.Loops.{fits_in, grid_in, same_count, same_size}
 use Rattle.jxlm_part.proofs.NextSample.{SeesRegions}
 use Rattle.jxlm_part.proofs.Places.{each_sees_before}
-use Rattle.jxlm_part.proofs.RowWrites.{cells_first, first_full, first_height, first_width, fits_count, fits_still, row_grid, with_cells_of, with_first}
-
--- the first cells of a grid in whose row y a row was begun: the rows before, and the row so far
-pub own_first : (g : Grid ℤ) (full : IsFull g) (y : ℕ) (below : y < g.height) (row : List ℤ) (x : ℕ) → x ≤ g.width → x ≤ length row →
-    take (y * g.width + x) (with_first g y row x).cells ≡ take (y * g.width) g.cells ++ take x row
-own_first g full y below row zero px inside =
-    let none : y * g.width + zero ≡ y * g.width = omega arith in
-    ap (λ n. take n g.cells) none ∙ sym (append-nil (take (y * g.width) g.cells))
-own_first g full y below row (suc x) px inside =
-    let v : ℤ = get_or row x (pos 0) in
-    let h : Grid ℤ = with_first g y row x in
-    let w = first_width g y row x in
-    let t = first_height g y row x in
-    let e = first_full g y row full x in
-    let c : length h.cells ≡ g.width * g.height = e ∙ ap (λ n. n * h.height) w ∙ ap (λ n. g.width * n) t in
-    let m = mul-add-lt y g.width x g.height below px in
-    let there : y * g.width + x < length h.cells = omega (arith, c, m) in
-    let next : y * g.width + suc x ≡ suc (y * g.width + x) = omega arith in
-    ap (λ n. take (y * g.width + suc x) (set h.cells (y * n + x) v)) w ∙ ap (λ n. take n (set h.cells (y * g.width + x) v)) next
-    ∙ take-suc-set h.cells (y * g.width + x) v there
-    ∙ ap (λ xs. xs ++ v ∷ []) (own_first g full y below row x (omega arith) (omega arith)) ∙ append_assoc (take (y * g.width) g.cells) (take x row) (v ∷ [])
-    ∙ ap (λ xs. take (y * g.width) g.cells ++ xs) (sym (take-suc row x (pos 0) inside))
+use Rattle.jxlm_part.proofs.RowWrites.{first_cells, fits_count, fits_written, row_grid, row_takes, take_written, with_row_of}
 
 module _ (part : Part) (regions : List Region) (ints : List (Grid ℤ)) (i y : ℕ) (sizes : AreRegionsOf part.channels regions) (li : i < length regions) (qy : y < (region_at regions i).height) where
   abbrev reg : Region
@@ -77,7 +53,7 @@ module _ (part : Part) (regions : List Region) (ints : List (Grid ℤ)) (i y : �
 
     -- the cells so far are those of grids that have them
     abbrev made : List (Grid ℤ)
-    made = with_cells_of grids i y row x
+    made = with_row_of grids i y row
 
     fit : AreGridsOf part.channels grids
     fit = fits_in part.channels regions ints sizes
@@ -88,13 +64,12 @@ module _ (part : Part) (regions : List Region) (ints : List (Grid ℤ)) (i y : �
     here_is : take (cells_before part.channels i + (y * (channel part.channels i).width + x)) (cells_of made) ≡ here
     here_is =
         let at_place : cells_before part.channels i + (y * (channel part.channels i).width + x) ≡ place_of part i 0 y + x = omega arith in
-        ap (λ n. take n (cells_of made)) at_place ∙ cells_first part.channels grids i y row fit there x (omega (arith, in_channel)) row_there (omega arith)
-        ∙ ap (λ xs. preceding_cells part grids i 0 y ++ xs) (take-length row)
+        ap (λ n. take n (cells_of made)) at_place ∙ first_cells part.channels grids i y row fit there row_there (omega (arith, in_channel))
 
     sees : SeesBefore part.channels made i (y * (channel part.channels i).width + x) here
     sees =
         subst (SeesBefore part.channels made i (y * (channel part.channels i).width + x)) here_is
-        (each_sees_before part.channels made i (y * (channel part.channels i).width + x) (fits_still part.channels grids i y row fit there x) there
+        (each_sees_before part.channels made i (y * (channel part.channels i).width + x) (fits_written part.channels grids i y row fit row_there (omega (arith, in_channel))) there
         (mul-add-lt y (channel part.channels i).width x (channel part.channels i).height row_there in_channel))
 
     pub sees_regions : SeesRegions part regions ints i here (take (y * reg.width) own_grid.cells ++ row)
@@ -103,11 +78,10 @@ module _ (part : Part) (regions : List Region) (ints : List (Grid ℤ)) (i y : �
       stands = sees.stands;
       own_is = sees.own
           ∙ ap (λ (g : Grid ℤ). take (y * (channel part.channels i).width + x) g.cells)
-          (get_or-set_same grids i (with_first (grid_at grids i) y row x) _ (omega (arith, as_many, there)) ∙ ap (λ g. with_first g y row x) (grid_in ints regions i li))
-          ∙ ap (λ n. take (y * n + x) (with_first own_grid y row x).cells) (sym wide)
-          ∙ own_first own_grid (IsFull-grid_of ints reg) y qy row x (omega (arith, short)) (omega arith)
-          ∙ ap (λ xs. take (y * reg.width) own_grid.cells ++ xs) (take-length row);
-      earlier_is = λ e less. sees.earlier e less ∙ get_or-set_other grids i e (with_first (grid_at grids i) y row x) _ (λ h. absurd (omega (arith, less, h)))
+          (get_or-set_same grids i (with_row (grid_at grids i) y row) _ (omega (arith, as_many, there)) ∙ ap (λ g. with_row g y row) (grid_in ints regions i li))
+          ∙ ap (λ n. take (y * n + x) (with_row own_grid y row).cells) (sym wide)
+          ∙ take_written own_grid.cells (y * reg.width) row (row_takes own_grid (IsFull-grid_of ints reg) y row qy (omega (arith, short)));
+      earlier_is = λ e less. sees.earlier e less ∙ get_or-set_other grids i e (with_row (grid_at grids i) y row) _ (λ h. absurd (omega (arith, less, h)))
           ∙ grid_in ints regions e (omega (arith, less, li));
     }
 
@@ -119,12 +93,10 @@ stands_below {D} {X} c i y to_int store new row state lie li qy long sets stands
     let r : Region = region_at (regions_of c) i in
     let g : Grid ℤ = grid_of (store_meanings to_int store) r in
     let R : List ℤ = map to_int row in
-    let le : r.width ≤ r.width = omega arith in
-    let m = length-map row to_int in
-    let is : grid_of (store_meanings to_int new) r ≡ with_first g y R r.width = row_grid to_int store new y r.width row r (lie i (region 0 0 0 0 0) li) qy le sets in
-    let at : (y + 1) * r.width ≡ y * r.width + r.width = omega arith in
+    let count : length R ≡ r.width = length-map row to_int ∙ long in
+    let at : (y + 1) * r.width ≡ y * r.width + length R = omega (arith, count) in
+    let is : grid_of (store_meanings to_int new) r ≡ with_row g y R = row_grid to_int store new y r.width row long r (lie i (region 0 0 0 0 0) li) qy (omega arith) sets in
     let all : take ((y + 1) * r.width) (grid_of (store_meanings to_int new) r).cells ≡ take (y * r.width) g.cells ++ R =
-    ap (λ n. take n (grid_of (store_meanings to_int new) r).cells) at ∙ ap (λ (h : Grid ℤ). take (y * r.width + r.width) h.cells) is
-    ∙ own_first g (IsFull-grid_of (store_meanings to_int store) r) y qy R r.width le (omega (arith, m, long))
-    ∙ ap (λ xs. take (y * r.width) g.cells ++ xs) (take_all r.width R (omega (arith, m, long))) in
+    ap (λ n. take n (grid_of (store_meanings to_int new) r).cells) at ∙ ap (λ (h : Grid ℤ). take (y * r.width + length R) h.cells) is
+    ∙ take_written g.cells (y * r.width) R (row_takes g (IsFull-grid_of (store_meanings to_int store) r) y R qy (omega (arith, count))) in
     subst (StandsAt state (setting_of c i)) (sym all) stands

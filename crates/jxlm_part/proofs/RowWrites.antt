@@ -1,72 +1,86 @@
 -- The first cells of a row of a region are written: what its grid is then, and what the cells of a part are.
-use Rattle.std.proofs.Common.{◌≡◌, ℕ, zero, suc, ◌+◌, ◌*◌, ◌<◌, ◌≤◌, inl, inr, List, [], ◌∷◌, ◌++◌, length, take, map, Some, refl, sym, ap, ◌∙◌, subst, arith, ℤ, pos, set}
+use Rattle.std.proofs.Common.{◌≡◌, ℕ, zero, suc, ◌+◌, ◌*◌, ◌<◌, ◌≤◌, inl, inr, List, [], ◌∷◌, ◌++◌, length, take, drop, map, Some, refl, sym, ap, ◌∙◌, arith, ℤ, pos, set}
 use Rattle.std.specs.Prelude.{get_or}
 use Rattle.std.proofs.Math.ListN.{length-set}
-use Rattle.std.proofs.Math.Seq.{take-suc, take-suc-set}
+use Rattle.std.proofs.Math.Nat.{mul_comm}
+use Rattle.std.proofs.Math.Seq.{drop-append-add, take-append-add}
 use Rattle.std.proofs.lemmas.Bool.{cases_eq, cases_lt}
-use Rattle.std.proofs.lemmas.List.{append_assoc, append-nil, get_or-map, get_or-set_other, get_or-set_same, length-map, same_lists, set-get_or}
-use Rattle.jxlm_base.specs.Grid.{Grid, IsFull, cell, with_cell}
+use Rattle.std.proofs.lemmas.List.{append_assoc, drop-append-le, drop_at, get_or-map, get_or-set_other, get_or-set_same, length-append, length-map, length-take-le, same_lists, take-append-le, take_at}
+use Rattle.std.proofs.lemmas.Nat.{mul-le}
+use Rattle.std.proofs.lemmas.Option.{slice_get-get_or}
+use Rattle.jxlm_base.specs.Grid.{Grid, IsFull, cell, with_row, written}
 use Rattle.jxlm_base.specs.Outside.{KeepsOutside, SetsRow, row_of}
 use Rattle.jxlm_base.specs.Regions.{AllLie, AreApart, HasCell, LieApart, Lies, grid_of, store_meanings}
 use Rattle.jxlm_base.specs.declared.subgrid.Region.{Region}
-use Rattle.jxlm_base.proofs.Cells.{IsFull-with_cell, cell-with_cell_other, cell-with_cell_same, grid_same}
+use Rattle.jxlm_base.proofs.Cells.{grid_same, place_within}
 use Rattle.jxlm_base.proofs.Outside.{all_one, grid_kept, keeps_wider, number_of_row, number_same, region_cell_kept}
+use Rattle.jxlm_base.proofs.RegionRows.{length-written, written_inside, written_is, written_outside}
 use Rattle.jxlm_base.proofs.Regions.{IsFull-grid_of, apart_at, cell-grid_of}
 use Rattle.jxlm_part.specs.Inner.Rows.{first_columns}
 use Rattle.jxlm_transform.specs.Channels.{AreGridsOf, Channel}
 use Rattle.jxlm_part.specs.Part.{cells_before, cells_of, channel, grid as grid_at}
-use Rattle.jxlm_part.proofs.Progress.{cells_written, fits_written, stands_within, with_cell_of}
+use Rattle.jxlm_part.proofs.Places.{before_suc, split}
 
-set_set : {X : Type 0} (xs : List X) (i : ℕ) (a b : X) → set (set xs i a) i b ≡ set xs i b
-set_set [] i a b = refl
-set_set (x ∷ xs) zero a b = refl
-set_set (x ∷ xs) (suc i) a b = ap (λ ys. x ∷ ys) (set_set xs i a b)
+-- ---- lists with others written over them
 
--- ---- grids
+module _ {X : Type 0} where
+  module _ (xs : List X) (k : ℕ) (vs : List X) (fits : k + length vs ≤ length xs) where
+    pub take_written : take (k + length vs) (written xs k vs) ≡ take k xs ++ vs
+    take_written =
+        ap (take (k + length vs)) (written_is xs k vs fits ∙ sym (append_assoc (take k xs) vs (drop (k + length vs) xs)))
+        ∙ take_at (take k xs ++ vs) (drop (k + length vs) xs) (k + length vs) (omega (arith, length-append (take k xs) vs, length-take-le k xs (omega arith)))
 
--- a grid with the first x numbers of a row in row y
-abbrev pub with_first : Grid ℤ → ℕ → List ℤ → ℕ → Grid ℤ
-with_first g y row zero = g
-with_first g y row (suc x) = with_cell (with_first g y row x) x y (get_or row x (pos 0))
+    pub drop_written : drop (k + length vs) (written xs k vs) ≡ drop (k + length vs) xs
+    drop_written =
+        ap (drop (k + length vs)) (written_is xs k vs fits ∙ sym (append_assoc (take k xs) vs (drop (k + length vs) xs)))
+        ∙ drop_at (take k xs ++ vs) (drop (k + length vs) xs) (k + length vs) (omega (arith, length-append (take k xs) vs, length-take-le k xs (omega arith)))
 
-module _ (g : Grid ℤ) (y : ℕ) (row : List ℤ) where
-  pub first_width : (x : ℕ) → (with_first g y row x).width ≡ g.width
-  first_width zero = refl
-  first_width (suc x) = first_width x
+  -- in the first of two lists, and in the second
+  written_left : (xs ys : List X) (k : ℕ) (vs : List X) → k + length vs ≤ length xs → written xs k vs ++ ys ≡ written (xs ++ ys) k vs
+  written_left xs ys k vs fits =
+      ap (λ zs. zs ++ ys) (written_is xs k vs fits) ∙ append_assoc (take k xs) (vs ++ drop (k + length vs) xs) ys
+      ∙ ap (λ zs. take k xs ++ zs) (append_assoc vs (drop (k + length vs) xs) ys ∙ ap (λ zs. vs ++ zs) (sym (drop-append-le (k + length vs) xs ys fits)))
+      ∙ ap (λ zs. zs ++ (vs ++ drop (k + length vs) (xs ++ ys))) (sym (take-append-le k xs ys (omega arith)))
+      ∙ sym (written_is (xs ++ ys) k vs (omega (arith, length-append xs ys)))
 
-  pub first_height : (x : ℕ) → (with_first g y row x).height ≡ g.height
-  first_height zero = refl
-  first_height (suc x) = first_height x
+  written_right : (xs ys : List X) (k : ℕ) (vs : List X) → k + length vs ≤ length ys → xs ++ written ys k vs ≡ written (xs ++ ys) (length xs + k) vs
+  written_right xs ys k vs fits =
+      let place : length xs + k + length vs ≡ length xs + (k + length vs) = omega arith in
+      ap (λ zs. xs ++ zs) (written_is ys k vs fits) ∙ sym (append_assoc xs (take k ys) (vs ++ drop (k + length vs) ys))
+      ∙ ap (λ zs. zs ++ (vs ++ drop (k + length vs) ys)) (sym (take-append-add xs ys k))
+      ∙ ap (λ zs. take (length xs + k) (xs ++ ys) ++ (vs ++ zs)) (sym (ap (λ n. drop n (xs ++ ys)) place ∙ drop-append-add xs ys (k + length vs)))
+      ∙ sym (written_is (xs ++ ys) (length xs + k) vs (omega (arith, fits, length-append xs ys)))
 
-  module _ (full : IsFull g) where
-    pub first_full : (x : ℕ) → IsFull (with_first g y row x)
-    first_full zero = full
-    first_full (suc x) = IsFull-with_cell (with_first g y row x) x y (get_or row x (pos 0)) (first_full x)
+-- ---- grids with the first numbers of a row
 
-    pub cell_else : (x a b : ℕ) → x ≤ g.width → a < g.width → ((a < x) × (b ≡ y) → ⊥) → cell (with_first g y row x) a b ≡ cell g a b
-    cell_else zero a b l p out = refl
-    cell_else (suc x) a b l p out =
-        let w = first_width x in
-        cell-with_cell_other (with_first g y row x) x y a b (get_or row x (pos 0)) (omega (arith, w)) (omega (arith, w)) (λ h. let h0 = h.0 in out (omega arith, sym h.1))
-        ∙ cell_else x a b (omega arith) p (λ h. let h0 = h.0 in out (omega arith, h.1))
+module _ (g : Grid ℤ) (full : IsFull g) (y : ℕ) (vs : List ℤ) (below : y < g.height) (narrow : length vs ≤ g.width) where
+  pub row_takes : y * g.width + length vs ≤ length g.cells
+  row_takes = omega (arith, narrow, full, mul-le (suc y) g.width g.height g.width (omega arith) (omega arith), mul_comm g.height g.width)
 
-    pub cell_first : (x a : ℕ) → x ≤ g.width → y < g.height → a < x → cell (with_first g y row x) a y ≡ Some (get_or row a (pos 0))
-    cell_first zero a l q p = absurd (omega arith)
-    cell_first (suc x) a l q p =
-        let w = first_width x in
-        let h = first_height x in
-        elim (cases_eq a x) [
-          | inl e ↦
-              ap (λ n. cell (with_first g y row (suc x)) n y) e ∙ cell-with_cell_same (with_first g y row x) x y (get_or row x (pos 0)) (first_full x) (omega (arith, w)) (omega (arith, h))
-              ∙ ap (λ n. Some (get_or row n (pos 0))) (sym e)
-          | inr ne ↦
-              cell-with_cell_other (with_first g y row x) x y a y (get_or row x (pos 0)) (omega (arith, w)) (omega (arith, w)) (λ h. ne (sym h.0))
-              ∙ cell_first x a (omega arith) q (omega arith)
-        ]
+  pub IsFull-written : IsFull (with_row g y vs)
+  IsFull-written = length-written g.cells (y * g.width) vs row_takes ∙ full
+
+  cell_in : (a : ℕ) → a < length vs → cell (with_row g y vs) a y ≡ Some (get_or vs a (pos 0))
+  cell_in a p = written_inside g.cells (y * g.width) vs row_takes (y * g.width + a) a refl p ∙ slice_get-get_or vs a (pos 0) p
+
+  cell_else : (a b : ℕ) → a < g.width → b < g.height → ((a < length vs) × (b ≡ y) → ⊥) → cell (with_row g y vs) a b ≡ cell g a b
+  cell_else a b p q out =
+      written_outside g.cells (y * g.width) vs row_takes (b * g.width + a) (place_within g a b full p q) (λ low high.
+      elim (cases_eq b y) [
+        | inl is ↦ out (let same = ap (λ n. n * g.width) is in omega (arith, same, high), is)
+        | inr ne ↦
+            elim (cases_lt b y) [
+              | inl lt ↦ absurd (omega (arith, low, p, mul-le (suc b) g.width y g.width (omega arith) (omega arith)))
+              | inr ge ↦ absurd (omega (arith, high, narrow, mul-le (suc y) g.width b g.width (omega (arith, ne, ge)) (omega arith)))
+            ]
+      ])
 
 -- ---- regions of a store
 
-module _ {X : Type 0} (f : X → ℤ) (store new : List (Grid X)) (y n : ℕ) (vs : List X) where
+module _ {X : Type 0} (f : X → ℤ) (store new : List (Grid X)) (y n : ℕ) (vs : List X) (long : length vs ≡ n) where
+  length-numbers : length (map f vs) ≡ n
+  length-numbers = length-map vs f ∙ long
+
   module _ (r : Region) (lies : Lies r store) (below : y < r.height) (narrow : n ≤ r.width) (sets : SetsRow (first_columns r n) y vs store new) where
     inside : (b i j : ℕ) → HasCell (row_of (first_columns r n) y) b i j → HasCell r b i j
     inside b i j h =
@@ -75,39 +89,39 @@ module _ {X : Type 0} (f : X → ℤ) (store new : List (Grid X)) (y n : ℕ) (v
         let bottom = h.bottom in
         record { buffer = h.buffer; left = h.left; right = omega arith; top = omega arith; bottom = omega arith }
 
-    pub row_grid : grid_of (store_meanings f new) r ≡ with_first (grid_of (store_meanings f store) r) y (map f vs) n
+    pub row_grid : grid_of (store_meanings f new) r ≡ with_row (grid_of (store_meanings f store) r) y (map f vs)
     row_grid =
         let g : Grid ℤ = grid_of (store_meanings f store) r in
         let full = IsFull-grid_of (store_meanings f store) r in
-        grid_same (grid_of (store_meanings f new) r) (with_first g y (map f vs) n) (IsFull-grid_of (store_meanings f new) r) (first_full g y (map f vs) full n)
-        (sym (first_width g y (map f vs) n)) (sym (first_height g y (map f vs) n)) (λ a b p q.
+        let fits : length (map f vs) ≤ r.width = omega (arith, narrow, length-numbers) in
+        let written : Grid ℤ = with_row g y (map f vs) in
+        grid_same (grid_of (store_meanings f new) r) written (IsFull-grid_of (store_meanings f new) r) (IsFull-written g full y (map f vs) below fits) refl refl (λ a b p q.
         elim (cases_eq b y) [
           | inl e ↦
               elim (cases_lt a n) [
                 | inl lt ↦
                     ap (λ k. cell (grid_of (store_meanings f new) r) a k) e ∙ cell-grid_of (store_meanings f new) r a y p below
-                    ∙ ap Some (number_of_row f new r a y vs (sets.cells a lt)) ∙ sym (cell_first g y (map f vs) full n a narrow below lt) ∙ ap (λ k. cell (with_first g y (map f vs) n) a k) (sym e)
+                    ∙ ap Some (number_of_row f new r a y vs (sets.cells a lt)) ∙ sym (cell_in g full y (map f vs) below fits a (omega (arith, lt, length-numbers))) ∙ ap (λ k. cell written a k) (sym e)
                 | inr ge ↦ elsewhere a b p q (λ h. let h0 = h.0 in absurd (omega arith))
               ]
           | inr ne ↦ elsewhere a b p q (λ h. ne h.1)
         ])
       where
-        elsewhere : (a b : ℕ) → a < r.width → b < r.height → ((a < n) × (b ≡ y) → ⊥) → cell (grid_of (store_meanings f new) r) a b ≡ cell (with_first (grid_of (store_meanings f store) r) y (map f vs) n) a b
+        elsewhere : (a b : ℕ) → a < r.width → b < r.height → ((a < n) × (b ≡ y) → ⊥) → cell (grid_of (store_meanings f new) r) a b ≡ cell (with_row (grid_of (store_meanings f store) r) y (map f vs)) a b
         elsewhere a b p q out =
-            let g : Grid ℤ = grid_of (store_meanings f store) r in
             cell-grid_of (store_meanings f new) r a b p q
             ∙ ap Some (number_same f store new r a b
             (region_cell_kept (row_of (first_columns r n) y ∷ []) r store new a b sets.keeps lies p q
             (all_one (λ s. HasCell s r.buffer (r.x + a) (r.y + b) → ⊥) (row_of (first_columns r n) y) (λ h. let right = h.right in let top = h.top in let bottom = h.bottom in out (omega arith, omega arith)))))
             ∙ sym (cell-grid_of (store_meanings f store) r a b p q)
-            ∙ sym (cell_else g y (map f vs) (IsFull-grid_of (store_meanings f store) r) n a b narrow p out)
+            ∙ sym (cell_else (grid_of (store_meanings f store) r) (IsFull-grid_of (store_meanings f store) r) y (map f vs) below (omega (arith, narrow, length-numbers)) a b p q (λ h. let h0 = h.0 in out (omega (arith, h0, length-numbers), h.1)))
 
   -- of regions no two of which share a cell, one's grid has the row, and the others are as before
   pub row_grids : (rs : List Region) (i : ℕ) (d : Region) → LieApart rs → AllLie rs store → i < length rs → y < (get_or rs i d).height → n ≤ (get_or rs i d).width → SetsRow (first_columns (get_or rs i d) n) y vs store new →
-      map (grid_of (store_meanings f new)) rs ≡ set (map (grid_of (store_meanings f store)) rs) i (with_first (grid_of (store_meanings f store) (get_or rs i d)) y (map f vs) n)
+      map (grid_of (store_meanings f new)) rs ≡ set (map (grid_of (store_meanings f store)) rs) i (with_row (grid_of (store_meanings f store) (get_or rs i d)) y (map f vs))
   row_grids rs i d apart all p below narrow sets =
       let r : Region = get_or rs i d in
-      let changed : Grid ℤ = with_first (grid_of (store_meanings f store) r) y (map f vs) n in
+      let changed : Grid ℤ = with_row (grid_of (store_meanings f store) r) y (map f vs) in
       let old : List (Grid ℤ) = map (grid_of (store_meanings f store)) rs in
       let a : length old ≡ length rs = length-map rs (grid_of (store_meanings f store)) in
       let b : length (map (grid_of (store_meanings f new)) rs) ≡ length rs = length-map rs (grid_of (store_meanings f new)) in
@@ -139,41 +153,58 @@ fits_count [] (g ∷ gs) fit = absurd fit
 fits_count (c ∷ cs) [] fit = absurd fit
 fits_count (c ∷ cs) (g ∷ gs) fit = let n = fits_count cs gs fit.1 in omega (arith, n)
 
--- grid i with the first x numbers of a row in row y
-abbrev pub with_cells_of : List (Grid ℤ) → ℕ → ℕ → List ℤ → ℕ → List (Grid ℤ)
-with_cells_of grids i y row x = set grids i (with_first (grid_at grids i) y row x)
+-- grid i with these as the first numbers of row y
+abbrev pub with_row_of : List (Grid ℤ) → ℕ → ℕ → List ℤ → List (Grid ℤ)
+with_row_of grids i y vs = set grids i (with_row (grid_at grids i) y vs)
 
-module _ (channels : List Channel) (grids : List (Grid ℤ)) (i y : ℕ) (row : List ℤ) (fit : AreGridsOf channels grids) (l : i < length channels) where
-  pub none_written : with_cells_of grids i y row zero ≡ grids
-  none_written = set-get_or grids i _
+-- where row y of channel i begins among all cells
+abbrev pub row_place : List Channel → ℕ → ℕ → ℕ
+row_place channels i y = cells_before channels i + (y * (channel channels i).width + 0)
 
-  pub one_more_written : (x : ℕ) → with_cells_of grids i y row (suc x) ≡ with_cell_of (with_cells_of grids i y row x) i x y (get_or row x (pos 0))
-  one_more_written x =
-      let g : Grid ℤ = with_first (grid_at grids i) y row x in
-      let same : grid_at (set grids i g) i ≡ g = get_or-set_same grids i g _ (let n = fits_count channels grids fit in omega (arith, n)) in
-      sym (set_set grids i g (with_cell g x y (get_or row x (pos 0)))) ∙ ap (λ h. set (set grids i g) i (with_cell h x y (get_or row x (pos 0)))) (sym same)
+-- the grids still fit their channels
+pub fits_written : (channels : List Channel) (grids : List (Grid ℤ)) (i y : ℕ) (vs : List ℤ) → AreGridsOf channels grids → y < (channel channels i).height → length vs ≤ (channel channels i).width →
+    AreGridsOf channels (with_row_of grids i y vs)
+fits_written [] [] i y vs fit q narrow = fit
+fits_written [] (g ∷ gs) i y vs fit q narrow = absurd fit
+fits_written (c ∷ cs) [] i y vs fit q narrow = absurd fit
+fits_written (c ∷ cs) (g ∷ gs) zero y vs fit q narrow = (
+  record {
+    same_width = fit.0.same_width;
+    same_height = fit.0.same_height;
+    full = IsFull-written g fit.0.full y vs (rw fit.0.same_height q) (rw fit.0.same_width narrow);
+  },
+  fit.1,
+)
+fits_written (c ∷ cs) (g ∷ gs) (suc i) y vs fit q narrow = (fit.0, fits_written cs gs i y vs fit.1 q narrow)
 
-  pub fits_still : (x : ℕ) → AreGridsOf channels (with_cells_of grids i y row x)
-  fits_still zero = subst (AreGridsOf channels) (sym none_written) fit
-  fits_still (suc x) = subst (AreGridsOf channels) (sym (one_more_written x)) (fits_written channels (with_cells_of grids i y row x) i x y (get_or row x (pos 0)) (fits_still x))
+-- the whole row lies among the cells
+pub row_within : (channels : List Channel) (grids : List (Grid ℤ)) (i y : ℕ) → AreGridsOf channels grids → i < length channels → y < (channel channels i).height →
+    row_place channels i y + (channel channels i).width ≤ length (cells_of grids)
+row_within channels grids i y fit l q =
+    let c = channel channels i in
+    let all = (split channels grids i fit l).all in
+    omega (arith, all, mul-le (suc y) c.width c.height c.width (omega arith) (omega arith), mul_comm c.height c.width)
 
-  -- where the row begins
-  abbrev start : ℕ
-  start = cells_before channels i + (y * (channel channels i).width + 0)
+-- the numbers are written over the cells from there on
+pub cells_written : (channels : List Channel) (grids : List (Grid ℤ)) (i y : ℕ) (vs : List ℤ) → AreGridsOf channels grids → i < length channels → y < (channel channels i).height →
+    length vs ≤ (channel channels i).width → cells_of (with_row_of grids i y vs) ≡ written (cells_of grids) (row_place channels i y) vs
+cells_written [] grids i y vs fit l q narrow = absurd (omega arith)
+cells_written (c ∷ cs) [] i y vs fit l q narrow = absurd fit
+cells_written (c ∷ cs) (g ∷ gs) zero y vs fit l q narrow =
+    let at : row_place (c ∷ cs) zero y ≡ y * g.width = omega arith ∙ ap (λ w. y * w) (sym fit.0.same_width) in
+    written_left g.cells (cells_of gs) (y * g.width) vs (row_takes g fit.0.full y vs (rw fit.0.same_height q) (rw fit.0.same_width narrow))
+    ∙ ap (λ k. written (g.cells ++ cells_of gs) k vs) (sym at)
+cells_written (c ∷ cs) (g ∷ gs) (suc i) y vs fit l q narrow =
+    let s = split (c ∷ cs) (g ∷ gs) zero fit (omega arith) in
+    let long = s.long in
+    let at : row_place (c ∷ cs) (suc i) y ≡ length g.cells + row_place cs i y = omega (arith, before_suc c cs i, long) in
+    ap (λ zs. g.cells ++ zs) (cells_written cs gs i y vs fit.1 (omega arith) q narrow)
+    ∙ written_right g.cells (cells_of gs) (row_place cs i y) vs (let m = row_within cs gs i y fit.1 (omega arith) q in omega (arith, m, narrow))
+    ∙ ap (λ k. written (g.cells ++ cells_of gs) k vs) (sym at)
 
-  pub cells_first : (x : ℕ) → x ≤ (channel channels i).width → y < (channel channels i).height → x ≤ length row →
-      take (start + x) (cells_of (with_cells_of grids i y row x)) ≡ take start (cells_of grids) ++ take x row
-  cells_first zero px qy inside =
-      let none : start + zero ≡ start = omega arith in
-      ap (λ n. take n (cells_of (with_cells_of grids i y row zero))) none ∙ ap (λ gs. take start (cells_of gs)) none_written ∙ sym (append-nil (take start (cells_of grids)))
-  cells_first (suc x) px qy inside =
-      let v : ℤ = get_or row x (pos 0) in
-      let now : List (Grid ℤ) = with_cells_of grids i y row x in
-      let at : cells_before channels i + (y * (channel channels i).width + x) ≡ start + x = omega arith in
-      let next : start + suc x ≡ suc (start + x) = omega arith in
-      let written : cells_of (with_cells_of grids i y row (suc x)) ≡ set (cells_of now) (start + x) v =
-      ap cells_of (one_more_written x) ∙ cells_written channels now i x y v (fits_still x) l (omega arith) qy ∙ ap (λ n. set (cells_of now) n v) at in
-      let there : start + x < length (cells_of now) = subst (λ n. n < length (cells_of now)) at (stands_within channels now i x y (fits_still x) l (omega arith) qy) in
-      ap (λ n. take n (cells_of (with_cells_of grids i y row (suc x)))) next ∙ ap (take (suc (start + x))) written ∙ take-suc-set (cells_of now) (start + x) v there
-      ∙ ap (λ xs. xs ++ v ∷ []) (cells_first x (omega arith) qy (omega arith)) ∙ append_assoc (take start (cells_of grids)) (take x row) (v ∷ [])
-      ∙ ap (λ xs. take start (cells_of grids) ++ xs) (sym (take-suc row x (pos 0) (omega arith)))
+-- the cells up to the last of them
+pub first_cells : (channels : List Channel) (grids : List (Grid ℤ)) (i y : ℕ) (vs : List ℤ) → AreGridsOf channels grids → i < length channels → y < (channel channels i).height →
+    length vs ≤ (channel channels i).width → take (row_place channels i y + length vs) (cells_of (with_row_of grids i y vs)) ≡ take (row_place channels i y) (cells_of grids) ++ vs
+first_cells channels grids i y vs fit l q narrow =
+    ap (take (row_place channels i y + length vs)) (cells_written channels grids i y vs fit l q narrow)
+    ∙ take_written (cells_of grids) (row_place channels i y) vs (let m = row_within channels grids i y fit l q in omega (arith, m, narrow))

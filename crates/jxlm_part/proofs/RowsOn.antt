@@ -1,11 +1,10 @@
 -- From a row that was read and written to the part that was decoded further.
-use Rattle.std.proofs.Common.{◌≡◌, ℕ, zero, suc, ◌+◌, ◌*◌, ◌<◌, ◌≤◌, List, ◌++◌, length, take, map, Ok, Err, refl, sym, ap, ◌∙◌, subst, arith, ℤ, pos}
-use Rattle.std.specs.Prelude.{get_or, slice_set, Result, IfErr}
+use Rattle.std.proofs.Common.{◌≡◌, ℕ, suc, ◌+◌, ◌*◌, ◌<◌, ◌≤◌, List, ◌++◌, length, take, drop, map, Ok, Err, refl, sym, ap, ◌∙◌, subst, arith, ℤ}
+use Rattle.std.specs.Prelude.{slice_set, Result, IfErr}
 use Rattle.std.specs.Int.{Width}
-use Rattle.std.proofs.lemmas.List.{length-map, length-take-le, take-map, take-take, take_all}
-use Rattle.std.proofs.lemmas.Option.{get_or_from_slice_get}
-use Rattle.jxlm_base.specs.Decoding.{Meaning, Taken}
-use Rattle.jxlm_base.specs.Grid.{Grid}
+use Rattle.std.proofs.lemmas.List.{drop-drop, length-append, length-map, length-take-le, take-map, take-take, take_all, take_at}
+use Rattle.jxlm_base.specs.Decoding.{Meaning}
+use Rattle.jxlm_base.specs.Grid.{Grid, with_row}
 use Rattle.jxlm_base.specs.Outside.{KeepsOutside, SetsRow}
 use Rattle.jxlm_base.specs.Regions.{AllLie, LieApart, region, store_meanings}
 use Rattle.jxlm_base.specs.declared.decoder.DecoderError.{DecoderError}
@@ -20,42 +19,47 @@ use Rattle.jxlm_part.specs.Inner.Rows.{SetsRead, first_columns, rule_after}
 use Rattle.jxlm_part.specs.Rule.{Rule, CodedPrefix}
 use Rattle.jxlm_part.specs.declared.rows.RowError.{RowError}
 use Rattle.jxlm_part.proofs.Loops.{all_cells, goes_between, grid_in, row_done, same_count, same_size, takes_some}
-use Rattle.jxlm_part.proofs.Prefixes.{prefix_same}
-use Rattle.jxlm_part.proofs.Progress.{reached_more, stands_within, with_cell_of}
-use Rattle.jxlm_part.proofs.RowWrites.{cells_first, none_written, one_more_written, row_grids, row_keeps, with_cells_of, with_first}
+use Rattle.jxlm_part.proofs.Prefixes.{prefix_after, prefix_same}
+use Rattle.jxlm_part.proofs.RowWrites.{cells_written, drop_written, first_cells, fits_written, row_grids, row_keeps, row_within, with_row_of}
 
 module _ {S : Type 0} (d : Meaning S) (w : Width) (part : Part) (bytes : List ℕ) where
-  module _ (decoder : S) (p0 : ℕ) (old : List (Grid ℤ)) (i y : ℕ) (now : List (Grid ℤ)) (l : i < length part.channels) (qy : y < (channel part.channels i).height) (row : List ℤ) (s : S) (q : ℕ)
-      (r : Reached d w part bytes decoder p0 old (place_of part i 0 y) now s q) where
+  module _ (decoder : S) (p0 : ℕ) (old : List (Grid ℤ)) (i y : ℕ) (now : List (Grid ℤ)) (l : i < length part.channels) (qy : y < (channel part.channels i).height) (row : List ℤ)
+      (narrow : length row ≤ (channel part.channels i).width) (s : S) (q : ℕ) (r : Reached d w part bytes decoder p0 old (place_of part i 0 y) now s q) where
     abbrev here : ℕ
     here = place_of part i 0 y
 
-    -- the first n cells of a row were read after what was reached
-    pub reached_row : (n : ℕ) (t : S) (u : ℕ) → n ≤ (channel part.channels i).width → n ≤ length row → CodedPrefix (rule_after (part_rule d w part bytes) (take here (cells_of now))) row s q n t u →
-        Reached d w part bytes decoder p0 old (here + n) (with_cells_of now i y row n) t u
-    reached_row zero t u px long h =
-        let none : here ≡ here + zero = omega arith in
-        subst (λ k. Reached d w part bytes decoder p0 old k (with_cells_of now i y row zero) t u) none
-        (subst (λ gs. Reached d w part bytes decoder p0 old here gs t u) (sym (none_written part.channels now i y row r.fits l))
-        (subst (λ v. Reached d w part bytes decoder p0 old here now v u) (sym h.0)
-        (subst (λ v. Reached d w part bytes decoder p0 old here now s v) (sym h.1) r)))
-    reached_row (suc n) t u px long h =
+    abbrev before : List ℤ
+    before = take here (cells_of now)
+
+    abbrev on : ℕ → List ℤ → S → ℕ → Type 0
+    on k cells t u = CodedPrefix (part_rule d w part bytes) cells r.coded.start.value r.coded.start.position k t u
+
+    within : here + length row ≤ length (cells_of now)
+    within = let m = row_within part.channels now i y r.fits l qy in omega (arith, m, narrow)
+
+    count : length before ≡ here
+    count = length-take-le here (cells_of now) (omega (arith, within))
+
+    -- the first cells of a row were read after what was reached
+    pub reached_row : (t : S) (u : ℕ) → CodedPrefix (rule_after (part_rule d w part bytes) before) row s q (length row) t u → Reached d w part bytes decoder p0 old (here + length row) (with_row_of now i y row) t u
+    reached_row t u h =
         let rule = part_rule d w part bytes in
-        let before : List ℤ = take here (cells_of now) in
-        let so_far = reached_row n h.0 h.1 (omega arith) (omega arith) h.3 in
-        let grids : List (Grid ℤ) = with_cells_of now i y row n in
-        let taken : Taken ℕ S = record { value = h.2; state = t; position = u } in
-        let same : take (here + n) (cells_of grids) ≡ before ++ take n row = cells_first part.channels now i y row r.fits l n (omega arith) qy (omega arith) in
-        let read : rule.read (take (here + n) (cells_of grids)) h.0 h.1 ≡ Ok taken = ap (λ cs. rule.read cs h.0 h.1) same ∙ h.4 in
-        let at : here + n ≡ place_of part i n y = omega arith in
-        let next : suc (here + n) ≡ here + suc n = omega arith in
-        let value : rule.value (take (here + n) (cells_of grids)) h.2 ≡ get_or row n (pos 0) =
-        ap (λ cs. rule.value cs h.2) same ∙ sym (get_or_from_slice_get row n (rule.value (before ++ take n row) h.2) (pos 0) h.5) in
-        let more = reached_more d w part bytes decoder p0 old (here + n) i n y grids h.0 h.1 taken l (omega arith) qy at so_far read in
-        let is : with_cell_of grids i n y (rule.value (take (here + n) (cells_of grids)) h.2) ≡ with_cells_of now i y row (suc n) =
-        ap (with_cell_of grids i n y) value ∙ sym (one_more_written part.channels now i y row r.fits l n) in
-        subst (λ k. Reached d w part bytes decoder p0 old k (with_cells_of now i y row (suc n)) t u) next
-        (subst (λ gs. Reached d w part bytes decoder p0 old (suc (here + n)) gs t u) is more)
+        let start = r.coded.start in
+        let all : take (here + length row) (before ++ row) ≡ before ++ row = take_all (here + length row) (before ++ row) (omega (arith, length-append before row, count)) in
+        let first : on (length before) (before ++ row) s q =
+        subst (λ k. on k (before ++ row) s q) (sym count) (prefix_same rule start.value start.position (cells_of now) (before ++ row) here s q (sym (take_at before row here count)) r.coded.joined) in
+        let read : on (here + length row) (before ++ row) t u = subst (λ k. on (k + length row) (before ++ row) t u) count (prefix_after rule start.value start.position before row s q first (length row) t u h) in
+        record {
+          coded = record {
+            start = start;
+            begins = r.coded.begins;
+            joined = prefix_same rule start.value start.position (before ++ row) (cells_of (with_row_of now i y row)) (here + length row) t u
+                (all ∙ sym (first_cells part.channels now i y row r.fits l qy narrow)) read;
+          };
+          rest = ap (drop (here + length row)) (cells_written part.channels now i y row r.fits l qy narrow) ∙ drop_written (cells_of now) here row within
+              ∙ sym (drop-drop (length row) here (cells_of now)) ∙ ap (drop (length row)) r.rest ∙ drop-drop (length row) here (cells_of old);
+          fits = fits_written part.channels now i y row r.fits qy narrow;
+        }
 
   module _ (regions : List Region) {X : Type 0} (to_int : X → ℤ) (i y : ℕ) (store new : List (Grid X)) (s : S) (p : ℕ)
       (sizes : AreRegionsOf part.channels regions) (apart : LieApart regions) (lie : AllLie regions store) (li : i < length regions) (qy : y < (region_at regions i).height) where
@@ -73,43 +77,46 @@ module _ {S : Type 0} (d : Meaning S) (w : Width) (part : Part) (bytes : List �
     row_there = subst (λ n. y < n) (same_size part.channels regions i sizes li).1 qy
 
     module _ (vs : List X) (n : ℕ) (long : length vs ≡ n) (narrow : n ≤ (region_at regions i).width) (sets : SetsRow (first_columns (region_at regions i) n) y vs store new) where
-      width_there : n ≤ (channel part.channels i).width
-      width_there = subst (λ k. n ≤ k) (same_size part.channels regions i sizes li).0 narrow
+      abbrev R : List ℤ
+      R = map to_int vs
 
-      grids_are : grids_in regions (store_meanings to_int new) ≡ with_cells_of (grids_in regions ints) i y (map to_int vs) n
+      long_row : length R ≡ n
+      long_row = length-map vs to_int ∙ long
+
+      width_there : length R ≤ (channel part.channels i).width
+      width_there = let same = (same_size part.channels regions i sizes li).0 in omega (arith, narrow, long_row, same)
+
+      at : place_of part i 0 y + length R ≡ place_of part i n y
+      at = omega (arith, long_row)
+
+      grids_are : grids_in regions (store_meanings to_int new) ≡ with_row_of (grids_in regions ints) i y R
       grids_are =
-          row_grids to_int store new y n vs regions i (region 0 0 0 0 0) apart lie li qy narrow sets
-          ∙ ap (λ g. slice_set (grids_in regions ints) i (with_first g y (map to_int vs) n)) (sym (grid_in ints regions i li))
+          row_grids to_int store new y n vs long regions i (region 0 0 0 0 0) apart lie li qy narrow sets
+          ∙ ap (λ g. slice_set (grids_in regions ints) i (with_row g y R)) (sym (grid_in ints regions i li))
 
       -- cells of the row were read and written
-      pub row_goes_on : (t : S) (q : ℕ) → CodedPrefix row_rule (map to_int vs) s p n t q →
-          GoesOn d w part bytes regions (place_of part i 0 y) (place_of part i n y) ints s p (store_meanings to_int new) t q
+      pub row_goes_on : (t : S) (q : ℕ) → CodedPrefix row_rule R s p n t q → GoesOn d w part bytes regions (place_of part i 0 y) (place_of part i n y) ints s p (store_meanings to_int new) t q
       row_goes_on t q reads decoder p0 old r =
-          let at : place_of part i 0 y + n ≡ place_of part i n y = omega arith in
-          let m = length-map vs to_int in
           subst (λ k. Reached d w part bytes decoder p0 old k (grids_in regions (store_meanings to_int new)) t q) at
-          (subst (λ gs. Reached d w part bytes decoder p0 old (place_of part i 0 y + n) gs t q) (sym grids_are)
-          (reached_row decoder p0 old i y (grids_in regions ints) there row_there (map to_int vs) s p r n t q width_there (omega (arith, m, long)) reads))
+          (subst (λ gs. Reached d w part bytes decoder p0 old (place_of part i 0 y + length R) gs t q) (sym grids_are)
+          (reached_row decoder p0 old i y (grids_in regions ints) there row_there R width_there s p r t q (subst (λ k. CodedPrefix row_rule R s p k t q) (sym long_row) reads)))
 
       -- the cells of the row that were read before an error were written
-      pub row_stops : (cost before after : ℕ) (t : S) (q : ℕ) (e : DecoderError) → n < (region_at regions i).width → after ≤ before + suc n * cost → CodedPrefix row_rule (map to_int vs) s p n t q →
-          row_rule.read (map to_int vs) t q ≡ Err e →
+      pub row_stops : (cost before after : ℕ) (t : S) (q : ℕ) (e : DecoderError) → n < (region_at regions i).width → after ≤ before + suc n * cost → CodedPrefix row_rule R s p n t q → row_rule.read R t q ≡ Err e →
           Stops d w part bytes regions cost before after (place_of part i 0 y) ints s p (store_meanings to_int new) q e
       row_stops cost before after t q e short few reads error decoder p0 old r =
           let grids : List (Grid ℤ) = grids_in regions (store_meanings to_int new) in
           let reached = row_goes_on t q reads decoder p0 old r in
-          let at : place_of part i 0 y + n ≡ place_of part i n y = omega arith in
           let next : place_of part i 0 y + suc n ≡ suc (place_of part i n y) = omega arith in
-          let m = length-map vs to_int in
+          let room = row_within part.channels grids i y reached.fits there row_there in
           let in_row : n < (channel part.channels i).width = subst (λ k. n < k) (same_size part.channels regions i sizes li).0 short in
-          let same : take (place_of part i n y) (cells_of grids) ≡ preceding_cells part (grids_in regions ints) i 0 y ++ map to_int vs =
-          ap (λ k. take k (cells_of grids)) (sym at) ∙ ap (λ gs. take (place_of part i 0 y + n) (cells_of gs)) grids_are
-          ∙ cells_first part.channels (grids_in regions ints) i y (map to_int vs) r.fits there n width_there row_there (omega (arith, m, long))
-          ∙ ap (λ xs. preceding_cells part (grids_in regions ints) i 0 y ++ xs) (take_all n (map to_int vs) (omega (arith, m, long))) in (
+          let same : take (place_of part i n y) (cells_of grids) ≡ preceding_cells part (grids_in regions ints) i 0 y ++ R =
+          ap (λ k. take k (cells_of grids)) (sym at) ∙ ap (λ gs. take (place_of part i 0 y + length R) (cells_of gs)) grids_are
+          ∙ first_cells part.channels (grids_in regions ints) i y R r.fits there row_there width_there in (
             record {
               count = place_of part i n y;
               state = t;
-              within = subst (λ k. place_of part i n y < k) (all_cells part.channels grids reached.fits) (stands_within part.channels grids i n y reached.fits there in_row row_there);
+              within = subst (λ k. place_of part i n y < k) (all_cells part.channels grids reached.fits) (omega (arith, room, in_row));
               reached = reached;
               error = ap (λ cs. (part_rule d w part bytes).read cs t q) same ∙ error;
             },
@@ -146,6 +153,6 @@ module _ {S : Type 0} (d : Meaning S) (w : Width) (part : Part) (bytes : List �
       pub row_keeps_rest : (read : Result (Unit {0}) RowError) (result : Result (Unit {0}) DecoderError) → SetsRead (region_at regions i) y row read store new result →
           IfErr read (λ r. r.column < length row) → KeepsOutside regions store new
       row_keeps_rest (Ok u) result sets inside =
-          row_keeps to_int store new y (region_at regions i).width row regions i (region 0 0 0 0 0) lie li qy (omega arith) sets.0
+          row_keeps to_int store new y (region_at regions i).width row long regions i (region 0 0 0 0 0) lie li qy (omega arith) sets.0
       row_keeps_rest (Err e) result sets inside =
-          row_keeps to_int store new y e.column (take e.column row) regions i (region 0 0 0 0 0) lie li qy (omega (arith, inside, long)) sets.0
+          row_keeps to_int store new y e.column (take e.column row) (length-take-le e.column row (omega arith)) regions i (region 0 0 0 0 0) lie li qy (omega (arith, inside, long)) sets.0
