@@ -2,19 +2,20 @@
 //!
 //! A row asks as one of sections does, for samples of 32 bits and without global trees; in place of sections it has the
 //! bytes of the global part, and groups after it, with a semicolon wherever the image is shown. It gives, with a semicolon
-//! after each: of the parts that came whether they are partial then, and the samples that are shown. Parts may end early.
+//! after each: of the parts that came whether they are partial then, before that of a group with a header of its own after
+//! an @ the reader's position, and the samples that are shown. Parts may end early.
 
 use crate::image_samples::samples_of;
 use crate::input::{owned_sections, passes, sections};
 use crate::reading::read;
 use crate::sections::{Fields, split};
-use jxl_modular::Sample;
 use jxl_modular::bits::Bitstream;
 use jxl_modular::decoder::Decoder;
 use jxl_modular::grid::AlignedGrid;
 use jxl_modular::groups::{Part, TransformedGlobalModular};
 use jxl_modular::image::ModularImageDestination;
 use jxl_modular::sections::{Section, SectionPart};
+use jxl_modular::{MaConfig, Sample};
 use jxlcheck_text::{bytes, listed};
 use std::alloc::Global;
 
@@ -37,22 +38,57 @@ fn decode_global<S: Sample, D: Decoder>(
     Some(part.is_partial())
 }
 
-/// Decodes a group: whether it is partial then.
-fn decode_group<S: Sample, D: Decoder>(
+/// The group of a section.
+fn group_of(part: SectionPart) -> Option<Part> {
+    match part {
+        SectionPart::Global => None,
+        SectionPart::Lf(group) => Some(Part::Lf(group)),
+        SectionPart::Pass(pass, group) => Some(Part::Pass(pass, group)),
+    }
+}
+
+/// Decodes a group by a header of its own: where the reader is then.
+fn decode_nested_group<S: Sample, D: Decoder>(
     alloc: Global,
     groups: &mut TransformedGlobalModular<'_, S, D>,
+    part: Part,
     section: &Section<'_>,
-) -> Option<bool> {
-    let part = match section.part {
-        SectionPart::Global => return None,
-        SectionPart::Lf(group) => Part::Lf(group),
-        SectionPart::Pass(pass, group) => Part::Pass(pass, group),
-    };
+) -> Option<u64> {
+    let global: Option<MaConfig<D>> = None;
     let mut bits = section.bits;
     groups
-        .decode(alloc, part, &mut bits, section.stream_index, true)
+        .decode_nested(
+            alloc,
+            part,
+            &mut bits,
+            section.stream_index,
+            global.as_ref(),
+            true,
+        )
         .ok()?;
-    Some(groups.is_partial(part))
+    Some(bits.position())
+}
+
+/// Decodes a group, and adds whether it is partial then; before it, where it has a header of its own, where the reader
+/// is.
+fn tell_group<S: Sample, D: Decoder>(
+    alloc: Global,
+    text: &mut String,
+    groups: &mut TransformedGlobalModular<'_, S, D>,
+    section: &Section<'_>,
+) -> Option<()> {
+    let part = group_of(section.part)?;
+    if section.nested {
+        let position = decode_nested_group(alloc, groups, part, section)?;
+        write!(text, "@{position} ").ok()?;
+    } else {
+        let mut bits = section.bits;
+        groups
+            .decode(alloc, part, &mut bits, section.stream_index, true)
+            .ok()?;
+    }
+    let partial = groups.is_partial(part);
+    write!(text, "{partial} ").ok()
 }
 
 /// Adds what becomes of some groups, and what is shown then.
@@ -63,8 +99,7 @@ fn tell_groups<S: Sample, D: Decoder>(
     sections: &[Section<'_>],
 ) -> Option<()> {
     for section in sections {
-        let partial = decode_group(alloc, groups, section)?;
-        write!(text, "{partial} ").ok()?;
+        tell_group(alloc, text, groups, section)?;
     }
     tell_shown(alloc, text, &groups.shown(alloc).ok()?)
 }
