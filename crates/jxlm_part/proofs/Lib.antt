@@ -8,7 +8,6 @@ pub mod NextSample
 pub mod PartAnswers
 pub mod Places
 pub mod Prefixes
-pub mod Progress
 pub mod RowNeighbours
 pub mod RowReads
 pub mod RowSees
