@@ -29,7 +29,11 @@ fn token_ahead(bits: &Bitstream<'_>, width: u32, before: Ahead) -> Ahead
     requires room { (position_of bits.now + before.at) / 8 + 8 ≤ length (bytes_of bits.now) }
     ensures gives { token_at (Runs before.last before.left) (Fixed width) (bytes_of bits.now)
         (position_of bits.now + before.at)
-        ≡ Ok (record { token = result.last; mode = Runs result.last result.left; position = position_of bits.now + result.at }) }
+        ≡ Ok (record {
+          token = result.last;
+          mode = Runs result.last result.left;
+          position = position_of bits.now + result.at;
+        }) }
     ensures near { result.at ≤ before.at + 33 }
 {
     if before.left > 0 {
