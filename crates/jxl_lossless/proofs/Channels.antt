@@ -11,16 +11,17 @@ use Rattle.jxlm_base.specs.Grid.{Grid, grid}
 use Rattle.jxlm_base.specs.Regions.{store_meanings}
 use Rattle.jxlm_cut.specs.Passes.{is_of_picture_of, one_picture}
 use Rattle.jxlm_transform.specs.Channels.{AreGridsOf, Channel, image_channel, image_list}
-use Rattle.jxlm_transform.specs.Params.{of_one_size, sized}
+use Rattle.jxlm_transform.specs.Params.{sized, with_tables}
 use Rattle.jxlm_transform.specs.declared.param.ChannelShift.TheVariants.{Shifts}
 use Rattle.jxlm_transform.specs.declared.param.ModularChannelParams.{ModularChannelParams}
+use Rattle.jxlm_transform.specs.declared.param.PaletteTables.TheVariants.{OfDeltasToo}
 use Rattle.jxl_headers.specs.Images.{Image}
 use Rattle.jxl_picture.specs.Limits.{channel_count}
 use Rattle.jxl_headers.specs.declared.size.Size.{Size}
 use Rattle.jxl_picture.specs.Orientations.{IsOriented, IsUpright, is_turned, shown_size}
 use Rattle.jxl_picture.specs.Pictures.{HasSides, IsWhole}
 use Rattle.jxl_patches.specs.Slots.{AreOfSize}
-use Rattle.jxl_lossless.specs.Frames.{channels_given}
+use Rattle.jxl_lossless.specs.Frames.{channels_given, of_file}
 
 -- they are of one picture
 same_picture : (c : Channel) → is_of_picture_of c c ≡ true
@@ -30,18 +31,18 @@ all_alike : (n : ℕ) (p : ModularChannelParams) → list_all (is_of_picture_of 
 all_alike zero p = refl
 all_alike (suc n) p = rw (same_picture (image_channel p), all_alike n p) refl
 
-alike_of : (n w h : ℕ) → one_picture (map image_channel (of_one_size n w h)) ≡ true
+alike_of : (n w h : ℕ) → one_picture (map image_channel (of_file n w h)) ≡ true
 alike_of zero w h = refl
-alike_of (suc n) w h = all_alike n (sized w h (Shifts 0))
+alike_of (suc n) w h = all_alike n (with_tables OfDeltasToo (sized w h (Shifts 0)))
 
-pub alike : (n w h : ℕ) (list : List ModularChannelParams) → list ≡ of_one_size n w h → one_picture (image_list list).channels ≡ true
+pub alike : (n w h : ℕ) (list : List ModularChannelParams) → list ≡ of_file n w h → one_picture (image_list list).channels ≡ true
 alike n w h list is = ap (λ (l : List ModularChannelParams). one_picture (image_list l).channels) is ∙ alike_of n w h
 
 -- so many grids of their sides are all channels of a picture
 size_same : (n : ℕ) → div_ceil n (2 ^ 0) ≡ n
 size_same n = let one = div-one n in let rest : n % 1 ≡ 0 = omega arith in rw (one, rest) (omega arith)
 
-sides : (n w h : ℕ) (grids : List (Grid ℤ)) → AreGridsOf (map image_channel (of_one_size n w h)) grids → (length grids ≡ n) × All (HasSides w h) grids
+sides : (n w h : ℕ) (grids : List (Grid ℤ)) → AreGridsOf (map image_channel (of_file n w h)) grids → (length grids ≡ n) × All (HasSides w h) grids
 sides zero w h [] s = (refl, All-nil (HasSides w h))
 sides zero w h (g ∷ gs) s = absurd s
 sides (suc n) w h [] s = absurd s

@@ -1,10 +1,13 @@
 -- The samples of a frame of a codestream (ISO/IEC 18181-1, frame: sections, LF global).
-use Rattle.std.specs.Prelude.{◌≡◌, ℕ, pos, ℤ, List, length, slice_get, Bool, MatchBool, Option, Some, None}
+use Rattle.std.specs.Prelude.{◌≡◌, ℕ, pos, ℤ, List, length, replicate, slice_get, Bool, MatchBool, Option, Some, None}
 use Rattle.std.specs.Int.{Width, w32}
 use Rattle.jxlm_base.specs.Decoding.{Meaning}
 use Rattle.jxlm_base.specs.Grid.{Grid}
 use Rattle.jxlm_transform.specs.Channels.{ChannelList, image_list}
-use Rattle.jxlm_transform.specs.Params.{of_one_size}
+use Rattle.jxlm_transform.specs.Params.{sized, with_tables}
+use Rattle.jxlm_transform.specs.declared.param.ChannelShift.TheVariants.{Shifts}
+use Rattle.jxlm_transform.specs.declared.param.ModularChannelParams.{ModularChannelParams}
+use Rattle.jxlm_transform.specs.declared.param.PaletteTables.TheVariants.{OfDeltasToo}
 use Rattle.jxlm_ma.specs.Tree.{Config}
 use Rattle.jxlm_ma.specs.TreeReading.{IsTreeAt}
 use Rattle.jxl_headers.specs.Images.{Image}
@@ -20,9 +23,13 @@ use Rattle.jxl_front.specs.Fronts.{FrameAt, StandsAt, layout_in}
 use Rattle.jxl_lossless.specs.Sections.{AreOfGroups, sections_in}
 use Rattle.jxl_patches.specs.Slots.{ArePut, Slots, optional_patches}
 
+-- n channels as large as a picture of these sides; in a file the table of a palette has columns for deltas too
+abbrev pub of_file : ℕ → ℕ → ℕ → List ModularChannelParams
+of_file n width height = replicate n (with_tables OfDeltasToo (sized width height (Shifts 0)))
+
 -- the channels of a frame of an image: each has the frame's sides
 abbrev pub channels_given : Image → Size → ChannelList
-channels_given image size = image_list (of_one_size (channel_count image) size.width size.height)
+channels_given image size = image_list (of_file (channel_count image) size.width size.height)
 
 -- The first section of a frame of this size with n channels has, from bit p on, factors that Modular does not use, and the
 -- tree that sections share, if there is one, up to bit q. Its nodes are within the frame's limit.

@@ -10,10 +10,10 @@ ghost use Rattle.jxl_modular.specs.Image.{image_grids};
 ghost use Rattle.jxl_picture.specs.Limits.{channel_count};
 ghost use Rattle.jxl_still.specs.Places.{AreFew};
 ghost use Rattle.jxlm_transform.specs.Channels.{AreGridsOf};
-ghost use Rattle.jxlm_transform.specs.Params.{IsGroupDim, of_one_size};
+ghost use Rattle.jxlm_transform.specs.Params.{IsGroupDim};
 ghost use Rattle.jxl_patches.specs.Slots.{AreOfSize, HoldFrames};
 ghost use Rattle.jxl_patches.specs.SavedParts.{slots_of};
-ghost use Rattle.jxl_lossless.specs.Frames.{IsCoded, IsFrame, IsMade, channels_given};
+ghost use Rattle.jxl_lossless.specs.Frames.{IsCoded, IsFrame, IsMade, channels_given, of_file};
 ghost use Rattle.jxl_lossless.specs.FrameFailures.{CodedFails, FrameFails, MadeFails};
 
 use crate::error::FileError;
@@ -34,18 +34,20 @@ use jxlm_base::decoder::Decoder;
 use jxlm_base::grid::{AlignedGrid, OutOfMemory};
 use jxlm_base::sample::Sample;
 use jxlm_ma::flat::Steps;
-use jxlm_transform::param::{ModularChannelParams, ModularParams};
+use jxlm_transform::param::{ModularChannelParams, ModularParams, PaletteTables};
 use std::alloc::Global;
 
-// So many channels of this size.
+// So many channels of this size, with the tables of palettes that files hold.
 fn channel_list(
     alloc: Global,
     size: Size,
     count: usize,
 ) -> Result<Vec<ModularChannelParams>, OutOfMemory>
-    ensures list { IfOk result (λ v. v.items ≡ of_one_size count size.width size.height) }
+    ensures list { IfOk result (λ v. v.items ≡ of_file count size.width size.height) }
 {
-    let channel = ModularChannelParams::new(size.width, size.height);
+    let channel = ModularChannelParams::new(size.width, size.height).with_palette_tables(
+        PaletteTables::OfDeltasToo,
+    );
     Ok(vec![in alloc; channel; count]?)
 }
 

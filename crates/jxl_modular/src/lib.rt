@@ -48,7 +48,9 @@ pub mod ma {
 
 /// What an image is read by.
 pub mod param {
-    pub use jxlm_transform::param::{ChannelShift, ModularChannelParams, ModularParams};
+    pub use jxlm_transform::param::{
+        ChannelShift, ModularChannelParams, ModularParams, PaletteTables,
+    };
 }
 
 /// The plain decoders.
@@ -89,6 +91,6 @@ pub use jxlm_base::sample::Sample;
 pub use jxlm_ma::flat::FlatMaTree;
 pub use jxlm_ma::ma::{MaConfig, MaConfigParams};
 pub use jxlm_transform::channels::ModularChannelInfo;
-pub use jxlm_transform::param::{ChannelShift, ModularChannelParams, ModularParams};
+pub use jxlm_transform::param::{ChannelShift, ModularChannelParams, ModularParams, PaletteTables};
 pub use picture::decode_picture;
 pub use root::Modular;

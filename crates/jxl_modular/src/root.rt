@@ -47,7 +47,8 @@ impl<S: Sample, D: Decoder> Modular<S, D> {
     /// # Memory
     ///
     /// All grids of the image are made here, before the first token of a sample is read: the given channels, and for
-    /// each palette of the header a table with one row for each channel that it stands for, of at most 70911 samples.
+    /// each palette of the header a table with one row for each channel that it stands for, of at most 70911 samples,
+    /// or 137727 with deltas.
     /// So nine bytes can take 4 GB, by one channel of 2^15 by 2^15 samples of 32 bits. A caller that does not trust
     /// its input bounds it before the call: by `is_valid`, and by the sum of the areas of the given channels times
     /// the bytes of a sample. There are at most 273 palettes. The list of what undoes the transforms is made here too:

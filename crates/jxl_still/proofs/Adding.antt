@@ -65,9 +65,9 @@ fails_among x q ps among errors.NoSection h =
     record { part = h.part; asked = any_of h.part ps (subst (λ p. IsAmong p ps) same among); none = h.none }
 fails_among x q ps among errors.NoMemory h = tt
 fails_among x q ps among (errors.Header e) h = absurd h
-fails_among x q ps among errors.DeltaPalette h = absurd h
+fails_among x q ps among errors.WeightedPalette h = absurd h
 fails_among x q ps among errors.NoGroups h = absurd h
-fails_among x q ps among errors.GroupDeltaPalette h = absurd h
+fails_among x q ps among errors.GroupWeightedPalette h = absurd h
 fails_among x q ps among (errors.Samples e) h = absurd h
 
 -- the part of number k is among the first n with samples

@@ -30,8 +30,7 @@ use Rattle.jxlm_sections.proofs.Openings.{opened_steps}
 use Rattle.jxlm_sections.proofs.Pictures.{can_be_grouped, still_picture}
 use Rattle.jxlm_sections.proofs.Whole.{all_whole}
 use Rattle.jxlm_cut.specs.declared.pass.Pass.{Pass}
-use Rattle.jxlm_header.specs.Header.{header}
-use Rattle.jxl_still.specs.Stills.{IsStill, found_deltas, section_has_deltas}
+use Rattle.jxl_still.specs.Stills.{IsStill, section_is_weighted, weighted_at}
 use Rattle.jxl_still.specs.StillFailures.{HeaderStands, StillFails}
 use Rattle.jxl_still.specs.Inner.Listing.{AreListed, ListingFails, SamplesStop}
 use Rattle.jxl_still.specs.Inner.Openings.{OpenFails, Opens}
@@ -68,11 +67,11 @@ module _ {S D : Type 0} (d : Meaning D) (w : Width) (to_int : S → ℤ) (zero :
   -- opening the image fails
   pub open_fails : (e : FrameError) → OpenFails d global given bytes p e → Fails e
   open_fails (errors.Header e) h = h
-  open_fails errors.DeltaPalette h = h
+  open_fails errors.WeightedPalette h = h
   open_fails errors.NoMemory h = tt
   open_fails errors.NoGroups h = absurd h
   open_fails errors.NoSection h = absurd h
-  open_fails errors.GroupDeltaPalette h = absurd h
+  open_fails errors.GroupWeightedPalette h = absurd h
   open_fails (errors.Samples e) h = absurd h
 
   module _ (image : Image S D) (q : ℕ) (o : Opens d global given bytes p zero group_dim bit_depth image q) where
@@ -92,8 +91,8 @@ module _ {S D : Type 0} (d : Meaning D) (w : Width) (to_int : S → ℤ) (zero :
     list_fails errors.NoSection h = record { stands = stands; lacks = subst (λ (i : Image S D). ListingFails places i errors.NoSection) o.is h }
     list_fails errors.NoMemory h = tt
     list_fails (errors.Header e) h = absurd h
-    list_fails errors.DeltaPalette h = absurd h
-    list_fails errors.GroupDeltaPalette h = absurd h
+    list_fails errors.WeightedPalette h = absurd h
+    list_fails errors.GroupWeightedPalette h = absurd h
     list_fails (errors.Samples e) h = absurd h
 
     module _ (bits : Bitstream) (bits_are : bytes_of bits ≡ bytes) (place : position_of bits ≡ q) (sections : List Section) (listed : AreListed places image bits sections) (cut : IsTrue (can_cut image.group_dim (coded_list image))) where
@@ -135,22 +134,22 @@ module _ {S D : Type 0} (d : Meaning D) (w : Width) (to_int : S → ℤ) (zero :
           (subst (IsPictured pictured.w pictured.h) (sym list_is) pictured.is))
 
       -- the first section has no header of its own, so all or the others alone have such a palette
-      deltas_are : list_any section_has_deltas sections ≡ list_any section_has_deltas more
-      deltas_are = ap (list_any section_has_deltas) sections_are ∙ ap (λ b. (b && found_deltas (header.read (bytes_of first.bits) (position_of first.bits))) || list_any section_has_deltas more) listed.of_global.nested
+      weighted_are : list_any section_is_weighted sections ≡ list_any section_is_weighted more
+      weighted_are = ap (list_any section_is_weighted) sections_are ∙ ap (λ b. (b && weighted_at (bytes_of first.bits) (position_of first.bits)) || list_any section_is_weighted more) listed.of_global.nested
 
-      -- the section of a group has a palette with deltas
-      pub deltas_fail : list_any section_has_deltas sections ≡ true → Fails errors.GroupDeltaPalette
-      deltas_fail some = record {
+      -- the section of a group has such a palette
+      pub weighted_fail : list_any section_is_weighted sections ≡ true → Fails errors.GroupWeightedPalette
+      weighted_fail some = record {
         stands = stands;
         cut = can_be_cut;
         groups = more;
         parts = parts_are;
         of_groups = listed.added.groups;
-        some = sym deltas_are ∙ some;
+        some = sym weighted_are ∙ some;
       }
 
       -- decoding them fails
-      pub samples_fail : (e : FrameError) → list_any section_has_deltas sections ≡ false → SamplesStop d w to_int zero image global sections e → Fails e
+      pub samples_fail : (e : FrameError) → list_any section_is_weighted sections ≡ false → SamplesStop d w to_int zero image global sections e → Fails e
       samples_fail (errors.Samples e) plain h =
           let (left, before, after, stop) = h in
           always_so (kind_of e) (record {
@@ -163,7 +162,7 @@ module _ {S D : Type 0} (d : Meaning D) (w : Width) (to_int : S → ℤ) (zero :
             groups = more;
             parts = parts_are;
             of_groups = listed.added.groups;
-            plain_groups = sym deltas_are ∙ plain;
+            plain_groups = sym weighted_are ∙ plain;
             left = left;
             before = before;
             after = after;
@@ -171,14 +170,14 @@ module _ {S D : Type 0} (d : Meaning D) (w : Width) (to_int : S → ℤ) (zero :
                 (subst (λ ss. SectionsStop d w to_int zero image one_pass global false ss e image.store left before after) sections_are stop);
           })
       samples_fail (errors.Header e) plain h = absurd h
-      samples_fail errors.DeltaPalette plain h = absurd h
+      samples_fail errors.WeightedPalette plain h = absurd h
       samples_fail errors.NoGroups plain h = absurd h
       samples_fail errors.NoSection plain h = absurd h
-      samples_fail errors.GroupDeltaPalette plain h = absurd h
+      samples_fail errors.GroupWeightedPalette plain h = absurd h
       samples_fail errors.NoMemory plain h = absurd h
 
       -- or there is the frame
-      pub made : list_any section_has_deltas sections ≡ false → (grids : List (Grid ℤ)) (before after : ℕ) → AreDecoded d w to_int zero image one_pass global sections grids before after → Made grids before after
+      pub made : list_any section_is_weighted sections ≡ false → (grids : List (Grid ℤ)) (before after : ℕ) → AreDecoded d w to_int zero image one_pass global sections grids before after → Made grids before after
       made plain grids before after done = record {
         head = o.head;
         config = o.config;
@@ -191,7 +190,7 @@ module _ {S D : Type 0} (d : Meaning D) (w : Width) (to_int : S → ℤ) (zero :
         groups = more;
         parts = parts_are;
         of_groups = listed.added.groups;
-        plain_groups = sym deltas_are ∙ plain;
+        plain_groups = sym weighted_are ∙ plain;
         decoded = subst (λ (i : Image S D). AreDecoded d w to_int zero i one_pass global (first ∷ more) grids before after) o.is
             (subst (λ ss. AreDecoded d w to_int zero image one_pass global ss grids before after) sections_are done);
       }

@@ -19,9 +19,9 @@ fails_for : {S D : Type 0} (x : Places) (image : Image S D) (ps : List SectionPa
 fails_for x image ps wider errors.NoSection h = record { part = h.part; asked = any_of h.part (groups_in_order image) (wider h.part (among_of h.part ps h.asked)); none = h.none }
 fails_for x image ps wider errors.NoMemory h = tt
 fails_for x image ps wider (errors.Header e) h = absurd h
-fails_for x image ps wider errors.DeltaPalette h = absurd h
+fails_for x image ps wider errors.WeightedPalette h = absurd h
 fails_for x image ps wider errors.NoGroups h = absurd h
-fails_for x image ps wider errors.GroupDeltaPalette h = absurd h
+fails_for x image ps wider errors.GroupWeightedPalette h = absurd h
 fails_for x image ps wider (errors.Samples e) h = absurd h
 
 module _ {S D : Type 0} (x : Places) where

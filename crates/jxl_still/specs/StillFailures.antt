@@ -1,6 +1,6 @@
--- Why a frame is not decoded: the first reason in the order of its bits, but that a palette with deltas in the header of a
--- group is told before what is wrong with samples.
-use Rattle.std.specs.Prelude.{◌≡◌, ℕ, ◌⊎◌, ℤ, List, ◌∷◌, map, false, true, IsFalse, IsTrue, Option, None, Ok, Any}
+-- Why a frame is not decoded: the first reason in the order of its bits, but that a palette of the weighted predictor in
+-- the header of a group is told before what is wrong with samples.
+use Rattle.std.specs.Prelude.{◌≡◌, ℕ, ◌⊎◌, ℤ, List, ◌∷◌, map, false, true, IsFalse, IsTrue, Option, None, Any}
 use Rattle.std.specs.Int.{Width}
 use Rattle.std.specs.List.{All, list_any}
 use Rattle.jxlm_base.specs.Bits.{bytes_of, position_of}
@@ -12,7 +12,6 @@ use Rattle.jxlm_base.specs.declared.error.Error.{Error}
 use Rattle.jxlm_transform.specs.Channels.{ChannelList}
 use Rattle.jxlm_cut.specs.Cutting.{can_cut}
 use Rattle.jxlm_cut.specs.declared.part.SectionPart.{SectionPart}
-use Rattle.jxlm_header.specs.Header.{Header, header}
 use Rattle.jxlm_header.specs.Opening.{Opening}
 use Rattle.jxlm_ma.specs.Tree.{Config}
 use Rattle.jxl_modular.specs.Fresh.{fresh}
@@ -21,17 +20,10 @@ use Rattle.jxl_modular.specs.Sections.{SectionsStop}
 use Rattle.jxl_modular.specs.declared.sections.Section.{Section}
 use Rattle.jxlm_sections.specs.CutPicture.{IsOfGlobal, groups_in_order, one_pass}
 use Rattle.jxl_still.specs.Places.{IsOfGroup, held}
-use Rattle.jxl_still.specs.Stills.{has_deltas, HasNoDeltas, section_has_deltas}
+use Rattle.jxl_still.specs.Stills.{section_is_weighted, weighted_at}
 use Rattle.jxl_still.specs.declared.error.FrameError.{FrameError}
 use Rattle.jxl_still.specs.declared.error.FrameError.TheVariants as errors
 use Rattle.jxl_still.specs.declared.places.Places.{Places}
-
--- at bit p a Modular header is read that has a palette with deltas
-pub record HasDeltas (bytes : List ℕ) (p : ℕ) : Type 0 where
-  pub head : Header
-  pub end : ℕ
-  pub stands : header.read bytes p ≡ Ok (record { value = head; position = end })
-  pub some : list_any has_deltas head.transform ≡ true
 
 -- one of these parts has no section
 pub record Lacks (places : Places) (ps : List SectionPart) : Type 0 where
@@ -49,7 +41,7 @@ module _ {S D : Type 0} (d : Meaning D) (w : Width) (to_int : S → ℤ) (zero :
     pub head : Opening
     pub config : Config D
     pub end : ℕ
-    pub plain : HasNoDeltas bytes p
+    pub plain : weighted_at bytes p ≡ false
     pub start : IsStartAt d global bytes given p head config end
 
   -- a group has a side of 0 in a coded channel
@@ -62,16 +54,16 @@ module _ {S D : Type 0} (d : Meaning D) (w : Width) (to_int : S → ℤ) (zero :
     pub stands : HeaderStands
     pub lacks : Lacks places (groups_in_order (fresh zero given stands.head stands.config group_dim bit_depth))
 
-  -- the section of a group begins with a header that has a palette with deltas
-  pub record GroupHasDeltas : Type 0 where
+  -- the section of a group begins with a header that has a palette of the weighted predictor
+  pub record GroupIsWeighted : Type 0 where
     pub stands : HeaderStands
     pub cut : IsTrue (can_cut group_dim stands.head.coded.list)
     pub groups : List Section
     pub parts : map (λ s. s.part) groups ≡ groups_in_order (fresh zero given stands.head stands.config group_dim bit_depth)
     pub of_groups : All (IsOfGroup places) groups
-    pub some : list_any section_has_deltas groups ≡ true
+    pub some : list_any section_is_weighted groups ≡ true
 
-  -- all sections are there, without palettes with deltas, and decoding them, one after another, returns this error
+  -- all sections are there, without such palettes, and decoding them, one after another, returns this error
   pub record SamplesFail (error : Error) : Type 0 where
     pub stands : HeaderStands
     pub first : Section
@@ -82,7 +74,7 @@ module _ {S D : Type 0} (d : Meaning D) (w : Width) (to_int : S → ℤ) (zero :
     pub groups : List Section
     pub parts : map (λ s. s.part) groups ≡ groups_in_order (fresh zero given stands.head stands.config group_dim bit_depth)
     pub of_groups : All (IsOfGroup places) groups
-    pub plain_groups : list_any section_has_deltas groups ≡ false
+    pub plain_groups : list_any section_is_weighted groups ≡ false
     pub left : List (Grid S)
     pub before : ℕ
     pub after : ℕ
@@ -92,9 +84,9 @@ module _ {S D : Type 0} (d : Meaning D) (w : Width) (to_int : S → ℤ) (zero :
   -- what each error says of the frame
   abbrev pub StillFails : FrameError → Type 0
   StillFails (errors.Header e) = UnlessMemory (kind_of e) (HeaderFails d global given bytes p (kind_of e))
-  StillFails errors.DeltaPalette = HasDeltas bytes p
+  StillFails errors.WeightedPalette = weighted_at bytes p ≡ true
   StillFails errors.NoGroups = CannotBeCut
   StillFails errors.NoSection = LacksSection
-  StillFails errors.GroupDeltaPalette = GroupHasDeltas
+  StillFails errors.GroupWeightedPalette = GroupIsWeighted
   StillFails (errors.Samples e) = UnlessMemory (kind_of e) (SamplesFail e)
   StillFails errors.NoMemory = Unit {0}

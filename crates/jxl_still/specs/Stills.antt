@@ -1,5 +1,5 @@
 -- The samples of a frame, from its sections (ISO/IEC 18181-1, frame: sections, LF global, groups).
-use Rattle.std.specs.Prelude.{◌≡◌, ℕ, ℤ, List, ◌∷◌, map, Bool, ◌&&◌, ◌||◌, true, false, nat_lt, IsTrue, Option, Result, Ok, Err}
+use Rattle.std.specs.Prelude.{◌≡◌, ℕ, ℤ, List, ◌∷◌, map, Bool, ◌&&◌, true, false, IsTrue, Option, Result, Ok, Err}
 use Rattle.std.specs.Int.{Width}
 use Rattle.std.specs.List.{All, list_any}
 use Rattle.jxlm_base.specs.Bits.{bytes_of, position_of}
@@ -27,44 +27,40 @@ abbrev pub weighted : Predictor → Bool
 weighted SelfCorrecting = true
 weighted other = false
 
--- a palette that has colours which are told by what they differ from a prediction; or whose predictor is the weighted one,
--- by which indices below 0, which are deltas too, would be predicted in another way
-abbrev pub has_deltas : Transform → Bool
-has_deltas (OfPalette p) = nat_lt 0 p.nb_deltas || weighted p.d_pred
-has_deltas t = false
+-- a palette of that predictor, by which its deltas would be predicted in another way
+abbrev pub is_weighted : Transform → Bool
+is_weighted (OfPalette t) = weighted t.d_pred
+is_weighted t = false
 
--- the transforms of the Modular header that is read at bit p have no palette with deltas
-pub record HasNoDeltas (bytes : List ℕ) (p : ℕ) : Type 0 where
-  pub head : Header
-  pub end : ℕ
-  pub stands : header.read bytes p ≡ Ok (record { value = head; position = end })
-  pub none : list_any has_deltas head.transform ≡ false
+-- whether a Modular header that has such a palette is what was read
+abbrev pub found_weighted : Result (Found Header) ErrorAt → Bool
+found_weighted (Ok found) = list_any is_weighted found.value.transform
+found_weighted (Err e) = false
 
--- whether a Modular header that has a palette with deltas is what was read
-abbrev pub found_deltas : Result (Found Header) ErrorAt → Bool
-found_deltas (Ok found) = list_any has_deltas found.value.transform
-found_deltas (Err e) = false
+-- whether such a header stands at bit p; not where none can be read
+abbrev pub weighted_at : List ℕ → ℕ → Bool
+weighted_at bytes p = found_weighted (header.read bytes p)
 
--- whether a section begins with a header of its own that has a palette with deltas
-abbrev pub section_has_deltas : Section → Bool
-section_has_deltas s = s.nested && found_deltas (header.read (bytes_of s.bits) (position_of s.bits))
+-- whether a section begins with such a header of its own
+abbrev pub section_is_weighted : Section → Bool
+section_is_weighted s = s.nested && weighted_at (bytes_of s.bits) (position_of s.bits)
 
 -- These are the channels of a frame. In its first section stand, at bit p, the image's header and its tree, which may be
 -- the global one; the section goes on with the global part. Each group with samples has a section, with a header of its
--- own, without palettes with deltas, and a stream that has the index of its part. Each codes its part whole, with so many
--- nodes of trees looked at before and after, and together they code the image.
+-- own, without palettes of the weighted predictor, and a stream that has the index of its part. Each codes its part whole,
+-- with so many nodes of trees looked at before and after, and together they code the image.
 pub record IsStill {S D : Type 0} (d : Meaning D) (w : Width) (to_int : S → ℤ) (zero : S) (global : Option (Config D)) (given : ChannelList) (group_dim bit_depth : ℕ) (bytes : List ℕ) (p : ℕ) (places : Places) (grids : List (Grid ℤ)) (before after : ℕ) : Type 0 where
   pub head : Opening
   pub config : Config D
   pub first : Section
   pub bytes_are : bytes_of first.bits ≡ bytes
-  pub plain : HasNoDeltas bytes p
+  pub plain : weighted_at bytes p ≡ false
   pub start : IsStartAt d global bytes given p head config (position_of first.bits)
   pub cut : IsTrue (can_cut group_dim head.coded.list)
   pub of_global : IsOfGlobal first
   pub groups : List Section
   pub parts : map (λ s. s.part) groups ≡ groups_in_order (fresh zero given head config group_dim bit_depth)
   pub of_groups : All (IsOfGroup places) groups
-  pub plain_groups : list_any section_has_deltas groups ≡ false
+  pub plain_groups : list_any section_is_weighted groups ≡ false
   pub decoded : AreDecoded d w to_int zero (fresh zero given head config group_dim bit_depth) one_pass global
       (first ∷ groups) grids before after

@@ -5,26 +5,25 @@ ghost use Rattle.std.specs.Prelude.{◌≡◌};
 use jxlm_base::error::Error;
 use jxlm_base::grid::OutOfMemory;
 
-/// Why a frame is not decoded: the first reason in the order of its bits, but that a palette with deltas in the header of
-/// a group is told before what is wrong with samples.
+/// Why a frame is not decoded: the first reason in the order of its bits, but that a palette with the weighted predictor in
+/// the header of a group is told before what is wrong with samples.
 #[derive(Clone, Copy, Debug, PartialEq, Eq, thiserror::Error)]
 pub enum FrameError {
     /// The image's header, or its tree, has this error.
     #[error("image: {0}")]
     Header(Error),
-    /// A palette of the image's header has colours that are told by what they differ from a prediction, or the weighted
-    /// predictor, by which indices below 0 would be.
-    #[error("not supported: a palette with deltas")]
-    DeltaPalette,
+    /// A palette of the image's header has the weighted (self-correcting) predictor.
+    #[error("not supported: a palette with weighted deltas")]
+    WeightedPalette,
     /// A group has a side of 0 in a coded channel, because of a squeeze.
     #[error("a group of no columns or rows")]
     NoGroups,
     /// A group has samples, but no section.
     #[error("a group without a section")]
     NoSection,
-    /// The header of a group has a palette with deltas.
-    #[error("not supported: a palette with deltas in a group")]
-    GroupDeltaPalette,
+    /// The header of a group has such a palette.
+    #[error("not supported: a palette with weighted deltas in a group")]
+    GroupWeightedPalette,
     /// The samples have this error.
     #[error("samples: {0}")]
     Samples(Error),

@@ -16,7 +16,7 @@ ghost use Rattle.jxl_still.specs.Places.{AreFew};
 ghost use Rattle.jxl_still.specs.Inner.Listing.{SamplesStop};
 
 use crate::error::FrameError;
-use crate::opening::{have_deltas, open_image};
+use crate::opening::{begin_weighted, open_image};
 use crate::places::Places;
 use jxl_modular::image::ModularImageDestination;
 use jxl_modular::sections::{Section, decode_sections};
@@ -71,9 +71,9 @@ fn decode_all<S: Sample, D: Decoder>(
 /// # Errors
 ///
 /// The first in the order of the bits: `Header` for the header and the tree, as by
-/// [`Modular::parse`](jxl_modular::Modular::parse); `DeltaPalette` where that header has a palette with deltas;
-/// `NoGroups`; `NoSection`; `GroupDeltaPalette` where the header of a group has a palette with deltas, which is looked for
-/// before samples are decoded; `Samples` for the first section that cannot be decoded, as by
+/// [`Modular::parse`](jxl_modular::Modular::parse); `WeightedPalette` where that header has a palette with
+/// the weighted predictor; `NoGroups`; `NoSection`; `GroupWeightedPalette` where the header of a group has one, which is
+/// looked for before samples are decoded; `Samples` for the first section that cannot be decoded, as by
 /// [`decode_sections`](jxl_modular::sections::decode_sections). Or it is out of memory, at any time.
 pub fn decode_frame<'a, S: Sample, D: Decoder>(
     alloc: Global,
@@ -104,9 +104,9 @@ pub fn decode_frame<'a, S: Sample, D: Decoder>(
     };
     let passes = one_pass(alloc)?;
     let sections = places.list(alloc, &mut image, &passes, bits)?;
-    let deltas = have_deltas(alloc, &sections)?;
-    if deltas {
-        return Err(FrameError::GroupDeltaPalette);
+    let weighted = begin_weighted(alloc, &sections)?;
+    if weighted {
+        return Err(FrameError::GroupWeightedPalette);
     }
     decode_all(alloc, &mut image, &passes, &sections, global, steps)?;
     Ok(Some(image))

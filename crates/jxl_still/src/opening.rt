@@ -1,15 +1,14 @@
 //! The header of a frame's image.
 
-ghost use Rattle.std.specs.Prelude.{◌≡◌, ◌↔◌, [], pos, IfErr, IfOk, None, Ok, OnOk};
+ghost use Rattle.std.specs.Prelude.{◌≡◌, ◌↔◌, [], pos, false, IfErr, IfOk, None, Ok};
 ghost use Rattle.std.specs.List.{list_any};
 ghost use Rattle.std.specs.Option.{IfSome, option_copied};
 ghost use Rattle.jxlm_base.specs.Bits.{bytes_of, position_of};
 ghost use Rattle.jxlm_transform.specs.Channels.{image_list};
 ghost use Rattle.jxlm_transform.specs.Params.{IsValidParams};
 ghost use Rattle.jxlm_transform.specs.Transforms.{transform_of};
-ghost use Rattle.jxlm_header.specs.Header.{header};
-ghost use Rattle.jxl_still.specs.Stills.{HasNoDeltas, found_deltas, has_deltas as the_has_deltas, section_has_deltas, weighted};
-ghost use Rattle.jxl_still.specs.Inner.Openings.{AheadFails, OpenFails, Opens};
+ghost use Rattle.jxl_still.specs.Stills.{is_weighted as the_weighted_palette, section_is_weighted, weighted, weighted_at};
+ghost use Rattle.jxl_still.specs.Inner.Openings.{OpenFails, Opens};
 
 use crate::error::FrameError;
 use jxl_modular::Modular;
@@ -33,58 +32,42 @@ fn is_weighted(predictor: Predictor) -> bool
     matches!(predictor, Predictor::SelfCorrecting)
 }
 
-// Whether the transform is a palette with deltas, or one whose deltas would be weighted.
-fn is_delta(transform: &TransformInfo) -> bool
-    ensures { result ≡ the_has_deltas (transform_of transform.now) }
+// Whether the transform is a palette with the weighted predictor.
+fn is_weighted_palette(transform: &TransformInfo) -> bool
+    ensures { result ≡ the_weighted_palette (transform_of transform.now) }
 {
     match transform {
-        TransformInfo::Palette(palette) => palette.nb_deltas > 0 || is_weighted(palette.d_pred),
+        TransformInfo::Palette(palette) => is_weighted(palette.d_pred),
         _ => false,
     }
 }
 
-fn has_deltas(transforms: &[TransformInfo]) -> bool
-    ensures { result ≡ list_any (λ t. the_has_deltas (transform_of t)) transforms.now }
+fn some_weighted(transforms: &[TransformInfo]) -> bool
+    ensures { result ≡ list_any (λ t. the_weighted_palette (transform_of t)) transforms.now }
 {
-    transforms.iter().any(|transform| is_delta(transform))
+    transforms
+        .iter()
+        .any(|transform| is_weighted_palette(transform))
 }
 
-/// The header that stands there has no palette with deltas.
-fn no_deltas(alloc: Global, bits: Bitstream<'_>) -> Result<(), FrameError>
-    ensures ok { OnOk result (HasNoDeltas (bytes_of bits.entry) (position_of bits.entry)) }
-    ensures err { IfErr result (AheadFails (bytes_of bits.entry) (position_of bits.entry)) }
+// Whether a header stands there that has a palette with the weighted predictor; not where no header can be read.
+fn begins_weighted(alloc: Global, bits: Bitstream<'_>) -> Result<bool, OutOfMemory>
+    ensures { IfOk result (λ b. b ≡ weighted_at (bytes_of bits.entry) (position_of bits.entry)) }
 {
     let mut ahead = bits;
     match ModularHeader::parse(alloc, &mut ahead) {
-        Ok(header) => {
-            if has_deltas(&header.transform) {
-                Err(FrameError::DeltaPalette)
-            } else {
-                Ok(())
-            }
-        }
-        Err(error) => Err(FrameError::Header(error)),
-    }
-}
-
-// Whether a header stands there that has a palette with deltas; none where no header can be read.
-fn begins_with_deltas(alloc: Global, bits: Bitstream<'_>) -> Result<bool, OutOfMemory>
-    ensures { IfOk result (λ b. b ≡ found_deltas (header.read (bytes_of bits.entry) (position_of bits.entry))) }
-{
-    let mut ahead = bits;
-    match ModularHeader::parse(alloc, &mut ahead) {
-        Ok(header) => Ok(has_deltas(&header.transform)),
+        Ok(header) => Ok(some_weighted(&header.transform)),
         Err(Error::Buffer(_)) => Err(OutOfMemory),
         Err(_) => Ok(false),
     }
 }
 
-/// Whether one of these sections begins with a header of its own that has a palette with deltas.
-pub(crate) fn have_deltas(alloc: Global, sections: &[Section<'_>]) -> Result<bool, OutOfMemory>
-    ensures { IfOk result (λ b. b ≡ list_any section_has_deltas sections.now) }
+/// Whether one of these sections begins with a header of its own that has a palette with the weighted predictor.
+pub(crate) fn begin_weighted(alloc: Global, sections: &[Section<'_>]) -> Result<bool, OutOfMemory>
+    ensures { IfOk result (λ b. b ≡ list_any section_is_weighted sections.now) }
 {
     for section in sections {
-        if section.nested && begins_with_deltas(alloc, section.bits)? {
+        if section.nested && begins_weighted(alloc, section.bits)? {
             return Ok(true);
         }
     }
@@ -98,7 +81,7 @@ fn read_image<S: Sample, D: Decoder>(
     params: ModularParams<'_, D>,
 ) -> Result<Option<ModularImageDestination<S, D>>, FrameError>
     requires valid { IsValidParams params }
-    requires plain { HasNoDeltas (bytes_of bits.old) (position_of bits.old) }
+    requires plain { weighted_at (bytes_of bits.old) (position_of bits.old) ≡ false }
     ensures none { (result ≡ Ok None) ↔ (params.entry.channels.items ≡ []) }
     ensures ok { IfOk result (λ made. IfSome made (λ image. Opens D.meaning (option_copied params.entry.ma_config)
         (image_list params.entry.channels.items) (bytes_of bits.old) (position_of bits.old) (S.from_int (pos 0))
@@ -131,6 +114,8 @@ pub fn open_image<S: Sample, D: Decoder>(
     if params.channels.is_empty() {
         return Ok(None);
     }
-    no_deltas(alloc, *bits)?;
+    if begins_weighted(alloc, *bits)? {
+        return Err(FrameError::WeightedPalette);
+    }
     read_image(alloc, bits, params)
 }

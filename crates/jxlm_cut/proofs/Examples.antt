@@ -3,6 +3,7 @@ use Rattle.std.proofs.Common.{◌≡◌, ℕ, List, [], ◌∷◌, map, true, fa
 use Rattle.jxlm_base.specs.ErrorKind.{ErrorKind, ◌>>=◌}
 use Rattle.jxlm_transform.specs.Channels.{Channel, ChannelList, image_list}
 use Rattle.jxlm_transform.specs.ChannelSteps.{CodedList, coded_list}
+use Rattle.jxlm_transform.specs.Params.{sized}
 use Rattle.jxlm_transform.specs.Transforms.{OfSqueeze}
 use Rattle.jxlm_transform.specs.declared.param.ChannelShift.TheVariants.{Shifts}
 use Rattle.jxlm_transform.specs.declared.param.ModularChannelParams.{ModularChannelParams}
@@ -14,7 +15,7 @@ use Rattle.jxlm_cut.specs.declared.part.Kind.TheVariants as kinds
 use Rattle.jxlm_cut.specs.declared.part.SectionPart.TheVariants as parts
 
 abbrev given : ℕ → ℕ → ℕ → ModularChannelParams
-given w h s = record { width = w; height = h; shift = Shifts s }
+given w h s = sized w h (Shifts s)
 
 abbrev all : List Pass
 all = record { number = 0; first_shift = pos 0; end_shift = pos 3 } ∷ []

@@ -4,13 +4,13 @@ use Rattle.std.specs.Prelude.{codes, nat_lt, not, ◌&&◌, if◌then◌else◌}
 use Rattle.std.proofs.lemmas.Bool.{ltb-false}
 use Rattle.jxlm_base.specs.ErrorKind.{ErrorKind, BadProfile, NoGlobalTree, UnlessNoMemory}
 use Rattle.jxlm_base.specs.Grammar.{IsErrorAt}
-use Rattle.jxlm_transform.specs.Channels.{ChannelList}
+use Rattle.jxlm_transform.specs.Channels.{ChannelList, tables_for}
 use Rattle.jxlm_transform.specs.ChannelSteps.{CodedList, coded_list}
 use Rattle.jxlm_transform.specs.Transforms.{Transform, OfRct, OfPalette, OfSqueeze, HasChannels, IsTransform, checked}
 use Rattle.std.specs.List.{All}
 use Rattle.std.proofs.lemmas.List.Elements.{All-weaker}
 use Rattle.jxlm_transform.proofs.Failures.{unless_so}
-use Rattle.jxlm_header.specs.Header.{Header, header}
+use Rattle.jxlm_header.specs.Header.{Header, header_by}
 use Rattle.jxlm_header.specs.Opening.{Opening, conditions, resolved, opening, opening_of}
 
 -- palettes that were read have channels
@@ -57,12 +57,12 @@ module _ (has_global : Bool) (list : ChannelList) where
 
 module _ (has_global : Bool) (list : ChannelList) (bytes : List ℕ) (p : ℕ) where
   -- where the header gives an error, so does all
-  pub header_fails : (error : ErrorKind) (q : ℕ) → UnlessNoMemory error (IsErrorAt (header.read bytes p) error q) → UnlessNoMemory error (IsErrorAt ((opening has_global list).read bytes p) error q)
+  pub header_fails : (error : ErrorKind) (q : ℕ) → UnlessNoMemory error (IsErrorAt ((header_by (tables_for list.channels)).read bytes p) error q) → UnlessNoMemory error (IsErrorAt ((opening has_global list).read bytes p) error q)
   header_fails error q refused =
-      unless_so error (IsErrorAt (header.read bytes p) error q) (IsErrorAt ((opening has_global list).read bytes p) error q)
+      unless_so error (IsErrorAt ((header_by (tables_for list.channels)).read bytes p) error q) (IsErrorAt ((opening has_global list).read bytes p) error q)
       (λ r. record { place = r.place; refuses = rw r.refuses refl; stands = r.stands }) refused
 
-  module _ (h : Header) (m : ℕ) (reads : header.read bytes p ≡ Ok (record { value = h; position = m })) where
+  module _ (h : Header) (m : ℕ) (reads : (header_by (tables_for list.channels)).read bytes p ≡ Ok (record { value = h; position = m })) where
     reads_on : (opening has_global list).read bytes p ≡ (checked (resolved has_global list h)).read bytes m
     reads_on = rw reads refl
 

@@ -3,7 +3,9 @@ use Rattle.std.specs.Prelude.{List, map, Bool}
 use Rattle.std.specs.List.{All}
 use Rattle.jxlm_base.specs.Grammar.{Grammar, flag, u32, give, repeated, ◌>>=◌}
 use Rattle.jxlm_base.specs.declared.bits.U32Spec.TheVariants.{Const, Offset}
-use Rattle.jxlm_transform.specs.Transforms.{Transform, IsTransform, KeepsWeights, transform, transform_of}
+use Rattle.jxlm_transform.specs.Transforms.{Transform, IsTransform, KeepsWeights, transform_by, transform_of}
+use Rattle.jxlm_transform.specs.declared.param.PaletteTables.{PaletteTables}
+use Rattle.jxlm_transform.specs.declared.param.PaletteTables.TheVariants.{OfColours}
 use Rattle.jxlm_tree.specs.SelfCorrecting.{IsHeader}
 use Rattle.jxlm_tree.specs.WeightsHeader.{wp_header}
 use Rattle.jxlm_tree.specs.declared.predictor.WpHeader.{WpHeader}
@@ -15,14 +17,19 @@ pub record Header : Type 0 where
   pub wp_params : WpHeader
   pub transform : List Transform
 
--- the flag of the global tree, the weights, and the transforms after their count, which is at most 273
-abbrev pub header : Grammar Header
-header = do
+-- the flag of the global tree, the weights, and the transforms after their count, which is at most 273; palettes by these
+-- tables
+abbrev pub header_by : PaletteTables → Grammar Header
+header_by tables = do
   use_global_tree ← flag
   weights ← wp_header
   count ← u32 (Const 0) (Const 1) (Offset 2 4) (Offset 18 8)
-  transforms ← repeated count (transform weights)
+  transforms ← repeated count (transform_by tables weights)
   give (record { use_global_tree = use_global_tree; wp_params = weights; transform = transforms })
+
+-- by tables of colours alone
+abbrev pub header : Grammar Header
+header = header_by OfColours
 
 -- a header, seen without its memory
 abbrev pub header_of : ModularHeader → Header

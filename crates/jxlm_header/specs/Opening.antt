@@ -6,11 +6,11 @@ use Rattle.jxlm_base.specs.Grammar.{Grammar, IsExact}
 use Rattle.jxlm_base.specs.Grammar as fields
 use Rattle.jxlm_base.specs.declared.error.Error.{Error}
 use Rattle.jxlm_tree.specs.declared.predictor.WpHeader.{WpHeader}
-use Rattle.jxlm_transform.specs.Channels.{Channel, ChannelList, area}
+use Rattle.jxlm_transform.specs.Channels.{Channel, ChannelList, area, tables_for}
 use Rattle.jxlm_transform.specs.ChannelSteps.{CodedList, coded_list}
 use Rattle.jxlm_transform.specs.Kinds.{is_palette, is_squeeze}
 use Rattle.jxlm_transform.specs.Transforms.{checked}
-use Rattle.jxlm_header.specs.Header.{Header, header}
+use Rattle.jxlm_header.specs.Header.{Header, header_by}
 
 -- whether the header uses the global tree, and whether a transform of it is a palette, and a squeeze; its weights, and what
 -- its transforms come to: their steps, and the channels that are coded
@@ -44,9 +44,9 @@ resolved has_global list header =
     conditions has_global header coded.list >>= λ _.
     Ok (opening_of header coded)
 
--- the whole header, and then what it comes to
+-- the whole header, by the tables of palettes that the channels ask for, and then what it comes to
 abbrev pub opening : Bool → ChannelList → Grammar Opening
-opening has_global list = fields.◌>>=◌ header λ header. checked (resolved has_global list header)
+opening has_global list = fields.◌>>=◌ (header_by (tables_for list.channels)) λ header. checked (resolved has_global list header)
 
 -- what a call that checks the conditions returned
 abbrev pub CheckGives : Result (Unit {0}) ErrorKind → Result (Unit {0}) Error → Type 0

@@ -5,11 +5,12 @@ ghost use Rattle.std.specs.List.{All, list_any};
 ghost use Rattle.jxlm_base.specs.Bits.{bytes_of, position_of};
 ghost use Rattle.jxlm_transform.specs.Kinds.{is_palette, is_squeeze};
 ghost use Rattle.jxlm_base.specs.Grammar.{repeated};
-ghost use Rattle.jxlm_transform.specs.Transforms.{IsTransform, KeepsWeights, Parses, transform, transform_of};
+ghost use Rattle.jxlm_transform.specs.Transforms.{IsTransform, KeepsWeights, Parses, transform_by, transform_of};
 
 use jxlm_base::bits::{Bitstream, U32Spec};
 use jxlm_base::error::Result;
 use jxlm_base::grid::OutOfMemory;
+use jxlm_transform::param::PaletteTables;
 use jxlm_transform::transform::{Squeeze, TransformInfo};
 use jxlm_tree::predictor::WpHeader;
 use std::alloc::Global;
@@ -36,22 +37,23 @@ fn clone_transforms(
     Ok(clones)
 }
 
-/// `count` transforms, of which each palette keeps no weights, or these.
+/// `count` transforms, of which each palette keeps no weights, or these, and has one of these tables.
 fn read_transforms(
     alloc: Global,
     bits: &mut Bitstream<'_>,
     count: u32,
     wp_params: &WpHeader,
+    tables: PaletteTables,
 ) -> Result<Vec<TransformInfo>>
     ensures gives { Parses (λ v. map transform_of v.items) result (position_of bits.new)
-        ((repeated count (transform wp_params.now)).read (bytes_of bits.old) (position_of bits.old)) }
+        ((repeated count (transform_by tables wp_params.now)).read (bytes_of bits.old) (position_of bits.old)) }
     ensures each { IfOk result (λ v. All IsTransform (map transform_of v.items)) }
     ensures weights { IfOk result (λ v. All (KeepsWeights wp_params.now) (map transform_of v.items)) }
     ensures bytes { bytes_of bits.new ≡ bytes_of bits.old }
 {
     let mut transforms = Vec::new(alloc);
     for _ in 0..count {
-        let transform = TransformInfo::parse(alloc, bits, wp_params)?;
+        let transform = TransformInfo::parse_by(alloc, bits, wp_params, tables)?;
         transforms.push(transform).map_err(|_| OutOfMemory)?;
     }
     Ok(transforms)
@@ -89,20 +91,39 @@ fn clone_transform(
 }
 
 impl ModularHeader {
-    ghost use Rattle.jxlm_header.specs.Header.{IsReadHeader, header, header_of};
+    ghost use Rattle.jxlm_header.specs.Header.{IsReadHeader, header, header_by, header_of};
+
+    /// The header that stands at the reader's position, whose palettes have tables of colours alone, as by
+    /// [`parse_by`](ModularHeader::parse_by).
+    ///
+    /// # Errors
+    ///
+    /// As of `parse_by`.
+    pub fn parse(alloc: Global, bits: &mut Bitstream<'_>) -> Result<ModularHeader>
+        ensures gives { Parses header_of result (position_of bits.new)
+            (header.read (bytes_of bits.old) (position_of bits.old)) }
+        ensures ranges { IfOk result (λ h. IsReadHeader (header_of h)) }
+        ensures bytes { bytes_of bits.new ≡ bytes_of bits.old }
+    {
+        ModularHeader::parse_by(alloc, bits, PaletteTables::OfColours)
+    }
 
     /// The header that stands at the reader's position: whether the global tree is used, the weights
     /// of the weighted (self-correcting) predictor, and the transforms, at most 273. A palette keeps no
-    /// weights, or the header's.
+    /// weights, or the header's, and its table is one of `tables`.
     ///
     /// # Errors
     ///
     /// `UnexpectedEof` if the input is truncated; `InvalidEnum` for a transform of kind 3, and for the
     /// number of a predictor that is none. The reader is then after the last field that was read whole.
     /// `Buffer` if it is out of memory, at any transform; no error of a decoder comes.
-    pub fn parse(alloc: Global, bits: &mut Bitstream<'_>) -> Result<ModularHeader>
+    pub fn parse_by(
+        alloc: Global,
+        bits: &mut Bitstream<'_>,
+        tables: PaletteTables,
+    ) -> Result<ModularHeader>
         ensures gives { Parses header_of result (position_of bits.new)
-            (header.read (bytes_of bits.old) (position_of bits.old)) }
+            ((header_by tables).read (bytes_of bits.old) (position_of bits.old)) }
         ensures ranges { IfOk result (λ h. IsReadHeader (header_of h)) }
         ensures bytes { bytes_of bits.new ≡ bytes_of bits.old }
     {
@@ -114,7 +135,7 @@ impl ModularHeader {
             U32Spec::Offset(2, 4),
             U32Spec::Offset(18, 8),
         )?;
-        let transform = read_transforms(alloc, bits, nb_transforms, &wp_params)?;
+        let transform = read_transforms(alloc, bits, nb_transforms, &wp_params, tables)?;
         Ok(ModularHeader {
             use_global_tree,
             wp_params,

@@ -17,11 +17,11 @@ use jxlm_chain::placed::PlacedChannels;
 use jxlm_header::header::ModularHeader;
 use jxlm_header::opening::{DEPTH_LIMIT, check, node_limit};
 use jxlm_ma::ma::{MaConfig, MaConfigParams};
-use jxlm_transform::channels::ModularChannelInfo;
+use jxlm_transform::channels::{ModularChannelInfo, tables_for};
 use std::alloc::Global;
 
 /// Reads what comes before a tree: the header, whose transforms are applied to these channels, none of which has a
-/// side above 2^30, and whose conditions come after them.
+/// side above 2^30, and whose conditions come after them. Palettes have the tables that the channels ask for.
 ///
 /// # Errors
 ///
@@ -42,7 +42,8 @@ pub fn open(
     ensures opened { IfOk result (λ o. IsOpened (list_of placed.channels) o) }
     ensures bytes { bytes_of bits.new ≡ bytes_of bits.old }
 {
-    let mut header = ModularHeader::parse(alloc, bits)?;
+    let tables = tables_for(&placed.channels.info);
+    let mut header = ModularHeader::parse_by(alloc, bits, tables)?;
     placed.apply(alloc, &mut header.transform)?;
     check(&header, &placed.channels, has_global)?;
     Ok((header, placed))

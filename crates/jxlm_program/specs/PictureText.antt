@@ -5,6 +5,7 @@ use Rattle.jxlm_base.specs.Grid.{Grid}
 use Rattle.jxlm_base.specs.Decoding.{Meaning}
 use Rattle.jxlm_transform.specs.Channels.{ChannelList}
 use Rattle.jxlm_transform.specs.declared.param.ChannelShift.TheVariants.{Shifts}
+use Rattle.jxlm_transform.specs.declared.param.PaletteTables.TheVariants.{OfColours}
 use Rattle.jxl_modular.specs.Picture.{IsPicture}
 use Rattle.jxlm_sections.specs.CutPicture.{IsCutPicture}
 use Rattle.jxlm_text.specs.Printing.{image_text}
@@ -22,7 +23,7 @@ width_of I32 = w32
 -- n channels of one size and of shift 0
 abbrev pub channels_asked : ℕ → ℕ → ℕ → ChannelList
 channels_asked width height n = record {
-  channels = replicate n (record { width = width; height = height; original_width = width; original_height = height; hshift = pos 0; vshift = pos 0; original_shift = Shifts 0 });
+  channels = replicate n (record { width = width; height = height; original_width = width; original_height = height; hshift = pos 0; vshift = pos 0; original_shift = Shifts 0; palette_tables = OfColours });
   nb_meta = 0;
 }
 

@@ -6,16 +6,17 @@ use Rattle.std.proofs.lemmas.List.Elements.{All-nil, All-cons, All-head, All-tai
 use Rattle.jxlm_base.specs.ErrorKind.{ErrorKind}
 use Rattle.jxlm_base.specs.Grammar.{repeated}
 use Rattle.jxlm_tree.specs.declared.predictor.WpHeader.{WpHeader}
-use Rattle.jxlm_transform.specs.Channels.{ChannelList}
+use Rattle.jxlm_transform.specs.Channels.{ChannelList, tables_for}
 use Rattle.jxlm_transform.specs.ChannelSteps.{CodedList, Step, RctStep, PaletteStep, SqueezeStep, coded_list, list_after_all, steps_of, steps_of_squeeze}
 use Rattle.jxlm_transform.specs.Steps.{HasChannels}
-use Rattle.jxlm_transform.specs.Transforms.{Transform, OfRct, OfPalette, OfSqueeze, checked, palette, rct, squeeze, transform}
+use Rattle.jxlm_transform.specs.Transforms.{Transform, OfRct, OfPalette, OfSqueeze, checked, palette_by, rct, squeeze, transform_by}
 use Rattle.jxlm_transform.specs.Transforms as listed
+use Rattle.jxlm_transform.specs.declared.param.PaletteTables.{PaletteTables}
 use Rattle.jxlm_transform.specs.declared.transform.Palette.{Palette}
 use Rattle.jxlm_transform.specs.declared.transform.SqueezeParams.{SqueezeParams}
 use Rattle.jxlm_transform.proofs.SideBounds.{came}
 use Rattle.jxlm_transform.proofs.StepLaws.{steps_list}
-use Rattle.jxlm_header.specs.Header.{Header, header}
+use Rattle.jxlm_header.specs.Header.{Header, header_by}
 use Rattle.jxlm_header.specs.Opening.{Opening, conditions, opening, opening_of, resolved}
 use Rattle.jxlm_header.proofs.HeaderLaws.{exact-opening}
 
@@ -25,8 +26,8 @@ either_of : {R P Q : Type 0} (b : Bool) → (P → R) → (Q → R) → MatchBoo
 either_of true f g h = f h
 either_of false f g h = g h
 
-palette_channels : (weights : WpHeader) (bytes : List ℕ) (p : ℕ) (t : Palette) (q : ℕ) → (palette weights).Stands bytes p t q → 1 ≤ t.num_c
-palette_channels weights bytes p t q s =
+palette_channels : (tables : PaletteTables) (weights : WpHeader) (bytes : List ℕ) (p : ℕ) (t : Palette) (q : ℕ) → (palette_by tables weights).Stands bytes p t q → 1 ≤ t.num_c
+palette_channels tables weights bytes p t q s =
     let (begin, a, begins, after_begin) = s in
     let (channels, b, field, rest) = after_begin in
     let last = rest.3.3.3 in
@@ -39,30 +40,30 @@ palette_channels weights bytes p t q s =
     (λ h. let e = h.3.0 in omega (arith, e)))) chosen in
     omega (arith, is, some)
 
-transform_channels : (weights : WpHeader) (bytes : List ℕ) (p : ℕ) (t : Transform) (q : ℕ) → (transform weights).Stands bytes p t q → listed.HasChannels t
-transform_channels weights bytes p t q s =
+transform_channels : (tables : PaletteTables) (weights : WpHeader) (bytes : List ℕ) (p : ℕ) (t : Transform) (q : ℕ) → (transform_by tables weights).Stands bytes p t q → listed.HasChannels t
+transform_channels tables weights bytes p t q s =
     let (kind, m, number, chosen) = s in
     either_of (kind == 0) (λ h. let is : t ≡ OfRct h.0 = h.3.0 in subst listed.HasChannels (sym is) tt)
-    (either_of (kind == 1) (λ h. let is : t ≡ OfPalette h.0 = h.3.0 in subst listed.HasChannels (sym is) (palette_channels weights bytes m h.0 h.1 h.2))
+    (either_of (kind == 1) (λ h. let is : t ≡ OfPalette h.0 = h.3.0 in subst listed.HasChannels (sym is) (palette_channels tables weights bytes m h.0 h.1 h.2))
     (either_of (kind == 2) (λ h. let is : t ≡ OfSqueeze h.0 = h.3.0 in subst listed.HasChannels (sym is) tt)
     (λ h. absurd h))) chosen
 
-transforms_channels : (weights : WpHeader) (n : ℕ) (bytes : List ℕ) (p : ℕ) (ts : List Transform) (q : ℕ) → (repeated n (transform weights)).Stands bytes p ts q → All listed.HasChannels ts
-transforms_channels weights zero bytes p ts q s = subst (All listed.HasChannels) (sym s.0) (All-nil listed.HasChannels)
-transforms_channels weights (suc n) bytes p ts q s =
+transforms_channels : (tables : PaletteTables) (weights : WpHeader) (n : ℕ) (bytes : List ℕ) (p : ℕ) (ts : List Transform) (q : ℕ) → (repeated n (transform_by tables weights)).Stands bytes p ts q → All listed.HasChannels ts
+transforms_channels tables weights zero bytes p ts q s = subst (All listed.HasChannels) (sym s.0) (All-nil listed.HasChannels)
+transforms_channels tables weights (suc n) bytes p ts q s =
     let (t, a, first, rest) = s in
     let (us, b, others, last) = rest in
     subst (All listed.HasChannels) (sym last.0)
-    (All-cons listed.HasChannels t us (transform_channels weights bytes p t a first) (transforms_channels weights n bytes a us b others))
+    (All-cons listed.HasChannels t us (transform_channels tables weights bytes p t a first) (transforms_channels tables weights n bytes a us b others))
 
-header_channels : (bytes : List ℕ) (p : ℕ) (h : Header) (q : ℕ) → header.Stands bytes p h q → All listed.HasChannels h.transform
-header_channels bytes p h q s =
+header_channels : (tables : PaletteTables) (bytes : List ℕ) (p : ℕ) (h : Header) (q : ℕ) → (header_by tables).Stands bytes p h q → All listed.HasChannels h.transform
+header_channels tables bytes p h q s =
     let (global, a, first, after_flag) = s in
     let (weights, b, second, after_weights) = after_flag in
     let (count, c, third, rest) = after_weights in
     let (ts, d, fourth, last) = rest in
     let is : h.transform ≡ ts = ap (λ (h : Header). h.transform) last.0 in
-    subst (All listed.HasChannels) (sym is) (transforms_channels weights count bytes c ts d fourth)
+    subst (All listed.HasChannels) (sym is) (transforms_channels tables weights count bytes c ts d fourth)
 
 -- ---- and among the steps
 
@@ -106,5 +107,5 @@ opened_steps global given bytes p head q e =
     let is : coded ≡ head.coded = ap (λ (o : Opening). o.coded) (same_ok (opening_of h coded) head last) in
     record {
       leave = subst (λ (c : CodedList). list_after_all c.steps given ≡ Ok c.list) is (steps_list h.transform given coded found);
-      channels = subst (λ (c : CodedList). All HasChannels c.steps) is (of_all h.transform given coded (header_channels bytes p h m stands) found);
+      channels = subst (λ (c : CodedList). All HasChannels c.steps) is (of_all h.transform given coded (header_channels (tables_for given.channels) bytes p h m stands) found);
     }

@@ -4,7 +4,8 @@ use Rattle.std.specs.Prelude.{codes, ◌==◌}
 use Rattle.jxlm_base.specs.ErrorKind.{ErrorKind, Eof, BadEnum, BadProfile, BadTree, NoGlobalTree, BadRct, BadPalette, BadSqueeze, OfDecoder, NoMemory, UnlessMemory, UnlessNoMemory}
 use Rattle.jxlm_base.specs.Grammar.{IsErrorAt, number}
 use Rattle.jxlm_base.specs.declared.decoder.DecoderError.TheVariants as decoder
-use Rattle.jxlm_transform.specs.Transforms.{squeeze, transform}
+use Rattle.jxlm_transform.specs.Transforms.{squeeze, transform_by}
+use Rattle.jxlm_transform.specs.declared.param.PaletteTables.{PaletteTables}
 use Rattle.jxlm_tree.specs.declared.predictor.WpHeader.{WpHeader}
 
 -- a fact holds also where it is asked for unless it is out of memory
@@ -49,11 +50,11 @@ unless_memory (OfDecoder (decoder.Invalid code)) P holds = holds
 unless_memory (OfDecoder decoder.OutOfMemory) P holds = tt
 
 -- where a squeeze gives an error after its kind, so does the transform
-pub squeeze_error : (weights : WpHeader) (bytes : List ℕ) (p m q : ℕ) (error : ErrorKind) → (number 2).read bytes p ≡ Ok (record { value = 2; position = m }) →
-    IsErrorAt (squeeze.read bytes m) error q → IsErrorAt ((transform weights).read bytes p) error q
-squeeze_error weights bytes p m q error kind refused = record { place = refused.place; refuses = rw (kind, refused.refuses) refl; stands = refused.stands }
+pub squeeze_error : (tables : PaletteTables) (weights : WpHeader) (bytes : List ℕ) (p m q : ℕ) (error : ErrorKind) → (number 2).read bytes p ≡ Ok (record { value = 2; position = m }) →
+    IsErrorAt (squeeze.read bytes m) error q → IsErrorAt ((transform_by tables weights).read bytes p) error q
+squeeze_error tables weights bytes p m q error kind refused = record { place = refused.place; refuses = rw (kind, refused.refuses) refl; stands = refused.stands }
 
 -- a kind above 2 has no meaning
-pub kind_error : (weights : WpHeader) (bytes : List ℕ) (p m k : ℕ) → (number 2).read bytes p ≡ Ok (record { value = k; position = m }) → (k == 0) ≡ false → (k == 1) ≡ false → (k == 2) ≡ false →
-    IsErrorAt ((transform weights).read bytes p) (BadEnum (codes "TransformId") k) m
-kind_error weights bytes p m k kind not0 not1 not2 = record { place = Some m; refuses = rw (kind, not0, not1, not2) refl; stands = refl }
+pub kind_error : (tables : PaletteTables) (weights : WpHeader) (bytes : List ℕ) (p m k : ℕ) → (number 2).read bytes p ≡ Ok (record { value = k; position = m }) → (k == 0) ≡ false → (k == 1) ≡ false → (k == 2) ≡ false →
+    IsErrorAt ((transform_by tables weights).read bytes p) (BadEnum (codes "TransformId") k) m
+kind_error tables weights bytes p m k kind not0 not1 not2 = record { place = Some m; refuses = rw (kind, not0, not1, not2) refl; stands = refl }

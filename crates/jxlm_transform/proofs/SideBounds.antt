@@ -24,7 +24,7 @@ narrow_residual true c h = (omega (arith, h.0), h.1)
 narrow_residual false c h = (h.0, omega (arith, h.1))
 
 narrow_table : (t : Palette) → IsPalette t → IsNarrow (table_channel t.nb_colours t.num_c)
-narrow_table t p = (omega (arith, p.colours), omega (arith, p.channels))
+narrow_table t p = (omega (arith, p.colours, p.deltas), omega (arith, p.channels))
 
 narrow_range : (begin n : ℕ) (cs : List Channel) → AreNarrow cs → AreNarrow (range begin n cs)
 narrow_range begin n cs h = All-take IsNarrow (begin + n - begin) (drop begin cs) (All-drop IsNarrow begin cs h)

@@ -75,7 +75,7 @@ narrow_in [] ranges = All-nil IsNarrowTable
 narrow_in (RctStep t ∷ ss) ranges = narrow_in ss (All-tail HasRanges (RctStep t) ss ranges)
 narrow_in (PaletteStep t ∷ ss) ranges =
     let is : IsPalette t = All-head HasRanges (PaletteStep t) ss ranges in
-    All-cons IsNarrowTable (record { width = t.nb_colours; height = t.num_c }) (tables_of ss) (omega (arith, is.colours), omega (arith, is.channels)) (narrow_in ss (All-tail HasRanges (PaletteStep t) ss ranges))
+    All-cons IsNarrowTable (record { width = t.nb_colours; height = t.num_c }) (tables_of ss) (omega (arith, is.colours, is.deltas), omega (arith, is.channels)) (narrow_in ss (All-tail HasRanges (PaletteStep t) ss ranges))
 narrow_in (SqueezeStep t ∷ ss) ranges = narrow_in ss (All-tail HasRanges (SqueezeStep t) ss ranges)
 
 -- no table has a side above 2 ^ 30

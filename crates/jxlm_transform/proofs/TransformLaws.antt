@@ -6,7 +6,9 @@ use Rattle.jxlm_base.specs.declared.bits.U32Spec.TheVariants.{Const, Offset}
 use Rattle.jxlm_base.proofs.GrammarLaws.{exact-give, exact-fail, exact-number, exact-bind, exact-either, exact-repeated, exact-flag, exact-u32}
 use Rattle.jxlm_tree.specs.Predictions.{predictors}
 use Rattle.jxlm_tree.specs.declared.predictor.WpHeader.{WpHeader}
-use Rattle.jxlm_transform.specs.Transforms.{OfRct, OfPalette, OfSqueeze, begin_channel, rct, checked, predictor, weights_for, palette, squeeze_params, squeeze, transform}
+use Rattle.jxlm_transform.specs.Params.{columns}
+use Rattle.jxlm_transform.specs.declared.param.PaletteTables.{PaletteTables}
+use Rattle.jxlm_transform.specs.Transforms.{OfRct, OfPalette, OfSqueeze, begin_channel, rct, checked, predictor, weights_for, palette_by, squeeze_params, squeeze, transform_by}
 
 bind : {X Y : Type 0} {field : Grammar X} {next : X → Grammar Y} → IsExact field → ((x : X) → IsExact (next x)) → IsExact (field >>= next)
 bind {field} {next} first rest = exact-bind field next first rest
@@ -24,14 +26,14 @@ exact-checked (Err e) = exact-fail e
 exact-predictor : IsExact predictor
 exact-predictor = bind (exact-number 4) λ n. exact-checked (ok_or (slice_get predictors n) (BadEnum (codes "MaProperty") n))
 
-pub exact-palette : (weights : WpHeader) → IsExact (palette weights)
-exact-palette weights =
+pub exact-palette : (tables : PaletteTables) (weights : WpHeader) → IsExact (palette_by tables weights)
+exact-palette tables weights =
     bind exact-begin λ begin.
     bind (exact-u32 (Const 1) (Const 3) (Const 4) (Offset 1 13)) λ channels.
     bind (exact-u32 (Offset 0 8) (Offset 256 10) (Offset 1280 12) (Offset 5376 16)) λ colours.
     bind (exact-u32 (Const 0) (Offset 1 8) (Offset 257 10) (Offset 1281 16)) λ deltas.
     bind exact-predictor λ predictor.
-    exact-give (record { begin_c = begin; num_c = channels; nb_colours = colours; nb_deltas = deltas; d_pred = predictor; wp_header = weights_for predictor weights })
+    exact-give (record { begin_c = begin; num_c = channels; nb_colours = columns tables colours deltas; nb_deltas = deltas; d_pred = predictor; wp_header = weights_for predictor weights })
 
 exact-squeeze_params : IsExact squeeze_params
 exact-squeeze_params =
@@ -42,9 +44,9 @@ exact-squeeze_params =
 pub exact-squeeze : IsExact squeeze
 exact-squeeze = bind (exact-u32 (Const 0) (Offset 1 4) (Offset 9 6) (Offset 41 8)) λ count. exact-repeated count squeeze_params exact-squeeze_params
 
-pub exact-transform : (weights : WpHeader) → IsExact (transform weights)
-exact-transform weights =
+pub exact-transform : (tables : PaletteTables) (weights : WpHeader) → IsExact (transform_by tables weights)
+exact-transform tables weights =
     bind (exact-number 2) λ kind.
     exact-either _ _ _ (bind exact-rct λ t. exact-give (OfRct t))
-    (exact-either _ _ _ (bind (exact-palette weights) λ t. exact-give (OfPalette t))
+    (exact-either _ _ _ (bind (exact-palette tables weights) λ t. exact-give (OfPalette t))
     (exact-either _ _ _ (bind exact-squeeze λ t. exact-give (OfSqueeze t)) (exact-fail (BadEnum (codes "TransformId") kind))))

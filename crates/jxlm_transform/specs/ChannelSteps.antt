@@ -7,6 +7,7 @@ use Rattle.jxlm_base.specs.declared.error.Error.{Error}
 use Rattle.jxlm_transform.specs.Channels.{Channel, ChannelList}
 use Rattle.jxlm_transform.specs.Transforms.{Transform, OfRct, OfPalette, OfSqueeze}
 use Rattle.jxlm_transform.specs.declared.param.ChannelShift.TheVariants.{Raw}
+use Rattle.jxlm_transform.specs.declared.param.PaletteTables.TheVariants.{OfColours}
 use Rattle.jxlm_transform.specs.declared.transform.Rct.{Rct}
 use Rattle.jxlm_transform.specs.declared.transform.Palette.{Palette}
 use Rattle.jxlm_transform.specs.declared.transform.SqueezeParams.{SqueezeParams}
@@ -59,6 +60,7 @@ table_channel colours channels = record {
   hshift = negsuc 0;
   vshift = negsuc 0;
   original_shift = Raw (negsuc 0) (negsuc 0);
+  palette_tables = OfColours;
 }
 
 -- channels of one size, all meta or none, become a table, which comes first and is meta, and a channel of indices

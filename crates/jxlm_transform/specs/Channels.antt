@@ -1,15 +1,18 @@
 -- Channels and their lists (ISO/IEC 18181-1, Modular: channel list).
-use Rattle.std.specs.Prelude.{◌≡◌, ℕ, ◌*◌, ◌≤◌, List, length, map}
-use Rattle.std.specs.List.{AllZip}
+use Rattle.std.specs.Prelude.{◌≡◌, ℕ, ◌*◌, ◌≤◌, List, length, map, if◌then◌else◌}
+use Rattle.std.specs.List.{AllZip, list_any}
 use Rattle.jxlm_base.specs.Grid.{Grid, IsFull}
 use Rattle.jxlm_base.specs.declared.subgrid.Region.{Region}
 use Rattle.jxlm_transform.specs.declared.channels.ModularChannelInfo.{ModularChannelInfo}
 use Rattle.jxlm_transform.specs.declared.channels.ModularChannels.{ModularChannels}
 use Rattle.jxlm_transform.specs.declared.param.ModularChannelParams.{ModularChannelParams}
-use Rattle.jxlm_transform.specs.Params.{IsSide}
+use Rattle.jxlm_transform.specs.declared.param.PaletteTables.{PaletteTables}
+use Rattle.jxlm_transform.specs.declared.param.PaletteTables.TheVariants.{OfColours, OfDeltasToo}
+use Rattle.jxlm_transform.specs.Params.{IsSide, has_deltas}
 use Rattle.jxlm_transform.specs.Shifts as shifts
 
--- a channel as it is coded: its sides, those of its picture, its shifts (a table's are -1), and the shift it came with
+-- a channel as it is coded: its sides, those of its picture, its shifts (a table's are -1), and the shift and the tables of
+-- palettes that it came with
 abbrev pub Channel : Type 0
 Channel = ModularChannelInfo
 
@@ -25,6 +28,7 @@ image_channel p =
       hshift = shifts.hshift p.shift;
       vshift = shifts.vshift p.shift;
       original_shift = p.shift;
+      palette_tables = p.palette_tables;
     }
 
 -- no side of it is above 2 ^ 30
@@ -48,6 +52,10 @@ AreGridsOf channels grids = AllZip (λ c g. HasSides c.width c.height g) channel
 -- a region for each channel, of its sides
 abbrev pub AreRegionsOf : List Channel → List Region → Type 0
 AreRegionsOf channels regions = AllZip (λ c r. (r.width ≡ c.width) × (r.height ≡ c.height)) channels regions
+
+-- the tables of palettes that a header of these channels has: with deltas where one of the channels asks for them
+abbrev pub tables_for : List Channel → PaletteTables
+tables_for channels = if list_any (λ c. has_deltas c.palette_tables) channels then OfDeltasToo else OfColours
 
 -- channels, the first nb_meta of which hold tables and what became of them
 pub record ChannelList : Type 0 where

@@ -1,5 +1,5 @@
 -- What an image is read by.
-use Rattle.std.specs.Prelude.{◌≡◌, ℕ, ◌≤◌, ◌^◌, List, length, replicate, Option}
+use Rattle.std.specs.Prelude.{◌≡◌, ℕ, ◌+◌, ◌≤◌, ◌^◌, List, length, replicate, Bool, true, false, Option}
 use Rattle.std.specs.Borrow.{Bor}
 use Rattle.std.specs.Global.{Vec}
 use Rattle.std.specs.Int.{IsPowerOfTwo}
@@ -9,6 +9,8 @@ use Rattle.jxlm_transform.specs.declared.param.ChannelShift.{ChannelShift}
 use Rattle.jxlm_transform.specs.declared.param.ChannelShift.TheVariants.{Shifts}
 use Rattle.jxlm_transform.specs.declared.param.ModularChannelParams.{ModularChannelParams}
 use Rattle.jxlm_transform.specs.declared.param.ModularParams.{ModularParams}
+use Rattle.jxlm_transform.specs.declared.param.PaletteTables.{PaletteTables}
+use Rattle.jxlm_transform.specs.declared.param.PaletteTables.TheVariants.{OfColours, OfDeltasToo}
 use Rattle.jxlm_transform.specs.Shifts.{IsValidShift}
 
 -- a side that a picture may have
@@ -34,9 +36,23 @@ pub record IsValidParams {D : Type 0} (p : ModularParams D) : Type 0 where
 abbrev pub params_of : {D : Type 0} → ℕ → ℕ → Vec ModularChannelParams → Option (Bor (MaConfig D)) → ModularParams D
 params_of group_dim bit_depth channels ma_config = record { group_dim = group_dim; bit_depth = bit_depth; channels = channels; ma_config = ma_config }
 
+-- whether the tables of palettes have columns for deltas beside those of the colours
+abbrev pub has_deltas : PaletteTables → Bool
+has_deltas OfColours = false
+has_deltas OfDeltasToo = true
+
+-- how many columns the table of a palette of so many colours and deltas has
+abbrev pub columns : PaletteTables → ℕ → ℕ → ℕ
+columns OfColours colours deltas = colours
+columns OfDeltasToo colours deltas = colours + deltas
+
 -- a channel with this shift in a picture of these sides
 abbrev pub sized : ℕ → ℕ → ChannelShift → ModularChannelParams
-sized width height shift = record { width = width; height = height; shift = shift }
+sized width height shift = record { width = width; height = height; shift = shift; palette_tables = OfColours }
+
+-- the same channel, read by these tables of palettes
+abbrev pub with_tables : PaletteTables → ModularChannelParams → ModularChannelParams
+with_tables tables p = record p { palette_tables = tables }
 
 -- n channels as large as a picture of these sides
 abbrev pub of_one_size : ℕ → ℕ → ℕ → List ModularChannelParams

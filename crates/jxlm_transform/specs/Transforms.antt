@@ -1,5 +1,5 @@
 -- The transforms of a header, as they stand in the input (ISO/IEC 18181-1, Modular: TransformInfo and SqueezeParams).
-use Rattle.std.specs.Prelude.{◌≡◌, ◌⊎◌, ℕ, ◌≤◌, List, length, slice_get, ok_or, ◌==◌, codes, Option, Some, None, Result, Ok, Err}
+use Rattle.std.specs.Prelude.{◌≡◌, ◌⊎◌, ℕ, ◌+◌, ◌≤◌, List, length, slice_get, ok_or, ◌==◌, codes, Option, Some, None, Result, Ok, Err}
 use Rattle.std.specs.List.{All}
 use Rattle.jxlm_base.specs.Decoding.{Found}
 use Rattle.jxlm_base.specs.ErrorKind.{ErrorKind, BadEnum, ErrorAt, UnlessNoMemory, kind_of}
@@ -10,6 +10,9 @@ use Rattle.jxlm_tree.specs.Predictions.{predictors}
 use Rattle.jxlm_tree.specs.declared.predictor.Predictor.{Predictor}
 use Rattle.jxlm_tree.specs.declared.predictor.Predictor.TheVariants.{SelfCorrecting}
 use Rattle.jxlm_tree.specs.declared.predictor.WpHeader.{WpHeader}
+use Rattle.jxlm_transform.specs.Params.{columns}
+use Rattle.jxlm_transform.specs.declared.param.PaletteTables.{PaletteTables}
+use Rattle.jxlm_transform.specs.declared.param.PaletteTables.TheVariants.{OfColours}
 use Rattle.jxlm_transform.specs.declared.transform.Rct.{Rct}
 use Rattle.jxlm_transform.specs.declared.transform.Palette.{Palette}
 use Rattle.jxlm_transform.specs.declared.transform.SqueezeParams.{SqueezeParams}
@@ -55,15 +58,20 @@ abbrev pub weights_for : Predictor → WpHeader → Option WpHeader
 weights_for SelfCorrecting weights = Some weights
 weights_for other weights = None
 
--- a palette: its range, the width of its table, how many indices are deltas, and their predictor
-abbrev pub palette : WpHeader → Grammar Palette
-palette weights = do
+-- a palette: its range, the width of its table, by the colours and deltas that stand there, how many indices are deltas,
+-- and their predictor
+abbrev pub palette_by : PaletteTables → WpHeader → Grammar Palette
+palette_by tables weights = do
   begin ← begin_channel
   channels ← u32 (Const 1) (Const 3) (Const 4) (Offset 1 13)
   colours ← u32 (Offset 0 8) (Offset 256 10) (Offset 1280 12) (Offset 5376 16)
   deltas ← u32 (Const 0) (Offset 1 8) (Offset 257 10) (Offset 1281 16)
   predictor ← predictor
-  give (record { begin_c = begin; num_c = channels; nb_colours = colours; nb_deltas = deltas; d_pred = predictor; wp_header = weights_for predictor weights })
+  give (record { begin_c = begin; num_c = channels; nb_colours = columns tables colours deltas; nb_deltas = deltas; d_pred = predictor; wp_header = weights_for predictor weights })
+
+-- by tables of colours alone
+abbrev pub palette : WpHeader → Grammar Palette
+palette weights = palette_by OfColours weights
 
 -- one squeeze step: its direction, where residuals go, and its range
 abbrev pub squeeze_params : Grammar SqueezeParams
@@ -81,11 +89,15 @@ squeeze = do
   repeated count squeeze_params
 
 -- a transform after its two bits of kind; kind 3 has no meaning
-abbrev pub transform : WpHeader → Grammar Transform
-transform weights = do
+abbrev pub transform_by : PaletteTables → WpHeader → Grammar Transform
+transform_by tables weights = do
   kind ← number 2
-  either (kind == 0) (rct >>= λ t. give (OfRct t)) (either (kind == 1) (palette weights >>= λ t. give (OfPalette t))
+  either (kind == 0) (rct >>= λ t. give (OfRct t)) (either (kind == 1) (palette_by tables weights >>= λ t. give (OfPalette t))
       (either (kind == 2) (squeeze >>= λ steps. give (OfSqueeze steps)) (fail (BadEnum (codes "TransformId") kind))))
+
+-- by tables of colours alone
+abbrev pub transform : WpHeader → Grammar Transform
+transform weights = transform_by OfColours weights
 
 -- the ranges of a colour transform that was read
 pub record IsRct (t : Rct) : Type 0 where
@@ -97,7 +109,7 @@ pub record IsPalette (t : Palette) : Type 0 where
   pub begin : t.begin_c ≤ 9287
   pub some_channels : 1 ≤ t.num_c
   pub channels : t.num_c ≤ 8192
-  pub colours : t.nb_colours ≤ 70911
+  pub colours : t.nb_colours ≤ 70911 + t.nb_deltas
   pub deltas : t.nb_deltas ≤ 66816
 
 -- those of a squeeze step

@@ -1,13 +1,13 @@
 //! The channels of an image, as they are coded (ISO/IEC 18181-1, Modular: channel list).
 
 ghost use Rattle.std.specs.Prelude.{◌≡◌, ◌≤ℤ◌, pos, IsTrue, IfOk, IfErr};
-ghost use Rattle.std.specs.List.{All};
+ghost use Rattle.std.specs.List.{All, list_any};
 ghost use Rattle.jxlm_base.specs.ErrorKind.{NoMemory, kind_of};
 ghost use Rattle.jxlm_transform.specs.ChannelSteps.{has_size_of, table_channel, average_channel, residual_channel, can_be_squeezed, grown as the_grown};
-ghost use Rattle.jxlm_transform.specs.Channels.{image_channel, image_list, list_of};
-ghost use Rattle.jxlm_transform.specs.Params.{IsValidChannel};
+ghost use Rattle.jxlm_transform.specs.Channels.{image_channel, image_list, list_of, tables_for as the_tables};
+ghost use Rattle.jxlm_transform.specs.Params.{IsValidChannel, has_deltas};
 
-use crate::param::{ChannelShift, ModularChannelParams};
+use crate::param::{ChannelShift, ModularChannelParams, PaletteTables};
 use jxlm_base::error::Result;
 use jxlm_base::grid::OutOfMemory;
 use std::alloc::Global;
@@ -29,6 +29,8 @@ pub struct ModularChannelInfo {
     pub vshift: i32,
     /// The shift with which the channel was given.
     pub original_shift: ChannelShift,
+    /// The tables of palettes with which it was given; for a table itself those of colours alone.
+    pub palette_tables: PaletteTables,
 }
 
 impl ModularChannelInfo {
@@ -46,6 +48,7 @@ impl ModularChannelInfo {
             hshift: params.shift.hshift(),
             vshift: params.shift.vshift(),
             original_shift: params.shift,
+            palette_tables: params.palette_tables,
         }
     }
 
@@ -61,6 +64,7 @@ impl ModularChannelInfo {
             hshift: -1,
             vshift: -1,
             original_shift: ChannelShift::Raw(-1, -1),
+            palette_tables: PaletteTables::OfColours,
         }
     }
 
@@ -139,6 +143,26 @@ fn grown(shift: i32) -> i32
     ensures { result ≡ the_grown shift }
 {
     if shift >= 0 { shift + 1 } else { shift }
+}
+
+// Whether one of these channels asks for tables of deltas.
+fn ask_for_deltas(channels: &[ModularChannelInfo]) -> bool
+    ensures { result ≡ list_any (λ c. has_deltas c.palette_tables) channels.now }
+{
+    channels
+        .iter()
+        .any(|channel| channel.palette_tables.has_deltas())
+}
+
+/// The tables of palettes that a header of these channels has: with deltas where one of the channels asks for them.
+pub fn tables_for(channels: &[ModularChannelInfo]) -> PaletteTables
+    ensures { result ≡ the_tables channels.now }
+{
+    if ask_for_deltas(channels) {
+        PaletteTables::OfDeltasToo
+    } else {
+        PaletteTables::OfColours
+    }
 }
 
 /// The channels of an image. Those of tables, and what became of them, come first: the meta channels.

@@ -1,10 +1,10 @@
 //! What an image is read by: the sizes and shifts of its channels, and its limits.
 
-ghost use Rattle.std.specs.Prelude.{◌≡◌, ◌<◌, ◌≤◌, ◌↔◌, ◌^◌, ◌==◌, ◌&&◌, ◌||◌, IsTrue, IfOk, IfErr, map};
+ghost use Rattle.std.specs.Prelude.{◌≡◌, ◌+◌, ◌<◌, ◌≤◌, ◌↔◌, ◌^◌, ◌==◌, ◌&&◌, ◌||◌, IsTrue, IfOk, IfErr, map};
 ghost use Rattle.std.specs.Int.{div_ceil};
 ghost use Rattle.std.specs.List.{All, list_any};
 ghost use Rattle.jxlm_transform.specs.Shifts.{IsValidShift, shift_size, jpeg_shift, hshift, vshift, IsShift, upsampled_side as the_upsampled_side};
-ghost use Rattle.jxlm_transform.specs.Params.{IsSide, IsValidChannel, IsGroupDim, IsValidParams, OneSizeIsValid, OneSizeOfImageIsValid, PowersAreGroupDims, params_of, sized};
+ghost use Rattle.jxlm_transform.specs.Params.{IsSide, IsValidChannel, IsGroupDim, IsValidParams, OneSizeIsValid, OneSizeOfImageIsValid, PowersAreGroupDims, columns, has_deltas, params_of, sized, with_tables};
 ghost use Rattle.jxlm_base.specs.ErrorKind.{NoMemory, kind_of};
 
 use jxlm_base::decoder::Decoder;
@@ -185,7 +185,43 @@ fn is_shift(shift: i32) -> bool
     (0..=30).contains(&shift)
 }
 
-/// A channel of an image: the sides of the picture, and how the channel is smaller than it.
+/// How many columns the table of a palette has.
+#[derive(Clone, Copy, Debug, PartialEq, Eq)]
+pub enum PaletteTables {
+    /// One for each colour, the first of which may be deltas. So the Rust crate `jxl-modular` reads them.
+    OfColours,
+    /// One for each delta, and after them one for each colour. So files of JPEG XL hold them.
+    OfDeltasToo,
+}
+
+impl PaletteTables {
+    /// Whether there are columns for deltas beside those of the colours.
+    pub fn has_deltas(&self) -> bool
+        ensures { result ≡ has_deltas self.now }
+    {
+        match self {
+            PaletteTables::OfColours => false,
+            PaletteTables::OfDeltasToo => true,
+        }
+    }
+
+    /// The columns of a palette of a header, which names at most 70911 colours and 66816 deltas.
+    pub(crate) fn columns(&self, nb_colours: u32, nb_deltas: u32) -> u32
+        requires colours { nb_colours ≤ 70911 }
+        requires deltas { nb_deltas ≤ 66816 }
+        ensures value { result ≡ columns self.now nb_colours nb_deltas }
+        ensures bound { result ≤ columns self.now 70911 nb_deltas }
+        ensures most { result ≤ 70911 + nb_deltas }
+    {
+        match self {
+            PaletteTables::OfColours => nb_colours,
+            PaletteTables::OfDeltasToo => nb_colours + nb_deltas,
+        }
+    }
+}
+
+/// A channel of an image: the sides of the picture, how the channel is smaller than it, and by which tables of palettes
+/// it is read.
 #[derive(Clone, Copy)]
 pub struct ModularChannelParams {
     /// The width of the picture in samples.
@@ -194,6 +230,9 @@ pub struct ModularChannelParams {
     pub height: u32,
     /// How the channel is smaller.
     pub shift: ChannelShift,
+    /// The tables of palettes in the headers that it is read by: that of the image, and that of a part which holds some
+    /// of its samples. Where a channel asks for tables of deltas, all channels of its header are read by these.
+    pub palette_tables: PaletteTables,
 }
 
 impl ModularChannelParams {
@@ -229,6 +268,18 @@ impl ModularChannelParams {
             width,
             height,
             shift,
+            palette_tables: PaletteTables::OfColours,
+        }
+    }
+
+    /// The same channel, read by these tables of palettes. Those of the other calls are
+    /// [`OfColours`](PaletteTables::OfColours).
+    pub fn with_palette_tables(self, palette_tables: PaletteTables) -> ModularChannelParams
+        ensures { result ≡ with_tables palette_tables self }
+    {
+        ModularChannelParams {
+            palette_tables,
+            ..self
         }
     }
 

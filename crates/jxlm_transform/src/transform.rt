@@ -7,13 +7,15 @@ ghost use Rattle.jxlm_base.specs.Grammar.{FitsU32, IsExact, Reads, number, repea
 ghost use Rattle.jxlm_tree.specs.WeightsHeader.{GivesExactly};
 ghost use Rattle.jxlm_transform.specs.DefaultSqueeze.{LeavesSmallSides, TakesFewestSteps};
 ghost use Rattle.jxlm_transform.specs.Inner.FieldRanges.{min_of, max_of};
+ghost use Rattle.jxlm_transform.specs.Params.{columns};
 ghost use Rattle.jxlm_transform.specs.Kinds.{is_palette as the_palettes, is_squeeze as the_squeezes};
-ghost use Rattle.jxlm_transform.specs.Transforms.{OfPalette, transform_of, begin_channel as the_begin_channel, rct, predictor, weights_for, palette, squeeze_params, squeeze, transform, IsRct, IsPalette, IsSqueezeParams, IsSqueeze, IsTransform, HasChannels, KeepsWeights, IsPaletteTransform, IsSqueezeTransform, Parses};
+ghost use Rattle.jxlm_transform.specs.Transforms.{OfPalette, transform_of, begin_channel as the_begin_channel, rct, predictor, weights_for, palette, palette_by, squeeze_params, squeeze, transform, transform_by, IsRct, IsPalette, IsSqueezeParams, IsSqueeze, IsTransform, HasChannels, KeepsWeights, IsPaletteTransform, IsSqueezeTransform, Parses};
 
 mod default_squeeze;
 mod lists;
 mod steps;
 
+use crate::param::PaletteTables;
 use jxlm_base::bits::{Bitstream, BitstreamError, U32Spec};
 use jxlm_base::error::{Error, Result};
 use jxlm_base::grid::OutOfMemory;
@@ -36,9 +38,10 @@ pub struct Palette {
     pub begin_c: u32,
     /// How many channels the range has, from 1 to 8192.
     pub num_c: u32,
-    /// How many colours the table has, at most 70911.
+    /// How many columns the table has, each a colour: at most 70911, and in tables of deltas too so many more as there
+    /// are deltas.
     pub nb_colours: u32,
-    /// How many of them are added to a prediction, at most 66816.
+    /// How many of them, the first ones, are added to a prediction: at most 66816.
     pub nb_deltas: u32,
     /// The predictor of these.
     pub d_pred: Predictor,
@@ -147,17 +150,40 @@ fn read_predictor(bits: &mut Bitstream<'_>) -> std::result::Result<Predictor, Bi
 }
 
 impl Palette {
-    /// The palette that stands at the reader's position. It keeps the weights where its predictor is
-    /// the weighted (self-correcting) one.
+    /// The palette that stands at the reader's position, whose table is one of colours alone, as by
+    /// [`parse_by`](Palette::parse_by).
+    ///
+    /// # Errors
+    ///
+    /// As of `parse_by`.
+    pub fn parse(bits: &mut Bitstream<'_>, wp_header: &WpHeader) -> Result<Palette>
+        ensures gives { GivesExactly result (position_of bits.new)
+            ((palette wp_header.now).read (bytes_of bits.old) (position_of bits.old)) }
+        ensures ranges { IfOk result (λ t. IsPalette t) }
+        ensures colours { IfOk result (λ t. t.nb_colours ≤ 70911) }
+        ensures weights { IfOk result (λ t. t.wp_header ≡ weights_for t.d_pred wp_header.now) }
+        ensures keeps { IfOk result (λ t. KeepsWeights wp_header.now (OfPalette t)) }
+        ensures bytes { bytes_of bits.new ≡ bytes_of bits.old }
+    {
+        Palette::parse_by(bits, wp_header, PaletteTables::OfColours)
+    }
+
+    /// The palette that stands at the reader's position, whose table is one of these. It keeps the weights where its
+    /// predictor is the weighted (self-correcting) one.
     ///
     /// # Errors
     ///
     /// `UnexpectedEof` if the input is truncated, and `InvalidEnum` for the number of a predictor that
     /// is none. The reader is then after the last field that was read whole.
-    pub fn parse(bits: &mut Bitstream<'_>, wp_header: &WpHeader) -> Result<Palette>
+    pub fn parse_by(
+        bits: &mut Bitstream<'_>,
+        wp_header: &WpHeader,
+        tables: PaletteTables,
+    ) -> Result<Palette>
         ensures gives { GivesExactly result (position_of bits.new)
-            ((palette wp_header.now).read (bytes_of bits.old) (position_of bits.old)) }
+            ((palette_by tables wp_header.now).read (bytes_of bits.old) (position_of bits.old)) }
         ensures ranges { IfOk result (λ t. IsPalette t) }
+        ensures colours { IfOk result (λ t. t.nb_colours ≤ columns tables 70911 t.nb_deltas) }
         ensures weights { IfOk result (λ t. t.wp_header ≡ weights_for t.d_pred wp_header.now) }
         ensures keeps { IfOk result (λ t. KeepsWeights wp_header.now (OfPalette t)) }
         ensures bytes { bytes_of bits.new ≡ bytes_of bits.old }
@@ -188,7 +214,7 @@ impl Palette {
         Ok(Palette {
             begin_c,
             num_c,
-            nb_colours,
+            nb_colours: tables.columns(nb_colours, nb_deltas),
             nb_deltas,
             d_pred,
             wp_header: kept_weights(d_pred, wp_header),
@@ -284,14 +310,12 @@ fn read_kind(bits: &mut Bitstream<'_>) -> std::result::Result<u32, BitstreamErro
 }
 
 impl TransformInfo {
-    /// The transform that stands at the reader's position, after two bits of its kind. A palette keeps
-    /// no weights, or these.
+    /// The transform that stands at the reader's position, after two bits of its kind, as by
+    /// [`parse_by`](TransformInfo::parse_by) with tables of colours alone.
     ///
     /// # Errors
     ///
-    /// `UnexpectedEof` if the input is truncated; `InvalidEnum` for kind 3, and for the number of
-    /// a predictor that is none. The reader is then after the last field that was read whole.
-    /// `Buffer` if it is out of memory, at any step of a squeeze.
+    /// As of `parse_by`.
     pub fn parse(
         alloc: Global,
         bits: &mut Bitstream<'_>,
@@ -304,10 +328,34 @@ impl TransformInfo {
         ensures weights { IfOk result (λ t. KeepsWeights wp_header.now (transform_of t)) }
         ensures bytes { bytes_of bits.new ≡ bytes_of bits.old }
     {
+        TransformInfo::parse_by(alloc, bits, wp_header, PaletteTables::OfColours)
+    }
+
+    /// The transform that stands at the reader's position, after two bits of its kind. A palette keeps
+    /// no weights, or these, and its table is one of `tables`.
+    ///
+    /// # Errors
+    ///
+    /// `UnexpectedEof` if the input is truncated; `InvalidEnum` for kind 3, and for the number of
+    /// a predictor that is none. The reader is then after the last field that was read whole.
+    /// `Buffer` if it is out of memory, at any step of a squeeze.
+    pub fn parse_by(
+        alloc: Global,
+        bits: &mut Bitstream<'_>,
+        wp_header: &WpHeader,
+        tables: PaletteTables,
+    ) -> Result<TransformInfo>
+        ensures gives { Parses transform_of result (position_of bits.new)
+            ((transform_by tables wp_header.now).read (bytes_of bits.old) (position_of bits.old)) }
+        ensures ranges { IfOk result (λ t. IsTransform (transform_of t)) }
+        ensures some_channels { IfOk result (λ t. HasChannels (transform_of t)) }
+        ensures weights { IfOk result (λ t. KeepsWeights wp_header.now (transform_of t)) }
+        ensures bytes { bytes_of bits.new ≡ bytes_of bits.old }
+    {
         let kind = read_kind(bits)?;
         match kind {
             0 => Ok(TransformInfo::Rct(Rct::parse(bits)?)),
-            1 => Ok(TransformInfo::Palette(Palette::parse(bits, wp_header)?)),
+            1 => Ok(TransformInfo::Palette(Palette::parse_by(bits, wp_header, tables)?)),
             2 => Ok(TransformInfo::Squeeze(Squeeze::parse(alloc, bits)?)),
             value => {
                 let unknown = BitstreamError::InvalidEnum {
@@ -339,9 +387,9 @@ impl TransformInfo {
 /// Transforms are read exactly: what is read as one stands there, and one that stands there is read.
 pub fn transforms_are_read_exactly()
     ensures colour { IsExact rct }
-    ensures palette { (weights : WpHeader) → IsExact (palette weights) }
+    ensures palette { (tables : PaletteTables) (weights : WpHeader) → IsExact (palette_by tables weights) }
     ensures squeeze { IsExact squeeze }
-    ensures all { (weights : WpHeader) → IsExact (transform weights) }
+    ensures all { (tables : PaletteTables) (weights : WpHeader) → IsExact (transform_by tables weights) }
 {}
 
 /// The default squeeze halves the first of its channels until no side of it is above 8, and no more

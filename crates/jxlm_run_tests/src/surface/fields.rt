@@ -6,7 +6,7 @@ use jxl_modular::flat::{FlatMaTree, Leaf};
 use jxl_modular::grid::{AlignedGrid, OutOfMemory, Region, Rows};
 use jxl_modular::image::{ChannelsWithInfo, Part, TransformedGrid};
 use jxl_modular::ma::{MaConfig, MaConfigParams};
-use jxl_modular::param::{ChannelShift, ModularChannelParams, ModularParams};
+use jxl_modular::param::{ChannelShift, ModularChannelParams, ModularParams, PaletteTables};
 use jxl_modular::plain::PlainDecoder;
 use jxl_modular::predictor::{PredictionResult, Predictor, WpHeader};
 use jxl_modular::recursive::NestedHeader;
@@ -25,6 +25,7 @@ type OfModules<'a, S> = (
     ChannelShift,
     ModularChannelParams,
     ModularParams<'a, PlainDecoder>,
+    PaletteTables,
     S,
 );
 
@@ -38,6 +39,7 @@ type OfRoot<'a, S> = (
     jxl_modular::ChannelShift,
     jxl_modular::ModularChannelParams,
     jxl_modular::ModularParams<'a, PlainDecoder>,
+    jxl_modular::PaletteTables,
     S,
 );
 
@@ -122,13 +124,21 @@ fn shift(shift: ChannelShift) -> (Option<[bool; 4]>, Option<u32>, Option<(i32, i
     }
 }
 
-fn channel(channel: ModularChannelParams) -> (u32, u32, ChannelShift) {
+fn channel(channel: ModularChannelParams) -> (u32, u32, ChannelShift, PaletteTables) {
     let ModularChannelParams {
         width,
         height,
         shift,
+        palette_tables,
     } = channel;
-    (width, height, shift)
+    (width, height, shift, palette_tables)
+}
+
+fn tables(tables: PaletteTables) -> bool {
+    match tables {
+        PaletteTables::OfColours => false,
+        PaletteTables::OfDeltasToo => true,
+    }
 }
 
 fn params<'a, D: Decoder>(

@@ -96,6 +96,7 @@ fn of_params<D: Decoder>() {
     named(ModularChannelParams::new);
     named(ModularChannelParams::jpeg);
     named(ModularChannelParams::with_shift);
+    named(ModularChannelParams::with_palette_tables);
     named(ModularParams::<D>::new);
     named(ModularParams::<D>::with_channels);
     named(ModularParams::<D>::is_valid);
@@ -130,10 +131,12 @@ fn of_predictors<S: Sample>() {
 
 fn of_transforms() {
     named(TransformInfo::parse);
+    named(TransformInfo::parse_by);
     named(TransformInfo::is_palette);
     named(TransformInfo::is_squeeze);
     named(Rct::parse);
     named(Palette::parse);
+    named(Palette::parse_by);
     named(Squeeze::parse);
 }
 

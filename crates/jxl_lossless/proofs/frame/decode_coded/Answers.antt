@@ -1,5 +1,5 @@
 use Rattle.std.proofs.Common.{◌≡◌, ◌+◌}
-use Rattle.jxlm_transform.specs.Params.{of_one_size}
+use Rattle.jxl_lossless.specs.Frames.{of_file}
 use Rattle.jxl_lossless.proofs.Channels.{alike}
 use Rattle.jxl_lossless.proofs.frame.decode_coded.Goals as goal
 
@@ -8,5 +8,5 @@ decode_frame-requires-clause-alike g c κs within =
     let size = c.args.size in
     let n = c.colours.result + c.len.result in
     let list = c.with_channels-params.result.channels.items in
-    let is : list ≡ of_one_size n size.width size.height = rw c.with_channels-params.ensures c.in_ok-list.ensures.list in
+    let is : list ≡ of_file n size.width size.height = rw c.with_channels-params.ensures c.in_ok-list.ensures.list in
     alike n size.width size.height list is

@@ -11,9 +11,9 @@ use Rattle.jxlm_sections.specs.CutPicture.{one_pass}
 use Rattle.jxl_still.specs.StillFailures.{StillFails}
 use Rattle.jxl_still.specs.Inner.Listing.{SamplesStop}
 use Rattle.jxl_still.specs.Inner.Openings.{Opens}
-use Rattle.jxl_still.specs.Stills.{section_has_deltas}
+use Rattle.jxl_still.specs.Stills.{section_is_weighted}
 use Rattle.jxl_still.proofs.Headers.{at_some}
-use Rattle.jxl_still.proofs.Frames.{all_there, deltas_fail, fit, groups_possible, list_fails, made, open_fails, samples_fail, still_sides}
+use Rattle.jxl_still.proofs.Frames.{all_there, weighted_fail, fit, groups_possible, list_fails, made, open_fails, samples_fail, still_sides}
 use Rattle.jxl_still.proofs.frame.decode_frame.Goals as goal
 
 pub returns-in_err-opened-clause-err : goal.returns-in_err-opened-clause-err
@@ -56,8 +56,8 @@ returns-in_err-sections-clause-err g c =
     let p = err_from_is_err_and c.from_residual-in_err-sections.result c.from_residual-in_err-sections.ensures.1 in
     rw (p.1, p.2) fails
 
-pub returns-then-deltas-clause-err : goal.returns-then-deltas-clause-err
-returns-then-deltas-clause-err g c =
+pub returns-then-weighted-clause-err : goal.returns-then-weighted-clause-err
+returns-then-weighted-clause-err g c =
     let zero = g.S.Sealed.from_int (pos 0) in
     let global = option_copied c.args.params.ma_config in
     let bytes = bytes_of c.args.first in
@@ -67,9 +67,9 @@ returns-then-deltas-clause-err g c =
     let o = at_some (λ (i : Image g.row.S.Denot g.row.D.Denot). Opens g.D.Decoder.meaning global (image_list c.args.params.channels.items) bytes place zero c.args.params.group_dim c.args.params.bit_depth i q)
     c.in_ok-opened.opened image c.in-Some.is c.in_ok-opened.ensures.ok in
     let sections = c.in_ok-sections.sections.items in
-    deltas_fail g.D.Decoder.meaning g.S.Sealed.width g.S.Sealed.to_int zero global c.args.params.channels.items c.args.params.group_dim c.args.params.bit_depth bytes place c.args.places image q o
+    weighted_fail g.D.Decoder.meaning g.S.Sealed.width g.S.Sealed.to_int zero global c.args.params.channels.items c.args.params.group_dim c.args.params.bit_depth bytes place c.args.places image q o
     c.open_image.new.bits c.in_ok-opened.ensures.bytes refl sections c.in_ok-sections.ensures.listed c.in_ok-sections.ensures.cut.cells
-    (ap (list_any section_has_deltas) (sym c.deref.ensures.value) ∙ sym c.in_ok-deltas.ensures ∙ c.if-deltas.true)
+    (ap (list_any section_is_weighted) (sym c.deref.ensures.value) ∙ sym c.in_ok-weighted.ensures ∙ c.if-weighted.true)
 
 pub decode_all-requires-clause-fit : goal.decode_all-requires-clause-fit
 decode_all-requires-clause-fit g c κs within =
@@ -122,7 +122,7 @@ returns-in_err-decode_all-clause-err g c =
     (subst (λ (i : Image g.row.S.Denot g.row.D.Denot). SamplesStop g.D.Decoder.meaning g.S.Sealed.width g.S.Sealed.to_int zero i global c.deref-2.result.now e) c.in_ok-sections.ensures.unchanged c.in_err-decode_all.ensures.err) in
     let fails : StillFails g.D.Decoder.meaning g.S.Sealed.width g.S.Sealed.to_int zero global (image_list c.args.params.channels.items) c.args.params.group_dim c.args.params.bit_depth bytes place c.args.places e =
     samples_fail g.D.Decoder.meaning g.S.Sealed.width g.S.Sealed.to_int zero global c.args.params.channels.items c.args.params.group_dim c.args.params.bit_depth bytes place c.args.places image q o
-    c.open_image.new.bits c.in_ok-opened.ensures.bytes refl sections c.in_ok-sections.ensures.listed c.in_ok-sections.ensures.cut.cells e (ap (list_any section_has_deltas) (sym c.deref.ensures.value) ∙ sym c.in_ok-deltas.ensures ∙ c.if-deltas.false) stops in
+    c.open_image.new.bits c.in_ok-opened.ensures.bytes refl sections c.in_ok-sections.ensures.listed c.in_ok-sections.ensures.cut.cells e (ap (list_any section_is_weighted) (sym c.deref.ensures.value) ∙ sym c.in_ok-weighted.ensures ∙ c.if-weighted.false) stops in
     let p = err_from_is_err_and c.from_residual-in_err-decode_all.result c.from_residual-in_err-decode_all.ensures.1 in
     rw (p.1, p.2) fails
 
@@ -144,7 +144,7 @@ returns-clause-still g c =
     subst (λ (ss : List Section). AreDecoded g.D.Decoder.meaning g.S.Sealed.width g.S.Sealed.to_int zero image one_pass global ss grids before after) c.deref-2.ensures.value
     (subst (λ (i : Image g.row.S.Denot g.row.D.Denot). AreDecoded g.D.Decoder.meaning g.S.Sealed.width g.S.Sealed.to_int zero i one_pass global c.deref-2.result.now grids before after) c.in_ok-sections.ensures.unchanged c.in_ok-decode_all.ensures.ok) in
     made g.D.Decoder.meaning g.S.Sealed.width g.S.Sealed.to_int zero global c.args.params.channels.items c.args.params.group_dim c.args.params.bit_depth bytes place c.args.places image q o
-    c.open_image.new.bits c.in_ok-opened.ensures.bytes refl sections c.in_ok-sections.ensures.listed c.in_ok-sections.ensures.cut.cells (ap (list_any section_has_deltas) (sym c.deref.ensures.value) ∙ sym c.in_ok-deltas.ensures ∙ c.if-deltas.false) grids before after done
+    c.open_image.new.bits c.in_ok-opened.ensures.bytes refl sections c.in_ok-sections.ensures.listed c.in_ok-sections.ensures.cut.cells (ap (list_any section_is_weighted) (sym c.deref.ensures.value) ∙ sym c.in_ok-weighted.ensures ∙ c.if-weighted.false) grids before after done
 
 pub returns-clause-sides : goal.returns-clause-sides
 returns-clause-sides g c =

@@ -3,7 +3,7 @@ use Rattle.std.specs.List.{All}
 use Rattle.jxlm_base.specs.Bits.{bytes_of, position_of}
 use Rattle.jxlm_base.specs.Grammar.{repeated}
 use Rattle.jxlm_transform.proofs.RepeatedLoop.{with_front}
-use Rattle.jxlm_transform.specs.Transforms.{IsTransform, KeepsWeights, transform, transform_of}
+use Rattle.jxlm_transform.specs.Transforms.{IsTransform, KeepsWeights, transform_by, transform_of}
 use Rattle.jxlm_header.proofs.header.read_transforms.Given as goal
 
 abbrev pub invariant-loop : goal.invariant-loop
@@ -11,6 +11,6 @@ invariant-loop l = record {
   bytes : bytes_of l.bits ≡ bytes_of l.fn.bits;
   each : All IsTransform (map transform_of l.transforms.items);
   weights : All (KeepsWeights l.wp_params) (map transform_of l.transforms.items);
-  read : with_front (map transform_of l.transforms.items) ((repeated (l.count - l.counter) (transform l.wp_params)).read (bytes_of l.fn.bits) (position_of l.bits))
-      ≡ (repeated l.count (transform l.wp_params)).read (bytes_of l.fn.bits) (position_of l.fn.bits);
+  read : with_front (map transform_of l.transforms.items) ((repeated (l.count - l.counter) (transform_by l.tables l.wp_params)).read (bytes_of l.fn.bits) (position_of l.bits))
+      ≡ (repeated l.count (transform_by l.tables l.wp_params)).read (bytes_of l.fn.bits) (position_of l.fn.bits);
 }

@@ -4,10 +4,10 @@ use Rattle.jxlm_base.specs.Bits.{bytes_of, position_of}
 use Rattle.jxlm_base.specs.ErrorKind.{kind_of, UnlessNoMemory}
 use Rattle.jxlm_base.specs.Grammar.{IsErrorAt, repeated, u32}
 use Rattle.jxlm_base.specs.declared.bits.U32Spec.TheVariants.{Const, Offset}
-use Rattle.jxlm_transform.specs.Transforms.{transform}
+use Rattle.jxlm_transform.specs.Transforms.{transform_by}
 use Rattle.jxlm_tree.specs.WeightsHeader.{wp_header}
 use Rattle.jxlm_header.proofs.HeaderLaws.{listed_fails}
-use Rattle.jxlm_header.proofs.header.ModularHeader.parse.Goals as goal
+use Rattle.jxlm_header.proofs.header.ModularHeader.parse_by.Goals as goal
 
 pub returns-in_err-transform-clause-gives : goal.returns-in_err-transform-clause-gives
 returns-in_err-transform-clause-gives c =
@@ -23,5 +23,5 @@ returns-in_err-transform-clause-gives c =
     let to_weights = c.parse.ensures.bytes ∙ c.read_bool.ensures.bytes in
     let second : wp_header.read bytes a ≡ Ok (record { value = weights; position = b }) = rw c.read_bool.ensures.bytes at c.in_ok-wp_params.ensures.gives in
     let third : (u32 (Const 0) (Const 1) (Offset 2 4) (Offset 18 8)).read bytes b ≡ Ok (record { value = n; position = m }) = rw to_weights at c.in_ok-nb_transforms.ensures.gives in
-    let gives : UnlessNoMemory error (IsErrorAt ((repeated n (transform weights)).read bytes m) error q) = rw (c.read_u32.ensures.bytes ∙ to_weights) at c.in_err-transform.ensures.gives in
-    rw (p.1, p.2) (listed_fails bytes (position_of c.args.bits.now) c.in_ok-use_global_tree.use_global_tree a weights b n m error q c.in_ok-use_global_tree.ensures.gives second third gives)
+    let gives : UnlessNoMemory error (IsErrorAt ((repeated n (transform_by c.args.tables weights)).read bytes m) error q) = rw (c.read_u32.ensures.bytes ∙ to_weights) at c.in_err-transform.ensures.gives in
+    rw (p.1, p.2) (listed_fails c.args.tables bytes (position_of c.args.bits.now) c.in_ok-use_global_tree.use_global_tree a weights b n m error q c.in_ok-use_global_tree.ensures.gives second third gives)

@@ -1,7 +1,0 @@
-use Rattle.std.proofs.Common.{◌≡◌, false, take}
-use Rattle.std.specs.List.{list_any}
-use Rattle.jxl_still.specs.Stills.{section_has_deltas}
-use Rattle.jxl_still.proofs.opening.have_deltas.Given as goal
-
-abbrev pub invariant-loop-section : goal.invariant-loop-section
-invariant-loop-section l = list_any section_has_deltas (take l.section-index l.sections) ≡ false
