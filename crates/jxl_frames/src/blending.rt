@@ -12,7 +12,6 @@ use jxl_headers::fields::{Result, number};
 use jxl_headers::image::Animation;
 use jxlm_base::bits::{Bitstream, BitstreamError, U32Spec};
 use jxlm_base::error;
-use jxlm_base::grid::OutOfMemory;
 use std::alloc::Global;
 
 /// How samples and those of an earlier frame make one picture.
@@ -239,7 +238,7 @@ fn read_infos(
     let mut infos = Vec::new(alloc);
     for _ in 0..count {
         let info = BlendingInfo::parse(bits, extra, partial)?;
-        infos.push(info).map_err(|_| OutOfMemory)?;
+        infos.push(info)?;
     }
     Ok(infos)
 }

@@ -9,7 +9,6 @@ ghost use Rattle.jxl_headers.specs.Images.{skipped_if};
 use jxl_headers::fields::{Result, skip};
 use jxlm_base::bits::{Bitstream, U32Spec};
 use jxlm_base::error;
-use jxlm_base::grid::OutOfMemory;
 use std::alloc::Global;
 
 /// So many `U32` fields of one kind.
@@ -30,7 +29,7 @@ pub fn fields(
     let mut values = Vec::new(alloc);
     for _ in 0..count {
         let value = bits.read_u32(d0, d1, d2, d3)?;
-        values.push(value).map_err(|_| OutOfMemory)?;
+        values.push(value)?;
     }
     Ok(values)
 }

@@ -14,7 +14,6 @@ use crate::refusal::Refusal;
 use crate::size::{Size, read_size};
 use jxlm_base::bits::{Bitstream, BitstreamError, U32Spec};
 use jxlm_base::error;
-use jxlm_base::grid::OutOfMemory;
 use std::alloc::Global;
 
 /// When the pictures of an animation change.
@@ -248,7 +247,7 @@ fn read_channels(
     let mut channels = Vec::new(alloc);
     for _ in 0..count {
         let channel = ExtraChannel::parse(bits)?;
-        channels.push(channel).map_err(|_| OutOfMemory)?;
+        channels.push(channel)?;
     }
     Ok(channels)
 }

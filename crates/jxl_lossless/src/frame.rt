@@ -24,6 +24,7 @@ use jxl_front::frame::FrameFront;
 use jxl_headers::image::ImageHeader;
 use jxl_headers::size::Size;
 use jxl_modular::image::ModularImageDestination;
+use jxl_modular::sections::Progress;
 use jxl_patches::patches::{put_patches, read_patches};
 use jxl_patches::slots::SavedFrames;
 use jxl_picture::picture::colours;
@@ -52,7 +53,7 @@ fn channel_list(
 }
 
 // The image of a frame of this size, by its first section, from the reader's position on, and those of its groups.
-fn decode_coded<'a, S: Sample, D: Decoder>(
+fn decode_coded<'a, S: Sample, D: Decoder, P: Progress>(
     alloc: Global,
     mut bits: Bitstream<'a>,
     places: Places<'a, '_>,
@@ -60,6 +61,7 @@ fn decode_coded<'a, S: Sample, D: Decoder>(
     size: Size,
     group_dim: u32,
     steps: &mut Steps,
+    progress: &mut P,
 ) -> Result<ModularImageDestination<S, D>, FileError>
     requires wide { size.width ≤ 2 ^ 30 }
     requires high { size.height ≤ 2 ^ 30 }
@@ -80,7 +82,7 @@ fn decode_coded<'a, S: Sample, D: Decoder>(
     let list = channel_list(alloc, size, channels)?;
     let depth = image.samples.depth.bits;
     let params = ModularParams::with_channels(group_dim, depth, list, tree.as_ref());
-    match decode_frame::<S, D>(alloc, bits, params, places, steps) {
+    match decode_frame::<S, D, P>(alloc, bits, params, places, steps, progress) {
         Ok(Some(image)) => Ok(image),
         Ok(None) => unreachable!(),
         Err(error) => Err(FileError::Samples(error)),
@@ -88,7 +90,7 @@ fn decode_coded<'a, S: Sample, D: Decoder>(
 }
 
 // Its channels, with samples of 32 bits.
-fn decode_grids<'a, D: Decoder>(
+fn decode_grids<'a, D: Decoder, P: Progress>(
     alloc: Global,
     bits: Bitstream<'a>,
     places: Places<'a, '_>,
@@ -96,6 +98,7 @@ fn decode_grids<'a, D: Decoder>(
     size: Size,
     group_dim: u32,
     steps: &mut Steps,
+    progress: &mut P,
 ) -> Result<Vec<AlignedGrid<i32>>, FileError>
     requires wide { size.width ≤ 2 ^ 30 }
     requires high { size.height ≤ 2 ^ 30 }
@@ -109,12 +112,14 @@ fn decode_grids<'a, D: Decoder>(
     ensures err { IfErr result (CodedFails D.meaning w32 (λ (v : ℤ). v) (pos 0) (image_of image.now) size group_dim
         (bytes_of bits.entry) (position_of bits.entry) places.entry) }
 {
-    let decoded = decode_coded::<i32, D>(alloc, bits, places, image, size, group_dim, steps)?;
+    let decoded = decode_coded::<i32, D, P>(
+        alloc, bits, places, image, size, group_dim, steps, progress,
+    )?;
     Ok(decoded.into_image_channels())
 }
 
 // The channels of a frame by its first section and those of its groups, with its patches.
-fn decode_made<'a, D: Decoder>(
+fn decode_made<'a, D: Decoder, P: Progress>(
     alloc: Global,
     first: &'a [u8],
     places: Places<'a, '_>,
@@ -122,6 +127,7 @@ fn decode_made<'a, D: Decoder>(
     header: &FrameHeader,
     slots: &SavedFrames,
     steps: &mut Steps,
+    progress: &mut P,
 ) -> Result<Vec<AlignedGrid<i32>>, FileError>
     requires wide { (frame_size image.now.size (frame_of header.now)).width ≤ 2 ^ 30 }
     requires high { (frame_size image.now.size (frame_of header.now)).height ≤ 2 ^ 30 }
@@ -145,7 +151,7 @@ fn decode_made<'a, D: Decoder>(
         Ok(patches) => patches,
         Err(error) => return Err(FileError::Patches(error)),
     };
-    let mut channels = decode_grids::<D>(
+    let mut channels = decode_grids::<D, P>(
         alloc,
         bits,
         places,
@@ -153,6 +159,7 @@ fn decode_made<'a, D: Decoder>(
         size,
         header.group_dim,
         steps,
+        progress,
     )?;
     put_patches(&patches, size, colours(image), extra, slots, &mut channels);
     Ok(channels)
@@ -160,13 +167,14 @@ fn decode_made<'a, D: Decoder>(
 
 /// The channels of a frame of a codestream whose headers were read, with samples of 32 bits and with patches of the
 /// frames that were saved before it.
-pub fn decode_channels<D: Decoder>(
+pub fn decode_channels<D: Decoder, P: Progress>(
     alloc: Global,
     bytes: &[u8],
     image: &ImageHeader,
     frame: &FrameFront,
     slots: &SavedFrames,
     steps: &mut Steps,
+    progress: &mut P,
 ) -> Result<Vec<AlignedGrid<i32>>, FileError>
     requires ready { IsReadyFrame bytes.now (image_of image.now) frame.now }
     requires deep { image.now.samples.depth.bits ≤ 32 }
@@ -181,5 +189,14 @@ pub fn decode_channels<D: Decoder>(
 {
     let list = sections(alloc, &bytes[frame.start..], &frame.toc.entries)?;
     let places = of_groups(&list, &frame.layout);
-    decode_made::<D>(alloc, list[0], places, image, &frame.header, slots, steps)
+    decode_made::<D, P>(
+        alloc,
+        list[0],
+        places,
+        image,
+        &frame.header,
+        slots,
+        steps,
+        progress,
+    )
 }

@@ -9,7 +9,8 @@ mod sections;
 mod tree;
 
 pub use error::FileError;
+pub use jxl_modular::sections::Progress;
 pub use jxl_picture::limits::Limits;
 pub use jxl_picture::picture::Picture;
 pub use jxlm_ma::flat::Steps;
-pub use picture::decode_lossless;
+pub use picture::{decode_lossless, decode_lossless_with};

@@ -14,6 +14,7 @@ use crate::frame::decode_channels;
 use crate::saved::decode_saved;
 use jxl_file::codestream::find_codestream;
 use jxl_front::front::Front;
+use jxl_modular::sections::Progress;
 use jxl_picture::limits::Limits;
 use jxl_picture::picture::Picture;
 use jxlm_base::grid::AlignedGrid;
@@ -22,11 +23,12 @@ use jxlm_ma::flat::Steps;
 use std::alloc::Global;
 
 // The channels of the frame that is shown, with patches of the saved frames.
-fn decode_frames(
+fn decode_frames<P: Progress>(
     alloc: Global,
     bytes: &[u8],
     front: &Front,
     steps: &mut Steps,
+    progress: &mut P,
 ) -> Result<Vec<AlignedGrid<i32>>, FileError>
     requires ready { IsReady bytes.now front.now }
     ensures ok { IfOk result (λ v. AreDecoded (entropy decoder_at) bytes.now
@@ -36,16 +38,25 @@ fn decode_frames(
     ensures err { IfErr result (FramesFail (entropy decoder_at) bytes.now
         (image_of front.now.image) (map frame_at front.now.saved.items ++ frame_at front.now.shown ∷ [])) }
 {
-    let slots = decode_saved::<EntropyDecoder>(alloc, bytes, front, steps)?;
-    decode_channels::<EntropyDecoder>(alloc, bytes, &front.image, &front.shown, &slots, steps)
+    let slots = decode_saved::<EntropyDecoder, P>(alloc, bytes, front, steps, progress)?;
+    decode_channels::<EntropyDecoder, P>(
+        alloc,
+        bytes,
+        &front.image,
+        &front.shown,
+        &slots,
+        steps,
+        progress,
+    )
 }
 
 // The picture of a codestream.
-fn decode_codestream(
+fn decode_codestream<P: Progress>(
     alloc: Global,
     bytes: &[u8],
     limits: &Limits,
     steps: &mut Steps,
+    progress: &mut P,
 ) -> Result<Picture, FileError>
     ensures ok { IfOk result (λ p. IsPictureOf limits.now bytes.now p steps.old steps.new) }
     ensures whole { IfOk result (λ p. IsWhole (image_of p.header) p.channels.items) }
@@ -55,7 +66,7 @@ fn decode_codestream(
         Ok(front) => front,
         Err(error) => return Err(FileError::Front(error)),
     };
-    let channels = decode_frames(alloc, bytes, &front, steps)?;
+    let channels = decode_frames(alloc, bytes, &front, steps, progress)?;
     let coded = Picture {
         header: front.image,
         channels,
@@ -89,8 +100,23 @@ pub fn decode_lossless(
     ensures whole { IfOk result (λ p. IsWhole (image_of p.header) p.channels.items) }
     ensures err { IfErr result (FileFails limits.now file.now) }
 {
+    decode_lossless_with(alloc, file, limits, steps, &mut ())
+}
+
+/// The picture of a JPEG XL file, as [`decode_lossless`] gives it; each section of a frame is told of after it was decoded.
+pub fn decode_lossless_with<P: Progress>(
+    alloc: Global,
+    file: &[u8],
+    limits: &Limits,
+    steps: &mut Steps,
+    progress: &mut P,
+) -> Result<Picture, FileError>
+    ensures picture { IfOk result (λ p. IsPictureOfFile limits.now file.now p steps.old steps.new) }
+    ensures whole { IfOk result (λ p. IsWhole (image_of p.header) p.channels.items) }
+    ensures err { IfErr result (FileFails limits.now file.now) }
+{
     match find_codestream(alloc, file) {
-        Ok(stream) => decode_codestream(alloc, stream.bytes(), limits, steps),
+        Ok(stream) => decode_codestream(alloc, stream.bytes(), limits, steps, progress),
         Err(error) => Err(FileError::File(error)),
     }
 }

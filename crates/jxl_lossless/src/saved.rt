@@ -11,6 +11,7 @@ ghost use Rattle.jxl_patches.specs.SavedParts.{slots_of};
 use crate::error::FileError;
 use crate::frame::decode_channels;
 use jxl_front::front::Front;
+use jxl_modular::sections::Progress;
 use jxl_patches::slots::SavedFrames;
 use jxlm_base::decoder::Decoder;
 use jxlm_ma::flat::Steps;
@@ -18,11 +19,12 @@ use std::alloc::Global;
 
 /// Decodes the frames that are saved for others, and returns what the four slots hold then: each the last frame that was
 /// saved in it, or none.
-pub fn decode_saved<D: Decoder>(
+pub fn decode_saved<D: Decoder, P: Progress>(
     alloc: Global,
     bytes: &[u8],
     front: &Front,
     steps: &mut Steps,
+    progress: &mut P,
 ) -> Result<SavedFrames, FileError>
     requires ready { IsReady bytes.now front.now }
     ensures ok { IfOk result (λ s. AreSaved D.meaning bytes.now (image_of front.now.image)
@@ -33,7 +35,15 @@ pub fn decode_saved<D: Decoder>(
 {
     let mut slots = SavedFrames::none(alloc)?;
     for frame in &front.saved {
-        let channels = decode_channels::<D>(alloc, bytes, &front.image, frame, &slots, steps)?;
+        let channels = decode_channels::<D, P>(
+            alloc,
+            bytes,
+            &front.image,
+            frame,
+            &slots,
+            steps,
+            progress,
+        )?;
         let size = frame.header.size(front.image.size);
         slots.save(frame.header.ending.save_as_reference, size, channels);
     }

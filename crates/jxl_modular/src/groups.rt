@@ -131,10 +131,7 @@ impl Progress {
         ensures others { (other : Part) → other ≢ part → state_kept self.new other ≡ state_kept self.old other }
         ensures passes { self.new.passes.items ≡ self.old.passes.items }
     {
-        let kept = self
-            .states
-            .insert(part, PartState::new())
-            .map_err(|_| OutOfMemory)?;
+        let kept = self.states.insert(part, PartState::new())?;
         match kept {
             Some(state) => Ok(state),
             None => Ok(PartState::new()),

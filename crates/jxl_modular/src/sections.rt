@@ -9,6 +9,7 @@ ghost use Rattle.jxl_modular.specs.Sections.{AreDecoded, SectionsFit, SectionsLe
 
 mod complete;
 mod fit;
+mod progress;
 mod turns;
 
 use crate::image::ModularImageDestination;
@@ -22,6 +23,7 @@ pub use jxlm_cut::part::SectionPart;
 use jxlm_cut::pass::passes;
 use jxlm_ma::flat::Steps;
 use jxlm_ma::ma::MaConfig;
+pub use progress::Progress;
 use std::alloc::Global;
 use std::collections::BTreeMap;
 
@@ -80,9 +82,52 @@ pub fn decode_sections<S: Sample, D: Decoder>(
         image.old.store image.new.store steps.old steps.new) }
     ensures same { SameButCells image.old image.new }
 {
+    decode_sections_with(
+        alloc,
+        image,
+        pass_shifts,
+        sections,
+        global,
+        allow_partial,
+        steps,
+        &mut (),
+    )
+}
+
+/// Decodes sections as [`decode_sections`] does, and tells of each after it was decoded.
+pub fn decode_sections_with<S: Sample, D: Decoder, P: Progress>(
+    alloc: Global,
+    image: &mut ModularImageDestination<S, D>,
+    pass_shifts: &BTreeMap<u32, (i32, i32)>,
+    sections: &[Section<'_>],
+    global: Option<&MaConfig<D>>,
+    allow_partial: bool,
+    steps: &mut Steps,
+    progress: &mut P,
+) -> Result<bool>
+    requires fit { SectionsFit image.old (passes_of pass_shifts.now.entries) sections.now }
+    ensures decoded { result ≡ Ok true → AreDecoded D.meaning S.width S.to_int (S.from_int (pos 0)) image.old
+        (passes_of pass_shifts.now.entries) (option_copied global.entry) sections.now (image_grids S.to_int image.new)
+        steps.old steps.new }
+    ensures left { IfOk result (λ whole. SectionsLeave D.meaning S.width S.to_int (S.from_int (pos 0)) image.old
+        (passes_of pass_shifts.now.entries) (option_copied global.entry) allow_partial sections.now whole
+        image.old.store (image_grids S.to_int image.new) steps.old steps.new) }
+    ensures stopped { IfErr result (λ e. SectionsStop D.meaning S.width S.to_int (S.from_int (pos 0)) image.old
+        (passes_of pass_shifts.now.entries) (option_copied global.entry) allow_partial sections.now e
+        image.old.store image.new.store steps.old steps.new) }
+    ensures same { SameButCells image.old image.new }
+{
     let passes = passes(alloc, pass_shifts)?;
     let complete = image.is_complete(alloc, &passes, sections)?;
-    let whole = image.decode_all(alloc, &passes, sections, global, allow_partial, steps)?;
+    let whole = image.decode_all(
+        alloc,
+        &passes,
+        sections,
+        global,
+        allow_partial,
+        steps,
+        progress,
+    )?;
     image.undo_transforms(alloc)?;
     Ok(whole && complete)
 }

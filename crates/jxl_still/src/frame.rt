@@ -19,7 +19,7 @@ use crate::error::FrameError;
 use crate::opening::{begin_weighted, open_image};
 use crate::places::Places;
 use jxl_modular::image::ModularImageDestination;
-use jxl_modular::sections::{Section, decode_sections};
+use jxl_modular::sections::{Progress, Section, decode_sections_with};
 use jxlm_base::bits::Bitstream;
 use jxlm_base::decoder::Decoder;
 use jxlm_base::sample::Sample;
@@ -31,13 +31,14 @@ use std::alloc::Global;
 use std::collections::BTreeMap;
 
 // Decodes all sections of an image, of which each part with samples has one, and undoes the transforms.
-fn decode_all<S: Sample, D: Decoder>(
+fn decode_all<S: Sample, D: Decoder, P: Progress>(
     alloc: Global,
     image: &mut ModularImageDestination<S, D>,
     passes: &BTreeMap<u32, (i32, i32)>,
     sections: &[Section<'_>],
     global: Option<&MaConfig<D>>,
     steps: &mut Steps,
+    progress: &mut P,
 ) -> Result<(), FrameError>
     requires one { passes_of passes.now.entries ≡ the_pass }
     requires fit { SectionsFit image.old the_pass sections.now }
@@ -48,7 +49,9 @@ fn decode_all<S: Sample, D: Decoder>(
         (option_copied global.entry) sections.now) }
     ensures same { SameButCells image.old image.new }
 {
-    match decode_sections(alloc, image, passes, sections, global, false, steps) {
+    match decode_sections_with(
+        alloc, image, passes, sections, global, false, steps, progress,
+    ) {
         Ok(whole) => {
             let _ = whole;
             Ok(())
@@ -63,7 +66,8 @@ fn decode_all<S: Sample, D: Decoder>(
 /// A header that uses a global tree has the one of the parameters. Each group with samples has a section, which begins
 /// with a header of its own; the others are not looked at. The indices of streams are 0 for the global part, 1 and the
 /// number of LF groups and its own number for an LF group, and 18 and three times the number of LF groups and its own
-/// for a group of the pass. It returns the image, whose transforms are undone; with no channels there is none.
+/// for a group of the pass. Each section is told of when it was decoded. It returns the
+/// image, whose transforms are undone; with no channels there is none.
 ///
 /// The parameters are valid, and their channels are of one picture; there are at most 2^24 groups of each kind
 /// ([`Places::are_few`]).
@@ -75,12 +79,13 @@ fn decode_all<S: Sample, D: Decoder>(
 /// the weighted predictor; `NoGroups`; `NoSection`; `GroupWeightedPalette` where the header of a group has one, which is
 /// looked for before samples are decoded; `Samples` for the first section that cannot be decoded, as by
 /// [`decode_sections`](jxl_modular::sections::decode_sections). Or it is out of memory, at any time.
-pub fn decode_frame<'a, S: Sample, D: Decoder>(
+pub fn decode_frame<'a, S: Sample, D: Decoder, P: Progress>(
     alloc: Global,
     first: Bitstream<'a>,
     params: ModularParams<'_, D>,
     places: Places<'a, '_>,
     steps: &mut Steps,
+    progress: &mut P,
 ) -> Result<Option<ModularImageDestination<S, D>>, FrameError>
     requires valid { IsValidParams params }
     requires alike { IsTrue (one_picture (image_list params.channels.items).channels) }
@@ -108,6 +113,8 @@ pub fn decode_frame<'a, S: Sample, D: Decoder>(
     if weighted {
         return Err(FrameError::GroupWeightedPalette);
     }
-    decode_all(alloc, &mut image, &passes, &sections, global, steps)?;
+    decode_all(
+        alloc, &mut image, &passes, &sections, global, steps, progress,
+    )?;
     Ok(Some(image))
 }

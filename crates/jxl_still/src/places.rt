@@ -12,7 +12,6 @@ use jxl_modular::sections::{Section, SectionPart};
 use jxlm_base::bits::Bitstream;
 use jxlm_base::decoder::Decoder;
 use jxlm_base::error::Error;
-use jxlm_base::grid::OutOfMemory;
 use jxlm_base::sample::Sample;
 use std::alloc::Global;
 use std::collections::BTreeMap;
@@ -83,7 +82,7 @@ impl<'a, 't> Places<'a, 't> {
     {
         match self.low(group) {
             Some(section) => {
-                list.push(section).map_err(|_| OutOfMemory)?;
+                list.push(section)?;
                 Ok(())
             }
             None => Err(FrameError::NoSection),
@@ -99,7 +98,7 @@ impl<'a, 't> Places<'a, 't> {
     {
         match self.group(group) {
             Some(section) => {
-                list.push(section).map_err(|_| OutOfMemory)?;
+                list.push(section)?;
                 Ok(())
             }
             None => Err(FrameError::NoSection),
@@ -179,7 +178,7 @@ impl<'a, 't> Places<'a, 't> {
             stream_index: 0,
             nested: false,
         };
-        list.push(global).map_err(|_| OutOfMemory)?;
+        list.push(global)?;
         self.add_all_low(&mut list, &groups)?;
         self.add_all_groups(&mut list, &groups)?;
         groups.give_back();

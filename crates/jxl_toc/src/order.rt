@@ -12,7 +12,6 @@ ghost use Rattle.jxl_toc.specs.Inner.Steps.{DigitsRead, TokenReads};
 use jxlm_base::bits::{Bitstream, BitstreamError};
 use jxlm_base::decoder::Decoder;
 use jxlm_base::error::Result;
-use jxlm_base::grid::OutOfMemory;
 use std::alloc::Global;
 
 fn context_of(v: u32) -> u32
@@ -117,7 +116,7 @@ fn digits<D: Decoder>(
     let mut last = 0;
     for i in 0..told {
         let value = digit(decoder, bits, last, i, count)?;
-        code.push(value).map_err(|_| OutOfMemory)?;
+        code.push(value)?;
         last = value;
     }
     Ok(code)
@@ -167,7 +166,7 @@ fn all_free(alloc: Global, levels: u32) -> Result<Vec<u32>>
     let mut counts = vec![in alloc; 1u32 << levels; 2]?;
     for k in 2..2usize << levels {
         let half = counts[k / 2] / 2;
-        counts.push(half).map_err(|_| OutOfMemory)?;
+        counts.push(half)?;
     }
     Ok(counts)
 }
@@ -239,7 +238,7 @@ fn turns(
     for i in 0..count as usize {
         let number = find(counts, levels, digit_at(code, i));
         take(counts, levels, number);
-        order.push(number).map_err(|_| OutOfMemory)?;
+        order.push(number)?;
     }
     Ok(order)
 }

@@ -17,7 +17,6 @@ use jxl_headers::fields::{self, align};
 use jxlm_base::bits::{Bitstream, BitstreamError, U32Spec};
 use jxlm_base::decoder::Decoder;
 use jxlm_base::error::Result;
-use jxlm_base::grid::OutOfMemory;
 use std::alloc::Global;
 
 /// Where a section lies.
@@ -87,7 +86,7 @@ fn entry_sizes(alloc: Global, bits: &mut Bitstream<'_>, count: u32) -> Result<Ve
             U32Spec::Offset(17408, 22),
             U32Spec::Offset(4211712, 30),
         )?;
-        sizes.push(size).map_err(|_| OutOfMemory)?;
+        sizes.push(size)?;
     }
     Ok(sizes)
 }
@@ -137,7 +136,7 @@ fn as_they_stand(alloc: Global, start: u64, sizes: &[u32]) -> Result<Vec<TocEntr
             offset,
             size: *size,
         };
-        entries.push(entry).map_err(|_| OutOfMemory)?;
+        entries.push(entry)?;
         offset += u64::from(*size);
     }
     Ok(entries)
@@ -153,9 +152,7 @@ fn by_number(alloc: Global, order: &[u32], stand: &[TocEntry]) -> Result<Vec<Toc
 {
     let mut entries = Vec::new(alloc);
     for place in order {
-        entries
-            .push(stand[*place as usize])
-            .map_err(|_| OutOfMemory)?;
+        entries.push(stand[*place as usize])?;
     }
     Ok(entries)
 }

@@ -1,10 +1,12 @@
 //! Decodes a lossless JPEG XL file to a picture in a netpbm format, or tells what its headers say.
 #![tactic(auto)]
 
+mod meter;
 mod options;
 mod output;
 mod run;
 
+use crate::meter::Meter;
 use crate::options::Options;
 use crate::output::OutputFile;
 use crate::run::{Failure, report, run};
@@ -16,6 +18,7 @@ use std::{env, fs};
 fn carry_out<R: Read>(rt: &HostRuntime, options: Options<'_>, input: &mut R) -> u8 {
     let alloc = rt.alloc();
     let errors = &mut rt.stderr();
+    let mut meter = Meter::new(rt, options.input, options.quiet);
     match options.output {
         Some(path) => run(
             alloc,
@@ -23,8 +26,9 @@ fn carry_out<R: Read>(rt: &HostRuntime, options: Options<'_>, input: &mut R) -> 
             input,
             &mut OutputFile::new(rt, path),
             errors,
+            &mut meter,
         ),
-        None => run(alloc, options, input, &mut rt.stdout(), errors),
+        None => run(alloc, options, input, &mut rt.stdout(), errors, &mut meter),
     }
 }
 

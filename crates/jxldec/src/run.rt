@@ -10,11 +10,12 @@ ghost use Rattle.jxl_lossless.specs.Pictures.{IsPictureOfFile};
 ghost use Rattle.jxl_picture.specs.Pictures.{IsWhole};
 ghost use Rattle.jxldec.specs.Texts.{IsAsked, IsDone, IsTextOfFile, IsWritten, TextFails, chosen};
 
+use crate::meter::Line;
 use crate::options::Options;
 use jxl_headers::image::ImageHeader;
 use jxl_info::headers::{Headers, HeadersError, is_boxed};
 use jxl_info::text::info_text;
-use jxl_lossless::{FileError, Limits, Picture, Steps, decode_lossless};
+use jxl_lossless::{FileError, Limits, Picture, Steps, decode_lossless_with};
 use jxl_picture::format::Format;
 use jxlm_entropy::decoder::EntropyDecoder;
 use std::alloc::Global;
@@ -123,32 +124,38 @@ fn write_picture(
 
 /// The text of the picture of a file, in the format that is asked for, or in that of its kind. Where the headers stand
 /// and there is no such format, no sample is decoded.
-pub fn picture_text(
+pub fn picture_text<P: Line>(
     alloc: Global,
     file: &[u8],
     asked: Option<Format>,
     limits: &Limits,
+    progress: &mut P,
 ) -> Result<Output, Failure>
     ensures text { IfOk result (λ o. IsTextOfFile limits.now file.now asked o.text.items o.left_out) }
     ensures err { IfErr result (TextFails limits.now file.now asked) }
 {
     check_format(alloc, file, asked, limits)?;
     let mut steps = Steps::new();
-    match decode_lossless(alloc, file, limits, &mut steps) {
+    match decode_lossless_with(alloc, file, limits, &mut steps, progress) {
         Ok(picture) => write_picture(alloc, file, &picture, asked, limits, &steps),
         Err(error) => Err(Failure::File(error)),
     }
 }
 
 // What is asked of the file: what its headers tell, or its picture.
-fn text_asked(alloc: Global, file: &[u8], options: &Options<'_>) -> Result<Output, Failure>
+fn text_asked<P: Line>(
+    alloc: Global,
+    file: &[u8],
+    options: &Options<'_>,
+    progress: &mut P,
+) -> Result<Output, Failure>
     ensures { IfOk result (λ o. IsAsked options.now.info options.now.limits options.now.format file.now o.text.items
         o.left_out) }
 {
     if options.info {
         info_of_file(alloc, file, &options.limits)
     } else {
-        picture_text(alloc, file, options.format, &options.limits)
+        picture_text(alloc, file, options.format, &options.limits, progress)
     }
 }
 
@@ -163,11 +170,12 @@ fn write_bytes<W: Write>(output: &mut W, bytes: &[u8]) -> Result<(), Failure>
 }
 
 // Reads the file, and writes what is asked of it. It returns how many channels were left out.
-fn carry_out<R: Read, W: Write>(
+fn carry_out<R: Read, W: Write, P: Line>(
     alloc: Global,
     options: &Options<'_>,
     input: &mut R,
     output: &mut W,
+    progress: &mut P,
 ) -> Result<usize, Failure>
     ensures done { IfOk result (IsWritten options.now.info options.now.limits options.now.format
         (R.remaining input.old) (R.remaining input.new) (W.contents output.old) (W.contents output.new)) }
@@ -177,7 +185,9 @@ fn carry_out<R: Read, W: Write>(
     if input.read_to_end(&mut file).is_err() {
         return Err(Failure::Unreadable);
     }
-    let asked = text_asked(alloc, &file, options)?;
+    let made = text_asked(alloc, &file, options, progress);
+    progress.clear();
+    let asked = made?;
     match write_bytes(output, &asked.text) {
         Ok(()) => Ok(asked.left_out),
         Err(failure) => Err(failure),
@@ -217,19 +227,20 @@ fn warn<E: Write>(errors: &mut E, options: &Options<'_>, left_out: usize)
 /// Reads a file from `input`, and writes to `output` what its headers tell, or its picture in a netpbm format or in
 /// decimal numbers. It returns the status to end with: 0 where the output got that text, alone and whole; else 1, and
 /// `errors` got a line. Nothing is written to the output unless the whole picture was decoded. With status 0 `errors`
-/// got nothing but a line where channels were left out.
-pub fn run<R: Read, W: Write, E: Write>(
+/// got nothing but a line where channels were left out. Each section that is decoded is told of to `progress`.
+pub fn run<R: Read, W: Write, E: Write, P: Line>(
     alloc: Global,
     options: Options<'_>,
     input: &mut R,
     output: &mut W,
     errors: &mut E,
+    progress: &mut P,
 ) -> u8
     ensures done { result ≡ 0 → IsDone options.entry.info options.entry.quiet options.entry.limits options.entry.format
         (R.remaining input.old) (R.remaining input.new) (W.contents output.old) (W.contents output.new)
         (errors.new ≡ errors.old) }
 {
-    match carry_out(alloc, &options, input, output) {
+    match carry_out(alloc, &options, input, output, progress) {
         Ok(left_out) => {
             warn(errors, &options, left_out);
             0

@@ -54,7 +54,7 @@ fn read_transforms(
     let mut transforms = Vec::new(alloc);
     for _ in 0..count {
         let transform = TransformInfo::parse_by(alloc, bits, wp_params, tables)?;
-        transforms.push(transform).map_err(|_| OutOfMemory)?;
+        transforms.push(transform)?;
     }
     Ok(transforms)
 }

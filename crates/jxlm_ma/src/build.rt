@@ -14,7 +14,6 @@ use crate::flat::Leaf;
 use crate::nodes::DraftNode;
 use crate::tree::MaTree;
 use jxlm_base::error::Result;
-use jxlm_base::grid::OutOfMemory;
 use std::alloc::Global;
 use std::collections::VecDeque;
 
@@ -64,7 +63,7 @@ fn take_up(
             MaTree::decision(alloc, property, value, left, right, depth_limit)?
         }
     };
-    queue.push_back(tree).map_err(|_| OutOfMemory)?;
+    queue.push_back(tree)?;
     Ok(())
 }
 

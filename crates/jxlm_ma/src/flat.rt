@@ -32,7 +32,6 @@ use crate::tree::{MaTree, MaTreeNode};
 use jxlm_base::bits::Bitstream;
 use jxlm_base::decoder::Decoder;
 use jxlm_base::error::Result;
-use jxlm_base::grid::OutOfMemory;
 use jxlm_base::sample::Sealed;
 pub use jxlm_tree::place::{AskedProperty, PlaceProperties};
 use jxlm_tree::predictor::Predictor;
@@ -248,13 +247,13 @@ impl CompiledTree {
             prev_channels,
         };
         let mut nodes = Vec::new(alloc);
-        let marks = mark(alloc, &tree.root, &known).map_err(|_| OutOfMemory)?;
-        let root = compile(alloc, &marks.tree, &mut nodes).map_err(|_| OutOfMemory)?;
+        let marks = mark(alloc, &tree.root, &known)?;
+        let root = compile(alloc, &marks.tree, &mut nodes)?;
         let need_self_correcting = nodes.iter().any(|node| node.needs_weights());
         let prev_channels_named = nodes
             .iter()
             .fold(0, |most: u32, node| most.max(node.earlier_named()));
-        let found = ClusterTable::of(alloc, &nodes, root).map_err(|_| OutOfMemory)?;
+        let found = ClusterTable::of(alloc, &nodes, root)?;
         let table = ClusterTable::shared(alloc, found)?;
         let last_alike = last_channel(channel, channels_alike(&tree.root, &known));
         Ok(CompiledTree {
@@ -280,7 +279,7 @@ impl CompiledTree {
             return Ok(None);
         }
         let compiled = CompiledTree::new(alloc, tree, 0, 0, tree.prev_channels_named)?;
-        let shared = Rc::new(alloc, compiled).map_err(|_| OutOfMemory)?;
+        let shared = Rc::new(alloc, compiled)?;
         Ok(Some(shared))
     }
 
@@ -339,8 +338,8 @@ impl FlatMaTree {
         if self.channel >= self.compiled.last_alike || self.prev_channels == u32::MAX {
             return Ok(None);
         }
-        let tree = self.tree.clone().map_err(|_| OutOfMemory)?;
-        let compiled = self.compiled.clone().map_err(|_| OutOfMemory)?;
+        let tree = self.tree.clone()?;
+        let compiled = self.compiled.clone()?;
         Ok(Some(FlatMaTree {
             tree,
             compiled,

@@ -92,7 +92,7 @@ impl<D: Decoder> MaConfig<D> {
         let decoder: D = parse_decoder(alloc, bits, count_leaves(&nodes))?;
         let tree = build(alloc, nodes, decoder.cluster_map(), params.depth_limit)?;
         let anywhere = CompiledTree::anywhere(alloc, &tree)?;
-        let tree = Rc::new(alloc, tree).map_err(|_| OutOfMemory)?;
+        let tree = Rc::new(alloc, tree)?;
         Ok(MaConfig {
             tree,
             anywhere,
@@ -111,9 +111,9 @@ impl<D: Decoder> MaConfig<D> {
         ensures err { IfErr result (λ e. IsOutOfMemory (kind_of e)) }
     {
         let decoder = self.decoder.try_clone(alloc)?;
-        let tree = self.tree.clone().map_err(|_| OutOfMemory)?;
+        let tree = self.tree.clone()?;
         let anywhere = match &self.anywhere {
-            Some(shared) => Some(shared.clone().map_err(|_| OutOfMemory)?),
+            Some(shared) => Some(shared.clone()?),
             None => None,
         };
         Ok(MaConfig {
@@ -145,7 +145,7 @@ impl<D: Decoder> MaConfig<D> {
         ensures clusters { IfOk result (λ t. ClustersStandIn (D.meaning.cluster_map self.now.decoder) t.tree) }
         ensures err { IfErr result (λ e. kind_of e ≡ NoMemory) }
     {
-        let tree = self.tree.clone().map_err(|_| OutOfMemory)?;
+        let tree = self.tree.clone()?;
         let compiled = self.compiled_for(alloc, channel, stream_idx, prev_channels)?;
         Ok(FlatMaTree {
             tree,
@@ -169,11 +169,11 @@ impl<D: Decoder> MaConfig<D> {
     {
         if let Some(shared) = &self.anywhere {
             if self.tree.prev_channels_named <= prev_channels {
-                return Ok(shared.clone().map_err(|_| OutOfMemory)?);
+                return Ok(shared.clone()?);
             }
         }
         let compiled = CompiledTree::new(alloc, &self.tree, channel, stream_idx, prev_channels)?;
-        Ok(Rc::new(alloc, compiled).map_err(|_| OutOfMemory)?)
+        Ok(Rc::new(alloc, compiled)?)
     }
 
     /// The decoder of the leaves' clusters.

@@ -10,7 +10,6 @@ use crate::flat::Leaf;
 use jxlm_base::bits::{Bitstream, BitstreamError};
 use jxlm_base::decoder::Decoder;
 use jxlm_base::error::{Error, Result};
-use jxlm_base::grid::OutOfMemory;
 use jxlm_base::sample::Sealed;
 use jxlm_tree::predictor::Predictor;
 use std::alloc::Global;
@@ -112,7 +111,7 @@ fn read_nodes<D: Decoder>(
         check_room(nodes.len(), node_limit)?;
         let node = read_node(decoder, bits)?;
         missing = missing - 1 + node.children();
-        nodes.push(node).map_err(|_| OutOfMemory)?;
+        nodes.push(node)?;
     }
     Ok(nodes)
 }

@@ -171,7 +171,7 @@ impl ClusterTable {
         ensures { IfOk result (λ o. option_map rc_value o ≡ table) }
     {
         match table {
-            Some(table) => Ok(Some(Rc::new(alloc, table).map_err(|_| OutOfMemory)?)),
+            Some(table) => Ok(Some(Rc::new(alloc, table)?)),
             None => Ok(None),
         }
     }
@@ -260,7 +260,7 @@ impl FlatMaTree {
         if !table.is_on_gradient() {
             return Ok(None);
         }
-        let shared = table.clone().map_err(|_| OutOfMemory)?;
+        let shared = table.clone()?;
         Ok(Some(shared))
     }
 

@@ -12,7 +12,6 @@ ghost use Rattle.jxlm_ma.specs.Inner.TreeShape.{shape_of};
 use crate::flat::Leaf;
 use jxlm_base::bits::BitstreamError;
 use jxlm_base::error::Result;
-use jxlm_base::grid::OutOfMemory;
 use std::alloc::Global;
 
 /// A node of a meta-adaptive tree, with all that is below it.
@@ -86,8 +85,8 @@ impl MaTree {
         }
         let tests_place = property < 2 || left.tests_place || right.tests_place;
         let named = left.prev_channels_named.max(right.prev_channels_named);
-        let left = Box::new(alloc, left.root).map_err(|_| OutOfMemory)?;
-        let right = Box::new(alloc, right.root).map_err(|_| OutOfMemory)?;
+        let left = Box::new(alloc, left.root)?;
+        let right = Box::new(alloc, right.root)?;
         Ok(MaTree {
             root: MaTreeNode::Decision {
                 property,

@@ -18,7 +18,7 @@ use crate::nested::NestedPart;
 use jxlm_base::bits::Bitstream;
 use jxlm_base::decoder::Decoder;
 use jxlm_base::error::Result;
-use jxlm_base::grid::{AlignedGrid, OutOfMemory};
+use jxlm_base::grid::AlignedGrid;
 use jxlm_base::sample::Sample;
 use jxlm_chain::placed::PlacedChannels;
 use jxlm_chain::places::Places;
@@ -117,7 +117,7 @@ impl<D: Decoder> NestedPart<D> {
             return Ok(());
         }
         let own = store.len();
-        store.append(tables).map_err(|_| OutOfMemory)?;
+        store.append(tables)?;
         let result = self.decode_placed(
             alloc,
             bits,
@@ -149,7 +149,7 @@ impl<D: Decoder> NestedPart<D> {
         ensures err { IfErr result (λ e. kind_of e ≡ NoMemory) }
     {
         let own = store.len();
-        store.append(&mut tables).map_err(|_| OutOfMemory)?;
+        store.append(&mut tables)?;
         let result = self.undo(alloc, store, bit_depth);
         store.truncate(own);
         result

@@ -19,7 +19,7 @@ use crate::opening::{open, tree_of};
 use jxlm_base::bits::Bitstream;
 use jxlm_base::decoder::Decoder;
 use jxlm_base::error::Result;
-use jxlm_base::grid::{AlignedGrid, OutOfMemory, Region};
+use jxlm_base::grid::{AlignedGrid, Region};
 use jxlm_base::sample::Sample;
 use jxlm_chain::placed::PlacedChannels;
 use jxlm_chain::places::Places;
@@ -58,7 +58,7 @@ pub fn add_tables<S: Sample>(
 {
     for table in tables {
         let grid = AlignedGrid::new(alloc, table.width, table.height)?;
-        store.push(grid).map_err(|_| OutOfMemory)?;
+        store.push(grid)?;
     }
     Ok(())
 }

@@ -39,7 +39,7 @@ pub fn one_pass(alloc: Global) -> std::result::Result<BTreeMap<u32, (i32, i32)>,
     ensures { IfOk result (λ passes. passes_of passes.entries ≡ the_pass) }
 {
     let mut passes = BTreeMap::new(alloc);
-    passes.insert(0, (0, 3)).map_err(|_| OutOfMemory)?;
+    passes.insert(0, (0, 3))?;
     Ok(passes)
 }
 

@@ -13,7 +13,6 @@ use jxl_modular::sections::{Section, SectionPart};
 use jxlm_base::bits::Bitstream;
 use jxlm_base::decoder::Decoder;
 use jxlm_base::error::Error;
-use jxlm_base::grid::OutOfMemory;
 use jxlm_base::sample::Sample;
 use std::alloc::Global;
 use std::collections::BTreeMap;
@@ -49,7 +48,7 @@ impl<'a> Sections<'a> {
             stream_index: (self.list.len() % (1 << 32)) as u32,
             nested: true,
         };
-        self.list.push(section).map_err(|_| OutOfMemory)?;
+        self.list.push(section)?;
         Ok(())
     }
 
@@ -131,7 +130,7 @@ pub fn split_sections<'a, S: Sample, D: Decoder>(
         stream_index: 0,
         nested: false,
     };
-    sections.list.push(global).map_err(|_| OutOfMemory)?;
+    sections.list.push(global)?;
     sections.add_low(&groups)?;
     sections.add_pass(&groups)?;
     groups.give_back();

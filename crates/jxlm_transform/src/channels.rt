@@ -9,7 +9,6 @@ ghost use Rattle.jxlm_transform.specs.Params.{IsValidChannel, has_deltas};
 
 use crate::param::{ChannelShift, ModularChannelParams, PaletteTables};
 use jxlm_base::error::Result;
-use jxlm_base::grid::OutOfMemory;
 use std::alloc::Global;
 
 /// What is known of a channel as it is coded: its size, its shifts, and the size and the shift that it came with.
@@ -187,8 +186,7 @@ impl ModularChannels {
     {
         let mut info = Vec::new(alloc);
         for channel in params {
-            info.push(ModularChannelInfo::new(channel))
-                .map_err(|_| OutOfMemory)?;
+            info.push(ModularChannelInfo::new(channel))?;
         }
         Ok(ModularChannels {
             info,

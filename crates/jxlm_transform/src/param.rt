@@ -9,7 +9,6 @@ ghost use Rattle.jxlm_base.specs.ErrorKind.{NoMemory, kind_of};
 
 use jxlm_base::decoder::Decoder;
 use jxlm_base::error::Result;
-use jxlm_base::grid::OutOfMemory;
 use jxlm_ma::ma::MaConfig;
 use std::alloc::Global;
 
@@ -330,8 +329,7 @@ impl<'a, D: Decoder> ModularParams<'a, D> {
         let channels = channel_shifts
             .into_iter()
             .map(|shift| ModularChannelParams::with_shift(width, height, shift))
-            .collect(alloc)
-            .map_err(|_| OutOfMemory)?;
+            .collect(alloc)?;
         Ok(ModularParams::with_channels(group_dim, bit_depth, channels, ma_config))
     }
 

@@ -18,7 +18,6 @@ mod steps;
 use crate::param::PaletteTables;
 use jxlm_base::bits::{Bitstream, BitstreamError, U32Spec};
 use jxlm_base::error::{Error, Result};
-use jxlm_base::grid::OutOfMemory;
 use jxlm_tree::predictor::{Predictor, WpHeader};
 use std::alloc::Global;
 
@@ -295,7 +294,7 @@ fn read_steps(alloc: Global, bits: &mut Bitstream<'_>, count: u32) -> Result<Vec
     let mut steps = Vec::new(alloc);
     for _ in 0..count {
         let step = SqueezeParams::parse(bits)?;
-        steps.push(step).map_err(|_| OutOfMemory)?;
+        steps.push(step)?;
     }
     Ok(steps)
 }

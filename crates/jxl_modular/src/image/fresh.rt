@@ -10,7 +10,7 @@ ghost use Rattle.jxlm_nested.specs.Zeros.{zeros};
 use super::ModularImageDestination;
 use jxlm_base::decoder::Decoder;
 use jxlm_base::error::Result;
-use jxlm_base::grid::{AlignedGrid, OutOfMemory, Region};
+use jxlm_base::grid::{AlignedGrid, Region};
 use jxlm_base::sample::Sample;
 use jxlm_chain::placed::PlacedChannels;
 use jxlm_header::header::ModularHeader;
@@ -29,7 +29,7 @@ fn zero_grids<S: Sample>(
     let mut grids = Vec::new(alloc);
     for channel in channels {
         let grid = AlignedGrid::new(alloc, channel.width as usize, channel.height as usize)?;
-        grids.push(grid).map_err(|_| OutOfMemory)?;
+        grids.push(grid)?;
     }
     Ok(grids)
 }
@@ -45,7 +45,7 @@ fn with_tables<S: Sample>(
 {
     for table in tables {
         let grid = AlignedGrid::new(alloc, table.width, table.height)?;
-        grids.push(grid).map_err(|_| OutOfMemory)?;
+        grids.push(grid)?;
     }
     Ok(grids)
 }

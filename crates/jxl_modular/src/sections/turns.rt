@@ -4,6 +4,7 @@ ghost use Rattle.std.specs.Option.{option_copied};
 ghost use Rattle.std.specs.Prelude.{pos, IfOk, IfErr};
 
 use super::Section;
+use super::progress::Progress;
 use crate::image::ModularImageDestination;
 use jxlm_base::decoder::Decoder;
 use jxlm_base::error::Result;
@@ -77,8 +78,8 @@ impl<S: Sample, D: Decoder> ModularImageDestination<S, D> {
         }
     }
 
-    /// Decodes sections, in their order, and returns whether all samples of their parts were decoded.
-    pub(super) fn decode_all(
+    /// Decodes sections, in their order, tells of each, and returns whether all samples of their parts were decoded.
+    pub(super) fn decode_all<P: Progress>(
         &mut self,
         alloc: Global,
         passes: &[Pass],
@@ -86,6 +87,7 @@ impl<S: Sample, D: Decoder> ModularImageDestination<S, D> {
         global: Option<&MaConfig<D>>,
         allow_partial: bool,
         steps: &mut Steps,
+        progress: &mut P,
     ) -> Result<bool>
         ensures turned { IfOk result (λ whole. HasTurned D.meaning S.width S.to_int (S.from_int (pos 0)) self.old
             passes.now (option_copied global.entry) allow_partial sections.now whole self.old.store self.new.store
@@ -108,6 +110,7 @@ impl<S: Sample, D: Decoder> ModularImageDestination<S, D> {
             if !decoded {
                 whole = false;
             }
+            progress.section_decoded(sections.len());
         }
         Ok(whole)
     }

@@ -51,7 +51,7 @@ fn add_halving(
     if side <= SMALL_SIDE {
         return Ok(side);
     }
-    steps.push(step).map_err(|_| OutOfMemory)?;
+    steps.push(step)?;
     Ok(side.div_ceil(2))
 }
 
@@ -110,12 +110,8 @@ fn add_chroma(
         (leader.now ∷ others.now)) }
 {
     if has_chroma(leader, others) {
-        steps
-            .push(step_of_chroma(first, true))
-            .map_err(|_| OutOfMemory)?;
-        steps
-            .push(step_of_chroma(first, false))
-            .map_err(|_| OutOfMemory)?;
+        steps.push(step_of_chroma(first, true))?;
+        steps.push(step_of_chroma(first, false))?;
     }
     Ok(())
 }

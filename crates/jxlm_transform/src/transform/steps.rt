@@ -117,9 +117,7 @@ fn averages(
 {
     let mut halves = Vec::new(alloc);
     for channel in channels {
-        halves
-            .push(channel.average(horizontal))
-            .map_err(|_| OutOfMemory)?;
+        halves.push(channel.average(horizontal))?;
     }
     Ok(halves)
 }
@@ -135,9 +133,7 @@ fn residuals(
 {
     let mut halves = Vec::new(alloc);
     for channel in channels {
-        halves
-            .push(channel.residual(horizontal))
-            .map_err(|_| OutOfMemory)?;
+        halves.push(channel.residual(horizontal))?;
     }
     Ok(halves)
 }

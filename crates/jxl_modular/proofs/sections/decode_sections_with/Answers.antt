@@ -6,8 +6,8 @@ use Rattle.jxlm_cut.specs.Passes.{passes_of}
 use Rattle.jxl_modular.specs.Image.{image_grids}
 use Rattle.jxl_modular.proofs.SectionLaws.{decoded_if_so}
 use Rattle.jxl_modular.proofs.TurnLaws.{leaves, same_both, same_here, stops_at, stops_first, stops_last}
-use Rattle.jxl_modular.proofs.sections.decode_sections.Goals as goal
-use Rattle.jxl_modular.proofs.sections.decode_sections.Goals.{then-whole, else-whole}
+use Rattle.jxl_modular.proofs.sections.decode_sections_with.Goals as goal
+use Rattle.jxl_modular.proofs.sections.decode_sections_with.Goals.{then-whole, else-whole}
 
 pub returns-in_err-passes-clause-stopped : goal.returns-in_err-passes-clause-stopped
 returns-in_err-passes-clause-stopped g c =
