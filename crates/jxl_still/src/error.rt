@@ -4,6 +4,7 @@ ghost use Rattle.std.specs.Prelude.{◌≡◌};
 
 use jxlm_base::error::Error;
 use jxlm_base::grid::OutOfMemory;
+use std::alloc::AllocFailed;
 
 /// Why a frame is not decoded: the first reason in the order of its bits, but that a palette with the weighted predictor in
 /// the header of a group is told before what is wrong with samples.
@@ -38,6 +39,17 @@ impl From<OutOfMemory> for FrameError {
     ghost from_gives = { λ _ e. e ≡ NoMemory };
 
     fn from(_error: OutOfMemory) -> FrameError {
+        FrameError::NoMemory
+    }
+}
+
+/// `NoMemory`, so that `?` serves on `push`; the value is dropped.
+impl<T: Drop> From<AllocFailed<T>> for FrameError {
+    ghost use Rattle.jxl_still.specs.declared.error.FrameError.TheVariants.{NoMemory};
+
+    ghost from_gives = { λ _ e. e ≡ NoMemory };
+
+    fn from(_error: AllocFailed<T>) -> FrameError {
         FrameError::NoMemory
     }
 }

@@ -1,4 +1,4 @@
-use Rattle.std.proofs.Common.{rules, to_z, of_z, tests, ◌≡◌, w32, ap, sym, ◌∙◌, arith, SFits, true, Result, Ok, Err, MatchResult, is_ok, List, subst}
+use Rattle.std.proofs.Common.{rules, to_z, of_z, tests, ◌≡◌, w32, ap, sym, ◌∙◌, arith, SFits, true, Ok, List, subst}
 use Rattle.std.specs.List.{list_any}
 use Rattle.std.proofs.lemmas.Int.{to_z-of_z}
 use Rattle.std.proofs.lemmas.Grind.{common_steps}
@@ -12,16 +12,9 @@ use Rattle.jxlm_ma.proofs.FlatMade.{alike-up-to, known_by, marked-room, marked-o
 use Rattle.jxlm_ma.proofs.NextChannels.{ends-by}
 use Rattle.jxlm_ma.proofs.flat.CompiledTree.new.Goals as goal
 
--- a result whose error was replaced, and which is no error
-came_through : {T E D : Type 0} (r : Result T E) (s : Result T D) (x : T) (Q : E → Type 0) → MatchResult r (λ y. s ≡ Ok y) Q → is_ok s ≡ is_ok r → s ≡ Ok x → r ≡ Ok x
-came_through (Ok y) s x Q same kind is = cc
-came_through (Err e) s x Q same kind is =
-    let ok : is_ok s ≡ true = ap is_ok is in
-    cc
-
 pub compile-requires : goal.compile-requires
 compile-requires c =
-    let kept : c.mark.result ≡ Ok c.in_ok-marks.marks = came_through c.mark.result c.map_err.result _ _ c.map_err.ensures.cases c.map_err.ensures.variant c.in_ok-marks.was in
+    let kept : c.mark.result ≡ Ok c.in_ok-marks.marks = c.in_ok-marks.was in
     let same = ok_at _ _ _ kept c.mark.ensures.tree in
     record {
       marked = marked-of _ (ok_at _ _ _ kept c.mark.ensures.marks);
@@ -34,12 +27,12 @@ returns-clause-compiled c =
     let stream_fits : SFits w32 c.read_as_signed-2.result = search rules in
     let needs = any_from_yields_List sees_error _ _ c.any-need_self_correcting.result c.any-need_self_correcting.ensures.ran (YieldsList-from_slice c.deref.result.now cc) (λ x b q k. search (rules, tests)) in
     let named : c.fold-prev_channels_named.result ≡ most_channels c.compile.new.nodes.items = grind (arith, common_steps) in
-    let marked : c.mark.result ≡ Ok c.in_ok-marks.marks = came_through c.mark.result c.map_err.result _ _ c.map_err.ensures.cases c.map_err.ensures.variant c.in_ok-marks.was in
+    let marked : c.mark.result ≡ Ok c.in_ok-marks.marks = c.in_ok-marks.was in
     let same = ok_at _ _ _ marked c.mark.ensures.tree in
-    let kept : c.compile.result ≡ Ok c.in_ok-root.root = came_through c.compile.result c.map_err-2.result _ _ c.map_err-2.ensures.cases c.map_err-2.ensures.variant c.in_ok-root.was in
+    let kept : c.compile.result ≡ Ok c.in_ok-root.root = c.in_ok-root.was in
     let compiles = compiles-as _ _ _ _ _ same (ok_at _ _ _ kept c.compile.ensures) in
     let made = made_of (shape_of c.args.tree.now.root) _ _ _ _ c.args.prev_channels _ c.compile.new.nodes.items _ c.new-nodes.ensures.items (to_z-of_z w32 c.read_as_signed.result channel_fits ∙ c.read_as_signed.ensures) (to_z-of_z w32 c.read_as_signed-2.result stream_fits ∙ c.read_as_signed-2.ensures) compiles in
-    let found : c.of.result ≡ Ok c.in_ok-found.found = came_through c.of.result c.map_err-3.result _ _ c.map_err-3.ensures.cases c.map_err-3.ensures.variant c.in_ok-found.was in
+    let found : c.of.result ≡ Ok c.in_ok-found.found = c.in_ok-found.was in
     let last = c.last_channel-last_alike.ensures in
     record {
       tree = is_compiled _ _ c.compile.new.nodes.items _ _ _ c.requires.multipliers made (needs ∙ ap (list_any sees_error) c.deref.ensures.value) named;

@@ -17,9 +17,9 @@ returns-then-deref-prev_channels-clause-compiled g c =
     let tree = c.self.inside.tree.value in
     let serves : ServesAnywhere (shape_of tree.root) c.in-Some.shared.value = subst (λ o. IfSome o (λ r. ServesAnywhere (shape_of tree.root) r.value)) c.in-Some.is c.self.invariant.serves in
     let named : earlier_named (shape_of tree.root) ≤ c.args.prev_channels = subst (λ (m : MaTree). earlier_named (shape_of m.root) ≤ c.args.prev_channels) c.deref.ensures (let n = c.deref.result.now.named_is in let h = c.if-deref-prev_channels.true in grind arith) in
-    let same : c.in-Some.shared.value ≡ c.in_ok-map_err.field-0.value = search rules in
+    let same : c.in-Some.shared.value ≡ c.in_ok-clone.field-0.value = search rules in
     let here = subst (IsCompiledFor (shape_of tree.root) c.args.channel c.args.stream_idx c.args.prev_channels) same (serves-here (shape_of tree.root) c.in-Some.shared.value c.args.channel c.args.stream_idx c.args.prev_channels serves named) in
-    subst (λ (t : Config g.row.D.Denot). IsCompiledFor t.tree c.args.channel c.args.stream_idx c.args.prev_channels c.in_ok-map_err.field-0.value) c.self.view_is here
+    subst (λ (t : Config g.row.D.Denot). IsCompiledFor t.tree c.args.channel c.args.stream_idx c.args.prev_channels c.in_ok-clone.field-0.value) c.self.view_is here
 
 pub new-requires-clause-multipliers : goal.new-requires-clause-multipliers
 new-requires-clause-multipliers g c =
