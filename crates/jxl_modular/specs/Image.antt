@@ -12,9 +12,8 @@ use Rattle.jxlm_tree.specs.declared.predictor.WpHeader.{WpHeader}
 use Rattle.jxlm_part.specs.Part.{Part}
 use Rattle.jxlm_part.specs.Progress.{grids_in}
 
--- whether a transform of its header is a palette, and a squeeze; the header's weights, the steps of its transforms,
--- its tree, the side of its groups, its bit depth, its own channels, its coded ones, the first nb_meta of them meta
--- channels, its buffers, and the coded channels' regions there
+-- what its header says (a palette, a squeeze, weights), the steps of its transforms, its tree, the side of its groups, its
+-- bit depth, its own channels, the coded ones, how many of them are meta, its buffers, and the coded channels' regions there
 pub record Image (S D : Type 0) : Type 0 where
   pub has_palette : Bool
   pub has_squeeze : Bool

@@ -15,8 +15,7 @@ use Rattle.jxlm_header.specs.Opening.{Opening}
 use Rattle.jxlm_nested.specs.Starts.{IsStartAt, IsTreeErrorAt, coded_part, opened}
 
 module _ {D : Type 0} (d : Meaning D) (w : Width) (global : Option (Config D)) (bytes : List ℕ) (stream : ℕ) (given : ChannelList) (p : ℕ) where
-  -- At bit position p, up to q, stands a picture of the given channels: header, MA tree, and the samples of the coded
-  -- channels. Its grids are the only ones that the header's transforms turn into these samples.
+  -- At bit p, up to q, stand header, MA tree and samples of a picture: its grids alone are transformed into these samples.
   pub record IsPicture (bit_depth : ℕ) (grids : List (Grid ℤ)) (q : ℕ) : Type 0 where
     pub head : Opening
     pub config : Config D

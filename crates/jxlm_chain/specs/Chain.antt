@@ -22,8 +22,7 @@ module _ (w : Width) (depth : ℕ) where
   Codes (SqueezeStep t) before after =
       All (AreGridSamples w) (range t.begin_c t.num_c before) × (after ≡ with_each_halved t (average_grid w t.horizontal) (residual_grid w t.horizontal) before)
 
-  -- The image, of the channels of a list, becomes the coded grids: between each two steps there are grids, for the
-  -- channels that the steps give.
+  -- The image, of the channels of a list, becomes the coded grids, by way of grids for the channels after each step.
   abbrev pub Chain : List Step → ChannelList → List (Grid ℤ) → List (Grid ℤ) → Type 0
   Chain [] l image coded = AreGridsOf l.channels image × (coded ≡ image)
   Chain (s ∷ ss) l image coded =

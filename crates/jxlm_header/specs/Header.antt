@@ -17,8 +17,7 @@ pub record Header : Type 0 where
   pub wp_params : WpHeader
   pub transform : List Transform
 
--- the flag of the global tree, the weights, and the transforms after their count, which is at most 273; palettes by these
--- tables
+-- the flag of the global tree, the weights, and after their count, at most 273, the transforms, with these tables
 abbrev pub header_by : PaletteTables → Grammar Header
 header_by tables = do
   use_global_tree ← flag

@@ -12,8 +12,7 @@ use Rattle.jxlm_transform.specs.Kinds.{is_palette, is_squeeze}
 use Rattle.jxlm_transform.specs.Transforms.{checked}
 use Rattle.jxlm_header.specs.Header.{Header, header_by}
 
--- whether the header uses the global tree, and whether a transform of it is a palette, and a squeeze; its weights, and what
--- its transforms come to: their steps, and the channels that are coded
+-- what a header says (global tree, a palette, a squeeze, weights), and the steps and channels that its transforms give
 pub record Opening : Type 0 where
   pub uses_global : Bool
   pub has_palette : Bool

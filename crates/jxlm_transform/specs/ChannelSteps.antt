@@ -52,16 +52,7 @@ rct_step t l = if has_range t.begin_c 3 l.channels && one_size (range t.begin_c 
 
 -- a table: a column for each colour, a row for each channel; its shifts are -1
 abbrev pub table_channel : ℕ → ℕ → Channel
-table_channel colours channels = record {
-  width = colours;
-  height = channels;
-  original_width = colours;
-  original_height = channels;
-  hshift = negsuc 0;
-  vshift = negsuc 0;
-  original_shift = Raw (negsuc 0) (negsuc 0);
-  palette_tables = OfColours;
-}
+table_channel colours channels = record { width = colours; height = channels; original_width = colours; original_height = channels; hshift = negsuc 0; vshift = negsuc 0; original_shift = Raw (negsuc 0) (negsuc 0); palette_tables = OfColours }
 
 -- channels of one size, all meta or none, become a table, which comes first and is meta, and a channel of indices
 abbrev pub palette_step : Palette → ChannelList → Result ChannelList ErrorKind

@@ -11,8 +11,7 @@ use Rattle.jxlm_transform.specs.declared.param.PaletteTables.TheVariants.{OfColo
 use Rattle.jxlm_transform.specs.Params.{IsSide, has_deltas}
 use Rattle.jxlm_transform.specs.Shifts as shifts
 
--- a channel as it is coded: its sides, those of its picture, its shifts (a table's are -1), and the shift and the tables of
--- palettes that it came with
+-- a coded channel: its sides, its picture's, its shifts (a table's are -1); the shift and tables of palettes it came with
 abbrev pub Channel : Type 0
 Channel = ModularChannelInfo
 
