@@ -1,6 +1,6 @@
 //! Files, decoded to pictures.
 
-use jxl_lossless::{Limits, Steps, decode_lossless};
+use jxl_lossless::{Limits, Progress, Steps, decode_lossless, decode_lossless_with};
 use jxl_picture::picture::Picture;
 use jxlcheck_text::{bytes, listed};
 use std::alloc::Global;
@@ -48,4 +48,29 @@ pub fn seen_of_beginnings(alloc: Global, asked: &str) -> Option<String> {
     let mut text = String::new(alloc);
     write!(text, "{decoded} of {}", file.len()).ok()?;
     Some(text)
+}
+
+/// How many sections were told of, and of how many the last of them was one.
+#[derive(Drop)]
+struct Told {
+    sections: u64,
+    of: usize,
+}
+
+impl Progress for Told {
+    fn section_decoded(&mut self, count: usize) {
+        self.sections = self.sections.saturating_add(1);
+        self.of = count;
+    }
+}
+
+/// A row asks with the bytes of a file. It gives how many sections of its frames were told of while it was decoded, and
+/// how many sections with samples the last of these frames has.
+pub fn seen_of_sections(alloc: Global, asked: &str) -> Option<String> {
+    let file = bytes(alloc, asked)?;
+    let mut told = Told { sections: 0, of: 0 };
+    let mut steps = Steps::new();
+    let limits = Limits::usual();
+    let _ = decode_lossless_with(alloc, &file, &limits, &mut steps, &mut told);
+    format!(in alloc; "{} of {}", told.sections, told.of).ok()
 }
