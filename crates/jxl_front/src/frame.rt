@@ -82,67 +82,77 @@ fn end_of(entries: &[TocEntry], most: u64) -> u64
     end
 }
 
-// The frame header, of a frame that is supported, at the start of these bytes of the codestream.
-fn read_header<D: Decoder>(
-    alloc: Global,
-    bytes: &[u8],
-    limits: &Limits,
-    image: &ImageHeader,
+/// Where a frame of a codestream begins, after others with so many cells.
+#[derive(Clone, Copy)]
+struct Start<'a> {
+    bytes: &'a [u8],
+    limits: &'a Limits,
+    image: &'a ImageHeader,
     start: usize,
     used: u64,
-    bits: &mut Bitstream<'_>,
-) -> Result<FrameHeader, FrontError>
-    requires next { IsNext D.meaning limits.now bytes.now (image_of image.now) start used }
-    requires many { channel_count (image_of image.now) ≤ 2 ^ 20 }
-    requires begin { position_of bits.old ≡ 0 }
-    requires lies { bytes_of bits.old ≡ drop start bytes.now }
-    ensures ok { IfOk result (λ f. FrameGoesOn D.meaning limits.now bytes.now (image_of image.now) start used
-        (frame_of f) (position_of bits.new)) }
-    ensures dim { IfOk result (λ f. IsGroupDim f.group_dim) }
-    ensures err { IfErr result (FrontFails D.meaning limits.now bytes.now) }
-    ensures bytes { bytes_of bits.new ≡ bytes_of bits.old }
-{
-    match FrameHeader::parse(alloc, bits, image) {
-        Ok(frame) => match frame.refused(image) {
-            Some(refusal) => Err(FrontError::Frame(refusal)),
-            None => {
-                if allows(limits, image, used, frame.size(image.size)) {
-                    Ok(frame)
-                } else {
-                    Err(FrontError::FramesTooLarge)
-                }
-            }
-        },
-        Err(error) => Err(FrontError::FrameHeader(error)),
-    }
 }
 
-// The table of contents of a frame, which stands after its header.
-fn read_contents<D: Decoder>(
-    alloc: Global,
-    bytes: &[u8],
-    limits: &Limits,
-    image: &ImageHeader,
-    start: usize,
-    used: u64,
-    header: &FrameHeader,
-    layout: &Layout,
-    bits: &mut Bitstream<'_>,
-) -> Result<Toc, FrontError>
-    requires goes { FrameGoesOn D.meaning limits.now bytes.now (image_of image.now) start used (frame_of header.now)
-        (position_of bits.old) }
-    requires cut { parts_of layout.now ≡ layout_in (image_of image.now) (frame_of header.now) }
-    requires short { 8 * length bytes.now < 2 ^ 64 }
-    requires lies { bytes_of bits.old ≡ drop start bytes.now }
-    ensures ok { IfOk result (λ t. ContentsStand D.meaning limits.now bytes.now (image_of image.now) used
-        (record { start = start; header = frame_of header.now; entries = t.entries.items })) }
-    ensures count { IfOk result (λ t. length t.entries.items
-        ≡ section_count_of (layout_in (image_of image.now) (frame_of header.now))) }
-    ensures err { IfErr result (FrontFails D.meaning limits.now bytes.now) }
-{
-    match Toc::parse::<D>(alloc, bits, layout.section_count()) {
-        Ok(toc) => Ok(toc),
-        Err(error) => Err(FrontError::Contents(error)),
+impl Start<'_> {
+    /// The frame header, of a frame that is supported.
+    fn read_header<D: Decoder>(
+        self,
+        alloc: Global,
+        bits: &mut Bitstream<'_>,
+    ) -> Result<FrameHeader, FrontError>
+        requires next { IsNext D.meaning self.limits.now self.bytes.now (image_of self.image.now) self.start self.used }
+        requires many { channel_count (image_of self.image.now) ≤ 2 ^ 20 }
+        requires begin { position_of bits.old ≡ 0 }
+        requires lies { bytes_of bits.old ≡ drop self.start self.bytes.now }
+        ensures ok { IfOk result (λ f. FrameGoesOn D.meaning self.entry.limits.now self.entry.bytes.now
+            (image_of self.entry.image.now) self.entry.start self.entry.used (frame_of f) (position_of bits.new)) }
+        ensures dim { IfOk result (λ f. IsGroupDim f.group_dim) }
+        ensures err { IfErr result (FrontFails D.meaning self.entry.limits.now self.entry.bytes.now) }
+        ensures bytes { bytes_of bits.new ≡ bytes_of bits.old }
+    {
+        match FrameHeader::parse(alloc, bits, self.image) {
+            Ok(frame) => match frame.refused(self.image) {
+                Some(refusal) => Err(FrontError::Frame(refusal)),
+                None => {
+                    if allows(
+                        self.limits,
+                        self.image,
+                        self.used,
+                        frame.size(self.image.size),
+                    ) {
+                        Ok(frame)
+                    } else {
+                        Err(FrontError::FramesTooLarge)
+                    }
+                }
+            },
+            Err(error) => Err(FrontError::FrameHeader(error)),
+        }
+    }
+
+    /// The table of contents of the frame, which stands after its header.
+    fn read_contents<D: Decoder>(
+        self,
+        alloc: Global,
+        header: &FrameHeader,
+        layout: &Layout,
+        bits: &mut Bitstream<'_>,
+    ) -> Result<Toc, FrontError>
+        requires goes { FrameGoesOn D.meaning self.limits.now self.bytes.now (image_of self.image.now) self.start
+            self.used (frame_of header.now) (position_of bits.old) }
+        requires cut { parts_of layout.now ≡ layout_in (image_of self.image.now) (frame_of header.now) }
+        requires short { 8 * length self.bytes.now < 2 ^ 64 }
+        requires lies { bytes_of bits.old ≡ drop self.start self.bytes.now }
+        ensures ok { IfOk result (λ t. ContentsStand D.meaning self.entry.limits.now self.entry.bytes.now
+            (image_of self.entry.image.now) self.entry.used
+            (record { start = self.entry.start; header = frame_of header.now; entries = t.entries.items })) }
+        ensures count { IfOk result (λ t. length t.entries.items
+            ≡ section_count_of (layout_in (image_of self.entry.image.now) (frame_of header.now))) }
+        ensures err { IfErr result (FrontFails D.meaning self.entry.limits.now self.entry.bytes.now) }
+    {
+        match Toc::parse::<D>(alloc, bits, layout.section_count()) {
+            Ok(toc) => Ok(toc),
+            Err(error) => Err(FrontError::Contents(error)),
+        }
     }
 }
 
@@ -171,13 +181,18 @@ impl FrameFront {
     {
         let rest = &bytes[start..];
         let mut bits = Bitstream::new(rest);
-        let header = read_header::<D>(alloc, bytes, limits, image, start, used, &mut bits)?;
+        let place = Start {
+            bytes,
+            limits,
+            image,
+            start,
+            used,
+        };
+        let header = place.read_header::<D>(alloc, &mut bits)?;
         let Some(layout) = Layout::new(header.size(image.size), header.group_dim, 1) else {
             return Err(FrontError::TooManySections);
         };
-        let toc = read_contents::<D>(
-            alloc, bytes, limits, image, start, used, &header, &layout, &mut bits,
-        )?;
+        let toc = place.read_contents::<D>(alloc, &header, &layout, &mut bits)?;
         if let Some(number) = toc.truncated(rest.len() as u64) {
             return Err(FrontError::TruncatedSection(number));
         }
