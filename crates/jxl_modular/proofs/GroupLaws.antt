@@ -27,7 +27,7 @@ use Rattle.jxlm_part.specs.Part.{cell_count}
 use Rattle.jxl_modular.specs.declared.groups.Part.{Part}
 use Rattle.jxl_modular.specs.declared.groups.Part.TheVariants as groups
 use Rattle.jxl_modular.specs.declared.groups.PartState.{PartState}
-use Rattle.jxl_modular.specs.declared.groups.Progress.{Progress}
+use Rattle.jxl_modular.specs.declared.groups.PartStates.{PartStates}
 use Rattle.jxl_modular.specs.declared.groups.TransformedGlobalModular.{TransformedGlobalModular}
 use Rattle.jxl_modular.specs.Groups.{KeepsOtherGrids, PartOfGives, channels_in, held_in}
 use Rattle.jxl_modular.specs.GroupParts.{KeepsOtherParts, channels_of, image_of, is_partial, or_new, passes_in, section_part, state_in, state_kept, state_of, steps_of}
@@ -122,7 +122,7 @@ module _ {S D : Type 0} (d : Meaning D) (w : Width) (to_int : S → ℤ) (bytes 
       (subst (λ (v : ℕ). PartOfGives d w to_int bytes stream passes name x p a m y q c v allow result) e6 h)))))
 
   -- what decoding a part with samples gives, from the state that was taken, with that which is put back
-  pub full_gives : (x : TransformedGlobalModular S D) (part : Part) (p q : ℕ) (s t : PartState) (y : Image S D) (allow : Bool) (result : Result (Unit {0}) Error) (passes : List Pass) (name : SectionPart) (progress : Progress) →
+  pub full_gives : (x : TransformedGlobalModular S D) (part : Part) (p q : ℕ) (s t : PartState) (y : Image S D) (allow : Bool) (result : Result (Unit {0}) Error) (passes : List Pass) (name : SectionPart) (progress : PartStates) →
       0 < cell_count (channels_of x part) → passes ≡ passes_in x → name ≡ section_part part → s ≡ state_of x part →
       state_kept progress part ≡ Some t → progress.passes.items ≡ passes_in x → SameButCells (image_of x) y →
       PartOfGives d w to_int bytes stream passes name (image_of x) p s.partial s.steps y q t.partial t.steps allow result →
@@ -140,7 +140,7 @@ module _ {S D : Type 0} (d : Meaning D) (w : Width) (to_int : S → ℤ) (bytes 
       (sym (ap (λ (v : PartState). v.steps) state)) h
 
   -- what decoding a part by a header of its own gives where it is out of memory at once
-  pub nested_refused : (x : TransformedGlobalModular S D) (part : Part) (p : ℕ) (nought : S) (global : Option (Config D)) (allow : Bool) (result : Result Bool Error) (e : Error) (progress : Progress) →
+  pub nested_refused : (x : TransformedGlobalModular S D) (part : Part) (p : ℕ) (nought : S) (global : Option (Config D)) (allow : Bool) (result : Result Bool Error) (e : Error) (progress : PartStates) →
       result ≡ Err e → error_kind e ≡ NoMemory → state_kept progress part ≡ state_kept x.progress part →
       NestedGives d w to_int nought (image_of x) (passes_in x) global bytes p (section_part part) stream allow result (image_of x).store (image_of x).store p (steps_of x part) (state_in progress part).steps
   nested_refused x part p nought global allow result e progress is memory same =
@@ -157,7 +157,7 @@ and_all : (a b c : Bool) → (a && (b && c)) ≡ ((a && b) && c)
 and_all true b c = refl
 and_all false b c = refl
 
-module _ {S D : Type 0} (x : TransformedGlobalModular S D) (part : Part) (s t : PartState) (y : Image S D) (progress : Progress) (result : Result Bool Error)
+module _ {S D : Type 0} (x : TransformedGlobalModular S D) (part : Part) (s t : PartState) (y : Image S D) (progress : PartStates) (result : Result Bool Error)
     (taken : s ≡ state_of x part) (put : state_kept progress part ≡ Some t) (kept : progress.passes.items ≡ passes_in x) (same : SameButCells (image_of x) y) where
   abbrev has_cells : Bool
   has_cells = nat_lt 0 (cell_count (channels_of x part))

@@ -22,7 +22,7 @@ use Rattle.jxl_modular.specs.contracts.groups.PartOrd.TheImpl as order
 use Rattle.jxl_modular.specs.declared.groups.Part.TheVariants as parts
 pub use Rattle.jxl_modular.specs.declared.groups.Part.{Part}
 use Rattle.jxl_modular.specs.declared.groups.PartState.{PartState}
-use Rattle.jxl_modular.specs.declared.groups.Progress.{Progress}
+use Rattle.jxl_modular.specs.declared.groups.PartStates.{PartStates}
 use Rattle.jxl_modular.specs.declared.groups.TransformedGlobalModular.{TransformedGlobalModular}
 
 -- the part among all parts of an image
@@ -44,10 +44,10 @@ or_new None = new_state
 or_new (Some s) = s
 
 -- what is kept of a part, which is something once its decode has begun, and its state
-abbrev pub state_kept : Progress → Part → Option PartState
+abbrev pub state_kept : PartStates → Part → Option PartState
 state_kept x part = get (order.ghosts).cmp x.states part
 
-abbrev pub state_in : Progress → Part → PartState
+abbrev pub state_in : PartStates → Part → PartState
 state_in x part = or_new (state_kept x part)
 
 module _ {S D : Type 0} where

@@ -77,9 +77,9 @@ impl PartState {
     }
 }
 
-/// The passes that an image is cut by, and how far its parts are decoded.
+/// The passes that an image is cut by, and the states of its parts.
 #[derive(Drop)]
-struct Progress {
+struct PartStates {
     passes: Vec<Pass>,
     // Of the parts whose decode began.
     states: BTreeMap<Part, PartState>,
@@ -89,7 +89,7 @@ struct Progress {
     ghost none: { no_steps ≡ 0 },
 }
 
-impl Progress {
+impl PartStates {
     ghost use Rattle.jxl_modular.specs.GroupParts.{Part, pass_count, state_in, state_kept};
 
     /// One more than the maximum number of a pass.
@@ -157,7 +157,7 @@ impl Progress {
 #[derive(Drop)]
 pub struct TransformedGlobalModular<'dest, S, D: Decoder> {
     image: &'dest mut ModularImageDestination<S, D>,
-    progress: Progress,
+    progress: PartStates,
 }
 
 impl<S: Sample, D: Decoder> ModularImageDestination<S, D> {
@@ -200,7 +200,7 @@ impl<S: Sample, D: Decoder> ModularImageDestination<S, D> {
         let passes = passes(alloc, pass_shifts)?;
         Ok(TransformedGlobalModular {
             image: self,
-            progress: Progress {
+            progress: PartStates {
                 passes,
                 states: BTreeMap::new(alloc),
                 no_steps: Steps::new(),
