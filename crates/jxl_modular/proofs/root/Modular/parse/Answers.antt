@@ -1,11 +1,12 @@
 use Rattle.std.proofs.Common.{arith, sym, ◌≡◌, ◌<◌, pos, List, [], length, rules, Err, Ok, ap, ◌∙◌, subst}
 use Rattle.std.specs.Option.{option_copied}
-use Rattle.std.specs.Prelude.{is_some}
+use Rattle.std.specs.Prelude.{Bool, is_some}
 use Rattle.jxlm_base.specs.Bits.{bytes_of, position_of}
 use Rattle.jxlm_chain.specs.declared.placed.PlacedChannels.{PlacedChannels}
 use Rattle.jxlm_nested.specs.Opened.{IsOpened, TreeOfGives, opened_of}
 use Rattle.jxl_modular.specs.Parsing.{ParseGives}
 use Rattle.jxlm_nested.specs.Starts.{opened}
+use Rattle.jxlm_header.specs.Opening.{opening}
 use Rattle.jxlm_header.specs.declared.header.ModularHeader.{ModularHeader}
 use Rattle.jxl_modular.proofs.ParsingLaws.{image_stands, same_list, tree_fails, not_zero, gives_image, gives_error}
 use Rattle.jxlm_nested.proofs.StartLaws.{lent_some}
@@ -80,7 +81,9 @@ returns-in_err-ma_ctx-clause-gives g c =
     let some : 0 < length ps = omega (arith, counted_some, params.channels.ok.0) in
     let given : list_of c.in_ok-given.given ≡ image_list ps = c.in_ok-given.ensures.ok ∙ ap (λ (cs : List ModularChannelParams). image_list cs) c.deref.ensures.value in
     let list : list_of c.in_ok-start.start.channels ≡ image_list ps = c.in_ok-start.ensures.list ∙ same_list c.deref-2.result.now c.in_ok-given.given ps c.deref-2.ensures.value given in
-    let opens : opened global bytes (image_list ps) p ≡ Ok (record { value = opened_of o; position = m }) = rw (has, list) at c.in_ok-header.ensures.gives in
+    let opens : opened global bytes (image_list ps) p ≡ Ok (record { value = opened_of o; position = m }) =
+    subst (λ (l : ChannelList). opened global bytes l p ≡ Ok (record { value = opened_of o; position = m })) list
+    (subst (λ (b : Bool). (opening b (list_of c.in_ok-start.start.channels)).read bytes p ≡ Ok (record { value = opened_of o; position = m })) has c.in_ok-header.ensures.gives) in
     let q = position_of c.tree_of.new.bits in
     let e = c.in_err-ma_ctx.field-0.0 in
     let tree : TreeOfGives d global bytes o.0.use_global_tree o.1.channels.info.items m (Err e) q = rw (c.in_ok-header.ensures.bytes, c.deref-3.ensures.value) at c.in_err-ma_ctx.ensures.gives in
@@ -103,7 +106,9 @@ returns-clause-gives g c =
     let some : 0 < length ps = omega (arith, counted_some, params.channels.ok.0) in
     let given : list_of c.in_ok-given.given ≡ image_list ps = c.in_ok-given.ensures.ok ∙ ap (λ (cs : List ModularChannelParams). image_list cs) c.deref.ensures.value in
     let list : list_of c.in_ok-start.start.channels ≡ image_list ps = c.in_ok-start.ensures.list ∙ same_list c.deref-2.result.now c.in_ok-given.given ps c.deref-2.ensures.value given in
-    let opens : opened global bytes (image_list ps) p ≡ Ok (record { value = opened_of o; position = m }) = rw (has, list) at c.in_ok-header.ensures.gives in
+    let opens : opened global bytes (image_list ps) p ≡ Ok (record { value = opened_of o; position = m }) =
+    subst (λ (l : ChannelList). opened global bytes l p ≡ Ok (record { value = opened_of o; position = m })) list
+    (subst (λ (b : Bool). (opening b (list_of c.in_ok-start.start.channels)).read bytes p ≡ Ok (record { value = opened_of o; position = m })) has c.in_ok-header.ensures.gives) in
     let q = position_of c.tree_of.new.bits in
     let tree : TreeOfGives d global bytes o.0.use_global_tree o.1.channels.info.items m (Ok c.in_ok-ma_ctx.ma_ctx) q = rw (c.in_ok-header.ensures.bytes, c.deref-3.ensures.value) at c.in_ok-ma_ctx.ensures.gives in
     let is = subst (λ l. c.in_ok-image.image ≡ fresh zero l (opened_of o) c.in_ok-ma_ctx.ma_ctx params.group_dim params.bit_depth) given c.in_ok-image.ensures.ok in
