@@ -198,10 +198,7 @@ impl PaletteTables {
     pub fn has_deltas(&self) -> bool
         ensures { result ≡ has_deltas self.now }
     {
-        match self {
-            PaletteTables::OfColours => false,
-            PaletteTables::OfDeltasToo => true,
-        }
+        matches!(self, PaletteTables::OfDeltasToo)
     }
 
     /// The columns of a palette of a header, which names at most 70911 colours and 66816 deltas.
