@@ -6,14 +6,13 @@ use Rattle.std.proofs.lemmas.List.{length-map, take_all}
 use Rattle.jxlm_base.specs.Bits.{bytes_of, position_of}
 use Rattle.jxlm_base.specs.Decoding.{Meaning}
 use Rattle.jxlm_base.specs.Grid.{Grid}
-use Rattle.jxlm_base.specs.Regions.{store_meanings}
 use Rattle.jxlm_base.specs.declared.decoder.DecoderError.{DecoderError}
 use Rattle.jxlm_base.proofs.Outside.{all_lie_still, keeps_all, keeps_both}
 use Rattle.jxlm_tree.specs.declared.state.PredictorState.{PredictorState}
 use Rattle.jxlm_part.specs.Inner.Channels.{StandsAfter, StandsIn, region_at}
 use Rattle.jxlm_part.specs.Inner.Levels.{IsAtRow, IsOnPath, IsReady}
 use Rattle.jxlm_part.specs.Inner.Paths.{is_walked}
-use Rattle.jxlm_part.specs.Inner.Progress.{GoesOn, Moment, Stops, TakesSteps, WalkGives, moment, place_of}
+use Rattle.jxlm_part.specs.Inner.Progress.{DecodesCells, FailsInCells, Moment, TakesSteps, WalkGives, moment, place_of}
 use Rattle.jxlm_part.specs.Inner.Rows.{IsAtCell, IsDecoding, IsDecodingPart, IsLine, RowGives, SetsRead, StandsInRow, region_on}
 use Rattle.jxlm_part.specs.declared.source.Source.{Source}
 use Rattle.jxlm_part.specs.Reading.{FindsClusters, HasRoom, cost_of, part_of, regions_of}
@@ -22,61 +21,58 @@ use Rattle.jxlm_part.specs.declared.rows.Line.{Line}
 use Rattle.jxlm_part.specs.declared.rows.RowError.{RowError}
 use Rattle.jxlm_part.specs.declared.source.Walk.{Walk}
 use Rattle.jxlm_part.proofs.CellLaws.{begins_row}
-use Rattle.jxlm_part.proofs.Loops.{goes_further, row_done, stays, stops_further, takes_further, takes_none, takes_some}
+use Rattle.jxlm_part.proofs.Loops.{row_done, takes_further, takes_some}
 use Rattle.jxlm_part.proofs.RowSees.{stands_below}
 use Rattle.jxlm_part.proofs.RowsOn.{row_keeps_rest, row_read, row_refused}
 
 -- ---- one after another
 
-module _ {D X : Type 0} (c : PartCoding D) (d : Meaning D) (w : Width) (to_int : X → ℤ) where
-  pub none_decoded : (from to : ℕ) (m : Moment D X) → from ≡ to → WalkGives c d w to_int from to (Ok tt) m m
-  none_decoded from to m same = record {
-    goes = stays d w (part_of c) (bytes_of m.source.bits) (regions_of c) (store_meanings to_int m.store) m.source.decoder (position_of m.source.bits) from to same;
-    work = subst (λ n. TakesSteps (cost_of c) from n m.source.steps m.source.steps) same (takes_none (cost_of c) from m.source.steps);
+module _ {D X : Type 0} {c : PartCoding D} {d : Meaning D} {w : Width} {to_int : X → ℤ} where
+  pub none_decoded : (from to : ℕ) (m : Moment D X) → from ≡ to → DecodesCells c d w to_int from to m m
+  none_decoded from to m same = subst (λ n. DecodesCells c d w to_int from n m m) same (record {
+    goes = λ decoder p before r. r;
+    work = omega arith;
     more = omega arith;
     keeps = keeps_all (regions_of c) m.store;
     clusters = refl;
     bytes = refl;
-  }
+  })
 
-  pub walks_on : (from middle to : ℕ) (result : Result (Unit {0}) DecoderError) (old now new : Moment D X) → WalkGives c d w to_int from middle (Ok tt) old now → WalkGives c d w to_int middle to result now new →
-      WalkGives c d w to_int from to result old new
-  walks_on from middle to (Ok u) old now new first next = record {
-    goes = goes_further d w (part_of c) (bytes_of old.source.bits) (regions_of c) (store_meanings to_int old.store) old.source.decoder (position_of old.source.bits)
-        from middle (store_meanings to_int now.store) now.source.decoder (position_of now.source.bits) first.goes to (store_meanings to_int new.store) new.source.decoder (position_of new.source.bits)
-        (subst (λ bytes. GoesOn d w (part_of c) bytes (regions_of c) middle to (store_meanings to_int now.store) now.source.decoder (position_of now.source.bits)
-        (store_meanings to_int new.store) new.source.decoder (position_of new.source.bits)) first.bytes next.goes);
-    work = takes_further (cost_of c) from middle to old.source.steps now.source.steps new.source.steps first.work next.work;
-    more = let a = first.more in let b = next.more in omega (arith, a, b);
-    keeps = keeps_both (regions_of c) old.store now.store new.store first.keeps next.keeps;
-    clusters = next.clusters ∙ first.clusters;
-    bytes = next.bytes ∙ first.bytes;
-  }
-  walks_on from middle to (Err e) old now new first next = record {
-    stops = stops_further d w (part_of c) (bytes_of old.source.bits) (regions_of c) (store_meanings to_int old.store) old.source.decoder (position_of old.source.bits)
-        from middle (store_meanings to_int now.store) now.source.decoder (position_of now.source.bits) first.goes (cost_of c) old.source.steps now.source.steps new.source.steps
-        (store_meanings to_int new.store) (position_of new.source.bits) e first.work
-        (subst (λ bytes. Stops d w (part_of c) bytes (regions_of c) (cost_of c) now.source.steps new.source.steps middle (store_meanings to_int now.store) now.source.decoder (position_of now.source.bits)
-        (store_meanings to_int new.store) (position_of new.source.bits) e) first.bytes next.stops);
-    more = let a = first.more in let b = next.more in omega (arith, a, b);
-    keeps = keeps_both (regions_of c) old.store now.store new.store first.keeps next.keeps;
-    memory = next.memory;
-    bytes = next.bytes ∙ first.bytes;
-  }
+  module _ {from middle : ℕ} {old now new : Moment D X} (first : DecodesCells c d w to_int from middle old now) where
+    pub decodes_on : {to : ℕ} → DecodesCells c d w to_int middle to now new → DecodesCells c d w to_int from to old new
+    decodes_on {to} next = record {
+      goes = λ decoder p before r. (simp first.bytes at next.goes) decoder p before (first.goes decoder p before r);
+      work = takes_further (cost_of c) from middle to old.source.steps now.source.steps new.source.steps first.work next.work;
+      more = let a = first.more in let b = next.more in omega (arith, a, b);
+      keeps = keeps_both (regions_of c) old.store now.store new.store first.keeps next.keeps;
+      clusters = next.clusters ∙ first.clusters;
+      bytes = next.bytes ∙ first.bytes;
+    }
 
-  -- the same, where the numbers are others but equal
-  pub walks_between : (from to a b : ℕ) (result : Result (Unit {0}) DecoderError) (old new : Moment D X) → from ≡ a → to ≡ b → WalkGives c d w to_int from to result old new → WalkGives c d w to_int a b result old new
-  walks_between from to a b result old new from_is to_is h =
-      subst (λ n. WalkGives c d w to_int n b result old new) from_is (subst (λ n. WalkGives c d w to_int from n result old new) to_is h)
+    pub fails_on : {e : DecoderError} → FailsInCells c d w to_int middle now new e → FailsInCells c d w to_int from old new e
+    fails_on next = record {
+      stops = λ decoder p before r.
+          let last = (simp first.bytes at next.stops) decoder p before (first.goes decoder p before r) in
+          (last.0, takes_further (cost_of c) from middle (suc last.0.count) old.source.steps now.source.steps new.source.steps first.work last.1);
+      more = let a = first.more in let b = next.more in omega (arith, a, b);
+      keeps = keeps_both (regions_of c) old.store now.store new.store first.keeps next.keeps;
+      memory = next.memory;
+      bytes = next.bytes ∙ first.bytes;
+    }
 
-  -- ---- what holds while a part is decoded holds afterwards
-
-  module _ (from to : ℕ) (old new : Moment D X) (first : WalkGives c d w to_int from to (Ok tt) old new) where
+  -- what holds while a part is decoded holds afterwards
+  module _ {from to : ℕ} {old new : Moment D X} (first : DecodesCells c d w to_int from to old new) where
     pub still_part : IsDecodingPart c old.store → IsDecodingPart c new.store
     still_part h = record { coding = h.coding; lie = all_lie_still (regions_of c) (regions_of c) old.store new.store first.keeps h.lie; apart = h.apart }
 
     pub still_ready : FindsClusters c (d.cluster_map old.source.decoder) → (state : PredictorState X) → HasRoom c state → IsReady d c (record { source = new.source; state = state })
     still_ready found state room = record { clusters = subst (FindsClusters c) (sym first.clusters) found; roomy = room }
+
+-- the same, where the numbers are others but equal
+pub walks_between : {D X : Type 0} (c : PartCoding D) (d : Meaning D) (w : Width) (to_int : X → ℤ) (from to a b : ℕ) (result : Result (Unit {0}) DecoderError) (old new : Moment D X) → from ≡ a → to ≡ b →
+    WalkGives c d w to_int from to result old new → WalkGives c d w to_int a b result old new
+walks_between c d w to_int from to a b result old new from_is to_is h =
+    subst (λ n. WalkGives c d w to_int n b result old new) from_is (subst (λ n. WalkGives c d w to_int from n result old new) to_is h)
 
 -- ---- a row
 
@@ -141,14 +137,14 @@ module _ {D X : Type 0} (l : Line X D) (d : Meaning D) (w : Width) (to_int : X �
         let goes = row_written (Ok u) (Ok tt) (sets.0, refl) old.source now.source gives in
         rw sets.1 (record {
           here = record {
-            part = still_part c d w to_int from to (moment old.source l.store.now) (moment now.source new) goes here.part;
+            part = still_part goes here.part;
             channel = here.channel;
             columns = here.columns;
           };
           gives = at.gives;
           allows = at.allows;
           steps = at.steps;
-          ready = still_ready c d w to_int from to (moment old.source l.store.now) (moment now.source new) goes at.ready.clusters now.state on.roomy;
+          ready = still_ready goes at.ready.clusters now.state on.roomy;
           within = on.within;
           stands = λ walked. begins_row c l.i to_int new (l.y + 1) now.state (stands_below c l.i l.y to_int l.store.now new row now.state here.part.lie here.channel below long sets.0 (on.stands walked));
         })

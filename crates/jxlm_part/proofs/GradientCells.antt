@@ -12,7 +12,7 @@ use Rattle.jxlm_base.specs.Numbers.{clamped_gradient, unpack}
 use Rattle.jxlm_base.specs.declared.decoder.DecoderError.{DecoderError}
 use Rattle.jxlm_ma.specs.declared.flat.Leaf.{Leaf}
 use Rattle.jxlm_part.specs.Coded.{sample_of}
-use Rattle.jxlm_part.specs.Inner.Paths.{AreGradients, IsPlain, gradient_in, gradient_rule, leaf_by, north_in, north_west_in, property_9_in, steps_by, west_in}
+use Rattle.jxlm_part.specs.Inner.Paths.{AreGradients, AreLeft, IsPlain, gradient_in, gradient_rule, leaf_by, north_in, north_west_in, property_9_in, steps_by, west_in}
 use Rattle.jxlm_part.specs.Inner.Rows.{FailsRow, ReadsCells}
 use Rattle.jxlm_part.specs.declared.source.Source.{Source}
 use Rattle.jxlm_part.specs.Rule.{Rule}
@@ -20,7 +20,7 @@ use Rattle.jxlm_part.specs.declared.gradient.Leaves.{Leaves}
 use Rattle.jxlm_part.proofs.RowReads.{cell_fails, cell_more}
 
 -- at a leaf that adds nothing more, tokens and predictions are added as samples
-plain_sample : (w : Width) (l : Leaf) (token : ℕ) (g : ℤ) → IsPlain l → sample_of w l g token ≡ int_wrap w (unpack token +ℤ g)
+pub plain_sample : (w : Width) (l : Leaf) (token : ℕ) (g : ℤ) → IsPlain l → sample_of w l g token ≡ int_wrap w (unpack token +ℤ g)
 plain_sample w l token g plain =
     let u : ℤ = unpack token in
     let one : u *ℤ pos 1 ≡ u = *ℤ_comm u (pos 1) ∙ suc_ℤ-*ℤ (pos 0) u ∙ ap (λ z. z +ℤ u) (zero-*ℤ u) ∙ +ℤ_idl u in
@@ -61,92 +61,120 @@ module _ (above row : List ℤ) where
       ∙ ap (λ z. int_wrap w32 (west_in above row x -ℤ z +ℤ north_in above (take x row) x)) (north_west_before x)
       ∙ ap (λ z. int_wrap w32 (west_in above row x -ℤ north_west_in above row x +ℤ get_or above x z)) (west_before x)
 
-  -- property 9 of the next cell, as the code computes it
-  pub property_9_is : (x : ℕ) (n w nw : ℤ) → x < length row → n ≡ north_in above row x → w ≡ west_in above row x → nw ≡ north_west_in above row x →
-      int_wrap w32 (w -ℤ nw +ℤ n) ≡ property_9_in above (take x row) (length (take x row))
-  property_9_is x n w nw inside hn hw hnw =
-      ap (λ z. int_wrap w32 (z -ℤ nw +ℤ n)) hw ∙ ap (λ z. int_wrap w32 (west_in above row x -ℤ z +ℤ n)) hnw
-      ∙ ap (λ z. int_wrap w32 (west_in above row x -ℤ north_west_in above row x +ℤ z)) hn
-      ∙ sym (ap (property_9_in above (take x row)) (length-take-le x row (omega arith)) ∙ property_9_before x)
-
-  -- the next cell's
-  pub west_next : (x : ℕ) (v : ℤ) → x < length row → v ≡ west_in above (slice_set row x v) (x + 1)
-  west_next x v inside =
-      let next : suc x ≡ x + 1 = omega arith in
-      subst (λ n. v ≡ west_in above (slice_set row x v) n) next (sym (get_or-set_same row x v (pos 0) inside))
-
-  pub north_west_is : (x : ℕ) (m v : ℤ) → m ≡ get_or above x v → v ≡ west_in above row (x + 1) → m ≡ north_west_in above row (x + 1)
-  north_west_is x m v is at =
-      let next : suc x ≡ x + 1 = omega arith in
-      subst (λ n. v ≡ west_in above row n → m ≡ north_west_in above row n) next (λ h. is ∙ ap (get_or above x) h) at
-
 -- a sample of the row above, or another in the first row, as the code has it
 pub sample_above_is : {X : Type 0} (to_int : X → ℤ) (above : List X) (x : ℕ) (n other : X) (e : ℤ) → n ≡ get_or above x other → to_int other ≡ e → to_int n ≡ get_or (map to_int above) x e
 sample_above_is to_int above x n other e is at = ap to_int is ∙ sym (get_or-map to_int above x other) ∙ ap (get_or (map to_int above) x) at
 
-module _ {X : Type 0} (w : Width) (to_int : X → ℤ) (from_int : ℤ → X) (back : (n : ℤ) → to_int (from_int n) ≡ n) (after : (z : ℤ) → int_wrap w (int_wrap w32 z) ≡ int_wrap w z)
-    (l : Leaf) (plain : IsPlain l) (A R : List ℤ) (x : ℕ) (inside : x < length R) where
-  -- The sample of a token over the clamped gradient, as the code computes it.
-  pub gradient_sample : (token : ℕ) (n west nw u g v : X) → to_int n ≡ north_in A R x → to_int west ≡ west_in A R x → to_int nw ≡ north_west_in A R x →
-      u ≡ from_int (int_wrap w (unpack token)) → g ≡ from_int (clamped_gradient (to_int n) (to_int west) (to_int nw)) → v ≡ from_int (int_wrap w (to_int u +ℤ to_int g)) →
-      to_int v ≡ sample_of w l (gradient_in A (take x R) (length (take x R))) token
-  gradient_sample token n west nw u g v north hw hnw hu hg hv =
-      let iu : to_int u ≡ int_wrap w (unpack token) = ap to_int hu ∙ back (int_wrap w (unpack token)) in
-      let ig : to_int g ≡ clamped_gradient (north_in A R x) (west_in A R x) (north_west_in A R x) =
-      ap to_int hg ∙ back (clamped_gradient (to_int n) (to_int west) (to_int nw)) ∙ ap (λ z. clamped_gradient z (to_int west) (to_int nw)) north
-      ∙ ap (λ z. clamped_gradient (north_in A R x) z (to_int nw)) hw ∙ ap (clamped_gradient (north_in A R x) (west_in A R x)) hnw in
-      ap to_int hv ∙ back (int_wrap w (to_int u +ℤ to_int g)) ∙ ap (λ z. int_wrap w (z +ℤ to_int g)) iu ∙ ap (λ z. int_wrap w (int_wrap w (unpack token) +ℤ z)) ig
-      ∙ sym (reduced_sample w l token (clamped_gradient (north_in A R x) (west_in A R x) (north_west_in A R x)) plain after)
-      ∙ ap (λ z. sample_of w l z token) (sym (gradient_next_is A R x inside))
+-- before column 0
+pub left_first : {X : Type 0} {to_int : X → ℤ} {above row : List X} (w none : X) → w ≡ get_or above 0 none → to_int none ≡ pos 0 → AreLeft to_int above row 0 w w
+left_first {to_int = to_int} {above = above} w none is zero_is = let west = sample_above_is to_int above 0 w none (pos 0) is zero_is in record { west = west; north_west = west }
 
--- ---- the loop over the cells of a row
+-- ---- the cell in column x of a row: what is to the left of it, and the sample above it
 
--- `start` is where the row began, `old` where the reader is at column x, `new` where it is after the next token.
-module _ {D X : Type 0} (d : Meaning D) (law : IsLawful d) (w : Width) (to_int : X → ℤ) (leaves : Leaves) (widest : ℕ) (above : List ℤ) (start old : Source D) (row : List X) (x : ℕ)
-    (grads : AreGradients (d.cluster_map start.decoder) leaves) (inside : x < length row) where
-  abbrev rule : Rule D
-  rule = gradient_rule d w (bytes_of start.bits) widest leaves above
+module _ {X : Type 0} {to_int : X → ℤ} {above row : List X} {x : ℕ} {w nw : X} (left : AreLeft to_int above row x w nw) (inside : x < length row) where
+  abbrev A : List ℤ
+  A = map to_int above
 
   abbrev R : List ℤ
   R = map to_int row
 
-  abbrev leaf : Leaf
-  leaf = leaf_by leaves (property_9_in above (take x R) (length (take x R)))
-
   in_row : x < length R
   in_row = let m = length-map row to_int in omega (arith, m, inside)
 
-  module _ (h : ReadsCells d (steps_by leaves) rule R x start old) (k : ℕ) (is : k ≡ leaf.cluster) where
-    -- the cluster that was looked up is one of the decoder's
-    pub known_now : Contains (d.cluster_map old.decoder) k
-    known_now = rw (is, h.clusters) (grads.known _ (SFits-int_wrap w32 _))
+  -- once a sample is in the column, that is to the left of the next one
+  pub left_next : (v m : X) → m ≡ get_or above x v → AreLeft to_int above (slice_set row x v) (x + 1) v m
+  left_next v m is =
+      let next : suc x ≡ x + 1 = omega arith in
+      let west : to_int v ≡ west_in A (map to_int (slice_set row x v)) (suc x) = sym (get_or-set_same R x (to_int v) (pos 0) in_row) ∙ ap (λ r. get_or r x (pos 0)) (sym (map-set to_int row x v)) in
+      subst (λ k. AreLeft to_int above (slice_set row x v) k v m) next (record { west = west; north_west = sample_above_is to_int above x m v _ is west })
 
-    -- so its read is that of the leaf
-    read_at_leaf : (r : Result (Taken ℕ D) DecoderError) → d.read old.decoder (bytes_of old.bits) (position_of old.bits) k widest ≡ r → d.read old.decoder (bytes_of start.bits) (position_of old.bits) leaf.cluster widest ≡ r
-    read_at_leaf r read = rw (← is, ← h.bytes) read
+  module _ (n : X) (up : n ≡ get_or above x w) where
+    north : to_int n ≡ north_in A R x
+    north = sample_above_is to_int above x n w _ up left.west
 
-    module _ (new : Source D) (same : bytes_of new.bits ≡ bytes_of old.bits) (step : new.steps ≡ old.steps + steps_by leaves) where
-      -- the token of one more was read
-      pub below_more : (token : ℕ) (v : X) → d.read old.decoder (bytes_of old.bits) (position_of old.bits) k widest ≡ Ok (record { value = token; state = new.decoder; position = position_of new.bits }) →
-          to_int v ≡ sample_of w leaf (gradient_in above (take x R) (length (take x R))) token → ReadsCells d (steps_by leaves) rule (map to_int (slice_set row x v)) (x + 1) start new
-      below_more token v read value = cell_more d (steps_by leaves) rule start R x old in_row h new (map to_int (slice_set row x v)) (record {
-        token = token;
-        read = read_at_leaf _ read;
-        written = map-set to_int row x v ∙ ap (slice_set R x) value;
-        clusters = (law.read_keeps old.decoder (bytes_of old.bits) (position_of old.bits) k widest _ known_now read).clusters;
-        bytes = same;
-        work = omega (arith, step);
-        more = omega (arith, step);
-      })
+    -- property 9, as the code computes it
+    pub property_9_is : int_wrap w32 (to_int w -ℤ to_int nw +ℤ to_int n) ≡ property_9_in A (take x R) (length (take x R))
+    property_9_is =
+        rw (left.west, left.north_west, north)
+        (sym (ap (property_9_in A (take x R)) (length-take-le x R (omega (arith, in_row))) ∙ property_9_before A R x))
 
-      -- its read returned an error
-      pub below_ends : (e : DecoderError) → d.read old.decoder (bytes_of old.bits) (position_of old.bits) k widest ≡ Err e → position_of new.bits ≡ position_of old.bits → FailsRow d (steps_by leaves) rule R start new (record { column = x; error = e })
-      below_ends e read place = cell_fails d (steps_by leaves) rule start R x old in_row h new R e (record {
-        error = read_at_leaf _ read;
-        row_is = refl;
-        place_is = place;
-        memory = λ out. law.read_memory old.decoder (bytes_of old.bits) (position_of old.bits) k widest known_now (read ∙ ap Err out);
-        bytes = same;
-        work = omega (arith, step);
-        more = omega (arith, step);
-      })
+    -- the sample of a token over the clamped gradient, as the code computes it
+    pub gradient_sample : (width : Width) (from_int : ℤ → X) → ((z : ℤ) → to_int (from_int z) ≡ z) → ((z : ℤ) → int_wrap width (int_wrap w32 z) ≡ int_wrap width z) → (l : Leaf) → IsPlain l →
+        (token : ℕ) (u g v : X) → u ≡ from_int (int_wrap width (unpack token)) → g ≡ from_int (clamped_gradient (to_int n) (to_int w) (to_int nw)) → v ≡ from_int (int_wrap width (to_int u +ℤ to_int g)) →
+        to_int v ≡ sample_of width l (gradient_in A (take x R) (length (take x R))) token
+    gradient_sample width from_int back after l plain token u g v hu hg hv =
+        let iu : to_int u ≡ int_wrap width (unpack token) = ap to_int hu ∙ back (int_wrap width (unpack token)) in
+        let ig : to_int g ≡ clamped_gradient (north_in A R x) (west_in A R x) (north_west_in A R x) =
+        ap to_int hg ∙ back (clamped_gradient (to_int n) (to_int w) (to_int nw)) ∙ rw (left.west, left.north_west, north) refl in
+        ap to_int hv ∙ back (int_wrap width (to_int u +ℤ to_int g)) ∙ rw (iu, ig) refl
+        ∙ sym (reduced_sample width l token (clamped_gradient (north_in A R x) (west_in A R x) (north_west_in A R x)) plain after)
+        ∙ ap (λ z. sample_of width l z token) (sym (gradient_next_is A R x in_row))
+
+-- ---- the loop over the cells of a row
+
+-- The cells before column x of a row were read below the row above, from `start` to `old`; these are to the left of it.
+pub record ReadsBelow {D X : Type 0} (d : Meaning D) (width : Width) (to_int : X → ℤ) (leaves : Leaves) (widest : ℕ) (above : List X) (start : Source D) (row : List X) (x : ℕ) (w nw : X) (old : Source D) :
+    Type 0 where
+  pub reads : ReadsCells d (steps_by leaves) (gradient_rule d width (bytes_of start.bits) widest leaves (map to_int above)) (map to_int row) x start old
+  pub left : AreLeft to_int above row x w nw
+
+-- k is the cluster of the cell in that column
+module _ {D X : Type 0} {d : Meaning D} {width : Width} {to_int : X → ℤ} {leaves : Leaves} {widest : ℕ} {above row : List X} {start old : Source D} {x : ℕ} {w nw : X} (law : IsLawful d)
+    (grads : AreGradients (d.cluster_map start.decoder) leaves) (inside : x < length row) (h : ReadsBelow d width to_int leaves widest above start row x w nw old) (n : X) (up : n ≡ get_or above x w) (k : ℕ)
+    (looked_up : k ≡ (leaf_by leaves (int_wrap w32 (to_int w -ℤ to_int nw +ℤ to_int n))).cluster) where
+  abbrev rule : Rule D
+  rule = gradient_rule d width (bytes_of start.bits) widest leaves (map to_int above)
+
+  abbrev cells : List ℤ
+  cells = map to_int row
+
+  abbrev property_9 : ℤ
+  property_9 = property_9_in (map to_int above) (take x cells) (length (take x cells))
+
+  within : x < length cells
+  within = let m = length-map row to_int in omega (arith, m, inside)
+
+  is : k ≡ (leaf_by leaves property_9).cluster
+  is = looked_up ∙ ap (λ z. (leaf_by leaves z).cluster) (property_9_is h.left inside n up)
+
+  -- the cluster is one of the decoder's
+  pub known_now : Contains (d.cluster_map old.decoder) k
+  known_now = rw (is, h.reads.clusters) (grads.known _ (SFits-int_wrap w32 _))
+
+  -- so its read is that of the leaf
+  read_at_leaf : (r : Result (Taken ℕ D) DecoderError) → d.read old.decoder (bytes_of old.bits) (position_of old.bits) k widest ≡ r → rule.read (take x cells) old.decoder (position_of old.bits) ≡ r
+  read_at_leaf r read = rw (← is, ← h.reads.bytes) read
+
+  module _ (new : Source D) (same : bytes_of new.bits ≡ bytes_of old.bits) (step : new.steps ≡ old.steps + steps_by leaves) where
+    -- the token of one more was read, and its sample is in the column
+    pub below_more : (from_int : ℤ → X) → ((z : ℤ) → to_int (from_int z) ≡ z) → ((z : ℤ) → int_wrap width (int_wrap w32 z) ≡ int_wrap width z) → (token : ℕ) (u g v m : X) →
+        d.read old.decoder (bytes_of old.bits) (position_of old.bits) k widest ≡ Ok (record { value = token; state = new.decoder; position = position_of new.bits }) →
+        u ≡ from_int (int_wrap width (unpack token)) → g ≡ from_int (clamped_gradient (to_int n) (to_int w) (to_int nw)) → v ≡ from_int (int_wrap width (to_int u +ℤ to_int g)) →
+        m ≡ get_or above x v → ReadsBelow d width to_int leaves widest above start (slice_set row x v) (x + 1) v m new
+    below_more from_int back after token u g v m read hu hg hv hm =
+        let plain = grads.plain property_9 in
+        let value = gradient_sample h.left inside n up width from_int back after (leaf_by leaves property_9) (record { offset = plain.1.0; multiplier = plain.1.1 }) token u g v hu hg hv in
+        record {
+          reads = cell_more d (steps_by leaves) rule start cells x old within h.reads new (map to_int (slice_set row x v)) (record {
+            token = token;
+            read = read_at_leaf _ read;
+            written = map-set to_int row x v ∙ ap (slice_set cells x) value;
+            clusters = (law.read_keeps old.decoder (bytes_of old.bits) (position_of old.bits) k widest _ known_now read).clusters;
+            bytes = same;
+            work = omega (arith, step);
+            more = omega (arith, step);
+          });
+          left = left_next h.left inside v m hm;
+        }
+
+    -- its read returned an error
+    pub below_ends : (e : DecoderError) → d.read old.decoder (bytes_of old.bits) (position_of old.bits) k widest ≡ Err e → position_of new.bits ≡ position_of old.bits → FailsRow d (steps_by leaves) rule cells start new (record { column = x; error = e })
+    below_ends e read place = cell_fails d (steps_by leaves) rule start cells x old within h.reads new cells e (record {
+      error = read_at_leaf _ read;
+      row_is = refl;
+      place_is = place;
+      memory = λ out. law.read_memory old.decoder (bytes_of old.bits) (position_of old.bits) k widest known_now (read ∙ ap Err out);
+      bytes = same;
+      work = omega (arith, step);
+      more = omega (arith, step);
+    })

@@ -1,20 +1,17 @@
 -- What the loops of decoding keep: one cell more, one row more, one channel more.
-use Rattle.std.proofs.Common.{◌≡◌, ℕ, zero, suc, ◌+◌, ◌*◌, ◌<◌, ◌≤◌, List, [], ◌∷◌, length, refl, sym, ap, ◌∙◌, subst, arith, ℤ}
-use Rattle.std.specs.Prelude.{Result, Ok, Err, IfErr, OnOk}
-use Rattle.std.specs.Int.{Width}
+use Rattle.std.proofs.Common.{◌≡◌, ℕ, zero, suc, ◌+◌, ◌*◌, ◌<◌, ◌≤◌, List, [], ◌∷◌, length, refl, sym, ap, ◌∙◌, arith, ℤ}
+use Rattle.std.specs.Prelude.{Result, Ok, Err, OnOk}
 use Rattle.std.proofs.lemmas.List.{length-append}
 use Rattle.std.proofs.Math.Seq.{take-length}
 use Rattle.std.proofs.lemmas.List.Sums.{sum_by-cons}
-use Rattle.jxlm_base.specs.Decoding.{Meaning}
 use Rattle.jxlm_base.specs.Grid.{Grid}
 use Rattle.jxlm_base.specs.Regions.{grid_of}
-use Rattle.jxlm_base.specs.declared.decoder.DecoderError.{DecoderError}
 use Rattle.jxlm_base.specs.declared.subgrid.Region.{Region}
 use Rattle.jxlm_base.proofs.Regions.{IsFull-grid_of}
 use Rattle.jxlm_transform.specs.Channels.{AreGridsOf, AreRegionsOf, Channel, area}
 use Rattle.jxlm_part.specs.Part.{Part, channel, cell_count, cells_before, cells_of, grid as grid_at}
 use Rattle.jxlm_part.specs.Progress.{grids_in}
-use Rattle.jxlm_part.specs.Inner.Progress.{Reached, place_of, GoesOn, Stops, TakesSteps}
+use Rattle.jxlm_part.specs.Inner.Progress.{place_of, TakesSteps}
 use Rattle.jxlm_part.specs.Inner.Channels.{region_at}
 use Rattle.jxlm_part.proofs.Places.{before_suc}
 
@@ -55,19 +52,12 @@ all_cells (c ∷ cs) (g ∷ gs) fit =
 sums_within : (a b c s t u : ℕ) → t + a ≤ s + b → u + b ≤ t + c → u + a ≤ s + c
 sums_within a b c s t u h k = omega (arith, h, k)
 
-pub takes_none : (cost k before : ℕ) → TakesSteps cost k k before before
-takes_none cost k before = omega arith
-
 pub takes_some : (cost k n before after : ℕ) → after ≤ before + n * cost → TakesSteps cost k (k + n) before after
 takes_some cost k n before after h = omega (arith, h)
 
 -- ---- results
 
--- what follows from an error, and from its absence
-pub err_so : {A E : Type 0} (r : Result A E) (P Q : E → Type 0) → ((e : E) → P e → Q e) → IfErr r P → IfErr r Q
-err_so (Ok a) P Q so h = h
-err_so (Err e) P Q so h = so e h
-
+-- what follows from the absence of an error
 pub ok_so : {A E : Type 0} (r : Result A E) (P Q : Type 0) → (P → Q) → OnOk r P → OnOk r Q
 ok_so (Ok a) P Q so h = so h
 ok_so (Err e) P Q so h = h
@@ -142,27 +132,3 @@ module _ (part : Part) (regions : List Region) (sizes : AreRegionsOf part.channe
 
   pub all_done : cells_before part.channels (length regions) ≡ cell_count part.channels
   all_done = ap (cells_before part.channels) (sym (same_count part.channels regions sizes)) ∙ ap cell_count (take-length part.channels)
-
-module _ {S : Type 0} (d : Meaning S) (w : Width) (part : Part) (bytes : List ℕ) (regions : List Region) where
-  -- ---- one after another
-
-  module _ (store : List (Grid ℤ)) (s : S) (p : ℕ) where
-    pub stays : (from to : ℕ) → from ≡ to → GoesOn d w part bytes regions from to store s p store s p
-    stays from to same decoder p0 old r = subst (λ n. Reached d w part bytes decoder p0 old n (grids_in regions store) s p) same r
-
-    module _ (from middle : ℕ) (store' : List (Grid ℤ)) (s' : S) (p' : ℕ) (first : GoesOn d w part bytes regions from middle store s p store' s' p') where
-      -- the same, where the numbers are others but equal
-      pub goes_between : (from' to' : ℕ) → from' ≡ from → middle ≡ to' → GoesOn d w part bytes regions from' to' store s p store' s' p'
-      goes_between from' to' a b decoder p0 old r =
-          subst (λ n. Reached d w part bytes decoder p0 old n (grids_in regions store') s' p') b
-          (first decoder p0 old (subst (λ n. Reached d w part bytes decoder p0 old n (grids_in regions store) s p) a r))
-
-      pub goes_further : (to : ℕ) (store'' : List (Grid ℤ)) (s'' : S) (p'' : ℕ) → GoesOn d w part bytes regions middle to store' s' p' store'' s'' p'' →
-          GoesOn d w part bytes regions from to store s p store'' s'' p''
-      goes_further to store'' s'' p'' second decoder p0 old r = second decoder p0 old (first decoder p0 old r)
-
-      pub stops_further : (cost before then after : ℕ) (store'' : List (Grid ℤ)) (p'' : ℕ) (e : DecoderError) → TakesSteps cost from middle before then →
-          Stops d w part bytes regions cost then after middle store' s' p' store'' p'' e → Stops d w part bytes regions cost before after from store s p store'' p'' e
-      stops_further cost before then after store'' p'' e work second decoder p0 old r =
-          let last = second decoder p0 old (first decoder p0 old r) in
-          (last.0, takes_further cost from middle (suc last.0.count) before then after work last.1)

@@ -1,5 +1,5 @@
 -- From a row that was read and written to the part that was decoded further.
-use Rattle.std.proofs.Common.{◌≡◌, ℕ, suc, ◌+◌, ◌*◌, ◌<◌, ◌≤◌, List, ◌++◌, length, take, drop, map, Ok, Err, refl, sym, ap, ◌∙◌, subst, arith, ℤ}
+use Rattle.std.proofs.Common.{◌≡◌, ℕ, suc, ◌+◌, ◌*◌, ◌<◌, ◌≤◌, List, ◌++◌, length, take, drop, map, Ok, Err, sym, ap, ◌∙◌, subst, arith, ℤ}
 use Rattle.std.specs.Prelude.{slice_set, Result, IfErr}
 use Rattle.std.specs.Int.{Width}
 use Rattle.std.proofs.lemmas.List.{drop-drop, length-append, length-map, length-take-le, take-map, take-take, take_all, take_at}
@@ -18,7 +18,7 @@ use Rattle.jxlm_part.specs.Inner.Channels.{region_at}
 use Rattle.jxlm_part.specs.Inner.Rows.{SetsRead, first_columns, rule_after}
 use Rattle.jxlm_part.specs.Rule.{Rule, CodedPrefix}
 use Rattle.jxlm_part.specs.declared.rows.RowError.{RowError}
-use Rattle.jxlm_part.proofs.Loops.{all_cells, goes_between, grid_in, row_done, same_count, same_size, takes_some}
+use Rattle.jxlm_part.proofs.Loops.{all_cells, grid_in, row_done, same_count, same_size, takes_some}
 use Rattle.jxlm_part.proofs.Prefixes.{prefix_after, prefix_same}
 use Rattle.jxlm_part.proofs.RowWrites.{cells_written, drop_written, first_cells, fits_written, row_grids, row_keeps, row_within, with_row_of}
 
@@ -131,9 +131,8 @@ module _ {S : Type 0} (d : Meaning S) (w : Width) (part : Part) (bytes : List �
       row_read t q sets reads =
           let width : ℕ = (region_at regions i).width in
           let all : length (map to_int row) ≡ width = length-map row to_int ∙ long in
-          goes_between d w part bytes regions ints s p (place_of part i 0 y) (place_of part i width y) (store_meanings to_int new) t q
+          subst (λ k. GoesOn d w part bytes regions (place_of part i 0 y) k ints s p (store_meanings to_int new) t q) (row_done part regions sizes i y li)
           (row_goes_on row width long (omega arith) sets t q (subst (λ n. CodedPrefix row_rule (map to_int row) s p n t q) all reads))
-          (place_of part i 0 y) (place_of part i 0 (y + 1)) refl (row_done part regions sizes i y li)
 
       pub row_refused : (x : ℕ) (e : DecoderError) (t : S) (q : ℕ) → SetsRow (first_columns (region_at regions i) x) y (take x row) store new → x < length (map to_int row) →
           CodedPrefix row_rule (map to_int row) s p x t q → row_rule.read (take x (map to_int row)) t q ≡ Err e →

@@ -94,7 +94,8 @@ fn decode_rows<'x, S: Sample, D: Decoder>(
     requires long { length row.old ≡ (region_at (regions_of coding.now) i).width }
     requires at { IsAtRow D.meaning coding.now walk.old S.to_int store.old path i 0 }
     ensures gives { WalkGives coding.now D.meaning S.width S.to_int
-        (cells_before (part_of coding.now).channels i) (cells_before (part_of coding.now).channels (i + 1)) result
+        (place_of (part_of coding.now) i 0 0)
+        (place_of (part_of coding.now) i 0 (region_at (regions_of coding.now) i).height) result
         (moment walk.old.source store.old) (moment walk.new.source store.new) }
     ensures at { OnOk result (IsAtRow D.meaning coding.now walk.new S.to_int store.new path.entry i
         (region_at (regions_of coding.now) i).height) }

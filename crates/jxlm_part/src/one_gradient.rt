@@ -6,7 +6,7 @@ ghost use Rattle.std.specs.Prelude.{◌≡◌, ◌+◌, ◌<◌, ◌≤◌, map,
 ghost use Rattle.jxlm_base.specs.Bits.{bytes_of};
 ghost use Rattle.jxlm_ma.specs.declared.flat.Leaf.{Leaf};
 ghost use Rattle.jxlm_part.specs.Coded.{sample_of};
-ghost use Rattle.jxlm_part.specs.Inner.Paths.{IsPlain, gradient_in, gradient_rule, north_west_in, west_in};
+ghost use Rattle.jxlm_part.specs.Inner.Paths.{AreLeft, IsPlain, gradient_in, gradient_rule};
 ghost use Rattle.jxlm_part.specs.Inner.Rows.{MakesCells, ReadsRow, StretchGives};
 ghost use Rattle.jxlm_part.specs.declared.gradient.Leaves.TheVariants.{One};
 
@@ -22,8 +22,7 @@ use jxlm_ma::flat::Leaf;
 fn neighbours<S: Sample, const FIRST: bool>(above: &[S], row: &[S], from: usize) -> (S, S)
     requires inside { from < length row.now }
     requires above { length above.now ≡ (if FIRST then 0 else length row.now) }
-    ensures west { S.to_int result.0 ≡ west_in (map S.to_int above.now) (map S.to_int row.now) from }
-    ensures north_west { S.to_int result.1 ≡ north_west_in (map S.to_int above.now) (map S.to_int row.now) from }
+    ensures { AreLeft S.to_int above.now row.now from result.0 result.1 }
 {
     if from == 0 {
         let w = sample_above::<S, FIRST>(above, 0, S::from_i32(0));

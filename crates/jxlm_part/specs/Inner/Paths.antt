@@ -1,5 +1,5 @@
 -- How the rows of a channel are read, and the cells of a row.
-use Rattle.std.specs.Prelude.{◌≡◌, ℕ, zero, suc, ◌+◌, ◌≤◌, ℤ, pos, ◌+ℤ◌, ◌-ℤ◌, FitsSigned, List, [], length, get_or, Bool, true, false, Contains}
+use Rattle.std.specs.Prelude.{◌≡◌, ℕ, zero, suc, ◌+◌, ◌≤◌, ℤ, pos, ◌+ℤ◌, ◌-ℤ◌, FitsSigned, List, [], length, map, get_or, Bool, true, false, Contains}
 use Rattle.std.specs.Int.{Width, w32, int_wrap}
 use Rattle.jxlm_base.specs.Decoding.{Meaning}
 use Rattle.jxlm_base.specs.Grid.{Grid, row as grid_row}
@@ -109,6 +109,11 @@ module _ (above row : List ℤ) where
   -- property 9: west less north west plus north, reduced to 32 bits
   abbrev pub property_9_in : ℕ → ℤ
   property_9_in x = int_wrap w32 (west_in x -ℤ north_west_in x +ℤ north_in x)
+
+-- two samples are those to the left of column x of a row, and above that one
+pub record AreLeft {X : Type 0} (to_int : X → ℤ) (above row : List X) (x : ℕ) (w nw : X) : Type 0 where
+  pub west : to_int w ≡ west_in (map to_int above) (map to_int row) x
+  pub north_west : to_int nw ≡ north_west_in (map to_int above) (map to_int row) x
 
 -- the row above row y of a grid; none above the first
 abbrev pub row_above : Grid ℤ → ℕ → List ℤ

@@ -2,11 +2,11 @@ use Rattle.std.proofs.Common.{◌≡◌, ℕ, ◌+◌, ◌<◌, sym, subst, arit
 use Rattle.std.proofs.lemmas.List.{length-take-le}
 use Rattle.jxlm_tree.specs.declared.state.PredictorState.{PredictorState}
 use Rattle.jxlm_part.specs.Inner.Channels.{IsAfterChannel, region_at}
-use Rattle.jxlm_part.specs.Inner.Progress.{moment}
+use Rattle.jxlm_part.specs.Inner.Progress.{place_of}
 use Rattle.jxlm_part.specs.Reading.{part_of, regions_of}
 use Rattle.jxlm_part.specs.declared.coding.PartCoding.{PartCoding}
-use Rattle.jxlm_part.proofs.Decoding.{at_first_row, none_decoded}
-use Rattle.jxlm_part.proofs.Loops.{channel_empty, channel_flat, ok_so}
+use Rattle.jxlm_part.proofs.Decoding.{at_first_row, none_decoded, walks_between}
+use Rattle.jxlm_part.proofs.Loops.{channel_begins, channel_done, channel_empty, channel_flat, ok_so}
 use Rattle.jxlm_part.proofs.Starting.{after_channel, fits_widest}
 use Rattle.jxlm_part.proofs.decode.decode_channel.Goals.{then-region-eq0-via-then-region-eq0, then-region-eq0-via-else-region-eq0+then-region-eq0-2}
 use Rattle.jxlm_part.proofs.decode.decode_channel.Goals as goal
@@ -48,7 +48,7 @@ decode_rows-requires-clause-at g c κs within =
 
 pub returns-then-region-eq0-clause-gives : goal.returns-then-region-eq0-clause-gives
 returns-then-region-eq0-clause-gives g c =
-    none_decoded c.args.coding.now g.D.Decoder.meaning g.S.Sealed.width g.S.Sealed.to_int _ _ (moment c.args.walk.now.source c.args.store.now)
+    none_decoded _ _ _
     (elim c.then-region-eq0.branch [
       | then-region-eq0-via-then-region-eq0 w ↦
           channel_empty (part_of c.args.coding.now) (regions_of c.args.coding.now) c.requires.at.part.coding.sizes c.args.i c.requires.channel w.if-region-eq0.true
@@ -65,6 +65,12 @@ returns-then-region-eq0-clause-at g c = record {
     | then-region-eq0-via-else-region-eq0+then-region-eq0-2 w ↦ no_rows c.args.coding.now c.args.i c.args.walk.now.state w.if-region-eq0-2.true
   ];
 }
+
+pub returns-clause-gives : goal.returns-clause-gives
+returns-clause-gives g c =
+    let part = part_of c.args.coding.now in
+    walks_between _ _ _ _ (place_of part c.args.i 0 0) (place_of part c.args.i 0 (region_at (regions_of c.args.coding.now) c.args.i).height) _ _ _ _ _
+    (channel_begins part c.args.i) (channel_done part (regions_of c.args.coding.now) c.requires.at.part.coding.sizes c.args.i c.requires.channel) c.decode_rows.ensures.gives
 
 pub returns-clause-at : goal.returns-clause-at
 returns-clause-at g c =

@@ -9,8 +9,7 @@ use Rattle.jxlm_part.proofs.decode.decode_part.Goals as goal
 pub returns-in_err-begin : goal.returns-in_err-begin
 returns-in_err-begin g c =
     let p = err_from_is_err_and c.from_residual.result c.from_residual.ensures.1 in
-    let gives = c.in_err-begin.ensures.gives in
-    rw (p.1, p.2) (part_not_begun c.args.coding.now g.D.Decoder.meaning g.met.D.Decoder.lawful g.S.Sealed.width g.S.Sealed.to_int (moment c.args.walk.now.source c.args.store.now) c.begin.new.self c.args.walk.now.source.bits _ gives.0 refl refl)
+    rw (p.1, p.2) (part_not_begun _ _ g.met.D.Decoder.lawful _ _ (moment c.args.walk.now.source c.args.store.now) c.begin.new.self c.args.walk.now.source.bits _ c.in_err-begin.ensures.gives.0 refl refl)
 
 pub decode_channels-requires-clause-at : goal.decode_channels-requires-clause-at
 decode_channels-requires-clause-at g c κs within = record {
@@ -22,24 +21,18 @@ decode_channels-requires-clause-at g c κs within = record {
   last = after_none c.args.coding.now 0 c.args.walk.now.state;
 }
 
-pub decode_channels-requires-clause-room : goal.decode_channels-requires-clause-room
-decode_channels-requires-clause-room g c κs within = c.requires.rooms.row
-
 pub returns-in_err-decode_channels : goal.returns-in_err-decode_channels
 returns-in_err-decode_channels g c =
     let p = err_from_is_err_and c.from_residual-in_err-decode_channels.result c.from_residual-in_err-decode_channels.ensures.1 in
     rw (p.1, p.2)
-    (part_fails c.args.coding.now g.D.Decoder.meaning g.met.D.Decoder.lawful g.S.Sealed.width g.S.Sealed.to_int (moment c.args.walk.now.source c.args.store.now) c.requires.part.coding.sizes c.begin.new.self c.begin.new.bits
-    c.in_ok-begin.ensures.gives c.in_ok-begin.ensures.bytes (moment c.decode_channels.new.walk.source c.decode_channels.new.store) _ c.in_err-decode_channels.ensures)
+    (part_fails _ _ g.met.D.Decoder.lawful _ _ (moment c.args.walk.now.source c.args.store.now) c.requires.part.coding.sizes _ c.begin.new.bits c.in_ok-begin.ensures.gives c.in_ok-begin.ensures.bytes _ _ c.in_err-decode_channels.ensures)
 
 pub returns-in_err-finalize : goal.returns-in_err-finalize
 returns-in_err-finalize g c =
     let p = err_from_is_err_and c.from_residual-in_err-finalize.result c.from_residual-in_err-finalize.ensures.1 in
     rw (p.1, p.2)
-    (part_refused c.args.coding.now g.D.Decoder.meaning g.met.D.Decoder.lawful g.S.Sealed.width g.S.Sealed.to_int (moment c.args.walk.now.source c.args.store.now) c.requires.part.coding.sizes c.begin.new.self c.begin.new.bits
-    c.in_ok-begin.ensures.gives c.in_ok-begin.ensures.bytes (moment c.decode_channels.new.walk.source c.decode_channels.new.store) c.in_ok-decode_channels.ensures _ (sym c.in_err-finalize.ensures))
+    (part_refused _ _ g.met.D.Decoder.lawful _ _ (moment c.args.walk.now.source c.args.store.now) c.requires.part.coding.sizes _ c.begin.new.bits c.in_ok-begin.ensures.gives c.in_ok-begin.ensures.bytes _ c.in_ok-decode_channels.ensures _ (sym c.in_err-finalize.ensures))
 
 pub returns : goal.returns
 returns g c =
-    part_decoded c.args.coding.now g.D.Decoder.meaning g.met.D.Decoder.lawful g.S.Sealed.width g.S.Sealed.to_int (moment c.args.walk.now.source c.args.store.now) c.requires.part.coding.sizes c.begin.new.self c.begin.new.bits
-    c.in_ok-begin.ensures.gives c.in_ok-begin.ensures.bytes (moment c.decode_channels.new.walk.source c.decode_channels.new.store) c.in_ok-decode_channels.ensures (sym c.in_ok-finalize.ensures)
+    part_decoded _ _ g.met.D.Decoder.lawful _ _ (moment c.args.walk.now.source c.args.store.now) c.requires.part.coding.sizes _ c.begin.new.bits c.in_ok-begin.ensures.gives c.in_ok-begin.ensures.bytes _ c.in_ok-decode_channels.ensures (sym c.in_ok-finalize.ensures)

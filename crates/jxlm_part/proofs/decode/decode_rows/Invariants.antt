@@ -1,14 +1,13 @@
-use Rattle.std.proofs.Common.{◌≡◌, Ok, length}
+use Rattle.std.proofs.Common.{◌≡◌, length}
 use Rattle.jxlm_part.specs.Inner.Channels.{region_at}
 use Rattle.jxlm_part.specs.Inner.Levels.{IsAtRow}
-use Rattle.jxlm_part.specs.Inner.Progress.{WalkGives, moment, place_of}
+use Rattle.jxlm_part.specs.Inner.Progress.{DecodesCells, moment, place_of}
 use Rattle.jxlm_part.specs.Reading.{part_of, regions_of}
 use Rattle.jxlm_part.proofs.decode.decode_rows.Given as goal
 
 abbrev pub invariant-loop-y : goal.invariant-loop-y
 invariant-loop-y g l = record {
   long : length l.row ≡ (region_at (regions_of l.coding) l.i).width;
-  goes : WalkGives l.coding g.D.Decoder.meaning g.S.Sealed.width g.S.Sealed.to_int (place_of (part_of l.coding) l.i 0 0) (place_of (part_of l.coding) l.i 0 l.y) (Ok tt)
-      (moment l.fn.walk.source l.fn.store) (moment l.walk.source l.store);
+  goes : DecodesCells l.coding g.D.Decoder.meaning g.S.Sealed.width g.S.Sealed.to_int (place_of (part_of l.coding) l.i 0 0) (place_of (part_of l.coding) l.i 0 l.y) (moment l.fn.walk.source l.fn.store) (moment l.walk.source l.store);
   at : IsAtRow g.D.Decoder.meaning l.coding l.walk g.S.Sealed.to_int l.store l.path l.i l.y;
 }

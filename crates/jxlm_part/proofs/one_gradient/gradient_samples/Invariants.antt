@@ -1,7 +1,7 @@
 use Rattle.std.proofs.Common.{◌≡◌, ◌+◌, map, length}
 use Rattle.jxlm_ma.specs.declared.flat.Leaf.{Leaf}
 use Rattle.jxlm_part.specs.Coded.{sample_of}
-use Rattle.jxlm_part.specs.Inner.Paths.{IsPlain, gradient_in, north_west_in, west_in}
+use Rattle.jxlm_part.specs.Inner.Paths.{AreLeft, IsPlain, gradient_in}
 use Rattle.jxlm_part.specs.Inner.Rows.{MakesCells}
 use Rattle.jxlm_part.proofs.one_gradient.gradient_samples.Given as goal
 
@@ -11,6 +11,5 @@ invariant-loop-k g l =
     record {
       len : length l.row ≡ length l.fn.row;
       made : (leaf : Leaf) → IsPlain leaf → MakesCells (λ before token. sample_of g.S.Sealed.width leaf (gradient_in (map to_int l.above) before (length before)) token) (map to_int l.fn.row) (map to_int l.row) l.from l.tokens l.k;
-      west : to_int l.w ≡ west_in (map to_int l.above) (map to_int l.row) (l.from + l.k);
-      north_west : to_int l.nw ≡ north_west_in (map to_int l.above) (map to_int l.row) (l.from + l.k);
+      left : AreLeft to_int l.above l.row (l.from + l.k) l.w l.nw;
     }
