@@ -1,6 +1,6 @@
 -- A cell of a part: what it holds, and what is read into it.
-use Rattle.std.proofs.Common.{Bool, ◌≡◌, ℕ, zero, suc, ◌+◌, ◌*◌, ◌/◌, ◌<◌, ◌≤◌, ◌^◌, List, [], ◌∷◌, ◌++◌, length, map, take, Some, refl, sym, ap, ◌∙◌, subst, arith, ℤ, slice_index_or, Bool, true, false, ◌||◌, None, Option, if◌then◌else◌}
-use Rattle.std.specs.Prelude.{slice_set, Result}
+use Rattle.std.proofs.Common.{Bool, ◌≡◌, ℕ, zero, suc, ◌+◌, ◌*◌, ◌/◌, ◌<◌, ◌≤◌, ◌^◌, List, [], ◌∷◌, ◌++◌, length, map, take, Some, refl, sym, ap, ◌∙◌, subst, arith, ℤ, slice_index_or, Bool, true, false, None, Option, if◌then◌else◌}
+use Rattle.std.specs.Prelude.{slice_get, slice_set, Result}
 use Rattle.std.specs.List.{All}
 use Rattle.std.specs.Int.{Width}
 use Rattle.std.proofs.lemmas.List.{append-nil, append_assoc, length-append, length-map, length-take-le, map-set, take_more_set}
@@ -8,6 +8,7 @@ use Rattle.std.proofs.lemmas.Nat.{div-mul-add, mul-add-lt}
 use Rattle.std.specs.Option.{option_map_or}
 use Rattle.std.proofs.lemmas.Option.{slice_get-get_or}
 use Rattle.std.proofs.lemmas.List.Elements.{All-nil}
+use Rattle.std.proofs.lemmas.List.Folds.{list_any_at}
 use Rattle.jxlm_base.specs.Bits.{bytes_of, position_of}
 use Rattle.jxlm_base.specs.Decoding.{Meaning, Taken}
 use Rattle.jxlm_base.specs.Grid.{Grid}
@@ -51,10 +52,6 @@ use Rattle.jxlm_part.proofs.RowSees.{sees_regions}
 pub stands_so : {X : Type 0} (s : Setting) (samples : List ℤ) (a b : PredictorState X) → b ≡ a → StandsAt a s samples → StandsAt b s samples
 stands_so s samples a b same h = subst (λ p. StandsAt p s samples) (sym same) h
 
--- and so is its room
-pub room_so : {X : Type 0} (old a b : PredictorState X) → b ≡ a → HasSameRoom old a → HasSameRoom old b
-room_so old a b same h = subst (HasSameRoom old) (sym same) h
-
 -- what holds of all earlier channels holds of those that are given to the state
 all_handed : {X : Type 0} (n : ℕ) (P : X → Type 0) (xs : List X) → All P xs → All P (handed n xs)
 all_handed zero P xs h = All-nil P
@@ -62,15 +59,10 @@ all_handed (suc n) P xs h = h
 
 -- where none of them asks for the weights, one does not
 not_weighted : (flats : List ChannelTree) → are_weighted flats ≡ false → (i : ℕ) (other : ChannelTree) → i < length flats → (slice_index_or flats i other).weighted ≡ false
-not_weighted [] none i other less = absurd (omega arith)
-not_weighted (t ∷ ts) none zero other less = first t.weighted (are_weighted ts) none where
-  first : (a b : Bool) → (a || b) ≡ false → a ≡ false
-  first true b h = h
-  first false b h = refl
-not_weighted (t ∷ ts) none (suc i) other less = not_weighted ts (rest t.weighted (are_weighted ts) none) i other (omega arith) where
-  rest : (a b : Bool) → (a || b) ≡ false → b ≡ false
-  rest true b h = cc
-  rest false b h = h
+not_weighted flats none i other less = by (slice_index_or flats i other).weighted (λ is. sym none ∙ list_any_at (λ (t : ChannelTree). t.weighted) flats i other less is) where
+  by : (b : Bool) → (b ≡ true → false ≡ true) → b ≡ false
+  by true so = sym (so refl)
+  by false so = refl
 
 module _ {D : Type 0} (c : PartCoding D) (coding : IsCodingOf c) (i : ℕ) (li : i < length (regions_of c)) where
   -- the flat tree of a channel
@@ -80,11 +72,15 @@ module _ {D : Type 0} (c : PartCoding D) (coding : IsCodingOf c) (i : ℕ) (li :
   pub flat_at : (other : ChannelTree) → (slice_index_or c.flats.now i other).flat ≡ flat c.config.now.tree c.stream_index i
   flat_at other = (tree_at other).flat_is
 
+  pub flat_there : i < length c.flats.now
+  flat_there = let n = coding.flats.count_is in omega (arith, n, li)
+
+  kept_is : {A : Type 0} (f : ChannelTree → A) (none : A) (other : ChannelTree) → option_map_or f (slice_get c.flats.now i) none ≡ f (slice_index_or c.flats.now i other)
+  kept_is f none other = ap (λ o. option_map_or f o none) (slice_get-get_or c.flats.now i other flat_there)
+
   -- how many earlier channels it asks for
   pub asked_is : (other : ChannelTree) → asked_at c i ≡ (slice_index_or c.flats.now i other).asked
-  asked_is other =
-      let n = coding.flats.count_is in
-      ap (λ o. option_map_or (λ (t : ChannelTree). t.asked) o 0) (slice_get-get_or c.flats.now i other (omega (arith, n, li)))
+  asked_is other = kept_is (λ t. t.asked) 0 other
 
   -- a channel tree, any of them
   any_tree : ChannelTree
@@ -92,18 +88,14 @@ module _ {D : Type 0} (c : PartCoding D) (coding : IsCodingOf c) (i : ℕ) (li :
 
   -- what it is read by alone
   pub alone_is : (other : ChannelTree) → alone_at c i ≡ (slice_index_or c.flats.now i other).alone
-  alone_is other =
-      let n = coding.flats.count_is in
-      ap (λ o. option_map_or (λ (t : ChannelTree). t.alone) o None) (slice_get-get_or c.flats.now i other (omega (arith, n, li)))
+  alone_is other = kept_is (λ t. t.alone) None other
 
   reads_below : ReadsEarlierBelow (flat c.config.now.tree c.stream_index i) (asked_at c i)
   reads_below = subst (ReadsEarlierBelow (flat c.config.now.tree c.stream_index i)) (sym (asked_is any_tree)) (tree_at any_tree).below
 
   -- whether it may ask for the weights
   pub weighted_is : (other : ChannelTree) → weighted_at c i ≡ (slice_index_or c.flats.now i other).weighted
-  weighted_is other =
-      let n = coding.flats.count_is in
-      ap (λ o. option_map_or (λ (t : ChannelTree). t.weighted) o false) (slice_get-get_or c.flats.now i other (omega (arith, n, li)))
+  weighted_is other = kept_is (λ t. t.weighted) false other
 
   goes_without : weighted_at c i ≡ false → GoesWithoutWeights (flat c.config.now.tree c.stream_index i)
   goes_without none = (tree_at any_tree).without (sym (weighted_is any_tree) ∙ none)
@@ -112,7 +104,7 @@ module _ {D : Type 0} (c : PartCoding D) (coding : IsCodingOf c) (i : ℕ) (li :
   pub weights_are : (other : ChannelTree) (kept : Option WpHeader) → kept ≡ weights_used c → (if (slice_index_or c.flats.now i other).weighted then kept else None) ≡ weights_at c i
   weights_are other kept is =
       ap (λ (b : Bool). if b then kept else None) (sym (weighted_is other)) ∙ by (weighted_at c i) (are_weighted c.flats.now)
-      (λ none. weighted_is other ∙ (let n = coding.flats.count_is in not_weighted c.flats.now none i other (omega (arith, n, li)))) is where
+      (λ none. weighted_is other ∙ not_weighted c.flats.now none i other flat_there) is where
         by : (here some : Bool) → (some ≡ false → here ≡ false) → kept ≡ (if some then Some c.weights else None) → (if here then kept else None) ≡ (if here then Some c.weights else None)
         by false some none same = refl
         by true true none same = same

@@ -1,9 +1,8 @@
 -- What the loops over rows and channels promise one another: a row more, a channel more.
-use Rattle.std.proofs.Common.{◌≡◌, ℕ, suc, ◌+◌, ◌*◌, ◌<◌, ◌≤◌, true, false, List, [], length, map, Ok, Err, refl, sym, ◌∙◌, subst, arith, ℤ}
+use Rattle.std.proofs.Common.{◌≡◌, ℕ, suc, ◌+◌, ◌*◌, ◌<◌, true, false, List, [], length, map, Ok, Err, refl, sym, ◌∙◌, subst, arith, ℤ}
 use Rattle.std.specs.Prelude.{Result, OnOk, IfErr}
 use Rattle.std.specs.Int.{Width}
 use Rattle.std.proofs.lemmas.List.{length-map, take_all}
-use Rattle.jxlm_base.specs.Bits.{bytes_of, position_of}
 use Rattle.jxlm_base.specs.Decoding.{Meaning}
 use Rattle.jxlm_base.specs.Grid.{Grid}
 use Rattle.jxlm_base.specs.declared.decoder.DecoderError.{DecoderError}
@@ -12,18 +11,18 @@ use Rattle.jxlm_tree.specs.declared.state.PredictorState.{PredictorState}
 use Rattle.jxlm_part.specs.Inner.Channels.{StandsAfter, StandsIn, region_at}
 use Rattle.jxlm_part.specs.Inner.Levels.{IsAtRow, IsOnPath, IsReady}
 use Rattle.jxlm_part.specs.Inner.Paths.{is_walked}
-use Rattle.jxlm_part.specs.Inner.Progress.{DecodesCells, FailsInCells, Moment, TakesSteps, WalkGives, moment, place_of}
-use Rattle.jxlm_part.specs.Inner.Rows.{IsAtCell, IsDecoding, IsDecodingPart, IsLine, RowGives, SetsRead, StandsInRow, region_on}
+use Rattle.jxlm_part.specs.Inner.Progress.{DecodesCells, FailsInCells, Moment, WalkGives}
+use Rattle.jxlm_part.specs.Inner.Rows.{IsAtCell, IsDecodingPart, IsLine, RowGives, SetsRead, StandsInRow, region_on}
 use Rattle.jxlm_part.specs.declared.source.Source.{Source}
-use Rattle.jxlm_part.specs.Reading.{FindsClusters, HasRoom, cost_of, part_of, regions_of}
+use Rattle.jxlm_part.specs.Reading.{FindsClusters, HasRoom, cost_of, regions_of}
 use Rattle.jxlm_part.specs.declared.coding.PartCoding.{PartCoding}
 use Rattle.jxlm_part.specs.declared.rows.Line.{Line}
 use Rattle.jxlm_part.specs.declared.rows.RowError.{RowError}
 use Rattle.jxlm_part.specs.declared.source.Walk.{Walk}
 use Rattle.jxlm_part.proofs.CellLaws.{begins_row}
-use Rattle.jxlm_part.proofs.Loops.{row_done, takes_further, takes_some}
+use Rattle.jxlm_part.proofs.Loops.{takes_further}
 use Rattle.jxlm_part.proofs.RowSees.{stands_below}
-use Rattle.jxlm_part.proofs.RowsOn.{row_keeps_rest, row_read, row_refused}
+use Rattle.jxlm_part.proofs.RowsOn.{row_written}
 
 -- ---- one after another
 
@@ -76,77 +75,28 @@ walks_between c d w to_int from to a b result old new from_is to_is h =
 
 -- ---- a row
 
--- One that was read was written.
-module _ {D X : Type 0} (l : Line X D) (d : Meaning D) (w : Width) (to_int : X → ℤ) (here : IsDecoding l.coding.now l.i l.store.now) (below : l.y < (region_on l).height)
-    (new : List (Grid X)) (row : List X) (long : length row ≡ (region_on l).width) where
-  abbrev c : PartCoding D
-  c = l.coding.now
-
-  abbrev from : ℕ
-  from = place_of (part_of c) l.i 0 l.y
-
-  abbrev to : ℕ
-  to = place_of (part_of c) l.i 0 (l.y + 1)
-
-  abbrev R : List ℤ
-  R = map to_int row
-
-  pub row_written : (read : Result (Unit {0}) RowError) (result : Result (Unit {0}) DecoderError) → SetsRead (region_on l) l.y row read l.store.now new result → (old now : Source D) →
-      RowGives l d to_int w row old now read → WalkGives c d w to_int from to result (moment old l.store.now) (moment now new)
-  row_written (Ok u) result sets old now h =
-      let width : ℕ = (region_on l).width in
-      let at : from + width ≡ place_of (part_of c) l.i width l.y = omega arith in
-      let wide : length R ≡ width = length-map row to_int ∙ long in
-      rw sets.1 (record {
-        goes = row_read d w (part_of c) (bytes_of old.bits) (regions_of c) to_int l.i l.y l.store.now new old.decoder (position_of old.bits)
-            here.part.coding.sizes here.part.apart here.part.lie here.channel below row long now.decoder (position_of now.bits) sets.0 h.reads;
-        work = subst (λ n. TakesSteps (cost_of c) from n old.steps now.steps) (at ∙ row_done (part_of c) (regions_of c) here.part.coding.sizes l.i l.y here.channel)
-            (takes_some (cost_of c) from width old.steps now.steps (subst (λ n. now.steps ≤ old.steps + n * cost_of c) wide h.work));
-        more = h.more;
-        keeps = row_keeps_rest d w (part_of c) (bytes_of old.bits) (regions_of c) to_int l.i l.y l.store.now new old.decoder (position_of old.bits)
-            here.part.coding.sizes here.part.apart here.part.lie here.channel below row long (Ok u) result sets tt;
-        clusters = h.clusters;
-        bytes = h.bytes;
-      })
-  row_written (Err e) result sets old now h =
-      let n : suc e.column ≡ e.column + 1 = omega arith in
-      let m = length-map row to_int in
-      let inside = h.inside in
-      rw sets.1 (record {
-        stops = row_refused d w (part_of c) (bytes_of old.bits) (regions_of c) to_int l.i l.y l.store.now new old.decoder (position_of old.bits)
-            here.part.coding.sizes here.part.apart here.part.lie here.channel below row long e.column e.error h.state (position_of now.bits) sets.0 h.inside h.reads h.error
-            (cost_of c) old.steps now.steps (subst (λ k. now.steps ≤ old.steps + k * cost_of c) (sym n) h.work);
-        more = h.more;
-        keeps = row_keeps_rest d w (part_of c) (bytes_of old.bits) (regions_of c) to_int l.i l.y l.store.now new old.decoder (position_of old.bits)
-            here.part.coding.sizes here.part.apart here.part.lie here.channel below row long (Err e) result sets (omega (arith, m, inside));
-        memory = h.memory;
-        bytes = h.bytes;
-      })
-
+module _ {D X : Type 0} (l : Line X D) (d : Meaning D) (w : Width) (to_int : X → ℤ) (row : List X) (long : length row ≡ (region_on l).width) where
   -- the read that returned an error was of a cell of the row
   pub error_inside : (old now : Source D) (read : Result (Unit {0}) RowError) → RowGives l d to_int w row old now read → IfErr read (λ r. r.column < length row)
   error_inside old now (Ok u) gives = tt
   error_inside old now (Err e) gives = let inside = gives.inside in let m = length-map row to_int in omega (arith, m, inside)
 
-  -- the walk is before the next row
-  module _ (old now : Walk X D) (at : IsAtRow d c old to_int l.store.now l.path l.i l.y) where
+  -- once the row is written, the walk is before the next one
+  module _ (new : List (Grid X)) (old now : Walk X D) (at : IsAtRow d l.coding.now old to_int l.store.now l.path l.i l.y) (below : l.y < (region_on l).height) where
     pub row_below : (read : Result (Unit {0}) RowError) (result : Result (Unit {0}) DecoderError) → SetsRead (region_on l) l.y row read l.store.now new result →
-        RowGives l d to_int w row old.source now.source read → OnOk read (IsOnPath l to_int row now) → OnOk result (IsAtRow d c now to_int new l.path l.i (l.y + 1))
+        RowGives l d to_int w row old.source now.source read → OnOk read (IsOnPath l to_int row now) → OnOk result (IsAtRow d l.coding.now now to_int new l.path l.i (l.y + 1))
     row_below (Err e) result sets gives on = rw sets.1 tt
     row_below (Ok u) result sets gives on =
-        let goes = row_written (Ok u) (Ok tt) (sets.0, refl) old.source now.source gives in
+        let here = at.here in
+        let goes = row_written l d w to_int here below new old.source row now.source (Ok u) (Ok tt) long (sets.0, refl) gives in
         rw sets.1 (record {
-          here = record {
-            part = still_part goes here.part;
-            channel = here.channel;
-            columns = here.columns;
-          };
+          here = record { part = still_part goes here.part; channel = here.channel; columns = here.columns };
           gives = at.gives;
           allows = at.allows;
           steps = at.steps;
           ready = still_ready goes at.ready.clusters now.state on.roomy;
           within = on.within;
-          stands = λ walked. begins_row c l.i to_int new (l.y + 1) now.state (stands_below c l.i l.y to_int l.store.now new row now.state here.part.lie here.channel below long sets.0 (on.stands walked));
+          stands = λ walked. begins_row l.coding.now l.i to_int new (l.y + 1) now.state (stands_below l.coding.now l.i l.y to_int l.store.now new row now.state here.part.lie here.channel below long sets.0 (on.stands walked));
         })
 
 -- ---- a channel

@@ -1,5 +1,4 @@
 pub mod CellLaws
-pub mod Counts
 pub mod Decoding
 pub mod Earlier
 pub mod GradientCells
@@ -14,7 +13,6 @@ pub mod RowSees
 pub mod RowWrites
 pub mod RowsAlike
 pub mod RowsOn
-pub mod Samples
 pub mod Starting
 pub mod Stretches
 pub mod TokenLaw

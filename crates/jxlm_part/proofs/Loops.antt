@@ -2,6 +2,7 @@
 use Rattle.std.proofs.Common.{◌≡◌, ℕ, zero, suc, ◌+◌, ◌*◌, ◌<◌, ◌≤◌, List, [], ◌∷◌, length, refl, sym, ap, ◌∙◌, arith, ℤ}
 use Rattle.std.specs.Prelude.{Result, Ok, Err, OnOk}
 use Rattle.std.proofs.lemmas.List.{length-append}
+use Rattle.std.proofs.lemmas.Slice.Zip.{AllZip-long}
 use Rattle.std.proofs.Math.Seq.{take-length}
 use Rattle.std.proofs.lemmas.List.Sums.{sum_by-cons}
 use Rattle.jxlm_base.specs.Grid.{Grid}
@@ -17,10 +18,7 @@ use Rattle.jxlm_part.proofs.Places.{before_suc}
 
 -- sizes of regions and channels
 pub same_count : (channels : List Channel) (regions : List Region) → AreRegionsOf channels regions → length channels ≡ length regions
-same_count [] [] h = refl
-same_count [] (r ∷ rs) h = absurd h
-same_count (c ∷ cs) [] h = absurd h
-same_count (c ∷ cs) (r ∷ rs) h = let n = same_count cs rs h.1 in omega (arith, n)
+same_count channels regions h = sym (AllZip-long _ channels regions h)
 
 pub same_size : (channels : List Channel) (regions : List Region) (i : ℕ) → AreRegionsOf channels regions → i < length regions →
     ((region_at regions i).width ≡ (channel channels i).width) × ((region_at regions i).height ≡ (channel channels i).height)

@@ -7,6 +7,7 @@ use Rattle.std.proofs.Math.Seq.{drop-append-add, take-append-add}
 use Rattle.std.proofs.lemmas.Bool.{cases_eq, cases_lt}
 use Rattle.std.proofs.lemmas.List.{append_assoc, drop-append-le, drop_at, get_or-map, get_or-set_other, get_or-set_same, length-append, length-map, length-take-le, same_lists, take-append-le, take_at}
 use Rattle.std.proofs.lemmas.Nat.{mul-le}
+use Rattle.std.proofs.lemmas.Slice.Zip.{AllZip-long}
 use Rattle.std.proofs.lemmas.Option.{slice_get-get_or}
 use Rattle.jxlm_base.specs.Grid.{Grid, IsFull, cell, with_row, written}
 use Rattle.jxlm_base.specs.Outside.{KeepsOutside, SetsRow, row_of}
@@ -148,10 +149,7 @@ module _ {X : Type 0} (f : X → ℤ) (store new : List (Grid X)) (y n : ℕ) (v
 -- ---- the cells of a part
 
 pub fits_count : {X : Type 0} (channels : List Channel) (grids : List (Grid X)) → AreGridsOf channels grids → length grids ≡ length channels
-fits_count [] [] fit = refl
-fits_count [] (g ∷ gs) fit = absurd fit
-fits_count (c ∷ cs) [] fit = absurd fit
-fits_count (c ∷ cs) (g ∷ gs) fit = let n = fits_count cs gs fit.1 in omega (arith, n)
+fits_count channels grids fit = AllZip-long _ channels grids fit
 
 -- grid i with these as the first numbers of row y
 abbrev pub with_row_of : List (Grid ℤ) → ℕ → ℕ → List ℤ → List (Grid ℤ)

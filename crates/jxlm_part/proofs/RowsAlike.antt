@@ -1,5 +1,5 @@
 -- Rows that are read at one leaf or from the row above are those of a part whose tree leads there in the channel.
-use Rattle.std.proofs.Common.{◌≡◌, ℕ, ◌<◌, ◌≤◌, List, ◌++◌, length, map, Some, Result, Contains, sym, ap, ◌∙◌, subst, arith, ℤ, pos}
+use Rattle.std.proofs.Common.{◌≡◌, ℕ, ◌<◌, ◌≤◌, List, ◌++◌, length, map, Some, Result, Contains, sym, ap, ◌∙◌, arith, ℤ, pos}
 use Rattle.std.specs.Int.{Width, w32}
 use Rattle.std.proofs.lemmas.Int.{SFits-int_wrap, int_wrap_fits, ints}
 use Rattle.std.proofs.lemmas.List.{length-map}
@@ -28,6 +28,7 @@ use Rattle.jxlm_part.specs.Inner.Channels.{region_at}
 use Rattle.jxlm_part.specs.Inner.Paths.{AreGradients, AreLeavesOf, gradient_in, gradient_rule, leaf_by, leaf_rule, property_9_in, row_above, steps_by, zero_rule}
 use Rattle.jxlm_part.specs.Inner.Progress.{preceding_cells}
 use Rattle.jxlm_part.specs.Inner.Rows.{AreAlike, GradientGives, IsLine, ReadsRow, RowGives, region_on, row_rule, rule_on}
+use Rattle.jxlm_part.specs.Rule.{Rule}
 use Rattle.jxlm_part.specs.declared.source.Source.{Source}
 use Rattle.jxlm_part.specs.declared.coding.PartCoding.{PartCoding}
 use Rattle.jxlm_part.specs.declared.gradient.Leaves.{Leaves}
@@ -140,28 +141,20 @@ module _ {D X : Type 0} (l : Line X D) (d : Meaning D) (to_int : X → ℤ) (w :
   abbrev R : List ℤ
   R = map to_int row
 
-  wide : (region_on l).width ≡ length R
-  wide = sym (length-map row to_int ∙ long)
-
-  module _ (bytes : List ℕ) where
-    zeros : (k : Leaf) → IsLeafOf (tree_of c l.i) k → k.predictor ≡ predictor.Zero → AreAlike (zero_rule d w bytes c.widest k) (rule_on l d to_int w bytes) (length R)
-    zeros k only zero =
-        subst (AreAlike (zero_rule d w bytes c.widest k) (rule_on l d to_int w bytes)) wide
-        (subst (λ m. AreAlike (zero_rule d w bytes m k) (rule_on l d to_int w bytes) (region_on l).width) (sym is.here.part.coding.widest)
-        (zero_rows d w (part_of c) bytes (regions_of c) numbers l.i l.y is.here.part.coding.sizes is.here.channel is.below k only zero))
-
-    gradients : (leaves : Leaves) → AreLeavesOf (tree_of c l.i) leaves → AreAlike (gradient_rule d w bytes c.widest leaves above) (rule_on l d to_int w bytes) (length R)
-    gradients leaves to =
-        subst (AreAlike (gradient_rule d w bytes c.widest leaves above) (rule_on l d to_int w bytes)) wide
-        (subst (λ m. AreAlike (gradient_rule d w bytes m leaves above) (rule_on l d to_int w bytes) (region_on l).width) (sym is.here.part.coding.widest)
-        (gradient_rows d w (part_of c) bytes (regions_of c) numbers l.i l.y is.here.part.coding.sizes is.here.channel is.below leaves to))
+  -- a rule that reads the part's rows under the maximum width reads those of the line
+  on_line : (bytes : List ℕ) (rule : ℕ → Rule D) → AreAlike (rule (max_width (part_of c).channels)) (rule_on l d to_int w bytes) (region_on l).width → AreAlike (rule c.widest) (rule_on l d to_int w bytes) (length R)
+  on_line bytes rule alike = rw (is.here.part.coding.widest, length-map row to_int, long) alike
 
   module _ (old new : Source D) (result : Result (Unit {0}) RowError) where
     pub row_of_zeros : (k : Leaf) → IsLeafOf (tree_of c l.i) k → k.predictor ≡ predictor.Zero → ReadsRow d 0 (zero_rule d w (bytes_of old.bits) c.widest k) R result old new → RowGives l d to_int w row old new result
     row_of_zeros k only zero h =
-        alike_row d 0 (cost_of c) (zero_rule d w (bytes_of old.bits) c.widest k) (rule_on l d to_int w (bytes_of old.bits)) R (zeros (bytes_of old.bits) k only zero) (omega arith) result old new h
+        alike_row d 0 (cost_of c) (zero_rule d w (bytes_of old.bits) c.widest k) (rule_on l d to_int w (bytes_of old.bits)) R
+        (on_line (bytes_of old.bits) (λ m. zero_rule d w (bytes_of old.bits) m k) (zero_rows d w (part_of c) (bytes_of old.bits) (regions_of c) numbers l.i l.y is.here.part.coding.sizes is.here.channel is.below k only zero))
+        (omega arith) result old new h
 
     pub row_of_gradients : (leaves : Leaves) → AreLeavesOf (tree_of c l.i) leaves → steps_by leaves ≤ cost_of c →
         GradientGives d w leaves c.widest above R old new result → RowGives l d to_int w row old new result
     row_of_gradients leaves to few h =
-        alike_row d (steps_by leaves) (cost_of c) (gradient_rule d w (bytes_of old.bits) c.widest leaves above) (rule_on l d to_int w (bytes_of old.bits)) R (gradients (bytes_of old.bits) leaves to) few result old new h
+        alike_row d (steps_by leaves) (cost_of c) (gradient_rule d w (bytes_of old.bits) c.widest leaves above) (rule_on l d to_int w (bytes_of old.bits)) R
+        (on_line (bytes_of old.bits) (λ m. gradient_rule d w (bytes_of old.bits) m leaves above) (gradient_rows d w (part_of c) (bytes_of old.bits) (regions_of c) numbers l.i l.y is.here.part.coding.sizes is.here.channel is.below leaves to))
+        few result old new h

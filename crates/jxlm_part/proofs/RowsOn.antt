@@ -1,23 +1,26 @@
 -- From a row that was read and written to the part that was decoded further.
 use Rattle.std.proofs.Common.{◌≡◌, ℕ, suc, ◌+◌, ◌*◌, ◌<◌, ◌≤◌, List, ◌++◌, length, take, drop, map, Ok, Err, sym, ap, ◌∙◌, subst, arith, ℤ}
-use Rattle.std.specs.Prelude.{slice_set, Result, IfErr}
+use Rattle.std.specs.Prelude.{slice_set, Result}
 use Rattle.std.specs.Int.{Width}
 use Rattle.std.proofs.lemmas.List.{drop-drop, length-append, length-map, length-take-le, take-map, take-take, take_all, take_at}
+use Rattle.jxlm_base.specs.Bits.{bytes_of, position_of}
 use Rattle.jxlm_base.specs.Decoding.{Meaning}
 use Rattle.jxlm_base.specs.Grid.{Grid, with_row}
-use Rattle.jxlm_base.specs.Outside.{KeepsOutside, SetsRow}
-use Rattle.jxlm_base.specs.Regions.{AllLie, LieApart, region, store_meanings}
+use Rattle.jxlm_base.specs.Outside.{SetsRow}
+use Rattle.jxlm_base.specs.Regions.{region, store_meanings}
 use Rattle.jxlm_base.specs.declared.decoder.DecoderError.{DecoderError}
 use Rattle.jxlm_base.specs.declared.subgrid.Region.{Region}
 use Rattle.jxlm_part.specs.Coded.{part_rule}
-use Rattle.jxlm_transform.specs.Channels.{AreRegionsOf}
 use Rattle.jxlm_part.specs.Part.{Part, cells_of, channel}
 use Rattle.jxlm_part.specs.Progress.{grids_in}
-use Rattle.jxlm_part.specs.Inner.Progress.{GoesOn, Reached, Stops, TakesSteps, preceding_cells, place_of}
-use Rattle.jxlm_part.specs.Inner.Channels.{region_at}
-use Rattle.jxlm_part.specs.Inner.Rows.{SetsRead, first_columns, rule_after}
+use Rattle.jxlm_part.specs.Inner.Progress.{GoesOn, Reached, Stops, TakesSteps, WalkGives, moment, preceding_cells, place_of}
+use Rattle.jxlm_part.specs.Inner.Rows.{IsDecoding, RowGives, SetsRead, first_columns, region_on, rule_after, rule_on}
+use Rattle.jxlm_part.specs.Reading.{cost_of, part_of, regions_of}
 use Rattle.jxlm_part.specs.Rule.{Rule, CodedPrefix}
+use Rattle.jxlm_part.specs.declared.coding.PartCoding.{PartCoding}
+use Rattle.jxlm_part.specs.declared.rows.Line.{Line}
 use Rattle.jxlm_part.specs.declared.rows.RowError.{RowError}
+use Rattle.jxlm_part.specs.declared.source.Source.{Source}
 use Rattle.jxlm_part.proofs.Loops.{all_cells, grid_in, row_done, same_count, same_size, takes_some}
 use Rattle.jxlm_part.proofs.Prefixes.{prefix_after, prefix_same}
 use Rattle.jxlm_part.proofs.RowWrites.{cells_written, drop_written, first_cells, fits_written, row_grids, row_keeps, row_within, with_row_of}
@@ -61,97 +64,112 @@ module _ {S : Type 0} (d : Meaning S) (w : Width) (part : Part) (bytes : List �
           fits = fits_written part.channels now i y row r.fits qy narrow;
         }
 
-  module _ (regions : List Region) {X : Type 0} (to_int : X → ℤ) (i y : ℕ) (store new : List (Grid X)) (s : S) (p : ℕ)
-      (sizes : AreRegionsOf part.channels regions) (apart : LieApart regions) (lie : AllLie regions store) (li : i < length regions) (qy : y < (region_at regions i).height) where
-    abbrev ints : List (Grid ℤ)
-    ints = store_meanings to_int store
+-- ---- a row that was read is written
 
-    -- how the next cells of the row are read
-    abbrev pub row_rule : Rule S
-    row_rule = rule_after (part_rule d w part bytes) (preceding_cells part (grids_in regions ints) i 0 y)
+module _ {D X : Type 0} (l : Line X D) (d : Meaning D) (w : Width) (to_int : X → ℤ) (here : IsDecoding l.coding.now l.i l.store.now) (below : l.y < (region_on l).height) (new : List (Grid X)) (old : Source D) where
+  abbrev c : PartCoding D
+  c = l.coding.now
 
-    there : i < length part.channels
-    there = let count = same_count part.channels regions sizes in omega (arith, count)
+  abbrev part : Part
+  part = part_of c
 
-    row_there : y < (channel part.channels i).height
-    row_there = subst (λ n. y < n) (same_size part.channels regions i sizes li).1 qy
+  abbrev reg : Region
+  reg = region_on l
 
-    module _ (vs : List X) (n : ℕ) (long : length vs ≡ n) (narrow : n ≤ (region_at regions i).width) (sets : SetsRow (first_columns (region_at regions i) n) y vs store new) where
-      abbrev R : List ℤ
-      R = map to_int vs
+  abbrev rule : Rule D
+  rule = rule_on l d to_int w (bytes_of old.bits)
 
-      long_row : length R ≡ n
-      long_row = length-map vs to_int ∙ long
+  abbrev grids_of : List (Grid X) → List (Grid ℤ)
+  grids_of store = grids_in (regions_of c) (store_meanings to_int store)
 
-      width_there : length R ≤ (channel part.channels i).width
-      width_there = let same = (same_size part.channels regions i sizes li).0 in omega (arith, narrow, long_row, same)
+  abbrev from : ℕ
+  from = place_of part l.i 0 l.y
 
-      at : place_of part i 0 y + length R ≡ place_of part i n y
-      at = omega (arith, long_row)
+  there : l.i < length part.channels
+  there = let count = same_count part.channels (regions_of c) here.part.coding.sizes in let li = here.channel in omega (arith, count, li)
 
-      grids_are : grids_in regions (store_meanings to_int new) ≡ with_row_of (grids_in regions ints) i y R
-      grids_are =
-          row_grids to_int store new y n vs long regions i (region 0 0 0 0 0) apart lie li qy narrow sets
-          ∙ ap (λ g. slice_set (grids_in regions ints) i (with_row g y R)) (sym (grid_in ints regions i li))
+  sizes : (reg.width ≡ (channel part.channels l.i).width) × (reg.height ≡ (channel part.channels l.i).height)
+  sizes = same_size part.channels (regions_of c) l.i here.part.coding.sizes here.channel
 
-      -- cells of the row were read and written
-      pub row_goes_on : (t : S) (q : ℕ) → CodedPrefix row_rule R s p n t q → GoesOn d w part bytes regions (place_of part i 0 y) (place_of part i n y) ints s p (store_meanings to_int new) t q
-      row_goes_on t q reads decoder p0 old r =
-          subst (λ k. Reached d w part bytes decoder p0 old k (grids_in regions (store_meanings to_int new)) t q) at
-          (subst (λ gs. Reached d w part bytes decoder p0 old (place_of part i 0 y + length R) gs t q) (sym grids_are)
-          (reached_row decoder p0 old i y (grids_in regions ints) there row_there R width_there s p r t q (subst (λ k. CodedPrefix row_rule R s p k t q) (sym long_row) reads)))
+  row_there : l.y < (channel part.channels l.i).height
+  row_there = subst (λ n. l.y < n) sizes.1 below
 
-      -- the cells of the row that were read before an error were written
-      pub row_stops : (cost before after : ℕ) (t : S) (q : ℕ) (e : DecoderError) → n < (region_at regions i).width → after ≤ before + suc n * cost → CodedPrefix row_rule R s p n t q → row_rule.read R t q ≡ Err e →
-          Stops d w part bytes regions cost before after (place_of part i 0 y) ints s p (store_meanings to_int new) q e
-      row_stops cost before after t q e short few reads error decoder p0 old r =
-          let grids : List (Grid ℤ) = grids_in regions (store_meanings to_int new) in
-          let reached = row_goes_on t q reads decoder p0 old r in
-          let next : place_of part i 0 y + suc n ≡ suc (place_of part i n y) = omega arith in
-          let room = row_within part.channels grids i y reached.fits there row_there in
-          let in_row : n < (channel part.channels i).width = subst (λ k. n < k) (same_size part.channels regions i sizes li).0 short in
-          let same : take (place_of part i n y) (cells_of grids) ≡ preceding_cells part (grids_in regions ints) i 0 y ++ R =
-          ap (λ k. take k (cells_of grids)) (sym at) ∙ ap (λ gs. take (place_of part i 0 y + length R) (cells_of gs)) grids_are
-          ∙ first_cells part.channels (grids_in regions ints) i y R r.fits there row_there width_there in (
-            record {
-              count = place_of part i n y;
-              state = t;
-              within = subst (λ k. place_of part i n y < k) (all_cells part.channels grids reached.fits) (omega (arith, room, in_row));
-              reached = reached;
-              error = ap (λ cs. (part_rule d w part bytes).read cs t q) same ∙ error;
-            },
-            subst (λ k. TakesSteps cost (place_of part i 0 y) k before after) next (takes_some cost (place_of part i 0 y) (suc n) before after few),
-          )
+  -- the first n cells of the row were read and written
+  module _ (vs : List X) (n : ℕ) (long : length vs ≡ n) (narrow : n ≤ reg.width) (sets : SetsRow (first_columns reg n) l.y vs l.store.now new) (t : D) (q : ℕ)
+      (reads : CodedPrefix rule (map to_int vs) old.decoder (position_of old.bits) n t q) where
+    abbrev R : List ℤ
+    R = map to_int vs
 
-    -- ---- a row that was read is written
+    long_row : length R ≡ n
+    long_row = length-map vs to_int ∙ long
 
-    module _ (row : List X) (long : length row ≡ (region_at regions i).width) where
-      pub row_read : (t : S) (q : ℕ) → SetsRow (region_at regions i) y row store new → CodedPrefix row_rule (map to_int row) s p (length (map to_int row)) t q →
-          GoesOn d w part bytes regions (place_of part i 0 y) (place_of part i 0 (y + 1)) ints s p (store_meanings to_int new) t q
-      row_read t q sets reads =
-          let width : ℕ = (region_at regions i).width in
-          let all : length (map to_int row) ≡ width = length-map row to_int ∙ long in
-          subst (λ k. GoesOn d w part bytes regions (place_of part i 0 y) k ints s p (store_meanings to_int new) t q) (row_done part regions sizes i y li)
-          (row_goes_on row width long (omega arith) sets t q (subst (λ n. CodedPrefix row_rule (map to_int row) s p n t q) all reads))
+    width_there : length R ≤ (channel part.channels l.i).width
+    width_there = let same = sizes.0 in omega (arith, narrow, long_row, same)
 
-      pub row_refused : (x : ℕ) (e : DecoderError) (t : S) (q : ℕ) → SetsRow (first_columns (region_at regions i) x) y (take x row) store new → x < length (map to_int row) →
-          CodedPrefix row_rule (map to_int row) s p x t q → row_rule.read (take x (map to_int row)) t q ≡ Err e →
-          (cost before after : ℕ) → after ≤ before + suc x * cost → Stops d w part bytes regions cost before after (place_of part i 0 y) ints s p (store_meanings to_int new) q e
-      row_refused x e t q sets in_row reads error cost before after few =
-          let R : List ℤ = map to_int row in
-          let m = length-map row to_int in
-          let inside : x < (region_at regions i).width = omega (arith, in_row, m, long) in
-          let count : length (take x row) ≡ x = length-take-le x row (omega (arith, inside, long)) in
-          let is : take x R ≡ map to_int (take x row) = take-map to_int x row in
-          let same : take x R ≡ take x (map to_int (take x row)) = sym (take-take x x R (omega arith)) ∙ ap (take x) is in
-          row_stops (take x row) x count (omega (arith, inside)) sets cost before after t q e inside few (prefix_same row_rule s p R (map to_int (take x row)) x t q same reads)
-          (ap (λ cs. row_rule.read cs t q) (sym is) ∙ error)
+    at : from + length R ≡ place_of part l.i n l.y
+    at = omega (arith, long_row)
 
-      -- outside of the regions nothing changes, whatever the read of the row returned
+    grids_are : grids_of new ≡ with_row_of (grids_of l.store.now) l.i l.y R
+    grids_are =
+        row_grids to_int l.store.now new l.y n vs long (regions_of c) l.i (region 0 0 0 0 0) here.part.apart here.part.lie here.channel below narrow sets
+        ∙ ap (λ g. slice_set (grids_of l.store.now) l.i (with_row g l.y R)) (sym (grid_in (store_meanings to_int l.store.now) (regions_of c) l.i here.channel))
 
-      pub row_keeps_rest : (read : Result (Unit {0}) RowError) (result : Result (Unit {0}) DecoderError) → SetsRead (region_at regions i) y row read store new result →
-          IfErr read (λ r. r.column < length row) → KeepsOutside regions store new
-      row_keeps_rest (Ok u) result sets inside =
-          row_keeps to_int store new y (region_at regions i).width row long regions i (region 0 0 0 0 0) lie li qy (omega arith) sets.0
-      row_keeps_rest (Err e) result sets inside =
-          row_keeps to_int store new y e.column (take e.column row) (length-take-le e.column row (omega arith)) regions i (region 0 0 0 0 0) lie li qy (omega (arith, inside, long)) sets.0
+    row_goes_on : GoesOn d w part (bytes_of old.bits) (regions_of c) from (place_of part l.i n l.y) (store_meanings to_int l.store.now) old.decoder (position_of old.bits) (store_meanings to_int new) t q
+    row_goes_on decoder p0 before r =
+        subst (λ k. Reached d w part (bytes_of old.bits) decoder p0 before k (grids_of new) t q) at
+        (subst (λ gs. Reached d w part (bytes_of old.bits) decoder p0 before (from + length R) gs t q) (sym grids_are)
+        (reached_row d w part (bytes_of old.bits) decoder p0 before l.i l.y (grids_of l.store.now) there row_there R width_there old.decoder (position_of old.bits) r t q
+        (subst (λ k. CodedPrefix rule R old.decoder (position_of old.bits) k t q) (sym long_row) reads)))
+
+    -- and the read of the next one returned an error
+    row_stops : (after : ℕ) (e : DecoderError) → n < reg.width → after ≤ old.steps + suc n * cost_of c → rule.read R t q ≡ Err e →
+        Stops d w part (bytes_of old.bits) (regions_of c) (cost_of c) old.steps after from (store_meanings to_int l.store.now) old.decoder (position_of old.bits) (store_meanings to_int new) q e
+    row_stops after e short few error decoder p0 before r =
+        let reached = row_goes_on decoder p0 before r in
+        let next : from + suc n ≡ suc (place_of part l.i n l.y) = omega arith in
+        let room = row_within part.channels (grids_of new) l.i l.y reached.fits there row_there in
+        let in_row : n < (channel part.channels l.i).width = subst (λ k. n < k) sizes.0 short in
+        let same : take (place_of part l.i n l.y) (cells_of (grids_of new)) ≡ preceding_cells part (grids_of l.store.now) l.i 0 l.y ++ R =
+        ap (λ k. take k (cells_of (grids_of new))) (sym at) ∙ ap (λ gs. take (from + length R) (cells_of gs)) grids_are
+        ∙ first_cells part.channels (grids_of l.store.now) l.i l.y R r.fits there row_there width_there in (
+          record {
+            count = place_of part l.i n l.y;
+            state = t;
+            within = subst (λ k. place_of part l.i n l.y < k) (all_cells part.channels (grids_of new) reached.fits) (omega (arith, room, in_row));
+            reached = reached;
+            error = ap (λ cs. (part_rule d w part (bytes_of old.bits)).read cs t q) same ∙ error;
+          },
+          subst (λ k. TakesSteps (cost_of c) from k old.steps after) next (takes_some (cost_of c) from (suc n) old.steps after few),
+        )
+
+  -- so it is where all were read, and where the read of one returned an error
+  pub row_written : (row : List X) (now : Source D) (read : Result (Unit {0}) RowError) (result : Result (Unit {0}) DecoderError) → length row ≡ reg.width → SetsRead reg l.y row read l.store.now new result →
+      RowGives l d to_int w row old now read → WalkGives c d w to_int from (place_of part l.i 0 (l.y + 1)) result (moment old l.store.now) (moment now new)
+  row_written row now (Ok u) result long sets h =
+      let wide : length (map to_int row) ≡ reg.width = length-map row to_int ∙ long in
+      let ends = row_done part (regions_of c) here.part.coding.sizes l.i l.y here.channel in
+      rw (sets.1, ← ends) (record {
+        goes = row_goes_on row reg.width long (omega arith) sets.0 now.decoder (position_of now.bits) (rw wide at h.reads);
+        work = (let few : now.steps ≤ old.steps + reg.width * cost_of c = rw wide at h.work in let n : from + reg.width ≡ place_of part l.i reg.width l.y = omega arith in subst (λ k. TakesSteps (cost_of c) from k old.steps now.steps) n (takes_some (cost_of c) from reg.width old.steps now.steps few));
+        more = h.more;
+        keeps = row_keeps to_int l.store.now new l.y reg.width row long (regions_of c) l.i (region 0 0 0 0 0) here.part.lie here.channel below (omega arith) sets.0;
+        clusters = h.clusters;
+        bytes = h.bytes;
+      })
+  row_written row now (Err e) result long sets h =
+      let R : List ℤ = map to_int row in
+      let m = length-map row to_int in
+      let in_row = h.inside in
+      let inside : e.column < reg.width = omega (arith, in_row, m, long) in
+      let count : length (take e.column row) ≡ e.column = length-take-le e.column row (omega (arith, inside, long)) in
+      let is : take e.column R ≡ map to_int (take e.column row) = take-map to_int e.column row in
+      let same : take e.column R ≡ take e.column (map to_int (take e.column row)) = sym (take-take e.column e.column R (omega arith)) ∙ ap (take e.column) is in
+      let next : e.column + 1 ≡ suc e.column = omega arith in
+      rw sets.1 (record {
+        stops = row_stops (take e.column row) e.column count (omega (arith, inside)) sets.0 h.state (position_of now.bits)
+            (prefix_same rule old.decoder (position_of old.bits) R (map to_int (take e.column row)) e.column h.state (position_of now.bits) same h.reads) now.steps e.error inside (rw next at h.work) (rw is at h.error);
+        more = h.more;
+        keeps = row_keeps to_int l.store.now new l.y e.column (take e.column row) count (regions_of c) l.i (region 0 0 0 0 0) here.part.lie here.channel below (omega (arith, inside)) sets.0;
+        memory = h.memory;
+        bytes = h.bytes;
+      })

@@ -8,7 +8,7 @@ use Rattle.std.proofs.lemmas.List.Elements.{All-head, All-tail}
 use Rattle.std.proofs.lemmas.List.{length-append, length-map, get_or_default, get_or_append_left}
 use Rattle.std.proofs.Math.Seq.{get_or-append_seam}
 use Rattle.jxlm_base.specs.declared.subgrid.Region.{Region}
-use Rattle.jxlm_tree.specs.Standing.{HasSameRoom, Setting, Stands, StandsAt, earlier_count, earlier_room_of, setting}
+use Rattle.jxlm_tree.specs.Standing.{HasSameRoom, Setting, Stands, StandsAt, earlier_count, earlier_room_of, room_of, setting}
 use Rattle.jxlm_ma.specs.FlatTree.{FlatTree, flat_tree}
 use Rattle.jxlm_ma.specs.Tree.{Shape}
 use Rattle.jxlm_ma.specs.declared.flat.Leaf.{Leaf}
@@ -18,12 +18,12 @@ use Rattle.jxlm_tree.proofs.StandingLaws.{stands_earlier}
 use Rattle.jxlm_transform.specs.Channels.{Channel, IsNarrow}
 use Rattle.jxlm_part.specs.Part.{channel, no_channel, downward, earlier_alike, is_alike}
 use Rattle.jxlm_part.specs.Reading.{HasFlats, HasRoom, HasRoomFor, IsCodingOf, IsRoomy, IsRoomyFor, IsTreeOf, LeadsAlone, alone_at, alone_in, flat, part_of, regions_of, row_width, sampled_width, state_width, tree_of, walked_width, width_in_state}
-use Rattle.jxlm_part.specs.Inner.Channels.{IsAfterChannel, StandsIn, all_alike, asked_at, earlier_regions, handed, region_at, setting_of, weights_at}
+use Rattle.jxlm_part.specs.Inner.Channels.{IsAfterChannel, IsNext, StandsIn, all_alike, asked_at, earlier_regions, handed, region_at, setting_of, weights_at}
 use Rattle.jxlm_part.specs.declared.coding.Alone.{Alone}
 use Rattle.jxlm_part.specs.declared.coding.ChannelTree.{ChannelTree}
 use Rattle.jxlm_part.specs.declared.coding.PartCoding.{PartCoding}
 use Rattle.jxlm_part.specs.declared.coding.PartState.{PartState}
-use Rattle.jxlm_part.proofs.CellLaws.{alone_is, roomy_still, tree_at}
+use Rattle.jxlm_part.proofs.CellLaws.{alone_is, asked_is, roomy_still, tree_at}
 use Rattle.jxlm_part.proofs.Earlier.{few, few_earlier, same_alike, same_sides}
 use Rattle.jxlm_part.proofs.Loops.{same_count, same_size}
 
@@ -36,23 +36,9 @@ max_rest one rest n h = omega arith
 max_below : (one rest n : ℕ) → one ≤ n → rest ≤ n → max one rest ≤ n
 max_below one rest n h k = omega arith
 
--- the width of a channel with rows, and 0 for one without
-row_by : (none : Bool) (width rest : ℕ) → none ≡ false → width ≤ max (if none then 0 else width) rest
-row_by true width rest some = cc
-row_by false width rest some = max_first width rest
-
-row_of : (height width rest : ℕ) → 0 < height → width ≤ max (if height == 0 then 0 else width) rest
-row_of height width rest some = row_by (height == 0) width rest (grind (arith, nat_tests))
-
 row_within : (none : Bool) (width n : ℕ) → width ≤ n → (if none then 0 else width) ≤ n
 row_within true width n h = omega arith
 row_within false width n h = h
-
--- no channel with rows is wider than the widest of them
-pub within_widest : (channels : List Channel) (i : ℕ) → i < length channels → 0 < (channel channels i).height → (channel channels i).width ≤ sampled_width channels
-within_widest [] i l some = absurd (omega arith)
-within_widest (c ∷ cs) zero l some = row_of c.height c.width (sampled_width cs) some
-within_widest (c ∷ cs) (suc i) l some = max_rest (if c.height == 0 then 0 else c.width) (sampled_width cs) _ (within_widest cs i (omega arith) some)
 
 -- where all channels are narrow, so is the widest with rows
 pub narrow_widest : (channels : List Channel) → All IsNarrow channels → sampled_width channels ≤ 2 ^ 30
@@ -76,7 +62,7 @@ takes_width None c walked some = whole_width (c.height == 0) c.width (grind (ari
 takes_width (Some a) c walked some = cc
 
 -- no such channel is wider than the widest of them
-pub within_walked : (channels : List Channel) (flats : List ChannelTree) (n i : ℕ) → i < n → alone_in flats i ≡ None → 0 < (channel channels i).height → (channel channels i).width ≤ walked_width channels flats n
+within_walked : (channels : List Channel) (flats : List ChannelTree) (n i : ℕ) → i < n → alone_in flats i ≡ None → 0 < (channel channels i).height → (channel channels i).width ≤ walked_width channels flats n
 within_walked channels flats zero i l walked some = absurd (omega arith)
 within_walked channels flats (suc n) i l walked some = either (cases_lt i n) (λ lt. within_walked channels flats n i lt walked some) where
   either : (i < n) ⊎ (n ≤ i) → (i < n → (channel channels i).width ≤ walked_width channels flats n) → (channel channels i).width ≤ max (walked_width channels flats n) (width_in_state (alone_in flats n) (channel channels n))
@@ -98,6 +84,13 @@ pub walked_within : (channels : List Channel) (flats : List ChannelTree) (n : �
 walked_within channels flats zero l = omega arith
 walked_within channels flats (suc n) l =
     max_below (walked_width channels flats n) (width_in_state (alone_in flats n) (channel channels n)) (sampled_width channels) (walked_within channels flats n (omega arith)) (width_within (alone_in flats n) channels n (omega arith))
+
+-- and so no channel with rows is wider than the widest of these
+within_widest : (channels : List Channel) (i : ℕ) → i < length channels → 0 < (channel channels i).height → (channel channels i).width ≤ sampled_width channels
+within_widest channels i l some =
+    let here = within_walked channels [] (length channels) i l refl some in
+    let all = walked_within channels [] (length channels) (omega arith) in
+    omega (arith, here, all)
 
 -- where a tree asks for earlier channels, all are given
 pub some_asked : (n : ℕ) (all : List Region) → 0 < n → handed n all ≡ all
@@ -173,35 +166,36 @@ module _ {D : Type 0} (c : PartCoding D) (coding : IsCodingOf c) where
   pub as_many_channels : length c.channels.now ≡ length (regions_of c)
   as_many_channels = same_count (part_of c).channels (regions_of c) coding.sizes
 
-  -- the same for the width of the state
-  pub fits_state : (i : ℕ) → i < length (regions_of c) → 0 < (region_at (regions_of c) i).height → alone_at c i ≡ None → (region_at (regions_of c) i).width ≤ state_width c
-  fits_state i li rows walked =
-      let count = same_count (part_of c).channels (regions_of c) coding.sizes in
-      let sizes = same_size (part_of c).channels (regions_of c) i coding.sizes li in
-      let same = sizes.0 in
-      let most = within_walked (part_of c).channels c.flats.now (length (part_of c).channels) i (omega (arith, count, li)) walked (subst (λ n. 0 < n) sizes.1 rows) in
-      omega (arith, same, most)
+  module _ (i : ℕ) (li : i < length (regions_of c)) (rows : 0 < (region_at (regions_of c) i).height) where
+    sizes : ((region_at (regions_of c) i).width ≡ (channel (part_of c).channels i).width) × ((region_at (regions_of c) i).height ≡ (channel (part_of c).channels i).height)
+    sizes = same_size (part_of c).channels (regions_of c) i coding.sizes li
 
-  pub fits_widest : (i : ℕ) → i < length (regions_of c) → 0 < (region_at (regions_of c) i).height → (region_at (regions_of c) i).width ≤ row_width c
-  fits_widest i li rows =
-      let count = same_count (part_of c).channels (regions_of c) coding.sizes in
-      let sizes = same_size (part_of c).channels (regions_of c) i coding.sizes li in
-      let same = sizes.0 in
-      let most = within_widest (part_of c).channels i (omega (arith, count, li)) (subst (λ n. 0 < n) sizes.1 rows) in
-      omega (arith, same, most)
+    there : i < length (part_of c).channels
+    there = omega (arith, as_many_channels, li)
+
+    some : 0 < (channel (part_of c).channels i).height
+    some = subst (λ n. 0 < n) sizes.1 rows
+
+    -- a channel with rows is not wider than a row may be, nor than the state, where it is read in that
+    pub fits_widest : (region_at (regions_of c) i).width ≤ row_width c
+    fits_widest = rw sizes.0 (within_widest (part_of c).channels i there some)
+
+    pub fits_state : alone_at c i ≡ None → (region_at (regions_of c) i).width ≤ state_width c
+    fits_state walked = rw sizes.0 (within_walked (part_of c).channels c.flats.now (length (part_of c).channels) i there walked some)
 
 module _ {D : Type 0} (c : PartCoding D) (coding : IsCodingOf c) (i : ℕ) (li : i < length (regions_of c)) (last : ℕ) (next : i ≡ last + 1) (alike : passes c i last ≡ true) where
-  -- the channel before is as wide
-  pub same_width : (region_at (regions_of c) last).width ≡ (region_at (regions_of c) i).width
-  same_width =
-      (same_size (part_of c).channels (regions_of c) last coding.sizes (omega (arith, next, li))).0 ∙ (same_sides (channel (part_of c).channels last) (channel (part_of c).channels i) alike).0
-      ∙ sym (same_size (part_of c).channels (regions_of c) i coding.sizes li).0
+  sides : ((channel (part_of c).channels last).width ≡ (channel (part_of c).channels i).width) × ((channel (part_of c).channels last).height ≡ (channel (part_of c).channels i).height)
+  sides = same_sides (channel (part_of c).channels last) (channel (part_of c).channels i) alike
 
-  -- and as high
+  before : i < length (regions_of c) → last < length (regions_of c)
+  before l = omega (arith, next, l)
+
+  -- the channel before is as wide, and as high
+  pub same_width : (region_at (regions_of c) last).width ≡ (region_at (regions_of c) i).width
+  same_width = (same_size (part_of c).channels (regions_of c) last coding.sizes (before li)).0 ∙ sides.0 ∙ sym (same_size (part_of c).channels (regions_of c) i coding.sizes li).0
+
   same_height : (region_at (regions_of c) last).height ≡ (region_at (regions_of c) i).height
-  same_height =
-      (same_size (part_of c).channels (regions_of c) last coding.sizes (omega (arith, next, li))).1 ∙ (same_sides (channel (part_of c).channels last) (channel (part_of c).channels i) alike).1
-      ∙ sym (same_size (part_of c).channels (regions_of c) i coding.sizes li).1
+  same_height = (same_size (part_of c).channels (regions_of c) last coding.sizes (before li)).1 ∙ sides.1 ∙ sym (same_size (part_of c).channels (regions_of c) i coding.sizes li).1
 
   -- so the state was last in it, where it was read in the state
   pub was_last : {X : Type 0} (state : PredictorState X) → 0 < (region_at (regions_of c) i).width → 0 < (region_at (regions_of c) i).height → alone_at c last ≡ None → IsAfterChannel c i state → StandsIn c last state
@@ -223,20 +217,34 @@ module _ {D : Type 0} (c : PartCoding D) (coding : IsCodingOf c) (i : ℕ) (li :
   pub walked_at : is_some (slice_index_or c.flats.now i other).alone ≡ false → alone_at c i ≡ None
   walked_at is = alone_is c coding i li other ∙ none_by (slice_index_or c.flats.now i other).alone is
 
--- The channel before channel i is like it, and the state was last in it.
+-- the state has room for the next channel, where it is read in it
+pub has_room_for_next : {D X : Type 0} {c : PartCoding D} {i : ℕ} {state : PredictorState X} (n : IsNext c i state) → alone_at c i ≡ None → (region_at (regions_of c) i).width ≤ room_of state
+has_room_for_next {c = c} {i = i} n walked = let fits = fits_state c n.coding i n.channel n.rows walked in let room = n.roomy.widest in omega (arith, fits, room)
+
+-- Channel i asks for earlier channels; the one before it is like it and asks for some, and the state was last in that.
 pub record ComesAfterAlike {D X : Type 0} (c : PartCoding D) (i : ℕ) (state : PredictorState X) : Type 0 where
   pub next : i ≡ i - 1 + 1
   pub alike : passes c i (i - 1) ≡ true
   pub stood : StandsIn c (i - 1) state
+  pub asks : 0 < asked_at c i
+  pub asked : 0 < asked_at c (i - 1)
 
-pub comes_after_alike : {D X : Type 0} (c : PartCoding D) (coding : IsCodingOf c) (i : ℕ) → i < length (regions_of c) → 0 < (region_at (regions_of c) i).width → 0 < (region_at (regions_of c) i).height → (state : PredictorState X) →
-    IsAfterChannel c i state → 0 < i → alone_at c (i - 1) ≡ None → (a b : Channel) → true ≡ is_alike (get_or c.channels.now (i - 1) a) (get_or c.channels.now i b) →
-    ComesAfterAlike c i state
-comes_after_alike c coding i li columns rows state last asked walked a b same =
-    let next : i ≡ i - 1 + 1 = omega (arith, asked) in
-    let n = as_many_channels c coding in
-    let alike = passes_is c i (i - 1) a b true (omega (arith, n, next, li)) (omega (arith, n, li)) same in
-    record { next = next; alike = alike; stood = was_last c coding i li (i - 1) next alike state columns rows walked last }
+pub comes_after_alike : {D X : Type 0} {c : PartCoding D} {i : ℕ} {state : PredictorState X} (n : IsNext c i state) (o p q : ChannelTree) (a b : Channel) → 0 < (slice_index_or c.flats.now i o).asked →
+    is_some (slice_index_or c.flats.now (i - 1) p).alone ≡ false → 0 < (slice_index_or c.flats.now (i - 1) q).asked → true ≡ is_alike (get_or c.channels.now (i - 1) a) (get_or c.channels.now i b) → ComesAfterAlike c i state
+comes_after_alike {c = c} {i = i} {state = state} n o p q a b some none asked same =
+    let later = is_later c n.coding i n.channel o some in
+    let next : i ≡ i - 1 + 1 = omega (arith, later) in
+    let li = n.channel in
+    let le : i - 1 < length (regions_of c) = omega (arith, li) in
+    let many = as_many_channels c n.coding in
+    let alike = passes_is c i (i - 1) a b true (omega (arith, many, le)) (omega (arith, many, li)) same in
+    record {
+      next = next;
+      alike = alike;
+      stood = was_last c n.coding i li (i - 1) next alike state n.columns n.rows (walked_at c n.coding (i - 1) le p none) n.last;
+      asks = rw (asked_is c n.coding i li o) some;
+      asked = rw (asked_is c n.coding (i - 1) le q) asked;
+    }
 
 module _ {D X : Type 0} (c : PartCoding D) (i : ℕ) where
   -- a state without earlier channels is set for a channel whose tree asks for none
@@ -265,30 +273,33 @@ module _ {D X : Type 0} (c : PartCoding D) (i : ℕ) where
   pub after_none : (state : PredictorState X) → IsAfterChannel c 0 state
   after_none state = λ last next columns rows walked. absurd (omega (arith, next))
 
-  module _ (last : ℕ) (asked : 0 < asked_at c last) (next : i ≡ last + 1) where
-    -- there is room for the channel before
-    pub room_for_last : i < length (regions_of c) → (old mid : PredictorState X) → StandsIn c last old → earlier_count mid ≡ earlier_count old → HasSameRoom old mid → HasRoom c old → earlier_count mid < earlier_room_of mid
-    room_for_last li old mid h count same roomy =
-        let has = stands_earlier old (setting_of c last) h.before h.stands in
-        let all = ap length (some_asked (asked_at c last) (all_alike c last) asked) in
-        let long = length-map (earlier_alike (part_of c).channels last) (region_at (regions_of c)) in
-        let few = few_earlier (part_of c).channels last in
-        let room = roomy.earlier in
-        let kept = same.same_earlier_room in
-        omega (arith, has, all, long, few, room, kept, count, next, li)
+-- after a channel that is like it
+module _ {D X : Type 0} {c : PartCoding D} {i : ℕ} {old : PredictorState X} (last : ComesAfterAlike c i old) (li : i < length (regions_of c)) (mid : PredictorState X) where
+  all : earlier_regions c (i - 1) ≡ all_alike c (i - 1)
+  all = some_asked (asked_at c (i - 1)) (all_alike c (i - 1)) last.asked
 
-    -- with it the state has all
-    pub set_by_last : (coding : IsCodingOf c) → i < length (regions_of c) → 0 < asked_at c i → weights_at c last ≡ weights_at c i → passes c i last ≡ true → (old mid new : PredictorState X) → StandsIn c last old →
-        ((s : Setting) (samples : List ℤ) → StandsAt old s samples → StandsAt mid s []) →
-        ((s : Setting) (samples : List ℤ) → StandsAt mid s samples → StandsAt new (setting s.width s.weights (region_at (regions_of c) last ∷ s.earlier)) samples) →
-        StandsAt new (setting_of c i) []
-    set_by_last coding li here weights alike old mid new h restarts adds =
-        let one = adds _ [] (restarts (setting_of c last) h.before h.stands) in
-        let all = some_asked (asked_at c last) (all_alike c last) asked in
-        set_for_all new (weights_at c last) weights here
-        (subst (λ rs. StandsAt new (setting (region_at (regions_of c) i).width (weights_at c last) rs) [])
-        (ap (λ rs. region_at (regions_of c) last ∷ rs) all ∙ sym (next_alike c i last next alike))
-        (subst (λ n. StandsAt new (setting n (weights_at c last) (region_at (regions_of c) last ∷ earlier_regions c last)) []) (same_width c coding i li last next alike) one))
+  -- there is room for that channel
+  pub room_for_last : earlier_count mid ≡ earlier_count old → HasSameRoom old mid → HasRoom c old → earlier_count mid < earlier_room_of mid
+  room_for_last count same roomy =
+      let has = stands_earlier old (setting_of c (i - 1)) last.stood.before last.stood.stands in
+      let given = ap length all in
+      let long = length-map (earlier_alike (part_of c).channels (i - 1)) (region_at (regions_of c)) in
+      let few = few_earlier (part_of c).channels (i - 1) in
+      let room = roomy.earlier in
+      let kept = same.same_earlier_room in
+      let next = last.next in
+      omega (arith, has, given, long, few, room, kept, count, next, li)
+
+  -- with it the state has all
+  pub set_by_last : (coding : IsCodingOf c) → weights_at c (i - 1) ≡ weights_at c i → (new : PredictorState X) → ((s : Setting) (samples : List ℤ) → StandsAt old s samples → StandsAt mid s []) →
+      ((s : Setting) (samples : List ℤ) → StandsAt mid s samples → StandsAt new (setting s.width s.weights (region_at (regions_of c) (i - 1) ∷ s.earlier)) samples) →
+      StandsAt new (setting_of c i) []
+  set_by_last coding weights new restarts adds =
+      let one = adds _ [] (restarts (setting_of c (i - 1)) last.stood.before last.stood.stands) in
+      set_for_all c i new (weights_at c (i - 1)) weights last.asks
+      (subst (λ rs. StandsAt new (setting (region_at (regions_of c) i).width (weights_at c (i - 1)) rs) [])
+      (ap (λ rs. region_at (regions_of c) (i - 1) ∷ rs) all ∙ sym (next_alike c i (i - 1) last.next last.alike))
+      (subst (λ n. StandsAt new (setting n (weights_at c (i - 1)) (region_at (regions_of c) (i - 1) ∷ earlier_regions c (i - 1))) []) (same_width c coding i li (i - 1) last.next last.alike) one))
 
 pub no_flats : (t : Shape Leaf) (stream : ℕ) → HasFlats t stream 0 []
 no_flats t stream = record { count_is = refl; each = λ i other h. absurd (omega arith) }

@@ -1,11 +1,12 @@
-use Rattle.std.proofs.Common.{subst, sym, ◌∙◌, rules, w32, FitsSigned}
+use Rattle.std.proofs.Common.{subst, sym, ◌∙◌, w32, FitsSigned}
+use Rattle.std.proofs.Math.ListN.{length-set}
 use Rattle.std.proofs.lemmas.Int.{to_z-of_z}
 use Rattle.std.proofs.lemmas.Result.{err_from_is_err_and}
 use Rattle.jxlm_ma.specs.Paths.{Gives}
 use Rattle.jxlm_tree.specs.Standing.{IsInner}
 use Rattle.jxlm_part.specs.Inner.Channels.{setting_of}
 use Rattle.jxlm_part.specs.Reading.{FindsClusters}
-use Rattle.jxlm_part.proofs.CellLaws.{clusters_at, fails_cell, flat_at, is_inner, is_ready, own, reads_cell, room_so, roomy_still, rows_held, stands_further, stands_so}
+use Rattle.jxlm_part.proofs.CellLaws.{clusters_at, fails_cell, flat_at, is_inner, is_ready, flat_there, own, reads_cell, roomy_still, rows_held, stands_further, stands_so}
 use Rattle.jxlm_part.proofs.cell.decode_cell_by.Goals as goal
 
 pub properties_in_row-properties-requires-clause-ready : goal.properties_in_row-properties-requires-clause-ready
@@ -19,6 +20,12 @@ properties_in_row-properties-requires-clause-inner g c inside =
 pub properties_in_row-properties-requires-clause-rows : goal.properties_in_row-properties-requires-clause-rows
 properties_in_row-properties-requires-clause-rows g c =
     rows_held c.args.line.now g.S.Sealed.to_int c.requires.line.line c.args.x c.args.row.now c.requires.at.long c.requires.column c.args.walk.now.state c.requires.at.stands c.args.rows.now c.requires.line.are_rows
+
+pub bounds-line-line : goal.bounds-line-line
+bounds-line-line g c = flat_there c.args.line.now.coding.now c.requires.line.line.here.part.coding c.args.line.now.i c.requires.line.line.here.channel
+
+pub next_sample-requires-clause-current : goal.next_sample-requires-clause-current
+next_sample-requires-clause-current g c κs within = c.properties_in_row-properties.ensures.current
 
 pub next_sample-requires-clause-clusters : goal.next_sample-requires-clause-clusters
 next_sample-requires-clause-clusters g c κs within = clusters_at c.args.line.now.coding.now c.requires.line.line.here.part.coding c.args.line.now.i c.requires.line.line.here.channel _ _ c.requires.at.clusters
@@ -48,16 +55,16 @@ returns g c =
     let at = c.requires.at in
     let sample = c.in_ok-sample.sample in
     let seen = c.properties_in_row-properties.ensures in
-    let fits : FitsSigned w32 c.to_i32.result = search rules in
+    let fits : FitsSigned w32 c.to_i32.result = record { sfits = c.to_i32.type_inv } in
     let number = to_z-of_z w32 c.to_i32.result fits ∙ c.to_i32.ensures.value in
     let after_it = rw number at (c.record_in_row.ensures.stands (setting_of l.coding.now l.i) (own l to_int is c.args.x c.args.row.now at.long c.requires.column) (rw seen.unchanged at.stands)) in
     let same = rw seen.unchanged at c.record_in_row.ensures.room in (
       reads_cell l to_int is c.args.x c.args.row.now at.long c.requires.column g.D.Decoder.meaning g.S.Sealed.width c.args.walk.now.source _ c.requires.line.steps c.next_sample.new.source
           c.properties_in_row-properties.result seen.store (stands_so _ _ _ _ seen.unchanged at.stands) g.S.Sealed.from_int g.met.S.Sealed.to_int_from_int sample c.in_ok-sample.ensures,
       record {
-        long = search rules;
-        stands = stands_further l to_int is c.args.x c.args.row.now at.long c.requires.column sample _ (stands_so _ _ _ _ (search rules) after_it);
-        roomy = roomy_still l.coding.now is.here.part.coding l.i is.here.channel c.args.walk.now.state _ (room_so c.args.walk.now.state _ _ (search rules) same) at.roomy;
+        long = length-set _ _ _ ∙ at.long;
+        stands = stands_further l to_int is c.args.x c.args.row.now at.long c.requires.column sample _ after_it;
+        roomy = roomy_still l.coding.now is.here.part.coding l.i is.here.channel c.args.walk.now.state _ same at.roomy;
         clusters = subst (FindsClusters l.coding.now) (sym c.in_ok-sample.ensures.clusters) at.clusters;
       },
     )

@@ -30,14 +30,14 @@ walked_within (path.Clusters k) t n walked h = h
 walked_within (path.GradientClusters k) t n walked h = absurd (cc)
 walked_within path.Tree t n walked h = h
 
-module _ {D X : Type 0} (l : Line X D) (d : Meaning D) (to_int : X → ℤ) (w : Width) (is : IsLine l) (row : List X) (walk : Walk X D) (at : IsAtCell l d to_int w 0 row walk) where
+module _ {D X : Type 0} {l : Line X D} {d : Meaning D} {to_int : X → ℤ} {w : Width} {row : List X} {walk : Walk X D} (at : IsAtCell l d to_int w 0 row walk) where
   -- at its first cell the state can give the row's properties
-  ready : IsReady walk.state l.store.now
-  ready = is_ready l to_int is 0 row at.long is.here.columns walk.state at.stands
+  ready : IsLine l → IsReady walk.state l.store.now
+  ready is = is_ready l to_int is 0 row at.long is.here.columns walk.state at.stands
 
   -- rows of earlier channels that the state holds there are those of this row
-  with_rows : is_walked l.path ≡ true → (rows : List (EarlierRow X)) → HoldRows walk.state l.store.now rows → IsWalked l rows
-  with_rows walked rows held = record {
+  with_rows : IsLine l → is_walked l.path ≡ true → (rows : List (EarlierRow X)) → HoldRows walk.state l.store.now rows → IsWalked l rows
+  with_rows is walked rows held = record {
     line = is;
     steps = walked_within l.path l.coding.now.config.now.tree (cost_of l.coding.now) walked is.steps;
     are_rows = rows_are l to_int is 0 row at.long is.here.columns walk.state at.stands rows held;
@@ -47,22 +47,18 @@ module _ {D X : Type 0} (l : Line X D) (d : Meaning D) (to_int : X → ℤ) (w :
   first = none_read d (cost_of l.coding.now) (rule_on l d to_int w (bytes_of walk.source.bits)) (map to_int row) walk.source
 
 pub of-earlier-requires-after_bounds : goal.of-earlier-requires-after_bounds
-of-earlier-requires-after_bounds g c κs within =
-    (omega arith, ready c.args.line.now g.D.Decoder.meaning g.S.Sealed.to_int g.S.Sealed.width c.requires.line c.args.row.now c.args.walk.now c.requires.at)
+of-earlier-requires-after_bounds g c κs within = (omega arith, ready c.requires.at c.requires.line)
 
 pub read_cells-requires-clause-line : goal.read_cells-requires-clause-line
-read_cells-requires-clause-line g c κs within =
-    with_rows c.args.line.now g.D.Decoder.meaning g.S.Sealed.to_int g.S.Sealed.width c.requires.line c.args.row.now c.args.walk.now c.requires.at c.requires.walked _ (rw c.rows-rows.ensures c.of-earlier.ensures.held)
+read_cells-requires-clause-line g c κs within = with_rows c.requires.at c.requires.line c.requires.walked _ (rw c.rows-rows.ensures c.of-earlier.ensures.held)
 
 pub returns-in_err-read_cells-clause-gives : goal.returns-in_err-read_cells-clause-gives
 returns-in_err-read_cells-clause-gives g c =
     let p = err_from_is_err_and c.from_residual.result c.from_residual.ensures.1 in
-    rw (p.1, p.2)
-    (c.in_err-read_cells.ensures c.args.walk.now.source (first c.args.line.now g.D.Decoder.meaning g.S.Sealed.to_int g.S.Sealed.width c.requires.line c.args.row.now c.args.walk.now c.requires.at))
+    rw (p.1, p.2) (c.in_err-read_cells.ensures _ (first c.requires.at))
 
 pub read_cells-requires-2-clause-line : goal.read_cells-requires-2-clause-line
-read_cells-requires-2-clause-line g c κs within =
-    with_rows c.args.line.now g.D.Decoder.meaning g.S.Sealed.to_int g.S.Sealed.width c.requires.line c.args.row.now c.args.walk.now c.requires.at c.requires.walked _ (rw c.rows-rows.ensures c.of-earlier.ensures.held)
+read_cells-requires-2-clause-line g c κs within = with_rows c.requires.at c.requires.line c.requires.walked _ (rw c.rows-rows.ensures c.of-earlier.ensures.held)
 
 pub read_cells-requires-2-clause-inner : goal.read_cells-requires-2-clause-inner
 read_cells-requires-2-clause-inner g c κs within inside x after before = subst (λ n. IsAway x c.args.line.now.y n) c.requires.at.long (c.inner_columns-from.ensures.inner x after before)
@@ -70,32 +66,23 @@ read_cells-requires-2-clause-inner g c κs within inside x after before = subst 
 pub returns-in_err-read_cells-2-clause-gives : goal.returns-in_err-read_cells-2-clause-gives
 returns-in_err-read_cells-2-clause-gives g c =
     let p = err_from_is_err_and c.from_residual-in_err-read_cells-2.result c.from_residual-in_err-read_cells-2.ensures.1 in
-    rw (p.1, p.2)
-    (c.in_err-read_cells-2.ensures c.args.walk.now.source
-    (c.in_ok-read_cells.ensures.0 c.args.walk.now.source (first c.args.line.now g.D.Decoder.meaning g.S.Sealed.to_int g.S.Sealed.width c.requires.line c.args.row.now c.args.walk.now c.requires.at)))
+    rw (p.1, p.2) (c.in_err-read_cells-2.ensures _ (c.in_ok-read_cells.ensures.0 _ (first c.requires.at)))
 
 pub read_cells-requires-3-clause-line : goal.read_cells-requires-3-clause-line
-read_cells-requires-3-clause-line g c κs within =
-    with_rows c.args.line.now g.D.Decoder.meaning g.S.Sealed.to_int g.S.Sealed.width c.requires.line c.args.row.now c.args.walk.now c.requires.at c.requires.walked _ (rw c.rows-rows.ensures c.of-earlier.ensures.held)
+read_cells-requires-3-clause-line g c κs within = with_rows c.requires.at c.requires.line c.requires.walked _ (rw c.rows-rows.ensures c.of-earlier.ensures.held)
 
 pub returns-in_err-read_cells-3-clause-gives : goal.returns-in_err-read_cells-3-clause-gives
 returns-in_err-read_cells-3-clause-gives g c =
     let p = err_from_is_err_and c.from_residual-in_err-read_cells-3.result c.from_residual-in_err-read_cells-3.ensures.1 in
-    rw (p.1, p.2)
-    (c.in_err-read_cells-3.ensures c.args.walk.now.source (c.in_ok-read_cells-2.ensures.0 c.args.walk.now.source
-    (c.in_ok-read_cells.ensures.0 c.args.walk.now.source (first c.args.line.now g.D.Decoder.meaning g.S.Sealed.to_int g.S.Sealed.width c.requires.line c.args.row.now c.args.walk.now c.requires.at))))
+    rw (p.1, p.2) (c.in_err-read_cells-3.ensures _ (c.in_ok-read_cells-2.ensures.0 _ (c.in_ok-read_cells.ensures.0 _ (first c.requires.at))))
 
-pub returns-clause-gives : goal.returns-clause-gives
-returns-clause-gives g c =
-    let line = c.args.line.now in
-    let to_int = g.S.Sealed.to_int in
-    let whole : length c.args.row.now ≡ length (map to_int c.read_cells-3.new.row) =
-    let m = length-map c.read_cells-3.new.row to_int in let long = c.in_ok-read_cells-3.ensures.1.long in let before = c.requires.at.long in omega (arith, m, long, before) in
-    subst (λ n. ReadsCells g.D.Decoder.meaning (cost_of line.coding.now) (rule_on line g.D.Decoder.meaning to_int g.S.Sealed.width (bytes_of c.args.walk.now.source.bits)) (map to_int c.read_cells-3.new.row) n c.args.walk.now.source c.read_cells-3.new.walk.source) whole
-    (c.in_ok-read_cells-3.ensures.0 c.args.walk.now.source (c.in_ok-read_cells-2.ensures.0 c.args.walk.now.source
-    (c.in_ok-read_cells.ensures.0 c.args.walk.now.source (first line g.D.Decoder.meaning to_int g.S.Sealed.width c.requires.line c.args.row.now c.args.walk.now c.requires.at))))
-
-pub returns-clause-at : goal.returns-clause-at
-returns-clause-at g c =
-    let whole : length c.args.row.now ≡ length c.read_cells-3.new.row = let long = c.in_ok-read_cells-3.ensures.1.long in let before = c.requires.at.long in omega (arith, long, before) in
-    subst (λ n. IsAtCell c.args.line.now g.D.Decoder.meaning g.S.Sealed.to_int g.S.Sealed.width n c.read_cells-3.new.row c.read_cells-3.new.walk) whole c.in_ok-read_cells-3.ensures.1
+pub returns : goal.returns
+returns g c =
+    let now = c.in_ok-read_cells-3.ensures.1.long in
+    let before = c.requires.at.long in
+    let same : length c.args.row.now ≡ length c.read_cells-3.new.row = omega (arith, now, before) in
+    let whole : length c.args.row.now ≡ length (map g.S.Sealed.to_int c.read_cells-3.new.row) = let m = length-map c.read_cells-3.new.row g.S.Sealed.to_int in omega (arith, m, same) in
+    record {
+      gives = rw (← whole) (c.in_ok-read_cells-3.ensures.0 _ (c.in_ok-read_cells-2.ensures.0 _ (c.in_ok-read_cells.ensures.0 _ (first c.requires.at))));
+      at = rw (← same) c.in_ok-read_cells-3.ensures.1;
+    }

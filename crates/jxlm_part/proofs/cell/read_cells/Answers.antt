@@ -1,4 +1,4 @@
-use Rattle.std.proofs.Common.{◌≡◌, ◌<◌, Ok, map, length, arith, refl, rules, subst}
+use Rattle.std.proofs.Common.{◌≡◌, ◌<◌, Ok, map, length, arith, refl, subst, ◌∙◌}
 use Rattle.std.proofs.lemmas.List.{length-map}
 use Rattle.jxlm_base.specs.Bits.{bytes_of}
 use Rattle.jxlm_part.specs.Inner.Rows.{CellsGive, FailsCell, ReadsCell, rule_on}
@@ -8,6 +8,15 @@ use Rattle.jxlm_part.proofs.cell.read_cells.Goals as goal
 
 pub decode_cell-requires-clause-inner : goal.decode_cell-requires-clause-inner
 decode_cell-requires-clause-inner g c κs within inside = c.requires.inner inside c.loop-x.x c.loop-x.invariant.from c.loop-x-test.true
+
+pub decode_cell-requires-clause-line : goal.decode_cell-requires-clause-line
+decode_cell-requires-clause-line g c κs within = c.requires.line
+
+pub decode_cell-requires-clause-column : goal.decode_cell-requires-clause-column
+decode_cell-requires-clause-column g c κs within = let test = c.loop-x-test.true in let row = c.requires.in_row in omega (arith, test, row)
+
+pub decode_cell-requires-clause-at : goal.decode_cell-requires-clause-at
+decode_cell-requires-clause-at g c κs within = c.loop-x.invariant.reads.1
 
 pub loop-x-init : goal.loop-x-init
 loop-x-init g c = record { len = refl; from = omega arith; reads = (λ start h. h, c.requires.at) }
@@ -24,7 +33,7 @@ loop-x-preserved g c =
     let long = c.loop-x.invariant.reads.1.long in
     let inside : c.loop-x.x < length (map to_int row) = let m = length-map row to_int in omega (arith, m, long, c.requires.in_row, c.loop-x-test.true) in
     record {
-      len = search rules;
+      len = c.decode_cell.auto.row ∙ c.loop-x.invariant.len;
       from = omega (arith, from);
       reads = (
         λ start h.

@@ -1,4 +1,4 @@
-use Rattle.std.proofs.Common.{◌≡◌, ℕ, ◌+◌, ◌<◌, sym, subst, arith}
+use Rattle.std.proofs.Common.{◌≡◌, ℕ, ◌+◌, ◌<◌, sym, arith}
 use Rattle.std.proofs.lemmas.List.{length-take-le}
 use Rattle.jxlm_tree.specs.declared.state.PredictorState.{PredictorState}
 use Rattle.jxlm_part.specs.Inner.Channels.{IsAfterChannel, region_at}
@@ -12,12 +12,8 @@ use Rattle.jxlm_part.proofs.decode.decode_channel.Goals.{then-region-eq0-via-the
 use Rattle.jxlm_part.proofs.decode.decode_channel.Goals as goal
 
 -- a channel without columns or rows has no state after it
-module _ {D X : Type 0} (c : PartCoding D) (i : ℕ) (state : PredictorState X) where
-  no_columns : (region_at (regions_of c) i).width ≡ 0 → IsAfterChannel c (i + 1) state
-  no_columns none last is wide high walked = let e : last ≡ i = omega (arith, is) in let w = subst (λ n. 0 < (region_at (regions_of c) n).width) e wide in absurd (omega (arith, w, none))
-
-  no_rows : (region_at (regions_of c) i).height ≡ 0 → IsAfterChannel c (i + 1) state
-  no_rows none last is wide high walked = let e : last ≡ i = omega (arith, is) in let h = subst (λ n. 0 < (region_at (regions_of c) n).height) e high in absurd (omega (arith, h, none))
+no_cells : {D X : Type 0} (c : PartCoding D) (i : ℕ) (state : PredictorState X) → (0 < (region_at (regions_of c) i).width → 0 < (region_at (regions_of c) i).height → ⊥) → IsAfterChannel c (i + 1) state
+no_cells c i state none last is wide high walked = let e : last ≡ i = omega (arith, is) in absurd ((rw (← e) at none) wide high)
 
 pub slice_bounds-row-end : goal.slice_bounds-row-end
 slice_bounds-row-end g c = let n = fits_widest c.args.coding.now c.requires.at.part.coding c.args.i c.requires.channel (omega (arith, c.if-region-eq0-2.false)) in omega (arith, n, c.requires.room)
@@ -61,8 +57,8 @@ returns-then-region-eq0-clause-at g c = record {
   part = c.requires.at.part;
   ready = c.requires.at.ready;
   last = elim c.then-region-eq0.branch [
-    | then-region-eq0-via-then-region-eq0 w ↦ no_columns c.args.coding.now c.args.i c.args.walk.now.state w.if-region-eq0.true
-    | then-region-eq0-via-else-region-eq0+then-region-eq0-2 w ↦ no_rows c.args.coding.now c.args.i c.args.walk.now.state w.if-region-eq0-2.true
+    | then-region-eq0-via-then-region-eq0 w ↦ no_cells c.args.coding.now c.args.i c.args.walk.now.state (λ wide high. omega (arith, w.if-region-eq0.true, wide))
+    | then-region-eq0-via-else-region-eq0+then-region-eq0-2 w ↦ no_cells c.args.coding.now c.args.i c.args.walk.now.state (λ wide high. omega (arith, w.if-region-eq0-2.true, high))
   ];
 }
 
