@@ -229,9 +229,9 @@ pub record ComesAfterAlike {D X : Type 0} (c : PartCoding D) (i : ℕ) (state : 
   pub asks : 0 < asked_at c i
   pub asked : 0 < asked_at c (i - 1)
 
-pub comes_after_alike : {D X : Type 0} {c : PartCoding D} {i : ℕ} {state : PredictorState X} (n : IsNext c i state) (o p q : ChannelTree) (a b : Channel) → 0 < (slice_index_or c.flats.now i o).asked →
-    is_some (slice_index_or c.flats.now (i - 1) p).alone ≡ false → 0 < (slice_index_or c.flats.now (i - 1) q).asked → true ≡ is_alike (get_or c.channels.now (i - 1) a) (get_or c.channels.now i b) → ComesAfterAlike c i state
-comes_after_alike {c = c} {i = i} {state = state} n o p q a b some none asked same =
+pub comes_after_alike : {D X : Type 0} {c : PartCoding D} {i : ℕ} {state : PredictorState X} (n : IsNext c i state) (o p : ChannelTree) (a b : Channel) → 0 < (slice_index_or c.flats.now i o).asked →
+    is_some (slice_index_or c.flats.now (i - 1) p).alone ≡ false → 0 < (slice_index_or c.flats.now (i - 1) p).asked → true ≡ is_alike (get_or c.channels.now (i - 1) a) (get_or c.channels.now i b) → ComesAfterAlike c i state
+comes_after_alike {c = c} {i = i} {state = state} n o p a b some none asked same =
     let later = is_later c n.coding i n.channel o some in
     let next : i ≡ i - 1 + 1 = omega (arith, later) in
     let li = n.channel in
@@ -243,7 +243,7 @@ comes_after_alike {c = c} {i = i} {state = state} n o p q a b some none asked sa
       alike = alike;
       stood = was_last c n.coding i li (i - 1) next alike state n.columns n.rows (walked_at c n.coding (i - 1) le p none) n.last;
       asks = rw (asked_is c n.coding i li o) some;
-      asked = rw (asked_is c n.coding (i - 1) le q) asked;
+      asked = rw (asked_is c n.coding (i - 1) le p) asked;
     }
 
 module _ {D X : Type 0} (c : PartCoding D) (i : ℕ) where

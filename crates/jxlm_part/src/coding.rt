@@ -104,19 +104,22 @@ pub(crate) fn start_channel<S: Sample, D: Decoder>(
     ensures stands { (store : List (Grid S)) → StandsAfter coding.now S.to_int store i 0 state.new }
     ensures roomy { HasRoom coding.now state.new }
 {
-    let width = coding.regions[i].width as u32;
-    let weighted = coding.flats[i].weighted;
-    if coding.flats[i].asked == 0 {
-        state.restart_by(width, weighted);
-    } else if coding.flats[i - 1].alone.is_none()
-        && coding.flats[i - 1].asked > 0
-        && coding.flats[i - 1].weighted == weighted
-        && is_alike(&coding.channels[i - 1], &coding.channels[i])
-    {
-        state.restart_alike();
-        state.add_earlier(coding.regions[i - 1]);
-    } else {
-        state.restart_by(width, weighted);
+    let here = &coding.flats[i];
+    if here.asked > 0 {
+        let before = i - 1;
+        let last = &coding.flats[before];
+        if last.alone.is_none()
+            && last.asked > 0
+            && last.weighted == here.weighted
+            && is_alike(&coding.channels[before], &coding.channels[i])
+        {
+            state.restart_alike();
+            state.add_earlier(coding.regions[before]);
+            return;
+        }
+    }
+    state.restart_by(coding.regions[i].width as u32, here.weighted);
+    if here.asked > 0 {
         add_all_earlier(state, coding, i);
     }
 }
