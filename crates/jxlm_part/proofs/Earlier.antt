@@ -43,20 +43,14 @@ module _ (channels : List Channel) (i : ℕ) where
   earlier_all Q f holds = all_pass (λ e. is_alike (channel channels e) (channel channels i)) Q f i i (omega arith) holds
 
 -- channels that are alike are the same in sizes and shifts
-pub record SameKind (a b : Channel) : Type 0 where
-  pub width : a.width ≡ b.width
-  pub height : a.height ≡ b.height
-  pub hshift : a.hshift ≡ b.hshift
-  pub vshift : a.vshift ≡ b.vshift
-
-pub same_kind : (a b : Channel) → is_alike a b ≡ true → SameKind a b
-same_kind a b h = record { width = search (rules, h); height = search (rules, h); hshift = search (rules, h); vshift = search (rules, h) }
+same_kind : (a b : Channel) → is_alike a b ≡ true → (a.width ≡ b.width) × (a.height ≡ b.height) × (a.hshift ≡ b.hshift) × (a.vshift ≡ b.vshift)
+same_kind a b h = (search (rules, h), search (rules, h), search (rules, h), search (rules, h))
 
 -- so the same channels are like them
 pub same_alike : (channels : List Channel) (a b : Channel) (n : ℕ) → is_alike a b ≡ true →
     filter (λ e. is_alike (channel channels e) a) (downward n) ≡ filter (λ e. is_alike (channel channels e) b) (downward n)
-same_alike channels a b n h = let k = same_kind a b h in rw (k.width, k.height, k.hshift, k.vshift) refl
+same_alike channels a b n h = let k = same_kind a b h in rw (k.0, k.1, k.2, k.3) refl
 
--- channels that are alike have one size
+-- and they have one size
 pub same_sides : (a b : Channel) → is_alike a b ≡ true → (a.width ≡ b.width) × (a.height ≡ b.height)
-same_sides a b h = (search (rules, h), search (rules, h))
+same_sides a b h = let k = same_kind a b h in (k.0, k.1)

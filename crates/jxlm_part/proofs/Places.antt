@@ -89,12 +89,6 @@ first_samples channels grids i j s l =
     let all_of : length (take j (grid grids i).cells) ≤ n = omega (arith, l, length-take-le j (grid grids i).cells short) in
     ap (take n) (drop-take b j (cells_of grids) ∙ ap (take j) s.from ∙ take-append-le j (grid grids i).cells s.rest short) ∙ take_all n (take j (grid grids i).cells) all_of
 
-abbrev grid_with : ℕ → ℕ → List ℤ → Grid ℤ
-grid_with w h cs = record { width = w; height = h; cells = cs }
-
-same_grid : (w h v u : ℕ) (cs ds : List ℤ) → w ≡ v → h ≡ u → cs ≡ ds → grid_with w h cs ≡ grid_with v u ds
-same_grid w h v u cs ds a b c = rw (a, b, c) refl
-
 pub each_sees_before : EachSeesBefore
 each_sees_before channels grids i j fit l h =
     let b = cells_before channels i in
@@ -108,5 +102,5 @@ each_sees_before channels grids i j fit l h =
       earlier = λ e before.
           let t = split channels grids e fit (omega (arith, before, l)) in
           let o = in_order channels e i before l in
-          same_grid _ _ _ _ _ _ t.wide t.high (whole_samples channels grids e (b + j) t (omega (arith, o)));
+          rw (whole_samples channels grids e (b + j) t (omega (arith, o)), t.wide, t.high) refl;
     }

@@ -7,7 +7,7 @@ use Rattle.std.proofs.lemmas.Bool.{cases_lt}
 use Rattle.std.proofs.lemmas.List.{take-take, take_more_same}
 use Rattle.std.proofs.lemmas.Option.{slice_get_within, get_or_from_slice_get}
 use Rattle.jxlm_base.specs.declared.decoder.DecoderError.{DecoderError}
-use Rattle.jxlm_base.specs.Decoding.{Found, Taken, Meaning}
+use Rattle.jxlm_base.specs.Decoding.{Taken, Meaning}
 use Rattle.jxlm_base.specs.Grid.{Grid}
 use Rattle.jxlm_part.specs.Part.{Part, cell_count, cells_of}
 use Rattle.jxlm_part.specs.Rule.{Rule, CodedPrefix}
@@ -32,6 +32,9 @@ take_same f g k v h a b =
 get_after : (xs ys : List ℤ) (n : ℕ) → slice_get (xs ++ ys) (length xs + n) ≡ slice_get ys n
 get_after [] ys n = let same : 0 + n ≡ n = omega arith in ap (slice_get ys) same
 get_after (x ∷ xs) ys n = let same : suc (length xs) + n ≡ suc (length xs + n) = omega arith in ap (slice_get (x ∷ xs ++ ys)) same ∙ get_after xs ys n
+
+one_result : {A : Type 0} (x y : A) (r : Result A DecoderError) → r ≡ Ok x → r ≡ Ok y → x ≡ y
+one_result x y r h k = cc
 
 module _ {S : Type 0} (rule : Rule S) (s0 : S) (p0 : ℕ) where
   -- a prefix depends on its own cells alone
@@ -71,15 +74,12 @@ module _ {S : Type 0} (rule : Rule S) (s0 : S) (p0 : ℕ) where
     pub place : p ≡ q
     pub cells : take k f ≡ take k g
 
-  same_taken : (x y : Taken ℕ S) (r : Result (Taken ℕ S) DecoderError) → r ≡ Ok x → r ≡ Ok y → x ≡ y
-  same_taken x y r h k = cc
-
   pub prefix_one : (f g : List ℤ) (k : ℕ) (s t : S) (p q : ℕ) → CodedPrefix rule f s0 p0 k s p → CodedPrefix rule g s0 p0 k t q → One k f g s t p q
   prefix_one f g zero s t p q h i = record { state = h.0 ∙ sym i.0; place = h.1 ∙ sym i.1; cells = refl }
   prefix_one f g (suc k) s t p q h i =
       let before = prefix_one f g k h.0 i.0 h.1 i.1 h.3 i.3 in
       let other : rule.read (take k f) h.0 h.1 ≡ Ok (record { value = i.2; state = t; position = q }) = rw (before.state, before.place, before.cells) i.4 in
-      let same = same_taken _ _ (rule.read (take k f) h.0 h.1) h.4 other in
+      let same = one_result _ _ (rule.read (take k f) h.0 h.1) h.4 other in
       let token : h.2 ≡ i.2 = ap (λ (x : Taken ℕ S). x.value) same in
       let cell : slice_get g k ≡ Some (rule.value (take k f) h.2) = rw (token, before.cells) i.5 in
       record {
@@ -101,9 +101,6 @@ module _ {S : Type 0} (rule : Rule S) (s0 : S) (p0 : ℕ) where
 clash : {A : Type 0} (r : Result A DecoderError) (x : A) (e : DecoderError) → r ≡ Ok x → r ≡ Err e → ⊥
 clash r x e h k = cc
 
-same_found : {S : Type 0} (x y : Found S) (r : Result (Found S) DecoderError) → r ≡ Ok x → r ≡ Ok y → x ≡ y
-same_found x y r h k = cc
-
 -- Where some grids are coded to the end, decoding returns no error: begin, each read and finalize have one result.
 pub coded_or_fails : {S : Type 0} (d : Meaning S) (w : Width) (part : Part) (bytes : List ℕ) (decoder : S) (old new : Standing) (e : DecoderError) (tried : ℕ) (grids : List (Grid ℤ)) (r : ℕ) →
     IsCodedToTheEnd d w part bytes decoder old.position grids r → Fails d w part bytes decoder old new e tried → ⊥
@@ -111,7 +108,7 @@ coded_or_fails {S} d w part bytes decoder old new e tried grids r whole (cells, 
 coded_or_fails {S} d w part bytes decoder old new e tried grids r whole (cells, inr later) =
     let f = later.fails in
     let n = later.count in
-    let x = same_found _ _ (d.begin decoder bytes old.position) whole.coded.begins f.coded.begins in
+    let x = one_result _ _ (d.begin decoder bytes old.position) whole.coded.begins f.coded.begins in
     let rule = part_rule d w part bytes in
     elim f.error [
       | inl read ↦

@@ -2,7 +2,8 @@
 use Rattle.std.proofs.Common.{◌≡◌, ℕ, zero, suc, ◌+◌, ◌<◌, ◌≤◌, List, [], ◌∷◌, ◌++◌, Contains, length, take, map, Some, refl, sym, ap, ◌∙◌, subst, arith, ℤ, pos}
 use Rattle.std.specs.Prelude.{replicate, slice_get, slice_set}
 use Rattle.std.specs.Int.{Width}
-use Rattle.std.proofs.lemmas.List.{length-map, length-replicate, map-set, replicate_more, take_more_set}
+use Rattle.std.proofs.lemmas.List.{get_or-replicate, length-map, length-replicate, map-set, replicate_more, take_more_set}
+use Rattle.std.proofs.lemmas.Option.{slice_get-get_or}
 use Rattle.jxlm_base.specs.Bits.{bytes_of, position_of}
 use Rattle.jxlm_base.specs.Decoding.{IsLawful, Meaning}
 use Rattle.jxlm_ma.specs.declared.flat.Leaf.{Leaf}
@@ -13,9 +14,7 @@ use Rattle.jxlm_part.specs.declared.source.Source.{Source}
 use Rattle.jxlm_part.specs.Rule.{Rule, CodedPrefix}
 
 get_filled : (n k : ℕ) (v : ℤ) → k < n → slice_get (replicate n v) k ≡ Some v
-get_filled zero k v inside = absurd (omega arith)
-get_filled (suc n) zero v inside = refl
-get_filled (suc n) (suc k) v inside = get_filled n k v (omega arith)
+get_filled n k v inside = slice_get-get_or (replicate n v) k v (omega (arith, inside, length-replicate n v)) ∙ ap Some (get_or-replicate n k v v inside)
 
 -- one cell more is filled
 pub fill_more : {X : Type 0} (to_int : X → ℤ) (row : List X) (x : ℕ) (v : X) (z : ℤ) → x < length row → take x (map to_int row) ≡ replicate x z → to_int v ≡ z →
