@@ -125,6 +125,7 @@ module _ {D X : Type 0} (part : Part) (regions : List Region) (d : Meaning D) (w
     pub memory : e ≢ OutOfMemory
     pub bytes : bytes_of new.source.bits ≡ bytes_of old.source.bits
 
+  -- one of the two, by what was returned
   abbrev pub PartGives : Moment D X → Moment D X → Result (Unit {0}) DecoderError → Type 0
   PartGives old new (Ok u) = IsPartDecoded old new
   PartGives old new (Err e) = FailsInPart old new e
