@@ -1,7 +1,6 @@
 -- What decoding a part that lies in a store returns.
-use Rattle.std.proofs.Common.{◌≡◌, ℕ, zero, suc, ◌*◌, ◌<◌, List, length, Bool, true, false, refl, ap, ◌∙◌, sym, arith, ℤ, inl, inr, Result, Ok, Err}
+use Rattle.std.proofs.Common.{◌≡◌, ◌≢◌, ℕ, zero, suc, ◌+◌, ◌*◌, ◌<◌, ◌≤◌, List, length, Bool, true, false, refl, ap, ◌∙◌, sym, arith, ℤ, inl, inr, Result, Ok, Err}
 use Rattle.std.specs.Int.{Width}
-use Rattle.jxlm_base.specs.Bits.{bytes_of, position_of}
 use Rattle.jxlm_base.specs.Decoding.{Meaning}
 use Rattle.jxlm_base.specs.Grid.{Grid}
 use Rattle.jxlm_base.specs.Regions.{store_meanings}
@@ -17,7 +16,7 @@ use Rattle.jxlm_part.specs.Inner.Levels.{HasRooms}
 use Rattle.jxlm_part.specs.Inner.Ready.{IsReadyFor}
 use Rattle.jxlm_part.specs.Part.{Part, cell_count, max_width}
 use Rattle.jxlm_part.specs.Placed.{PartLies, standing_in}
-use Rattle.jxlm_part.specs.Inner.Progress.{FailsInPart, IsPartDecoded, Moment}
+use Rattle.jxlm_part.specs.Progress.{DecodesAll, DecodesSome}
 use Rattle.jxlm_part.specs.Reading.{IsCodingOf, regions_of, state_width}
 use Rattle.jxlm_part.specs.declared.coding.PartCoding.{PartCoding}
 use Rattle.jxlm_part.specs.declared.coding.Ready.{Ready}
@@ -49,47 +48,55 @@ none_is : (n : ℕ) → (0 < n → ⊥) → n ≡ 0
 none_is zero h = refl
 none_is (suc n) h = absurd (h (omega arith))
 
--- there are no samples
-pub answers_empty : {S D : Type 0} (d : Meaning D) (w : Width) (to_int : S → ℤ) (bytes : List ℕ) (part : Part) (regions : List Region) (decoder : D) (store : List (Grid S)) (p : ℕ) (partial allow : Bool) (steps : ℕ) →
-    AreRegionsOf part.channels regions → (0 < cell_count part.channels → ⊥) →
-    (tried : ℕ) × DecodeGives d w part bytes decoder (standing_in to_int regions store p partial) (standing_in to_int regions store p false) allow (Ok tt) tried × MovesWithin steps steps (tried * most_steps part.tree)
-answers_empty d w to_int bytes part regions decoder store p partial allow steps sizes none = (
-  cell_count part.channels,
-  inl (record {
-    coded = inr (none_is (cell_count part.channels) none, refl);
-    fits = fits_in part.channels regions (store_meanings to_int store) sizes;
-    whole = refl;
-    tries = refl;
-  }),
-  (omega arith, omega arith),
-)
+module _ {S D : Type 0} (d : Meaning D) (w : Width) (to_int : S → ℤ) (bytes : List ℕ) (part : Part) (regions : List Region) (decoder : D)
+    (old : List (Grid S)) (p : ℕ) (partial : Bool) where
+  abbrev cost : ℕ
+  cost = most_steps part.tree
 
--- what is returned and left, and how many steps were taken
-abbrev Answers : {S D : Type 0} → Part → List Region → Meaning D → Width → (S → ℤ) → Moment D S → Moment D S → Bool → Bool → Bool → Result (Unit {0}) Error → Type 0
-Answers part regions d w to_int old new partial still allow result =
-    (tried : ℕ) × DecodeGives d w part (bytes_of old.source.bits) old.source.decoder (standing_in to_int regions old.store (position_of old.source.bits) partial)
-    (standing_in to_int regions new.store (position_of new.source.bits) still) allow result tried × MovesWithin old.source.steps new.source.steps (tried * most_steps part.tree)
+  -- what is returned, and how many steps were taken
+  abbrev Answers : Bool → List (Grid S) → ℕ → Bool → Result (Unit {0}) Error → ℕ → ℕ → Type 0
+  Answers allow new q still result before after =
+      (tried : ℕ) × DecodeGives d w part bytes decoder (standing_in to_int regions old p partial) (standing_in to_int regions new q still) allow result tried
+      × MovesWithin before after (tried * cost)
 
-module _ {S D : Type 0} {part : Part} {regions : List Region} {d : Meaning D} {w : Width} {to_int : S → ℤ} {old new : Moment D S} (partial : Bool) (cells : 0 < cell_count part.channels) where
   -- the samples are coded to the end
-  pub answers_whole : (allow : Bool) → IsPartDecoded part regions d w to_int old new → Answers part regions d w to_int old new partial false allow (Ok tt)
-  answers_whole allow h = (
+  pub answers_whole : (allow : Bool) (new : List (Grid S)) (q before after : ℕ) → 0 < cell_count part.channels →
+      DecodesAll d w part bytes regions decoder (store_meanings to_int old) p (store_meanings to_int new) q →
+      before ≤ after → after ≤ before + cell_count part.channels * cost → Answers allow new q false (Ok tt) before after
+  answers_whole allow new q before after cells all more work = (
     cell_count part.channels,
     inl (record {
-      coded = inl (cells, h.decodes.0);
-      fits = h.decodes.1;
+      coded = inl (cells, all.0);
+      fits = all.1;
       whole = refl;
       tries = refl;
     }),
-    (h.more, h.work),
+    (more, work),
   )
 
-  -- the input ends, and that is allowed
-  pub answers_partial : FailsInPart part regions d w to_int old new UnexpectedEof → Answers part regions d w to_int old new partial partial true (Ok tt)
-  answers_partial h = let f = h.decodes partial cells in (f.0, inr (refl, f.1), (h.more, f.2))
+  -- there are no samples
+  pub answers_empty : (allow : Bool) (before : ℕ) → AreRegionsOf part.channels regions → (0 < cell_count part.channels → ⊥) → Answers allow old p false (Ok tt) before before
+  answers_empty allow before sizes none = (
+    cell_count part.channels,
+    inl (record {
+      coded = inr (none_is (cell_count part.channels) none, refl);
+      fits = fits_in part.channels regions (store_meanings to_int old) sizes;
+      whole = refl;
+      tries = refl;
+    }),
+    (omega arith, omega arith),
+  )
 
-  -- the decoder returns an error
-  pub answers_error : (allow : Bool) (e : DecoderError) → (e ≡ UnexpectedEof → allow ≡ false) → FailsInPart part regions d w to_int old new e → Answers part regions d w to_int old new partial partial allow (Err (Decoder e))
-  answers_error allow UnexpectedEof denied h = let f = h.decodes partial cells in (f.0, (denied refl, f.1), (h.more, f.2))
-  answers_error allow (Invalid k) denied h = let f = h.decodes partial cells in (f.0, f.1, (h.more, f.2))
-  answers_error allow OutOfMemory denied h = absurd (h.memory refl)
+  module _ (new : List (Grid S)) (q before after : ℕ) (cells : 0 < cell_count part.channels) (more : before ≤ after) where
+    -- the input ends, and that is allowed
+    pub answers_partial : DecodesSome d w part bytes regions decoder (store_meanings to_int old) p (store_meanings to_int new) q cost before after UnexpectedEof →
+        Answers true new q partial (Ok tt) before after
+    answers_partial some = let f = some partial cells in (f.0, inr (refl, f.1), (more, f.2))
+
+    -- the decoder returns an error
+    pub answers_error : (allow : Bool) (e : DecoderError) → e ≢ OutOfMemory → (e ≡ UnexpectedEof → allow ≡ false) →
+        DecodesSome d w part bytes regions decoder (store_meanings to_int old) p (store_meanings to_int new) q cost before after e →
+        Answers allow new q partial (Err (Decoder e)) before after
+    answers_error allow UnexpectedEof ne denied some = let f = some partial cells in (f.0, (denied refl, f.1), (more, f.2))
+    answers_error allow (Invalid k) ne denied some = let f = some partial cells in (f.0, f.1, (more, f.2))
+    answers_error allow OutOfMemory ne denied some = absurd (ne refl)

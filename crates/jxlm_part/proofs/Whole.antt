@@ -10,7 +10,7 @@ use Rattle.jxlm_base.proofs.Outside.{keeps_all}
 use Rattle.jxlm_transform.specs.Channels.{AreRegionsOf}
 use Rattle.jxlm_part.specs.Part.{cell_count}
 use Rattle.jxlm_part.specs.Progress.{grids_in}
-use Rattle.jxlm_part.specs.Inner.Progress.{DecodesCells, FailsInCells, FailsInPart, IsPartDecoded, Moment, Reached, TakesSteps, moment, source_of}
+use Rattle.jxlm_part.specs.Inner.Progress.{DecodesCells, FailsInCells, FailsInPart, IsPartDecoded, Moment, Reached, TakesSteps, moment}
 use Rattle.jxlm_part.specs.declared.source.Source.{Source}
 use Rattle.jxlm_part.specs.Reading.{cost_of, part_of, regions_of}
 use Rattle.jxlm_part.specs.declared.coding.PartCoding.{PartCoding}
@@ -24,10 +24,10 @@ module _ {D X : Type 0} (c : PartCoding D) (d : Meaning D) (law : IsLawful d) (w
   begin_here = d.begin old.source.decoder (bytes_of old.source.bits) (position_of old.source.bits)
 
   abbrev after : D → Bitstream → Source D
-  after decoder bits = source_of decoder bits old.source.steps
+  after decoder bits = record { decoder = decoder; bits = bits; steps = old.source.steps }
 
   pub part_not_begun : (decoder : D) (bits : Bitstream) (e : DecoderError) → begin_here ≡ Err e → position_of bits ≡ position_of old.source.bits → bytes_of bits ≡ bytes_of old.source.bits →
-      FailsInPart (part_of c) (regions_of c) d w to_int old (moment (after decoder bits) old.store) e
+      FailsInPart c d w to_int old (moment (after decoder bits) old.store) e
   part_not_begun decoder bits e error place same = record {
     decodes = λ partial some. (0, (some, inl (record { error = error; unchanged = rw place refl; tries = refl })), omega arith);
     more = omega arith;
@@ -51,7 +51,7 @@ module _ {D X : Type 0} (c : PartCoding D) (d : Meaning D) (law : IsLawful d) (w
       fits = fits_in (part_of c).channels (regions_of c) (store_meanings to_int old.store) sizes;
     }
 
-    pub part_fails : (e : DecoderError) → FailsInCells c d w to_int 0 (moment (after decoder bits) old.store) new e → FailsInPart (part_of c) (regions_of c) d w to_int old new e
+    pub part_fails : (e : DecoderError) → FailsInCells c d w to_int 0 (moment (after decoder bits) old.store) new e → FailsInPart c d w to_int old new e
     part_fails e f =
         let at = (simp same at f.stops) old.source.decoder (position_of old.source.bits) _ begun in
         let r = at.0 in
@@ -83,7 +83,7 @@ module _ {D X : Type 0} (c : PartCoding D) (d : Meaning D) (law : IsLawful d) (w
       few : new.source.steps ≤ old.source.steps + cell_count (part_of c).channels * cost_of c
       few = steps_from (cost_of c) (cell_count (part_of c).channels) old.source.steps new.source.steps f.work
 
-      pub part_refused : (e : DecoderError) → d.finalize new.source.decoder ≡ Err e → FailsInPart (part_of c) (regions_of c) d w to_int old new e
+      pub part_refused : (e : DecoderError) → d.finalize new.source.decoder ≡ Err e → FailsInPart c d w to_int old new e
       part_refused e error = record {
         decodes = λ partial some. (
           cell_count (part_of c).channels,
@@ -105,7 +105,7 @@ module _ {D X : Type 0} (c : PartCoding D) (d : Meaning D) (law : IsLawful d) (w
         bytes = f.bytes ∙ same;
       }
 
-      pub part_decoded : d.finalize new.source.decoder ≡ Ok tt → IsPartDecoded (part_of c) (regions_of c) d w to_int old new
+      pub part_decoded : d.finalize new.source.decoder ≡ Ok tt → IsPartDecoded c d w to_int old new
       part_decoded accepts = record {
         decodes = (record { state = new.source.decoder; coded = all_read.coded; accepts = accepts }, all_read.fits);
         work = few;

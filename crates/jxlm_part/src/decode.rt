@@ -195,7 +195,7 @@ pub(crate) fn decode_part<'x, S: Sample, D: Decoder>(
     requires part { IsDecodingPart coding.now store.old }
     requires clusters { FindsClusters coding.now (D.meaning.cluster_map walk.old.source.decoder) }
     requires rooms { HasRooms coding.now walk.old.state scratch.old }
-    ensures { PartGives (part_of coding.now) (regions_of coding.now) D.meaning S.width S.to_int
+    ensures { PartGives coding.now D.meaning S.width S.to_int
         (moment walk.old.source store.old) (moment walk.new.source store.new) result }
 {
     let mut bits = walk.source.bits;

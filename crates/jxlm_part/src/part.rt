@@ -11,7 +11,6 @@ ghost use Rattle.jxlm_part.specs.Part.{cell_count};
 ghost use Rattle.jxlm_part.specs.Reading.{sampled_width as the_sampled_width};
 ghost use Rattle.jxlm_part.specs.Placed.{PartLies, most_steps, part_placed, standing_in};
 ghost use Rattle.jxlm_part.specs.Progress.{KeepsOutside};
-ghost use Rattle.jxlm_part.specs.Inner.Progress.{PartGives, moment, source_of};
 ghost use Rattle.jxlm_part.specs.Inner.Ready.{IsReadyFor};
 
 use crate::channels::{have_samples, max_width, sampled_width, walked_width};
@@ -19,7 +18,7 @@ use crate::coding::{PartCoding, PartState, Ready, flat_trees, roomy_state};
 use crate::decode::decode_part;
 use crate::source::{Source, Walk};
 use jxlm_base::bits::Bitstream;
-use jxlm_base::decoder::{Decoder, DecoderError};
+use jxlm_base::decoder::Decoder;
 use jxlm_base::error::{Error, Result};
 use jxlm_base::grid::{AlignedGrid, Region};
 use jxlm_base::sample::Sample;
@@ -80,55 +79,6 @@ impl<'a, D: Decoder> PlacedPart<'a, D> {
         })
     }
 
-    /// Decodes all samples of the part with what was made ready for it.
-    ///
-    /// # Errors
-    ///
-    /// The decoder's, of its first call that returned one.
-    fn decode_with<S: Sample>(
-        &self,
-        ready: Ready<S, D>,
-        bits: &mut Bitstream<'_>,
-        store: &mut [AlignedGrid<S>],
-        steps: &mut Steps,
-    ) -> std::result::Result<(), DecoderError>
-        requires lies { PartLies self.now store.old }
-        requires ready { IsReadyFor self.now ready }
-        requires clusters { ClustersStandIn (D.meaning.cluster_map ready.decoder) self.now.config.now.tree }
-        ensures { (decoder : D) × PartGives (part_placed self.now) self.now.regions.now D.meaning S.width S.to_int
-            (moment (source_of self.now.config.now.decoder bits.old steps.old) store.old)
-            (moment (source_of decoder bits.new steps.new) store.new) result }
-    {
-        let Ready {
-            decoder,
-            flats,
-            state,
-        } = ready;
-        let coding = PartCoding {
-            channels: self.channels,
-            regions: self.regions,
-            config: self.config,
-            flats: &flats,
-            weights: self.weights,
-            stream_index: self.stream_index,
-            widest: max_width(self.channels),
-        };
-        let PartState { predictor, mut row } = state;
-        let mut walk = Walk {
-            source: Source {
-                decoder,
-                bits: *bits,
-                steps: mem::replace(steps, Steps::new()),
-            },
-            state: predictor,
-        };
-        let decoded = decode_part(&mut walk, &coding, store, &mut row);
-        let Walk { source, .. } = walk;
-        *bits = source.bits;
-        *steps = source.steps;
-        decoded
-    }
-
     /// Decodes all samples of the part, into its regions of the store (ISO/IEC 18181-1, Modular: decoding of samples).
     /// All memory is taken before the first bit is read. `partial` becomes false where the part is decoded whole.
     ///
@@ -160,8 +110,33 @@ impl<'a, D: Decoder> PlacedPart<'a, D> {
             *partial = false;
             return Ok(());
         }
-        let ready = self.ready(alloc)?;
-        let decoded = self.decode_with(ready, bits, store, steps);
+        let Ready {
+            decoder,
+            flats,
+            state,
+        } = self.ready(alloc)?;
+        let coding = PartCoding {
+            channels: self.channels,
+            regions: self.regions,
+            config: self.config,
+            flats: &flats,
+            weights: self.weights,
+            stream_index: self.stream_index,
+            widest: max_width(self.channels),
+        };
+        let PartState { predictor, mut row } = state;
+        let mut walk = Walk {
+            source: Source {
+                decoder,
+                bits: *bits,
+                steps: mem::replace(steps, Steps::new()),
+            },
+            state: predictor,
+        };
+        let decoded = decode_part(&mut walk, &coding, store, &mut row);
+        let Walk { source, .. } = walk;
+        *bits = source.bits;
+        *steps = source.steps;
         match decoded {
             Ok(()) => *partial = false,
             Err(e) if allow_partial && e.unexpected_eof() => {}

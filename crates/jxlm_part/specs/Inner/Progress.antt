@@ -6,11 +6,9 @@ use Rattle.jxlm_base.specs.Decoding.{Meaning}
 use Rattle.jxlm_base.specs.Grid.{Grid}
 use Rattle.jxlm_base.specs.Outside.{KeepsOutside}
 use Rattle.jxlm_base.specs.Regions.{grids_in, store_meanings}
-use Rattle.jxlm_base.specs.declared.bits.Bitstream.{Bitstream}
 use Rattle.jxlm_base.specs.declared.decoder.DecoderError.{DecoderError}
 use Rattle.jxlm_base.specs.declared.decoder.DecoderError.TheVariants.{OutOfMemory}
 use Rattle.jxlm_base.specs.declared.subgrid.Region.{Region}
-use Rattle.jxlm_ma.specs.Steps.{most_steps}
 use Rattle.jxlm_transform.specs.Channels.{AreGridsOf}
 use Rattle.jxlm_part.specs.Coded.{part_rule, IsCoded}
 use Rattle.jxlm_part.specs.Progress.{DecodesAll, DecodesSome}
@@ -70,10 +68,6 @@ pub record Moment (D X : Type 0) : Type 0 where
 abbrev pub moment : {D X : Type 0} → Source D → List (Grid X) → Moment D X
 moment source store = record { source = source; store = store }
 
--- what tokens are taken from, by its parts
-abbrev pub source_of : {D : Type 0} → D → Bitstream → ℕ → Source D
-source_of decoder bits steps = record { decoder = decoder; bits = bits; steps = steps }
-
 -- what the loops over rows and channels return and leave
 module _ {D X : Type 0} (c : PartCoding D) (d : Meaning D) (w : Width) (to_int : X → ℤ) where
   -- cells `from` up to `to` of the part were decoded
@@ -102,26 +96,24 @@ module _ {D X : Type 0} (c : PartCoding D) (d : Meaning D) (w : Width) (to_int :
   WalkGives from to (Ok u) old new = DecodesCells from to old new
   WalkGives from to (Err e) old new = FailsInCells from old new e
 
--- what decoding a part whole returns and leaves, where its channels lie in these regions
-module _ {D X : Type 0} (part : Part) (regions : List Region) (d : Meaning D) (w : Width) (to_int : X → ℤ) where
-  -- it was decoded to its end
+  -- the part was decoded to its end
   pub record IsPartDecoded (old new : Moment D X) : Type 0 where
-    pub decodes : DecodesAll d w part (bytes_of old.source.bits) regions
+    pub decodes : DecodesAll d w (part_of c) (bytes_of old.source.bits) (regions_of c)
         old.source.decoder (store_meanings to_int old.store) (position_of old.source.bits)
         (store_meanings to_int new.store) (position_of new.source.bits)
-    pub work : new.source.steps ≤ old.source.steps + cell_count part.channels * most_steps part.tree
+    pub work : new.source.steps ≤ old.source.steps + cell_count (part_of c).channels * cost_of c
     pub more : old.source.steps ≤ new.source.steps
-    pub keeps : KeepsOutside regions old.store new.store
+    pub keeps : KeepsOutside (regions_of c) old.store new.store
     pub bytes : bytes_of new.source.bits ≡ bytes_of old.source.bits
 
   -- the beginning, the read of a cell or the end returned the error e
   pub record FailsInPart (old new : Moment D X) (e : DecoderError) : Type 0 where
-    pub decodes : DecodesSome d w part (bytes_of old.source.bits) regions
+    pub decodes : DecodesSome d w (part_of c) (bytes_of old.source.bits) (regions_of c)
         old.source.decoder (store_meanings to_int old.store) (position_of old.source.bits)
         (store_meanings to_int new.store) (position_of new.source.bits)
-        (most_steps part.tree) old.source.steps new.source.steps e
+        (cost_of c) old.source.steps new.source.steps e
     pub more : old.source.steps ≤ new.source.steps
-    pub keeps : KeepsOutside regions old.store new.store
+    pub keeps : KeepsOutside (regions_of c) old.store new.store
     pub memory : e ≢ OutOfMemory
     pub bytes : bytes_of new.source.bits ≡ bytes_of old.source.bits
 

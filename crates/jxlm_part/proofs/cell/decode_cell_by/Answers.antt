@@ -24,9 +24,6 @@ properties_in_row-properties-requires-clause-rows g c =
 pub bounds-line-line : goal.bounds-line-line
 bounds-line-line g c = flat_there c.args.line.now.coding.now c.requires.line.line.here.part.coding c.args.line.now.i c.requires.line.line.here.channel
 
-pub next_sample-requires-clause-current : goal.next_sample-requires-clause-current
-next_sample-requires-clause-current g c κs within = c.properties_in_row-properties.ensures.current
-
 pub next_sample-requires-clause-clusters : goal.next_sample-requires-clause-clusters
 next_sample-requires-clause-clusters g c κs within = clusters_at c.args.line.now.coding.now c.requires.line.line.here.part.coding c.args.line.now.i c.requires.line.line.here.channel _ _ c.requires.at.clusters
 

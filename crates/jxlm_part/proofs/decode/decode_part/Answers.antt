@@ -9,7 +9,7 @@ use Rattle.jxlm_part.proofs.decode.decode_part.Goals as goal
 pub returns-in_err-begin : goal.returns-in_err-begin
 returns-in_err-begin g c =
     let p = err_from_is_err_and c.from_residual.result c.from_residual.ensures.1 in
-    rw (p.1, p.2) (part_not_begun c.args.coding.now _ g.met.D.Decoder.lawful _ _ (moment c.args.walk.now.source c.args.store.now) c.begin.new.self c.args.walk.now.source.bits _ c.in_err-begin.ensures.gives.0 refl refl)
+    rw (p.1, p.2) (part_not_begun _ _ g.met.D.Decoder.lawful _ _ (moment c.args.walk.now.source c.args.store.now) c.begin.new.self c.args.walk.now.source.bits _ c.in_err-begin.ensures.gives.0 refl refl)
 
 pub decode_channels-requires-clause-at : goal.decode_channels-requires-clause-at
 decode_channels-requires-clause-at g c κs within = record {

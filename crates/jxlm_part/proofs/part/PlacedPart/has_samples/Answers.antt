@@ -1,4 +1,0 @@
-use Rattle.jxlm_part.proofs.part.PlacedPart.has_samples.Goals as goal
-
-pub returns : goal.returns
-returns g c = c.have_samples.ensures
