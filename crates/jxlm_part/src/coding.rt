@@ -11,7 +11,7 @@ ghost use Rattle.jxlm_part.specs.Inner.Channels.{IsNext, StandsAfter, all_alike}
 
 use jxlm_base::decoder::Decoder;
 use jxlm_base::error::Result;
-use jxlm_base::grid::{OutOfMemory, Region};
+use jxlm_base::grid::Region;
 use jxlm_base::sample::{Sample, Sealed};
 use jxlm_ma::flat::{FlatMaTree, Leaf};
 use jxlm_ma::ma::MaConfig;
@@ -238,7 +238,7 @@ pub fn flat_trees<D: Decoder>(
     for channel in 0..channels {
         let flat = next_flat(alloc, config, stream_index, channel, &flats)?;
         let tree = channel_tree(flat)?;
-        flats.push(tree).map_err(|_| OutOfMemory)?;
+        flats.push(tree)?;
     }
     Ok(flats)
 }
@@ -267,6 +267,6 @@ pub fn roomy_state<S: Sample>(
         None
     };
     let predictor = PredictorState::with_room(alloc, widest, flats.len(), used)?;
-    let row = vec![in alloc; S::default(); samples as usize].map_err(|_| OutOfMemory)?;
+    let row = vec![in alloc; S::default(); samples as usize]?;
     Ok(PartState { predictor, row })
 }

@@ -10,7 +10,7 @@ use Rattle.jxlm_part.proofs.coding.roomy_state.Goals as goal
 
 pub returns-clause-ok : goal.returns-clause-ok
 returns-clause-ok g c =
-    let row_long : length c.in_ok-row.row.items ≡ c.args.samples = grind (arith, common_steps, c.in_ok-row.was, c.map_err.ensures.cases, c.vec.ensures.len) in
+    let row_long : length c.in_ok-row.row.items ≡ c.args.samples = grind (arith, common_steps, c.in_ok-row.was, c.vec.ensures.len) in
     let any : c.any.result ≡ are_weighted c.args.flats.now = any_from_yields_List (λ (t : ChannelTree). t.weighted) _ _ c.any.result c.any.ensures.ran (YieldsList-from_slice c.args.flats.now cc) (λ x b q k. search (rules, tests)) in
     let used : option_copied c.if-any.used ≡ (if are_weighted c.args.flats.now then Some c.args.weights.now else None) =
     elim c.if-any.branch [
