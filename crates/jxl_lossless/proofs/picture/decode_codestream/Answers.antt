@@ -7,7 +7,7 @@ use Rattle.jxl_lossless.proofs.StreamFailures.{stream_fails}
 use Rattle.jxl_lossless.proofs.picture.decode_codestream.Goals as goal
 
 pub returns-clause-ok : goal.returns-clause-ok
-returns-clause-ok c =
+returns-clause-ok g c =
     let front = c.in-Ok.front in
     record {
       image = image_of front.image;
@@ -20,11 +20,11 @@ returns-clause-ok c =
     }
 
 pub returns-clause-whole : goal.returns-clause-whole
-returns-clause-whole c =
+returns-clause-whole g c =
     whole_upright (image_of c.in-Ok.front.image) c.in_ok-channels.channels.items (image_of c.in_ok-shown.shown.header) c.in_ok-shown.shown.channels.items c.in_ok-channels.ensures.whole c.in_ok-shown.ensures
 
 pub returns-in_err-channels-clause-err : goal.returns-in_err-channels-clause-err
-returns-in_err-channels-clause-err c =
+returns-in_err-channels-clause-err g c =
     let front = c.in-Ok.front in
     let p = err_from_is_err_and c.from_residual.result c.from_residual.ensures.1 in
     rw (p.1, p.2) (stream_fails c.args.limits.now c.args.bytes.now (image_of front.image) (map frame_at front.saved.items) (frame_at front.shown) c.in-Ok.ensures.ok.stands c.in_err-channels.field-0.0 c.in_err-channels.ensures.err)
