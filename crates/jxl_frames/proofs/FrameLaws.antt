@@ -1,7 +1,7 @@
 -- Frame headers are read exactly: what is read stands there, and what stands there is read.
-use Rattle.std.proofs.Common.{ℕ, ◌-◌, ◌*◌, ◌^◌, Bool, true, false, List, [], length, Some, None, Option}
-use Rattle.std.specs.Prelude.{nat_lt, codes, ◌==◌, ◌&&◌, ◌||◌, not}
-use Rattle.jxlm_base.specs.Grammar.{IsExact}
+use Rattle.std.proofs.Common.{ℕ, zero, suc, ◌∷◌, ◌-◌, ◌*◌, ◌^◌, Bool, true, false, List, [], length, Some, None, Option}
+use Rattle.std.specs.Prelude.{nat_lt, nat_le, codes, ◌==◌, ◌&&◌, ◌||◌, not}
+use Rattle.jxlm_base.specs.Grammar.{Grammar, IsExact}
 use Rattle.jxlm_base.specs.Numbers.{unpack}
 use Rattle.jxlm_base.specs.declared.bits.U32Spec.TheVariants.{Const, Offset}
 use Rattle.jxlm_base.proofs.GrammarLaws.{exact-give, exact-number, exact-either, exact-repeated, exact-flag, exact-u32}
@@ -10,7 +10,7 @@ use Rattle.jxl_headers.specs.Images.{Image}
 use Rattle.jxl_headers.specs.declared.size.Size.{Size}
 use Rattle.jxl_headers.specs.declared.image.Animation.{Animation}
 use Rattle.jxl_frames.specs.Codings.{type_of, encoding_of, flags_of, factor, colours, coding, chroma, factor_if, ycbcr_if}
-use Rattle.jxl_frames.specs.Passes.{one_pass, shift, last, more_passes, passes, told_passes}
+use Rattle.jxl_frames.specs.Passes.{finer, in_turn, is_above, is_below, later, one_pass, resolutions, shift, more_passes, passes, told_passes}
 use Rattle.jxl_frames.specs.Places.{is_shown, is_lf, is_reference, extent, extent_if, covers, crop, optional_crop, place, crop_partial, lf_level, told_crop}
 use Rattle.jxl_frames.specs.Blendings.{mode_of, by_alpha, alpha, flag_if, two_bits_if, blending_by, blending_info, usual_blending, blending, is_animated, has_timecodes, is_replace, may_save_before, saved, ending, alpha_if, duration, mode_number, saved_before, timecode, told_blending}
 use Rattle.jxl_frames.specs.Filters.{own_floats, own_floats_if, sigma_bytes, edges, own_filter, usual_filter, filter, edges_if}
@@ -37,13 +37,25 @@ unfolding coding
 exact-coding xyb =
     bind (exact-number 2) λ t. bind exact-flag λ modular. bind exact-long λ flags. exact-colours xyb (type_of t) (encoding_of modular) (flags_of flags)
 
+exact-in_turn : (n : ℕ) (field : Option ℕ → Grammar ℕ) → ((before : Option ℕ) → IsExact (field before)) → (before : Option ℕ) → IsExact (in_turn n field before)
+exact-in_turn zero field each before = exact-give []
+exact-in_turn (suc n) field each before = bind (each before) λ v. bind (exact-in_turn n field each (Some v)) λ vs. exact-give (v ∷ vs)
+
+exact-finer : (before : Option ℕ) → IsExact (finer before)
+unfolding finer
+exact-finer before = bind exact-factor λ v. exact-meant (codes "downsample") (is_below before v) v
+
+exact-later : (count : ℕ) (before : Option ℕ) → IsExact (later count before)
+unfolding later
+exact-later count before = bind (exact-u32 (Const 0) (Const 1) (Const 2) (Offset 0 3)) λ v. exact-meant (codes "last_pass") (is_above before v && nat_lt v count) v
+
 exact-more_passes : (count : ℕ) → IsExact (more_passes count)
-unfolding more_passes last shift
+unfolding more_passes resolutions shift
 exact-more_passes count =
-    bind (exact-u32 (Const 0) (Const 1) (Const 2) (Offset 3 1)) λ n.
+    bind (bind (exact-u32 (Const 0) (Const 1) (Const 2) (Offset 3 1)) λ n. exact-meant (codes "num_downsample") (nat_le n count) n) λ n.
     bind (exact-repeated (count - 1) shift (exact-u32 (Const 0) (Const 1) (Const 2) (Const 3))) λ shifts.
-    bind (exact-repeated n factor exact-factor) λ factors.
-    bind (exact-repeated n last (exact-u32 (Const 0) (Const 1) (Const 2) (Offset 0 3))) λ lasts.
+    bind (exact-in_turn n finer exact-finer None) λ factors.
+    bind (exact-in_turn n (later count) (exact-later count) None) λ lasts.
     exact-give (record { count = count; shift = shifts; downsample = factors; last_pass = lasts })
 
 exact-passes : (there : Bool) → IsExact (passes there)

@@ -1,2 +1,5 @@
 pub mod FrameLaws
 pub mod ReadSteps
+pub mod InTurn
+pub mod Ended
+pub mod Entries

@@ -6,7 +6,7 @@ use Rattle.jxl_headers.specs.Fields.{extensions, name}
 use Rattle.jxl_headers.specs.Images.{Image}
 use Rattle.jxl_headers.specs.declared.size.Size.{Size}
 use Rattle.jxl_frames.specs.Codings.{factor, coding, usual_coding, coding_refusal}
-use Rattle.jxl_frames.specs.Passes.{Passes, passes, passes_of, one_pass, passes_refusal}
+use Rattle.jxl_frames.specs.Passes.{Passes, passes, passes_of, one_pass}
 use Rattle.jxl_frames.specs.Places.{place, usual_place, crop_partial, place_refusal, sides_in, is_shown, is_reference}
 use Rattle.jxl_frames.specs.Blendings.{Blending, blending, blending_of, usual_blending, is_replace, ending, usual_ending, blending_refusal, ending_refusal}
 use Rattle.jxl_frames.specs.Filters.{filter, usual_filter, filter_refusal}
@@ -127,7 +127,7 @@ has_floats image = not (image.samples.depth.exponent_bits == 0)
 
 -- how it is coded, and where it lies; and what becomes of it
 abbrev pub form_refusal : Image → Frame → Option Refusal
-form_refusal image h = option_or (coding_refusal (has_floats image) h.coding) (option_or (factors_refusal h.ec_upsampling) (option_or (passes_refusal h.passes) (place_refusal h.coding.frame_type h.place.crop)))
+form_refusal image h = option_or (coding_refusal (has_floats image) h.coding) (option_or (factors_refusal h.ec_upsampling) (place_refusal h.coding.frame_type h.place.crop))
 
 abbrev pub use_refusal : Frame → Option Refusal
 use_refusal h = option_or (blending_refusal h.blending) (option_or (ending_refusal h.coding.frame_type h.ending) (filter_refusal h.closing.filter))

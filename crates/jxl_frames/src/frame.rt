@@ -5,6 +5,7 @@ ghost use Rattle.jxlm_base.specs.Bits.{bytes_of, position_of};
 ghost use Rattle.jxlm_base.specs.Grammar.{Reads};
 ghost use Rattle.jxl_headers.specs.Images.{image_of};
 ghost use Rattle.jxl_headers.specs.Reading.{Parses};
+ghost use Rattle.jxl_frames.specs.Passes.{IsPassCount};
 ghost use Rattle.jxl_frames.specs.Frames.{frame_of, is_modular as the_is_modular, extra_factors as the_extra_factors, scales as the_scales, modular_dim as the_modular_dim, group_dim as the_group_dim, closing, usual_closing, rest, usual_frame, described_frame, frame_header, factors_refusal as the_factors_refusal, has_floats as the_has_floats, form_refusal, use_refusal, frame_refusal, is_saved as the_is_saved, frame_size};
 
 use crate::blending::{Blending, Ending};
@@ -160,6 +161,7 @@ impl Closing {
 impl FrameHeader {
     fn usual(alloc: Global) -> FrameHeader
         ensures frame { frame_of result ≡ usual_frame }
+        ensures count { result.passes.count ≡ 1 }
     {
         FrameHeader {
             coding: Coding::usual(),
@@ -186,6 +188,7 @@ impl FrameHeader {
             ((rest (image_of image.now) coding ec_upsampling.items group_dim).read
             (bytes_of bits.old) (position_of bits.old)) }
         ensures dim { IfOk result (λ h. h.group_dim ≡ group_dim) }
+        ensures counted { IfOk result (λ h. IsPassCount h.passes.count) }
         ensures bytes { bytes_of bits.new ≡ bytes_of bits.old }
     {
         let frame_type = coding.frame_type;
@@ -218,6 +221,7 @@ impl FrameHeader {
         ensures gives { Parses frame_of result (position_of bits.new)
             ((described_frame (image_of image.now)).read (bytes_of bits.old) (position_of bits.old)) }
         ensures dim { IfOk result (λ h. 0 < h.group_dim) }
+        ensures counted { IfOk result (λ h. IsPassCount h.passes.count) }
         ensures bytes { bytes_of bits.new ≡ bytes_of bits.old }
     {
         let xyb = image.shown.xyb;
@@ -233,8 +237,9 @@ impl FrameHeader {
     ///
     /// # Errors
     ///
-    /// The first in the order of the bits: `UnexpectedEof` if the input is truncated, and `InvalidEnum` for a mode of
-    /// blending or an alpha channel that there is not. `Buffer` if it is out of memory, at extra channels or passes.
+    /// The first in the order of the bits: `UnexpectedEof` if the input is truncated, and `InvalidEnum` for
+    /// passes that do not fit ([`Passes::parse`]), and for a mode of blending or an alpha channel that there is not.
+    /// `Buffer` if it is out of memory, at extra channels or passes.
     #[tactic(auto, unfolding(crate::specs::Frames::frame_header))]
     pub fn parse(
         alloc: Global,
@@ -244,6 +249,7 @@ impl FrameHeader {
         ensures gives { Parses frame_of result (position_of bits.new)
             ((frame_header (image_of image.now)).read (bytes_of bits.old) (position_of bits.old)) }
         ensures dim { IfOk result (λ h. 0 < h.group_dim) }
+        ensures counted { IfOk result (λ h. IsPassCount h.passes.count) }
         ensures bytes { bytes_of bits.new ≡ bytes_of bits.old }
     {
         if bits.read_bool()? {
@@ -259,7 +265,6 @@ impl FrameHeader {
         self.coding
             .refused(has_floats(image))
             .or(factors_refusal(&self.ec_upsampling))
-            .or(self.passes.refused())
             .or(self.place.refused(self.coding.frame_type))
     }
 

@@ -1,28 +1,31 @@
 //! The passes of a frame.
 
-ghost use Rattle.std.specs.Prelude.{◌≡◌};
+ghost use Rattle.std.specs.Prelude.{◌≡◌, ◌<◌, ◌≤◌, suc, None, IfOk};
 ghost use Rattle.jxlm_base.specs.Bits.{bytes_of, position_of};
-ghost use Rattle.jxlm_base.specs.Grammar.{repeated};
+ghost use Rattle.jxlm_base.specs.Grammar.{Reads, repeated};
 ghost use Rattle.jxl_headers.specs.Reading.{Parses};
 ghost use Rattle.jxl_frames.specs.Codings.{factor};
-ghost use Rattle.jxl_frames.specs.Passes.{passes_of, one_pass, shift, last, more_passes, told_passes, passes, passes_refusal};
+ghost use Rattle.jxl_frames.specs.Passes.{IsPassCount, passes_of, one_pass, pass_count as the_pass_count, shift, resolutions as the_resolutions, is_below as the_below, is_above as the_above, finer as the_finer, later as the_later, in_turn, more_passes, told_passes, passes, ended as the_ended, shift_of as the_shift_of, least_shift as the_least_shift, shifts_held};
 
-use crate::fields::fields;
-use crate::refusal::Refusal;
-use jxlm_base::bits::{Bitstream, U32Spec};
+use crate::fields::fields as fields_of;
+use jxl_headers::fields;
+use jxlm_base::bits::{Bitstream, BitstreamError, U32Spec};
 use jxlm_base::error::Result;
+use jxlm_base::grid::OutOfMemory;
 use std::alloc::Global;
+use std::collections::BTreeMap;
 
-/// In which passes a frame comes. How these numbers are related is not looked at.
+/// In which passes a frame comes.
 #[derive(Drop)]
 pub struct Passes {
     /// How many there are, from 1 to 11.
     pub count: u32,
     /// Of each but the last, by how many bits its numbers are shifted: 0 to 3.
     pub shift: Vec<u32>,
-    /// Resolutions that are whole after some passes: the frame's sides by 1, 2, 4 or 8.
+    /// Resolutions that are whole after some passes: the frame's sides by 1, 2, 4 or 8. Each is finer than the one before,
+    /// and there are at most as many as passes.
     pub downsample: Vec<u32>,
-    /// The last pass of each of these.
+    /// The last pass of each of these, later than that of the one before.
     pub last_pass: Vec<u32>,
 }
 
@@ -32,7 +35,7 @@ fn shifts(alloc: Global, bits: &mut Bitstream<'_>, count: usize) -> Result<Vec<u
         ((repeated count shift).read (bytes_of bits.old) (position_of bits.old)) }
     ensures bytes { bytes_of bits.new ≡ bytes_of bits.old }
 {
-    fields(
+    fields_of(
         alloc,
         bits,
         count,
@@ -50,7 +53,7 @@ pub fn factors(alloc: Global, bits: &mut Bitstream<'_>, count: usize) -> Result<
         ((repeated count factor).read (bytes_of bits.old) (position_of bits.old)) }
     ensures bytes { bytes_of bits.new ≡ bytes_of bits.old }
 {
-    fields(
+    fields_of(
         alloc,
         bits,
         count,
@@ -61,27 +64,151 @@ pub fn factors(alloc: Global, bits: &mut Bitstream<'_>, count: usize) -> Result<
     )
 }
 
-#[tactic(auto, unfolding(crate::specs::Passes::last))]
-fn lasts(alloc: Global, bits: &mut Bitstream<'_>, count: usize) -> Result<Vec<u32>>
-    ensures gives { Parses (λ v. v.items) result (position_of bits.new)
-        ((repeated count last).read (bytes_of bits.old) (position_of bits.old)) }
+#[tactic(auto, unfolding(crate::specs::Passes::resolutions))]
+fn resolutions(bits: &mut Bitstream<'_>, count: u32) -> fields::Result<u32>
+    ensures gives { Reads (λ v. v) result (position_of bits.new)
+        ((the_resolutions count).read (bytes_of bits.old) (position_of bits.old)) }
     ensures bytes { bytes_of bits.new ≡ bytes_of bits.old }
 {
-    fields(
-        alloc,
-        bits,
-        count,
+    let value = bits.read_u32(
+        U32Spec::Const(0),
+        U32Spec::Const(1),
+        U32Spec::Const(2),
+        U32Spec::Offset(3, 1),
+    )?;
+    if value <= count {
+        Ok(value)
+    } else {
+        let name = "num_downsample";
+        Err(BitstreamError::InvalidEnum { name, value })
+    }
+}
+
+fn is_below(before: Option<u32>, value: u32) -> bool
+    ensures { result ≡ the_below before value }
+{
+    match before {
+        Some(before) => value < before,
+        None => true,
+    }
+}
+
+fn is_above(before: Option<u32>, value: u32) -> bool
+    ensures { result ≡ the_above before value }
+{
+    match before {
+        Some(before) => before < value,
+        None => true,
+    }
+}
+
+#[tactic(auto, unfolding(crate::specs::Passes::finer, crate::specs::Codings::factor))]
+fn finer(bits: &mut Bitstream<'_>, before: Option<u32>) -> fields::Result<u32>
+    ensures gives { Reads (λ v. v) result (position_of bits.new)
+        ((the_finer before).read (bytes_of bits.old) (position_of bits.old)) }
+    ensures bytes { bytes_of bits.new ≡ bytes_of bits.old }
+{
+    let value = bits.read_u32(
+        U32Spec::Const(1),
+        U32Spec::Const(2),
+        U32Spec::Const(4),
+        U32Spec::Const(8),
+    )?;
+    if is_below(before, value) {
+        Ok(value)
+    } else {
+        let name = "downsample";
+        Err(BitstreamError::InvalidEnum { name, value })
+    }
+}
+
+#[tactic(auto, unfolding(crate::specs::Passes::later))]
+fn later(bits: &mut Bitstream<'_>, count: u32, before: Option<u32>) -> fields::Result<u32>
+    ensures gives { Reads (λ v. v) result (position_of bits.new)
+        ((the_later count before).read (bytes_of bits.old) (position_of bits.old)) }
+    ensures bytes { bytes_of bits.new ≡ bytes_of bits.old }
+{
+    let value = bits.read_u32(
         U32Spec::Const(0),
         U32Spec::Const(1),
         U32Spec::Const(2),
         U32Spec::Offset(0, 3),
+    )?;
+    if is_above(before, value) && value < count {
+        Ok(value)
+    } else {
+        let name = "last_pass";
+        Err(BitstreamError::InvalidEnum { name, value })
+    }
+}
+
+// So many factors, each below the one before.
+fn finer_ones(alloc: Global, bits: &mut Bitstream<'_>, n: usize) -> Result<Vec<u32>>
+    ensures gives { Parses (λ v. v.items) result (position_of bits.new)
+        ((in_turn n the_finer None).read (bytes_of bits.old) (position_of bits.old)) }
+    ensures bytes { bytes_of bits.new ≡ bytes_of bits.old }
+{
+    let mut values = Vec::new(alloc);
+    let mut before = None;
+    for _ in 0..n {
+        let value = finer(bits, before)?;
+        values.push(value)?;
+        before = Some(value);
+    }
+    Ok(values)
+}
+
+// So many last passes, each above the one before, of so many passes.
+fn later_ones(alloc: Global, bits: &mut Bitstream<'_>, n: usize, count: u32) -> Result<Vec<u32>>
+    ensures gives { Parses (λ v. v.items) result (position_of bits.new)
+        ((in_turn n (the_later count) None).read (bytes_of bits.old) (position_of bits.old)) }
+    ensures bytes { bytes_of bits.new ≡ bytes_of bits.old }
+{
+    let mut values = Vec::new(alloc);
+    let mut before = None;
+    for _ in 0..n {
+        let value = later(bits, count, before)?;
+        values.push(value)?;
+        before = Some(value);
+    }
+    Ok(values)
+}
+
+// How many passes there are.
+fn pass_count(bits: &mut Bitstream<'_>) -> fields::Result<u32>
+    ensures gives { Reads (λ v. v) result (position_of bits.new)
+        (the_pass_count.read (bytes_of bits.old) (position_of bits.old)) }
+    ensures counted { IfOk result IsPassCount }
+    ensures bytes { bytes_of bits.new ≡ bytes_of bits.old }
+{
+    bits.read_u32(
+        U32Spec::Const(1),
+        U32Spec::Const(2),
+        U32Spec::Const(3),
+        U32Spec::Offset(4, 3),
     )
+}
+
+fn shift_of(factor: u32) -> u32
+    ensures is { result ≡ the_shift_of factor }
+    ensures small { result ≤ 3 }
+{
+    if factor == 1 {
+        0
+    } else if factor == 2 {
+        1
+    } else if factor == 4 {
+        2
+    } else {
+        3
+    }
 }
 
 impl Passes {
     /// One pass.
     pub fn one(alloc: Global) -> Passes
-        ensures { passes_of result ≡ one_pass }
+        ensures is { passes_of result ≡ one_pass }
+        ensures count { result.count ≡ 1 }
     {
         Passes {
             count: 1,
@@ -95,17 +222,13 @@ impl Passes {
     fn more(alloc: Global, bits: &mut Bitstream<'_>, count: u32) -> Result<Passes>
         ensures gives { Parses passes_of result (position_of bits.new)
             ((more_passes count).read (bytes_of bits.old) (position_of bits.old)) }
+        ensures count { IfOk result (λ p. p.count ≡ count) }
         ensures bytes { bytes_of bits.new ≡ bytes_of bits.old }
     {
-        let n = bits.read_u32(
-            U32Spec::Const(0),
-            U32Spec::Const(1),
-            U32Spec::Const(2),
-            U32Spec::Offset(3, 1),
-        )?;
+        let n = resolutions(bits, count)?;
         let shift = shifts(alloc, bits, count.saturating_sub(1) as usize)?;
-        let downsample = factors(alloc, bits, n as usize)?;
-        let last_pass = lasts(alloc, bits, n as usize)?;
+        let downsample = finer_ones(alloc, bits, n as usize)?;
+        let last_pass = later_ones(alloc, bits, n as usize, count)?;
         Ok(Passes {
             count,
             shift,
@@ -118,14 +241,10 @@ impl Passes {
     fn told(alloc: Global, bits: &mut Bitstream<'_>) -> Result<Passes>
         ensures gives { Parses passes_of result (position_of bits.new)
             (told_passes.read (bytes_of bits.old) (position_of bits.old)) }
+        ensures counted { IfOk result (λ p. IsPassCount p.count) }
         ensures bytes { bytes_of bits.new ≡ bytes_of bits.old }
     {
-        let count = bits.read_u32(
-            U32Spec::Const(1),
-            U32Spec::Const(2),
-            U32Spec::Const(3),
-            U32Spec::Offset(4, 3),
-        )?;
+        let count = pass_count(bits)?;
         if count == 1 {
             Ok(Passes::one(alloc))
         } else {
@@ -133,11 +252,14 @@ impl Passes {
         }
     }
 
-    /// The passes that stand at the reader's position, where they are told; else there is one.
+    /// The passes that stand at the reader's position, where they are told; else there is one. `InvalidEnum` of
+    /// `num_downsample` for more resolutions than passes, of `downsample` for one that is not finer than the one before,
+    /// and of `last_pass` for a last pass that there is not, or that is not later than the one before.
     #[tactic(auto, unfolding(crate::specs::Passes::passes))]
     pub fn parse(alloc: Global, bits: &mut Bitstream<'_>, there: bool) -> Result<Passes>
         ensures gives { Parses passes_of result (position_of bits.new)
             ((passes there).read (bytes_of bits.old) (position_of bits.old)) }
+        ensures counted { IfOk result (λ p. IsPassCount p.count) }
         ensures bytes { bytes_of bits.new ≡ bytes_of bits.old }
     {
         if there {
@@ -147,14 +269,55 @@ impl Passes {
         }
     }
 
-    /// Whether it is not supported: there are several.
-    pub fn refused(&self) -> Option<Refusal>
-        ensures { result ≡ passes_refusal (passes_of self.now) }
+    // The factor of the resolution that is whole after this pass.
+    fn ended(&self, pass: u32) -> Option<u32>
+        ensures { result ≡ the_ended self.now.downsample.items self.now.last_pass.items pass }
     {
-        if self.count == 1 {
-            None
-        } else {
-            Some(Refusal::Passes)
+        for place in 0..self.last_pass.len() {
+            if self.last_pass[place] == pass {
+                return self.downsample.get(place).copied();
+            }
         }
+        None
+    }
+
+    // The least shift that passes up to this one hold; those before it hold this one, or more.
+    fn least_shift(&self, pass: u32, before: u32) -> u32
+        requires pass { pass < self.now.count }
+        requires before { before ≡ the_least_shift (passes_of self.now) pass }
+        requires small { before ≤ 3 }
+        ensures is { result ≡ the_least_shift (passes_of self.now) (suc pass) }
+        ensures small { result ≤ 3 }
+    {
+        let count = self.count;
+        if pass + 1 == count {
+            return 0;
+        }
+        match self.ended(pass) {
+            Some(factor) => shift_of(factor),
+            None => before,
+        }
+    }
+
+    /// The passes by their numbers, each with the first shift that it holds, and the first after it that it does not
+    /// hold (ISO/IEC 18181-1, Modular: the shifts of a pass). Shifts from 3 on are of no pass.
+    ///
+    /// # Errors
+    ///
+    /// `OutOfMemory`, and no other.
+    pub fn shifts(
+        &self,
+        alloc: Global,
+    ) -> std::result::Result<BTreeMap<u32, (i32, i32)>, OutOfMemory>
+        ensures { IfOk result (λ held. held.entries ≡ shifts_held (passes_of self.now)) }
+    {
+        let mut held = BTreeMap::new(alloc);
+        let mut end = 3;
+        for pass in 0..self.count {
+            let first = self.least_shift(pass, end);
+            held.insert(pass, (first as i32, end as i32))?;
+            end = first;
+        }
+        Ok(held)
     }
 }

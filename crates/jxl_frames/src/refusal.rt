@@ -33,9 +33,6 @@ pub enum Refusal {
     /// An extra channel has a lower resolution.
     #[error("upsampling of an extra channel")]
     ExtraUpsampling,
-    /// It comes in several passes.
-    #[error("several passes")]
-    Passes,
     /// It is shown, and has a size and a place of its own.
     #[error("a cropped frame")]
     Crop,

@@ -1,0 +1,25 @@
+-- The resolution that ends with a pass, as a loop finds it.
+use Rattle.std.proofs.Common.{◌≡◌, ℕ, zero, suc, ◌<◌, ◌≤◌, ◌==◌, true, false, List, [], ◌∷◌, length, drop, get_or, None, refl, arith}
+use Rattle.std.specs.Prelude.{slice_get}
+use Rattle.jxl_frames.specs.Passes.{ended}
+
+-- one that does not end there is passed over
+pub passed_over : (ds ls : List ℕ) (p i d : ℕ) → i < length ls → (get_or ls i d == p) ≡ false → ended (drop (suc i) ds) (drop (suc i) ls) p ≡ ended (drop i ds) (drop i ls) p
+passed_over [] ls p zero d lt other = refl
+passed_over [] ls p (suc i) d lt other = refl
+passed_over (x ∷ ds) [] p i d lt other = absurd (omega (arith, lt))
+passed_over (x ∷ ds) (l ∷ ls) p zero d lt other = rw other refl
+passed_over (x ∷ ds) (l ∷ ls) p (suc i) d lt other = passed_over ds ls p i d (omega (arith, lt)) other
+
+no_lasts : (ds : List ℕ) (p : ℕ) → ended ds [] p ≡ None
+no_lasts [] p = refl
+no_lasts (x ∷ ds) p = refl
+
+-- after all of them there is none
+pub none_left : (ds ls : List ℕ) (p i : ℕ) → length ls ≤ i → ended (drop i ds) (drop i ls) p ≡ None
+none_left [] ls p zero le = refl
+none_left [] ls p (suc i) le = refl
+none_left (x ∷ ds) [] p zero le = refl
+none_left (x ∷ ds) [] p (suc i) le = no_lasts (drop i ds) p
+none_left (x ∷ ds) (l ∷ ls) p zero le = absurd (omega (arith, le))
+none_left (x ∷ ds) (l ∷ ls) p (suc i) le = none_left ds ls p i (omega (arith, le))

@@ -1,7 +1,0 @@
-use Rattle.jxl_modular.specs.GroupParts.{image_of}
-use Rattle.jxlm_sections.specs.CutPicture.{pass_groups, with_samples}
-use Rattle.jxl_still.specs.Inner.Listing.{AreAdded}
-use Rattle.jxl_still.proofs.places.Places.add_all_groups.Given as goal
-
-abbrev pub invariant-loop-group : goal.invariant-loop-group
-invariant-loop-group g l = AreAdded l.self (with_samples (image_of l.groups) (pass_groups l.group)) l.initial.list.items l.list.items
