@@ -16,7 +16,6 @@ use Rattle.jxl_headers.specs.declared.refusal.Refusal.{Refusal as ImageRefusal}
 use Rattle.jxl_headers.specs.declared.size.Size.{Size}
 use Rattle.jxl_frames.specs.Codings.{coding_refusal}
 use Rattle.jxl_frames.specs.Frames.{Frame, factors_refusal, form_refusal, frame_header, frame_refusal, frame_size, has_floats, is_saved, use_refusal}
-use Rattle.jxl_frames.specs.Passes.{passes_refusal}
 use Rattle.jxl_frames.specs.Places.{is_reference, place_refusal, sides_in}
 use Rattle.jxl_frames.specs.declared.coding.FrameType.{FrameType}
 use Rattle.jxl_frames.specs.declared.place.Crop.{Crop}
@@ -162,8 +161,7 @@ pub covers : (image : Image) (size : Size) (frame : Frame) → frame_refusal ima
 covers image size frame supported shown =
     let form = first_none (form_refusal image frame) (use_refusal frame) supported in
     let coded = second_none (coding_refusal (has_floats image) frame.coding) _ form in
-    let factors = second_none (factors_refusal frame.ec_upsampling) _ coded in
-    let place = second_none (passes_refusal frame.passes) (place_refusal frame.coding.frame_type frame.place.crop) factors in
+    let place = second_none (factors_refusal frame.ec_upsampling) _ coded in
     covers_by frame.coding.frame_type size frame.place.crop shown place
 
 both : (a b : Bool) → (a && b) ≡ true → (a ≡ true) × (b ≡ true)

@@ -5,6 +5,7 @@ use Rattle.jxlm_base.specs.Decoding.{Meaning}
 use Rattle.jxlm_transform.specs.Params.{IsGroupDim}
 use Rattle.jxl_headers.specs.Images.{Image, image_of}
 use Rattle.jxl_frames.specs.Frames.{frame_of, frame_size}
+use Rattle.jxl_frames.specs.Passes.{IsPassCount}
 use Rattle.jxl_toc.specs.Layouts.{section_count_of}
 use Rattle.jxl_toc.specs.LayoutParts.{parts_of}
 use Rattle.jxl_toc.specs.Tocs.{is_within}
@@ -18,12 +19,13 @@ use Rattle.jxl_front.specs.declared.front.Front.{Front}
 abbrev pub frame_at : FrameFront → FrameAt
 frame_at f = record { start = f.start; header = frame_of f.header; entries = f.toc.entries.items }
 
--- What decoding a frame needs of it: sides that an image may have, groups, and sections that lie in the codestream.
+-- What decoding a frame needs of it: sides that an image may have, groups, passes, and sections that lie in the codestream.
 pub record IsReadyFrame (bytes : List ℕ) (image : Image) (f : FrameFront) : Type 0 where
   pub inside : f.start ≤ length bytes
   pub wide : (frame_size image.size (frame_of f.header)).width ≤ 2 ^ 30
   pub high : (frame_size image.size (frame_of f.header)).height ≤ 2 ^ 30
   pub dim : IsGroupDim f.header.group_dim
+  pub passes : IsPassCount f.header.passes.count
   pub cut : parts_of f.layout ≡ layout_in image (frame_of f.header)
   pub count : length f.toc.entries.items ≡ section_count_of (layout_in image (frame_of f.header))
   pub within : list_all (is_within (length (drop f.start bytes))) f.toc.entries.items ≡ true

@@ -30,9 +30,9 @@ pub record FrameAt : Type 0 where
   pub header : Frame
   pub entries : List TocEntry
 
--- how a frame is cut: it has one pass
+-- how a frame is cut
 abbrev pub layout_in : Image → Frame → Layout
-layout_in image frame = layout_of (frame_size image.size frame) frame.group_dim 1
+layout_in image frame = layout_of (frame_size image.size frame) frame.group_dim frame.passes.count
 
 -- how many cells a channel of this size has
 abbrev pub cells_of : Size → ℕ

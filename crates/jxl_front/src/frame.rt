@@ -6,6 +6,7 @@ ghost use Rattle.jxlm_base.specs.Bits.{bytes_of, position_of};
 ghost use Rattle.jxlm_transform.specs.Params.{IsGroupDim};
 ghost use Rattle.jxl_headers.specs.Images.{image_of};
 ghost use Rattle.jxl_frames.specs.Frames.{frame_of, frame_size};
+ghost use Rattle.jxl_frames.specs.Passes.{IsPassCount};
 ghost use Rattle.jxl_picture.specs.Limits.{channel_count};
 ghost use Rattle.jxl_toc.specs.Layouts.{section_count_of};
 ghost use Rattle.jxl_toc.specs.LayoutParts.{parts_of};
@@ -32,7 +33,7 @@ pub struct FrameFront {
     pub start: usize,
     /// The header of the frame.
     pub header: FrameHeader,
-    /// How the frame is cut, in one pass.
+    /// How the frame is cut.
     pub layout: Layout,
     /// Where each of its sections lies, from its first byte on.
     pub toc: Toc,
@@ -106,6 +107,7 @@ impl Start<'_> {
         ensures ok { IfOk result (λ f. FrameGoesOn D.meaning self.entry.limits.now self.entry.bytes.now
             (image_of self.entry.image.now) self.entry.start self.entry.used (frame_of f) (position_of bits.new)) }
         ensures dim { IfOk result (λ f. IsGroupDim f.group_dim) }
+        ensures counted { IfOk result (λ f. IsPassCount f.passes.count) }
         ensures err { IfErr result (FrontFails D.meaning self.entry.limits.now self.entry.bytes.now) }
         ensures bytes { bytes_of bits.new ≡ bytes_of bits.old }
     {
@@ -189,7 +191,11 @@ impl FrameFront {
             used,
         };
         let header = place.read_header::<D>(alloc, &mut bits)?;
-        let Some(layout) = Layout::new(header.size(image.size), header.group_dim, 1) else {
+        let Some(layout) = Layout::new(
+            header.size(image.size),
+            header.group_dim,
+            header.passes.count,
+        ) else {
             return Err(FrontError::TooManySections);
         };
         let toc = place.read_contents::<D>(alloc, &header, &layout, &mut bits)?;
