@@ -37,7 +37,6 @@ fn frame_reason(refusal: FrameRefusal) -> &'static str
         FrameRefusal::YCbCr => "YCbCr",
         FrameRefusal::Upsampling => "upsampling",
         FrameRefusal::ExtraUpsampling => "upsampling of an extra channel",
-        FrameRefusal::Passes => "several passes",
         FrameRefusal::Crop => "a cropped frame",
         FrameRefusal::EmptyFrame => "a frame without samples",
         FrameRefusal::Blending => "blending",
