@@ -54,21 +54,22 @@ among_of part [] h = absurd (let lt = h.2 in omega (arith, lt))
 among_of part (q ∷ ps) (zero, t, lt, is, same) = let e : q ≡ t = cc in inl (e ∙ same)
 among_of part (q ∷ ps) (suc k, t, lt, is, same) = inr (among_of part ps (k, t, omega (arith, lt), is, same))
 
-only_part : (part q : SectionPart) → IsAmong part (q ∷ []) → q ≡ part
-only_part part q (inl e) = e
-only_part part q (inr h) = absurd h
+-- what fails for some parts fails for others among which they are
+pub fails_wider : (x : Places) (ps qs : List SectionPart) → ((q : SectionPart) → IsAmong q ps → IsAmong q qs) → (e : FrameError) → AddingFails x ps e → AddingFails x qs e
+fails_wider x ps qs wider errors.NoSection h = record { part = h.part; asked = any_of h.part qs (wider h.part (among_of h.part ps h.asked)); none = h.none }
+fails_wider x ps qs wider errors.NoMemory h = tt
+fails_wider x ps qs wider (errors.Header e) h = absurd h
+fails_wider x ps qs wider errors.WeightedPalette h = absurd h
+fails_wider x ps qs wider errors.NoGroups h = absurd h
+fails_wider x ps qs wider errors.GroupWeightedPalette h = absurd h
+fails_wider x ps qs wider (errors.Samples e) h = absurd h
 
 -- what fails for one part fails for all parts among which it is
 pub fails_among : (x : Places) (q : SectionPart) (ps : List SectionPart) → IsAmong q ps → (e : FrameError) → AddingFails x (q ∷ []) e → AddingFails x ps e
-fails_among x q ps among errors.NoSection h =
-    let same : q ≡ h.part = only_part h.part q (among_of h.part (q ∷ []) h.asked) in
-    record { part = h.part; asked = any_of h.part ps (subst (λ p. IsAmong p ps) same among); none = h.none }
-fails_among x q ps among errors.NoMemory h = tt
-fails_among x q ps among (errors.Header e) h = absurd h
-fails_among x q ps among errors.WeightedPalette h = absurd h
-fails_among x q ps among errors.NoGroups h = absurd h
-fails_among x q ps among errors.GroupWeightedPalette h = absurd h
-fails_among x q ps among (errors.Samples e) h = absurd h
+fails_among x q ps among e h = fails_wider x (q ∷ []) ps only e h where
+  only : (r : SectionPart) → IsAmong r (q ∷ []) → IsAmong r ps
+  only r (inl same) = subst (λ p. IsAmong p ps) same among
+  only r (inr none) = absurd none
 
 -- the part of number k is among the first n with samples
 pub among_first : (p : SectionPart → Bool) (f : ℕ → SectionPart) (n k : ℕ) → k < n → p (f k) ≡ true → IsAmong (f k) (filter p (map f (range_with_len 0 n)))

@@ -13,7 +13,7 @@ use Rattle.jxlm_ma.proofs.Memory.{always_so}
 use Rattle.jxlm_ma.specs.Tree.{Config}
 use Rattle.jxlm_chain.specs.Chain.{Chain}
 use Rattle.jxlm_transform.specs.ChannelSteps.{Step}
-use Rattle.jxlm_transform.specs.Channels.{AreGridsOf, ChannelList, image_list}
+use Rattle.jxlm_transform.specs.Channels.{AreGridsOf, Channel, ChannelList, image_list}
 use Rattle.jxlm_transform.specs.Params.{IsValidChannel}
 use Rattle.jxlm_transform.specs.declared.param.ModularChannelParams.{ModularChannelParams}
 use Rattle.jxlm_cut.proofs.Steps.{IsPictured}
@@ -24,12 +24,12 @@ use Rattle.jxl_modular.specs.Image.{Image, coded_list}
 use Rattle.jxl_modular.specs.Parsing.{IsStartAt}
 use Rattle.jxl_modular.specs.Sections.{AreDecoded, IsComplete, SectionsFit, SectionsLeave, SectionsStop}
 use Rattle.jxl_modular.specs.declared.sections.Section.{Section}
-use Rattle.jxlm_sections.specs.CutPicture.{groups_in_order, one_pass}
-use Rattle.jxlm_sections.proofs.OnePass.{complete, exist, unlike}
 use Rattle.jxlm_sections.proofs.Openings.{opened_steps}
-use Rattle.jxlm_sections.proofs.Pictures.{can_be_grouped, still_picture}
+use Rattle.jxlm_sections.proofs.Pictures.{still_picture}
 use Rattle.jxlm_sections.proofs.Whole.{all_whole}
 use Rattle.jxlm_cut.specs.declared.pass.Pass.{Pass}
+use Rattle.jxl_still.specs.Places.{groups_in_order, own_passes}
+use Rattle.jxl_still.proofs.Complete.{complete, exist, unlike}
 use Rattle.jxl_still.specs.Stills.{IsStill, section_is_weighted, weighted_at}
 use Rattle.jxl_still.specs.StillFailures.{HeaderStands, StillFails}
 use Rattle.jxl_still.specs.Inner.Listing.{AreListed, ListingFails, SamplesStop}
@@ -44,16 +44,21 @@ chain_sides w depth [] l image coded c = c.0
 chain_sides w depth (s ∷ ss) l image coded c = c.0
 
 -- where no sample may be missing and each part has a section, all is decoded
-pub whole_decoded : {S D : Type 0} (d : Meaning D) (w : Width) (to_int : S → ℤ) (zero : S) (x : Image S D) (passes : List Pass) (global : Option (Config D)) (sections : List Section) (whole : Bool) (grids : List (Grid ℤ)) (before after : ℕ) → passes ≡ one_pass → IsComplete x one_pass sections →
-    SectionsLeave d w to_int zero x passes global false sections whole x.store grids before after → (◌≡◌ {A = Result Bool Error} (Ok whole) (Ok true) → AreDecoded d w to_int zero x passes global sections grids before after) → AreDecoded d w to_int zero x one_pass global sections grids before after
-whole_decoded d w to_int zero x passes global sections whole grids before after one complete left decoded =
-    let there : IsComplete x passes sections = subst (λ ps. IsComplete x ps sections) (sym one) complete in
-    let is : whole ≡ true = left.says.1 (all_whole d w to_int zero x passes global sections left.turns x.store left.between left.left, there) in
-    subst (λ ps. AreDecoded d w to_int zero x ps global sections grids before after) one (decoded (ap Ok is))
+pub whole_decoded : {S D : Type 0} (d : Meaning D) (w : Width) (to_int : S → ℤ) (zero : S) (x : Image S D) (passes : List Pass) (global : Option (Config D)) (sections : List Section) (whole : Bool) (grids : List (Grid ℤ)) (before after : ℕ) → IsComplete x passes sections →
+    SectionsLeave d w to_int zero x passes global false sections whole x.store grids before after → (◌≡◌ {A = Result Bool Error} (Ok whole) (Ok true) → AreDecoded d w to_int zero x passes global sections grids before after) → AreDecoded d w to_int zero x passes global sections grids before after
+whole_decoded d w to_int zero x passes global sections whole grids before after complete left decoded =
+    decoded (ap Ok (left.says.1 (all_whole d w to_int zero x passes global sections left.turns x.store left.between left.left, complete)))
+
+-- channels of one picture can be grouped by passes that can cut an image without channels
+can_be_grouped : (passes : List Pass) (cs : List Channel) → IsTrue (can_group passes []) → IsTrue (one_picture cs) → IsTrue (can_group passes cs)
+can_be_grouped passes cs can one = rw one can
 
 module _ {S D : Type 0} (d : Meaning D) (w : Width) (to_int : S → ℤ) (zero : S) (global : Option (Config D)) (ps : List ModularChannelParams) (group_dim bit_depth : ℕ) (bytes : List ℕ) (p : ℕ) (places : Places) where
   abbrev given : ChannelList
   given = image_list ps
+
+  abbrev passes : List Pass
+  passes = own_passes places
 
   abbrev Fails : FrameError → Type 0
   Fails = StillFails {S = S} d w to_int zero global given group_dim bit_depth bytes p places
@@ -81,9 +86,9 @@ module _ {S D : Type 0} (d : Meaning D) (w : Width) (to_int : S → ℤ) (zero :
     abbrev begun : Image S D
     begun = fresh zero given o.head o.config group_dim bit_depth
 
-    -- the image can be cut by the one pass
-    pub groups_possible : IsTrue (one_picture given.channels) → IsTrue (can_group one_pass image.given)
-    groups_possible one = subst (λ (i : Image S D). IsTrue (can_group one_pass i.given)) (sym o.is) (can_be_grouped given.channels one)
+    -- the image can be cut by the passes
+    pub groups_possible : IsTrue (can_group passes []) → IsTrue (one_picture given.channels) → IsTrue (can_group passes image.given)
+    groups_possible can one = subst (λ (i : Image S D). IsTrue (can_group passes i.given)) (sym o.is) (can_be_grouped passes given.channels can one)
 
     -- listing the sections fails
     pub list_fails : (e : FrameError) → ListingFails places image e → Fails e
@@ -114,23 +119,23 @@ module _ {S D : Type 0} (d : Meaning D) (w : Width) (to_int : S → ℤ) (zero :
       can_be_cut : IsTrue (can_cut group_dim o.head.coded.list)
       can_be_cut = subst (λ (i : Image S D). IsTrue (can_cut i.group_dim (coded_list i))) o.is cut
 
-      parts_are : map (λ s. s.part) more ≡ groups_in_order begun
-      parts_are = listed.added.parts_are ∙ ap (λ (i : Image S D). groups_in_order i) o.is
+      parts_are : map (λ s. s.part) more ≡ groups_in_order begun passes
+      parts_are = listed.added.parts_are ∙ ap (λ (i : Image S D). groups_in_order i passes) o.is
 
       -- the sections fit the image
-      pub fit : IsTrue (one_picture given.channels) → SectionsFit image one_pass sections
-      fit one = subst (SectionsFit image one_pass) (sym sections_are) (record {
-        cut = record { groups = groups_possible one; cells = cut };
-        exist = exist image first more listed.of_global.part listed.added.parts_are;
-        unlike = unlike image first more listed.of_global.part listed.added.parts_are;
+      pub fit : IsTrue (can_group passes []) → IsTrue (one_picture given.channels) → SectionsFit image passes sections
+      fit can one = subst (SectionsFit image passes) (sym sections_are) (record {
+        cut = record { groups = groups_possible can one; cells = cut };
+        exist = exist image passes first more listed.of_global.part listed.added.parts_are;
+        unlike = unlike image passes first more listed.of_global.part listed.added.parts_are;
       })
 
       -- and each part with samples has one
-      pub all_there : All IsValidChannel ps → IsTrue (one_picture given.channels) → IsComplete image one_pass sections
-      all_there valid one =
+      pub all_there : IsTrue (can_group passes []) → All IsValidChannel ps → IsTrue (one_picture given.channels) → IsComplete image passes sections
+      all_there can valid one =
           let pictured = still_picture ps o.head valid one (opened_steps (is_some global) given bytes p o.head o.start.tree_at o.start.header) in
           let list_is : coded_list image ≡ o.head.coded.list = ap (λ (i : Image S D). coded_list i) o.is in
-          subst (IsComplete image one_pass) (sym sections_are) (complete image first more listed.of_global.part listed.added.parts_are pictured.w pictured.h
+          subst (IsComplete image passes) (sym sections_are) (complete image passes first more listed.of_global.part listed.added.parts_are can pictured.w pictured.h
           (subst (IsPictured pictured.w pictured.h) (sym list_is) pictured.is))
 
       -- the first section has no header of its own, so all or the others alone have such a palette
@@ -149,7 +154,7 @@ module _ {S D : Type 0} (d : Meaning D) (w : Width) (to_int : S → ℤ) (zero :
       }
 
       -- decoding them fails
-      pub samples_fail : (e : FrameError) → list_any section_is_weighted sections ≡ false → SamplesStop d w to_int zero image global sections e → Fails e
+      pub samples_fail : (e : FrameError) → list_any section_is_weighted sections ≡ false → SamplesStop d w to_int zero image passes global sections e → Fails e
       samples_fail (errors.Samples e) plain h =
           let (left, before, after, stop) = h in
           always_so (kind_of e) (record {
@@ -166,8 +171,8 @@ module _ {S D : Type 0} (d : Meaning D) (w : Width) (to_int : S → ℤ) (zero :
             left = left;
             before = before;
             after = after;
-            stop = subst (λ (i : Image S D). SectionsStop d w to_int zero i one_pass global false (first ∷ more) e i.store left before after) o.is
-                (subst (λ ss. SectionsStop d w to_int zero image one_pass global false ss e image.store left before after) sections_are stop);
+            stop = subst (λ (i : Image S D). SectionsStop d w to_int zero i passes global false (first ∷ more) e i.store left before after) o.is
+                (subst (λ ss. SectionsStop d w to_int zero image passes global false ss e image.store left before after) sections_are stop);
           })
       samples_fail (errors.Header e) plain h = absurd h
       samples_fail errors.WeightedPalette plain h = absurd h
@@ -177,7 +182,7 @@ module _ {S D : Type 0} (d : Meaning D) (w : Width) (to_int : S → ℤ) (zero :
       samples_fail errors.NoMemory plain h = absurd h
 
       -- or there is the frame
-      pub made : list_any section_is_weighted sections ≡ false → (grids : List (Grid ℤ)) (before after : ℕ) → AreDecoded d w to_int zero image one_pass global sections grids before after → Made grids before after
+      pub made : list_any section_is_weighted sections ≡ false → (grids : List (Grid ℤ)) (before after : ℕ) → AreDecoded d w to_int zero image passes global sections grids before after → Made grids before after
       made plain grids before after done = record {
         head = o.head;
         config = o.config;
@@ -191,8 +196,8 @@ module _ {S D : Type 0} (d : Meaning D) (w : Width) (to_int : S → ℤ) (zero :
         parts = parts_are;
         of_groups = listed.added.groups;
         plain_groups = sym weighted_are ∙ plain;
-        decoded = subst (λ (i : Image S D). AreDecoded d w to_int zero i one_pass global (first ∷ more) grids before after) o.is
-            (subst (λ ss. AreDecoded d w to_int zero image one_pass global ss grids before after) sections_are done);
+        decoded = subst (λ (i : Image S D). AreDecoded d w to_int zero i passes global (first ∷ more) grids before after) o.is
+            (subst (λ ss. AreDecoded d w to_int zero image passes global ss grids before after) sections_are done);
       }
 
   -- whose grids have the sides of the channels

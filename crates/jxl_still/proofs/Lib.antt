@@ -2,3 +2,5 @@ pub mod Adding
 pub mod Listings
 pub mod Headers
 pub mod Frames
+pub mod Passes
+pub mod Complete

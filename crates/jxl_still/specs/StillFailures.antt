@@ -18,8 +18,8 @@ use Rattle.jxl_modular.specs.Fresh.{fresh}
 use Rattle.jxl_modular.specs.Parsing.{IsStartAt, IsTreeErrorAt, opened}
 use Rattle.jxl_modular.specs.Sections.{SectionsStop}
 use Rattle.jxl_modular.specs.declared.sections.Section.{Section}
-use Rattle.jxlm_sections.specs.CutPicture.{IsOfGlobal, groups_in_order, one_pass}
-use Rattle.jxl_still.specs.Places.{IsOfGroup, held}
+use Rattle.jxlm_sections.specs.CutPicture.{IsOfGlobal}
+use Rattle.jxl_still.specs.Places.{groups_in_order, own_passes, IsOfGroup, held}
 use Rattle.jxl_still.specs.Stills.{section_is_weighted, weighted_at}
 use Rattle.jxl_still.specs.declared.error.FrameError.{FrameError}
 use Rattle.jxl_still.specs.declared.error.FrameError.TheVariants as errors
@@ -52,14 +52,14 @@ module _ {S D : Type 0} (d : Meaning D) (w : Width) (to_int : S → ℤ) (zero :
   -- a group with samples has no section
   pub record LacksSection : Type 0 where
     pub stands : HeaderStands
-    pub lacks : Lacks places (groups_in_order (fresh zero given stands.head stands.config group_dim bit_depth))
+    pub lacks : Lacks places (groups_in_order (fresh zero given stands.head stands.config group_dim bit_depth) (own_passes places))
 
   -- the section of a group begins with a header that has a palette of the weighted predictor
   pub record GroupIsWeighted : Type 0 where
     pub stands : HeaderStands
     pub cut : IsTrue (can_cut group_dim stands.head.coded.list)
     pub groups : List Section
-    pub parts : map (λ s. s.part) groups ≡ groups_in_order (fresh zero given stands.head stands.config group_dim bit_depth)
+    pub parts : map (λ s. s.part) groups ≡ groups_in_order (fresh zero given stands.head stands.config group_dim bit_depth) (own_passes places)
     pub of_groups : All (IsOfGroup places) groups
     pub some : list_any section_is_weighted groups ≡ true
 
@@ -72,13 +72,13 @@ module _ {S D : Type 0} (d : Meaning D) (w : Width) (to_int : S → ℤ) (zero :
     pub of_global : IsOfGlobal first
     pub cut : IsTrue (can_cut group_dim stands.head.coded.list)
     pub groups : List Section
-    pub parts : map (λ s. s.part) groups ≡ groups_in_order (fresh zero given stands.head stands.config group_dim bit_depth)
+    pub parts : map (λ s. s.part) groups ≡ groups_in_order (fresh zero given stands.head stands.config group_dim bit_depth) (own_passes places)
     pub of_groups : All (IsOfGroup places) groups
     pub plain_groups : list_any section_is_weighted groups ≡ false
     pub left : List (Grid S)
     pub before : ℕ
     pub after : ℕ
-    pub stop : SectionsStop d w to_int zero (fresh zero given stands.head stands.config group_dim bit_depth) one_pass global false (first ∷ groups) error
+    pub stop : SectionsStop d w to_int zero (fresh zero given stands.head stands.config group_dim bit_depth) (own_passes places) global false (first ∷ groups) error
         (fresh zero given stands.head stands.config group_dim bit_depth).store left before after
 
   -- what each error says of the frame

@@ -18,8 +18,8 @@ use Rattle.jxl_modular.specs.Fresh.{fresh}
 use Rattle.jxl_modular.specs.Parsing.{IsStartAt}
 use Rattle.jxl_modular.specs.Sections.{AreDecoded}
 use Rattle.jxl_modular.specs.declared.sections.Section.{Section}
-use Rattle.jxlm_sections.specs.CutPicture.{IsOfGlobal, groups_in_order, one_pass}
-use Rattle.jxl_still.specs.Places.{IsOfGroup}
+use Rattle.jxlm_sections.specs.CutPicture.{IsOfGlobal}
+use Rattle.jxl_still.specs.Places.{groups_in_order, own_passes, IsOfGroup}
 use Rattle.jxl_still.specs.declared.places.Places.{Places}
 
 -- the weighted (self-correcting) predictor
@@ -59,8 +59,8 @@ pub record IsStill {S D : Type 0} (d : Meaning D) (w : Width) (to_int : S → �
   pub cut : IsTrue (can_cut group_dim head.coded.list)
   pub of_global : IsOfGlobal first
   pub groups : List Section
-  pub parts : map (λ s. s.part) groups ≡ groups_in_order (fresh zero given head config group_dim bit_depth)
+  pub parts : map (λ s. s.part) groups ≡ groups_in_order (fresh zero given head config group_dim bit_depth) (own_passes places)
   pub of_groups : All (IsOfGroup places) groups
   pub plain_groups : list_any section_is_weighted groups ≡ false
-  pub decoded : AreDecoded d w to_int zero (fresh zero given head config group_dim bit_depth) one_pass global
+  pub decoded : AreDecoded d w to_int zero (fresh zero given head config group_dim bit_depth) (own_passes places) global
       (first ∷ groups) grids before after

@@ -9,10 +9,9 @@ ghost use Rattle.jxlm_cut.specs.Passes.{one_picture, passes_of};
 ghost use Rattle.jxl_modular.specs.Image.{image_grids};
 ghost use Rattle.jxl_modular.specs.SameButCells.{SameButCells};
 ghost use Rattle.jxl_modular.specs.Sections.{AreDecoded, IsComplete, SectionsFit};
-ghost use Rattle.jxlm_sections.specs.CutPicture.{one_pass as the_pass};
 ghost use Rattle.jxl_still.specs.Stills.{IsStill};
 ghost use Rattle.jxl_still.specs.StillFailures.{StillFails};
-ghost use Rattle.jxl_still.specs.Places.{AreFew};
+ghost use Rattle.jxl_still.specs.Places.{AreUsable};
 ghost use Rattle.jxl_still.specs.Inner.Listing.{SamplesStop};
 
 use crate::error::FrameError;
@@ -25,7 +24,6 @@ use jxlm_base::decoder::Decoder;
 use jxlm_base::sample::Sample;
 use jxlm_ma::flat::Steps;
 use jxlm_ma::ma::MaConfig;
-use jxlm_sections::one_pass;
 use jxlm_transform::param::ModularParams;
 use std::alloc::Global;
 use std::collections::BTreeMap;
@@ -40,13 +38,13 @@ fn decode_all<S: Sample, D: Decoder, P: Progress>(
     steps: &mut Steps,
     progress: &mut P,
 ) -> Result<(), FrameError>
-    requires one { passes_of passes.now.entries ≡ the_pass }
-    requires fit { SectionsFit image.old the_pass sections.now }
-    requires complete { IsComplete image.old the_pass sections.now }
-    ensures ok { OnOk result (AreDecoded D.meaning S.width S.to_int (S.from_int (pos 0)) image.old the_pass
-        (option_copied global.entry) sections.now (image_grids S.to_int image.new) steps.old steps.new) }
+    requires fit { SectionsFit image.old (passes_of passes.now.entries) sections.now }
+    requires complete { IsComplete image.old (passes_of passes.now.entries) sections.now }
+    ensures ok { OnOk result (AreDecoded D.meaning S.width S.to_int (S.from_int (pos 0)) image.old
+        (passes_of passes.now.entries) (option_copied global.entry) sections.now (image_grids S.to_int image.new)
+        steps.old steps.new) }
     ensures err { IfErr result (SamplesStop D.meaning S.width S.to_int (S.from_int (pos 0)) image.old
-        (option_copied global.entry) sections.now) }
+        (passes_of passes.now.entries) (option_copied global.entry) sections.now) }
     ensures same { SameButCells image.old image.new }
 {
     match decode_sections_with(
@@ -65,12 +63,12 @@ fn decode_all<S: Sample, D: Decoder, P: Progress>(
 ///
 /// A header that uses a global tree has the one of the parameters. Each group with samples has a section, which begins
 /// with a header of its own; the others are not looked at. The indices of streams are 0 for the global part, 1 and the
-/// number of LF groups and its own number for an LF group, and 18 and three times the number of LF groups and its own
-/// for a group of the pass. Each section is told of when it was decoded. It returns the
-/// image, whose transforms are undone; with no channels there is none.
+/// number of LF groups and its own number for an LF group, and 18 and three times the number of LF groups and its place
+/// for a group of a pass, of all groups of all passes, pass after pass. Each section is told of when it was decoded. It
+/// returns the image, whose transforms are undone; with no channels there is none.
 ///
-/// The parameters are valid, and their channels are of one picture; there are at most 2^24 groups of each kind
-/// ([`Places::are_few`]).
+/// The parameters are valid, and their channels are of one picture; there are at most 2^24 groups of each kind, and each
+/// shift below 3 has its pass ([`Places::are_usable`]).
 ///
 /// # Errors
 ///
@@ -89,7 +87,7 @@ pub fn decode_frame<'a, S: Sample, D: Decoder, P: Progress>(
 ) -> Result<Option<ModularImageDestination<S, D>>, FrameError>
     requires valid { IsValidParams params }
     requires alike { IsTrue (one_picture (image_list params.channels.items).channels) }
-    requires few { AreFew places }
+    requires usable { AreUsable places }
     ensures none { (result ≡ Ok None) ↔ (params.entry.channels.items ≡ []) }
     ensures still { IfOk result (λ made. IfSome made (λ image. IsStill D.meaning S.width S.to_int (S.from_int (pos 0))
         (option_copied params.entry.ma_config) (image_list params.entry.channels.items) params.entry.group_dim
@@ -107,14 +105,19 @@ pub fn decode_frame<'a, S: Sample, D: Decoder, P: Progress>(
     let Some(mut image) = opened else {
         return Ok(None);
     };
-    let passes = one_pass(alloc)?;
-    let sections = places.list(alloc, &mut image, &passes, bits)?;
+    let sections = places.list(alloc, &mut image, bits)?;
     let weighted = begin_weighted(alloc, &sections)?;
     if weighted {
         return Err(FrameError::GroupWeightedPalette);
     }
     decode_all(
-        alloc, &mut image, &passes, &sections, global, steps, progress,
+        alloc,
+        &mut image,
+        places.passes,
+        &sections,
+        global,
+        steps,
+        progress,
     )?;
     Ok(Some(image))
 }

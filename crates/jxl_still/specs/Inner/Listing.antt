@@ -9,10 +9,11 @@ use Rattle.std.specs.List.{All}
 use Rattle.jxlm_base.specs.declared.bits.Bitstream.{Bitstream}
 use Rattle.jxlm_cut.specs.Cutting.{can_cut}
 use Rattle.jxlm_cut.specs.declared.part.SectionPart.{SectionPart}
+use Rattle.jxlm_cut.specs.declared.pass.Pass.{Pass}
 use Rattle.jxl_modular.specs.Image.{Image, coded_list}
 use Rattle.jxl_modular.specs.declared.sections.Section.{Section}
-use Rattle.jxlm_sections.specs.CutPicture.{IsOfGlobal, groups_in_order, one_pass}
-use Rattle.jxl_still.specs.Places.{IsOfGroup}
+use Rattle.jxlm_sections.specs.CutPicture.{IsOfGlobal}
+use Rattle.jxl_still.specs.Places.{IsOfGroup, groups_in_order, own_passes}
 use Rattle.jxl_still.specs.StillFailures.{Lacks}
 use Rattle.jxl_still.specs.declared.error.FrameError.{FrameError}
 use Rattle.jxl_still.specs.declared.error.FrameError.TheVariants as errors
@@ -40,16 +41,16 @@ pub record AreListed {S D : Type 0} (x : Places) (image : Image S D) (first : Bi
   pub global : Section
   pub of_global : IsOfGlobal global
   pub goes_on : global.bits ≡ first
-  pub added : AreAdded x (groups_in_order image) (global ∷ []) sections
+  pub added : AreAdded x (groups_in_order image (own_passes x)) (global ∷ []) sections
 
 abbrev pub ListingFails : {S D : Type 0} → Places → Image S D → FrameError → Type 0
 ListingFails x image errors.NoGroups = IsFalse (can_cut image.group_dim (coded_list image))
-ListingFails x image errors.NoSection = Lacks x (groups_in_order image)
+ListingFails x image errors.NoSection = Lacks x (groups_in_order image (own_passes x))
 ListingFails x image errors.NoMemory = Unit {0}
 ListingFails x image e = ⊥
 
 -- decoding the sections of an image stops with this error
-abbrev pub SamplesStop : {S D : Type 0} → Meaning D → Width → (S → ℤ) → S → Image S D → Option (Config D) → List Section → FrameError → Type 0
-SamplesStop {S} d w to_int zero x global sections (errors.Samples e) =
-    (left : List (Grid S)) × (before : ℕ) × (after : ℕ) × SectionsStop d w to_int zero x one_pass global false sections e x.store left before after
-SamplesStop d w to_int zero x global sections e = ⊥
+abbrev pub SamplesStop : {S D : Type 0} → Meaning D → Width → (S → ℤ) → S → Image S D → List Pass → Option (Config D) → List Section → FrameError → Type 0
+SamplesStop {S} d w to_int zero x passes global sections (errors.Samples e) =
+    (left : List (Grid S)) × (before : ℕ) × (after : ℕ) × SectionsStop d w to_int zero x passes global false sections e x.store left before after
+SamplesStop d w to_int zero x passes global sections e = ⊥

@@ -7,7 +7,7 @@ use Rattle.jxlm_transform.specs.Channels.{image_list}
 use Rattle.jxl_modular.specs.Image.{Image, image_grids}
 use Rattle.jxl_modular.specs.Sections.{AreDecoded, IsComplete, SectionsFit}
 use Rattle.jxl_modular.specs.declared.sections.Section.{Section}
-use Rattle.jxlm_sections.specs.CutPicture.{one_pass}
+use Rattle.jxl_still.specs.Places.{own_passes}
 use Rattle.jxl_still.specs.StillFailures.{StillFails}
 use Rattle.jxl_still.specs.Inner.Listing.{SamplesStop}
 use Rattle.jxl_still.specs.Inner.Openings.{Opens}
@@ -38,7 +38,7 @@ list-requires-clause-possible g c κs within =
     let q = position_of c.open_image.new.bits in
     let o = at_some (λ (i : Image g.row.S.Denot g.row.D.Denot). Opens g.D.Decoder.meaning global (image_list c.args.params.channels.items) bytes place zero c.args.params.group_dim c.args.params.bit_depth i q)
     c.in_ok-opened.opened image c.in-Some.is c.in_ok-opened.ensures.ok in
-    groups_possible g.D.Decoder.meaning g.S.Sealed.width g.S.Sealed.to_int zero global c.args.params.channels.items c.args.params.group_dim c.args.params.bit_depth bytes place c.args.places image q o c.requires.alike
+    groups_possible g.D.Decoder.meaning g.S.Sealed.width g.S.Sealed.to_int zero global c.args.params.channels.items c.args.params.group_dim c.args.params.bit_depth bytes place c.args.places image q o c.requires.usable.passes c.requires.alike
 
 pub returns-in_err-sections-clause-err : goal.returns-in_err-sections-clause-err
 returns-in_err-sections-clause-err g c =
@@ -82,11 +82,11 @@ decode_all-requires-clause-fit g c κs within =
     let o = at_some (λ (i : Image g.row.S.Denot g.row.D.Denot). Opens g.D.Decoder.meaning global (image_list c.args.params.channels.items) bytes place zero c.args.params.group_dim c.args.params.bit_depth i q)
     c.in_ok-opened.opened image c.in-Some.is c.in_ok-opened.ensures.ok in
     let sections = c.in_ok-sections.sections.items in
-    let fits : SectionsFit image one_pass sections =
+    let fits : SectionsFit image (own_passes c.args.places) sections =
     fit g.D.Decoder.meaning g.S.Sealed.width g.S.Sealed.to_int zero global c.args.params.channels.items c.args.params.group_dim c.args.params.bit_depth bytes place c.args.places image q o
-    c.open_image.new.bits c.in_ok-opened.ensures.bytes refl sections c.in_ok-sections.ensures.listed c.in_ok-sections.ensures.cut.cells c.requires.alike in
-    subst (λ (i : Image g.row.S.Denot g.row.D.Denot). SectionsFit i one_pass c.deref-2.result.now) (sym c.in_ok-sections.ensures.unchanged)
-    (subst (λ (ss : List Section). SectionsFit image one_pass ss) (sym c.deref-2.ensures.value) fits)
+    c.open_image.new.bits c.in_ok-opened.ensures.bytes refl sections c.in_ok-sections.ensures.listed c.in_ok-sections.ensures.cut.cells c.requires.usable.passes c.requires.alike in
+    subst (λ (i : Image g.row.S.Denot g.row.D.Denot). SectionsFit i (own_passes c.args.places) c.deref-2.result.now) (sym c.in_ok-sections.ensures.unchanged)
+    (subst (λ (ss : List Section). SectionsFit image (own_passes c.args.places) ss) (sym c.deref-2.ensures.value) fits)
 
 pub decode_all-requires-clause-complete : goal.decode_all-requires-clause-complete
 decode_all-requires-clause-complete g c κs within =
@@ -99,11 +99,11 @@ decode_all-requires-clause-complete g c κs within =
     let o = at_some (λ (i : Image g.row.S.Denot g.row.D.Denot). Opens g.D.Decoder.meaning global (image_list c.args.params.channels.items) bytes place zero c.args.params.group_dim c.args.params.bit_depth i q)
     c.in_ok-opened.opened image c.in-Some.is c.in_ok-opened.ensures.ok in
     let sections = c.in_ok-sections.sections.items in
-    let there : IsComplete image one_pass sections =
+    let there : IsComplete image (own_passes c.args.places) sections =
     all_there g.D.Decoder.meaning g.S.Sealed.width g.S.Sealed.to_int zero global c.args.params.channels.items c.args.params.group_dim c.args.params.bit_depth bytes place c.args.places image q o
-    c.open_image.new.bits c.in_ok-opened.ensures.bytes refl sections c.in_ok-sections.ensures.listed c.in_ok-sections.ensures.cut.cells c.requires.valid.channels c.requires.alike in
-    subst (λ (i : Image g.row.S.Denot g.row.D.Denot). IsComplete i one_pass c.deref-2.result.now) (sym c.in_ok-sections.ensures.unchanged)
-    (subst (λ (ss : List Section). IsComplete image one_pass ss) (sym c.deref-2.ensures.value) there)
+    c.open_image.new.bits c.in_ok-opened.ensures.bytes refl sections c.in_ok-sections.ensures.listed c.in_ok-sections.ensures.cut.cells c.requires.usable.passes c.requires.valid.channels c.requires.alike in
+    subst (λ (i : Image g.row.S.Denot g.row.D.Denot). IsComplete i (own_passes c.args.places) c.deref-2.result.now) (sym c.in_ok-sections.ensures.unchanged)
+    (subst (λ (ss : List Section). IsComplete image (own_passes c.args.places) ss) (sym c.deref-2.ensures.value) there)
 
 pub returns-in_err-decode_all-clause-err : goal.returns-in_err-decode_all-clause-err
 returns-in_err-decode_all-clause-err g c =
@@ -117,9 +117,9 @@ returns-in_err-decode_all-clause-err g c =
     c.in_ok-opened.opened image c.in-Some.is c.in_ok-opened.ensures.ok in
     let sections = c.in_ok-sections.sections.items in
     let e = c.in_err-decode_all.field-0.0 in
-    let stops : SamplesStop g.D.Decoder.meaning g.S.Sealed.width g.S.Sealed.to_int zero image global sections e =
-    subst (λ (ss : List Section). SamplesStop g.D.Decoder.meaning g.S.Sealed.width g.S.Sealed.to_int zero image global ss e) c.deref-2.ensures.value
-    (subst (λ (i : Image g.row.S.Denot g.row.D.Denot). SamplesStop g.D.Decoder.meaning g.S.Sealed.width g.S.Sealed.to_int zero i global c.deref-2.result.now e) c.in_ok-sections.ensures.unchanged c.in_err-decode_all.ensures.err) in
+    let stops : SamplesStop g.D.Decoder.meaning g.S.Sealed.width g.S.Sealed.to_int zero image (own_passes c.args.places) global sections e =
+    subst (λ (ss : List Section). SamplesStop g.D.Decoder.meaning g.S.Sealed.width g.S.Sealed.to_int zero image (own_passes c.args.places) global ss e) c.deref-2.ensures.value
+    (subst (λ (i : Image g.row.S.Denot g.row.D.Denot). SamplesStop g.D.Decoder.meaning g.S.Sealed.width g.S.Sealed.to_int zero i (own_passes c.args.places) global c.deref-2.result.now e) c.in_ok-sections.ensures.unchanged c.in_err-decode_all.ensures.err) in
     let fails : StillFails g.D.Decoder.meaning g.S.Sealed.width g.S.Sealed.to_int zero global (image_list c.args.params.channels.items) c.args.params.group_dim c.args.params.bit_depth bytes place c.args.places e =
     samples_fail g.D.Decoder.meaning g.S.Sealed.width g.S.Sealed.to_int zero global c.args.params.channels.items c.args.params.group_dim c.args.params.bit_depth bytes place c.args.places image q o
     c.open_image.new.bits c.in_ok-opened.ensures.bytes refl sections c.in_ok-sections.ensures.listed c.in_ok-sections.ensures.cut.cells e (ap (list_any section_is_weighted) (sym c.deref.ensures.value) ∙ sym c.in_ok-weighted.ensures ∙ c.if-weighted.false) stops in
@@ -140,9 +140,9 @@ returns-clause-still g c =
     let grids = image_grids g.S.Sealed.to_int c.decode_all.new.image in
     let before = c.args.steps.now in
     let after = c.decode_all.new.steps in
-    let done : AreDecoded g.D.Decoder.meaning g.S.Sealed.width g.S.Sealed.to_int zero image one_pass global sections grids before after =
-    subst (λ (ss : List Section). AreDecoded g.D.Decoder.meaning g.S.Sealed.width g.S.Sealed.to_int zero image one_pass global ss grids before after) c.deref-2.ensures.value
-    (subst (λ (i : Image g.row.S.Denot g.row.D.Denot). AreDecoded g.D.Decoder.meaning g.S.Sealed.width g.S.Sealed.to_int zero i one_pass global c.deref-2.result.now grids before after) c.in_ok-sections.ensures.unchanged c.in_ok-decode_all.ensures.ok) in
+    let done : AreDecoded g.D.Decoder.meaning g.S.Sealed.width g.S.Sealed.to_int zero image (own_passes c.args.places) global sections grids before after =
+    subst (λ (ss : List Section). AreDecoded g.D.Decoder.meaning g.S.Sealed.width g.S.Sealed.to_int zero image (own_passes c.args.places) global ss grids before after) c.deref-2.ensures.value
+    (subst (λ (i : Image g.row.S.Denot g.row.D.Denot). AreDecoded g.D.Decoder.meaning g.S.Sealed.width g.S.Sealed.to_int zero i (own_passes c.args.places) global c.deref-2.result.now grids before after) c.in_ok-sections.ensures.unchanged c.in_ok-decode_all.ensures.ok) in
     made g.D.Decoder.meaning g.S.Sealed.width g.S.Sealed.to_int zero global c.args.params.channels.items c.args.params.group_dim c.args.params.bit_depth bytes place c.args.places image q o
     c.open_image.new.bits c.in_ok-opened.ensures.bytes refl sections c.in_ok-sections.ensures.listed c.in_ok-sections.ensures.cut.cells (ap (list_any section_is_weighted) (sym c.deref.ensures.value) ∙ sym c.in_ok-weighted.ensures ∙ c.if-weighted.false) grids before after done
 

@@ -3,4 +3,4 @@ use Rattle.jxl_still.proofs.Adding.{lacks_one}
 use Rattle.jxl_still.proofs.places.Places.add_group.Goals as goal
 
 pub returns-in-None-clause-err : goal.returns-in-None-clause-err
-returns-in-None-clause-err c = lacks_one c.args.self.now (parts.Pass 0 c.args.group) c.in-None.ensures
+returns-in-None-clause-err c = lacks_one c.args.self.now (parts.Pass c.args.pass c.args.group) c.in-None.ensures

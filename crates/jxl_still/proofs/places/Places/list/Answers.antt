@@ -1,14 +1,10 @@
-use Rattle.std.proofs.Common.{◌≡◌, ◌∙◌, ◌∷◌, [], false, refl, sym, subst, IsTrue, rules}
-use Rattle.jxlm_cut.specs.Passes.{can_group}
+use Rattle.std.proofs.Common.{◌≡◌, ◌∷◌, [], false, refl, rules}
 use Rattle.jxlm_cut.specs.declared.part.SectionPart.TheVariants as parts
 use Rattle.jxl_modular.specs.GroupParts.{image_of, passes_in}
 use Rattle.jxl_modular.specs.declared.sections.Section.{Section}
 use Rattle.jxl_still.specs.Inner.Listing.{ListingFails}
-use Rattle.jxl_still.proofs.Listings.{all_added, groups_failed, low_failed}
+use Rattle.jxl_still.proofs.Listings.{all_added, passes_failed, low_failed}
 use Rattle.jxl_still.proofs.places.Places.list.Goals as goal
-
-pub prepare_groups-requires-clause-possible : goal.prepare_groups-requires-clause-possible
-prepare_groups-requires-clause-possible g c κs within = subst (λ ps. IsTrue (can_group ps c.args.image.now.given)) (sym c.requires.one) c.requires.possible
 
 pub returns-clause-listed : goal.returns-clause-listed
 returns-clause-listed g c =
@@ -19,19 +15,19 @@ returns-clause-listed g c =
       of_global = record { part = refl; stream = refl; nested = refl };
       goes_on = refl;
       added = all_added c.args.self.now c.args.image.now (image_of c.in-Ok.groups) (passes_in c.in-Ok.groups) (global ∷ []) c.push.new.self.items
-          c.add_all_low.new.list.items c.add_all_groups.new.list.items c.in-Ok.ensures.unchanged (c.in-Ok.ensures.passes ∙ c.requires.one) begun c.in_ok-add_all_low.ensures.ok c.in_ok-add_all_groups.ensures.ok;
+          c.add_all_low.new.list.items c.add_all_passes.new.list.items c.in-Ok.ensures.unchanged c.in-Ok.ensures.passes begun c.in_ok-add_all_low.ensures.ok c.in_ok-add_all_passes.ensures.ok;
     }
 
 pub returns-in_err-add_all_low-clause-err : goal.returns-in_err-add_all_low-clause-err
 returns-in_err-add_all_low-clause-err g c =
     let e = c.in_err-add_all_low.field-0.0 in
     let fails : ListingFails c.args.self.now c.args.image.now e =
-    low_failed c.args.self.now c.args.image.now (image_of c.in-Ok.groups) (passes_in c.in-Ok.groups) e c.in-Ok.ensures.unchanged (c.in-Ok.ensures.passes ∙ c.requires.one) c.in_err-add_all_low.ensures.err in
+    low_failed c.args.self.now c.args.image.now (image_of c.in-Ok.groups) (passes_in c.in-Ok.groups) e c.in-Ok.ensures.unchanged c.in-Ok.ensures.passes c.in_err-add_all_low.ensures.err in
     search rules
 
-pub returns-in_err-add_all_groups-clause-err : goal.returns-in_err-add_all_groups-clause-err
-returns-in_err-add_all_groups-clause-err g c =
-    let e = c.in_err-add_all_groups.field-0.0 in
+pub returns-in_err-add_all_passes-clause-err : goal.returns-in_err-add_all_passes-clause-err
+returns-in_err-add_all_passes-clause-err g c =
+    let e = c.in_err-add_all_passes.field-0.0 in
     let fails : ListingFails c.args.self.now c.args.image.now e =
-    groups_failed c.args.self.now c.args.image.now (image_of c.in-Ok.groups) (passes_in c.in-Ok.groups) e c.in-Ok.ensures.unchanged (c.in-Ok.ensures.passes ∙ c.requires.one) c.in_err-add_all_groups.ensures.err in
+    passes_failed c.args.self.now c.args.image.now (image_of c.in-Ok.groups) (passes_in c.in-Ok.groups) e c.in-Ok.ensures.unchanged c.in-Ok.ensures.passes c.in_err-add_all_passes.ensures.err in
     search rules

@@ -1,0 +1,207 @@
+-- The parts of an image by the passes of a frame: which have cells, and that each of them is in order.
+use Rattle.std.proofs.Common.{◌≡◌, ◌≢◌, ℕ, zero, suc, ◌+◌, ◌<◌, ◌≤◌, ◌⊎◌, inl, inr, ◌&&◌, ◌||◌, Bool, true, false, cond, max, nat_lt, if◌then◌else◌, ℤ, pos, List, [], ◌∷◌, map, Some, refl, sym, ap, ◌∙◌, subst, arith, eqb-true}
+use Rattle.std.specs.Prelude.{find, int_le}
+use Rattle.std.specs.List.{All, AllPairs, list_any, range_with_len}
+use Rattle.std.specs.Option.{option_map_or}
+use Rattle.std.proofs.lemmas.Bool.{cases_lt, le-leb, lt-ltb, ltb-true}
+use Rattle.std.proofs.lemmas.List.Elements.{All-append, All-filter}
+use Rattle.jxlm_chain.proofs.StepFacts.{both_of}
+use Rattle.jxlm_transform.specs.Channels.{Channel, ChannelList}
+use Rattle.jxlm_cut.proofs.PartChannels.{counts_cells}
+use Rattle.jxlm_cut.proofs.PieceFacts.{counted_of, held_exists, lf_exists, pass_exists}
+use Rattle.jxlm_cut.proofs.Parts.{get_of}
+use Rattle.jxlm_cut.proofs.Pictured.{IsOfPicture}
+use Rattle.jxlm_cut.proofs.Steps.{IsPictured}
+use Rattle.jxlm_cut.specs.Counts.{group_count, is_kind}
+use Rattle.jxlm_cut.specs.Cutting.{global_count, is_low_frequency, pass_of}
+use Rattle.jxlm_cut.specs.Parts.{HaveCell}
+use Rattle.jxlm_cut.specs.Passes.{can_group, holds}
+use Rattle.jxlm_cut.specs.declared.pass.Pass.{Pass}
+use Rattle.jxlm_cut.specs.declared.part.Kind.TheVariants as kinds
+use Rattle.jxlm_cut.specs.declared.part.SectionPart.{SectionPart}
+use Rattle.jxlm_cut.specs.declared.part.SectionPart.TheVariants as parts
+use Rattle.jxlm_part.specs.Part.{cell_count}
+use Rattle.jxl_modular.specs.GroupParts.{pass_count}
+use Rattle.jxl_modular.specs.Groups.{Exists, channels_in, pieces_of}
+use Rattle.jxl_modular.specs.Image.{Image, coded_list}
+use Rattle.jxl_modular.specs.Sections.{IsComplete}
+use Rattle.jxl_modular.specs.declared.sections.Section.{Section}
+use Rattle.jxlm_sections.specs.CutPicture.{lf_groups}
+use Rattle.jxlm_sections.proofs.PartLists.{AllDiffer, Differ, IsAmong, among_filter, among_left, among_range, among_right, any_section, differ_append, differ_filter, differ_range, each_of_range, each_section, sections_unlike}
+use Rattle.jxl_still.proofs.Passes.{all_passes, among_one, differ_passes}
+use Rattle.jxl_still.specs.Places.{groups_in_order, low_parts, parts_of_pass, parts_of_passes}
+
+-- ---- each shift below 3 is held by a pass, whose number is counted
+
+-- the number of the pass that holds a shift is below the count
+held_below : (s : ℤ) (passes : List Pass) → list_any (holds s) passes ≡ true → option_map_or (λ p. p.number) (find (holds s) passes) 256 < pass_count passes
+held_below s [] e = absurd (different e) where
+  different : ◌≡◌ {A = Bool} false true → ⊥
+  different e = cc
+held_below s (p ∷ ps) e = by (holds s p) (held_below s ps) e where
+  by : (b : Bool) → (list_any (holds s) ps ≡ true → option_map_or (λ p. p.number) (find (holds s) ps) 256 < pass_count ps) →
+      (b || list_any (holds s) ps) ≡ true → option_map_or (λ p. p.number) (cond b (Some p) (find (holds s) ps)) 256 < max (p.number + 1) (pass_count ps)
+  by true later e = omega arith
+  by false later e = let below = later e in omega (arith, below)
+
+-- what is asked of passes: each shift below 3 has one
+each_held : (passes : List Pass) → can_group passes [] ≡ true → (m : ℕ) → m < 3 → list_any (holds (pos m)) passes ≡ true
+each_held passes e m lt =
+    let shifts = both_of _ (list_any (holds (pos 0)) passes && list_any (holds (pos 1)) passes && list_any (holds (pos 2)) passes) e in
+    let third = both_of (list_any (holds (pos 0)) passes && list_any (holds (pos 1)) passes) (list_any (holds (pos 2)) passes) shifts.1 in
+    let first = both_of (list_any (holds (pos 0)) passes) (list_any (holds (pos 1)) passes) third.0 in
+    by m lt first.0 first.1 third.1 where
+      by : (m : ℕ) → m < 3 → list_any (holds (pos 0)) passes ≡ true → list_any (holds (pos 1)) passes ≡ true → list_any (holds (pos 2)) passes ≡ true → list_any (holds (pos m)) passes ≡ true
+      by zero lt a b c = a
+      by (suc zero) lt a b c = b
+      by (suc (suc zero)) lt a b c = c
+      by (suc (suc (suc m))) lt a b c = absurd (omega (arith, lt))
+
+least_of : (b : Bool) (h v : ℤ) (m n : ℕ) → h ≡ pos m → v ≡ pos n → (k : ℕ) × ((if b then h else v) ≡ pos k)
+least_of true h v m n p q = (m, p)
+least_of false h v m n p q = (n, q)
+
+below_three : (m : ℕ) → int_le (pos 3) (pos m) ≡ false → m < 3
+below_three m e = elim (cases_lt m 3) [
+  | inl lt ↦ lt
+  | inr ge ↦ absurd (different (sym (le-leb 3 m ge) ∙ e))
+] where
+  different : ◌≡◌ {A = Bool} true false → ⊥
+  different e = cc
+
+module _ (passes : List Pass) (can : can_group passes [] ≡ true) where
+  -- the pass of a channel of a picture is counted
+  pass_below : (w h : ℕ) (c : Channel) → IsOfPicture w h c → is_low_frequency c ≡ false → pass_of passes c < pass_count passes
+  pass_below w h c is high =
+      let (m, least) = least_of (int_le c.hshift c.vshift) c.hshift c.vshift is.across.shift is.down.shift is.across.is is.down.is in
+      let small : int_le (pos 3) (pos m) ≡ false = sym (ap (λ s. int_le (pos 3) s) least) ∙ high in
+      subst (λ s. option_map_or (λ p. p.number) (find (holds s) passes) 256 < pass_count passes) (sym least) (held_below (pos m) passes (each_held passes can m (below_three m small)))
+
+  -- so a group of a pass is of one that is counted
+  group_below : (dim w h : ℕ) (l : ChannelList) → IsPictured w h l → (p k : ℕ) → k < group_count dim passes l (kinds.Pass p) → p < pass_count passes
+  group_below dim w h l pictured p k lt =
+      let (n, c, e, kind, more) = counted_of dim passes l (kinds.Pass p) k lt in
+      let (within, is) = get_of l.channels n c c e in
+      by (nat_lt n (global_count dim l)) (is_low_frequency c) refl refl kind (λ ge. subst (IsOfPicture w h) is (pictured n c (omega (arith, ge)) within)) where
+        by : {n : ℕ} {c : Channel} (front low : Bool) → nat_lt n (global_count dim l) ≡ front → is_low_frequency c ≡ low → is_kind (kinds.Pass p) (if front then kinds.Global else if low then kinds.Lf else kinds.Pass (pass_of passes c)) ≡ true →
+            (global_count dim l ≤ n → IsOfPicture w h c) → p < pass_count passes
+        by true low is_front is_low kind own = cc
+        by false true is_front is_low kind own = cc
+        by {n = n} {c = c} false false is_front is_low kind own =
+            let same : p ≡ pass_of passes c = eqb-true p (pass_of passes c) kind in
+            let below = pass_below w h c (own (not_front n (global_count dim l) is_front)) is_low in
+            omega (arith, same, below) where
+              not_front : (n m : ℕ) → nat_lt n m ≡ false → m ≤ n
+              not_front n m e = elim (cases_lt n m) [
+                | inl lt ↦ absurd (different (sym (lt-ltb n m lt) ∙ e))
+                | inr ge ↦ ge
+              ] where
+                different : ◌≡◌ {A = Bool} true false → ⊥
+                different e = cc
+
+-- ---- the parts of the groups in order
+
+module _ {S D : Type 0} (x : Image S D) (passes : List Pass) where
+  abbrev has_samples : SectionPart → Bool
+  has_samples part = nat_lt 0 (cell_count (channels_in x passes part))
+
+  abbrev lf_count : ℕ
+  lf_count = group_count x.group_dim passes (coded_list x) kinds.Lf
+
+  abbrev count_of : ℕ → ℕ
+  count_of p = group_count x.group_dim passes (coded_list x) (kinds.Pass p)
+
+  abbrev low_there : List SectionPart
+  low_there = low_parts x passes
+
+  abbrev passes_there : List SectionPart
+  passes_there = parts_of_passes x passes (pass_count passes)
+
+  -- each part with cells is the global one or among them
+  among_groups : can_group passes [] ≡ true → (w h : ℕ) → IsPictured w h (coded_list x) → (part : SectionPart) (n i j : ℕ) → HaveCell (pieces_of x passes part) n i j →
+      (part ≡ parts.Global) ⊎ IsAmong part (groups_in_order x passes)
+  among_groups can w h pictured parts.Global n i j has = inl refl
+  among_groups can w h pictured (parts.Lf k) n i j has =
+      let part = parts.Lf k in
+      let some : has_samples part ≡ true = lt-ltb 0 (cell_count (channels_in x passes part)) ((counts_cells x.group_dim passes (coded_list x) part).1 (record { n = n; x = i; y = j; has = has })) in
+      let lt : k < lf_count = ltb-true k lf_count (sym (lf_exists x.group_dim passes (coded_list x) k) ∙ held_exists x.group_dim passes (coded_list x) part n i j has) in
+      inr (among_left part low_there passes_there (among_filter has_samples part (lf_groups lf_count) some (among_range (λ k. parts.Lf k) lf_count k lt)))
+  among_groups can w h pictured (parts.Pass p k) n i j has =
+      let part = parts.Pass p k in
+      let some : has_samples part ≡ true = lt-ltb 0 (cell_count (channels_in x passes part)) ((counts_cells x.group_dim passes (coded_list x) part).1 (record { n = n; x = i; y = j; has = has })) in
+      let lt : k < count_of p = ltb-true k (count_of p) (sym (pass_exists x.group_dim passes (coded_list x) p k) ∙ held_exists x.group_dim passes (coded_list x) part n i j has) in
+      let here : IsAmong part (parts_of_pass x passes p) = among_filter has_samples part (map (λ k. parts.Pass p k) (range_with_len 0 (count_of p))) some (among_range (λ k. parts.Pass p k) (count_of p) k lt) in
+      let below = group_below passes can x.group_dim w h (coded_list x) pictured p k lt in
+      inr (among_right part low_there passes_there (among_one (parts_of_pass x passes) part (pass_count passes) p below here))
+
+  module _ (first : Section) (groups : List Section) (global : first.part ≡ parts.Global) (in_order : map (λ s. s.part) groups ≡ groups_in_order x passes) where
+    all_parts : map (λ (s : Section). s.part) (first ∷ groups) ≡ parts.Global ∷ groups_in_order x passes
+    all_parts = ap (λ p. p ∷ map (λ (s : Section). s.part) groups) global ∙ ap (λ ps. parts.Global ∷ ps) in_order
+
+    -- so sections of these parts are complete
+    pub complete : can_group passes [] ≡ true → (w h : ℕ) → IsPictured w h (coded_list x) → IsComplete x passes (first ∷ groups)
+    complete can w h pictured part n i j has =
+        let here : IsAmong part (parts.Global ∷ groups_in_order x passes) = elim (among_groups can w h pictured part n i j has) [
+          | inl is ↦ inl (sym is)
+          | inr among ↦ inr among
+        ] in
+        any_section part (first ∷ groups) (subst (IsAmong part) (sym all_parts) here)
+
+    -- what holds of each group holds of these parts
+    each_part : (P : SectionPart → Type 0) → ((k : ℕ) → k < lf_count → P (parts.Lf k)) → ((p k : ℕ) → k < count_of p → P (parts.Pass p k)) → All P (groups_in_order x passes)
+    each_part P low high =
+        All-append P low_there passes_there
+        (All-filter has_samples P (lf_groups lf_count) (each_of_range (λ k. parts.Lf k) P 0 lf_count (λ k from lt. low k (omega (arith, lt)))))
+        (all_passes (parts_of_pass x passes) P 0 (pass_count passes) (λ p le. All-filter has_samples P (map (λ k. parts.Pass p k) (range_with_len 0 (count_of p)))
+        (each_of_range (λ k. parts.Pass p k) P 0 (count_of p) (λ k from lt. high p k (omega (arith, lt))))))
+
+    -- each part is there
+    pub exist : All (λ s. Exists x passes s.part) (first ∷ groups)
+    exist = each_section (Exists x passes) (first ∷ groups) (subst (All (Exists x passes)) (sym all_parts)
+        (All-cons' refl (each_part (Exists x passes) (λ k lt. lf_exists x.group_dim passes (coded_list x) k ∙ lt-ltb k lf_count lt) (λ p k lt. pass_exists x.group_dim passes (coded_list x) p k ∙ lt-ltb k (count_of p) lt)))) where
+          All-cons' : Exists x passes parts.Global → All (Exists x passes) (groups_in_order x passes) → All (Exists x passes) (parts.Global ∷ groups_in_order x passes)
+          All-cons' p all = All-append (Exists x passes) (parts.Global ∷ []) (groups_in_order x passes) (one p) all where
+            one : Exists x passes parts.Global → All (Exists x passes) (parts.Global ∷ [])
+            one p zero d lt = p
+            one p (suc k) d lt = absurd (omega (arith, lt))
+
+    lf_not_pass : (j p k : ℕ) → parts.Pass p k ≡ parts.Lf j → ⊥
+    lf_not_pass j p k e = cc
+
+    lf_not_global : (k : ℕ) → parts.Lf k ≡ parts.Global → ⊥
+    lf_not_global k e = cc
+
+    pass_not_global : (p k : ℕ) → parts.Pass p k ≡ parts.Global → ⊥
+    pass_not_global p k e = cc
+
+    one_lf : (j k : ℕ) → parts.Lf j ≡ parts.Lf k → j ≡ k
+    one_lf j k e = cc
+
+    one_group : (p j k : ℕ) → parts.Pass p j ≡ parts.Pass p k → j ≡ k
+    one_group p j k e = cc
+
+    same_pass : (p q j k : ℕ) → parts.Pass q k ≡ parts.Pass p j → p ≡ q
+    same_pass p q j k e = cc
+
+    passes_apart : (a b : ℕ) → a < b → All (λ q. Differ q (parts_of_pass x passes b)) (parts_of_pass x passes a)
+    passes_apart a b lt =
+        All-filter has_samples (λ q. Differ q (parts_of_pass x passes b)) (map (λ k. parts.Pass a k) (range_with_len 0 (count_of a))) (each_of_range (λ k. parts.Pass a k) (λ q. Differ q (parts_of_pass x passes b)) 0 (count_of a) (λ j low high.
+        All-filter has_samples (λ q. q ≡ parts.Pass a j → ⊥) (map (λ k. parts.Pass b k) (range_with_len 0 (count_of b))) (each_of_range (λ k. parts.Pass b k) (λ q. q ≡ parts.Pass a j → ⊥) 0 (count_of b) (λ k from to e.
+        let same = same_pass a b j k e in omega (arith, lt, same)))))
+
+    lf_passes : All (λ p. Differ p passes_there) low_there
+    lf_passes = All-filter has_samples (λ p. Differ p passes_there) (lf_groups lf_count) (each_of_range (λ k. parts.Lf k) (λ p. Differ p passes_there) 0 lf_count (λ j low lt.
+        all_passes (parts_of_pass x passes) (λ q. q ≡ parts.Lf j → ⊥) 0 (pass_count passes) (λ p le.
+        All-filter has_samples (λ q. q ≡ parts.Lf j → ⊥) (map (λ k. parts.Pass p k) (range_with_len 0 (count_of p))) (each_of_range (λ k. parts.Pass p k) (λ q. q ≡ parts.Lf j → ⊥) 0 (count_of p) (λ k from to. lf_not_pass j p k)))))
+
+    groups_differ : AllDiffer (groups_in_order x passes)
+    groups_differ = differ_append low_there passes_there
+        (differ_filter has_samples (lf_groups lf_count) (differ_range (λ k. parts.Lf k) one_lf 0 lf_count))
+        (differ_passes (parts_of_pass x passes) (λ p. differ_filter has_samples (map (λ k. parts.Pass p k) (range_with_len 0 (count_of p))) (differ_range (λ k. parts.Pass p k) (one_group p) 0 (count_of p))) passes_apart 0 (pass_count passes)) lf_passes
+
+    no_global : Differ parts.Global (groups_in_order x passes)
+    no_global = each_part (λ q. q ≡ parts.Global → ⊥) (λ k lt. lf_not_global k) (λ p k lt. pass_not_global p k)
+
+    -- and no two sections are of one part
+    pub unlike : AllPairs (λ s t. s.part ≢ t.part) (first ∷ groups)
+    unlike = sections_unlike (first ∷ groups) (subst AllDiffer (sym all_parts) (no_global, groups_differ))
