@@ -8,6 +8,7 @@ use Rattle.std.proofs.lemmas.Option.{slice_get-map, slice_get_read}
 use Rattle.std.proofs.lemmas.Bool.Decides.{nat_tests}
 use Rattle.jxl_toc.specs.Layouts.{Layout, section_count_of, lf_section_of, pass_section_of}
 use Rattle.jxl_toc.specs.declared.toc.TocEntry.{TocEntry}
+use Rattle.jxl_still.specs.Places.{place_of}
 use Rattle.jxl_still.specs.declared.places.Places.{Places}
 use Rattle.jxl_lossless.specs.Sections.{AreOfGroups, lent, section_of, sections_of}
 
@@ -54,15 +55,15 @@ module _ (l : Layout) (xs : List (Bor (List ℕ))) (places : Places) where
   apart_more : (count n : ℕ) → count ≢ 1 → (if count == 1 then 0 else n) ≡ n
   apart_more count n ne = grind (arith, nat_tests)
 
-  module _ (count : length xs ≡ section_count_of l) (pass : l.passes ≡ 1) (ne : section_count_of l ≢ 1)
+  module _ (count : length xs ≡ section_count_of l) (each : places.each ≡ l.groups) (ne : section_count_of l ≢ 1)
       (low : places.low.now ≡ slice_range xs 1 (1 + l.lf_groups)) (groups : places.groups.now ≡ slice_range xs (2 + l.lf_groups) (length xs)) where
-    how_many : length xs ≡ 2 + l.lf_groups + l.groups
-    how_many = let one : l.passes * l.groups ≡ l.groups = rw pass (omega arith) in let all = count_more ne in omega (arith, count, one, all)
+    how_many : length xs ≡ 2 + l.lf_groups + l.passes * l.groups
+    how_many = count ∙ count_more ne
 
     low_length : length places.low.now ≡ l.lf_groups
     low_length = rw low (omega (arith, length-take (1 + l.lf_groups - 1) (drop 1 xs), length-drop 1 xs, how_many))
 
-    group_length : length places.groups.now ≡ l.groups
+    group_length : length places.groups.now ≡ l.passes * l.groups
     group_length = rw groups (omega (arith, length-take (length xs - (2 + l.lf_groups)) (drop (2 + l.lf_groups) xs), length-drop (2 + l.lf_groups) xs, how_many))
 
     low_at : (k : ℕ) → k < length places.low.now → slice_get places.low.now k ≡ slice_get xs (lf_section_of k)
@@ -70,17 +71,19 @@ module _ (l : Layout) (xs : List (Bor (List ℕ))) (places : Places) where
         let within : k < 1 + l.lf_groups - 1 = omega (arith, low_length, h) in
         ap (λ (ys : List (Bor (List ℕ))). slice_get ys k) low ∙ slice_get-take (1 + l.lf_groups - 1) (drop 1 xs) k within ∙ slice_get-drop 1 xs k (lf_section_of k) refl
 
-    group_at : (k : ℕ) → k < length places.groups.now → slice_get places.groups.now k ≡ slice_get xs (pass_section_of l 0 k)
-    group_at k h =
-        let within : k < length xs - (2 + l.lf_groups) = omega (arith, group_length, how_many, h) in
-        let place : pass_section_of l 0 k ≡ 2 + l.lf_groups + k = omega arith in
-        ap (λ (ys : List (Bor (List ℕ))). slice_get ys k) groups ∙ slice_get-take (length xs - (2 + l.lf_groups)) (drop (2 + l.lf_groups) xs) k within
-        ∙ slice_get-drop (2 + l.lf_groups) xs k (pass_section_of l 0 k) place
+    group_at : (pass k : ℕ) → place_of places pass k < length places.groups.now → slice_get places.groups.now (place_of places pass k) ≡ slice_get xs (pass_section_of l pass k)
+    group_at pass k h =
+        let within : place_of places pass k < length xs - (2 + l.lf_groups) = omega (arith, group_length, how_many, h) in
+        let same : pass * places.each ≡ pass * l.groups = ap (λ n. pass * n) each in
+        let place : pass_section_of l pass k ≡ 2 + l.lf_groups + place_of places pass k = omega (arith, same) in
+        ap (λ (ys : List (Bor (List ℕ))). slice_get ys (place_of places pass k)) groups ∙ slice_get-take (length xs - (2 + l.lf_groups)) (drop (2 + l.lf_groups) xs) (place_of places pass k) within
+        ∙ slice_get-drop (2 + l.lf_groups) xs (place_of places pass k) (pass_section_of l pass k) place
 
     pub several : AreOfGroups l (lent xs) places
     several = record {
       low_count = low_length ∙ sym (apart_more (section_count_of l) l.lf_groups ne);
       low = λ k h. lent_at places.low.now xs k (lf_section_of k) (low_at k h);
-      group_count = group_length ∙ sym (apart_more (section_count_of l) l.groups ne);
-      groups = λ k h. lent_at places.groups.now xs k (pass_section_of l 0 k) (group_at k h);
+      each = each;
+      group_count = group_length ∙ sym (apart_more (section_count_of l) (l.passes * l.groups) ne);
+      groups = λ pass k h. lent_at places.groups.now xs (place_of places pass k) (pass_section_of l pass k) (group_at pass k h);
     }

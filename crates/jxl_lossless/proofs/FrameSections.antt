@@ -1,5 +1,5 @@
 -- The sections of a frame, of which the first one and those of the groups are taken.
-use Rattle.std.proofs.Common.{◌≡◌, ℕ, ◌-◌, ◌<◌, ◌≤◌, List, length, length-drop, take, drop, get_or, Some, ap, ◌∙◌, subst, arith}
+use Rattle.std.proofs.Common.{◌≡◌, ℕ, ◌-◌, ◌<◌, List, length, length-drop, take, drop, get_or, Some, ap, ◌∙◌, subst, arith}
 use Rattle.std.specs.Prelude.{slice_get}
 use Rattle.std.specs.Borrow.{Bor}
 use Rattle.std.proofs.lemmas.List.{take_all}
@@ -13,6 +13,10 @@ use Rattle.jxl_front.specs.FrontParts.{frame_at}
 use Rattle.jxl_front.specs.declared.frame.FrameFront.{FrameFront}
 use Rattle.jxl_lossless.specs.Sections.{AreOfGroups, lent, sections_in, sections_of}
 use Rattle.jxl_lossless.proofs.Cuts.{first_of, same_count, some_sections}
+
+-- there is a section
+pub some_listed : (bytes : List ℕ) (list : List (Bor (List ℕ))) (entries : List TocEntry) (l : Layout) → lent list ≡ sections_of bytes entries → length entries ≡ section_count_of l → 0 < length list
+some_listed bytes list entries l lies count = omega (arith, same_count list bytes entries lies, count, some_sections l)
 
 pub sections_are : (bytes : List ℕ) (image : Image) (frame : FrameFront) (list other : List (Bor (List ℕ))) (entries : List TocEntry) (x : Bor (List ℕ)) (places : Places) →
     lent list ≡ sections_of (take (length bytes - frame.start) (drop frame.start bytes)) entries → entries ≡ frame.toc.entries.items → x ≡ get_or list 0 x →

@@ -10,6 +10,7 @@ use Rattle.jxlm_ma.proofs.Memory.{unless_so}
 use Rattle.jxl_headers.specs.Images.{Image}
 use Rattle.jxl_headers.specs.declared.size.Size.{Size}
 use Rattle.jxl_frames.specs.Frames.{Frame, frame_size}
+use Rattle.jxl_frames.specs.Passes.{shifts_held}
 use Rattle.jxl_still.specs.declared.places.Places.{Places}
 use Rattle.jxl_front.specs.Fronts.{FrameAt, layout_in}
 use Rattle.jxl_patches.specs.Patches.{Patches}
@@ -56,20 +57,21 @@ module _ {D : Type 0} (d : Meaning D) (image : Image) (slots : Slots) (frame : F
         unless_so (patch_kind e) (λ f. (q, f)) (subst (λ (r : Result (Found (Option Patches)) ErrorAt). UnlessMemory (patch_kind e) (IsErrorAt r (patch_kind e) q)) read_there h)
 
 module _ {D : Type 0} (d : Meaning D) (image : Image) (slots : Slots) (bytes : List ℕ) (frame : FrameAt)
-    (first : List ℕ) (lies : slice_get (sections_in bytes frame) 0 ≡ Some first) (places : Places) (groups : AreOfGroups (layout_in image frame.header) (sections_in bytes frame) places) where
+    (first : List ℕ) (lies : slice_get (sections_in bytes frame) 0 ≡ Some first) (places : Places) (groups : AreOfGroups (layout_in image frame.header) (sections_in bytes frame) places)
+    (passes : places.passes.now.entries ≡ shifts_held frame.header.passes) where
   pub framed : {X : Type 0} (grids : X → List (Grid ℤ)) (before after : ℕ) (result : Result X FileError) →
       IfOk result (λ x. IsMade d image slots frame.header first places (grids x) before after) → IfOk result (λ x. IsFrame d image slots bytes frame (grids x) before after)
-  framed grids before after (Ok x) h = record { first = first; lies = lies; places = places; groups = groups; made = h }
+  framed grids before after (Ok x) h = record { first = first; lies = lies; places = places; groups = groups; passes = passes; made = h }
   framed grids before after (Err e) h = tt
 
   bad : (e : FileError) → MadeFails d image slots frame.header first places e → FrameFails d image slots bytes frame e
   bad errors.NoMemory h = tt
-  bad (errors.Patches e) h = record { first = first; lies = lies; places = places; groups = groups; fails = h }
-  bad (errors.Start e) h = record { first = first; lies = lies; places = places; groups = groups; fails = h }
-  bad (errors.Tree e) h = record { first = first; lies = lies; places = places; groups = groups; fails = h }
-  bad (errors.Samples e) h = record { first = first; lies = lies; places = places; groups = groups; fails = h }
-  bad (errors.File e) h = record { first = first; lies = lies; places = places; groups = groups; fails = h }
-  bad (errors.Front e) h = record { first = first; lies = lies; places = places; groups = groups; fails = h }
+  bad (errors.Patches e) h = record { first = first; lies = lies; places = places; groups = groups; passes = passes; fails = h }
+  bad (errors.Start e) h = record { first = first; lies = lies; places = places; groups = groups; passes = passes; fails = h }
+  bad (errors.Tree e) h = record { first = first; lies = lies; places = places; groups = groups; passes = passes; fails = h }
+  bad (errors.Samples e) h = record { first = first; lies = lies; places = places; groups = groups; passes = passes; fails = h }
+  bad (errors.File e) h = record { first = first; lies = lies; places = places; groups = groups; passes = passes; fails = h }
+  bad (errors.Front e) h = record { first = first; lies = lies; places = places; groups = groups; passes = passes; fails = h }
 
   pub frame_fails : {X : Type 0} (result : Result X FileError) → IfErr result (MadeFails d image slots frame.header first places) → IfErr result (FrameFails d image slots bytes frame)
   frame_fails (Ok x) h = tt

@@ -5,3 +5,4 @@ pub mod Frames
 pub mod SavedFrames
 pub mod Trees
 pub mod StreamFailures
+pub mod PassShifts

@@ -10,6 +10,7 @@ use Rattle.jxlm_ma.specs.TreeReading.{IsTooDeep, listing_at}
 use Rattle.jxl_headers.specs.Images.{Image}
 use Rattle.jxl_headers.specs.declared.size.Size.{Size}
 use Rattle.jxl_frames.specs.Frames.{Frame, frame_size}
+use Rattle.jxl_frames.specs.Passes.{shifts_held}
 use Rattle.jxl_toc.specs.Starts.{section_start, tree_limit}
 use Rattle.jxl_patches.specs.Errors.{patch_kind}
 use Rattle.jxl_patches.specs.Patches.{Patches}
@@ -71,12 +72,13 @@ module _ {D : Type 0} (d : Meaning D) (image : Image) (slots : Slots) where
   MadeFails frame first places errors.NoMemory = Unit {0}
   MadeFails frame first places e = FailsAfter frame first places e
 
-  -- its sections lie where the table says, and it has this error
+  -- its sections lie where the table says, its passes hold the shifts that the header says, and it has this error
   pub record IsBadFrame (bytes : List ℕ) (frame : FrameAt) (error : FileError) : Type 0 where
     pub first : List ℕ
     pub lies : slice_get (sections_in bytes frame) 0 ≡ Some first
     pub places : Places
     pub groups : AreOfGroups (layout_in image frame.header) (sections_in bytes frame) places
+    pub passes : places.passes.now.entries ≡ shifts_held frame.header.passes
     pub fails : MadeFails frame.header first places error
 
   -- what each error says of a frame whose table of contents stands

@@ -13,6 +13,7 @@ use Rattle.jxlm_ma.specs.TreeReading.{IsTreeAt}
 use Rattle.jxl_headers.specs.Images.{Image}
 use Rattle.jxl_headers.specs.declared.size.Size.{Size}
 use Rattle.jxl_frames.specs.Frames.{Frame, frame_size}
+use Rattle.jxl_frames.specs.Passes.{shifts_held}
 use Rattle.jxl_toc.specs.Starts.{section_start, tree_limit}
 use Rattle.jxl_patches.specs.Patches.{Patches}
 use Rattle.jxl_picture.specs.Limits.{channel_count}
@@ -63,10 +64,12 @@ module _ {D : Type 0} (d : Meaning D) (image : Image) (slots : Slots) where
     pub coded : IsCoded d w32 (λ (v : ℤ). v) (pos 0) image (frame_size image.size frame) frame.group_dim first begin places own before after
     pub put : ArePut slots (colour_count image) patches own grids
 
-  -- These are the channels of a frame of a codestream: its sections lie where the table says, and make them.
+  -- These are the channels of a frame of a codestream: its sections lie where the table says, its passes hold the shifts that
+  -- the header says, and they make them.
   pub record IsFrame (bytes : List ℕ) (frame : FrameAt) (grids : List (Grid ℤ)) (before after : ℕ) : Type 0 where
     pub first : List ℕ
     pub lies : slice_get (sections_in bytes frame) 0 ≡ Some first
     pub places : Places
     pub groups : AreOfGroups (layout_in image frame.header) (sections_in bytes frame) places
+    pub passes : places.passes.now.entries ≡ shifts_held frame.header.passes
     pub made : IsMade frame.header first places grids before after

@@ -1,8 +1,9 @@
 -- Where the sections of a frame lie in a codestream (ISO/IEC 18181-1, frame: table of contents, sections).
-use Rattle.std.specs.Prelude.{◌≡◌, ℕ, ◌<◌, ◌==◌, List, length, map, take, drop, slice_get, if◌then◌else◌}
+use Rattle.std.specs.Prelude.{◌≡◌, ℕ, ◌*◌, ◌<◌, ◌==◌, List, length, map, take, drop, slice_get, if◌then◌else◌}
 use Rattle.std.specs.Borrow.{Bor}
 use Rattle.jxl_toc.specs.Layouts.{Layout, section_count_of, lf_section_of, pass_section_of}
 use Rattle.jxl_toc.specs.declared.toc.TocEntry.{TocEntry}
+use Rattle.jxl_still.specs.Places.{place_of}
 use Rattle.jxl_still.specs.declared.places.Places.{Places}
 use Rattle.jxl_front.specs.Fronts.{FrameAt}
 
@@ -25,9 +26,12 @@ lent sections = map (λ s. s.now) sections
 abbrev pub apart : Layout → ℕ → ℕ
 apart l n = if section_count_of l == 1 then 0 else n
 
--- These are the sections of the groups, of all sections of a frame that is cut in this way: those with their numbers.
+-- These are the sections of the groups, of all sections of a frame that is cut in this way: those with their numbers. Those of
+-- the passes stand one after another, pass by pass.
 pub record AreOfGroups (l : Layout) (sections : List (List ℕ)) (places : Places) : Type 0 where
   pub low_count : length places.low.now ≡ apart l l.lf_groups
   pub low : (k : ℕ) → k < length places.low.now → slice_get (lent places.low.now) k ≡ slice_get sections (lf_section_of k)
-  pub group_count : length places.groups.now ≡ apart l l.groups
-  pub groups : (k : ℕ) → k < length places.groups.now → slice_get (lent places.groups.now) k ≡ slice_get sections (pass_section_of l 0 k)
+  pub each : places.each ≡ l.groups
+  pub group_count : length places.groups.now ≡ apart l (l.passes * l.groups)
+  pub groups : (pass k : ℕ) → place_of places pass k < length places.groups.now →
+      slice_get (lent places.groups.now) (place_of places pass k) ≡ slice_get sections (pass_section_of l pass k)

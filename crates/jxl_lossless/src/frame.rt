@@ -8,7 +8,7 @@ ghost use Rattle.jxl_frames.specs.Frames.{frame_of, frame_size};
 ghost use Rattle.jxl_front.specs.FrontParts.{IsReadyFrame, frame_at};
 ghost use Rattle.jxl_modular.specs.Image.{image_grids};
 ghost use Rattle.jxl_picture.specs.Limits.{channel_count};
-ghost use Rattle.jxl_still.specs.Places.{AreFew};
+ghost use Rattle.jxl_still.specs.Places.{AreUsable};
 ghost use Rattle.jxlm_transform.specs.Channels.{AreGridsOf};
 ghost use Rattle.jxlm_transform.specs.Params.{IsGroupDim};
 ghost use Rattle.jxl_patches.specs.Slots.{AreOfSize, HoldFrames};
@@ -68,7 +68,7 @@ fn decode_coded<'a, S: Sample, D: Decoder, P: Progress>(
     requires deep { image.now.samples.depth.bits ≤ 32 }
     requires many { channel_count (image_of image.now) ≤ 2 ^ 20 }
     requires dim { IsGroupDim group_dim }
-    requires few { AreFew places }
+    requires usable { AreUsable places }
     ensures ok { IfOk result (λ x. IsCoded D.meaning S.width S.to_int (S.from_int (pos 0)) (image_of image.now) size
         group_dim (bytes_of bits.entry) (position_of bits.entry) places.entry (image_grids S.to_int x) steps.old
         steps.new) }
@@ -105,7 +105,7 @@ fn decode_grids<'a, D: Decoder, P: Progress>(
     requires deep { image.now.samples.depth.bits ≤ 32 }
     requires many { channel_count (image_of image.now) ≤ 2 ^ 20 }
     requires dim { IsGroupDim group_dim }
-    requires few { AreFew places }
+    requires usable { AreUsable places }
     ensures ok { IfOk result (λ v. IsCoded D.meaning w32 (λ (v : ℤ). v) (pos 0) (image_of image.now) size group_dim
         (bytes_of bits.entry) (position_of bits.entry) places.entry v.items steps.old steps.new) }
     ensures sides { IfOk result (λ v. AreGridsOf (channels_given (image_of image.now) size).channels v.items) }
@@ -134,7 +134,7 @@ fn decode_made<'a, D: Decoder, P: Progress>(
     requires deep { image.now.samples.depth.bits ≤ 32 }
     requires many { channel_count (image_of image.now) ≤ 2 ^ 20 }
     requires dim { IsGroupDim header.now.group_dim }
-    requires few { AreFew places }
+    requires usable { AreUsable places }
     requires held { HoldFrames (channel_count (image_of image.now)) (slots_of slots.now) }
     ensures ok { IfOk result (λ v. IsMade D.meaning (image_of image.now) (slots_of slots.now) (frame_of header.now)
         first.now places.entry v.items steps.old steps.new) }
@@ -188,7 +188,8 @@ pub fn decode_channels<D: Decoder, P: Progress>(
         (frame_at frame.now)) }
 {
     let list = sections(alloc, &bytes[frame.start..], &frame.toc.entries)?;
-    let places = of_groups(&list, &frame.layout);
+    let passes = frame.header.passes.shifts(alloc)?;
+    let places = of_groups(&list, &frame.layout, &passes);
     decode_made::<D, P>(
         alloc,
         list[0],

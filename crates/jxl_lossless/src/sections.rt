@@ -1,11 +1,12 @@
 //! Where the sections of a frame lie.
 
-ghost use Rattle.std.specs.Prelude.{◌≡◌, length, true, IfOk};
+ghost use Rattle.std.specs.Prelude.{◌≡◌, [], length, true, IfOk, IsTrue};
 ghost use Rattle.std.specs.List.{list_all};
+ghost use Rattle.jxlm_cut.specs.Passes.{can_group, passes_of};
 ghost use Rattle.jxl_toc.specs.Layouts.{section_count_of};
 ghost use Rattle.jxl_toc.specs.LayoutParts.{parts_of};
 ghost use Rattle.jxl_toc.specs.Tocs.{is_within};
-ghost use Rattle.jxl_still.specs.Places.{AreFew};
+ghost use Rattle.jxl_still.specs.Places.{AreUsable};
 ghost use Rattle.jxl_lossless.specs.Sections.{AreOfGroups, lent, sections_of};
 
 use jxl_still::places::Places;
@@ -13,6 +14,7 @@ use jxl_toc::layout::Layout;
 use jxl_toc::toc::TocEntry;
 use jxlm_base::grid::OutOfMemory;
 use std::alloc::Global;
+use std::collections::BTreeMap;
 
 /// The bytes of these sections, all of which lie in the codestream.
 pub fn sections<'a>(
@@ -30,22 +32,32 @@ pub fn sections<'a>(
     Ok(list)
 }
 
-/// Those of the groups, of all sections of a frame of one pass that is cut in this way.
-pub fn of_groups<'a, 't>(sections: &'t [&'a [u8]], layout: &Layout) -> Places<'a, 't>
+/// Those of the groups, of all sections of a frame that is cut in this way, and comes in these passes.
+pub fn of_groups<'a, 't>(
+    sections: &'t [&'a [u8]],
+    layout: &Layout,
+    passes: &'t BTreeMap<u32, (i32, i32)>,
+) -> Places<'a, 't>
     requires count { length sections.now ≡ section_count_of (parts_of layout.now) }
-    requires pass { (parts_of layout.now).passes ≡ 1 }
+    requires cut { IsTrue (can_group (passes_of passes.now.entries) []) }
     ensures are { AreOfGroups (parts_of layout.now) (lent sections.now) result }
-    ensures few { AreFew result }
+    ensures passes { result.passes.now ≡ passes.now }
+    ensures usable { AreUsable result }
 {
+    let each = layout.groups();
     if layout.section_count() == 1 {
         return Places {
             low: &sections[..0],
             groups: &sections[..0],
+            each,
+            passes,
         };
     }
     let groups = 2 + layout.lf_groups() as usize;
     Places {
         low: &sections[1..groups - 1],
         groups: &sections[groups..],
+        each,
+        passes,
     }
 }

@@ -1,9 +1,24 @@
+use Rattle.std.proofs.Common.{◌≡◌, ◌∙◌, ◌<◌, ℕ, ℤ, length, ap, arith}
+use Rattle.std.specs.BTreeMap.{BTreeMap}
 use Rattle.jxl_headers.specs.Images.{image_of}
+use Rattle.jxl_front.specs.Fronts.{layout_in}
 use Rattle.jxl_front.specs.FrontParts.{frame_at}
 use Rattle.jxl_patches.specs.SavedParts.{slots_of}
-use Rattle.jxl_lossless.proofs.FrameSections.{sections_are}
+use Rattle.jxl_frames.specs.Passes.{passes_of, shifts_held}
+use Rattle.jxl_lossless.proofs.FrameSections.{sections_are, some_listed}
 use Rattle.jxl_lossless.proofs.Frames.{frame_fails, framed}
+use Rattle.jxl_lossless.proofs.PassShifts.{can_be_cut}
 use Rattle.jxl_lossless.proofs.frame.decode_channels.Goals as goal
+
+pub of_groups-places-requires-clause-cut : goal.of_groups-places-requires-clause-cut
+of_groups-places-requires-clause-cut g c = can_be_cut (passes_of c.args.frame.now.header.passes) c.requires.ready.passes c.in_ok-passes.passes.entries c.in_ok-passes.ensures
+
+pub index-requires : goal.index-requires
+index-requires g c =
+    let some : 0 < length c.in_ok-list.list.items = some_listed _ c.in_ok-list.list.items c.deref.result.now (layout_in (image_of c.args.image.now) (frame_at c.args.frame.now).header) c.in_ok-list.ensures.lie
+    (ap length c.deref.ensures.value ∙ c.requires.ready.count) in
+    let same = c.in_ok-list.list.ok.0 in
+    omega (arith, some, same)
 
 pub returns-clause-ok : goal.returns-clause-ok
 returns-clause-ok g c =
@@ -13,7 +28,8 @@ returns-clause-ok g c =
     let places = c.of_groups-places.result in
     let are = sections_are bytes image frame c.in_ok-list.list.items c.deref-2.result.now c.deref.result.now c.index.result.now places c.in_ok-list.ensures.lie c.deref.ensures.value c.index.ensures
     c.requires.ready.cut c.requires.ready.count c.deref-2.ensures.value c.of_groups-places.ensures.are in
-    framed g.D.Decoder.meaning image (slots_of c.args.slots.now) bytes (frame_at frame) c.index.result.now.now are.0 places are.1 (λ v. v.items) c.args.steps.now c.decode_made.new.steps c.decode_made.result c.decode_made.ensures.ok
+    let passes : places.passes.now.entries ≡ shifts_held (frame_at frame).header.passes = ap (λ (m : BTreeMap ℕ (ℤ × ℤ)). m.entries) c.of_groups-places.ensures.passes ∙ c.in_ok-passes.ensures in
+    framed g.D.Decoder.meaning image (slots_of c.args.slots.now) bytes (frame_at frame) c.index.result.now.now are.0 places are.1 passes (λ v. v.items) c.args.steps.now c.decode_made.new.steps c.decode_made.result c.decode_made.ensures.ok
 
 pub returns-clause-err : goal.returns-clause-err
 returns-clause-err g c =
@@ -23,4 +39,5 @@ returns-clause-err g c =
     let places = c.of_groups-places.result in
     let are = sections_are bytes image frame c.in_ok-list.list.items c.deref-2.result.now c.deref.result.now c.index.result.now places c.in_ok-list.ensures.lie c.deref.ensures.value c.index.ensures
     c.requires.ready.cut c.requires.ready.count c.deref-2.ensures.value c.of_groups-places.ensures.are in
-    frame_fails g.D.Decoder.meaning image (slots_of c.args.slots.now) bytes (frame_at frame) c.index.result.now.now are.0 places are.1 c.decode_made.result c.decode_made.ensures.err
+    let passes : places.passes.now.entries ≡ shifts_held (frame_at frame).header.passes = ap (λ (m : BTreeMap ℕ (ℤ × ℤ)). m.entries) c.of_groups-places.ensures.passes ∙ c.in_ok-passes.ensures in
+    frame_fails g.D.Decoder.meaning image (slots_of c.args.slots.now) bytes (frame_at frame) c.index.result.now.now are.0 places are.1 passes c.decode_made.result c.decode_made.ensures.err

@@ -13,4 +13,4 @@ returns-clause-are c =
     let end : 2 + c.lf_groups.result - 1 ≡ 1 + l.lf_groups = omega (arith, is) in
     let begin : 2 + c.lf_groups.result ≡ 2 + l.lf_groups = ap (λ n. 2 + n) is in
     let many : section_count_of l ≢ 1 = λ one. c.if-section_count-eq1.false (c.section_count.ensures.count ∙ one) in
-    several l xs _ c.requires.count c.requires.pass many (ap (λ n. slice_range xs 1 n) end) (ap (λ n. slice_range xs n (length xs)) begin)
+    several l xs _ c.requires.count c.groups-each.ensures many (ap (λ n. slice_range xs 1 n) end) (ap (λ n. slice_range xs n (length xs)) begin)
