@@ -22,8 +22,8 @@ pub struct Passes {
     pub count: u32,
     /// Of each but the last, by how many bits its numbers are shifted: 0 to 3.
     pub shift: Vec<u32>,
-    /// Resolutions that are whole after some passes: the frame's sides by 1, 2, 4 or 8. Each is finer than the one before,
-    /// and there are at most as many as passes.
+    /// Resolutions that are whole after some passes: the frame's sides by 1, 2, 4 or 8. Each is finer than the one
+    /// before, and there are at most as many as passes.
     pub downsample: Vec<u32>,
     /// The last pass of each of these, later than that of the one before.
     pub last_pass: Vec<u32>,
@@ -253,8 +253,8 @@ impl Passes {
     }
 
     /// The passes that stand at the reader's position, where they are told; else there is one. `InvalidEnum` of
-    /// `num_downsample` for more resolutions than passes, of `downsample` for one that is not finer than the one before,
-    /// and of `last_pass` for a last pass that there is not, or that is not later than the one before.
+    /// `num_downsample` for more resolutions than passes, of `downsample` for one that is not finer than the one
+    /// before, and of `last_pass` for a last pass that there is not, or that is not later than the one before.
     #[tactic(auto, unfolding(crate::specs::Passes::passes))]
     pub fn parse(alloc: Global, bits: &mut Bitstream<'_>, there: bool) -> Result<Passes>
         ensures gives { Parses passes_of result (position_of bits.new)

@@ -67,8 +67,8 @@ fn decode_all<S: Sample, D: Decoder, P: Progress>(
 /// for a group of a pass, of all groups of all passes, pass after pass. Each section is told of when it was decoded. It
 /// returns the image, whose transforms are undone; with no channels there is none.
 ///
-/// The parameters are valid, and their channels are of one picture; there are at most 2^24 groups of each kind, and each
-/// shift below 3 has its pass ([`Places::are_usable`]).
+/// The parameters are valid, and their channels are of one picture; there are at most 2^24 groups of each kind, and
+/// each shift below 3 has its pass ([`Places::are_usable`]).
 ///
 /// # Errors
 ///

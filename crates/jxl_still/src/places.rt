@@ -16,8 +16,8 @@ use jxlm_cut::pass::can_group;
 use std::alloc::Global;
 use std::collections::BTreeMap;
 
-/// The sections of a frame, but the first: of each LF group, and of each group of each pass, by their numbers. A frame of
-/// one section has none. There are at most 2^24 of each.
+/// The sections of a frame, but the first: of each LF group, and of each group of each pass, by their numbers. A frame
+/// of one section has none. There are at most 2^24 of each.
 #[derive(Clone, Copy)]
 pub struct Places<'a, 't> {
     /// The bytes of the section of each LF group; of the first, and of all where the frame has one section, none.
@@ -26,8 +26,8 @@ pub struct Places<'a, 't> {
     pub groups: &'t [&'a [u8]],
     /// How many groups a pass has.
     pub each: u32,
-    /// The passes by their numbers, from 0, each with the first shift that it holds, and the first after it that it does
-    /// not hold. Each shift below 3 has its pass.
+    /// The passes by their numbers, from 0, each with the first shift that it holds, and the first after it that it
+    /// does not hold. Each shift below 3 has its pass.
     pub passes: &'t BTreeMap<u32, (i32, i32)>,
 }
 
@@ -36,8 +36,8 @@ impl<'a, 't> Places<'a, 't> {
     ghost use Rattle.jxl_still.specs.Places.{AreUsable, held, low_parts, own_passes, parts_of_pass, parts_of_passes};
     ghost use Rattle.jxl_still.specs.Inner.Listing.{AddingFails, AreAdded, IsPlaced};
 
-    /// Whether there are at most 2^24 of each, so that the indices of their streams are numbers of 32 bits, and the passes
-    /// can cut an image ([`can_group`](jxlm_cut::pass::can_group)).
+    /// Whether there are at most 2^24 of each, so that the indices of their streams are numbers of 32 bits, and the
+    /// passes can cut an image ([`can_group`](jxlm_cut::pass::can_group)).
     pub fn are_usable(&self) -> bool
         ensures { IsTrue result ↔ AreUsable self.now }
     {
