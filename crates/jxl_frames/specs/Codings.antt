@@ -79,15 +79,15 @@ abbrev pub encoding_refusal : Encoding → Option Refusal
 encoding_refusal VarDct = Some refusals.VarDct
 encoding_refusal Modular = None
 
--- Patches are added to whole numbers alone, and not to floats.
-abbrev pub flags_refusal : Bool → FrameFlags → Option Refusal
-flags_refusal floats f =
+-- Patches are added to whole numbers alone, and not to floats; and in images alone whose channels have all one size.
+abbrev pub flags_refusal : Bool → Bool → FrameFlags → Option Refusal
+flags_refusal floats shifts f =
     if f.noise then Some refusals.Noise else if f.patches && floats then Some refusals.FloatPatches else
-    if f.splines then Some refusals.Splines else if f.use_lf_frame then Some refusals.UseLfFrame else None
+    if f.patches && shifts then Some refusals.ShiftedPatches else if f.splines then Some refusals.Splines else if f.use_lf_frame then Some refusals.UseLfFrame else None
 
 abbrev pub colours_refusal : Coding → Option Refusal
 colours_refusal c = if c.ycbcr then Some refusals.YCbCr else if c.upsampling == 1 then None else Some refusals.Upsampling
 
-abbrev pub coding_refusal : Bool → Coding → Option Refusal
-coding_refusal floats c =
-    option_or (type_refusal c.frame_type) (option_or (encoding_refusal c.encoding) (option_or (flags_refusal floats c.flags) (colours_refusal c)))
+abbrev pub coding_refusal : Bool → Bool → Coding → Option Refusal
+coding_refusal floats shifts c =
+    option_or (type_refusal c.frame_type) (option_or (encoding_refusal c.encoding) (option_or (flags_refusal floats shifts c.flags) (colours_refusal c)))

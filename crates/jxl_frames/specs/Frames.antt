@@ -1,5 +1,6 @@
 -- The frame header (ISO/IEC 18181-1, frame header).
 use Rattle.std.specs.Prelude.{ℕ, ◌*◌, ◌^◌, ◌==◌, ◌&&◌, not, List, [], ◌∷◌, length, Bool, true, false, if◌then◌else◌, Option, Some, None}
+use Rattle.std.specs.List.{list_any}
 use Rattle.std.specs.Option.{option_or}
 use Rattle.jxlm_base.specs.Grammar.{Grammar, number, flag, give, either, repeated, ◌>>=◌}
 use Rattle.jxl_headers.specs.Fields.{extensions, name}
@@ -125,9 +126,13 @@ factors_refusal (f ∷ fs) = if f == 1 then factors_refusal fs else Some refusal
 abbrev pub has_floats : Image → Bool
 has_floats image = not (image.samples.depth.exponent_bits == 0)
 
+-- an extra channel has a size of its own
+abbrev pub has_shifts : Image → Bool
+has_shifts image = list_any (λ c. not (c.shift == 0)) image.extra
+
 -- how it is coded, and where it lies; and what becomes of it
 abbrev pub form_refusal : Image → Frame → Option Refusal
-form_refusal image h = option_or (coding_refusal (has_floats image) h.coding) (option_or (factors_refusal h.ec_upsampling) (place_refusal h.coding.frame_type h.place.crop))
+form_refusal image h = option_or (coding_refusal (has_floats image) (has_shifts image) h.coding) (option_or (factors_refusal h.ec_upsampling) (place_refusal h.coding.frame_type h.place.crop))
 
 abbrev pub use_refusal : Frame → Option Refusal
 use_refusal h = option_or (blending_refusal h.blending) (option_or (ending_refusal h.coding.frame_type h.ending) (filter_refusal h.closing.filter))

@@ -128,13 +128,15 @@ fn factor_if(bits: &mut Bitstream<'_>, there: bool) -> Result<u32>
 }
 
 impl FrameFlags {
-    fn refused(&self, floats: bool) -> Option<Refusal>
-        ensures { result ≡ flags_refusal floats self.now }
+    fn refused(&self, floats: bool, shifts: bool) -> Option<Refusal>
+        ensures { result ≡ flags_refusal floats shifts self.now }
     {
         if self.noise {
             Some(Refusal::Noise)
         } else if self.patches && floats {
             Some(Refusal::FloatPatches)
+        } else if self.patches && shifts {
+            Some(Refusal::ShiftedPatches)
         } else if self.splines {
             Some(Refusal::Splines)
         } else if self.use_lf_frame {
@@ -240,14 +242,14 @@ impl Coding {
         }
     }
 
-    /// What of it is not supported, of an image whose samples are floats or not: the first in the order of the bits, or
-    /// none.
-    pub fn refused(&self, floats: bool) -> Option<Refusal>
-        ensures { result ≡ coding_refusal floats self.now }
+    /// What of it is not supported, of an image whose samples are floats or not, and which has extra channels of other
+    /// sizes or not: the first in the order of the bits, or none.
+    pub fn refused(&self, floats: bool, shifts: bool) -> Option<Refusal>
+        ensures { result ≡ coding_refusal floats shifts self.now }
     {
         self.type_refused()
             .or(self.encoding_refused())
-            .or(self.flags.refused(floats))
+            .or(self.flags.refused(floats, shifts))
             .or(self.colours_refused())
     }
 }

@@ -6,7 +6,7 @@ ghost use Rattle.jxlm_base.specs.Grammar.{Reads};
 ghost use Rattle.jxl_headers.specs.Images.{image_of};
 ghost use Rattle.jxl_headers.specs.Reading.{Parses};
 ghost use Rattle.jxl_frames.specs.Passes.{IsPassCount};
-ghost use Rattle.jxl_frames.specs.Frames.{frame_of, is_modular as the_is_modular, extra_factors as the_extra_factors, scales as the_scales, modular_dim as the_modular_dim, group_dim as the_group_dim, closing, usual_closing, rest, usual_frame, described_frame, frame_header, factors_refusal as the_factors_refusal, has_floats as the_has_floats, form_refusal, use_refusal, frame_refusal, is_saved as the_is_saved, frame_size};
+ghost use Rattle.jxl_frames.specs.Frames.{frame_of, is_modular as the_is_modular, extra_factors as the_extra_factors, scales as the_scales, modular_dim as the_modular_dim, group_dim as the_group_dim, closing, usual_closing, rest, usual_frame, described_frame, frame_header, factors_refusal as the_factors_refusal, has_floats as the_has_floats, form_refusal, use_refusal, frame_refusal, is_saved as the_is_saved, frame_size, has_shifts as the_has_shifts};
 
 use crate::blending::{Blending, Ending};
 use crate::coding::{Coding, Encoding};
@@ -128,6 +128,13 @@ fn has_floats(image: &ImageHeader) -> bool
     ensures { result ≡ the_has_floats (image_of image.now) }
 {
     image.samples.depth.exponent_bits != 0
+}
+
+// Whether an extra channel has a size of its own.
+fn has_shifts(image: &ImageHeader) -> bool
+    ensures { result ≡ the_has_shifts (image_of image.now) }
+{
+    image.extra.iter().any(|channel| channel.shift != 0)
 }
 
 impl Closing {
@@ -263,7 +270,7 @@ impl FrameHeader {
         ensures { result ≡ form_refusal (image_of image.now) (frame_of self.now) }
     {
         self.coding
-            .refused(has_floats(image))
+            .refused(has_floats(image), has_shifts(image))
             .or(factors_refusal(&self.ec_upsampling))
             .or(self.place.refused(self.coding.frame_type))
     }

@@ -18,6 +18,9 @@ pub enum Refusal {
     /// Parts of other frames are put into it, and samples are floats.
     #[error("patches on floats")]
     FloatPatches,
+    /// Parts of other frames are put into it, and an extra channel has a size of its own.
+    #[error("patches beside an extra channel of another size")]
+    ShiftedPatches,
     /// Curves are drawn.
     #[error("splines")]
     Splines,

@@ -1,21 +1,24 @@
 -- What reading the front of a codestream gives.
 use Rattle.std.proofs.Common.{◌≡◌, ℕ, ◌+◌, ◌<◌, ◌≤◌, ◌^◌, ◌/◌, Bool, true, false, List, [], ◌∷◌, ◌++◌, length, drop, Option, Ok, Some, None, ap, subst, sym, refl, ◌∙◌, inl, inr, arith}
 use Rattle.std.specs.Prelude.{if◌then◌else◌, nat_le, not, ◌||◌, ◌&&◌, ◌==◌}
-use Rattle.std.specs.List.{list_all}
+use Rattle.std.specs.List.{All, list_all}
 use Rattle.std.specs.Option.{option_or}
 use Rattle.std.proofs.Math.Nat.{max-le}
 use Rattle.std.proofs.lemmas.Bool.{cases_lt, le-leb, leb-true}
+use Rattle.std.proofs.lemmas.List.Elements.{All-cons, All-nil}
 use Rattle.jxlm_base.specs.Decoding.{Meaning}
 use Rattle.jxlm_base.specs.ErrorKind.{ErrorKind, UnlessMemory, UnlessNoMemory, kind_of}
 use Rattle.jxlm_base.specs.Grammar.{Grammar, IsErrorAt}
 use Rattle.jxlm_base.specs.declared.error.Error.{Error}
 use Rattle.jxlm_ma.proofs.Memory.{unless_so}
 use Rattle.jxlm_transform.proofs.Failures.{unless_memory}
-use Rattle.jxl_headers.specs.Images.{Image, image_header, image_refusal}
+use Rattle.jxl_headers.specs.Images.{Image, channel_refusal, channels_refusal, depth_refusal, display_refusal, image_header, image_refusal, shown_refusal}
+use Rattle.jxl_headers.specs.declared.channel.ExtraChannel.{ExtraChannel}
+use Rattle.jxl_headers.specs.declared.refusal.Refusal.TheVariants as images
 use Rattle.jxl_headers.specs.declared.refusal.Refusal.{Refusal as ImageRefusal}
 use Rattle.jxl_headers.specs.declared.size.Size.{Size}
-use Rattle.jxl_frames.specs.Codings.{coding_refusal}
-use Rattle.jxl_frames.specs.Frames.{Frame, factors_refusal, form_refusal, frame_header, frame_refusal, frame_size, has_floats, is_saved, use_refusal}
+use Rattle.jxl_frames.specs.Codings.{coding_refusal, colours_refusal, encoding_refusal, flags_refusal, type_refusal}
+use Rattle.jxl_frames.specs.Frames.{Frame, factors_refusal, form_refusal, frame_header, frame_refusal, frame_size, has_floats, is_saved, use_refusal, has_shifts}
 use Rattle.jxl_frames.specs.Places.{is_reference, place_refusal, sides_in}
 use Rattle.jxl_frames.specs.declared.coding.FrameType.{FrameType}
 use Rattle.jxl_frames.specs.declared.place.Crop.{Crop}
@@ -27,6 +30,7 @@ use Rattle.jxl_toc.specs.declared.toc.TocEntry.{TocEntry}
 use Rattle.jxl_picture.specs.Limits.{Allow}
 use Rattle.jxl_picture.specs.declared.limits.Limits.{Limits}
 use Rattle.jxl_front.specs.Fronts.{AllowFrame, AreBefore, ContentsStand, Follow, FrameAt, FrameStands, ImageStands, StandsAt, between, cells_in, end_of, layout_in}
+use Rattle.jxl_front.specs.FrontParts.{HasLowShifts}
 use Rattle.jxl_front.specs.FrontFailures.{FailsAt, FrameGoesOn, FrameIsRefused, FramesAreTooLarge, FrontFails, HasTooMany, ImageIsRefused, IsNext, IsTooLarge, IsTruncated}
 use Rattle.jxl_front.specs.declared.error.FrontError.TheVariants as errors
 
@@ -160,9 +164,44 @@ second_none (Some x) b e = cc
 pub covers : (image : Image) (size : Size) (frame : Frame) → frame_refusal image frame ≡ None → is_saved frame ≡ false → frame_size size frame ≡ size
 covers image size frame supported shown =
     let form = first_none (form_refusal image frame) (use_refusal frame) supported in
-    let coded = second_none (coding_refusal (has_floats image) frame.coding) _ form in
+    let coded = second_none (coding_refusal (has_floats image) (has_shifts image) frame.coding) _ form in
     let place = second_none (factors_refusal frame.ec_upsampling) _ coded in
     covers_by frame.coding.frame_type size frame.place.crop shown place
+
+-- a frame that is supported has no patches where an extra channel has a size of its own
+flags_plain : (noise floats shifts splines lf : Bool) → (if noise then Some refusals.Noise else if floats then Some refusals.FloatPatches else if shifts then Some refusals.ShiftedPatches else if splines then Some refusals.Splines else if lf then Some refusals.UseLfFrame else None) ≡ None → shifts ≡ false
+flags_plain true floats shifts splines lf e = cc
+flags_plain false true shifts splines lf e = cc
+flags_plain false false true splines lf e = cc
+flags_plain false false false splines lf e = refl
+
+pub plain : (image : Image) (frame : Frame) → frame_refusal image frame ≡ None → (frame.coding.flags.patches && has_shifts image) ≡ false
+plain image frame supported =
+    let form = first_none (form_refusal image frame) (use_refusal frame) supported in
+    let coded = first_none (coding_refusal (has_floats image) (has_shifts image) frame.coding) _ form in
+    let encoded = second_none (type_refusal frame.coding.frame_type) _ coded in
+    let flagged = second_none (encoding_refusal frame.coding.encoding) _ encoded in
+    let f = frame.coding.flags in
+    flags_plain f.noise (f.patches && has_floats image) (f.patches && has_shifts image) f.splines f.use_lf_frame (first_none (flags_refusal (has_floats image) (has_shifts image) f) (colours_refusal frame.coding) flagged)
+
+-- in an image that is supported the shifts of extra channels are at most 3
+shift_low : (c : ExtraChannel) → channel_refusal c ≡ None → c.shift ≤ 3
+shift_low c e = leb-true c.shift 3 (by (c.depth.exponent_bits == 0) (nat_le c.shift 3) e) where
+  by : (whole small : Bool) → (if whole then (if small then None else Some images.ExtraSize) else Some images.ExtraFloats) ≡ None → small ≡ true
+  by true true e = refl
+  by true false e = cc
+  by false small e = cc
+
+shifts_low : (cs : List ExtraChannel) → channels_refusal cs ≡ None → All (λ c. c.shift ≤ 3) cs
+shifts_low [] e = All-nil (λ c. c.shift ≤ 3)
+shifts_low (c ∷ cs) e =
+    All-cons (λ c. c.shift ≤ 3) c cs (shift_low c (first_none (channel_refusal c) (channels_refusal cs) e)) (shifts_low cs (second_none (channel_refusal c) (channels_refusal cs) e))
+
+pub low : (image : Image) → image_refusal image ≡ None → HasLowShifts image
+low image supported =
+    let after_display = second_none (display_refusal image.display) _ supported in
+    let after_depth = second_none (depth_refusal image.samples.depth) _ after_display in
+    shifts_low image.extra (first_none (channels_refusal image.extra) (shown_refusal image.shown) after_depth)
 
 both : (a b : Bool) → (a && b) ≡ true → (a ≡ true) × (b ≡ true)
 both true b e = (refl, e)

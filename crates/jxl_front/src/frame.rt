@@ -1,11 +1,11 @@
 //! What a codestream tells of a frame before its sections.
 
-ghost use Rattle.std.specs.Prelude.{◌≡◌, ◌≢◌, ℕ, ◌+◌, ◌*◌, ◌<◌, ◌≤◌, ◌^◌, ◌↔◌, IsTrue, IfErr, IfOk, length, drop, true};
+ghost use Rattle.std.specs.Prelude.{◌≡◌, ◌≢◌, ℕ, ◌+◌, ◌*◌, ◌<◌, ◌≤◌, ◌^◌, ◌↔◌, ◌&&◌, IsTrue, IfErr, IfOk, length, drop, true, false};
 ghost use Rattle.std.specs.List.{list_all};
 ghost use Rattle.jxlm_base.specs.Bits.{bytes_of, position_of};
 ghost use Rattle.jxlm_transform.specs.Params.{IsGroupDim};
 ghost use Rattle.jxl_headers.specs.Images.{image_of};
-ghost use Rattle.jxl_frames.specs.Frames.{frame_of, frame_size};
+ghost use Rattle.jxl_frames.specs.Frames.{frame_of, frame_size, has_shifts};
 ghost use Rattle.jxl_frames.specs.Passes.{IsPassCount};
 ghost use Rattle.jxl_picture.specs.Limits.{channel_count};
 ghost use Rattle.jxl_toc.specs.Layouts.{section_count_of};
@@ -108,6 +108,8 @@ impl Start<'_> {
             (image_of self.entry.image.now) self.entry.start self.entry.used (frame_of f) (position_of bits.new)) }
         ensures dim { IfOk result (λ f. IsGroupDim f.group_dim) }
         ensures counted { IfOk result (λ f. IsPassCount f.passes.count) }
+        ensures plain { IfOk result (λ f. (f.coding.flags.patches && has_shifts (image_of self.entry.image.now))
+            ≡ false) }
         ensures err { IfErr result (FrontFails D.meaning self.entry.limits.now self.entry.bytes.now) }
         ensures bytes { bytes_of bits.new ≡ bytes_of bits.old }
     {

@@ -1,5 +1,5 @@
 -- The image header (ISO/IEC 18181-1, image header: ImageMetadata and what is before and after it).
-use Rattle.std.specs.Prelude.{ℕ, ◌+◌, ◌/◌, ◌%◌, ◌==◌, ◌&&◌, ◌||◌, not, List, [], ◌∷◌, Bool, true, false, if◌then◌else◌, Option, Some, None, is_some, codes}
+use Rattle.std.specs.Prelude.{ℕ, ◌+◌, ◌/◌, ◌%◌, ◌==◌, ◌&&◌, ◌||◌, not, nat_le, List, [], ◌∷◌, Bool, true, false, if◌then◌else◌, Option, Some, None, is_some, codes}
 use Rattle.std.specs.Option.{option_or}
 use Rattle.jxlm_base.specs.Grammar.{Grammar, number, flag, u32, give, either, repeated, ◌>>=◌}
 use Rattle.jxlm_base.specs.declared.bits.U32Spec.TheVariants.{Const, Offset}
@@ -136,7 +136,7 @@ image_header = do
 
 -- What an image has that is not supported, by the first of its fields that says so.
 abbrev pub channel_refusal : ExtraChannel → Option Refusal
-channel_refusal c = if c.depth.exponent_bits == 0 then (if c.shift == 0 then None else Some ExtraSize) else Some ExtraFloats
+channel_refusal c = if c.depth.exponent_bits == 0 then (if nat_le c.shift 3 then None else Some ExtraSize) else Some ExtraFloats
 
 abbrev pub channels_refusal : List ExtraChannel → Option Refusal
 channels_refusal [] = None

@@ -25,7 +25,7 @@ pub struct ExtraChannel {
     pub kind: u32,
     /// How its samples are stored.
     pub depth: BitDepth,
-    /// Its sides are those of the picture by 2 to the power of this.
+    /// Its sides are those of the picture by 2 to the power of this, rounded up.
     pub shift: u32,
     /// How many bytes its name has.
     pub name_bytes: u32,

@@ -354,7 +354,7 @@ fn channel_refusal(channel: &ExtraChannel) -> Option<Refusal>
 {
     if channel.depth.exponent_bits != 0 {
         Some(Refusal::ExtraFloats)
-    } else if channel.shift != 0 {
+    } else if channel.shift > 3 {
         Some(Refusal::ExtraSize)
     } else {
         None

@@ -15,8 +15,8 @@ pub enum Refusal {
     /// An extra channel has floats.
     #[error("an extra channel of floats")]
     ExtraFloats,
-    /// An extra channel has a size of its own.
-    #[error("an extra channel of another size")]
+    /// An extra channel has sides that are less than an eighth of the picture's.
+    #[error("an extra channel with a shift above 3")]
     ExtraSize,
     /// Colours are XYB.
     #[error("XYB")]

@@ -17,7 +17,7 @@ fn image_reason(refusal: ImageRefusal) -> &'static str
         ImageRefusal::Animation => "an animation",
         ImageRefusal::FloatDepth => "floats of other than 32 bits",
         ImageRefusal::ExtraFloats => "an extra channel of floats",
-        ImageRefusal::ExtraSize => "an extra channel of another size",
+        ImageRefusal::ExtraSize => "an extra channel with a shift above 3",
         ImageRefusal::Xyb => "XYB",
     }
 }
@@ -32,6 +32,7 @@ fn frame_reason(refusal: FrameRefusal) -> &'static str
         FrameRefusal::SkippedFrame => "a frame that is skipped",
         FrameRefusal::Noise => "noise",
         FrameRefusal::FloatPatches => "patches on floats",
+        FrameRefusal::ShiftedPatches => "patches beside an extra channel of another size",
         FrameRefusal::Splines => "splines",
         FrameRefusal::UseLfFrame => "low frequencies of another frame",
         FrameRefusal::YCbCr => "YCbCr",

@@ -2,6 +2,7 @@ pub mod Channels
 pub mod Cuts
 pub mod FrameSections
 pub mod Frames
+pub mod Holding
 pub mod SavedFrames
 pub mod Trees
 pub mod StreamFailures

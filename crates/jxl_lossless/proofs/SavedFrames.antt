@@ -7,10 +7,9 @@ use Rattle.jxlm_base.specs.Grid.{Grid}
 use Rattle.jxl_headers.specs.Images.{Image}
 use Rattle.jxl_headers.specs.declared.size.Size.{Size}
 use Rattle.jxl_frames.specs.Frames.{frame_size}
-use Rattle.jxl_picture.specs.Limits.{channel_count}
-use Rattle.jxl_picture.specs.Pictures.{IsWhole}
+use Rattle.jxl_picture.specs.Pictures.{AreChannels, IsWhole}
 use Rattle.jxl_front.specs.Fronts.{FrameAt}
-use Rattle.jxl_patches.specs.Slots.{AreOfSize, Slots, no_slots, saved_in}
+use Rattle.jxl_patches.specs.Slots.{Slots, no_slots, saved_in}
 use Rattle.jxl_lossless.specs.Frames.{IsFrame}
 use Rattle.jxl_lossless.specs.FrameFailures.{FrameFails}
 use Rattle.jxl_lossless.specs.Saved.{AreDecoded, AreSaved, FramesFail, IsFirstBad}
@@ -60,7 +59,7 @@ module _ {D : Type 0} (d : Meaning D) (bytes : List ℕ) (image : Image) (saved 
   last_fails (Ok v) h = tt
   last_fails (Err e) h = first_bad d bytes image (saved ++ shown ∷ []) saved [] shown slots begin before e refl are h
 
-pub all_whole : (image : Image) (size : Size) (result : Result (Vec (Grid ℤ)) FileError) → size ≡ image.size → IfOk result (λ v. AreOfSize (channel_count image) size v.items) →
+pub all_whole : (image : Image) (size : Size) (result : Result (Vec (Grid ℤ)) FileError) → size ≡ image.size → IfOk result (λ v. AreChannels image size v.items) →
     IfOk result (λ v. IsWhole image v.items)
 all_whole image size (Ok v) same h = whole image size v.items same h
 all_whole image size (Err e) same h = tt

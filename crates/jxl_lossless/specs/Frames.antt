@@ -1,5 +1,5 @@
 -- The samples of a frame of a codestream (ISO/IEC 18181-1, frame: sections, LF global).
-use Rattle.std.specs.Prelude.{◌≡◌, ℕ, pos, ℤ, List, length, replicate, slice_get, Bool, MatchBool, Option, Some, None}
+use Rattle.std.specs.Prelude.{◌≡◌, ℕ, pos, ℤ, List, ◌++◌, length, map, replicate, slice_get, Bool, MatchBool, Option, Some, None}
 use Rattle.std.specs.Int.{Width, w32}
 use Rattle.jxlm_base.specs.Decoding.{Meaning}
 use Rattle.jxlm_base.specs.Grid.{Grid}
@@ -11,6 +11,7 @@ use Rattle.jxlm_transform.specs.declared.param.PaletteTables.TheVariants.{OfDelt
 use Rattle.jxlm_ma.specs.Tree.{Config}
 use Rattle.jxlm_ma.specs.TreeReading.{IsTreeAt}
 use Rattle.jxl_headers.specs.Images.{Image}
+use Rattle.jxl_headers.specs.declared.channel.ExtraChannel.{ExtraChannel}
 use Rattle.jxl_headers.specs.declared.size.Size.{Size}
 use Rattle.jxl_frames.specs.Frames.{Frame, frame_size}
 use Rattle.jxl_frames.specs.Passes.{shifts_held}
@@ -24,13 +25,17 @@ use Rattle.jxl_front.specs.Fronts.{FrameAt, StandsAt, layout_in}
 use Rattle.jxl_lossless.specs.Sections.{AreOfGroups, sections_in}
 use Rattle.jxl_patches.specs.Slots.{ArePut, Slots, optional_patches}
 
--- n channels as large as a picture of these sides; in a file the table of a palette has columns for deltas too
-abbrev pub of_file : ℕ → ℕ → ℕ → List ModularChannelParams
-of_file n width height = replicate n (with_tables OfDeltasToo (sized width height (Shifts 0)))
+-- a channel of this shift in a picture of these sides; in a file the table of a palette has columns for deltas too
+abbrev pub in_file : ℕ → ℕ → ℕ → ModularChannelParams
+in_file width height shift = with_tables OfDeltasToo (sized width height (Shifts shift))
 
--- the channels of a frame of an image: each has the frame's sides
+-- n channels as large as a picture of these sides, and after them these extra channels, each of its own shift
+abbrev pub of_file : ℕ → List ExtraChannel → ℕ → ℕ → List ModularChannelParams
+of_file n extra width height = replicate n (in_file width height 0) ++ map (λ c. in_file width height c.shift) extra
+
+-- the channels of a frame of an image: those of colours have the frame's sides, and each extra channel has its own
 abbrev pub channels_given : Image → Size → ChannelList
-channels_given image size = image_list (of_file (channel_count image) size.width size.height)
+channels_given image size = image_list (of_file (colour_count image) image.extra size.width size.height)
 
 -- The first section of a frame of this size with n channels has, from bit p on, factors that Modular does not use, and the
 -- tree that sections share, if there is one, up to bit q. Its nodes are within the frame's limit.

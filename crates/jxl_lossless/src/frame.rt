@@ -1,19 +1,20 @@
 //! A frame of a codestream, by its sections.
 
-ghost use Rattle.std.specs.Prelude.{◌≡◌, ◌≤◌, ◌^◌, pos, ℤ, IfErr, IfOk};
+ghost use Rattle.std.specs.Prelude.{◌≡◌, ◌≤◌, ◌^◌, ◌&&◌, pos, ℤ, false, IfErr, IfOk};
 ghost use Rattle.std.specs.Int.{w32};
 ghost use Rattle.jxlm_base.specs.Bits.{bytes_of, position_of};
 ghost use Rattle.jxl_headers.specs.Images.{image_of};
-ghost use Rattle.jxl_frames.specs.Frames.{frame_of, frame_size};
-ghost use Rattle.jxl_front.specs.FrontParts.{IsReadyFrame, frame_at};
+ghost use Rattle.jxl_frames.specs.Frames.{frame_of, frame_size, has_shifts};
+ghost use Rattle.jxl_front.specs.FrontParts.{HasLowShifts, IsReadyFrame, frame_at};
 ghost use Rattle.jxl_modular.specs.Image.{image_grids};
 ghost use Rattle.jxl_picture.specs.Limits.{channel_count};
+ghost use Rattle.jxl_picture.specs.Pictures.{AreChannels, colour_count};
 ghost use Rattle.jxl_still.specs.Places.{AreUsable};
 ghost use Rattle.jxlm_transform.specs.Channels.{AreGridsOf};
 ghost use Rattle.jxlm_transform.specs.Params.{IsGroupDim};
-ghost use Rattle.jxl_patches.specs.Slots.{AreOfSize, HoldFrames};
 ghost use Rattle.jxl_patches.specs.SavedParts.{slots_of};
-ghost use Rattle.jxl_lossless.specs.Frames.{IsCoded, IsFrame, IsMade, channels_given, of_file};
+ghost use Rattle.jxl_lossless.specs.Frames.{IsCoded, IsFrame, IsMade, channels_given, in_file, of_file};
+ghost use Rattle.jxl_lossless.specs.Saved.{HoldChannels};
 ghost use Rattle.jxl_lossless.specs.FrameFailures.{CodedFails, FrameFails, MadeFails};
 
 use crate::error::FileError;
@@ -21,6 +22,7 @@ use crate::sections::{of_groups, sections};
 use crate::tree::shared_tree;
 use jxl_frames::frame::FrameHeader;
 use jxl_front::frame::FrameFront;
+use jxl_headers::channel::ExtraChannel;
 use jxl_headers::image::ImageHeader;
 use jxl_headers::size::Size;
 use jxl_modular::image::ModularImageDestination;
@@ -35,21 +37,46 @@ use jxlm_base::decoder::Decoder;
 use jxlm_base::grid::{AlignedGrid, OutOfMemory};
 use jxlm_base::sample::Sample;
 use jxlm_ma::flat::Steps;
-use jxlm_transform::param::{ModularChannelParams, ModularParams, PaletteTables};
+use jxlm_transform::param::{ChannelShift, ModularChannelParams, ModularParams, PaletteTables};
 use std::alloc::Global;
 
-// So many channels of this size, with the tables of palettes that files hold.
+// A channel of this shift in a frame of this size, with the tables of palettes that files hold.
+fn channel_of(size: Size, shift: u32) -> ModularChannelParams
+    ensures { result ≡ in_file size.width size.height shift }
+{
+    let shift = ChannelShift::from_shift(shift);
+    ModularChannelParams::with_shift(size.width, size.height, shift).with_palette_tables(
+        PaletteTables::OfDeltasToo,
+    )
+}
+
+// Channels of a frame of this size: so many of colours, and the extra ones, each of its own shift.
 fn channel_list(
     alloc: Global,
     size: Size,
-    count: usize,
+    colours: usize,
+    extra: &[ExtraChannel],
 ) -> Result<Vec<ModularChannelParams>, OutOfMemory>
-    ensures list { IfOk result (λ v. v.items ≡ of_file count size.width size.height) }
+    ensures list { IfOk result (λ v. v.items ≡ of_file colours extra.now size.width size.height) }
 {
-    let channel = ModularChannelParams::new(size.width, size.height).with_palette_tables(
-        PaletteTables::OfDeltasToo,
-    );
-    Ok(vec![in alloc; channel; count]?)
+    let colour = channel_of(size, 0);
+    let mut list = vec![in alloc; colour; colours]?;
+    for channel in extra {
+        list.push(channel_of(size, channel.shift))?;
+    }
+    Ok(list)
+}
+
+// The channels of a frame of this size.
+fn channels_of(
+    alloc: Global,
+    image: &ImageHeader,
+    size: Size,
+) -> Result<Vec<ModularChannelParams>, OutOfMemory>
+    ensures list { IfOk result (λ v. v.items
+        ≡ of_file (colour_count (image_of image.now)) image.now.extra.items size.width size.height) }
+{
+    channel_list(alloc, size, colours(image), &image.extra)
 }
 
 // The image of a frame of this size, by its first section, from the reader's position on, and those of its groups.
@@ -67,6 +94,7 @@ fn decode_coded<'a, S: Sample, D: Decoder, P: Progress>(
     requires high { size.height ≤ 2 ^ 30 }
     requires deep { image.now.samples.depth.bits ≤ 32 }
     requires many { channel_count (image_of image.now) ≤ 2 ^ 20 }
+    requires low { HasLowShifts (image_of image.now) }
     requires dim { IsGroupDim group_dim }
     requires usable { AreUsable places }
     ensures ok { IfOk result (λ x. IsCoded D.meaning S.width S.to_int (S.from_int (pos 0)) (image_of image.now) size
@@ -79,7 +107,7 @@ fn decode_coded<'a, S: Sample, D: Decoder, P: Progress>(
 {
     let channels = colours(image) + image.extra.len();
     let tree = shared_tree::<D>(alloc, &mut bits, size, channels)?;
-    let list = channel_list(alloc, size, channels)?;
+    let list = channels_of(alloc, image, size)?;
     let depth = image.samples.depth.bits;
     let params = ModularParams::with_channels(group_dim, depth, list, tree.as_ref());
     match decode_frame::<S, D, P>(alloc, bits, params, places, steps, progress) {
@@ -104,6 +132,7 @@ fn decode_grids<'a, D: Decoder, P: Progress>(
     requires high { size.height ≤ 2 ^ 30 }
     requires deep { image.now.samples.depth.bits ≤ 32 }
     requires many { channel_count (image_of image.now) ≤ 2 ^ 20 }
+    requires low { HasLowShifts (image_of image.now) }
     requires dim { IsGroupDim group_dim }
     requires usable { AreUsable places }
     ensures ok { IfOk result (λ v. IsCoded D.meaning w32 (λ (v : ℤ). v) (pos 0) (image_of image.now) size group_dim
@@ -133,12 +162,14 @@ fn decode_made<'a, D: Decoder, P: Progress>(
     requires high { (frame_size image.now.size (frame_of header.now)).height ≤ 2 ^ 30 }
     requires deep { image.now.samples.depth.bits ≤ 32 }
     requires many { channel_count (image_of image.now) ≤ 2 ^ 20 }
+    requires low { HasLowShifts (image_of image.now) }
     requires dim { IsGroupDim header.now.group_dim }
     requires usable { AreUsable places }
-    requires held { HoldFrames (channel_count (image_of image.now)) (slots_of slots.now) }
+    requires plain { (header.now.coding.flags.patches && has_shifts (image_of image.now)) ≡ false }
+    requires held { HoldChannels (image_of image.now) (slots_of slots.now) }
     ensures ok { IfOk result (λ v. IsMade D.meaning (image_of image.now) (slots_of slots.now) (frame_of header.now)
         first.now places.entry v.items steps.old steps.new) }
-    ensures sides { IfOk result (λ v. AreOfSize (channel_count (image_of image.now))
+    ensures sides { IfOk result (λ v. AreChannels (image_of image.now)
         (frame_size image.now.size (frame_of header.now)) v.items) }
     ensures err { IfErr result (MadeFails D.meaning (image_of image.now) (slots_of slots.now) (frame_of header.now)
         first.now places.entry) }
@@ -161,6 +192,9 @@ fn decode_made<'a, D: Decoder, P: Progress>(
         steps,
         progress,
     )?;
+    if !there {
+        return Ok(channels);
+    }
     put_patches(&patches, size, colours(image), extra, slots, &mut channels);
     Ok(channels)
 }
@@ -179,10 +213,11 @@ pub fn decode_channels<D: Decoder, P: Progress>(
     requires ready { IsReadyFrame bytes.now (image_of image.now) frame.now }
     requires deep { image.now.samples.depth.bits ≤ 32 }
     requires many { channel_count (image_of image.now) ≤ 2 ^ 20 }
-    requires held { HoldFrames (channel_count (image_of image.now)) (slots_of slots.now) }
+    requires low { HasLowShifts (image_of image.now) }
+    requires held { HoldChannels (image_of image.now) (slots_of slots.now) }
     ensures ok { IfOk result (λ v. IsFrame D.meaning (image_of image.now) (slots_of slots.now) bytes.now
         (frame_at frame.now) v.items steps.old steps.new) }
-    ensures sides { IfOk result (λ v. AreOfSize (channel_count (image_of image.now))
+    ensures sides { IfOk result (λ v. AreChannels (image_of image.now)
         (frame_size image.now.size (frame_of frame.now.header)) v.items) }
     ensures err { IfErr result (FrameFails D.meaning (image_of image.now) (slots_of slots.now) bytes.now
         (frame_at frame.now)) }

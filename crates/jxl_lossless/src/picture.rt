@@ -82,8 +82,9 @@ fn decode_codestream<P: Progress>(
 /// hold one; image header, frame headers and tables of contents stand at its bits; each section lies where the table
 /// says; and the channels are the only ones that the transforms turn into the samples that the sections code, read by
 /// the entropy decoder with the indices of their streams. They are shown upright: mirrored or turned as the image header
-/// says. The picture's header is that of the file, but that it has the size of what is shown, and orientation 1. Of each
-/// frame's trees, `steps` counts at most the depth and one more for each sample.
+/// says. An extra channel with a shift has the sides that it was coded with: nothing is upsampled. The picture's header
+/// is that of the file, but that it has the size of what is shown, and orientation 1. Of each frame's trees, `steps`
+/// counts at most the depth and one more for each sample.
 ///
 /// # Errors
 ///

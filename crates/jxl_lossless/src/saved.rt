@@ -2,10 +2,9 @@
 
 ghost use Rattle.std.specs.Prelude.{List, [], ◌∷◌, ◌++◌, map, IfErr, IfOk};
 ghost use Rattle.jxl_headers.specs.Images.{image_of};
-ghost use Rattle.jxl_picture.specs.Limits.{channel_count};
 ghost use Rattle.jxl_front.specs.FrontParts.{IsReady, frame_at};
-ghost use Rattle.jxl_patches.specs.Slots.{HoldFrames, no_slots};
-ghost use Rattle.jxl_lossless.specs.Saved.{AreSaved, FramesFail};
+ghost use Rattle.jxl_patches.specs.Slots.{no_slots};
+ghost use Rattle.jxl_lossless.specs.Saved.{AreSaved, FramesFail, HoldChannels};
 ghost use Rattle.jxl_patches.specs.SavedParts.{slots_of};
 
 use crate::error::FileError;
@@ -29,7 +28,7 @@ pub fn decode_saved<D: Decoder, P: Progress>(
     requires ready { IsReady bytes.now front.now }
     ensures ok { IfOk result (λ s. AreSaved D.meaning bytes.now (image_of front.now.image)
         (map frame_at front.now.saved.items) no_slots (slots_of s) steps.old steps.new) }
-    ensures held { IfOk result (λ s. HoldFrames (channel_count (image_of front.now.image)) (slots_of s)) }
+    ensures held { IfOk result (λ s. HoldChannels (image_of front.now.image) (slots_of s)) }
     ensures err { IfErr result (FramesFail D.meaning bytes.now (image_of front.now.image)
         (map frame_at front.now.saved.items ++ frame_at front.now.shown ∷ [])) }
 {

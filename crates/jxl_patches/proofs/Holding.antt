@@ -30,7 +30,7 @@ pub put_back : {X : Type 0} (v : Vec X) (ws : List X) (k : ℕ) (x : X) → ws �
 put_back v ws k x e = with_items_is v ws (ap length e ∙ length-set v.items k x ∙ sym v.ok.0) ∙ e
 
 -- no slot of none holds a frame
-none_held : (k : ℕ) (size : Size) → get_or no_slots.sizes k None ≢ Some size
+pub none_held : (k : ℕ) (size : Size) → get_or no_slots.sizes k None ≢ Some size
 none_held zero size e = cc
 none_held (suc zero) size e = cc
 none_held (suc (suc zero)) size e = cc
@@ -48,7 +48,7 @@ hold_none n = record {
   };
 }
 
-same_or_other : (j k : ℕ) → (j ≡ k) ⊎ (j ≢ k)
+pub same_or_other : (j k : ℕ) → (j ≡ k) ⊎ (j ≢ k)
 same_or_other zero zero = inl refl
 same_or_other zero (suc k) = inr (λ e. cc)
 same_or_other (suc j) zero = inr (λ e. cc)
@@ -57,7 +57,7 @@ same_or_other (suc j) (suc k) = by (same_or_other j k) where
   by (inl e) = inl (ap suc e)
   by (inr ne) = inr (λ e. ne (omega (arith, e)))
 
-within_or_not : (j n : ℕ) → (j < n) ⊎ (n ≤ j)
+pub within_or_not : (j n : ℕ) → (j < n) ⊎ (n ≤ j)
 within_or_not j zero = inr (omega arith)
 within_or_not zero (suc n) = inl (omega arith)
 within_or_not (suc j) (suc n) = by (within_or_not j n) where

@@ -1,18 +1,20 @@
 -- Layers of a picture: each has the picture's sides, and a maximum above 0.
 use Rattle.std.proofs.Common.{◌≡◌, ℕ, ◌+◌, ◌^◌, ◌<◌, ◌≤◌, ℤ, List, [], ◌∷◌, ◌++◌, length, get_or, take, drop, map, Bool, true, false, cond, refl, sym, ap, ◌∙◌, arith, add-one, drop-cons}
 use Rattle.std.specs.Prelude.{◌&&◌, ◌||◌, ◌==◌, not, nat_le}
-use Rattle.std.specs.List.{All, list_all}
+use Rattle.std.specs.List.{All, AllZip, list_all}
 use Rattle.std.proofs.Math.Nat.{pow-le-pow_right}
-use Rattle.std.proofs.lemmas.Bool.{leb-true}
+use Rattle.std.proofs.lemmas.Bool.{eqb-true, leb-true}
 use Rattle.std.proofs.lemmas.List.{drop_all, map-append, take_all, take_more}
-use Rattle.std.proofs.lemmas.List.Elements.{All-nil, All-cons, All-head, All-tail, All-append, All-take, All-drop}
+use Rattle.std.proofs.lemmas.List.Elements.{All-nil, All-cons, All-head, All-tail, All-append}
 use Rattle.jxlm_base.specs.Grid.{Grid}
 use Rattle.jxl_headers.specs.Images.{Image}
 use Rattle.jxl_headers.specs.declared.channel.ExtraChannel.{ExtraChannel}
 use Rattle.jxl_headers.specs.declared.channel.BitDepth.{BitDepth}
-use Rattle.jxl_picture.specs.Pictures.{HasSides, IsWhole, is_alpha}
+use Rattle.jxl_headers.specs.declared.size.Size.{Size}
+use Rattle.jxl_picture.specs.Pictures.{HasShiftedSides, HasSides, IsWhole, is_alpha, is_full_alpha}
 use Rattle.jxl_picture.specs.Rasters.{Layer, maximum}
 use Rattle.jxl_picture.specs.Formats.{can_stand, first_alpha, is_whole, colour_layers, colours_of, most_of, pam_layers}
+use Rattle.jxl_picture.proofs.Shifts.{full_sides}
 use Rattle.jxl_picture.specs.Inner.Layers.{AllCover, AllHave, Covers, Has, layer_of, layers_of}
 use Rattle.jxl_picture.specs.declared.raster.Layer.{Layer as Held}
 
@@ -58,29 +60,33 @@ whole_some most d e =
     let (exponent, some) = both_true (d.exponent_bits == 0) (nat_le 1 d.bits) front in
     (leb-true 1 d.bits some, leb-true d.bits most few)
 
-first_or_later : (w h : ℕ) (g : Grid ℤ) (c : ExtraChannel) (later : List Layer) (b : Bool) → is_alpha c ≡ b → can_stand c ≡ true → HasSides w h g → All (Cover w h) later → All (Cover w h) (cond b (record { grid = g; own = maximum c.depth.bits } ∷ []) later)
-first_or_later w h g c later true is stands sides all =
-    let some = (whole_some 31 c.depth (or_true (is_alpha c) (is_whole 31 c.depth) stands is)).0 in
-    All-cons (Cover w h) (record { grid = g; own = maximum c.depth.bits }) [] (one_covers w h (maximum c.depth.bits) g (maximum_some c.depth.bits some) sides) (All-nil (Cover w h))
-first_or_later w h g c later false is stands sides all = all
+abbrev CoversAll : Size → Layer → Type 0
+CoversAll size l = Cover size.width size.height l
 
-pub alpha_covers : (w h : ℕ) (gs : List (Grid ℤ)) (cs : List ExtraChannel) → All (HasSides w h) gs → list_all can_stand cs ≡ true → All (Cover w h) (first_alpha gs cs)
-alpha_covers w h [] cs all e = All-nil (Cover w h)
-alpha_covers w h (g ∷ gs) [] all e = All-nil (Cover w h)
-alpha_covers w h (g ∷ gs) (c ∷ cs) all e =
+first_or_later : (size : Size) (g : Grid ℤ) (c : ExtraChannel) (later : List Layer) (b : Bool) → is_full_alpha c ≡ b → can_stand c ≡ true → HasShiftedSides size c g → All (CoversAll size) later → All (CoversAll size) (cond b (record { grid = g; own = maximum c.depth.bits } ∷ []) later)
+first_or_later size g c later true is stands sides all =
+    let some = (whole_some 31 c.depth (or_true (is_full_alpha c) (is_whole 31 c.depth) stands is)).0 in
+    let none : c.shift ≡ 0 = eqb-true c.shift 0 (both_true (is_alpha c) (c.shift == 0) is).1 in
+    All-cons (CoversAll size) (record { grid = g; own = maximum c.depth.bits }) [] (one_covers size.width size.height (maximum c.depth.bits) g (maximum_some c.depth.bits some) (full_sides size c g none sides)) (All-nil (CoversAll size))
+first_or_later size g c later false is stands sides all = all
+
+pub alpha_covers : (size : Size) (gs : List (Grid ℤ)) (cs : List ExtraChannel) → AllZip (HasShiftedSides size) cs gs → list_all can_stand cs ≡ true → All (CoversAll size) (first_alpha gs cs)
+alpha_covers size [] cs all e = All-nil (CoversAll size)
+alpha_covers size (g ∷ gs) [] all e = All-nil (CoversAll size)
+alpha_covers size (g ∷ gs) (c ∷ cs) all e =
     let parts = both_true (can_stand c) (list_all can_stand cs) e in
-    first_or_later w h g c (first_alpha gs cs) (is_alpha c) refl parts.0 (All-head (HasSides w h) g gs all) (alpha_covers w h gs cs (All-tail (HasSides w h) g gs all) parts.1)
+    first_or_later size g c (first_alpha gs cs) (is_full_alpha c) refl parts.0 all.0 (alpha_covers size gs cs all.1 parts.1)
 
 pub colours_cover : (image : Image) (channels : List (Grid ℤ)) → IsWhole image channels → is_whole 16 image.samples.depth ≡ true → All (Cover image.size.width image.size.height) (colour_layers image channels)
 colours_cover image channels whole depth =
     grids_cover image.size.width image.size.height (most_of image) (colours_of image channels) (maximum_some image.samples.depth.bits (whole_some 16 image.samples.depth depth).0)
-    (All-take (HasSides image.size.width image.size.height) _ channels whole.sides)
+    whole.colours
 
 pub pam_covers : (image : Image) (channels : List (Grid ℤ)) → IsWhole image channels → (is_whole 16 image.samples.depth && list_all can_stand image.extra) ≡ true → All (Cover image.size.width image.size.height) (pam_layers image channels)
 pam_covers image channels whole suits =
     let (depth, alpha) = both_true (is_whole 16 image.samples.depth) (list_all can_stand image.extra) suits in
     All-append (Cover image.size.width image.size.height) (colour_layers image channels) _ (colours_cover image channels whole depth)
-    (alpha_covers image.size.width image.size.height _ image.extra (All-drop (HasSides image.size.width image.size.height) _ channels whole.sides) alpha)
+    (alpha_covers image.size _ image.extra whole.extra alpha)
 
 one_has : (w h : ℕ) (g : Grid ℤ) → HasSides w h g → Has w h g
 one_has w h g s = record { wide = omega (arith, s.wide); high = omega (arith, s.high) }
@@ -103,7 +109,7 @@ pub layers_all : (own : ℕ) (gs : List (Grid ℤ)) (i : ℕ) (ls : List Held) �
 layers_all own gs i ls all e = e ∙ ap (map {B = Layer} (λ (g : Grid ℤ). record { grid = g; own = own })) (take_all i gs all)
 
 pub alpha_here : (gs : List (Grid ℤ)) (cs : List ExtraChannel) (k : ℕ) (g : Grid ℤ) (c : ExtraChannel) → k < length gs → k < length cs →
-    first_alpha (drop k gs) (drop k cs) ≡ cond (is_alpha (get_or cs k c)) (record { grid = get_or gs k g; own = maximum (get_or cs k c).depth.bits } ∷ []) (first_alpha (drop (k + 1) gs) (drop (k + 1) cs))
+    first_alpha (drop k gs) (drop k cs) ≡ cond (is_full_alpha (get_or cs k c)) (record { grid = get_or gs k g; own = maximum (get_or cs k c).depth.bits } ∷ []) (first_alpha (drop (k + 1) gs) (drop (k + 1) cs))
 alpha_here gs cs k g c a b = rw (add-one, drop-cons gs k g, drop-cons cs k c) refl
 
 pub no_more_alpha : (gs : List (Grid ℤ)) (cs : List ExtraChannel) (k : ℕ) → length cs ≤ k → first_alpha (drop k gs) (drop k cs) ≡ []

@@ -1,5 +1,6 @@
 pub mod Growing
 pub mod Pieces
+pub mod Shifts
 pub mod LayerLaws
 pub mod Numbers
 pub mod Orienting

@@ -7,7 +7,7 @@ use Rattle.jxlm_text.specs.Printing.{image_text}
 use Rattle.jxl_headers.specs.Images.{Image}
 use Rattle.jxl_headers.specs.declared.channel.BitDepth.{BitDepth}
 use Rattle.jxl_headers.specs.declared.channel.ExtraChannel.{ExtraChannel}
-use Rattle.jxl_picture.specs.Pictures.{is_grey, colour_count, has_alpha, is_alpha}
+use Rattle.jxl_picture.specs.Pictures.{is_grey, colour_count, has_full_alpha, is_full_alpha}
 use Rattle.jxl_picture.specs.Rasters.{Layer, maximum, raster_text, float_rows}
 use Rattle.jxl_picture.specs.declared.format.Format.{Format}
 use Rattle.jxl_picture.specs.declared.format.Format.TheVariants.{Pgm, Ppm, Pam, Pfm, Text}
@@ -20,11 +20,11 @@ line text = text ++ 10 ∷ []
 abbrev pub is_whole : ℕ → BitDepth → Bool
 is_whole most d = (d.exponent_bits == 0) && nat_le 1 d.bits && nat_le d.bits most
 
--- a channel that can stand beside colours in a PAM file: it is no alpha channel, or one of whole numbers
+-- a channel that does not keep a picture from being a PAM file: it is no alpha of the picture's size, or one of whole numbers
 abbrev pub can_stand : ExtraChannel → Bool
-can_stand c = not (is_alpha c) || is_whole 31 c.depth
+can_stand c = not (is_full_alpha c) || is_whole 31 c.depth
 
--- the format can hold the picture's colours, PAM its alpha too, and decimal numbers all of it
+-- the format can hold the picture's colours, PAM its alpha of the same size too, and decimal numbers all of it
 abbrev pub suits : Format → Image → Bool
 suits Pgm image = is_grey image && is_whole 16 image.samples.depth
 suits Ppm image = not (is_grey image) && is_whole 16 image.samples.depth
@@ -35,12 +35,13 @@ suits Text image = true
 -- how many channels the format leaves out
 abbrev pub left_out : Format → Image → ℕ
 left_out Text image = 0
-left_out Pam image = if has_alpha image then length image.extra - 1 else length image.extra
+left_out Pam image = if has_full_alpha image then length image.extra - 1 else length image.extra
 left_out format image = length image.extra
 
--- the format in which a picture is written where none is asked for: PGM or PPM, PAM where there is alpha, PFM for floats
+-- the format in which a picture is written where none is asked for: PGM or PPM, PAM where there is alpha of the picture's size,
+-- PFM for floats
 abbrev pub usual_whole : Image → Format
-usual_whole image = if has_alpha image then Pam else if is_grey image then Pgm else Ppm
+usual_whole image = if has_full_alpha image then Pam else if is_grey image then Pgm else Ppm
 
 abbrev pub usual : Image → Option Format
 usual image = if suits Pfm image then Some Pfm else if suits (usual_whole image) image then Some (usual_whole image) else None
@@ -56,9 +57,9 @@ colours_of image channels = take (colour_count image) channels
 abbrev pub colour_layers : Image → List (Grid ℤ) → List Layer
 colour_layers image channels = map (λ g. record { grid = g; own = most_of image }) (colours_of image channels)
 
--- the first alpha channel among extra ones, where there is one
+-- the first alpha channel of the picture's size among extra ones, where there is one
 abbrev pub first_alpha : List (Grid ℤ) → List ExtraChannel → List Layer
-first_alpha (g ∷ gs) (c ∷ cs) = if is_alpha c then record { grid = g; own = maximum c.depth.bits } ∷ [] else first_alpha gs cs
+first_alpha (g ∷ gs) (c ∷ cs) = if is_full_alpha c then record { grid = g; own = maximum c.depth.bits } ∷ [] else first_alpha gs cs
 first_alpha _ _ = []
 
 abbrev pub pam_layers : Image → List (Grid ℤ) → List Layer
@@ -71,12 +72,12 @@ size_line image = line (decimal image.size.width ++ codes " " ++ decimal image.s
 -- what a PAM file holds
 abbrev pub tuple_type : Image → List ℕ
 tuple_type image =
-    if is_grey image then (if has_alpha image then codes "GRAYSCALE_ALPHA" else codes "GRAYSCALE")
-    else (if has_alpha image then codes "RGB_ALPHA" else codes "RGB")
+    if is_grey image then (if has_full_alpha image then codes "GRAYSCALE_ALPHA" else codes "GRAYSCALE")
+    else (if has_full_alpha image then codes "RGB_ALPHA" else codes "RGB")
 
 -- how many channels a PAM file has
 abbrev pub tuple_count : Image → ℕ
-tuple_count image = if has_alpha image then colour_count image + 1 else colour_count image
+tuple_count image = if has_full_alpha image then colour_count image + 1 else colour_count image
 
 abbrev pub pnm_head : List ℕ → Image → List ℕ
 pnm_head magic image = line magic ++ size_line image ++ line (decimal (most_of image))

@@ -15,7 +15,8 @@ pub struct Limits {
     pub pixels: u64,
     /// The maximum number of channels, of colours and others together; more than 2^20 are never read.
     pub channels: u32,
-    /// The maximum number of bytes of all samples, of four bytes each.
+    /// The maximum number of bytes of all samples, of four bytes each; a channel that is smaller than the picture counts
+    /// as one of its size.
     pub bytes: u64,
     /// The maximum number of bytes of a colour profile.
     pub profile: u64,

@@ -1,12 +1,15 @@
 //! A decoded picture.
 
-ghost use Rattle.std.specs.Prelude.{◌≡◌, ◌+◌, ◌↔◌, IfOk, IsTrue, length};
+ghost use Rattle.std.specs.Prelude.{◌≡◌, ◌↔◌, IfOk, IsTrue, length};
+ghost use Rattle.std.specs.List.{AllZip};
 ghost use Rattle.jxl_headers.specs.Images.{image_of};
-ghost use Rattle.jxl_picture.specs.Pictures.{IsWhole, colour_count, is_grey as colours_are_grey, has_alpha as there_is_alpha};
+ghost use Rattle.jxl_picture.specs.Pictures.{HasShiftedSides, HasSides, IsWhole, colour_count, is_grey as colours_are_grey, has_alpha as there_is_alpha, has_full_alpha as there_is_full_alpha, is_full_alpha as the_full_alpha, shifted as the_shifted};
 ghost use Rattle.jxl_picture.specs.Orientations.{IsUpright};
 
 use crate::orientation::{shown_channels, shown_size};
+use jxl_headers::channel::ExtraChannel;
 use jxl_headers::image::ImageHeader;
+use jxl_headers::size::Size;
 use jxlm_base::grid::{AlignedGrid, OutOfMemory};
 use std::alloc::Global;
 
@@ -15,9 +18,10 @@ use std::alloc::Global;
 pub struct Picture {
     /// What is told of the picture.
     pub header: ImageHeader,
-    /// Its channels, each with the sides of the picture: of colours one where they are grey, else red, green and blue;
-    /// then the extra channels in the header's order. A sample is the whole number that was coded, which may lie outside
-    /// the range of its depth; of a float it is the number of its bits.
+    /// Its channels: of colours one where they are grey, else red, green and blue, each with the sides of the picture;
+    /// then the extra channels in the header's order, each with these sides divided by 2 to the power of its shift and
+    /// rounded up. A sample is the whole number that was coded, which may lie outside the range of its depth; of a
+    /// float it is the number of its bits.
     pub channels: Vec<AlignedGrid<i32>>,
 }
 
@@ -42,22 +46,81 @@ pub fn has_alpha(header: &ImageHeader) -> bool
     header.extra.iter().any(|channel| channel.kind == 0)
 }
 
+/// Whether a channel is alpha that is as large as the picture.
+pub(crate) fn is_full_alpha(channel: &ExtraChannel) -> bool
+    ensures { result ≡ the_full_alpha channel.now }
+{
+    channel.kind == 0 && channel.shift == 0
+}
+
+/// Whether one of the extra channels is alpha that is as large as the picture.
+pub fn has_full_alpha(header: &ImageHeader) -> bool
+    ensures { result ≡ there_is_full_alpha (image_of header.now) }
+{
+    header.extra.iter().any(|channel| is_full_alpha(channel))
+}
+
+// A side of so many samples in a channel of this shift.
+fn shifted(shift: u32, side: u32) -> u32
+    ensures { result ≡ the_shifted shift side }
+{
+    if shift < 32 {
+        (u64::from(side)).div_ceil(1 << shift) as u32
+    } else {
+        side.min(1)
+    }
+}
+
+fn has_sides(grid: &AlignedGrid<i32>, width: u32, height: u32) -> bool
+    ensures { IsTrue result ↔ HasSides width height grid.now }
+{
+    grid.width() == width as usize && grid.height() == height as usize
+}
+
+// Whether a channel has the sides of this extra channel, of a picture of this size.
+fn has_shifted_sides(channel: &ExtraChannel, grid: &AlignedGrid<i32>, size: Size) -> bool
+    ensures { IsTrue result ↔ HasShiftedSides size channel.now grid.now }
+{
+    let width = shifted(channel.shift, size.width);
+    let height = shifted(channel.shift, size.height);
+    has_sides(grid, width, height)
+}
+
+// Whether each of these has the sides of its extra channel; there are as many.
+fn have_shifted_sides(extra: &[ExtraChannel], channels: &[AlignedGrid<i32>], size: Size) -> bool
+    requires { length channels.now ≡ length extra.now }
+    ensures { IsTrue result ↔ AllZip (HasShiftedSides size) extra.now channels.now }
+{
+    for k in 0..extra.len() {
+        if !has_shifted_sides(&extra[k], &channels[k], size) {
+            return false;
+        }
+    }
+    true
+}
+
 impl Picture {
-    /// Whether there are as many channels as the header says, each with the sides of the picture.
+    /// Whether there are as many channels as the header says, those of colours with the sides of the picture, and each
+    /// extra channel with these by its shift.
     pub fn is_whole(&self) -> bool
         ensures { IsTrue result ↔ IsWhole (image_of self.now.header) self.now.channels.items }
     {
-        let width = self.header.size.width as usize;
-        let height = self.header.size.height as usize;
-        let extra = self.header.extra.len();
-        self.channels.len() >= extra
-            && self.channels.len() - extra == colours(&self.header)
-            && self.channels.iter().all(|channel| channel.width() == width
-                && channel.height() == height)
+        let size = self.header.size;
+        let colours = colours(&self.header);
+        let extra = &self.header.extra;
+        if self.channels.len() < colours || self.channels.len() - colours != extra.len() {
+            return false;
+        }
+        let (front, rest) = self.channels.split_at(colours);
+        front
+            .iter()
+            .all(|channel| has_sides(channel, size.width, size.height))
+            && have_shifted_sides(extra, rest, size)
     }
 
-    /// The picture as it is shown: its cells are mirrored or turned as the header says, its size is that of what is shown,
-    /// and its orientation 1. Memory is taken for one more channel, where the picture is not upright as it is.
+    /// The picture as it is shown: the cells of each channel are mirrored or turned as the header says, its size is that
+    /// of what is shown, and its orientation 1. Memory is taken for one more channel, where the picture is not upright
+    /// as it is.
     pub fn upright(self, alloc: Global) -> Result<Picture, OutOfMemory>
         ensures { IfOk result (λ p. IsUpright (image_of self.header) self.channels.items (image_of p.header)
             p.channels.items) }

@@ -1,25 +1,39 @@
 //! Files, decoded to pictures.
 
+use jxl_headers::size::Size;
 use jxl_lossless::{Limits, Progress, Steps, decode_lossless, decode_lossless_with};
 use jxl_picture::picture::Picture;
 use jxlcheck_text::{bytes, listed};
+use jxlm_base::grid::AlignedGrid;
 use std::alloc::Global;
 
-/// Adds the sides and the depth of a picture, and after bars the samples of each channel, or their checksum.
+/// Adds the sides of a channel, where they are not those of its picture.
+fn tell_sides(text: &mut String, size: Size, channel: &AlignedGrid<i32>) -> Option<()> {
+    let (width, height) = (channel.width(), channel.height());
+    if width != size.width as usize || height != size.height as usize {
+        write!(text, " {width}x{height}").ok()?;
+    }
+    Some(())
+}
+
+/// Adds the sides and the depth of a picture, and after bars the samples of each channel, or their checksum; before them
+/// the sides of a channel that has others.
 fn tell(alloc: Global, text: &mut String, picture: &Picture, summed: bool) -> Option<()> {
     let size = picture.header.size;
     let bits = picture.header.samples.depth.bits;
     write!(text, "{}x{} {bits}", size.width, size.height).ok()?;
     for channel in picture.channels.iter() {
         let samples = listed(alloc, channel.buf(), summed).ok()?;
-        write!(text, " | {samples}").ok()?;
+        write!(text, " |").ok()?;
+        tell_sides(text, size, channel)?;
+        write!(text, " {samples}").ok()?;
     }
     Some(())
 }
 
 /// A row asks with the bytes of a file, and before them a # where checksums are asked for. It gives the sides and the
-/// depth of its picture, and after bars the samples of each channel, row by row, or their checksum; or what the error
-/// prints.
+/// depth of its picture, and after bars the samples of each channel, row by row, or their checksum, with the sides of a
+/// channel that has others than the picture; or what the error prints.
 pub fn seen(alloc: Global, asked: &str) -> Option<String> {
     let (digits, summed) = match asked.strip_prefix("# ") {
         Some(digits) => (digits, true),

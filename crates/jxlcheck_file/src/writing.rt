@@ -2,8 +2,9 @@
 
 use crate::files::digits;
 use jxl_headers::image::ImageHeader;
+use jxl_headers::size::Size;
 use jxl_picture::format::Format;
-use jxl_picture::picture::Picture;
+use jxl_picture::picture::{Picture, colours};
 use jxlcheck_text::{bytes, signed, word};
 use jxlm_base::bits::Bitstream;
 use jxlm_base::grid::AlignedGrid;
@@ -35,18 +36,51 @@ fn grid(alloc: Global, width: usize, height: usize, samples: &[i32]) -> Option<A
     Some(grid)
 }
 
+/// Adds a channel of this shift to those of a picture of this size, with the first of these samples; the others are
+/// left.
+fn push_channel<'a>(
+    alloc: Global,
+    channels: &mut Vec<AlignedGrid<i32>>,
+    size: Size,
+    shift: u32,
+    samples: &'a [i32],
+) -> Option<&'a [i32]> {
+    if shift > 3 {
+        return None;
+    }
+    let width = (size.width as usize).div_ceil(1 << shift);
+    let height = (size.height as usize).div_ceil(1 << shift);
+    let area = width.checked_mul(height)?;
+    if area > samples.len() {
+        return None;
+    }
+    let (own, rest) = samples.split_at(area);
+    channels.push(grid(alloc, width, height, own)?).ok()?;
+    Some(rest)
+}
+
+/// The channels of a picture of this header, with these samples, channel by channel; none where they are not as many.
+fn channels(alloc: Global, header: &ImageHeader, samples: &[i32]) -> Option<Vec<AlignedGrid<i32>>> {
+    let mut channels = Vec::new(alloc);
+    let mut rest = samples;
+    for _ in 0..colours(header) {
+        rest = push_channel(alloc, &mut channels, header.size, 0, rest)?;
+    }
+    for channel in header.extra.iter() {
+        rest = push_channel(alloc, &mut channels, header.size, channel.shift, rest)?;
+    }
+    if rest.is_empty() {
+        Some(channels)
+    } else {
+        None
+    }
+}
+
 /// The picture of a header, with these samples, channel by channel.
 fn picture(alloc: Global, header: &[u8], samples: &[i32]) -> Option<Picture> {
     let mut bits = Bitstream::new(header);
     let header = ImageHeader::parse(alloc, &mut bits).ok()?;
-    let (width, height) = (header.size.width as usize, header.size.height as usize);
-    let area = width.checked_mul(height)?;
-    let mut channels = Vec::new(alloc);
-    if area > 0 {
-        for part in samples.chunks(area) {
-            channels.push(grid(alloc, width, height, part)?).ok()?;
-        }
-    }
+    let channels = channels(alloc, &header, samples)?;
     Some(Picture { header, channels })
 }
 

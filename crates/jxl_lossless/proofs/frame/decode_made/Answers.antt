@@ -1,18 +1,20 @@
 use Rattle.std.specs.Int.{w32}
 use Rattle.jxl_lossless.specs.FrameFailures.{CodedFails}
-use Rattle.std.proofs.Common.{ℕ, ℤ, pos, ◌≡◌, ◌∙◌, List, length, Option, map, subst, sym, ap}
+use Rattle.std.proofs.Common.{ℕ, ℤ, pos, ◌≡◌, ◌∙◌, List, length, subst, sym, true, rules}
 use Rattle.std.specs.Option.{option_map}
+use Rattle.std.proofs.lemmas.List.{with_items_is}
 use Rattle.std.proofs.lemmas.Result.{err_from_is_err_and}
 use Rattle.jxlm_base.specs.Bits.{bytes_of, position_of}
-use Rattle.jxlm_base.specs.Grid.{Grid}
 use Rattle.jxl_headers.specs.Images.{image_of}
 use Rattle.jxl_headers.specs.declared.size.Size.{Size}
-use Rattle.jxl_frames.specs.Frames.{frame_of}
+use Rattle.jxl_frames.specs.Frames.{frame_of, has_shifts}
 use Rattle.jxl_patches.specs.Dictionaries.{patches_of}
 use Rattle.jxl_patches.specs.SavedParts.{slots_of}
 use Rattle.jxl_patches.specs.Slots.{AreOfSize}
 use Rattle.jxl_picture.specs.Limits.{channel_count}
-use Rattle.jxl_lossless.proofs.Channels.{of_size}
+use Rattle.jxl_picture.specs.Pictures.{AreChannels}
+use Rattle.jxl_lossless.proofs.Channels.{are_channels, none_shifted, of_one_size, one_size}
+use Rattle.jxl_lossless.proofs.Holding.{hold_frames}
 use Rattle.jxl_lossless.proofs.Frames.{begins, made_fails}
 use Rattle.jxl_lossless.proofs.frame.decode_made.Goals as goal
 
@@ -35,10 +37,42 @@ returns-in_err-channels-clause-err g c =
     (subst (λ (b : List ℕ). CodedFails {S = ℤ} d w32 (λ (v : ℤ). v) (pos 0) image c.size-size.result frame.group_dim b q c.args.places e) bytes c.in_err-channels.ensures.err) in
     rw (p.1, p.2) (made_fails d image slots frame first c.args.places patches q stands e fails)
 
+pub put_patches-requires-clause-held : goal.put_patches-requires-clause-held
+put_patches-requires-clause-held g c =
+    let image = image_of c.args.image.now in
+    let slots = slots_of c.args.slots.now in
+    let count : c.len-extra.result ≡ length c.args.image.now.extra.items = c.len-extra.ensures ∙ c.args.image.now.extra.ok.0 in
+    let there : c.args.header.now.coding.flags.patches ≡ true = search rules in
+    let none = none_shifted c.args.header.now.coding.flags.patches (has_shifts image) there c.requires.plain in
+    rw (c.colours.ensures, count) (hold_frames image slots none c.requires.held)
+
 pub put_patches-requires-clause-sides : goal.put_patches-requires-clause-sides
 put_patches-requires-clause-sides g c =
     let image = image_of c.args.image.now in
     let size = c.size-size.result in
+    let items = c.in_ok-channels.channels.items in
     let count : c.len-extra.result ≡ length c.args.image.now.extra.items = c.len-extra.ensures ∙ c.args.image.now.extra.ok.0 in
-    let are : AreOfSize (channel_count image) size c.in_ok-channels.channels.items = of_size image size c.in_ok-channels.channels.items c.in_ok-channels.ensures.sides in
+    let there : c.args.header.now.coding.flags.patches ≡ true = search rules in
+    let none = none_shifted c.args.header.now.coding.flags.patches (has_shifts image) there c.requires.plain in
+    let are : AreOfSize (channel_count image) size items = one_size image size items none (are_channels image size items c.in_ok-channels.ensures.sides) in
     rw (c.colours.ensures, count, c.deref_mut.ensures.value) are
+
+pub returns-then-not-there-clause-sides : goal.returns-then-not-there-clause-sides
+returns-then-not-there-clause-sides g c =
+    let image = image_of c.args.image.now in
+    let items = c.in_ok-channels.channels.items in
+    subst (λ (z : Size). AreChannels image z items) c.size-size.ensures (are_channels image c.size-size.result items c.in_ok-channels.ensures.sides)
+
+pub returns-clause-sides : goal.returns-clause-sides
+returns-clause-sides g c =
+    let image = image_of c.args.image.now in
+    let size = c.size-size.result in
+    let items = c.in_ok-channels.channels.items in
+    let changed = c.put_patches.new.channels in
+    let count : c.len-extra.result ≡ length c.args.image.now.extra.items = c.len-extra.ensures ∙ c.args.image.now.extra.ok.0 in
+    let there : c.args.header.now.coding.flags.patches ≡ true = search rules in
+    let none = none_shifted c.args.header.now.coding.flags.patches (has_shifts image) there c.requires.plain in
+    let before = are_channels image size items c.in_ok-channels.ensures.sides in
+    let after : AreOfSize (channel_count image) size changed = rw (sym c.colours.ensures, sym count) c.put_patches.ensures.sides in
+    let long : length changed ≡ c.in_ok-channels.channels.len = after.count ∙ sym (c.in_ok-channels.channels.ok.0 ∙ before.count) in
+    rw (with_items_is c.in_ok-channels.channels changed long) (subst (λ (z : Size). AreChannels image z changed) c.size-size.ensures (of_one_size image size changed none after))

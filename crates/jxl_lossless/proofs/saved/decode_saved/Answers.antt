@@ -1,17 +1,14 @@
-use Rattle.std.proofs.Common.{◌≡◌, ◌∙◌, ◌+◌, ◌<◌, suc, ◌++◌, ◌∷◌, [], List, length, map, take, drop, get_or, ap, sym, subst, refl, arith}
+use Rattle.std.proofs.Common.{◌≡◌, ◌∙◌, ◌+◌, ◌<◌, suc, ◌++◌, ◌∷◌, [], List, length, map, take, drop, get_or, ap, sym, subst, arith}
 use Rattle.std.proofs.lemmas.List.{map_more}
 use Rattle.std.proofs.lemmas.Result.{err_from_is_err_and}
 use Rattle.jxl_headers.specs.Images.{image_of}
 use Rattle.jxl_headers.specs.declared.size.Size.{Size}
-use Rattle.jxl_frames.specs.Frames.{frame_of}
-use Rattle.jxl_picture.specs.Limits.{channel_count}
-use Rattle.jxl_front.specs.Fronts.{FrameAt}
 use Rattle.jxl_front.specs.FrontParts.{frame_at}
 use Rattle.jxl_front.specs.declared.frame.FrameFront.{FrameFront}
 use Rattle.jxl_patches.specs.SavedParts.{slots_of}
-use Rattle.jxl_patches.specs.Slots.{HoldFrames, Slots, no_slots, saved_in}
-use Rattle.jxl_patches.proofs.Holding.{hold_more}
-use Rattle.jxl_lossless.specs.Saved.{AreSaved}
+use Rattle.jxl_patches.specs.Slots.{Slots, no_slots, saved_in}
+use Rattle.jxl_lossless.specs.Saved.{HoldChannels}
+use Rattle.jxl_lossless.proofs.Holding.{hold_more}
 use Rattle.jxl_lossless.proofs.SavedFrames.{first_bad, saved_more, split_at}
 use Rattle.jxl_lossless.proofs.saved.decode_saved.Goals as goal
 
@@ -48,6 +45,6 @@ loop-frame-preserved g c =
     record {
       saved = rw longer (saved_more d c.args.bytes.now image (map frame_at (take k xs)) (frame_at f) no_slots slots (slots_of c.save.new.self) grids c.args.steps.now c.loop-frame.steps c.decode_channels.new.steps c.loop-frame.invariant.saved
           c.in_ok-channels.ensures.ok (put ∙ ap (λ (z : Size). saved_in slots slot z grids) c.size-size.ensures));
-      held = subst (λ (s : Slots). HoldFrames (channel_count image) s) (sym put)
-          (hold_more (channel_count image) slot slots c.size-size.result grids c.loop-frame.invariant.held (rw c.size-size.ensures c.in_ok-channels.ensures.sides));
+      held = subst (λ (s : Slots). HoldChannels image s) (sym put)
+          (hold_more image slot slots c.size-size.result grids c.loop-frame.invariant.held (rw c.size-size.ensures c.in_ok-channels.ensures.sides));
     }

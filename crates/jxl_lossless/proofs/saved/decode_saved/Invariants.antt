@@ -1,14 +1,13 @@
 use Rattle.std.proofs.Common.{map, take}
 use Rattle.jxl_headers.specs.Images.{image_of}
 use Rattle.jxl_front.specs.FrontParts.{frame_at}
-use Rattle.jxl_picture.specs.Limits.{channel_count}
-use Rattle.jxl_patches.specs.Slots.{HoldFrames, no_slots}
-use Rattle.jxl_lossless.specs.Saved.{AreSaved}
+use Rattle.jxl_patches.specs.Slots.{no_slots}
+use Rattle.jxl_lossless.specs.Saved.{AreSaved, HoldChannels}
 use Rattle.jxl_patches.specs.SavedParts.{slots_of}
 use Rattle.jxl_lossless.proofs.saved.decode_saved.Given as goal
 
 abbrev pub invariant-loop-frame : goal.invariant-loop-frame
 invariant-loop-frame g l = record {
   saved : AreSaved g.D.Decoder.meaning l.bytes (image_of l.front.image) (map frame_at (take l.frame-index l.front.saved.items)) no_slots (slots_of l.slots) l.fn.steps l.steps;
-  held : HoldFrames (channel_count (image_of l.front.image)) (slots_of l.slots);
+  held : HoldChannels (image_of l.front.image) (slots_of l.slots);
 }

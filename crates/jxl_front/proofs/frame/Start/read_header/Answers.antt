@@ -5,7 +5,7 @@ use Rattle.jxl_headers.specs.declared.size.Size.{Size}
 use Rattle.jxl_frames.specs.Frames.{frame_of}
 use Rattle.jxl_front.specs.Fronts.{AllowFrame}
 use Rattle.jxl_front.proofs.Dims.{dim_of}
-use Rattle.jxl_front.proofs.Fronts.{frame_fails, frame_refused, frames_too_large, goes_on, header_stands}
+use Rattle.jxl_front.proofs.Fronts.{frame_fails, frame_refused, frames_too_large, goes_on, header_stands, plain}
 use Rattle.jxl_front.proofs.frame.Start.read_header.Goals as goal
 
 pub returns-in-Some-clause-err : goal.returns-in-Some-clause-err
@@ -31,6 +31,10 @@ returns-then-allows-clause-ok g c =
 pub returns-then-allows-clause-dim : goal.returns-then-allows-clause-dim
 returns-then-allows-clause-dim g c =
     dim_of (image_of c.args.self.image.now) (bytes_of c.args.bits.now) (position_of c.args.bits.now) (frame_of c.in-Ok.frame) (position_of c.parse.new.bits) c.in-Ok.ensures.gives
+
+pub returns-then-allows-clause-plain : goal.returns-then-allows-clause-plain
+returns-then-allows-clause-plain g c =
+    plain (image_of c.args.self.image.now) (frame_of c.in-Ok.frame) (sym c.refused.ensures ∙ c.in-None.is)
 
 pub returns-else-allows-clause-err : goal.returns-else-allows-clause-err
 returns-else-allows-clause-err g c =

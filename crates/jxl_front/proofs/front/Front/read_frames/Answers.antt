@@ -5,7 +5,7 @@ use Rattle.jxl_headers.specs.Images.{image_of}
 use Rattle.jxl_frames.specs.Frames.{frame_of, is_saved}
 use Rattle.jxl_front.specs.Fronts.{AreBefore, end_of}
 use Rattle.jxl_front.specs.FrontParts.{IsReadyFrame, frame_at}
-use Rattle.jxl_front.proofs.Fronts.{before_more, covers}
+use Rattle.jxl_front.proofs.Fronts.{before_more, covers, low}
 use Rattle.jxl_front.proofs.front.Front.read_frames.Goals as goal
 
 pub loop-preserved : goal.loop-preserved
@@ -42,6 +42,7 @@ returns-then-not-is_saved-clause-ok g c =
       ready = record {
         deep = c.requires.allowed.deep;
         many = c.requires.allowed.most;
+        low = low image c.loop.invariant.before.begins.stands.supported;
         saved = c.loop.invariant.ready;
         shown = c.in_ok-frame.ensures.ready;
         covers = covers image image.size (frame_of f.header) stands.contents.stands.supported shown;

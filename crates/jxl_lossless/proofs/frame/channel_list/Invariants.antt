@@ -1,0 +1,6 @@
+use Rattle.std.proofs.Common.{◌≡◌, take}
+use Rattle.jxl_lossless.specs.Frames.{of_file}
+use Rattle.jxl_lossless.proofs.frame.channel_list.Given as goal
+
+abbrev pub invariant-loop-channel : goal.invariant-loop-channel
+invariant-loop-channel l = l.list.items ≡ of_file l.colours (take l.channel-index l.extra) l.size.width l.size.height
