@@ -6,7 +6,7 @@ ghost use Rattle.jxlm_base.specs.Grammar.{Reads};
 ghost use Rattle.jxl_headers.specs.Images.{image_of};
 ghost use Rattle.jxl_headers.specs.Reading.{Parses};
 ghost use Rattle.jxl_frames.specs.Passes.{IsPassCount};
-ghost use Rattle.jxl_frames.specs.Frames.{frame_of, is_modular as the_is_modular, extra_factors as the_extra_factors, scales as the_scales, modular_dim as the_modular_dim, group_dim as the_group_dim, closing, usual_closing, rest, usual_frame, described_frame, frame_header, factors_refusal as the_factors_refusal, has_floats as the_has_floats, form_refusal, use_refusal, frame_refusal, is_saved as the_is_saved, frame_size, has_shifts as the_has_shifts};
+ghost use Rattle.jxl_frames.specs.Frames.{frame_of, is_modular as the_is_modular, extra_factors as the_extra_factors, scales as the_scales, modular_dim as the_modular_dim, group_dim as the_group_dim, closing, usual_closing, rest, usual_frame, described_frame, frame_header, factors_refusal as the_factors_refusal, has_floats as the_has_floats, has_shifts as the_has_shifts, form_refusal, use_refusal, frame_refusal, is_saved as the_is_saved, frame_size};
 
 use crate::blending::{Blending, Ending};
 use crate::coding::{Coding, Encoding};

@@ -18,7 +18,7 @@ use Rattle.jxl_headers.specs.declared.refusal.Refusal.TheVariants as images
 use Rattle.jxl_headers.specs.declared.refusal.Refusal.{Refusal as ImageRefusal}
 use Rattle.jxl_headers.specs.declared.size.Size.{Size}
 use Rattle.jxl_frames.specs.Codings.{coding_refusal, colours_refusal, encoding_refusal, flags_refusal, type_refusal}
-use Rattle.jxl_frames.specs.Frames.{Frame, factors_refusal, form_refusal, frame_header, frame_refusal, frame_size, has_floats, is_saved, use_refusal, has_shifts}
+use Rattle.jxl_frames.specs.Frames.{Frame, factors_refusal, form_refusal, frame_header, frame_refusal, frame_size, has_floats, has_shifts, is_saved, use_refusal}
 use Rattle.jxl_frames.specs.Places.{is_reference, place_refusal, sides_in}
 use Rattle.jxl_frames.specs.declared.coding.FrameType.{FrameType}
 use Rattle.jxl_frames.specs.declared.place.Crop.{Crop}

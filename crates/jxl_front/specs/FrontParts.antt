@@ -30,8 +30,8 @@ pub record IsReadyFrame (bytes : List ℕ) (image : Image) (f : FrameFront) : Ty
   pub wide : (frame_size image.size (frame_of f.header)).width ≤ 2 ^ 30
   pub high : (frame_size image.size (frame_of f.header)).height ≤ 2 ^ 30
   pub dim : IsGroupDim f.header.group_dim
-  pub passes : IsPassCount f.header.passes.count
   pub plain : (f.header.coding.flags.patches && has_shifts image) ≡ false
+  pub passes : IsPassCount f.header.passes.count
   pub cut : parts_of f.layout ≡ layout_in image (frame_of f.header)
   pub count : length f.toc.entries.items ≡ section_count_of (layout_in image (frame_of f.header))
   pub within : list_all (is_within (length (drop f.start bytes))) f.toc.entries.items ≡ true

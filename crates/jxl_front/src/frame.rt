@@ -107,9 +107,9 @@ impl Start<'_> {
         ensures ok { IfOk result (λ f. FrameGoesOn D.meaning self.entry.limits.now self.entry.bytes.now
             (image_of self.entry.image.now) self.entry.start self.entry.used (frame_of f) (position_of bits.new)) }
         ensures dim { IfOk result (λ f. IsGroupDim f.group_dim) }
-        ensures counted { IfOk result (λ f. IsPassCount f.passes.count) }
         ensures plain { IfOk result (λ f. (f.coding.flags.patches && has_shifts (image_of self.entry.image.now))
             ≡ false) }
+        ensures counted { IfOk result (λ f. IsPassCount f.passes.count) }
         ensures err { IfErr result (FrontFails D.meaning self.entry.limits.now self.entry.bytes.now) }
         ensures bytes { bytes_of bits.new ≡ bytes_of bits.old }
     {

@@ -5,7 +5,7 @@ use Rattle.std.proofs.lemmas.List.Elements.{All-append, All-map}
 use Rattle.std.specs.List.{All}
 use Rattle.jxlm_base.specs.Grid.{Grid, filled}
 use Rattle.jxlm_base.specs.declared.subgrid.Region.{Region}
-use Rattle.jxlm_chain.specs.Layout.{HasBuffers, buffers_of, sides_of}
+use Rattle.jxlm_transform.specs.Layout.{HasBuffers, buffers_of, sides_of}
 use Rattle.jxlm_transform.specs.Steps.{HasNarrowTables, Sides, tables_of}
 use Rattle.jxlm_chain.specs.Placed.{sides_in}
 use Rattle.jxlm_chain.specs.Steps.{IsNarrowStore}

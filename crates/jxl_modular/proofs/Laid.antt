@@ -6,7 +6,7 @@ use Rattle.std.proofs.lemmas.List.{take-map}
 use Rattle.jxlm_base.specs.Grid.{Grid, meanings}
 use Rattle.jxlm_base.specs.Regions.{store_meanings, AllLie, LieApart}
 use Rattle.jxlm_base.specs.declared.subgrid.Region.{Region}
-use Rattle.jxlm_chain.specs.Layout.{Layout, first_layout, layout_after_all}
+use Rattle.jxlm_transform.specs.Layout.{Layout, first_layout, layout_after_all}
 use Rattle.jxlm_transform.specs.Steps.{tables_of}
 use Rattle.jxlm_chain.specs.Shape.{SameShape}
 use Rattle.jxlm_chain.specs.Steps.{CanUndoAll}

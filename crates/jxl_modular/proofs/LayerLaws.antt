@@ -13,7 +13,7 @@ use Rattle.jxlm_base.specs.Regions.{AllLie, LieApart, grids_in, store_meanings}
 use Rattle.jxlm_base.specs.declared.subgrid.Region.{Region}
 use Rattle.jxlm_chain.specs.Chain.{Chain, IsOnlyImage}
 use Rattle.jxlm_chain.specs.Lying.{HasTables, LieIn}
-use Rattle.jxlm_chain.specs.Layout.{Layout, layout_after, layout_after_all}
+use Rattle.jxlm_transform.specs.Layout.{Layout, layout_after, layout_after_all}
 use Rattle.jxlm_chain.specs.Shape.{SameShape}
 use Rattle.jxlm_chain.specs.Steps.{CanUndoAll, IsNarrowStore}
 use Rattle.jxlm_chain.specs.Undo.{Undo, UndoesAll, undo_of_all}
@@ -24,9 +24,9 @@ use Rattle.jxlm_chain.proofs.OneImage.{no_two_images}
 use Rattle.jxlm_chain.proofs.ShapeLaws.{all_lie_kept, narrow_kept, shape_all_undone, shape_kept, shape_same, tables_kept}
 use Rattle.jxlm_chain.proofs.Undone.{chain_of}
 use Rattle.jxlm_cut.specs.Parts.{HaveCell}
-use Rattle.jxlm_cut.specs.declared.pieces.Pieces.{Pieces}
+use Rattle.jxlm_transform.specs.declared.channels.PlacedChannel.{PlacedChannel}
 use Rattle.jxlm_cut.proofs.Outside.{all_inside, finish_outside, never_has, none_has}
-use Rattle.jxlm_transform.specs.Channels.{AreRegionsOf, ChannelList, HasSides}
+use Rattle.jxlm_transform.specs.Channels.{AreRegionsOf, ChannelList, HasSides, infos, regions}
 use Rattle.jxlm_transform.specs.ChannelSteps.{Step, RctStep, PaletteStep, SqueezeStep}
 use Rattle.jxlm_transform.specs.Steps.{tables_of}
 use Rattle.jxl_modular.specs.Inner.LayerCode.{IsLayer}
@@ -119,16 +119,16 @@ layout_count (SqueezeStep t ∷ ss) l = layout_count ss (layout_after (SqueezeSt
 
 -- ---- a header that is held, beside these buffers
 
-module _ {S D : Type 0} (n : NestedPart D) (given : Pieces) (tables : List (Grid S)) (is : IsLayer n given tables)
-    (store : List (Grid S)) (lie : AllLie given.regions.items (store ++ tables)) (count : n.placed.places.buffers ≡ length store + length tables) where
+module _ {S D : Type 0} (n : NestedPart D) (given : List PlacedChannel) (tables : List (Grid S)) (is : IsLayer n given tables)
+    (store : List (Grid S)) (lie : AllLie (regions given) (store ++ tables)) (count : n.placed.channels.buffers ≡ length store + length tables) where
   abbrev steps : List Step
   steps = steps_of_header n.header
 
   abbrev list : ChannelList
-  list = nested_list given.infos.items
+  list = nested_list (infos given)
 
   abbrev held : List Region
-  held = given.regions.items
+  held = (regions given)
 
   abbrev places : Layout
   places = nested_places held (is.base + is.outer)
@@ -227,12 +227,12 @@ module _ {S D : Type 0} (n : NestedPart D) (given : Pieces) (tables : List (Grid
       pub still_lie : AllLie held (left ++ right)
       still_lie = all_lie_kept whole (left ++ right) joined held lie
 
-      pub still_count : n.placed.places.buffers ≡ length left + length right
+      pub still_count : n.placed.channels.buffers ≡ length left + length right
       still_count = let s = decoded_right.count in omega (arith, count, even, s)
 
     -- a store of the same shape serves as well
     pub other_lie : (left : List (Grid S)) → SameShape store left → AllLie held (left ++ tables)
     other_lie left same = all_lie_kept whole (left ++ tables) (shape_joined store tables left tables same (shape_same tables)) held lie
 
-    pub other_count : (left : List (Grid S)) → SameShape store left → n.placed.places.buffers ≡ length left + length tables
+    pub other_count : (left : List (Grid S)) → SameShape store left → n.placed.channels.buffers ≡ length left + length tables
     other_count left same = let s = same.count in omega (arith, count, s)

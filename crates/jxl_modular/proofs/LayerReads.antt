@@ -7,13 +7,13 @@ use Rattle.jxlm_base.specs.Decoding.{Meaning}
 use Rattle.jxlm_base.specs.Grid.{Grid, filled, grid}
 use Rattle.jxlm_base.specs.Regions.{AllLie, Lies}
 use Rattle.jxlm_base.specs.declared.subgrid.Region.{Region}
-use Rattle.jxlm_chain.specs.Ends.{HasEnds}
+use Rattle.jxlm_transform.specs.Ends.{HasEnds}
 use Rattle.jxlm_chain.specs.Lying.{HasTables}
-use Rattle.jxlm_chain.specs.Layout.{Layout, layout_after_all}
+use Rattle.jxlm_transform.specs.Layout.{Layout, layout_after_all}
 use Rattle.jxlm_chain.specs.Placed.{IsPlacedBy, sides_in}
 use Rattle.jxlm_chain.specs.Steps.{IsNarrowStore}
-use Rattle.jxlm_cut.specs.declared.pieces.Pieces.{Pieces}
-use Rattle.jxlm_transform.specs.Channels.{Channel}
+use Rattle.jxlm_transform.specs.declared.channels.PlacedChannel.{PlacedChannel}
+use Rattle.jxlm_transform.specs.Channels.{Channel, infos, regions}
 use Rattle.jxlm_transform.specs.ChannelSteps.{Step}
 use Rattle.jxlm_transform.specs.Steps.{Sides, tables_of}
 use Rattle.jxlm_ma.specs.Tree.{Config}
@@ -38,9 +38,9 @@ lie_ends rs store lie narrow = λ k d lt.
     let rows = lies.rows in
     record { column = omega (arith, wide, columns); row = omega (arith, high, rows) }
 
-module _ {S D : Type 0} (d : Meaning D) (zero : S) (global : Option (Config D)) (bytes : List ℕ) (p q : ℕ) (n : NestedPart D) (pieces given : Pieces) (store outer tables : List (Grid S))
-    (infos : given.infos.items ≡ pieces.infos.items) (regions : given.regions.items ≡ pieces.regions.items) (can : CanNest pieces store outer) (buffers : ℕ) (count : buffers ≡ length store + length outer)
-    (is : IsNested d global bytes (nested_list pieces.infos.items) (nested_places pieces.regions.items buffers) p n q) (added : tables ≡ outer ++ zeros zero (sides_in n.placed.tables.items)) where
+module _ {S D : Type 0} (d : Meaning D) (zero : S) (global : Option (Config D)) (bytes : List ℕ) (p q : ℕ) (n : NestedPart D) (pieces given : List PlacedChannel) (store outer tables : List (Grid S))
+    (same_infos : infos given ≡ infos pieces) (same_regions : regions given ≡ regions pieces) (can : CanNest pieces store outer) (buffers : ℕ) (count : buffers ≡ length store + length outer)
+    (is : IsNested d global bytes (nested_list (infos pieces)) (nested_places (regions pieces) buffers) p n q) (added : tables ≡ outer ++ zeros zero (sides_in n.placed.tables.items)) where
   abbrev steps : List Step
   steps = steps_of_header n.header
 
@@ -50,10 +50,10 @@ module _ {S D : Type 0} (d : Meaning D) (zero : S) (global : Option (Config D)) 
   long : length tables ≡ length outer + length (tables_of steps)
   long = ap length read_tables ∙ length-append outer (zeros zero (tables_of steps)) ∙ ap (λ k. length outer + k) (length-map (tables_of steps) (λ (s : Sides). filled s.width s.height zero))
 
-  pub read_count : n.placed.places.buffers ≡ length store + length tables
+  pub read_count : n.placed.channels.buffers ≡ length store + length tables
   read_count =
-      let here : n.placed.places.buffers ≡ (layout_after_all steps (nested_places pieces.regions.items buffers)).buffers = ap (λ (l : Layout). l.buffers) is.placed.layout in
-      let more = layout_count steps (nested_places pieces.regions.items buffers) in
+      let here : n.placed.channels.buffers ≡ (layout_after_all steps (nested_places (regions pieces) buffers)).buffers = ap (λ (l : Layout). l.buffers) is.placed.layout in
+      let more = layout_count steps (nested_places (regions pieces) buffers) in
       let all = long in
       omega (arith, here, more, all, count)
 
@@ -62,27 +62,27 @@ module _ {S D : Type 0} (d : Meaning D) (zero : S) (global : Option (Config D)) 
     base = length store;
     outer = length outer;
     count = read_count;
-    opened = subst (λ (cs : List Channel). IsOpened (nested_list cs) (n.header, n.placed)) (sym infos) is.opened;
-    placed = subst (λ (rs : List Region). IsPlacedBy steps (nested_places rs (length store + length outer)) n.placed) (sym regions) (subst (λ k. IsPlacedBy steps (nested_places pieces.regions.items k) n.placed) count is.placed);
+    opened = subst (λ (cs : List Channel). IsOpened (nested_list cs) (n.header, n.placed)) (sym same_infos) is.opened;
+    placed = subst (λ (rs : List Region). IsPlacedBy steps (nested_places rs (length store + length outer)) n.placed) (sym same_regions) (subst (λ k. IsPlacedBy steps (nested_places (regions pieces) k) n.placed) count is.placed);
     own = subst (λ (ts : List (Grid S)). HasTables steps (length outer) ts) (sym read_tables) (tables_behind zero steps outer);
     narrow_tables = subst (λ (ts : List (Grid S)). IsNarrowStore ts) (sym read_tables)
         (All-append (λ (g : Grid S). (g.width ≤ 2 ^ 30) × (g.height ≤ 2 ^ 30)) outer (zeros zero (tables_of steps)) can.narrow_tables
         (All-map (λ (g : Grid S). (g.width ≤ 2 ^ 30) × (g.height ≤ 2 ^ 30)) (λ (s : Sides). filled s.width s.height zero) (tables_of steps) is.opened.tables));
-    sizes = rw (infos, regions) can.sizes;
-    taken = subst (λ (rs : List Region). All (λ r. r.buffer < length store + length outer) rs) (sym regions) (λ k e lt.
+    sizes = rw (same_infos, same_regions) can.sizes;
+    taken = subst (λ (rs : List Region). All (λ r. r.buffer < length store + length outer) rs) (sym same_regions) (λ k e lt.
         let there = (can.lie k e lt).there in
         let whole = length-append store outer in
         omega (arith, there, whole));
-    apart = rw regions can.apart;
+    apart = rw same_regions can.apart;
   }
 
-  pub read_lie : AllLie given.regions.items (store ++ tables)
+  pub read_lie : AllLie (regions given) (store ++ tables)
   read_lie =
       let same : (store ++ outer) ++ zeros zero (tables_of steps) ≡ store ++ tables = append_assoc store outer (zeros zero (tables_of steps)) ∙ ap (λ (ts : List (Grid S)). store ++ ts) (sym read_tables) in
-      subst (λ (rs : List Region). AllLie rs (store ++ tables)) (sym regions)
-      (λ k e lt. subst (Lies (get_or pieces.regions.items k e)) same (lies_more (store ++ outer) (zeros zero (tables_of steps)) (get_or pieces.regions.items k e) (can.lie k e lt)))
+      subst (λ (rs : List Region). AllLie rs (store ++ tables)) (sym same_regions)
+      (λ k e lt. subst (Lies (get_or (regions pieces) k e)) same (lies_more (store ++ outer) (zeros zero (tables_of steps)) (get_or (regions pieces) k e) (can.lie k e lt)))
 
-  pub read_regions : regions_in n ≡ nested_regions pieces.regions.items steps (store ++ outer)
+  pub read_regions : regions_in n ≡ nested_regions (regions pieces) steps (store ++ outer)
   read_regions =
       let there : buffers ≡ length (store ++ outer) = count ∙ sym (length-append store outer) in
-      ap (λ (l : Layout). l.regions) is.placed.layout ∙ ap (λ k. (layout_after_all steps (nested_places pieces.regions.items k)).regions) there
+      ap (λ (l : Layout). l.regions) is.placed.layout ∙ ap (λ k. (layout_after_all steps (nested_places (regions pieces) k)).regions) there

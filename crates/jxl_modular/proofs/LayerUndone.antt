@@ -12,7 +12,8 @@ use Rattle.jxlm_chain.specs.Steps.{IsNarrowStore}
 use Rattle.jxlm_chain.specs.Undo.{Undo, UndoesAll}
 use Rattle.jxlm_chain.specs.Undoings.{undos_of}
 use Rattle.jxlm_chain.proofs.ShapeLaws.{shape_all_undone, shape_same}
-use Rattle.jxlm_cut.specs.declared.pieces.Pieces.{Pieces}
+use Rattle.jxlm_transform.specs.Channels.{infos, regions}
+use Rattle.jxlm_transform.specs.declared.channels.PlacedChannel.{PlacedChannel}
 use Rattle.jxlm_transform.specs.Steps.{tables_of}
 use Rattle.jxl_modular.specs.Image.{Image}
 use Rattle.jxl_modular.specs.Inner.LayerCode.{IsLayer, layer_kept}
@@ -54,7 +55,7 @@ finish_shape to_int w depth us store tables new (Err e) undone same = subst (Sam
 
 -- ---- beside an image
 
-module _ {S D : Type 0} (n : NestedPart D) (given : Pieces) (tables : List (Grid S)) (is : IsLayer n given tables) (old new : Image S D) (stands : StandsIn (layer_kept n given tables) old) (narrow : IsNarrowStore old.store)
+module _ {S D : Type 0} (n : NestedPart D) (given : List PlacedChannel) (tables : List (Grid S)) (is : IsLayer n given tables) (old new : Image S D) (stands : StandsIn (layer_kept n given tables) old) (narrow : IsNarrowStore old.store)
     (to_int : S → ℤ) (w : Width) where
   abbrev Last : Type 0
   Last = (last : List (Grid S)) × UndoesAll to_int w old.bit_depth (undos_of n.placed.undoings.items) (old.store ++ tables) last × (new.store ≡ take (length old.store) last)
@@ -71,13 +72,13 @@ module _ {S D : Type 0} (n : NestedPart D) (given : Pieces) (tables : List (Grid
       let outer = length-take is.outer (drop k last) in
       let theirs = length-take (length tables - length (tables_of (steps_of_header n.header))) tables in
       let joined : new.store ++ take is.outer (drop k last) ≡ take (k + is.outer) last = ap (λ xs. xs ++ take is.outer (drop k last)) cut ∙ front_of k is.outer last in
-      let grids : grids_in given.regions.items (store_meanings to_int (new.store ++ take is.outer (drop k last))) ≡ grids_in given.regions.items (store_meanings to_int last) =
-      ap (λ (xs : List (Grid S)). grids_in given.regions.items (store_meanings to_int xs)) joined
-      ∙ grids_front to_int (k + is.outer) last given.regions.items (λ i d lt. let t = is.taken i d lt in omega (arith, t, base)) in
+      let grids : grids_in (regions given) (store_meanings to_int (new.store ++ take is.outer (drop k last))) ≡ grids_in (regions given) (store_meanings to_int last) =
+      ap (λ (xs : List (Grid S)). grids_in (regions given) (store_meanings to_int xs)) joined
+      ∙ grids_front to_int (k + is.outer) last (regions given) (λ i d lt. let t = is.taken i d lt in omega (arith, t, base)) in
       record {
         outer = take is.outer (drop k last);
         count = omega (arith, count, long, after, outer, theirs, tabled);
-        only = subst (λ gs. IsOnlyImage w old.bit_depth (steps_of_header n.header) (nested_list given.infos.items) gs (grids_in (regions_in n) (store_meanings to_int (old.store ++ tables)))) (sym grids)
+        only = subst (λ gs. IsOnlyImage w old.bit_depth (steps_of_header n.header) (nested_list (infos given)) gs (grids_in (regions_in n) (store_meanings to_int (old.store ++ tables)))) (sym grids)
             (held_only n given tables is old.store stands.lie stands.count narrow to_int w old.bit_depth last undone);
       }
 
@@ -85,9 +86,9 @@ module _ {S D : Type 0} (n : NestedPart D) (given : Pieces) (tables : List (Grid
   finish_only (Ok u) h = undone_is h
   finish_only (Err e) h = tt
 
-  pub finish_same : (r : Result (Unit {0}) Error) → SameButCells old new → OnOk r Last → OnOk r (SameButIn given.regions.items old new)
+  pub finish_same : (r : Result (Unit {0}) Error) → SameButCells old new → OnOk r Last → OnOk r (SameButIn (regions given) old new)
   finish_same (Ok u) cells (last, undone, cut) = record {
     cells = cells;
-    outside = subst (λ (xs : List (Grid S)). KeepsOutside given.regions.items old.store xs) (sym cut) (undone_outside n given tables is old.store stands.lie stands.count narrow to_int w old.bit_depth last undone);
+    outside = subst (λ (xs : List (Grid S)). KeepsOutside (regions given) old.store xs) (sym cut) (undone_outside n given tables is old.store stands.lie stands.count narrow to_int w old.bit_depth last undone);
   }
   finish_same (Err e) cells h = tt

@@ -6,7 +6,7 @@ use Rattle.jxlm_base.specs.Grid.{Grid, grid, IsFull}
 use Rattle.jxlm_base.specs.Regions.{region, grid_of, store_meanings, buffer_of}
 use Rattle.jxlm_base.specs.declared.subgrid.Region.{Region}
 use Rattle.jxlm_base.proofs.Regions.{grid_of_whole, IsFull-meanings}
-use Rattle.jxlm_chain.specs.Layout.{HasBuffers, sides_of, whole_regions, first_layout}
+use Rattle.jxlm_transform.specs.Layout.{HasBuffers, sides_of, whole_regions, first_layout}
 use Rattle.jxlm_transform.specs.Steps.{Sides}
 use Rattle.jxlm_transform.specs.Channels.{AreGridsOf, Channel}
 use Rattle.jxlm_part.specs.Progress.{grids_in}

@@ -14,7 +14,7 @@ use Rattle.jxlm_base.specs.Regions.{LieApart}
 use Rattle.jxlm_base.specs.declared.error.Error.{Error}
 use Rattle.jxlm_base.specs.declared.subgrid.Region.{Region}
 use Rattle.jxlm_base.proofs.Outside.{keeps_all}
-use Rattle.jxlm_chain.specs.Ends.{HasEnds}
+use Rattle.jxlm_transform.specs.Ends.{HasEnds}
 use Rattle.jxlm_chain.specs.Steps.{IsNarrowStore}
 use Rattle.jxlm_cut.specs.declared.part.SectionPart.{SectionPart}
 use Rattle.jxlm_cut.specs.declared.pass.Pass.{Pass}

@@ -16,7 +16,8 @@ use Rattle.jxlm_base.specs.declared.subgrid.Region.{Region}
 use Rattle.jxlm_base.proofs.Regions.{buffer_of-meanings}
 use Rattle.jxlm_chain.specs.Chain.{Chain}
 use Rattle.jxlm_chain.specs.Lying.{HasTables, LieIn}
-use Rattle.jxlm_chain.specs.Layout.{HasBuffers, Layout, layout_after_all}
+use Rattle.jxlm_transform.specs.Lists.{list_of}
+use Rattle.jxlm_transform.specs.Layout.{HasBuffers, Layout, layout_after_all}
 use Rattle.jxlm_chain.specs.Shape.{SameShape}
 use Rattle.jxlm_chain.specs.Steps.{CanUndoAll, IsNarrowStore}
 use Rattle.jxlm_chain.specs.Undo.{Undo, UndoesAll, undo_of_all}
@@ -166,7 +167,7 @@ module _ {S D : Type 0} (d : Meaning D) (w : Width) (to_int : S → ℤ) (zero :
     apart = apart;
   }
 
-  coded_lie : LieIn (n.placed.channels.info.items) (layout_after_all steps places) begun
+  coded_lie : LieIn ((list_of n.placed.channels).channels) (layout_after_all steps places) begun
   coded_lie = (lie_after_all steps list _ places begun is.opened.leaves is.opened.steps own_lie (tables_behind zero steps old)).0
 
   -- it can be decoded, and undone, in the store with its tables

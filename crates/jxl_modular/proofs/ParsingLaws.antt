@@ -1,13 +1,13 @@
 -- What reading an image returns, from what its steps return.
-use Rattle.std.proofs.Common.{◌≡◌, ℕ, zero, suc, false, ◌<◌, List, [], ◌∷◌, length, Ok, Err, refl, ap, ◌∙◌, arith}
+use Rattle.std.proofs.Common.{◌≡◌, ℕ, zero, suc, false, ◌<◌, List, [], ◌∷◌, length, Ok, Err, refl, arith}
 use Rattle.std.specs.Prelude.{◌⊎◌, ◌==◌, Option, Some, Result}
 use Rattle.std.specs.Option.{option_copied}
 use Rattle.jxlm_base.specs.Decoding.{Meaning}
 use Rattle.jxlm_base.specs.ErrorKind.{UnlessMemory, kind_of}
 use Rattle.jxlm_base.specs.Grammar.{IsErrorAt}
 use Rattle.jxlm_base.specs.declared.error.Error.{Error}
-use Rattle.jxlm_transform.specs.Channels.{Channel, ChannelList, image_list, list_of}
-use Rattle.jxlm_transform.specs.declared.channels.ModularChannels.{ModularChannels}
+use Rattle.jxlm_transform.specs.Channels.{ChannelList, image_list}
+use Rattle.jxlm_transform.specs.Lists.{list_of}
 use Rattle.jxlm_transform.specs.declared.param.ModularChannelParams.{ModularChannelParams}
 use Rattle.jxlm_transform.specs.declared.param.ModularParams.{ModularParams}
 use Rattle.jxlm_ma.specs.Tree.{Config}
@@ -25,12 +25,6 @@ pub not_zero : (n : ℕ) → (n == 0) ≡ false → 0 < n
 not_zero zero h = cc
 not_zero (suc n) h = omega arith
 
--- a copy of a list of given channels is that list
-pub same_list : (copied : List Channel) (l : ModularChannels) (ps : List ModularChannelParams) → copied ≡ l.info.items → list_of l ≡ image_list ps →
-    ◌≡◌ {A = ChannelList} (record { channels = copied; nb_meta = 0 }) (image_list ps)
-same_list copied l ps same is =
-    ap (λ (cs : List Channel). record { channels = cs; nb_meta = 0 }) same ∙ ap (λ (m : ChannelList). record { channels = m.channels; nb_meta = 0 }) is
-
 module _ {S D : Type 0} (d : Meaning D) (zero : S) (bytes : List ℕ) (p : ℕ) (params : ModularParams D) where
   abbrev given : ChannelList
   given = image_list params.channels.items
@@ -40,7 +34,7 @@ module _ {S D : Type 0} (d : Meaning D) (zero : S) (bytes : List ℕ) (p : ℕ) 
 
   module _ (o : ModularHeader × PlacedChannels) (m : ℕ) (opens : opened global bytes given p ≡ Ok (record { value = opened_of o; position = m })) where
     abbrev TreeGives : Result (Config D) Error → ℕ → Type 0
-    TreeGives result q = TreeOfGives d global bytes o.0.use_global_tree o.1.channels.info.items m result q
+    TreeGives result q = TreeOfGives d global bytes o.0.use_global_tree (list_of o.1.channels).channels m result q
 
     -- an image of the header's tree
     pub image_stands : (config : Config D) (q : ℕ) (image : Image S D) → TreeGives (Ok config) q →

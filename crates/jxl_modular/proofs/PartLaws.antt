@@ -1,7 +1,7 @@
 -- The first coded channels of an image, as a part.
 use Rattle.std.proofs.Common.{◌≡◌, ℕ, ◌+◌, ◌*◌, List, length, Bool, Result, ap, ◌∙◌, subst, arith, ℤ}
 use Rattle.std.proofs.Math.Nat.{mul-le-mul_left}
-use Rattle.std.proofs.lemmas.List.{length-take, take_all}
+use Rattle.std.proofs.lemmas.List.{length-map, length-take, take_all}
 use Rattle.std.proofs.lemmas.List.Elements.{All-take}
 use Rattle.std.specs.Int.{Width}
 use Rattle.jxlm_base.specs.Decoding.{Meaning}
@@ -9,7 +9,7 @@ use Rattle.jxlm_base.specs.Regions.{AreApart, Lies}
 use Rattle.jxlm_base.specs.declared.error.Error.{Error}
 use Rattle.jxlm_base.specs.declared.subgrid.Region.{Region}
 use Rattle.jxlm_chain.proofs.ListsApart.{pairs_take, zip_take}
-use Rattle.jxlm_transform.specs.Channels.{Channel, IsNarrow}
+use Rattle.jxlm_transform.specs.Channels.{Channel, IsNarrow, infos, regions}
 use Rattle.jxlm_ma.specs.Steps.{most_steps}
 use Rattle.jxlm_ma.specs.Tree.{Shape, depth}
 use Rattle.jxlm_ma.specs.declared.flat.Leaf.{Leaf}
@@ -37,14 +37,15 @@ part_with channels weights tree stream = record { channels = channels; weights =
 
 module _ {S D : Type 0} (x : Image S D) (laid : IsLaidOut x) where
   -- the first coded channels lie in the image's store
-  pub front_lies : (n : ℕ) (p : PlacedPart D) → p.channels.now ≡ front_channels n x → p.regions.now ≡ front_regions n x → p.weights ≡ x.weights → PartLies p x.store
-  front_lies n p channels regions weights = record {
-    sizes = rw (channels, regions) (zip_take _ n x.channels x.coded (coded_sizes x laid));
+  pub front_lies : (n : ℕ) (p : PlacedPart D) → infos p.channels.now ≡ front_channels n x → regions p.channels.now ≡ front_regions n x → p.weights ≡ x.weights → PartLies p x.store
+  front_lies n p channels lie weights = record {
+    sizes = rw (channels, lie) (zip_take _ n x.channels x.coded (coded_sizes x laid));
     narrow = rw channels (All-take IsNarrow n x.channels laid.narrow);
-    few = rw channels (let l = length-take n x.channels in let f = laid.few in omega (arith, l, f));
+    few = let many : length (infos p.channels.now) ≡ length p.channels.now = length-map p.channels.now (λ c. c.info) in
+        let l = length-take n x.channels in let f = laid.few in omega (arith, l, f, many, ap (λ cs. length cs) channels);
     weights = rw weights laid.weights;
-    lie = rw regions (All-take (λ r. Lies r x.store) n x.coded (coded_lie x laid));
-    apart = rw regions (pairs_take AreApart n x.coded (coded_apart x laid));
+    lie = rw lie (All-take (λ r. Lies r x.store) n x.coded (coded_lie x laid));
+    apart = rw lie (pairs_take AreApart n x.coded (coded_apart x laid));
   }
 
   -- as many as there are coded channels are all of them

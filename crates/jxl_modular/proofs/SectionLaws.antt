@@ -17,7 +17,7 @@ use Rattle.jxlm_base.specs.declared.decoder.DecoderError.TheVariants.{Unexpected
 use Rattle.jxlm_base.proofs.GridLaws.{grid_by_same}
 use Rattle.jxlm_base.proofs.Outside.{all_lie_still}
 use Rattle.jxlm_base.proofs.Regions.{at-grid_of}
-use Rattle.jxlm_chain.specs.Layout.{no_region}
+use Rattle.jxlm_transform.specs.Layout.{no_region}
 use Rattle.jxlm_transform.specs.Channels.{AreRegionsOf}
 use Rattle.jxlm_cut.specs.Pieces.{in_store, within}
 use Rattle.jxlm_cut.specs.declared.part.SectionPart.{SectionPart}

@@ -2,7 +2,7 @@
 use Rattle.std.proofs.Common.{List, [], ◌∷◌, Some}
 use Rattle.std.specs.List.{All}
 use Rattle.std.proofs.lemmas.List.Elements.{All-append, All-cons, All-head, All-map, All-nil, All-tail}
-use Rattle.jxlm_chain.specs.Layout.{Layout, layout_after}
+use Rattle.jxlm_transform.specs.Layout.{Layout, layout_after}
 use Rattle.jxlm_transform.specs.Steps.{HasWeights}
 use Rattle.jxlm_chain.specs.Undo.{UndoSqueeze, undo_of, undo_of_all}
 use Rattle.jxlm_chain.specs.Undoings.{SuitsWeights}

@@ -2,7 +2,7 @@
 use Rattle.std.proofs.Common.{◌≡◌, ℕ, ◌++◌, List, length, take, drop, sym, subst, ℤ}
 use Rattle.std.specs.Int.{Width}
 use Rattle.jxlm_base.specs.Grid.{Grid}
-use Rattle.jxlm_chain.specs.Layout.{first_layout}
+use Rattle.jxlm_transform.specs.Layout.{first_layout}
 use Rattle.jxlm_chain.specs.Shape.{SameShape}
 use Rattle.jxlm_chain.specs.Undo.{Undo, UndoesAll, undo_of_all}
 use Rattle.jxlm_chain.proofs.ShapeLaws.{shape_all_undone}

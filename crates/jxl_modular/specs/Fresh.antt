@@ -1,6 +1,6 @@
 -- An image before any of its samples is decoded.
 use Rattle.std.specs.Prelude.{ℕ}
-use Rattle.jxlm_chain.specs.Layout.{buffers_of, first_layout, layout_after_all}
+use Rattle.jxlm_transform.specs.Layout.{buffers_of, first_layout, layout_after_all}
 use Rattle.jxlm_ma.specs.Tree.{Config}
 use Rattle.jxlm_transform.specs.Channels.{ChannelList}
 use Rattle.jxl_modular.specs.Image.{Image}

@@ -12,8 +12,7 @@ use Rattle.jxlm_tree.specs.declared.predictor.WpHeader.{WpHeader}
 use Rattle.jxlm_part.specs.Part.{Part}
 use Rattle.jxlm_part.specs.Progress.{grids_in}
 
--- what its header says (a palette, a squeeze, weights), the steps of its transforms, its tree, the side of its groups, its
--- bit depth, its own channels, the coded ones, how many of them are meta, its buffers, and the coded channels' regions there
+-- what was read, its own channels, the coded ones, of which the first are meta channels, its buffers, and where those lie
 pub record Image (S D : Type 0) : Type 0 where
   pub has_palette : Bool
   pub has_squeeze : Bool

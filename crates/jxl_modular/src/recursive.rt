@@ -13,11 +13,11 @@ use jxlm_base::decoder::Decoder;
 use jxlm_base::error::Result;
 use jxlm_base::grid::AlignedGrid;
 use jxlm_base::sample::Sample;
-use jxlm_cut::pieces::Pieces;
 use jxlm_ma::flat::Steps;
 use jxlm_ma::ma::MaConfig;
 use jxlm_nested::nested::NestedPart;
 use jxlm_part::channels::have_samples;
+use jxlm_transform::channels::PlacedChannel;
 use std::alloc::Global;
 use std::marker::Model;
 
@@ -26,8 +26,8 @@ use std::marker::Model;
 #[derive(Drop)]
 pub struct NestedHeader<S, D: Decoder> {
     pub(crate) part: NestedPart<D>,
-    // The channels of the part that the header is for, and their regions.
-    pub(crate) given: Pieces,
+    // The channels of the part that the header is for, and where they lie.
+    pub(crate) given: Vec<PlacedChannel>,
     // Those of headers around it, and then its own.
     pub(crate) tables: Vec<AlignedGrid<S>>,
 }
@@ -51,9 +51,9 @@ impl<S, D: Decoder> Model for NestedHeader<S, D> {
         squeezes.the_row.coded) (coded_config leaves.the_row.coded D.code) infos.the_row.coded regions.the_row.coded
         S.code };
 
-    ghost view = { λ n. layer_kept n.part n.given n.tables.items };
+    ghost view = { λ n. layer_kept n.part n.given.items n.tables.items };
 
-    ghost invariant = { λ n. IsLayer n.part n.given n.tables.items };
+    ghost invariant = { λ n. IsLayer n.part n.given.items n.tables.items };
 }
 
 /// What holds a part's own header.
@@ -84,7 +84,7 @@ impl<S: Sample, D: Decoder> NestedHeader<S, D> {
     pub(crate) fn has_samples(&self) -> bool
         ensures { IsTrue result ↔ (0 < cell_count (coded_channels self.now)) }
     {
-        have_samples(&self.part.placed.channels.info)
+        have_samples(&self.part.placed.channels.placed)
     }
 }
 

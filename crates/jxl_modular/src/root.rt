@@ -16,7 +16,7 @@ use jxlm_base::error::Result;
 use jxlm_base::sample::Sample;
 use jxlm_chain::placed::PlacedChannels;
 use jxlm_nested::opening::{open, tree_of};
-use jxlm_transform::channels::ModularChannels;
+use jxlm_transform::channels::image_channels;
 use jxlm_transform::param::ModularParams;
 use std::alloc::Global;
 
@@ -80,10 +80,10 @@ impl<S: Sample, D: Decoder> Modular<S, D> {
             return Ok(Modular::empty());
         }
         let global = params.ma_config;
-        let given = ModularChannels::new(alloc, &params.channels)?;
-        let start = PlacedChannels::whole(alloc, &given.info)?;
+        let given = image_channels(alloc, &params.channels)?;
+        let start = PlacedChannels::whole(alloc, &given)?;
         let (header, placed) = open(alloc, bits, start, global.is_some())?;
-        let ma_ctx = tree_of(alloc, bits, &header, &placed.channels.info, global)?;
+        let ma_ctx = tree_of(alloc, bits, &header, &placed.channels.placed, global)?;
         let image = ModularImageDestination::new(
             alloc,
             header,

@@ -15,15 +15,16 @@ use Rattle.jxlm_transform.specs.Palette.{PaletteLies}
 use Rattle.jxlm_transform.specs.Recoloured.{HaveOneSize}
 use Rattle.jxlm_transform.specs.declared.transform.Palette.{Palette}
 use Rattle.jxlm_transform.specs.declared.transform.Rct.{Rct}
-use Rattle.jxlm_chain.specs.Layout.{Layout, layout_after, no_region}
+use Rattle.jxlm_transform.specs.Layout.{Layout, layout_after, no_region}
 use Rattle.jxlm_chain.specs.Lying.{HasTables, LieIn}
 use Rattle.jxlm_chain.specs.Steps.{CanUndo, CanUndoAll}
 use Rattle.jxlm_transform.specs.Steps.{HasChannels}
 use Rattle.jxlm_chain.specs.Undo.{UndoRct, UndoPalette, UndoSqueeze, undo_of, undo_of_all}
 use Rattle.jxlm_chain.proofs.LayoutLaws.{HasSize, lie_after, table_lies, tables_fit}
 use Rattle.jxlm_chain.proofs.ListsApart.{zip_at, zip_length}
-use Rattle.jxlm_chain.proofs.StepFacts.{both_of, PaletteApplies, RctApplies, first_step, palette_applies, rct_applies}
-use Rattle.jxlm_chain.proofs.StepParts.{all_range, pairs_range, zip_range}
+use Rattle.jxlm_transform.proofs.StepFacts.{both_of, PaletteApplies, RctApplies, first_step, palette_applies, rct_applies}
+use Rattle.jxlm_transform.proofs.RangeParts.{all_range}
+use Rattle.jxlm_chain.proofs.StepParts.{pairs_range, zip_range}
 
 -- ---- a range
 

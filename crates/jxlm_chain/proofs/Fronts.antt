@@ -5,22 +5,22 @@ use Rattle.std.proofs.lemmas.Bool.{le-ltb}
 use Rattle.std.proofs.lemmas.List.{take-append-le, drop-append-le, length-append, length-map, length-take, length-drop, take_all, drop_all, append-nil, take_more, map-append}
 use Rattle.jxlm_base.specs.ErrorKind.{ErrorKind, BadSqueeze}
 use Rattle.jxlm_base.specs.declared.subgrid.Region.{Region}
-use Rattle.jxlm_transform.specs.Channels.{Channel, ChannelList, HasItsMeta, list_of}
+use Rattle.jxlm_transform.specs.Channels.{Channel, ChannelList, HasItsMeta}
+use Rattle.jxlm_transform.specs.Lists.{list_of, layout_of}
 use Rattle.jxlm_transform.specs.ChannelSteps.{Step, SqueezeStep, average_channel, residual_channel, can_be_squeezed, list_after, range, squeeze_range, squeeze_step, with_halves, with_each_halved}
 use Rattle.jxlm_transform.specs.SqueezedRegions.{average_region, residual_region}
 use Rattle.jxlm_transform.specs.Steps.{Sides, tables_of}
 use Rattle.jxlm_transform.specs.declared.transform.SqueezeParams.{SqueezeParams}
 use Rattle.jxlm_chain.specs.Inner.Fronts.{AppendsLast, FrontGoesOn, IsFrontOf, KeepsRest, is_within, layout_with, list_with, meta_after, suits_meta}
-use Rattle.jxlm_chain.specs.Layout.{Layout, layout_after, layout_after_all}
+use Rattle.jxlm_transform.specs.Layout.{Layout, layout_after, layout_after_all}
 use Rattle.jxlm_chain.specs.Placed.{GoesOn, IsPlaced, sides_in}
-use Rattle.jxlm_chain.specs.Places.{layout_of}
 use Rattle.jxlm_chain.specs.Undo.{Undo, UndoSqueeze, undo_of_all}
 use Rattle.jxlm_chain.specs.Undoings.{undos_of}
 use Rattle.jxlm_chain.specs.declared.front.Front.{Front}
 use Rattle.jxlm_chain.specs.declared.placed.PlacedChannels.{PlacedChannels}
 use Rattle.jxlm_chain.proofs.ListLaws.{length-range}
-use Rattle.jxlm_chain.proofs.PlacedSteps.{undos_both, layout_both}
-use Rattle.jxlm_chain.proofs.StepFacts.{chosen, squeeze_applies}
+use Rattle.jxlm_chain.proofs.PlacedSteps.{even_of, undos_both, layout_both}
+use Rattle.jxlm_transform.proofs.StepFacts.{chosen, squeeze_applies}
 
 module _ {X : Type 0} where
   -- a range of the front
@@ -156,49 +156,46 @@ meta_fails t f tl m le unsuited =
 
 -- the list before a front settles
 pub record Between (t : SqueezeParams) (p q : PlacedChannels) : Type 0 where
-  pub info : q.channels.info.items ≡ p.channels.info.items
+  pub info : (list_of q.channels).channels ≡ (list_of p.channels).channels
   pub meta : q.channels.nb_meta_channels ≡ meta_after p.channels.nb_meta_channels t
-  pub places : layout_of q.places ≡ layout_of p.places
+  pub places : layout_of q.channels ≡ layout_of p.channels
   pub rest : KeepsRest p q
 
 -- where both halves lie in the front
 pub went_inside : (t : SqueezeParams) (f g : Front) (p q : PlacedChannels) → IsFrontOf p f → is_within f.count t ≡ true → t.in_place ≡ true → g.count ≡ f.count →
     list_after (SqueezeStep t) (list_of f.placed.channels) ≡ Ok (list_of g.placed.channels) → GoesOn (SqueezeStep t ∷ []) f.placed g.placed → Between t p q → FrontGoesOn (SqueezeStep t ∷ []) f p g q
 went_inside t f g p q is within inside count e goes rest =
-    let fs : List Channel = f.placed.channels.info.items in
-    let rs : List Region = f.placed.places.regions.items in
+    let fs : List Channel = (list_of f.placed.channels).channels in
+    let rs : List Region = (layout_of f.placed.channels).regions in
     let applies = squeeze_applies t (list_of f.placed.channels) (list_of g.placed.channels) e in
     let le = applies.there in
-    let f_even = is.placed.even in
+    let f_even = even_of f.placed.channels in
     let le_regions : t.begin_c + t.num_c ≤ length rs = omega (arith, le, f_even) in
     let g_list = sym applies.after_it in
-    let g_regions : g.placed.places.regions.items ≡ with_each_halved t (average_region t.horizontal) (residual_region t.horizontal) rs = ap (λ (l : Layout). l.regions) goes.layout in
-    let longer : length g.placed.channels.info.items ≡ length fs + t.num_c = ap length g_list ∙ length_halved t (average_channel t.horizontal) (residual_channel t.horizontal) fs le in
+    let g_regions : (layout_of g.placed.channels).regions ≡ with_each_halved t (average_region t.horizontal) (residual_region t.horizontal) rs = ap (λ (l : Layout). l.regions) goes.layout in
+    let longer : length (list_of g.placed.channels).channels ≡ length fs + t.num_c = ap length g_list ∙ length_halved t (average_channel t.horizontal) (residual_channel t.horizontal) fs le in
     let long = is.long in
     let none = none_after t f.placed.channels.nb_meta_channels g.placed.channels.nb_meta_channels is.none (squeezed_meta t (list_of f.placed.channels) (list_of g.placed.channels) e) in
-    let q_regions : q.places.regions.items ≡ p.places.regions.items = ap (λ (l : Layout). l.regions) rest.places in
-    let q_buffers : q.places.buffers ≡ p.places.buffers = ap (λ (l : Layout). l.buffers) rest.places in
-    let tail : List Channel = drop f.count p.channels.info.items in
-    let all : length (g.placed.channels.info.items ++ drop g.count q.channels.info.items) ≡ length (fs ++ tail) + t.num_c =
-    rw (count, rest.info) (let a = length-append g.placed.channels.info.items tail in let b = length-append fs tail in omega (arith, a, b, longer)) in
+    let q_regions : (layout_of q.channels).regions ≡ (layout_of p.channels).regions = ap (λ (l : Layout). l.regions) rest.places in
+    let q_buffers : q.channels.buffers ≡ p.channels.buffers = ap (λ (l : Layout). l.buffers) rest.places in
+    let tail : List Channel = drop f.count (list_of p.channels).channels in
+    let all : length ((list_of g.placed.channels).channels ++ drop g.count (list_of q.channels).channels) ≡ length (fs ++ tail) + t.num_c =
+    rw (count, rest.info) (let a = length-append (list_of g.placed.channels).channels tail in let b = length-append fs tail in omega (arith, a, b, longer)) in
     let old_meta = is.meta in
     let grows = meta_grows p.channels.nb_meta_channels t in
     let meta = rest.meta in
-    let even = is.even in
-    let q_even : length q.places.regions.items ≡ length q.channels.info.items = ap length q_regions ∙ even ∙ sym (ap length rest.info) in
     let there = is.within in
-    let q_long : length q.channels.info.items ≡ length p.channels.info.items = ap length rest.info in
+    let q_long : length (list_of q.channels).channels ≡ length (list_of p.channels).channels = ap length rest.info in
     record {
       stands = record {
         placed = goes.placed;
         none = none;
         long = omega (arith, long, longer, count);
-        even = q_even;
         within = omega (arith, there, q_long, count);
         meta = omega (arith, all, old_meta, grows, meta);
       };
-      undos = goes.undos ∙ ap (λ (xs : List Region). undos_of f.placed.undoings.items ++ (map (UndoSqueeze t.horizontal) xs ++ [])) (sym (front_range t.begin_c t.num_c rs (drop f.count p.places.regions.items) le_regions));
-      layout = rw (count, q_regions, q_buffers, g_regions, inside_front t (average_region t.horizontal) (residual_region t.horizontal) rs (drop f.count p.places.regions.items) inside le_regions) refl;
+      undos = goes.undos ∙ ap (λ (xs : List Region). undos_of f.placed.undoings.items ++ (map (UndoSqueeze t.horizontal) xs ++ [])) (sym (front_range t.begin_c t.num_c rs (drop f.count (layout_of p.channels).regions) le_regions));
+      layout = rw (count, q_regions, q_buffers, g_regions, inside_front t (average_region t.horizontal) (residual_region t.horizontal) rs (drop f.count (layout_of p.channels).regions) inside le_regions) refl;
       rest = rest.rest;
       count = count;
     }
@@ -207,62 +204,58 @@ went_inside t f g p q is within inside count e goes rest =
 pub went_to_end : (t : SqueezeParams) (f mf g : Front) (p mp q : PlacedChannels) → IsFrontOf p f → t.in_place ≡ false → mf.count ≡ f.count →
     list_after (SqueezeStep t) (list_of f.placed.channels) ≡ Ok (list_of mf.placed.channels) → GoesOn (SqueezeStep t ∷ []) f.placed mf.placed → Between t p mp → AppendsLast t.num_c mf mp g q → FrontGoesOn (SqueezeStep t ∷ []) f p g q
 went_to_end t f mf g p mp q is at_end count e goes between last =
-    let fs : List Channel = f.placed.channels.info.items in
-    let rs : List Region = f.placed.places.regions.items in
-    let new : List Channel = mf.placed.channels.info.items in
-    let new_r : List Region = mf.placed.places.regions.items in
+    let fs : List Channel = (list_of f.placed.channels).channels in
+    let rs : List Region = (layout_of f.placed.channels).regions in
+    let new : List Channel = (list_of mf.placed.channels).channels in
+    let new_r : List Region = (layout_of mf.placed.channels).regions in
     let k : ℕ = length new - t.num_c in
     let applies = squeeze_applies t (list_of f.placed.channels) (list_of mf.placed.channels) e in
     let le = applies.there in
-    let f_even = is.placed.even in
+    let f_even = even_of f.placed.channels in
     let le_regions : t.begin_c + t.num_c ≤ length rs = omega (arith, le, f_even) in
     let m_list = sym applies.after_it in
     let m_regions : new_r ≡ with_each_halved t (average_region t.horizontal) (residual_region t.horizontal) rs = ap (λ (l : Layout). l.regions) goes.layout in
     let longer : length new ≡ length fs + t.num_c = ap length m_list ∙ length_halved t (average_channel t.horizontal) (residual_channel t.horizontal) fs le in
-    let m_even : length new_r ≡ length new = goes.placed.even in
-    let g_list : g.placed.channels.info.items ≡ take k new = ap (λ (l : ChannelList). l.channels) last.kept in
-    let g_regions : g.placed.places.regions.items ≡ take k new_r = ap (λ (l : Layout). l.regions) last.kept_regions in
-    let g_buffers : g.placed.places.buffers ≡ mf.placed.places.buffers = ap (λ (l : Layout). l.buffers) last.kept_regions in
+    let m_even : length new_r ≡ length new = even_of mf.placed.channels in
+    let g_list : (list_of g.placed.channels).channels ≡ take k new = ap (λ (l : ChannelList). l.channels) last.kept in
+    let g_regions : (layout_of g.placed.channels).regions ≡ take k new_r = ap (λ (l : Layout). l.regions) last.kept_regions in
+    let g_buffers : g.placed.channels.buffers ≡ mf.placed.channels.buffers = ap (λ (l : Layout). l.buffers) last.kept_regions in
     let g_count : g.count ≡ f.count = last.count ∙ count in
-    let q_list : q.channels.info.items ≡ p.channels.info.items ++ drop k new = ap (λ (l : ChannelList). l.channels) last.list ∙ ap (λ (cs : List Channel). cs ++ drop k new) between.info in
+    let q_list : (list_of q.channels).channels ≡ (list_of p.channels).channels ++ drop k new = ap (λ (l : ChannelList). l.channels) last.list ∙ ap (λ (cs : List Channel). cs ++ drop k new) between.info in
     let q_meta : q.channels.nb_meta_channels ≡ meta_after p.channels.nb_meta_channels t = ap (λ (l : ChannelList). l.nb_meta) last.list ∙ between.meta in
-    let q_regions : q.places.regions.items ≡ p.places.regions.items ++ drop k new_r = ap (λ (l : Layout). l.regions) last.layout ∙ ap (λ (l : Layout). l.regions ++ drop k new_r) between.places in
-    let q_buffers : q.places.buffers ≡ p.places.buffers = ap (λ (l : Layout). l.buffers) last.layout ∙ ap (λ (l : Layout). l.buffers) between.places in
+    let q_regions : (layout_of q.channels).regions ≡ (layout_of p.channels).regions ++ drop k new_r = ap (λ (l : Layout). l.regions) last.layout ∙ ap (λ (l : Layout). l.regions ++ drop k new_r) between.places in
+    let q_buffers : q.channels.buffers ≡ p.channels.buffers = ap (λ (l : Layout). l.buffers) last.layout ∙ ap (λ (l : Layout). l.buffers) between.places in
     let there = is.within in
-    let even = is.even in
-    let tail : List Channel = drop f.count p.channels.info.items in
-    let all : g.placed.channels.info.items ++ drop g.count q.channels.info.items ≡ with_each_halved t (average_channel t.horizontal) (residual_channel t.horizontal) (fs ++ tail) =
+    let even = even_of p.channels in
+    let tail : List Channel = drop f.count (list_of p.channels).channels in
+    let all : (list_of g.placed.channels).channels ++ drop g.count (list_of q.channels).channels ≡ with_each_halved t (average_channel t.horizontal) (residual_channel t.horizontal) (fs ++ tail) =
     rw (g_list, g_count, q_list)
-    (end_front t (average_channel t.horizontal) (residual_channel t.horizontal) fs new p.channels.info.items k f.count at_end le there m_list (omega (arith, longer))) in
-    let all_regions : g.placed.places.regions.items ++ drop g.count q.places.regions.items ≡ with_each_halved t (average_region t.horizontal) (residual_region t.horizontal) (rs ++ drop f.count p.places.regions.items) =
+    (end_front t (average_channel t.horizontal) (residual_channel t.horizontal) fs new (list_of p.channels).channels k f.count at_end le there m_list (omega (arith, longer))) in
+    let all_regions : (layout_of g.placed.channels).regions ++ drop g.count (layout_of q.channels).regions ≡ with_each_halved t (average_region t.horizontal) (residual_region t.horizontal) (rs ++ drop f.count (layout_of p.channels).regions) =
     rw (g_regions, g_count, q_regions)
-    (end_front t (average_region t.horizontal) (residual_region t.horizontal) rs new_r p.places.regions.items k f.count at_end le_regions (omega (arith, there, even)) m_regions (omega (arith, longer, m_even))) in
+    (end_front t (average_region t.horizontal) (residual_region t.horizontal) rs new_r (layout_of p.channels).regions k f.count at_end le_regions (omega (arith, there, even)) m_regions (omega (arith, longer, m_even))) in
     let both = length-append fs tail in
     let all_long = ap length all ∙ length_halved t (average_channel t.horizontal) (residual_channel t.horizontal) (fs ++ tail) (omega (arith, le, both)) in
     let long = is.long in
     let none : g.placed.channels.nb_meta_channels ≡ 0 =
     ap (λ (l : ChannelList). l.nb_meta) last.kept ∙ none_after t f.placed.channels.nb_meta_channels mf.placed.channels.nb_meta_channels is.none (squeezed_meta t (list_of f.placed.channels) (list_of mf.placed.channels) e) in
-    let g_long : length g.placed.channels.info.items ≡ length fs = ap length g_list ∙ (let l = length-take k new in omega (arith, l, longer)) in
-    let g_long_regions : length g.placed.places.regions.items ≡ length fs = ap length g_regions ∙ (let l = length-take k new_r in omega (arith, l, longer, m_even)) in
+    let g_long : length (list_of g.placed.channels).channels ≡ length fs = ap length g_list ∙ (let l = length-take k new in omega (arith, l, longer)) in
     let m_room = goes.placed.room in
     let g_tables : length g.placed.tables.items ≡ length mf.placed.tables.items = ap (λ v. length v.items) last.front_rest.tables in
-    let q_long : length q.channels.info.items ≡ length p.channels.info.items + t.num_c =
-    ap length q_list ∙ (let a = length-append p.channels.info.items (drop k new) in let d = length-drop k new in omega (arith, a, d, longer)) in
-    let q_long_regions : length q.places.regions.items ≡ length p.places.regions.items + t.num_c =
-    ap length q_regions ∙ (let a = length-append p.places.regions.items (drop k new_r) in let d = length-drop k new_r in omega (arith, a, d, longer, m_even)) in
+    let q_long : length (list_of q.channels).channels ≡ length (list_of p.channels).channels + t.num_c =
+    ap length q_list ∙ (let a = length-append (list_of p.channels).channels (drop k new) in let d = length-drop k new in omega (arith, a, d, longer)) in
     let old_meta = is.meta in
     let grows = meta_grows p.channels.nb_meta_channels t in
     record {
       stands = record {
-        placed = record { even = g_long_regions ∙ sym g_long; meta = omega (arith, none); room = omega (arith, m_room, g_buffers, g_tables) };
+        placed = record { meta = omega (arith, none); room = omega (arith, m_room, g_buffers, g_tables) };
         none = none;
         long = omega (arith, long, g_long, g_count);
-        even = omega (arith, q_long, q_long_regions, even);
         within = omega (arith, there, q_long, g_count);
         meta = omega (arith, all_long, old_meta, grows, q_meta);
       };
       undos = ap (λ v. undos_of v.items) last.front_rest.undoings ∙ goes.undos
-          ∙ ap (λ (xs : List Region). undos_of f.placed.undoings.items ++ (map (UndoSqueeze t.horizontal) xs ++ [])) (sym (front_range t.begin_c t.num_c rs (drop f.count p.places.regions.items) le_regions));
+          ∙ ap (λ (xs : List Region). undos_of f.placed.undoings.items ++ (map (UndoSqueeze t.horizontal) xs ++ [])) (sym (front_range t.begin_c t.num_c rs (drop f.count (layout_of p.channels).regions) le_regions));
       layout = rw (all_regions, q_buffers) refl;
       rest = record { undoings = last.rest.undoings ∙ between.rest.undoings; tables = last.rest.tables ∙ between.rest.tables };
       count = g_count;
@@ -313,26 +306,18 @@ no_buffers : (ts : List SqueezeParams) (l : Layout) → (layout_after_all (map S
 no_buffers [] l = refl
 no_buffers (t ∷ ts) l = no_buffers ts (layout_after (SqueezeStep t) l)
 
-pub front_back : (ts : List SqueezeParams) (f g : Front) (p q r : PlacedChannels) → IsPlaced p → layout_with f p ≡ layout_of p.places → undos_of f.placed.undoings.items ≡ [] → FrontGoesOn (map SqueezeStep ts) f p g q →
-    list_of r.channels ≡ list_with g q → layout_of r.places ≡ layout_with g q → undos_of r.undoings.items ≡ undos_of q.undoings.items ++ undos_of g.placed.undoings.items → r.tables ≡ q.tables → GoesOn (map SqueezeStep ts) p r
+pub front_back : (ts : List SqueezeParams) (f g : Front) (p q r : PlacedChannels) → IsPlaced p → layout_with f p ≡ layout_of p.channels → undos_of f.placed.undoings.items ≡ [] → FrontGoesOn (map SqueezeStep ts) f p g q →
+    list_of r.channels ≡ list_with g q → layout_of r.channels ≡ layout_with g q → undos_of r.undoings.items ≡ undos_of q.undoings.items ++ undos_of g.placed.undoings.items → r.tables ≡ q.tables → GoesOn (map SqueezeStep ts) p r
 front_back ts f g p q r placed first none goes list layout undos tables =
     let ss : List Step = map SqueezeStep ts in
     let is = goes.stands in
-    let infos : length r.channels.info.items ≡ length (g.placed.channels.info.items ++ drop g.count q.channels.info.items) = ap (λ (l : ChannelList). length l.channels) list in
-    let regions : length r.places.regions.items ≡ length (g.placed.places.regions.items ++ drop g.count q.places.regions.items) = ap (λ (l : Layout). length l.regions) layout in
-    let a = length-append g.placed.channels.info.items (drop g.count q.channels.info.items) in
-    let b = length-append g.placed.places.regions.items (drop g.count q.places.regions.items) in
-    let c = length-drop g.count q.channels.info.items in
-    let d = length-drop g.count q.places.regions.items in
-    let g_even = is.placed.even in
-    let q_even = is.even in
-    let r_layout : layout_of r.places ≡ layout_after_all ss (layout_of p.places) = layout ∙ goes.layout ∙ ap (layout_after_all ss) first in
-    let buffers : r.places.buffers ≡ p.places.buffers = ap (λ (l : Layout). l.buffers) r_layout ∙ no_buffers ts (layout_of p.places) in
+    let r_layout : layout_of r.channels ≡ layout_after_all ss (layout_of p.channels) = layout ∙ goes.layout ∙ ap (layout_after_all ss) first in
+    let buffers : r.channels.buffers ≡ p.channels.buffers = ap (λ (l : Layout). l.buffers) r_layout ∙ no_buffers ts (layout_of p.channels) in
     let r_tables = tables ∙ goes.rest.tables in
     let many : length r.tables.items ≡ length p.tables.items = ap (λ v. length v.items) r_tables in
     let room = placed.room in
     record {
-      placed = record { even = omega (arith, infos, regions, a, b, c, d, g_even, q_even); meta = subst HasItsMeta (sym list) is.meta; room = omega (arith, buffers, many, room) };
+      placed = record { meta = subst HasItsMeta (sym list) is.meta; room = omega (arith, buffers, many, room) };
       undos =
           undos ∙ ap (λ v. undos_of v.items ++ undos_of g.placed.undoings.items) goes.rest.undoings
           ∙ ap (λ (us : List Undo). undos_of p.undoings.items ++ us) (goes.undos ∙ ap (λ (us : List Undo). us ++ undo_of_all ss (layout_with f p)) none ∙ ap (undo_of_all ss) first);

@@ -12,9 +12,9 @@ use Rattle.jxlm_base.proofs.Outside.{number_same, region_cell_kept}
 use Rattle.jxlm_base.proofs.Regions.{HasCell_at, apart_at, IsFull-grid_of}
 use Rattle.jxlm_transform.specs.Channels.{AreGridsOf, AreRegionsOf, Channel}
 use Rattle.jxlm_transform.specs.ChannelSteps.{range}
-use Rattle.jxlm_chain.specs.Layout.{Layout}
+use Rattle.jxlm_transform.specs.Layout.{Layout}
 use Rattle.jxlm_chain.specs.Lying.{LieIn}
-use Rattle.jxlm_chain.proofs.Ranges.{range_at, range_length}
+use Rattle.jxlm_transform.proofs.Ranges.{range_at, range_length}
 
 module _ {S : Type 0} (f : S → ℤ) where
   -- the grid of a region that shares no cell with any of the changed ones is as before

@@ -16,12 +16,13 @@ use Rattle.jxlm_transform.specs.ChannelSteps.{Step, RctStep, PaletteStep, Squeez
 use Rattle.jxlm_transform.specs.declared.transform.Palette.{Palette}
 use Rattle.jxlm_transform.specs.declared.transform.SqueezeParams.{SqueezeParams}
 use Rattle.jxlm_transform.specs.SqueezedRegions.{average_region, residual_region}
-use Rattle.jxlm_chain.specs.Layout.{Layout, whole_regions, first_layout, layout_after, layout_after_all, no_region, sides_of, buffers_of, HasBuffers}
+use Rattle.jxlm_transform.specs.Layout.{Layout, whole_regions, first_layout, layout_after, layout_after_all, no_region, sides_of, buffers_of, HasBuffers}
 use Rattle.jxlm_chain.specs.Lying.{HasTables, LieIn}
 use Rattle.jxlm_transform.specs.Steps.{Sides, tables_of, HasChannels}
 use Rattle.jxlm_chain.proofs.ListsApart.{pairs_cons, zip_length, zip_parts}
-use Rattle.jxlm_chain.proofs.StepFacts.{PaletteApplies, SqueezeApplies, rct_applies, palette_applies, squeeze_applies, same_ok, first_step}
-use Rattle.jxlm_chain.proofs.StepParts.{with_first, all_first, all_halves, pairs_first, pairs_halves, zip_first, zip_halves}
+use Rattle.jxlm_transform.proofs.StepFacts.{PaletteApplies, SqueezeApplies, rct_applies, palette_applies, squeeze_applies, same_ok, first_step}
+use Rattle.jxlm_transform.proofs.RangeParts.{with_first, all_first, all_halves}
+use Rattle.jxlm_chain.proofs.StepParts.{pairs_first, pairs_halves, zip_first, zip_halves}
 
 -- a region of its channel's sides
 abbrev pub HasSize : Channel → Region → Type 0

@@ -13,7 +13,7 @@ use Rattle.jxlm_base.proofs.Regions.{IsFull-grid_of}
 use Rattle.jxlm_transform.specs.Channels.{HasSides}
 use Rattle.jxlm_transform.specs.Recoloured.{HaveOneSize, UndoesColour}
 use Rattle.jxlm_transform.specs.SqueezedRegions.{squeezed_grid}
-use Rattle.jxlm_chain.specs.Layout.{no_region}
+use Rattle.jxlm_transform.specs.Layout.{no_region}
 use Rattle.jxlm_chain.specs.Scratch.{have_cells}
 use Rattle.jxlm_chain.specs.Steps.{CanUndo}
 use Rattle.jxlm_chain.specs.Undo.{Undo, UndoRct, UndoPalette, UndoSqueeze, Undoes}

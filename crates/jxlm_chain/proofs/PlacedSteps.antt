@@ -1,18 +1,18 @@
 -- Channels that go on by steps, one after another.
-use Rattle.std.proofs.Common.{◌≡◌, ℕ, ◌+◌, ◌<◌, ◌≤◌, List, [], ◌∷◌, ◌++◌, length, map, take, drop, get_or, Result, Ok, refl, sym, ap, ◌∙◌, subst, append_assoc, arith}
+use Rattle.std.proofs.Common.{◌≡◌, ℕ, ◌+◌, ◌<◌, List, [], ◌∷◌, ◌++◌, length, map, take, drop, get_or, Result, Ok, refl, sym, ap, ◌∙◌, subst, append_assoc, arith}
 use Rattle.std.proofs.lemmas.List.{append-nil, take_more, drop_more, length-append, length-map}
 use Rattle.jxlm_base.specs.ErrorKind.{ErrorKind}
-use Rattle.jxlm_transform.specs.Channels.{ChannelList, HasItsMeta, list_of}
+use Rattle.jxlm_transform.specs.Channels.{ChannelList, HasItsMeta}
+use Rattle.jxlm_transform.specs.Lists.{IsAfter, list_of, layout_of}
+use Rattle.jxlm_transform.specs.declared.channels.ModularChannels.{ModularChannels}
 use Rattle.jxlm_transform.specs.ChannelSteps.{Step, RctStep, PaletteStep, SqueezeStep, list_after, list_after_all}
 use Rattle.jxlm_transform.specs.declared.transform.SqueezeParams.{SqueezeParams}
-use Rattle.jxlm_chain.specs.Layout.{Layout, layout_after, layout_after_all}
-use Rattle.jxlm_transform.specs.Steps.{Sides, tables_of, HasChannels}
+use Rattle.jxlm_transform.specs.Layout.{Layout, layout_after, layout_after_all}
+use Rattle.jxlm_transform.specs.Steps.{Sides, tables_of}
 use Rattle.jxlm_chain.specs.Placed.{GoesOn, IsPlaced, IsPlacedBy, region_sides, sides_in}
-use Rattle.jxlm_chain.specs.Places.{layout_of}
 use Rattle.jxlm_chain.specs.Undo.{Undo, undo_of, undo_of_all}
 use Rattle.jxlm_chain.specs.Undoings.{undos_of}
 use Rattle.jxlm_chain.specs.declared.placed.PlacedChannels.{PlacedChannels}
-use Rattle.jxlm_chain.proofs.LayoutLaws.{length_after}
 
 -- ---- two lists of steps
 
@@ -35,10 +35,10 @@ pub goes_both : (a b : List Step) (p q r : PlacedChannels) → GoesOn a p q → 
 goes_both a b p q r h k = record {
   placed = k.placed;
   undos =
-      k.undos ∙ ap (λ (us : List Undo). us ++ undo_of_all b (layout_of q.places)) h.undos ∙ append_assoc (undos_of p.undoings.items) (undo_of_all a (layout_of p.places)) (undo_of_all b (layout_of q.places))
-      ∙ ap (λ (l : Layout). undos_of p.undoings.items ++ (undo_of_all a (layout_of p.places) ++ undo_of_all b l)) h.layout
-      ∙ ap (λ (us : List Undo). undos_of p.undoings.items ++ us) (sym (undos_both a b (layout_of p.places)));
-  layout = k.layout ∙ ap (layout_after_all b) h.layout ∙ sym (layout_both a b (layout_of p.places));
+      k.undos ∙ ap (λ (us : List Undo). us ++ undo_of_all b (layout_of q.channels)) h.undos ∙ append_assoc (undos_of p.undoings.items) (undo_of_all a (layout_of p.channels)) (undo_of_all b (layout_of q.channels))
+      ∙ ap (λ (l : Layout). undos_of p.undoings.items ++ (undo_of_all a (layout_of p.channels) ++ undo_of_all b l)) h.layout
+      ∙ ap (λ (us : List Undo). undos_of p.undoings.items ++ us) (sym (undos_both a b (layout_of p.channels)));
+  layout = k.layout ∙ ap (layout_after_all b) h.layout ∙ sym (layout_both a b (layout_of p.channels));
   tables =
       k.tables ∙ ap (λ (ts : List Sides). ts ++ tables_of b) h.tables ∙ append_assoc (sides_in p.tables.items) (tables_of a) (tables_of b)
       ∙ ap (λ (ts : List Sides). sides_in p.tables.items ++ ts) (sym (tables_both a b));
@@ -55,7 +55,7 @@ goes_nowhere p h = record {
 -- channels that go on from their start
 pub placed_by : (ss : List Step) (l : Layout) (p q : PlacedChannels) → IsPlacedBy [] l p → GoesOn ss p q → IsPlacedBy ss l q
 placed_by ss l p q start goes = record {
-  undos = goes.undos ∙ ap (λ (us : List Undo). us ++ undo_of_all ss (layout_of p.places)) start.undos ∙ ap (undo_of_all ss) start.layout;
+  undos = goes.undos ∙ ap (λ (us : List Undo). us ++ undo_of_all ss (layout_of p.channels)) start.undos ∙ ap (undo_of_all ss) start.layout;
   layout = goes.layout ∙ ap (layout_after_all ss) start.layout;
   tables = goes.tables ∙ ap (λ (ts : List Sides). ts ++ tables_of ss) start.tables;
 }
@@ -67,18 +67,15 @@ buffers_after (RctStep t) l = omega arith
 buffers_after (PaletteStep t) l = omega arith
 buffers_after (SqueezeStep t) l = omega arith
 
--- a range of channels that are there is one of regions
-pub there : (p : PlacedChannels) (begin n : ℕ) → IsPlaced p → begin + n ≤ length (list_of p.channels).channels → begin + n ≤ length p.places.regions.items
-there p begin n h le = let e = h.even in omega (arith, le, e)
+-- a region for each channel
+pub even_of : (l : ModularChannels) → length (layout_of l).regions ≡ length (list_of l).channels
+even_of l = length-map l.placed.items (λ p. p.region) ∙ sym (length-map l.placed.items (λ p. p.info))
 
-pub goes_one : (s : Step) (p q : PlacedChannels) → IsPlaced p → HasChannels s → list_after s (list_of p.channels) ≡ Ok (list_of q.channels) → HasItsMeta (list_of q.channels) →
-    undos_of q.undoings.items ≡ undos_of p.undoings.items ++ undo_of s (layout_of p.places) → layout_of q.places ≡ layout_after s (layout_of p.places) →
-    sides_in q.tables.items ≡ sides_in p.tables.items ++ tables_of (s ∷ []) → GoesOn (s ∷ []) p q
-goes_one s p q h has list meta undos layout tables =
-    let regions : length q.places.regions.items ≡ length (layout_after s (layout_of p.places)).regions = ap (λ (l : Layout). length l.regions) layout in
-    let buffers : q.places.buffers ≡ (layout_after s (layout_of p.places)).buffers = ap (λ (l : Layout). l.buffers) layout in
-    let more = buffers_after s (layout_of p.places) in
-    let long = length_after s (list_of p.channels) (list_of q.channels) (layout_of p.places) list has h.even in
+pub goes_one : (s : Step) (p q : PlacedChannels) → IsPlaced p → IsAfter s p.channels q.channels → HasItsMeta (list_of q.channels) →
+    undos_of q.undoings.items ≡ undos_of p.undoings.items ++ undo_of s (layout_of p.channels) → sides_in q.tables.items ≡ sides_in p.tables.items ++ tables_of (s ∷ []) → GoesOn (s ∷ []) p q
+goes_one s p q h is meta undos tables =
+    let buffers : q.channels.buffers ≡ (layout_after s (layout_of p.channels)).buffers = ap (λ (l : Layout). l.buffers) is.layout in
+    let more = buffers_after s (layout_of p.channels) in
     let count : length (sides_in q.tables.items) ≡ length (sides_in p.tables.items ++ tables_of (s ∷ [])) = ap length tables in
     let both = length-append (sides_in p.tables.items) (tables_of (s ∷ [])) in
     let new = length-map q.tables.items region_sides in
@@ -86,12 +83,11 @@ goes_one s p q h has list meta undos layout tables =
     let room = h.room in
     record {
       placed = record {
-        even = regions ∙ long;
         meta = meta;
         room = omega (arith, buffers, more, count, both, new, old, room);
       };
-      undos = undos ∙ ap (λ (us : List Undo). undos_of p.undoings.items ++ us) (sym (append-nil (undo_of s (layout_of p.places))));
-      layout = layout;
+      undos = undos ∙ ap (λ (us : List Undo). undos_of p.undoings.items ++ us) (sym (append-nil (undo_of s (layout_of p.channels))));
+      layout = is.layout;
       tables = tables;
     }
 

@@ -8,7 +8,7 @@ use Rattle.jxlm_base.specs.Regions.{Lies, AllLie}
 use Rattle.jxlm_base.specs.declared.subgrid.Region.{Region}
 use Rattle.jxlm_transform.specs.Channels.{Channel, HasSides}
 use Rattle.jxlm_transform.specs.ChannelSteps.{Step, RctStep, PaletteStep, SqueezeStep}
-use Rattle.jxlm_chain.specs.Layout.{Layout, HasBuffers}
+use Rattle.jxlm_transform.specs.Layout.{Layout, HasBuffers}
 use Rattle.jxlm_chain.specs.Lying.{HasTables, LieIn}
 use Rattle.jxlm_transform.specs.Steps.{Sides}
 use Rattle.jxlm_chain.specs.Shape.{SameShape}

@@ -8,14 +8,14 @@ use Rattle.jxlm_base.specs.Regions.{store_meanings, grids_in}
 use Rattle.jxlm_transform.specs.Channels.{Channel, ChannelList}
 use Rattle.jxlm_transform.specs.ChannelSteps.{Step, RctStep, PaletteStep, SqueezeStep, list_after_all}
 use Rattle.jxlm_chain.specs.Chain.{Codes, Chain}
-use Rattle.jxlm_chain.specs.Layout.{Layout, layout_after, layout_after_all}
+use Rattle.jxlm_transform.specs.Layout.{Layout, layout_after, layout_after_all}
 use Rattle.jxlm_chain.specs.Lying.{LieIn, HasTables}
 use Rattle.jxlm_transform.specs.Steps.{HasChannels}
 use Rattle.jxlm_chain.specs.Undo.{Undo, UndoesAll, undo_of, undo_of_all}
 use Rattle.jxlm_chain.proofs.KeptGrids.{grids_of_lying}
 use Rattle.jxlm_chain.proofs.LayoutLaws.{lie_after}
 use Rattle.jxlm_chain.proofs.ShapeLaws.{shape_all_undone, lie_in_kept}
-use Rattle.jxlm_chain.proofs.StepFacts.{first_step}
+use Rattle.jxlm_transform.proofs.StepFacts.{first_step}
 use Rattle.jxlm_chain.proofs.UndoneColour.{colour_codes}
 use Rattle.jxlm_chain.proofs.UndonePalette.{palette_codes}
 use Rattle.jxlm_chain.proofs.UndoneSqueeze.{squeeze_codes}

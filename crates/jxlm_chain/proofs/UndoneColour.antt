@@ -12,11 +12,11 @@ use Rattle.jxlm_transform.specs.Recoloured.{recoloured, UndoesColour}
 use Rattle.jxlm_transform.specs.declared.transform.Rct.{Rct}
 use Rattle.jxlm_chain.specs.Chain.{Codes}
 use Rattle.jxlm_chain.proofs.SampleGrids.{AreSampleGrids}
-use Rattle.jxlm_chain.specs.Layout.{Layout, layout_after}
+use Rattle.jxlm_transform.specs.Layout.{Layout, layout_after}
 use Rattle.jxlm_chain.specs.Lying.{LieIn}
 use Rattle.jxlm_chain.specs.Undo.{UndoRct, Undoes, UndoesAll, undo_of}
 use Rattle.jxlm_chain.proofs.KeptGrids.{grid_out_of_range}
-use Rattle.jxlm_chain.proofs.Ranges.{range_map, with_own, with_range_same}
+use Rattle.jxlm_transform.proofs.Ranges.{range_map, with_own, with_range_same}
 
 module _ {S : Type 0} (to_int : S → ℤ) (w : Width) (depth : ℕ) (t : Rct) (places : Layout) (cs : List Channel) (old new : List (Grid S)) (lies : LieIn cs places old) where
   pub colour_codes : UndoesAll to_int w depth (undo_of (RctStep t) places) old new →

@@ -11,11 +11,11 @@ use Rattle.jxlm_transform.specs.ChannelSteps.{PaletteStep, range}
 use Rattle.jxlm_transform.specs.Palette.{IsPaletteOf}
 use Rattle.jxlm_transform.specs.declared.transform.Palette.{Palette}
 use Rattle.jxlm_chain.specs.Chain.{Codes}
-use Rattle.jxlm_chain.specs.Layout.{Layout, layout_after, no_region}
+use Rattle.jxlm_transform.specs.Layout.{Layout, layout_after, no_region}
 use Rattle.jxlm_chain.specs.Lying.{LieIn}
 use Rattle.jxlm_chain.specs.Undo.{UndoPalette, Undoes, UndoesAll, undo_of}
 use Rattle.jxlm_chain.proofs.KeptGrids.{grid_out_of_range}
-use Rattle.jxlm_chain.proofs.Ranges.{range_map, with_range_map, with_range_same}
+use Rattle.jxlm_transform.proofs.Ranges.{range_map, with_range_map, with_range_same}
 
 module _ {S : Type 0} (to_int : S → ℤ) (w : Width) (depth : ℕ) (t : Palette) (places : Layout) (cs : List Channel) (old new : List (Grid S)) (lies : LieIn cs places old) where
   pub palette_codes : UndoesAll to_int w depth (undo_of (PaletteStep t) places) old new →

@@ -18,12 +18,13 @@ use Rattle.jxlm_transform.specs.SqueezedRegions.{average_region, residual_region
 use Rattle.jxlm_transform.proofs.SqueezedRegions.{averages_stood, residuals_stood}
 use Rattle.jxlm_chain.specs.Chain.{Codes}
 use Rattle.jxlm_chain.proofs.SampleGrids.{AreSampleGrids}
-use Rattle.jxlm_chain.specs.Layout.{Layout, layout_after}
+use Rattle.jxlm_transform.specs.Layout.{Layout, layout_after}
 use Rattle.jxlm_chain.specs.Lying.{LieIn}
 use Rattle.jxlm_chain.specs.Undo.{UndoSqueeze, UndoesAll, undo_of}
 use Rattle.jxlm_chain.proofs.KeptGrids.{grid_apart, grid_out_of_range}
-use Rattle.jxlm_chain.proofs.Ranges.{range_map, with_halves_map, with_halves_same, map_map_same}
-use Rattle.jxlm_chain.proofs.StepParts.{all_range, pairs_range}
+use Rattle.jxlm_transform.proofs.Ranges.{range_map, with_halves_map, with_halves_same, map_map_same}
+use Rattle.jxlm_transform.proofs.RangeParts.{all_range}
+use Rattle.jxlm_chain.proofs.StepParts.{pairs_range}
 
 -- ---- several regions, one after another
 

@@ -1,10 +1,7 @@
 pub mod Chain
-pub mod Ends
 pub mod Grids
-pub mod Layout
 pub mod Lying
 pub mod Placed
-pub mod Places
 pub mod Scratch
 pub mod Shape
 pub mod Steps

@@ -6,7 +6,7 @@ use Rattle.jxlm_base.specs.Outside.{buffer_at}
 use Rattle.jxlm_base.specs.Regions.{AllLie, LieApart}
 use Rattle.jxlm_transform.specs.Channels.{AreRegionsOf, Channel, HasSides}
 use Rattle.jxlm_transform.specs.ChannelSteps.{Step, RctStep, PaletteStep, SqueezeStep}
-use Rattle.jxlm_chain.specs.Layout.{Layout}
+use Rattle.jxlm_transform.specs.Layout.{Layout}
 
 module _ {S : Type 0} where
   -- from buffer b on the store has the tables of these steps, and nothing else

@@ -3,22 +3,21 @@ use Rattle.std.specs.Prelude.{◌≡◌, ◌+◌, ◌^◌, ◌<◌, List, ◌++�
 use Rattle.jxlm_base.specs.ErrorKind.{UnlessNoMemory, kind_of}
 use Rattle.jxlm_base.specs.declared.error.Error.{Error}
 use Rattle.jxlm_base.specs.declared.subgrid.Region.{Region}
-use Rattle.jxlm_transform.specs.Channels.{ChannelList, HasItsMeta, list_of}
+use Rattle.jxlm_transform.specs.Channels.{ChannelList, HasItsMeta}
+use Rattle.jxlm_transform.specs.Lists.{list_of, layout_of}
 use Rattle.jxlm_transform.specs.ChannelSteps.{Step, coded_list}
 use Rattle.jxlm_transform.specs.Kinds.{is_palette, is_squeeze}
 use Rattle.jxlm_transform.specs.Steps.{Sides, steps_in, tables_of}
 use Rattle.jxlm_transform.specs.Transforms.{Transform}
-use Rattle.jxlm_chain.specs.Layout.{Layout, layout_after_all}
-use Rattle.jxlm_chain.specs.Places.{layout_of}
+use Rattle.jxlm_transform.specs.Layout.{Layout, layout_after_all}
 use Rattle.jxlm_chain.specs.Undo.{undo_of_all}
 use Rattle.jxlm_chain.specs.Undoings.{undos_of}
 use Rattle.jxlm_chain.specs.declared.placed.PlacedChannels.{PlacedChannels}
 
--- a region for each channel, of which only channels are meta channels; and buffers that can be counted
+-- only channels of the list are meta channels, and buffers can be counted
 pub record IsPlaced (p : PlacedChannels) : Type 0 where
-  pub even : length p.places.regions.items ≡ length p.channels.info.items
   pub meta : HasItsMeta (list_of p.channels)
-  pub room : p.places.buffers < 2 ^ 63 + length p.tables.items
+  pub room : p.channels.buffers < 2 ^ 63 + length p.tables.items
 
 -- the sides of a region, and of regions
 abbrev pub region_sides : Region → Sides
@@ -31,14 +30,14 @@ sides_in rs = map region_sides rs
 -- the steps, and what undoes them
 pub record IsPlacedBy (steps : List Step) (places : Layout) (p : PlacedChannels) : Type 0 where
   pub undos : undos_of p.undoings.items ≡ undo_of_all steps places
-  pub layout : layout_of p.places ≡ layout_after_all steps places
+  pub layout : layout_of p.channels ≡ layout_after_all steps places
   pub tables : sides_in p.tables.items ≡ tables_of steps
 
 -- they go on by these steps
 pub record GoesOn (steps : List Step) (old new : PlacedChannels) : Type 0 where
   pub placed : IsPlaced new
-  pub undos : undos_of new.undoings.items ≡ undos_of old.undoings.items ++ undo_of_all steps (layout_of old.places)
-  pub layout : layout_of new.places ≡ layout_after_all steps (layout_of old.places)
+  pub undos : undos_of new.undoings.items ≡ undos_of old.undoings.items ++ undo_of_all steps (layout_of old.channels)
+  pub layout : layout_of new.channels ≡ layout_after_all steps (layout_of old.channels)
   pub tables : sides_in new.tables.items ≡ sides_in old.tables.items ++ tables_of steps
 
 -- a transform is a palette, and a squeeze, where the other one is

@@ -7,7 +7,7 @@ use Rattle.jxlm_tree.specs.declared.predictor.WpHeader.{WpHeader}
 use Rattle.jxlm_tree.specs.declared.state.PredictorState.{PredictorState}
 use Rattle.jxlm_transform.specs.Params.{IsSide}
 use Rattle.jxlm_transform.specs.ColourRows.{HasRoom, KeepsRoom}
-use Rattle.jxlm_chain.specs.Layout.{no_region}
+use Rattle.jxlm_transform.specs.Layout.{no_region}
 use Rattle.jxlm_chain.specs.Undo.{Undo, UndoRct, UndoPalette, UndoSqueeze}
 use Rattle.jxlm_chain.specs.declared.scratch.Scratch.{Scratch}
 

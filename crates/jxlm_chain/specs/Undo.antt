@@ -11,7 +11,7 @@ use Rattle.jxlm_transform.specs.Palette.{IsPaletteOf}
 use Rattle.jxlm_transform.specs.Recoloured.{UndoesColour}
 use Rattle.jxlm_transform.specs.SqueezedRegions.{UndoesSqueeze}
 use Rattle.jxlm_transform.specs.declared.transform.Palette.{Palette}
-use Rattle.jxlm_chain.specs.Layout.{Layout, layout_after, no_region}
+use Rattle.jxlm_transform.specs.Layout.{Layout, layout_after, no_region}
 
 -- a colour kind and its three regions; a palette, the regions of its table and its indices, and those of its
 -- channels; or a way of squeezing and the region that was squeezed

@@ -1,19 +1,19 @@
 //! The steps of a squeeze at the front of long lists of channels: each step moves the front alone, and what comes after
 //! it is moved once for all of them.
 
-ghost use Rattle.std.specs.Prelude.{◌≡◌, ◌≤◌, ◌<◌, ◌^◌, ◌+◌, ◌++◌, ◌∷◌, [], length, map, IsTrue, IsFalse, IfOk, IfErr};
+ghost use Rattle.std.specs.Prelude.{◌≡◌, ◌≤◌, ◌<◌, ◌^◌, ◌+◌, ◌++◌, ◌∷◌, [], length, map, take, drop, IsTrue, IsFalse, IfOk, IfErr};
 ghost use Rattle.std.specs.List.{list_all};
 ghost use Rattle.jxlm_base.specs.ErrorKind.{NoMemory, kind_of};
 ghost use Rattle.jxlm_chain.specs.Inner.Fronts.{AppendsLast, FrontGoesOn, IsFrontOf, is_within as the_is_within, meta_after as the_meta_after, suits_meta as the_suits_meta, layout_with, list_with};
 ghost use Rattle.jxlm_chain.specs.Placed.{GoesOn, IsPlaced};
-ghost use Rattle.jxlm_chain.specs.Places.{layout_of};
+ghost use Rattle.jxlm_transform.specs.Lists.{layout_of};
 ghost use Rattle.jxlm_chain.specs.Undoings.{undos_of};
-ghost use Rattle.jxlm_transform.specs.Channels.{list_of};
+ghost use Rattle.jxlm_transform.specs.Lists.{list_of};
 ghost use Rattle.jxlm_transform.specs.ChannelSteps.{ListGives, SqueezeStep, list_after, list_after_all};
 
 use crate::placed::PlacedChannels;
-use crate::places::replace_first;
 use jxlm_base::error::{Error, Result};
+use jxlm_base::grid::OutOfMemory;
 use jxlm_transform::channels::ModularChannels;
 use jxlm_transform::transform::SqueezeParams;
 use std::alloc::Global;
@@ -25,6 +25,39 @@ struct Front {
     placed: PlacedChannels,
     /// How many channels of the list they stand for.
     count: usize,
+}
+
+/// Puts others in the place of the first `count` of a list.
+fn replace_first<T: Copy + Drop>(
+    list: &mut Vec<T>,
+    count: usize,
+    others: Vec<T>,
+) -> std::result::Result<(), OutOfMemory>
+    requires { count ≤ length list.old.items }
+    ensures gives { IfOk result (λ _. list.new.items ≡ others.items ++ drop count list.old.items) }
+    ensures unchanged { IfErr result (λ _. list.new.items ≡ list.old.items) }
+{
+    list.splice(0..count, others)?;
+    Ok(())
+}
+
+/// The first channels of a list, of which none counts as a meta channel, with no buffer taken.
+fn first_of(
+    alloc: Global,
+    channels: &ModularChannels,
+    count: usize,
+) -> std::result::Result<ModularChannels, OutOfMemory>
+    requires { count ≤ length channels.now.placed.items }
+    ensures placed { IfOk result (λ l. l.placed.items ≡ take count channels.now.placed.items) }
+    ensures meta { IfOk result (λ l. l.nb_meta_channels ≡ 0) }
+    ensures buffers { IfOk result (λ l. l.buffers ≡ 0) }
+{
+    let placed = Vec::from_slice(alloc, &channels.placed[..count])?;
+    Ok(ModularChannels {
+        placed,
+        nb_meta_channels: 0,
+        buffers: 0,
+    })
 }
 
 /// After which channel the last range of the steps ends.
@@ -73,43 +106,34 @@ impl PlacedChannels {
     /// The first channels, as a front that has taken no step.
     fn front(&self, alloc: Global, count: usize) -> Result<Front>
         requires placed { IsPlaced self.now }
-        requires within { count ≤ length self.now.channels.info.items }
+        requires within { count ≤ length self.now.channels.placed.items }
         ensures front { IfOk result (λ f. IsFrontOf self.now f) }
         ensures list { IfOk result (λ f. list_with f self.now ≡ list_of self.now.channels) }
-        ensures layout { IfOk result (λ f. layout_with f self.now ≡ layout_of self.now.places) }
+        ensures layout { IfOk result (λ f. layout_with f self.now ≡ layout_of self.now.channels) }
         ensures undos { IfOk result (λ f. undos_of f.placed.undoings.items ≡ []) }
         ensures count { IfOk result (λ f. f.count ≡ count) }
         ensures err { IfErr result (λ e. kind_of e ≡ NoMemory) }
     {
-        let channels = ModularChannels {
-            info: Vec::from_slice(alloc, &self.channels.info[..count])?,
-            nb_meta_channels: 0,
-        };
-        let places = self.places.first(alloc, count)?;
-        let placed = PlacedChannels::new(alloc, channels, places);
+        let channels = first_of(alloc, &self.channels, count)?;
+        let placed = PlacedChannels::new(alloc, channels);
         Ok(Front { placed, count })
     }
 
-    /// Puts the last channels of a front, the residuals of a step, at the end of the lists.
+    /// Puts the last channels of a front, the residuals of a step, at the end of the list.
     fn append_last(&mut self, front: &mut Front, count: usize) -> Result<()>
-        requires channels { count ≤ length front.old.placed.channels.info.items }
-        requires regions { length front.old.placed.places.regions.items
-            ≡ length front.old.placed.channels.info.items }
+        requires { count ≤ length front.old.placed.channels.placed.items }
         ensures list { IfOk result (λ _. AppendsLast count front.old self.old front.new self.new) }
         ensures err { IfErr result (λ e. kind_of e ≡ NoMemory) }
     {
-        let kept = front.placed.channels.info.len() - count;
-        let mut last = front.placed.channels.info.split_off(kept)?;
-        self.channels.info.append(&mut last)?;
-        self.places.append_last(&mut front.placed.places, kept)?;
+        let kept = front.placed.channels.placed.len() - count;
+        let mut last = front.placed.channels.placed.split_off(kept)?;
+        self.channels.placed.append(&mut last)?;
         Ok(())
     }
 
-    /// Puts the residuals of a step, the last channels of the front, at the end of the lists, if that is their place.
+    /// Puts the residuals of a step, the last channels of the front, at the end of the list, if that is their place.
     fn settle(&mut self, front: &mut Front, step: &SqueezeParams) -> Result<()>
-        requires channels { step.now.num_c ≤ length front.old.placed.channels.info.items }
-        requires regions { length front.old.placed.places.regions.items
-            ≡ length front.old.placed.channels.info.items }
+        requires { step.now.num_c ≤ length front.old.placed.channels.placed.items }
         ensures inside { IsTrue step.now.in_place → IfOk result
             (λ _. (self.new ≡ self.old) × (front.new ≡ front.old)) }
         ensures at_end { IsFalse step.now.in_place → IfOk result (λ _. AppendsLast step.now.num_c front.old self.old
@@ -165,7 +189,7 @@ impl PlacedChannels {
     fn put_front(&mut self, front: Front) -> Result<()>
         requires { IsFrontOf self.old front }
         ensures list { IfOk result (λ _. list_of self.new.channels ≡ list_with front self.old) }
-        ensures layout { IfOk result (λ _. layout_of self.new.places ≡ layout_with front self.old) }
+        ensures layout { IfOk result (λ _. layout_of self.new.channels ≡ layout_with front self.old) }
         ensures undos { IfOk result (λ _. undos_of self.new.undoings.items ≡ undos_of self.old.undoings.items
             ++ undos_of front.placed.undoings.items) }
         ensures tables { IfOk result (λ _. self.new.tables ≡ self.old.tables) }
@@ -174,13 +198,11 @@ impl PlacedChannels {
         let Front { placed, count } = front;
         let PlacedChannels {
             channels,
-            places,
             mut undoings,
             ..
         } = placed;
-        let ModularChannels { info, .. } = channels;
-        replace_first(&mut self.channels.info, count, info)?;
-        self.places.put_first(places, count)?;
+        let ModularChannels { placed: first, .. } = channels;
+        replace_first(&mut self.channels.placed, count, first)?;
         self.undoings.append(&mut undoings)?;
         Ok(())
     }
@@ -193,7 +215,7 @@ impl PlacedChannels {
         count: usize,
     ) -> Result<()>
         requires placed { IsPlaced self.old }
-        requires front { count ≤ length self.old.channels.info.items }
+        requires front { count ≤ length self.old.channels.placed.items }
         requires within { IsTrue (list_all (the_is_within count) steps.now) }
         ensures list { ListGives (list_after_all (map SqueezeStep steps.now) (list_of self.old.channels)) result
             (list_of self.new.channels) }

@@ -4,19 +4,20 @@
 ghost use Rattle.std.specs.Prelude.{◌≡◌, ◌<◌, ◌≤◌, ◌^◌, [], ◌∷◌, length, map, IfOk, IfErr};
 ghost use Rattle.std.specs.List.{All};
 ghost use Rattle.jxlm_base.specs.ErrorKind.{NoMemory, kind_of};
-ghost use Rattle.jxlm_chain.specs.Layout.{first_layout};
+ghost use Rattle.jxlm_transform.specs.Layout.{first_layout};
 ghost use Rattle.jxlm_chain.specs.Placed.{AreOfKindsOf, GoesOn, IsOfKindOf, IsPlaced, IsPlacedBy, PrepareGives};
-ghost use Rattle.jxlm_chain.specs.Places.{layout_of};
-ghost use Rattle.jxlm_transform.specs.Channels.{HasItsMeta, list_of};
+ghost use Rattle.jxlm_transform.specs.Lists.{layout_of};
+ghost use Rattle.jxlm_transform.specs.Channels.{HasItsMeta};
+ghost use Rattle.jxlm_transform.specs.Lists.{list_of};
 ghost use Rattle.jxlm_transform.specs.ChannelSteps.{ListGives, TransformGives, RctStep, PaletteStep, SqueezeStep};
 ghost use Rattle.jxlm_transform.specs.ChannelSteps.{list_after, list_after_all, listed_steps};
 ghost use Rattle.jxlm_transform.specs.Steps.{steps_in};
 ghost use Rattle.jxlm_transform.specs.Transforms.{HasChannels, transform_of};
 
+use crate::default_squeeze::set_default_params;
 use crate::front::{are_within, reach};
-use crate::places::Places;
-use crate::undo::Undoing;
-use jxlm_base::error::Result;
+use crate::undo::{Undoing, undo_colour, undo_palette, undo_squeeze};
+use jxlm_base::error::{Error, Result};
 use jxlm_base::grid::Region;
 use jxlm_transform::channels::{ModularChannelInfo, ModularChannels};
 use jxlm_transform::transform::{Palette, Rct, SqueezeParams, TransformInfo};
@@ -25,10 +26,8 @@ use std::alloc::Global;
 /// Channels with the regions in which they lie, after some transforms, and what undoes these.
 #[derive(Drop)]
 pub struct PlacedChannels {
-    /// The channels.
+    /// The channels, and where they lie.
     pub channels: ModularChannels,
-    /// Where they lie: a region for each.
-    pub places: Places,
     /// Where the tables of the palettes lie, in their order.
     pub tables: Vec<Region>,
     /// What undoes the transforms, in their order: the last is run first.
@@ -36,19 +35,16 @@ pub struct PlacedChannels {
 }
 
 impl PlacedChannels {
-    /// Channels that lie in these places, before all transforms. There is a region for each, and fewer than 2^63
-    /// buffers are taken.
-    pub fn new(alloc: Global, channels: ModularChannels, places: Places) -> PlacedChannels
-        requires even { length places.regions.items ≡ length channels.info.items }
+    /// These channels before all transforms. Fewer than 2^63 buffers are taken.
+    pub fn new(alloc: Global, channels: ModularChannels) -> PlacedChannels
         requires meta { HasItsMeta (list_of channels) }
-        requires room { places.buffers < 2 ^ 63 }
+        requires room { channels.buffers < 2 ^ 63 }
         ensures list { result.channels ≡ channels }
         ensures placed { IsPlaced result }
-        ensures by { IsPlacedBy [] (layout_of places) result }
+        ensures by { IsPlacedBy [] (layout_of channels) result }
     {
         PlacedChannels {
             channels,
-            places,
             tables: Vec::new(alloc),
             undoings: Vec::new(alloc),
         }
@@ -66,12 +62,8 @@ impl PlacedChannels {
         ensures by { IfOk result (λ p. IsPlacedBy [] (first_layout given.now) p) }
         ensures err { IfErr result (λ e. kind_of e ≡ NoMemory) }
     {
-        let places = Places::new(alloc, given)?;
-        let channels = ModularChannels {
-            info: Vec::from_slice(alloc, given)?,
-            nb_meta_channels: 0,
-        };
-        Ok(PlacedChannels::new(alloc, channels, places))
+        let channels = ModularChannels::new(alloc, given)?;
+        Ok(PlacedChannels::new(alloc, channels))
     }
 
     /// Goes on by a colour transform.
@@ -81,8 +73,10 @@ impl PlacedChannels {
             (list_of self.new.channels) }
         ensures goes { IfOk result (λ _. GoesOn (RctStep step.now ∷ []) self.old self.new) }
     {
-        step.transform_channel_info(&self.channels)?;
-        let undoing = self.places.undo_colour(step);
+        if !step.suits(&self.channels) {
+            return Err(Error::InvalidRctParams);
+        }
+        let undoing = undo_colour(&self.channels, step);
         self.undoings.push(undoing)?;
         Ok(())
     }
@@ -95,11 +89,13 @@ impl PlacedChannels {
             (list_of self.new.channels) }
         ensures goes { IfOk result (λ _. GoesOn (PaletteStep palette.now ∷ []) self.old self.new) }
     {
-        palette.transform_channel_info(alloc, &mut self.channels)?;
-        let undoing = self.places.undo_palette(alloc, palette)?;
+        if !palette.suits(&self.channels) {
+            return Err(Error::InvalidPaletteParams);
+        }
+        let undoing = undo_palette(alloc, &self.channels, palette)?;
         self.undoings.push(undoing)?;
-        self.tables.push(self.places.table(palette))?;
-        self.places.index(alloc, palette)?;
+        self.tables.push(palette.table(&self.channels).region)?;
+        palette.transform_channel_info(&mut self.channels)?;
         Ok(())
     }
 
@@ -110,9 +106,11 @@ impl PlacedChannels {
             (list_of self.new.channels) }
         ensures goes { IfOk result (λ _. GoesOn (SqueezeStep step.now ∷ []) self.old self.new) }
     {
+        if !step.suits(&self.channels) {
+            return Err(Error::InvalidSqueezeParams);
+        }
+        undo_squeeze(&mut self.undoings, &self.channels, step)?;
         step.transform_channel_info(alloc, &mut self.channels)?;
-        self.places.undo_squeeze(&mut self.undoings, step)?;
-        self.places.halve(alloc, step)?;
         Ok(())
     }
 
@@ -138,7 +136,7 @@ impl PlacedChannels {
         ensures goes { IfOk result (λ _. GoesOn (map SqueezeStep steps.now) self.old self.new) }
     {
         let count = reach(steps);
-        if steps.len() > 1 && count < self.channels.info.len() && are_within(steps, count) {
+        if steps.len() > 1 && count < self.channels.placed.len() && are_within(steps, count) {
             self.add_in_front(alloc, steps, count)
         } else {
             self.add_each(alloc, steps)
@@ -159,7 +157,7 @@ impl PlacedChannels {
             TransformInfo::Rct(rct) => self.add_colour(rct),
             TransformInfo::Palette(palette) => self.add_palette(alloc, palette),
             TransformInfo::Squeeze(squeeze) => {
-                squeeze.set_default_params(&self.channels)?;
+                set_default_params(squeeze, &self.channels)?;
                 self.add_steps(alloc, &squeeze.sp)
             }
         }
@@ -171,8 +169,8 @@ impl PlacedChannels {
     ///
     /// # Errors
     ///
-    /// That of the first transform that does not suit the channels which the ones before it leave, as by
-    /// `prepare_transform_info`; `Buffer` if it is out of memory, at any time. After an error nothing is promised of
+    /// That of the first transform that does not suit the channels which the ones before it leave, by
+    /// its kind; `Buffer` if it is out of memory, at any time. After an error nothing is promised of
     /// the transforms and the channels.
     pub fn apply(&mut self, alloc: Global, transforms: &mut Vec<TransformInfo>) -> Result<()>
         requires some_channels { All HasChannels (map transform_of transforms.old.items) }

@@ -3,19 +3,20 @@
 ghost use Rattle.std.specs.Prelude.{◌≡◌, ℕ, ◌+◌, ◌^◌, ◌<◌, ◌≤◌, [], ◌∷◌, ◌++◌, ◌⊎◌, length, get_or, map, IfOk, IfErr};
 ghost use Rattle.std.specs.List.{All};
 ghost use Rattle.jxlm_chain.specs.Grids.{leader_of, members_of};
-ghost use Rattle.jxlm_chain.specs.Layout.{no_region};
-ghost use Rattle.jxlm_chain.specs.Places.{layout_of};
+ghost use Rattle.jxlm_transform.specs.Layout.{no_region};
+ghost use Rattle.jxlm_transform.specs.Lists.{layout_of};
 ghost use Rattle.jxlm_chain.specs.Scratch.{HasRoomFor, HasRoomForCells, HasRoomToUndo, KeepsScratch, have_cells};
 ghost use Rattle.jxlm_chain.specs.Steps.{CanUndo, CanUndoAll, IsNarrowStore};
 ghost use Rattle.jxlm_chain.specs.Undo.{UndoPalette, UndoRct, UndoSqueeze, Undoes, UndoesAll, undo_of};
 ghost use Rattle.jxlm_chain.specs.Undoings.{undo_of_code, undos_of};
+ghost use Rattle.jxlm_transform.specs.Channels.{regions};
 ghost use Rattle.jxlm_transform.specs.ChannelSteps.{RctStep, PaletteStep, SqueezeStep, range};
 
 use crate::grid::TransformedGrid;
-use crate::places::Places;
 use crate::scratch::Scratch;
 use jxlm_base::grid::{AlignedGrid, OutOfMemory, Region};
 use jxlm_base::sample::Sample;
+use jxlm_transform::channels::{ModularChannels, PlacedChannel};
 use jxlm_transform::rct::inverse_rct_within;
 use jxlm_transform::squeeze::unsqueeze;
 use jxlm_transform::transform::{Palette, Rct, SqueezeParams};
@@ -49,16 +50,16 @@ pub enum Undoing {
     },
 }
 
-/// The channels that lie in these regions. One that holds the indices of an earlier palette is named by its region
+/// Where these channels lie. One that holds the indices of an earlier palette is named by its region
 /// alone: what it stands for, the undoing of that palette names.
-fn channels_at(alloc: Global, regions: &[Region]) -> Result<Vec<TransformedGrid>, OutOfMemory>
-    ensures { IfOk result (λ v. map leader_of v.items ≡ regions.now) }
+fn grids_of(alloc: Global, channels: &[PlacedChannel]) -> Result<Vec<TransformedGrid>, OutOfMemory>
+    ensures { IfOk result (λ v. map leader_of v.items ≡ regions channels.now) }
 {
-    let mut channels = Vec::new(alloc);
-    for region in regions {
-        channels.push(TransformedGrid::Single(*region))?;
+    let mut grids = Vec::new(alloc);
+    for channel in channels {
+        grids.push(TransformedGrid::Single(channel.region))?;
     }
-    Ok(channels)
+    Ok(grids)
 }
 
 /// The channel of the indices that stand for these channels, the first of which lies in the region `leader`.
@@ -74,78 +75,74 @@ fn merged(leader: Region, members: Vec<TransformedGrid>) -> TransformedGrid
     TransformedGrid::Merged { leader, members }
 }
 
-impl Places {
-    /// What undoes a colour transform after these places.
-    pub(crate) fn undo_colour(&self, step: &Rct) -> Undoing
-        requires { step.now.begin_c + 3 ≤ length self.now.regions.items }
-        ensures { undo_of_code result ∷ [] ≡ undo_of (RctStep step.now) (layout_of self.now) }
-    {
-        let begin = step.begin_c as usize;
-        Undoing::Colour {
-            kind: step.rct_type,
-            regions: [
-                self.regions[begin],
-                self.regions[begin + 1],
-                self.regions[begin + 2],
-            ],
-        }
-    }
-
-    /// What undoes a palette after these places.
-    pub(crate) fn undo_palette(
-        &self,
-        alloc: Global,
-        palette: &Palette,
-    ) -> Result<Undoing, OutOfMemory>
-        requires some_channels { 1 ≤ palette.now.num_c }
-        requires range { palette.now.begin_c + palette.now.num_c ≤ length self.now.regions.items }
-        ensures { IfOk result (λ u. undo_of_code u ∷ [] ≡ undo_of (PaletteStep palette.now) (layout_of self.now)) }
-    {
-        let begin = palette.begin_c as usize;
-        let count = palette.num_c as usize;
-        let range = &self.regions[begin..begin + count];
-        let members = channels_at(alloc, range)?;
-        let index = merged(range[0], members);
-        Ok(Undoing::Palette {
-            palette: *palette,
-            table: self.table(palette),
-            index,
-        })
+/// What undoes a colour transform of these channels.
+pub(crate) fn undo_colour(channels: &ModularChannels, step: &Rct) -> Undoing
+    requires { step.now.begin_c + 3 ≤ length channels.now.placed.items }
+    ensures { undo_of_code result ∷ [] ≡ undo_of (RctStep step.now) (layout_of channels.now) }
+{
+    let begin = step.begin_c as usize;
+    Undoing::Colour {
+        kind: step.rct_type,
+        regions: [
+            channels.placed[begin].region,
+            channels.placed[begin + 1].region,
+            channels.placed[begin + 2].region,
+        ],
     }
 }
 
-/// Adds what undoes a squeeze of these regions.
+/// What undoes a palette of these channels.
+pub(crate) fn undo_palette(
+    alloc: Global,
+    channels: &ModularChannels,
+    palette: &Palette,
+) -> Result<Undoing, OutOfMemory>
+    requires some_channels { 1 ≤ palette.now.num_c }
+    requires range { palette.now.begin_c + palette.now.num_c ≤ length channels.now.placed.items }
+    ensures { IfOk result (λ u. undo_of_code u ∷ [] ≡ undo_of (PaletteStep palette.now) (layout_of channels.now)) }
+{
+    let begin = palette.begin_c as usize;
+    let count = palette.num_c as usize;
+    let range = &channels.placed[begin..begin + count];
+    let members = grids_of(alloc, range)?;
+    let index = merged(range[0].region, members);
+    Ok(Undoing::Palette {
+        palette: *palette,
+        table: palette.table(channels).region,
+        index,
+    })
+}
+
+/// Adds what undoes a squeeze of these channels.
 fn undo_halves(
     undoings: &mut Vec<Undoing>,
     horizontal: bool,
-    regions: &[Region],
+    channels: &[PlacedChannel],
 ) -> Result<(), OutOfMemory>
     ensures { IfOk result (λ _. undos_of undoings.new.items ≡ undos_of undoings.old.items ++ map
-        (UndoSqueeze horizontal) regions.now) }
+        (UndoSqueeze horizontal) (regions channels.now)) }
 {
-    for region in regions {
+    for channel in channels {
         undoings.push(Undoing::Squeeze {
             horizontal,
-            region: *region,
+            region: channel.region,
         })?;
     }
     Ok(())
 }
 
-impl Places {
-    /// Adds what undoes a squeeze step.
-    pub(crate) fn undo_squeeze(
-        &self,
-        undoings: &mut Vec<Undoing>,
-        step: &SqueezeParams,
-    ) -> Result<(), OutOfMemory>
-        requires { step.now.begin_c + step.now.num_c ≤ length self.now.regions.items }
-        ensures { IfOk result (λ _. undos_of undoings.new.items ≡ undos_of undoings.old.items ++ undo_of
-            (SqueezeStep step.now) (layout_of self.now)) }
-    {
-        let range = &self.regions[step.begin_c..step.begin_c + step.num_c];
-        undo_halves(undoings, step.horizontal, range)
-    }
+/// Adds what undoes a squeeze step of these channels.
+pub(crate) fn undo_squeeze(
+    undoings: &mut Vec<Undoing>,
+    channels: &ModularChannels,
+    step: &SqueezeParams,
+) -> Result<(), OutOfMemory>
+    requires { step.now.begin_c + step.now.num_c ≤ length channels.now.placed.items }
+    ensures { IfOk result (λ _. undos_of undoings.new.items ≡ undos_of undoings.old.items ++ undo_of
+        (SqueezeStep step.now) (layout_of channels.now)) }
+{
+    let range = &channels.placed[step.begin_c..step.begin_c + step.num_c];
+    undo_halves(undoings, step.horizontal, range)
 }
 
 /// Undoes a colour transform.

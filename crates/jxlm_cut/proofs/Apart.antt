@@ -7,7 +7,7 @@ use Rattle.jxlm_base.specs.Grid.{Grid}
 use Rattle.jxlm_base.specs.Outside.{KeepsOutside}
 use Rattle.jxlm_base.specs.Regions.{HasCell, AreApart, LieApart, AllLie, grid_of, grids_in, store_meanings}
 use Rattle.jxlm_base.specs.declared.subgrid.Region.{Region}
-use Rattle.jxlm_chain.specs.Layout.{no_region}
+use Rattle.jxlm_transform.specs.Layout.{no_region}
 use Rattle.jxlm_chain.proofs.KeptGrids.{grid_apart}
 use Rattle.jxlm_transform.specs.Channels.{ChannelList}
 use Rattle.jxlm_cut.specs.Passes.{Pass}

@@ -5,7 +5,7 @@ use Rattle.std.proofs.lemmas.Nat.{div-add-mod', div_below, mod_below}
 use Rattle.std.proofs.Math.Nat.{div-eq_of_lt-le, mul-le-mul_right, mul_comm}
 use Rattle.jxlm_base.specs.Regions.{region, HasCell}
 use Rattle.jxlm_base.specs.declared.subgrid.Region.{Region}
-use Rattle.jxlm_chain.proofs.StepFacts.{both_of}
+use Rattle.jxlm_transform.proofs.StepFacts.{both_of}
 use Rattle.jxlm_transform.specs.Channels.{Channel}
 use Rattle.jxlm_cut.specs.Cutting.{Kind, cell_width, cell_height, columns, rows}
 use Rattle.jxlm_cut.specs.Pieces.{SectionPart, piece_in, piece_of_group, where_some}

@@ -4,7 +4,7 @@ use Rattle.std.specs.BTreeSet.{BTreeSet}
 use Rattle.std.specs.List.{slice_get}
 use Rattle.std.proofs.lemmas.Bool.{cases_lt, ltb-true}
 use Rattle.jxlm_base.specs.declared.subgrid.Region.{Region}
-use Rattle.jxlm_chain.proofs.StepFacts.{both_of}
+use Rattle.jxlm_transform.proofs.StepFacts.{both_of}
 use Rattle.jxlm_transform.specs.Channels.{Channel, ChannelList}
 use Rattle.jxlm_cut.proofs.Cover.{HasIn}
 use Rattle.jxlm_cut.proofs.HeldCells.{into, none_some, out, own_piece}

@@ -14,3 +14,4 @@ pub mod PartSets
 pub mod EachPart
 mod Examples
 pub mod AreaLemmas
+pub mod AtChannel

@@ -7,7 +7,7 @@ use Rattle.jxlm_base.specs.Grid.{Grid, cell}
 use Rattle.jxlm_base.specs.Outside.{buffer_at}
 use Rattle.jxlm_base.specs.Regions.{HasCell}
 use Rattle.jxlm_base.specs.declared.subgrid.Region.{Region}
-use Rattle.jxlm_chain.specs.Layout.{Layout, layout_after, layout_after_all, no_region}
+use Rattle.jxlm_transform.specs.Layout.{Layout, layout_after, layout_after_all, no_region}
 use Rattle.jxlm_chain.specs.Undo.{Undo, UndoRct, UndoPalette, UndoSqueeze, Undoes, UndoesAll, undo_of, undo_of_all}
 use Rattle.jxlm_chain.proofs.ShapeLaws.{shape_all_undone}
 use Rattle.jxlm_chain.proofs.Undone.{undone_split}

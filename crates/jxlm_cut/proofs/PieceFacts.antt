@@ -7,7 +7,7 @@ use Rattle.std.proofs.lemmas.List.Elements.{All-cons, All-head, All-tail, All-ma
 use Rattle.jxlm_base.specs.Grid.{Grid}
 use Rattle.jxlm_base.specs.Regions.{AllLie, AreApart, LieApart, Lies}
 use Rattle.jxlm_base.specs.declared.subgrid.Region.{Region}
-use Rattle.jxlm_chain.specs.Layout.{no_region}
+use Rattle.jxlm_transform.specs.Layout.{no_region}
 use Rattle.jxlm_base.proofs.Regions.{apart_at}
 use Rattle.jxlm_chain.proofs.ListsApart.{pairs_cons}
 use Rattle.jxlm_transform.specs.Channels.{AreRegionsOf, Channel, ChannelList}

@@ -11,7 +11,7 @@ use Rattle.jxlm_transform.specs.declared.transform.SqueezeParams.{SqueezeParams}
 use Rattle.std.proofs.lemmas.List.Elements.{All-append, All-head, All-map, All-tail, All-weaker}
 use Rattle.jxlm_transform.specs.Steps.{HasChannels}
 use Rattle.jxlm_cut.proofs.Pictured.{IsOfPicture, average_halved, residual_halved}
-use Rattle.jxlm_chain.proofs.StepFacts.{both_of, first_step, same_ok}
+use Rattle.jxlm_transform.proofs.StepFacts.{both_of, first_step, same_ok}
 
 module _ {X : Type 0} (P : X → Type 0) where
   -- P holds of each element from place n on

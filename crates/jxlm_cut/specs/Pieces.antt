@@ -1,17 +1,17 @@
 -- What each part holds of the coded channels: regions and channels
 -- (ISO/IEC 18181-1, Modular: global and group sub-bitstreams).
-use Rattle.std.specs.Prelude.{◌≡◌, ℕ, ◌<◌, ◌+◌, ◌*◌, ◌/◌, ◌%◌, ◌-◌, ◌^◌, min, List, map, get_or, Bool, ◌&&◌, nat_lt, ◌==◌, if◌then◌else◌, unsigned_abs, filter_map, Option, Some, None}
+use Rattle.std.specs.Prelude.{◌≡◌, ℕ, ◌+◌, ◌*◌, ◌/◌, ◌%◌, ◌-◌, ◌^◌, min, List, map, get_or, Bool, ◌&&◌, nat_lt, ◌==◌, if◌then◌else◌, unsigned_abs, filter_map, Option, Some, None}
 use Rattle.std.specs.List.{enumerate_from}
 use Rattle.jxlm_base.specs.Regions.{region}
 use Rattle.jxlm_base.specs.declared.subgrid.Region.{Region}
-use Rattle.jxlm_chain.specs.Layout.{no_region}
-use Rattle.jxlm_transform.specs.Channels.{Channel, ChannelList}
+use Rattle.jxlm_transform.specs.Layout.{no_region}
+use Rattle.jxlm_transform.specs.Channels.{Channel, ChannelList, infos, regions}
+use Rattle.jxlm_transform.specs.declared.channels.PlacedChannel.{PlacedChannel}
 use Rattle.jxlm_transform.specs.ChannelSteps.{table_channel}
 use Rattle.jxlm_cut.specs.Passes.{Pass}
 use Rattle.jxlm_cut.specs.Cutting.{Kind, cell_width, cell_height, columns, rows, global_count, kind_of}
 use Rattle.jxlm_cut.specs.declared.part.Kind.TheVariants as kinds
 pub use Rattle.jxlm_cut.specs.declared.part.SectionPart.{SectionPart}
-use Rattle.jxlm_cut.specs.declared.pieces.Pieces.{Pieces}
 use Rattle.jxlm_cut.specs.declared.part.SectionPart.TheVariants as parts
 
 -- Group k's cells of channel n. Groups are numbered by rows, left to right; the last column or row may be narrow.
@@ -69,11 +69,7 @@ abbrev pub part_channels : ℕ → List Pass → ChannelList → SectionPart →
 part_channels dim passes l name =
     map (λ r. channel_in name (get_or l.channels r.buffer (table_channel 0 0)) r) (pieces dim passes l name)
 
--- the region's end can be counted in 64 bits, as that of each region of a buffer can
-abbrev pub HasRoom : Region → Type 0
-HasRoom r = (r.x + r.width < 2 ^ 64) × (r.y + r.height < 2 ^ 64)
-
 -- the channels of a part, and where each lies in the store, where the coded channels lie in these regions
-pub record ArePiecesOf (dim : ℕ) (passes : List Pass) (l : ChannelList) (coded : List Region) (name : SectionPart) (p : Pieces) : Type 0 where
-  pub channels : p.infos.items ≡ part_channels dim passes l name
-  pub regions : p.regions.items ≡ in_store coded (pieces dim passes l name)
+pub record ArePiecesOf (dim : ℕ) (passes : List Pass) (l : ChannelList) (coded : List Region) (name : SectionPart) (ps : List PlacedChannel) : Type 0 where
+  pub channels : infos ps ≡ part_channels dim passes l name
+  pub regions : regions ps ≡ in_store coded (pieces dim passes l name)

@@ -3,7 +3,7 @@
 
 ghost use Rattle.std.specs.Prelude.{◌≡◌, ◌++◌, ◌<◌, ℕ, IfOk, OnOk};
 ghost use Rattle.jxlm_transform.specs.Params.{IsGroupDim};
-ghost use Rattle.jxlm_cut.specs.Cutting.{list_with};
+ghost use Rattle.jxlm_transform.specs.Lists.{list_of};
 ghost use Rattle.jxlm_cut.specs.Parts.{part_in as the_part};
 ghost use Rattle.jxlm_cut.specs.Areas.{AreOfPicture, area_of, areas_of, picture_of as the_picture, square as the_square, squares};
 ghost use Rattle.jxlm_cut.specs.Inner.Squares.{IsInPicture, first_groups};
@@ -13,7 +13,7 @@ use crate::cut::group_count;
 use crate::part::{Kind, SectionPart};
 use crate::pass::Pass;
 use jxlm_base::grid::OutOfMemory;
-use jxlm_transform::channels::ModularChannelInfo;
+use jxlm_transform::channels::{ModularChannelInfo, ModularChannels};
 use std::alloc::Global;
 
 /// A rectangle of the picture, in its samples before all transforms.
@@ -121,15 +121,14 @@ pub fn parts(
     alloc: Global,
     width: u32,
     height: u32,
-    channels: &[ModularChannelInfo],
-    nb_meta: usize,
+    channels: &ModularChannels,
     group_dim: u32,
     passes: &[Pass],
 ) -> Result<Vec<PartArea>, OutOfMemory>
     requires group_dim { IsGroupDim group_dim }
-    requires pictured { AreOfPicture width height group_dim (list_with channels.now nb_meta) }
+    requires pictured { AreOfPicture width height group_dim (list_of channels.now) }
     ensures { IfOk result (λ parts. parts.items
-        ≡ areas_of width height group_dim passes.now (list_with channels.now nb_meta)) }
+        ≡ areas_of width height group_dim passes.now (list_of channels.now)) }
 {
     let squares = Squares {
         width,
@@ -140,11 +139,11 @@ pub fn parts(
     let part = SectionPart::Global;
     let area = squares.area(part);
     list.push(PartArea { part, area })?;
-    let count = group_count(channels, nb_meta, group_dim, passes, Kind::Lf);
+    let count = group_count(channels, group_dim, passes, Kind::Lf);
     squares.add_groups(&mut list, Kind::Lf, count)?;
     for pass in passes {
         let kind = Kind::Pass(pass.number);
-        let count = group_count(channels, nb_meta, group_dim, passes, kind);
+        let count = group_count(channels, group_dim, passes, kind);
         squares.add_groups(&mut list, kind, count)?;
     }
     Ok(list)

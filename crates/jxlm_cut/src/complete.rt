@@ -2,16 +2,16 @@
 
 ghost use Rattle.std.specs.Prelude.{◌≡◌, ◌↔◌, IsTrue};
 ghost use Rattle.jxlm_transform.specs.Params.{IsGroupDim};
-ghost use Rattle.jxlm_cut.specs.Cutting.{list_with};
+ghost use Rattle.jxlm_transform.specs.Lists.{list_of};
 ghost use Rattle.jxlm_cut.specs.PartSets.{HoldsEach};
 ghost use Rattle.jxlm_cut.specs.Parts.{part_in as the_part};
 ghost use Rattle.jxlm_cut.specs.Inner.Holding.{HasCellsOf, HoldsEachOf, part_count as the_part_count};
 
-use crate::cut::{global_count, groups, kind_of};
+use crate::cut::{channel_at, count_of, global_count, groups, kind_of};
 use crate::part::{Kind, SectionPart};
 use crate::pass::Pass;
 use crate::pieces::piece_in;
-use jxlm_transform::channels::ModularChannelInfo;
+use jxlm_transform::channels::{ModularChannelInfo, ModularChannels};
 use std::collections::BTreeSet;
 
 /// How many parts hold a channel of a kind: the global part alone, or its groups.
@@ -76,19 +76,19 @@ fn has_parts_of(
 /// Whether a set has each part with cells of the coded channels, of which the first `nb_meta` are meta channels. It
 /// takes time for each group of each channel.
 pub fn has_each_part(
-    channels: &[ModularChannelInfo],
-    nb_meta: usize,
+    channels: &ModularChannels,
     group_dim: u32,
     passes: &[Pass],
     parts: &BTreeSet<SectionPart>,
 ) -> bool
     requires { IsGroupDim group_dim }
-    ensures { IsTrue result ↔ HoldsEach group_dim passes.now (list_with channels.now nb_meta) parts.now }
+    ensures { IsTrue result ↔ HoldsEach group_dim passes.now (list_of channels.now) parts.now }
 {
-    let count = global_count(channels, nb_meta, group_dim);
-    for n in 0..channels.len() {
-        let kind = kind_of(passes, count, n, &channels[n]);
-        if !has_parts_of(&channels[n], n, kind, group_dim, parts) {
+    let count = global_count(channels, group_dim);
+    for n in 0..count_of(channels) {
+        let channel = channel_at(channels, n);
+        let kind = kind_of(passes, count, n, channel);
+        if !has_parts_of(channel, n, kind, group_dim, parts) {
             return false;
         }
     }

@@ -1,15 +1,32 @@
 //! How each coded channel is cut (ISO/IEC 18181-1, frame: groups, LF groups and passes), and how many groups there are.
 
-ghost use Rattle.std.specs.Prelude.{◌≡◌, ◌*◌, ◌/◌, ◌^◌, IsTrue, IsFalse, IfOk, IfErr, unsigned_abs};
+ghost use Rattle.std.specs.Prelude.{◌≡◌, ◌<◌, get_or, length, ◌*◌, ◌/◌, ◌^◌, IsTrue, IsFalse, IfOk, IfErr, unsigned_abs};
 ghost use Rattle.jxlm_base.specs.ErrorKind.{BadSqueeze, kind_of as error_kind};
 ghost use Rattle.jxlm_transform.specs.Params.{IsGroupDim};
-ghost use Rattle.jxlm_cut.specs.Cutting.{can_cut, cell_height as the_cell_height, cell_width as the_cell_width, columns as the_columns, fits_group as the_fit, global_count as the_global_count, has_cells as the_cells, is_low_frequency as the_low, kind_of as the_kind, list_with, rows as the_rows, span as the_span};
-ghost use Rattle.jxlm_cut.specs.Counts.{exists as the_existing, group_count as the_group_count, is_kind as the_same_kind};
+ghost use Rattle.jxlm_transform.specs.Channels.{Channel, infos};
+ghost use Rattle.jxlm_transform.specs.Lists.{list_of};
+ghost use Rattle.jxlm_cut.specs.Cutting.{can_cut, cell_height as the_cell_height, cell_width as the_cell_width, columns as the_columns, fits_group as the_fit, global_count as the_global_count, has_cells as the_cells, is_low_frequency as the_low, kind_of as the_kind, rows as the_rows, span as the_span};
+ghost use Rattle.jxlm_cut.specs.Counts.{exists as the_existing, group_count as the_group_count, groups_of as the_groups_of, is_kind as the_same_kind};
 
 use crate::part::{Kind, SectionPart};
 use crate::pass::{Pass, pass_with};
 use jxlm_base::error::{Error, Result};
-use jxlm_transform::channels::ModularChannelInfo;
+use jxlm_transform::channels::{ModularChannelInfo, ModularChannels};
+
+/// How many channels there are.
+pub(crate) fn count_of(channels: &ModularChannels) -> usize
+    ensures { result ≡ length (infos channels.now.placed.items) }
+{
+    channels.placed.len()
+}
+
+/// Channel `n` of a list.
+pub(crate) fn channel_at(channels: &ModularChannels, n: usize) -> &ModularChannelInfo
+    requires { n < length (infos channels.now.placed.items) }
+    ensures { (d : Channel) → result.now ≡ get_or (infos channels.now.placed.items) n d }
+{
+    &channels.placed[n].info
+}
 
 /// Whether no side of a channel is above that of a group.
 fn fits_group(channel: &ModularChannelInfo, group_dim: u32) -> bool
@@ -19,11 +36,11 @@ fn fits_group(channel: &ModularChannelInfo, group_dim: u32) -> bool
 }
 
 /// How many channels the global part has: the longest prefix of channels that are meta or fit a group.
-pub fn global_count(channels: &[ModularChannelInfo], nb_meta: usize, group_dim: u32) -> usize
-    ensures { result ≡ the_global_count group_dim (list_with channels.now nb_meta) }
+pub fn global_count(channels: &ModularChannels, group_dim: u32) -> usize
+    ensures { result ≡ the_global_count group_dim (list_of channels.now) }
 {
-    let mut count = nb_meta;
-    while count < channels.len() && fits_group(&channels[count], group_dim) {
+    let mut count = channels.nb_meta_channels;
+    while count < count_of(channels) && fits_group(channel_at(channels, count), group_dim) {
         count += 1;
     }
     count
@@ -126,14 +143,14 @@ fn has_cells(channel: &ModularChannelInfo, group_dim: u32) -> bool
 /// # Errors
 ///
 /// `InvalidSqueezeParams` if a group's cell in a channel that is cut has a side of 0, and no other.
-pub fn check_cut(channels: &[ModularChannelInfo], nb_meta: usize, group_dim: u32) -> Result<()>
+pub fn check_cut(channels: &ModularChannels, group_dim: u32) -> Result<()>
     requires { IsGroupDim group_dim }
-    ensures ok { IfOk result (λ _. IsTrue (can_cut group_dim (list_with channels.now nb_meta))) }
+    ensures ok { IfOk result (λ _. IsTrue (can_cut group_dim (list_of channels.now))) }
     ensures err { IfErr result (λ e. (error_kind e ≡ BadSqueeze) × IsFalse
-        (can_cut group_dim (list_with channels.now nb_meta))) }
+        (can_cut group_dim (list_of channels.now))) }
 {
-    for n in global_count(channels, nb_meta, group_dim)..channels.len() {
-        if !has_cells(&channels[n], group_dim) {
+    for n in global_count(channels, group_dim)..count_of(channels) {
+        if !has_cells(channel_at(channels, n), group_dim) {
             return Err(Error::InvalidSqueezeParams);
         }
     }
@@ -152,46 +169,54 @@ fn is_kind(one: Kind, other: Kind) -> bool
     }
 }
 
-/// How many groups there are of a kind: 0 where no channel is cut so.
-///
-/// Of [`Kind::Lf`] these are the LF groups, and of [`Kind::Pass`] the groups of that pass.
-pub fn group_count(
-    channels: &[ModularChannelInfo],
-    nb_meta: usize,
-    group_dim: u32,
+/// How many groups of a kind channel `n` has, of which the global part has the first `count`.
+fn groups_of(
     passes: &[Pass],
+    count: usize,
+    n: usize,
+    channel: &ModularChannelInfo,
+    group_dim: u32,
     kind: Kind,
 ) -> u64
     requires { IsGroupDim group_dim }
-    ensures { result ≡ the_group_count group_dim passes.now (list_with channels.now nb_meta) kind }
+    ensures { result ≡ the_groups_of group_dim passes.now count kind (n, channel.now) }
 {
-    let count = global_count(channels, nb_meta, group_dim);
+    if is_kind(kind, kind_of(passes, count, n, channel)) {
+        groups(channel, group_dim)
+    } else {
+        0
+    }
+}
+
+/// How many groups there are of a kind: 0 where no channel is cut so.
+///
+/// Of [`Kind::Lf`] these are the LF groups, and of [`Kind::Pass`] the groups of that pass.
+pub fn group_count(channels: &ModularChannels, group_dim: u32, passes: &[Pass], kind: Kind) -> u64
+    requires { IsGroupDim group_dim }
+    ensures { result ≡ the_group_count group_dim passes.now (list_of channels.now) kind }
+{
+    let count = global_count(channels, group_dim);
     let mut count_of_kind = 0;
-    for n in 0..channels.len() {
-        let channel = &channels[n];
-        if is_kind(kind, kind_of(passes, count, n, channel)) {
-            count_of_kind = count_of_kind.max(groups(channel, group_dim));
-        }
+    for n in 0..count_of(channels) {
+        let channel = channel_at(channels, n);
+        count_of_kind = count_of_kind.max(groups_of(passes, count, n, channel, group_dim, kind));
     }
     count_of_kind
 }
 
 /// Whether there is such a part. The global part is always there.
 pub fn exists(
-    channels: &[ModularChannelInfo],
-    nb_meta: usize,
+    channels: &ModularChannels,
     group_dim: u32,
     passes: &[Pass],
     part: SectionPart,
 ) -> bool
     requires { IsGroupDim group_dim }
-    ensures { result ≡ the_existing group_dim passes.now (list_with channels.now nb_meta) part }
+    ensures { result ≡ the_existing group_dim passes.now (list_of channels.now) part }
 {
     match part {
         SectionPart::Global => true,
-        SectionPart::Lf(k) => k < group_count(channels, nb_meta, group_dim, passes, Kind::Lf),
-        SectionPart::Pass(p, k) => {
-            k < group_count(channels, nb_meta, group_dim, passes, Kind::Pass(p))
-        }
+        SectionPart::Lf(k) => k < group_count(channels, group_dim, passes, Kind::Lf),
+        SectionPart::Pass(p, k) => { k < group_count(channels, group_dim, passes, Kind::Pass(p)) }
     }
 }

@@ -2,18 +2,22 @@
 
 ghost use Rattle.std.specs.Prelude.{◌≡◌, ◌↔◌, IsTrue, ◌+◌, ◌*◌, ◌^◌, ◌<◌, ◌++◌, ◌∷◌, [], IfOk, IfSome, nat_lt, true};
 ghost use Rattle.std.specs.List.{All, cons_option};
-ghost use Rattle.jxlm_transform.specs.Channels.{AreRegionsOf};
+ghost use Rattle.jxlm_transform.specs.Channels.{AreRegionsOf, infos, regions};
+ghost use Rattle.jxlm_transform.specs.Ends.{HasEnds};
 ghost use Rattle.jxlm_transform.specs.Params.{IsGroupDim};
-ghost use Rattle.jxlm_cut.specs.Cutting.{columns as the_columns, list_with, rows as the_rows};
+ghost use Rattle.jxlm_transform.specs.Lists.{list_of};
+ghost use Rattle.jxlm_cut.specs.Cutting.{columns as the_columns, rows as the_rows};
 ghost use Rattle.jxlm_cut.specs.Parts.{HasSome};
 ghost use Rattle.jxlm_cut.specs.Inner.Fitting.{Adds, FitsBack, FitsIn};
-ghost use Rattle.jxlm_cut.specs.Pieces.{ArePiecesOf, HasRoom, channel_in as the_channel, piece_channel as the_piece_channel, piece_in as the_piece, piece_of_group as the_group, pieces as the_pieces, where_some, within as the_place};
+ghost use Rattle.jxlm_cut.specs.Pieces.{ArePiecesOf, channel_in as the_channel, piece_channel as the_piece_channel, piece_in as the_piece, piece_of_group as the_group, pieces as the_pieces, where_some, within as the_place};
 
-use crate::cut::{cell_height, cell_width, columns, global_count, groups, kind_of};
+use crate::cut::{
+    cell_height, cell_width, channel_at, columns, count_of, global_count, groups, kind_of,
+};
 use crate::part::{Kind, SectionPart};
 use crate::pass::Pass;
 use jxlm_base::grid::{OutOfMemory, Region};
-use jxlm_transform::channels::ModularChannelInfo;
+use jxlm_transform::channels::{ModularChannelInfo, ModularChannels, PlacedChannel};
 use std::alloc::Global;
 
 /// The region, unless it has no cells.
@@ -125,75 +129,57 @@ fn within(region: &Region, piece: Region) -> Region
     }
 }
 
-/// The channels of a part, and the region of each in the store of the image.
-#[derive(Drop)]
-pub struct Pieces {
-    /// The channels, in order.
-    pub infos: Vec<ModularChannelInfo>,
-    /// Where they lie.
-    pub regions: Vec<Region>,
+/// Adds what a part has of coded channel n, of a kind.
+fn add(
+    pieces: &mut Vec<PlacedChannel>,
+    channel: &PlacedChannel,
+    n: usize,
+    kind: Kind,
+    group_dim: u32,
+    part: SectionPart,
+) -> Result<(), OutOfMemory>
+    requires group_dim { IsGroupDim group_dim }
+    requires sides { (channel.now.region.width ≡ channel.now.info.width)
+        × (channel.now.region.height ≡ channel.now.info.height) }
+    requires room { HasEnds channel.now.region }
+    ensures { IfOk result (λ _. Adds (the_piece group_dim kind part n channel.now.info) part channel.now.info
+        channel.now.region pieces.old.items pieces.new.items) }
+{
+    if let Some(piece) = piece_in(&channel.info, n, kind, group_dim, part) {
+        pieces.push(PlacedChannel {
+            info: channel_in(part, &channel.info, piece),
+            region: within(&channel.region, piece),
+        })?;
+    }
+    Ok(())
 }
 
-impl Pieces {
-    /// Adds what a part has of channel n, of a kind, which lies in a region of the store.
-    ///
-    /// # Errors
-    ///
-    /// `OutOfMemory`, and no other.
-    fn add(
-        &mut self,
-        channel: &ModularChannelInfo,
-        n: usize,
-        kind: Kind,
-        group_dim: u32,
-        part: SectionPart,
-        region: &Region,
-    ) -> Result<(), OutOfMemory>
-        requires group_dim { IsGroupDim group_dim }
-        requires sides { (region.now.width ≡ channel.now.width) × (region.now.height ≡ channel.now.height) }
-        requires room { HasRoom region.now }
-        ensures { IfOk result (λ _. Adds (the_piece group_dim kind part n channel.now) part channel.now region.now
-            self.old self.new) }
-    {
-        if let Some(piece) = piece_in(channel, n, kind, group_dim, part) {
-            self.infos.push(channel_in(part, channel, piece))?;
-            self.regions.push(within(region, piece))?;
-        }
-        Ok(())
+/// What a part holds of the coded channels: channels of its own, with their regions in the store. It takes time for each
+/// channel, and for each pass where a channel is cut into a pass's groups.
+///
+/// # Errors
+///
+/// `OutOfMemory`, and no other.
+pub fn pieces(
+    alloc: Global,
+    channels: &ModularChannels,
+    group_dim: u32,
+    passes: &[Pass],
+    part: SectionPart,
+) -> Result<Vec<PlacedChannel>, OutOfMemory>
+    requires group_dim { IsGroupDim group_dim }
+    requires sides { AreRegionsOf (infos channels.now.placed.items) (regions channels.now.placed.items) }
+    ensures { IfOk result (λ v. ArePiecesOf group_dim passes.now (list_of channels.now)
+        (regions channels.now.placed.items) part v.items) }
+{
+    let count = global_count(channels, group_dim);
+    let mut pieces = Vec::new(alloc);
+    for n in 0..count_of(channels) {
+        let channel = &channels.placed[n];
+        let kind = kind_of(passes, count, n, &channel.info);
+        add(&mut pieces, channel, n, kind, group_dim, part)?;
     }
-
-    /// What a part holds of the coded channels, of which the first `nb_meta` are meta channels, and which lie in the
-    /// regions `coded`. It takes time for each channel, and for each pass where a channel is cut into a pass's groups.
-    ///
-    /// # Errors
-    ///
-    /// `OutOfMemory`, and no other.
-    pub fn of(
-        alloc: Global,
-        channels: &[ModularChannelInfo],
-        nb_meta: usize,
-        group_dim: u32,
-        passes: &[Pass],
-        coded: &[Region],
-        part: SectionPart,
-    ) -> Result<Pieces, OutOfMemory>
-        requires group_dim { IsGroupDim group_dim }
-        requires sides { AreRegionsOf channels.now coded.now }
-        requires room { All HasRoom coded.now }
-        ensures { IfOk result (λ p. ArePiecesOf group_dim passes.now (list_with channels.now nb_meta) coded.now
-            part p) }
-    {
-        let count = global_count(channels, nb_meta, group_dim);
-        let mut pieces = Pieces {
-            infos: Vec::new(alloc),
-            regions: Vec::new(alloc),
-        };
-        for n in 0..channels.len() {
-            let kind = kind_of(passes, count, n, &channels[n]);
-            pieces.add(&channels[n], n, kind, group_dim, part, &coded[n])?;
-        }
-        Ok(pieces)
-    }
+    Ok(pieces)
 }
 
 /// Whether there is a region, and it has cells.
@@ -208,19 +194,19 @@ fn has_some(piece: Option<Region>) -> bool
 
 /// Whether a part has cells of the coded channels, of which the first `nb_meta` are meta channels.
 pub fn has_pieces(
-    channels: &[ModularChannelInfo],
-    nb_meta: usize,
+    channels: &ModularChannels,
     group_dim: u32,
     passes: &[Pass],
     part: SectionPart,
 ) -> bool
     requires { IsGroupDim group_dim }
-    ensures { IsTrue result ↔ HasSome (the_pieces group_dim passes.now (list_with channels.now nb_meta) part) }
+    ensures { IsTrue result ↔ HasSome (the_pieces group_dim passes.now (list_of channels.now) part) }
 {
-    let count = global_count(channels, nb_meta, group_dim);
-    for n in 0..channels.len() {
-        let kind = kind_of(passes, count, n, &channels[n]);
-        if has_some(piece_in(&channels[n], n, kind, group_dim, part)) {
+    let count = global_count(channels, group_dim);
+    for n in 0..count_of(channels) {
+        let channel = channel_at(channels, n);
+        let kind = kind_of(passes, count, n, channel);
+        if has_some(piece_in(channel, n, kind, group_dim, part)) {
             return true;
         }
     }

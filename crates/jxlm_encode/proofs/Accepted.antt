@@ -7,11 +7,12 @@ use Rattle.std.proofs.lemmas.List.Elements.{All-nil, All-push}
 use Rattle.jxlm_base.specs.ErrorKind.{ErrorKind, NoMemory, OfDecoder, UnlessMemory, UnlessNoMemory, kind_of}
 use Rattle.jxlm_base.specs.declared.error.Error.{Error}
 use Rattle.jxlm_base.specs.declared.decoder.DecoderError.TheVariants as decoder
-use Rattle.jxlm_chain.specs.Layout.{first_layout}
+use Rattle.jxlm_transform.specs.Layout.{first_layout}
 use Rattle.jxlm_chain.specs.Placed.{IsPlaced, IsPlacedBy}
 use Rattle.jxlm_chain.specs.declared.placed.PlacedChannels.{PlacedChannels}
 use Rattle.jxlm_chain.proofs.PlacedSteps.{goes_both, goes_nowhere}
-use Rattle.jxlm_transform.specs.Channels.{Channel, ChannelList, list_of}
+use Rattle.jxlm_transform.specs.Channels.{Channel, ChannelList}
+use Rattle.jxlm_transform.specs.Lists.{list_of}
 use Rattle.jxlm_transform.specs.ChannelSteps.{CodedList, Step, coded_list, list_after_all, steps_of}
 use Rattle.jxlm_transform.specs.Transforms.{HasChannels, IsTransform, Transform, OfRct, OfPalette, OfSqueeze}
 use Rattle.jxlm_transform.specs.Transforms.{transform_of as transform_in}
@@ -158,7 +159,7 @@ refused_at xs k x channels p few lt is h refused =
 
 -- too many channels are left
 pub refused_after : (xs : List EncodeTransform) (k n : ℕ) (channels : List Channel) (p : PlacedChannels) → length xs ≤ 273 → n ≡ length xs → length xs ≤ k → HaveCome (map transform_of (take k xs)) channels p →
-    65536 < length p.channels.info.items → IsTransformRefused (map transform_of xs) (listed channels) n
+    65536 < length (list_of p.channels).channels → IsTransformRefused (map transform_of xs) (listed channels) n
 refused_after xs k n channels p few is le h many =
     let long = length-map xs transform_of in
     let all : HaveCome (map transform_of (take n xs)) channels p = subst (λ (ys : List EncodeTransform). HaveCome (map transform_of ys) channels p) (sym (take_all n xs (omega (arith, is)))) (all_come xs k channels p le h) in

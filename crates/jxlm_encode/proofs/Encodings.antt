@@ -1,15 +1,15 @@
 -- What the steps of an encoder come to: an image that is encoded.
-use Rattle.std.proofs.Common.{◌≡◌, inl, inr, ℕ, zero, suc, ◌+◌, ℤ, List, [], ◌∷◌, ◌++◌, length, map, Ok, refl, sym, ap, ◌∙◌, subst, append-nil, arith}
+use Rattle.std.proofs.Common.{◌≡◌, ℕ, ℤ, List, ◌++◌, length, map, Ok, sym, ap, ◌∙◌, subst, append-nil}
 use Rattle.std.specs.List.{All}
 use Rattle.std.specs.Int.{Width}
 use Rattle.std.proofs.lemmas.List.Elements.{All-weaker}
 use Rattle.jxlm_base.specs.Grid.{Grid, IsFull}
 use Rattle.jxlm_base.specs.Regions.{grids_in, store_meanings}
 use Rattle.jxlm_chain.specs.Chain.{Chain}
-use Rattle.jxlm_chain.specs.Layout.{HasBuffers, Layout, buffers_of, first_layout, layout_after_all, sides_of}
+use Rattle.jxlm_transform.specs.Layout.{HasBuffers, Layout, buffers_of, first_layout, layout_after_all, sides_of}
 use Rattle.jxlm_chain.specs.Lying.{HasTables, LieIn}
 use Rattle.jxlm_chain.specs.Placed.{IsPlacedBy}
-use Rattle.jxlm_chain.specs.Places.{layout_of}
+use Rattle.jxlm_transform.specs.Lists.{layout_of, list_of}
 use Rattle.jxlm_chain.specs.Shape.{SameShape}
 use Rattle.jxlm_chain.specs.Steps.{CanUndoAll}
 use Rattle.jxlm_chain.specs.Undo.{Undo, UndoesAll}
@@ -21,35 +21,25 @@ use Rattle.jxlm_chain.proofs.LayoutLaws.{lie_after_all, lie_first}
 use Rattle.jxlm_chain.proofs.PlacedSteps.{placed_by}
 use Rattle.jxlm_chain.proofs.ShapeLaws.{lie_in_kept, tables_kept}
 use Rattle.jxlm_chain.proofs.Undone.{chain_of}
-use Rattle.jxlm_header.specs.Opening.{depth_limit, node_limit}
 use Rattle.jxlm_ma.specs.Tree.{AllLeaves, Shape}
 use Rattle.jxlm_ma.specs.declared.flat.Leaf.{Leaf}
-use Rattle.jxlm_ma.proofs.FlatTrees.{each_leaf, reached_leaf}
-use Rattle.jxlm_part.specs.Coded.{IsCodedWhole}
-use Rattle.jxlm_part.specs.Part.{cell_count, cells_of, next_leaf}
+use Rattle.jxlm_ma.proofs.FlatTrees.{each_leaf}
+use Rattle.jxlm_part.specs.Part.{cells_of}
 use Rattle.jxlm_part.proofs.Loops.{all_cells}
-use Rattle.jxlm_plain.specs.Plain.{plain}
-use Rattle.jxlm_transform.specs.Channels.{AreGridsOf, Channel, list_of}
+use Rattle.jxlm_transform.specs.Channels.{AreGridsOf, Channel}
 use Rattle.jxlm_transform.specs.ChannelSteps.{CodedList, Step, list_after_all}
 use Rattle.jxlm_transform.specs.Steps.{HasChannels, Sides}
 use Rattle.jxlm_transform.specs.Transforms.{IsTransform, Transform}
 use Rattle.jxlm_transform.proofs.SideBounds.{narrow_coded}
 use Rattle.jxlm_transform.proofs.StepLaws.{steps_list}
-use Rattle.jxlm_write.specs.Headers.{header_bits}
 use Rattle.jxlm_write.specs.Laws.{IsWritten}
-use Rattle.jxlm_write.specs.Tokens.{one_cluster, token_bits}
-use Rattle.jxlm_write.specs.Trees.{leaves_in, tree_bits}
-use Rattle.jxlm_write.specs.Written.{HasBits}
 use Rattle.jxlm_write.specs.declared.tree.EncodeNode.{EncodeNode}
-use Rattle.jxlm_write.proofs.BitLists.{has_first, has_rest}
-use Rattle.jxlm_write.proofs.HeaderLaws.{headers_stand}
-use Rattle.jxlm_write.proofs.TreeLaws.{trees_stand}
 use Rattle.jxlm_encode.specs.declared.error.EncodeError.{EncodeError}
 use Rattle.jxlm_encode.specs.declared.error.EncodeError.TheVariants.{InvalidTransform, InvalidTree, OutOfMemory}
 use Rattle.jxlm_write.specs.Headers.{transform_of}
 use Rattle.jxlm_write.specs.declared.header.EncodeTransform.{EncodeTransform}
 use Rattle.jxlm_write.proofs.Spelled.{each_of}
-use Rattle.jxlm_encode.specs.Encoded.{AreAccepted, EncodeFails, IsTransformRefused, IsEncoded, IsSmall, IsTreeGiven, given_list}
+use Rattle.jxlm_encode.specs.Encoded.{AreAccepted, EncodeFails, IsTransformRefused, IsSmall, IsTreeGiven, given_list}
 use Rattle.jxlm_encode.specs.Inner.Listing.{IsNotGiven}
 use Rattle.jxlm_encode.specs.Inner.Placing.{ArePlaced, AreRefused, listed}
 use Rattle.jxlm_encode.specs.Inner.Writing.{ArePrepared, ChannelsLie, part_at}
@@ -60,7 +50,6 @@ use Rattle.jxlm_encode.proofs.Listings.{IsGivenLeaf, leaves_given}
 use Rattle.jxlm_redo.proofs.NoPalettes.{no_palettes}
 use Rattle.jxlm_encode.proofs.NoPalettes.{no_tables, steps_have, written_steps}
 use Rattle.jxlm_encode.proofs.OwnGrids.{own_buffers, own_grids, own_narrow}
-use Rattle.jxlm_tokens.proofs.WrittenCoded.{written_coded}
 
 -- ---- where the channels lie
 
@@ -118,12 +107,12 @@ module _ {S : Type 0} (to_int : S → ℤ) (ts : List Transform) (grids : List (
     tables_there : HasTables steps (length channels) store
     tables_there = tables_kept grids store shape steps (length channels) first.1
 
-    lie_last : LieIn p.channels.info.items (layout_after_all steps (first_layout channels)) store
+    lie_last : LieIn (list_of p.channels).channels (layout_after_all steps (first_layout channels)) store
     lie_last =
         (lie_after_all steps (given_list (store_meanings to_int grids)) (list_of p.channels) (first_layout channels) store leaves have lie_first_there tables_there).0
 
-    lie_there : LieIn p.channels.info.items (layout_of p.places) store
-    lie_there = subst (λ (l : Layout). LieIn p.channels.info.items l store) (sym by.layout) lie_last
+    lie_there : LieIn (list_of p.channels).channels (layout_of p.channels) store
+    lie_there = subst (λ (l : Layout). LieIn (list_of p.channels).channels l store) (sym by.layout) lie_last
 
     -- the coded channels lie in the store
     pub channels_lie : ChannelsLie p store
@@ -136,10 +125,10 @@ module _ {S : Type 0} (to_int : S → ℤ) (ts : List Transform) (grids : List (
     }
 
     abbrev samples : List (Grid ℤ)
-    samples = grids_in p.places.regions.items (store_meanings to_int store)
+    samples = grids_in (layout_of p.channels).regions (store_meanings to_int store)
 
-    are_grids : AreGridsOf p.channels.info.items samples
-    are_grids = grids_of_lying to_int store p.channels.info.items (layout_of p.places) lie_there
+    are_grids : AreGridsOf (list_of p.channels).channels samples
+    are_grids = grids_of_lying to_int store (list_of p.channels).channels (layout_of p.channels) lie_there
 
     module _ (w : Width) (undone : (depth : ℕ) → UndoesAll to_int w depth (undos_of p.undoings.items) store grids) where
       -- the image becomes the coded samples
@@ -152,7 +141,7 @@ module _ {S : Type 0} (to_int : S → ℤ) (ts : List Transform) (grids : List (
           (sym by.layout) made)
 
       -- and is ready to be written
-      pub are_prepared : (nodes : List EncodeNode) (tree : Shape Leaf) → IsTreeGiven nodes p.channels.info.items tree → (tokens : List ℕ) → AreTokensOf w (part_at p tree) (cells_of samples) tokens →
+      pub are_prepared : (nodes : List EncodeNode) (tree : Shape Leaf) → IsTreeGiven nodes (list_of p.channels).channels tree → (tokens : List ℕ) → AreTokensOf w (part_at p tree) (cells_of samples) tokens →
           ArePrepared ts nodes (store_meanings to_int grids) w tokens
       are_prepared nodes tree given tokens are = record {
         coded = coded;
@@ -161,7 +150,7 @@ module _ {S : Type 0} (to_int : S → ℤ) (ts : List Transform) (grids : List (
         tree = tree;
         given = given;
         samples = samples;
-        counted = sym (all_cells p.channels.info.items samples are_grids);
+        counted = sym (all_cells (list_of p.channels).channels samples are_grids);
         are = are;
         chain = chain;
       }
@@ -188,7 +177,7 @@ transforms_fail ts nodes image infos same InvalidTree h = absurd h
 transforms_fail ts nodes image infos same OutOfMemory h = tt
 
 -- the tree is refused
-pub tree_fails : (ts : List Transform) (nodes : List EncodeNode) (image : List (Grid ℤ)) (p : PlacedChannels) → ArePlaced ts (given_list image).channels p → (e : EncodeError) → IsNotGiven nodes p.channels.info.items e →
+pub tree_fails : (ts : List Transform) (nodes : List EncodeNode) (image : List (Grid ℤ)) (p : PlacedChannels) → ArePlaced ts (given_list image).channels p → (e : EncodeError) → IsNotGiven nodes (list_of p.channels).channels e →
     EncodeFails ts nodes image e
 tree_fails ts nodes image p placed (InvalidTransform k) h = absurd h
 tree_fails ts nodes image p placed InvalidTree h = record {

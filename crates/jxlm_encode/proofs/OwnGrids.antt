@@ -8,7 +8,7 @@ use Rattle.jxlm_base.specs.Grid.{Grid, grid, IsFull, meanings}
 use Rattle.jxlm_base.specs.Regions.{region, grid_of, grids_in, store_meanings, buffer_of}
 use Rattle.jxlm_base.specs.declared.subgrid.Region.{Region}
 use Rattle.jxlm_base.proofs.Regions.{grid_of_whole, IsFull-meanings}
-use Rattle.jxlm_chain.specs.Layout.{HasBuffers, sides_of, whole_regions, first_layout}
+use Rattle.jxlm_transform.specs.Layout.{HasBuffers, sides_of, whole_regions, first_layout}
 use Rattle.jxlm_transform.specs.Channels.{Channel, IsNarrow, image_channel}
 use Rattle.jxlm_transform.specs.Params.{IsValidChannel, sized}
 use Rattle.jxlm_transform.specs.declared.param.ChannelShift.TheVariants.{Shifts}

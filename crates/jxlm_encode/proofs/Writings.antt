@@ -1,14 +1,15 @@
 -- What an encoder writes, and the part whose samples it writes.
 use Rattle.std.proofs.Common.{◌≡◌, ℕ, ◌^◌, ◌<◌, ◌≤◌, List, [], ◌++◌, length, Result, Ok, Err, IfOk, sym, ap, ◌∙◌, subst, append_assoc, arith}
 use Rattle.std.specs.Global.{Vec}
+use Rattle.std.proofs.lemmas.List.{length-map}
 use Rattle.std.specs.List.{All}
 use Rattle.jxlm_base.specs.Grid.{Grid}
 use Rattle.jxlm_base.specs.Regions.{AllLie, LieApart}
-use Rattle.jxlm_base.specs.declared.subgrid.Region.{Region}
 use Rattle.jxlm_chain.specs.declared.placed.PlacedChannels.{PlacedChannels}
 use Rattle.jxlm_part.specs.Placed.{PartLies}
 use Rattle.jxlm_part.specs.declared.part.PlacedPart.{PlacedPart}
-use Rattle.jxlm_transform.specs.Channels.{AreRegionsOf, Channel, IsNarrow}
+use Rattle.jxlm_transform.specs.Channels.{AreRegionsOf, IsNarrow, infos, regions}
+use Rattle.jxlm_transform.specs.declared.channels.PlacedChannel.{PlacedChannel}
 use Rattle.jxlm_transform.specs.Transforms.{Transform}
 use Rattle.jxlm_tree.specs.SelfCorrecting.{IsHeader}
 use Rattle.jxlm_tree.specs.WeightsHeader.{default_weights}
@@ -59,13 +60,14 @@ default_header : IsHeader default_weights
 default_header = record { p1 = omega arith; p2 = omega arith; p3a = omega arith; p3b = omega arith; p3c = omega arith; p3d = omega arith; p3e = omega arith; w0 = omega arith; w1 = omega arith; w2 = omega arith; w3 = omega arith }
 
 -- the part of channels that lie in a store
-pub part_lies : {D S : Type 0} (p : PlacedChannels) (store : List (Grid S)) → ChannelsLie p store → (part : PlacedPart D) → part.channels.now ≡ p.channels.info.items → part.regions.now ≡ p.places.regions.items → part.weights ≡ default_weights →
+pub part_lies : {D S : Type 0} (p : PlacedChannels) (store : List (Grid S)) → ChannelsLie p store → (part : PlacedPart D) → part.channels.now ≡ p.channels.placed.items → part.weights ≡ default_weights →
     PartLies part store
-part_lies p store h part channels regions weights = record {
-  sizes = subst (λ (cs : List Channel). AreRegionsOf cs part.regions.now) (sym channels) (subst (AreRegionsOf p.channels.info.items) (sym regions) h.sizes);
-  narrow = subst (All IsNarrow) (sym channels) h.narrow;
-  few = subst (λ (cs : List Channel). length cs ≤ 65536) (sym channels) h.few;
+part_lies p store h part same weights = record {
+  sizes = subst (λ (ps : List PlacedChannel). AreRegionsOf (infos ps) (regions ps)) (sym same) h.sizes;
+  narrow = subst (λ (ps : List PlacedChannel). All IsNarrow (infos ps)) (sym same) h.narrow;
+  few = subst (λ (ps : List PlacedChannel). length ps ≤ 65536) (sym same)
+      (omega (arith, h.few, length-map p.channels.placed.items (λ (c : PlacedChannel). c.info)));
   weights = subst IsHeader (sym weights) default_header;
-  lie = subst (λ (rs : List Region). AllLie rs store) (sym regions) h.lie;
-  apart = subst LieApart (sym regions) h.apart;
+  lie = subst (λ (ps : List PlacedChannel). AllLie (regions ps) store) (sym same) h.lie;
+  apart = subst (λ (ps : List PlacedChannel). LieApart (regions ps)) (sym same) h.apart;
 }

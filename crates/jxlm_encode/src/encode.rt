@@ -2,6 +2,7 @@
 
 ghost use Rattle.std.specs.Prelude.{◌≡◌, ◌≢◌, ℕ, ◌<◌, ◌≤◌, ◌^◌, [], IfOk, IfErr, IsOk, length, map};
 ghost use Rattle.std.specs.List.{All};
+ghost use Rattle.jxlm_transform.specs.Channels.{regions};
 ghost use Rattle.jxlm_base.specs.Grid.{IsFull};
 ghost use Rattle.jxlm_base.specs.Regions.{grids_in, store_meanings};
 ghost use Rattle.jxlm_chain.specs.Shape.{SameShape};
@@ -82,11 +83,10 @@ fn tokens_in<S: Sample>(
     requires lie { ChannelsLie placed.now store.now }
     requires multipliers { AllLeaves (λ l. l.multiplier ≡ 1) config.now.tree }
     ensures { IfOk result (λ v. AreTokensOf S.width (part_at placed.now config.now.tree)
-        (cells_of (grids_in placed.now.places.regions.items (store_meanings S.to_int store.now))) v.items) }
+        (cells_of (grids_in (regions placed.now.channels.placed.items) (store_meanings S.to_int store.now))) v.items) }
 {
     let part = PlacedPart {
-        channels: &placed.channels.info,
-        regions: &placed.places.regions,
+        channels: &placed.channels.placed,
         config,
         weights: WpHeader::default(),
         stream_index: 0,
@@ -172,7 +172,7 @@ fn prepared<S: Sample>(
 {
     let infos = infos_of(alloc, channels)?;
     let placed = placed_by(alloc, &infos, transforms)?;
-    let (nodes, config) = tree_of(alloc, &placed.channels.info, tree)?;
+    let (nodes, config) = tree_of(alloc, &placed.channels.placed, tree)?;
     let store = coded_store(alloc, &placed.undoings, channels)?;
     let samples = tokens_in(alloc, &placed, &config, &store)?;
     Ok(TokenLists { nodes, samples })

@@ -3,6 +3,7 @@
 ghost use Rattle.std.specs.Prelude.{◌≡◌, ◌+◌, ◌<◌, ◌≤◌, ◌^◌, ◌++◌, ◌↔◌, IfOk, IfErr, IsTrue, length};
 ghost use Rattle.jxlm_write.specs.Nodes.{tree_tokens};
 ghost use Rattle.jxlm_write.specs.Trees.{gamma_tree_bits, tree_bits};
+ghost use Rattle.jxlm_transform.specs.Channels.{infos};
 ghost use Rattle.jxlm_encode.specs.Encoded.{IsTreeGiven};
 ghost use Rattle.jxlm_encode.specs.Inner.Listing.{IsNotGiven, IsNotRead, IsTreeRead, ListsOneTree, left_after};
 
@@ -11,7 +12,7 @@ use jxlm_base::bits::Bitstream;
 use jxlm_header::opening::{DEPTH_LIMIT, node_limit};
 use jxlm_ma::ma::{MaConfig, MaConfigParams, each_tree_is_read_exactly};
 use jxlm_plain::plain::PlainDecoder;
-use jxlm_transform::channels::ModularChannelInfo;
+use jxlm_transform::channels::PlacedChannel;
 use jxlm_write::plain::{
     width_of, write_decoder, write_gamma_decoder, write_gamma_tokens, write_tokens,
 };
@@ -116,12 +117,12 @@ fn read_back(
 /// with these coded channels.
 pub(crate) fn tree_of(
     alloc: Global,
-    channels: &[ModularChannelInfo],
+    channels: &[PlacedChannel],
     nodes: &[EncodeNode],
 ) -> Result<(Vec<u32>, MaConfig<PlainDecoder>), EncodeError>
     ensures tokens { IfOk result (λ r. r.0.items ≡ tree_tokens nodes.now) }
-    ensures tree { IfOk result (λ r. IsTreeGiven nodes.now channels.now r.1.tree) }
-    ensures err { IfErr result (λ e. IsNotGiven nodes.now channels.now e) }
+    ensures tree { IfOk result (λ r. IsTreeGiven nodes.now (infos channels.now) r.1.tree) }
+    ensures err { IfErr result (λ e. IsNotGiven nodes.now (infos channels.now) e) }
 {
     let limit = node_limit(channels);
     if nodes.len() > limit + 1 {

@@ -120,7 +120,7 @@ pub(crate) fn placed_by(
     for k in 0..transforms.len() {
         apply_one(alloc, &mut placed, &transforms[k], k as u32)?;
     }
-    if placed.channels.info.len() > MAX_CODED_CHANNELS {
+    if placed.channels.placed.len() > MAX_CODED_CHANNELS {
         return Err(EncodeError::InvalidTransform(transforms.len() as u32));
     }
     Ok(placed)

@@ -1,5 +1,5 @@
 -- What decoding a part by its own header returns, from what its calls return.
-use Rattle.std.proofs.Common.{◌≡◌, ℕ, Bool, not, ◌*◌, ◌<◌, inl, inr, List, take, length, Ok, Err, Result, ℤ, refl, ap, ◌∙◌, subst, arith}
+use Rattle.std.proofs.Common.{sym, ◌≡◌, ℕ, Bool, not, ◌*◌, ◌<◌, inl, inr, List, take, length, Ok, Err, Result, ℤ, refl, ap, ◌∙◌, subst, arith}
 use Rattle.std.specs.Prelude.{IsTrue, ◌↔◌}
 use Rattle.std.specs.Int.{Width}
 use Rattle.jxlm_base.specs.Decoding.{Meaning}
@@ -15,7 +15,11 @@ use Rattle.jxlm_part.specs.Decode.{DecodeGives, MovesWithin}
 use Rattle.jxlm_part.specs.Part.{Part, cell_count}
 use Rattle.jxlm_part.specs.Placed.{PartLies, standing_in}
 use Rattle.jxlm_part.specs.declared.part.PlacedPart.{PlacedPart}
-use Rattle.jxlm_transform.specs.Channels.{Channel}
+use Rattle.jxlm_base.specs.Regions.{AllLie, LieApart}
+use Rattle.std.proofs.lemmas.List.{length-map}
+use Rattle.std.specs.List.{All}
+use Rattle.jxlm_transform.specs.Channels.{AreRegionsOf, Channel, IsNarrow, infos, regions}
+use Rattle.jxlm_transform.specs.declared.channels.PlacedChannel.{PlacedChannel}
 use Rattle.jxlm_ma.specs.Steps.{most_steps}
 use Rattle.jxlm_nested.specs.NestedParts.{CanFill, Decodes, DecodesTo, Fills, FillsIn, WithSteps, nested_channels, regions_in, with_own_tables}
 use Rattle.jxlm_nested.specs.Nested.{Turn}
@@ -24,14 +28,14 @@ use Rattle.jxlm_nested.proofs.PartFacts.{as_test}
 
 module _ {D X : Type 0} (n : NestedPart D) where
   -- where it can be filled, its coded channels can be decoded
-  pub nested_lies : (store : List (Grid X)) (p : PlacedPart D) → CanFill n store → p.channels.now ≡ nested_channels n → p.regions.now ≡ regions_in n → p.weights ≡ n.header.wp_params → PartLies p store
-  nested_lies store p can channels regions weights = record {
-    sizes = rw (channels, regions) can.sizes;
-    narrow = rw channels can.narrow;
-    few = rw channels can.few;
+  pub nested_lies : (store : List (Grid X)) (p : PlacedPart D) → CanFill n store → p.channels.now ≡ n.placed.channels.placed.items → p.weights ≡ n.header.wp_params → PartLies p store
+  nested_lies store p can same weights = record {
+    sizes = subst (λ (ps : List PlacedChannel). AreRegionsOf (infos ps) (regions ps)) (sym same) can.sizes;
+    narrow = subst (λ (ps : List PlacedChannel). All IsNarrow (infos ps)) (sym same) can.narrow;
+    few = rw (same, ← length-map n.placed.channels.placed.items (λ (c : PlacedChannel). c.info)) can.few;
     weights = rw weights can.weights;
-    lie = rw regions can.lie;
-    apart = rw regions can.apart;
+    lie = subst (λ (ps : List PlacedChannel). AllLie (regions ps) store) (sym same) can.lie;
+    apart = subst (λ (ps : List PlacedChannel). LieApart (regions ps)) (sym same) can.apart;
   }
 
   -- it still can where only cells changed
@@ -59,7 +63,7 @@ module _ {S D : Type 0} (d : Meaning D) (w : Width) (to_int : S → ℤ) (bytes 
   FilledIn zero bit_depth r old new = WithSteps (λ t. FillsIn d w to_int bytes stream p n partly zero bit_depth r t old new) q before after
 
   -- what decoding these channels in these regions gives is what decoding its samples gives, where they are its own
-  module _ (cs : List Channel) (rs : List Region) (channels : cs ≡ nested_channels n) (regions : rs ≡ regions_in n) (old now : List (Grid S)) (begins still : Bool)
+  module _ (cs : List Channel) (rs : List Region) (channels : cs ≡ nested_channels n) (lie : rs ≡ regions_in n) (old now : List (Grid S)) (begins still : Bool)
       (there : IsTrue begins ↔ (0 < cell_count cs)) (outside : KeepsOutside rs old now) where
     abbrev part : Part
     part = record { channels = cs; weights = n.header.wp_params; tree = n.config.tree; stream = stream }
@@ -76,8 +80,8 @@ module _ {S D : Type 0} (d : Meaning D) (w : Width) (to_int : S → ℤ) (bytes 
     decodes_of r gives =
         let own : IsTrue begins ↔ (0 < cell_count (nested_channels n)) = subst (λ (cs : List Channel). IsTrue begins ↔ (0 < cell_count cs)) channels there in
         record {
-          answers = rw (channels, regions, as_test begins (cell_count (nested_channels n)) own) at gives.1;
-          outside = subst (λ (rs : List Region). KeepsOutside rs old now) regions outside;
+          answers = rw (channels, lie, as_test begins (cell_count (nested_channels n)) own) at gives.1;
+          outside = subst (λ (rs : List Region). KeepsOutside rs old now) lie outside;
           tree = refl;
         }
 

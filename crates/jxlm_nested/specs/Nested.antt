@@ -11,7 +11,7 @@ use Rattle.jxlm_base.specs.Regions.{grids_in, store_meanings}
 use Rattle.jxlm_base.specs.declared.error.Error.{Error}
 use Rattle.jxlm_base.specs.declared.subgrid.Region.{Region}
 use Rattle.jxlm_chain.specs.Chain.{IsOnlyImage}
-use Rattle.jxlm_chain.specs.Layout.{layout_after_all}
+use Rattle.jxlm_transform.specs.Layout.{layout_after_all}
 use Rattle.jxlm_part.specs.Decode.{DecodeGives}
 use Rattle.jxlm_part.specs.Part.{Part, cell_count}
 use Rattle.jxlm_part.specs.Placed.{standing_in}

@@ -8,7 +8,7 @@ use Rattle.jxlm_base.specs.Grid.{Grid}
 use Rattle.jxlm_base.specs.Regions.{AllLie, LieApart}
 use Rattle.jxlm_base.specs.declared.error.Error.{Error}
 use Rattle.jxlm_base.specs.declared.subgrid.Region.{Region}
-use Rattle.jxlm_chain.specs.Layout.{Layout}
+use Rattle.jxlm_transform.specs.Layout.{Layout}
 use Rattle.jxlm_chain.specs.Placed.{IsPlacedBy, sides_in}
 use Rattle.jxlm_chain.specs.Steps.{CanUndoAll, IsNarrowStore}
 use Rattle.jxlm_chain.specs.Undo.{UndoesAll}
@@ -16,6 +16,7 @@ use Rattle.jxlm_chain.specs.Undoings.{SuitsWeights, undos_of}
 use Rattle.jxlm_header.specs.Opening.{Opening}
 use Rattle.jxlm_part.specs.Decode.{MovesWithin}
 use Rattle.jxlm_transform.specs.Channels.{AreRegionsOf, Channel, ChannelList, IsNarrow}
+use Rattle.jxlm_transform.specs.Lists.{layout_of, list_of}
 use Rattle.jxlm_tree.specs.SelfCorrecting.{IsHeader}
 use Rattle.jxlm_ma.specs.Steps.{most_steps}
 use Rattle.jxlm_ma.specs.Tree.{Config}
@@ -40,10 +41,10 @@ module _ {D : Type 0} where
 
   -- its coded channels, and their regions
   abbrev pub nested_channels : NestedPart D → List Channel
-  nested_channels n = n.placed.channels.info.items
+  nested_channels n = (list_of n.placed.channels).channels
 
   abbrev pub regions_in : NestedPart D → List Region
-  regions_in n = n.placed.places.regions.items
+  regions_in n = (layout_of n.placed.channels).regions
 
   -- header and tree of a part of these channels, in these places, stand at position p, up to q
   pub record IsNested (d : Meaning D) (global : Option (Config D)) (bytes : List ℕ) (list : ChannelList) (places : Layout) (p : ℕ) (n : NestedPart D) (q : ℕ) : Type 0 where

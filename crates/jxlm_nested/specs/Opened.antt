@@ -9,7 +9,8 @@ use Rattle.jxlm_chain.specs.declared.placed.PlacedChannels.{PlacedChannels}
 use Rattle.jxlm_header.specs.Header.{header_of}
 use Rattle.jxlm_header.specs.Opening.{Opening, depth_limit, node_limit, opening_of}
 use Rattle.jxlm_header.specs.declared.header.ModularHeader.{ModularHeader}
-use Rattle.jxlm_transform.specs.Channels.{Channel, ChannelList, IsNarrow, list_of}
+use Rattle.jxlm_transform.specs.Channels.{Channel, ChannelList, IsNarrow}
+use Rattle.jxlm_transform.specs.Lists.{list_of}
 use Rattle.jxlm_transform.specs.ChannelSteps.{Step, list_after_all}
 use Rattle.jxlm_transform.specs.Steps.{HasChannels, HasNarrowTables, HasWeights, steps_in}
 use Rattle.jxlm_ma.specs.Tree.{Config}
@@ -37,7 +38,7 @@ TreeOfGives d global bytes uses cs p (Err e) q = UnlessMemory (kind_of e)
 pub record IsOpened (list : ChannelList) (o : ModularHeader × PlacedChannels) : Type 0 where
   pub leaves : list_after_all (steps_of_header o.0) list ≡ Ok (list_of o.1.channels)
   pub narrow : All IsNarrow (list_of o.1.channels).channels
-  pub few : length o.1.channels.info.items ≤ 65536
+  pub few : length (list_of o.1.channels).channels ≤ 65536
   pub weights : IsHeader o.0.wp_params
   pub steps : All HasChannels (steps_of_header o.0)
   pub palettes : All (HasWeights o.0.wp_params) (steps_of_header o.0)

@@ -21,12 +21,10 @@ use jxlm_base::error::Result;
 use jxlm_base::grid::AlignedGrid;
 use jxlm_base::sample::Sample;
 use jxlm_chain::placed::PlacedChannels;
-use jxlm_chain::places::Places;
-use jxlm_cut::pieces::Pieces;
 use jxlm_ma::flat::Steps;
 use jxlm_part::channels::have_samples;
 use jxlm_part::part::PlacedPart;
-use jxlm_transform::channels::ModularChannels;
+use jxlm_transform::channels::{ModularChannels, PlacedChannel};
 use std::alloc::Global;
 
 /// Moves the items after the first `own` ones out of a store, back into the list that they came from.
@@ -69,8 +67,7 @@ impl<D: Decoder> NestedPart<D> {
         ensures bytes { bytes_of bits.new ≡ bytes_of bits.old }
     {
         let part = PlacedPart {
-            channels: &self.placed.channels.info,
-            regions: &self.placed.places.regions,
+            channels: &self.placed.channels.placed,
             config: &self.config,
             weights: self.header.wp_params,
             stream_index,
@@ -112,7 +109,7 @@ impl<D: Decoder> NestedPart<D> {
         ensures count { length store.new.items ≡ length store.old.items }
         ensures bytes { bytes_of bits.new ≡ bytes_of bits.old }
     {
-        if !have_samples(&self.placed.channels.info) {
+        if !have_samples(&self.placed.channels.placed) {
             *partial = false;
             return Ok(());
         }
@@ -155,22 +152,13 @@ impl<D: Decoder> NestedPart<D> {
         result
     }
 
-    /// Its coded channels, and their regions.
-    pub fn into_pieces(self) -> Pieces
-        ensures infos { result.infos.items ≡ nested_channels self }
-        ensures regions { result.regions.items ≡ regions_in self }
+    /// Its coded channels, and where they lie.
+    pub fn into_channels(self) -> Vec<PlacedChannel>
+        ensures { result ≡ self.placed.channels.placed }
     {
         let NestedPart { placed, .. } = self;
-        let PlacedChannels {
-            channels,
-            places,
-            ..
-        } = placed;
-        let ModularChannels { info, .. } = channels;
-        let Places { regions, .. } = places;
-        Pieces {
-            infos: info,
-            regions,
-        }
+        let PlacedChannels { channels, .. } = placed;
+        let ModularChannels { placed, .. } = channels;
+        placed
     }
 }

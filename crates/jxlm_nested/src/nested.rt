@@ -6,11 +6,11 @@ ghost use Rattle.std.specs.Option.{option_copied};
 ghost use Rattle.jxlm_base.specs.Bits.{bytes_of, position_of};
 ghost use Rattle.jxlm_base.specs.ErrorKind.{NoMemory, UnlessMemory, kind_of};
 ghost use Rattle.jxlm_base.specs.Grammar.{IsErrorAt};
-ghost use Rattle.jxlm_chain.specs.Ends.{HasEnds};
+ghost use Rattle.jxlm_transform.specs.Ends.{HasEnds};
 ghost use Rattle.jxlm_chain.specs.Placed.{sides_in};
 ghost use Rattle.jxlm_chain.specs.Undo.{UndoesAll};
 ghost use Rattle.jxlm_chain.specs.Undoings.{undos_of};
-ghost use Rattle.jxlm_transform.specs.Channels.{IsNarrow};
+ghost use Rattle.jxlm_transform.specs.Channels.{IsNarrow, infos, regions};
 ghost use Rattle.jxlm_nested.specs.Zeros.{zeros};
 ghost use Rattle.jxlm_nested.specs.NestedParts.{CanFill, DecodesTo, Fills, FillsIn, IsNested, WithSteps, nested_list, nested_places, with_own_tables};
 ghost use Rattle.jxlm_nested.specs.Starts.{IsTreeErrorAt, opened};
@@ -22,15 +22,13 @@ use jxlm_base::error::Result;
 use jxlm_base::grid::{AlignedGrid, Region};
 use jxlm_base::sample::Sample;
 use jxlm_chain::placed::PlacedChannels;
-use jxlm_chain::places::Places;
 use jxlm_chain::scratch::Scratch;
 use jxlm_chain::undo::undo_all;
-use jxlm_cut::pieces::Pieces;
 use jxlm_header::header::ModularHeader;
 use jxlm_ma::flat::Steps;
 use jxlm_ma::ma::MaConfig;
 use jxlm_part::part::PlacedPart;
-use jxlm_transform::channels::ModularChannels;
+use jxlm_transform::channels::{ModularChannels, PlacedChannel};
 use std::alloc::Global;
 
 /// A part by its own header and tree: its coded channels lie in the part's regions of the image's store, and in tables
@@ -74,31 +72,30 @@ impl<D: Decoder> NestedPart<D> {
     pub fn parse(
         alloc: Global,
         bits: &mut Bitstream<'_>,
-        pieces: Pieces,
+        pieces: Vec<PlacedChannel>,
         buffers: usize,
         global: Option<&MaConfig<D>>,
     ) -> Result<NestedPart<D>>
-        requires even { length pieces.regions.items ≡ length pieces.infos.items }
-        requires narrow { All IsNarrow pieces.infos.items }
-        requires ends { All HasEnds pieces.regions.items }
+        requires narrow { All IsNarrow (infos pieces.items) }
+        requires ends { All HasEnds (regions pieces.items) }
         requires room { buffers < 2 ^ 63 }
         ensures ok { IfOk result (λ n. IsNested D.meaning (option_copied global.entry) (bytes_of bits.old)
-            (nested_list pieces.infos.items) (nested_places pieces.regions.items buffers) (position_of bits.old)
+            (nested_list (infos pieces.items)) (nested_places (regions pieces.items) buffers) (position_of bits.old)
             n (position_of bits.new)) }
         ensures err { IfErr result (λ e. UnlessMemory (kind_of e) (IsErrorAt (opened (option_copied global.entry)
-            (bytes_of bits.old) (nested_list pieces.infos.items) (position_of bits.old)) (kind_of e)
+            (bytes_of bits.old) (nested_list (infos pieces.items)) (position_of bits.old)) (kind_of e)
             (position_of bits.new) ⊎ IsTreeErrorAt D.meaning (option_copied global.entry) (bytes_of bits.old)
-            (nested_list pieces.infos.items) (position_of bits.old) (kind_of e) (position_of bits.new))) }
+            (nested_list (infos pieces.items)) (position_of bits.old) (kind_of e) (position_of bits.new))) }
         ensures bytes { bytes_of bits.new ≡ bytes_of bits.old }
     {
-        let Pieces { infos, regions } = pieces;
         let channels = ModularChannels {
-            info: infos,
+            placed: pieces,
             nb_meta_channels: 0,
+            buffers,
         };
-        let start = PlacedChannels::new(alloc, channels, Places { regions, buffers });
+        let start = PlacedChannels::new(alloc, channels);
         let (header, placed) = open(alloc, bits, start, global.is_some())?;
-        let config = tree_of(alloc, bits, &header, &placed.channels.info, global)?;
+        let config = tree_of(alloc, bits, &header, &placed.channels.placed, global)?;
         Ok(NestedPart {
             header,
             config,
@@ -124,8 +121,7 @@ impl<D: Decoder> NestedPart<D> {
         ensures bytes { bytes_of bits.new ≡ bytes_of bits.old }
     {
         let part = PlacedPart {
-            channels: &self.placed.channels.info,
-            regions: &self.placed.places.regions,
+            channels: &self.placed.channels.placed,
             config: &self.config,
             weights: self.header.wp_params,
             stream_index,

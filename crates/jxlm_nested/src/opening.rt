@@ -6,7 +6,8 @@ ghost use Rattle.std.specs.Option.{option_copied};
 ghost use Rattle.jxlm_base.specs.Bits.{bytes_of, position_of};
 ghost use Rattle.jxlm_chain.specs.Placed.{GoesOn, IsPlaced};
 ghost use Rattle.jxlm_header.specs.Opening.{opening};
-ghost use Rattle.jxlm_transform.specs.Channels.{IsNarrow, list_of};
+ghost use Rattle.jxlm_transform.specs.Channels.{IsNarrow, infos};
+ghost use Rattle.jxlm_transform.specs.Lists.{list_of};
 ghost use Rattle.jxlm_transform.specs.Transforms.{Parses};
 ghost use Rattle.jxlm_nested.specs.Opened.{IsOpened, TreeOfGives, opened_of, steps_of_header};
 
@@ -17,7 +18,7 @@ use jxlm_chain::placed::PlacedChannels;
 use jxlm_header::header::ModularHeader;
 use jxlm_header::opening::{DEPTH_LIMIT, check, node_limit};
 use jxlm_ma::ma::{MaConfig, MaConfigParams};
-use jxlm_transform::channels::{ModularChannelInfo, tables_for};
+use jxlm_transform::channels::{PlacedChannel, tables_for};
 use std::alloc::Global;
 
 /// Reads what comes before a tree: the header, whose transforms are applied to these channels, none of which has a
@@ -42,7 +43,7 @@ pub fn open(
     ensures opened { IfOk result (λ o. IsOpened (list_of placed.channels) o) }
     ensures bytes { bytes_of bits.new ≡ bytes_of bits.old }
 {
-    let tables = tables_for(&placed.channels.info);
+    let tables = tables_for(&placed.channels.placed);
     let mut header = ModularHeader::parse_by(alloc, bits, tables)?;
     placed.apply(alloc, &mut header.transform)?;
     check(&header, &placed.channels, has_global)?;
@@ -60,12 +61,12 @@ pub fn tree_of<D: Decoder>(
     alloc: Global,
     bits: &mut Bitstream<'_>,
     header: &ModularHeader,
-    channels: &[ModularChannelInfo],
+    channels: &[PlacedChannel],
     global: Option<&MaConfig<D>>,
 ) -> Result<MaConfig<D>>
     requires given { header.now.use_global_tree ≡ true → is_some (option_copied global) ≡ true }
     ensures gives { TreeOfGives D.meaning (option_copied global.entry) (bytes_of bits.old) header.now.use_global_tree
-        channels.now (position_of bits.old) result (position_of bits.new) }
+        (infos channels.now) (position_of bits.old) result (position_of bits.new) }
     ensures bytes { bytes_of bits.new ≡ bytes_of bits.old }
 {
     if header.use_global_tree {

@@ -1,6 +1,7 @@
 -- What decoding a part that lies in a store returns.
 use Rattle.std.proofs.Common.{◌≡◌, ◌≢◌, ℕ, zero, suc, ◌+◌, ◌*◌, ◌<◌, ◌≤◌, List, length, Bool, true, false, refl, ap, ◌∙◌, sym, arith, ℤ, inl, inr, Result, Ok, Err}
 use Rattle.std.specs.Int.{Width}
+use Rattle.std.proofs.lemmas.List.{length-map}
 use Rattle.jxlm_base.specs.Decoding.{Meaning}
 use Rattle.jxlm_base.specs.Grid.{Grid}
 use Rattle.jxlm_base.specs.Regions.{store_meanings}
@@ -9,7 +10,7 @@ use Rattle.jxlm_base.specs.declared.decoder.DecoderError.TheVariants.{Unexpected
 use Rattle.jxlm_base.specs.declared.error.Error.{Error}
 use Rattle.jxlm_base.specs.declared.error.Error.TheVariants.{Decoder}
 use Rattle.jxlm_base.specs.declared.subgrid.Region.{Region}
-use Rattle.jxlm_transform.specs.Channels.{AreRegionsOf}
+use Rattle.jxlm_transform.specs.Channels.{AreRegionsOf, infos}
 use Rattle.jxlm_ma.specs.Steps.{most_steps}
 use Rattle.jxlm_part.specs.Decode.{DecodeGives, MovesWithin}
 use Rattle.jxlm_part.specs.Inner.Levels.{HasRooms}
@@ -21,19 +22,19 @@ use Rattle.jxlm_part.specs.Reading.{IsCodingOf, regions_of, state_width}
 use Rattle.jxlm_part.specs.declared.coding.PartCoding.{PartCoding}
 use Rattle.jxlm_part.specs.declared.coding.Ready.{Ready}
 use Rattle.jxlm_part.specs.declared.part.PlacedPart.{PlacedPart}
-use Rattle.jxlm_part.proofs.Loops.{fits_in, same_count}
-use Rattle.jxlm_part.proofs.Starting.{roomy_for}
+use Rattle.jxlm_part.proofs.Loops.{fits_in}
+use Rattle.jxlm_part.proofs.Starting.{as_many_channels, roomy_for}
 
 -- a part that lies in a store, made ready, can be decoded
 module _ {D S : Type 0} (p : PlacedPart D) (store : List (Grid S)) (lies : PartLies p store) (r : Ready S D) (ready : IsReadyFor p r) (c : PartCoding D)
-    (channels : c.channels.now ≡ p.channels.now) (regions : c.regions.now ≡ p.regions.now) (config : c.config.now ≡ p.config.now)
-    (flats : c.flats.now ≡ r.flats.items) (weights : c.weights ≡ p.weights) (stream : c.stream_index ≡ p.stream_index) (widest : c.widest ≡ max_width p.channels.now) where
+    (channels : c.channels.now ≡ p.channels.now) (config : c.config.now ≡ p.config.now)
+    (flats : c.flats.now ≡ r.flats.items) (weights : c.weights ≡ p.weights) (stream : c.stream_index ≡ p.stream_index) (widest : c.widest ≡ max_width (infos p.channels.now)) where
   count_is : length p.channels.now ≡ length (regions_of c)
-  count_is = same_count p.channels.now p.regions.now lies.sizes ∙ ap length (sym regions)
+  count_is = ap length (sym channels) ∙ as_many_channels c
 
   pub placed_coding : IsCodingOf c
   placed_coding = record {
-    sizes = rw (channels, regions) lies.sizes;
+    sizes = rw channels lies.sizes;
     narrow = rw channels lies.narrow;
     widest = rw channels widest;
     flats = rw (config, stream, flats, ← count_is) ready.flats_are;
@@ -42,7 +43,7 @@ module _ {D S : Type 0} (p : PlacedPart D) (store : List (Grid S)) (lies : PartL
 
   -- the state has room for its samples
   pub placed_roomy : HasRooms c r.state.predictor r.state.row.items
-  placed_roomy = let room = roomy_for c (state_width c) r.state placed_coding (rw (channels, weights, flats) ready.roomy) in record { predictor = room.predictor; row = room.row }
+  placed_roomy = let room = roomy_for c (state_width c) r.state placed_coding (rw (channels, weights, flats, length-map p.channels.now (λ q. q.info)) ready.roomy) in record { predictor = room.predictor; row = room.row }
 
 none_is : (n : ℕ) → (0 < n → ⊥) → n ≡ 0
 none_is zero h = refl

@@ -5,7 +5,7 @@ use Rattle.std.specs.List.{All}
 use Rattle.std.proofs.lemmas.Bool.{cases_lt}
 use Rattle.std.proofs.lemmas.Bool.Decides.{nat_tests}
 use Rattle.std.proofs.lemmas.List.Elements.{All-head, All-tail}
-use Rattle.std.proofs.lemmas.List.{length-append, length-map, get_or_default, get_or_append_left}
+use Rattle.std.proofs.lemmas.List.{length-append, length-map, get_or-map, get_or_append_left}
 use Rattle.std.proofs.Math.Seq.{get_or-append_seam}
 use Rattle.jxlm_base.specs.declared.subgrid.Region.{Region}
 use Rattle.jxlm_tree.specs.Standing.{HasSameRoom, Setting, Stands, StandsAt, earlier_count, earlier_room_of, room_of, setting}
@@ -15,7 +15,8 @@ use Rattle.jxlm_ma.specs.declared.flat.Leaf.{Leaf}
 use Rattle.jxlm_tree.specs.declared.predictor.WpHeader.{WpHeader}
 use Rattle.jxlm_tree.specs.declared.state.PredictorState.{PredictorState}
 use Rattle.jxlm_tree.proofs.StandingLaws.{stands_earlier}
-use Rattle.jxlm_transform.specs.Channels.{Channel, IsNarrow}
+use Rattle.jxlm_transform.specs.Channels.{Channel, IsNarrow, infos}
+use Rattle.jxlm_transform.specs.declared.channels.PlacedChannel.{PlacedChannel}
 use Rattle.jxlm_part.specs.Part.{channel, no_channel, downward, earlier_alike, is_alike}
 use Rattle.jxlm_part.specs.Reading.{HasFlats, HasRoom, HasRoomFor, IsCodingOf, IsRoomy, IsRoomyFor, IsTreeOf, LeadsAlone, alone_at, alone_in, flat, part_of, regions_of, row_width, sampled_width, state_width, tree_of, walked_width, width_in_state}
 use Rattle.jxlm_part.specs.Inner.Channels.{IsAfterChannel, IsNext, StandsIn, all_alike, asked_at, earlier_regions, handed, region_at, setting_of, weights_at}
@@ -97,6 +98,10 @@ pub some_asked : (n : ℕ) (all : List Region) → 0 < n → handed n all ≡ al
 some_asked zero all h = absurd (omega (arith, h))
 some_asked (suc n) all h = refl
 
+no_regions : (rs : List Region) → length rs ≡ 0 → rs ≡ []
+no_regions [] none = refl
+no_regions (r ∷ rs) none = absurd (omega (arith, none))
+
 module _ {D : Type 0} (c : PartCoding D) (i : ℕ) where
   abbrev passes : ℕ → Bool
   passes e = is_alike (channel (part_of c).channels e) (channel (part_of c).channels i)
@@ -153,35 +158,42 @@ module _ {D X : Type 0} (c : PartCoding D) (i : ℕ) where
     roomy = h.roomy;
   }
 
--- a channel, as it is kept
-pub channel_at : {D : Type 0} (c : PartCoding D) (k : ℕ) (d : Channel) → k < length c.channels.now → channel (part_of c).channels k ≡ get_or c.channels.now k d
-channel_at c k d l = get_or_default c.channels.now k no_channel d l
+  -- after all, it is given all that are like it, where it had none
+  pub all_given : {room : ℕ} (e : ℕ) (old state : PredictorState X) → e ≡ i → earlier_count old ≡ 0 → IsUnderWay room e old state → (s : Setting) (samples : List ℤ) → StandsAt old s samples →
+      StandsAt state (setting s.width s.weights (all_alike c i)) samples
+  all_given e old state all none h s samples at =
+      let first = subst (λ rs. StandsAt old (setting s.width s.weights rs) samples) (no_regions s.earlier (sym (stands_earlier old s samples at) ∙ none)) at in
+      subst (λ n. StandsAt state (setting s.width s.weights (below c i n)) samples) all (h.stands s.width s.weights samples first)
 
-pub passes_is : {D : Type 0} (c : PartCoding D) (i e : ℕ) (a b : Channel) (r : Bool) → e < length c.channels.now → i < length c.channels.now →
-    r ≡ is_alike (get_or c.channels.now e a) (get_or c.channels.now i b) → passes c i e ≡ r
-passes_is c i e a b r le li is = ap (λ x. is_alike x (channel (part_of c).channels i)) (channel_at c e a le) ∙ ap (is_alike (get_or c.channels.now e a)) (channel_at c i b li) ∙ sym is
+-- a channel, as it is kept
+pub info_at : (placed : List PlacedChannel) (k : ℕ) (d : PlacedChannel) → k < length placed → channel (infos placed) k ≡ (get_or placed k d).info
+info_at placed k d l = get_or-map (λ p. p.info) placed k d no_channel l
+
+pub passes_is : {D : Type 0} (c : PartCoding D) (i e : ℕ) (a b : PlacedChannel) (r : Bool) → e < length c.channels.now → i < length c.channels.now →
+    r ≡ is_alike (get_or c.channels.now e a).info (get_or c.channels.now i b).info → passes c i e ≡ r
+passes_is c i e a b r le li is = ap (λ x. is_alike x (channel (part_of c).channels i)) (info_at c.channels.now e a le) ∙ ap (is_alike (get_or c.channels.now e a).info) (info_at c.channels.now i b li) ∙ sym is
+
+-- there is a channel for each region
+pub as_many_channels : {D : Type 0} (c : PartCoding D) → length c.channels.now ≡ length (regions_of c)
+as_many_channels c = sym (length-map c.channels.now (λ p. p.region))
 
 module _ {D : Type 0} (c : PartCoding D) (coding : IsCodingOf c) where
-  -- there is a channel for each region
-  pub as_many_channels : length c.channels.now ≡ length (regions_of c)
-  as_many_channels = same_count (part_of c).channels (regions_of c) coding.sizes
-
-  module _ (i : ℕ) (li : i < length (regions_of c)) (rows : 0 < (region_at (regions_of c) i).height) where
+  module _ (i : ℕ) (li : i < length (regions_of c)) (r : Region) (is : r ≡ region_at (regions_of c) i) (rows : 0 < r.height) where
     sizes : ((region_at (regions_of c) i).width ≡ (channel (part_of c).channels i).width) × ((region_at (regions_of c) i).height ≡ (channel (part_of c).channels i).height)
     sizes = same_size (part_of c).channels (regions_of c) i coding.sizes li
 
     there : i < length (part_of c).channels
-    there = omega (arith, as_many_channels, li)
+    there = let n = same_count (part_of c).channels (regions_of c) coding.sizes in omega (arith, n, li)
 
     some : 0 < (channel (part_of c).channels i).height
-    some = subst (λ n. 0 < n) sizes.1 rows
+    some = subst (λ n. 0 < n) (ap (λ (q : Region). q.height) is ∙ sizes.1) rows
 
     -- a channel with rows is not wider than a row may be, nor than the state, where it is read in that
-    pub fits_widest : (region_at (regions_of c) i).width ≤ row_width c
-    fits_widest = rw sizes.0 (within_widest (part_of c).channels i there some)
+    pub fits_widest : r.width ≤ row_width c
+    fits_widest = rw (is, sizes.0) (within_widest (part_of c).channels i there some)
 
-    pub fits_state : alone_at c i ≡ None → (region_at (regions_of c) i).width ≤ state_width c
-    fits_state walked = rw sizes.0 (within_walked (part_of c).channels c.flats.now (length (part_of c).channels) i there walked some)
+    pub fits_state : alone_at c i ≡ None → r.width ≤ state_width c
+    fits_state walked = rw (is, sizes.0) (within_walked (part_of c).channels c.flats.now (length (part_of c).channels) i there walked some)
 
 module _ {D : Type 0} (c : PartCoding D) (coding : IsCodingOf c) (i : ℕ) (li : i < length (regions_of c)) (last : ℕ) (next : i ≡ last + 1) (alike : passes c i last ≡ true) where
   sides : ((channel (part_of c).channels last).width ≡ (channel (part_of c).channels i).width) × ((channel (part_of c).channels last).height ≡ (channel (part_of c).channels i).height)
@@ -219,7 +231,7 @@ module _ {D : Type 0} (c : PartCoding D) (coding : IsCodingOf c) (i : ℕ) (li :
 
 -- the state has room for the next channel, where it is read in it
 pub has_room_for_next : {D X : Type 0} {c : PartCoding D} {i : ℕ} {state : PredictorState X} (n : IsNext c i state) → alone_at c i ≡ None → (region_at (regions_of c) i).width ≤ room_of state
-has_room_for_next {c = c} {i = i} n walked = let fits = fits_state c n.coding i n.channel n.rows walked in let room = n.roomy.widest in omega (arith, fits, room)
+has_room_for_next {c = c} {i = i} n walked = let fits = fits_state c n.coding i n.channel (region_at (regions_of c) i) refl n.rows walked in let room = n.roomy.widest in omega (arith, fits, room)
 
 -- Channel i asks for earlier channels; the one before it is like it and asks for some, and the state was last in that.
 pub record ComesAfterAlike {D X : Type 0} (c : PartCoding D) (i : ℕ) (state : PredictorState X) : Type 0 where
@@ -229,14 +241,14 @@ pub record ComesAfterAlike {D X : Type 0} (c : PartCoding D) (i : ℕ) (state : 
   pub asks : 0 < asked_at c i
   pub asked : 0 < asked_at c (i - 1)
 
-pub comes_after_alike : {D X : Type 0} {c : PartCoding D} {i : ℕ} {state : PredictorState X} (n : IsNext c i state) (o p : ChannelTree) (a b : Channel) → 0 < (slice_index_or c.flats.now i o).asked →
-    is_some (slice_index_or c.flats.now (i - 1) p).alone ≡ false → 0 < (slice_index_or c.flats.now (i - 1) p).asked → true ≡ is_alike (get_or c.channels.now (i - 1) a) (get_or c.channels.now i b) → ComesAfterAlike c i state
+pub comes_after_alike : {D X : Type 0} {c : PartCoding D} {i : ℕ} {state : PredictorState X} (n : IsNext c i state) (o p : ChannelTree) (a b : PlacedChannel) → 0 < (slice_index_or c.flats.now i o).asked →
+    is_some (slice_index_or c.flats.now (i - 1) p).alone ≡ false → 0 < (slice_index_or c.flats.now (i - 1) p).asked → true ≡ is_alike (get_or c.channels.now (i - 1) a).info (get_or c.channels.now i b).info → ComesAfterAlike c i state
 comes_after_alike {c = c} {i = i} {state = state} n o p a b some none asked same =
     let later = is_later c n.coding i n.channel o some in
     let next : i ≡ i - 1 + 1 = omega (arith, later) in
     let li = n.channel in
     let le : i - 1 < length (regions_of c) = omega (arith, li) in
-    let many = as_many_channels c n.coding in
+    let many = as_many_channels c in
     let alike = passes_is c i (i - 1) a b true (omega (arith, many, le)) (omega (arith, many, li)) same in
     record {
       next = next;

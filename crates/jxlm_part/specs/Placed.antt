@@ -4,7 +4,7 @@ use Rattle.std.specs.List.{All}
 use Rattle.jxlm_base.specs.Grid.{Grid}
 use Rattle.jxlm_base.specs.Regions.{AllLie, LieApart, grids_in, store_meanings}
 use Rattle.jxlm_base.specs.declared.subgrid.Region.{Region}
-use Rattle.jxlm_transform.specs.Channels.{AreRegionsOf, IsNarrow}
+use Rattle.jxlm_transform.specs.Channels.{AreRegionsOf, IsNarrow, infos, regions}
 use Rattle.jxlm_tree.specs.SelfCorrecting.{IsHeader}
 use Rattle.jxlm_ma.specs.Steps.{most_steps as most_steps_of}
 use Rattle.jxlm_part.specs.Decode.{Standing}
@@ -14,7 +14,7 @@ use Rattle.jxlm_part.specs.declared.part.PlacedPart.{PlacedPart}
 module _ {D : Type 0} where
   -- what is coded in the part
   abbrev pub part_placed : PlacedPart D → Part
-  part_placed p = record { channels = p.channels.now; weights = p.weights; tree = p.config.now.tree; stream = p.stream_index }
+  part_placed p = record { channels = infos p.channels.now; weights = p.weights; tree = p.config.now.tree; stream = p.stream_index }
 
   -- the maximum number of steps to a leaf of its tree
   abbrev pub most_steps : PlacedPart D → ℕ
@@ -23,12 +23,12 @@ module _ {D : Type 0} where
   -- Its channels are narrow and at most 65536, and have the sizes of their regions, which lie in the store and share no
   -- cell; its weights are those of a header.
   pub record PartLies {X : Type 0} (p : PlacedPart D) (store : List (Grid X)) : Type 0 where
-    pub sizes : AreRegionsOf p.channels.now p.regions.now
-    pub narrow : All IsNarrow p.channels.now
+    pub sizes : AreRegionsOf (infos p.channels.now) (regions p.channels.now)
+    pub narrow : All IsNarrow (infos p.channels.now)
     pub few : length p.channels.now ≤ 65536
     pub weights : IsHeader p.weights
-    pub lie : AllLie p.regions.now store
-    pub apart : LieApart p.regions.now
+    pub lie : AllLie (regions p.channels.now) store
+    pub apart : LieApart (regions p.channels.now)
 
 -- what decoding changes of these regions of a store, with the reader's position and whether the part is partial
 abbrev pub standing_in : {X : Type 0} → (X → ℤ) → List Region → List (Grid X) → ℕ → Bool → Standing

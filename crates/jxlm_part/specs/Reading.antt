@@ -13,7 +13,7 @@ use Rattle.jxlm_ma.specs.declared.flat.Leaf.{Leaf}
 use Rattle.jxlm_tree.specs.declared.predictor.Predictor.TheVariants as predictor
 use Rattle.jxlm_tree.specs.declared.predictor.WpHeader.{WpHeader}
 use Rattle.jxlm_tree.specs.declared.state.PredictorState.{PredictorState}
-use Rattle.jxlm_transform.specs.Channels.{AreRegionsOf, Channel, IsNarrow}
+use Rattle.jxlm_transform.specs.Channels.{AreRegionsOf, Channel, IsNarrow, infos, regions}
 use Rattle.jxlm_part.specs.Part.{Part, channel, max_width}
 use Rattle.jxlm_part.specs.declared.coding.Alone.{Alone}
 use Rattle.jxlm_part.specs.declared.coding.Alone.TheVariants as alone
@@ -92,11 +92,11 @@ module _ {D : Type 0} where
   -- the part that is coded so
   abbrev pub part_of : PartCoding D → Part
   part_of c =
-      record { channels = c.channels.now; weights = c.weights; tree = c.config.now.tree; stream = c.stream_index }
+      record { channels = infos c.channels.now; weights = c.weights; tree = c.config.now.tree; stream = c.stream_index }
 
   -- the regions of its channels
   abbrev pub regions_of : PartCoding D → List Region
-  regions_of c = c.regions.now
+  regions_of c = regions c.channels.now
 
   -- The regions have the sizes of the channels, which are narrow; the maximum width is theirs; each channel has its
   -- flat tree; the weights are those of a header.

@@ -1,34 +1,35 @@
 //! The channels of an image.
 
 ghost use Rattle.std.specs.Prelude.{◌≡◌, ◌<◌, ◌↔◌, IsTrue, length};
+ghost use Rattle.jxlm_transform.specs.Channels.{infos};
 ghost use Rattle.jxlm_part.specs.Part.{cell_count, max_width as the_maximum_width};
 ghost use Rattle.jxlm_part.specs.Reading.{sampled_width as the_sampled_width};
 ghost use Rattle.jxlm_part.specs.Reading.{walked_width as the_walked_width, width_in_state as the_width_in_state};
 
 use crate::coding::ChannelTree;
-use jxlm_transform::channels::ModularChannelInfo;
+use jxlm_transform::channels::{ModularChannelInfo, PlacedChannel};
 
 /// The maximum width of the channels, also of those without samples; 0 where there are none.
-pub fn max_width(channels: &[ModularChannelInfo]) -> u32
-    ensures { result ≡ the_maximum_width channels.now }
+pub fn max_width(channels: &[PlacedChannel]) -> u32
+    ensures { result ≡ the_maximum_width (infos channels.now) }
 {
     let mut widest = 0;
     for channel in channels {
-        if channel.width > widest {
-            widest = channel.width;
+        if channel.info.width > widest {
+            widest = channel.info.width;
         }
     }
     widest
 }
 
 /// The maximum width of the channels that have samples; 0 where none has.
-pub fn sampled_width(channels: &[ModularChannelInfo]) -> u32
-    ensures { result ≡ the_sampled_width channels.now }
+pub fn sampled_width(channels: &[PlacedChannel]) -> u32
+    ensures { result ≡ the_sampled_width (infos channels.now) }
 {
     let mut widest = 0;
     for channel in channels {
-        if channel.height != 0 && channel.width > widest {
-            widest = channel.width;
+        if channel.info.height != 0 && channel.info.width > widest {
+            widest = channel.info.width;
         }
     }
     widest
@@ -48,13 +49,13 @@ fn width_in_state(channel: &ModularChannelInfo, tree: &ChannelTree) -> u32
 
 /// The maximum width of the channels that have samples which are read in the state of the predictors, as these trees
 /// say; 0 where none has.
-pub fn walked_width(channels: &[ModularChannelInfo], flats: &[ChannelTree]) -> u32
+pub fn walked_width(channels: &[PlacedChannel], flats: &[ChannelTree]) -> u32
     requires { length flats.now ≡ length channels.now }
-    ensures { result ≡ the_walked_width channels.now flats.now (length channels.now) }
+    ensures { result ≡ the_walked_width (infos channels.now) flats.now (length channels.now) }
 {
     let mut widest = 0;
     for i in 0..channels.len() {
-        let width = width_in_state(&channels[i], &flats[i]);
+        let width = width_in_state(&channels[i].info, &flats[i]);
         if width > widest {
             widest = width;
         }
@@ -63,11 +64,11 @@ pub fn walked_width(channels: &[ModularChannelInfo], flats: &[ChannelTree]) -> u
 }
 
 /// Whether some of the channels has samples.
-pub fn have_samples(channels: &[ModularChannelInfo]) -> bool
-    ensures { IsTrue result ↔ (0 < cell_count channels.now) }
+pub fn have_samples(channels: &[PlacedChannel]) -> bool
+    ensures { IsTrue result ↔ (0 < cell_count (infos channels.now)) }
 {
     for channel in channels {
-        if channel.width > 0 && channel.height > 0 {
+        if channel.info.width > 0 && channel.info.height > 0 {
             return true;
         }
     }

@@ -1,9 +1,10 @@
 //! Everything a part is decoded with, and what is made ready before its first bit is read.
 
-ghost use Rattle.std.specs.Prelude.{◌≡◌, ◌↔◌, ℤ, ◌^◌, ◌<◌, ◌≤◌, List, IfOk, IfErr, IfSome, IsTrue, None, length};
+ghost use Rattle.std.specs.Prelude.{◌≡◌, ◌↔◌, ℤ, ◌^◌, ◌<◌, ◌≤◌, List, IfOk, IfErr, IfSome, IsTrue, None, get_or, length};
 ghost use Rattle.jxlm_base.specs.ErrorKind.{NoMemory, kind_of};
 ghost use Rattle.jxlm_base.specs.Grid.{Grid};
 ghost use Rattle.jxlm_tree.specs.SelfCorrecting.{IsHeader};
+ghost use Rattle.jxlm_transform.specs.Layout.{no_region};
 ghost use Rattle.jxlm_part.specs.Part.{is_alike as alike};
 ghost use Rattle.jxlm_tree.specs.Standing.{Setting, StandsAt, earlier_count, setting};
 ghost use Rattle.jxlm_part.specs.Reading.{HasFlats, HasRoom, IsCodingOf, IsLone, IsRoomyFor, IsTreeOf, LeadsAlone, ReadsAlone, alone_at, flat, regions_of};
@@ -16,7 +17,7 @@ use jxlm_base::sample::{Sample, Sealed};
 use jxlm_ma::flat::{FlatMaTree, Leaf};
 use jxlm_ma::ma::MaConfig;
 use jxlm_ma::paths::ClusterTable;
-use jxlm_transform::channels::ModularChannelInfo;
+use jxlm_transform::channels::{ModularChannelInfo, PlacedChannel};
 use jxlm_tree::predictor::{Predictor, PredictorState, WpHeader};
 use std::alloc::Global;
 use std::rc::Rc;
@@ -46,10 +47,8 @@ pub enum Alone {
 /// Everything the samples of a part are decoded with.
 #[derive(Drop)]
 pub struct PartCoding<'a, D: Decoder> {
-    /// Its channels, in order.
-    pub channels: &'a [ModularChannelInfo],
-    /// Their regions in the store.
-    pub regions: &'a [Region],
+    /// Its channels, in order, and their regions in the store.
+    pub channels: &'a [PlacedChannel],
     /// Its tree.
     pub config: &'a MaConfig<D>,
     /// The tree as each channel walks it.
@@ -60,6 +59,17 @@ pub struct PartCoding<'a, D: Decoder> {
     pub stream_index: u32,
     /// The maximum width of its channels.
     pub widest: u32,
+}
+
+impl<'a, D: Decoder> PartCoding<'a, D> {
+    /// The region of channel `i`.
+    #[inline(always)]
+    pub fn region(&self, i: usize) -> Region
+        requires { i < length (regions_of self.now) }
+        ensures { result ≡ get_or (regions_of self.now) i no_region }
+    {
+        self.channels[i].region
+    }
 }
 
 /// The state that the samples of a part are decoded in.
@@ -111,14 +121,14 @@ pub(crate) fn start_channel<S: Sample, D: Decoder>(
         if last.alone.is_none()
             && last.asked > 0
             && last.weighted == here.weighted
-            && is_alike(&coding.channels[before], &coding.channels[i])
+            && is_alike(&coding.channels[before].info, &coding.channels[i].info)
         {
             state.restart_alike();
-            state.add_earlier(coding.regions[before]);
+            state.add_earlier(coding.region(before));
             return;
         }
     }
-    state.restart_by(coding.regions[i].width as u32, here.weighted);
+    state.restart_by(coding.region(i).width as u32, here.weighted);
     if here.asked > 0 {
         add_all_earlier(state, coding, i);
     }
@@ -139,8 +149,8 @@ fn add_all_earlier<S: Sample, D: Decoder>(
     ensures roomy { HasRoom coding.now state.new }
 {
     for e in 0..i {
-        if is_alike(&coding.channels[e], &coding.channels[i]) {
-            state.add_earlier(coding.regions[e]);
+        if is_alike(&coding.channels[e].info, &coding.channels[i].info) {
+            state.add_earlier(coding.region(e));
         }
     }
 }

@@ -79,7 +79,7 @@ fn decode_row<'x, S: Sample, D: Decoder>(
         y,
     };
     let read = read_row(walk, &line, row);
-    write_read(store, coding.regions[i], y, row, read)
+    write_read(store, coding.region(i), y, row, read)
 }
 
 /// Reads the rows of channel `i`, which is begun; `row` is room for one.
@@ -100,7 +100,7 @@ fn decode_rows<'x, S: Sample, D: Decoder>(
     ensures at { OnOk result (IsAtRow D.meaning coding.now walk.new S.to_int store.new path.entry i
         (region_at (regions_of coding.now) i).height) }
 {
-    for y in 0..coding.regions[i].height {
+    for y in 0..coding.region(i).height {
         decode_row(walk, coding, store, path, row, i, y)?;
     }
     Ok(())
@@ -152,7 +152,7 @@ fn decode_channel<'x, S: Sample, D: Decoder>(
         (moment walk.old.source store.old) (moment walk.new.source store.new) }
     ensures at { OnOk result (IsAtChannel D.meaning coding.now walk.new store.new (i + 1)) }
 {
-    let region = coding.regions[i];
+    let region = coding.region(i);
     if region.width == 0 || region.height == 0 {
         return Ok(());
     }
@@ -173,7 +173,7 @@ fn decode_channels<'x, S: Sample, D: Decoder>(
     ensures { WalkGives coding.now D.meaning S.width S.to_int 0 (cell_count (part_of coding.now).channels) result
         (moment walk.old.source store.old) (moment walk.new.source store.new) }
 {
-    for i in 0..coding.regions.len() {
+    for i in 0..coding.channels.len() {
         decode_channel(walk, coding, store, scratch, i)?;
     }
     Ok(())

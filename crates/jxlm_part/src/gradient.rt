@@ -140,6 +140,6 @@ pub(crate) fn read_gradients<S: Sample, D: Decoder>(
     if line.y == 0 {
         return read_by_kind::<S, D, true>(source, leaves, widest, &[], row);
     }
-    let above = region_row(line.store, line.coding.regions[line.i], line.y - 1);
+    let above = region_row(line.store, line.coding.region(line.i), line.y - 1);
     read_by_kind::<S, D, false>(source, leaves, widest, above, row)
 }

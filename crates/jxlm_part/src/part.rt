@@ -6,6 +6,7 @@ ghost use Rattle.jxlm_tree.specs.SelfCorrecting.{IsHeader};
 ghost use Rattle.jxlm_base.specs.Bits.{bytes_of, position_of};
 ghost use Rattle.jxlm_ma.specs.TreeReading.{IsOutOfMemory};
 ghost use Rattle.jxlm_base.specs.ErrorKind.{kind_of};
+ghost use Rattle.jxlm_transform.specs.Channels.{infos, regions};
 ghost use Rattle.jxlm_part.specs.Decode.{DecodeGives, MovesWithin};
 ghost use Rattle.jxlm_part.specs.Part.{cell_count};
 ghost use Rattle.jxlm_part.specs.Reading.{sampled_width as the_sampled_width};
@@ -20,11 +21,11 @@ use crate::source::{Source, Walk};
 use jxlm_base::bits::Bitstream;
 use jxlm_base::decoder::Decoder;
 use jxlm_base::error::{Error, Result};
-use jxlm_base::grid::{AlignedGrid, Region};
+use jxlm_base::grid::AlignedGrid;
 use jxlm_base::sample::Sample;
 use jxlm_ma::flat::Steps;
 use jxlm_ma::ma::MaConfig;
-use jxlm_transform::channels::ModularChannelInfo;
+use jxlm_transform::channels::PlacedChannel;
 use jxlm_tree::predictor::WpHeader;
 use std::alloc::Global;
 use std::mem;
@@ -32,10 +33,8 @@ use std::mem;
 /// A part of an image: some channels, which lie in a store of grids, and the tree that their samples are read with.
 #[derive(Drop)]
 pub struct PlacedPart<'a, D: Decoder> {
-    /// Its channels, in order.
-    pub channels: &'a [ModularChannelInfo],
-    /// Their regions in the store.
-    pub regions: &'a [Region],
+    /// Its channels, in order, and their regions in the store.
+    pub channels: &'a [PlacedChannel],
     /// Its tree.
     pub config: &'a MaConfig<D>,
     /// The weights of the weighted (self-correcting) predictor.
@@ -47,14 +46,14 @@ pub struct PlacedPart<'a, D: Decoder> {
 impl<'a, D: Decoder> PlacedPart<'a, D> {
     /// Whether the part has samples.
     pub fn has_samples(&self) -> bool
-        ensures { IsTrue result ↔ (0 < cell_count self.now.channels.now) }
+        ensures { IsTrue result ↔ (0 < cell_count (infos self.now.channels.now)) }
     {
         have_samples(self.channels)
     }
 
     /// What is made ready before the first bit of the samples is read. Out of memory is its only error.
     fn ready<S: Sample>(&self, alloc: Global) -> Result<Ready<S, D>>
-        requires widest { the_sampled_width self.now.channels.now ≤ 2 ^ 30 }
+        requires widest { the_sampled_width (infos self.now.channels.now) ≤ 2 ^ 30 }
         requires weights { IsHeader self.now.weights }
         requires few { length self.now.channels.now ≤ 65536 }
         ensures ok { IfOk result (λ r. IsReadyFor self.now r) }
@@ -99,11 +98,11 @@ impl<'a, D: Decoder> PlacedPart<'a, D> {
         requires lies { PartLies self.now store.old }
         ensures answers { (tried : ℕ) × DecodeGives D.meaning S.width (part_placed self.now) (bytes_of bits.old)
             self.now.config.now.decoder
-            (standing_in S.to_int self.now.regions.now store.old (position_of bits.old) partial.old)
-            (standing_in S.to_int self.now.regions.now store.new (position_of bits.new) partial.new)
+            (standing_in S.to_int (regions self.now.channels.now) store.old (position_of bits.old) partial.old)
+            (standing_in S.to_int (regions self.now.channels.now) store.new (position_of bits.new) partial.new)
             allow_partial result tried × MovesWithin steps.old steps.new (tried * most_steps self.now) }
-        ensures empty { cell_count self.now.channels.now ≡ 0 → IsOk result }
-        ensures keeps { KeepsOutside self.now.regions.now store.old store.new }
+        ensures empty { cell_count (infos self.now.channels.now) ≡ 0 → IsOk result }
+        ensures keeps { KeepsOutside (regions self.now.channels.now) store.old store.new }
         ensures bytes { bytes_of bits.new ≡ bytes_of bits.old }
     {
         if !self.has_samples() {
@@ -117,7 +116,6 @@ impl<'a, D: Decoder> PlacedPart<'a, D> {
         } = self.ready(alloc)?;
         let coding = PartCoding {
             channels: self.channels,
-            regions: self.regions,
             config: self.config,
             flats: &flats,
             weights: self.weights,

@@ -10,7 +10,7 @@ use Rattle.jxlm_chain.specs.Shape.{SameShape}
 use Rattle.jxlm_chain.specs.Steps.{CanUndoAll}
 use Rattle.jxlm_chain.specs.Undo.{Undo, UndoRct, UndoPalette, UndoSqueeze, Undoes, UndoesAll}
 use Rattle.jxlm_base.specs.declared.subgrid.Region.{Region}
-use Rattle.jxlm_chain.proofs.StepFacts.{both_of}
+use Rattle.jxlm_transform.proofs.StepFacts.{both_of}
 use Rattle.jxlm_chain.proofs.ShapeLaws.{shape_same, shape_both, undos_kept}
 use Rattle.jxlm_redo.specs.Inner.Room.{HasRoom, HasRoomForCells}
 

@@ -3,7 +3,7 @@ use Rattle.std.proofs.Common.{List, [], ◌∷◌}
 use Rattle.std.specs.List.{All}
 use Rattle.std.proofs.lemmas.List.Elements.{All-append, All-cons, All-head, All-map, All-nil, All-tail}
 use Rattle.jxlm_transform.specs.ChannelSteps.{Step, RctStep, PaletteStep, SqueezeStep, range}
-use Rattle.jxlm_chain.specs.Layout.{Layout, layout_after}
+use Rattle.jxlm_transform.specs.Layout.{Layout, layout_after}
 use Rattle.jxlm_chain.specs.Undo.{UndoRct, UndoSqueeze, undo_of, undo_of_all}
 use Rattle.jxlm_redo.specs.Redo.{IsNoPalette, UndoesNoPalette}
 

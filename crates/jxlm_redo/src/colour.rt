@@ -4,7 +4,7 @@ ghost use Rattle.std.specs.Prelude.{◌≡◌, ℕ, ◌*◌, ◌<◌, ◌≤◌,
 ghost use Rattle.std.specs.List.{All};
 ghost use Rattle.jxlm_base.specs.Grid.{IsFull};
 ghost use Rattle.jxlm_base.specs.Outside.{KeepsOutside};
-ghost use Rattle.jxlm_chain.specs.Layout.{no_region};
+ghost use Rattle.jxlm_transform.specs.Layout.{no_region};
 ghost use Rattle.jxlm_chain.specs.Steps.{CanUndo};
 ghost use Rattle.jxlm_chain.specs.Undo.{UndoRct, Undoes};
 ghost use Rattle.jxlm_redo.specs.Inner.Coded.{AreThree, CodedUntil, CodesRow};

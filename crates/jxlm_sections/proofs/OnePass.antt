@@ -5,7 +5,7 @@ use Rattle.std.specs.List.{All, AllPairs, enumerate_from}
 use Rattle.std.specs.Option.{option_map_or}
 use Rattle.std.proofs.lemmas.Bool.{cases_lt, le-leb, lt-ltb, ltb-true}
 use Rattle.std.proofs.lemmas.List.Elements.{All-append, All-filter}
-use Rattle.jxlm_chain.proofs.StepFacts.{both_of}
+use Rattle.jxlm_transform.proofs.StepFacts.{both_of}
 use Rattle.jxlm_transform.specs.Channels.{Channel, ChannelList}
 use Rattle.jxlm_cut.proofs.Cover.{HasIn, some_in}
 use Rattle.jxlm_cut.proofs.HeldCells.{into, own_piece}

@@ -44,6 +44,15 @@ all_handed : {X : Type 0} (n : ℕ) (P : X → Type 0) (xs : List X) → All P x
 all_handed zero P xs h = All-nil P
 all_handed (suc n) P xs h = h
 
+-- what was read of row y of a region is the row of the channel that lies there
+pub row_of_region : {D X : Type 0} (c : PartCoding D) (store : List (Grid X)) (i y : ℕ) (r : Region) (row : List X) → r ≡ region_at (regions_of c) i → y < (region_at (regions_of c) i).height →
+    length row ≡ r.width → ((x : ℕ) → x < r.width → region_cell store r x y ≡ slice_get row x) → HasRow c store i y row
+row_of_region c store i y r row is below long cells = record {
+  below = below;
+  long = long ∙ ap (λ (q : Region). q.width) is;
+  cells = subst (λ (q : Region). (x : ℕ) → x < q.width → region_cell store q x y ≡ slice_get row x) is cells;
+}
+
 module _ {D : Type 0} (c : PartCoding D) (coding : IsCodingOf c) (i : ℕ) (li : i < length (regions_of c)) where
   abbrev reg : Region
   reg = region_at (regions_of c) i

@@ -7,14 +7,15 @@ use Rattle.jxlm_base.specs.Grid.{Grid}
 use Rattle.jxlm_base.specs.Regions.{grids_in, store_meanings}
 use Rattle.jxlm_ma.specs.Tree.{AllLeaves}
 use Rattle.jxlm_tokens.specs.Inner.Channels.{HasRoom, region_at}
+use Rattle.jxlm_transform.specs.Channels.{infos}
 use Rattle.jxlm_part.specs.Part.{cells_before, cells_of, channel, max_width}
 use Rattle.jxlm_part.specs.Placed.{PartLies}
-use Rattle.jxlm_part.specs.Reading.{HasFlats, IsCodingOf, IsRoomyFor, part_of, regions_of, sampled_width}
+use Rattle.jxlm_part.specs.Reading.{HasFlats, IsCodingOf, IsRoomyFor, part_of, regions_of, row_width, sampled_width}
 use Rattle.jxlm_part.specs.declared.coding.PartCoding.{PartCoding}
 use Rattle.jxlm_part.specs.declared.coding.PartState.{PartState}
 use Rattle.jxlm_part.specs.declared.part.PlacedPart.{PlacedPart}
-use Rattle.jxlm_part.proofs.Loops.{all_cells, all_done, channel_done, channel_empty, channel_flat, fits_in, same_count, same_size}
-use Rattle.jxlm_part.proofs.Starting.{roomy_for}
+use Rattle.jxlm_part.proofs.Loops.{all_cells, all_done, channel_done, channel_empty, channel_flat, fits_in, same_size}
+use Rattle.jxlm_part.proofs.Starting.{as_many_channels, roomy_for}
 use Rattle.jxlm_tokens.specs.Inner.Walks.{AreFirstTokens, AreRowTokens, IsWalked}
 use Rattle.jxlm_tokens.specs.Tokens.{AreTokensOf, IsTokenOfCell, MultipliesByOne}
 use Rattle.jxlm_tokens.proofs.Lists.{joined}
@@ -82,14 +83,14 @@ module _ {D X : Type 0} (c : PartCoding D) (w : Width) (to_int : X → ℤ) (sto
 
 -- a part that lies in a store, and what is made ready for it
 module _ {D X : Type 0} (p : PlacedPart D) (store : List (Grid X)) (lies : PartLies p store) (c : PartCoding D)
-    (channels : c.channels.now ≡ p.channels.now) (regions : c.regions.now ≡ p.regions.now) (config : c.config.now ≡ p.config.now) (weights : c.weights ≡ p.weights)
-    (stream : c.stream_index ≡ p.stream_index) (widest : c.widest ≡ max_width p.channels.now) (flats : HasFlats p.config.now.tree p.stream_index (length p.channels.now) c.flats.now) where
+    (channels : c.channels.now ≡ p.channels.now) (config : c.config.now ≡ p.config.now) (weights : c.weights ≡ p.weights)
+    (stream : c.stream_index ≡ p.stream_index) (widest : c.widest ≡ max_width (infos p.channels.now)) (flats : HasFlats p.config.now.tree p.stream_index (length p.channels.now) c.flats.now) where
   count_is : length p.channels.now ≡ length (regions_of c)
-  count_is = same_count p.channels.now p.regions.now lies.sizes ∙ ap length (sym regions)
+  count_is = ap length (sym channels) ∙ as_many_channels c
 
   pub placed_coding : IsCodingOf c
   placed_coding = record {
-    sizes = rw (channels, regions) lies.sizes;
+    sizes = rw channels lies.sizes;
     narrow = rw channels lies.narrow;
     widest = rw channels widest;
     flats = rw (config, stream, ← count_is) flats;
@@ -97,10 +98,10 @@ module _ {D X : Type 0} (p : PlacedPart D) (store : List (Grid X)) (lies : PartL
   }
 
   pub placed_walk : AllLeaves MultipliesByOne p.config.now.tree → IsWalked c store
-  placed_walk ones = record { coding = placed_coding; lie = rw regions lies.lie; ones = rw config ones }
+  placed_walk ones = record { coding = placed_coding; lie = rw channels lies.lie; ones = rw config ones }
 
-  pub placed_room : (state : PartState X) → IsRoomyFor (sampled_width p.channels.now) (sampled_width p.channels.now) p.weights c.flats.now state → HasRoom c state.predictor
-  placed_room state h = (roomy_for c (sampled_width c.channels.now) state placed_coding (rw (channels, weights) h)).predictor
+  pub placed_room : (state : PartState X) → IsRoomyFor (sampled_width (infos p.channels.now)) (sampled_width (infos p.channels.now)) p.weights c.flats.now state → HasRoom c state.predictor
+  placed_room state h = (roomy_for c (row_width c) state placed_coding (rw (channels, weights) h)).predictor
 
 -- what holds anyway holds where there is no error
 pub on_ok : {A E : Type 0} (r : Result A E) (P : Type 0) → P → OnOk r P

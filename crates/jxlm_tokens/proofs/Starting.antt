@@ -6,7 +6,7 @@ use Rattle.jxlm_tree.specs.Standing.{HasSameRoom, Setting, Stands, StandsAt, ear
 use Rattle.jxlm_tree.specs.declared.predictor.WpHeader.{WpHeader}
 use Rattle.jxlm_tree.specs.declared.state.PredictorState.{PredictorState}
 use Rattle.jxlm_tree.proofs.StandingLaws.{stands_earlier}
-use Rattle.jxlm_transform.specs.Channels.{Channel}
+use Rattle.jxlm_transform.specs.declared.channels.PlacedChannel.{PlacedChannel}
 use Rattle.jxlm_part.specs.Part.{channel, earlier_alike, is_alike}
 use Rattle.jxlm_part.specs.Reading.{IsCodingOf, part_of, regions_of}
 use Rattle.jxlm_part.specs.declared.coding.PartCoding.{PartCoding}
@@ -39,10 +39,10 @@ module _ {D : Type 0} (c : PartCoding D) (i : ℕ) where
       pub stood : StandsIn c (i - 1) state
 
     pub comes_after_alike : (coding : IsCodingOf c) → i < length (regions_of c) → 0 < (region_at (regions_of c) i).width → 0 < (region_at (regions_of c) i).height → (state : PredictorState X) →
-        IsAfterChannel c i state → 0 < i → (a b : Channel) → true ≡ is_alike (get_or c.channels.now (i - 1) a) (get_or c.channels.now i b) → ComesAfterAlike state
+        IsAfterChannel c i state → 0 < i → (a b : PlacedChannel) → true ≡ is_alike (get_or c.channels.now (i - 1) a).info (get_or c.channels.now i b).info → ComesAfterAlike state
     comes_after_alike coding li columns rows state last some a b same =
         let next : i ≡ i - 1 + 1 = omega (arith, some) in
-        let n = as_many_channels c coding in
+        let n = as_many_channels c in
         let alike = passes_is c i (i - 1) a b true (omega (arith, n, next, li)) (omega (arith, n, li)) same in
         let wide = same_width c coding i li (i - 1) next alike in
         let high = same_height coding li (i - 1) next alike in

@@ -4,6 +4,7 @@ ghost use Rattle.std.specs.Prelude.{◌≡◌, ◌⊎◌, ◌+◌, ◌*◌, ◌^
 ghost use Rattle.jxlm_base.specs.Regions.{grids_in, store_meanings};
 ghost use Rattle.jxlm_ma.specs.Tree.{AllLeaves};
 ghost use Rattle.jxlm_tokens.specs.Inner.Channels.{HasRoom, IsAfterChannel, StandsAfter, region_at};
+ghost use Rattle.jxlm_transform.specs.Channels.{infos, regions};
 ghost use Rattle.jxlm_part.specs.Part.{cells_before, cells_of};
 ghost use Rattle.jxlm_part.specs.Placed.{PartLies, part_placed};
 ghost use Rattle.jxlm_tree.specs.SelfCorrecting.{IsHeader};
@@ -17,13 +18,14 @@ use crate::rows::walked_row;
 use crate::start::start_channel;
 use jxlm_base::decoder::Decoder;
 use jxlm_base::error::Result;
-use jxlm_base::grid::{AlignedGrid, OutOfMemory, Region};
+use jxlm_base::grid::{AlignedGrid, OutOfMemory};
 use jxlm_base::region::region_row;
 use jxlm_base::sample::Sample;
 use jxlm_ma::flat::{FlatMaTree, Leaf, Steps};
 use jxlm_part::channels::{max_width, sampled_width};
 use jxlm_part::coding::{ChannelTree, PartCoding, PartState, flat_trees, roomy_state};
 use jxlm_part::part::PlacedPart;
+use jxlm_transform::channels::PlacedChannel;
 use jxlm_tree::predictor::{Predictor, PredictorState};
 use std::alloc::Global;
 
@@ -56,7 +58,7 @@ fn leaf_row<S: Sample, D: Decoder>(
     ensures { AreRowTokens coding.now S.width S.to_int store.now i y
         (region_at (regions_of coding.now) i).width out.new }
 {
-    let region = coding.regions[i];
+    let region = coding.region(i);
     let row = region_row(store, region, y);
     match leaf.predictor {
         Predictor::Zero => zero_row(leaf, row, out),
@@ -83,7 +85,7 @@ fn push_leaf_rows<S: Sample, D: Decoder>(
     ensures { OnOk result (AreFirstTokens coding.now S.width S.to_int store.now
         (cells_before (part_of coding.now).channels (i + 1)) tokens.new.items) }
 {
-    for y in 0..coding.regions[i].height {
+    for y in 0..coding.region(i).height {
         leaf_row(store, coding, leaf, out, i, y);
         tokens.extend_from_slice(out)?;
     }
@@ -113,7 +115,7 @@ fn push_walked_rows<S: Sample, D: Decoder>(
     ensures roomy { OnOk result (HasRoom coding.now state.new) }
     ensures last { OnOk result (IsAfterChannel coding.now (i + 1) state.new) }
 {
-    for y in 0..coding.regions[i].height {
+    for y in 0..coding.region(i).height {
         walked_row(state, steps, store, coding, out, i, y);
         tokens.extend_from_slice(out)?;
     }
@@ -142,7 +144,7 @@ fn push_channel<S: Sample, D: Decoder>(
     ensures roomy { OnOk result (HasRoom coding.now state.new) }
     ensures last { OnOk result (IsAfterChannel coding.now (i + 1) state.new) }
 {
-    let region = coding.regions[i];
+    let region = coding.region(i);
     if region.width == 0 || region.height == 0 {
         return Ok(());
     }
@@ -170,16 +172,17 @@ fn push_channels<S: Sample, D: Decoder>(
         (cells_before (part_of coding.now).channels (length (regions_of coding.now))) tokens.new.items) }
 {
     let mut steps = Steps::new();
-    for i in 0..coding.regions.len() {
+    for i in 0..coding.channels.len() {
         push_channel(tokens, state, &mut steps, store, coding, scratch, i)?;
     }
     Ok(())
 }
 
-/// How many cells the regions have, or the greatest number where they have more.
-fn count_cells(regions: &[Region]) -> usize {
+/// How many cells the channels have, or the greatest number where they have more.
+fn count_cells(channels: &[PlacedChannel]) -> usize {
     let mut count: usize = 0;
-    for region in regions {
+    for channel in channels {
+        let region = channel.region;
         count = count.saturating_add(region.width.saturating_mul(region.height));
     }
     count
@@ -196,13 +199,13 @@ struct Made<S> {
 
 /// Makes it ready. Out of memory is the only error.
 fn make_ready<S: Sample, D: Decoder>(alloc: Global, part: &PlacedPart<'_, D>) -> Result<Made<S>>
-    requires widest { the_sampled_width part.now.channels.now ≤ 2 ^ 30 }
+    requires widest { the_sampled_width (infos part.now.channels.now) ≤ 2 ^ 30 }
     requires weights { IsHeader part.now.weights }
     requires few { length part.now.channels.now ≤ 65536 }
     ensures flats { IfOk result (λ m. HasFlats part.now.config.now.tree part.now.stream_index
         (length part.now.channels.now) m.flats.items) }
-    ensures room { IfOk result (λ m. IsRoomyFor (the_sampled_width part.now.channels.now)
-        (the_sampled_width part.now.channels.now) part.now.weights m.flats.items m.state) }
+    ensures room { IfOk result (λ m. IsRoomyFor (the_sampled_width (infos part.now.channels.now))
+        (the_sampled_width (infos part.now.channels.now)) part.now.weights m.flats.items m.state) }
 {
     let flats = flat_trees(
         alloc,
@@ -229,14 +232,13 @@ pub fn sample_tokens<S: Sample, D: Decoder>(
     requires lies { PartLies part.now store.now }
     requires multipliers { AllLeaves MultipliesByOne part.now.config.now.tree }
     ensures { IfOk result (λ v. AreTokensOf S.width (part_placed part.now)
-        (cells_of (grids_in part.now.regions.now (store_meanings S.to_int store.now))) v.items) }
+        (cells_of (grids_in (regions part.now.channels.now) (store_meanings S.to_int store.now))) v.items) }
 {
     let Ok(Made { flats, mut state }) = make_ready(alloc, part) else {
         return Err(OutOfMemory);
     };
     let coding = PartCoding {
         channels: part.channels,
-        regions: part.regions,
         config: part.config,
         flats: &flats,
         weights: part.weights,
@@ -244,7 +246,7 @@ pub fn sample_tokens<S: Sample, D: Decoder>(
         widest: max_width(part.channels),
     };
     let mut scratch = vec![in alloc; 0u32; sampled_width(part.channels) as usize]?;
-    let mut tokens = Vec::with_capacity(alloc, count_cells(part.regions))?;
+    let mut tokens = Vec::with_capacity(alloc, count_cells(part.channels))?;
     push_channels(
         &mut tokens,
         &mut state.predictor,

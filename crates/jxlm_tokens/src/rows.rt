@@ -119,7 +119,7 @@ pub(crate) fn walked_row<S: Sample, D: Decoder>(
         ((y + 1) * (region_at (regions_of coding.now) i).width) state.new }
     ensures room { HasSameRoom state.old state.new }
 {
-    let row = region_row(store, coding.regions[i], y);
+    let row = region_row(store, coding.region(i), y);
     let width = row.len();
     let earlier = EarlierRows::of(state, store, coding.flats[i].asked);
     let rows = earlier.rows();

@@ -39,16 +39,16 @@ pub(crate) fn start_channel<S: Sample, D: Decoder>(
     ensures stands { (store : List (Grid S)) → StandsAfter coding.now S.to_int store i 0 state.new }
     ensures roomy { HasRoom coding.now state.new }
 {
-    let width = coding.regions[i].width as u32;
+    let width = coding.region(i).width as u32;
     let weighted = coding.flats[i].weighted;
     if coding.flats[i].asked == 0 {
         state.restart_by(width, weighted);
     } else if coding.flats[i - 1].asked > 0
         && coding.flats[i - 1].weighted == weighted
-        && is_alike(&coding.channels[i - 1], &coding.channels[i])
+        && is_alike(&coding.channels[i - 1].info, &coding.channels[i].info)
     {
         state.restart_alike();
-        state.add_earlier(coding.regions[i - 1]);
+        state.add_earlier(coding.region(i - 1));
     } else {
         state.restart_by(width, weighted);
         add_all_earlier(state, coding, i);
@@ -70,8 +70,8 @@ fn add_all_earlier<S: Sample, D: Decoder>(
     ensures roomy { HasRoom coding.now state.new }
 {
     for e in 0..i {
-        if is_alike(&coding.channels[e], &coding.channels[i]) {
-            state.add_earlier(coding.regions[e]);
+        if is_alike(&coding.channels[e].info, &coding.channels[i].info) {
+            state.add_earlier(coding.region(e));
         }
     }
 }

@@ -1,7 +1,6 @@
 mod ChannelExamples
 pub mod CodedLists
 pub mod ColourRegions
-pub mod DefaultSteps
 pub mod FieldRanges
 pub mod Halvings
 pub mod ImageChannels
@@ -23,3 +22,9 @@ mod TransformExamples
 pub mod TransformLaws
 pub mod ValidParams
 pub mod StepLaws
+pub mod Ends
+pub mod Ranges
+pub mod RangeParts
+pub mod WholeRegions
+pub mod PlacedLists
+pub mod StepFacts

@@ -4,7 +4,7 @@ use Rattle.std.specs.List.{AllZip, list_any}
 use Rattle.jxlm_base.specs.Grid.{Grid, IsFull}
 use Rattle.jxlm_base.specs.declared.subgrid.Region.{Region}
 use Rattle.jxlm_transform.specs.declared.channels.ModularChannelInfo.{ModularChannelInfo}
-use Rattle.jxlm_transform.specs.declared.channels.ModularChannels.{ModularChannels}
+use Rattle.jxlm_transform.specs.declared.channels.PlacedChannel.{PlacedChannel}
 use Rattle.jxlm_transform.specs.declared.param.ModularChannelParams.{ModularChannelParams}
 use Rattle.jxlm_transform.specs.declared.param.PaletteTables.{PaletteTables}
 use Rattle.jxlm_transform.specs.declared.param.PaletteTables.TheVariants.{OfColours, OfDeltasToo}
@@ -69,6 +69,10 @@ image_list channels = record { channels = map image_channel channels; nb_meta = 
 abbrev pub HasItsMeta : ChannelList → Type 0
 HasItsMeta l = l.nb_meta ≤ length l.channels
 
--- the list that a program keeps
-abbrev pub list_of : ModularChannels → ChannelList
-list_of l = record { channels = l.info.items; nb_meta = l.nb_meta_channels }
+-- placed channels, without where they lie
+abbrev pub infos : List PlacedChannel → List Channel
+infos ps = map (λ p. p.info) ps
+
+-- where they lie
+abbrev pub regions : List PlacedChannel → List Region
+regions ps = map (λ p. p.region) ps

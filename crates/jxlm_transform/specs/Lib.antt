@@ -10,4 +10,7 @@ pub mod Shifts
 pub mod SqueezedRegions
 pub mod Steps
 pub mod Transforms
+pub mod Ends
+pub mod Layout
+pub mod Lists
 pub mod Inner

@@ -1,14 +1,19 @@
 //! The channels of an image, as they are coded (ISO/IEC 18181-1, Modular: channel list).
 
-ghost use Rattle.std.specs.Prelude.{◌≡◌, ◌≤ℤ◌, pos, IsTrue, IfOk, IfErr};
+ghost use Rattle.std.specs.Prelude.{◌≡◌, ◌≤ℤ◌, pos, IsTrue, IfOk, IfErr, map};
 ghost use Rattle.std.specs.List.{All, list_any};
 ghost use Rattle.jxlm_base.specs.ErrorKind.{NoMemory, kind_of};
+ghost use Rattle.jxlm_base.specs.Regions.{region};
+ghost use Rattle.jxlm_lanes.specs.Squeeze.{averages as the_averages};
 ghost use Rattle.jxlm_transform.specs.ChannelSteps.{has_size_of, table_channel, average_channel, residual_channel, can_be_squeezed, grown as the_grown};
-ghost use Rattle.jxlm_transform.specs.Channels.{image_channel, image_list, list_of, tables_for as the_tables};
+ghost use Rattle.jxlm_transform.specs.Channels.{image_channel, infos, regions, tables_for as the_tables};
+ghost use Rattle.jxlm_transform.specs.Ends.{HasEnds};
 ghost use Rattle.jxlm_transform.specs.Params.{IsValidChannel, has_deltas};
+ghost use Rattle.jxlm_transform.specs.SqueezedRegions.{average_region, residual_region};
 
 use crate::param::{ChannelShift, ModularChannelParams, PaletteTables};
 use jxlm_base::error::Result;
+use jxlm_base::grid::{OutOfMemory, Region};
 use std::alloc::Global;
 
 /// What is known of a channel as it is coded: its size, its shifts, and the size and the shift that it came with.
@@ -82,7 +87,7 @@ impl ModularChannelInfo {
     }
 
     /// Whether another channel has the size of this one.
-    pub(crate) fn is_of_size(&self, other: &ModularChannelInfo) -> bool
+    pub fn is_of_size(&self, other: &ModularChannelInfo) -> bool
         ensures { result ≡ has_size_of self.now other.now }
     {
         other.width == self.width && other.height == self.height
@@ -144,18 +149,135 @@ fn grown(shift: i32) -> i32
     if shift >= 0 { shift + 1 } else { shift }
 }
 
+/// The channels of these parameters, before any transform.
+///
+/// # Errors
+///
+/// `Buffer` if it is out of memory, and no other.
+pub fn image_channels(
+    alloc: Global,
+    params: &[ModularChannelParams],
+) -> Result<Vec<ModularChannelInfo>>
+    requires { All IsValidChannel params.now }
+    ensures ok { IfOk result (λ v. v.items ≡ map image_channel params.now) }
+    ensures err { IfErr result (λ e. kind_of e ≡ NoMemory) }
+{
+    let mut channels = Vec::new(alloc);
+    for channel in params {
+        channels.push(ModularChannelInfo::new(channel))?;
+    }
+    Ok(channels)
+}
+
+/// How many averages a side of `n` samples has.
+fn averages(n: usize) -> usize
+    ensures { result ≡ the_averages n }
+{
+    n - n / 2
+}
+
+/// The part of a squeezed region that has the averages.
+fn average_part(region: &Region, horizontal: bool) -> Region
+    ensures { result ≡ average_region horizontal region.now }
+{
+    if horizontal {
+        Region {
+            width: averages(region.width),
+            ..*region
+        }
+    } else {
+        Region {
+            height: averages(region.height),
+            ..*region
+        }
+    }
+}
+
+/// The part that has the residuals.
+fn residual_part(region: &Region, horizontal: bool) -> Region
+    requires { HasEnds region.now }
+    ensures { result ≡ residual_region horizontal region.now }
+{
+    if horizontal {
+        Region {
+            x: region.x + averages(region.width),
+            width: region.width / 2,
+            ..*region
+        }
+    } else {
+        Region {
+            y: region.y + averages(region.height),
+            height: region.height / 2,
+            ..*region
+        }
+    }
+}
+
+/// A channel, and where its samples lie in a store.
+#[derive(Clone, Copy)]
+pub struct PlacedChannel {
+    /// The channel.
+    pub info: ModularChannelInfo,
+    /// Its region of the store.
+    pub region: Region,
+}
+
+impl PlacedChannel {
+    /// A channel that is the whole of a buffer.
+    pub(crate) fn whole(info: ModularChannelInfo, buffer: usize) -> PlacedChannel
+        ensures info { result.info ≡ info }
+        ensures region { result.region ≡ region buffer 0 0 info.width info.height }
+    {
+        PlacedChannel {
+            info,
+            region: Region {
+                buffer,
+                x: 0,
+                y: 0,
+                width: info.width as usize,
+                height: info.height as usize,
+            },
+        }
+    }
+
+    /// Its averages, where it is squeezed across or down.
+    pub(crate) fn average(&self, horizontal: bool) -> PlacedChannel
+        requires { IsTrue (can_be_squeezed self.now.info) }
+        ensures info { result.info ≡ average_channel horizontal self.now.info }
+        ensures region { result.region ≡ average_region horizontal self.now.region }
+    {
+        PlacedChannel {
+            info: self.info.average(horizontal),
+            region: average_part(&self.region, horizontal),
+        }
+    }
+
+    /// Its residuals, where it is squeezed across or down.
+    pub(crate) fn residual(&self, horizontal: bool) -> PlacedChannel
+        requires can { IsTrue (can_be_squeezed self.now.info) }
+        requires ends { HasEnds self.now.region }
+        ensures info { result.info ≡ residual_channel horizontal self.now.info }
+        ensures region { result.region ≡ residual_region horizontal self.now.region }
+    {
+        PlacedChannel {
+            info: self.info.residual(horizontal),
+            region: residual_part(&self.region, horizontal),
+        }
+    }
+}
+
 // Whether one of these channels asks for tables of deltas.
-fn ask_for_deltas(channels: &[ModularChannelInfo]) -> bool
-    ensures { result ≡ list_any (λ c. has_deltas c.palette_tables) channels.now }
+fn ask_for_deltas(channels: &[PlacedChannel]) -> bool
+    ensures { result ≡ list_any (λ p. has_deltas p.info.palette_tables) channels.now }
 {
     channels
         .iter()
-        .any(|channel| channel.palette_tables.has_deltas())
+        .any(|channel| channel.info.palette_tables.has_deltas())
 }
 
 /// The tables of palettes that a header of these channels has: with deltas where one of the channels asks for them.
-pub fn tables_for(channels: &[ModularChannelInfo]) -> PaletteTables
-    ensures { result ≡ the_tables channels.now }
+pub fn tables_for(channels: &[PlacedChannel]) -> PaletteTables
+    ensures { result ≡ the_tables (infos channels.now) }
 {
     if ask_for_deltas(channels) {
         PaletteTables::OfDeltasToo
@@ -164,33 +286,44 @@ pub fn tables_for(channels: &[ModularChannelInfo]) -> PaletteTables
     }
 }
 
-/// The channels of an image. Those of tables, and what became of them, come first: the meta channels.
+/// The channels of an image, and where they lie in a store. Those of tables, and what became of them, come first: the
+/// meta channels.
 #[derive(Drop)]
 pub struct ModularChannels {
     /// The channels, in order.
-    pub info: Vec<ModularChannelInfo>,
+    pub placed: Vec<PlacedChannel>,
     /// How many of them are meta channels.
     pub nb_meta_channels: usize,
+    /// How many buffers of the store are taken.
+    pub buffers: usize,
+    ghost ends: { All HasEnds (regions placed.items) },
 }
 
 impl ModularChannels {
-    /// The channels of an image, before any transform.
+    ghost use Rattle.jxlm_transform.specs.Layout.{first_layout};
+    ghost use Rattle.jxlm_transform.specs.Lists.{layout_of, list_of};
+
+    /// These channels, before any transform: each is the whole of a buffer of its own.
     ///
     /// # Errors
     ///
-    /// `Buffer` if it is out of memory, and no other.
-    pub fn new(alloc: Global, params: &[ModularChannelParams]) -> Result<ModularChannels>
-        requires { All IsValidChannel params.now }
-        ensures ok { IfOk result (λ l. list_of l ≡ image_list params.now) }
-        ensures err { IfErr result (λ e. kind_of e ≡ NoMemory) }
+    /// `OutOfMemory`, and no other.
+    pub fn new(
+        alloc: Global,
+        given: &[ModularChannelInfo],
+    ) -> std::result::Result<ModularChannels, OutOfMemory>
+        ensures list { IfOk result (λ l. list_of l ≡ record { channels = given.now; nb_meta = 0 }) }
+        ensures layout { IfOk result (λ l. layout_of l ≡ first_layout given.now) }
     {
-        let mut info = Vec::new(alloc);
-        for channel in params {
-            info.push(ModularChannelInfo::new(channel))?;
+        let mut placed = Vec::new(alloc);
+        for info in given {
+            placed.push(PlacedChannel::whole(*info, placed.len()))?;
         }
+        let buffers = placed.len();
         Ok(ModularChannels {
-            info,
+            placed,
             nb_meta_channels: 0,
+            buffers,
         })
     }
 }

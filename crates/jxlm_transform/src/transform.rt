@@ -11,7 +11,6 @@ ghost use Rattle.jxlm_transform.specs.Params.{columns};
 ghost use Rattle.jxlm_transform.specs.Kinds.{is_palette as the_palettes, is_squeeze as the_squeezes};
 ghost use Rattle.jxlm_transform.specs.Transforms.{OfPalette, transform_of, begin_channel as the_begin_channel, rct, predictor, weights_for, palette, palette_by, squeeze_params, squeeze, transform, transform_by, IsRct, IsPalette, IsSqueezeParams, IsSqueeze, IsTransform, HasChannels, KeepsWeights, IsPaletteTransform, IsSqueezeTransform, Parses};
 
-mod default_squeeze;
 mod lists;
 mod steps;
 

@@ -5,7 +5,8 @@ use Rattle.std.specs.Coded.{Coded, code_by, coded×, coded_bool, coded_list, cod
 use Rattle.jxlm_base.specs.Grid.{Grid, grid_code}
 use Rattle.jxlm_base.specs.declared.subgrid.Region.{Region}
 use Rattle.jxlm_header.specs.Header.{Header}
-use Rattle.jxlm_transform.specs.Channels.{Channel}
+use Rattle.jxlm_transform.specs.Channels.{Channel, infos, regions}
+use Rattle.jxlm_transform.specs.declared.channels.ModularChannels.{ModularChannels}
 use Rattle.jxlm_transform.specs.ChannelSteps.{Step}
 use Rattle.jxlm_transform.specs.Kinds.{is_palette, is_squeeze}
 use Rattle.jxlm_transform.specs.Steps.{steps_in}
@@ -14,8 +15,8 @@ use Rattle.jxlm_tree.specs.declared.predictor.WpHeader.{WpHeader}
 use Rattle.jxl_modular.specs.Image.{Image}
 
 -- the image of these fields, in the order in which a program keeps them
-abbrev pub image_kept : {S D : Type 0} → Header → Config D → ℕ → ℕ → List Channel → List Channel → ℕ → List (Grid S) → List Region → Image S D
-image_kept header config group_dim bit_depth given channels nb_meta store coded = record {
+abbrev pub image_kept : {S D : Type 0} → Header → Config D → ℕ → ℕ → List Channel → ModularChannels → List (Grid S) → Image S D
+image_kept header config group_dim bit_depth given coded store = record {
   has_palette = list_any is_palette header.transform;
   has_squeeze = list_any is_squeeze header.transform;
   weights = header.wp_params;
@@ -24,10 +25,10 @@ image_kept header config group_dim bit_depth given channels nb_meta store coded 
   group_dim = group_dim;
   bit_depth = bit_depth;
   given = given;
-  channels = channels;
-  nb_meta = nb_meta;
+  channels = infos coded.placed.items;
+  nb_meta = coded.nb_meta_channels;
   store = store;
-  coded = coded;
+  coded = regions coded.placed.items;
 }
 
 -- the code of an image, from those of its parts

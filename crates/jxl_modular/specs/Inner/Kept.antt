@@ -1,6 +1,6 @@
 -- What an image keeps beside what callers see of it.
 use Rattle.std.specs.Prelude.{◌≡◌, List}
-use Rattle.jxlm_chain.specs.Layout.{first_layout}
+use Rattle.jxlm_transform.specs.Layout.{first_layout}
 use Rattle.jxlm_chain.specs.Undo.{undo_of_all}
 use Rattle.jxlm_chain.specs.Undoings.{undos_of}
 use Rattle.jxlm_chain.specs.declared.undo.Undoing.{Undoing}

@@ -1,15 +1,19 @@
 -- What is known of each image, from its reading.
 use Rattle.std.specs.Prelude.{◌≡◌, ◌≤◌, List, length, Ok}
 use Rattle.std.specs.List.{All}
-use Rattle.jxlm_chain.specs.Layout.{HasBuffers, buffers_of, first_layout, layout_after_all}
+use Rattle.jxlm_transform.specs.Layout.{HasBuffers, buffers_of, first_layout, layout_after_all}
 use Rattle.jxlm_chain.specs.Steps.{IsNarrowStore}
-use Rattle.jxlm_transform.specs.Channels.{Channel, IsNarrow, image_list}
+use Rattle.jxlm_transform.specs.Channels.{Channel, ChannelList, IsNarrow, image_list}
 use Rattle.jxlm_transform.specs.Params.{IsGroupDim, IsValidChannel}
 use Rattle.jxlm_transform.specs.declared.param.ModularChannelParams.{ModularChannelParams}
 use Rattle.jxlm_transform.specs.ChannelSteps.{list_after_all}
 use Rattle.jxlm_transform.specs.Steps.{HasChannels, HasWeights}
 use Rattle.jxlm_tree.specs.SelfCorrecting.{IsHeader}
 use Rattle.jxl_modular.specs.Image.{Image, coded_list, given_list}
+
+-- channels of an image, before any transform: none is a meta channel
+abbrev pub given_channels : List Channel → ChannelList
+given_channels channels = record { channels = channels; nb_meta = 0 }
 
 -- channels as valid parameters ask for them
 pub record AreAskedFor (channels : List Channel) : Type 0 where

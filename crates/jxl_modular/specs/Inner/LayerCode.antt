@@ -8,8 +8,8 @@ use Rattle.jxlm_base.specs.declared.subgrid.Region.{Region}
 use Rattle.jxlm_chain.specs.Lying.{HasTables}
 use Rattle.jxlm_chain.specs.Placed.{IsPlacedBy}
 use Rattle.jxlm_chain.specs.Steps.{IsNarrowStore}
-use Rattle.jxlm_cut.specs.declared.pieces.Pieces.{Pieces}
-use Rattle.jxlm_transform.specs.Channels.{AreRegionsOf, Channel, IsNarrow}
+use Rattle.jxlm_transform.specs.Channels.{AreRegionsOf, Channel, IsNarrow, infos, regions}
+use Rattle.jxlm_transform.specs.declared.channels.PlacedChannel.{PlacedChannel}
 use Rattle.jxlm_transform.specs.ChannelSteps.{Step}
 use Rattle.jxlm_ma.specs.Tree.{Config}
 use Rattle.jxlm_tree.specs.declared.predictor.WpHeader.{WpHeader}
@@ -19,30 +19,30 @@ use Rattle.jxl_modular.specs.Layers.{Layer}
 use Rattle.jxlm_nested.specs.declared.nested.NestedPart.{NestedPart}
 
 -- what is seen of these fields
-abbrev pub layer_kept : {S D : Type 0} → NestedPart D → Pieces → List (Grid S) → Layer S D
+abbrev pub layer_kept : {S D : Type 0} → NestedPart D → List PlacedChannel → List (Grid S) → Layer S D
 layer_kept part given tables = record {
   head = head_of part;
   config = part.config;
-  given = given.infos.items;
-  held = given.regions.items;
+  given = infos given;
+  held = regions given;
   coded = regions_in part;
-  buffers = part.placed.places.buffers;
+  buffers = part.placed.channels.buffers;
   tables = tables;
 }
 
 -- The header suits the part's channels, which have the sides of their regions; these share no cell, and lie in buffers
 -- before the header's own tables, which are the last.
-pub record IsLayer {S D : Type 0} (part : NestedPart D) (given : Pieces) (tables : List (Grid S)) : Type 0 where
+pub record IsLayer {S D : Type 0} (part : NestedPart D) (given : List PlacedChannel) (tables : List (Grid S)) : Type 0 where
   pub base : ℕ
   pub outer : ℕ
-  pub count : part.placed.places.buffers ≡ base + length tables
-  pub opened : IsOpened (nested_list given.infos.items) (part.header, part.placed)
-  pub placed : IsPlacedBy (steps_of_header part.header) (nested_places given.regions.items (base + outer)) part.placed
+  pub count : part.placed.channels.buffers ≡ base + length tables
+  pub opened : IsOpened (nested_list (infos given)) (part.header, part.placed)
+  pub placed : IsPlacedBy (steps_of_header part.header) (nested_places (regions given) (base + outer)) part.placed
   pub own : HasTables (steps_of_header part.header) outer tables
   pub narrow_tables : IsNarrowStore tables
-  pub sizes : AreRegionsOf given.infos.items given.regions.items
-  pub taken : All (λ r. r.buffer < base + outer) given.regions.items
-  pub apart : LieApart given.regions.items
+  pub sizes : AreRegionsOf (infos given) (regions given)
+  pub taken : All (λ r. r.buffer < base + outer) (regions given)
+  pub apart : LieApart (regions given)
 
 -- the code of what is seen, from those of its parts
 abbrev pub layer_code : {S D : Type 0} → Coded WpHeader → Coded Step → Coded (Config D) → Coded Channel → Coded Region → Coded S → Coded (Layer S D)
@@ -69,9 +69,9 @@ layer_code {S} {D} w t c i r s =
 
 -- Some channels of a part lie in the store and in tables after it, so that a header of their own can be read for them: they
 -- are narrow, have the sides of their regions, and these share no cell.
-pub record CanNest {X : Type 0} (pieces : Pieces) (store tables : List (Grid X)) : Type 0 where
-  pub sizes : AreRegionsOf pieces.infos.items pieces.regions.items
-  pub narrow : All IsNarrow pieces.infos.items
-  pub lie : AllLie pieces.regions.items (store ++ tables)
-  pub apart : LieApart pieces.regions.items
+pub record CanNest {X : Type 0} (pieces : List PlacedChannel) (store tables : List (Grid X)) : Type 0 where
+  pub sizes : AreRegionsOf (infos pieces) (regions pieces)
+  pub narrow : All IsNarrow (infos pieces)
+  pub lie : AllLie (regions pieces) (store ++ tables)
+  pub apart : LieApart (regions pieces)
   pub narrow_tables : IsNarrowStore tables

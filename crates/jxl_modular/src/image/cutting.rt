@@ -14,7 +14,7 @@ use jxlm_cut::complete::has_each_part;
 use jxlm_cut::cut::{check_cut, exists, group_count};
 use jxlm_cut::part::{Kind, SectionPart};
 use jxlm_cut::pass::{Pass, passes};
-use jxlm_cut::pieces::{Pieces, has_pieces};
+use jxlm_cut::pieces::{has_pieces, pieces};
 use jxlm_ma::flat::Steps;
 use jxlm_ma::ma::MaConfig;
 use jxlm_nested::nested::NestedPart;
@@ -44,46 +44,28 @@ impl<S: Sample, D: Decoder> ModularImageDestination<S, D> {
             (can_cut self.now.group_dim (coded_list self.now))) }
         ensures laid { IsLaidOut self.now }
     {
-        check_cut(&self.channels, self.nb_meta_channels, self.group_dim)
+        check_cut(&self.coded, self.group_dim)
     }
 
     /// How many groups there are of a kind.
     pub(crate) fn group_count(&self, passes: &[Pass], kind: Kind) -> u64
         ensures { result ≡ the_group_count self.now.group_dim passes.now (coded_list self.now) kind }
     {
-        group_count(
-            &self.channels,
-            self.nb_meta_channels,
-            self.group_dim,
-            passes,
-            kind,
-        )
+        group_count(&self.coded, self.group_dim, passes, kind)
     }
 
     /// Whether there is such a part.
     pub(crate) fn has_part(&self, passes: &[Pass], part: SectionPart) -> bool
         ensures { result ≡ the_existing self.now.group_dim passes.now (coded_list self.now) part }
     {
-        exists(
-            &self.channels,
-            self.nb_meta_channels,
-            self.group_dim,
-            passes,
-            part,
-        )
+        exists(&self.coded, self.group_dim, passes, part)
     }
 
     /// Whether a part has samples.
     pub(crate) fn part_has_samples(&self, passes: &[Pass], part: SectionPart) -> bool
         ensures { IsTrue result ↔ (0 < cell_count (channels_in self.now passes.now part)) }
     {
-        has_pieces(
-            &self.channels,
-            self.nb_meta_channels,
-            self.group_dim,
-            passes,
-            part,
-        )
+        has_pieces(&self.coded, self.group_dim, passes, part)
     }
 
     /// Whether a set has each part with samples.
@@ -91,13 +73,7 @@ impl<S: Sample, D: Decoder> ModularImageDestination<S, D> {
         ensures each { IsTrue result ↔ HoldsEach self.now.group_dim passes.now (coded_list self.now) parts.now }
         ensures laid { IsLaidOut self.now }
     {
-        has_each_part(
-            &self.channels,
-            self.nb_meta_channels,
-            self.group_dim,
-            passes,
-            parts,
-        )
+        has_each_part(&self.coded, self.group_dim, passes, parts)
     }
 
     /// All parts of the image where it is cut into groups by these passes, each with the rectangle that it covers of the
@@ -126,15 +102,7 @@ impl<S: Sample, D: Decoder> ModularImageDestination<S, D> {
     {
         let passes = passes(alloc, pass_shifts)?;
         let (width, height) = picture_sides(&self.given);
-        let list = parts(
-            alloc,
-            width,
-            height,
-            &self.channels,
-            self.nb_meta_channels,
-            self.group_dim,
-            &passes,
-        )?;
+        let list = parts(alloc, width, height, &self.coded, self.group_dim, &passes)?;
         Ok(list)
     }
 
@@ -157,18 +125,9 @@ impl<S: Sample, D: Decoder> ModularImageDestination<S, D> {
         ensures laid { IsLaidOut self.old }
         ensures bytes { bytes_of bits.new ≡ bytes_of bits.old }
     {
-        let pieces = Pieces::of(
-            alloc,
-            &self.channels,
-            self.nb_meta_channels,
-            self.group_dim,
-            passes,
-            &self.coded,
-            part,
-        )?;
+        let pieces = pieces(alloc, &self.coded, self.group_dim, passes, part)?;
         let placed = PlacedPart {
-            channels: &pieces.infos,
-            regions: &pieces.regions,
+            channels: &pieces,
             config: &self.ma_ctx,
             weights: self.header.wp_params,
             stream_index,
@@ -196,15 +155,7 @@ impl<S: Sample, D: Decoder> ModularImageDestination<S, D> {
         ensures same { SameButIn (held_in self.old passes.now part) self.old self.new }
         ensures laid { IsLaidOut self.old }
     {
-        let pieces = Pieces::of(
-            alloc,
-            &self.channels,
-            self.nb_meta_channels,
-            self.group_dim,
-            passes,
-            &self.coded,
-            part,
-        )?;
+        let pieces = pieces(alloc, &self.coded, self.group_dim, passes, part)?;
         let nested = NestedPart::parse(alloc, bits, pieces, self.store.len(), global)?;
         nested.decode(
             alloc,

@@ -2,7 +2,7 @@
 
 ghost use Rattle.std.specs.Prelude.{◌≡◌, ◌++◌, pos, map, IfOk, IfErr, OnOk};
 ghost use Rattle.jxlm_base.specs.ErrorKind.{NoMemory, kind_of};
-ghost use Rattle.jxlm_chain.specs.Layout.{sides_of};
+ghost use Rattle.jxlm_transform.specs.Layout.{sides_of};
 ghost use Rattle.jxlm_chain.specs.Placed.{sides_in};
 ghost use Rattle.jxl_modular.specs.Fresh.{fresh};
 ghost use Rattle.jxlm_nested.specs.Zeros.{zeros};
@@ -15,7 +15,7 @@ use jxlm_base::sample::Sample;
 use jxlm_chain::placed::PlacedChannels;
 use jxlm_header::header::ModularHeader;
 use jxlm_ma::ma::MaConfig;
-use jxlm_transform::channels::{ModularChannelInfo, ModularChannels};
+use jxlm_transform::channels::ModularChannelInfo;
 use std::alloc::Global;
 
 /// For each channel a grid of its size, whose cells are 0. Out of memory is its only error.
@@ -52,10 +52,9 @@ fn with_tables<S: Sample>(
 
 impl<S: Sample, D: Decoder> ModularImageDestination<S, D> {
     ghost use Rattle.std.specs.Prelude.{◌≤◌};
-    ghost use Rattle.jxlm_transform.specs.Channels.{list_of};
     ghost use Rattle.jxlm_transform.specs.Params.{IsGroupDim};
-    ghost use Rattle.jxl_modular.specs.Inner.Laid.{AreAskedFor};
-    ghost use Rattle.jxlm_chain.specs.Layout.{first_layout};
+    ghost use Rattle.jxl_modular.specs.Inner.Laid.{AreAskedFor, given_channels};
+    ghost use Rattle.jxlm_transform.specs.Layout.{first_layout};
     ghost use Rattle.jxlm_chain.specs.Placed.{IsPlacedBy};
     ghost use Rattle.jxlm_nested.specs.Opened.{IsOpened, opened_of, steps_of_header};
 
@@ -69,35 +68,28 @@ impl<S: Sample, D: Decoder> ModularImageDestination<S, D> {
         ma_ctx: MaConfig<D>,
         group_dim: u32,
         bit_depth: u32,
-        given: ModularChannels,
+        given: Vec<ModularChannelInfo>,
         placed: PlacedChannels,
     ) -> Result<Self>
-        requires opened { IsOpened (list_of given) (header, placed) }
-        requires placed { IsPlacedBy (steps_of_header header) (first_layout (list_of given).channels) placed }
-        requires image { given.nb_meta_channels ≡ 0 }
-        requires asked { AreAskedFor (list_of given).channels }
+        requires opened { IsOpened (given_channels given.items) (header, placed) }
+        requires placed { IsPlacedBy (steps_of_header header) (first_layout given.items) placed }
+        requires asked { AreAskedFor given.items }
         requires groups { IsGroupDim group_dim }
         requires deep { bit_depth ≤ 32 }
-        ensures ok { IfOk result (λ image. image ≡ fresh (S.from_int (pos 0)) (list_of given)
+        ensures ok { IfOk result (λ image. image ≡ fresh (S.from_int (pos 0)) (given_channels given.items)
             (opened_of (header, placed)) ma_ctx group_dim bit_depth) }
         ensures err { IfErr result (λ e. kind_of e ≡ NoMemory) }
     {
-        let grids = zero_grids(alloc, &given.info)?;
+        let grids = zero_grids(alloc, &given)?;
         let store = with_tables(alloc, grids, &placed.tables)?;
-        let ModularChannels {
-            info,
-            nb_meta_channels,
-        } = placed.channels;
         Ok(ModularImageDestination {
             header,
             ma_ctx,
             group_dim,
             bit_depth,
-            given: given.info,
-            channels: info,
-            nb_meta_channels,
+            given,
+            coded: placed.channels,
             store,
-            coded: placed.places.regions,
             undoings: placed.undoings,
         })
     }

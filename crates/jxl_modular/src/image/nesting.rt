@@ -5,34 +5,23 @@ ghost use Rattle.std.specs.Option.{option_copied};
 ghost use Rattle.jxlm_base.specs.Bits.{bytes_of, position_of};
 ghost use Rattle.jxlm_base.specs.ErrorKind.{NoMemory, kind_of};
 ghost use Rattle.jxlm_part.specs.Part.{cell_count};
+ghost use Rattle.jxlm_transform.specs.Channels.{infos, regions};
 
 use super::{ModularImageDestination, TransformedModularSubimage, first_of};
 use crate::recursive::{NestedHeader, RecursiveModularImage};
 use jxlm_base::bits::Bitstream;
 use jxlm_base::decoder::Decoder;
 use jxlm_base::error::{Error, Result};
-use jxlm_base::grid::{AlignedGrid, OutOfMemory, Region};
+use jxlm_base::grid::{AlignedGrid, OutOfMemory};
 use jxlm_base::sample::Sample;
 use jxlm_cut::part::SectionPart;
 use jxlm_cut::pass::Pass;
-use jxlm_cut::pieces::Pieces;
+use jxlm_cut::pieces::pieces;
 use jxlm_ma::flat::Steps;
 use jxlm_ma::ma::MaConfig;
 use jxlm_nested::nested::{NestedPart, add_tables};
-use jxlm_transform::channels::ModularChannelInfo;
+use jxlm_transform::channels::PlacedChannel;
 use std::alloc::Global;
-
-/// Pieces of these channels and regions.
-fn copied(alloc: Global, infos: &[ModularChannelInfo], regions: &[Region]) -> Result<Pieces>
-    ensures infos { IfOk result (λ p. p.infos.items ≡ infos.now) }
-    ensures regions { IfOk result (λ p. p.regions.items ≡ regions.now) }
-    ensures err { IfErr result (λ e. kind_of e ≡ NoMemory) }
-{
-    Ok(Pieces {
-        infos: Vec::from_slice(alloc, infos)?,
-        regions: Vec::from_slice(alloc, regions)?,
-    })
-}
 
 impl<S: Sample, D: Decoder> ModularImageDestination<S, D> {
     ghost use Rattle.jxl_modular.specs.Groups.{channels_in, held_in};
@@ -48,20 +37,20 @@ impl<S: Sample, D: Decoder> ModularImageDestination<S, D> {
         &self,
         alloc: Global,
         bits: &mut Bitstream<'_>,
-        pieces: Pieces,
+        pieces: Vec<PlacedChannel>,
         mut tables: Vec<AlignedGrid<S>>,
         global: Option<&MaConfig<D>>,
     ) -> Result<NestedHeader<S, D>>
-        requires { CanNest pieces self.now.store tables.items }
+        requires { CanNest pieces.items self.now.store tables.items }
         ensures read { IfOk result (λ l. IsReadIn D.meaning (S.from_int (pos 0)) (option_copied global.entry)
-            (bytes_of bits.old) pieces.infos.items (position_of bits.old) pieces.regions.items self.now tables.items
+            (bytes_of bits.old) (infos pieces.items) (position_of bits.old) (regions pieces.items) self.now tables.items
             l (position_of bits.new)) }
         ensures stands { IfOk result (λ l. StandsIn l self.now) }
         ensures err { IfErr result (λ e. ReadFails D.meaning (S.from_int (pos 0)) (option_copied global.entry)
-            (bytes_of bits.old) pieces.infos.items (position_of bits.old) e (position_of bits.new)) }
+            (bytes_of bits.old) (infos pieces.items) (position_of bits.old) e (position_of bits.new)) }
         ensures bytes { bytes_of bits.new ≡ bytes_of bits.old }
     {
-        let given = copied(alloc, &pieces.infos, &pieces.regions)?;
+        let given = Vec::from_slice(alloc, &pieces)?;
         let buffers = self.store.len() + tables.len();
         // No list can have more items.
         if buffers > usize::MAX / 2 {
@@ -92,11 +81,7 @@ impl<S: Sample, D: Decoder> ModularImageDestination<S, D> {
             (bytes_of bits.old) (front_channels count self.now) (position_of bits.old) e (position_of bits.new)) }
         ensures bytes { bytes_of bits.new ≡ bytes_of bits.old }
     {
-        let pieces = copied(
-            alloc,
-            first_of(&self.channels, count),
-            first_of(&self.coded, count),
-        )?;
+        let pieces = Vec::from_slice(alloc, first_of(&self.coded.placed, count))?;
         self.read_layer(alloc, bits, pieces, Vec::new(alloc), global)
     }
 
@@ -118,15 +103,7 @@ impl<S: Sample, D: Decoder> ModularImageDestination<S, D> {
             (position_of bits.new)) }
         ensures bytes { bytes_of bits.new ≡ bytes_of bits.old }
     {
-        let pieces = Pieces::of(
-            alloc,
-            &self.channels,
-            self.nb_meta_channels,
-            self.group_dim,
-            passes,
-            &self.coded,
-            part,
-        )?;
+        let pieces = pieces(alloc, &self.coded, self.group_dim, passes, part)?;
         self.read_layer(alloc, bits, pieces, Vec::new(alloc), global)
     }
 
@@ -148,7 +125,7 @@ impl<S: Sample, D: Decoder> ModularImageDestination<S, D> {
         ensures bytes { bytes_of bits.new ≡ bytes_of bits.old }
     {
         let NestedHeader { part, tables, .. } = outer;
-        self.read_layer(alloc, bits, part.into_pieces(), tables, global)
+        self.read_layer(alloc, bits, part.into_channels(), tables, global)
     }
 
     /// Decodes all samples of a header's coded channels, and reads no bit before all memory is taken.

@@ -11,7 +11,7 @@ use jxlm_base::error::Result;
 use jxlm_base::grid::{AlignedGrid, OutOfMemory};
 use jxlm_base::sample::Sample;
 use jxlm_chain::undo::clone_all;
-use jxlm_transform::channels::ModularChannelInfo;
+use jxlm_transform::channels::{ModularChannelInfo, ModularChannels};
 use std::alloc::Global;
 use std::marker::Model;
 use std::vec;
@@ -62,6 +62,21 @@ impl<S: Drop> Iterator for ChannelsWithInfo<S> {
         };
         Some((grid, info.unwrap()))
     }
+}
+
+/// The same channels, in the same places.
+fn clone_channels(
+    alloc: Global,
+    channels: &ModularChannels,
+) -> std::result::Result<ModularChannels, OutOfMemory>
+    ensures placed { IfOk result (λ c. c.placed.items ≡ channels.now.placed.items) }
+    ensures meta { IfOk result (λ c. c.nb_meta_channels ≡ channels.now.nb_meta_channels) }
+{
+    Ok(ModularChannels {
+        placed: Vec::from_slice(alloc, &channels.placed)?,
+        nb_meta_channels: channels.nb_meta_channels,
+        buffers: channels.buffers,
+    })
 }
 
 /// The same grids, in their order.
@@ -117,10 +132,8 @@ impl<S: Sample, D: Decoder> ModularImageDestination<S, D> {
             group_dim: self.group_dim,
             bit_depth: self.bit_depth,
             given: Vec::from_slice(alloc, &self.given)?,
-            channels: Vec::from_slice(alloc, &self.channels)?,
-            nb_meta_channels: self.nb_meta_channels,
+            coded: clone_channels(alloc, &self.coded)?,
             store: clone_grids(alloc, &self.store)?,
-            coded: Vec::from_slice(alloc, &self.coded)?,
             undoings: clone_all(alloc, &self.undoings)?,
         })
     }

@@ -2,12 +2,12 @@
 use Rattle.std.specs.Prelude.{◌≡◌, ℕ, ◌*◌, ◌^◌, ◌<◌, unsigned_abs, List, [], ◌++◌, map, drop, Option, filter_map}
 use Rattle.std.specs.List.{cons_option, enumerate_from}
 use Rattle.jxlm_base.specs.declared.subgrid.Region.{Region}
-use Rattle.jxlm_transform.specs.Channels.{Channel}
+use Rattle.jxlm_transform.specs.Channels.{Channel, infos, regions}
+use Rattle.jxlm_transform.specs.declared.channels.PlacedChannel.{PlacedChannel}
 use Rattle.jxlm_cut.specs.Passes.{Pass}
 use Rattle.jxlm_cut.specs.Cutting.{Kind}
 use Rattle.jxlm_cut.specs.Counts.{maximum, groups_of}
 use Rattle.jxlm_cut.specs.Pieces.{SectionPart, channel_in, piece, within}
-use Rattle.jxlm_cut.specs.declared.pieces.Pieces.{Pieces}
 use Rattle.jxlm_cut.specs.declared.part.SectionPart.TheVariants as parts
 
 -- the region's sides, shifted back as often as the channel's are halved, have at most 32 bits
@@ -23,9 +23,9 @@ FitsIn parts.Global c r = Unit {0}
 FitsIn name c r = FitsBack c r
 
 -- what a part has of channel c, which lies in region r, was added: a piece with its channel, or nothing
-pub record Adds (piece : Option Region) (name : SectionPart) (c : Channel) (r : Region) (old new : Pieces) : Type 0 where
-  pub channels : new.infos.items ≡ old.infos.items ++ map (channel_in name c) (cons_option piece [])
-  pub regions : new.regions.items ≡ old.regions.items ++ map (within r) (cons_option piece [])
+pub record Adds (piece : Option Region) (name : SectionPart) (c : Channel) (r : Region) (old new : List PlacedChannel) : Type 0 where
+  pub channels : infos new ≡ infos old ++ map (channel_in name c) (cons_option piece [])
+  pub regions : regions new ≡ regions old ++ map (within r) (cons_option piece [])
 
 module _ (dim : ℕ) (passes : List Pass) (count : ℕ) where
   -- the maximum of the counts of groups of channels from number n on

@@ -1,10 +1,11 @@
 -- Channels as an encoder's transforms leave them.
 use Rattle.std.specs.Prelude.{◌≡◌, ℕ, ◌≤◌, List, [], ◌∷◌, length, Ok}
 use Rattle.std.specs.List.{All}
-use Rattle.jxlm_chain.specs.Layout.{first_layout}
+use Rattle.jxlm_transform.specs.Layout.{first_layout}
 use Rattle.jxlm_chain.specs.Placed.{GoesOn, IsPlacedBy}
 use Rattle.jxlm_chain.specs.declared.placed.PlacedChannels.{PlacedChannels}
-use Rattle.jxlm_transform.specs.Channels.{Channel, ChannelList, list_of}
+use Rattle.jxlm_transform.specs.Channels.{Channel, ChannelList}
+use Rattle.jxlm_transform.specs.Lists.{list_of}
 use Rattle.jxlm_transform.specs.ChannelSteps.{Step, coded_list}
 use Rattle.jxlm_transform.specs.Transforms.{Transform}
 use Rattle.jxlm_write.specs.Laws.{IsWritten}
@@ -42,7 +43,7 @@ pub record HaveCome (ts : List Transform) (channels : List Channel) (p : PlacedC
 pub record ArePlaced (ts : List Transform) (channels : List Channel) (p : PlacedChannels) : Type 0 where
   pub few : length ts ≤ 273
   pub come : HaveCome ts channels p
-  pub count : length p.channels.info.items ≤ 65536
+  pub count : length (list_of p.channels).channels ≤ 65536
 
 -- a transform is refused, or memory is out
 abbrev pub AreRefused : List Transform → List Channel → EncodeError → Type 0

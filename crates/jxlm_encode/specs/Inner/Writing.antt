@@ -2,6 +2,7 @@
 use Rattle.std.specs.Prelude.{◌≡◌, ℕ, ◌^◌, ◌<◌, ◌≤◌, ℤ, List, ◌++◌, length}
 use Rattle.std.specs.Int.{Width}
 use Rattle.std.specs.List.{All}
+use Rattle.jxlm_transform.specs.Lists.{list_of, layout_of}
 use Rattle.jxlm_base.specs.Grid.{Grid}
 use Rattle.jxlm_base.specs.Regions.{AllLie, LieApart}
 use Rattle.jxlm_chain.specs.Chain.{Chain}
@@ -24,15 +25,15 @@ use Rattle.jxlm_encode.specs.Encoded.{AreAccepted, IsTreeGiven, coded_part, give
 
 -- the coded channels lie in the store, narrow, at most 65536, and apart from one another
 pub record ChannelsLie {S : Type 0} (p : PlacedChannels) (store : List (Grid S)) : Type 0 where
-  pub sizes : AreRegionsOf p.channels.info.items p.places.regions.items
-  pub narrow : All IsNarrow p.channels.info.items
-  pub few : length p.channels.info.items ≤ 65536
-  pub lie : AllLie p.places.regions.items store
-  pub apart : LieApart p.places.regions.items
+  pub sizes : AreRegionsOf (list_of p.channels).channels (layout_of p.channels).regions
+  pub narrow : All IsNarrow (list_of p.channels).channels
+  pub few : length (list_of p.channels).channels ≤ 65536
+  pub lie : AllLie (layout_of p.channels).regions store
+  pub apart : LieApart (layout_of p.channels).regions
 
 -- the part of all coded channels, as this tree predicts them
 abbrev pub part_at : PlacedChannels → Shape Leaf → Part
-part_at p tree = record { channels = p.channels.info.items; weights = default_weights; tree = tree; stream = 0 }
+part_at p tree = record { channels = (list_of p.channels).channels; weights = default_weights; tree = tree; stream = 0 }
 
 -- the bytes begin with the bits of a header, a tree and tokens, each of which fits its width
 pub record AreWritten (ts : List Transform) (nodes : List EncodeNode) (tokens bytes : List ℕ) : Type 0 where

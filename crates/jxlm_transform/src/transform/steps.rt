@@ -1,15 +1,19 @@
-//! What transforms do to the list of an image's channels (ISO/IEC 18181-1, Modular: the channels after each
-//! transform).
+//! What transforms do to the list of an image's channels, and where these lie then (ISO/IEC 18181-1, Modular: the
+//! channels after each transform).
 
-ghost use Rattle.std.specs.Prelude.{◌≡◌, ◌≤◌, ◌+◌, ◌++◌, ◌&&◌, nat_le, length, map, IsTrue, IfOk, IfErr};
+ghost use Rattle.std.specs.Prelude.{◌≡◌, ◌≤◌, ◌<◌, ◌^◌, ◌+◌, ◌&&◌, nat_le, length, map, IsOk, IsTrue, IfOk, IfErr};
 ghost use Rattle.std.specs.List.{All, list_all};
-ghost use Rattle.jxlm_transform.specs.Channels.{HasItsMeta, list_of};
-ghost use Rattle.jxlm_transform.specs.Transforms.{HasChannels, transform_of};
-ghost use Rattle.jxlm_transform.specs.ChannelSteps.{ListIs, ListGives, TransformGives, SqueezeStep, list_after_all, range, has_range as the_has_range, has_size_of, one_size as the_one_size, keeps_meta as the_keeps_meta, rct_step, palette_step, can_be_squeezed, squeeze_range, squeeze_step, average_channel, residual_channel, with_each_halved};
+ghost use Rattle.std.specs.Result.{is_ok};
+ghost use Rattle.jxlm_base.specs.Regions.{region};
+ghost use Rattle.jxlm_transform.specs.Channels.{HasItsMeta, infos, regions};
+ghost use Rattle.jxlm_transform.specs.Lists.{list_of};
+ghost use Rattle.jxlm_transform.specs.ChannelSteps.{PaletteStep, SqueezeStep, range, has_range as the_has_range, has_size_of, one_size as the_one_size, keeps_meta as the_keeps_meta, rct_step, palette_step, table_channel, can_be_squeezed, squeeze_range, squeeze_step, average_channel, residual_channel, with_each_halved};
+ghost use Rattle.jxlm_transform.specs.Ends.{HasEnds};
+ghost use Rattle.jxlm_transform.specs.Lists.{IsAfter, IsSame};
+ghost use Rattle.jxlm_transform.specs.SqueezedRegions.{average_region, residual_region};
 
-use super::{Palette, Rct, Squeeze, SqueezeParams, TransformInfo};
-use crate::channels::{ModularChannelInfo, ModularChannels};
-use jxlm_base::error::{Error, Result};
+use super::{Palette, Rct, SqueezeParams};
+use crate::channels::{ModularChannelInfo, ModularChannels, PlacedChannel};
 use jxlm_base::grid::OutOfMemory;
 use std::alloc::Global;
 
@@ -21,15 +25,17 @@ fn has_range(begin: usize, count: usize, len: usize) -> bool
 }
 
 /// Whether the others have the size of the first.
-pub(super) fn are_of_size(first: &ModularChannelInfo, others: &[ModularChannelInfo]) -> bool
-    ensures { result ≡ list_all (has_size_of first.now) others.now }
+fn are_of_size(first: &PlacedChannel, others: &[PlacedChannel]) -> bool
+    ensures { result ≡ list_all (λ p. has_size_of first.now.info p.info) others.now }
 {
-    others.iter().all(|channel| first.is_of_size(channel))
+    others
+        .iter()
+        .all(|channel| first.info.is_of_size(&channel.info))
 }
 
 /// Whether the channels have one size.
-fn one_size(channels: &[ModularChannelInfo]) -> bool
-    ensures { result ≡ the_one_size channels.now }
+fn one_size(channels: &[PlacedChannel]) -> bool
+    ensures { result ≡ the_one_size (infos channels.now) }
 {
     match channels.split_first() {
         Some((first, others)) => are_of_size(first, others),
@@ -38,8 +44,9 @@ fn one_size(channels: &[ModularChannelInfo]) -> bool
 }
 
 /// Whether the list has `count` channels from `begin` on, and they have one size.
-fn has_one_size(channels: &[ModularChannelInfo], begin: usize, count: usize) -> bool
-    ensures { result ≡ (the_has_range begin count channels.now && the_one_size (range begin count channels.now)) }
+fn has_one_size(channels: &[PlacedChannel], begin: usize, count: usize) -> bool
+    ensures { result ≡ (the_has_range begin count (infos channels.now)
+        && the_one_size (range begin count (infos channels.now))) }
 {
     has_range(begin, count, channels.len()) && one_size(&channels[begin..begin + count])
 }
@@ -52,51 +59,59 @@ fn keeps_meta(begin: usize, count: usize, nb_meta: usize) -> bool
 }
 
 impl Rct {
-    /// Whether the transform suits the channels: from its first channel on there are three, of one size.
-    /// The list stays as it is.
-    ///
-    /// # Errors
-    ///
-    /// `InvalidRctParams` if they are not there, or differ in size.
-    pub fn transform_channel_info(&self, channels: &ModularChannels) -> Result<()>
-        ensures { ListIs (rct_step self.now (list_of channels.now)) result (list_of channels.now) }
+    /// Whether the transform suits the channels: from its first channel on there are three, of one size. It changes
+    /// neither the list nor where channels lie.
+    pub fn suits(&self, channels: &ModularChannels) -> bool
+        ensures { result ≡ is_ok (rct_step self.now (list_of channels.now)) }
     {
-        if has_one_size(&channels.info, self.begin_c as usize, 3) {
-            Ok(())
-        } else {
-            Err(Error::InvalidRctParams)
-        }
+        has_one_size(&channels.placed, self.begin_c as usize, 3)
     }
 }
 
 impl Palette {
-    /// Puts the table first, and one channel of indices instead of the range, which has at least
-    /// one channel. The table is a meta channel, and so are the indices of meta channels.
+    /// Whether the palette suits the channels: its range is there, of one size, and ends among the meta channels
+    /// where it begins there.
+    pub fn suits(&self, channels: &ModularChannels) -> bool
+        ensures { result ≡ is_ok (palette_step self.now (list_of channels.now)) }
+    {
+        let begin = self.begin_c as usize;
+        let count = self.num_c as usize;
+        has_one_size(&channels.placed, begin, count)
+            && keeps_meta(begin, count, channels.nb_meta_channels)
+    }
+
+    /// The channel of the table after these channels: it is the whole of the next buffer.
+    pub fn table(&self, channels: &ModularChannels) -> PlacedChannel
+        ensures info { result.info ≡ table_channel self.now.nb_colours self.now.num_c }
+        ensures region { result.region ≡ region channels.now.buffers 0 0 self.now.nb_colours self.now.num_c }
+    {
+        let info = ModularChannelInfo::table(self.nb_colours, self.num_c);
+        PlacedChannel::whole(info, channels.buffers)
+    }
+
+    /// Puts the table first, and one channel of indices instead of the range, which lies where the first channel of
+    /// the range lay. The table is a meta channel, and so are the indices of meta channels.
+    ///
+    /// The palette suits the channels, and has at least one channel.
     ///
     /// # Errors
     ///
-    /// `InvalidPaletteParams` if the range is not there, its channels differ in size, or it
-    /// begins among the meta channels and does not end there; `Buffer` if it is out of memory.
-    /// After an error the list is as before.
-    pub fn transform_channel_info(
-        &self,
-        alloc: Global,
-        channels: &mut ModularChannels,
-    ) -> Result<()>
+    /// `OutOfMemory`, and no other; the channels are as before then.
+    pub fn transform_channel_info(&self, channels: &mut ModularChannels) -> Result<(), OutOfMemory>
         requires some_channels { 1 ≤ self.now.num_c }
+        requires suits { IsOk (palette_step self.now (list_of channels.old)) }
         requires meta { HasItsMeta (list_of channels.old) }
-        ensures gives { ListGives (palette_step self.now (list_of channels.old)) result (list_of channels.new) }
+        requires room { channels.old.buffers + 1 < 2 ^ 64 }
+        ensures ok { IfOk result (λ _. IsAfter (PaletteStep self.now) channels.old channels.new) }
         ensures meta { IfOk result (λ _. HasItsMeta (list_of channels.new)) }
-        ensures unchanged { IfErr result (λ _. list_of channels.new ≡ list_of channels.old) }
+        ensures unchanged { IfErr result (λ _. IsSame channels.old channels.new) }
     {
         let begin = self.begin_c as usize;
         let count = self.num_c as usize;
         let nb_meta = channels.nb_meta_channels;
-        if !has_one_size(&channels.info, begin, count) || !keeps_meta(begin, count, nb_meta) {
-            return Err(Error::InvalidPaletteParams);
-        }
-        let table = ModularChannelInfo::table(self.nb_colours, self.num_c);
-        self.put_table(&mut channels.info, table)?;
+        let table = self.table(channels);
+        self.put_table(&mut channels.placed, table)?;
+        channels.buffers += 1;
         channels.nb_meta_channels = if begin < nb_meta {
             nb_meta + 2 - count
         } else {
@@ -109,11 +124,12 @@ impl Palette {
 /// The averages of channels that can be squeezed.
 fn averages(
     alloc: Global,
-    channels: &[ModularChannelInfo],
+    channels: &[PlacedChannel],
     horizontal: bool,
-) -> std::result::Result<Vec<ModularChannelInfo>, OutOfMemory>
-    requires { All (λ c. IsTrue (can_be_squeezed c)) channels.now }
-    ensures { IfOk result (λ v. v.items ≡ map (average_channel horizontal) channels.now) }
+) -> Result<Vec<PlacedChannel>, OutOfMemory>
+    requires { All (λ p. IsTrue (can_be_squeezed p.info)) channels.now }
+    ensures infos { IfOk result (λ v. infos v.items ≡ map (average_channel horizontal) (infos channels.now)) }
+    ensures regions { IfOk result (λ v. regions v.items ≡ map (average_region horizontal) (regions channels.now)) }
 {
     let mut halves = Vec::new(alloc);
     for channel in channels {
@@ -125,11 +141,13 @@ fn averages(
 /// Their residuals.
 fn residuals(
     alloc: Global,
-    channels: &[ModularChannelInfo],
+    channels: &[PlacedChannel],
     horizontal: bool,
-) -> std::result::Result<Vec<ModularChannelInfo>, OutOfMemory>
-    requires { All (λ c. IsTrue (can_be_squeezed c)) channels.now }
-    ensures { IfOk result (λ v. v.items ≡ map (residual_channel horizontal) channels.now) }
+) -> Result<Vec<PlacedChannel>, OutOfMemory>
+    requires can { All (λ p. IsTrue (can_be_squeezed p.info)) channels.now }
+    requires ends { All (λ p. HasEnds p.region) channels.now }
+    ensures infos { IfOk result (λ v. infos v.items ≡ map (residual_channel horizontal) (infos channels.now)) }
+    ensures regions { IfOk result (λ v. regions v.items ≡ map (residual_region horizontal) (regions channels.now)) }
 {
     let mut halves = Vec::new(alloc);
     for channel in channels {
@@ -139,10 +157,12 @@ fn residuals(
 }
 
 /// Whether each channel can be squeezed.
-fn can_all_be_squeezed(channels: &[ModularChannelInfo]) -> bool
-    ensures { result ≡ list_all can_be_squeezed channels.now }
+fn can_all_be_squeezed(channels: &[PlacedChannel]) -> bool
+    ensures { result ≡ list_all (λ p. can_be_squeezed p.info) channels.now }
 {
-    channels.iter().all(|channel| channel.can_be_squeezed())
+    channels
+        .iter()
+        .all(|channel| channel.info.can_be_squeezed())
 }
 
 impl SqueezeParams {
@@ -154,121 +174,60 @@ impl SqueezeParams {
         let nb_meta = channels.nb_meta_channels;
         let of_image = self.begin_c >= nb_meta;
         let of_meta = self.in_place && has_range(self.begin_c, self.num_c, nb_meta);
-        has_range(self.begin_c, self.num_c, channels.info.len()) && (of_image || of_meta)
+        has_range(self.begin_c, self.num_c, channels.placed.len()) && (of_image || of_meta)
     }
 
-    /// Whether the step suits the channels.
-    fn suits(&self, channels: &ModularChannels) -> bool
-        ensures { result ≡ (squeeze_range self.now (list_of channels.now) && list_all can_be_squeezed
-            (range self.now.begin_c self.now.num_c (list_of channels.now).channels)) }
+    /// Whether the step suits the channels: its range is there; where it begins among the meta channels, it ends there
+    /// and is squeezed in place; and no channel of it has a side of 0 or a shift above 30.
+    pub fn suits(&self, channels: &ModularChannels) -> bool
+        ensures { result ≡ is_ok (squeeze_step self.now (list_of channels.now)) }
     {
         self.has_its_range(channels)
-            && can_all_be_squeezed(&channels.info[self.begin_c..self.begin_c + self.num_c])
+            && can_all_be_squeezed(&channels.placed[self.begin_c..self.begin_c + self.num_c])
     }
 
     /// Puts the halves of the channels of the range in their places.
-    fn halve(
-        &self,
-        alloc: Global,
-        channels: &mut Vec<ModularChannelInfo>,
-    ) -> std::result::Result<(), OutOfMemory>
-        requires range { self.now.begin_c + self.now.num_c ≤ length channels.old.items }
-        requires each { All (λ c. IsTrue (can_be_squeezed c))
-            (range self.now.begin_c self.now.num_c channels.old.items) }
-        ensures gives { IfOk result (λ _. channels.new.items ≡ with_each_halved self.now
-            (average_channel self.now.horizontal) (residual_channel self.now.horizontal) channels.old.items) }
-        ensures unchanged { IfErr result (λ _. channels.new.items ≡ channels.old.items) }
+    fn halve(&self, alloc: Global, placed: &mut Vec<PlacedChannel>) -> Result<(), OutOfMemory>
+        requires range { self.now.begin_c + self.now.num_c ≤ length placed.old.items }
+        requires each { All (λ p. IsTrue (can_be_squeezed p.info))
+            (range self.now.begin_c self.now.num_c placed.old.items) }
+        requires ends { All (λ p. HasEnds p.region) (range self.now.begin_c self.now.num_c placed.old.items) }
+        ensures infos { IfOk result (λ _. infos placed.new.items ≡ with_each_halved self.now
+            (average_channel self.now.horizontal) (residual_channel self.now.horizontal) (infos placed.old.items)) }
+        ensures regions { IfOk result (λ _. regions placed.new.items ≡ with_each_halved self.now
+            (average_region self.now.horizontal) (residual_region self.now.horizontal) (regions placed.old.items)) }
+        ensures unchanged { IfErr result (λ _. placed.new.items ≡ placed.old.items) }
     {
-        let range = &channels[self.begin_c..self.begin_c + self.num_c];
+        let range = &placed[self.begin_c..self.begin_c + self.num_c];
         let averages = averages(alloc, range, self.horizontal)?;
         let residuals = residuals(alloc, range, self.horizontal)?;
-        self.put_halves(channels, &averages, residuals)
+        self.put_halves(placed, &averages, residuals)
     }
 
-    /// Halves the channels of the range along one side. Averages take their place, residuals come
+    /// Halves the channels of the range along one side, and their regions. Averages take their place, residuals come
     /// right after the range (`in_place`) or at the end of the list. The shift of that side grows
     /// by one in both where it is 0 or more. What becomes of meta channels is a meta channel.
     ///
+    /// The step suits the channels.
+    ///
     /// # Errors
     ///
-    /// `InvalidSqueezeParams` if the range is not there; if it begins among the meta channels
-    /// and does not end there, or is not squeezed in place; and if a channel of it has a side of
-    /// 0 or a shift above 30. `Buffer` if it is out of memory. After an error the list is as
-    /// before.
+    /// `OutOfMemory`, and no other; the channels are as before then.
     pub fn transform_channel_info(
         &self,
         alloc: Global,
         channels: &mut ModularChannels,
-    ) -> Result<()>
-        requires { HasItsMeta (list_of channels.old) }
-        ensures gives { ListGives (squeeze_step self.now (list_of channels.old)) result (list_of channels.new) }
+    ) -> Result<(), OutOfMemory>
+        requires suits { IsOk (squeeze_step self.now (list_of channels.old)) }
+        requires meta { HasItsMeta (list_of channels.old) }
+        ensures ok { IfOk result (λ _. IsAfter (SqueezeStep self.now) channels.old channels.new) }
         ensures meta { IfOk result (λ _. HasItsMeta (list_of channels.new)) }
-        ensures unchanged { IfErr result (λ _. list_of channels.new ≡ list_of channels.old) }
+        ensures unchanged { IfErr result (λ _. IsSame channels.old channels.new) }
     {
-        if !self.suits(channels) {
-            return Err(Error::InvalidSqueezeParams);
-        }
-        self.halve(alloc, &mut channels.info)?;
+        self.halve(alloc, &mut channels.placed)?;
         if self.begin_c < channels.nb_meta_channels {
             channels.nb_meta_channels += self.num_c;
         }
         Ok(())
-    }
-}
-
-impl Squeeze {
-    /// Applies the squeezes that are listed, in order: each as in
-    /// [`SqueezeParams::transform_channel_info`].
-    ///
-    /// # Errors
-    ///
-    /// The error of the first that has one. After it nothing is said of the list.
-    pub fn transform_channel_info(
-        &self,
-        alloc: Global,
-        channels: &mut ModularChannels,
-    ) -> Result<()>
-        requires { HasItsMeta (list_of channels.old) }
-        ensures gives { ListGives (list_after_all (map SqueezeStep self.now.sp.items) (list_of channels.old)) result
-            (list_of channels.new) }
-        ensures meta { IfOk result (λ _. HasItsMeta (list_of channels.new)) }
-    {
-        for step in &self.sp {
-            step.transform_channel_info(alloc, channels)?;
-        }
-        Ok(())
-    }
-}
-
-impl TransformInfo {
-    /// Applies the transform to the channels of an image. A palette has at least one channel. A
-    /// squeeze that lists no steps lists the default ones from then on, which are those of this
-    /// list.
-    ///
-    /// # Errors
-    ///
-    /// `InvalidRctParams`, `InvalidPaletteParams` or `InvalidSqueezeParams`, by its kind, if it
-    /// does not suit the channels; the default squeeze if no channel is left for it. `Buffer`
-    /// if it is out of memory. After an error nothing is said of the transform and the list, but
-    /// that they may be dropped.
-    pub fn prepare_transform_info(
-        &mut self,
-        alloc: Global,
-        channels: &mut ModularChannels,
-    ) -> Result<()>
-        requires some_channels { HasChannels (transform_of self.old) }
-        requires meta { HasItsMeta (list_of channels.old) }
-        ensures gives { TransformGives (transform_of self.old) (list_of channels.old) result (transform_of self.new)
-            (list_of channels.new) }
-        ensures meta { IfOk result (λ _. HasItsMeta (list_of channels.new)) }
-    {
-        match self {
-            TransformInfo::Rct(rct) => rct.transform_channel_info(channels),
-            TransformInfo::Palette(palette) => palette.transform_channel_info(alloc, channels),
-            TransformInfo::Squeeze(squeeze) => {
-                squeeze.set_default_params(channels)?;
-                squeeze.transform_channel_info(alloc, channels)
-            }
-        }
     }
 }

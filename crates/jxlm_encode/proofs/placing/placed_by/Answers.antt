@@ -1,5 +1,7 @@
 use Rattle.std.proofs.Common.{◌<◌, ◌≤◌, length, refl, arith}
+use Rattle.std.proofs.lemmas.List.{length-map}
 use Rattle.std.proofs.lemmas.Result.{err_from_is_err_and}
+use Rattle.jxlm_transform.specs.declared.channels.PlacedChannel.{PlacedChannel}
 use Rattle.jxlm_encode.proofs.Accepted.{come_next, none_come, refused_after, refused_by}
 use Rattle.jxlm_encode.proofs.placing.placed_by.Goals as goal
 
@@ -26,4 +28,5 @@ returns-then-len-gt-MAX_CODED_CHANNELS-clause-err c =
     let xs = c.args.transforms.now in
     let few : length xs ≤ 273 = omega (arith, c.if-transforms-gt-MAX_TRANSFORMS.false) in
     let le : length xs ≤ c.loop-k.k = omega (arith, c.loop-k-test.false, c.loop-k.auto.k-end) in
-    refused_after xs c.loop-k.k (length xs) c.args.infos.now c.loop-k.placed few refl le c.loop-k.invariant (omega (arith, c.if-len-gt-MAX_CODED_CHANNELS.true, c.len.ensures))
+    refused_after xs c.loop-k.k (length xs) c.args.infos.now c.loop-k.placed few refl le c.loop-k.invariant
+    (omega (arith, c.if-len-gt-MAX_CODED_CHANNELS.true, c.len.ensures, length-map c.loop-k.placed.channels.placed.items (λ (p : PlacedChannel). p.info)))

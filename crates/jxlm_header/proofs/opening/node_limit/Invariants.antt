@@ -2,4 +2,4 @@ use Rattle.std.proofs.Common.{◌≡◌, ◌+◌, ◌*◌, ◌^◌, min, take, s
 use Rattle.jxlm_header.proofs.opening.node_limit.Given as goal
 
 abbrev pub invariant-loop-channel : goal.invariant-loop-channel
-invariant-loop-channel l = l.limit ≡ min (1024 + sum_by (λ c. c.width * c.height) (take l.channel-index l.channels)) (2 ^ 20)
+invariant-loop-channel l = l.limit ≡ min (1024 + sum_by (λ p. p.info.width * p.info.height) (take l.channel-index l.channels)) (2 ^ 20)

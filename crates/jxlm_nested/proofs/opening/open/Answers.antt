@@ -4,7 +4,9 @@ use Rattle.jxlm_base.specs.Bits.{bytes_of, position_of}
 use Rattle.jxlm_base.specs.ErrorKind.{kind_of}
 use Rattle.jxlm_transform.proofs.Failures.{unless_no_memory}
 use Rattle.jxlm_transform.proofs.SideBounds.{narrow_coded}
-use Rattle.jxlm_transform.specs.Channels.{Channel, list_of, tables_for}
+use Rattle.jxlm_transform.specs.Channels.{infos, tables_for}
+use Rattle.jxlm_transform.specs.declared.channels.PlacedChannel.{PlacedChannel}
+use Rattle.jxlm_transform.specs.Lists.{list_of}
 use Rattle.jxlm_transform.specs.ChannelSteps.{CodedList, coded_list}
 use Rattle.jxlm_transform.specs.Kinds.{is_palette, is_squeeze}
 use Rattle.jxlm_transform.specs.Transforms.{transform_of}
@@ -21,7 +23,7 @@ apply-requires-clause-some_channels c = have_channels _ c.in_ok-header.ensures.r
 pub returns-in_err-header-clause-gives : goal.returns-in_err-header-clause-gives
 returns-in_err-header-clause-gives c =
     let p = err_from_is_err_and c.from_residual.result c.from_residual.ensures.1 in
-    let tables = c.tables_for-tables.ensures ∙ ap (λ (cs : List Channel). tables_for cs) c.deref.ensures.value in
+    let tables = c.tables_for-tables.ensures ∙ ap (λ (ps : List PlacedChannel). tables_for (infos ps)) c.deref.ensures.value in
     rw (p.1, p.2)
     (header_fails c.args.has_global (list_of c.args.placed.channels) (bytes_of c.args.bits.now) (position_of c.args.bits.now) (kind_of c.in_err-header.field-0.0) (position_of c.parse_by.new.bits)
     (rw tables at c.in_err-header.ensures.gives))
@@ -30,7 +32,7 @@ pub returns-in_err-apply-clause-gives : goal.returns-in_err-apply-clause-gives
 returns-in_err-apply-clause-gives c =
     let p = err_from_is_err_and c.from_residual-in_err-apply.result c.from_residual-in_err-apply.ensures.1 in
     let h = header_of c.in_ok-header.header in
-    let tables = c.tables_for-tables.ensures ∙ ap (λ (cs : List Channel). tables_for cs) c.deref.ensures.value in
+    let tables = c.tables_for-tables.ensures ∙ ap (λ (ps : List PlacedChannel). tables_for (infos ps)) c.deref.ensures.value in
     rw (p.1, p.2)
     (transforms_fail c.args.has_global (list_of c.args.placed.channels) (bytes_of c.args.bits.now) (position_of c.args.bits.now) h (position_of c.parse_by.new.bits) (rw tables at c.in_ok-header.ensures.gives)
     (kind_of c.in_err-apply.field-0.0) c.in_err-apply.ensures.gives)
@@ -44,7 +46,7 @@ returns-in_err-check-clause-gives c =
     let coded : CodedList = record { steps = steps_in (map transform_of ts); list = list_of c.apply.new.self.channels } in
     let found : coded_list h.transform (list_of c.args.placed.channels) ≡ Ok coded = c.in_ok-apply.ensures.gives in
     let error = kind_of c.in_err-check.field-0.0 in
-    let tables = c.tables_for-tables.ensures ∙ ap (λ (cs : List Channel). tables_for cs) c.deref.ensures.value in
+    let tables = c.tables_for-tables.ensures ∙ ap (λ (ps : List PlacedChannel). tables_for (infos ps)) c.deref.ensures.value in
     let refused = condition_fails c.args.has_global (list_of c.args.placed.channels) (bytes_of c.args.bits.now) (position_of c.args.bits.now) h (position_of c.parse_by.new.bits) (rw tables at c.in_ok-header.ensures.gives) coded found k error refl
     c.in_err-check.ensures in
     rw (p.1, p.2) (unless_no_memory error _ refused)
@@ -56,7 +58,7 @@ returns-clause-gives c =
     let k = record h { transform = map transform_of ts } in
     let coded : CodedList = record { steps = steps_in (map transform_of ts); list = list_of c.apply.new.self.channels } in
     let found : coded_list h.transform (list_of c.args.placed.channels) ≡ Ok coded = c.in_ok-apply.ensures.gives in
-    let tables = c.tables_for-tables.ensures ∙ ap (λ (cs : List Channel). tables_for cs) c.deref.ensures.value in
+    let tables = c.tables_for-tables.ensures ∙ ap (λ (ps : List PlacedChannel). tables_for (infos ps)) c.deref.ensures.value in
     let opens = is_opened c.args.has_global (list_of c.args.placed.channels) (bytes_of c.args.bits.now) (position_of c.args.bits.now) h (position_of c.parse_by.new.bits) (rw tables at c.in_ok-header.ensures.gives) coded found k refl c.in_ok-check.ensures in
     let kinds = c.in_ok-apply.ensures.kinds in
     rw (any_alike is_palette (map transform_of ts) h.transform kinds.palettes, any_alike is_squeeze (map transform_of ts) h.transform kinds.squeezes) opens

@@ -1,5 +1,6 @@
-use Rattle.std.proofs.Common.{◌≡◌, ℕ, ◌+◌, ◌<◌, sym, arith}
+use Rattle.std.proofs.Common.{◌≡◌, ℕ, ◌+◌, ◌<◌, ◌∙◌, ap, sym, subst, arith}
 use Rattle.std.proofs.lemmas.List.{length-take-le}
+use Rattle.jxlm_base.specs.declared.subgrid.Region.{Region}
 use Rattle.jxlm_tree.specs.declared.state.PredictorState.{PredictorState}
 use Rattle.jxlm_part.specs.Inner.Channels.{IsAfterChannel, region_at}
 use Rattle.jxlm_part.specs.Inner.Progress.{place_of}
@@ -16,24 +17,24 @@ no_cells : {D X : Type 0} (c : PartCoding D) (i : ℕ) (state : PredictorState X
 no_cells c i state none last is wide high walked = let e : last ≡ i = omega (arith, is) in absurd ((rw (← e) at none) wide high)
 
 pub slice_bounds-row-end : goal.slice_bounds-row-end
-slice_bounds-row-end g c = let n = fits_widest c.args.coding.now c.requires.at.part.coding c.args.i c.requires.channel (omega (arith, c.if-region-eq0-2.false)) in omega (arith, n, c.requires.room)
+slice_bounds-row-end g c = let n = fits_widest c.args.coding.now c.requires.at.part.coding c.args.i c.requires.channel c.region-region.result c.region-region.ensures (omega (arith, c.if-region-eq0-2.false)) in omega (arith, n, c.requires.room)
 
 pub slice_bounds-row-end-2 : goal.slice_bounds-row-end-2
 slice_bounds-row-end-2 g c =
-    let n = fits_widest c.args.coding.now c.requires.at.part.coding c.args.i c.requires.channel (omega (arith, c.if-region-eq0-2.false)) in
-    sym (length-take-le (region_at (regions_of c.args.coding.now) c.args.i).width c.args.scratch.now (omega (arith, n, c.requires.room)))
+    let n = fits_widest c.args.coding.now c.requires.at.part.coding c.args.i c.requires.channel c.region-region.result c.region-region.ensures (omega (arith, c.if-region-eq0-2.false)) in
+    sym (length-take-le c.region-region.result.width c.args.scratch.now (omega (arith, n, c.requires.room)))
 
 pub decode_rows-requires-clause-long : goal.decode_rows-requires-clause-long
 decode_rows-requires-clause-long g c κs within =
-    let n = fits_widest c.args.coding.now c.requires.at.part.coding c.args.i c.requires.channel (omega (arith, c.if-region-eq0-2.false)) in
-    length-take-le (region_at (regions_of c.args.coding.now) c.args.i).width c.args.scratch.now (omega (arith, n, c.requires.room))
+    let n = fits_widest c.args.coding.now c.requires.at.part.coding c.args.i c.requires.channel c.region-region.result c.region-region.ensures (omega (arith, c.if-region-eq0-2.false)) in
+    length-take-le c.region-region.result.width c.args.scratch.now (omega (arith, n, c.requires.room)) ∙ ap (λ (r : Region). r.width) c.region-region.ensures
 
 pub decode_rows-requires-clause-at : goal.decode_rows-requires-clause-at
 decode_rows-requires-clause-at g c κs within =
     let at = c.requires.at in
     let begins = c.begin_channel-path.ensures in
     record {
-      here = record { part = at.part; channel = c.requires.channel; columns = omega (arith, c.if-region-eq0.false) };
+      here = record { part = at.part; channel = c.requires.channel; columns = subst (λ (r : Region). 0 < r.width) c.region-region.ensures (omega (arith, c.if-region-eq0.false)) };
       gives = begins.gives;
       allows = begins.allows;
       steps = begins.steps;
@@ -47,9 +48,9 @@ returns-then-region-eq0-clause-gives g c =
     none_decoded _ _ _
     (elim c.then-region-eq0.branch [
       | then-region-eq0-via-then-region-eq0 w ↦
-          channel_empty (part_of c.args.coding.now) (regions_of c.args.coding.now) c.requires.at.part.coding.sizes c.args.i c.requires.channel w.if-region-eq0.true
+          channel_empty (part_of c.args.coding.now) (regions_of c.args.coding.now) c.requires.at.part.coding.sizes c.args.i c.requires.channel (rw c.region-region.ensures at w.if-region-eq0.true)
       | then-region-eq0-via-else-region-eq0+then-region-eq0-2 w ↦
-          channel_flat (part_of c.args.coding.now) (regions_of c.args.coding.now) c.requires.at.part.coding.sizes c.args.i c.requires.channel w.if-region-eq0-2.true
+          channel_flat (part_of c.args.coding.now) (regions_of c.args.coding.now) c.requires.at.part.coding.sizes c.args.i c.requires.channel (rw c.region-region.ensures at w.if-region-eq0-2.true)
     ])
 
 pub returns-then-region-eq0-clause-at : goal.returns-then-region-eq0-clause-at
@@ -57,8 +58,8 @@ returns-then-region-eq0-clause-at g c = record {
   part = c.requires.at.part;
   ready = c.requires.at.ready;
   last = elim c.then-region-eq0.branch [
-    | then-region-eq0-via-then-region-eq0 w ↦ no_cells c.args.coding.now c.args.i c.args.walk.now.state (λ wide high. omega (arith, w.if-region-eq0.true, wide))
-    | then-region-eq0-via-else-region-eq0+then-region-eq0-2 w ↦ no_cells c.args.coding.now c.args.i c.args.walk.now.state (λ wide high. omega (arith, w.if-region-eq0-2.true, high))
+    | then-region-eq0-via-then-region-eq0 w ↦ no_cells c.args.coding.now c.args.i c.args.walk.now.state (λ wide high. let none = rw c.region-region.ensures at w.if-region-eq0.true in omega (arith, none, wide))
+    | then-region-eq0-via-else-region-eq0+then-region-eq0-2 w ↦ no_cells c.args.coding.now c.args.i c.args.walk.now.state (λ wide high. let none = rw c.region-region.ensures at w.if-region-eq0-2.true in omega (arith, none, high))
   ];
 }
 

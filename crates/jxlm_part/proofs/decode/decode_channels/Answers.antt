@@ -4,6 +4,7 @@ use Rattle.jxlm_part.specs.Part.{cell_count, cells_before}
 use Rattle.jxlm_part.specs.Reading.{part_of, regions_of}
 use Rattle.jxlm_part.proofs.Decoding.{decodes_on, fails_on, none_decoded}
 use Rattle.jxlm_part.proofs.Loops.{all_done}
+use Rattle.jxlm_part.proofs.Starting.{as_many_channels}
 use Rattle.jxlm_part.proofs.decode.decode_channels.Goals as goal
 
 pub loop-i-init : goal.loop-i-init
@@ -23,6 +24,6 @@ returns-in_err-decode_channel g c =
 pub returns : goal.returns
 returns g c =
     let part = part_of c.args.coding.now in
-    let all : c.loop-i.i ≡ length (regions_of c.args.coding.now) = let end = c.loop-i.auto.i-end in omega (arith, end, c.loop-i-test.false) in
+    let all : c.loop-i.i ≡ length (regions_of c.args.coding.now) = let end = c.loop-i.auto.i-end in let n = as_many_channels c.args.coding.now in omega (arith, end, n, c.loop-i-test.false) in
     let cells : cells_before part.channels c.loop-i.i ≡ cell_count part.channels = ap (cells_before part.channels) all ∙ all_done part (regions_of c.args.coding.now) c.requires.at.part.coding.sizes in
     rw (← cells) c.loop-i.invariant.goes

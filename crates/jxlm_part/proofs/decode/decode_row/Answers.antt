@@ -16,7 +16,7 @@ returns g c =
     let read = c.read_row-read.ensures in
     record {
       gives = row_written l g.D.Decoder.meaning g.S.Sealed.width g.S.Sealed.to_int c.requires.at.here c.requires.below c.write_read.new.store c.args.walk.now.source c.read_row-read.new.row c.read_row-read.new.walk.source
-          c.read_row-read.result c.write_read.result long c.write_read.ensures read.gives;
+          c.read_row-read.result c.write_read.result long (rw c.region.ensures at c.write_read.ensures) read.gives;
       at = row_below l g.D.Decoder.meaning g.S.Sealed.width g.S.Sealed.to_int c.read_row-read.new.row long c.write_read.new.store c.args.walk.now c.read_row-read.new.walk c.requires.at c.requires.below
-          c.read_row-read.result c.write_read.result c.write_read.ensures read.gives read.state;
+          c.read_row-read.result c.write_read.result (rw c.region.ensures at c.write_read.ensures) read.gives read.state;
     }

@@ -24,6 +24,6 @@ returns g c =
     let l = c.args.line.now in
     let later : 0 < l.y = omega (arith, c.if-line-eq0.false) in
     let above : map g.S.Sealed.to_int c.region_row-above.result.now ≡ row_above (grid_of (store_meanings g.S.Sealed.to_int l.store.now) (region_on l)) l.y =
-    row_above_is g.S.Sealed.to_int l.store.now (region_on l) l.y c.region_row-above.result.now later c.requires.line.below c.region_row-above.ensures.len c.region_row-above.ensures.cells in
+    row_above_is g.S.Sealed.to_int l.store.now (region_on l) l.y c.region_row-above.result.now later c.requires.line.below (rw c.region.ensures at c.region_row-above.ensures.len) (rw c.region.ensures at c.region_row-above.ensures.cells) in
     row_of_gradients l g.D.Decoder.meaning g.S.Sealed.to_int g.S.Sealed.width c.requires.line c.read_by_kind-2.new.row (c.read_by_kind-2.auto.row ∙ c.requires.long) c.args.source.now c.read_by_kind-2.new.source c.read_by_kind-2.result
     c.args.leaves c.requires.leads c.requires.steps (rw (← above) c.read_by_kind-2.ensures)

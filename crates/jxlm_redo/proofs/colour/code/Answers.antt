@@ -1,4 +1,4 @@
-use Rattle.jxlm_chain.specs.Layout.{no_region}
+use Rattle.jxlm_transform.specs.Layout.{no_region}
 use Rattle.jxlm_redo.proofs.Coded.{are_three_of, keeps_of, undoes_of}
 use Rattle.jxlm_redo.proofs.Squeezed.{keeps_back}
 use Rattle.jxlm_redo.proofs.colour.code.Goals as goal

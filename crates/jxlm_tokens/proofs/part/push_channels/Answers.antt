@@ -1,6 +1,7 @@
 use Rattle.std.proofs.Common.{◌≡◌, ◌≤◌, length, refl, sym, subst, arith, ◌∙◌}
 use Rattle.jxlm_part.specs.Part.{cells_before}
 use Rattle.jxlm_part.specs.Reading.{part_of, regions_of, row_width}
+use Rattle.jxlm_part.proofs.Starting.{as_many_channels}
 use Rattle.jxlm_tokens.specs.Inner.Walks.{AreFirstTokens}
 use Rattle.jxlm_tokens.proofs.Starting.{after_nothing}
 use Rattle.jxlm_tokens.proofs.part.push_channels.Goals as goal
@@ -26,5 +27,5 @@ loop-i-preserved g c = record {
 
 pub returns : goal.returns
 returns g c =
-    let all : c.loop-i.i ≡ length (regions_of c.args.coding.now) = let end = c.loop-i.auto.i-end in omega (arith, end, c.loop-i-test.false) in
+    let all : c.loop-i.i ≡ length (regions_of c.args.coding.now) = let end = c.loop-i.auto.i-end in let n = as_many_channels c.args.coding.now in omega (arith, end, n, c.loop-i-test.false) in
     subst (λ n. AreFirstTokens c.args.coding.now g.S.Sealed.width g.S.Sealed.to_int c.args.store.now (cells_before (part_of c.args.coding.now).channels n) c.loop-i.tokens.items) all c.loop-i.invariant.tokens

@@ -1,5 +1,6 @@
-use Rattle.std.proofs.Common.{◌≡◌, ◌+◌, ◌*◌, take, arith, subst, ◌∙◌}
+use Rattle.std.proofs.Common.{◌≡◌, ◌+◌, ◌*◌, take, ap, arith, subst, ◌∙◌}
 use Rattle.jxlm_base.specs.Regions.{grid_of, store_meanings}
+use Rattle.jxlm_base.specs.declared.subgrid.Region.{Region}
 use Rattle.jxlm_part.specs.Part.{cells_before}
 use Rattle.jxlm_part.specs.Reading.{part_of, regions_of}
 use Rattle.jxlm_part.proofs.CellLaws.{roomy_still}
@@ -33,7 +34,7 @@ loop-y-preserved g c =
 pub returns-clause-tokens : goal.returns-clause-tokens
 returns-clause-tokens g c =
     let coding = c.args.coding.now in
-    let all : c.loop-y.y ≡ (region_at (regions_of coding) c.args.i).height = let end = c.loop-y.auto.y-end in omega (arith, end, c.loop-y-test.false) in
+    let all : c.loop-y.y ≡ (region_at (regions_of coding) c.args.i).height = let end = c.loop-y.auto.y-end in let is = ap (λ (r : Region). r.height) c.region-y-end.ensures in omega (arith, end, is, c.loop-y-test.false) in
     all_rows coding g.S.Sealed.width g.S.Sealed.to_int c.args.store.now c.requires.here.walked.coding c.args.i c.requires.here.channel c.loop-y.tokens.items
     (subst (λ n. AreFirstTokens coding g.S.Sealed.width g.S.Sealed.to_int c.args.store.now (cells_before (part_of coding).channels c.args.i + n * (region_at (regions_of coding) c.args.i).width) c.loop-y.tokens.items)
     all c.loop-y.invariant.tokens)

@@ -6,14 +6,10 @@ use Rattle.jxlm_base.specs.Bits.{bytes_of, position_of}
 use Rattle.jxlm_chain.proofs.ShapeLaws.{shape_kept}
 use Rattle.jxl_modular.proofs.Laid.{coded_sizes, same_but_store, still_laid}
 use Rattle.jxl_modular.proofs.NestedImage.{nested_ends, nested_fills, nested_gives, nested_narrow, nested_outside, not_begun}
-use Rattle.jxl_modular.proofs.PieceLies.{coded_room}
 use Rattle.jxl_modular.proofs.image.ModularImageDestination.decode_nested.Goals as goal
 
-pub of-requires-clause-sides : goal.of-requires-clause-sides
-of-requires-clause-sides g c = rw (c.deref.ensures.value, c.deref-2.ensures.value) (coded_sizes _ c.self.invariant.laid)
-
-pub of-requires-clause-room : goal.of-requires-clause-room
-of-requires-clause-room g c = rw c.deref-2.ensures.value (coded_room _ c.self.invariant.laid)
+pub pieces-requires-clause-sides : goal.pieces-requires-clause-sides
+pieces-requires-clause-sides g c = coded_sizes _ c.self.invariant.laid
 
 pub returns-in_err-pieces-clause-gives : goal.returns-in_err-pieces-clause-gives
 returns-in_err-pieces-clause-gives g c =
@@ -24,25 +20,25 @@ returns-in_err-pieces-clause-gives g c =
 
 pub parse-requires-clause-narrow : goal.parse-requires-clause-narrow
 parse-requires-clause-narrow g c =
-    let are = rw (c.deref.ensures.value, c.deref-2.ensures.value) at c.in_ok-pieces.ensures in
+    let are = c.in_ok-pieces.ensures in
     rw are.channels (nested_narrow _ c.self.invariant.laid c.args.passes.now c.args.part)
 
 pub parse-requires-clause-ends : goal.parse-requires-clause-ends
 parse-requires-clause-ends g c =
-    let are = rw (c.deref.ensures.value, c.deref-2.ensures.value) at c.in_ok-pieces.ensures in
+    let are = c.in_ok-pieces.ensures in
     rw are.regions (nested_ends _ c.self.invariant.laid c.args.passes.now c.args.part)
 
 pub returns-in_err-nested-clause-gives : goal.returns-in_err-nested-clause-gives
 returns-in_err-nested-clause-gives g c =
     let p = err_from_is_err_and c.from_residual-in_err-nested.result c.from_residual-in_err-nested.ensures.1 in
-    let are = rw (c.deref.ensures.value, c.deref-2.ensures.value) at c.in_ok-pieces.ensures in
+    let are = c.in_ok-pieces.ensures in
     rw (p.1, p.2, ← c.self.view_is)
     (not_begun _ c.self.invariant.laid c.args.passes.now c.args.part g.D.Decoder.meaning g.S.Sealed.width g.S.Sealed.to_int (g.S.Sealed.from_int (pos 0)) (option_copied c.args.global) (bytes_of c.args.bits.now) (position_of c.args.bits.now)
     c.args.stream_index c.args.allow_partial _ (position_of c.parse.new.bits) c.args.steps.now (rw are.channels at c.in_err-nested.ensures.err))
 
 pub decode-requires-clause-can : goal.decode-requires-clause-can
 decode-requires-clause-can g c κs within =
-    let are = rw (c.deref.ensures.value, c.deref-2.ensures.value) at c.in_ok-pieces.ensures in
+    let are = c.in_ok-pieces.ensures in
     let buffers : c.len.result ≡ length c.self.inside.store.items = c.len.ensures ∙ c.self.inside.store.ok.0 in
     let is = rw (are.channels, are.regions, buffers) at c.in_ok-nested.ensures.ok in
     nested_fills _ c.self.invariant.laid c.args.passes.now c.args.part g.D.Decoder.meaning g.S.Sealed.width g.S.Sealed.to_int (g.S.Sealed.from_int (pos 0)) (option_copied c.args.global) (bytes_of c.args.bits.now) (position_of c.args.bits.now)
@@ -50,7 +46,7 @@ decode-requires-clause-can g c κs within =
 
 pub invariant_of-self : goal.invariant_of-self
 invariant_of-self g c =
-    let are = rw (c.deref.ensures.value, c.deref-2.ensures.value) at c.in_ok-pieces.ensures in
+    let are = c.in_ok-pieces.ensures in
     let buffers : c.len.result ≡ length c.self.inside.store.items = c.len.ensures ∙ c.self.inside.store.ok.0 in
     let is = rw (are.channels, are.regions, buffers) at c.in_ok-nested.ensures.ok in
     let gives = nested_gives _ c.self.invariant.laid c.args.passes.now c.args.part g.D.Decoder.meaning g.S.Sealed.width g.S.Sealed.to_int (g.S.Sealed.from_int (pos 0)) (option_copied c.args.global) (bytes_of c.args.bits.now) (position_of c.args.bits.now)
@@ -64,7 +60,7 @@ invariant_of-self g c =
 
 pub returns-clause-gives : goal.returns-clause-gives
 returns-clause-gives g c =
-    let are = rw (c.deref.ensures.value, c.deref-2.ensures.value) at c.in_ok-pieces.ensures in
+    let are = c.in_ok-pieces.ensures in
     let buffers : c.len.result ≡ length c.self.inside.store.items = c.len.ensures ∙ c.self.inside.store.ok.0 in
     let is = rw (are.channels, are.regions, buffers) at c.in_ok-nested.ensures.ok in
     rw (← c.self.view_is)
@@ -73,7 +69,7 @@ returns-clause-gives g c =
 
 pub returns-clause-same : goal.returns-clause-same
 returns-clause-same g c =
-    let are = rw (c.deref.ensures.value, c.deref-2.ensures.value) at c.in_ok-pieces.ensures in
+    let are = c.in_ok-pieces.ensures in
     let buffers : c.len.result ≡ length c.self.inside.store.items = c.len.ensures ∙ c.self.inside.store.ok.0 in
     let is = rw (are.channels, are.regions, buffers) at c.in_ok-nested.ensures.ok in
     let gives = nested_gives _ c.self.invariant.laid c.args.passes.now c.args.part g.D.Decoder.meaning g.S.Sealed.width g.S.Sealed.to_int (g.S.Sealed.from_int (pos 0)) (option_copied c.args.global) (bytes_of c.args.bits.now) (position_of c.args.bits.now)

@@ -2,25 +2,22 @@ use Rattle.std.proofs.Common.{◌≡◌, ◌++◌, length, take, drop, refl}
 use Rattle.jxlm_chain.proofs.ShapeLaws.{shape_kept}
 use Rattle.jxl_modular.proofs.Laid.{coded_sizes, same_but_store, still_laid}
 use Rattle.jxlm_nested.proofs.PartFacts.{refilled}
-use Rattle.jxl_modular.proofs.PieceLies.{coded_room, held_lies}
+use Rattle.jxl_modular.proofs.PieceLies.{held_lies}
 use Rattle.jxl_modular.proofs.image.ModularImageDestination.decode_part.Goals as goal
 
-pub of-requires-clause-sides : goal.of-requires-clause-sides
-of-requires-clause-sides g c = rw (c.deref.ensures.value, c.deref-2.ensures.value) (coded_sizes _ c.self.invariant.laid)
-
-pub of-requires-clause-room : goal.of-requires-clause-room
-of-requires-clause-room g c = rw c.deref-2.ensures.value (coded_room _ c.self.invariant.laid)
+pub pieces-requires-clause-sides : goal.pieces-requires-clause-sides
+pieces-requires-clause-sides g c = coded_sizes _ c.self.invariant.laid
 
 pub decode-requires-clause-lies : goal.decode-requires-clause-lies
 decode-requires-clause-lies g c κs within =
-    let are = rw (c.deref.ensures.value, c.deref-2.ensures.value) at c.in_ok-pieces.ensures in
+    let are = c.in_ok-pieces.ensures in
     rw c.deref_mut.ensures.value
-    (held_lies _ c.self.invariant.laid c.args.passes.now c.args.part _ (rw c.deref-3.ensures.value are.channels) (rw c.deref-4.ensures.value are.regions) refl)
+    (held_lies _ c.self.invariant.laid c.args.passes.now c.args.part _ (rw c.deref.ensures.value are.channels) (rw c.deref.ensures.value are.regions) refl)
 
 pub invariant_of-self : goal.invariant_of-self
 invariant_of-self g c =
-    let are = rw (c.deref.ensures.value, c.deref-2.ensures.value) at c.in_ok-pieces.ensures in
-    let keeps = rw (c.deref-4.ensures.value, are.regions, c.deref_mut.ensures.value) at c.decode.ensures.keeps in
+    let are = c.in_ok-pieces.ensures in
+    let keeps = rw (c.deref.ensures.value, are.regions, c.deref_mut.ensures.value) at c.decode.ensures.keeps in
     let whole : take c.self.inside.store.len (c.decode.new.store ++ drop (length c.decode.new.store) c.self.inside.store.items) ≡ c.decode.new.store =
     refilled c.self.inside.store.len c.decode.new.store c.self.inside.store.items c.self.inside.store.ok.0 keeps.count in
     record {
@@ -30,17 +27,17 @@ invariant_of-self g c =
 
 pub returns-clause-gives : goal.returns-clause-gives
 returns-clause-gives g c =
-    let are = rw (c.deref.ensures.value, c.deref-2.ensures.value) at c.in_ok-pieces.ensures in
-    let keeps = rw (c.deref-4.ensures.value, are.regions, c.deref_mut.ensures.value) at c.decode.ensures.keeps in
+    let are = c.in_ok-pieces.ensures in
+    let keeps = rw (c.deref.ensures.value, are.regions, c.deref_mut.ensures.value) at c.decode.ensures.keeps in
     let whole : take c.self.inside.store.len (c.decode.new.store ++ drop (length c.decode.new.store) c.self.inside.store.items) ≡ c.decode.new.store =
     refilled c.self.inside.store.len c.decode.new.store c.self.inside.store.items c.self.inside.store.ok.0 keeps.count in
     rw (← c.self.view_is)
-    (rw (← whole) at (rw (c.deref-3.ensures.value, are.channels, c.deref-4.ensures.value, are.regions, c.deref_mut.ensures.value) at c.decode.ensures.answers))
+    (rw (← whole) at (rw (c.deref.ensures.value, are.channels, are.regions, c.deref_mut.ensures.value) at c.decode.ensures.answers))
 
 pub returns-clause-same : goal.returns-clause-same
 returns-clause-same g c =
-    let are = rw (c.deref.ensures.value, c.deref-2.ensures.value) at c.in_ok-pieces.ensures in
-    let keeps = rw (c.deref-4.ensures.value, are.regions, c.deref_mut.ensures.value) at c.decode.ensures.keeps in
+    let are = c.in_ok-pieces.ensures in
+    let keeps = rw (c.deref.ensures.value, are.regions, c.deref_mut.ensures.value) at c.decode.ensures.keeps in
     let whole : take c.self.inside.store.len (c.decode.new.store ++ drop (length c.decode.new.store) c.self.inside.store.items) ≡ c.decode.new.store =
     refilled c.self.inside.store.len c.decode.new.store c.self.inside.store.items c.self.inside.store.ok.0 keeps.count in
     rw (← c.self.view_is)

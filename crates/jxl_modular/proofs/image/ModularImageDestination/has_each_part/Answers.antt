@@ -1,5 +1,4 @@
 use Rattle.std.proofs.Common.{◌↔◌, IsTrue, subst}
-use Rattle.jxlm_cut.specs.Cutting.{list_with}
 use Rattle.jxlm_cut.specs.PartSets.{HoldsEach}
 use Rattle.jxl_modular.specs.Image.{coded_list}
 use Rattle.jxl_modular.proofs.image.ModularImageDestination.has_each_part.Goals as goal
@@ -9,9 +8,7 @@ has_each_part-requires g c = c.self.invariant.laid.groups
 
 pub returns-clause-each : goal.returns-clause-each
 returns-clause-each g c =
-    let x = c.self.inside in
     let passes = c.args.passes.now in
     let parts = c.args.parts.now in
     let answer = c.has_each_part.result in
-    let iff = subst (λ cs. IsTrue answer ↔ HoldsEach x.group_dim passes (list_with cs x.nb_meta_channels) parts) c.deref.ensures.value c.has_each_part.ensures in
-    subst (λ y. IsTrue answer ↔ HoldsEach y.group_dim passes (coded_list y) parts) c.self.view_is iff
+    subst (λ y. IsTrue answer ↔ HoldsEach y.group_dim passes (coded_list y) parts) c.self.view_is c.has_each_part.ensures

@@ -1,9 +1,9 @@
-use Rattle.std.proofs.Common.{List, ◌≡◌, pos, sym, ap, subst, map, refl, Ok}
-use Rattle.jxlm_chain.specs.Layout.{HasBuffers, Layout, buffers_of, first_layout, layout_after_all}
+use Rattle.std.proofs.Common.{List, ◌≡◌, pos, sym, ap, subst, map, refl}
+use Rattle.jxlm_transform.specs.Layout.{HasBuffers, Layout, buffers_of, first_layout, layout_after_all}
 use Rattle.jxlm_transform.specs.Steps.{steps_in}
 use Rattle.jxlm_chain.specs.Steps.{IsNarrowStore}
-use Rattle.jxlm_transform.specs.Channels.{list_of}
-use Rattle.jxlm_transform.specs.ChannelSteps.{Step, list_after_all}
+use Rattle.jxlm_transform.specs.Lists.{layout_of}
+use Rattle.jxlm_transform.specs.ChannelSteps.{Step}
 use Rattle.jxlm_transform.specs.Transforms.{transform_of}
 use Rattle.jxlm_transform.proofs.SideBounds.{narrow_image}
 use Rattle.jxlm_nested.specs.Zeros.{zeros}
@@ -13,15 +13,15 @@ use Rattle.jxl_modular.proofs.image.ModularImageDestination.new.Goals as goal
 pub invariant_of-result : goal.invariant_of-result
 invariant_of-result g c =
     let zero = g.S.Sealed.from_int (pos 0) in
-    let cs = c.args.given.info.items in
+    let cs = c.args.given.items in
     let ss : List Step = steps_in (map transform_of c.args.header.transform.items) in
     let store : c.in_ok-store.store.items ≡ zeros zero (buffers_of cs ss) =
     buffers_zeros zero cs c.deref.result.now ss c.args.placed.tables.items c.deref-2.result.now c.in_ok-grids.grids.items c.in_ok-store.store.items
     c.deref.ensures.value c.in_ok-grids.ensures.ok c.deref-2.ensures.value c.in_ok-store.ensures.ok c.requires.placed.tables in
-    let coded : c.args.placed.places.regions.items ≡ (layout_after_all ss (first_layout cs)).regions = ap (λ (l : Layout). l.regions) c.requires.placed.layout in
+    let coded : (layout_of c.args.placed.channels).regions ≡ (layout_after_all ss (first_layout cs)).regions = ap (λ (l : Layout). l.regions) c.requires.placed.layout in
     record {
       laid = record {
-        list = subst (λ n. list_after_all ss (record { channels = cs; nb_meta = n }) ≡ Ok (list_of c.args.placed.channels)) c.requires.image c.requires.opened.leaves;
+        list = c.requires.opened.leaves;
         regions = coded;
         buffers = subst (HasBuffers (buffers_of cs ss)) (sym store) (zeros_fit zero (buffers_of cs ss));
         narrow_store = subst IsNarrowStore (sym store) (zeros_narrow zero cs ss (rw c.requires.asked.are (narrow_image c.requires.asked.params c.requires.asked.valid)) c.requires.opened.tables);
@@ -40,10 +40,10 @@ invariant_of-result g c =
 pub returns-clause-ok : goal.returns-clause-ok
 returns-clause-ok g c =
     let zero = g.S.Sealed.from_int (pos 0) in
-    let cs = c.args.given.info.items in
+    let cs = c.args.given.items in
     let ss : List Step = steps_in (map transform_of c.args.header.transform.items) in
     let store : c.in_ok-store.store.items ≡ zeros zero (buffers_of cs ss) =
     buffers_zeros zero cs c.deref.result.now ss c.args.placed.tables.items c.deref-2.result.now c.in_ok-grids.grids.items c.in_ok-store.store.items
     c.deref.ensures.value c.in_ok-grids.ensures.ok c.deref-2.ensures.value c.in_ok-store.ensures.ok c.requires.placed.tables in
-    let coded : c.args.placed.places.regions.items ≡ (layout_after_all ss (first_layout cs)).regions = ap (λ (l : Layout). l.regions) c.requires.placed.layout in
+    let coded : (layout_of c.args.placed.channels).regions ≡ (layout_after_all ss (first_layout cs)).regions = ap (λ (l : Layout). l.regions) c.requires.placed.layout in
     rw (store, coded) refl

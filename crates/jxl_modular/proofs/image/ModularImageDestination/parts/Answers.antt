@@ -1,6 +1,6 @@
 use Rattle.std.proofs.Common.{◌≡◌, ◌∙◌, ℕ, IsTrue, sym, ap, subst}
 use Rattle.jxlm_cut.specs.Areas.{AreOfPicture, picture_of}
-use Rattle.jxlm_cut.specs.Cutting.{list_with}
+use Rattle.jxlm_transform.specs.Lists.{list_of}
 use Rattle.jxlm_cut.specs.Passes.{can_group, passes_of}
 use Rattle.jxl_modular.proofs.PictureAreas.{of_image}
 use Rattle.jxl_modular.proofs.image.ModularImageDestination.parts.Goals as goal
@@ -12,5 +12,4 @@ parts-requires-clause-pictured g c =
     let can = subst (λ y. IsTrue (can_group passes y.given)) (sym c.self.view_is) c.requires.possible in
     let sides : c.picture_sides-width.result ≡ picture_of x.given.items = c.picture_sides-width.ensures ∙ ap picture_of c.deref.ensures.value in
     let alike = of_image _ passes c.self.invariant.laid can in
-    subst (λ cs. AreOfPicture c.picture_sides-width.result.0 c.picture_sides-width.result.1 x.group_dim (list_with cs x.nb_meta_channels)) (sym c.deref-2.ensures.value)
-    (subst (λ (p : ℕ × ℕ). AreOfPicture p.0 p.1 x.group_dim (list_with x.channels.items x.nb_meta_channels)) (sym sides) alike)
+    subst (λ (p : ℕ × ℕ). AreOfPicture p.0 p.1 x.group_dim (list_of x.coded)) (sym sides) alike

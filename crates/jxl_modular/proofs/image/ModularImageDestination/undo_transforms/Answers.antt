@@ -1,7 +1,7 @@
 use Rattle.std.proofs.Common.{◌≡◌, sym, ap, subst, ◌∙◌, List, Some}
 use Rattle.std.specs.List.{All}
 use Rattle.jxlm_base.specs.Grid.{Grid}
-use Rattle.jxlm_chain.specs.Layout.{first_layout}
+use Rattle.jxlm_transform.specs.Layout.{first_layout}
 use Rattle.jxlm_chain.specs.Scratch.{HasRoomFor, IsNarrowUndo}
 use Rattle.jxlm_chain.specs.Steps.{CanUndoAll, IsNarrowStore}
 use Rattle.jxlm_transform.specs.Steps.{steps_in}

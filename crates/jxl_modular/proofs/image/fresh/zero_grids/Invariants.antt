@@ -1,5 +1,5 @@
 use Rattle.std.proofs.Common.{◌≡◌, take, pos}
-use Rattle.jxlm_chain.specs.Layout.{sides_of}
+use Rattle.jxlm_transform.specs.Layout.{sides_of}
 use Rattle.jxlm_nested.specs.Zeros.{zeros}
 use Rattle.jxl_modular.proofs.image.fresh.zero_grids.Given as goal
 

@@ -1,5 +1,5 @@
 use Rattle.std.proofs.Common.{List, [], ◌∷◌, map, refl}
-use Rattle.jxlm_transform.specs.Channels.{list_of}
+use Rattle.jxlm_transform.specs.Lists.{list_of}
 use Rattle.jxlm_transform.specs.ChannelSteps.{Step, SqueezeStep}
 use Rattle.jxlm_transform.specs.declared.transform.SqueezeParams.{SqueezeParams}
 use Rattle.jxlm_chain.proofs.PlacedSteps.{goes_next, goes_nowhere, rest_next}

@@ -1,5 +1,5 @@
 use Rattle.std.proofs.Common.{◌≡◌, map, take, drop}
-use Rattle.jxlm_transform.specs.Channels.{list_of}
+use Rattle.jxlm_transform.specs.Lists.{list_of}
 use Rattle.jxlm_transform.specs.ChannelSteps.{SqueezeStep, list_after_all}
 use Rattle.jxlm_chain.specs.Placed.{GoesOn}
 use Rattle.jxlm_chain.proofs.placed.PlacedChannels.add_each.Given as goal

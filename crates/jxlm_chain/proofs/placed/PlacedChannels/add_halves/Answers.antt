@@ -7,5 +7,4 @@ use Rattle.jxlm_chain.proofs.placed.PlacedChannels.add_halves.Goals as goal
 
 pub returns-clause-goes : goal.returns-clause-goes
 returns-clause-goes c =
-    let info = c.in_ok-transform_channel_info.ensures in
-    goes_one (SqueezeStep c.args.step.now) c.args.self.now _ c.requires tt info.gives info.meta c.in_ok-undo_squeeze.ensures c.in_ok-halve.ensures.gives (sym (append-nil (sides_in c.args.self.now.tables.items)))
+    goes_one (SqueezeStep c.args.step.now) c.args.self.now _ c.requires c.in_ok-transform_channel_info.ensures.ok c.in_ok-transform_channel_info.ensures.meta c.in_ok-undo_squeeze.ensures (sym (append-nil (sides_in c.args.self.now.tables.items)))

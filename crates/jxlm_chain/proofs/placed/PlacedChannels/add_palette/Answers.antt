@@ -8,8 +8,8 @@ use Rattle.jxlm_chain.specs.Undoings.{undo_of_code, undos_of}
 use Rattle.jxlm_chain.proofs.PlacedSteps.{goes_one}
 use Rattle.jxlm_chain.proofs.placed.PlacedChannels.add_palette.Goals as goal
 
-pub index-requires-clause-room : goal.index-requires-clause-room
-index-requires-clause-room c =
+pub transform_channel_info-requires-clause-room : goal.transform_channel_info-requires-clause-room
+transform_channel_info-requires-clause-room c =
     let small = c.args.self.now.tables.small in
     let count = c.args.self.now.tables.ok.0 in
     let room = c.requires.placed.room in
@@ -18,11 +18,10 @@ index-requires-clause-room c =
 pub returns-clause-goes : goal.returns-clause-goes
 returns-clause-goes c =
     let old = c.args.self.now in
-    let info = c.in_ok-transform_channel_info.ensures in
     let undos =
     ap undos_of c.in_ok-push.ensures.items ∙ map-append undo_of_code old.undoings.items (c.in_ok-undoing.undoing ∷ [])
     ∙ ap (λ (us : List Undo). undos_of old.undoings.items ++ us) c.in_ok-undoing.ensures in
     let tables =
-    ap sides_in c.in_ok-push-2.ensures.items ∙ map-append region_sides old.tables.items (c.table.result ∷ [])
-    ∙ ap (λ (r : Region). sides_in old.tables.items ++ region_sides r ∷ []) c.table.ensures in
-    goes_one (PaletteStep c.args.palette.now) old _ c.requires.placed c.requires.some_channels info.gives info.meta undos c.in_ok-index.ensures.gives tables
+    ap sides_in c.in_ok-push-2.ensures.items ∙ map-append region_sides old.tables.items (c.table.result.region ∷ [])
+    ∙ ap (λ (r : Region). sides_in old.tables.items ++ region_sides r ∷ []) c.table.ensures.region in
+    goes_one (PaletteStep c.args.palette.now) old _ c.requires.placed c.in_ok-transform_channel_info.ensures.ok c.in_ok-transform_channel_info.ensures.meta undos tables

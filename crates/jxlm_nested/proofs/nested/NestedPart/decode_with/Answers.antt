@@ -2,7 +2,8 @@ use Rattle.std.proofs.Common.{rules, ◌≡◌, ◌<◌, List, ◌++◌, take, d
 use Rattle.std.proofs.lemmas.Grind.{common_steps}
 use Rattle.jxlm_base.specs.Bits.{bytes_of, position_of}
 use Rattle.jxlm_part.specs.Part.{cell_count}
-use Rattle.jxlm_transform.specs.Channels.{Channel}
+use Rattle.jxlm_transform.specs.Channels.{infos}
+use Rattle.jxlm_transform.specs.declared.channels.PlacedChannel.{PlacedChannel}
 use Rattle.jxlm_part.proofs.PartAnswers.{answers_empty}
 use Rattle.jxlm_nested.specs.NestedParts.{head_of, regions_in}
 use Rattle.jxlm_nested.specs.Starts.{coded_part}
@@ -13,7 +14,7 @@ pub returns-then-not-have_samples-clause-answers : goal.returns-then-not-have_sa
 returns-then-not-have_samples-clause-answers g c =
     answers_empty g.D.Decoder.meaning g.S.Sealed.width g.S.Sealed.to_int (bytes_of c.args.bits.now) (coded_part c.args.stream_index (head_of c.args.self.now) c.args.self.now.config) (regions_in c.args.self.now)
     c.args.self.now.config.decoder (c.args.store.now.items ++ c.args.tables.now.items) (position_of c.args.bits.now) c.args.partial.now c.args.allow_partial c.args.steps.now c.requires.sizes
-    (λ h. let t = c.if-not-have_samples.ensures.1 (subst (λ (cs : List Channel). 0 < cell_count cs) (sym c.deref.ensures.value) h) in cc)
+    (λ h. let t = c.if-not-have_samples.ensures.1 (subst (λ (ps : List PlacedChannel). 0 < cell_count (infos ps)) (sym c.deref.ensures.value) h) in cc)
 
 pub returns-clause-answers : goal.returns-clause-answers
 returns-clause-answers g c =

@@ -7,7 +7,8 @@ use Rattle.jxlm_base.specs.Grammar.{IsErrorAt}
 use Rattle.jxlm_chain.specs.declared.placed.PlacedChannels.{PlacedChannels}
 use Rattle.jxlm_header.specs.Opening.{opening}
 use Rattle.jxlm_header.specs.declared.header.ModularHeader.{ModularHeader}
-use Rattle.jxlm_transform.specs.Channels.{list_of}
+use Rattle.jxlm_transform.specs.Channels.{infos}
+use Rattle.jxlm_transform.specs.Lists.{list_of}
 use Rattle.jxlm_transform.specs.declared.channels.ModularChannels.{ModularChannels}
 use Rattle.jxlm_nested.specs.NestedParts.{nested_list}
 use Rattle.jxlm_nested.specs.Opened.{TreeOfGives, opened_of}
@@ -20,7 +21,7 @@ returns-in_err-config-clause-err g c =
     let d = g.D.Decoder.meaning in
     let bytes = bytes_of c.args.bits.now in
     let p = position_of c.args.bits.now in
-    let list = nested_list c.args.pieces.infos.items in
+    let list = nested_list (infos c.args.pieces.items) in
     let global = option_copied c.args.global in
     let o : ModularHeader × PlacedChannels = (c.in_ok-header.header, c.in_ok-header.placed) in
     let m = position_of c.open.new.bits in
@@ -30,6 +31,6 @@ returns-in_err-config-clause-err g c =
     (subst (λ (b : Bool). (opening b (list_of c.new-start.result.channels)).read bytes p ≡ Ok (record { value = opened_of o; position = m })) has c.in_ok-header.ensures.gives) in
     let q = position_of c.tree_of.new.bits in
     let e = c.in_err-config.field-0.0 in
-    let tree : TreeOfGives d global bytes o.0.use_global_tree o.1.channels.info.items m (Err e) q = rw (c.in_ok-header.ensures.bytes, c.deref.ensures.value) at c.in_err-config.ensures.gives in
+    let tree : TreeOfGives d global bytes o.0.use_global_tree (list_of o.1.channels).channels m (Err e) q = rw (c.in_ok-header.ensures.bytes, c.deref.ensures.value) at c.in_err-config.ensures.gives in
     let answer : UnlessMemory (kind_of e) (IsErrorAt (opened global bytes list p) (kind_of e) q ⊎ IsTreeErrorAt d global bytes list p (kind_of e) q) = no_tree d global bytes list p o m opens e q tree in
     search rules

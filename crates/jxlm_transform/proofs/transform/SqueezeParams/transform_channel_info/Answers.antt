@@ -1,14 +1,16 @@
-use Rattle.std.proofs.Common.{◌∙◌, sym}
-use Rattle.std.specs.List.{list_all}
-use Rattle.std.proofs.lemmas.Bool.{and_parts}
-use Rattle.jxlm_transform.specs.Channels.{list_of}
-use Rattle.jxlm_transform.specs.ChannelSteps.{can_be_squeezed, range, squeeze_range}
-use Rattle.std.proofs.lemmas.List.Sums.{AllPass-from_list_all}
+use Rattle.jxlm_transform.specs.Channels.{regions}
+use Rattle.jxlm_transform.proofs.Ends.{halves_end}
+use Rattle.jxlm_transform.proofs.PlacedLists.{ends_of, squeezable}
 use Rattle.jxlm_transform.proofs.transform.SqueezeParams.transform_channel_info.Goals as goal
 
 pub halve-requires-clause-each : goal.halve-requires-clause-each
-halve-requires-clause-each c =
-    let t = c.args.self.now in
-    let l = list_of c.args.channels.now in
-    let both = and_parts (squeeze_range t l) (list_all can_be_squeezed (range t.begin_c t.num_c l.channels)) (sym c.suits.ensures ∙ c.if-not-suits.false) in
-    AllPass-from_list_all can_be_squeezed (range t.begin_c t.num_c c.args.channels.now.info.items) both.1
+halve-requires-clause-each c = squeezable c.args.self.now c.args.channels.now c.requires.suits
+
+pub halve-requires-clause-ends : goal.halve-requires-clause-ends
+halve-requires-clause-ends c = ends_of c.args.self.now c.args.channels.now.placed.items c.args.channels.now.ends
+
+pub invariant_of-channels-then-self-channels : goal.invariant_of-channels-then-self-channels
+invariant_of-channels-then-self-channels c = record { ends = halves_end c.args.self.now (regions c.args.channels.now.placed.items) (regions c.halve.new.placed.items) c.args.channels.now.ends c.in_ok-halve.ensures.regions }
+
+pub invariant_of-channels-else-self-channels : goal.invariant_of-channels-else-self-channels
+invariant_of-channels-else-self-channels c = record { ends = halves_end c.args.self.now (regions c.args.channels.now.placed.items) (regions c.halve.new.placed.items) c.args.channels.now.ends c.in_ok-halve.ensures.regions }
