@@ -1,5 +1,5 @@
 -- What the arguments of the program ask for.
-use Rattle.std.specs.Prelude.{◌≡◌, ◌≢◌, ℕ, ◌^◌, ◌<◌, ◌≤◌, List, [], length, slice_index_or, codes}
+use Rattle.std.specs.Prelude.{◌≡◌, ◌≢◌, ℕ, ◌^◌, ◌<◌, ◌≤◌, List, [], ◌+◌, ◌++◌, length, slice_index_or, codes}
 use Rattle.jxlm_transform.specs.Params.{IsGroupDim}
 use Rattle.jxlm_program.specs.Decimals.{Writes}
 use Rattle.jxlm_program.specs.declared.arguments.Format.{Format}
@@ -18,48 +18,29 @@ samples_word I32 = codes "i32"
 abbrev pub IsNoSamples : List ℕ → Type 0
 IsNoSamples word = (s : Samples) → word ≢ samples_word s
 
--- the first word for a format: of a picture in one part, of one in sections, and of an image to be encoded
-abbrev pub decode_word : Format → List ℕ
-decode_word First = codes "decode"
-decode_word Second = codes "decode2"
+-- the first word for a format: a name, and of the second format `2` after it
+abbrev pub name_in : List ℕ → Format → List ℕ
+name_in name First = name
+name_in name Second = name ++ codes "2"
 
-abbrev pub sections_word : Format → List ℕ
-sections_word First = codes "sections"
-sections_word Second = codes "sections2"
+-- the word is none of those of a name
+abbrev pub IsOfNoFormat : List ℕ → List ℕ → Type 0
+IsOfNoFormat name word = (f : Format) → word ≢ name_in name f
 
-abbrev pub encode_word : Format → List ℕ
-encode_word First = codes "encode"
-encode_word Second = codes "encode2"
-
--- the word is none of these
-abbrev pub IsOfNoFormat : (Format → List ℕ) → List ℕ → Type 0
-IsOfNoFormat word_of word = (f : Format) → word ≢ word_of f
-
--- the words after the first are `W H N BITS i16|i32`, with these numbers and this type
-pub record NamePicture (words : List (List ℕ)) (width height channels bit_depth : ℕ) (samples : Samples) : Type 0 where
+-- a name, `W H N BITS i16|i32` with these numbers and this type, and so many more words
+pub record AsksPicture (words : List (List ℕ)) (name : List ℕ) (more : ℕ) (format : Format) (width height channels bit_depth : ℕ) (samples : Samples) : Type 0 where
+  pub count : length words ≡ 6 + more
+  pub named : slice_index_or words 0 [] ≡ name_in name format
   pub wide : Writes (slice_index_or words 1 []) width
   pub high : Writes (slice_index_or words 2 []) height
   pub many : Writes (slice_index_or words 3 []) channels
   pub deep : Writes (slice_index_or words 4 []) bit_depth
   pub typed : slice_index_or words 5 [] ≡ samples_word samples
 
--- `decode W H N BITS i16|i32`, or `decode2` and these
-pub record AsksDecode (words : List (List ℕ)) (format : Format) (width height channels bit_depth : ℕ) (samples : Samples) : Type 0 where
-  pub count : length words ≡ 6
-  pub named : slice_index_or words 0 [] ≡ decode_word format
-  pub picture : NamePicture words width height channels bit_depth samples
-
--- `sections W H N BITS i16|i32 GROUP_DIM`, or `sections2` and these
-pub record AsksSections (words : List (List ℕ)) (format : Format) (width height channels bit_depth : ℕ) (samples : Samples) (group_dim : ℕ) : Type 0 where
-  pub count : length words ≡ 7
-  pub named : slice_index_or words 0 [] ≡ sections_word format
-  pub picture : NamePicture words width height channels bit_depth samples
-  pub side : Writes (slice_index_or words 6 []) group_dim
-
 -- `encode i16|i32`, or `encode2 i16|i32`
 pub record AsksEncode (words : List (List ℕ)) (format : Format) (samples : Samples) : Type 0 where
   pub count : length words ≡ 2
-  pub named : slice_index_or words 0 [] ≡ encode_word format
+  pub named : slice_index_or words 0 [] ≡ name_in (codes "encode") format
   pub typed : slice_index_or words 1 [] ≡ samples_word samples
 
 -- an image of no channels is asked for
@@ -68,22 +49,21 @@ IsIdle (Decode format width height channels bit_depth samples) = channels ≡ 0
 IsIdle (Sections format width height channels bit_depth samples group_dim) = channels ≡ 0
 IsIdle (Encode format samples) = ⊥
 
--- the words ask for the command
+-- the words ask for the command: after `sections` and those of a picture comes GROUP_DIM
 abbrev pub Asks : List (List ℕ) → Command → Type 0
-Asks words (Decode format width height channels bit_depth samples) = AsksDecode words format width height channels bit_depth samples
-Asks words (Sections format width height channels bit_depth samples group_dim) =
-    AsksSections words format width height channels bit_depth samples group_dim
-Asks words (Encode format samples) = AsksEncode words format samples
+Asks words (Decode f w h n bits s) = AsksPicture words (codes "decode") 0 f w h n bits s
+Asks words (Sections f w h n bits s dim) = AsksPicture words (codes "sections") 1 f w h n bits s × Writes (slice_index_or words 6 []) dim
+Asks words (Encode f s) = AsksEncode words f s
 
 -- they ask for no such command, whatever its numbers and its type
 abbrev pub AskForNoDecode : List (List ℕ) → Type 0
-AskForNoDecode words = (f : Format) (w h n b : ℕ) (s : Samples) → ¬ (AsksDecode words f w h n b s)
+AskForNoDecode words = (f : Format) (w h n b : ℕ) (s : Samples) → ¬ (Asks words (Decode f w h n b s))
 
 abbrev pub AskForNoSections : List (List ℕ) → Type 0
-AskForNoSections words = (f : Format) (w h n b : ℕ) (s : Samples) (g : ℕ) → ¬ (AsksSections words f w h n b s g)
+AskForNoSections words = (f : Format) (w h n b : ℕ) (s : Samples) (g : ℕ) → ¬ (Asks words (Sections f w h n b s g))
 
 abbrev pub AskForNoEncode : List (List ℕ) → Type 0
-AskForNoEncode words = (f : Format) (s : Samples) → ¬ (AsksEncode words f s)
+AskForNoEncode words = (f : Format) (s : Samples) → ¬ (Asks words (Encode f s))
 
 -- the library takes a picture of these numbers: the sides matter where there is a channel
 abbrev pub ArePossible : ℕ → ℕ → ℕ → ℕ → Type 0

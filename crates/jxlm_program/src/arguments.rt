@@ -1,5 +1,5 @@
 //! What the arguments ask for.
-ghost use Rattle.std.specs.Prelude.{◌≡◌, ◌<◌, ◌↔◌, ◌^◌, IsTrue, MatchOption, map, string_bytes};
+ghost use Rattle.std.specs.Prelude.{◌≡◌, ◌<◌, ◌↔◌, ◌^◌, IsTrue, MatchOption, codes, map, string_bytes};
 ghost use Rattle.std.specs.Option.{SomeIff};
 ghost use Rattle.jxlm_transform.specs.Params.{IsGroupDim};
 ghost use Rattle.jxlm_program.specs.Arguments.{ArePossible};
@@ -21,11 +21,11 @@ pub enum Format {
 }
 
 impl Format {
-    ghost use Rattle.jxlm_program.specs.Arguments.{IsOfNoFormat, decode_word, encode_word, sections_word};
+    ghost use Rattle.jxlm_program.specs.Arguments.{IsOfNoFormat, name_in};
 
     /// The format that is read where this word comes first: `decode` or `decode2`.
     fn of_decode(word: &str) -> Option<Format>
-        ensures { MatchOption result (IsOfNoFormat decode_word word.now) (λ f. word.now ≡ decode_word f) }
+        ensures { MatchOption result (IsOfNoFormat (codes "decode") word.now) (λ f. word.now ≡ name_in (codes "decode") f) }
     {
         match word {
             "decode" => Some(Format::First),
@@ -36,7 +36,7 @@ impl Format {
 
     /// The format that sections are read in where this word comes first: `sections` or `sections2`.
     fn of_sections(word: &str) -> Option<Format>
-        ensures { MatchOption result (IsOfNoFormat sections_word word.now) (λ f. word.now ≡ sections_word f) }
+        ensures { MatchOption result (IsOfNoFormat (codes "sections") word.now) (λ f. word.now ≡ name_in (codes "sections") f) }
     {
         match word {
             "sections" => Some(Format::First),
@@ -47,7 +47,7 @@ impl Format {
 
     /// The format that is written where this word comes first: `encode` or `encode2`.
     fn of_encode(word: &str) -> Option<Format>
-        ensures { MatchOption result (IsOfNoFormat encode_word word.now) (λ f. word.now ≡ encode_word f) }
+        ensures { MatchOption result (IsOfNoFormat (codes "encode") word.now) (λ f. word.now ≡ name_in (codes "encode") f) }
     {
         match word {
             "encode" => Some(Format::First),
