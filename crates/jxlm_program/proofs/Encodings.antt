@@ -1,13 +1,78 @@
--- An image that was read can be encoded.
-use Rattle.std.proofs.Common.{◌≡◌, ◌≢◌, ℕ, ◌^◌, ◌≤◌, ℤ, List, [], ◌∷◌, length, map, refl, sym, ap, ◌∙◌, arith, get_or}
+-- An image that was read can be encoded, and what is encoded is a picture of it.
+use Rattle.std.proofs.Common.{◌≡◌, ◌≢◌, ℕ, ◌^◌, ◌≤◌, ℤ, pos, List, [], ◌∷◌, length, map, false, None, refl, ap, ◌∙◌, subst, arith}
 use Rattle.std.specs.Int.{Width}
 use Rattle.std.specs.List.{All}
 use Rattle.std.proofs.lemmas.List.{length-map, get_or-map}
 use Rattle.jxlm_base.specs.Grid.{Grid, meanings}
-use Rattle.jxlm_encode.specs.Encoded.{IsSmall}
-use Rattle.jxlm_program.specs.Encoding.{IsEncodedIn, IsEncodedText}
+use Rattle.jxlm_encode.specs.Encoded.{IsSmall, given_list}
+use Rattle.jxlm_header.specs.Opening.{Opening, opening_of}
+use Rattle.jxlm_ma.specs.Tree.{Shape, leaf}
+use Rattle.jxlm_ma.specs.TreeStands.{TreesAreReadExactly}
+use Rattle.jxlm_ma.specs.declared.flat.Leaf.{Leaf}
+use Rattle.jxlm_ma.proofs.Listing.{levels-injective}
+use Rattle.jxlm_plain.specs.Plain.{plain, plain2}
+use Rattle.jxl_modular.specs.Picture.{IsPicture}
+use Rattle.jxlm_program.specs.Channels.{channels_of, plain_channel}
+use Rattle.jxlm_program.specs.Encoding.{IsEncodedIn, IsEncodedPicture, IsEncodedText, decoder_of, gradient_tree}
 use Rattle.jxlm_program.specs.declared.arguments.Format.{Format}
+use Rattle.jxlm_program.specs.declared.arguments.Format.TheVariants.{First, Second}
+use Rattle.jxlm_program.proofs.Pictures.{each_asked}
+use Rattle.jxlm_roundtrip.proofs.EncodedPictures.{encoded_is_picture}
 use Rattle.jxlm_text.specs.Reading.{IsTextOf}
+use Rattle.jxlm_transform.specs.Channels.{Channel, ChannelList, image_channel}
+use Rattle.jxlm_transform.specs.ChannelSteps.{CodedList}
+use Rattle.jxlm_transform.specs.Params.{sized}
+use Rattle.jxlm_transform.specs.declared.param.ChannelShift.TheVariants.{Shifts}
+use Rattle.jxlm_tree.specs.WeightsHeader.{default_weights}
+use Rattle.jxlm_tree.specs.declared.predictor.Predictor.TheVariants.{Gradient}
+
+-- ---- the channels of an image are those that its encoder is given
+
+each_given : (image : List (Grid ℤ)) → map image_channel (map (λ g. sized g.width g.height (Shifts 0)) image) ≡ map (λ g. plain_channel g.width g.height) image
+each_given [] = refl
+each_given (g ∷ gs) =
+    ap (λ (c : Channel). c ∷ map image_channel (map (λ h. sized h.width h.height (Shifts 0)) gs)) (each_asked g.width g.height)
+    ∙ ap (λ (cs : List Channel). plain_channel g.width g.height ∷ cs) (each_given gs)
+
+list_given : (image : List (Grid ℤ)) → given_list image ≡ channels_of image
+list_given image = let list : List Channel → ChannelList = λ cs. record { channels = cs; nb_meta = 0 } in ap list (each_given image)
+
+-- ---- what is encoded is a picture
+
+-- a header with no global tree, the default weights and no transform
+abbrev plain_head : ChannelList → Opening
+plain_head l = record { uses_global = false; has_palette = false; has_squeeze = false; weights = default_weights; coded = record { steps = []; list = l } }
+
+-- the leaf that predicts by the clamped gradient
+abbrev gradient_leaf : Shape Leaf
+gradient_leaf = leaf (record { cluster = 0; predictor = Gradient; offset = pos 0; multiplier = 1 })
+
+module _ (format : Format) (exact : TreesAreReadExactly (decoder_of format)) (image : List (Grid ℤ)) (w : Width) (bytes : List ℕ) (bit_depth : ℕ) (e : IsEncodedIn format image w bytes) where
+  -- a picture of this image under these channels, with this header and this tree
+  abbrev IsPlainPicture : ChannelList → Type 0
+  IsPlainPicture l = (picture : IsPicture (decoder_of format) w None bytes 0 l 0 bit_depth image e.end) × (picture.head ≡ plain_head l) × (picture.config.tree ≡ gradient_leaf)
+
+  coded_is : e.coded ≡ record { steps = []; list = given_list image }
+  coded_is = let come = e.accepted.come in cc
+
+  tree_is : e.tree ≡ gradient_leaf
+  tree_is = levels-injective e.tree gradient_leaf e.given.listed
+
+  head_is : opening_of (record { use_global_tree = false; wp_params = default_weights; transform = [] }) e.coded ≡ plain_head (given_list image)
+  head_is = ap (λ (coded : CodedList). opening_of (record { use_global_tree = false; wp_params = default_weights; transform = [] }) coded) coded_is
+
+  given_picture : IsPlainPicture (given_list image)
+  given_picture = (encoded_is_picture (decoder_of format) exact w [] gradient_tree image bytes bit_depth e, head_is, tree_is)
+
+  pub encoded_picture : IsEncodedPicture format image w bytes bit_depth
+  encoded_picture = let p : IsPlainPicture (channels_of image) = subst IsPlainPicture (list_given image) given_picture in record { end = e.end; picture = p.0; header = p.1; tree = p.2 }
+
+-- trees of either format are read exactly
+format_exact : TreesAreReadExactly plain → TreesAreReadExactly plain2 → (format : Format) → TreesAreReadExactly (decoder_of format)
+format_exact first second First = first
+format_exact first second Second = second
+
+-- ---- an image that was read
 
 module _ {S : Type 0} (to_int : S → ℤ) (w : Width) (text : List ℕ) (channels : List (Grid S)) (read : IsTextOf w text (map (meanings to_int) channels)) where
   small : (gs : List (Grid S)) → All (λ (g : Grid ℤ). (g.width ≤ 2 ^ 30) × (g.height ≤ 2 ^ 30)) (map (meanings to_int) gs) → All IsSmall gs
@@ -19,17 +84,14 @@ module _ {S : Type 0} (to_int : S → ℤ) (w : Width) (text : List ℕ) (channe
   pub sides_small : All IsSmall channels
   sides_small = small channels read.image.sides
 
-  pub count_small : length channels ≤ 2 ^ 20
-  count_small = omega (arith, read.image.count, length-map channels (meanings to_int))
-
   none_of : (gs : List (Grid S)) → map (meanings to_int) gs ≡ [] → gs ≡ []
   none_of [] e = refl
   none_of (g ∷ gs) e = absurd (omega (arith, ap length e))
 
-  pub encoded_text : (format : Format) (bytes : List ℕ) → (channels ≡ [] → bytes ≡ []) → (channels ≢ [] → IsEncodedIn format (map (meanings to_int) channels) w bytes) → IsEncodedText format w text bytes
-  encoded_text format bytes none some = record {
+  pub encoded_text : (format : Format) (bytes : List ℕ) → TreesAreReadExactly plain → TreesAreReadExactly plain2 → (channels ≡ [] → bytes ≡ []) → (channels ≢ [] → IsEncodedIn format (map (meanings to_int) channels) w bytes) → IsEncodedText format w text bytes
+  encoded_text format bytes first second none some = record {
     image = map (meanings to_int) channels;
     read = read;
     none = λ e. none (none_of channels e);
-    some = λ other. some (λ e. other (ap (map (meanings to_int)) e));
+    some = λ other bit_depth. encoded_picture format (format_exact first second format) (map (meanings to_int) channels) w bytes bit_depth (some (λ e. other (ap (map (meanings to_int)) e)));
   }

@@ -16,7 +16,7 @@ use Rattle.jxlm_transform.specs.declared.param.ModularParams.{ModularParams}
 use Rattle.jxlm_transform.specs.Channels.{Channel, ChannelList, image_channel, image_list}
 use Rattle.jxlm_cut.specs.Passes.{is_of_picture_of, one_picture}
 use Rattle.jxlm_sections.specs.CutPicture.{IsCutPicture}
-use Rattle.jxlm_program.specs.PictureText.{channels_asked}
+use Rattle.jxlm_program.specs.Channels.{channels_asked, plain_channel}
 use Rattle.jxlm_program.specs.Printed.{IsCutPictureError, IsPictureError}
 use Rattle.jxlm_base.specs.ErrorKind.{NoMemory, kind_of}
 use Rattle.jxlm_base.specs.Grid.{Grid}
@@ -44,7 +44,7 @@ valid_params width height channels bit_depth p g b is many deep wide high =
 size_same : (n : ℕ) → div_ceil n (2 ^ 0) ≡ n
 size_same n = let one = div-one n in let rest : n % 1 ≡ 0 = omega arith in rw (one, rest) (omega arith)
 
-each_asked : (width height : ℕ) → image_channel (sized width height (Shifts 0)) ≡ record { width = width; height = height; original_width = width; original_height = height; hshift = pos 0; vshift = pos 0; original_shift = Shifts 0; palette_tables = OfColours }
+pub each_asked : (width height : ℕ) → image_channel (sized width height (Shifts 0)) ≡ plain_channel width height
 each_asked width height =
     ap (λ n. record { width = n; height = div_ceil height (2 ^ 0); original_width = width; original_height = height; hshift = pos 0; vshift = pos 0; original_shift = Shifts 0; palette_tables = OfColours }) (size_same width)
     ∙ ap (λ n. record { width = width; height = n; original_width = width; original_height = height; hshift = pos 0; vshift = pos 0; original_shift = Shifts 0; palette_tables = OfColours }) (size_same height)

@@ -1,4 +1,5 @@
 pub mod Arguments
+pub mod Channels
 pub mod Decimals
 pub mod Encoding
 pub mod Printed

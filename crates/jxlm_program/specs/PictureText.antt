@@ -1,14 +1,13 @@
 -- What the program writes for the bytes of its input.
-use Rattle.std.specs.Prelude.{ℕ, ◌≡◌, ℤ, pos, List, None, replicate}
+use Rattle.std.specs.Prelude.{ℕ, ◌≡◌, ℤ, pos, List, None}
 use Rattle.std.specs.Int.{Width, w16, w32}
 use Rattle.jxlm_base.specs.Grid.{Grid}
 use Rattle.jxlm_base.specs.Decoding.{Meaning}
 use Rattle.jxlm_transform.specs.Channels.{ChannelList}
-use Rattle.jxlm_transform.specs.declared.param.ChannelShift.TheVariants.{Shifts}
-use Rattle.jxlm_transform.specs.declared.param.PaletteTables.TheVariants.{OfColours}
 use Rattle.jxl_modular.specs.Picture.{IsPicture}
 use Rattle.jxlm_sections.specs.CutPicture.{IsCutPicture}
 use Rattle.jxlm_text.specs.Printing.{image_text}
+use Rattle.jxlm_program.specs.Channels.{channels_asked}
 use Rattle.jxlm_program.specs.Encoding.{IsEncodedText, decoder_of}
 use Rattle.jxlm_program.specs.declared.arguments.Command.{Command}
 use Rattle.jxlm_program.specs.declared.arguments.Command.TheVariants.{Decode, Sections, Encode}
@@ -19,13 +18,6 @@ use Rattle.jxlm_program.specs.declared.arguments.Samples.TheVariants.{I16, I32}
 abbrev pub width_of : Samples → Width
 width_of I16 = w16
 width_of I32 = w32
-
--- n channels of one size and of shift 0
-abbrev pub channels_asked : ℕ → ℕ → ℕ → ChannelList
-channels_asked width height n = record {
-  channels = replicate n (record { width = width; height = height; original_width = width; original_height = height; hshift = pos 0; vshift = pos 0; original_shift = Shifts 0; palette_tables = OfColours });
-  nb_meta = 0;
-}
 
 -- the text is that of the picture at the start of the bytes, in the format of a decoder, at stream index 0
 pub record IsPictureText {V : Type 0} (d : Meaning V) (w : Width) (width height channels : ℕ) (bytes : List ℕ) (bit_depth : ℕ) (text : List ℕ) : Type 0 where

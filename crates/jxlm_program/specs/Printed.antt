@@ -7,8 +7,9 @@ use Rattle.jxlm_base.specs.declared.error.Error.{Error}
 use Rattle.jxlm_transform.specs.Channels.{ChannelList}
 use Rattle.jxl_modular.specs.Picture.{PictureFails}
 use Rattle.jxlm_sections.specs.CutErrors.{CutPictureFails}
+use Rattle.jxlm_program.specs.Channels.{channels_asked}
 use Rattle.jxlm_program.specs.Encoding.{decoder_of}
-use Rattle.jxlm_program.specs.PictureText.{Prints, channels_asked, width_of}
+use Rattle.jxlm_program.specs.PictureText.{Prints, width_of}
 use Rattle.jxlm_program.specs.declared.arguments.Command.{Command}
 use Rattle.jxlm_program.specs.declared.arguments.Command.TheVariants.{Decode, Sections, Encode}
 use Rattle.jxlm_program.specs.declared.refusal.Refusal.{Refusal}

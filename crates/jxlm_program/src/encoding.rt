@@ -10,6 +10,9 @@ use crate::refusal::Refusal;
 use jxlm_base::grid::AlignedGrid;
 use jxlm_base::sample::Sample;
 use jxlm_encode::encode::{EncodeError, EncodeNode, encode, encode2};
+use jxlm_ma::ma::each_tree_is_read_exactly;
+use jxlm_plain::plain::PlainDecoder;
+use jxlm_plain::plain2::PlainDecoder2;
 use jxlm_text::reading::read_image;
 use jxlm_tree::predictor::Predictor;
 use std::alloc::Global;
@@ -38,7 +41,7 @@ pub fn encode_image<S: Sample>(
     }
 }
 
-/// Encodes the image whose text this is, as `encode_image` does.
+/// Encodes the image whose text this is, as `encode_image` does: what is written is a picture of it, at any bit depth.
 pub(crate) fn encode_text<S: Sample>(
     alloc: Global,
     text: &[u8],
@@ -49,5 +52,7 @@ pub(crate) fn encode_text<S: Sample>(
         (λ e. EncodingFails S.width text.now e) }
 {
     let channels = read_image::<S>(alloc, text)?;
+    each_tree_is_read_exactly::<PlainDecoder>();
+    each_tree_is_read_exactly::<PlainDecoder2>();
     Ok(encode_image(alloc, &channels, format)?)
 }

@@ -3,7 +3,8 @@ ghost use Rattle.std.specs.Prelude.{◌≡◌, ◌≤◌, ◌<◌, ◌^◌, pos,
 ghost use Rattle.jxlm_transform.specs.Params.{IsGroupDim, params_of, sized};
 ghost use Rattle.jxlm_transform.specs.declared.param.ChannelShift.TheVariants.{Shifts};
 ghost use Rattle.jxlm_program.specs.Arguments.{ArePossible};
-ghost use Rattle.jxlm_program.specs.PictureText.{IsCutPictureText, IsPictureText, channels_asked};
+ghost use Rattle.jxlm_program.specs.Channels.{channels_asked};
+ghost use Rattle.jxlm_program.specs.PictureText.{IsCutPictureText, IsPictureText};
 ghost use Rattle.jxlm_program.specs.Printed.{IsCutPictureError, IsPictureError};
 
 use jxl_modular::decode_picture;

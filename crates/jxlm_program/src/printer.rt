@@ -2,7 +2,8 @@
 ghost use Rattle.std.specs.Prelude.{◌<◌, pos, MatchResult};
 ghost use Rattle.jxlm_transform.specs.Params.{IsGroupDim};
 ghost use Rattle.jxlm_program.specs.Arguments.{ArePossible};
-ghost use Rattle.jxlm_program.specs.PictureText.{IsCutPictureText, IsPictureText, channels_asked, width_of};
+ghost use Rattle.jxlm_program.specs.Channels.{channels_asked};
+ghost use Rattle.jxlm_program.specs.PictureText.{IsCutPictureText, IsPictureText, width_of};
 ghost use Rattle.jxlm_program.specs.Printed.{IsCutPictureError, IsOfImage, IsPictureError, PrintGives};
 
 use crate::arguments::{Command, Format, Samples};

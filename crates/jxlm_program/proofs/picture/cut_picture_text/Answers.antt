@@ -4,7 +4,7 @@ use Rattle.jxlm_base.specs.Grid.{meanings}
 use Rattle.jxlm_transform.specs.Channels.{image_list}
 use Rattle.jxl_modular.specs.Image.{image_grids}
 use Rattle.jxlm_text.specs.Printing.{image_text}
-use Rattle.jxlm_program.specs.PictureText.{channels_asked}
+use Rattle.jxlm_program.specs.Channels.{channels_asked}
 use Rattle.jxlm_program.proofs.Pictures.{alike_asked, asked, cut_error, cut_picture}
 use Rattle.jxlm_program.proofs.picture.cut_picture_text.Goals as goal
 
