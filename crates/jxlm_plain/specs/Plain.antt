@@ -26,6 +26,10 @@ unfoldable pub number_at : List ℕ → ℕ → ℕ → Result (Found ℕ) Decod
 number_at bytes p n =
     if nat_lt (8 * length bytes) (p + n) then Err UnexpectedEof else Ok (record { value = bits_at bytes p n; position = p + n })
 
+-- f of what is found, with the position after it
+abbrev pub map_found : {X Y : Type 0} → (X → Y) → Result (Found X) DecoderError → Result (Found Y) DecoderError
+map_found f read = read >>= λ x. Ok (record { value = f x.value; position = x.position })
+
 -- the code of a cluster
 abbrev pub code_of : List Code → ℕ → Code
 code_of codes c = slice_index_or codes c (Fixed 0)
@@ -39,9 +43,8 @@ mode_from (suc runs) (suc seal) = Err (Invalid 3)
 
 -- tokens may come in runs
 abbrev pub is_runs : Mode → Bool
-is_runs Unsealed = false
-is_runs (Sealed sum) = false
 is_runs (Runs last left) = true
+is_runs mode = false
 
 -- the mode at a bit position
 unfoldable pub mode_at : List ℕ → ℕ → Result (Found Mode) DecoderError
@@ -72,9 +75,7 @@ code_after bytes runs kind =
     if runs && (kind.value == 1) then Err (Invalid 3) else (do
       width ← number_at bytes kind.position 6
       if nat_lt 32 width.value then Err (Invalid 2) else
-          if kind.value == 1 then (do
-            token ← number_at bytes width.position width.value
-            Ok (record { value = Constant token.value; position = token.position }))
+          if kind.value == 1 then map_found Constant (number_at bytes width.position width.value)
           else Ok (record { value = Fixed width.value; position = width.position }))
 
 -- a code: its kind, of one bit, and what follows it
@@ -115,16 +116,12 @@ plain2_parse bytes p contexts = do
 -- runs begin anew, and a seal is read
 abbrev pub begin_mode : Mode → List ℕ → ℕ → Result (Found Mode) DecoderError
 begin_mode Unsealed bytes p = Ok (record { value = Unsealed; position = p })
-begin_mode (Sealed sum) bytes p = do
-  seal ← number_at bytes p 8
-  Ok (record { value = Sealed seal.value; position = seal.position })
+begin_mode (Sealed sum) bytes p = map_found Sealed (number_at bytes p 8)
 begin_mode (Runs last left) bytes p = Ok (record { value = Runs 0 0; position = p })
 
 -- the decoder at the beginning of its tokens
 unfoldable pub plain_begin : PlainState → List ℕ → ℕ → Result (Found PlainState) DecoderError
-plain_begin s bytes p = do
-  mode ← begin_mode s.mode bytes p
-  Ok (record { value = record s { mode = mode.value }; position = mode.position })
+plain_begin s bytes p = map_found (λ mode. record s { mode = mode }) (begin_mode s.mode bytes p)
 
 -- a token, and the mode and the position after it
 pub record Read : Type 0 where
@@ -144,12 +141,9 @@ zeros_at bytes p = trailing_zeros w64 (bits_at bytes p 64)
 
 -- The zeros of a gamma token: how many there are, and the position after the one bit that ends them. A 33rd is Invalid(7).
 unfoldable pub zeros_end : List ℕ → ℕ → Result (Found ℕ) DecoderError
-zeros_end bytes p = if nat_lt 32 (zeros_at bytes p) then (do
-  all ← number_at bytes p 33
-  Err (Invalid 7))
-    else (do
-      all ← number_at bytes p (zeros_at bytes p + 1)
-      Ok (record { value = zeros_at bytes p; position = all.position }))
+zeros_end bytes p =
+    if nat_lt 32 (zeros_at bytes p) then number_at bytes p 33 >>= (λ all. Err (Invalid 7)) else
+        map_found (λ all. zeros_at bytes p) (number_at bytes p (zeros_at bytes p + 1))
 
 -- the n bits after the one bit of a gamma token; of 32 each is 0, and the first that is not is Invalid(7)
 unfoldable pub low_bits : List ℕ → ℕ → ℕ → Result (Found ℕ) DecoderError
@@ -159,8 +153,7 @@ low_bits bytes p n = if (n == 32) && nat_lt 0 (bits_at bytes p n) then Err (Inva
 unfoldable pub gamma_at : List ℕ → ℕ → Result (Found ℕ) DecoderError
 gamma_at bytes p = do
   zeros ← zeros_end bytes p
-  low ← low_bits bytes zeros.position zeros.value
-  Ok (record { value = 2 ^ zeros.value + low.value - 1; position = low.position })
+  map_found (λ low. 2 ^ zeros.value + low - 1) (low_bits bytes zeros.position zeros.value)
 
 -- the number that a token of this code is where it is read, whatever the mode; a constant takes no bits
 abbrev pub own_at : Code → List ℕ → ℕ → Result (Found ℕ) DecoderError
@@ -172,12 +165,8 @@ own_at Gamma bytes p = gamma_at bytes p
 unfoldable pub run_at : Code → List ℕ → ℕ → Result (Found RleToken) DecoderError
 run_at code bytes p = do
   flag ← number_at bytes p 1
-  if flag.value == 0 then (do
-    token ← own_at code bytes flag.position
-    Ok (record { value = Value token.value; position = token.position }))
-      else (do
-        more ← number_at bytes flag.position 8
-        Ok (record { value = Repeat (1 + more.value); position = more.position }))
+  if flag.value == 0 then map_found Value (own_at code bytes flag.position) else
+      map_found (λ more. Repeat (1 + more)) (number_at bytes flag.position 8)
 
 -- the first token of a run, where the token before is last
 abbrev pub first_of_run : ℕ → RleToken → ℕ → Read
@@ -186,18 +175,17 @@ first_of_run last (Repeat n) q = record { token = last; mode = Runs last (n - 1)
 
 -- A token of this code in this mode. A constant takes no bits, and counts for no seal.
 unfoldable pub token_at : Mode → Code → List ℕ → ℕ → Result Read DecoderError
-token_at Unsealed (Constant token) bytes p = Ok (record { token = token; mode = Unsealed; position = p })
-token_at (Sealed sum) (Constant token) bytes p = Ok (record { token = token; mode = Sealed sum; position = p })
-token_at Unsealed code bytes p = do
-  number ← own_at code bytes p
-  Ok (record { token = number.value; mode = Unsealed; position = number.position })
-token_at (Sealed sum) code bytes p = do
-  number ← own_at code bytes p
-  Ok (record { token = number.value; mode = Sealed ((sum + 256 - number.value % 256) % 256); position = number.position })
 token_at (Runs last (suc left)) code bytes p = Ok (record { token = last; mode = Runs last left; position = p })
 token_at (Runs last zero) code bytes p = do
   run ← run_at code bytes p
   Ok (first_of_run last run.value run.position)
+token_at mode (Constant token) bytes p = Ok (record { token = token; mode = mode; position = p })
+token_at (Sealed sum) code bytes p = do
+  number ← own_at code bytes p
+  Ok (record { token = number.value; mode = Sealed ((sum + 256 - number.value % 256) % 256); position = number.position })
+token_at mode code bytes p = do
+  number ← own_at code bytes p
+  Ok (record { token = number.value; mode = mode; position = number.position })
 
 -- a token of a cluster; the multiplier is not looked at
 unfoldable pub plain_read : PlainState → List ℕ → ℕ → ℕ → ℕ → Result (Taken ℕ PlainState) DecoderError
@@ -207,39 +195,29 @@ plain_read s bytes p c m = do
 
 -- a seal of which something is left is Invalid(4)
 abbrev pub finalize_mode : Mode → Result (Unit {0}) DecoderError
-finalize_mode Unsealed = Ok tt
 finalize_mode (Sealed sum) = if sum == 0 then Ok tt else Err (Invalid 4)
-finalize_mode (Runs last left) = Ok tt
-
--- the token of a constant
-abbrev pub constant_of : Code → Option ℕ
-constant_of (Constant token) = Some token
-constant_of (Fixed width) = None
-constant_of Gamma = None
+finalize_mode mode = Ok tt
 
 -- the only token of a constant cluster; there is none under runs
 abbrev pub single_of : Mode → Code → Option ℕ
-single_of Unsealed code = constant_of code
-single_of (Sealed sum) code = constant_of code
 single_of (Runs last left) code = None
+single_of mode (Constant token) = Some token
+single_of mode code = None
 
 -- how many tokens an open run still owes
 abbrev pub owed_in : Mode → ℕ
-owed_in Unsealed = 0
-owed_in (Sealed sum) = 0
 owed_in (Runs last left) = left
+owed_in mode = 0
 
 -- the last token, or 0
 abbrev pub last_in : Mode → ℕ
-last_in Unsealed = 0
-last_in (Sealed sum) = 0
 last_in (Runs last left) = last
+last_in mode = 0
 
 -- the mode after an owed token
 abbrev pub next_mode : Mode → Mode
-next_mode Unsealed = Unsealed
-next_mode (Sealed sum) = Sealed sum
 next_mode (Runs last left) = Runs last (left - 1)
+next_mode mode = mode
 
 -- the plain decoder
 abbrev pub plain : Meaning PlainState
