@@ -4,7 +4,7 @@ use Rattle.std.specs.Int.{w32, int_wrap}
 use Rattle.std.specs.Int.Count.{count_leading_zeros}
 use Rattle.std.proofs.Common.{arith, inl, inr, sym}
 use Rattle.jxlm_base.specs.Grid.{Grid, grid}
-use Rattle.jxlm_plain.specs.Plain.{PlainState, plain, number_at, mode_at, cluster_at, code_after, code_at, plain_parse, plain_begin, plain_read, token_at, run_at}
+use Rattle.jxlm_plain.specs.Plain.{PlainState, plain, number_at, mode_at, cluster_at, code_after, code_at, fields_at, plain_begin, plain_read, token_at, run_at}
 use Rattle.jxlm_plain.specs.declared.plain.Code.TheVariants.{Constant, Fixed}
 use Rattle.jxlm_plain.specs.declared.plain.Mode.TheVariants.{Unsealed, Sealed, Runs}
 use Rattle.jxlm_plain.specs.declared.plain.Mode.{Mode}
@@ -58,7 +58,7 @@ row_limit : node_limit (image_list square).channels ≡ 1028
 row_limit = refl
 
 row_listing : listing_at plain row_bytes 1028 4 ≡ Ok (record { value = levels (one_leaf gradient (three_bits Unsealed)).tree; state = three_bits Unsealed; position = 68 })
-unfolding listing_at drafts_at nodes_at node_at leaf_at predictor_at multiplier_at plain_parse plain_begin plain_read number_at mode_at cluster_at code_at code_after token_at
+unfolding listing_at drafts_at nodes_at node_at leaf_at predictor_at multiplier_at fields_at plain_begin plain_read number_at mode_at cluster_at code_at code_after token_at
 row_listing = refl
 
 row_tree : IsTreeAt plain row_bytes 1028 2048 4 (one_leaf gradient (three_bits Unsealed)) 68
@@ -169,7 +169,7 @@ abbrev constant_decoder : PlainState
 constant_decoder = record { mode = Unsealed; codes = Constant 3 ∷ []; clusters = 0 ∷ [] }
 
 constant_listing : listing_at plain constant_bytes 1028 4 ≡ Ok (record { value = levels (one_leaf doubled constant_decoder).tree; state = constant_decoder; position = 79 })
-unfolding listing_at drafts_at nodes_at node_at leaf_at predictor_at multiplier_at plain_parse plain_begin plain_read number_at mode_at cluster_at code_at code_after token_at
+unfolding listing_at drafts_at nodes_at node_at leaf_at predictor_at multiplier_at fields_at plain_begin plain_read number_at mode_at cluster_at code_at code_after token_at
 constant_listing = refl
 
 constant_samples : IsCodedWhole plain w32 (part_of doubled) constant_bytes constant_decoder 79 (square_of (pos 1 ∷ pos 1 ∷ pos 1 ∷ pos 1 ∷ [])) 79

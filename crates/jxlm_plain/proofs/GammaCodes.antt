@@ -8,7 +8,7 @@ use Rattle.jxlm_base.specs.Bits.{bit_at, bits_at}
 use Rattle.jxlm_base.specs.Decoding.{Found, Taken}
 use Rattle.jxlm_base.specs.declared.decoder.DecoderError.{DecoderError}
 use Rattle.jxlm_base.proofs.BitsLemmas.{bit_at-bound, bits_at-bound, bits_at-join}
-use Rattle.jxlm_plain.specs.Plain.{PlainState, Read, zeros_end, low_bits, gamma_at, code_of, is_runs, token_at, plain_read}
+use Rattle.jxlm_plain.specs.Plain.{PlainState, zeros_end, low_bits, gamma_at, code_of, is_runs, token_at, plain_read}
 use Rattle.jxlm_plain.specs.GammaCodes.{HasZeros, gamma_code, GammaStands, EachHasOneCode, GammaTokensAreCodes}
 use Rattle.jxlm_plain.specs.Inner.PlainLaws.{bind_ok, ok_same}
 use Rattle.jxlm_plain.specs.Inner.GammaReads.{few_at}
@@ -175,14 +175,14 @@ there s bytes p c m t q (Runs last left) is runs e h = cc
 found_is : (f : Found ℕ) (t q : ℕ) → f.value ≡ t → f.position ≡ q → f ≡ record { value = t; position = q }
 found_is f t q h k = rw (← h, ← k) refl
 
-read_by : (mode : Mode) → is_runs mode ≡ false → (bytes : List ℕ) (p : ℕ) (x : Read) (t q : ℕ) → token_at mode Gamma bytes p ≡ Ok x → x.token ≡ t → x.position ≡ q → gamma_at bytes p ≡ Ok (record { value = t; position = q })
+read_by : (mode : Mode) → is_runs mode ≡ false → (bytes : List ℕ) (p : ℕ) (x : Taken ℕ Mode) (t q : ℕ) → token_at mode Gamma bytes p ≡ Ok x → x.value ≡ t → x.position ≡ q → gamma_at bytes p ≡ Ok (record { value = t; position = q })
 unfolding token_at
 read_by Unsealed runs bytes p x t q h is_t is_q =
     let b = bind_ok (gamma_at bytes p) _ x h in
-    b.1 ∙ ap (λ (f : Found ℕ). Ok f) (found_is b.0 t q (sym (ap (λ (r : Read). r.token) (ok_same _ _ b.2)) ∙ is_t) (sym (ap (λ (r : Read). r.position) (ok_same _ _ b.2)) ∙ is_q))
+    b.1 ∙ ap (λ (f : Found ℕ). Ok f) (found_is b.0 t q (sym (ap (λ (r : Taken ℕ Mode). r.value) (ok_same _ _ b.2)) ∙ is_t) (sym (ap (λ (r : Taken ℕ Mode). r.position) (ok_same _ _ b.2)) ∙ is_q))
 read_by (Sealed sum) runs bytes p x t q h is_t is_q =
     let b = bind_ok (gamma_at bytes p) _ x h in
-    b.1 ∙ ap (λ (f : Found ℕ). Ok f) (found_is b.0 t q (sym (ap (λ (r : Read). r.token) (ok_same _ _ b.2)) ∙ is_t) (sym (ap (λ (r : Read). r.position) (ok_same _ _ b.2)) ∙ is_q))
+    b.1 ∙ ap (λ (f : Found ℕ). Ok f) (found_is b.0 t q (sym (ap (λ (r : Taken ℕ Mode). r.value) (ok_same _ _ b.2)) ∙ is_t) (sym (ap (λ (r : Taken ℕ Mode). r.position) (ok_same _ _ b.2)) ∙ is_q))
 read_by (Runs last left) runs bytes p x t q h is_t is_q = cc
 
 back : (s : PlainState) (bytes : List ℕ) (p c m t q : ℕ) (mode : Mode) (after : PlainState) → s.mode ≡ mode → is_runs mode ≡ false → code_of s.codes c ≡ Gamma → plain_read s bytes p c m ≡ taken after t q →

@@ -9,7 +9,7 @@ use Rattle.jxlm_plain.specs.declared.plain.Code.TheVariants.{Fixed}
 use Rattle.jxlm_plain.specs.declared.plain.Mode.{Mode}
 use Rattle.jxlm_plain.specs.declared.plain.Mode.TheVariants.{Runs}
 use Rattle.jxlm_base.specs.Decoding.{Keeps, BeginGives, ReadGives, RunGives, iterate}
-use Rattle.jxlm_plain.specs.Inner.PlainReads.{ReadsToken, ReadsRun}
+use Rattle.jxlm_plain.specs.Inner.PlainReads.{ReadsRun}
 use Rattle.jxlm_plain.specs.Plain.{PlainState, code_of, begin_mode, token_at, plain_begin, plain_read, plain, plain_next, last_in}
 use Rattle.jxlm_plain.specs.Inner.PlainLaws.{plain_begin_keeps}
 
@@ -29,7 +29,7 @@ begin_kept mode t codes clusters (Ok u) bytes p q h k =
 begin_kept mode t codes clusters (Err e) bytes p q h k = rw k (record { clusters = refl; single = λ c within. refl; rle = refl })
 
 pub read_given : (mode t : Mode) (codes : List Code) (clusters : List ℕ) (code : Code) (r : Result ℕ DecoderError) (bytes : List ℕ) (p q c m : ℕ) → code ≡ code_of codes c →
-    ReadsToken r mode t p q (token_at mode code bytes p) →
+    ReadGives r mode t p q (token_at mode code bytes p) →
     ReadGives r (state mode codes clusters) (state t codes clusters) p q (plain_read (state mode codes clusters) bytes p c m)
 unfolding plain_read
 read_given mode t codes clusters code (Ok v) bytes p q c m e h = rw (← e, h) refl

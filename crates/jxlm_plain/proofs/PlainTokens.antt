@@ -4,7 +4,7 @@ use Rattle.std.proofs.lemmas.Bool.Decides.{nat_tests}
 use Rattle.jxlm_base.specs.Bits.{bits_at}
 use Rattle.jxlm_base.specs.Decoding.{Found, Taken, Asked, reads}
 use Rattle.jxlm_base.specs.ErrorKind.{◌>>=◌}
-use Rattle.jxlm_plain.specs.Plain.{PlainState, Read, number_at, gamma_at, code_of, is_runs, owed_in, last_in, begin_mode, token_at, run_at, plain_begin, plain_read, plain}
+use Rattle.jxlm_plain.specs.Plain.{PlainState, number_at, gamma_at, code_of, is_runs, owed_in, last_in, begin_mode, token_at, run_at, plain_begin, plain_read, plain}
 use Rattle.jxlm_plain.specs.Inner.PlainLaws.{bind_ok, ok_same}
 use Rattle.jxlm_plain.specs.PlainTokens.{FixedTokensAreNumbers, SealsAreSums, RunsRepeat, is_sealed, counted, fixed_sum}
 use Rattle.jxlm_base.specs.declared.decoder.DecoderError.{DecoderError}
@@ -51,23 +51,23 @@ match_then P R Q (Ok x) f h k = k x h
 match_then P R Q (Err e) f h k = h
 
 fixed_token : (mode : Mode) (bytes : List ℕ) (p b : ℕ) → is_runs mode ≡ false →
-    MatchResult (token_at mode (Fixed b) bytes p) (λ x. There bytes p b x.token x.position) (NotThere bytes p b)
+    MatchResult (token_at mode (Fixed b) bytes p) (λ x. There bytes p b x.value x.position) (NotThere bytes p b)
 unfolding token_at
-fixed_token Unsealed bytes p b h = match_then (λ x. There bytes p b x.value x.position) (λ x. There bytes p b x.token x.position) (NotThere bytes p b) (number_at bytes p b) _ (number_is bytes p b) (λ x k. k)
-fixed_token (Sealed sum) bytes p b h = match_then (λ x. There bytes p b x.value x.position) (λ x. There bytes p b x.token x.position) (NotThere bytes p b) (number_at bytes p b) _ (number_is bytes p b) (λ x k. k)
+fixed_token Unsealed bytes p b h = match_then (λ x. There bytes p b x.value x.position) (λ x. There bytes p b x.value x.position) (NotThere bytes p b) (number_at bytes p b) _ (number_is bytes p b) (λ x k. k)
+fixed_token (Sealed sum) bytes p b h = match_then (λ x. There bytes p b x.value x.position) (λ x. There bytes p b x.value x.position) (NotThere bytes p b) (number_at bytes p b) _ (number_is bytes p b) (λ x k. k)
 fixed_token (Runs last left) bytes p b h = cc
 
 pub fixed_tokens_are_numbers : FixedTokensAreNumbers
 unfolding plain_read
 fixed_tokens_are_numbers s bytes p c m b h e =
-    match_then (λ x. There bytes p b x.token x.position) (λ x. There bytes p b x.value x.position) (NotThere bytes p b) (token_at s.mode (code_of s.codes c) bytes p) _ (rw e (fixed_token s.mode bytes p b h)) (λ x k. k)
+    match_then (λ x. There bytes p b x.value x.position) (λ x. There bytes p b x.value x.position) (NotThere bytes p b) (token_at s.mode (code_of s.codes c) bytes p) _ (rw e (fixed_token s.mode bytes p b h)) (λ x k. k)
 
 -- what was taken from a sum, and what is left of it, are the sum
 taken : (v t : ℕ) → v < 256 → ((v + 256 - t % 256) % 256 + t) % 256 ≡ v
 taken v t h = omega arith
 
-token_counts : (v : ℕ) (code : Code) (bytes : List ℕ) (p : ℕ) (x : Read) → v < 256 → token_at (Sealed v) code bytes p ≡ Ok x →
-    (w : ℕ) × (x.mode ≡ Sealed w) × (w < 256) × ((w + counted code x.token) % 256 ≡ v)
+token_counts : (v : ℕ) (code : Code) (bytes : List ℕ) (p : ℕ) (x : Taken ℕ Mode) → v < 256 → token_at (Sealed v) code bytes p ≡ Ok x →
+    (w : ℕ) × (x.state ≡ Sealed w) × (w < 256) × ((w + counted code x.value) % 256 ≡ v)
 unfolding token_at
 token_counts v (Constant token) bytes p x lt h = rw (ok_same _ _ h) (v, refl, lt, omega arith)
 token_counts v (Fixed width) bytes p x lt h =
@@ -131,7 +131,7 @@ owed_repeat (asked ∷ others) last zero codes clusters bytes p h = absurd (omeg
 owed_repeat (asked ∷ others) last (suc n) codes clusters bytes p h = rw (owed_repeat others last n codes clusters bytes p (omega arith)) refl
 
 run_begins : (last : ℕ) (code : Code) (bytes : List ℕ) (p : ℕ) → p + 9 ≤ 8 * length bytes → bits_at bytes p 1 ≡ 1 →
-    token_at (Runs last 0) code bytes p ≡ Ok (record { token = last; mode = Runs last (bits_at bytes (p + 1) 8); position = p + 9 })
+    token_at (Runs last 0) code bytes p ≡ Ok (record { value = last; state = Runs last (bits_at bytes (p + 1) 8); position = p + 9 })
 unfolding token_at run_at
 run_begins last code bytes p h one =
     let a = number_there bytes p 1 (omega arith) in

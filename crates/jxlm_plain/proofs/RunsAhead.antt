@@ -34,13 +34,13 @@ module _ (bytes : List ℕ) (width p word : ℕ) (room : p / 8 + 8 ≤ length by
 
   -- so the next token is the last one once more, or is there
   pub next_of_run : (last left : ℕ) → left ≡ 0 → word % 2 ≡ 1 →
-      token_at (Runs last left) (Fixed width) bytes p ≡ Ok (record { token = last; mode = Runs last (word / 2 % 256); position = p + 9 })
+      token_at (Runs last left) (Fixed width) bytes p ≡ Ok (record { value = last; state = Runs last (word / 2 % 256); position = p + 9 })
   unfolding token_at
   next_of_run last left none one =
       let owed : 1 + word / 2 % 256 - 1 ≡ word / 2 % 256 = omega arith in
       rw (none, run_ahead one, owed) refl
 
   pub next_token : width ≤ 32 → (last left : ℕ) → left ≡ 0 → word % 2 ≡ 0 →
-      token_at (Runs last left) (Fixed width) bytes p ≡ Ok (record { token = word / 2 % 2 ^ width; mode = Runs (word / 2 % 2 ^ width) 0; position = p + 1 + width })
+      token_at (Runs last left) (Fixed width) bytes p ≡ Ok (record { value = word / 2 % 2 ^ width; state = Runs (word / 2 % 2 ^ width) 0; position = p + 1 + width })
   unfolding token_at
   next_token narrow last left none zero_bit = rw (none, token_there narrow zero_bit) refl

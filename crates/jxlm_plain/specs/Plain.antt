@@ -1,5 +1,4 @@
--- The plain decoder, field by field: what parse, begin, a read and finalize give, with each error at the field that
--- causes it.
+-- The plain decoder, field by field: what parse, begin, read and finalize give, each error at the field that causes it.
 use Rattle.std.specs.Prelude.{ℕ, zero, suc, ◌+◌, ◌-◌, ◌*◌, ◌%◌, ◌^◌, List, [], ◌∷◌, length, Bool, true, false, if◌then◌else◌, nat_lt, ◌==◌, ◌&&◌, Option, Some, None, Result, Ok, Err, slice_index_or}
 use Rattle.std.specs.Int.{w64, trailing_zeros}
 use Rattle.jxlm_base.specs.Bits.{bits_at}
@@ -14,8 +13,7 @@ use Rattle.jxlm_plain.specs.declared.plain.Code.TheVariants.{Constant, Fixed, Ga
 use Rattle.jxlm_plain.specs.declared.plain.Mode.{Mode}
 use Rattle.jxlm_plain.specs.declared.plain.Mode.TheVariants.{Unsealed, Sealed, Runs}
 
--- What the results of a plain decoder's calls depend on: the mode with its state, the code of each cluster, the
--- cluster of each context.
+-- all that a plain decoder's calls go by: the mode and its state, the code of each cluster, the cluster of each context
 pub record PlainState : Type 0 where
   pub mode : Mode
   pub codes : List Code
@@ -26,30 +24,26 @@ unfoldable pub number_at : List ℕ → ℕ → ℕ → Result (Found ℕ) Decod
 number_at bytes p n =
     if nat_lt (8 * length bytes) (p + n) then Err UnexpectedEof else Ok (record { value = bits_at bytes p n; position = p + n })
 
+-- f of what is found, and the position after it; an error stays
+abbrev pub map_found : {X Y : Type 0} → (X → Y) → Result (Found X) DecoderError → Result (Found Y) DecoderError
+map_found f read = read >>= λ x. Ok (record { value = f x.value; position = x.position })
+
 -- the code of a cluster
 abbrev pub code_of : List Code → ℕ → Code
 code_of codes c = slice_index_or codes c (Fixed 0)
 
--- The mode, from the two bits for runs and for a seal. Both are Invalid(3).
-abbrev pub mode_from : ℕ → ℕ → Result Mode DecoderError
-mode_from zero zero = Ok Unsealed
-mode_from zero (suc seal) = Ok (Sealed 0)
-mode_from (suc runs) zero = Ok (Runs 0 0)
-mode_from (suc runs) (suc seal) = Err (Invalid 3)
-
 -- tokens may come in runs
 abbrev pub is_runs : Mode → Bool
-is_runs Unsealed = false
-is_runs (Sealed sum) = false
 is_runs (Runs last left) = true
+is_runs mode = false
 
--- the mode at a bit position
+-- the mode, of a bit for runs and a bit for a seal; both are Invalid(3)
 unfoldable pub mode_at : List ℕ → ℕ → Result (Found Mode) DecoderError
 mode_at bytes p = do
   runs ← number_at bytes p 1
   seal ← number_at bytes runs.position 1
-  mode ← mode_from runs.value seal.value
-  Ok (record { value = mode; position = seal.position })
+  if runs.value == 0 then Ok (record { value = if seal.value == 0 then Unsealed else Sealed 0; position = seal.position })
+      else if seal.value == 0 then Ok (record { value = Runs 0 0; position = seal.position }) else Err (Invalid 3)
 
 -- n items, one after another
 abbrev pub items_at : {X : Type 0} → (ℕ → Result (Found X) DecoderError) → ℕ → ℕ → Result (Found (List X)) DecoderError
@@ -65,32 +59,28 @@ cluster_at bytes k p = do
   cluster ← number_at bytes p 4
   if nat_lt cluster.value k then Ok cluster else Err (Invalid 1)
 
--- What follows the kind of a code: its width, and the token of a constant, which is kind 1; kind 0 is a fixed code. A
--- constant under runs is Invalid(3) at its kind, a width above 32 is Invalid(2).
+-- a code from its kind on: 0 fixed, 1 constant, but not under runs; then a width of at most 32, and a constant's token
 unfoldable pub code_after : List ℕ → Bool → Found ℕ → Result (Found Code) DecoderError
 code_after bytes runs kind =
     if runs && (kind.value == 1) then Err (Invalid 3) else (do
       width ← number_at bytes kind.position 6
       if nat_lt 32 width.value then Err (Invalid 2) else
-          if kind.value == 1 then (do
-            token ← number_at bytes width.position width.value
-            Ok (record { value = Constant token.value; position = token.position }))
+          if kind.value == 1 then map_found Constant (number_at bytes width.position width.value)
           else Ok (record { value = Fixed width.value; position = width.position }))
 
 -- a code: its kind, of one bit, and what follows it
 unfoldable pub code_at : List ℕ → Bool → ℕ → Result (Found Code) DecoderError
 code_at bytes runs p = number_at bytes p 1 >>= code_after bytes runs
 
--- A code of the second format: a kind of two bits, where 3 is Invalid(6) and 2 a gamma code, which has no further field;
--- kinds 0 and 1 go on as in the first format.
+-- a code of the second format: a kind of two bits; 3 is Invalid(6), 2 a gamma code, 0 and 1 go on as in the first
 unfoldable pub code2_at : List ℕ → Bool → ℕ → Result (Found Code) DecoderError
 code2_at bytes runs p = do
   kind ← number_at bytes p 2
   if kind.value == 3 then Err (Invalid 6) else
       if kind.value == 2 then Ok (record { value = Gamma; position = kind.position }) else code_after bytes runs kind
 
--- mode, count of clusters, the cluster of each context, the code of each cluster, where codes stand so
-abbrev pub fields_at : (List ℕ → Bool → ℕ → Result (Found Code) DecoderError) → List ℕ → ℕ → ℕ → Result (Found PlainState) DecoderError
+-- a decoder, by how its codes stand: mode, count of clusters, the cluster of each context, the code of each cluster
+unfoldable pub fields_at : (List ℕ → Bool → ℕ → Result (Found Code) DecoderError) → List ℕ → ℕ → ℕ → Result (Found PlainState) DecoderError
 fields_at code bytes p contexts = do
   mode ← mode_at bytes p
   count ← number_at bytes mode.position 4
@@ -98,39 +88,21 @@ fields_at code bytes p contexts = do
   codes ← items_at (code bytes (is_runs mode.value)) (1 + count.value) clusters.position
   Ok (record { value = record { mode = mode.value; codes = codes.value; clusters = clusters.value }; position = codes.position })
 
--- the decoder at a bit position
-unfoldable pub plain_parse : List ℕ → ℕ → ℕ → Result (Found PlainState) DecoderError
-plain_parse bytes p contexts = fields_at code_at bytes p contexts
-
--- the same with codes of the second format
-unfoldable pub fields2_at : List ℕ → ℕ → ℕ → Result (Found PlainState) DecoderError
-fields2_at bytes p contexts = fields_at code2_at bytes p contexts
-
 -- the decoder of the second format at a bit position: the version, which is Invalid(5) unless it is 2, and those fields
 unfoldable pub plain2_parse : List ℕ → ℕ → ℕ → Result (Found PlainState) DecoderError
 plain2_parse bytes p contexts = do
   version ← number_at bytes p 4
-  if version.value == 2 then fields2_at bytes version.position contexts else Err (Invalid 5)
+  if version.value == 2 then fields_at code2_at bytes version.position contexts else Err (Invalid 5)
 
 -- runs begin anew, and a seal is read
 abbrev pub begin_mode : Mode → List ℕ → ℕ → Result (Found Mode) DecoderError
 begin_mode Unsealed bytes p = Ok (record { value = Unsealed; position = p })
-begin_mode (Sealed sum) bytes p = do
-  seal ← number_at bytes p 8
-  Ok (record { value = Sealed seal.value; position = seal.position })
+begin_mode (Sealed sum) bytes p = map_found Sealed (number_at bytes p 8)
 begin_mode (Runs last left) bytes p = Ok (record { value = Runs 0 0; position = p })
 
 -- the decoder at the beginning of its tokens
 unfoldable pub plain_begin : PlainState → List ℕ → ℕ → Result (Found PlainState) DecoderError
-plain_begin s bytes p = do
-  mode ← begin_mode s.mode bytes p
-  Ok (record { value = record s { mode = mode.value }; position = mode.position })
-
--- a token, and the mode and the position after it
-pub record Read : Type 0 where
-  pub token : ℕ
-  pub mode : Mode
-  pub position : ℕ
+plain_begin s bytes p = map_found (λ mode. record s { mode = mode }) (begin_mode s.mode bytes p)
 
 -- the bits of a number; a constant takes none, and a gamma token as many as its own zeros say
 abbrev pub width_of : Code → ℕ
@@ -144,12 +116,9 @@ zeros_at bytes p = trailing_zeros w64 (bits_at bytes p 64)
 
 -- The zeros of a gamma token: how many there are, and the position after the one bit that ends them. A 33rd is Invalid(7).
 unfoldable pub zeros_end : List ℕ → ℕ → Result (Found ℕ) DecoderError
-zeros_end bytes p = if nat_lt 32 (zeros_at bytes p) then (do
-  all ← number_at bytes p 33
-  Err (Invalid 7))
-    else (do
-      all ← number_at bytes p (zeros_at bytes p + 1)
-      Ok (record { value = zeros_at bytes p; position = all.position }))
+zeros_end bytes p =
+    if nat_lt 32 (zeros_at bytes p) then number_at bytes p 33 >>= (λ all. Err (Invalid 7))
+    else map_found (λ all. zeros_at bytes p) (number_at bytes p (zeros_at bytes p + 1))
 
 -- the n bits after the one bit of a gamma token; of 32 each is 0, and the first that is not is Invalid(7)
 unfoldable pub low_bits : List ℕ → ℕ → ℕ → Result (Found ℕ) DecoderError
@@ -159,8 +128,7 @@ low_bits bytes p n = if (n == 32) && nat_lt 0 (bits_at bytes p n) then Err (Inva
 unfoldable pub gamma_at : List ℕ → ℕ → Result (Found ℕ) DecoderError
 gamma_at bytes p = do
   zeros ← zeros_end bytes p
-  low ← low_bits bytes zeros.position zeros.value
-  Ok (record { value = 2 ^ zeros.value + low.value - 1; position = low.position })
+  map_found (λ low. 2 ^ zeros.value + low - 1) (low_bits bytes zeros.position zeros.value)
 
 -- the number that a token of this code is where it is read, whatever the mode; a constant takes no bits
 abbrev pub own_at : Code → List ℕ → ℕ → Result (Found ℕ) DecoderError
@@ -172,79 +140,64 @@ own_at Gamma bytes p = gamma_at bytes p
 unfoldable pub run_at : Code → List ℕ → ℕ → Result (Found RleToken) DecoderError
 run_at code bytes p = do
   flag ← number_at bytes p 1
-  if flag.value == 0 then (do
-    token ← own_at code bytes flag.position
-    Ok (record { value = Value token.value; position = token.position }))
-      else (do
-        more ← number_at bytes flag.position 8
-        Ok (record { value = Repeat (1 + more.value); position = more.position }))
+  if flag.value == 0 then map_found Value (own_at code bytes flag.position)
+      else map_found (λ more. Repeat (1 + more)) (number_at bytes flag.position 8)
 
 -- the first token of a run, where the token before is last
-abbrev pub first_of_run : ℕ → RleToken → ℕ → Read
-first_of_run last (Value token) q = record { token = token; mode = Runs token 0; position = q }
-first_of_run last (Repeat n) q = record { token = last; mode = Runs last (n - 1); position = q }
+abbrev pub first_of_run : ℕ → RleToken → ℕ → Taken ℕ Mode
+first_of_run last (Value token) q = record { value = token; state = Runs token 0; position = q }
+first_of_run last (Repeat n) q = record { value = last; state = Runs last (n - 1); position = q }
 
 -- A token of this code in this mode. A constant takes no bits, and counts for no seal.
-unfoldable pub token_at : Mode → Code → List ℕ → ℕ → Result Read DecoderError
-token_at Unsealed (Constant token) bytes p = Ok (record { token = token; mode = Unsealed; position = p })
-token_at (Sealed sum) (Constant token) bytes p = Ok (record { token = token; mode = Sealed sum; position = p })
-token_at Unsealed code bytes p = do
-  number ← own_at code bytes p
-  Ok (record { token = number.value; mode = Unsealed; position = number.position })
-token_at (Sealed sum) code bytes p = do
-  number ← own_at code bytes p
-  Ok (record { token = number.value; mode = Sealed ((sum + 256 - number.value % 256) % 256); position = number.position })
-token_at (Runs last (suc left)) code bytes p = Ok (record { token = last; mode = Runs last left; position = p })
+unfoldable pub token_at : Mode → Code → List ℕ → ℕ → Result (Taken ℕ Mode) DecoderError
+token_at (Runs last (suc left)) code bytes p = Ok (record { value = last; state = Runs last left; position = p })
 token_at (Runs last zero) code bytes p = do
   run ← run_at code bytes p
   Ok (first_of_run last run.value run.position)
+token_at mode (Constant token) bytes p = Ok (record { value = token; state = mode; position = p })
+token_at (Sealed sum) code bytes p = do
+  number ← own_at code bytes p
+  Ok (record { value = number.value; state = Sealed ((sum + 256 - number.value % 256) % 256); position = number.position })
+token_at mode code bytes p = do
+  number ← own_at code bytes p
+  Ok (record { value = number.value; state = mode; position = number.position })
 
 -- a token of a cluster; the multiplier is not looked at
 unfoldable pub plain_read : PlainState → List ℕ → ℕ → ℕ → ℕ → Result (Taken ℕ PlainState) DecoderError
 plain_read s bytes p c m = do
   read ← token_at s.mode (code_of s.codes c) bytes p
-  Ok (record { value = read.token; state = record s { mode = read.mode }; position = read.position })
+  Ok (record { value = read.value; state = record s { mode = read.state }; position = read.position })
 
 -- a seal of which something is left is Invalid(4)
 abbrev pub finalize_mode : Mode → Result (Unit {0}) DecoderError
-finalize_mode Unsealed = Ok tt
 finalize_mode (Sealed sum) = if sum == 0 then Ok tt else Err (Invalid 4)
-finalize_mode (Runs last left) = Ok tt
-
--- the token of a constant
-abbrev pub constant_of : Code → Option ℕ
-constant_of (Constant token) = Some token
-constant_of (Fixed width) = None
-constant_of Gamma = None
+finalize_mode mode = Ok tt
 
 -- the only token of a constant cluster; there is none under runs
 abbrev pub single_of : Mode → Code → Option ℕ
-single_of Unsealed code = constant_of code
-single_of (Sealed sum) code = constant_of code
 single_of (Runs last left) code = None
+single_of mode (Constant token) = Some token
+single_of mode code = None
 
 -- how many tokens an open run still owes
 abbrev pub owed_in : Mode → ℕ
-owed_in Unsealed = 0
-owed_in (Sealed sum) = 0
 owed_in (Runs last left) = left
+owed_in mode = 0
 
 -- the last token, or 0
 abbrev pub last_in : Mode → ℕ
-last_in Unsealed = 0
-last_in (Sealed sum) = 0
 last_in (Runs last left) = last
+last_in mode = 0
 
 -- the mode after an owed token
 abbrev pub next_mode : Mode → Mode
-next_mode Unsealed = Unsealed
-next_mode (Sealed sum) = Sealed sum
 next_mode (Runs last left) = Runs last (left - 1)
+next_mode mode = mode
 
 -- the plain decoder
 abbrev pub plain : Meaning PlainState
 plain = record {
-  parse = plain_parse;
+  parse = fields_at code_at;
   begin = plain_begin;
   read = plain_read;
   finalize = λ s. finalize_mode s.mode;
@@ -260,7 +213,10 @@ plain = record {
 abbrev pub plain2 : Meaning PlainState
 plain2 = record plain { parse = plain2_parse }
 
--- the calls of both, one by one
+-- the calls of both, one by one; parse is that of the first
+abbrev pub plain_parse : List ℕ → ℕ → ℕ → Result (Found PlainState) DecoderError
+plain_parse bytes p contexts = fields_at code_at bytes p contexts
+
 abbrev pub plain_finalize : PlainState → Result (Unit {0}) DecoderError
 plain_finalize s = finalize_mode s.mode
 

@@ -4,7 +4,7 @@ ghost use Rattle.std.specs.Prelude.{◌≡◌};
 ghost use Rattle.jxlm_base.specs.Bits.{bytes_of, position_of};
 ghost use Rattle.jxlm_base.specs.Decoding.{Gives};
 ghost use Rattle.jxlm_plain.specs.GammaCodes.{EachHasOneCode, GammaTokensAreCodes};
-ghost use Rattle.jxlm_plain.specs.Plain.{PlainState, fields2_at, plain2_parse, plain2};
+ghost use Rattle.jxlm_plain.specs.Plain.{PlainState, code2_at, fields_at, plain2_parse, plain2};
 
 use crate::plain::{Format, Machine, number};
 use jxlm_base::bits::Bitstream;
@@ -35,14 +35,14 @@ impl Model for PlainDecoder2 {
 }
 
 /// The decoder behind its version.
-#[tactic(auto, unfolding(crate::specs::Plain::fields2_at, crate::specs::Inner::PlainFormats::machine_at))]
+#[tactic(auto, unfolding(crate::specs::Plain::fields_at, crate::specs::Inner::PlainFormats::machine_at))]
 fn behind_version(
     alloc: Global,
     bits: &mut Bitstream<'_>,
     contexts: u32,
 ) -> Result<PlainDecoder2, DecoderError>
     ensures gives { Gives (λ d. d) result (position_of bits.new)
-        (fields2_at (bytes_of bits.old) (position_of bits.old) contexts) }
+        (fields_at code2_at (bytes_of bits.old) (position_of bits.old) contexts) }
     ensures bytes { bytes_of bits.new ≡ bytes_of bits.old }
 {
     let machine = Machine::parse(alloc, bits, Format::Second, contexts)?;

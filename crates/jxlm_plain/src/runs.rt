@@ -30,8 +30,8 @@ fn token_ahead(bits: &Bitstream<'_>, width: u32, before: Ahead) -> Ahead
     ensures gives { token_at (Runs before.last before.left) (Fixed width) (bytes_of bits.now)
         (position_of bits.now + before.at)
         ≡ Ok (record {
-          token = result.last;
-          mode = Runs result.last result.left;
+          value = result.last;
+          state = Runs result.last result.left;
           position = position_of bits.now + result.at;
         }) }
     ensures near { result.at ≤ before.at + 33 }

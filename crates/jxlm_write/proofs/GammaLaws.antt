@@ -13,7 +13,7 @@ use Rattle.jxlm_base.specs.declared.decoder.DecoderError.{DecoderError}
 use Rattle.jxlm_base.proofs.BitsLemmas.{bits_at-join}
 use Rattle.jxlm_base.specs.Numbers.{floor_log2}
 use Rattle.jxlm_tree.proofs.Ranges.{floor_log2_is}
-use Rattle.jxlm_plain.specs.Plain.{PlainState, Read, code2_at, fields2_at, gamma_at, plain2, plain2_parse, plain_begin, plain_read, token_at}
+use Rattle.jxlm_plain.specs.Plain.{PlainState, code2_at, fields_at, gamma_at, plain2, plain2_parse, plain_begin, plain_read, token_at}
 use Rattle.jxlm_plain.specs.declared.plain.Code.TheVariants.{Gamma}
 use Rattle.jxlm_plain.specs.declared.plain.Mode.{Mode}
 use Rattle.jxlm_plain.specs.declared.plain.Mode.TheVariants.{Unsealed}
@@ -44,8 +44,8 @@ unfolding code2_at
 code2_read bytes p h = rw (number_read bytes p 2 2 (omega arith) h) refl
 
 fields_read : (bytes : List ℕ) (p contexts q : ℕ) → HasBits bytes p (digits 6 0 ++ (flat_map (digits 4) (replicate contexts 0) ++ digits 2 2)) → q ≡ p + 2 + 4 + 4 * contexts + 2 →
-    fields2_at bytes p contexts ≡ Ok (record { value = one_gamma_cluster contexts; position = q })
-unfolding fields2_at
+    fields_at code2_at bytes p contexts ≡ Ok (record { value = one_gamma_cluster contexts; position = q })
+unfolding fields_at
 fields_read bytes p contexts q h e =
     let map : List ℕ = flat_map (digits 4) (replicate contexts 0) in
     let m = length-clusters contexts in
@@ -139,7 +139,7 @@ unfolding plain_read token_at
 left_as_it_is contexts bytes p m v q after h =
     let b = bind_ok (token_at Unsealed Gamma bytes p) _ (record { value = v; state = after; position = q }) h in
     let g = bind_ok (gamma_at bytes p) _ b.0 b.1 in
-    let mode : b.0.mode ≡ Unsealed = ap (λ (x : Read). x.mode) (ok_same _ _ g.2) in
+    let mode : b.0.state ≡ Unsealed = ap (λ (x : Taken ℕ Mode). x.state) (ok_same _ _ g.2) in
     let state : after ≡ one_gamma_cluster contexts = ap (λ (x : Taken ℕ PlainState). x.state) (ok_same _ _ b.2) ∙ ap (λ (x : Mode). record (one_gamma_cluster contexts) { mode = x }) mode in
     h ∙ ap (λ (x : PlainState). Ok (record { value = v; state = x; position = q })) state
 

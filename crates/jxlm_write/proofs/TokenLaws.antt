@@ -4,7 +4,7 @@ use Rattle.std.specs.List.{flat_map}
 use Rattle.std.proofs.lemmas.Bool.{le-ltb}
 use Rattle.std.proofs.lemmas.List.{length-append}
 use Rattle.std.proofs.Math.Nat.{mod-eq_of_lt}
-use Rattle.jxlm_plain.specs.Plain.{number_at, mode_at, cluster_at, items_at, code_after, code_at, plain, plain_parse, plain_begin, plain_read, token_at}
+use Rattle.jxlm_plain.specs.Plain.{number_at, mode_at, cluster_at, items_at, code_after, code_at, fields_at, plain, plain_parse, plain_begin, plain_read, token_at}
 use Rattle.jxlm_plain.specs.declared.plain.Code.TheVariants.{Fixed}
 use Rattle.jxlm_plain.specs.declared.plain.Mode.TheVariants.{Unsealed}
 use Rattle.jxlm_write.specs.Written.{digits, HasBits}
@@ -55,7 +55,7 @@ code_read bytes p width narrow h k =
 -- the decoder that was written is read
 pub decoder_read : (bytes : List ℕ) (p contexts width q : ℕ) → width ≤ 32 → HasBits bytes p (decoder_bits contexts width) → q ≡ p + length (decoder_bits contexts width) →
     plain_parse bytes p contexts ≡ Ok (record { value = one_cluster contexts width; position = q })
-unfolding plain_parse
+unfolding fields_at
 decoder_read bytes p contexts width q narrow h e =
     let map : List ℕ = flat_map (digits 4) (replicate contexts 0) in
     let m = length-clusters contexts in

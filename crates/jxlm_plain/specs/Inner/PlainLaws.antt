@@ -5,7 +5,7 @@ use Rattle.std.proofs.Common.{arith, ap, inl, inr}
 use Rattle.jxlm_base.specs.Bits.{bits_at}
 use Rattle.jxlm_base.specs.Decoding.{Found, Taken, Keeps, RunGives, IsLawful}
 use Rattle.jxlm_base.specs.ErrorKind.{◌>>=◌}
-use Rattle.jxlm_plain.specs.Plain.{PlainState, Read, number_at, zeros_at, zeros_end, low_bits, gamma_at, own_at, mode_at, items_at, cluster_at, code_at, code2_at, code_of, run_at, first_of_run, is_runs, single_of, owed_in, last_in, next_mode, begin_mode, token_at, finalize_mode, plain_parse, plain_begin, plain_read, plain_finalize, plain_clusters, plain_single, plain_runs, plain_owed, plain_last, plain_next, plain, fields2_at, plain2_parse, plain2}
+use Rattle.jxlm_plain.specs.Plain.{PlainState, number_at, zeros_at, zeros_end, low_bits, gamma_at, own_at, mode_at, items_at, cluster_at, code_at, code2_at, code_of, run_at, first_of_run, is_runs, single_of, owed_in, last_in, next_mode, begin_mode, token_at, finalize_mode, plain_parse, plain_begin, plain_read, plain_finalize, plain_clusters, plain_single, plain_runs, plain_owed, plain_last, plain_next, plain, fields_at, plain2_parse, plain2}
 use Rattle.jxlm_base.specs.declared.decoder.DecoderError.{DecoderError}
 use Rattle.jxlm_base.specs.declared.decoder.DecoderError.TheVariants.{OutOfMemory}
 use Rattle.jxlm_base.specs.declared.decoder.RleToken.{RleToken}
@@ -40,11 +40,11 @@ begin_kind (Sealed sum) bytes p x h =
     rw (ok_same _ _ b.2) (refl, λ k. refl)
 begin_kind (Runs last left) bytes p x h = rw (ok_same _ _ h) (refl, λ k. refl)
 
-run_kind : (last : ℕ) (run : RleToken) (q : ℕ) → SameKind (Runs last 0) (first_of_run last run q).mode
+run_kind : (last : ℕ) (run : RleToken) (q : ℕ) → SameKind (Runs last 0) (first_of_run last run q).state
 run_kind last (Value token) q = (refl, λ k. refl)
 run_kind last (Repeat n) q = (refl, λ k. refl)
 
-token_kind : (mode : Mode) (code : Code) (bytes : List ℕ) (p : ℕ) (x : Read) → token_at mode code bytes p ≡ Ok x → SameKind mode x.mode
+token_kind : (mode : Mode) (code : Code) (bytes : List ℕ) (p : ℕ) (x : Taken ℕ Mode) → token_at mode code bytes p ≡ Ok x → SameKind mode x.state
 unfolding token_at
 token_kind Unsealed (Constant token) bytes p x h = rw (ok_same _ _ h) (refl, λ k. refl)
 token_kind Unsealed (Fixed width) bytes p x h =
@@ -87,7 +87,7 @@ next_kind (Runs last left) = (refl, λ k. refl)
 pub plain_next_keeps : (s : PlainState) → plain_runs s ≡ true → 0 < plain_owed s → Keeps plain s (plain_next s)
 plain_next_keeps s r owes = let k = next_kind s.mode in record { clusters = refl; single = λ c within. k.1 (code_of s.codes c); rle = k.0 }
 
-token_single : (mode : Mode) (code : Code) (bytes : List ℕ) (p v : ℕ) → single_of mode code ≡ Some v → token_at mode code bytes p ≡ Ok (record { token = v; mode = mode; position = p })
+token_single : (mode : Mode) (code : Code) (bytes : List ℕ) (p v : ℕ) → single_of mode code ≡ Some v → token_at mode code bytes p ≡ Ok (record { value = v; state = mode; position = p })
 unfolding token_at
 token_single Unsealed (Constant token) bytes p v h = let e : token ≡ v = cc in rw e refl
 token_single Unsealed (Fixed width) bytes p v h = cc
@@ -114,11 +114,11 @@ plain_begin_owes s bytes p x r h =
     let b = bind_ok (begin_mode s.mode bytes p) _ x h in
     rw (ok_same _ _ b.2) (begin_mode_owes s.mode bytes p b.0 b.1)
 
-run_last : (last : ℕ) (run : RleToken) (q : ℕ) → last_in (first_of_run last run q).mode ≡ (first_of_run last run q).token
+run_last : (last : ℕ) (run : RleToken) (q : ℕ) → last_in (first_of_run last run q).state ≡ (first_of_run last run q).value
 run_last last (Value token) q = refl
 run_last last (Repeat n) q = refl
 
-token_last : (mode : Mode) (code : Code) (bytes : List ℕ) (p : ℕ) (x : Read) → is_runs mode ≡ true → token_at mode code bytes p ≡ Ok x → last_in x.mode ≡ x.token
+token_last : (mode : Mode) (code : Code) (bytes : List ℕ) (p : ℕ) (x : Taken ℕ Mode) → is_runs mode ≡ true → token_at mode code bytes p ≡ Ok x → last_in x.state ≡ x.value
 unfolding token_at
 token_last Unsealed code bytes p x r h = cc
 token_last (Sealed sum) code bytes p x r h = cc
@@ -133,7 +133,7 @@ plain_read_last s bytes p c m x within r h =
     let b = bind_ok (token_at s.mode (code_of s.codes c) bytes p) _ x h in
     rw (ok_same _ _ b.2) (token_last s.mode (code_of s.codes c) bytes p b.0 r b.1)
 
-token_owed : (mode : Mode) (code : Code) (bytes : List ℕ) (p : ℕ) → is_runs mode ≡ true → 0 < owed_in mode → token_at mode code bytes p ≡ Ok (record { token = last_in mode; mode = next_mode mode; position = p })
+token_owed : (mode : Mode) (code : Code) (bytes : List ℕ) (p : ℕ) → is_runs mode ≡ true → 0 < owed_in mode → token_at mode code bytes p ≡ Ok (record { value = last_in mode; state = next_mode mode; position = p })
 unfolding token_at
 token_owed Unsealed code bytes p r h = cc
 token_owed (Sealed sum) code bytes p r h = cc
@@ -254,7 +254,7 @@ items_length item (suc n) p x h =
     rw (ok_same _ _ b.2) (let e = items_length item n a.0.position b.0 b.1 in omega (arith, e))
 
 pub plain_parse_clusters : (bytes : List ℕ) (p n : ℕ) (x : Found PlainState) → plain_parse bytes p n ≡ Ok x → length (plain_clusters x.value) ≡ n
-unfolding plain_parse
+unfolding fields_at
 plain_parse_clusters bytes p n x h =
     let a = bind_ok (mode_at bytes p) _ x h in
     let b = bind_ok (number_at bytes a.0.position 4) _ x a.2 in
@@ -289,7 +289,7 @@ chosen_ok true r e x h = h
 chosen_ok false r e x h = cc
 
 plain2_parse_clusters : (bytes : List ℕ) (p n : ℕ) (x : Found PlainState) → plain2_parse bytes p n ≡ Ok x → length (plain_clusters x.value) ≡ n
-unfolding plain2_parse fields2_at
+unfolding plain2_parse fields_at
 plain2_parse_clusters bytes p n x h =
     let v = bind_ok (number_at bytes p 4) _ x h in
     let a = bind_ok (mode_at bytes v.0.position) _ x (chosen_ok (v.0.value == 2) _ _ x v.2) in
