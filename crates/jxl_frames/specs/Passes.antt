@@ -6,6 +6,8 @@ use Rattle.jxlm_base.specs.Grammar.{Grammar, u32, give, either, repeated, ◌>>=
 use Rattle.jxlm_base.specs.declared.bits.U32Spec.TheVariants.{Const, Offset}
 use Rattle.jxl_headers.specs.Fields.{meant}
 use Rattle.jxl_frames.specs.Codings.{factor}
+use Rattle.jxl_frames.specs.declared.passes.Order.{Order}
+use Rattle.jxl_frames.specs.declared.passes.Order.TheVariants.{Finer, Later}
 use Rattle.jxl_frames.specs.declared.passes.Passes.{Passes as PassesInMemory}
 
 -- the passes of a frame, seen without their memory: how many there are; by how many bits each but the last is shifted; the
@@ -46,6 +48,11 @@ finer before = factor >>= λ v. meant (codes "downsample") (is_below before v) v
 
 unfoldable pub later : ℕ → Option ℕ → Grammar ℕ
 later count before = u32 (Const 0) (Const 1) (Const 2) (Offset 0 3) >>= λ v. meant (codes "last_pass") (is_above before v && nat_lt v count) v
+
+-- the next of such numbers, by their order
+abbrev pub next : Order → Option ℕ → Grammar ℕ
+next Finer = finer
+next (Later count) = later count
 
 -- n fields, each of which may depend on the number before it
 abbrev pub in_turn : ℕ → (Option ℕ → Grammar ℕ) → Option ℕ → Grammar (List ℕ)

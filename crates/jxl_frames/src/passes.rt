@@ -5,7 +5,7 @@ ghost use Rattle.jxlm_base.specs.Bits.{bytes_of, position_of};
 ghost use Rattle.jxlm_base.specs.Grammar.{Reads, repeated};
 ghost use Rattle.jxl_headers.specs.Reading.{Parses};
 ghost use Rattle.jxl_frames.specs.Codings.{factor};
-ghost use Rattle.jxl_frames.specs.Passes.{IsPassCount, passes_of, one_pass, pass_count as the_pass_count, shift, resolutions as the_resolutions, is_below as the_below, is_above as the_above, finer as the_finer, later as the_later, in_turn, more_passes, told_passes, passes, ended as the_ended, shift_of as the_shift_of, least_shift as the_least_shift, shifts_held};
+ghost use Rattle.jxl_frames.specs.Passes.{IsPassCount, passes_of, one_pass, pass_count as the_pass_count, shift, resolutions as the_resolutions, is_below as the_below, is_above as the_above, finer as the_finer, later as the_later, in_turn as the_list, next as the_next, more_passes, told_passes, passes, ended as the_ended, shift_of as the_shift_of, least_shift as the_least_shift, shifts_held};
 
 use crate::fields::fields as fields_of;
 use jxl_headers::fields;
@@ -27,6 +27,13 @@ pub struct Passes {
     pub downsample: Vec<u32>,
     /// The last pass of each of these, later than that of the one before.
     pub last_pass: Vec<u32>,
+}
+
+// Numbers of a list that each stand in this order: factors, or last passes of so many.
+#[derive(Clone, Copy)]
+enum Order {
+    Finer,
+    Later(u32),
 }
 
 #[tactic(auto, unfolding(crate::specs::Passes::shift))]
@@ -142,32 +149,28 @@ fn later(bits: &mut Bitstream<'_>, count: u32, before: Option<u32>) -> fields::R
     }
 }
 
-// So many factors, each below the one before.
-fn finer_ones(alloc: Global, bits: &mut Bitstream<'_>, n: usize) -> Result<Vec<u32>>
-    ensures gives { Parses (λ v. v.items) result (position_of bits.new)
-        ((in_turn n the_finer None).read (bytes_of bits.old) (position_of bits.old)) }
+// The next number of such a list.
+fn next(bits: &mut Bitstream<'_>, order: Order, before: Option<u32>) -> fields::Result<u32>
+    ensures gives { Reads (λ v. v) result (position_of bits.new)
+        ((the_next order before).read (bytes_of bits.old) (position_of bits.old)) }
     ensures bytes { bytes_of bits.new ≡ bytes_of bits.old }
 {
-    let mut values = Vec::new(alloc);
-    let mut before = None;
-    for _ in 0..n {
-        let value = finer(bits, before)?;
-        values.push(value)?;
-        before = Some(value);
+    match order {
+        Order::Finer => finer(bits, before),
+        Order::Later(count) => later(bits, count, before),
     }
-    Ok(values)
 }
 
-// So many last passes, each above the one before, of so many passes.
-fn later_ones(alloc: Global, bits: &mut Bitstream<'_>, n: usize, count: u32) -> Result<Vec<u32>>
+// So many numbers in this order.
+fn in_turn(alloc: Global, bits: &mut Bitstream<'_>, n: usize, order: Order) -> Result<Vec<u32>>
     ensures gives { Parses (λ v. v.items) result (position_of bits.new)
-        ((in_turn n (the_later count) None).read (bytes_of bits.old) (position_of bits.old)) }
+        ((the_list n (the_next order) None).read (bytes_of bits.old) (position_of bits.old)) }
     ensures bytes { bytes_of bits.new ≡ bytes_of bits.old }
 {
     let mut values = Vec::new(alloc);
     let mut before = None;
     for _ in 0..n {
-        let value = later(bits, count, before)?;
+        let value = next(bits, order, before)?;
         values.push(value)?;
         before = Some(value);
     }
@@ -227,8 +230,8 @@ impl Passes {
     {
         let n = resolutions(bits, count)?;
         let shift = shifts(alloc, bits, count.saturating_sub(1) as usize)?;
-        let downsample = finer_ones(alloc, bits, n as usize)?;
-        let last_pass = later_ones(alloc, bits, n as usize, count)?;
+        let downsample = in_turn(alloc, bits, n as usize, Order::Finer)?;
+        let last_pass = in_turn(alloc, bits, n as usize, Order::Later(count))?;
         Ok(Passes {
             count,
             shift,

@@ -1,11 +1,10 @@
 -- Squares that cover a picture, and lists of parts with theirs.
-use Rattle.std.proofs.Common.{◌≡◌, ℕ, suc, ◌+◌, ◌*◌, ◌<◌, ◌≤◌, Bool, true, false, not, ◌&&◌, ◌==◌, nat_lt, nat_le, if◌then◌else◌, IsTrue, List, [], ◌∷◌, ◌++◌, map, take, length, get_or, Ok, refl, sym, ap, ◌∙◌, subst, append_assoc, add-one, zero, arith}
+use Rattle.std.proofs.Common.{◌≡◌, ℕ, suc, ◌+◌, ◌*◌, ◌<◌, ◌≤◌, Bool, true, false, not, ◌&&◌, ◌==◌, nat_lt, nat_le, if◌then◌else◌, IsTrue, List, [], ◌∷◌, ◌++◌, map, length, Ok, refl, sym, ap, ◌∙◌, subst, append_assoc, add-one, zero, arith}
 use Rattle.std.specs.List.{All, flat_map, list_all, range_with_len}
 use Rattle.std.specs.Int.{div_ceil}
 use Rattle.std.proofs.lemmas.Bool.{ltb-false}
 use Rattle.std.proofs.lemmas.Grind.{div_ceil_times}
-use Rattle.std.proofs.lemmas.List.{append-nil, map-append, take_more}
-use Rattle.std.proofs.lemmas.List.Concat.{flat_map-append}
+use Rattle.std.proofs.lemmas.List.{map-append}
 use Rattle.std.proofs.Math.Nat.{mul-le-mul_right}
 use Rattle.jxlm_transform.proofs.StepFacts.{both_of}
 use Rattle.std.proofs.lemmas.List.Elements.{All-map}
@@ -107,16 +106,6 @@ module _ (w h dim : ℕ) where
     -- the parts before those of passes
     abbrev pub before_passes : List PartArea
     before_passes = with_area w h dim parts.Global ∷ first_groups w h dim kinds.Lf (group_count dim passes l kinds.Lf)
-
-    -- a pass more
-    pub with_pass : (i : ℕ) (p : Pass) (list after : List PartArea) → i < length passes → p ≡ get_or passes i p → list ≡ before_passes ++ flat_map groups_in (take i passes) → after ≡ list ++ groups_in p →
-        after ≡ before_passes ++ flat_map groups_in (take (i + 1) passes)
-    with_pass i p list after within is so_far added =
-        added ∙ ap (λ l. l ++ groups_in p) so_far ∙ append_assoc before_passes (flat_map groups_in (take i passes)) (groups_in p)
-        ∙ ap (λ q. before_passes ++ (flat_map groups_in (take i passes) ++ groups_in q)) is
-        ∙ ap (λ l. before_passes ++ (flat_map groups_in (take i passes) ++ l)) (sym (append-nil (groups_in (get_or passes i p))))
-        ∙ ap (λ l. before_passes ++ l) (sym (flat_map-append groups_in (take i passes) (get_or passes i p ∷ [])))
-        ∙ ap (λ ps. before_passes ++ flat_map groups_in ps) (sym (take_more passes i p within))
 
     map_all : (ps : List Pass) → flat_map groups_in ps ≡ map (with_area w h dim) (flat_map (λ p. groups_by_number dim passes l (kinds.Pass p.number)) ps)
     map_all [] = refl

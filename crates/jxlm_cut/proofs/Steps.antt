@@ -1,17 +1,17 @@
 -- Channels after the meta channels stay channels of one picture.
-use Rattle.std.proofs.Common.{◌≡◌, ℕ, zero, suc, ◌+◌, ◌-◌, ◌<◌, ◌≤◌, Bool, true, false, not, ◌&&◌, ◌||◌, nat_lt, nat_le, if◌then◌else◌, List, [], ◌∷◌, ◌++◌, map, take, drop, length, get_or, Result, Ok, Err, inl, inr, refl, sym, subst, arith, leb-true}
-use Rattle.std.specs.List.{All, list_all}
+use Rattle.std.proofs.Common.{◌≡◌, ℕ, zero, suc, ◌+◌, ◌-◌, ◌<◌, ◌≤◌, Bool, true, false, not, ◌&&◌, ◌||◌, nat_lt, nat_le, if◌then◌else◌, List, [], ◌∷◌, ◌++◌, map, take, drop, length, get_or, Ok, inl, inr, refl, sym, subst, arith, leb-true}
+use Rattle.std.specs.List.{All}
 use Rattle.std.proofs.lemmas.Bool.{cases_lt, ltb-false}
 use Rattle.std.proofs.lemmas.List.{get_or-take, get_or-drop, length-take, length-drop, length-append, length-map, get_or_append_left, get_or-append_right}
-use Rattle.jxlm_base.specs.ErrorKind.{ErrorKind, BadRct, BadPalette, BadSqueeze}
+use Rattle.jxlm_base.specs.ErrorKind.{BadRct, BadPalette, BadSqueeze}
 use Rattle.jxlm_transform.specs.Channels.{Channel, ChannelList}
-use Rattle.jxlm_transform.specs.ChannelSteps.{Step, RctStep, PaletteStep, SqueezeStep, average_channel, can_be_squeezed, has_range, keeps_meta, list_after, list_after_all, one_size, range, residual_channel, squeeze_range, table_channel, with_halves}
+use Rattle.jxlm_transform.specs.ChannelSteps.{Step, RctStep, PaletteStep, SqueezeStep, average_channel, has_range, keeps_meta, list_after, list_after_all, one_size, range, residual_channel, table_channel}
 use Rattle.jxlm_transform.specs.declared.transform.Palette.{Palette}
 use Rattle.jxlm_transform.specs.declared.transform.SqueezeParams.{SqueezeParams}
 use Rattle.std.proofs.lemmas.List.Elements.{All-append, All-head, All-map, All-tail, All-weaker}
 use Rattle.jxlm_transform.specs.Steps.{HasChannels}
 use Rattle.jxlm_cut.proofs.Pictured.{IsOfPicture, average_halved, residual_halved}
-use Rattle.jxlm_transform.proofs.StepFacts.{both_of, first_step, same_ok}
+use Rattle.jxlm_transform.proofs.StepFacts.{both_of, chosen, first_step, palette_applies, same_ok, squeeze_applies}
 
 module _ {X : Type 0} (P : X → Type 0) where
   -- P holds of each element from place n on
@@ -56,10 +56,6 @@ module _ {X : Type 0} (P : X → Type 0) where
   all_of_range n b k xs le all = λ i d lt.
       let rest : Beyond 0 (range b k xs) = beyond_take 0 (b + k - b) (drop b xs) (beyond_more (n - b) 0 (drop b xs) (omega (arith, le)) (beyond_drop n b xs all)) in
       rest i d (omega arith) lt
-
-chosen : (b : Bool) (l m : ChannelList) (error : ErrorKind) → if◌then◌else◌ {A = Result ChannelList ErrorKind} b (Ok l) (Err error) ≡ Ok m → (b ≡ true) × (l ≡ m)
-chosen true l m error e = (refl, cc)
-chosen false l m error e = cc
 
 either_of : (a b : Bool) → (not a || b) ≡ true → a ≡ true → b ≡ true
 either_of true b e t = e
@@ -148,26 +144,12 @@ module _ (w h : ℕ) where
   pictured_after : (s : Step) (l m : ChannelList) → list_after s l ≡ Ok m → HasChannels s → IsPictured l → IsPictured m
   pictured_after (RctStep t) l m e some each = subst IsPictured (chosen (has_range t.begin_c 3 l.channels && one_size (range t.begin_c 3 l.channels)) l m BadRct e).1 each
   pictured_after (PaletteStep t) l m e some each =
-      let here : Bool = has_range t.begin_c t.num_c l.channels in
-      let sized : Bool = one_size (range t.begin_c t.num_c l.channels) in
-      let meta : Bool = keeps_meta t.begin_c t.num_c l.nb_meta in
-      let (test, same) = chosen (here && sized && meta) (record {
-        channels = table_channel t.nb_colours t.num_c ∷ (take (t.begin_c + 1) l.channels ++ drop (t.begin_c + t.num_c) l.channels);
-        nb_meta = if nat_lt t.begin_c l.nb_meta then l.nb_meta + 2 - t.num_c else l.nb_meta + 1;
-      }) m BadPalette e in
-      let both = both_of (here && sized) meta test in
-      let first = both_of here sized both.0 in
-      subst IsPictured same (indexed t l.channels l.nb_meta some (leb-true (t.begin_c + t.num_c) (length l.channels) first.0) both.1 each (nat_lt t.begin_c l.nb_meta) refl)
+      let (test, same) = chosen _ _ m BadPalette e in
+      subst IsPictured same (indexed t l.channels l.nb_meta some (palette_applies t l m e).there (both_of _ _ test).1 each (nat_lt t.begin_c l.nb_meta) refl)
   pictured_after (SqueezeStep t) l m e some each =
-      let cs : List Channel = range t.begin_c t.num_c l.channels in
-      let here : Bool = has_range t.begin_c t.num_c l.channels in
-      let meta : Bool = not (nat_lt t.begin_c l.nb_meta) || t.in_place && nat_le (t.begin_c + t.num_c) l.nb_meta in
-      let (test, same) = chosen (squeeze_range t l && list_all can_be_squeezed cs) (record {
-        channels = with_halves t (map (average_channel t.horizontal) cs) (map (residual_channel t.horizontal) cs) l.channels;
-        nb_meta = if nat_lt t.begin_c l.nb_meta then l.nb_meta + t.num_c else l.nb_meta;
-      }) m BadSqueeze e in
-      let both = both_of here meta (both_of (here && meta) (list_all can_be_squeezed cs) test).0 in
-      subst IsPictured same (halved t l.channels l.nb_meta (leb-true (t.begin_c + t.num_c) (length l.channels) both.0) both.1 each t.in_place (nat_lt t.begin_c l.nb_meta) refl refl)
+      let (test, same) = chosen _ _ m BadSqueeze e in
+      let keeps = (both_of _ _ (both_of _ _ test).0).1 in
+      subst IsPictured same (halved t l.channels l.nb_meta (squeeze_applies t l m e).there keeps each t.in_place (nat_lt t.begin_c l.nb_meta) refl refl)
 
   pub pictured_after_all : (ss : List Step) (l m : ChannelList) → list_after_all ss l ≡ Ok m → All HasChannels ss → IsPictured l → IsPictured m
   pictured_after_all [] l m e some each = subst IsPictured (same_ok l m e) each

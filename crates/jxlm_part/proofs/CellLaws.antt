@@ -1,6 +1,6 @@
 -- A cell of a part: what it holds, and what is read into it.
 use Rattle.std.proofs.Common.{Bool, ◌≡◌, ℕ, zero, suc, ◌+◌, ◌*◌, ◌/◌, ◌<◌, ◌≤◌, ◌^◌, List, [], ◌∷◌, ◌++◌, length, map, take, Some, refl, sym, ap, ◌∙◌, subst, arith, ℤ, slice_index_or, Bool, true, false, None, Option, if◌then◌else◌}
-use Rattle.std.specs.Prelude.{slice_get, slice_set, Result}
+use Rattle.std.specs.Prelude.{slice_get, slice_set}
 use Rattle.std.specs.List.{All}
 use Rattle.std.specs.Int.{Width}
 use Rattle.std.proofs.lemmas.List.{append-nil, append_assoc, length-append, length-map, length-take-le, map-set, take_more_set}
@@ -10,7 +10,7 @@ use Rattle.std.proofs.lemmas.Option.{slice_get-get_or}
 use Rattle.std.proofs.lemmas.List.Elements.{All-nil}
 use Rattle.std.proofs.lemmas.List.Folds.{list_any_at}
 use Rattle.jxlm_base.specs.Bits.{bytes_of, position_of}
-use Rattle.jxlm_base.specs.Decoding.{Meaning, Taken}
+use Rattle.jxlm_base.specs.Decoding.{Meaning}
 use Rattle.jxlm_base.specs.Grid.{Grid}
 use Rattle.jxlm_base.specs.Regions.{grid_of, region, store_meanings}
 use Rattle.jxlm_base.specs.declared.decoder.DecoderError.{DecoderError}
@@ -251,10 +251,6 @@ module _ {D X : Type 0} (l : Line X D) (to_int : X → ℤ) (is : IsLine l) (x :
     next =
         is_next (part_of c) (regions_of c) ints i here own (sees_regions (part_of c) (regions_of c) ints i y coding.sizes is.here.channel is.below so_far (omega (arith, row_long, px)))
         (asked_at c i) (reads_below c coding i is.here.channel) (weighted_at c i) (goes_without c coding i is.here.channel)
-
-    -- how the leaf to which the flat tree leads reads its token
-    abbrev reading : Result (Taken ℕ D) DecoderError
-    reading = d.read old.decoder (bytes_of old.bits) (position_of old.bits) (leaf_at the_flat (setting_of c i) ints own).cluster c.widest
 
     -- the read of the rule is that of the leaf to which the flat tree leads
     read_is : rule.read so_far old.decoder (position_of old.bits) ≡ d.read old.decoder (bytes_of old.bits) (position_of old.bits) (leaf_at the_flat (setting_of c i) ints own).cluster c.widest

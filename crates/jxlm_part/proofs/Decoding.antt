@@ -1,18 +1,17 @@
 -- What the loops over rows and channels promise one another: a row more, a channel more.
-use Rattle.std.proofs.Common.{◌≡◌, ℕ, suc, ◌+◌, ◌*◌, ◌<◌, true, false, List, [], length, map, Ok, Err, refl, sym, ◌∙◌, subst, arith, ℤ}
+use Rattle.std.proofs.Common.{◌≡◌, ℕ, suc, ◌+◌, ◌*◌, ◌<◌, List, [], length, Ok, Err, refl, sym, ◌∙◌, subst, arith, ℤ}
 use Rattle.std.specs.Prelude.{Result, OnOk, IfErr}
 use Rattle.std.specs.Int.{Width}
-use Rattle.std.proofs.lemmas.List.{length-map, take_all}
+use Rattle.std.proofs.lemmas.List.{length-map}
 use Rattle.jxlm_base.specs.Decoding.{Meaning}
 use Rattle.jxlm_base.specs.Grid.{Grid}
 use Rattle.jxlm_base.specs.declared.decoder.DecoderError.{DecoderError}
 use Rattle.jxlm_base.proofs.Outside.{all_lie_still, keeps_all, keeps_both}
 use Rattle.jxlm_tree.specs.declared.state.PredictorState.{PredictorState}
-use Rattle.jxlm_part.specs.Inner.Channels.{StandsAfter, StandsIn, region_at}
+use Rattle.jxlm_part.specs.Inner.Channels.{StandsAfter, region_at}
 use Rattle.jxlm_part.specs.Inner.Levels.{IsAtRow, IsOnPath, IsReady}
-use Rattle.jxlm_part.specs.Inner.Paths.{is_walked}
 use Rattle.jxlm_part.specs.Inner.Progress.{DecodesCells, FailsInCells, Moment, WalkGives}
-use Rattle.jxlm_part.specs.Inner.Rows.{IsAtCell, IsDecodingPart, IsLine, RowGives, SetsRead, StandsInRow, region_on}
+use Rattle.jxlm_part.specs.Inner.Rows.{IsDecodingPart, IsLine, RowGives, SetsRead, StandsInRow, region_on}
 use Rattle.jxlm_part.specs.declared.source.Source.{Source}
 use Rattle.jxlm_part.specs.Reading.{FindsClusters, HasRoom, cost_of, regions_of}
 use Rattle.jxlm_part.specs.declared.coding.PartCoding.{PartCoding}
@@ -107,25 +106,8 @@ at_first_row c i to_int store state stands =
     let none : 0 ≡ 0 * (region_at (regions_of c) i).width = omega arith in
     begins_row c i to_int store 0 state (subst (λ n. StandsAfter c to_int store i n state) none stands)
 
--- ---- what the read of a row leaves
+-- ---- before a row is read
 
 module _ {D X : Type 0} (l : Line X D) (d : Meaning D) (to_int : X → ℤ) where
   pub is_line : (walk : Walk X D) → IsAtRow d l.coding.now walk to_int l.store.now l.path l.i l.y → l.y < (region_on l).height → IsLine l
   is_line walk at below = record { here = at.here; below = below; gives = at.gives; allows = at.allows; steps = at.steps }
-
-  -- where the path needs no state of the predictors, it stays
-  pub state_stays : (old new : Walk X D) (row : List X) → IsAtRow d l.coding.now old to_int l.store.now l.path l.i l.y → is_walked l.path ≡ false → new.state ≡ old.state → IsOnPath l to_int row new
-  state_stays old new row at none same = record {
-    within = λ walked. subst (StandsIn l.coding.now l.i) (sym same) (at.within walked);
-    stands = λ walked. let no : true ≡ false = sym walked ∙ none in absurd (cc);
-    roomy = subst (HasRoom l.coding.now) (sym same) at.ready.roomy;
-  }
-
-  -- else it is after the row
-  pub cells_done : (w : Width) (row : List X) (walk : Walk X D) → IsAtCell l d to_int w (length row) row walk → IsOnPath l to_int row walk
-  cells_done w row walk at = record {
-    within = λ alone. record { before = _; stands = at.stands };
-    stands = λ walked. let m = length-map row to_int in
-        subst (λ r. StandsInRow l.coding.now to_int l.store.now l.i l.y r walk.state) (take_all (length row) (map to_int row) (omega (arith, m))) at.stands;
-    roomy = at.roomy;
-  }

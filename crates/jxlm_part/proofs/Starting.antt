@@ -5,7 +5,7 @@ use Rattle.std.specs.List.{All}
 use Rattle.std.proofs.lemmas.Bool.{cases_lt}
 use Rattle.std.proofs.lemmas.Bool.Decides.{nat_tests}
 use Rattle.std.proofs.lemmas.List.Elements.{All-head, All-tail}
-use Rattle.std.proofs.lemmas.List.{length-append, length-map, get_or-map, get_or_append_left}
+use Rattle.std.proofs.lemmas.List.{length-append, length-map, get_or-map, get_or_append_left, nil_from_length}
 use Rattle.std.proofs.Math.Seq.{get_or-append_seam}
 use Rattle.jxlm_base.specs.declared.subgrid.Region.{Region}
 use Rattle.jxlm_tree.specs.Standing.{HasSameRoom, Setting, Stands, StandsAt, earlier_count, earlier_room_of, room_of, setting}
@@ -98,10 +98,6 @@ pub some_asked : (n : ℕ) (all : List Region) → 0 < n → handed n all ≡ al
 some_asked zero all h = absurd (omega (arith, h))
 some_asked (suc n) all h = refl
 
-no_regions : (rs : List Region) → length rs ≡ 0 → rs ≡ []
-no_regions [] none = refl
-no_regions (r ∷ rs) none = absurd (omega (arith, none))
-
 module _ {D : Type 0} (c : PartCoding D) (i : ℕ) where
   abbrev passes : ℕ → Bool
   passes e = is_alike (channel (part_of c).channels e) (channel (part_of c).channels i)
@@ -162,7 +158,7 @@ module _ {D X : Type 0} (c : PartCoding D) (i : ℕ) where
   pub all_given : {room : ℕ} (e : ℕ) (old state : PredictorState X) → e ≡ i → earlier_count old ≡ 0 → IsUnderWay room e old state → (s : Setting) (samples : List ℤ) → StandsAt old s samples →
       StandsAt state (setting s.width s.weights (all_alike c i)) samples
   all_given e old state all none h s samples at =
-      let first = subst (λ rs. StandsAt old (setting s.width s.weights rs) samples) (no_regions s.earlier (sym (stands_earlier old s samples at) ∙ none)) at in
+      let first = subst (λ rs. StandsAt old (setting s.width s.weights rs) samples) (nil_from_length s.earlier (sym (stands_earlier old s samples at) ∙ none)) at in
       subst (λ n. StandsAt state (setting s.width s.weights (below c i n)) samples) all (h.stands s.width s.weights samples first)
 
 -- a channel, as it is kept

@@ -1,11 +1,12 @@
 -- Each sample of 32 bits has exactly one token, where the multiplier is odd.
-use Rattle.std.proofs.Common.{◌≡◌, ℕ, zero, suc, ◌+◌, ◌*◌, ◌/◌, ◌%◌, ◌^◌, ◌<◌, inl, inr, refl, sym, ap, ◌∙◌, arith, ℤ, pos, negsuc, ◌+ℤ◌, ◌-ℤ◌, ◌*ℤ◌, FitsSigned}
+use Rattle.std.proofs.Common.{◌≡◌, ℕ, zero, suc, ◌+◌, ◌*◌, ◌/◌, ◌%◌, ◌^◌, ◌<◌, inl, inr, sym, ap, ◌∙◌, subst, arith, ℤ, pos, ◌+ℤ◌, ◌-ℤ◌, ◌*ℤ◌, FitsSigned}
 use Rattle.std.specs.Int.{w32, int_wrap}
 use Rattle.std.proofs.lemmas.Int.{ints, int_wrap_fits, SFits-int_wrap, int_wrap-add_left, int_wrap-add_right, int_wrap-mul_left}
 use Rattle.std.proofs.lemmas.Bool.{cases_lt}
 use Rattle.std.proofs.Math.IntN.{zero-*ℤ, *ℤ_comm, +ℤ_idr, +ℤ_assoc, pos-*ℤ-pos}
 use borrow.Author.Differences.{up, down, same_in, product_is}
 use Rattle.jxlm_base.specs.Numbers.{unpack}
+use Rattle.jxlm_base.proofs.Tokens.{token_of, unpack_fits, unpack_one}
 use Rattle.jxlm_part.specs.Coded.{sample_of}
 use Rattle.jxlm_part.specs.Token.{EachHasToken}
 
@@ -62,45 +63,6 @@ wrap_multiple a b =
     let none : int_wrap w32 (pos (2 ^ 32) *ℤ b) ≡ pos 0 = sym (int_wrap-mul_left w32 (pos (2 ^ 32)) b) ∙ none_times b in
     sym (int_wrap-add_right w32 a (pos (2 ^ 32) *ℤ b)) ∙ ap (λ x. int_wrap w32 (a +ℤ x)) none ∙ ap (int_wrap w32) (+ℤ_idr a)
 
--- the token of a signed number
-abbrev pack : ℤ → ℕ
-pack (pos n) = 2 * n
-pack (negsuc n) = 2 * n + 1
-
-unpack-pack : (u : ℤ) → unpack (pack u) ≡ u
-unpack-pack (pos n) =
-    let r : 2 * n % 2 ≡ 0 = omega arith in
-    let q : 2 * n / 2 ≡ n = omega arith in
-    rw (r, q) refl
-unpack-pack (negsuc n) =
-    let r : (2 * n + 1) % 2 ≡ 1 = omega arith in
-    let q : (2 * n + 1) / 2 ≡ n = omega arith in
-    rw (r, q) refl
-
-pack-unpack : (token : ℕ) → pack (unpack token) ≡ token
-pack-unpack token =
-    elim (cases_lt (token % 2) 1) [
-      | inl even ↦ (
-          let r : token % 2 ≡ 0 = omega arith in
-          let e : 2 * (token / 2) ≡ token = omega arith in
-          rw r e)
-      | inr uneven ↦ (
-          let r : token % 2 ≡ 1 = omega arith in
-          let e : 2 * (token / 2) + 1 ≡ token = omega arith in
-          rw r e)
-    ]
-
-unpack_fits : (token : ℕ) → token < 2 ^ 32 → FitsSigned w32 (unpack token)
-unpack_fits token l =
-    elim (cases_lt (token % 2) 1) [
-      | inl even ↦ (let r : token % 2 ≡ 0 = omega arith in rw r (record { sfits = omega arith }))
-      | inr uneven ↦ (let r : token % 2 ≡ 1 = omega arith in rw r (record { sfits = omega arith }))
-    ]
-
-pack_below : (u : ℤ) → FitsSigned w32 u → pack u < 2 ^ 32
-pack_below (pos n) h = omega (arith, ints)
-pack_below (negsuc n) h = omega (arith, ints)
-
 -- a number times an odd one times its inverse
 undone : (m v q : ℕ) (u : ℤ) → v * m ≡ 1 + 2 ^ 32 * q → (u *ℤ pos m) *ℤ pos v ≡ u +ℤ pos (2 ^ 32) *ℤ (pos q *ℤ u)
 undone m v q u e =
@@ -150,12 +112,15 @@ each_has_token leaf predicted sample odd fits =
     let i = inverse m (m / 2) 32 (omega (arith, odd)) in
     let c = leaf.offset +ℤ predicted in
     let u = from_sample m i.by i.times i.is c sample in
+    let (t, is_u) = token_of u in
     let joined : (x : ℤ) → x *ℤ pos m +ℤ leaf.offset +ℤ predicted ≡ x *ℤ pos m +ℤ c = λ x. +ℤ_assoc (x *ℤ pos m) leaf.offset predicted in
     let is_sample : (token : ℕ) → sample_of w32 leaf predicted token ≡ to_sample m i.by i.times i.is c (unpack token) = λ token. ap (int_wrap w32) (joined (unpack token)) in (
-      pack u,
+      t,
       record {
-        below = pack_below u (SFits-int_wrap w32 ((sample -ℤ c) *ℤ pos i.by));
-        stands = is_sample (pack u) ∙ ap (to_sample m i.by i.times i.is c) (unpack-pack u) ∙ to-from m i.by i.times i.is c sample fits;
-        only = λ other l h. sym (pack-unpack other) ∙ ap pack (sym (from-to m i.by i.times i.is c (unpack other) (unpack_fits other l)) ∙ ap (from_sample m i.by i.times i.is c) (sym (is_sample other) ∙ h));
+        below = (unpack_fits t).0 (subst (FitsSigned w32) (sym is_u) (SFits-int_wrap w32 ((sample -ℤ c) *ℤ pos i.by)));
+        stands = is_sample t ∙ ap (to_sample m i.by i.times i.is c) is_u ∙ to-from m i.by i.times i.is c sample fits;
+        only = λ other l h.
+            let one : unpack other ≡ u = sym (from-to m i.by i.times i.is c (unpack other) ((unpack_fits other).1 l)) ∙ ap (from_sample m i.by i.times i.is c) (sym (is_sample other) ∙ h) in
+            unpack_one other t (one ∙ sym is_u);
       },
     )
