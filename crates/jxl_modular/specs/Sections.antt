@@ -1,6 +1,6 @@
 -- Whole runs: an image decoded from sections, each of which codes one part
 -- (ISO/IEC 18181-1, frame: sections; Modular: image decoding, global and group sub-bitstreams).
-use Rattle.std.specs.Prelude.{◌≡◌, ◌≢◌, ◌↔◌, ◌⊎◌, ℕ, ◌+◌, ◌*◌, ℤ, List, [], ◌∷◌, ◌++◌, map, sum, Bool, false, IsTrue, Any, MatchBool, Option, Result, Ok, Err}
+use Rattle.std.specs.Prelude.{◌≡◌, ◌≢◌, ◌↔◌, ◌⊎◌, ℕ, ◌+◌, ◌*◌, ◌<◌, ℤ, List, [], ◌∷◌, ◌++◌, map, sum, Bool, false, IsTrue, Any, MatchBool, Option, Result, Ok, Err}
 use Rattle.std.specs.List.{All, AllPairs, AllZip}
 use Rattle.std.specs.Int.{Width}
 use Rattle.jxlm_base.specs.Bits.{bytes_of, position_of}
@@ -13,7 +13,6 @@ use Rattle.jxlm_chain.specs.Chain as chain
 use Rattle.jxlm_ma.specs.Tree.{Config, depth}
 use Rattle.jxlm_transform.specs.Channels.{AreGridsOf, ChannelList}
 use Rattle.jxlm_cut.specs.Cutting.{can_cut}
-use Rattle.jxlm_cut.specs.Parts.{HaveCell}
 use Rattle.jxlm_cut.specs.Passes.{can_group}
 use Rattle.jxlm_cut.specs.declared.part.SectionPart.{SectionPart}
 use Rattle.jxlm_cut.specs.declared.pass.Pass.{Pass}
@@ -51,7 +50,7 @@ module _ {S D : Type 0} (x : Image S D) (passes : List Pass) where
 
   -- each part with samples has a section
   abbrev pub IsComplete : List Section → Type 0
-  IsComplete sections = (part : SectionPart) (n i j : ℕ) → HaveCell (pieces_of x passes part) n i j →
+  IsComplete sections = (part : SectionPart) → 0 < cell_count (channels_in x passes part) →
       Any (λ s. s.part ≡ part) sections
 
   -- the channels of a part as a header of its own finds them: none is a meta channel

@@ -14,7 +14,6 @@ use Rattle.jxlm_cut.proofs.Pictured.{IsOfPicture}
 use Rattle.jxlm_cut.proofs.Steps.{IsPictured}
 use Rattle.jxlm_cut.specs.Counts.{group_count, is_kind}
 use Rattle.jxlm_cut.specs.Cutting.{global_count, is_low_frequency, pass_of}
-use Rattle.jxlm_cut.specs.Parts.{HaveCell}
 use Rattle.jxlm_cut.specs.Passes.{can_group, holds}
 use Rattle.jxlm_cut.specs.declared.pass.Pass.{Pass}
 use Rattle.jxlm_cut.specs.declared.part.Kind.TheVariants as kinds
@@ -22,7 +21,7 @@ use Rattle.jxlm_cut.specs.declared.part.SectionPart.{SectionPart}
 use Rattle.jxlm_cut.specs.declared.part.SectionPart.TheVariants as parts
 use Rattle.jxlm_part.specs.Part.{cell_count}
 use Rattle.jxl_modular.specs.GroupParts.{pass_count}
-use Rattle.jxl_modular.specs.Groups.{Exists, channels_in, pieces_of}
+use Rattle.jxl_modular.specs.Groups.{Exists, channels_in}
 use Rattle.jxl_modular.specs.Image.{Image, coded_list}
 use Rattle.jxl_modular.specs.Sections.{IsComplete}
 use Rattle.jxl_modular.specs.declared.sections.Section.{Section}
@@ -117,19 +116,25 @@ module _ {S D : Type 0} (x : Image S D) (passes : List Pass) where
   abbrev passes_there : List SectionPart
   passes_there = parts_of_passes x passes (pass_count passes)
 
+  -- a part with cells is there
+  counted_exists : (part : SectionPart) → 0 < cell_count (channels_in x passes part) → Exists x passes part
+  counted_exists part cells =
+      let r = (counts_cells x.group_dim passes (coded_list x) part).0 cells in
+      held_exists x.group_dim passes (coded_list x) part r.n r.x r.y r.has
+
   -- each part with cells is the global one or among them
-  among_groups : can_group passes [] ≡ true → (w h : ℕ) → IsPictured w h (coded_list x) → (part : SectionPart) (n i j : ℕ) → HaveCell (pieces_of x passes part) n i j →
+  among_groups : can_group passes [] ≡ true → (w h : ℕ) → IsPictured w h (coded_list x) → (part : SectionPart) → 0 < cell_count (channels_in x passes part) →
       (part ≡ parts.Global) ⊎ IsAmong part (groups_in_order x passes)
-  among_groups can w h pictured parts.Global n i j has = inl refl
-  among_groups can w h pictured (parts.Lf k) n i j has =
+  among_groups can w h pictured parts.Global cells = inl refl
+  among_groups can w h pictured (parts.Lf k) cells =
       let part = parts.Lf k in
-      let some : has_samples part ≡ true = lt-ltb 0 (cell_count (channels_in x passes part)) ((counts_cells x.group_dim passes (coded_list x) part).1 (record { n = n; x = i; y = j; has = has })) in
-      let lt : k < lf_count = ltb-true k lf_count (sym (lf_exists x.group_dim passes (coded_list x) k) ∙ held_exists x.group_dim passes (coded_list x) part n i j has) in
+      let some : has_samples part ≡ true = lt-ltb 0 (cell_count (channels_in x passes part)) cells in
+      let lt : k < lf_count = ltb-true k lf_count (sym (lf_exists x.group_dim passes (coded_list x) k) ∙ counted_exists part cells) in
       inr (among_left part low_there passes_there (among_filter has_samples part (lf_groups lf_count) some (among_range (λ k. parts.Lf k) lf_count k lt)))
-  among_groups can w h pictured (parts.Pass p k) n i j has =
+  among_groups can w h pictured (parts.Pass p k) cells =
       let part = parts.Pass p k in
-      let some : has_samples part ≡ true = lt-ltb 0 (cell_count (channels_in x passes part)) ((counts_cells x.group_dim passes (coded_list x) part).1 (record { n = n; x = i; y = j; has = has })) in
-      let lt : k < count_of p = ltb-true k (count_of p) (sym (pass_exists x.group_dim passes (coded_list x) p k) ∙ held_exists x.group_dim passes (coded_list x) part n i j has) in
+      let some : has_samples part ≡ true = lt-ltb 0 (cell_count (channels_in x passes part)) cells in
+      let lt : k < count_of p = ltb-true k (count_of p) (sym (pass_exists x.group_dim passes (coded_list x) p k) ∙ counted_exists part cells) in
       let here : IsAmong part (parts_of_pass x passes p) = among_filter has_samples part (map (λ k. parts.Pass p k) (range_with_len 0 (count_of p))) some (among_range (λ k. parts.Pass p k) (count_of p) k lt) in
       let below = group_below passes can x.group_dim w h (coded_list x) pictured p k lt in
       inr (among_right part low_there passes_there (among_one (parts_of_pass x passes) part (pass_count passes) p below here))
@@ -140,8 +145,8 @@ module _ {S D : Type 0} (x : Image S D) (passes : List Pass) where
 
     -- so sections of these parts are complete
     pub complete : can_group passes [] ≡ true → (w h : ℕ) → IsPictured w h (coded_list x) → IsComplete x passes (first ∷ groups)
-    complete can w h pictured part n i j has =
-        let here : IsAmong part (parts.Global ∷ groups_in_order x passes) = elim (among_groups can w h pictured part n i j has) [
+    complete can w h pictured part cells =
+        let here : IsAmong part (parts.Global ∷ groups_in_order x passes) = elim (among_groups can w h pictured part cells) [
           | inl is ↦ inl (sym is)
           | inr among ↦ inr among
         ] in

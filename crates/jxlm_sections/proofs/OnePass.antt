@@ -22,7 +22,7 @@ use Rattle.jxlm_cut.specs.Pieces.{piece, piece_in, piece_of_group, pieces}
 use Rattle.jxlm_cut.specs.declared.part.Kind.TheVariants as kinds
 use Rattle.jxlm_cut.specs.declared.part.SectionPart.TheVariants as parts
 use Rattle.jxlm_part.specs.Part.{cell_count}
-use Rattle.jxl_modular.specs.Groups.{Exists, channels_in, pieces_of}
+use Rattle.jxl_modular.specs.Groups.{Exists, channels_in}
 use Rattle.jxl_modular.specs.Image.{Image, coded_list}
 use Rattle.jxl_modular.specs.Sections.{IsComplete}
 use Rattle.jxl_modular.specs.declared.sections.Section.{Section}
@@ -151,15 +151,15 @@ module _ {S D : Type 0} (x : Image S D) where
   has_samples part = nat_lt 0 (cell_count (channels_in x one_pass part))
 
   -- each part with cells is the global one or among them
-  among_groups : (part : SectionPart) (n i j : ℕ) → HaveCell (pieces_of x one_pass part) n i j → (w h : ℕ) (pictured : IsPictured w h (coded_list x)) → IsListed x.group_dim w h (coded_list x) pictured part →
+  among_groups : (part : SectionPart) → 0 < cell_count (channels_in x one_pass part) → (w h : ℕ) (pictured : IsPictured w h (coded_list x)) → IsListed x.group_dim w h (coded_list x) pictured part →
       (part ≡ parts.Global) ⊎ IsAmong part (groups_in_order x)
-  among_groups part n i j has w h pictured (IsGlobal is) = inl is
-  among_groups part n i j has w h pictured (IsLf k lt is) =
-      let some : has_samples part ≡ true = lt-ltb 0 (cell_count (channels_in x one_pass part)) ((counts_cells x.group_dim one_pass (coded_list x) part).1 (record { n = n; x = i; y = j; has = has })) in
+  among_groups part cells w h pictured (IsGlobal is) = inl is
+  among_groups part cells w h pictured (IsLf k lt is) =
+      let some : has_samples part ≡ true = lt-ltb 0 (cell_count (channels_in x one_pass part)) cells in
       let there : IsAmong part (lf_groups lf_count) = subst (λ q. IsAmong q (lf_groups lf_count)) (sym is) (among_range (λ k. parts.Lf k) lf_count k lt) in
       inr (among_left part (with_samples x (lf_groups lf_count)) (with_samples x (pass_groups pass_count)) (among_filter has_samples part (lf_groups lf_count) some there))
-  among_groups part n i j has w h pictured (IsPass k lt is) =
-      let some : has_samples part ≡ true = lt-ltb 0 (cell_count (channels_in x one_pass part)) ((counts_cells x.group_dim one_pass (coded_list x) part).1 (record { n = n; x = i; y = j; has = has })) in
+  among_groups part cells w h pictured (IsPass k lt is) =
+      let some : has_samples part ≡ true = lt-ltb 0 (cell_count (channels_in x one_pass part)) cells in
       let there : IsAmong part (pass_groups pass_count) = subst (λ q. IsAmong q (pass_groups pass_count)) (sym is) (among_range (λ k. parts.Pass 0 k) pass_count k lt) in
       inr (among_right part (with_samples x (lf_groups lf_count)) (with_samples x (pass_groups pass_count)) (among_filter has_samples part (pass_groups pass_count) some there))
 
@@ -169,8 +169,9 @@ module _ {S D : Type 0} (x : Image S D) where
 
     -- so sections of these parts are complete
     pub complete : (w h : ℕ) → IsPictured w h (coded_list x) → IsComplete x one_pass (first ∷ groups)
-    complete w h pictured part n i j has =
-        let here : IsAmong part (parts.Global ∷ groups_in_order x) = elim (among_groups part n i j has w h pictured (listed x.group_dim w h (coded_list x) pictured part n i j has)) [
+    complete w h pictured part cells =
+        let r = (counts_cells x.group_dim one_pass (coded_list x) part).0 cells in
+        let here : IsAmong part (parts.Global ∷ groups_in_order x) = elim (among_groups part cells w h pictured (listed x.group_dim w h (coded_list x) pictured part r.n r.x r.y r.has)) [
           | inl is ↦ inl (sym is)
           | inr among ↦ inr among
         ] in
