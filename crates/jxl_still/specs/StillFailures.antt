@@ -18,7 +18,7 @@ use Rattle.jxl_modular.specs.Fresh.{fresh}
 use Rattle.jxl_modular.specs.Parsing.{IsStartAt, IsTreeErrorAt, opened}
 use Rattle.jxl_modular.specs.Sections.{SectionsStop}
 use Rattle.jxl_modular.specs.declared.sections.Section.{Section}
-use Rattle.jxlm_sections.specs.CutPicture.{IsOfGlobal}
+use Rattle.jxlm_sections.specs.Splitting.{IsOfGlobal}
 use Rattle.jxl_still.specs.Places.{groups_in_order, own_passes, IsOfGroup, held}
 use Rattle.jxl_still.specs.Stills.{section_is_weighted, weighted_at}
 use Rattle.jxl_still.specs.declared.error.FrameError.{FrameError}

@@ -18,7 +18,7 @@ use Rattle.jxl_modular.specs.Fresh.{fresh}
 use Rattle.jxl_modular.specs.Parsing.{IsStartAt}
 use Rattle.jxl_modular.specs.Sections.{AreDecoded}
 use Rattle.jxl_modular.specs.declared.sections.Section.{Section}
-use Rattle.jxlm_sections.specs.CutPicture.{IsOfGlobal}
+use Rattle.jxlm_sections.specs.Splitting.{IsOfGlobal}
 use Rattle.jxl_still.specs.Places.{groups_in_order, own_passes, IsOfGroup}
 use Rattle.jxl_still.specs.declared.places.Places.{Places}
 

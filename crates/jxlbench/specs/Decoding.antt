@@ -16,7 +16,7 @@ use Rattle.jxlbench.specs.declared.request.Source.TheVariants as sources
 abbrev pub channels_asked : Request → ChannelList
 channels_asked r = image_list (of_one_size r.channels r.width r.height)
 
-module _ {V S : Type 0} (d : Meaning V) (w : Width) (to_int : S → ℤ) (zero : S) (request : Request) (bytes : List ℕ) where
+module _ {V : Type 0} (d : Meaning V) (w : Width) (request : Request) (bytes : List ℕ) where
   -- the grids are the picture at the start of the bytes, in the format of a decoder, at stream index 0
   pub record IsPictureOf (grids : List (Grid ℤ)) : Type 0 where
     pub place : ℕ
@@ -26,7 +26,7 @@ module _ {V S : Type 0} (d : Meaning V) (w : Width) (to_int : S → ℤ) (zero :
   abbrev pub StandsAs : Source → List (Grid ℤ) → Type 0
   StandsAs sources.Picture grids = IsPictureOf grids
   StandsAs (sources.CutPicture group_dim) grids =
-      IsCutPicture d w to_int zero (channels_asked request) group_dim request.bit_depth bytes grids
+      IsCutPicture d w (channels_asked request) group_dim request.bit_depth bytes grids
 
   -- they are the picture that is asked for
   abbrev pub IsAsked : List (Grid ℤ) → Type 0

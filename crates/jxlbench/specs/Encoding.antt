@@ -15,9 +15,9 @@ pub record IsEncodedAs (format : Format) (w : Width) (image : List (Grid ℤ)) (
   pub some : image ≢ [] → IsEncodedIn format image w bytes
 
 -- sum and size are those of the bytes that the picture that is asked for, which stands in the first format, is encoded to
-pub record IsOfEncoded {S : Type 0} (w : Width) (to_int : S → ℤ) (zero : S) (request : Request) (bytes : List ℕ) (sum size : ℕ) : Type 0 where
+pub record IsOfEncoded (w : Width) (request : Request) (bytes : List ℕ) (sum size : ℕ) : Type 0 where
   pub grids : List (Grid ℤ)
-  pub asked : IsAsked plain w to_int zero request bytes grids
+  pub asked : IsAsked plain w request bytes grids
   pub made : List ℕ
   pub encoded : IsEncodedAs request.format w grids made
   pub summed : sum ≡ bytes_checksum made

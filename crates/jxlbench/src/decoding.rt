@@ -1,5 +1,5 @@
 //! One image, decoded again and again between two readings of the clock.
-ghost use Rattle.std.specs.Prelude.{IfOk, IfSome, pos};
+ghost use Rattle.std.specs.Prelude.{IfOk, IfSome};
 ghost use Rattle.jxl_modular.specs.Image.{image_grids};
 ghost use Rattle.jxlbench.specs.Decoding.{IsAsked, IsChecksumOf};
 
@@ -29,7 +29,7 @@ pub fn image<S: Sample, D: Decoder>(
     request: Request,
 ) -> Result<Option<ModularImageDestination<S, D>>>
     ensures { IfOk result (λ made. IfSome made (λ image.
-        IsAsked D.meaning S.width S.to_int (S.from_int (pos 0)) request bytes.now (image_grids S.to_int image))) }
+        IsAsked D.meaning S.width request bytes.now (image_grids S.to_int image))) }
 {
     let channel = ModularChannelParams::new(request.width, request.height);
     let channels = vec![in alloc; channel; request.channels as usize]?;
@@ -57,7 +57,7 @@ fn image_again<S: Sample, D: Decoder>(
     request: Request,
 ) -> Result<Option<ModularImageDestination<S, D>>>
     ensures { IfOk result (λ made. IfSome made (λ image.
-        IsAsked D.meaning S.width S.to_int (S.from_int (pos 0)) request bytes.now (image_grids S.to_int image))) }
+        IsAsked D.meaning S.width request bytes.now (image_grids S.to_int image))) }
 {
     for _ in 1..request.repeat {
         image::<S, D>(alloc, bytes, request)?;
@@ -77,8 +77,7 @@ pub fn measure_decoding<S: Sample, D: Decoder, C: Clock>(
     bytes: &[u8],
     request: Request,
 ) -> std::result::Result<Measured, Failure>
-    ensures { IfOk result (λ measured. IsChecksumOf D.meaning S.width S.to_int (S.from_int (pos 0)) request bytes.now
-        measured.checksum) }
+    ensures { IfOk result (λ measured. IsChecksumOf D.meaning S.width request bytes.now measured.checksum) }
 {
     let start = Instant::now(clock)?;
     let image = image_again::<S, D>(alloc, bytes, request)?;

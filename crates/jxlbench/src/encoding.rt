@@ -1,5 +1,5 @@
 //! One image, encoded again and again between two readings of the clock.
-ghost use Rattle.std.specs.Prelude.{◌≡◌, ◌≢◌, ◌<◌, ◌≤◌, ◌^◌, [], IfOk, IsTrue, length, pos};
+ghost use Rattle.std.specs.Prelude.{◌≡◌, ◌≢◌, ◌<◌, ◌≤◌, ◌^◌, [], IfOk, IsTrue, length};
 ghost use Rattle.std.specs.List.{All};
 ghost use Rattle.jxlm_base.specs.Regions.{store_meanings};
 ghost use Rattle.jxlm_encode.specs.Encoded.{IsSmall};
@@ -72,8 +72,7 @@ pub fn measure_encoding<S: Sample, C: Clock>(
     bytes: &[u8],
     request: Request,
 ) -> Result<Measured, Failure>
-    ensures { IfOk result (λ measured. IsOfEncoded S.width S.to_int (S.from_int (pos 0)) request bytes.now
-        measured.checksum measured.bytes) }
+    ensures { IfOk result (λ measured. IsOfEncoded S.width request bytes.now measured.checksum measured.bytes) }
 {
     let Some(image) = image::<S, PlainDecoder>(alloc, bytes, request)? else {
         return Err(Failure::WrongArguments);

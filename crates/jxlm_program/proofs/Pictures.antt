@@ -97,15 +97,16 @@ out_of_memory d w width height channels bytes error is = record { place = 0; ste
 
 -- ---- what comes of a picture that is cut into sections
 
-module _ {V S : Type 0} (d : Meaning V) (w : Width) (to_int : S → ℤ) (zero : S) (given given' : ChannelList) (dim dim' deep deep' : ℕ) (bytes : List ℕ) (are : given' ≡ given) (cut : dim' ≡ dim) (depth : deep' ≡ deep) where
-  pub cut_picture : (grids : List (Grid ℤ)) → IsCutPicture d w to_int zero given' dim' deep' bytes grids → IsCutPicture d w to_int zero given dim deep bytes grids
+module _ {V : Type 0} (d : Meaning V) (w : Width) (given given' : ChannelList) (dim dim' deep deep' : ℕ) (bytes : List ℕ) (are : given' ≡ given) (cut : dim' ≡ dim) (depth : deep' ≡ deep) where
+  pub cut_picture : (grids : List (Grid ℤ)) → IsCutPicture d w given' dim' deep' bytes grids → IsCutPicture d w given dim deep bytes grids
   cut_picture grids h =
-      subst (λ (l : ChannelList). IsCutPicture d w to_int zero l dim deep bytes grids) are
-      (subst (λ (n : ℕ). IsCutPicture d w to_int zero given' n deep bytes grids) cut
-      (subst (λ (n : ℕ). IsCutPicture d w to_int zero given' dim' n bytes grids) depth h))
+      subst (λ (l : ChannelList). IsCutPicture d w l dim deep bytes grids) are
+      (subst (λ (n : ℕ). IsCutPicture d w given' n deep bytes grids) cut
+      (subst (λ (n : ℕ). IsCutPicture d w given' dim' n bytes grids) depth h))
 
-  pub cut_error : (error : Error) → IsCutPictureError d w to_int zero given' dim' deep' bytes error → IsCutPictureError d w to_int zero given dim deep bytes error
-  cut_error error h =
-      subst (λ (l : ChannelList). IsCutPictureError d w to_int zero l dim deep bytes error) are
-      (subst (λ (n : ℕ). IsCutPictureError d w to_int zero given' n deep bytes error) cut
-      (subst (λ (n : ℕ). IsCutPictureError d w to_int zero given' dim' n bytes error) depth h))
+  module _ {S : Type 0} (to_int : S → ℤ) (zero : S) where
+    pub cut_error : (error : Error) → IsCutPictureError d w to_int zero given' dim' deep' bytes error → IsCutPictureError d w to_int zero given dim deep bytes error
+    cut_error error h =
+        subst (λ (l : ChannelList). IsCutPictureError d w to_int zero l dim deep bytes error) are
+        (subst (λ (n : ℕ). IsCutPictureError d w to_int zero given' n deep bytes error) cut
+        (subst (λ (n : ℕ). IsCutPictureError d w to_int zero given' dim' n bytes error) depth h))

@@ -27,14 +27,14 @@ pub record IsPictureText {V : Type 0} (d : Meaning V) (w : Width) (width height 
   pub printed : text ≡ image_text grids
 
 -- the text is that of the picture of these channels that is cut into sections, which stand at the start of the bytes
-pub record IsCutPictureText {V S : Type 0} (d : Meaning V) (w : Width) (to_int : S → ℤ) (zero : S) (given : ChannelList) (group_dim bit_depth : ℕ) (bytes text : List ℕ) : Type 0 where
+pub record IsCutPictureText {V : Type 0} (d : Meaning V) (w : Width) (given : ChannelList) (group_dim bit_depth : ℕ) (bytes text : List ℕ) : Type 0 where
   pub grids : List (Grid ℤ)
-  pub picture : IsCutPicture d w to_int zero given group_dim bit_depth bytes grids
+  pub picture : IsCutPicture d w given group_dim bit_depth bytes grids
   pub printed : text ≡ image_text grids
 
 -- what is written for the bytes and a command
 abbrev pub Prints : List ℕ → Command → List ℕ → Type 0
 Prints bytes (Decode format width height channels bit_depth samples) text = IsPictureText (decoder_of format) (width_of samples) width height channels bytes bit_depth text
 Prints bytes (Sections format width height channels bit_depth samples group_dim) text =
-    IsCutPictureText (decoder_of format) (width_of samples) (λ v. v) (pos 0) (channels_asked width height channels) group_dim bit_depth bytes text
+    IsCutPictureText (decoder_of format) (width_of samples) (channels_asked width height channels) group_dim bit_depth bytes text
 Prints bytes (Encode format samples) made = IsEncodedText format (width_of samples) bytes made

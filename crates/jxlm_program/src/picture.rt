@@ -88,8 +88,8 @@ pub(crate) fn cut_picture_text<S: Sample, D: Decoder>(
     requires possible { ArePossible width height channels bit_depth }
     requires side { IsGroupDim group_dim }
     ensures { MatchResult result
-        (λ text. IsCutPictureText D.meaning S.width S.to_int (S.from_int (pos 0)) (channels_asked width height channels)
-        group_dim bit_depth bytes.now (string_bytes text))
+        (λ text. IsCutPictureText D.meaning S.width (channels_asked width height channels) group_dim bit_depth bytes.now
+        (string_bytes text))
         (λ error. IsCutPictureError D.meaning S.width S.to_int (S.from_int (pos 0))
         (channels_asked width height channels) group_dim bit_depth bytes.now error) }
 {

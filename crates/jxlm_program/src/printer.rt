@@ -58,8 +58,8 @@ fn sections_made<D: Decoder>(
     requires possible { ArePossible width height channels bit_depth }
     requires side { IsGroupDim group_dim }
     ensures { MatchResult result
-        (λ made. IsCutPictureText D.meaning (width_of samples) (λ v. v) (pos 0) (channels_asked width height channels)
-        group_dim bit_depth bytes.now made.items)
+        (λ made. IsCutPictureText D.meaning (width_of samples) (channels_asked width height channels) group_dim
+        bit_depth bytes.now made.items)
         (λ refusal. IsOfImage (IsCutPictureError D.meaning (width_of samples) (λ v. v) (pos 0)
         (channels_asked width height channels) group_dim bit_depth bytes.now) refusal) }
 {

@@ -3,4 +3,5 @@ pub mod Openings
 pub mod PartLists
 pub mod OnePass
 pub mod Whole
+pub mod WithoutStore
 pub mod Pictures

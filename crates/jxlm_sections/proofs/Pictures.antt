@@ -32,11 +32,13 @@ use Rattle.jxl_modular.specs.Sections.{AllTurn, AreDecoded, IsComplete, Sections
 use Rattle.jxl_modular.specs.declared.sections.Section.{Section}
 use Rattle.jxl_modular.specs.declared.root.Modular.{Modular}
 use Rattle.jxlm_sections.specs.CutErrors.{CutPictureFails, EndsEarly, FirstTruncated, GroupTruncated, HeaderStands, IsSplit, IsTruncated, NoGroups, NoHeader, NoSamples, begun}
-use Rattle.jxlm_sections.specs.CutPicture.{IsCutPicture, IsCutPictureLeft, IsCutPictureRead, StandBefore, groups_in_order, in_a_row, one_pass, with_length}
+use Rattle.jxlm_sections.specs.CutPicture.{AreNumbered, IsCutPicture, IsCutPictureLeft, IsCutPictureRead, StandBefore, groups_in_order, in_a_row, one_pass, with_length}
 use Rattle.jxlm_sections.specs.Splitting.{AreRead, ReadingFails}
 use Rattle.jxlm_sections.proofs.OnePass.{complete, exist, unlike}
 use Rattle.jxlm_sections.proofs.Openings.{StepsOf, opened_steps}
+use Rattle.jxlm_sections.proofs.SectionRows.{all_numbered}
 use Rattle.jxlm_sections.proofs.Whole.{all_whole}
+use Rattle.jxlm_sections.proofs.WithoutStore.{decoded_alone}
 use Rattle.std.proofs.Common.{append_assoc}
 
 -- channels of one picture can be grouped by the one pass
@@ -70,7 +72,7 @@ module _ {S D : Type 0} (d : Meaning D) (w : Width) (to_int : S → ℤ) (zero :
   Fails = CutPictureFails {S = S} d w to_int zero given params.group_dim params.bit_depth bytes partly
 
   abbrev pub Makes : List (Grid ℤ) → Type 0
-  Makes = IsCutPicture {S = S} d w to_int zero given params.group_dim params.bit_depth bytes
+  Makes = IsCutPicture d w given params.group_dim params.bit_depth bytes
 
   -- an image was read from the first section
   pub record HasBegun (first rest : List ℕ) (image : Image S D) (q : ℕ) : Type 0 where
@@ -173,6 +175,9 @@ module _ {S D : Type 0} (d : Meaning D) (w : Width) (to_int : S → ℤ) (zero :
       parts_are : map (λ s. s.part) more ≡ groups_in_order (begun {S = S} d w to_int zero given params.group_dim params.bit_depth bytes b.stands)
       parts_are = read.added.parts_are ∙ ap (λ (i : Image S D). groups_in_order i) b.image_is
 
+      numbered : AreNumbered (global ∷ more)
+      numbered = all_numbered global more read.of_global read.added.groups
+
       begins_there : IsStartAt d None (bytes_of global.bits) given 0 b.stands.head b.stands.config (position_of global.bits)
       begins_there = subst (λ f. IsStartAt d None f given 0 b.stands.head b.stands.config (position_of global.bits)) (b.section_is ∙ sym global_bytes)
           (subst (λ n. IsStartAt d None b.stands.section given 0 b.stands.head b.stands.config n) (b.at ∙ sym global_place) b.stands.start)
@@ -197,8 +202,8 @@ module _ {S D : Type 0} (d : Meaning D) (w : Width) (to_int : S → ℤ) (zero :
             bytes_are = global_bytes ∙ sym b.section_is;
             goes_on = global_place ∙ sym b.at;
             cut = can_be_cut;
-            global = read.of_global;
-            numbered = read.added.groups;
+            global = read.of_global.part;
+            numbered = numbered;
             parts = parts_are;
             cause = e;
             cause_is = refl;
@@ -221,8 +226,8 @@ module _ {S D : Type 0} (d : Meaning D) (w : Width) (to_int : S → ℤ) (zero :
         config = b.stands.config;
         start = begins_there;
         cut = can_be_cut;
-        global = read.of_global;
-        numbered = read.added.groups;
+        global = read.of_global.part;
+        numbered = numbered;
         parts = parts_are;
         left = subst (λ (i : Image S D). SectionsLeave d w to_int zero i one_pass None partly (global ∷ more) whole i.store grids before after) b.image_is
             (subst (λ ss. SectionsLeave d w to_int zero image one_pass None partly ss whole image.store grids before after) sections_are leave);
@@ -242,7 +247,7 @@ module _ {S D : Type 0} (d : Meaning D) (w : Width) (to_int : S → ℤ) (zero :
 
       -- and then there is the picture
       pub picture_made : (grids : List (Grid ℤ)) (before after : ℕ) → AreDecoded d w to_int zero image one_pass None sections grids before after →
-          IsCutPictureRead d w to_int zero given params.group_dim params.bit_depth bytes grids before after
+          IsCutPictureRead d w given params.group_dim params.bit_depth bytes grids before after
       picture_made grids before after done =
           let picture : Makes grids = record {
             first = global;
@@ -253,13 +258,14 @@ module _ {S D : Type 0} (d : Meaning D) (w : Width) (to_int : S → ℤ) (zero :
             config = b.stands.config;
             start = begins_there;
             cut = can_be_cut;
-            global = read.of_global;
-            numbered = read.added.groups;
+            global = read.of_global.part;
+            numbered = numbered;
             parts = parts_are;
             before = before;
             after = after;
-            decoded = subst (λ (i : Image S D). AreDecoded d w to_int zero i one_pass None (global ∷ more) grids before after) b.image_is
-                (subst (λ ss. AreDecoded d w to_int zero image one_pass None ss grids before after) sections_are done);
+            decoded = decoded_alone d w to_int zero (begun {S = S} d w to_int zero given params.group_dim params.bit_depth bytes b.stands) one_pass None (global ∷ more) grids before after
+                (subst (λ (i : Image S D). AreDecoded d w to_int zero i one_pass None (global ∷ more) grids before after) b.image_is
+                (subst (λ ss. AreDecoded d w to_int zero image one_pass None ss grids before after) sections_are done));
           } in
           record { picture = picture; from = refl; to = refl }
 
@@ -267,10 +273,6 @@ module _ {S D : Type 0} (d : Meaning D) (w : Width) (to_int : S → ℤ) (zero :
 chain_sides : (w : Width) (depth : ℕ) (steps : List Step) (l : ChannelList) (image coded : List (Grid ℤ)) → Chain w depth steps l image coded → AreGridsOf l.channels image
 chain_sides w depth [] l image coded c = c.0
 chain_sides w depth (s ∷ ss) l image coded c = c.0
-
-pub picture_sides : {S D : Type 0} (d : Meaning D) (w : Width) (to_int : S → ℤ) (zero : S) (l : ChannelList) (group_dim bit_depth : ℕ) (bytes : List ℕ) (grids : List (Grid ℤ)) → IsCutPicture d w to_int zero l group_dim bit_depth bytes grids → AreGridsOf l.channels grids
-picture_sides d w to_int zero l group_dim bit_depth bytes grids p =
-    chain_sides w bit_depth p.head.coded.steps (record { channels = l.channels; nb_meta = 0 }) grids p.decoded.coded p.decoded.only.chain
 
 pub left_sides : {S D : Type 0} (d : Meaning D) (w : Width) (to_int : S → ℤ) (zero : S) (l : ChannelList) (group_dim bit_depth : ℕ) (bytes : List ℕ) (partly : Bool) (grids : List (Grid ℤ)) (whole : Bool) (before after : ℕ) →
     IsCutPictureLeft d w to_int zero l group_dim bit_depth bytes partly grids whole before after → AreGridsOf l.channels grids

@@ -15,7 +15,7 @@ use Rattle.jxlm_cut.specs.declared.part.SectionPart.{SectionPart}
 use Rattle.jxlm_cut.specs.declared.pass.Pass.{Pass}
 use Rattle.jxl_modular.specs.Image.{Image, coded_list}
 use Rattle.jxl_modular.specs.declared.sections.Section.{Section}
-use Rattle.jxlm_sections.specs.CutPicture.{AreOfGroups, IsOfGroup, StandBefore, groups_in_order, in_a_row, lf_groups, one_pass, pass_groups, with_length, with_samples}
+use Rattle.jxlm_sections.specs.CutPicture.{AreNumbered, StandBefore, groups_in_order, in_a_row, lf_groups, one_pass, pass_groups, with_length, with_samples}
 use Rattle.std.specs.Prelude.{IsFalse}
 use Rattle.std.proofs.lemmas.List.{length-map}
 use Rattle.jxlm_base.specs.ErrorKind.{BadSqueeze, Eof, kind_of}
@@ -23,7 +23,7 @@ use Rattle.jxlm_base.specs.declared.error.Error.{Error}
 use Rattle.jxlm_cut.specs.Cutting.{can_cut}
 use Rattle.jxlm_transform.proofs.Failures.{unless_so}
 use Rattle.jxlm_sections.specs.CutErrors.{EndsEarly, IsSplit, IsTruncated}
-use Rattle.jxlm_sections.specs.Splitting.{AreAdded, ReadingFails}
+use Rattle.jxlm_sections.specs.Splitting.{AreAdded, AreOfGroups, IsOfGlobal, IsOfGroup, ReadingFails}
 use Rattle.jxlm_sections.specs.Inner.Added.{AddingFails}
 
 -- ---- one section
@@ -178,6 +178,19 @@ all_added {S} {D} x x' ps before begun left between there after rest image passe
     let both : AreAdded (groups ps) begun left after rest = added_then _ _ begun left between there after rest p q in
     let cut : AreAdded (groups_in_order x') begun left after rest = subst (λ (l : List Pass). AreAdded (groups l) begun left after rest) passes both in
     subst (λ (b : List Section). AreAdded (groups_in_order x) b left after rest) start (subst (λ (y : Image S D). AreAdded (groups_in_order y) begun left after rest) image cut)
+
+-- ---- all sections
+
+some_before : (n : ℕ) → nat_lt 0 (suc n) ≡ true
+some_before n = grind (arith, nat_tests)
+
+-- that of the global part is the first, and those of groups come after it
+pub all_numbered : (global : Section) (groups : List Section) → IsOfGlobal global → AreOfGroups 1 groups → AreNumbered (global ∷ groups)
+all_numbered global groups first more zero d within = (first.stream, first.nested, λ some. absurd (omega (arith, some)))
+all_numbered global groups first more (suc n) d within =
+    let next : 1 + n ≡ suc n = omega arith in
+    let group : IsOfGroup (suc n) (get_or groups n d) = subst (λ (m : ℕ). IsOfGroup m (get_or groups n d)) next (more n d (omega (arith, within))) in
+    (group.stream, group.nested ∙ sym (some_before n), λ some. group.begins)
 
 -- ---- a section that is truncated
 

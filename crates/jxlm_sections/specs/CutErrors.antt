@@ -9,6 +9,7 @@ use Rattle.jxlm_base.specs.Grid.{Grid}
 use Rattle.jxlm_base.specs.declared.error.Error.{Error}
 use Rattle.jxlm_transform.specs.Channels.{ChannelList}
 use Rattle.jxlm_cut.specs.Cutting.{can_cut}
+use Rattle.jxlm_cut.specs.declared.part.SectionPart.TheVariants as parts
 use Rattle.jxlm_header.specs.Opening.{Opening}
 use Rattle.jxlm_ma.specs.Tree.{Config}
 use Rattle.jxl_modular.specs.Fresh.{fresh}
@@ -16,7 +17,7 @@ use Rattle.jxl_modular.specs.Image.{Image}
 use Rattle.jxl_modular.specs.Parsing.{IsStartAt, IsTreeErrorAt, opened}
 use Rattle.jxl_modular.specs.Sections.{SectionsStop}
 use Rattle.jxl_modular.specs.declared.sections.Section.{Section}
-use Rattle.jxlm_sections.specs.CutPicture.{AreOfGroups, IsOfGlobal, StandBefore, groups_in_order, one_pass, with_length}
+use Rattle.jxlm_sections.specs.CutPicture.{AreNumbered, StandBefore, groups_in_order, one_pass, with_length}
 
 -- these bytes stand at the start of others, after their number in four bytes, and the rest comes after them
 pub record IsSplit (bytes section rest : List ℕ) : Type 0 where
@@ -81,8 +82,8 @@ module _ {S D : Type 0} (d : Meaning D) (w : Width) (to_int : S → ℤ) (zero :
       pub bytes_are : bytes_of first.bits ≡ header.section
       pub goes_on : position_of first.bits ≡ header.samples_at
       pub cut : IsTrue (can_cut group_dim header.head.coded.list)
-      pub global : IsOfGlobal first
-      pub numbered : AreOfGroups 1 groups
+      pub numbered : AreNumbered (first ∷ groups)
+      pub global : first.part ≡ parts.Global
       pub parts : map (λ s. s.part) groups ≡ groups_in_order (begun header)
       pub cause : Error
       pub cause_is : error ≡ kind_of cause

@@ -1,6 +1,5 @@
--- A picture that is cut into sections, as it stands in the input
--- (ISO/IEC 18181-1, frame: sections; Modular: global and group sub-bitstreams).
-use Rattle.std.specs.Prelude.{Bool, ◌≡◌, ℕ, ◌+◌, ◌%◌, ◌^◌, ◌<◌, ℤ, pos, List, [], ◌∷◌, ◌++◌, length, map, slice_index_or, true, false, nat_lt, IsTrue, None}
+-- A picture that is cut into sections, as it stands in the input (ISO/IEC 18181-1, frame: sections; Modular: groups).
+use Rattle.std.specs.Prelude.{Bool, ◌≡◌, ℕ, ◌%◌, ◌^◌, ◌<◌, ℤ, pos, List, [], ◌∷◌, ◌++◌, length, map, slice_index_or, nat_lt, IsTrue, None}
 use Rattle.std.specs.Int.{Width, w32, to_le_bytes}
 use Rattle.std.specs.List.{All, filter, flat_map, range_with_len}
 use Rattle.jxlm_base.specs.Bits.{bytes_of, position_of}
@@ -26,6 +25,23 @@ use Rattle.jxl_modular.specs.declared.sections.Section.{Section}
 -- the one pass, which holds the shifts 0 to 2
 abbrev pub one_pass : List Pass
 one_pass = (record { number = 0; first_shift = pos 0; end_shift = pos 3 }) ∷ []
+
+-- the image of these channels, as its opening says; it has no store, since where its samples lie is not looked at
+abbrev pub image_by : {D : Type 0} → ChannelList → Opening → Config D → ℕ → ℕ → Image ℤ D
+image_by given head config group_dim bit_depth = record {
+  has_palette = head.has_palette;
+  has_squeeze = head.has_squeeze;
+  weights = head.weights;
+  steps = head.coded.steps;
+  config = config;
+  group_dim = group_dim;
+  bit_depth = bit_depth;
+  given = given.channels;
+  channels = head.coded.list.channels;
+  nb_meta = head.coded.list.nb_meta;
+  store = [];
+  coded = [];
+}
 
 -- these parts as far as they have samples
 abbrev pub with_samples : {S D : Type 0} → Image S D → List SectionPart → List SectionPart
@@ -56,26 +72,14 @@ pub record StandBefore (bytes : List ℕ) (sections : List Section) (rest : List
   pub row : bytes ≡ in_a_row sections ++ rest
   pub fit : All (λ s. length (bytes_of s.bits) < 2 ^ 32) sections
 
--- The section is that of the global part: it has no header of its own.
-pub record IsOfGlobal (s : Section) : Type 0 where
-  pub part : s.part ≡ parts.Global
-  pub stream : s.stream_index ≡ 0
-  pub nested : s.nested ≡ false
+-- Section n has the stream index n; the first has no header of its own, and each other begins with one.
+abbrev pub AreNumbered : List Section → Type 0
+AreNumbered sections = (n : ℕ) (d : Section) → n < length sections → let s : Section = slice_index_or sections n d in
+    (s.stream_index ≡ n % 2 ^ 32) × (s.nested ≡ nat_lt 0 n) × (0 < n → position_of s.bits ≡ 0)
 
--- Section n of all is that of a group: it begins with a header of its own, and its stream index is n.
-pub record IsOfGroup (n : ℕ) (s : Section) : Type 0 where
-  pub stream : s.stream_index ≡ n % 2 ^ 32
-  pub begins : position_of s.bits ≡ 0
-  pub nested : s.nested ≡ true
-
--- sections of groups, numbered from n on
-abbrev pub AreOfGroups : ℕ → List Section → Type 0
-AreOfGroups n sections = (k : ℕ) (d : Section) → k < length sections → IsOfGroup (n + k) (slice_index_or sections k d)
-
--- These are the grids of the picture whose sections stand at the start of the bytes. The first begins with the image's
--- header and tree, and goes on with the global part; each other is of a group. Each codes its part whole, with so many
--- nodes of trees looked at before and after, and together they code the image.
-pub record IsCutPicture {S D : Type 0} (d : Meaning D) (w : Width) (to_int : S → ℤ) (zero : S) (given : ChannelList) (group_dim bit_depth : ℕ) (bytes : List ℕ) (grids : List (Grid ℤ)) : Type 0 where
+-- These are the grids of the picture whose sections stand at the start of the bytes: the first goes on with the global
+-- part after the image's header and tree, each other codes a group, and so many nodes were looked at before and after.
+pub record IsCutPicture {D : Type 0} (d : Meaning D) (w : Width) (given : ChannelList) (group_dim bit_depth : ℕ) (bytes : List ℕ) (grids : List (Grid ℤ)) : Type 0 where
   pub first : Section
   pub groups : List Section
   pub rest : List ℕ
@@ -84,23 +88,22 @@ pub record IsCutPicture {S D : Type 0} (d : Meaning D) (w : Width) (to_int : S �
   pub config : Config D
   pub start : IsStartAt d None (bytes_of first.bits) given 0 head config (position_of first.bits)
   pub cut : IsTrue (can_cut group_dim head.coded.list)
-  pub global : IsOfGlobal first
-  pub numbered : AreOfGroups 1 groups
-  pub parts : map (λ s. s.part) groups ≡ groups_in_order (fresh zero given head config group_dim bit_depth)
+  pub numbered : AreNumbered (first ∷ groups)
+  pub global : first.part ≡ parts.Global
+  pub parts : map (λ s. s.part) groups ≡ groups_in_order (image_by given head config group_dim bit_depth)
   pub before : ℕ
   pub after : ℕ
-  pub decoded : AreDecoded d w to_int zero (fresh zero given head config group_dim bit_depth) one_pass None
+  pub decoded : AreDecoded d w (λ v. v) (pos 0) (image_by given head config group_dim bit_depth) one_pass None
       (first ∷ groups) grids before after
 
 -- Such a picture was read, and the count of nodes that were looked at went from the one number to the other.
-pub record IsCutPictureRead {S D : Type 0} (d : Meaning D) (w : Width) (to_int : S → ℤ) (zero : S) (given : ChannelList) (group_dim bit_depth : ℕ) (bytes : List ℕ) (grids : List (Grid ℤ)) (old new : ℕ) : Type 0 where
-  pub picture : IsCutPicture d w to_int zero given group_dim bit_depth bytes grids
+pub record IsCutPictureRead {D : Type 0} (d : Meaning D) (w : Width) (given : ChannelList) (group_dim bit_depth : ℕ) (bytes : List ℕ) (grids : List (Grid ℤ)) (old new : ℕ) : Type 0 where
+  pub picture : IsCutPicture d w given group_dim bit_depth bytes grids
   pub from : picture.before ≡ old
   pub to : picture.after ≡ new
 
--- The picture as far as it was decoded: its sections stand at the start of the bytes as those of a whole picture do; each
--- left its samples in its turn, which says whether some are missing; and the grids are the only ones that the transforms
--- turn into all samples as they were then. `whole` is true where none is missing.
+-- The same where samples may be missing: each section left its samples in its turn, and the grids are the only ones
+-- that the transforms turn into all samples as they were then. `whole` is true where none is missing.
 pub record IsCutPictureLeft {S D : Type 0} (d : Meaning D) (w : Width) (to_int : S → ℤ) (zero : S) (given : ChannelList) (group_dim bit_depth : ℕ) (bytes : List ℕ) (partly : Bool) (grids : List (Grid ℤ)) (whole : Bool) (old new : ℕ) : Type 0 where
   pub first : Section
   pub groups : List Section
@@ -110,8 +113,8 @@ pub record IsCutPictureLeft {S D : Type 0} (d : Meaning D) (w : Width) (to_int :
   pub config : Config D
   pub start : IsStartAt d None (bytes_of first.bits) given 0 head config (position_of first.bits)
   pub cut : IsTrue (can_cut group_dim head.coded.list)
-  pub global : IsOfGlobal first
-  pub numbered : AreOfGroups 1 groups
+  pub numbered : AreNumbered (first ∷ groups)
+  pub global : first.part ≡ parts.Global
   pub parts : map (λ s. s.part) groups ≡ groups_in_order (fresh zero given head config group_dim bit_depth)
   pub left : SectionsLeave d w to_int zero (fresh zero given head config group_dim bit_depth) one_pass None partly
       (first ∷ groups) whole (fresh zero given head config group_dim bit_depth).store grids old new

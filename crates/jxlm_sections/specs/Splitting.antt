@@ -1,14 +1,32 @@
 -- What splitting the bytes of an image into its sections gives (ISO/IEC 18181-1, frame: sections).
-use Rattle.std.specs.Prelude.{◌≡◌, ℕ, List, [], ◌∷◌, ◌++◌, length, map, ◌⊎◌, IsFalse, IsTrue}
+use Rattle.std.specs.Prelude.{◌≡◌, ℕ, ◌+◌, ◌%◌, ◌^◌, ◌<◌, List, [], ◌∷◌, ◌++◌, length, map, slice_index_or, true, false, ◌⊎◌, IsFalse, IsTrue}
+use Rattle.jxlm_base.specs.Bits.{position_of}
 use Rattle.jxlm_base.specs.ErrorKind.{BadSqueeze, Eof, UnlessNoMemory, kind_of}
 use Rattle.jxlm_base.specs.declared.bits.Bitstream.{Bitstream}
 use Rattle.jxlm_base.specs.declared.error.Error.{Error}
 use Rattle.jxlm_cut.specs.Cutting.{can_cut}
 use Rattle.jxlm_cut.specs.declared.part.SectionPart.{SectionPart}
+use Rattle.jxlm_cut.specs.declared.part.SectionPart.TheVariants as parts
 use Rattle.jxl_modular.specs.Image.{Image, coded_list}
 use Rattle.jxl_modular.specs.declared.sections.Section.{Section}
 use Rattle.jxlm_sections.specs.CutErrors.{EndsEarly}
-use Rattle.jxlm_sections.specs.CutPicture.{AreOfGroups, IsOfGlobal, StandBefore, groups_in_order}
+use Rattle.jxlm_sections.specs.CutPicture.{StandBefore, groups_in_order}
+
+-- The section is that of the global part: it has no header of its own.
+pub record IsOfGlobal (s : Section) : Type 0 where
+  pub part : s.part ≡ parts.Global
+  pub stream : s.stream_index ≡ 0
+  pub nested : s.nested ≡ false
+
+-- Section n of all is that of a group: it begins with a header of its own, and its stream index is n.
+pub record IsOfGroup (n : ℕ) (s : Section) : Type 0 where
+  pub stream : s.stream_index ≡ n % 2 ^ 32
+  pub begins : position_of s.bits ≡ 0
+  pub nested : s.nested ≡ true
+
+-- sections of groups, numbered from n on
+abbrev pub AreOfGroups : ℕ → List Section → Type 0
+AreOfGroups n sections = (k : ℕ) (d : Section) → k < length sections → IsOfGroup (n + k) (slice_index_or sections k d)
 
 -- Behind the sections before stand more now, of these parts, and the bytes that were left have these and then the rest.
 pub record AreAdded (parts : List SectionPart) (before : List Section) (left : List ℕ) (after : List Section) (rest : List ℕ) : Type 0 where

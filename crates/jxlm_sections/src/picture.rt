@@ -75,8 +75,8 @@ pub fn decode_cut<S: Sample, D: Decoder>(
     // Where no sample is missing, it is the picture whose sections stand at the start of the bytes.
     ensures whole { IfOk result (λ made. IfSome made (λ cut. allow_partial ≡ false → IsTrue cut.whole)) }
     ensures picture { IfOk result (λ made. IfSome made (λ cut. IsTrue cut.whole → IsCutPictureRead D.meaning S.width
-        S.to_int (S.from_int (pos 0)) (image_list params.entry.channels.items) params.entry.group_dim
-        params.entry.bit_depth bytes.now (image_grids S.to_int cut.image) steps.old steps.new)) }
+        (image_list params.entry.channels.items) params.entry.group_dim params.entry.bit_depth bytes.now
+        (image_grids S.to_int cut.image) steps.old steps.new)) }
 
     // With no channels nothing of trees is looked at.
     ensures unread { params.entry.channels.items ≡ [] → steps.new ≡ steps.old }
@@ -139,16 +139,16 @@ pub fn decode_cut_picture<S: Sample, D: Decoder>(
 
     // With no channels there is no picture; else it is the one whose sections stand at the start of the bytes.
     ensures none { (result ≡ Ok None) ↔ (params.entry.channels.items ≡ []) }
-    ensures picture { IfOk result (λ made. IfSome made (λ picture. IsCutPicture D.meaning S.width S.to_int
-        (S.from_int (pos 0)) (image_list params.entry.channels.items) params.entry.group_dim params.entry.bit_depth
-        bytes.now (image_grids S.to_int picture))) }
+    ensures picture { IfOk result (λ made. IfSome made (λ picture. IsCutPicture D.meaning S.width
+        (image_list params.entry.channels.items) params.entry.group_dim params.entry.bit_depth bytes.now
+        (image_grids S.to_int picture))) }
     ensures sides { IfOk result (λ made. IfSome made (λ picture.
         AreGridsOf (image_list params.entry.channels.items).channels (image_grids S.to_int picture))) }
 
     // What was looked at of trees is counted; with no channels it is nothing.
-    ensures counted { IfOk result (λ made. IfSome made (λ picture. IsCutPictureRead D.meaning S.width S.to_int
-        (S.from_int (pos 0)) (image_list params.entry.channels.items) params.entry.group_dim params.entry.bit_depth
-        bytes.now (image_grids S.to_int picture) steps.old steps.new)) }
+    ensures counted { IfOk result (λ made. IfSome made (λ picture. IsCutPictureRead D.meaning S.width
+        (image_list params.entry.channels.items) params.entry.group_dim params.entry.bit_depth bytes.now
+        (image_grids S.to_int picture) steps.old steps.new)) }
     ensures unread { params.entry.channels.items ≡ [] → steps.new ≡ steps.old }
 
     // Or it is the first error.

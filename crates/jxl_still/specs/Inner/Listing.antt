@@ -12,7 +12,7 @@ use Rattle.jxlm_cut.specs.declared.part.SectionPart.{SectionPart}
 use Rattle.jxlm_cut.specs.declared.pass.Pass.{Pass}
 use Rattle.jxl_modular.specs.Image.{Image, coded_list}
 use Rattle.jxl_modular.specs.declared.sections.Section.{Section}
-use Rattle.jxlm_sections.specs.CutPicture.{IsOfGlobal}
+use Rattle.jxlm_sections.specs.Splitting.{IsOfGlobal}
 use Rattle.jxl_still.specs.Places.{IsOfGroup, groups_in_order, own_passes}
 use Rattle.jxl_still.specs.StillFailures.{Lacks}
 use Rattle.jxl_still.specs.declared.error.FrameError.{FrameError}

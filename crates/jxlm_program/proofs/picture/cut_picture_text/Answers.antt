@@ -18,8 +18,9 @@ returns-in_err-image g c =
     let params = c.without_tree-params.result in
     let are = asked c.args.width c.args.height c.args.channels params.channels.items (rw c.without_tree-params.ensures c.in_ok-channels.ensures) in
     rw (e.1, e.2)
-    (cut_error g.D.Decoder.meaning g.S.Sealed.width g.S.Sealed.to_int (g.S.Sealed.from_int (pos 0)) (channels_asked c.args.width c.args.height c.args.channels) (image_list params.channels.items)
-    c.args.group_dim params.group_dim c.args.bit_depth params.bit_depth c.args.bytes.now are (rw c.without_tree-params.ensures (refl {a = c.args.group_dim})) (rw c.without_tree-params.ensures (refl {a = c.args.bit_depth})) _ c.in_err-image.ensures.err)
+    (cut_error g.D.Decoder.meaning g.S.Sealed.width (channels_asked c.args.width c.args.height c.args.channels) (image_list params.channels.items)
+    c.args.group_dim params.group_dim c.args.bit_depth params.bit_depth c.args.bytes.now are (rw c.without_tree-params.ensures (refl {a = c.args.group_dim})) (rw c.without_tree-params.ensures (refl {a = c.args.bit_depth}))
+    g.S.Sealed.to_int (g.S.Sealed.from_int (pos 0)) _ c.in_err-image.ensures.err)
 
 pub returns-in_ok-print_image-in-Some : goal.returns-in_ok-print_image-in-Some
 returns-in_ok-print_image-in-Some g c =
@@ -27,7 +28,7 @@ returns-in_ok-print_image-in-Some g c =
     let are = asked c.args.width c.args.height c.args.channels params.channels.items (rw c.without_tree-params.ensures c.in_ok-channels.ensures) in
     record {
       grids = image_grids g.S.Sealed.to_int c.in-Some.image;
-      picture = cut_picture g.D.Decoder.meaning g.S.Sealed.width g.S.Sealed.to_int (g.S.Sealed.from_int (pos 0)) (channels_asked c.args.width c.args.height c.args.channels) (image_list params.channels.items)
+      picture = cut_picture g.D.Decoder.meaning g.S.Sealed.width (channels_asked c.args.width c.args.height c.args.channels) (image_list params.channels.items)
           c.args.group_dim params.group_dim c.args.bit_depth params.bit_depth c.args.bytes.now are (rw c.without_tree-params.ensures (refl {a = c.args.group_dim})) (rw c.without_tree-params.ensures (refl {a = c.args.bit_depth})) _ (rw c.in-Some.is at c.in_ok-image.ensures.picture);
       printed = c.in_ok-print_image-in-Some.ensures ∙ ap (λ s. image_text (map (meanings g.S.Sealed.to_int) s)) c.image_channels.ensures.grids;
     }

@@ -2,8 +2,8 @@ use Rattle.std.proofs.Common.{◌≡◌, ◌%◌, ◌^◌, ◌++◌, ◌∷◌, 
 use Rattle.jxl_modular.specs.GroupParts.{section_part}
 use Rattle.jxl_modular.specs.declared.sections.Section.{Section}
 use Rattle.jxlm_base.specs.Bits.{bytes_of}
-use Rattle.jxlm_sections.specs.CutPicture.{IsOfGroup}
 use Rattle.jxlm_sections.specs.CutErrors.{IsSplit}
+use Rattle.jxlm_sections.specs.Splitting.{IsOfGroup}
 use Rattle.jxlm_sections.proofs.SectionRows.{one_added}
 use Rattle.jxlm_sections.proofs.reading.Sections.add.Goals as goal
 
