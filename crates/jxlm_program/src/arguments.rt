@@ -25,7 +25,8 @@ impl Format {
 
     /// The format that is read where this word comes first: `decode` or `decode2`.
     fn of_decode(word: &str) -> Option<Format>
-        ensures { MatchOption result (IsOfNoFormat (codes "decode") word.now) (λ f. word.now ≡ name_in (codes "decode") f) }
+        ensures { MatchOption result
+            (IsOfNoFormat (codes "decode") word.now) (λ f. word.now ≡ name_in (codes "decode") f) }
     {
         match word {
             "decode" => Some(Format::First),
@@ -36,7 +37,8 @@ impl Format {
 
     /// The format that sections are read in where this word comes first: `sections` or `sections2`.
     fn of_sections(word: &str) -> Option<Format>
-        ensures { MatchOption result (IsOfNoFormat (codes "sections") word.now) (λ f. word.now ≡ name_in (codes "sections") f) }
+        ensures { MatchOption result
+            (IsOfNoFormat (codes "sections") word.now) (λ f. word.now ≡ name_in (codes "sections") f) }
     {
         match word {
             "sections" => Some(Format::First),
@@ -47,7 +49,8 @@ impl Format {
 
     /// The format that is written where this word comes first: `encode` or `encode2`.
     fn of_encode(word: &str) -> Option<Format>
-        ensures { MatchOption result (IsOfNoFormat (codes "encode") word.now) (λ f. word.now ≡ name_in (codes "encode") f) }
+        ensures { MatchOption result
+            (IsOfNoFormat (codes "encode") word.now) (λ f. word.now ≡ name_in (codes "encode") f) }
     {
         match word {
             "encode" => Some(Format::First),
