@@ -1,10 +1,10 @@
 -- One more cell of a row is read from the row above it.
-use Rattle.std.proofs.Common.{◌≡◌, ℕ, zero, suc, ◌+◌, ◌<◌, List, Contains, length, take, map, Ok, Err, Result, refl, sym, ap, ◌∙◌, subst, arith, ℤ, pos, ◌+ℤ◌, ◌-ℤ◌, ◌*ℤ◌}
+use Rattle.std.proofs.Common.{◌≡◌, ℕ, zero, suc, ◌+◌, ◌<◌, List, Contains, length, take, map, Ok, Err, Result, refl, sym, ap, ◌∙◌, subst, arith, rules, ℤ, pos, ◌+ℤ◌, ◌-ℤ◌, ◌*ℤ◌}
 use Rattle.std.specs.Prelude.{get_or, slice_set}
 use Rattle.std.specs.Int.{Width, w32, int_wrap}
 use Rattle.std.proofs.Math.IntN.{+ℤ_idr, *ℤ_comm, suc_ℤ-*ℤ, zero-*ℤ, +ℤ_idl}
 use Rattle.std.proofs.Math.ListN.{get_or-map}
-use Rattle.std.proofs.lemmas.Int.{SFits-int_wrap, int_wrap-add_left, int_wrap-add_right}
+use Rattle.std.proofs.lemmas.Int.{SFits-int_wrap, int_wrap_fits, int_wrap-add_left, int_wrap-add_right}
 use Rattle.std.proofs.lemmas.List.{get_or-set_same, get_or-take, length-map, length-take-le, map-set}
 use Rattle.jxlm_base.specs.Bits.{bytes_of, position_of}
 use Rattle.jxlm_base.specs.Decoding.{IsLawful, Meaning, Taken}
@@ -65,6 +65,10 @@ module _ (above row : List ℤ) where
 pub sample_above_is : {X : Type 0} (to_int : X → ℤ) (above : List X) (x : ℕ) (n other : X) (e : ℤ) → n ≡ get_or above x other → to_int other ≡ e → to_int n ≡ get_or (map to_int above) x e
 sample_above_is to_int above x n other e is at = ap to_int is ∙ sym (get_or-map to_int above x other) ∙ ap (get_or (map to_int above) x) at
 
+-- the sample of 0 stands for 0
+pub zero_sample : {X : Type 0} (w : Width) (to_int : X → ℤ) (from_int : ℤ → X) → ((z : ℤ) → to_int (from_int z) ≡ z) → (v : X) → v ≡ from_int (int_wrap w (pos 0)) → to_int v ≡ pos 0
+zero_sample w to_int from_int back v is = ap to_int is ∙ back (int_wrap w (pos 0)) ∙ int_wrap_fits w (pos 0) (search rules)
+
 -- before column 0
 pub left_first : {X : Type 0} {to_int : X → ℤ} {above row : List X} (w none : X) → w ≡ get_or above 0 none → to_int none ≡ pos 0 → AreLeft to_int above row 0 w w
 left_first {to_int = to_int} {above = above} w none is zero_is = let west = sample_above_is to_int above 0 w none (pos 0) is zero_is in record { west = west; north_west = west }
@@ -95,8 +99,10 @@ module _ {X : Type 0} {to_int : X → ℤ} {above row : List X} {x : ℕ} {w nw 
     -- property 9, as the code computes it
     pub property_9_is : int_wrap w32 (to_int w -ℤ to_int nw +ℤ to_int n) ≡ property_9_in A (take x R) (length (take x R))
     property_9_is =
-        rw (left.west, left.north_west, north)
-        (sym (ap (property_9_in A (take x R)) (length-take-le x R (omega (arith, in_row))) ∙ property_9_before A R x))
+        ap (λ z. int_wrap w32 (z -ℤ to_int nw +ℤ to_int n)) left.west
+        ∙ ap (λ z. int_wrap w32 (west_in A R x -ℤ z +ℤ to_int n)) left.north_west
+        ∙ ap (λ z. int_wrap w32 (west_in A R x -ℤ north_west_in A R x +ℤ z)) north
+        ∙ sym (ap (property_9_in A (take x R)) (length-take-le x R (omega (arith, in_row))) ∙ property_9_before A R x)
 
     -- the sample of a token over the clamped gradient, as the code computes it
     pub gradient_sample : (width : Width) (from_int : ℤ → X) → ((z : ℤ) → to_int (from_int z) ≡ z) → ((z : ℤ) → int_wrap width (int_wrap w32 z) ≡ int_wrap width z) → (l : Leaf) → IsPlain l →
@@ -105,8 +111,12 @@ module _ {X : Type 0} {to_int : X → ℤ} {above row : List X} {x : ℕ} {w nw 
     gradient_sample width from_int back after l plain token u g v hu hg hv =
         let iu : to_int u ≡ int_wrap width (unpack token) = ap to_int hu ∙ back (int_wrap width (unpack token)) in
         let ig : to_int g ≡ clamped_gradient (north_in A R x) (west_in A R x) (north_west_in A R x) =
-        ap to_int hg ∙ back (clamped_gradient (to_int n) (to_int w) (to_int nw)) ∙ rw (left.west, left.north_west, north) refl in
-        ap to_int hv ∙ back (int_wrap width (to_int u +ℤ to_int g)) ∙ rw (iu, ig) refl
+        ap to_int hg ∙ back (clamped_gradient (to_int n) (to_int w) (to_int nw))
+        ∙ ap (λ z. clamped_gradient z (to_int w) (to_int nw)) north
+        ∙ ap (λ z. clamped_gradient (north_in A R x) z (to_int nw)) left.west
+        ∙ ap (λ z. clamped_gradient (north_in A R x) (west_in A R x) z) left.north_west in
+        ap to_int hv ∙ back (int_wrap width (to_int u +ℤ to_int g))
+        ∙ ap (λ z. int_wrap width (z +ℤ to_int g)) iu ∙ ap (λ z. int_wrap width (int_wrap width (unpack token) +ℤ z)) ig
         ∙ sym (reduced_sample width l token (clamped_gradient (north_in A R x) (west_in A R x) (north_west_in A R x)) plain after)
         ∙ ap (λ z. sample_of width l z token) (sym (gradient_next_is A R x in_row))
 

@@ -10,7 +10,8 @@ use Rattle.jxlm_base.proofs.Tokens.{token_of, unpack_fits, unpack_one}
 use Rattle.jxlm_part.specs.Coded.{sample_of}
 use Rattle.jxlm_part.specs.Token.{EachHasToken}
 
-mul_assoc : (a b c : ℤ) → (a *ℤ b) *ℤ c ≡ a *ℤ (b *ℤ c)
+-- products of whole numbers, and of powers of 2
+pub mul_assoc : (a b c : ℤ) → (a *ℤ b) *ℤ c ≡ a *ℤ (b *ℤ c)
 mul_assoc a b c =
     let ab = product_is a b in
     let bc = product_is b c in
@@ -27,13 +28,13 @@ record Inverse (m k : ℕ) : Type 0 where
   times : ℕ
   is : by * m ≡ 1 + 2 ^ k * times
 
-double : (h m n q x : ℕ) → m ≡ 2 * h + 1 → x * m ≡ 1 + n * (2 * q + 1) → (x + n) * m ≡ 1 + 2 * n * (q + h + 1)
+pub double : (h m n q x : ℕ) → m ≡ 2 * h + 1 → x * m ≡ 1 + n * (2 * q + 1) → (x + n) * m ≡ 1 + 2 * n * (q + h + 1)
 double h m n q x odd e = let t : n * m ≡ n * (2 * h + 1) = ap (λ z. n * z) odd in omega (arith, e, t)
 
-halve : (m n q x t : ℕ) → t ≡ 2 * q → x * m ≡ 1 + n * t → x * m ≡ 1 + 2 * n * q
+pub halve : (m n q x t : ℕ) → t ≡ 2 * q → x * m ≡ 1 + n * t → x * m ≡ 1 + 2 * n * q
 halve m n q x t h e = let u : n * t ≡ n * (2 * q) = ap (λ z. n * z) h in omega (arith, e, u)
 
-power_suc : (k : ℕ) → 2 ^ suc k ≡ 2 * 2 ^ k
+pub power_suc : (k : ℕ) → 2 ^ suc k ≡ 2 * 2 ^ k
 power_suc k = omega arith
 
 inverse_more : (m h k : ℕ) → m ≡ 2 * h + 1 → (i : Inverse m k) → i.times % 2 < 2 → Inverse m (suc k)

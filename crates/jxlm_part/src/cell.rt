@@ -219,6 +219,5 @@ pub(crate) fn read_by_cells<S: Sample, D: Decoder>(
     let (from, to) = inner_columns(width, line.y);
     read_cells::<S, D, true>(walk, line, rows, row, 0, from)?;
     read_cells::<S, D, false>(walk, line, rows, row, from, to)?;
-    read_cells::<S, D, true>(walk, line, rows, row, to, width)?;
-    Ok(())
+    read_cells::<S, D, true>(walk, line, rows, row, to, width)
 }

@@ -67,10 +67,5 @@ pub fn walked_width(channels: &[PlacedChannel], flats: &[ChannelTree]) -> u32
 pub fn have_samples(channels: &[PlacedChannel]) -> bool
     ensures { IsTrue result ↔ (0 < cell_count (infos channels.now)) }
 {
-    for channel in channels {
-        if channel.info.width > 0 && channel.info.height > 0 {
-            return true;
-        }
-    }
-    false
+    sampled_width(channels) > 0
 }

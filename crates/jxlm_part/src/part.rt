@@ -12,6 +12,7 @@ ghost use Rattle.jxlm_part.specs.Part.{cell_count};
 ghost use Rattle.jxlm_part.specs.Reading.{sampled_width as the_sampled_width};
 ghost use Rattle.jxlm_part.specs.Placed.{PartLies, most_steps, part_placed, standing_in};
 ghost use Rattle.jxlm_part.specs.Progress.{KeepsOutside};
+ghost use Rattle.jxlm_part.specs.Inner.Ended.{IsAnswered};
 ghost use Rattle.jxlm_part.specs.Inner.Ready.{IsReadyFor};
 
 use crate::channels::{have_samples, max_width, sampled_width, walked_width};
@@ -19,7 +20,7 @@ use crate::coding::{PartCoding, PartState, Ready, flat_trees, roomy_state};
 use crate::decode::decode_part;
 use crate::source::{Source, Walk};
 use jxlm_base::bits::Bitstream;
-use jxlm_base::decoder::Decoder;
+use jxlm_base::decoder::{Decoder, DecoderError};
 use jxlm_base::error::{Error, Result};
 use jxlm_base::grid::AlignedGrid;
 use jxlm_base::sample::Sample;
@@ -135,11 +136,22 @@ impl<'a, D: Decoder> PlacedPart<'a, D> {
         let Walk { source, .. } = walk;
         *bits = source.bits;
         *steps = source.steps;
-        match decoded {
-            Ok(()) => *partial = false,
-            Err(e) if allow_partial && e.unexpected_eof() => {}
-            Err(e) => return Err(Error::Decoder(e)),
-        }
-        Ok(())
+        answer(decoded, allow_partial, partial)
     }
+}
+
+/// What is answered where the decode of a part's samples ended so. `partial` becomes false where they were all decoded.
+fn answer(
+    decoded: std::result::Result<(), DecoderError>,
+    allow_partial: bool,
+    partial: &mut bool,
+) -> Result<()>
+    ensures { IsAnswered decoded allow_partial partial.old partial.new result }
+{
+    match decoded {
+        Ok(()) => *partial = false,
+        Err(e) if allow_partial && e.unexpected_eof() => {}
+        Err(e) => return Err(Error::Decoder(e)),
+    }
+    Ok(())
 }

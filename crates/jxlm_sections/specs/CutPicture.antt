@@ -15,7 +15,7 @@ use Rattle.jxlm_cut.specs.declared.pass.Pass.{Pass}
 use Rattle.jxlm_header.specs.Opening.{Opening}
 use Rattle.jxlm_part.specs.Part.{cell_count}
 use Rattle.jxlm_ma.specs.Tree.{Config}
-use Rattle.jxl_modular.specs.Fresh.{fresh}
+use Rattle.jxl_modular.specs.Fresh.{fresh, image_in}
 use Rattle.jxl_modular.specs.Groups.{channels_in}
 use Rattle.jxl_modular.specs.Image.{Image, coded_list}
 use Rattle.jxl_modular.specs.Parsing.{IsStartAt}
@@ -28,20 +28,7 @@ one_pass = (record { number = 0; first_shift = pos 0; end_shift = pos 3 }) ∷ [
 
 -- the image of these channels, as its opening says; it has no store, since where its samples lie is not looked at
 abbrev pub image_by : {D : Type 0} → ChannelList → Opening → Config D → ℕ → ℕ → Image ℤ D
-image_by given head config group_dim bit_depth = record {
-  has_palette = head.has_palette;
-  has_squeeze = head.has_squeeze;
-  weights = head.weights;
-  steps = head.coded.steps;
-  config = config;
-  group_dim = group_dim;
-  bit_depth = bit_depth;
-  given = given.channels;
-  channels = head.coded.list.channels;
-  nb_meta = head.coded.list.nb_meta;
-  store = [];
-  coded = [];
-}
+image_by given head config group_dim bit_depth = image_in [] [] given head config group_dim bit_depth
 
 -- these parts as far as they have samples
 abbrev pub with_samples : {S D : Type 0} → Image S D → List SectionPart → List SectionPart

@@ -4,12 +4,11 @@ use Rattle.std.specs.Int.{w32, int_wrap, cast_signed}
 use Rattle.std.proofs.lemmas.Int.{ints, int_wrap_fits, SFits-int_wrap, int_wrap-add_left, int_wrap-mul_left, int_wrap-mul_right}
 use Rattle.std.proofs.lemmas.Nat.{div-mul-add}
 use Rattle.std.proofs.Math.IntN.{+ℤ_assoc, pos-*ℤ-pos}
-use borrow.Author.Differences.{up, down, same_in, product_is}
 use Rattle.jxlm_base.specs.Numbers.{unpack}
 use Rattle.jxlm_ma.specs.declared.flat.Leaf.{Leaf}
 use Rattle.jxlm_part.specs.Coded.{sample_of}
 use Rattle.jxlm_part.specs.Token.{IsTokenOf}
-use Rattle.jxlm_part.proofs.TokenLaw.{each_has_token}
+use Rattle.jxlm_part.proofs.TokenLaw.{double, each_has_token, halve, mul_assoc, power_suc}
 use Rattle.jxlm_tokens.proofs.OneToken.{readded, times_one}
 
 -- an odd number, times this one, is 1 modulo 2 ^ k
@@ -20,15 +19,6 @@ pub record Undoes (odd k by : ℕ) : Type 0 where
 
 pub first_undoes : (odd : ℕ) → odd % 2 ≡ 1 → Undoes odd 1 1
 first_undoes odd h = record { small = omega arith; times = odd / 2; is = omega (arith, h) }
-
-double : (h m n q x : ℕ) → m ≡ 2 * h + 1 → x * m ≡ 1 + n * (2 * q + 1) → (x + n) * m ≡ 1 + 2 * n * (q + h + 1)
-double h m n q x odd e = let t : n * m ≡ n * (2 * h + 1) = ap (λ z. n * z) odd in omega (arith, e, t)
-
-halve : (m n q x t : ℕ) → t ≡ 2 * q → x * m ≡ 1 + n * t → x * m ≡ 1 + 2 * n * q
-halve m n q x t h e = let u : n * t ≡ n * (2 * q) = ap (λ z. n * z) h in omega (arith, e, u)
-
-power_suc : (k : ℕ) → 2 ^ suc k ≡ 2 * 2 ^ k
-power_suc k = omega arith
 
 power_more : (k : ℕ) → 2 ^ (k + 1) ≡ 2 * 2 ^ k
 power_more k = ap (λ n. 2 ^ n) (let e : k + 1 ≡ suc k = omega arith in e) ∙ power_suc k
@@ -66,17 +56,6 @@ more_undone odd k by uneven some u set =
 
 pub undone_at_end : (odd by : ℕ) → Undoes odd 32 by → by * odd % 2 ^ 32 ≡ 1
 undone_at_end odd by u = let e = u.is in omega (arith, e)
-
-mul_assoc : (a b c : ℤ) → (a *ℤ b) *ℤ c ≡ a *ℤ (b *ℤ c)
-mul_assoc a b c =
-    let ab = product_is a b in
-    let bc = product_is b c in
-    let by = λ (k : ℕ) (m n : ℕ) (e : m ≡ n). ap (λ x. x * k) e in
-    let left = product_is (a *ℤ b) c in
-    let right = product_is a (b *ℤ c) in
-    let ups : up ((a *ℤ b) *ℤ c) ≡ up (a *ℤ (b *ℤ c)) = omega (arith, by (up c) _ _ ab.0, by (down c) _ _ ab.1, by (up a) _ _ bc.0, by (down a) _ _ bc.1) in
-    let downs : down ((a *ℤ b) *ℤ c) ≡ down (a *ℤ (b *ℤ c)) = omega (arith, by (down c) _ _ ab.0, by (up c) _ _ ab.1, by (down a) _ _ bc.0, by (up a) _ _ bc.1) in
-    same_in _ _ (λ i. ups i + sym downs i)
 
 -- what is 1 modulo 2 ^ 32 counts as 1
 wraps_to_one : (n : ℕ) → n % 2 ^ 32 ≡ 1 → int_wrap w32 (pos n) ≡ pos 1

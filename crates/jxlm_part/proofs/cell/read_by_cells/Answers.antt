@@ -1,4 +1,5 @@
-use Rattle.std.proofs.Common.{◌≡◌, ℕ, ℤ, ◌≤◌, true, List, map, length, arith, subst}
+use Rattle.std.proofs.Common.{◌≡◌, ℕ, ℤ, ◌≤◌, true, List, map, length, arith, subst, sym, ◌∙◌, Result, Ok, Err}
+use Rattle.std.specs.Prelude.{OnOk}
 use Rattle.std.specs.Int.{Width}
 use Rattle.std.proofs.lemmas.List.{length-map}
 use Rattle.std.proofs.lemmas.Result.{err_from_is_err_and}
@@ -13,9 +14,11 @@ use Rattle.jxlm_tree.specs.EarlierRows.{HoldRows}
 use Rattle.jxlm_tree.specs.Standing.{IsReady}
 use Rattle.jxlm_tree.specs.declared.earlier.EarlierRow.{EarlierRow}
 use Rattle.jxlm_part.specs.Inner.Paths.{is_walked, steps_walked}
-use Rattle.jxlm_part.specs.Inner.Rows.{IsAtCell, IsAway, IsLine, IsWalked, ReadsCells, rule_on}
+use Rattle.jxlm_part.specs.Inner.Rows.{CellsGive, IsAtCell, IsAway, IsLine, IsWalked, ReadsCells, RowGives, rule_on}
 use Rattle.jxlm_part.specs.Reading.{cost_of}
 use Rattle.jxlm_part.specs.declared.rows.Line.{Line}
+use Rattle.jxlm_part.specs.declared.rows.RowError.{RowError}
+use Rattle.jxlm_part.specs.declared.source.Source.{Source}
 use Rattle.jxlm_part.specs.declared.source.Walk.{Walk}
 use Rattle.jxlm_part.proofs.CellLaws.{is_ready, rows_are}
 use Rattle.jxlm_part.proofs.RowReads.{none_read}
@@ -46,6 +49,16 @@ module _ {D X : Type 0} {l : Line X D} {d : Meaning D} {to_int : X → ℤ} {w :
   abbrev first : ReadsCells d (cost_of l.coding.now) (rule_on l d to_int w (bytes_of walk.source.bits)) (map to_int row) 0 walk.source walk.source
   first = none_read d (cost_of l.coding.now) (rule_on l d to_int w (bytes_of walk.source.bits)) (map to_int row) walk.source
 
+-- what the last cells of a row were read to, the row was
+row_ends : {D X : Type 0} (l : Line X D) (d : Meaning D) (to_int : X → ℤ) (w : Width) (from to : ℕ) (row new : List X) (old walk : Walk X D) (start : Source D) (read : Result (Unit {0}) RowError) →
+    CellsGive l d to_int w from to row new old walk read → ReadsCells d (cost_of l.coding.now) (rule_on l d to_int w (bytes_of start.bits)) (map to_int row) from start old.source → to ≡ length new →
+    RowGives l d to_int w new start walk.source read × OnOk read (IsAtCell l d to_int w (length new) new walk)
+row_ends l d to_int w from to row new old walk start (Ok u) gives before whole = (
+  subst (λ n. ReadsCells d (cost_of l.coding.now) (rule_on l d to_int w (bytes_of start.bits)) (map to_int new) n start walk.source) (whole ∙ sym (length-map new to_int)) (gives.0 start before),
+  subst (λ n. IsAtCell l d to_int w n new walk) whole gives.1,
+)
+row_ends l d to_int w from to row new old walk start (Err e) gives before whole = (gives start before, tt)
+
 pub of-earlier-requires-after_bounds : goal.of-earlier-requires-after_bounds
 of-earlier-requires-after_bounds g c κs within = (omega arith, ready c.requires.at c.requires.line)
 
@@ -71,18 +84,8 @@ returns-in_err-read_cells-2-clause-gives g c =
 pub read_cells-requires-3-clause-line : goal.read_cells-requires-3-clause-line
 read_cells-requires-3-clause-line g c κs within = with_rows c.requires.at c.requires.line c.requires.walked _ (rw c.rows-rows.ensures c.of-earlier.ensures.held)
 
-pub returns-in_err-read_cells-3-clause-gives : goal.returns-in_err-read_cells-3-clause-gives
-returns-in_err-read_cells-3-clause-gives g c =
-    let p = err_from_is_err_and c.from_residual-in_err-read_cells-3.result c.from_residual-in_err-read_cells-3.ensures.1 in
-    rw (p.1, p.2) (c.in_err-read_cells-3.ensures _ (c.in_ok-read_cells-2.ensures.0 _ (c.in_ok-read_cells.ensures.0 _ (first c.requires.at))))
-
 pub returns : goal.returns
 returns g c =
-    let now = c.in_ok-read_cells-3.ensures.1.long in
-    let before = c.requires.at.long in
-    let same : length c.args.row.now ≡ length c.read_cells-3.new.row = omega (arith, now, before) in
-    let whole : length c.args.row.now ≡ length (map g.S.Sealed.to_int c.read_cells-3.new.row) = let m = length-map c.read_cells-3.new.row g.S.Sealed.to_int in omega (arith, m, same) in
-    record {
-      gives = rw (← whole) (c.in_ok-read_cells-3.ensures.0 _ (c.in_ok-read_cells-2.ensures.0 _ (c.in_ok-read_cells.ensures.0 _ (first c.requires.at))));
-      at = rw (← same) c.in_ok-read_cells-3.ensures.1;
-    }
+    let whole = sym (c.read_cells-3.auto.row ∙ c.read_cells-2.auto.row ∙ c.read_cells.auto.row) in
+    let ends = row_ends _ _ _ _ _ _ _ _ c.read_cells-2.new.walk _ _ c.read_cells-3.result c.read_cells-3.ensures (c.in_ok-read_cells-2.ensures.0 _ (c.in_ok-read_cells.ensures.0 _ (first c.requires.at))) whole in
+    record { gives = ends.0; at = ends.1 }

@@ -1,13 +1,12 @@
-use Rattle.std.proofs.Common.{pos, rules, ◌≡◌, map, length, arith, refl}
-use Rattle.std.proofs.lemmas.Grind.{common_steps}
+use Rattle.std.proofs.Common.{rules, ◌≡◌, map, length, arith, refl}
 use Rattle.std.proofs.lemmas.List.{length-map}
-use Rattle.jxlm_part.proofs.GradientCells.{below_ends, below_more, known_now, left_first}
+use Rattle.jxlm_part.proofs.GradientCells.{below_ends, below_more, known_now, left_first, zero_sample}
 use Rattle.jxlm_part.proofs.RowReads.{none_read}
 use Rattle.jxlm_part.proofs.gradient.read_below.Goals as goal
 
 pub loop-x-init : goal.loop-x-init
 loop-x-init g c =
-    let zero : g.S.Sealed.to_int c.from_i32.result ≡ pos 0 = grind (arith, common_steps) in
+    let zero = zero_sample g.S.Sealed.width g.S.Sealed.to_int g.S.Sealed.from_int g.met.S.Sealed.to_int_from_int c.from_i32.result c.from_i32.ensures in
     record { len = refl; below = record { reads = none_read _ _ _ _ _; left = left_first _ _ c.sample_above-w.ensures zero } }
 
 pub read_varint_with_multiplier_clustered-requires : goal.read_varint_with_multiplier_clustered-requires

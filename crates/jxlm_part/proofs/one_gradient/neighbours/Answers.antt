@@ -1,9 +1,8 @@
 use Rattle.std.proofs.Common.{◌≡◌, ℕ, ℤ, suc, ◌-◌, ◌<◌, ◌∙◌, List, ap, arith, length, map, pos, sym}
 use Rattle.std.specs.Prelude.{get_or}
-use Rattle.std.proofs.lemmas.Grind.{common_steps}
 use Rattle.std.proofs.lemmas.List.{get_or-map}
 use Rattle.jxlm_part.specs.Inner.Paths.{AreLeft}
-use Rattle.jxlm_part.proofs.GradientCells.{left_first, sample_above_is}
+use Rattle.jxlm_part.proofs.GradientCells.{left_first, sample_above_is, zero_sample}
 use Rattle.jxlm_part.proofs.one_gradient.neighbours.Goals as goal
 
 left_at : {X : Type 0} (to_int : X → ℤ) (above row : List X) (from k : ℕ) (w nw : X) → from ≡ suc k → k < length row → w ≡ get_or row k w → nw ≡ get_or above k w → AreLeft to_int above row from w nw
@@ -13,7 +12,7 @@ left_at to_int above row from k w nw next inside is up =
 
 pub returns-then-from-eq0 : goal.returns-then-from-eq0
 returns-then-from-eq0 g c =
-    let zero : g.S.Sealed.to_int c.from_i32.result ≡ pos 0 = grind (arith, common_steps) in
+    let zero = zero_sample g.S.Sealed.width g.S.Sealed.to_int g.S.Sealed.from_int g.met.S.Sealed.to_int_from_int c.from_i32.result c.from_i32.ensures in
     rw c.if-from-eq0.true (left_first _ _ c.sample_above-w.ensures zero)
 
 pub returns-else-from-eq0 : goal.returns-else-from-eq0
