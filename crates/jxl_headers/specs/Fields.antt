@@ -1,5 +1,5 @@
 -- Fields of headers (ISO/IEC 18181-1, notation of bundles and fields).
-use Rattle.std.specs.Prelude.{◌≡◌, ℕ, zero, suc, ◌+◌, ◌-◌, ◌*◌, ◌%◌, ◌≤◌, List, length, Bool, nat_lt, ◌==◌, if◌then◌else◌, Some, Ok, Err, codes, count_ones, sum}
+use Rattle.std.specs.Prelude.{◌≡◌, ℕ, zero, suc, ◌+◌, ◌-◌, ◌*◌, ◌%◌, ◌≤◌, List, length, Bool, nat_lt, ◌==◌, if◌then◌else◌, Option, Some, None, Ok, Err, codes, count_ones, sum}
 use Rattle.jxlm_base.specs.ErrorKind.{Eof, BadEnum}
 use Rattle.jxlm_base.specs.Grammar.{Grammar, number, flag, u32, give, fail, either, repeated, ◌>>=◌}
 use Rattle.jxlm_base.specs.declared.bits.U32Spec.TheVariants.{Const, Offset}
@@ -18,6 +18,18 @@ unfoldable pub long : Grammar ℕ
 long = do
   selector ← number 2
   either (selector == 0) (give 0) (either (selector == 1) (number 4 >>= λ v. give (1 + v)) (either (selector == 2) (number 8 >>= λ v. give (17 + v)) grouped))
+
+-- a field where it is there, and else this value
+abbrev pub when : {X : Type 0} → Bool → Grammar X → X → Grammar X
+when there field usual = either there field (give usual)
+
+-- a field after a flag that says whether it is there
+abbrev pub optional : {X : Type 0} → Grammar X → Grammar (Option X)
+optional field = flag >>= λ there. when there (field >>= λ v. give (Some v)) None
+
+-- this value, where a flag says so, or what is told
+abbrev pub usual_or : {X : Type 0} → X → Grammar X → Grammar X
+usual_or usual told = flag >>= λ all. either all (give usual) told
 
 -- the number of an enumeration, before it is known to mean something
 unfoldable pub enumerated : Grammar ℕ
