@@ -1,6 +1,6 @@
 -- Headers are read exactly: what is read stands there, and what stands there is read.
 use Rattle.std.proofs.Common.{◌≡◌, ℕ, zero, suc, ◌+◌, ◌*◌, ◌/◌, ◌%◌, Bool, true, false, List, Ok, Err, Some, None, Result, refl, ap, sym}
-use Rattle.std.specs.Prelude.{◌-◌, nat_lt, codes, ◌==◌, ◌&&◌, ◌||◌, not, count_ones, sum}
+use Rattle.std.specs.Prelude.{◌-◌, nat_lt, nat_le, codes, ◌==◌, ◌&&◌, ◌||◌, not, count_ones, sum}
 use Rattle.jxlm_base.specs.Decoding.{Found}
 use Rattle.jxlm_base.specs.ErrorKind.{ErrorAt, BadEnum}
 use Rattle.jxlm_base.specs.Grammar.{Grammar, IsExact, give, fail, ◌>>=◌}
@@ -9,7 +9,7 @@ use Rattle.jxlm_base.proofs.GrammarLaws.{exact-give, exact-fail, exact-number, e
 use Rattle.jxl_headers.specs.Fields.{groups, long, when, optional, usual_or, enumerated, meant, checked, skipped, skipped_bits, extensions, name, here, aligned}
 use Rattle.jxl_headers.specs.Sizes.{side, size, width_at}
 use Rattle.jxl_headers.specs.Channels.{fits_float, bit_depth, usual_channel, extra_channel}
-use Rattle.jxl_headers.specs.Colours.{coordinate, chromaticity, no_colour, primary_colours, no_primaries, white, basis, is_gamma, is_curve, transfer, usual_colours, colour_encoding, usual_tone, tone_mapping}
+use Rattle.jxl_headers.specs.Colours.{coordinate, chromaticity, no_colour, primary_colours, no_primaries, white, basis, is_curve, transfer, usual_colours, colour_encoding, usual_tone, tone_mapping}
 use Rattle.jxl_headers.specs.Images.{animation, display, samples, extra_channels, shown, usual_image, own_image, skipped_if, matrices, image_header}
 use Rattle.jxl_headers.specs.declared.size.Size.{Size}
 
@@ -138,7 +138,7 @@ exact-basis =
 exact-transfer : IsExact transfer
 unfolding transfer
 exact-transfer =
-    bind exact-flag λ by_gamma. bind (exact-when by_gamma 0 (exact-checked (codes "gamma") is_gamma (exact-number 24))) λ g.
+    bind exact-flag λ by_gamma. bind (exact-when by_gamma 0 (exact-checked (codes "gamma") (λ v. nat_le v 10000000 && nat_le 10000000 (8192 * v)) (exact-number 24))) λ g.
     bind (exact-when (not by_gamma) 0 (exact-told (codes "TransferFunction") is_curve)) λ n. exact-give (record { number = n; gamma = g })
 
 pub exact-colours : IsExact colour_encoding

@@ -39,19 +39,15 @@ basis = do
   number ← checked (codes "Primaries") (λ v. (v == 1) || (v == 2) || (v == 9) || (v == 11)) enumerated
   give (record { number = number; own = (← when (number == 2) primary_colours no_primaries) })
 
--- the exponent of light by samples, in 10 millionths, from 1 in 8192 to 1
-abbrev pub is_gamma : ℕ → Bool
-is_gamma v = nat_le v 10000000 && nat_le 10000000 (8192 * v)
-
 -- the curves that have a number, but for 2, which is not known
 abbrev pub is_curve : ℕ → Bool
 is_curve v = (v == 1) || (v == 8) || (v == 13) || (v == 16) || (v == 17) || (v == 18)
 
--- how light follows from samples: by an exponent, or by a curve
+-- how light follows from samples: by its exponent in 10 millionths, from 1 in 8192 to 1, or by a curve
 unfoldable pub transfer : Grammar Transfer
 transfer = do
   by_gamma ← flag
-  gamma ← when by_gamma (checked (codes "gamma") is_gamma (number 24)) 0
+  gamma ← when by_gamma (checked (codes "gamma") (λ v. nat_le v 10000000 && nat_le 10000000 (8192 * v)) (number 24)) 0
   give (record { number = (← when (not by_gamma) (checked (codes "TransferFunction") is_curve enumerated) 0); gamma = gamma })
 
 -- the colours of sRGB, with no profile

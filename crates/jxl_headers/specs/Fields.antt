@@ -1,4 +1,4 @@
--- Fields of headers (ISO/IEC 18181-1, notation of bundles and fields).
+-- Fields of headers (ISO/IEC 18181-1, notation of bundles and fields). In a record `(← field)` is what is read there.
 use Rattle.std.specs.Prelude.{◌≡◌, ℕ, zero, suc, ◌+◌, ◌-◌, ◌*◌, ◌%◌, List, Bool, ◌==◌, Option, Some, None, Ok, codes, count_ones, sum}
 use Rattle.jxlm_base.specs.ErrorKind.{BadEnum}
 use Rattle.jxlm_base.specs.Grammar.{Grammar, number, flag, part, u32, give, fail, either, repeated, ◌>>=◌}

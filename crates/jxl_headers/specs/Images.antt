@@ -1,5 +1,5 @@
 -- The image header (ISO/IEC 18181-1, image header: ImageMetadata and what is before and after it).
-use Rattle.std.specs.Prelude.{ℕ, ◌+◌, ◌/◌, ◌%◌, ◌==◌, ◌&&◌, ◌||◌, nat_le, List, [], ◌∷◌, Bool, true, false, if◌then◌else◌, Option, Some, None, is_some, codes}
+use Rattle.std.specs.Prelude.{ℕ, ◌+◌, ◌/◌, ◌%◌, ◌==◌, ◌&&◌, not, nat_lt, List, [], ◌∷◌, Bool, true, false, if◌then◌else◌, Option, Some, None, is_some, codes}
 use Rattle.std.specs.Option.{option_or}
 use Rattle.jxlm_base.specs.Grammar.{Grammar, number, flag, u32, give, repeated, ◌>>=◌}
 use Rattle.jxlm_base.specs.declared.bits.U32Spec.TheVariants.{Const, Offset}
@@ -8,7 +8,6 @@ use Rattle.jxl_headers.specs.Sizes.{size}
 use Rattle.jxl_headers.specs.Channels.{bit_depth, extra_channel}
 use Rattle.jxl_headers.specs.Colours.{colour_encoding, tone_mapping, usual_colours, usual_tone}
 use Rattle.jxl_headers.specs.declared.size.Size.{Size}
-use Rattle.jxl_headers.specs.declared.channel.BitDepth.{BitDepth}
 use Rattle.jxl_headers.specs.declared.channel.ExtraChannel.{ExtraChannel}
 use Rattle.jxl_headers.specs.declared.image.Animation.{Animation}
 use Rattle.jxl_headers.specs.declared.image.Display.{Display}
@@ -99,24 +98,16 @@ image_header = do
   _ ← matrices image.shown.xyb
   give image
 
--- What an image has that is not supported, by the first of its fields that says so.
-abbrev pub channel_refusal : ExtraChannel → Option Refusal
-channel_refusal c = if c.depth.exponent_bits == 0 then (if nat_le c.shift 3 then None else Some ExtraSize) else Some ExtraFloats
-
+-- what extra channels have that is not supported, by the first that has something
 abbrev pub channels_refusal : List ExtraChannel → Option Refusal
 channels_refusal [] = None
-channels_refusal (c ∷ cs) = option_or (channel_refusal c) (channels_refusal cs)
+channels_refusal (c ∷ cs) =
+    if not (c.depth.exponent_bits == 0) then Some ExtraFloats else if nat_lt 3 c.shift then Some ExtraSize else channels_refusal cs
 
-abbrev pub display_refusal : Display → Option Refusal
-display_refusal d =
-    if is_some d.preview then Some Preview else
-    if is_some d.animation then Some Animated else None
-
-abbrev pub depth_refusal : BitDepth → Option Refusal
-depth_refusal d = if (d.exponent_bits == 0) || ((d.exponent_bits == 8) && (d.bits == 32)) then None else Some FloatDepth
-
-abbrev pub shown_refusal : Shown → Option Refusal
-shown_refusal s = if s.xyb then Some Xyb else None
-
+-- what an image has that is not supported, by the first of its fields that says so
 abbrev pub image_refusal : Image → Option Refusal
-image_refusal h = option_or (display_refusal h.display) (option_or (depth_refusal h.samples.depth) (option_or (channels_refusal h.extra) (shown_refusal h.shown)))
+image_refusal h =
+    if is_some h.display.preview then Some Preview else
+    if is_some h.display.animation then Some Animated else
+    if not (h.samples.depth.exponent_bits == 0) && not ((h.samples.depth.exponent_bits == 8) && (h.samples.depth.bits == 32)) then Some FloatDepth else
+    option_or (channels_refusal h.extra) (if h.shown.xyb then Some Xyb else None)

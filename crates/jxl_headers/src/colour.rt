@@ -1,10 +1,10 @@
 //! Colour encodings, and what is told of brightness.
 
-ghost use Rattle.std.specs.Prelude.{◌≡◌, ◌==◌, ◌||◌, ◌&&◌, not, nat_lt, codes};
+ghost use Rattle.std.specs.Prelude.{◌≡◌, ◌==◌, ◌||◌, ◌&&◌, not, nat_lt, nat_le, ◌*◌, codes};
 ghost use Rattle.jxlm_base.specs.Bits.{bytes_of, position_of};
 ghost use Rattle.jxlm_base.specs.Grammar.{Reads, number as the_number};
 ghost use Rattle.jxl_headers.specs.Fields.{checked, enumerated as the_enumerated, when};
-ghost use Rattle.jxl_headers.specs.Colours.{coordinate as the_coordinate, chromaticity, no_colour, primary_colours, no_primaries, white as the_white, basis as the_basis, is_gamma as the_is_gamma, is_curve, transfer as the_transfer, usual_colours, colour_encoding, tone_mapping};
+ghost use Rattle.jxl_headers.specs.Colours.{coordinate as the_coordinate, chromaticity, no_colour, primary_colours, no_primaries, white as the_white, basis as the_basis, is_curve, transfer as the_transfer, usual_colours, colour_encoding, tone_mapping};
 
 use crate::fields::{Result, enumerated, number};
 use jxlm_base::bits::{Bitstream, BitstreamError, U32Spec};
@@ -264,7 +264,7 @@ impl Basis {
 
 // Whether an exponent is one: from 1 in 8192 to 1.
 fn is_gamma(value: u32) -> bool
-    ensures { result ≡ the_is_gamma value }
+    ensures { result ≡ nat_le value 10000000 && nat_le 10000000 (8192 * value) }
 {
     value <= 10000000 && 10000000 <= 8192 * u64::from(value)
 }
@@ -272,8 +272,8 @@ fn is_gamma(value: u32) -> bool
 // The exponent, or 0 where there is none.
 fn gamma(bits: &mut Bitstream<'_>, by_gamma: bool) -> Result<u32>
     ensures gives { Reads (λ v. v) result (position_of bits.new)
-        ((when by_gamma (checked (codes "gamma") the_is_gamma (the_number 24)) 0).read
-        (bytes_of bits.old) (position_of bits.old)) }
+        ((when by_gamma (checked (codes "gamma") (λ v. nat_le v 10000000 && nat_le 10000000 (8192 * v))
+        (the_number 24)) 0).read (bytes_of bits.old) (position_of bits.old)) }
     ensures bytes { bytes_of bits.new ≡ bytes_of bits.old }
 {
     if !by_gamma {

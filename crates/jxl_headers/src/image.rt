@@ -1,13 +1,14 @@
 //! The image header.
 
-ghost use Rattle.std.specs.Prelude.{◌≡◌, ◌==◌, None, codes};
+ghost use Rattle.std.specs.Prelude.{◌≡◌, ◌==◌, ◌&&◌, not, if◌then◌else◌, Some, None, codes};
 ghost use Rattle.jxlm_base.specs.Bits.{bytes_of, position_of};
 ghost use Rattle.jxlm_base.specs.Grammar.{Reads, number as the_number, repeated};
 ghost use Rattle.jxl_headers.specs.Channels.{extra_channel};
 ghost use Rattle.jxl_headers.specs.Colours.{tone_mapping, usual_tone};
 ghost use Rattle.jxl_headers.specs.Fields.{checked, optional, skipped, usual_or, when};
 ghost use Rattle.jxl_headers.specs.Sizes.{size as the_size};
-ghost use Rattle.jxl_headers.specs.Images.{image_of, animation as the_animation, display as the_display, samples, extra_channels as the_extra_channels, shown, own_image, usual_image, skipped_if, matrices as the_matrices, image_header, channel_refusal as the_channel_refusal, channels_refusal as the_channels_refusal, display_refusal, depth_refusal as the_depth_refusal, shown_refusal, image_refusal};
+ghost use Rattle.jxl_headers.specs.Images.{image_of, animation as the_animation, display as the_display, samples, extra_channels as the_extra_channels, shown, own_image, usual_image, skipped_if, matrices as the_matrices, image_header, channels_refusal as the_channels_refusal, image_refusal};
+ghost use Rattle.jxl_headers.specs.declared.refusal.Refusal.TheVariants.{Xyb};
 ghost use Rattle.jxl_headers.specs.Reading.{Parses};
 
 use crate::channel::{BitDepth, ExtraChannel};
@@ -171,18 +172,6 @@ impl Display {
             Ok(USUAL_DISPLAY)
         }
     }
-
-    fn refused(&self) -> Option<Refusal>
-        ensures { result ≡ display_refusal self.now }
-    {
-        if self.preview.is_some() {
-            Some(Refusal::Preview)
-        } else if self.animation.is_some() {
-            Some(Refusal::Animation)
-        } else {
-            None
-        }
-    }
 }
 
 impl Samples {
@@ -227,12 +216,6 @@ impl Shown {
             tone,
             extensions,
         })
-    }
-
-    fn refused(&self) -> Option<Refusal>
-        ensures { result ≡ shown_refusal self.now }
-    {
-        if self.xyb { Some(Refusal::Xyb) } else { None }
     }
 }
 
@@ -332,37 +315,31 @@ fn signature(bits: &mut Bitstream<'_>) -> Result<u32>
     }
 }
 
-fn depth_refusal(depth: BitDepth) -> Option<Refusal>
-    ensures { result ≡ the_depth_refusal depth }
+// Whether a depth is of floats, and not of 32 bits with 8 of exponent.
+fn is_other_float(depth: BitDepth) -> bool
+    ensures { result ≡ not (depth.exponent_bits == 0) && not ((depth.exponent_bits == 8) && (depth.bits == 32)) }
 {
-    if depth.exponent_bits == 0 || depth.exponent_bits == 8 && depth.bits == 32 {
-        None
-    } else {
-        Some(Refusal::FloatDepth)
-    }
-}
-
-fn channel_refusal(channel: &ExtraChannel) -> Option<Refusal>
-    ensures { result ≡ the_channel_refusal channel.now }
-{
-    if channel.depth.exponent_bits != 0 {
-        Some(Refusal::ExtraFloats)
-    } else if channel.shift > 3 {
-        Some(Refusal::ExtraSize)
-    } else {
-        None
-    }
+    depth.exponent_bits != 0 && !(depth.exponent_bits == 8 && depth.bits == 32)
 }
 
 fn channels_refusal(channels: &[ExtraChannel]) -> Option<Refusal>
     ensures { result ≡ the_channels_refusal channels.now }
 {
     for channel in channels {
-        if let Some(refusal) = channel_refusal(channel) {
-            return Some(refusal);
+        if channel.depth.exponent_bits != 0 {
+            return Some(Refusal::ExtraFloats);
+        }
+        if channel.shift > 3 {
+            return Some(Refusal::ExtraSize);
         }
     }
     None
+}
+
+fn xyb_refusal(xyb: bool) -> Option<Refusal>
+    ensures { result ≡ (if xyb then Some Xyb else None) }
+{
+    if xyb { Some(Refusal::Xyb) } else { None }
 }
 
 impl ImageHeader {
@@ -437,10 +414,14 @@ impl ImageHeader {
     pub fn refused(&self) -> Option<Refusal>
         ensures { result ≡ image_refusal (image_of self.now) }
     {
-        self.display
-            .refused()
-            .or(depth_refusal(self.samples.depth))
-            .or(channels_refusal(&self.extra))
-            .or(self.shown.refused())
+        if self.display.preview.is_some() {
+            Some(Refusal::Preview)
+        } else if self.display.animation.is_some() {
+            Some(Refusal::Animation)
+        } else if is_other_float(self.samples.depth) {
+            Some(Refusal::FloatDepth)
+        } else {
+            channels_refusal(&self.extra).or(xyb_refusal(self.shown.xyb))
+        }
     }
 }
