@@ -338,8 +338,8 @@ impl Transfer {
 // How colours outside a range are shown.
 fn intent(bits: &mut Bitstream<'_>, profile: bool) -> Result<u32>
     ensures gives { Reads (λ v. v) result (position_of bits.new)
-        ((when (not profile) (checked (codes "RenderingIntent") (λ v. nat_lt v 4) the_enumerated) usual_colours.intent).read
-        (bytes_of bits.old) (position_of bits.old)) }
+        ((when (not profile) (checked (codes "RenderingIntent") (λ v. nat_lt v 4) the_enumerated)
+        usual_colours.intent).read (bytes_of bits.old) (position_of bits.old)) }
     ensures bytes { bytes_of bits.new ≡ bytes_of bits.old }
 {
     if profile {

@@ -162,8 +162,8 @@ impl Display {
 
     fn parse(bits: &mut Bitstream<'_>, more: bool) -> Result<Display>
         ensures gives { Reads (λ v. v) result (position_of bits.new)
-            ((when more the_display (record { orientation = 1; intrinsic = None; preview = None; animation = None })).read
-            (bytes_of bits.old) (position_of bits.old)) }
+            ((when more the_display
+            (record { orientation = 1; intrinsic = None; preview = None; animation = None })).read (bytes_of bits.old) (position_of bits.old)) }
         ensures bytes { bytes_of bits.new ≡ bytes_of bits.old }
     {
         if more {
