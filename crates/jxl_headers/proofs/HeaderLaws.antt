@@ -6,7 +6,7 @@ use Rattle.jxlm_base.specs.ErrorKind.{ErrorAt, BadEnum}
 use Rattle.jxlm_base.specs.Grammar.{Grammar, IsExact, give, fail, ◌>>=◌}
 use Rattle.jxlm_base.specs.declared.bits.U32Spec.TheVariants.{Const, Offset}
 use Rattle.jxlm_base.proofs.GrammarLaws.{exact-give, exact-fail, exact-number, exact-bind, exact-either, exact-repeated, exact-flag, exact-part, exact-u32}
-use Rattle.jxl_headers.specs.Fields.{groups, long, when, optional, usual_or, enumerated, meant, checked, skipped, skipped_bits, extensions, name, here, aligned}
+use Rattle.jxl_headers.specs.Fields.{groups, long, when, optional, usual_or, enumerated, meant, checked, skipped, extensions, name, here, aligned}
 use Rattle.jxl_headers.specs.Sizes.{side, size, width_at}
 use Rattle.jxl_headers.specs.Channels.{fits_float, bit_depth, usual_channel, extra_channel}
 use Rattle.jxl_headers.specs.Colours.{coordinate, chromaticity, no_colour, primary_colours, no_primaries, white, basis, is_curve, transfer, usual_colours, colour_encoding, usual_tone, tone_mapping}
@@ -31,11 +31,8 @@ exact-optional exact = bind exact-flag λ there. exact-when there None (bind exa
 pub exact-usual_or : {X : Type 0} {told : Grammar X} (usual : X) → IsExact told → IsExact (usual_or usual told)
 exact-usual_or {told} usual exact = bind exact-flag λ all. exact-either all (give usual) told (exact-give usual) exact
 
-exact-skipped_bits : (n : ℕ) → IsExact (skipped_bits n)
-exact-skipped_bits n = bind (exact-number n) λ v. exact-give tt
-
 exact-skipped : (n : ℕ) → IsExact (skipped n)
-exact-skipped n = exact-skipped_bits (8 * n)
+exact-skipped n = bind (exact-number (8 * n)) λ v. exact-give tt
 
 pub exact-here : IsExact here
 exact-here = record {
@@ -67,7 +64,7 @@ exact-long =
 pub exact-extensions : IsExact extensions
 unfolding extensions
 exact-extensions =
-    bind exact-long λ mask. bind (exact-repeated (count_ones mask) long exact-long) λ sizes. bind (exact-skipped_bits (sum sizes)) λ u. exact-give mask
+    bind exact-long λ mask. bind (exact-repeated (count_ones mask) long exact-long) λ sizes. bind (exact-number (sum sizes)) λ v. exact-give mask
 
 exact-enumerated : IsExact enumerated
 unfolding enumerated

@@ -40,20 +40,16 @@ meant name means v = either means (give v) (fail (BadEnum name v))
 abbrev pub checked : List ℕ → (ℕ → Bool) → Grammar ℕ → Grammar ℕ
 checked name holds field = field >>= λ v. meant name (holds v) v
 
--- n bits that are not looked at
-abbrev pub skipped_bits : ℕ → Grammar (Unit {0})
-skipped_bits n = number n >>= λ v. give tt
-
 -- n bytes that are not looked at
 abbrev pub skipped : ℕ → Grammar (Unit {0})
-skipped n = skipped_bits (8 * n)
+skipped n = number (8 * n) >>= λ v. give tt
 
 -- extensions: which there are, as the bits of a mask, how many bits each has, and these, which are not looked at
 unfoldable pub extensions : Grammar ℕ
 extensions = do
   mask ← long
   sizes ← repeated (count_ones mask) long
-  _ ← skipped_bits (sum sizes)
+  _ ← number (sum sizes)
   give mask
 
 -- a name: how many bytes it has, which are not looked at

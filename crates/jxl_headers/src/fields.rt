@@ -3,9 +3,9 @@
 ghost use Rattle.std.specs.Prelude.{◌≡◌, ℕ, ◌+◌, ◌-◌, ◌*◌, ◌%◌, ◌^◌, ◌<◌, ◌≤◌, IfOk, length};
 ghost use Rattle.jxlm_base.specs.Bits.{bytes_of, position_of};
 ghost use Rattle.jxlm_base.specs.Grammar.{FitsU32, Reads, number as the_number, u32 as the_u32};
-ghost use Rattle.jxl_headers.specs.Fields.{groups as the_groups, long as the_long, enumerated as the_enumerated, skipped, skipped_bits, extensions as the_extensions, name as the_name, aligned};
+ghost use Rattle.jxl_headers.specs.Fields.{groups as the_groups, long as the_long, enumerated as the_enumerated, skipped, extensions as the_extensions, name as the_name, aligned};
 ghost use Rattle.jxl_headers.specs.Inner.FieldRanges.{max_of};
-ghost use Rattle.jxl_headers.specs.Inner.Groups.{group_bound, grouped as the_grouped, extension_bits as the_extension_bits};
+ghost use Rattle.jxl_headers.specs.Inner.Groups.{group_bound, grouped as the_grouped, extension_bits as the_extension_bits, skipped_bits};
 
 use jxlm_base::bits::{Bitstream, BitstreamError, U32Spec};
 
