@@ -12,9 +12,8 @@ use Rattle.jxlm_base.specs.Grammar.{Grammar, IsErrorAt}
 use Rattle.jxlm_base.specs.declared.error.Error.{Error}
 use Rattle.jxlm_ma.proofs.Memory.{unless_so}
 use Rattle.jxlm_transform.proofs.Failures.{unless_memory}
-use Rattle.jxl_headers.specs.Images.{Image, channel_refusal, channels_refusal, depth_refusal, display_refusal, image_header, image_refusal, shown_refusal}
-use Rattle.jxl_headers.specs.declared.channel.ExtraChannel.{ExtraChannel}
-use Rattle.jxl_headers.specs.declared.refusal.Refusal.TheVariants as images
+use Rattle.jxl_headers.proofs.Refusals.{low_shifts}
+use Rattle.jxl_headers.specs.Images.{Image, image_header, image_refusal}
 use Rattle.jxl_headers.specs.declared.refusal.Refusal.{Refusal as ImageRefusal}
 use Rattle.jxl_headers.specs.declared.size.Size.{Size}
 use Rattle.jxl_frames.specs.Codings.{coding_refusal, colours_refusal, encoding_refusal, flags_refusal, type_refusal}
@@ -185,23 +184,8 @@ plain image frame supported =
     flags_plain f.noise (f.patches && has_floats image) (f.patches && has_shifts image) f.splines f.use_lf_frame (first_none (flags_refusal (has_floats image) (has_shifts image) f) (colours_refusal frame.coding) flagged)
 
 -- in an image that is supported the shifts of extra channels are at most 3
-shift_low : (c : ExtraChannel) → channel_refusal c ≡ None → c.shift ≤ 3
-shift_low c e = leb-true c.shift 3 (by (c.depth.exponent_bits == 0) (nat_le c.shift 3) e) where
-  by : (whole small : Bool) → (if whole then (if small then None else Some images.ExtraSize) else Some images.ExtraFloats) ≡ None → small ≡ true
-  by true true e = refl
-  by true false e = cc
-  by false small e = cc
-
-shifts_low : (cs : List ExtraChannel) → channels_refusal cs ≡ None → All (λ c. c.shift ≤ 3) cs
-shifts_low [] e = All-nil (λ c. c.shift ≤ 3)
-shifts_low (c ∷ cs) e =
-    All-cons (λ c. c.shift ≤ 3) c cs (shift_low c (first_none (channel_refusal c) (channels_refusal cs) e)) (shifts_low cs (second_none (channel_refusal c) (channels_refusal cs) e))
-
 pub low : (image : Image) → image_refusal image ≡ None → HasLowShifts image
-low image supported =
-    let after_display = second_none (display_refusal image.display) _ supported in
-    let after_depth = second_none (depth_refusal image.samples.depth) _ after_display in
-    shifts_low image.extra (first_none (channels_refusal image.extra) (shown_refusal image.shown) after_depth)
+low image supported = low_shifts image supported
 
 both : (a b : Bool) → (a && b) ≡ true → (a ≡ true) × (b ≡ true)
 both true b e = (refl, e)

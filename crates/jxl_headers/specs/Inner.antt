@@ -1,2 +1,3 @@
 pub mod FieldRanges
 pub mod Groups
+pub mod Sides

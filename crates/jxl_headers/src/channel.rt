@@ -1,11 +1,13 @@
 //! Depths of samples, and extra channels.
 
-ghost use Rattle.std.specs.Prelude.{◌≡◌, ◌≤◌};
+ghost use Rattle.std.specs.Prelude.{◌≡◌, ◌≤◌, ◌==◌, ◌||◌, nat_lt, false, codes};
 ghost use Rattle.jxlm_base.specs.Bits.{bytes_of, position_of};
-ghost use Rattle.jxlm_base.specs.Grammar.{Reads};
-ghost use Rattle.jxl_headers.specs.Channels.{whole_depth as the_whole_depth, float_depth as the_float_depth, fits_float as the_fits_float, bit_depth, channel_kind as the_channel_kind, by_kind as the_by_kind, described as the_described, extra_channel};
+ghost use Rattle.jxlm_base.specs.Grammar.{Reads, either, flag, part, u32};
+ghost use Rattle.jxlm_base.specs.declared.bits.U32Spec.TheVariants.{Const, Offset};
+ghost use Rattle.jxl_headers.specs.Fields.{checked, enumerated as the_enumerated, skipped, when};
+ghost use Rattle.jxl_headers.specs.Channels.{bit_depth, extra_channel, fits_float as the_fits_float};
 
-use crate::fields::{Result, enumerated, field, name, number, skip};
+use crate::fields::{Result, enumerated, name, number, skip};
 use jxlm_base::bits::{Bitstream, BitstreamError, U32Spec};
 
 /// How a sample is stored.
@@ -33,12 +35,33 @@ pub struct ExtraChannel {
     pub premultiplied: bool,
 }
 
-#[tactic(auto, unfolding(crate::specs::Channels::whole_depth))]
-fn whole_depth(bits: &mut Bitstream<'_>) -> Result<BitDepth>
+const USUAL_CHANNEL: ExtraChannel = ExtraChannel {
+    kind: 0,
+    depth: BitDepth {
+        bits: 8,
+        exponent_bits: 0,
+    },
+    shift: 0,
+    name_bytes: 0,
+    premultiplied: false,
+};
+
+// How many bits a sample has.
+fn sample_bits(bits: &mut Bitstream<'_>, float: bool) -> Result<u32>
     ensures gives { Reads (λ v. v) result (position_of bits.new)
-        (the_whole_depth.read (bytes_of bits.old) (position_of bits.old)) }
+        ((either float (u32 (Const 32) (Const 16) (Const 24) (Offset 1 6))
+        (checked (codes "bits_per_sample") (λ n. nat_lt n 32) (u32 (Const 8) (Const 10) (Const 12) (Offset 1 6)))).read
+        (bytes_of bits.old) (position_of bits.old)) }
     ensures bytes { bytes_of bits.new ≡ bytes_of bits.old }
 {
+    if float {
+        return bits.read_u32(
+            U32Spec::Const(32),
+            U32Spec::Const(16),
+            U32Spec::Const(24),
+            U32Spec::Offset(1, 6),
+        );
+    }
     let value = bits.read_u32(
         U32Spec::Const(8),
         U32Spec::Const(10),
@@ -46,10 +69,7 @@ fn whole_depth(bits: &mut Bitstream<'_>) -> Result<BitDepth>
         U32Spec::Offset(1, 6),
     )?;
     if value < 32 {
-        Ok(BitDepth {
-            bits: value,
-            exponent_bits: 0,
-        })
+        Ok(value)
     } else {
         let name = "bits_per_sample";
         Err(BitstreamError::InvalidEnum { name, value })
@@ -63,24 +83,19 @@ fn fits_float(bits: u32, exponent: u32) -> bool
     2 <= exponent && exponent <= 8 && exponent + 3 <= bits && bits <= exponent + 24
 }
 
-#[tactic(auto, unfolding(crate::specs::Channels::float_depth))]
-fn float_depth(bits: &mut Bitstream<'_>) -> Result<BitDepth>
+// How many of so many bits are an exponent: none of a whole number.
+fn exponent_bits(bits: &mut Bitstream<'_>, float: bool, all: u32) -> Result<u32>
     ensures gives { Reads (λ v. v) result (position_of bits.new)
-        (the_float_depth.read (bytes_of bits.old) (position_of bits.old)) }
+        ((when float (checked (codes "exponent_bits") (the_fits_float all) (part (Offset 1 4))) 0).read
+        (bytes_of bits.old) (position_of bits.old)) }
     ensures bytes { bytes_of bits.new ≡ bytes_of bits.old }
 {
-    let all = bits.read_u32(
-        U32Spec::Const(32),
-        U32Spec::Const(16),
-        U32Spec::Const(24),
-        U32Spec::Offset(1, 6),
-    )?;
-    let value = number(bits, 4)? + 1;
+    if !float {
+        return Ok(0);
+    }
+    let value = 1 + number(bits, 4)?;
     if fits_float(all, value) {
-        Ok(BitDepth {
-            bits: all,
-            exponent_bits: value,
-        })
+        Ok(value)
     } else {
         let name = "exponent_bits";
         Err(BitstreamError::InvalidEnum { name, value })
@@ -96,18 +111,20 @@ impl BitDepth {
             (bit_depth.read (bytes_of bits.old) (position_of bits.old)) }
         ensures bytes { bytes_of bits.new ≡ bytes_of bits.old }
     {
-        if bits.read_bool()? {
-            float_depth(bits)
-        } else {
-            whole_depth(bits)
-        }
+        let float = bits.read_bool()?;
+        let all = sample_bits(bits, float)?;
+        let exponent_bits = exponent_bits(bits, float, all)?;
+        Ok(BitDepth {
+            bits: all,
+            exponent_bits,
+        })
     }
 }
 
-#[tactic(auto, unfolding(crate::specs::Channels::channel_kind))]
 fn channel_kind(bits: &mut Bitstream<'_>) -> Result<u32>
     ensures gives { Reads (λ v. v) result (position_of bits.new)
-        (the_channel_kind.read (bytes_of bits.old) (position_of bits.old)) }
+        ((checked (codes "ExtraChannelType") (λ v. nat_lt v 7 || (v == 15) || (v == 16)) the_enumerated).read
+        (bytes_of bits.old) (position_of bits.old)) }
     ensures bytes { bytes_of bits.new ≡ bytes_of bits.old }
 {
     let value = enumerated(bits)?;
@@ -119,29 +136,44 @@ fn channel_kind(bits: &mut Bitstream<'_>) -> Result<u32>
     }
 }
 
-// What follows the name of an extra channel: of alpha, whether colours were multiplied by it.
-#[tactic(auto, unfolding(crate::specs::Channels::by_kind))]
-fn by_kind(bits: &mut Bitstream<'_>, kind: u32) -> Result<bool>
+// Of alpha, whether colours were multiplied by it.
+fn premultiplied(bits: &mut Bitstream<'_>, kind: u32) -> Result<bool>
     ensures gives { Reads (λ v. v) result (position_of bits.new)
-        ((the_by_kind kind).read (bytes_of bits.old) (position_of bits.old)) }
+        ((when (kind == 0) flag false).read (bytes_of bits.old) (position_of bits.old)) }
     ensures bytes { bytes_of bits.new ≡ bytes_of bits.old }
 {
     if kind == 0 {
-        return bits.read_bool();
+        bits.read_bool()
+    } else {
+        Ok(false)
     }
-    if kind == 2 {
-        skip(bits, 8)?;
-        return Ok(false);
+}
+
+// Passes the four numbers of a spot colour.
+fn spot_colour(bits: &mut Bitstream<'_>, kind: u32) -> Result<()>
+    ensures gives { Reads (λ v. v) result (position_of bits.new)
+        ((when (kind == 2) (skipped 8) tt).read (bytes_of bits.old) (position_of bits.old)) }
+    ensures bytes { bytes_of bits.new ≡ bytes_of bits.old }
+{
+    if kind == 2 { skip(bits, 8) } else { Ok(()) }
+}
+
+// The number of a colour filter's channel; 0 of other kinds.
+fn filter_channel(bits: &mut Bitstream<'_>, kind: u32) -> Result<u32>
+    ensures gives { Reads (λ v. v) result (position_of bits.new)
+        ((when (kind == 5) (u32 (Const 1) (Offset 0 2) (Offset 3 4) (Offset 19 8)) 0).read
+        (bytes_of bits.old) (position_of bits.old)) }
+    ensures bytes { bytes_of bits.new ≡ bytes_of bits.old }
+{
+    if kind != 5 {
+        return Ok(0);
     }
-    if kind == 5 {
-        bits.read_u32(
-            U32Spec::Const(1),
-            U32Spec::Offset(0, 2),
-            U32Spec::Offset(3, 4),
-            U32Spec::Offset(19, 8),
-        )?;
-    }
-    Ok(false)
+    bits.read_u32(
+        U32Spec::Const(1),
+        U32Spec::Offset(0, 2),
+        U32Spec::Offset(3, 4),
+        U32Spec::Offset(19, 8),
+    )
 }
 
 impl ExtraChannel {
@@ -153,27 +185,8 @@ impl ExtraChannel {
         ensures bytes { bytes_of bits.new ≡ bytes_of bits.old }
     {
         if bits.read_bool()? {
-            Ok(ExtraChannel {
-                kind: 0,
-                depth: BitDepth {
-                    bits: 8,
-                    exponent_bits: 0,
-                },
-                shift: 0,
-                name_bytes: 0,
-                premultiplied: false,
-            })
-        } else {
-            ExtraChannel::described(bits)
+            return Ok(USUAL_CHANNEL);
         }
-    }
-
-    #[tactic(auto, unfolding(crate::specs::Channels::described))]
-    fn described(bits: &mut Bitstream<'_>) -> Result<ExtraChannel>
-        ensures gives { Reads (λ v. v) result (position_of bits.new)
-            (the_described.read (bytes_of bits.old) (position_of bits.old)) }
-        ensures bytes { bytes_of bits.new ≡ bytes_of bits.old }
-    {
         let kind = channel_kind(bits)?;
         let depth = BitDepth::parse(bits)?;
         let shift = bits.read_u32(
@@ -183,7 +196,9 @@ impl ExtraChannel {
             U32Spec::Offset(1, 3),
         )?;
         let name_bytes = name(bits)?;
-        let premultiplied = by_kind(bits, kind)?;
+        let premultiplied = premultiplied(bits, kind)?;
+        spot_colour(bits, kind)?;
+        filter_channel(bits, kind)?;
         Ok(ExtraChannel {
             kind,
             depth,

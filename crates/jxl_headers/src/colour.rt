@@ -1,9 +1,10 @@
 //! Colour encodings, and what is told of brightness.
 
-ghost use Rattle.std.specs.Prelude.{◌≡◌};
+ghost use Rattle.std.specs.Prelude.{◌≡◌, ◌==◌, ◌||◌, ◌&&◌, not, nat_lt, nat_le, ◌*◌, codes};
 ghost use Rattle.jxlm_base.specs.Bits.{bytes_of, position_of};
-ghost use Rattle.jxlm_base.specs.Grammar.{Reads};
-ghost use Rattle.jxl_headers.specs.Colours.{coordinate as the_coordinate, chromaticity, no_colour, primary_colours, no_primaries, white_number as the_white_number, usual_white, listed_white, white, basis_number as the_basis_number, usual_basis, listed_basis, basis, gamma as the_gamma, is_gamma as the_is_gamma, curve as the_curve, usual_transfer, listed_transfer, transfer, intent as the_intent, space as the_space, described_colours, told as the_told, own_colours, colour_encoding, own_tone, tone_mapping};
+ghost use Rattle.jxlm_base.specs.Grammar.{Reads, number as the_number};
+ghost use Rattle.jxl_headers.specs.Fields.{checked, enumerated as the_enumerated, when};
+ghost use Rattle.jxl_headers.specs.Colours.{coordinate as the_coordinate, chromaticity, no_colour, primary_colours, no_primaries, white as the_white, basis as the_basis, is_curve, transfer as the_transfer, usual_colours, colour_encoding, tone_mapping};
 
 use crate::fields::{Result, enumerated, number};
 use jxlm_base::bits::{Bitstream, BitstreamError, U32Spec};
@@ -87,19 +88,22 @@ const NO_PRIMARIES: Primaries = Primaries {
     blue: NO_COLOUR,
 };
 
-const USUAL_WHITE: White = White {
-    number: 1,
-    own: NO_COLOUR,
-};
-
-const USUAL_BASIS: Basis = Basis {
-    number: 1,
-    own: NO_PRIMARIES,
-};
-
-const USUAL_TRANSFER: Transfer = Transfer {
-    number: 13,
-    gamma: 0,
+pub(crate) const USUAL_COLOURS: ColourEncoding = ColourEncoding {
+    profile: false,
+    space: 0,
+    white: White {
+        number: 1,
+        own: NO_COLOUR,
+    },
+    basis: Basis {
+        number: 1,
+        own: NO_PRIMARIES,
+    },
+    transfer: Transfer {
+        number: 13,
+        gamma: 0,
+    },
+    intent: 1,
 };
 
 pub(crate) const USUAL_TONE: ToneMapping = ToneMapping {
@@ -150,10 +154,10 @@ impl Primaries {
     }
 }
 
-#[tactic(auto, unfolding(crate::specs::Colours::white_number))]
 fn white_number(bits: &mut Bitstream<'_>) -> Result<u32>
     ensures gives { Reads (λ v. v) result (position_of bits.new)
-        (the_white_number.read (bytes_of bits.old) (position_of bits.old)) }
+        ((checked (codes "WhitePoint") (λ v. (v == 1) || (v == 2) || (v == 10) || (v == 11)) the_enumerated).read
+        (bytes_of bits.old) (position_of bits.old)) }
     ensures bytes { bytes_of bits.new ≡ bytes_of bits.old }
 {
     let value = enumerated(bits)?;
@@ -165,42 +169,49 @@ fn white_number(bits: &mut Bitstream<'_>) -> Result<u32>
     }
 }
 
+// The colour of white where its number is 2.
+fn own_white(bits: &mut Bitstream<'_>, number: u32) -> Result<Chromaticity>
+    ensures gives { Reads (λ v. v) result (position_of bits.new)
+        ((when (number == 2) chromaticity no_colour).read (bytes_of bits.old) (position_of bits.old)) }
+    ensures bytes { bytes_of bits.new ≡ bytes_of bits.old }
+{
+    if number == 2 {
+        Chromaticity::parse(bits)
+    } else {
+        Ok(NO_COLOUR)
+    }
+}
+
 impl White {
-    #[tactic(auto, unfolding(crate::specs::Colours::listed_white))]
+    #[tactic(auto, unfolding(crate::specs::Colours::white))]
     fn listed(bits: &mut Bitstream<'_>) -> Result<White>
         ensures gives { Reads (λ v. v) result (position_of bits.new)
-            (listed_white.read (bytes_of bits.old) (position_of bits.old)) }
+            (the_white.read (bytes_of bits.old) (position_of bits.old)) }
         ensures bytes { bytes_of bits.new ≡ bytes_of bits.old }
     {
         let number = white_number(bits)?;
-        if number == 2 {
-            let own = Chromaticity::parse(bits)?;
-            return Ok(White { number, own });
-        }
-        Ok(White {
-            number,
-            own: NO_COLOUR,
-        })
+        let own = own_white(bits, number)?;
+        Ok(White { number, own })
     }
 
-    #[tactic(auto, unfolding(crate::specs::Colours::white))]
-    fn parse(bits: &mut Bitstream<'_>, space: u32) -> Result<White>
+    fn parse(bits: &mut Bitstream<'_>, profile: bool, space: u32) -> Result<White>
         ensures gives { Reads (λ v. v) result (position_of bits.new)
-            ((white space).read (bytes_of bits.old) (position_of bits.old)) }
+            ((when (not profile && not (space == 2)) the_white usual_colours.white).read
+            (bytes_of bits.old) (position_of bits.old)) }
         ensures bytes { bytes_of bits.new ≡ bytes_of bits.old }
     {
-        if space == 2 {
-            Ok(USUAL_WHITE)
+        if profile || space == 2 {
+            Ok(USUAL_COLOURS.white)
         } else {
             White::listed(bits)
         }
     }
 }
 
-#[tactic(auto, unfolding(crate::specs::Colours::basis_number))]
 fn basis_number(bits: &mut Bitstream<'_>) -> Result<u32>
     ensures gives { Reads (λ v. v) result (position_of bits.new)
-        (the_basis_number.read (bytes_of bits.old) (position_of bits.old)) }
+        ((checked (codes "Primaries") (λ v. (v == 1) || (v == 2) || (v == 9) || (v == 11)) the_enumerated).read
+        (bytes_of bits.old) (position_of bits.old)) }
     ensures bytes { bytes_of bits.new ≡ bytes_of bits.old }
 {
     let value = enumerated(bits)?;
@@ -212,32 +223,39 @@ fn basis_number(bits: &mut Bitstream<'_>) -> Result<u32>
     }
 }
 
+// The colours that are mixed where their number is 2.
+fn own_primaries(bits: &mut Bitstream<'_>, number: u32) -> Result<Primaries>
+    ensures gives { Reads (λ v. v) result (position_of bits.new)
+        ((when (number == 2) primary_colours no_primaries).read (bytes_of bits.old) (position_of bits.old)) }
+    ensures bytes { bytes_of bits.new ≡ bytes_of bits.old }
+{
+    if number == 2 {
+        Primaries::parse(bits)
+    } else {
+        Ok(NO_PRIMARIES)
+    }
+}
+
 impl Basis {
-    #[tactic(auto, unfolding(crate::specs::Colours::listed_basis))]
+    #[tactic(auto, unfolding(crate::specs::Colours::basis))]
     fn listed(bits: &mut Bitstream<'_>) -> Result<Basis>
         ensures gives { Reads (λ v. v) result (position_of bits.new)
-            (listed_basis.read (bytes_of bits.old) (position_of bits.old)) }
+            (the_basis.read (bytes_of bits.old) (position_of bits.old)) }
         ensures bytes { bytes_of bits.new ≡ bytes_of bits.old }
     {
         let number = basis_number(bits)?;
-        if number == 2 {
-            let own = Primaries::parse(bits)?;
-            return Ok(Basis { number, own });
-        }
-        Ok(Basis {
-            number,
-            own: NO_PRIMARIES,
-        })
+        let own = own_primaries(bits, number)?;
+        Ok(Basis { number, own })
     }
 
-    #[tactic(auto, unfolding(crate::specs::Colours::basis))]
-    fn parse(bits: &mut Bitstream<'_>, space: u32) -> Result<Basis>
+    fn parse(bits: &mut Bitstream<'_>, profile: bool, space: u32) -> Result<Basis>
         ensures gives { Reads (λ v. v) result (position_of bits.new)
-            ((basis space).read (bytes_of bits.old) (position_of bits.old)) }
+            ((when (not profile && not ((space == 1) || (space == 2))) the_basis usual_colours.basis).read
+            (bytes_of bits.old) (position_of bits.old)) }
         ensures bytes { bytes_of bits.new ≡ bytes_of bits.old }
     {
-        if space == 1 || space == 2 {
-            Ok(USUAL_BASIS)
+        if profile || space == 1 || space == 2 {
+            Ok(USUAL_COLOURS.basis)
         } else {
             Basis::listed(bits)
         }
@@ -246,82 +264,87 @@ impl Basis {
 
 // Whether an exponent is one: from 1 in 8192 to 1.
 fn is_gamma(value: u32) -> bool
-    ensures { result ≡ the_is_gamma value }
+    ensures { result ≡ nat_le value 10000000 && nat_le 10000000 (8192 * value) }
 {
     value <= 10000000 && 10000000 <= 8192 * u64::from(value)
 }
 
-impl Transfer {
-    #[tactic(auto, unfolding(crate::specs::Colours::gamma))]
-    fn gamma(bits: &mut Bitstream<'_>) -> Result<Transfer>
-        ensures gives { Reads (λ v. v) result (position_of bits.new)
-            (the_gamma.read (bytes_of bits.old) (position_of bits.old)) }
-        ensures bytes { bytes_of bits.new ≡ bytes_of bits.old }
-    {
-        let value = number(bits, 24)?;
-        if is_gamma(value) {
-            Ok(Transfer {
-                number: 0,
-                gamma: value,
-            })
-        } else {
-            let name = "gamma";
+// The exponent, or 0 where there is none.
+fn gamma(bits: &mut Bitstream<'_>, by_gamma: bool) -> Result<u32>
+    ensures gives { Reads (λ v. v) result (position_of bits.new)
+        ((when by_gamma (checked (codes "gamma") (λ v. nat_le v 10000000 && nat_le 10000000 (8192 * v))
+        (the_number 24)) 0).read (bytes_of bits.old) (position_of bits.old)) }
+    ensures bytes { bytes_of bits.new ≡ bytes_of bits.old }
+{
+    if !by_gamma {
+        return Ok(0);
+    }
+    let value = number(bits, 24)?;
+    if is_gamma(value) {
+        Ok(value)
+    } else {
+        let name = "gamma";
+        Err(BitstreamError::InvalidEnum { name, value })
+    }
+}
+
+// The number of a curve, or 0 where it is by an exponent.
+fn curve(bits: &mut Bitstream<'_>, by_gamma: bool) -> Result<u32>
+    ensures gives { Reads (λ v. v) result (position_of bits.new)
+        ((when (not by_gamma) (checked (codes "TransferFunction") is_curve the_enumerated) 0).read
+        (bytes_of bits.old) (position_of bits.old)) }
+    ensures bytes { bytes_of bits.new ≡ bytes_of bits.old }
+{
+    if by_gamma {
+        return Ok(0);
+    }
+    let value = enumerated(bits)?;
+    match value {
+        1 | 8 | 13 | 16 | 17 | 18 => Ok(value),
+        _ => {
+            let name = "TransferFunction";
             Err(BitstreamError::InvalidEnum { name, value })
         }
     }
+}
 
-    #[tactic(auto, unfolding(crate::specs::Colours::curve))]
-    fn curve(bits: &mut Bitstream<'_>) -> Result<Transfer>
-        ensures gives { Reads (λ v. v) result (position_of bits.new)
-            (the_curve.read (bytes_of bits.old) (position_of bits.old)) }
-        ensures bytes { bytes_of bits.new ≡ bytes_of bits.old }
-    {
-        let value = enumerated(bits)?;
-        match value {
-            1 | 8 | 13 | 16 | 17 | 18 => Ok(Transfer {
-                number: value,
-                gamma: 0,
-            }),
-            _ => {
-                let name = "TransferFunction";
-                Err(BitstreamError::InvalidEnum { name, value })
-            }
-        }
-    }
-
-    #[tactic(auto, unfolding(crate::specs::Colours::listed_transfer))]
+impl Transfer {
+    #[tactic(auto, unfolding(crate::specs::Colours::transfer))]
     fn listed(bits: &mut Bitstream<'_>) -> Result<Transfer>
         ensures gives { Reads (λ v. v) result (position_of bits.new)
-            (listed_transfer.read (bytes_of bits.old) (position_of bits.old)) }
+            (the_transfer.read (bytes_of bits.old) (position_of bits.old)) }
         ensures bytes { bytes_of bits.new ≡ bytes_of bits.old }
     {
-        if bits.read_bool()? {
-            Transfer::gamma(bits)
-        } else {
-            Transfer::curve(bits)
-        }
+        let by_gamma = bits.read_bool()?;
+        let gamma = gamma(bits, by_gamma)?;
+        let number = curve(bits, by_gamma)?;
+        Ok(Transfer { number, gamma })
     }
 
-    #[tactic(auto, unfolding(crate::specs::Colours::transfer))]
-    fn parse(bits: &mut Bitstream<'_>, space: u32) -> Result<Transfer>
+    fn parse(bits: &mut Bitstream<'_>, profile: bool, space: u32) -> Result<Transfer>
         ensures gives { Reads (λ v. v) result (position_of bits.new)
-            ((transfer space).read (bytes_of bits.old) (position_of bits.old)) }
+            ((when (not profile && not (space == 2)) the_transfer usual_colours.transfer).read
+            (bytes_of bits.old) (position_of bits.old)) }
         ensures bytes { bytes_of bits.new ≡ bytes_of bits.old }
     {
-        if space == 2 {
-            Ok(USUAL_TRANSFER)
+        if profile || space == 2 {
+            Ok(USUAL_COLOURS.transfer)
         } else {
             Transfer::listed(bits)
         }
     }
 }
 
-#[tactic(auto, unfolding(crate::specs::Colours::intent))]
-fn intent(bits: &mut Bitstream<'_>) -> Result<u32>
+// How colours outside a range are shown.
+fn intent(bits: &mut Bitstream<'_>, profile: bool) -> Result<u32>
     ensures gives { Reads (λ v. v) result (position_of bits.new)
-        (the_intent.read (bytes_of bits.old) (position_of bits.old)) }
+        ((when (not profile) (checked (codes "RenderingIntent") (λ v. nat_lt v 4) the_enumerated)
+        usual_colours.intent).read (bytes_of bits.old) (position_of bits.old)) }
     ensures bytes { bytes_of bits.new ≡ bytes_of bits.old }
 {
+    if profile {
+        return Ok(USUAL_COLOURS.intent);
+    }
     let value = enumerated(bits)?;
     if value < 4 {
         Ok(value)
@@ -331,10 +354,10 @@ fn intent(bits: &mut Bitstream<'_>) -> Result<u32>
     }
 }
 
-#[tactic(auto, unfolding(crate::specs::Colours::space))]
 fn space(bits: &mut Bitstream<'_>, profile: bool) -> Result<u32>
     ensures gives { Reads (λ v. v) result (position_of bits.new)
-        ((the_space profile).read (bytes_of bits.old) (position_of bits.old)) }
+        ((checked (codes "ColourSpace") (λ v. nat_lt v 3 || (v == 3) && profile) the_enumerated).read
+        (bytes_of bits.old) (position_of bits.old)) }
     ensures bytes { bytes_of bits.new ≡ bytes_of bits.old }
 {
     let value = enumerated(bits)?;
@@ -346,56 +369,7 @@ fn space(bits: &mut Bitstream<'_>, profile: bool) -> Result<u32>
     }
 }
 
-// Colours of this space, of which nothing else is told here.
-pub(crate) fn told(profile: bool, space: u32) -> ColourEncoding
-    ensures { result ≡ the_told profile space }
-{
-    ColourEncoding {
-        profile,
-        space,
-        white: USUAL_WHITE,
-        basis: USUAL_BASIS,
-        transfer: USUAL_TRANSFER,
-        intent: 1,
-    }
-}
-
 impl ColourEncoding {
-    #[tactic(auto, unfolding(crate::specs::Colours::described_colours))]
-    fn described(bits: &mut Bitstream<'_>, space: u32) -> Result<ColourEncoding>
-        ensures gives { Reads (λ v. v) result (position_of bits.new)
-            ((described_colours space).read (bytes_of bits.old) (position_of bits.old)) }
-        ensures bytes { bytes_of bits.new ≡ bytes_of bits.old }
-    {
-        let white = White::parse(bits, space)?;
-        let basis = Basis::parse(bits, space)?;
-        let transfer = Transfer::parse(bits, space)?;
-        let intent = intent(bits)?;
-        Ok(ColourEncoding {
-            profile: false,
-            space,
-            white,
-            basis,
-            transfer,
-            intent,
-        })
-    }
-
-    #[tactic(auto, unfolding(crate::specs::Colours::own_colours))]
-    fn own(bits: &mut Bitstream<'_>) -> Result<ColourEncoding>
-        ensures gives { Reads (λ v. v) result (position_of bits.new)
-            (own_colours.read (bytes_of bits.old) (position_of bits.old)) }
-        ensures bytes { bytes_of bits.new ≡ bytes_of bits.old }
-    {
-        let profile = bits.read_bool()?;
-        let space = space(bits, profile)?;
-        if profile {
-            Ok(told(true, space))
-        } else {
-            ColourEncoding::described(bits, space)
-        }
-    }
-
     /// What the samples of colours mean, as it stands at the reader's position. `InvalidEnum` for a number that names
     /// nothing, for a space that only a profile could tell where there is none, and for an exponent out of range.
     #[tactic(auto, unfolding(crate::specs::Colours::colour_encoding))]
@@ -405,20 +379,36 @@ impl ColourEncoding {
         ensures bytes { bytes_of bits.new ≡ bytes_of bits.old }
     {
         if bits.read_bool()? {
-            Ok(told(false, 0))
-        } else {
-            ColourEncoding::own(bits)
+            return Ok(USUAL_COLOURS);
         }
+        let profile = bits.read_bool()?;
+        let space = space(bits, profile)?;
+        let white = White::parse(bits, profile, space)?;
+        let basis = Basis::parse(bits, profile, space)?;
+        let transfer = Transfer::parse(bits, profile, space)?;
+        let intent = intent(bits, profile)?;
+        Ok(ColourEncoding {
+            profile,
+            space,
+            white,
+            basis,
+            transfer,
+            intent,
+        })
     }
 }
 
 impl ToneMapping {
-    #[tactic(auto, unfolding(crate::specs::Colours::own_tone))]
-    fn own(bits: &mut Bitstream<'_>) -> Result<ToneMapping>
+    /// What is told of brightness at the reader's position. The floats are not looked at.
+    #[tactic(auto, unfolding(crate::specs::Colours::tone_mapping))]
+    pub fn parse(bits: &mut Bitstream<'_>) -> Result<ToneMapping>
         ensures gives { Reads (λ v. v) result (position_of bits.new)
-            (own_tone.read (bytes_of bits.old) (position_of bits.old)) }
+            (tone_mapping.read (bytes_of bits.old) (position_of bits.old)) }
         ensures bytes { bytes_of bits.new ≡ bytes_of bits.old }
     {
+        if bits.read_bool()? {
+            return Ok(USUAL_TONE);
+        }
         let intensity_target = number(bits, 16)?;
         let min_nits = number(bits, 16)?;
         let relative = bits.read_bool()?;
@@ -429,19 +419,5 @@ impl ToneMapping {
             relative,
             linear_below,
         })
-    }
-
-    /// What is told of brightness at the reader's position. The floats are not looked at.
-    #[tactic(auto, unfolding(crate::specs::Colours::tone_mapping))]
-    pub fn parse(bits: &mut Bitstream<'_>) -> Result<ToneMapping>
-        ensures gives { Reads (λ v. v) result (position_of bits.new)
-            (tone_mapping.read (bytes_of bits.old) (position_of bits.old)) }
-        ensures bytes { bytes_of bits.new ≡ bytes_of bits.old }
-    {
-        if bits.read_bool()? {
-            Ok(USUAL_TONE)
-        } else {
-            ToneMapping::own(bits)
-        }
     }
 }

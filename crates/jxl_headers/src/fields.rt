@@ -3,9 +3,9 @@
 ghost use Rattle.std.specs.Prelude.{◌≡◌, ℕ, ◌+◌, ◌-◌, ◌*◌, ◌%◌, ◌^◌, ◌<◌, ◌≤◌, IfOk, length};
 ghost use Rattle.jxlm_base.specs.Bits.{bytes_of, position_of};
 ghost use Rattle.jxlm_base.specs.Grammar.{FitsU32, Reads, number as the_number, u32 as the_u32};
-ghost use Rattle.jxl_headers.specs.Fields.{groups as the_groups, grouped as the_grouped, long as the_long, enumerated as the_enumerated, skipped, skipped_bits, extension_bits as the_extension_bits, extensions as the_extensions, name as the_name, aligned};
+ghost use Rattle.jxl_headers.specs.Fields.{groups as the_groups, long as the_long, enumerated as the_enumerated, skipped, extensions as the_extensions, name as the_name, aligned};
 ghost use Rattle.jxl_headers.specs.Inner.FieldRanges.{max_of};
-ghost use Rattle.jxl_headers.specs.Inner.Groups.{group_bound};
+ghost use Rattle.jxl_headers.specs.Inner.Groups.{group_bound, grouped as the_grouped, extension_bits as the_extension_bits, skipped_bits};
 
 use jxlm_base::bits::{Bitstream, BitstreamError, U32Spec};
 
@@ -62,7 +62,6 @@ fn groups(bits: &mut Bitstream<'_>, n: u32) -> Result<u64>
 }
 
 // A `U64` that has groups, after the two bits that say so.
-#[tactic(auto, unfolding(crate::specs::Fields::grouped))]
 fn grouped(bits: &mut Bitstream<'_>) -> Result<u64>
     ensures gives { Reads (λ v. v) result (position_of bits.new)
         (the_grouped.read (bytes_of bits.old) (position_of bits.old)) }

@@ -1,14 +1,18 @@
 //! The image header.
 
-ghost use Rattle.std.specs.Prelude.{◌≡◌};
+ghost use Rattle.std.specs.Prelude.{◌≡◌, ◌==◌, ◌&&◌, not, if◌then◌else◌, Some, None, codes};
 ghost use Rattle.jxlm_base.specs.Bits.{bytes_of, position_of};
-ghost use Rattle.jxlm_base.specs.Grammar.{Reads, repeated};
+ghost use Rattle.jxlm_base.specs.Grammar.{Reads, number as the_number, repeated};
 ghost use Rattle.jxl_headers.specs.Channels.{extra_channel};
-ghost use Rattle.jxl_headers.specs.Images.{image_of, optional_size as the_optional_size, animation, optional_animation, listed_display, display, samples, extra_channels as the_extra_channels, brightness as the_brightness, shown, described_image, own_image, usual_image, skipped_if, weights as the_weights, opsin as the_opsin, own_matrices as the_own_matrices, matrices as the_matrices, signature as the_signature, image_header, channel_refusal as the_channel_refusal, channels_refusal as the_channels_refusal, display_refusal, depth_refusal as the_depth_refusal, shown_refusal, image_refusal};
+ghost use Rattle.jxl_headers.specs.Colours.{tone_mapping, usual_tone};
+ghost use Rattle.jxl_headers.specs.Fields.{checked, optional, skipped, usual_or, when};
+ghost use Rattle.jxl_headers.specs.Sizes.{size as the_size};
+ghost use Rattle.jxl_headers.specs.Images.{image_of, animation as the_animation, display as the_display, samples, extra_channels as the_extra_channels, shown, own_image, usual_image, skipped_if, matrices as the_matrices, image_header, channels_refusal as the_channels_refusal, image_refusal};
+ghost use Rattle.jxl_headers.specs.declared.refusal.Refusal.TheVariants.{Xyb};
 ghost use Rattle.jxl_headers.specs.Reading.{Parses};
 
 use crate::channel::{BitDepth, ExtraChannel};
-use crate::colour::{ColourEncoding, ToneMapping, USUAL_TONE, told};
+use crate::colour::{ColourEncoding, ToneMapping, USUAL_COLOURS, USUAL_TONE};
 use crate::fields::{Result, extensions, number, skip};
 use crate::refusal::Refusal;
 use crate::size::{Size, read_size};
@@ -71,10 +75,16 @@ pub struct ImageHeader {
     pub shown: Shown,
 }
 
-#[tactic(auto, unfolding(crate::specs::Images::optional_size))]
+const USUAL_DISPLAY: Display = Display {
+    orientation: 1,
+    intrinsic: None,
+    preview: None,
+    animation: None,
+};
+
 fn optional_size(bits: &mut Bitstream<'_>, preview: bool) -> Result<Option<Size>>
     ensures gives { Reads (λ v. v) result (position_of bits.new)
-        ((the_optional_size preview).read (bytes_of bits.old) (position_of bits.old)) }
+        ((optional (the_size preview)).read (bytes_of bits.old) (position_of bits.old)) }
     ensures bytes { bytes_of bits.new ≡ bytes_of bits.old }
 {
     if !bits.read_bool()? {
@@ -88,7 +98,7 @@ impl Animation {
     #[tactic(auto, unfolding(crate::specs::Images::animation))]
     fn parse(bits: &mut Bitstream<'_>) -> Result<Animation>
         ensures gives { Reads (λ v. v) result (position_of bits.new)
-            (animation.read (bytes_of bits.old) (position_of bits.old)) }
+            (the_animation.read (bytes_of bits.old) (position_of bits.old)) }
         ensures bytes { bytes_of bits.new ≡ bytes_of bits.old }
     {
         let numerator = bits.read_u32(
@@ -118,10 +128,9 @@ impl Animation {
         })
     }
 
-    #[tactic(auto, unfolding(crate::specs::Images::optional_animation))]
     fn optional(bits: &mut Bitstream<'_>) -> Result<Option<Animation>>
         ensures gives { Reads (λ v. v) result (position_of bits.new)
-            (optional_animation.read (bytes_of bits.old) (position_of bits.old)) }
+            ((optional the_animation).read (bytes_of bits.old) (position_of bits.old)) }
         ensures bytes { bytes_of bits.new ≡ bytes_of bits.old }
     {
         if !bits.read_bool()? {
@@ -133,10 +142,10 @@ impl Animation {
 }
 
 impl Display {
-    #[tactic(auto, unfolding(crate::specs::Images::listed_display))]
+    #[tactic(auto, unfolding(crate::specs::Images::display))]
     fn listed(bits: &mut Bitstream<'_>) -> Result<Display>
         ensures gives { Reads (λ v. v) result (position_of bits.new)
-            (listed_display.read (bytes_of bits.old) (position_of bits.old)) }
+            (the_display.read (bytes_of bits.old) (position_of bits.old)) }
         ensures bytes { bytes_of bits.new ≡ bytes_of bits.old }
     {
         let orientation = number(bits, 3)?;
@@ -151,33 +160,16 @@ impl Display {
         })
     }
 
-    #[tactic(auto, unfolding(crate::specs::Images::display))]
     fn parse(bits: &mut Bitstream<'_>, more: bool) -> Result<Display>
         ensures gives { Reads (λ v. v) result (position_of bits.new)
-            ((display more).read (bytes_of bits.old) (position_of bits.old)) }
+            ((when more the_display
+            (record { orientation = 1; intrinsic = None; preview = None; animation = None })).read (bytes_of bits.old) (position_of bits.old)) }
         ensures bytes { bytes_of bits.new ≡ bytes_of bits.old }
     {
         if more {
             Display::listed(bits)
         } else {
-            Ok(Display {
-                orientation: 1,
-                intrinsic: None,
-                preview: None,
-                animation: None,
-            })
-        }
-    }
-
-    fn refused(&self) -> Option<Refusal>
-        ensures { result ≡ display_refusal self.now }
-    {
-        if self.preview.is_some() {
-            Some(Refusal::Preview)
-        } else if self.animation.is_some() {
-            Some(Refusal::Animation)
-        } else {
-            None
+            Ok(USUAL_DISPLAY)
         }
     }
 }
@@ -195,10 +187,9 @@ impl Samples {
     }
 }
 
-#[tactic(auto, unfolding(crate::specs::Images::brightness))]
 fn brightness(bits: &mut Bitstream<'_>, more: bool) -> Result<ToneMapping>
     ensures gives { Reads (λ v. v) result (position_of bits.new)
-        ((the_brightness more).read (bytes_of bits.old) (position_of bits.old)) }
+        ((when more tone_mapping usual_tone).read (bytes_of bits.old) (position_of bits.old)) }
     ensures bytes { bytes_of bits.new ≡ bytes_of bits.old }
 {
     if more {
@@ -225,12 +216,6 @@ impl Shown {
             tone,
             extensions,
         })
-    }
-
-    fn refused(&self) -> Option<Refusal>
-        ensures { result ≡ shown_refusal self.now }
-    {
-        if self.xyb { Some(Refusal::Xyb) } else { None }
     }
 }
 
@@ -267,6 +252,7 @@ fn extra_channels(alloc: Global, bits: &mut Bitstream<'_>) -> error::Result<Vec<
     read_channels(alloc, bits, count)
 }
 
+// Passes `count` bytes where they are there.
 #[tactic(auto, unfolding(crate::specs::Images::skipped_if))]
 fn skip_if(bits: &mut Bitstream<'_>, there: bool, count: u32) -> Result<()>
     ensures gives { Reads (λ v. v) result (position_of bits.new)
@@ -276,42 +262,28 @@ fn skip_if(bits: &mut Bitstream<'_>, there: bool, count: u32) -> Result<()>
     if there { skip(bits, count) } else { Ok(()) }
 }
 
-// The weights of upsampling that a mask says are there.
-#[tactic(auto, unfolding(crate::specs::Images::weights))]
-fn weights(bits: &mut Bitstream<'_>, mask: u32) -> Result<()>
+fn own_opsin(bits: &mut Bitstream<'_>) -> Result<()>
     ensures gives { Reads (λ v. v) result (position_of bits.new)
-        ((the_weights mask).read (bytes_of bits.old) (position_of bits.old)) }
+        ((usual_or tt (skipped 32)).read (bytes_of bits.old) (position_of bits.old)) }
     ensures bytes { bytes_of bits.new ≡ bytes_of bits.old }
 {
-    skip_if(bits, mask % 2 == 1, 30)?;
-    skip_if(bits, mask / 2 % 2 == 1, 110)?;
-    skip_if(bits, mask / 4 == 1, 420)
-}
-
-#[tactic(auto, unfolding(crate::specs::Images::opsin))]
-fn opsin(bits: &mut Bitstream<'_>, xyb: bool) -> Result<()>
-    ensures gives { Reads (λ v. v) result (position_of bits.new)
-        ((the_opsin xyb).read (bytes_of bits.old) (position_of bits.old)) }
-    ensures bytes { bytes_of bits.new ≡ bytes_of bits.old }
-{
-    if !xyb {
+    if bits.read_bool()? {
         return Ok(());
     }
-    let usual = bits.read_bool()?;
-    skip_if(bits, !usual, 32)
+    skip(bits, 32)?;
+    Ok(())
 }
 
-#[tactic(auto, unfolding(crate::specs::Images::own_matrices))]
-fn own_matrices(bits: &mut Bitstream<'_>, xyb: bool) -> Result<()>
+// The matrix of XYB.
+fn opsin(bits: &mut Bitstream<'_>, xyb: bool) -> Result<()>
     ensures gives { Reads (λ v. v) result (position_of bits.new)
-        ((the_own_matrices xyb).read (bytes_of bits.old) (position_of bits.old)) }
+        ((when xyb (usual_or tt (skipped 32)) tt).read (bytes_of bits.old) (position_of bits.old)) }
     ensures bytes { bytes_of bits.new ≡ bytes_of bits.old }
 {
-    opsin(bits, xyb)?;
-    let mask = number(bits, 3)?;
-    weights(bits, mask)
+    if xyb { own_opsin(bits) } else { Ok(()) }
 }
 
+// The matrix of XYB, and the weights of upsampling that a mask says are there.
 #[tactic(auto, unfolding(crate::specs::Images::matrices))]
 fn matrices(bits: &mut Bitstream<'_>, xyb: bool) -> Result<()>
     ensures gives { Reads (λ v. v) result (position_of bits.new)
@@ -321,13 +293,17 @@ fn matrices(bits: &mut Bitstream<'_>, xyb: bool) -> Result<()>
     if bits.read_bool()? {
         return Ok(());
     }
-    own_matrices(bits, xyb)
+    opsin(bits, xyb)?;
+    let mask = number(bits, 3)?;
+    skip_if(bits, mask % 2 == 1, 30)?;
+    skip_if(bits, mask / 2 % 2 == 1, 110)?;
+    skip_if(bits, mask / 4 == 1, 420)
 }
 
-#[tactic(auto, unfolding(crate::specs::Images::signature))]
 fn signature(bits: &mut Bitstream<'_>) -> Result<u32>
     ensures gives { Reads (λ v. v) result (position_of bits.new)
-        (the_signature.read (bytes_of bits.old) (position_of bits.old)) }
+        ((checked (codes "signature") (λ v. v == 0x0AFF) (the_number 16)).read
+        (bytes_of bits.old) (position_of bits.old)) }
     ensures bytes { bytes_of bits.new ≡ bytes_of bits.old }
 {
     let value = number(bits, 16)?;
@@ -339,37 +315,31 @@ fn signature(bits: &mut Bitstream<'_>) -> Result<u32>
     }
 }
 
-fn depth_refusal(depth: BitDepth) -> Option<Refusal>
-    ensures { result ≡ the_depth_refusal depth }
+// Whether a depth is of floats, and not of 32 bits with 8 of exponent.
+fn is_other_float(depth: BitDepth) -> bool
+    ensures { result ≡ not (depth.exponent_bits == 0) && not ((depth.exponent_bits == 8) && (depth.bits == 32)) }
 {
-    if depth.exponent_bits == 0 || depth.exponent_bits == 8 && depth.bits == 32 {
-        None
-    } else {
-        Some(Refusal::FloatDepth)
-    }
-}
-
-fn channel_refusal(channel: &ExtraChannel) -> Option<Refusal>
-    ensures { result ≡ the_channel_refusal channel.now }
-{
-    if channel.depth.exponent_bits != 0 {
-        Some(Refusal::ExtraFloats)
-    } else if channel.shift > 3 {
-        Some(Refusal::ExtraSize)
-    } else {
-        None
-    }
+    depth.exponent_bits != 0 && !(depth.exponent_bits == 8 && depth.bits == 32)
 }
 
 fn channels_refusal(channels: &[ExtraChannel]) -> Option<Refusal>
     ensures { result ≡ the_channels_refusal channels.now }
 {
     for channel in channels {
-        if let Some(refusal) = channel_refusal(channel) {
-            return Some(refusal);
+        if channel.depth.exponent_bits != 0 {
+            return Some(Refusal::ExtraFloats);
+        }
+        if channel.shift > 3 {
+            return Some(Refusal::ExtraSize);
         }
     }
     None
+}
+
+fn xyb_refusal(xyb: bool) -> Option<Refusal>
+    ensures { result ≡ (if xyb then Some Xyb else None) }
+{
+    if xyb { Some(Refusal::Xyb) } else { None }
 }
 
 impl ImageHeader {
@@ -379,12 +349,7 @@ impl ImageHeader {
     {
         ImageHeader {
             size,
-            display: Display {
-                orientation: 1,
-                intrinsic: None,
-                preview: None,
-                animation: None,
-            },
+            display: USUAL_DISPLAY,
             samples: Samples {
                 depth: BitDepth {
                     bits: 8,
@@ -395,19 +360,22 @@ impl ImageHeader {
             extra: Vec::new(alloc),
             shown: Shown {
                 xyb: true,
-                colour: told(false, 0),
+                colour: USUAL_COLOURS,
                 tone: USUAL_TONE,
                 extensions: 0,
             },
         }
     }
 
-    #[tactic(auto, unfolding(crate::specs::Images::described_image))]
-    fn described(alloc: Global, bits: &mut Bitstream<'_>, size: Size) -> error::Result<ImageHeader>
+    #[tactic(auto, unfolding(crate::specs::Images::own_image))]
+    fn own(alloc: Global, bits: &mut Bitstream<'_>, size: Size) -> error::Result<ImageHeader>
         ensures gives { Parses image_of result (position_of bits.new)
-            ((described_image size).read (bytes_of bits.old) (position_of bits.old)) }
+            ((own_image size).read (bytes_of bits.old) (position_of bits.old)) }
         ensures bytes { bytes_of bits.new ≡ bytes_of bits.old }
     {
+        if bits.read_bool()? {
+            return Ok(ImageHeader::usual(alloc, size));
+        }
         let more = bits.read_bool()?;
         let display = Display::parse(bits, more)?;
         let samples = Samples::parse(bits)?;
@@ -420,19 +388,6 @@ impl ImageHeader {
             extra,
             shown,
         })
-    }
-
-    #[tactic(auto, unfolding(crate::specs::Images::own_image))]
-    fn own(alloc: Global, bits: &mut Bitstream<'_>, size: Size) -> error::Result<ImageHeader>
-        ensures gives { Parses image_of result (position_of bits.new)
-            ((own_image size).read (bytes_of bits.old) (position_of bits.old)) }
-        ensures bytes { bytes_of bits.new ≡ bytes_of bits.old }
-    {
-        if bits.read_bool()? {
-            Ok(ImageHeader::usual(alloc, size))
-        } else {
-            ImageHeader::described(alloc, bits, size)
-        }
     }
 
     /// The header that stands at the reader's position, from its signature on. What is not supported is read too, and
@@ -459,10 +414,14 @@ impl ImageHeader {
     pub fn refused(&self) -> Option<Refusal>
         ensures { result ≡ image_refusal (image_of self.now) }
     {
-        self.display
-            .refused()
-            .or(depth_refusal(self.samples.depth))
-            .or(channels_refusal(&self.extra))
-            .or(self.shown.refused())
+        if self.display.preview.is_some() {
+            Some(Refusal::Preview)
+        } else if self.display.animation.is_some() {
+            Some(Refusal::Animation)
+        } else if is_other_float(self.samples.depth) {
+            Some(Refusal::FloatDepth)
+        } else {
+            channels_refusal(&self.extra).or(xyb_refusal(self.shown.xyb))
+        }
     }
 }

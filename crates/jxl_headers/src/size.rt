@@ -1,9 +1,10 @@
 //! Sizes of pictures.
 
-ghost use Rattle.std.specs.Prelude.{◌≡◌, ◌*◌, ◌^◌, ◌≤◌, IfOk};
+ghost use Rattle.std.specs.Prelude.{◌≡◌, ◌*◌, ◌^◌, ◌≤◌, ◌==◌, IfOk};
 ghost use Rattle.jxlm_base.specs.Bits.{bytes_of, position_of};
-ghost use Rattle.jxlm_base.specs.Grammar.{Reads};
-ghost use Rattle.jxl_headers.specs.Sizes.{image_side as the_image_side, preview_side as the_preview_side, side as the_side, width_at, width as the_width, size as the_size};
+ghost use Rattle.jxlm_base.specs.Grammar.{Reads, either, give};
+ghost use Rattle.jxl_headers.specs.Inner.Sides.{image_side as the_image_side, preview_side as the_preview_side};
+ghost use Rattle.jxl_headers.specs.Sizes.{side as the_side, width_at, size as the_size};
 
 use crate::fields::{Result, field, number};
 use jxlm_base::bits::{Bitstream, U32Spec};
@@ -17,7 +18,6 @@ pub struct Size {
     pub height: u32,
 }
 
-#[tactic(auto, unfolding(crate::specs::Sizes::image_side))]
 fn image_side(bits: &mut Bitstream<'_>, small: bool) -> Result<u32>
     ensures gives { Reads (λ v. v) result (position_of bits.new)
         ((the_image_side small).read (bytes_of bits.old) (position_of bits.old)) }
@@ -37,7 +37,6 @@ fn image_side(bits: &mut Bitstream<'_>, small: bool) -> Result<u32>
     }
 }
 
-#[tactic(auto, unfolding(crate::specs::Sizes::preview_side))]
 fn preview_side(bits: &mut Bitstream<'_>, eighths: bool) -> Result<u32>
     ensures gives { Reads (λ v. v) result (position_of bits.new)
         ((the_preview_side eighths).read (bytes_of bits.old) (position_of bits.old)) }
@@ -101,15 +100,20 @@ fn width(ratio: u32, height: u64) -> u64
     }
 }
 
-// The width after its ratio.
-#[tactic(auto, unfolding(crate::specs::Sizes::width))]
-fn read_width(bits: &mut Bitstream<'_>, preview: bool, short: bool, height: u32) -> Result<u32>
+// The width by a ratio, or where there is none by itself.
+fn read_width(
+    bits: &mut Bitstream<'_>,
+    preview: bool,
+    short: bool,
+    ratio: u32,
+    height: u32,
+) -> Result<u32>
     requires { height ≤ 2 ^ 30 }
     ensures gives { Reads (λ v. v) result (position_of bits.new)
-        ((the_width preview short height).read (bytes_of bits.old) (position_of bits.old)) }
+        ((either (ratio == 0) (the_side preview short) (give (width_at ratio height))).read
+        (bytes_of bits.old) (position_of bits.old)) }
     ensures bytes { bytes_of bits.new ≡ bytes_of bits.old }
 {
-    let ratio = number(bits, 3)?;
     if ratio == 0 {
         return side(bits, preview, short);
     }
@@ -125,6 +129,7 @@ pub fn read_size(bits: &mut Bitstream<'_>, preview: bool) -> Result<Size>
 {
     let short = bits.read_bool()?;
     let height = side(bits, preview, short)?;
-    let width = read_width(bits, preview, short, height)?;
+    let ratio = number(bits, 3)?;
+    let width = read_width(bits, preview, short, ratio, height)?;
     Ok(Size { width, height })
 }

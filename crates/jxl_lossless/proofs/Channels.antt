@@ -19,8 +19,8 @@ use Rattle.jxl_headers.specs.declared.size.Size.{Size}
 use Rattle.jxl_frames.specs.Frames.{has_shifts}
 use Rattle.jxl_picture.specs.Limits.{channel_count}
 use Rattle.jxl_picture.specs.Orientations.{IsOriented, IsUpright, is_turned, shown_size}
-use Rattle.jxl_picture.specs.Pictures.{AreChannels, HasShiftedSides, HasSides, IsWhole, colour_count, shifted}
-use Rattle.jxl_picture.proofs.Shifts.{full_sides, shifted_none, sides_of_full}
+use Rattle.jxl_picture.specs.Pictures.{AreChannels, HasShiftedSides, HasSides, IsWhole, colour_count}
+use Rattle.jxl_picture.proofs.Shifts.{full_sides, shifted, shifted_none, sides_of_full}
 use Rattle.jxl_patches.specs.Slots.{AreOfSize}
 use Rattle.jxl_lossless.specs.Frames.{channels_given, in_file, of_file}
 

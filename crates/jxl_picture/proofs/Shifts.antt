@@ -1,12 +1,17 @@
 -- Channels with the sides of their own shift.
 use Rattle.std.proofs.Common.{◌≡◌, ℕ, ◌/◌, ◌%◌, ◌^◌, ◌<◌, ◌≤◌, ℤ, ap, sym, ◌∙◌, arith}
 use Rattle.std.specs.Prelude.{min}
+use Rattle.std.specs.Int.{div_ceil}
 use Rattle.std.proofs.Math.Nat.{div-one, mod-eq_of_lt, pow-le-pow_right}
 use Rattle.std.proofs.lemmas.Nat.{div_below}
 use Rattle.jxlm_base.specs.Grid.{Grid}
 use Rattle.jxl_headers.specs.declared.channel.ExtraChannel.{ExtraChannel}
 use Rattle.jxl_headers.specs.declared.size.Size.{Size}
-use Rattle.jxl_picture.specs.Pictures.{HasShiftedSides, HasSides, shifted}
+use Rattle.jxl_picture.specs.Pictures.{HasShiftedSides, HasSides}
+
+-- a side of so many samples in a channel of this shift
+abbrev pub shifted : ℕ → ℕ → ℕ
+shifted shift n = div_ceil n (2 ^ shift)
 
 -- a side that is not halved is itself
 pub shifted_none : (n : ℕ) → shifted 0 n ≡ n

@@ -1,9 +1,16 @@
 -- An orientation is undone by another.
 use Rattle.std.proofs.Common.{◌≡◌, ℕ, ◌<◌, ℤ, Bool, true, false, refl, sym, ◌∙◌, arith}
-use Rattle.std.specs.Prelude.{if◌then◌else◌}
+use Rattle.std.specs.Prelude.{◌==◌, ◌||◌, if◌then◌else◌}
 use Rattle.std.proofs.lemmas.Bool.Decides.{nat_tests}
 use Rattle.jxlm_base.specs.Grid.{Grid, cell}
-use Rattle.jxl_picture.specs.Orientations.{IsOriented, counted, from_bottom, from_right, is_turned, undoing}
+use Rattle.jxl_picture.specs.Orientations.{IsOriented, counted, is_turned, undoing}
+
+-- which orientations count columns from the right, and rows from the bottom
+abbrev from_right : ℕ → Bool
+from_right o = (o == 2) || (o == 3) || (o == 7) || (o == 8)
+
+abbrev from_bottom : ℕ → Bool
+from_bottom o = (o == 3) || (o == 4) || (o == 6) || (o == 7)
 
 -- a place that is counted from the front or from the back is one of them, and counted again it is the first
 counted_below : (b : Bool) (n i : ℕ) → i < n → counted b n i < n

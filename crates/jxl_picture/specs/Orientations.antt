@@ -9,23 +9,17 @@ use Rattle.jxl_headers.specs.declared.size.Size.{Size}
 abbrev pub is_turned : ℕ → Bool
 is_turned o = nat_lt 4 o
 
--- columns are counted from the right, and rows from the bottom
-abbrev pub from_right : ℕ → Bool
-from_right o = (o == 2) || (o == 3) || (o == 7) || (o == 8)
-
-abbrev pub from_bottom : ℕ → Bool
-from_bottom o = (o == 3) || (o == 4) || (o == 6) || (o == 7)
-
 -- place i of n, counted from the front or from the back
 abbrev pub counted : Bool → ℕ → ℕ → ℕ
 counted back n i = if back then n - 1 - i else i
 
--- which coded column, of so many, is shown in column x of row y, and which row
+-- which coded column, of so many, is shown in column x of row y, and which row: some count columns from the right, some
+-- rows from the bottom
 abbrev pub column_of : ℕ → ℕ → ℕ → ℕ → ℕ
-column_of o width x y = counted (from_right o) width (if is_turned o then y else x)
+column_of o width x y = counted ((o == 2) || (o == 3) || (o == 7) || (o == 8)) width (if is_turned o then y else x)
 
 abbrev pub row_of : ℕ → ℕ → ℕ → ℕ → ℕ
-row_of o height x y = counted (from_bottom o) height (if is_turned o then x else y)
+row_of o height x y = counted ((o == 3) || (o == 4) || (o == 6) || (o == 7)) height (if is_turned o then x else y)
 
 -- The second grid shows the cells of the first by this orientation.
 pub record IsOriented {S : Type 0} (o : ℕ) (coded shown : Grid S) : Type 0 where
@@ -45,17 +39,7 @@ AreUndone = (o : ℕ) (coded shown : Grid ℤ) → IsOriented o coded shown → 
 abbrev pub shown_size : ℕ → Size → Size
 shown_size o size = if is_turned o then record { width = size.height; height = size.width } else size
 
--- what is told of a picture, once it is shown upright
-abbrev pub upright : Image → Image
-upright image = record {
-  size = shown_size image.display.orientation image.size;
-  display = record { orientation = 1; intrinsic = image.display.intrinsic; preview = image.display.preview; animation = image.display.animation };
-  samples = image.samples;
-  extra = image.extra;
-  shown = image.shown;
-}
-
--- The second picture is the first one, shown upright: its header, and each of its channels.
+-- The second picture is the first one, shown upright: its header with other sides and orientation 1, and each of its channels.
 pub record IsUpright (coded : Image) (channels : List (Grid ℤ)) (shown : Image) (shown_channels : List (Grid ℤ)) : Type 0 where
-  pub header : shown ≡ upright coded
+  pub header : shown ≡ record coded { size = shown_size coded.display.orientation coded.size; display = record coded.display { orientation = 1 } }
   pub oriented : AllZip (IsOriented coded.display.orientation) channels shown_channels

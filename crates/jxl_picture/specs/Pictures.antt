@@ -34,13 +34,9 @@ pub record HasSides (width height : ℕ) (g : Grid ℤ) : Type 0 where
   pub wide : g.width ≡ width
   pub high : g.height ≡ height
 
--- a side of so many samples in a channel of this shift: halved so often, and rounded up
-abbrev pub shifted : ℕ → ℕ → ℕ
-shifted shift n = div_ceil n (2 ^ shift)
-
--- a channel has the sides that an extra channel of a frame of this size has, by its own shift
+-- a channel has the sides that an extra channel of a frame of this size has: by its own shift halved so often, and rounded up
 abbrev pub HasShiftedSides : Size → ExtraChannel → Grid ℤ → Type 0
-HasShiftedSides size c g = HasSides (shifted c.shift size.width) (shifted c.shift size.height) g
+HasShiftedSides size c g = HasSides (div_ceil size.width (2 ^ c.shift)) (div_ceil size.height (2 ^ c.shift)) g
 
 -- these are all channels of a frame of this size: those of colours have its sides, and each extra channel has its own
 pub record AreChannels (image : Image) (size : Size) (channels : List (Grid ℤ)) : Type 0 where

@@ -1,9 +1,9 @@
 //! Pictures as they are shown: as they were coded, mirrored or turned.
 
-ghost use Rattle.std.specs.Prelude.{◌≡◌, ◌<◌, ℕ, IfOk, length, slice_get, if◌then◌else◌};
+ghost use Rattle.std.specs.Prelude.{◌≡◌, ◌==◌, ◌||◌, ◌<◌, ℕ, IfOk, length, slice_get, if◌then◌else◌};
 ghost use Rattle.std.specs.List.{AllZip};
 ghost use Rattle.jxlm_base.specs.Grid.{cell};
-ghost use Rattle.jxl_picture.specs.Orientations.{AreUndone, IsOriented, is_turned as turned, from_right as is_from_right, from_bottom as is_from_bottom, counted as the_counted, column_of as the_column, row_of as the_row, shown_size as the_shown_size};
+ghost use Rattle.jxl_picture.specs.Orientations.{AreUndone, IsOriented, is_turned as turned, counted as the_counted, column_of as the_column, row_of as the_row, shown_size as the_shown_size};
 
 use jxl_headers::size::Size;
 use jxlm_base::grid::{AlignedGrid, OutOfMemory};
@@ -18,13 +18,13 @@ pub fn is_turned(orientation: u32) -> bool
 }
 
 fn from_right(orientation: u32) -> bool
-    ensures { result ≡ is_from_right orientation }
+    ensures { result ≡ (orientation == 2) || (orientation == 3) || (orientation == 7) || (orientation == 8) }
 {
     matches!(orientation, 2 | 3 | 7 | 8)
 }
 
 fn from_bottom(orientation: u32) -> bool
-    ensures { result ≡ is_from_bottom orientation }
+    ensures { result ≡ (orientation == 3) || (orientation == 4) || (orientation == 6) || (orientation == 7) }
 {
     matches!(orientation, 3 | 4 | 6 | 7)
 }

@@ -1,9 +1,10 @@
 //! A decoded picture.
 
-ghost use Rattle.std.specs.Prelude.{◌≡◌, ◌↔◌, IfOk, IsTrue, length};
+ghost use Rattle.std.specs.Prelude.{◌≡◌, ◌^◌, ◌↔◌, IfOk, IsTrue, length};
+ghost use Rattle.std.specs.Int.{div_ceil};
 ghost use Rattle.std.specs.List.{AllZip};
 ghost use Rattle.jxl_headers.specs.Images.{image_of};
-ghost use Rattle.jxl_picture.specs.Pictures.{HasShiftedSides, HasSides, IsWhole, colour_count, is_grey as colours_are_grey, has_alpha as there_is_alpha, has_full_alpha as there_is_full_alpha, is_full_alpha as the_full_alpha, shifted as the_shifted};
+ghost use Rattle.jxl_picture.specs.Pictures.{HasShiftedSides, HasSides, IsWhole, colour_count, is_grey as colours_are_grey, has_alpha as there_is_alpha, has_full_alpha as there_is_full_alpha, is_full_alpha as the_full_alpha};
 ghost use Rattle.jxl_picture.specs.Orientations.{IsUpright};
 
 use crate::orientation::{shown_channels, shown_size};
@@ -62,7 +63,7 @@ pub fn has_full_alpha(header: &ImageHeader) -> bool
 
 // A side of so many samples in a channel of this shift.
 fn shifted(shift: u32, side: u32) -> u32
-    ensures { result ≡ the_shifted shift side }
+    ensures { result ≡ div_ceil side (2 ^ shift) }
 {
     if shift < 32 {
         (u64::from(side)).div_ceil(1 << shift) as u32

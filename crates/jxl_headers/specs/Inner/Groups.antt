@@ -1,7 +1,21 @@
--- Bounds of the groups of a U64.
-use Rattle.std.specs.Prelude.{ℕ, zero, suc, ◌*◌}
+-- Parts of a U64, and of extensions and other bits that are passed, as their functions read them.
+use Rattle.std.specs.Prelude.{ℕ, zero, suc, ◌+◌, ◌*◌, sum}
+use Rattle.jxlm_base.specs.Grammar.{Grammar, number, give, repeated, ◌>>=◌}
+use Rattle.jxl_headers.specs.Fields.{groups, long}
 
 -- the number of n groups and the last one is below this
 abbrev pub group_bound : ℕ → ℕ
 group_bound zero = 16
 group_bound (suc n) = 256 * group_bound n
+
+-- a U64 that has groups: 12 bits, and those
+abbrev pub grouped : Grammar ℕ
+grouped = number 12 >>= λ v. groups 6 >>= λ rest. give (v + 4096 * rest)
+
+-- n bits that are not looked at
+abbrev pub skipped_bits : ℕ → Grammar (Unit {0})
+skipped_bits n = number n >>= λ v. give tt
+
+-- how many bits n extensions have: a U64 for each
+unfoldable pub extension_bits : ℕ → Grammar ℕ
+extension_bits n = repeated n long >>= λ sizes. give (sum sizes)

@@ -1,7 +1,8 @@
 use Rattle.std.proofs.Common.{◌≡◌, ◌-◌, ◌*◌, ◌≤◌}
 use Rattle.jxlm_base.specs.Bits.{bytes_of, position_of}
 use Rattle.jxlm_base.specs.Grammar.{repeated}
-use Rattle.jxl_headers.specs.Fields.{long, extension_bits}
+use Rattle.jxl_headers.specs.Fields.{long}
+use Rattle.jxl_headers.specs.Inner.Groups.{extension_bits}
 use Rattle.jxl_headers.proofs.SummedLoop.{with_sum}
 use Rattle.jxl_headers.proofs.fields.extension_bits.Given as goal
 
