@@ -3,3 +3,4 @@ pub mod ReadSteps
 pub mod InTurn
 pub mod Ended
 pub mod Entries
+pub mod Rows

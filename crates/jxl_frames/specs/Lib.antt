@@ -4,3 +4,4 @@ pub mod Places
 pub mod Blendings
 pub mod Filters
 pub mod Frames
+pub mod Inner

@@ -1,14 +1,23 @@
 //! How a frame is blended with others, and what becomes of it.
 
-ghost use Rattle.std.specs.Prelude.{◌≡◌, ◌&&◌};
+ghost use Rattle.std.specs.Prelude.{◌≡◌, ◌==◌, ◌&&◌, ◌||◌, not, nat_lt, [], None, Some, false, is_some, if◌then◌else◌};
+ghost use Rattle.std.specs.List.{list_any};
+ghost use Rattle.std.specs.Option.{option_map_or};
 ghost use Rattle.jxlm_base.specs.Bits.{bytes_of, position_of};
-ghost use Rattle.jxlm_base.specs.Grammar.{Reads, repeated};
+ghost use Rattle.jxlm_base.specs.Grammar.{Reads, repeated, u32};
+ghost use Rattle.jxlm_base.specs.declared.bits.U32Spec.TheVariants.{Const, Offset};
+ghost use Rattle.jxl_headers.specs.Fields.{when};
 ghost use Rattle.jxl_headers.specs.Reading.{Parses};
-ghost use Rattle.jxl_frames.specs.Blendings.{mode_of as the_mode_of, mode_number as the_mode_number, by_alpha as the_by_alpha, alpha as the_alpha, alpha_if as the_alpha_if, flag_if as the_flag_if, two_bits_if as the_two_bits_if, blending_by, blending_info, usual_info, blending_of, usual_blending, told_blending, blending, duration as the_duration, timecode as the_timecode, is_animated as the_is_animated, has_timecodes as the_has_timecodes, is_replace as the_is_replace, may_save_before as the_may_save_before, saved_before as the_saved_before, saved, ending, usual_ending, infos_refusal as the_infos_refusal, colours_refusal, blending_refusal, ending_refusal};
+ghost use Rattle.jxl_frames.specs.Places.{is_reference as the_is_reference, is_shown as the_is_shown};
+ghost use Rattle.jxl_frames.specs.Blendings.{mode_of as the_mode_of, blending_info, usual_info, blending_of, blending, is_replace as the_is_replace, ending};
+ghost use Rattle.jxl_frames.specs.Inner.Checked.{mode_number as the_mode_number, alpha as the_alpha};
+ghost use Rattle.jxl_frames.specs.Frames.{usual_frame};
+ghost use Rattle.jxl_frames.specs.declared.refusal.Refusal.TheVariants as refusals;
 
 use crate::coding::FrameType;
+use crate::fields::{both, field_if, flag_if, number_if};
 use crate::refusal::Refusal;
-use jxl_headers::fields::{Result, number};
+use jxl_headers::fields::Result;
 use jxl_headers::image::Animation;
 use jxlm_base::bits::{Bitstream, BitstreamError, U32Spec};
 use jxlm_base::error;
@@ -79,7 +88,6 @@ fn mode_of(n: u32) -> BlendMode
     }
 }
 
-#[tactic(auto, unfolding(crate::specs::Blendings::mode_number))]
 fn mode_number(bits: &mut Bitstream<'_>) -> Result<u32>
     ensures gives { Reads (λ v. v) result (position_of bits.new)
         (the_mode_number.read (bytes_of bits.old) (position_of bits.old)) }
@@ -100,12 +108,11 @@ fn mode_number(bits: &mut Bitstream<'_>) -> Result<u32>
 }
 
 fn by_alpha(extra: usize, mode: u32) -> bool
-    ensures { result ≡ the_by_alpha extra mode }
+    ensures { result ≡ (nat_lt 0 extra && ((mode == 2) || (mode == 3))) }
 {
     extra > 0 && (mode == 2 || mode == 3)
 }
 
-#[tactic(auto, unfolding(crate::specs::Blendings::alpha))]
 fn alpha(bits: &mut Bitstream<'_>, extra: usize) -> Result<u32>
     ensures gives { Reads (λ v. v) result (position_of bits.new)
         ((the_alpha extra).read (bytes_of bits.old) (position_of bits.old)) }
@@ -125,56 +132,15 @@ fn alpha(bits: &mut Bitstream<'_>, extra: usize) -> Result<u32>
     }
 }
 
-#[tactic(auto, unfolding(crate::specs::Blendings::alpha_if))]
 fn alpha_if(bits: &mut Bitstream<'_>, there: bool, extra: usize) -> Result<u32>
     ensures gives { Reads (λ v. v) result (position_of bits.new)
-        ((the_alpha_if there extra).read (bytes_of bits.old) (position_of bits.old)) }
+        ((when there (the_alpha extra) 0).read (bytes_of bits.old) (position_of bits.old)) }
     ensures bytes { bytes_of bits.new ≡ bytes_of bits.old }
 {
     if there { alpha(bits, extra) } else { Ok(0) }
 }
 
-#[tactic(auto, unfolding(crate::specs::Blendings::flag_if))]
-fn flag_if(bits: &mut Bitstream<'_>, there: bool) -> Result<bool>
-    ensures gives { Reads (λ v. v) result (position_of bits.new)
-        ((the_flag_if there).read (bytes_of bits.old) (position_of bits.old)) }
-    ensures bytes { bytes_of bits.new ≡ bytes_of bits.old }
-{
-    if there { bits.read_bool() } else { Ok(false) }
-}
-
-#[tactic(auto, unfolding(crate::specs::Blendings::two_bits_if))]
-fn two_bits_if(bits: &mut Bitstream<'_>, there: bool) -> Result<u32>
-    ensures gives { Reads (λ v. v) result (position_of bits.new)
-        ((the_two_bits_if there).read (bytes_of bits.old) (position_of bits.old)) }
-    ensures bytes { bytes_of bits.new ≡ bytes_of bits.old }
-{
-    if there { number(bits, 2) } else { Ok(0) }
-}
-
 impl BlendingInfo {
-    #[tactic(auto, unfolding(crate::specs::Blendings::blending_by))]
-    fn by_mode(
-        bits: &mut Bitstream<'_>,
-        extra: usize,
-        partial: bool,
-        mode: u32,
-    ) -> Result<BlendingInfo>
-        ensures gives { Reads (λ v. v) result (position_of bits.new)
-            ((blending_by extra partial mode).read (bytes_of bits.old) (position_of bits.old)) }
-        ensures bytes { bytes_of bits.new ≡ bytes_of bits.old }
-    {
-        let alpha_channel = alpha_if(bits, by_alpha(extra, mode), extra)?;
-        let clamp = flag_if(bits, by_alpha(extra, mode) || mode == 4)?;
-        let source = two_bits_if(bits, mode != 0 || partial)?;
-        Ok(BlendingInfo {
-            mode: mode_of(mode),
-            alpha_channel,
-            clamp,
-            source,
-        })
-    }
-
     /// How some channels are blended, in an image with so many extra channels, of a frame that is partial or not.
     /// `InvalidEnum` for a mode that there is not, and for an alpha channel that there is not.
     #[tactic(auto, unfolding(crate::specs::Blendings::blending_info))]
@@ -184,7 +150,32 @@ impl BlendingInfo {
         ensures bytes { bytes_of bits.new ≡ bytes_of bits.old }
     {
         let mode = mode_number(bits)?;
-        BlendingInfo::by_mode(bits, extra, partial, mode)
+        let alpha_channel = alpha_if(bits, by_alpha(extra, mode), extra)?;
+        let clamp = flag_if(bits, by_alpha(extra, mode) || mode == 4, false)?;
+        let source = number_if(bits, mode != 0 || partial, 2, 0)?;
+        Ok(BlendingInfo {
+            mode: mode_of(mode),
+            alpha_channel,
+            clamp,
+            source,
+        })
+    }
+
+    fn parse_if(
+        bits: &mut Bitstream<'_>,
+        there: bool,
+        extra: usize,
+        partial: bool,
+    ) -> Result<BlendingInfo>
+        ensures gives { Reads (λ v. v) result (position_of bits.new)
+            ((when there (blending_info extra partial) usual_info).read (bytes_of bits.old) (position_of bits.old)) }
+        ensures bytes { bytes_of bits.new ≡ bytes_of bits.old }
+    {
+        if there {
+            BlendingInfo::parse(bits, extra, partial)
+        } else {
+            Ok(BlendingInfo::usual())
+        }
     }
 
     /// The frame's samples replace others.
@@ -211,16 +202,6 @@ impl BlendingInfo {
             BlendMode::Mul => false,
         }
     }
-
-    fn colours_refused(&self) -> Option<Refusal>
-        ensures { result ≡ colours_refusal self.now }
-    {
-        if self.replaces() {
-            None
-        } else {
-            Some(Refusal::Blending)
-        }
-    }
 }
 
 // So many extra channels.
@@ -243,42 +224,42 @@ fn read_infos(
     Ok(infos)
 }
 
-fn infos_refusal(infos: &[BlendingInfo]) -> Option<Refusal>
-    ensures { result ≡ the_infos_refusal infos.now }
+// So many extra channels, where they are told.
+fn read_infos_if(
+    alloc: Global,
+    bits: &mut Bitstream<'_>,
+    there: bool,
+    extra: usize,
+    partial: bool,
+) -> error::Result<Vec<BlendingInfo>>
+    ensures gives { Parses (λ v. v.items) result (position_of bits.new)
+        ((when there (repeated extra (blending_info extra partial)) []).read
+        (bytes_of bits.old) (position_of bits.old)) }
+    ensures bytes { bytes_of bits.new ≡ bytes_of bits.old }
 {
-    for info in infos {
-        if !info.replaces() {
-            return Some(Refusal::ExtraBlending);
-        }
+    if there {
+        read_infos(alloc, bits, extra, extra, partial)
+    } else {
+        Ok(Vec::new(alloc))
     }
-    None
+}
+
+// Whether an extra channel does not replace that of the frame before.
+fn is_blended(infos: &[BlendingInfo]) -> bool
+    ensures { result ≡ list_any (λ b. not (the_is_replace b.mode)) infos.now }
+{
+    infos.iter().any(|info| !info.replaces())
 }
 
 impl Blending {
     /// Nothing is blended.
     pub fn usual(alloc: Global) -> Blending
-        ensures { blending_of result ≡ usual_blending }
+        ensures { blending_of result ≡ usual_frame.blending }
     {
         Blending {
             colours: BlendingInfo::usual(),
             extra: Vec::new(alloc),
         }
-    }
-
-    #[tactic(auto, unfolding(crate::specs::Blendings::told_blending))]
-    fn told(
-        alloc: Global,
-        bits: &mut Bitstream<'_>,
-        extra: usize,
-        partial: bool,
-    ) -> error::Result<Blending>
-        ensures gives { Parses blending_of result (position_of bits.new)
-            ((told_blending extra partial).read (bytes_of bits.old) (position_of bits.old)) }
-        ensures bytes { bytes_of bits.new ≡ bytes_of bits.old }
-    {
-        let colours = BlendingInfo::parse(bits, extra, partial)?;
-        let extra = read_infos(alloc, bits, extra, extra, partial)?;
-        Ok(Blending { colours, extra })
     }
 
     /// How a frame is blended, as it stands at the reader's position, where the frame is shown: in an image with so
@@ -295,57 +276,47 @@ impl Blending {
             ((blending shown extra partial).read (bytes_of bits.old) (position_of bits.old)) }
         ensures bytes { bytes_of bits.new ≡ bytes_of bits.old }
     {
-        if shown {
-            Blending::told(alloc, bits, extra, partial)
-        } else {
-            Ok(Blending::usual(alloc))
-        }
+        let colours = BlendingInfo::parse_if(bits, shown, extra, partial)?;
+        let extra = read_infos_if(alloc, bits, shown, extra, partial)?;
+        Ok(Blending { colours, extra })
     }
 
     /// What of it is not supported: the first channels, in order, that are blended.
     pub fn refused(&self) -> Option<Refusal>
-        ensures { result ≡ blending_refusal (blending_of self.now) }
+        ensures { result ≡ (if not (the_is_replace self.now.colours.mode) then Some refusals.Blending else
+            if list_any (λ b. not (the_is_replace b.mode)) self.now.extra.items
+            then Some refusals.ExtraBlending else None) }
     {
-        self.colours
-            .colours_refused()
-            .or(infos_refusal(&self.extra))
+        if !self.colours.replaces() {
+            Some(Refusal::Blending)
+        } else if is_blended(&self.extra) {
+            Some(Refusal::ExtraBlending)
+        } else {
+            None
+        }
     }
 }
 
-#[tactic(auto, unfolding(crate::specs::Blendings::duration))]
-fn duration(bits: &mut Bitstream<'_>, there: bool) -> Result<u32>
+// For how long a frame is shown, where that is told.
+fn duration_if(bits: &mut Bitstream<'_>, there: bool) -> Result<u32>
     ensures gives { Reads (λ v. v) result (position_of bits.new)
-        ((the_duration there).read (bytes_of bits.old) (position_of bits.old)) }
+        ((when there (u32 (Const 0) (Const 1) (Offset 0 8) (Offset 0 32)) 0).read
+        (bytes_of bits.old) (position_of bits.old)) }
     ensures bytes { bytes_of bits.new ≡ bytes_of bits.old }
 {
-    if !there {
-        return Ok(0);
-    }
-    bits.read_u32(
+    field_if(
+        bits,
+        there,
         U32Spec::Const(0),
         U32Spec::Const(1),
         U32Spec::Offset(0, 8),
         U32Spec::Offset(0, 32),
+        0,
     )
 }
 
-#[tactic(auto, unfolding(crate::specs::Blendings::timecode))]
-fn timecode(bits: &mut Bitstream<'_>, there: bool) -> Result<u32>
-    ensures gives { Reads (λ v. v) result (position_of bits.new)
-        ((the_timecode there).read (bytes_of bits.old) (position_of bits.old)) }
-    ensures bytes { bytes_of bits.new ≡ bytes_of bits.old }
-{
-    if there { number(bits, 32) } else { Ok(0) }
-}
-
-fn is_animated(animation: Option<Animation>) -> bool
-    ensures { result ≡ the_is_animated animation }
-{
-    animation.is_some()
-}
-
 fn has_timecodes(animation: Option<Animation>) -> bool
-    ensures { result ≡ the_has_timecodes animation }
+    ensures { result ≡ option_map_or (λ a. a.timecodes) animation false }
 {
     match animation {
         Some(animation) => animation.timecodes,
@@ -360,54 +331,14 @@ fn may_save_before(
     duration: u32,
     reference: u32,
 ) -> bool
-    ensures { result ≡ the_may_save_before frame_type replaces is_last duration reference }
+    ensures { result ≡ (the_is_reference frame_type || the_is_shown frame_type && replaces && not is_last
+        && ((duration == 0) || not (reference == 0))) }
 {
     frame_type.is_reference()
         || frame_type.is_shown() && replaces && !is_last && (duration == 0 || reference != 0)
 }
 
-#[tactic(auto, unfolding(crate::specs::Blendings::saved_before))]
-fn saved_before(bits: &mut Bitstream<'_>, lf: bool, there: bool) -> Result<bool>
-    ensures gives { Reads (λ v. v) result (position_of bits.new)
-        ((the_saved_before lf there).read (bytes_of bits.old) (position_of bits.old)) }
-    ensures bytes { bytes_of bits.new ≡ bytes_of bits.old }
-{
-    if lf { Ok(true) } else { flag_if(bits, there) }
-}
-
-fn both(a: bool, b: bool) -> bool
-    ensures { result ≡ (a && b) }
-{
-    a && b
-}
-
 impl Ending {
-    #[tactic(auto, unfolding(crate::specs::Blendings::saved))]
-    fn saved(
-        bits: &mut Bitstream<'_>,
-        frame_type: FrameType,
-        replaces: bool,
-        duration: u32,
-        timecode: u32,
-    ) -> Result<Ending>
-        ensures gives { Reads (λ v. v) result (position_of bits.new)
-            ((saved frame_type replaces duration timecode).read (bytes_of bits.old) (position_of bits.old)) }
-        ensures bytes { bytes_of bits.new ≡ bytes_of bits.old }
-    {
-        let is_last = flag_if(bits, frame_type.is_shown())?;
-        let kept = both(!frame_type.is_lf(), !is_last);
-        let save_as_reference = two_bits_if(bits, kept)?;
-        let there = may_save_before(frame_type, replaces, is_last, duration, save_as_reference);
-        let save_before_ct = saved_before(bits, frame_type.is_lf(), there)?;
-        Ok(Ending {
-            duration,
-            timecode,
-            is_last,
-            save_as_reference,
-            save_before_ct,
-        })
-    }
-
     /// What becomes of a frame of this type, as it stands at the reader's position; it replaces the whole picture or
     /// not.
     #[tactic(auto, unfolding(crate::specs::Blendings::ending))]
@@ -421,16 +352,26 @@ impl Ending {
             ((ending animation frame_type replaces).read (bytes_of bits.old) (position_of bits.old)) }
         ensures bytes { bytes_of bits.new ≡ bytes_of bits.old }
     {
-        let moves = both(frame_type.is_shown(), is_animated(animation));
-        let duration = duration(bits, moves)?;
-        let coded = both(frame_type.is_shown(), has_timecodes(animation));
-        let timecode = timecode(bits, coded)?;
-        Ending::saved(bits, frame_type, replaces, duration, timecode)
+        let shown = frame_type.is_shown();
+        let duration = duration_if(bits, both(shown, animation.is_some()))?;
+        let timecode = number_if(bits, both(shown, has_timecodes(animation)), 32, 0)?;
+        let is_last = flag_if(bits, shown, false)?;
+        let kept = both(!frame_type.is_lf(), !is_last);
+        let save_as_reference = number_if(bits, kept, 2, 0)?;
+        let there = may_save_before(frame_type, replaces, is_last, duration, save_as_reference);
+        let save_before_ct = flag_if(bits, there, frame_type.is_lf())?;
+        Ok(Ending {
+            duration,
+            timecode,
+            is_last,
+            save_as_reference,
+            save_before_ct,
+        })
     }
 
     /// What becomes of the last frame of an image.
     pub fn usual() -> Ending
-        ensures { result ≡ usual_ending }
+        ensures { result ≡ usual_frame.ending }
     {
         Ending {
             duration: 0,
@@ -444,7 +385,9 @@ impl Ending {
     /// Whether it is not supported, of a frame of this type: other frames follow one that is shown, or another is saved
     /// after its colours were transformed.
     pub fn refused(&self, frame_type: FrameType) -> Option<Refusal>
-        ensures { result ≡ ending_refusal frame_type self.now }
+        ensures { result ≡ (
+            if the_is_reference frame_type && not self.now.save_before_ct then Some refusals.SavedAfter else
+            if not (the_is_reference frame_type || self.now.is_last) then Some refusals.Frames else None) }
     {
         if frame_type.is_reference() {
             if self.save_before_ct {

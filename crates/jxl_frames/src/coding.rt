@@ -1,10 +1,16 @@
 //! How a frame is coded.
 
-ghost use Rattle.std.specs.Prelude.{◌≡◌};
+ghost use Rattle.std.specs.Prelude.{◌≡◌, ◌==◌, if◌then◌else◌, Some, None};
 ghost use Rattle.jxlm_base.specs.Bits.{bytes_of, position_of};
 ghost use Rattle.jxlm_base.specs.Grammar.{Reads};
-ghost use Rattle.jxl_frames.specs.Codings.{type_of as the_type_of, encoding_of as the_encoding_of, flags_of as the_flags_of, ycbcr_if as the_ycbcr_if, chroma as the_chroma, factor as the_factor, factor_if as the_factor_if, colours as the_colours, coding, usual_coding, type_refusal, encoding_refusal, flags_refusal, colours_refusal, coding_refusal};
+ghost use Rattle.jxl_headers.specs.Fields.{when};
+ghost use Rattle.jxl_frames.specs.Codings.{factor, type_of as the_type_of, flags_of as the_flags_of, coding, is_modular as the_is_modular, type_refusal, coding_refusal};
+ghost use Rattle.jxl_frames.specs.Inner.Described.{flags as the_flags};
+ghost use Rattle.jxl_frames.specs.Frames.{usual_frame};
+ghost use Rattle.jxl_frames.specs.declared.coding.Encoding.TheVariants as encodings;
+ghost use Rattle.jxl_frames.specs.declared.refusal.Refusal.TheVariants as refusals;
 
+use crate::fields::{both, field_if, flag_if, number_if};
 use crate::refusal::Refusal;
 use jxl_headers::fields::{Result, long, number};
 use jxlm_base::bits::{Bitstream, U32Spec};
@@ -68,7 +74,7 @@ fn type_of(n: u32) -> FrameType
 }
 
 fn encoding_of(modular: bool) -> Encoding
-    ensures { result ≡ the_encoding_of modular }
+    ensures { result ≡ (if modular then encodings.Modular else encodings.VarDct) }
 {
     if modular {
         Encoding::Modular
@@ -89,89 +95,48 @@ fn flags_of(v: u64) -> FrameFlags
     }
 }
 
-#[tactic(auto, unfolding(crate::specs::Codings::ycbcr_if))]
-fn ycbcr_if(bits: &mut Bitstream<'_>, there: bool) -> Result<bool>
-    ensures gives { Reads (λ v. v) result (position_of bits.new)
-        ((the_ycbcr_if there).read (bytes_of bits.old) (position_of bits.old)) }
-    ensures bytes { bytes_of bits.new ≡ bytes_of bits.old }
-{
-    if there { bits.read_bool() } else { Ok(false) }
-}
-
-#[tactic(auto, unfolding(crate::specs::Codings::chroma))]
-fn chroma(bits: &mut Bitstream<'_>, there: bool) -> Result<()>
-    ensures gives { Reads (λ v. v) result (position_of bits.new)
-        ((the_chroma there).read (bytes_of bits.old) (position_of bits.old)) }
-    ensures bytes { bytes_of bits.new ≡ bytes_of bits.old }
-{
-    if there {
-        number(bits, 6)?;
-    }
-    Ok(())
-}
-
-#[tactic(auto, unfolding(crate::specs::Codings::factor_if, crate::specs::Codings::factor))]
-fn factor_if(bits: &mut Bitstream<'_>, there: bool) -> Result<u32>
-    ensures gives { Reads (λ v. v) result (position_of bits.new)
-        ((the_factor_if there).read (bytes_of bits.old) (position_of bits.old)) }
-    ensures bytes { bytes_of bits.new ≡ bytes_of bits.old }
-{
-    if !there {
-        return Ok(1);
-    }
-    bits.read_u32(
-        U32Spec::Const(1),
-        U32Spec::Const(2),
-        U32Spec::Const(4),
-        U32Spec::Const(8),
-    )
-}
-
-impl FrameFlags {
-    fn refused(&self, floats: bool, shifts: bool) -> Option<Refusal>
-        ensures { result ≡ flags_refusal floats shifts self.now }
+impl Encoding {
+    /// Whether it is Modular.
+    pub fn is_modular(&self) -> bool
+        ensures { result ≡ the_is_modular self.now }
     {
-        if self.noise {
-            Some(Refusal::Noise)
-        } else if self.patches && floats {
-            Some(Refusal::FloatPatches)
-        } else if self.patches && shifts {
-            Some(Refusal::ShiftedPatches)
-        } else if self.splines {
-            Some(Refusal::Splines)
-        } else if self.use_lf_frame {
-            Some(Refusal::UseLfFrame)
-        } else {
-            None
+        match self {
+            Encoding::VarDct => false,
+            Encoding::Modular => true,
         }
     }
 }
 
-impl Coding {
-    #[tactic(auto, unfolding(crate::specs::Codings::colours))]
-    fn colours(
-        bits: &mut Bitstream<'_>,
-        xyb: bool,
-        frame_type: FrameType,
-        encoding: Encoding,
-        flags: FrameFlags,
-    ) -> Result<Coding>
+impl FrameFlags {
+    fn parse(bits: &mut Bitstream<'_>) -> Result<FrameFlags>
         ensures gives { Reads (λ v. v) result (position_of bits.new)
-            ((the_colours xyb frame_type encoding flags).read (bytes_of bits.old) (position_of bits.old)) }
+            (the_flags.read (bytes_of bits.old) (position_of bits.old)) }
         ensures bytes { bytes_of bits.new ≡ bytes_of bits.old }
     {
-        let ycbcr = ycbcr_if(bits, !xyb)?;
-        chroma(bits, ycbcr && !flags.use_lf_frame)?;
-        let upsampling = factor_if(bits, !flags.use_lf_frame)?;
-        Ok(Coding {
-            frame_type,
-            encoding,
-            flags,
-            ycbcr,
-            upsampling,
-        })
+        let value = long(bits)?;
+        Ok(flags_of(value))
     }
+}
 
+// How much smaller than the picture something is coded, where that is told.
+#[tactic(auto, unfolding(crate::specs::Codings::factor))]
+fn factor_if(bits: &mut Bitstream<'_>, there: bool) -> Result<u32>
+    ensures gives { Reads (λ v. v) result (position_of bits.new)
+        ((when there factor 1).read (bytes_of bits.old) (position_of bits.old)) }
+    ensures bytes { bytes_of bits.new ≡ bytes_of bits.old }
+{
+    field_if(
+        bits,
+        there,
+        U32Spec::Const(1),
+        U32Spec::Const(2),
+        U32Spec::Const(4),
+        U32Spec::Const(8),
+        1,
+    )
+}
+
+impl Coding {
     /// How a frame of an image whose colours are XYB, or are not, is coded, as it stands at the reader's position.
     #[tactic(auto, unfolding(crate::specs::Codings::coding))]
     pub fn parse(bits: &mut Bitstream<'_>, xyb: bool) -> Result<Coding>
@@ -181,19 +146,22 @@ impl Coding {
     {
         let frame_type = number(bits, 2)?;
         let modular = bits.read_bool()?;
-        let flags = long(bits)?;
-        Coding::colours(
-            bits,
-            xyb,
-            type_of(frame_type),
-            encoding_of(modular),
-            flags_of(flags),
-        )
+        let flags = FrameFlags::parse(bits)?;
+        let ycbcr = flag_if(bits, !xyb, false)?;
+        number_if(bits, both(ycbcr, !flags.use_lf_frame), 6, 0)?;
+        let upsampling = factor_if(bits, !flags.use_lf_frame)?;
+        Ok(Coding {
+            frame_type: type_of(frame_type),
+            encoding: encoding_of(modular),
+            flags,
+            ycbcr,
+            upsampling,
+        })
     }
 
     /// How a frame is coded whose header says nothing.
     pub fn usual() -> Coding
-        ensures { result ≡ usual_coding }
+        ensures { result ≡ usual_frame.coding }
     {
         Coding {
             frame_type: FrameType::Regular,
@@ -221,17 +189,9 @@ impl Coding {
         }
     }
 
-    fn encoding_refused(&self) -> Option<Refusal>
-        ensures { result ≡ encoding_refusal self.now.encoding }
-    {
-        match self.encoding {
-            Encoding::VarDct => Some(Refusal::VarDct),
-            Encoding::Modular => None,
-        }
-    }
-
-    fn colours_refused(&self) -> Option<Refusal>
-        ensures { result ≡ colours_refusal self.now }
+    fn form_refused(&self) -> Option<Refusal>
+        ensures { result ≡ (if self.now.ycbcr then Some refusals.YCbCr else
+            if self.now.upsampling == 1 then None else Some refusals.Upsampling) }
     {
         if self.ycbcr {
             Some(Refusal::YCbCr)
@@ -247,9 +207,22 @@ impl Coding {
     pub fn refused(&self, floats: bool, shifts: bool) -> Option<Refusal>
         ensures { result ≡ coding_refusal floats shifts self.now }
     {
-        self.type_refused()
-            .or(self.encoding_refused())
-            .or(self.flags.refused(floats, shifts))
-            .or(self.colours_refused())
+        if let Some(refusal) = self.type_refused() {
+            Some(refusal)
+        } else if !self.encoding.is_modular() {
+            Some(Refusal::VarDct)
+        } else if self.flags.noise {
+            Some(Refusal::Noise)
+        } else if self.flags.patches && floats {
+            Some(Refusal::FloatPatches)
+        } else if self.flags.patches && shifts {
+            Some(Refusal::ShiftedPatches)
+        } else if self.flags.splines {
+            Some(Refusal::Splines)
+        } else if self.flags.use_lf_frame {
+            Some(Refusal::UseLfFrame)
+        } else {
+            self.form_refused()
+        }
     }
 }

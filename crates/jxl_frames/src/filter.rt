@@ -1,11 +1,14 @@
 //! Filters of what was decoded.
 
-ghost use Rattle.std.specs.Prelude.{◌≡◌};
+ghost use Rattle.std.specs.Prelude.{◌≡◌, ◌||◌, ◌==◌, not, if◌then◌else◌, Some, None};
 ghost use Rattle.jxlm_base.specs.Bits.{bytes_of, position_of};
 ghost use Rattle.jxlm_base.specs.Grammar.{Reads};
-ghost use Rattle.jxl_frames.specs.Filters.{own_floats as the_own_floats, own_floats_if as the_own_floats_if, sigma_bytes as the_sigma_bytes, edges as the_edges, edges_if as the_edges_if, own_filter, usual_filter, filter, filter_refusal};
+ghost use Rattle.jxl_headers.specs.Fields.{when};
+ghost use Rattle.jxl_frames.specs.Filters.{own_floats as the_own_floats, usual_filter, filter};
+ghost use Rattle.jxl_frames.specs.Inner.Described.{own_filter};
+ghost use Rattle.jxl_frames.specs.declared.refusal.Refusal.TheVariants as refusals;
 
-use crate::fields::skip_if;
+use crate::fields::{both, skip_if};
 use crate::refusal::Refusal;
 use jxl_headers::fields::{Result, extensions, number};
 use jxlm_base::bits::Bitstream;
@@ -31,10 +34,9 @@ fn own_floats(bits: &mut Bitstream<'_>, count: u32) -> Result<()>
     skip_if(bits, own, count)
 }
 
-#[tactic(auto, unfolding(crate::specs::Filters::own_floats_if))]
 fn own_floats_if(bits: &mut Bitstream<'_>, there: bool, count: u32) -> Result<()>
     ensures gives { Reads (λ v. v) result (position_of bits.new)
-        ((the_own_floats_if there count).read (bytes_of bits.old) (position_of bits.old)) }
+        ((when there (the_own_floats count) tt).read (bytes_of bits.old) (position_of bits.old)) }
     ensures bytes { bytes_of bits.new ≡ bytes_of bits.old }
 {
     if there {
@@ -45,34 +47,13 @@ fn own_floats_if(bits: &mut Bitstream<'_>, there: bool, count: u32) -> Result<()
 }
 
 fn sigma_bytes(modular: bool) -> u32
-    ensures { result ≡ the_sigma_bytes modular }
+    ensures { result ≡ (if modular then 6 else 8) }
 {
     if modular { 6 } else { 8 }
 }
 
-#[tactic(auto, unfolding(crate::specs::Filters::edges))]
-fn edges(bits: &mut Bitstream<'_>, modular: bool) -> Result<()>
-    ensures gives { Reads (λ v. v) result (position_of bits.new)
-        ((the_edges modular).read (bytes_of bits.old) (position_of bits.old)) }
-    ensures bytes { bytes_of bits.new ≡ bytes_of bits.old }
-{
-    own_floats_if(bits, !modular, 16)?;
-    own_floats(bits, 10)?;
-    own_floats(bits, sigma_bytes(modular))?;
-    skip_if(bits, modular, 2)
-}
-
-#[tactic(auto, unfolding(crate::specs::Filters::edges_if))]
-fn edges_if(bits: &mut Bitstream<'_>, there: bool, modular: bool) -> Result<()>
-    ensures gives { Reads (λ v. v) result (position_of bits.new)
-        ((the_edges_if there modular).read (bytes_of bits.old) (position_of bits.old)) }
-    ensures bytes { bytes_of bits.new ≡ bytes_of bits.old }
-{
-    if there { edges(bits, modular) } else { Ok(()) }
-}
-
 impl RestorationFilter {
-    #[tactic(auto, unfolding(crate::specs::Filters::own_filter))]
+    #[tactic(auto, unfolding(crate::specs::Inner::Described::own_filter))]
     fn own(bits: &mut Bitstream<'_>, modular: bool) -> Result<RestorationFilter>
         ensures gives { Reads (λ v. v) result (position_of bits.new)
             ((own_filter modular).read (bytes_of bits.old) (position_of bits.old)) }
@@ -81,7 +62,11 @@ impl RestorationFilter {
         let gab = bits.read_bool()?;
         own_floats_if(bits, gab, 12)?;
         let epf_iters = number(bits, 2)?;
-        edges_if(bits, epf_iters != 0, modular)?;
+        let edges = epf_iters != 0;
+        own_floats_if(bits, both(edges, !modular), 16)?;
+        own_floats_if(bits, edges, 10)?;
+        own_floats_if(bits, edges, sigma_bytes(modular))?;
+        skip_if(bits, both(edges, modular), 2)?;
         let extensions = extensions(bits)?;
         Ok(RestorationFilter {
             gab,
@@ -101,9 +86,9 @@ impl RestorationFilter {
         }
     }
 
-    /// The filters of a frame that is Modular or not, as they stand at the reader's position; their floats and extensions are
-    /// passed.
-    #[tactic(auto, unfolding(crate::specs::Filters::filter))]
+    /// The filters of a frame that is Modular or not, as they stand at the reader's position; their floats and extensions
+    /// are passed.
+    #[tactic(auto, unfolding(crate::specs::Filters::filter, crate::specs::Inner::Described::own_filter))]
     pub fn parse(bits: &mut Bitstream<'_>, modular: bool) -> Result<RestorationFilter>
         ensures gives { Reads (λ v. v) result (position_of bits.new)
             ((filter modular).read (bytes_of bits.old) (position_of bits.old)) }
@@ -118,7 +103,7 @@ impl RestorationFilter {
 
     /// What of it is not supported: a filter.
     pub fn refused(&self) -> Option<Refusal>
-        ensures { result ≡ filter_refusal self.now }
+        ensures { result ≡ (if self.now.gab || not (self.now.epf_iters == 0) then Some refusals.LoopFilter else None) }
     {
         if self.gab || self.epf_iters != 0 {
             Some(Refusal::LoopFilter)

@@ -1,20 +1,26 @@
 //! The frame header.
 
-ghost use Rattle.std.specs.Prelude.{◌≡◌, ◌≤◌, ◌<◌, IfOk, length};
+ghost use Rattle.std.specs.Prelude.{◌≡◌, ◌≤◌, ◌<◌, ◌*◌, ◌^◌, ◌==◌, not, [], IfOk, length, if◌then◌else◌, Some, None};
+ghost use Rattle.std.specs.List.{list_any};
 ghost use Rattle.jxlm_base.specs.Bits.{bytes_of, position_of};
-ghost use Rattle.jxlm_base.specs.Grammar.{Reads};
+ghost use Rattle.jxlm_base.specs.Grammar.{Reads, repeated};
+ghost use Rattle.jxl_headers.specs.Fields.{when};
 ghost use Rattle.jxl_headers.specs.Images.{image_of};
 ghost use Rattle.jxl_headers.specs.Reading.{Parses};
 ghost use Rattle.jxl_frames.specs.Passes.{IsPassCount};
-ghost use Rattle.jxl_frames.specs.Frames.{frame_of, is_modular as the_is_modular, extra_factors as the_extra_factors, scales as the_scales, modular_dim as the_modular_dim, group_dim as the_group_dim, closing, usual_closing, rest, usual_frame, described_frame, frame_header, factors_refusal as the_factors_refusal, has_floats as the_has_floats, has_shifts as the_has_shifts, form_refusal, use_refusal, frame_refusal, is_saved as the_is_saved, frame_size};
+ghost use Rattle.jxl_frames.specs.Codings.{factor};
+ghost use Rattle.jxl_frames.specs.Frames.{frame_of, usual_frame, frame_header, has_shifts as the_has_shifts, frame_refusal, is_saved as the_is_saved, frame_size};
+ghost use Rattle.jxl_frames.specs.Inner.Described.{rest, described_frame};
+ghost use Rattle.jxl_frames.specs.declared.refusal.Refusal.TheVariants as refusals;
 
 use crate::blending::{Blending, Ending};
-use crate::coding::{Coding, Encoding};
+use crate::coding::Coding;
+use crate::fields::{both, number_if};
 use crate::filter::RestorationFilter;
 use crate::passes::{Passes, factors};
 use crate::place::Place;
 use crate::refusal::Refusal;
-use jxl_headers::fields::{self, extensions, name, number};
+use jxl_headers::fields::{extensions, name};
 use jxl_headers::image::ImageHeader;
 use jxl_headers::size::Size;
 use jxlm_base::bits::Bitstream;
@@ -47,24 +53,15 @@ pub struct FrameHeader {
     pub closing: Closing,
 }
 
-fn is_modular(encoding: Encoding) -> bool
-    ensures { result ≡ the_is_modular encoding }
-{
-    match encoding {
-        Encoding::VarDct => false,
-        Encoding::Modular => true,
-    }
-}
-
-#[tactic(auto, unfolding(crate::specs::Frames::extra_factors))]
-fn extra_factors(
+// How much smaller than the picture each extra channel is coded, where that is told.
+fn factors_if(
     alloc: Global,
     bits: &mut Bitstream<'_>,
     there: bool,
     extra: usize,
 ) -> Result<Vec<u32>>
     ensures gives { Parses (λ v. v.items) result (position_of bits.new)
-        ((the_extra_factors there extra).read (bytes_of bits.old) (position_of bits.old)) }
+        ((when there (repeated extra factor) []).read (bytes_of bits.old) (position_of bits.old)) }
     ensures bytes { bytes_of bits.new ≡ bytes_of bits.old }
 {
     if there {
@@ -74,58 +71,26 @@ fn extra_factors(
     }
 }
 
-#[tactic(auto, unfolding(crate::specs::Frames::scales))]
-fn scales(bits: &mut Bitstream<'_>, there: bool) -> fields::Result<u32>
-    ensures gives { Reads (λ v. v) result (position_of bits.new)
-        ((the_scales there).read (bytes_of bits.old) (position_of bits.old)) }
-    ensures some { IfOk result (λ v. 0 < v) }
-    ensures bytes { bytes_of bits.new ≡ bytes_of bits.old }
+// Whether an extra channel is coded smaller than the picture.
+fn is_scaled(factors: &[u32]) -> bool
+    ensures { result ≡ list_any (λ f. not (f == 1)) factors.now }
 {
-    if there {
-        number(bits, 6)?;
-    }
-    Ok(256)
+    factors.iter().any(|factor| *factor != 1)
 }
 
-#[tactic(auto, unfolding(crate::specs::Frames::modular_dim))]
-fn modular_dim(bits: &mut Bitstream<'_>) -> fields::Result<u32>
-    ensures gives { Reads (λ v. v) result (position_of bits.new)
-        (the_modular_dim.read (bytes_of bits.old) (position_of bits.old)) }
-    ensures some { IfOk result (λ v. 0 < v) }
-    ensures bytes { bytes_of bits.new ≡ bytes_of bits.old }
+fn factors_refused(factors: &[u32]) -> Option<Refusal>
+    ensures { result ≡ (if list_any (λ f. not (f == 1)) factors.now then Some refusals.ExtraUpsampling else None) }
 {
-    let shift = number(bits, 2)?;
-    Ok(128 << shift)
-}
-
-#[tactic(auto, unfolding(crate::specs::Frames::group_dim))]
-fn group_dim(bits: &mut Bitstream<'_>, modular: bool, xyb: bool) -> fields::Result<u32>
-    ensures gives { Reads (λ v. v) result (position_of bits.new)
-        ((the_group_dim modular xyb).read (bytes_of bits.old) (position_of bits.old)) }
-    ensures some { IfOk result (λ v. 0 < v) }
-    ensures bytes { bytes_of bits.new ≡ bytes_of bits.old }
-{
-    if modular {
-        modular_dim(bits)
+    if is_scaled(factors) {
+        Some(Refusal::ExtraUpsampling)
     } else {
-        scales(bits, xyb)
+        None
     }
-}
-
-fn factors_refusal(factors: &[u32]) -> Option<Refusal>
-    ensures { result ≡ the_factors_refusal factors.now }
-{
-    for factor in factors {
-        if *factor != 1 {
-            return Some(Refusal::ExtraUpsampling);
-        }
-    }
-    None
 }
 
 // Whether samples of colours are floats.
 fn has_floats(image: &ImageHeader) -> bool
-    ensures { result ≡ the_has_floats (image_of image.now) }
+    ensures { result ≡ not (image.now.samples.depth.exponent_bits == 0) }
 {
     image.samples.depth.exponent_bits != 0
 }
@@ -138,24 +103,8 @@ fn has_shifts(image: &ImageHeader) -> bool
 }
 
 impl Closing {
-    #[tactic(auto, unfolding(crate::specs::Frames::closing))]
-    fn parse(bits: &mut Bitstream<'_>, modular: bool) -> fields::Result<Closing>
-        ensures gives { Reads (λ v. v) result (position_of bits.new)
-            ((closing modular).read (bytes_of bits.old) (position_of bits.old)) }
-        ensures bytes { bytes_of bits.new ≡ bytes_of bits.old }
-    {
-        let name_bytes = name(bits)?;
-        let filter = RestorationFilter::parse(bits, modular)?;
-        let extensions = extensions(bits)?;
-        Ok(Closing {
-            name_bytes,
-            filter,
-            extensions,
-        })
-    }
-
     fn usual() -> Closing
-        ensures { result ≡ usual_closing }
+        ensures { result ≡ usual_frame.closing }
     {
         Closing {
             name_bytes: 0,
@@ -182,19 +131,20 @@ impl FrameHeader {
         }
     }
 
-    #[tactic(auto, unfolding(crate::specs::Frames::rest))]
+    #[tactic(auto, unfolding(crate::specs::Inner::Described::rest))]
     fn rest(
         alloc: Global,
         bits: &mut Bitstream<'_>,
         image: &ImageHeader,
         coding: Coding,
         ec_upsampling: Vec<u32>,
-        group_dim: u32,
+        shift: u32,
     ) -> Result<FrameHeader>
+        requires shift { shift < 4 }
         ensures gives { Parses frame_of result (position_of bits.new)
-            ((rest (image_of image.now) coding ec_upsampling.items group_dim).read
+            ((rest (image_of image.now) coding ec_upsampling.items shift).read
             (bytes_of bits.old) (position_of bits.old)) }
-        ensures dim { IfOk result (λ h. h.group_dim ≡ group_dim) }
+        ensures dim { IfOk result (λ h. 0 < h.group_dim) }
         ensures counted { IfOk result (λ h. IsPassCount h.passes.count) }
         ensures bytes { bytes_of bits.new ≡ bytes_of bits.old }
     {
@@ -206,20 +156,26 @@ impl FrameHeader {
         let blending = Blending::parse(alloc, bits, frame_type.is_shown(), extra, partial)?;
         let replaces = blending.colours.replaces() && !partial;
         let ending = Ending::parse(bits, image.display.animation, frame_type, replaces)?;
-        let closing = Closing::parse(bits, is_modular(coding.encoding))?;
+        let name_bytes = name(bits)?;
+        let filter = RestorationFilter::parse(bits, coding.encoding.is_modular())?;
+        let extensions = extensions(bits)?;
         Ok(FrameHeader {
             coding,
             ec_upsampling,
-            group_dim,
+            group_dim: 128 << shift,
             passes,
             place,
             blending,
             ending,
-            closing,
+            closing: Closing {
+                name_bytes,
+                filter,
+                extensions,
+            },
         })
     }
 
-    #[tactic(auto, unfolding(crate::specs::Frames::described_frame))]
+    #[tactic(auto, unfolding(crate::specs::Inner::Described::described_frame))]
     fn described(
         alloc: Global,
         bits: &mut Bitstream<'_>,
@@ -234,9 +190,11 @@ impl FrameHeader {
         let xyb = image.shown.xyb;
         let extra = image.extra.len();
         let coding = Coding::parse(bits, xyb)?;
-        let ec_upsampling = extra_factors(alloc, bits, !coding.flags.use_lf_frame, extra)?;
-        let group_dim = group_dim(bits, is_modular(coding.encoding), xyb)?;
-        FrameHeader::rest(alloc, bits, image, coding, ec_upsampling, group_dim)
+        let ec_upsampling = factors_if(alloc, bits, !coding.flags.use_lf_frame, extra)?;
+        let modular = coding.encoding.is_modular();
+        let shift = number_if(bits, modular, 2, 1)?;
+        number_if(bits, both(!modular, xyb), 6, 0)?;
+        FrameHeader::rest(alloc, bits, image, coding, ec_upsampling, shift)
     }
 
     /// The header of a frame of this image that stands at the reader's position, which is the start of a byte. What is
@@ -266,29 +224,17 @@ impl FrameHeader {
         }
     }
 
-    fn form_refused(&self, image: &ImageHeader) -> Option<Refusal>
-        ensures { result ≡ form_refusal (image_of image.now) (frame_of self.now) }
-    {
-        self.coding
-            .refused(has_floats(image), has_shifts(image))
-            .or(factors_refusal(&self.ec_upsampling))
-            .or(self.place.refused(self.coding.frame_type))
-    }
-
-    fn use_refused(&self) -> Option<Refusal>
-        ensures { result ≡ use_refusal (frame_of self.now) }
-    {
-        self.blending
-            .refused()
-            .or(self.ending.refused(self.coding.frame_type))
-            .or(self.closing.filter.refused())
-    }
-
     /// What the frame of this image has that is not supported: the first in the order of the bits, or none.
     pub fn refused(&self, image: &ImageHeader) -> Option<Refusal>
         ensures { result ≡ frame_refusal (image_of image.now) (frame_of self.now) }
     {
-        self.form_refused(image).or(self.use_refused())
+        self.coding
+            .refused(has_floats(image), has_shifts(image))
+            .or(factors_refused(&self.ec_upsampling))
+            .or(self.place.refused(self.coding.frame_type))
+            .or(self.blending.refused())
+            .or(self.ending.refused(self.coding.frame_type))
+            .or(self.closing.filter.refused())
     }
 
     /// Whether the frame is not shown, but saved for those after it.

@@ -1,11 +1,17 @@
 //! The passes of a frame.
 
-ghost use Rattle.std.specs.Prelude.{◌≡◌, ◌<◌, ◌≤◌, suc, None, IfOk};
+ghost use Rattle.std.specs.Prelude.{◌≡◌, ◌<◌, ◌≤◌, nat_lt, suc, None, true, IfOk};
+ghost use Rattle.std.specs.Option.{option_map_or};
 ghost use Rattle.jxlm_base.specs.Bits.{bytes_of, position_of};
-ghost use Rattle.jxlm_base.specs.Grammar.{Reads, repeated};
+ghost use Rattle.jxlm_base.specs.Grammar.{Reads, repeated, u32};
+ghost use Rattle.jxlm_base.specs.declared.bits.U32Spec.TheVariants.{Const, Offset};
+ghost use Rattle.jxl_headers.specs.Fields.{when};
 ghost use Rattle.jxl_headers.specs.Reading.{Parses};
 ghost use Rattle.jxl_frames.specs.Codings.{factor};
-ghost use Rattle.jxl_frames.specs.Passes.{IsPassCount, passes_of, one_pass, pass_count as the_pass_count, shift, resolutions as the_resolutions, is_below as the_below, is_above as the_above, finer as the_finer, later as the_later, in_turn as the_list, next as the_next, more_passes, told_passes, passes, ended as the_ended, shift_of as the_shift_of, least_shift as the_least_shift, shifts_held};
+ghost use Rattle.jxl_frames.specs.Passes.{IsPassCount, passes_of, finer as the_finer, later as the_later, in_turn as the_list, passes, shift_of as the_shift_of, least_shift as the_least_shift, shifts_held};
+ghost use Rattle.jxl_frames.specs.Inner.Checked.{next as the_next, resolutions as the_resolutions};
+ghost use Rattle.jxl_frames.specs.Inner.Ended.{ended as the_ended};
+ghost use Rattle.jxl_frames.specs.Frames.{usual_frame};
 
 use crate::fields::fields as fields_of;
 use jxl_headers::fields;
@@ -36,10 +42,10 @@ enum Order {
     Later(u32),
 }
 
-#[tactic(auto, unfolding(crate::specs::Passes::shift))]
 fn shifts(alloc: Global, bits: &mut Bitstream<'_>, count: usize) -> Result<Vec<u32>>
     ensures gives { Parses (λ v. v.items) result (position_of bits.new)
-        ((repeated count shift).read (bytes_of bits.old) (position_of bits.old)) }
+        ((repeated count (u32 (Const 0) (Const 1) (Const 2) (Const 3))).read
+        (bytes_of bits.old) (position_of bits.old)) }
     ensures bytes { bytes_of bits.new ≡ bytes_of bits.old }
 {
     fields_of(
@@ -71,7 +77,6 @@ pub fn factors(alloc: Global, bits: &mut Bitstream<'_>, count: usize) -> Result<
     )
 }
 
-#[tactic(auto, unfolding(crate::specs::Passes::resolutions))]
 fn resolutions(bits: &mut Bitstream<'_>, count: u32) -> fields::Result<u32>
     ensures gives { Reads (λ v. v) result (position_of bits.new)
         ((the_resolutions count).read (bytes_of bits.old) (position_of bits.old)) }
@@ -91,8 +96,20 @@ fn resolutions(bits: &mut Bitstream<'_>, count: u32) -> fields::Result<u32>
     }
 }
 
+fn resolutions_if(bits: &mut Bitstream<'_>, there: bool, count: u32) -> fields::Result<u32>
+    ensures gives { Reads (λ v. v) result (position_of bits.new)
+        ((when there (the_resolutions count) 0).read (bytes_of bits.old) (position_of bits.old)) }
+    ensures bytes { bytes_of bits.new ≡ bytes_of bits.old }
+{
+    if there {
+        resolutions(bits, count)
+    } else {
+        Ok(0)
+    }
+}
+
 fn is_below(before: Option<u32>, value: u32) -> bool
-    ensures { result ≡ the_below before value }
+    ensures { result ≡ option_map_or (λ b. nat_lt value b) before true }
 {
     match before {
         Some(before) => value < before,
@@ -101,7 +118,7 @@ fn is_below(before: Option<u32>, value: u32) -> bool
 }
 
 fn is_above(before: Option<u32>, value: u32) -> bool
-    ensures { result ≡ the_above before value }
+    ensures { result ≡ option_map_or (λ b. nat_lt b value) before true }
 {
     match before {
         Some(before) => before < value,
@@ -180,7 +197,7 @@ fn in_turn(alloc: Global, bits: &mut Bitstream<'_>, n: usize, order: Order) -> R
 // How many passes there are.
 fn pass_count(bits: &mut Bitstream<'_>) -> fields::Result<u32>
     ensures gives { Reads (λ v. v) result (position_of bits.new)
-        (the_pass_count.read (bytes_of bits.old) (position_of bits.old)) }
+        ((u32 (Const 1) (Const 2) (Const 3) (Offset 4 3)).read (bytes_of bits.old) (position_of bits.old)) }
     ensures counted { IfOk result IsPassCount }
     ensures bytes { bytes_of bits.new ≡ bytes_of bits.old }
 {
@@ -190,6 +207,16 @@ fn pass_count(bits: &mut Bitstream<'_>) -> fields::Result<u32>
         U32Spec::Const(3),
         U32Spec::Offset(4, 3),
     )
+}
+
+fn pass_count_if(bits: &mut Bitstream<'_>, there: bool) -> fields::Result<u32>
+    ensures gives { Reads (λ v. v) result (position_of bits.new)
+        ((when there (u32 (Const 1) (Const 2) (Const 3) (Offset 4 3)) 1).read
+        (bytes_of bits.old) (position_of bits.old)) }
+    ensures counted { IfOk result IsPassCount }
+    ensures bytes { bytes_of bits.new ≡ bytes_of bits.old }
+{
+    if there { pass_count(bits) } else { Ok(1) }
 }
 
 fn shift_of(factor: u32) -> u32
@@ -210,7 +237,7 @@ fn shift_of(factor: u32) -> u32
 impl Passes {
     /// One pass.
     pub fn one(alloc: Global) -> Passes
-        ensures is { passes_of result ≡ one_pass }
+        ensures is { passes_of result ≡ usual_frame.passes }
         ensures count { result.count ≡ 1 }
     {
         Passes {
@@ -218,40 +245,6 @@ impl Passes {
             shift: Vec::new(alloc),
             downsample: Vec::new(alloc),
             last_pass: Vec::new(alloc),
-        }
-    }
-
-    #[tactic(auto, unfolding(crate::specs::Passes::more_passes))]
-    fn more(alloc: Global, bits: &mut Bitstream<'_>, count: u32) -> Result<Passes>
-        ensures gives { Parses passes_of result (position_of bits.new)
-            ((more_passes count).read (bytes_of bits.old) (position_of bits.old)) }
-        ensures count { IfOk result (λ p. p.count ≡ count) }
-        ensures bytes { bytes_of bits.new ≡ bytes_of bits.old }
-    {
-        let n = resolutions(bits, count)?;
-        let shift = shifts(alloc, bits, count.saturating_sub(1) as usize)?;
-        let downsample = in_turn(alloc, bits, n as usize, Order::Finer)?;
-        let last_pass = in_turn(alloc, bits, n as usize, Order::Later(count))?;
-        Ok(Passes {
-            count,
-            shift,
-            downsample,
-            last_pass,
-        })
-    }
-
-    #[tactic(auto, unfolding(crate::specs::Passes::told_passes))]
-    fn told(alloc: Global, bits: &mut Bitstream<'_>) -> Result<Passes>
-        ensures gives { Parses passes_of result (position_of bits.new)
-            (told_passes.read (bytes_of bits.old) (position_of bits.old)) }
-        ensures counted { IfOk result (λ p. IsPassCount p.count) }
-        ensures bytes { bytes_of bits.new ≡ bytes_of bits.old }
-    {
-        let count = pass_count(bits)?;
-        if count == 1 {
-            Ok(Passes::one(alloc))
-        } else {
-            Passes::more(alloc, bits, count)
         }
     }
 
@@ -265,11 +258,17 @@ impl Passes {
         ensures counted { IfOk result (λ p. IsPassCount p.count) }
         ensures bytes { bytes_of bits.new ≡ bytes_of bits.old }
     {
-        if there {
-            Passes::told(alloc, bits)
-        } else {
-            Ok(Passes::one(alloc))
-        }
+        let count = pass_count_if(bits, there)?;
+        let n = resolutions_if(bits, count != 1, count)?;
+        let shift = shifts(alloc, bits, count.saturating_sub(1) as usize)?;
+        let downsample = in_turn(alloc, bits, n as usize, Order::Finer)?;
+        let last_pass = in_turn(alloc, bits, n as usize, Order::Later(count))?;
+        Ok(Passes {
+            count,
+            shift,
+            downsample,
+            last_pass,
+        })
     }
 
     // The factor of the resolution that is whole after this pass.

@@ -1,12 +1,18 @@
 //! The place of a frame in the picture.
 
-ghost use Rattle.std.specs.Prelude.{◌≡◌, ◌≤◌, ◌<◌, ◌^◌, IfOk};
+ghost use Rattle.std.specs.Prelude.{◌≡◌, ◌≤◌, ◌<◌, ◌^◌, ◌==◌, ◌&&◌, ◌||◌, not, is_some, IfOk, if◌then◌else◌, Some, None, false};
+ghost use Rattle.std.specs.Option.{option_map_or};
 ghost use Rattle.jxlm_base.specs.Bits.{bytes_of, position_of};
-ghost use Rattle.jxlm_base.specs.Grammar.{Reads};
+ghost use Rattle.jxlm_base.specs.Grammar.{Reads, u32};
 ghost use Rattle.jxlm_base.specs.Numbers.{unpack};
-ghost use Rattle.jxl_frames.specs.Places.{is_shown as the_is_shown, is_lf as the_is_lf, is_reference as the_is_reference, lf_level as the_lf_level, extent as the_extent, extent_if as the_extent_if, covers as the_covers, crop, told_crop, optional_crop, place, usual_place, crop_partial, sides_in, crop_refusal, place_refusal};
+ghost use Rattle.jxlm_base.specs.declared.bits.U32Spec.TheVariants.{Const};
+ghost use Rattle.jxl_headers.specs.Fields.{optional, when};
+ghost use Rattle.jxl_frames.specs.Places.{is_shown as the_is_shown, is_lf as the_is_lf, is_reference as the_is_reference, extent as the_extent, covers as the_covers, crop, place};
+ghost use Rattle.jxl_frames.specs.Frames.{usual_frame};
+ghost use Rattle.jxl_frames.specs.declared.refusal.Refusal.TheVariants as refusals;
 
 use crate::coding::FrameType;
+use crate::fields::field_if;
 use crate::refusal::Refusal;
 use jxl_headers::fields::{Result, field};
 use jxl_headers::size::Size;
@@ -38,12 +44,7 @@ impl FrameType {
     pub fn is_shown(&self) -> bool
         ensures { result ≡ the_is_shown self.now }
     {
-        match self {
-            FrameType::Regular => true,
-            FrameType::LfFrame => false,
-            FrameType::ReferenceOnly => false,
-            FrameType::SkipProgressive => true,
-        }
+        !(self.is_lf() || self.is_reference())
     }
 
     /// Whether it holds low frequencies of another.
@@ -71,20 +72,19 @@ impl FrameType {
     }
 }
 
-#[tactic(auto, unfolding(crate::specs::Places::lf_level))]
 fn lf_level(bits: &mut Bitstream<'_>, there: bool) -> Result<u32>
     ensures gives { Reads (λ v. v) result (position_of bits.new)
-        ((the_lf_level there).read (bytes_of bits.old) (position_of bits.old)) }
+        ((when there (u32 (Const 1) (Const 2) (Const 3) (Const 4)) 0).read (bytes_of bits.old) (position_of bits.old)) }
     ensures bytes { bytes_of bits.new ≡ bytes_of bits.old }
 {
-    if !there {
-        return Ok(0);
-    }
-    bits.read_u32(
+    field_if(
+        bits,
+        there,
         U32Spec::Const(1),
         U32Spec::Const(2),
         U32Spec::Const(3),
         U32Spec::Const(4),
+        0,
     )
 }
 
@@ -104,10 +104,9 @@ fn extent(bits: &mut Bitstream<'_>) -> Result<u32>
     )
 }
 
-#[tactic(auto, unfolding(crate::specs::Places::extent_if))]
 fn extent_if(bits: &mut Bitstream<'_>, there: bool) -> Result<u32>
     ensures gives { Reads (λ v. v) result (position_of bits.new)
-        ((the_extent_if there).read (bytes_of bits.old) (position_of bits.old)) }
+        ((when there the_extent 0).read (bytes_of bits.old) (position_of bits.old)) }
     ensures most { IfOk result (λ v. v < 2 ^ 31) }
     ensures bytes { bytes_of bits.new ≡ bytes_of bits.old }
 {
@@ -151,10 +150,9 @@ impl Crop {
         })
     }
 
-    #[tactic(auto, unfolding(crate::specs::Places::told_crop))]
     fn told(bits: &mut Bitstream<'_>, size: Size, shown: bool) -> Result<Option<Crop>>
         ensures gives { Reads (λ v. v) result (position_of bits.new)
-            ((told_crop size shown).read (bytes_of bits.old) (position_of bits.old)) }
+            ((optional (crop size shown)).read (bytes_of bits.old) (position_of bits.old)) }
         ensures bytes { bytes_of bits.new ≡ bytes_of bits.old }
     {
         if !bits.read_bool()? {
@@ -164,21 +162,26 @@ impl Crop {
         Ok(Some(crop))
     }
 
-    #[tactic(auto, unfolding(crate::specs::Places::optional_crop))]
-    fn optional(bits: &mut Bitstream<'_>, size: Size, frame_type: FrameType) -> Result<Option<Crop>>
+    fn told_if(
+        bits: &mut Bitstream<'_>,
+        there: bool,
+        size: Size,
+        shown: bool,
+    ) -> Result<Option<Crop>>
         ensures gives { Reads (λ v. v) result (position_of bits.new)
-            ((optional_crop size frame_type).read (bytes_of bits.old) (position_of bits.old)) }
+            ((when there (optional (crop size shown)) None).read (bytes_of bits.old) (position_of bits.old)) }
         ensures bytes { bytes_of bits.new ≡ bytes_of bits.old }
     {
-        if frame_type.is_lf() {
-            Ok(None)
+        if there {
+            Crop::told(bits, size, shown)
         } else {
-            Crop::told(bits, size, frame_type.is_shown())
+            Ok(None)
         }
     }
 
     fn refused(&self, frame_type: FrameType) -> Option<Refusal>
-        ensures { result ≡ crop_refusal frame_type self.now }
+        ensures { result ≡ (if not (the_is_reference frame_type) then Some refusals.Crop else
+            if (self.now.width == 0) || (self.now.height == 0) then Some refusals.EmptyFrame else None) }
     {
         if !frame_type.is_reference() {
             Some(Refusal::Crop)
@@ -199,13 +202,13 @@ impl Place {
         ensures bytes { bytes_of bits.new ≡ bytes_of bits.old }
     {
         let lf_level = lf_level(bits, frame_type.is_lf())?;
-        let crop = Crop::optional(bits, size, frame_type)?;
+        let crop = Crop::told_if(bits, !frame_type.is_lf(), size, frame_type.is_shown())?;
         Ok(Place { lf_level, crop })
     }
 
     /// The place of a frame that covers the picture.
     pub fn usual() -> Place
-        ensures { result ≡ usual_place }
+        ensures { result ≡ usual_frame.place }
     {
         Place {
             lf_level: 0,
@@ -215,7 +218,7 @@ impl Place {
 
     /// Whether it is shown, and leaves a part of the picture to the frame before.
     pub fn is_partial(&self) -> bool
-        ensures { result ≡ crop_partial self.now.crop }
+        ensures { result ≡ option_map_or (λ c. c.partial) self.now.crop false }
     {
         match self.crop {
             Some(crop) => crop.partial,
@@ -225,7 +228,8 @@ impl Place {
 
     /// The sides of the frame, in a picture of this size.
     pub fn size(&self, picture: Size) -> Size
-        ensures { result ≡ sides_in picture self.now.crop }
+        ensures { result ≡ option_map_or (λ c. record { width = c.width; height = c.height })
+            self.now.crop picture }
     {
         match self.crop {
             Some(crop) => Size {
@@ -239,7 +243,9 @@ impl Place {
     /// Whether it is not supported, of a frame of this type: one that is shown has a size and a place of its own, or
     /// another has no samples.
     pub fn refused(&self, frame_type: FrameType) -> Option<Refusal>
-        ensures { result ≡ place_refusal frame_type self.now.crop }
+        ensures { result ≡ (if is_some self.now.crop && not (the_is_reference frame_type) then Some refusals.Crop else
+            if option_map_or (λ c. (c.width == 0) || (c.height == 0)) self.now.crop false
+            then Some refusals.EmptyFrame else None) }
     {
         match self.crop {
             Some(crop) => crop.refused(frame_type),

@@ -1,8 +1,8 @@
 -- What reading the front of a codestream gives.
 use Rattle.std.proofs.Common.{◌≡◌, ℕ, ◌+◌, ◌<◌, ◌≤◌, ◌^◌, ◌/◌, Bool, true, false, List, [], ◌∷◌, ◌++◌, length, drop, Option, Ok, Some, None, ap, subst, sym, refl, ◌∙◌, inl, inr, arith}
-use Rattle.std.specs.Prelude.{if◌then◌else◌, nat_le, not, ◌||◌, ◌&&◌, ◌==◌}
-use Rattle.std.specs.List.{All, list_all}
-use Rattle.std.specs.Option.{option_or}
+use Rattle.std.specs.Prelude.{if◌then◌else◌, is_some, nat_le, not, ◌&&◌, ◌==◌}
+use Rattle.std.specs.List.{All, list_all, list_any}
+use Rattle.std.specs.Option.{option_map_or, option_or}
 use Rattle.std.proofs.Math.Nat.{max-le}
 use Rattle.std.proofs.lemmas.Bool.{cases_lt, le-leb, leb-true}
 use Rattle.std.proofs.lemmas.List.Elements.{All-cons, All-nil}
@@ -16,10 +16,8 @@ use Rattle.jxl_headers.proofs.Refusals.{low_shifts}
 use Rattle.jxl_headers.specs.Images.{Image, image_header, image_refusal}
 use Rattle.jxl_headers.specs.declared.refusal.Refusal.{Refusal as ImageRefusal}
 use Rattle.jxl_headers.specs.declared.size.Size.{Size}
-use Rattle.jxl_frames.specs.Codings.{coding_refusal, colours_refusal, encoding_refusal, flags_refusal, type_refusal}
-use Rattle.jxl_frames.specs.Frames.{Frame, factors_refusal, form_refusal, frame_header, frame_refusal, frame_size, has_floats, has_shifts, is_saved, use_refusal}
-use Rattle.jxl_frames.specs.Places.{is_reference, place_refusal, sides_in}
-use Rattle.jxl_frames.specs.declared.coding.FrameType.{FrameType}
+use Rattle.jxl_frames.specs.Codings.{coding_refusal, is_modular, type_refusal}
+use Rattle.jxl_frames.specs.Frames.{Frame, frame_header, frame_refusal, frame_size, has_shifts, is_saved}
 use Rattle.jxl_frames.specs.declared.place.Crop.{Crop}
 use Rattle.jxl_frames.specs.declared.refusal.Refusal.{Refusal as FrameRefusal}
 use Rattle.jxl_frames.specs.declared.refusal.Refusal.TheVariants as refusals
@@ -145,13 +143,6 @@ layout_is image frame l e = by (nat_le (section_count_of (layout_in image frame)
   by true e = cc
   by false e = cc
 
--- a frame that is shown and supported covers the picture
-covers_by : (t : FrameType) (size : Size) (crop : Option Crop) → is_reference t ≡ false → place_refusal t crop ≡ None → sides_in size crop ≡ size
-covers_by t size None shown none = refl
-covers_by t size (Some c) shown none = absurd (some_none (sym (ap (λ b. if not b then Some refusals.Crop else if (c.width == 0) || (c.height == 0) then Some refusals.EmptyFrame else None) shown) ∙ none)) where
-  some_none : {X : Type 0} {a : X} → ◌≡◌ {A = Option X} (Some a) None → ⊥
-  some_none e = cc
-
 first_none : {X : Type 0} (a b : Option X) → option_or a b ≡ None → a ≡ None
 first_none None b e = refl
 first_none (Some x) b e = cc
@@ -160,28 +151,34 @@ second_none : {X : Type 0} (a b : Option X) → option_or a b ≡ None → b ≡
 second_none None b e = e
 second_none (Some x) b e = cc
 
+-- of reasons in a row of which none holds: this one does not, and none after it
+passed : {X : Type 0} (b : Bool) (x : X) (rest : Option X) → (if b then Some x else rest) ≡ None → (b ≡ false) × (rest ≡ None)
+passed true x rest e = cc
+passed false x rest e = (refl, e)
+
+-- a frame that is shown and supported covers the picture
+covers_by : (size : Size) (crop : Option Crop) (saved : Bool) → saved ≡ false → (is_some crop && not saved) ≡ false → option_map_or (λ c. record { width = c.width; height = c.height }) crop size ≡ size
+covers_by size None saved shown none = refl
+covers_by size (Some c) true shown none = cc
+covers_by size (Some c) false shown none = cc
+
 pub covers : (image : Image) (size : Size) (frame : Frame) → frame_refusal image frame ≡ None → is_saved frame ≡ false → frame_size size frame ≡ size
 covers image size frame supported shown =
-    let form = first_none (form_refusal image frame) (use_refusal frame) supported in
-    let coded = second_none (coding_refusal (has_floats image) (has_shifts image) frame.coding) _ form in
-    let place = second_none (factors_refusal frame.ec_upsampling) _ coded in
-    covers_by frame.coding.frame_type size frame.place.crop shown place
+    let after_coding = second_none (coding_refusal (not (image.samples.depth.exponent_bits == 0)) (has_shifts image) frame.coding) _ supported in
+    let after_factors = (passed (list_any (λ f. not (f == 1)) frame.ec_upsampling) refusals.ExtraUpsampling _ after_coding).1 in
+    covers_by size frame.place.crop (is_saved frame) shown (passed (is_some frame.place.crop && not (is_saved frame)) refusals.Crop _ after_factors).0
 
 -- a frame that is supported has no patches where an extra channel has a size of its own
-flags_plain : (noise floats shifts splines lf : Bool) → (if noise then Some refusals.Noise else if floats then Some refusals.FloatPatches else if shifts then Some refusals.ShiftedPatches else if splines then Some refusals.Splines else if lf then Some refusals.UseLfFrame else None) ≡ None → shifts ≡ false
-flags_plain true floats shifts splines lf e = cc
-flags_plain false true shifts splines lf e = cc
-flags_plain false false true splines lf e = cc
-flags_plain false false false splines lf e = refl
-
 pub plain : (image : Image) (frame : Frame) → frame_refusal image frame ≡ None → (frame.coding.flags.patches && has_shifts image) ≡ false
 plain image frame supported =
-    let form = first_none (form_refusal image frame) (use_refusal frame) supported in
-    let coded = first_none (coding_refusal (has_floats image) (has_shifts image) frame.coding) _ form in
-    let encoded = second_none (type_refusal frame.coding.frame_type) _ coded in
-    let flagged = second_none (encoding_refusal frame.coding.encoding) _ encoded in
     let f = frame.coding.flags in
-    flags_plain f.noise (f.patches && has_floats image) (f.patches && has_shifts image) f.splines f.use_lf_frame (first_none (flags_refusal (has_floats image) (has_shifts image) f) (colours_refusal frame.coding) flagged)
+    let floats = not (image.samples.depth.exponent_bits == 0) in
+    let coded = first_none (coding_refusal floats (has_shifts image) frame.coding) _ supported in
+    let typed = second_none (type_refusal frame.coding.frame_type) _ coded in
+    let encoded = (passed (not (is_modular frame.coding.encoding)) refusals.VarDct _ typed).1 in
+    let quiet = (passed f.noise refusals.Noise _ encoded).1 in
+    let whole = (passed (f.patches && floats) refusals.FloatPatches _ quiet).1 in
+    (passed (f.patches && has_shifts image) refusals.ShiftedPatches _ whole).0
 
 -- in an image that is supported the shifts of extra channels are at most 3
 pub low : (image : Image) → image_refusal image ≡ None → HasLowShifts image

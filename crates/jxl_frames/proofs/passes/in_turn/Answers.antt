@@ -3,7 +3,7 @@ use Rattle.std.proofs.lemmas.Result.{err_from_is_err_and}
 use Rattle.jxlm_base.specs.Bits.{bytes_of, position_of}
 use Rattle.jxlm_base.specs.ErrorKind.{bitstream_kind}
 use Rattle.jxl_headers.proofs.UnlessMemory.{unless_no_memory}
-use Rattle.jxl_frames.specs.Passes.{next}
+use Rattle.jxl_frames.specs.Inner.Checked.{next}
 use Rattle.jxl_frames.proofs.InTurn.{goes_on_after, stops_at}
 use Rattle.jxl_frames.proofs.passes.in_turn.Goals as goal
 

@@ -1,7 +1,8 @@
 use Rattle.std.proofs.Common.{◌≡◌, ◌-◌, None}
 use Rattle.jxlm_base.specs.Bits.{bytes_of, position_of}
 use Rattle.jxl_headers.proofs.RepeatedLoop.{with_front}
-use Rattle.jxl_frames.specs.Passes.{in_turn, next}
+use Rattle.jxl_frames.specs.Inner.Checked.{next}
+use Rattle.jxl_frames.specs.Passes.{in_turn}
 use Rattle.jxl_frames.proofs.passes.in_turn.Given as goal
 
 abbrev pub invariant-loop : goal.invariant-loop

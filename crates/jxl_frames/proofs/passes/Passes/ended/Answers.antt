@@ -1,6 +1,6 @@
 use Rattle.std.proofs.Common.{◌≡◌, ◌==◌, ◌∙◌, ◌+◌, ℕ, suc, ap, sym, subst, false, drop, get_or, rules, arith}
 use Rattle.std.proofs.lemmas.Bool.{ne_eqb}
-use Rattle.jxl_frames.specs.Passes.{ended}
+use Rattle.jxl_frames.specs.Inner.Ended.{ended}
 use Rattle.jxl_frames.proofs.Ended.{none_left, passed_over}
 use Rattle.jxl_frames.proofs.passes.Passes.ended.Goals as goal
 

@@ -1,5 +1,5 @@
 use Rattle.std.proofs.Common.{◌≡◌, drop}
-use Rattle.jxl_frames.specs.Passes.{ended}
+use Rattle.jxl_frames.specs.Inner.Ended.{ended}
 use Rattle.jxl_frames.proofs.passes.Passes.ended.Given as goal
 
 abbrev pub invariant-loop-place : goal.invariant-loop-place
