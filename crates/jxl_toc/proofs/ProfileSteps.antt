@@ -4,10 +4,9 @@ use Rattle.jxlm_base.specs.Decoding.{Meaning}
 use Rattle.jxlm_base.specs.ErrorKind.{ErrorKind, UnlessMemory}
 use Rattle.jxlm_base.specs.Grammar.{IsErrorAt}
 use Rattle.jxl_toc.proofs.ReadSteps.{unless_so}
-use Rattle.jxl_toc.specs.Tokens.{decoder}
 use Rattle.jxl_toc.specs.Turns.{chained}
 use Rattle.jxl_toc.specs.Profiles.{one_byte, profile}
-use Rattle.jxl_toc.specs.Inner.Steps.{length_in}
+use Rattle.jxl_toc.specs.Inner.Steps.{decoder, length_in}
 
 pub profile_fails : {S : Type 0} (d : Meaning S) (limit : ℕ) (bytes : List ℕ) (p n a : ℕ) (s : S) (b : ℕ) (error : ErrorKind) (q : ℕ) →
     (length_in limit).read bytes p ≡ Ok (record { value = n; position = a }) → (decoder d 41).read bytes a ≡ Ok (record { value = s; position = b }) →

@@ -41,16 +41,16 @@ exact-called call = record {
   stands_read = λ bytes p x q s. rw s refl;
 }
 
-exact-chained : {S X : Type 0} (step : X → Tokens S X) → ((x : X) (s : S) → IsExact (step x s)) → (n : ℕ) (x : X) (s : S) → IsExact (chained step n x s)
+pub exact-chained : {S X : Type 0} (step : X → Tokens S X) → ((x : X) (s : S) → IsExact (step x s)) → (n : ℕ) (x : X) (s : S) → IsExact (chained step n x s)
 unfolding chained
 exact-chained step each zero x s = exact-give (record { value = x; state = s })
 exact-chained step each (suc n) x s = bind (each x s) λ t. exact-chained step each n t.value t.state
 
 module _ {S : Type 0} (d : Meaning S) where
-  exact-token : {X : Type 0} (context : ℕ) (means : ℕ → Grammar X) → ((v : ℕ) → IsExact (means v)) → (s : S) → IsExact (token d context means s)
+  pub exact-token : {X : Type 0} (context : ℕ) (means : ℕ → Grammar X) → ((v : ℕ) → IsExact (means v)) → (s : S) → IsExact (token d context means s)
   exact-token context means each s = bind (exact-called _) λ t. bind (each t.value) λ x. exact-give (record { value = x; state = t.state })
 
-  exact-coded : {X : Type 0} (contexts : ℕ) (tokens : Tokens S X) → ((s : S) → IsExact (tokens s)) → IsExact (coded d contexts tokens)
+  pub exact-coded : {X : Type 0} (contexts : ℕ) (tokens : Tokens S X) → ((s : S) → IsExact (tokens s)) → IsExact (coded d contexts tokens)
   exact-coded contexts tokens each =
       bind (bind (exact-called (λ bytes p. d.parse bytes p contexts)) λ s. exact-called (λ bytes p. d.begin s bytes p)) λ s.
       bind (each s) λ told. bind (exact-called _) λ u. exact-give told.value

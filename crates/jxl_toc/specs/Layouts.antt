@@ -1,5 +1,4 @@
--- The groups of a frame, the parts that its sections hold, and the streams of these parts (ISO/IEC 18181-1, frame: groups,
--- table of contents; Modular: stream index).
+-- The groups of a frame, its sections and the streams of their parts (ISO/IEC 18181-1, table of contents, stream index).
 use Rattle.std.specs.Prelude.{ℕ, ◌+◌, ◌-◌, ◌*◌, ◌/◌, ◌==◌, ◌&&◌, ◌<◌, ◌≤◌, nat_le, if◌then◌else◌, Option, Some, None}
 use Rattle.jxl_headers.specs.declared.size.Size.{Size}
 
@@ -7,7 +6,7 @@ use Rattle.jxl_headers.specs.declared.size.Size.{Size}
 abbrev pub groups_of : Size → ℕ → ℕ
 groups_of size dim = (size.width + dim - 1) / dim * ((size.height + dim - 1) / dim)
 
--- what a frame is cut into: its groups, its groups of low frequencies, which are 8 times as wide and as high, and its passes
+-- what a frame is cut into: its groups, those of low frequencies, which are 8 times as wide and as high, and its passes
 pub record Layout : Type 0 where
   pub groups : ℕ
   pub lf_groups : ℕ

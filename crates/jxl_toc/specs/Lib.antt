@@ -1,4 +1,3 @@
-pub mod Coded
 pub mod Tokens
 pub mod Turns
 pub mod Reading

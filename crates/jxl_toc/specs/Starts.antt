@@ -4,8 +4,7 @@ use Rattle.jxlm_base.specs.Grammar.{Grammar, flag, ◌>>=◌}
 use Rattle.jxl_headers.specs.Fields.{skipped, usual_or}
 use Rattle.jxl_headers.specs.declared.size.Size.{Size}
 
--- three factors of low frequencies, where they are told, as floats of 16 bits, which Modular does not use; and whether a tree
--- follows that sections may share
+-- three floats of 16 bits, where they are told, which Modular does not use; and whether a tree follows that sections share
 abbrev pub section_start : Grammar Bool
 section_start = usual_or tt (skipped 6) >>= λ u. flag
 

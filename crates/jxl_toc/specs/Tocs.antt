@@ -25,8 +25,7 @@ room n = record {
   Stands = λ bytes p u q. (p + n ≤ 8 * length bytes) × (q ≡ p);
 }
 
--- The table of n sections. Each size takes 12 bits at least: where fewer are there, the table is truncated. Bits up to a byte
--- are 0 before the sizes and after them.
+-- The table of n sections. Each size takes 12 bits at least: where fewer are there, the table is truncated.
 abbrev pub toc : {S : Type 0} → Meaning S → ℕ → Grammar Table
 toc d n = do
   u ← room (12 * n)
@@ -38,8 +37,7 @@ toc d n = do
   p ← here
   give (record { code = code; sizes = sizes; start = p / 8 })
 
--- Sections by their number: each is the one that stands at the place that the order of the table tells, behind those that
--- stand before it.
+-- Sections by their number: each stands at the place that the order of the table tells, behind those that stand before it.
 pub record IsToc (table : Table) (entries : List TocEntry) : Type 0 where
   pub order : List ℕ
   pub is_order : IsOrder table.code (length table.sizes) order

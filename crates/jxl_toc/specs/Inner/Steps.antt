@@ -5,7 +5,7 @@ use Rattle.jxlm_base.specs.ErrorKind.{BadProfile, ErrorAt, UnlessMemory, kind_of
 use Rattle.jxlm_base.specs.Grammar.{Grammar, IsErrorAt, give, fail, either, ◌>>=◌}
 use Rattle.jxlm_base.specs.declared.error.Error.{Error}
 use Rattle.jxl_headers.specs.Fields.{long, meant}
-use Rattle.jxl_toc.specs.Tokens.{After, Tokens, token}
+use Rattle.jxl_toc.specs.Tokens.{After, Tokens, called, token}
 use Rattle.jxl_toc.specs.Orders.{context_of}
 use Rattle.jxl_toc.specs.Profiles as profiles
 
@@ -19,6 +19,10 @@ TokensRead view (Err e) s q reading = UnlessMemory (kind_of e) (IsErrorAt readin
 abbrev pub StateReads : {S X : Type 0} → Result (Unit {0}) Error → S → ℕ → Result (Found (After S X)) ErrorAt → Type 0
 StateReads {S} {X} (Ok u) s q reading = (x : X) × (reading ≡ Ok (record { value = record { value = x; state = s }; position = q }))
 StateReads (Err e) s q reading = UnlessMemory (kind_of e) (IsErrorAt reading (kind_of e) q)
+
+-- the decoder of so many contexts, at the begin of its tokens
+abbrev pub decoder : {S : Type 0} → Meaning S → ℕ → Grammar S
+decoder d contexts = called (λ bytes p. d.parse bytes p contexts) >>= λ s. called (λ bytes p. d.begin s bytes p)
 
 -- how many digits a code of n numbers has
 abbrev pub told_digits : {S : Type 0} → Meaning S → ℕ → Tokens S ℕ
