@@ -63,7 +63,10 @@ mode_of v =
     if nat_lt v 8 then Err (BadProfile (codes "patches that are blended")) else Err (BadEnum (codes "mode of a patch") v)
 
 abbrev pub one_mode : {S : Type 0} → Meaning S → Told → Tokens S Told
-one_mode d a = token d 5 (λ v. checked (mode_of v)) >>= λ m s. give (record { value = record { places = a.places; modes = a.modes ++ m ∷ []; cells = a.cells; later = a.later; x = a.x; y = a.y }; state = s })
+one_mode d a = token d 5 (λ v. checked (mode_of v)) >>= λ m s. give (record {
+  value = record { places = a.places; modes = a.modes ++ m ∷ []; cells = a.cells; later = a.later; x = a.x; y = a.y };
+  state = s;
+})
 
 -- a place of a rectangle in a frame of this size, and its modes: one of the colours together, and one of each extra channel
 abbrev pub one_place : {S : Type 0} → Meaning S → Size → ℕ → Rectangle → Told → Tokens S Told
@@ -78,7 +81,8 @@ abbrev pub one_rectangle : {S : Type 0} → Meaning S → Size → ℕ → List 
 one_rectangle d size kinds slots limit a = do
   r ← source d slots
   n ← token d 7 (λ v. checked (if nat_le (length a.places + (v + 1)) (4 * most_rectangles size)
-      then (if nat_le (a.cells + r.width * r.height * (v + 1)) limit then Ok (v + 1) else Err (BadProfile (codes "patches of too many cells"))) else Err (BadEnum (codes "places of a patch") v)))
+      then (if nat_le (a.cells + r.width * r.height * (v + 1)) limit then Ok (v + 1) else Err (BadProfile (codes "patches of too many cells")))
+      else Err (BadEnum (codes "places of a patch") v)))
   chained (one_place d size kinds r) n (record { places = a.places; modes = a.modes; cells = a.cells + r.width * r.height * n; later = false; x = 0; y = 0 })
 
 -- Patches, in the order in which they are put: where, and how; of each place one mode for the colours, and one for each extra

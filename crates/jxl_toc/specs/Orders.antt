@@ -23,7 +23,7 @@ pub record IsNext (n : ℕ) (taken : List ℕ) (digit v : ℕ) : Type 0 where
   pub free : is_taken taken v ≡ false
   pub passes : free_below taken v ≡ digit
 
--- The order of n numbers that a Lehmer code tells: each is the one that its digit leads to; those that it does not have are 0.
+-- The order of n numbers that a Lehmer code tells: each is the one that its digit leads to; a digit that is not told is 0.
 pub record IsOrder (code : List ℕ) (n : ℕ) (order : List ℕ) : Type 0 where
   pub length : length order ≡ n
   pub each : (i : ℕ) → i < n → IsNext n (take i order) (slice_index_or code i 0) (slice_index order i)

@@ -24,15 +24,16 @@ Tokens S X = S → Grammar (After S X)
 
 -- the token of a context, and what it means
 abbrev pub told : {S : Type 0} → Meaning S → ℕ → Tokens S ℕ
-told d context s = called (λ bytes p. result_map_both (λ t. record { value = record { value = t.value; state = t.state }; position = t.position }) (λ e. e) (d.read s bytes p (slice_index (d.cluster_map s) context) 0))
+told d context s = called (λ bytes p. result_map_both (λ t. record { value = record { value = t.value; state = t.state }; position = t.position }) (λ e. e)
+    (d.read s bytes p (slice_index (d.cluster_map s) context) 0))
 
 abbrev pub token : {S X : Type 0} → Meaning S → ℕ → (ℕ → Grammar X) → Tokens S X
 token d context means s = told d context s >>= λ t. means t.value >>= λ x. give (record { value = x; state = t.state })
 
--- what the tokens of a decoder of so many contexts tell: it comes before them, and they end
+-- what the tokens of a decoder of so many contexts tell: it comes before them, and their end is checked
 abbrev pub coded : {S X : Type 0} → Meaning S → ℕ → Tokens S X → Grammar X
 coded d contexts tokens = do
   s ← called (λ bytes p. d.parse bytes p contexts) >>= λ s. called (λ bytes p. d.begin s bytes p)
-  told ← tokens s
-  u ← called (λ bytes p. result_map_both (λ u. record { value = u; position = p }) (λ e. e) (d.finalize told.state))
-  give told.value
+  all ← tokens s
+  u ← called (λ bytes p. result_map_both (λ u. record { value = u; position = p }) (λ e. e) (d.finalize all.state))
+  give all.value

@@ -6,7 +6,7 @@ use Rattle.jxl_toc.specs.Tokens.{Tokens}
 
 infixl 10 ◌>>=◌
 abbrev pub ◌>>=◌ : {S X Y : Type 0} → Tokens S X → (X → Tokens S Y) → Tokens S Y
-◌>>=◌ told next s = fields.◌>>=◌ (told s) (λ t. next t.value t.state)
+◌>>=◌ first next s = fields.◌>>=◌ (first s) (λ t. next t.value t.state)
 
 -- n steps, each from what the one before gave
 unfoldable pub chained : {S X : Type 0} → (X → Tokens S X) → ℕ → X → Tokens S X
