@@ -1,1 +1,3 @@
+pub mod BoxCases
+pub mod Faults
 pub mod FileLaws

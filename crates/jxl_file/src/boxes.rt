@@ -1,7 +1,9 @@
 //! Boxes: where they stand in a file.
 
 ghost use Rattle.std.specs.Prelude.{◌≡◌, ◌+◌, ◌<◌, ◌≤◌, ◌^◌, length, IfOk};
-ghost use Rattle.jxl_file.specs.Boxes.{word_at, sized_box, long_box, box_at as the_box_at};
+ghost use Rattle.std.specs.Option.{option_map_or};
+ghost use Rattle.jxl_file.specs.Boxes.{word_at, box_from, first_of, outside};
+ghost use Rattle.jxl_file.specs.Inner.Walks.{sized_box, long_box, box_by_size};
 
 use crate::error::FileError;
 
@@ -28,7 +30,7 @@ pub fn word(bytes: &[u8], start: usize) -> u32
 }
 
 // The box from `start` on whose size is this, and whose contents begin at `body`.
-#[tactic(auto, unfolding(crate::specs::Boxes::sized_box))]
+#[tactic(auto, unfolding(crate::specs::Inner::Walks::sized_box))]
 fn sized(file: &[u8], start: usize, kind: u32, body: usize, size: u64) -> Result<FileBox, FileError>
     requires here { start ≤ body }
     requires within { body ≤ length file.now }
@@ -48,7 +50,7 @@ fn sized(file: &[u8], start: usize, kind: u32, body: usize, size: u64) -> Result
 }
 
 // The box from `start` on whose size stands in eight bytes after its type.
-#[tactic(auto, unfolding(crate::specs::Boxes::long_box))]
+#[tactic(auto, unfolding(crate::specs::Inner::Walks::long_box))]
 fn long(file: &[u8], start: usize, kind: u32) -> Result<FileBox, FileError>
     requires { start ≤ length file.now }
     ensures gives { result ≡ long_box file.now start kind }
@@ -67,10 +69,20 @@ fn long(file: &[u8], start: usize, kind: u32) -> Result<FileBox, FileError>
 /// # Errors
 ///
 /// `TruncatedBox` if the file ends before the header or the box does; `BoxTooSmall` if its size is below its header's.
-#[tactic(auto, unfolding(crate::specs::Boxes::box_at))]
 pub fn box_at(file: &[u8], start: usize) -> Result<FileBox, FileError>
     requires { start ≤ length file.now }
-    ensures gives { result ≡ the_box_at file.now start }
+    ensures gives { let b = box_from file.now start in
+        result ≡ option_map_or Err (first_of (outside file.now b)) (Ok b) }
+    ensures whole { IfOk result (λ b. (start + 8 ≤ b.body) × (b.body ≤ b.end) × (b.end ≤ length file.now)) }
+{
+    by_size(file, start)
+}
+
+// The same, case by case.
+#[tactic(auto, unfolding(crate::specs::Inner::Walks::box_by_size))]
+fn by_size(file: &[u8], start: usize) -> Result<FileBox, FileError>
+    requires { start ≤ length file.now }
+    ensures gives { result ≡ box_by_size file.now start }
     ensures whole { IfOk result (λ b. (start + 8 ≤ b.body) × (b.body ≤ b.end) × (b.end ≤ length file.now)) }
 {
     if file.len() - start < 8 {

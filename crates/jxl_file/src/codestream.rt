@@ -1,7 +1,9 @@
 //! The codestream of a file.
 
-ghost use Rattle.std.specs.Prelude.{◌≡◌, ◌≤◌, ◌+◌, ◌++◌, ℕ, List, length, IfErr, IfOk, IfSome};
-ghost use Rattle.jxl_file.specs.Files.{HasCodestream, InBoxes, Finishes, ReturnsOf, contents, part_of, stream_of};
+ghost use Rattle.std.specs.Prelude.{◌≡◌, ◌≤◌, ◌+◌, ◌++◌, ℕ, List, [], length, IfErr, IfOk, IfSome};
+ghost use Rattle.jxl_file.specs.Files.{HasCodestream, Follow, ReturnsOf, stream_of};
+ghost use Rattle.jxl_file.specs.Inner.Walks.{Finishes, contents_of, part_of};
+ghost use Rattle.jxl_file.specs.declared.boxes.FileBox.{FileBox};
 
 use crate::boxes::{FileBox, box_at};
 use crate::error::FileError;
@@ -50,10 +52,10 @@ fn append(joined: &mut Vec<u8>, file: &[u8], found: FileBox) -> Result<(), FileE
 }
 
 // The codestream of all boxes, by what they have and the joined parts.
-#[tactic(auto, unfolding(crate::specs::Files::contents))]
+#[tactic(auto, unfolding(crate::specs::Inner::Walks::contents_of))]
 fn finish(file: &[u8], seen: Seen, joined: Vec<u8>) -> Result<Codestream<'_>, FileError>
     requires whole { IfSome seen.whole (λ b. (b.body ≤ b.end) × (b.end ≤ length file.now)) }
-    ensures { Finishes (contents file.now seen joined.items) result }
+    ensures { Finishes (contents_of file.now seen joined.items) result }
 {
     if let Some(whole) = seen.whole {
         return Ok(Codestream::Slice(&file[whole.body..whole.end]));
@@ -71,7 +73,7 @@ fn finish(file: &[u8], seen: Seen, joined: Vec<u8>) -> Result<Codestream<'_>, Fi
 // The codestream of a file in boxes, from the second box on.
 fn boxed(alloc: Global, file: &[u8]) -> Result<Codestream<'_>, FileError>
     requires { 12 ≤ length file.now }
-    ensures { ReturnsOf (InBoxes file.now) result }
+    ensures { ReturnsOf (λ found. (boxes : List FileBox) × Follow file.now [] 12 boxes found) result }
 {
     let mut seen = Seen {
         first: true,

@@ -1,8 +1,8 @@
 //! Which boxes may follow those before them.
 
 ghost use Rattle.std.specs.Prelude.{◌≡◌, ◌≤◌, ◌<◌, ◌+◌, ◌^◌, MatchResult, IfOk, IfSome, Some, None, length};
-ghost use Rattle.jxl_file.specs.Files.{is_whole, is_part, is_last, first_fault as the_first_fault, part_fault as the_part_fault, compressed_fault as the_compressed_fault, later_fault as the_later_fault, fault as the_fault};
-ghost use Rattle.jxl_file.specs.Inner.Walks.{with_box};
+ghost use Rattle.jxl_file.specs.Files.{is_whole, is_part, is_last};
+ghost use Rattle.jxl_file.specs.Inner.Walks.{with_box, first_fault as the_first_fault, part_fault as the_part_fault, compressed_fault as the_compressed_fault, later_fault as the_later_fault, fault_by_kind};
 ghost use Rattle.jxl_file.specs.declared.boxes.FileBox.{FileBox};
 
 use crate::boxes::{FileBox, word};
@@ -131,11 +131,11 @@ fn later_fault(file: &[u8], seen: Seen, found: FileBox) -> Option<FileError>
     None
 }
 
-#[tactic(auto, unfolding(crate::specs::Files::fault))]
+#[tactic(auto, unfolding(crate::specs::Inner::Walks::fault_by_kind))]
 fn fault(file: &[u8], seen: Seen, found: FileBox) -> Option<FileError>
     requires within { found.end ≤ length file.now }
     requires ordered { found.body ≤ found.end }
-    ensures gives { result ≡ the_fault file.now seen found }
+    ensures gives { result ≡ fault_by_kind file.now seen found }
     ensures few { result ≡ None → found.kind ≡ 0x6A786C70 → seen.parts < 2 ^ 31 }
     ensures room { result ≡ None → found.kind ≡ 0x6A786C70 → found.body + 4 ≤ found.end }
 {
@@ -152,8 +152,8 @@ pub fn with(file: &[u8], seen: Seen, found: FileBox) -> Result<Seen, FileError>
     requires ordered { found.body ≤ found.end }
     requires whole { IfSome seen.whole (λ b. (b.body ≤ b.end) × (b.end ≤ length file.now)) }
     ensures gives { MatchResult result
-        (λ s. (the_fault file.now seen found ≡ None) × (s ≡ with_box file.now seen found))
-        (λ e. the_fault file.now seen found ≡ Some e) }
+        (λ s. (fault_by_kind file.now seen found ≡ None) × (s ≡ with_box file.now seen found))
+        (λ e. fault_by_kind file.now seen found ≡ Some e) }
     ensures whole { IfOk result (λ s. IfSome s.whole (λ b. (b.body ≤ b.end) × (b.end ≤ length file.now))) }
     ensures room { IfOk result (λ s. found.kind ≡ 0x6A786C70 → found.body + 4 ≤ found.end) }
 {

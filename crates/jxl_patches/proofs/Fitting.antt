@@ -1,6 +1,7 @@
 -- Patches that stand in a dictionary lie in their frames.
 use Rattle.std.proofs.Common.{◌≡◌, ℕ, zero, suc, ◌+◌, ◌*◌, ◌<◌, ◌≤◌, Bool, true, false, List, [], ◌∷◌, ◌++◌, length, get_or, Option, Some, None, Result, Ok, Err, ◌⊎◌, inl, inr, refl, sym, ap, ◌∙◌, arith}
 use Rattle.std.specs.Prelude.{nat_lt, nat_le, ◌&&◌, codes, if◌then◌else◌}
+use Rattle.std.specs.Option.{option_map_or}
 use Rattle.std.proofs.lemmas.Bool.{leb-true, ltb-true, and_parts}
 use Rattle.std.proofs.lemmas.List.{length-append, get_or_push, get_or_append_left}
 use Rattle.std.proofs.Math.Nat.{suc-mul}
@@ -8,8 +9,9 @@ use Rattle.jxlm_base.specs.Decoding.{Meaning}
 use Rattle.jxlm_base.specs.ErrorKind.{ErrorKind, BadEnum}
 use Rattle.jxl_headers.specs.declared.size.Size.{Size}
 use Rattle.jxl_toc.proofs.Cases.{less_or_same}
-use Rattle.jxl_toc.specs.Coded.{chained}
-use Rattle.jxl_patches.specs.Patches.{Patches, checked, frame_of, rectangle_within, source, moved, inside, coordinate, Told, one_mode, corner, one_place, one_rectangle, dictionary}
+use Rattle.jxl_toc.specs.Tokens.{After, token}
+use Rattle.jxl_toc.specs.Turns.{chained}
+use Rattle.jxl_patches.specs.Patches.{Patches, checked, source, moved, inside, coordinate, Told, one_mode, one_place, one_rectangle, dictionary}
 use Rattle.jxl_patches.specs.Dictionaries.{IsWithin, AreWithin, nowhere}
 use Rattle.jxl_patches.specs.declared.dictionary.Place.{Place}
 use Rattle.jxl_patches.specs.declared.dictionary.Rectangle.{Rectangle}
@@ -26,12 +28,23 @@ pub was_ok : {X : Type 0} (r : Result X ErrorKind) (bytes : List ℕ) (p : ℕ) 
 was_ok (Ok y) bytes p x q s = ap Ok (sym s.0)
 was_ok (Err e) bytes p x q s = absurd s
 
-frame_held : (slot : ℕ) (o : Option Size) (frame : Size) → frame_of slot o ≡ Ok frame → o ≡ Some frame
-frame_held slot (Some size) frame h = cc
-frame_held slot None frame h = cc
+-- the rectangle at this corner of a frame, whose sides are told less one
+abbrev within : Option Size → ℕ → ℕ → ℕ → ℕ → ℕ → Result Rectangle ErrorKind
+within o slot x0 y0 w h = if option_map_or (λ f. nat_lt (x0 + w) f.width && nat_lt (y0 + h) f.height) o false
+    then Ok (record { slot = slot; x0 = x0; y0 = y0; width = w + 1; height = h + 1 }) else Err (BadEnum (codes "rectangle of a patch") slot)
 
-in_frame : (slots : List (Option Size)) (frame : Size) (slot x0 y0 w h : ℕ) (r : Rectangle) → get_or slots slot None ≡ Some frame → rectangle_within frame slot x0 y0 w h ≡ Ok r → InFrame slots r
-in_frame slots frame slot x0 y0 w h r held = by_test (nat_lt (x0 + w) frame.width && nat_lt (y0 + h) frame.height) refl
+-- so was what a token means
+pub token_ok : {S X : Type 0} (d : Meaning S) (context : ℕ) (check : ℕ → Result X ErrorKind) (s : S) (bytes : List ℕ) (p : ℕ) (y : After S X) (q : ℕ) →
+    (token d context (λ v. checked (check v)) s).Stands bytes p y q → (v : ℕ) × (check v ≡ Ok y.value)
+token_ok d context check s bytes p y q st =
+    let v = st.0.value in
+    let rest = st.3 in
+    let ok = was_ok (check v) bytes st.1 rest.0 rest.1 rest.2 in
+    let same : y ≡ record { value = rest.0; state = st.0.state } = rest.3.0 in
+    (v, rw same ok)
+
+in_frame : (slots : List (Option Size)) (slot x0 y0 w h : ℕ) (o : Option Size) (r : Rectangle) → get_or slots slot None ≡ o → within o slot x0 y0 w h ≡ Ok r → InFrame slots r
+in_frame slots slot x0 y0 w h (Some frame) r held ok = by_test (nat_lt (x0 + w) frame.width && nat_lt (y0 + h) frame.height) refl ok
   where
     place : Rectangle
     place = record { slot = slot; x0 = x0; y0 = y0; width = w + 1; height = h + 1 }
@@ -45,6 +58,7 @@ in_frame slots frame slot x0 y0 w h r held = by_test (nat_lt (x0 + w) frame.widt
         let same : place ≡ r = cc in
         rw (← same) (record { frame = frame; held = held; columns = omega (arith, wide); rows = omega (arith, high) })
     by_test false t e = cc
+in_frame slots slot x0 y0 w h None r held e = cc
 
 inside_fits : (extent side v : ℕ) (o : Option ℕ) (c : ℕ) → inside extent side v o ≡ Ok c → c + extent ≤ side
 inside_fits extent side v (Some w) c h = by_test (nat_le (w + extent) side) refl h
@@ -55,91 +69,88 @@ inside_fits extent side v (Some w) c h = by_test (nat_le (w + extent) side) refl
 inside_fits extent side v None c h = cc
 
 module _ {S : Type 0} (d : Meaning S) (size : Size) (kinds : ℕ) (slots : List (Option Size)) where
-  source_fits : (s : S) (bytes : List ℕ) (p q : ℕ) (t : S) (r : Rectangle) → (source d slots s).Stands bytes p (record { rectangle = r; state = t }) q → InFrame slots r
-  source_fits s bytes p q t r st =
-      let slot = st.0 in
-      let rest = st.3 in
-      let frame = rest.0 in
-      let held = frame_held slot.value (get_or slots slot.value None) frame (was_ok _ bytes st.1 frame rest.1 rest.2) in
-      let corner = rest.3.0 in
-      let sides = rest.3.3.0 in
-      let last = rest.3.3.3 in
-      let fits = in_frame slots frame slot.value corner.first corner.second sides.first sides.second last.0 held (was_ok _ bytes rest.3.3.1 last.0 last.1 last.2) in
-      let same : r ≡ last.0 = ap (λ v. v.rectangle) last.3.0 in
-      rw same fits
+  source_fits : (s : S) (bytes : List ℕ) (p q : ℕ) (y : After S Rectangle) → (source d slots s).Stands bytes p y q → InFrame slots y.value
+  source_fits s bytes p q y st =
+      let slot = (st.0).value in
+      let x0 = (st.3.0).value in
+      let y0 = (st.3.3.0).value in
+      let w = st.3.3.3.0 in
+      let last = st.3.3.3.3 in
+      let ok = token_ok d 2 (λ h. within (get_or slots slot None) slot x0 y0 w.value h) w.state bytes st.3.3.3.1 y q last in
+      in_frame slots slot x0 y0 w.value ok.0 (get_or slots slot None) y.value refl ok.1
 
   -- What was read so far lies in its frames; so many modes are owed.
-  record Framed (owed : ℕ) (a : Told S) : Type 0 where
+  record Framed (owed : ℕ) (a : Told) : Type 0 where
     modes : length a.modes + owed ≡ length a.places * kinds
     each : (n : ℕ) → n < length a.places → IsWithin size slots (get_or a.places n nowhere)
 
-  mode_more : (owed : ℕ) (a b : Told S) (bytes : List ℕ) (p q : ℕ) → Framed (suc owed) a → (one_mode d a).Stands bytes p b q → Framed owed b
-  mode_more owed a b bytes p q f s =
-      let m = s.3.0 in
-      rw s.3.3.0 (record { modes = omega (arith, f.modes, length-append a.modes (m ∷ [])); each = f.each })
+  mode_more : (owed : ℕ) (a : Told) (s : S) (b : After S Told) (bytes : List ℕ) (p q : ℕ) → Framed (suc owed) a → (one_mode d a s).Stands bytes p b q → Framed owed b.value
+  mode_more owed a s b bytes p q f st =
+      let m = (st.0).value in
+      rw st.3.0 (record { modes = omega (arith, f.modes, length-append a.modes (m ∷ [])); each = f.each })
 
-  modes_more : (n : ℕ) (a b : Told S) (bytes : List ℕ) (p q : ℕ) → Framed n a → (chained (one_mode d) n a).Stands bytes p b q → Framed 0 b
+  modes_more : (n : ℕ) (a : Told) (s : S) (b : After S Told) (bytes : List ℕ) (p q : ℕ) → Framed n a → (chained (one_mode d) n a s).Stands bytes p b q → Framed 0 b.value
   unfolding chained
-  modes_more zero a b bytes p q f s = rw s.0 f
-  modes_more (suc n) a b bytes p q f s = modes_more n s.0 b bytes s.1 q (mode_more n a s.0 bytes p s.1 f s.2) s.3
+  modes_more zero a s b bytes p q f st = rw st.0 f
+  modes_more (suc n) a s b bytes p q f st = modes_more n (st.0).value (st.0).state b bytes st.1 q (mode_more n a s st.0 bytes p st.1 f st.2) st.3
 
   one_more : (places : List Place) (x : Place) → ((n : ℕ) → n < length places → IsWithin size slots (get_or places n nowhere)) → IsWithin size slots x →
       (n : ℕ) → (n < length places) ⊎ (n ≡ length places) → IsWithin size slots (get_or (places ++ x ∷ []) n nowhere)
   one_more places x each here n (inl lt) = rw (get_or_append_left places (x ∷ []) nowhere n lt) (each n lt)
   one_more places x each here n (inr same) = rw (get_or_push places x nowhere n (sym same)) here
 
-  coordinate_fits : (later : Bool) (before extent side : ℕ) (s : S) (bytes : List ℕ) (p c q : ℕ) (t : S) → (coordinate d later before extent side s).Stands bytes p (record { value = c; state = t }) q → c + extent ≤ side
-  coordinate_fits later before extent side s bytes p c q t st =
-      let rest = st.3 in
-      let fits = inside_fits extent side st.0.value (moved later before st.0.value) rest.0 (was_ok _ bytes st.1 rest.0 rest.1 rest.2) in
-      let same : c ≡ rest.0 = ap (λ v. v.value) rest.3.0 in
-      rw same fits
+  coordinate_fits : (later : Bool) (before extent side : ℕ) (s : S) (bytes : List ℕ) (p : ℕ) (y : After S ℕ) (q : ℕ) → (coordinate d later before extent side s).Stands bytes p y q → y.value + extent ≤ side
+  coordinate_fits later before extent side s bytes p y q st =
+      let ok = token_ok d (if later then 6 else 4) (λ v. inside extent side v (moved later before v)) s bytes p y q st in
+      inside_fits extent side ok.0 (moved later before ok.0) y.value ok.1
 
-  corner_more : (r : Rectangle) → InFrame slots r → (a b : Told S) (bytes : List ℕ) (p q : ℕ) → Framed 0 a → (corner d size r a).Stands bytes p b q → Framed kinds b
-  corner_more r i a b bytes p q f s =
-      let x = s.0 in
-      let rest = s.3 in
+  place_more : (r : Rectangle) → InFrame slots r → (a : Told) (s : S) (b : After S Told) (bytes : List ℕ) (p q : ℕ) → Framed 0 a → (one_place d size kinds r a s).Stands bytes p b q → Framed 0 b.value
+  place_more r i a s b bytes p q f st =
+      let x = st.0 in
+      let rest = st.3 in
       let y = rest.0 in
-      let right = coordinate_fits a.later a.x r.width size.width a.state bytes p x.value s.1 x.state s.2 in
-      let down = coordinate_fits a.later a.y r.height size.height x.state bytes s.1 y.value rest.1 y.state rest.2 in
+      let right = coordinate_fits a.later a.x r.width size.width s bytes p x st.1 st.2 in
+      let down = coordinate_fits a.later a.y r.height size.height x.state bytes st.1 y rest.1 rest.2 in
       let place : Place = record { source = r; x = x.value; y = y.value } in
       let long : length (a.places ++ place ∷ []) ≡ suc (length a.places) = omega (arith, length-append a.places (place ∷ [])) in
       let more = suc-mul (length a.places) kinds in
-      rw rest.3.0 (record {
+      let c : Told = record { places = a.places ++ place ∷ []; modes = a.modes; cells = a.cells; later = true; x = x.value; y = y.value } in
+      let framed : Framed kinds c = record {
         modes = omega (arith, f.modes, more) ∙ ap (λ (n : ℕ). n * kinds) (sym long);
         each = λ n lt.
             one_more a.places place f.each (record { frame = i.frame; held = i.held; source_columns = i.columns; source_rows = i.rows; columns = right; rows = down }) n
             (less_or_same n (length a.places) (omega (arith, lt, long)));
-      })
+      } in
+      modes_more kinds c y.state b bytes rest.1 q framed rest.3
 
-  place_more : (r : Rectangle) → InFrame slots r → (a b : Told S) (bytes : List ℕ) (p q : ℕ) → Framed 0 a → (one_place d size kinds r a).Stands bytes p b q → Framed 0 b
-  place_more r i a b bytes p q f s = modes_more kinds s.0 b bytes s.1 q (corner_more r i a s.0 bytes p s.1 f s.2) s.3
-
-  places_more : (r : Rectangle) → InFrame slots r → (n : ℕ) (a b : Told S) (bytes : List ℕ) (p q : ℕ) → Framed 0 a → (chained (one_place d size kinds r) n a).Stands bytes p b q → Framed 0 b
+  places_more : (r : Rectangle) → InFrame slots r → (n : ℕ) (a : Told) (s : S) (b : After S Told) (bytes : List ℕ) (p q : ℕ) → Framed 0 a → (chained (one_place d size kinds r) n a s).Stands bytes p b q → Framed 0 b.value
   unfolding chained
-  places_more r i zero a b bytes p q f s = rw s.0 f
-  places_more r i (suc n) a b bytes p q f s = places_more r i n s.0 b bytes s.1 q (place_more r i a s.0 bytes p s.1 f s.2) s.3
+  places_more r i zero a s b bytes p q f st = rw st.0 f
+  places_more r i (suc n) a s b bytes p q f st = places_more r i n (st.0).value (st.0).state b bytes st.1 q (place_more r i a s st.0 bytes p st.1 f st.2) st.3
 
   module _ (limit : ℕ) where
-    rectangle_more : (a b : Told S) (bytes : List ℕ) (p q : ℕ) → Framed 0 a → (one_rectangle d size kinds slots limit a).Stands bytes p b q → Framed 0 b
-    rectangle_more a b bytes p q f s =
-        let r = s.0 in
-        let i = source_fits a.state bytes p s.1 r.state r.rectangle s.2 in
-        let counted = s.3 in
-        let cells = counted.3 in
-        places_more r.rectangle i counted.0.value _ b bytes cells.1 q (record { modes = f.modes; each = f.each }) cells.3
+    rectangle_more : (a : Told) (s : S) (b : After S Told) (bytes : List ℕ) (p q : ℕ) → Framed 0 a → (one_rectangle d size kinds slots limit a s).Stands bytes p b q → Framed 0 b.value
+    rectangle_more a s b bytes p q f st =
+        let r = st.0 in
+        let i = source_fits s bytes p st.1 r st.2 in
+        let counted = st.3 in
+        places_more r.value i (counted.0).value _ (counted.0).state b bytes counted.1 q (record { modes = f.modes; each = f.each }) counted.3
 
-    rectangles_more : (n : ℕ) (a b : Told S) (bytes : List ℕ) (p q : ℕ) → Framed 0 a → (chained (one_rectangle d size kinds slots limit) n a).Stands bytes p b q → Framed 0 b
+    rectangles_more : (n : ℕ) (a : Told) (s : S) (b : After S Told) (bytes : List ℕ) (p q : ℕ) → Framed 0 a → (chained (one_rectangle d size kinds slots limit) n a s).Stands bytes p b q → Framed 0 b.value
     unfolding chained
-    rectangles_more zero a b bytes p q f s = rw s.0 f
-    rectangles_more (suc n) a b bytes p q f s = rectangles_more n s.0 b bytes s.1 q (rectangle_more a s.0 bytes p s.1 f s.2) s.3
+    rectangles_more zero a s b bytes p q f st = rw st.0 f
+    rectangles_more (suc n) a s b bytes p q f st = rectangles_more n (st.0).value (st.0).state b bytes st.1 q (rectangle_more a s st.0 bytes p st.1 f st.2) st.3
 
 pub patches_fit : {S : Type 0} (d : Meaning S) (size : Size) (extra : ℕ) (slots : List (Option Size)) (limit : ℕ) (bytes : List ℕ) (p : ℕ) (patches : Patches) (q : ℕ) →
     (dictionary d size extra slots limit).Stands bytes p patches q → AreWithin size extra slots patches
-patches_fit {S} d size extra slots limit bytes p patches q s =
-    let counted = s.3 in
+patches_fit {S} d size extra slots limit bytes p patches q st =
+    let told = st.3 in
+    let counted = told.2 in
     let all = counted.3 in
-    let none : Framed d size (1 + extra) slots 0 (record { state = counted.0.state; places = []; modes = []; cells = 0; later = false; x = 0; y = 0 }) =
+    let none : Framed d size (1 + extra) slots 0 (record { places = []; modes = []; cells = 0; later = false; x = 0; y = 0 }) =
     record { modes = omega arith; each = λ n lt. absurd (omega (arith, lt)) } in
-    let framed = rectangles_more d size (1 + extra) slots limit counted.0.value _ all.0 bytes counted.1 all.1 none all.2 in
-    rw all.3.3.0 (record { modes = omega (arith, framed.modes); each = framed.each })
+    let framed = rectangles_more d size (1 + extra) slots limit (counted.0).value _ (counted.0).state all.0 bytes counted.1 all.1 none all.2 in
+    let fits : AreWithin size extra slots (record { places = ((all.0).value).places; modes = ((all.0).value).modes }) = record { modes = omega (arith, framed.modes); each = framed.each } in
+    let first : patches ≡ (told.0).value = told.3.3.0 in
+    let same : (told.0).value ≡ record { places = ((all.0).value).places; modes = ((all.0).value).modes } = ap (λ (t : After S Patches). t.value) all.3.0 in
+    rw (first ∙ same) fits

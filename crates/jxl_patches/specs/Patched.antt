@@ -4,7 +4,7 @@ use Rattle.std.specs.Global.{Vec}
 use Rattle.std.specs.Int.{int_wrap, w32}
 use Rattle.jxlm_base.specs.Grid.{Grid, grid, at}
 use Rattle.jxl_headers.specs.declared.size.Size.{Size}
-use Rattle.jxl_patches.specs.Dictionaries.{AreWithin, place_at}
+use Rattle.jxl_patches.specs.Dictionaries.{AreWithin, nowhere, place_at}
 use Rattle.jxl_patches.specs.Patches.{Patches}
 use Rattle.jxl_patches.specs.declared.dictionary.Place.{Place}
 use Rattle.jxl_patches.specs.declared.dictionary.PatchMode.{PatchMode}
@@ -25,10 +25,6 @@ mixed Add v r = int_wrap w32 (v +ℤ r)
 abbrev pub kind_of : ℕ → ℕ → ℕ
 kind_of colours channel = if nat_lt channel colours then 0 else 1 + (channel - colours)
 
--- how many modes a place has
-abbrev pub kinds_of : ℕ → ℕ → ℕ
-kinds_of colours channels = 1 + (channels - colours)
-
 -- the channels of each slot
 abbrev pub frames_of : List (Vec (Grid ℤ)) → List (List (Grid ℤ))
 frames_of slots = map (λ v. v.items) slots
@@ -37,24 +33,27 @@ frames_of slots = map (λ v. v.items) slots
 abbrev pub channel_of : List (List (Grid ℤ)) → ℕ → ℕ → Grid ℤ
 channel_of frames slot channel = get_or (get_or frames slot []) channel (grid 0 0 [])
 
--- the sample of the rectangle that lies on column x of row y, once its left top cell lies at the place
-abbrev pub laid : Grid ℤ → Place → ℕ → ℕ → ℤ
-laid source p x y = at source (p.source.x0 + (x - p.x)) (p.source.y0 + (y - p.y))
-
--- what a place makes of a sample in column x of row y
+-- what a place makes of a sample in column x of row y, on which a cell of its rectangle lies, the left top one at the place
 abbrev pub put : Grid ℤ → Place → PatchMode → ℕ → ℕ → ℤ → ℤ
-put source p mode x y v = if covers p x y then mixed mode v (laid source p x y) else v
-
--- the mode of place n for a kind of channels, of so many kinds
-abbrev pub mode_at : Patches → ℕ → ℕ → ℕ → PatchMode
-mode_at patches kinds kind n = get_or patches.modes (n * kinds + kind) Keep
+put source p mode x y v = if covers p x y then mixed mode v (at source (p.source.x0 + (x - p.x)) (p.source.y0 + (y - p.y))) else v
 
 -- What the first n places make of a sample in column x of row y of a channel, one after another.
 unfoldable pub patched : List (List (Grid ℤ)) → Patches → ℕ → ℕ → ℕ → ℕ → ℕ → ℕ → ℤ → ℤ
 patched frames patches kinds kind channel x y zero v = v
 patched frames patches kinds kind channel x y (suc n) v =
-    let p : Place = place_at patches n in
-    put (channel_of frames p.source.slot channel) p (mode_at patches kinds kind n) x y (patched frames patches kinds kind channel x y n v)
+    let p : Place = get_or patches.places n nowhere in
+    put (channel_of frames p.source.slot channel) p (get_or patches.modes (n * kinds + kind) Keep) x y (patched frames patches kinds kind channel x y n v)
+
+-- how many modes a place has; its mode for a kind of channels, of so many kinds
+abbrev pub kinds_of : ℕ → ℕ → ℕ
+kinds_of colours channels = 1 + (channels - colours)
+
+abbrev pub mode_at : Patches → ℕ → ℕ → ℕ → PatchMode
+mode_at patches kinds kind n = get_or patches.modes (n * kinds + kind) Keep
+
+-- the sample of the rectangle that lies on column x of row y, once its left top cell lies at the place
+abbrev pub laid : Grid ℤ → Place → ℕ → ℕ → ℤ
+laid source p x y = at source (p.source.x0 + (x - p.x)) (p.source.y0 + (y - p.y))
 
 -- A place lies within a channel, and its rectangle in the grid that it is of.
 pub record PlaceFits (p : Place) (source target : Grid ℤ) : Type 0 where
@@ -98,7 +97,7 @@ pub record IsPatched (frames : List (List (Grid ℤ))) (patches : Patches) (kind
 pub record ArePatched (frames : List (List (Grid ℤ))) (colours : ℕ) (patches : Patches) (old new : List (Grid ℤ)) : Type 0 where
   pub count : length new ≡ length old
   pub each : (c : ℕ) → c < length old →
-      IsPatched frames patches (kinds_of colours (length old)) (kind_of colours c) c (get_or old c (grid 0 0 [])) (get_or new c (grid 0 0 []))
+      IsPatched frames patches (1 + (length old - colours)) (kind_of colours c) c (get_or old c (grid 0 0 [])) (get_or new c (grid 0 0 []))
 
 -- A cell that no place covers stays as it is.
 abbrev pub UncoveredCellsStay : Type 0

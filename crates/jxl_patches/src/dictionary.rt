@@ -3,7 +3,7 @@
 ghost use Rattle.std.specs.Prelude.{◌≡◌, ◌+◌, ◌<◌, ◌≤◌, ◌^◌, length, IfOk};
 ghost use Rattle.std.specs.List.{sum_by};
 ghost use Rattle.jxlm_base.specs.Bits.{bytes_of, position_of};
-ghost use Rattle.jxl_toc.specs.Coded.{chained};
+ghost use Rattle.jxl_toc.specs.Turns.{chained};
 ghost use Rattle.jxl_patches.specs.Reading.{PatchesRead};
 ghost use Rattle.jxl_patches.specs.Patches.{one_rectangle as the_one_rectangle, dictionary as the_dictionary};
 ghost use Rattle.jxl_patches.specs.Inner.Steps.{StepRead, told_of};
@@ -11,7 +11,7 @@ ghost use Rattle.jxl_patches.specs.Dictionaries.{AreWithin, area, patches_of};
 
 use crate::error::Result;
 use crate::place::{Growing, places};
-use crate::source::{cells_within, place_count, rectangle_count, source};
+use crate::source::{place_count, rectangle_count, source};
 use crate::token::decoder;
 use jxl_headers::size::Size;
 use jxlm_base::bits::Bitstream;
@@ -71,18 +71,27 @@ fn one_rectangle<D: Decoder>(
 ) -> Result<()>
     requires { length (D.meaning.cluster_map decoder.old) ≡ 10 }
     ensures gives { StepRead result decoder.new growing.new (position_of bits.new)
-        ((the_one_rectangle D.meaning size kinds slots.now limit (told_of decoder.old growing.old)).read
+        ((the_one_rectangle D.meaning size kinds slots.now limit (told_of growing.old) decoder.old).read
         (bytes_of bits.old) (position_of bits.old)) }
     ensures clusters { IfOk result (λ _. length (D.meaning.cluster_map decoder.new) ≡ 10) }
     ensures bytes { bytes_of bits.new ≡ bytes_of bits.old }
 {
     let rectangle = source(decoder, bits, slots)?;
-    let count = place_count(decoder, bits, size, growing.places.len())?;
-    growing.cells = cells_within(growing.cells, rectangle, count, limit)?;
+    let done = growing.places.len();
+    let counted = place_count(decoder, bits, size, done, growing.cells, rectangle, limit)?;
+    growing.cells = counted.cells;
     growing.later = false;
     growing.x = 0;
     growing.y = 0;
-    places(decoder, bits, size, kinds, rectangle, count, growing)
+    places(
+        decoder,
+        bits,
+        size,
+        kinds,
+        rectangle,
+        counted.places,
+        growing,
+    )
 }
 
 // So many rectangles.
@@ -98,7 +107,7 @@ fn rectangles<D: Decoder>(
 ) -> Result<()>
     requires { length (D.meaning.cluster_map decoder.old) ≡ 10 }
     ensures gives { StepRead result decoder.new growing.new (position_of bits.new)
-        ((chained (the_one_rectangle D.meaning size kinds slots.now limit) count (told_of decoder.old growing.old)).read
+        ((chained (the_one_rectangle D.meaning size kinds slots.now limit) count (told_of growing.old) decoder.old).read
         (bytes_of bits.old) (position_of bits.old)) }
     ensures bytes { bytes_of bits.new ≡ bytes_of bits.old }
 {

@@ -2,8 +2,8 @@
 
 ghost use Rattle.std.specs.Prelude.{◌≡◌, ◌<◌, ◌^◌, length, IfOk, IfSome};
 ghost use Rattle.jxlm_base.specs.Bits.{bytes_of, position_of};
-ghost use Rattle.jxl_toc.specs.Coded.{chained};
-ghost use Rattle.jxl_patches.specs.Patches.{moved as the_moved, inside as the_inside, coordinate as the_coordinate, mode_of as the_mode_of, one_mode, corner as the_corner, one_place};
+ghost use Rattle.jxl_toc.specs.Turns.{chained};
+ghost use Rattle.jxl_patches.specs.Patches.{moved as the_moved, inside as the_inside, coordinate as the_coordinate, mode_of as the_mode_of, one_mode, one_place};
 ghost use Rattle.jxl_patches.specs.Inner.Steps.{TokenRead, Checks, StepRead, told_of};
 
 use crate::dictionary::{PatchMode, Place, Rectangle};
@@ -68,7 +68,7 @@ fn coordinate<D: Decoder>(
     side: u32,
 ) -> Result<u32>
     requires { length (D.meaning.cluster_map decoder.old) ≡ 10 }
-    ensures gives { TokenRead result decoder.new (position_of bits.new)
+    ensures gives { TokenRead (λ v. v) result decoder.new (position_of bits.new)
         ((the_coordinate D.meaning later before extent side decoder.old).read (bytes_of bits.old)
         (position_of bits.old)) }
     ensures clusters { IfOk result (λ _. D.meaning.cluster_map decoder.new ≡ D.meaning.cluster_map decoder.old) }
@@ -100,7 +100,7 @@ fn mode_of(value: u32) -> Result<PatchMode>
 fn mode<D: Decoder>(decoder: &mut D, bits: &mut Bitstream<'_>, growing: &mut Growing) -> Result<()>
     requires { length (D.meaning.cluster_map decoder.old) ≡ 10 }
     ensures gives { StepRead result decoder.new growing.new (position_of bits.new)
-        ((one_mode D.meaning (told_of decoder.old growing.old)).read (bytes_of bits.old) (position_of bits.old)) }
+        ((one_mode D.meaning (told_of growing.old) decoder.old).read (bytes_of bits.old) (position_of bits.old)) }
     ensures clusters { IfOk result (λ _. D.meaning.cluster_map decoder.new ≡ D.meaning.cluster_map decoder.old) }
     ensures bytes { bytes_of bits.new ≡ bytes_of bits.old }
 {
@@ -119,7 +119,7 @@ fn modes<D: Decoder>(
 ) -> Result<()>
     requires { length (D.meaning.cluster_map decoder.old) ≡ 10 }
     ensures gives { StepRead result decoder.new growing.new (position_of bits.new)
-        ((chained (one_mode D.meaning) kinds (told_of decoder.old growing.old)).read (bytes_of bits.old)
+        ((chained (one_mode D.meaning) kinds (told_of growing.old) decoder.old).read (bytes_of bits.old)
         (position_of bits.old)) }
     ensures clusters { IfOk result (λ _. length (D.meaning.cluster_map decoder.new) ≡ 10) }
     ensures bytes { bytes_of bits.new ≡ bytes_of bits.old }
@@ -130,17 +130,18 @@ fn modes<D: Decoder>(
     Ok(())
 }
 
-// One place more, without its modes.
-fn corner<D: Decoder>(
+// One place more.
+fn place<D: Decoder>(
     decoder: &mut D,
     bits: &mut Bitstream<'_>,
     size: Size,
+    kinds: usize,
     source: Rectangle,
     growing: &mut Growing,
 ) -> Result<()>
     requires { length (D.meaning.cluster_map decoder.old) ≡ 10 }
     ensures gives { StepRead result decoder.new growing.new (position_of bits.new)
-        ((the_corner D.meaning size source (told_of decoder.old growing.old)).read (bytes_of bits.old)
+        ((one_place D.meaning size kinds source (told_of growing.old) decoder.old).read (bytes_of bits.old)
         (position_of bits.old)) }
     ensures clusters { IfOk result (λ _. length (D.meaning.cluster_map decoder.new) ≡ 10) }
     ensures bytes { bytes_of bits.new ≡ bytes_of bits.old }
@@ -152,25 +153,6 @@ fn corner<D: Decoder>(
     growing.later = true;
     growing.x = x;
     growing.y = y;
-    Ok(())
-}
-
-fn place<D: Decoder>(
-    decoder: &mut D,
-    bits: &mut Bitstream<'_>,
-    size: Size,
-    kinds: usize,
-    source: Rectangle,
-    growing: &mut Growing,
-) -> Result<()>
-    requires { length (D.meaning.cluster_map decoder.old) ≡ 10 }
-    ensures gives { StepRead result decoder.new growing.new (position_of bits.new)
-        ((one_place D.meaning size kinds source (told_of decoder.old growing.old)).read (bytes_of bits.old)
-        (position_of bits.old)) }
-    ensures clusters { IfOk result (λ _. length (D.meaning.cluster_map decoder.new) ≡ 10) }
-    ensures bytes { bytes_of bits.new ≡ bytes_of bits.old }
-{
-    corner(decoder, bits, size, source, growing)?;
     modes(decoder, bits, kinds, growing)
 }
 
@@ -186,7 +168,7 @@ pub fn places<D: Decoder>(
 ) -> Result<()>
     requires { length (D.meaning.cluster_map decoder.old) ≡ 10 }
     ensures gives { StepRead result decoder.new growing.new (position_of bits.new)
-        ((chained (one_place D.meaning size kinds source) count (told_of decoder.old growing.old)).read
+        ((chained (one_place D.meaning size kinds source) count (told_of growing.old) decoder.old).read
         (bytes_of bits.old) (position_of bits.old)) }
     ensures clusters { IfOk result (λ _. length (D.meaning.cluster_map decoder.new) ≡ 10) }
     ensures bytes { bytes_of bits.new ≡ bytes_of bits.old }

@@ -1,13 +1,14 @@
 //! The rectangles that patches take, and how often.
 
-ghost use Rattle.std.specs.Prelude.{◌≡◌, ◌+◌, ◌*◌, ◌/◌, ◌<◌, ◌≤◌, ◌^◌, length, get_or, None, IfOk, nat_le, if◌then◌else◌, Some};
+ghost use Rattle.std.specs.Prelude.{◌≡◌, ◌+◌, ◌*◌, ◌/◌, ◌<◌, ◌≤◌, ◌^◌, length, get_or, None, Ok, Err, IfOk, MatchResult, is_some, nat_le, if◌then◌else◌, Some};
 ghost use Rattle.jxlm_base.specs.Bits.{bytes_of, position_of};
-ghost use Rattle.jxl_patches.specs.Patches.{most_rectangles, rectangle_count as the_rectangle_count, frame_of as the_frame_of, rectangle_within as the_rectangle_within, source as the_source, place_count as the_place_count, cells_within as the_cells_within};
-ghost use Rattle.jxl_patches.specs.Inner.Steps.{TokenRead, SourceRead, Checks};
+ghost use Rattle.jxl_patches.specs.Errors.{patch_kind};
+ghost use Rattle.jxl_patches.specs.Patches.{most_rectangles, source as the_source};
+ghost use Rattle.jxl_patches.specs.Inner.Steps.{TokenRead, Checks, slot as the_slot, rectangle_count as the_rectangle_count, rectangle_within as the_rectangle_within, count_within as the_count_within, place_count as the_place_count};
 
 use crate::dictionary::Rectangle;
 use crate::error::{PatchError, Result};
-use crate::token::{Pair, token, two_tokens};
+use crate::token::token;
 use jxl_headers::size::Size;
 use jxlm_base::bits::Bitstream;
 use jxlm_base::decoder::Decoder;
@@ -28,7 +29,7 @@ pub fn rectangle_count<D: Decoder>(
     size: Size,
 ) -> Result<u32>
     requires { length (D.meaning.cluster_map decoder.old) ≡ 10 }
-    ensures gives { TokenRead result decoder.new (position_of bits.new)
+    ensures gives { TokenRead (λ v. v) result decoder.new (position_of bits.new)
         ((the_rectangle_count D.meaning size decoder.old).read (bytes_of bits.old) (position_of bits.old)) }
     ensures clusters { IfOk result (λ _. D.meaning.cluster_map decoder.new ≡ D.meaning.cluster_map decoder.old) }
     ensures bytes { bytes_of bits.new ≡ bytes_of bits.old }
@@ -42,32 +43,62 @@ pub fn rectangle_count<D: Decoder>(
     }
 }
 
-fn frame_of(slots: &[Option<Size>], slot: u32) -> Result<Size>
-    ensures { Checks result (the_frame_of slot (get_or slots.now slot None)) }
+// The size of the frame that a slot holds.
+fn held(slots: &[Option<Size>], slot: u32) -> Option<Size>
+    ensures { result ≡ get_or slots.now slot None }
 {
     if let Some(Some(size)) = slots.get(slot as usize) {
-        return Ok(*size);
+        return Some(*size);
     }
-    let name = "slot of a patch";
-    Err(PatchError::Invalid { name, value: slot })
+    None
 }
 
-fn rectangle_within(frame: Size, slot: u32, corner: Pair, sides: Pair) -> Result<Rectangle>
-    ensures { Checks result (the_rectangle_within frame slot corner.first corner.second sides.first
-        sides.second) }
+fn slot<D: Decoder>(
+    decoder: &mut D,
+    bits: &mut Bitstream<'_>,
+    slots: &[Option<Size>],
+) -> Result<u32>
+    requires { length (D.meaning.cluster_map decoder.old) ≡ 10 }
+    ensures gives { TokenRead (λ v. v) result decoder.new (position_of bits.new)
+        ((the_slot D.meaning slots.now decoder.old).read (bytes_of bits.old) (position_of bits.old)) }
+    ensures clusters { IfOk result (λ _. D.meaning.cluster_map decoder.new ≡ D.meaning.cluster_map decoder.old) }
+    ensures bytes { bytes_of bits.new ≡ bytes_of bits.old }
 {
-    let wide = u64::from(corner.first) + u64::from(sides.first) < u64::from(frame.width);
-    let high = u64::from(corner.second) + u64::from(sides.second) < u64::from(frame.height);
+    let value = token(decoder, bits, 1)?;
+    if held(slots, value).is_some() {
+        Ok(value)
+    } else {
+        let name = "slot of a patch";
+        Err(PatchError::Invalid { name, value })
+    }
+}
+
+// The rectangle at this corner of the frame that a slot holds, whose sides are told less one.
+fn rectangle_within(
+    slots: &[Option<Size>],
+    slot: u32,
+    x0: u32,
+    y0: u32,
+    w: u32,
+    h: u32,
+) -> Result<Rectangle>
+    ensures { Checks result (the_rectangle_within slots.now slot x0 y0 w h) }
+{
+    let name = "rectangle of a patch";
+    let Some(frame) = held(slots, slot) else {
+        return Err(PatchError::Invalid { name, value: slot });
+    };
+    let wide = u64::from(x0) + u64::from(w) < u64::from(frame.width);
+    let high = u64::from(y0) + u64::from(h) < u64::from(frame.height);
     if wide && high {
         Ok(Rectangle {
             slot,
-            x0: corner.first,
-            y0: corner.second,
-            width: sides.first + 1,
-            height: sides.second + 1,
+            x0,
+            y0,
+            width: w + 1,
+            height: h + 1,
         })
     } else {
-        let name = "rectangle of a patch";
         Err(PatchError::Invalid { name, value: slot })
     }
 }
@@ -79,42 +110,17 @@ pub fn source<D: Decoder>(
     slots: &[Option<Size>],
 ) -> Result<Rectangle>
     requires { length (D.meaning.cluster_map decoder.old) ≡ 10 }
-    ensures gives { SourceRead result decoder.new (position_of bits.new)
+    ensures gives { TokenRead (λ v. v) result decoder.new (position_of bits.new)
         ((the_source D.meaning slots.now decoder.old).read (bytes_of bits.old) (position_of bits.old)) }
     ensures clusters { IfOk result (λ _. D.meaning.cluster_map decoder.new ≡ D.meaning.cluster_map decoder.old) }
     ensures bytes { bytes_of bits.new ≡ bytes_of bits.old }
 {
-    let slot = token(decoder, bits, 1)?;
-    let frame = frame_of(slots, slot)?;
-    let corner = two_tokens(decoder, bits, 3)?;
-    let sides = two_tokens(decoder, bits, 2)?;
-    rectangle_within(frame, slot, corner, sides)
-}
-
-/// At how many places a rectangle is put, where so many come before.
-pub fn place_count<D: Decoder>(
-    decoder: &mut D,
-    bits: &mut Bitstream<'_>,
-    size: Size,
-    done: usize,
-) -> Result<u64>
-    requires clusters { length (D.meaning.cluster_map decoder.old) ≡ 10 }
-    requires done { done < 2 ^ 63 }
-    ensures gives { TokenRead result decoder.new (position_of bits.new)
-        ((the_place_count D.meaning size done decoder.old).read (bytes_of bits.old) (position_of bits.old)) }
-    ensures some { IfOk result (λ v. v ≤ 2 ^ 32) }
-    ensures clusters { IfOk result (λ _. D.meaning.cluster_map decoder.new ≡ D.meaning.cluster_map decoder.old) }
-    ensures bytes { bytes_of bits.new ≡ bytes_of bits.old }
-{
-    let value = token(decoder, bits, 7)?;
-    let count = u64::from(value) + 1;
-    let all = done as u64 + count;
-    if (all + 3) / 4 <= most(size) {
-        Ok(count)
-    } else {
-        let name = "places of a patch";
-        Err(PatchError::Invalid { name, value })
-    }
+    let slot = slot(decoder, bits, slots)?;
+    let x0 = token(decoder, bits, 3)?;
+    let y0 = token(decoder, bits, 3)?;
+    let w = token(decoder, bits, 2)?;
+    let h = token(decoder, bits, 2)?;
+    rectangle_within(slots, slot, x0, y0, w, h)
 }
 
 // How many cells there are with these ones, where it is at most the limit.
@@ -128,9 +134,58 @@ fn sum_within(cells: u64, rectangle: Rectangle, count: u64, limit: u64) -> Optio
     if all <= limit { Some(all) } else { None }
 }
 
-/// How many cells are put with those of this rectangle at so many places.
-pub fn cells_within(cells: u64, rectangle: Rectangle, count: u64, limit: u64) -> Result<u64>
-    ensures { Checks result (the_cells_within limit (cells + rectangle.width * rectangle.height * count)) }
+/// At how many places a rectangle is put, and how many cells are put with these.
+#[derive(Clone, Copy)]
+pub struct Counted {
+    pub places: u64,
+    pub cells: u64,
+}
+
+fn count_within(
+    size: Size,
+    done: usize,
+    cells: u64,
+    rectangle: Rectangle,
+    limit: u64,
+    value: u32,
+) -> Result<Counted>
+    requires done { done < 2 ^ 63 }
+    ensures { MatchResult result
+        (λ c. (the_count_within size done cells rectangle limit value ≡ Ok c.places)
+        × (c.cells ≡ cells + rectangle.width * rectangle.height * c.places))
+        (λ e. the_count_within size done cells rectangle limit value ≡ Err (patch_kind e)) }
 {
-    sum_within(cells, rectangle, count, limit).ok_or(PatchError::TooLarge)
+    let places = u64::from(value) + 1;
+    let all = done as u64 + places;
+    if (all + 3) / 4 > most(size) {
+        let name = "places of a patch";
+        return Err(PatchError::Invalid { name, value });
+    }
+    match sum_within(cells, rectangle, places, limit) {
+        Some(cells) => Ok(Counted { places, cells }),
+        None => Err(PatchError::TooLarge),
+    }
+}
+
+/// At how many places a rectangle is put, where so many places and cells come before.
+pub fn place_count<D: Decoder>(
+    decoder: &mut D,
+    bits: &mut Bitstream<'_>,
+    size: Size,
+    done: usize,
+    cells: u64,
+    rectangle: Rectangle,
+    limit: u64,
+) -> Result<Counted>
+    requires clusters { length (D.meaning.cluster_map decoder.old) ≡ 10 }
+    requires done { done < 2 ^ 63 }
+    ensures gives { TokenRead (λ c. c.places) result decoder.new (position_of bits.new)
+        ((the_place_count D.meaning size done cells rectangle limit decoder.old).read (bytes_of bits.old)
+        (position_of bits.old)) }
+    ensures cells { IfOk result (λ c. c.cells ≡ cells + rectangle.width * rectangle.height * c.places) }
+    ensures clusters { IfOk result (λ _. D.meaning.cluster_map decoder.new ≡ D.meaning.cluster_map decoder.old) }
+    ensures bytes { bytes_of bits.new ≡ bytes_of bits.old }
+{
+    let value = token(decoder, bits, 7)?;
+    count_within(size, done, cells, rectangle, limit, value)
 }

@@ -2,10 +2,9 @@
 
 ghost use Rattle.std.specs.Prelude.{◌≡◌, ◌<◌, length, IfOk};
 ghost use Rattle.jxlm_base.specs.Bits.{bytes_of, position_of};
-ghost use Rattle.jxl_toc.specs.Coded.{decoder as the_decoder, token as the_token};
+ghost use Rattle.jxl_toc.specs.Tokens.{told};
 ghost use Rattle.jxl_patches.specs.Reading.{PatchesRead};
-ghost use Rattle.jxl_patches.specs.Patches.{pair as the_pair};
-ghost use Rattle.jxl_patches.specs.Inner.Steps.{TokenRead, PairRead};
+ghost use Rattle.jxl_patches.specs.Inner.Steps.{TokenRead, decoder as the_decoder};
 
 use crate::error::Result;
 use jxlm_base::bits::Bitstream;
@@ -27,34 +26,10 @@ pub fn decoder<D: Decoder>(alloc: Global, bits: &mut Bitstream<'_>, contexts: u3
 /// The next token of a context.
 pub fn token<D: Decoder>(decoder: &mut D, bits: &mut Bitstream<'_>, context: u32) -> Result<u32>
     requires { context < length (D.meaning.cluster_map decoder.old) }
-    ensures gives { TokenRead result decoder.new (position_of bits.new)
-        ((the_token D.meaning decoder.old context).read (bytes_of bits.old) (position_of bits.old)) }
+    ensures gives { TokenRead (λ v. v) result decoder.new (position_of bits.new)
+        ((told D.meaning context decoder.old).read (bytes_of bits.old) (position_of bits.old)) }
     ensures clusters { IfOk result (λ _. D.meaning.cluster_map decoder.new ≡ D.meaning.cluster_map decoder.old) }
     ensures bytes { bytes_of bits.new ≡ bytes_of bits.old }
 {
     Ok(decoder.read_varint(bits, context)?)
-}
-
-/// Two numbers.
-#[derive(Clone, Copy)]
-pub struct Pair {
-    pub first: u32,
-    pub second: u32,
-}
-
-/// The next two tokens of a context.
-pub fn two_tokens<D: Decoder>(
-    decoder: &mut D,
-    bits: &mut Bitstream<'_>,
-    context: u32,
-) -> Result<Pair>
-    requires { context < length (D.meaning.cluster_map decoder.old) }
-    ensures gives { PairRead result decoder.new (position_of bits.new)
-        ((the_pair D.meaning decoder.old context).read (bytes_of bits.old) (position_of bits.old)) }
-    ensures clusters { IfOk result (λ _. D.meaning.cluster_map decoder.new ≡ D.meaning.cluster_map decoder.old) }
-    ensures bytes { bytes_of bits.new ≡ bytes_of bits.old }
-{
-    let first = token(decoder, bits, context)?;
-    let second = token(decoder, bits, context)?;
-    Ok(Pair { first, second })
 }

@@ -1,11 +1,17 @@
 -- How many groups there are.
-use Rattle.std.proofs.Common.{◌≡◌, ℕ, suc, ◌+◌, ◌-◌, ◌*◌, ◌<◌, ◌≤◌, Bool, true, false, refl, ap, ◌∙◌, arith}
+use Rattle.std.proofs.Common.{◌≡◌, ℕ, suc, ◌+◌, ◌-◌, ◌*◌, ◌/◌, ◌<◌, ◌≤◌, Bool, true, false, refl, ap, ◌∙◌, arith}
 use Rattle.std.specs.Prelude.{◌==◌, ◌&&◌, if◌then◌else◌}
 use Rattle.std.proofs.lemmas.Bool.{eqb-true}
 use Rattle.std.proofs.Math.Nat.{div-lt_iff_lt-mul, lt-div-mul-add, suc-mul, mul_assoc, mul_comm}
 use Rattle.std.proofs.lemmas.Nat.{mul-le}
 use Rattle.jxl_headers.specs.declared.size.Size.{Size}
-use Rattle.jxl_toc.specs.Layouts.{Layout, along, groups_of, lf_groups_of, section_count_of, max_sections}
+use Rattle.jxl_toc.specs.Layouts.{Layout, groups_of, section_count_of, max_sections}
+
+abbrev along : ℕ → ℕ → ℕ
+along side dim = (side + dim - 1) / dim
+
+abbrev lf_groups_of : Size → ℕ → ℕ
+lf_groups_of size dim = groups_of size (8 * dim)
 
 first_true : (a b : Bool) → (a && b) ≡ true → a ≡ true
 first_true true b e = refl

@@ -9,3 +9,4 @@ pub mod Groups
 pub mod Tokens
 pub mod Entries
 pub mod ProfileSteps
+pub mod TableSteps

@@ -1,14 +1,20 @@
 -- Tokens as fields, and what a call that reads one returns.
-use Rattle.std.proofs.Common.{◌≡◌, ℕ, ◌+◌, ◌%◌, List, [], ◌∷◌, ◌++◌, length, Ok, Err, None, Result, refl}
+use Rattle.std.proofs.Common.{◌≡◌, ℕ, ◌%◌, List, ◌∷◌, Ok, Err, None, Result, refl}
+use Rattle.std.specs.Result.{result_map_both}
 use Rattle.jxlm_base.specs.Decoding.{Found, Taken, Meaning}
-use Rattle.jxlm_base.specs.ErrorKind.{OfDecoder, UnlessMemory}
-use Rattle.jxlm_base.specs.Grammar.{IsErrorAt}
+use Rattle.jxlm_base.specs.ErrorKind.{ErrorKind, ErrorAt, OfDecoder, UnlessMemory}
+use Rattle.jxlm_base.specs.Grammar.{Grammar, IsErrorAt, give, ◌>>=◌}
 use Rattle.jxlm_base.specs.declared.decoder.DecoderError.{DecoderError}
-use Rattle.jxl_toc.proofs.ReadSteps.{always_so}
-use Rattle.jxl_toc.specs.Coded.{token, token_found, of_decoder}
-use Rattle.jxl_toc.specs.Orders.{Digits, digit, one_more}
-use Rattle.jxl_toc.specs.Profiles as profiles
-use Rattle.jxl_toc.specs.Profiles.{Bytes, byte}
+use Rattle.jxl_toc.proofs.ReadSteps.{always_so, first_refuses}
+use Rattle.jxl_toc.specs.Tokens.{After, told, token}
+use Rattle.jxl_toc.specs.Profiles.{context_of, one_byte}
+
+-- what such a call is as a field
+abbrev pub of_decoder : {X : Type 0} → Result X DecoderError → Result X ErrorAt
+of_decoder r = result_map_both (λ x. x) (λ e. record { error = OfDecoder e; position = None }) r
+
+abbrev pub token_found : {S : Type 0} → Result (Taken ℕ S) DecoderError → Result (Found (After S ℕ)) DecoderError
+token_found r = result_map_both (λ t. record { value = record { value = t.value; state = t.state }; position = t.position }) (λ e. e) r
 
 module _ {S : Type 0} (r : Result (Taken ℕ S) DecoderError) where
   pub token_ok : (v : ℕ) (s : S) (q : ℕ) → r ≡ Ok (record { value = v; state = s; position = q }) →
@@ -22,12 +28,12 @@ module _ {X : Type 0} (r : Result (Found X) DecoderError) where
   pub call_err : (e : DecoderError) (q : ℕ) → r ≡ Err e → UnlessMemory (OfDecoder e) (IsErrorAt (of_decoder r) (OfDecoder e) q)
   call_err e q h = always_so (OfDecoder e) (record { place = None; refuses = rw h refl; stands = tt })
 
--- A byte of a profile, and a digit of an order, by its token.
-module _ {S : Type 0} (d : Meaning S) (bytes : List ℕ) (p q : ℕ) (v : ℕ) (s : S) where
-  pub byte_ok : (x : Bytes S) → (token d x.state (profiles.context_of x.count x.last x.before)).read bytes p ≡ Ok (record { value = record { value = v; state = s }; position = q }) →
-      (byte d x).read bytes p ≡ Ok (record { value = record { state = s; count = x.count + 1; last = v % 256; before = x.last }; position = q })
-  byte_ok x h = rw h refl
+-- A token that fails, whatever it means; and a byte of a profile by its token.
+module _ {S : Type 0} (d : Meaning S) (bytes : List ℕ) (p q : ℕ) (s : S) where
+  pub token_refuses : {X : Type 0} (context : ℕ) (means : ℕ → Grammar X) (error : ErrorKind) → UnlessMemory error (IsErrorAt ((told d context s).read bytes p) error q) →
+      UnlessMemory error (IsErrorAt ((token d context means s).read bytes p) error q)
+  token_refuses context means error h = first_refuses (told d context s) (λ t. means t.value >>= λ x. give (record { value = x; state = t.state })) bytes p error q h
 
-  pub more_ok : (n : ℕ) (x : Digits S) → (digit d n x.state x.last (length x.code)).read bytes p ≡ Ok (record { value = record { value = v; state = s }; position = q }) →
-      (one_more d n x).read bytes p ≡ Ok (record { value = record { state = s; last = v; code = x.code ++ v ∷ [] }; position = q })
-  more_ok n x h = rw h refl
+  pub byte_ok : (all : List ℕ) (v : ℕ) (t : S) → (told d (context_of all) s).read bytes p ≡ Ok (record { value = record { value = v; state = t }; position = q }) →
+      (one_byte d all s).read bytes p ≡ Ok (record { value = record { value = v % 256 ∷ all; state = t }; position = q })
+  byte_ok all v t h = rw h refl

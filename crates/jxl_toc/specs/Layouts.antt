@@ -1,27 +1,19 @@
--- The groups of a frame, the parts that its sections hold, and the streams of these parts (ISO/IEC 18181-1, frame: groups,
--- table of contents; Modular: stream index).
+-- The groups of a frame, its sections and the streams of their parts (ISO/IEC 18181-1, table of contents, stream index).
 use Rattle.std.specs.Prelude.{ℕ, ◌+◌, ◌-◌, ◌*◌, ◌/◌, ◌==◌, ◌&&◌, ◌<◌, ◌≤◌, nat_le, if◌then◌else◌, Option, Some, None}
 use Rattle.jxl_headers.specs.declared.size.Size.{Size}
 
--- how many groups of this side a frame is cut into along a side of its own; the last may be smaller
-abbrev pub along : ℕ → ℕ → ℕ
-along side dim = (side + dim - 1) / dim
-
--- how many groups, and how many groups of low frequencies (8 times as wide and as high), a frame of this size is cut into
+-- how many groups of this side a frame is cut into; the last of a row and of a column may be smaller
 abbrev pub groups_of : Size → ℕ → ℕ
-groups_of size dim = along size.width dim * along size.height dim
+groups_of size dim = (size.width + dim - 1) / dim * ((size.height + dim - 1) / dim)
 
-abbrev pub lf_groups_of : Size → ℕ → ℕ
-lf_groups_of size dim = groups_of size (8 * dim)
-
--- what a frame is cut into: its groups, its groups of low frequencies, and its passes
+-- what a frame is cut into: its groups, those of low frequencies, which are 8 times as wide and as high, and its passes
 pub record Layout : Type 0 where
   pub groups : ℕ
   pub lf_groups : ℕ
   pub passes : ℕ
 
 abbrev pub layout_of : Size → ℕ → ℕ → Layout
-layout_of size dim passes = record { groups = groups_of size dim; lf_groups = lf_groups_of size dim; passes = passes }
+layout_of size dim passes = record { groups = groups_of size dim; lf_groups = groups_of size (8 * dim); passes = passes }
 
 -- how many sections there are: one where there is one group and one pass; else the global part, each group of low
 -- frequencies, the global part of high frequencies, and each group of each pass

@@ -1,4 +1,5 @@
-pub mod Coded
+pub mod Tokens
+pub mod Turns
 pub mod Reading
 pub mod Layouts
 pub mod LayoutParts

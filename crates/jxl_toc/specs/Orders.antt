@@ -1,10 +1,12 @@
 -- The order of sections in the file: a permutation by its Lehmer code (ISO/IEC 18181-1, permutations).
-use Rattle.std.specs.Prelude.{◌≡◌, ℕ, zero, suc, ◌+◌, ◌<◌, List, [], ◌∷◌, ◌++◌, length, take, nat_lt, nat_le, ◌==◌, Bool, false, if◌then◌else◌, slice_index, slice_index_or, codes}
+use Rattle.std.specs.Prelude.{◌≡◌, ℕ, zero, suc, ◌+◌, ◌-◌, ◌<◌, List, [], ◌∷◌, ◌++◌, length, take, count_by, nat_lt, nat_le, ◌==◌, Bool, false, if◌then◌else◌, slice_index, slice_index_or, codes}
 use Rattle.std.specs.List.{list_any}
 use Rattle.jxlm_base.specs.Decoding.{Meaning}
-use Rattle.jxlm_base.specs.Grammar.{Grammar, give, ◌>>=◌}
+use Rattle.jxlm_base.specs.ErrorKind.{BadEnum}
+use Rattle.jxlm_base.specs.Grammar.{Grammar, give, fail, either}
 use Rattle.jxl_headers.specs.Fields.{meant}
-use Rattle.jxl_toc.specs.Coded.{Token, token, decoder, ended, chained}
+use Rattle.jxl_toc.specs.Tokens.{Tokens, token, coded}
+use Rattle.jxl_toc.specs.Turns.{◌>>=◌, chained}
 
 -- a number is among those that were taken
 abbrev pub is_taken : List ℕ → ℕ → Bool
@@ -21,8 +23,7 @@ pub record IsNext (n : ℕ) (taken : List ℕ) (digit v : ℕ) : Type 0 where
   pub free : is_taken taken v ≡ false
   pub passes : free_below taken v ≡ digit
 
--- The order of n numbers that a Lehmer code tells: each is the one that its digit leads to, after those before it; digits
--- that the code does not have are 0.
+-- The order of n numbers that a Lehmer code tells: each is the one that its digit leads to; a digit that is not told is 0.
 pub record IsOrder (code : List ℕ) (n : ℕ) (order : List ℕ) : Type 0 where
   pub length : length order ≡ n
   pub each : (i : ℕ) → i < n → IsNext n (take i order) (slice_index_or code i 0) (slice_index order i)
@@ -34,42 +35,14 @@ pub record IsBijection (n : ℕ) (order : List ℕ) : Type 0 where
 
 -- the context of a digit after a value: how many bits it has, at most 7
 abbrev pub context_of : ℕ → ℕ
-context_of v =
-    if v == 0 then 0 else if nat_lt v 2 then 1 else if nat_lt v 4 then 2 else if nat_lt v 8 then 3 else
-    if nat_lt v 16 then 4 else if nat_lt v 32 then 5 else if nat_lt v 64 then 6 else 7
+context_of v = count_by (λ n. nat_le n v) (1 ∷ 2 ∷ 4 ∷ 8 ∷ 16 ∷ 32 ∷ 64 ∷ [])
 
--- a decoder's state, and the digits before it with their last (0 where there is none)
-pub record Digits (S : Type 0) : Type 0 where
-  pub state : S
-  pub last : ℕ
-  pub code : List ℕ
+-- one digit more of a code of n numbers: it leads to one that is left; its context is of the digit before it, or of 0
+abbrev pub one_more : {S : Type 0} → Meaning S → ℕ → List ℕ → Tokens S (List ℕ)
+one_more d n code = token d (context_of (slice_index_or code (length code - 1) 0)) (λ v.
+    either (nat_lt (v + length code) n) (give (code ++ v ∷ [])) (fail (BadEnum (codes "permutation") v)))
 
--- the digit after a last one and so many, of n numbers
-abbrev pub digit : {S : Type 0} → Meaning S → ℕ → S → ℕ → ℕ → Grammar (Token S)
-digit d n s last done = do
-  t ← token d s (context_of last)
-  v ← meant (codes "permutation") (nat_lt (t.value + done) n) t.value
-  give (record { value = v; state = t.state })
-
-abbrev pub one_more : {S : Type 0} → Meaning S → ℕ → Digits S → Grammar (Digits S)
-one_more d n x = digit d n x.state x.last (length x.code) >>= λ t. give (record { state = t.state; last = t.value; code = x.code ++ t.value ∷ [] })
-
--- so many digits
-abbrev pub digits : {S : Type 0} → Meaning S → ℕ → ℕ → S → Grammar (Digits S)
-digits d n told s = chained (one_more d n) told (record { state = s; last = 0; code = [] })
-
--- how many digits are told: at most n
-abbrev pub told_digits : {S : Type 0} → Meaning S → ℕ → S → Grammar (Token S)
-told_digits d n s = do
-  t ← token d s (context_of n)
-  v ← meant (codes "permutation") (nat_le t.value n) t.value
-  give (record { value = v; state = t.state })
-
--- the Lehmer code of an order of n numbers: how many digits are told, and these; the others are 0
+-- the Lehmer code of an order of n numbers: how many digits are told, at most n, and these
 abbrev pub lehmer_code : {S : Type 0} → Meaning S → ℕ → Grammar (List ℕ)
-lehmer_code d n = do
-  s ← decoder d 8
-  told ← told_digits d n s
-  all ← digits d n told.value told.state
-  u ← ended d all.state
-  give all.code
+lehmer_code d n = coded d 8
+    (token d (context_of n) (λ v. meant (codes "permutation") (nat_le v n) v) >>= λ told. chained (one_more d n) told [])

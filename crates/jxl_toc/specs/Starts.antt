@@ -1,16 +1,12 @@
 -- What the first section of a Modular frame begins with (ISO/IEC 18181-1, frame: LF global).
-use Rattle.std.specs.Prelude.{ℕ, ◌+◌, ◌*◌, ◌/◌, ◌^◌, min, not, Bool}
+use Rattle.std.specs.Prelude.{ℕ, ◌+◌, ◌*◌, ◌/◌, ◌^◌, min, Bool}
 use Rattle.jxlm_base.specs.Grammar.{Grammar, flag, ◌>>=◌}
-use Rattle.jxl_headers.specs.Images.{skipped_if}
+use Rattle.jxl_headers.specs.Fields.{skipped, usual_or}
 use Rattle.jxl_headers.specs.declared.size.Size.{Size}
 
--- three factors of low frequencies, where they are told, as floats of 16 bits, which Modular does not use
-abbrev pub dequantisation : Grammar (Unit {0})
-dequantisation = flag >>= λ usual. skipped_if (not usual) 6
-
--- and then whether a tree follows that sections may share
+-- three floats of 16 bits, where they are told, which Modular does not use; and whether a tree follows that sections share
 abbrev pub section_start : Grammar Bool
-section_start = dequantisation >>= λ u. flag
+section_start = usual_or tt (skipped 6) >>= λ u. flag
 
 -- how many nodes such a tree may have, less one
 abbrev pub tree_limit : Size → ℕ → ℕ

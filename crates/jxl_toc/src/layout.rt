@@ -1,8 +1,8 @@
 //! The groups of a frame, and which section and which stream holds which part.
 
-ghost use Rattle.std.specs.Prelude.{◌≡◌, ◌<◌, ◌≤◌, ◌^◌, nat_le};
+ghost use Rattle.std.specs.Prelude.{◌≡◌, ◌+◌, ◌-◌, ◌/◌, ◌<◌, ◌≤◌, ◌^◌, nat_le};
 ghost use Rattle.std.specs.Option.{option_map};
-ghost use Rattle.jxl_toc.specs.Layouts.{along as the_along, groups_of as the_groups_of, lf_section_of, pass_section_of, lf_stream_of, pass_stream_of, section_count_of, layout_of, layout_if, IsLayout, max_sections};
+ghost use Rattle.jxl_toc.specs.Layouts.{groups_of as the_groups_of, lf_section_of, pass_section_of, lf_stream_of, pass_stream_of, section_count_of, layout_of, layout_if, IsLayout, max_sections};
 
 use jxl_headers::size::Size;
 
@@ -23,7 +23,7 @@ const MAX_SECTIONS: u64 = 1 << 24;
 fn along(side: u32, dim: u64) -> u64
     requires some { 0 < dim }
     requires most { dim ≤ 2 ^ 35 }
-    ensures count { result ≡ the_along side dim }
+    ensures count { result ≡ (side + dim - 1) / dim }
     ensures most { result ≤ side }
 {
     (u64::from(side) + dim - 1) / dim

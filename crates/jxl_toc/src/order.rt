@@ -1,13 +1,14 @@
 //! The order of sections in the file.
 
-ghost use Rattle.std.specs.Prelude.{◌≡◌, ℕ, ◌+◌, ◌*◌, ◌<◌, ◌≤◌, ◌^◌, List, [], ◌∷◌, ◌++◌, false, length, slice_index_or, IfOk, IfErr};
+ghost use Rattle.std.specs.Prelude.{◌≡◌, ℕ, ◌+◌, ◌-◌, ◌*◌, ◌<◌, ◌≤◌, ◌^◌, List, [], ◌∷◌, ◌++◌, false, length, slice_index_or, IfOk, IfErr};
 ghost use Rattle.jxlm_base.specs.Bits.{bytes_of, position_of};
 ghost use Rattle.jxlm_base.specs.ErrorKind.{NoMemory, kind_of};
-ghost use Rattle.jxl_toc.specs.Coded.{decoder as the_decoder, token as the_token};
+ghost use Rattle.jxl_toc.specs.Tokens.{told as the_told};
+ghost use Rattle.jxl_toc.specs.Turns.{chained};
 ghost use Rattle.jxl_toc.specs.Reading.{Decodes};
-ghost use Rattle.jxl_toc.specs.Orders.{IsNext, IsOrder, free_below, is_taken, context_of as the_context_of, digit as the_digit, digits as the_digits, told_digits as the_told_digits, lehmer_code as the_lehmer_code};
+ghost use Rattle.jxl_toc.specs.Orders.{IsNext, IsOrder, free_below, is_taken, context_of as the_context_of, one_more, lehmer_code as the_lehmer_code};
 ghost use Rattle.jxl_toc.specs.Inner.Counts.{AreDigits, IsCounted};
-ghost use Rattle.jxl_toc.specs.Inner.Steps.{DigitsRead, TokenReads};
+ghost use Rattle.jxl_toc.specs.Inner.Steps.{TokensRead, decoder as the_decoder, told_digits as the_told_digits};
 
 use jxlm_base::bits::{Bitstream, BitstreamError};
 use jxlm_base::decoder::Decoder;
@@ -18,23 +19,9 @@ fn context_of(v: u32) -> u32
     ensures context { result ≡ the_context_of v }
     ensures below { result < 8 }
 {
-    if v == 0 {
-        0
-    } else if v < 2 {
-        1
-    } else if v < 4 {
-        2
-    } else if v < 8 {
-        3
-    } else if v < 16 {
-        4
-    } else if v < 32 {
-        5
-    } else if v < 64 {
-        6
-    } else {
-        7
-    }
+    let few = u32::from(v >= 1) + u32::from(v >= 2) + u32::from(v >= 4);
+    let more = u32::from(v >= 8) + u32::from(v >= 16) + u32::from(v >= 32);
+    few + more + u32::from(v >= 64)
 }
 
 /// A decoder of so many contexts, at the begin of its tokens.
@@ -52,30 +39,41 @@ pub fn decoder<D: Decoder>(alloc: Global, bits: &mut Bitstream<'_>, contexts: u3
 /// The next token of a context.
 pub fn token<D: Decoder>(decoder: &mut D, bits: &mut Bitstream<'_>, context: u32) -> Result<u32>
     requires { context < length (D.meaning.cluster_map decoder.old) }
-    ensures gives { TokenReads result decoder.new (position_of bits.new)
-        ((the_token D.meaning decoder.old context).read (bytes_of bits.old) (position_of bits.old)) }
+    ensures gives { TokensRead (λ v. v) result decoder.new (position_of bits.new)
+        ((the_told D.meaning context decoder.old).read (bytes_of bits.old) (position_of bits.old)) }
     ensures clusters { IfOk result (λ _. D.meaning.cluster_map decoder.new ≡ D.meaning.cluster_map decoder.old) }
     ensures bytes { bytes_of bits.new ≡ bytes_of bits.old }
 {
     Ok(decoder.read_varint(bits, context)?)
 }
 
+// The last digit of a code, 0 where it has none.
+fn last_of(code: &[u32]) -> u32
+    ensures { result ≡ slice_index_or code.now (length code.now - 1) 0 }
+{
+    if code.is_empty() {
+        0
+    } else {
+        code[code.len() - 1]
+    }
+}
+
 fn digit<D: Decoder>(
     decoder: &mut D,
     bits: &mut Bitstream<'_>,
-    last: u32,
-    done: u32,
+    code: &[u32],
     count: u32,
 ) -> Result<u32>
     requires { length (D.meaning.cluster_map decoder.old) ≡ 8 }
-    ensures gives { TokenReads result decoder.new (position_of bits.new)
-        ((the_digit D.meaning count decoder.old last done).read (bytes_of bits.old) (position_of bits.old)) }
-    ensures below { IfOk result (λ v. v + done < count) }
+    ensures gives { TokensRead (λ v. code.now ++ v ∷ []) result decoder.new (position_of bits.new)
+        ((one_more D.meaning count code.now decoder.old).read (bytes_of bits.old) (position_of bits.old)) }
+    ensures below { IfOk result (λ v. v + length code.now < count) }
     ensures clusters { IfOk result (λ _. D.meaning.cluster_map decoder.new ≡ D.meaning.cluster_map decoder.old) }
     ensures bytes { bytes_of bits.new ≡ bytes_of bits.old }
 {
-    let value = token(decoder, bits, context_of(last))?;
-    if u64::from(value) + u64::from(done) < u64::from(count) {
+    let value = token(decoder, bits, context_of(last_of(code)))?;
+    let done = code.len() as u64;
+    if u64::from(value) + done < u64::from(count) {
         Ok(value)
     } else {
         let name = "permutation";
@@ -85,7 +83,7 @@ fn digit<D: Decoder>(
 
 fn told_digits<D: Decoder>(decoder: &mut D, bits: &mut Bitstream<'_>, count: u32) -> Result<u32>
     requires { length (D.meaning.cluster_map decoder.old) ≡ 8 }
-    ensures gives { TokenReads result decoder.new (position_of bits.new)
+    ensures gives { TokensRead (λ v. v) result decoder.new (position_of bits.new)
         ((the_told_digits D.meaning count decoder.old).read (bytes_of bits.old) (position_of bits.old)) }
     ensures clusters { IfOk result (λ _. D.meaning.cluster_map decoder.new ≡ D.meaning.cluster_map decoder.old) }
     ensures bytes { bytes_of bits.new ≡ bytes_of bits.old }
@@ -107,17 +105,15 @@ fn digits<D: Decoder>(
     count: u32,
 ) -> Result<Vec<u32>>
     requires { length (D.meaning.cluster_map decoder.old) ≡ 8 }
-    ensures gives { DigitsRead (λ v. v.items) result decoder.new (position_of bits.new)
-        ((the_digits D.meaning count told decoder.old).read (bytes_of bits.old) (position_of bits.old)) }
+    ensures gives { TokensRead (λ v. v.items) result decoder.new (position_of bits.new)
+        ((chained (one_more D.meaning count) told [] decoder.old).read (bytes_of bits.old) (position_of bits.old)) }
     ensures digits { IfOk result (λ code. AreDigits code.items count) }
     ensures bytes { bytes_of bits.new ≡ bytes_of bits.old }
 {
     let mut code = Vec::new(alloc);
-    let mut last = 0;
-    for i in 0..told {
-        let value = digit(decoder, bits, last, i, count)?;
+    for _ in 0..told {
+        let value = digit(decoder, bits, &code, count)?;
         code.push(value)?;
-        last = value;
     }
     Ok(code)
 }

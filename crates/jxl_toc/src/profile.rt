@@ -1,12 +1,12 @@
 //! The profile between the image header and the first frame.
 
-ghost use Rattle.std.specs.Prelude.{◌≡◌, ◌≤◌, ◌<◌, IfOk, length};
+ghost use Rattle.std.specs.Prelude.{◌≡◌, ◌<◌, List, [], ◌∷◌, IfOk, length, slice_index};
 ghost use Rattle.jxlm_base.specs.Bits.{bytes_of, position_of};
 ghost use Rattle.jxlm_base.specs.Grammar.{Reads};
 ghost use Rattle.jxl_toc.specs.Reading.{Decodes};
-ghost use Rattle.jxl_toc.specs.Coded.{chained};
-ghost use Rattle.jxl_toc.specs.Profiles.{is_letter as the_is_letter, is_digit as the_is_digit, last_kind as the_last_kind, before_kind as the_before_kind, context_of as the_context_of, length_within as the_length_within, byte, profile};
-ghost use Rattle.jxl_toc.specs.Inner.Steps.{StateReads, bytes_from};
+ghost use Rattle.jxl_toc.specs.Turns.{chained};
+ghost use Rattle.jxl_toc.specs.Profiles.{kind_of as the_kind_of, one_byte, profile};
+ghost use Rattle.jxl_toc.specs.Inner.Steps.{StateReads, context_after, length_in};
 
 use crate::order::{decoder, token};
 use jxl_headers::fields::{self, long};
@@ -15,25 +15,16 @@ use jxlm_base::decoder::Decoder;
 use jxlm_base::error::Result;
 use std::alloc::Global;
 
-fn is_letter(byte: u32) -> bool
-    ensures { result ≡ the_is_letter byte }
-{
-    97 <= byte && byte <= 122 || 65 <= byte && byte <= 90
-}
-
-fn is_digit(byte: u32) -> bool
-    ensures { result ≡ the_is_digit byte }
-{
-    48 <= byte && byte <= 57 || byte == 46 || byte == 44
-}
-
-fn last_kind(byte: u32) -> u32
-    ensures kind { result ≡ the_last_kind byte }
+// The kind of a byte.
+fn kind_of(byte: u32) -> u32
+    ensures kind { result ≡ the_kind_of byte }
     ensures below { result < 8 }
 {
-    if is_letter(byte) {
+    let letter = 97 <= byte && byte <= 122 || 65 <= byte && byte <= 90;
+    let digit = 48 <= byte && byte <= 57 || byte == 46 || byte == 44;
+    if letter {
         0
-    } else if is_digit(byte) {
+    } else if digit {
         1
     } else if byte == 0 {
         2
@@ -50,37 +41,35 @@ fn last_kind(byte: u32) -> u32
     }
 }
 
-fn before_kind(byte: u32) -> u32
-    ensures kind { result ≡ the_before_kind byte }
+// What the kind of the byte before the last one counts.
+fn before_of(kind: u32) -> u32
+    requires { kind < 8 }
+    ensures counts { result ≡ slice_index (0 ∷ 1 ∷ 2 ∷ 2 ∷ 2 ∷ 3 ∷ 3 ∷ 4 ∷ []) kind }
     ensures below { result < 5 }
 {
-    if is_letter(byte) {
-        0
-    } else if is_digit(byte) {
-        1
-    } else if byte < 16 {
-        2
-    } else if byte > 240 {
-        3
-    } else {
-        4
+    match kind {
+        0 => 0,
+        1 => 1,
+        2 | 3 | 4 => 2,
+        5 | 6 => 3,
+        _ => 4,
     }
 }
 
 fn context_of(i: u64, last: u32, before: u32) -> u32
-    ensures context { result ≡ the_context_of i last before }
+    ensures context { result ≡ context_after i last before }
     ensures below { result < 41 }
 {
     if i <= 128 {
         0
     } else {
-        1 + last_kind(last) + 8 * before_kind(before)
+        1 + kind_of(last) + 8 * before_of(kind_of(before))
     }
 }
 
 fn length_within(bits: &mut Bitstream<'_>, limit: u64) -> fields::Result<u64>
     ensures gives { Reads (λ v. v) result (position_of bits.new)
-        ((the_length_within limit).read (bytes_of bits.old) (position_of bits.old)) }
+        ((length_in limit).read (bytes_of bits.old) (position_of bits.old)) }
     ensures bytes { bytes_of bits.new ≡ bytes_of bits.old }
 {
     let length = long(bits)?;
@@ -94,8 +83,8 @@ fn length_within(bits: &mut Bitstream<'_>, limit: u64) -> fields::Result<u64>
 // So many bytes.
 fn bytes<D: Decoder>(decoder: &mut D, bits: &mut Bitstream<'_>, count: u64) -> Result<()>
     requires { length (D.meaning.cluster_map decoder.old) ≡ 41 }
-    ensures gives { StateReads (λ x. x.state) result decoder.new (position_of bits.new)
-        ((chained (byte D.meaning) count (bytes_from decoder.old)).read (bytes_of bits.old) (position_of bits.old)) }
+    ensures gives { StateReads result decoder.new (position_of bits.new)
+        ((chained (one_byte D.meaning) count [] decoder.old).read (bytes_of bits.old) (position_of bits.old)) }
     ensures bytes { bytes_of bits.new ≡ bytes_of bits.old }
 {
     let mut last = 0;

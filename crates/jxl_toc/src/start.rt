@@ -3,16 +3,17 @@
 ghost use Rattle.std.specs.Prelude.{◌≡◌};
 ghost use Rattle.jxlm_base.specs.Bits.{bytes_of, position_of};
 ghost use Rattle.jxlm_base.specs.Grammar.{Reads};
-ghost use Rattle.jxl_toc.specs.Starts.{dequantisation as the_dequantisation, section_start as the_section_start, tree_limit as the_tree_limit};
+ghost use Rattle.jxl_toc.specs.Starts.{section_start as the_section_start, tree_limit as the_tree_limit};
+ghost use Rattle.jxl_headers.specs.Fields.{skipped, usual_or};
 
 use jxl_headers::fields::{Result, skip};
 use jxl_headers::size::Size;
 use jxlm_base::bits::Bitstream;
 
-#[tactic(auto, unfolding(jxl_headers::specs::Images::skipped_if))]
+// Passes the factors of low frequencies.
 fn dequantisation(bits: &mut Bitstream<'_>) -> Result<()>
     ensures gives { Reads (λ v. v) result (position_of bits.new)
-        (the_dequantisation.read (bytes_of bits.old) (position_of bits.old)) }
+        ((usual_or tt (skipped 6)).read (bytes_of bits.old) (position_of bits.old)) }
     ensures bytes { bytes_of bits.new ≡ bytes_of bits.old }
 {
     let usual = bits.read_bool()?;

@@ -1,6 +1,6 @@
 //! The table of contents of a frame.
 
-ghost use Rattle.std.specs.Prelude.{◌≡◌, ℕ, ◌+◌, ◌*◌, ◌<◌, ◌≤◌, ◌^◌, length, take, drop, get_or, slice_index, IfOk, IfErr, IfSome, IfNone, is_some, true};
+ghost use Rattle.std.specs.Prelude.{◌≡◌, ℕ, ◌+◌, ◌*◌, ◌<◌, ◌≤◌, ◌^◌, [], length, take, drop, get_or, slice_index, IfOk, IfErr, IfSome, IfNone, is_some, true};
 ghost use Rattle.std.specs.List.{list_all};
 ghost use Rattle.jxlm_base.specs.Bits.{bytes_of, position_of};
 ghost use Rattle.jxlm_base.specs.ErrorKind.{NoMemory, kind_of};
@@ -8,8 +8,10 @@ ghost use Rattle.jxlm_base.specs.Grammar.{Reads, repeated};
 ghost use Rattle.jxl_headers.specs.Reading.{Parses};
 ghost use Rattle.jxl_toc.specs.Reading.{Decodes};
 ghost use Rattle.jxl_toc.specs.Inner.Counts.{AreDigits};
-ghost use Rattle.jxl_toc.specs.Tocs.{IsToc, TocReads, room as the_room, entry_size, code_if as the_code_if, sizes as the_sizes, toc, is_within as the_is_within, IsFirstTruncated};
-ghost use Rattle.jxl_toc.specs.Inner.Entries.{AreEntries, table_of};
+ghost use Rattle.jxl_toc.specs.Tocs.{IsToc, TocReads, room as the_room, toc, is_within as the_is_within, IsFirstTruncated};
+ghost use Rattle.jxl_toc.specs.Inner.Entries.{AreEntries, entry_size, sizes as the_sizes, table_of};
+ghost use Rattle.jxl_headers.specs.Fields.{when};
+ghost use Rattle.jxl_toc.specs.Orders.{lehmer_code as the_lehmer_code};
 ghost use Rattle.jxl_toc.specs.declared.toc.TocEntry.{TocEntry as TheEntry};
 
 use crate::order::{lehmer_code, taken_in_turn};
@@ -61,7 +63,7 @@ fn code_if<D: Decoder>(
     count: u32,
 ) -> Result<Vec<u32>>
     ensures gives { Decodes (λ v. v.items) result (position_of bits.new)
-        ((the_code_if D.meaning permuted count).read (bytes_of bits.old) (position_of bits.old)) }
+        ((when permuted (the_lehmer_code D.meaning count) []).read (bytes_of bits.old) (position_of bits.old)) }
     ensures digits { IfOk result (λ code. AreDigits code.items count) }
     ensures bytes { bytes_of bits.new ≡ bytes_of bits.old }
 {

@@ -1,39 +1,58 @@
 -- What calls and loops that read patches return.
-use Rattle.std.specs.Prelude.{◌≡◌, ℕ, Result, Ok, Err}
-use Rattle.jxlm_base.specs.Decoding.{Found}
-use Rattle.jxlm_base.specs.ErrorKind.{ErrorAt, ErrorKind, UnlessMemory}
-use Rattle.jxlm_base.specs.Grammar.{IsErrorAt}
-use Rattle.jxl_toc.specs.Coded.{Token}
+use Rattle.std.specs.Prelude.{◌≡◌, ℕ, ◌+◌, ◌*◌, ◌&&◌, nat_lt, nat_le, false, if◌then◌else◌, List, get_or, codes, Option, None, is_some, Result, Ok, Err}
+use Rattle.std.specs.Option.{option_map_or}
+use Rattle.jxlm_base.specs.Decoding.{Found, Meaning}
+use Rattle.jxlm_base.specs.ErrorKind.{BadEnum, BadProfile, ErrorAt, ErrorKind, UnlessMemory}
+use Rattle.jxlm_base.specs.Grammar.{Grammar, IsErrorAt, ◌>>=◌}
+use Rattle.jxl_headers.specs.Fields.{meant}
+use Rattle.jxl_headers.specs.declared.size.Size.{Size}
+use Rattle.jxl_toc.specs.Tokens.{After, Tokens, called, token}
 use Rattle.jxl_patches.specs.Errors.{patch_kind}
-use Rattle.jxl_patches.specs.Patches.{Pair, Source, Told}
+use Rattle.jxl_patches.specs.Patches.{Told, checked, most_rectangles}
 use Rattle.jxl_patches.specs.declared.dictionary.Rectangle.{Rectangle}
 use Rattle.jxl_patches.specs.declared.error.PatchError.{PatchError}
 use Rattle.jxl_patches.specs.declared.place.Growing.{Growing}
-use Rattle.jxl_patches.specs.declared.token.Pair.{Pair as PairInMemory}
 
--- what was read so far, seen with the decoder's state and without its memory
-abbrev pub told_of : {S : Type 0} → S → Growing → Told S
-told_of s g = record { state = s; places = g.places.items; modes = g.modes.items; cells = g.cells; later = g.later; x = g.x; y = g.y }
+-- what was told so far, seen without its memory
+abbrev pub told_of : Growing → Told
+told_of g = record { places = g.places.items; modes = g.modes.items; cells = g.cells; later = g.later; x = g.x; y = g.y }
 
--- What was read, and the decoder's state s and the reader's position q after it, are what reading gives, unless it or the
--- decoder is out of memory.
-abbrev pub TokenRead : {S : Type 0} → Result ℕ PatchError → S → ℕ → Result (Found (Token S)) ErrorAt → Type 0
-TokenRead (Ok v) s q reading = reading ≡ Ok (record { value = record { value = v; state = s }; position = q })
-TokenRead (Err e) s q reading = UnlessMemory (patch_kind e) (IsErrorAt reading (patch_kind e) q)
+-- What was read, seen by view, and the decoder's state s and the reader's position q after it, are what reading gives, unless it
+-- or the decoder is out of memory.
+abbrev pub TokenRead : {S X Y : Type 0} → (X → Y) → Result X PatchError → S → ℕ → Result (Found (After S Y)) ErrorAt → Type 0
+TokenRead view (Ok v) s q reading = reading ≡ Ok (record { value = record { value = view v; state = s }; position = q })
+TokenRead view (Err e) s q reading = UnlessMemory (patch_kind e) (IsErrorAt reading (patch_kind e) q)
 
-abbrev pub PairRead : {S : Type 0} → Result PairInMemory PatchError → S → ℕ → Result (Found (Pair S)) ErrorAt → Type 0
-PairRead (Ok v) s q reading = reading ≡ Ok (record { value = record { first = v.first; second = v.second; state = s }; position = q })
-PairRead (Err e) s q reading = UnlessMemory (patch_kind e) (IsErrorAt reading (patch_kind e) q)
-
-abbrev pub SourceRead : {S : Type 0} → Result Rectangle PatchError → S → ℕ → Result (Found (Source S)) ErrorAt → Type 0
-SourceRead (Ok v) s q reading = reading ≡ Ok (record { value = record { rectangle = v; state = s }; position = q })
-SourceRead (Err e) s q reading = UnlessMemory (patch_kind e) (IsErrorAt reading (patch_kind e) q)
-
-abbrev pub StepRead : {S : Type 0} → Result (Unit {0}) PatchError → S → Growing → ℕ → Result (Found (Told S)) ErrorAt → Type 0
-StepRead (Ok u) s g q reading = reading ≡ Ok (record { value = told_of s g; position = q })
+abbrev pub StepRead : {S : Type 0} → Result (Unit {0}) PatchError → S → Growing → ℕ → Result (Found (After S Told)) ErrorAt → Type 0
+StepRead (Ok u) s g q reading = reading ≡ Ok (record { value = record { value = told_of g; state = s }; position = q })
 StepRead (Err e) s g q reading = UnlessMemory (patch_kind e) (IsErrorAt reading (patch_kind e) q)
 
 -- a check returned this value, or this error
 abbrev pub Checks : {X : Type 0} → Result X PatchError → Result X ErrorKind → Type 0
 Checks (Ok x) check = check ≡ Ok x
 Checks (Err e) check = check ≡ Err (patch_kind e)
+
+-- the decoder of so many contexts, at the begin of its tokens
+abbrev pub decoder : {S : Type 0} → Meaning S → ℕ → Grammar S
+decoder d contexts = called (λ bytes p. d.parse bytes p contexts) >>= λ s. called (λ bytes p. d.begin s bytes p)
+
+-- the slot of a rectangle
+abbrev pub slot : {S : Type 0} → Meaning S → List (Option Size) → Tokens S ℕ
+slot d slots = token d 1 (λ v. meant (codes "slot of a patch") (is_some (get_or slots v None)) v)
+
+-- the rectangle at this corner of the frame that a slot holds, whose sides are told less one
+abbrev pub rectangle_within : List (Option Size) → ℕ → ℕ → ℕ → ℕ → ℕ → Result Rectangle ErrorKind
+rectangle_within slots slot x0 y0 w h = if option_map_or (λ f. nat_lt (x0 + w) f.width && nat_lt (y0 + h) f.height) (get_or slots slot None) false
+    then Ok (record { slot = slot; x0 = x0; y0 = y0; width = w + 1; height = h + 1 }) else Err (BadEnum (codes "rectangle of a patch") slot)
+
+-- how many rectangles are named
+abbrev pub rectangle_count : {S : Type 0} → Meaning S → Size → Tokens S ℕ
+rectangle_count d size = token d 0 (λ v. meant (codes "count of patches") (nat_le v (most_rectangles size)) v)
+
+-- at how many places a rectangle is put, where so many places and cells come before
+abbrev pub count_within : Size → ℕ → ℕ → Rectangle → ℕ → ℕ → Result ℕ ErrorKind
+count_within size done cells r limit v = if nat_le (done + (v + 1)) (4 * most_rectangles size)
+    then (if nat_le (cells + r.width * r.height * (v + 1)) limit then Ok (v + 1) else Err (BadProfile (codes "patches of too many cells"))) else Err (BadEnum (codes "places of a patch") v)
+
+abbrev pub place_count : {S : Type 0} → Meaning S → Size → ℕ → ℕ → Rectangle → ℕ → Tokens S ℕ
+place_count d size done cells r limit = token d 7 (λ v. checked (count_within size done cells r limit v))

@@ -1,11 +1,11 @@
-use Rattle.std.proofs.Common.{◌≡◌, ◌∙◌, Ok}
+use Rattle.std.proofs.Common.{◌≡◌, ◌∙◌, [], Ok}
 use Rattle.std.proofs.lemmas.Result.{err_from_is_err_and}
 use Rattle.jxlm_base.specs.Bits.{bytes_of, position_of}
 use Rattle.jxlm_base.specs.ErrorKind.{kind_of, UnlessMemory}
 use Rattle.jxlm_base.specs.Grammar.{IsErrorAt}
-use Rattle.jxl_toc.specs.Coded.{decoder, chained}
-use Rattle.jxl_toc.specs.Profiles.{byte}
-use Rattle.jxl_toc.specs.Inner.Steps.{bytes_from}
+use Rattle.jxl_toc.specs.Inner.Steps.{decoder}
+use Rattle.jxl_toc.specs.Turns.{chained}
+use Rattle.jxl_toc.specs.Profiles.{one_byte}
 use Rattle.jxl_toc.proofs.ProfileSteps.{profile_fails}
 use Rattle.jxl_toc.proofs.profile.skip_profile.Goals as goal
 
@@ -19,6 +19,6 @@ returns-in_err-bytes-clause-gives g c =
     let b = position_of c.decoder.new.bits in
     let q = position_of c.bytes.new.bits in
     let second : (decoder d 41).read bytes a ≡ Ok (record { value = c.in_ok-decoder.decoder; position = b }) = rw c.length_within.ensures.bytes at c.in_ok-decoder.ensures.gives in
-    let third : UnlessMemory error (IsErrorAt ((chained (byte d) c.in_ok-length.length (bytes_from c.in_ok-decoder.decoder)).read bytes b) error q) =
+    let third : UnlessMemory error (IsErrorAt ((chained (one_byte d) c.in_ok-length.length [] c.in_ok-decoder.decoder).read bytes b) error q) =
     rw (c.decoder.ensures.bytes ∙ c.length_within.ensures.bytes) at c.in_err-bytes.ensures.gives in
     rw (p.1, p.2) (profile_fails d c.args.limit bytes (position_of c.args.bits.now) c.in_ok-length.length a c.in_ok-decoder.decoder b error q c.in_ok-length.ensures.gives second third)

@@ -1,6 +1,6 @@
-use Rattle.std.proofs.Common.{◌≡◌, ℕ, ◌+◌, ◌*◌, ◌^◌, ◌<◌, ◌≤◌, List, length, get_or, take}
+use Rattle.std.proofs.Common.{◌≡◌, ℕ, ◌+◌, ◌*◌, ◌^◌, ◌<◌, ◌≤◌, length, get_or, take}
 use Rattle.std.specs.List.{sum}
-use Rattle.jxl_toc.specs.Tocs.{IsAt}
+use Rattle.jxl_toc.specs.Inner.Entries.{entry_at}
 use Rattle.jxl_toc.specs.declared.toc.TocEntry.{TocEntry}
 use Rattle.jxl_toc.proofs.toc.as_they_stand.Given as goal
 
@@ -9,5 +9,5 @@ invariant-loop-size l = record {
   count : length l.entries.items ≡ l.size-index;
   offset : l.offset ≡ l.start + sum (take l.size-index l.sizes);
   small : sum (take l.size-index l.sizes) ≤ l.size-index * 2 ^ 32;
-  each : (code : List ℕ) (k : ℕ) (entry : TocEntry) → k < l.size-index → IsAt (record { code = code; sizes = l.sizes; start = l.start }) k (get_or l.entries.items k entry);
+  each : (k : ℕ) (entry : TocEntry) → k < l.size-index → get_or l.entries.items k entry ≡ entry_at l.start l.sizes k;
 }
