@@ -21,14 +21,13 @@ use Rattle.jxl_frames.specs.Frames.{Frame, frame_header, frame_refusal, frame_si
 use Rattle.jxl_frames.specs.declared.place.Crop.{Crop}
 use Rattle.jxl_frames.specs.declared.refusal.Refusal.{Refusal as FrameRefusal}
 use Rattle.jxl_frames.specs.declared.refusal.Refusal.TheVariants as refusals
-use Rattle.jxl_toc.specs.Layouts.{Layout, layout_if, max_sections, section_count_of}
+use Rattle.jxl_toc.specs.Layouts.{Layout, layout_if, layout_of, max_sections, section_count_of}
 use Rattle.jxl_toc.specs.Tocs.{IsFirstTruncated, IsToc, Table, is_within, toc}
 use Rattle.jxl_toc.specs.declared.toc.TocEntry.{TocEntry}
 use Rattle.jxl_picture.specs.Limits.{Allow}
 use Rattle.jxl_picture.specs.declared.limits.Limits.{Limits}
-use Rattle.jxl_front.specs.Fronts.{AllowFrame, AreBefore, ContentsStand, Follow, FrameAt, FrameStands, ImageStands, StandsAt, between, cells_in, end_of, layout_in}
-use Rattle.jxl_front.specs.FrontParts.{HasLowShifts}
-use Rattle.jxl_front.specs.FrontFailures.{FailsAt, FrameGoesOn, FrameIsRefused, FramesAreTooLarge, FrontFails, HasTooMany, ImageIsRefused, IsNext, IsTooLarge, IsTruncated}
+use Rattle.jxl_front.specs.Fronts.{AllowFrame, AreBefore, NoFrame, OneMore, ContentsStand, FailsAt, FrameAt, FrameGoesOn, FrameStands, FrontFails, HeaderStands, ImageStands, Next, StandsAt, between, cells_of, end_of, layout_in}
+use Rattle.jxl_front.specs.FrontParts.{HasLowShifts, IsNext}
 use Rattle.jxl_front.specs.declared.error.FrontError.TheVariants as errors
 
 -- a call without a decoder failed at a position that is this one
@@ -40,17 +39,21 @@ module _ {D : Type 0} (d : Meaning D) (limits : Limits) (bytes : List ℕ) where
   pub image_stands : (p q : ℕ) (image : Image) → p ≡ 0 → image_header.read bytes p ≡ Ok (record { value = image; position = q }) → image_refusal image ≡ None → Allow limits image → ImageStands d limits bytes image q
   image_stands p q image start e supported allowed = record { header = subst (λ n. StandsAt image_header bytes n image q) start e; supported = supported; allowed = allowed }
 
-  pub image_refused : (p q : ℕ) (image : Image) (r : ImageRefusal) → p ≡ 0 → image_header.read bytes p ≡ Ok (record { value = image; position = q }) → image_refusal image ≡ Some r → ImageIsRefused d limits bytes r
-  image_refused p q image r start e refused = record { image = image; end = q; header = subst (λ n. StandsAt image_header bytes n image q) start e; refused = refused }
+  pub image_refused : (p q : ℕ) (image : Image) (r : ImageRefusal) → p ≡ 0 → image_header.read bytes p ≡ Ok (record { value = image; position = q }) → image_refusal image ≡ Some r → FrontFails d limits bytes (errors.Image r)
+  image_refused p q image r start e refused = (image, q, subst (λ n. StandsAt image_header bytes n image q) start e, refused)
 
-  pub too_large : (p q : ℕ) (image : Image) → p ≡ 0 → image_header.read bytes p ≡ Ok (record { value = image; position = q }) → image_refusal image ≡ None → ¬ (Allow limits image) → IsTooLarge d limits bytes
-  too_large p q image start e supported beyond = record { image = image; end = q; header = subst (λ n. StandsAt image_header bytes n image q) start e; supported = supported; beyond = beyond }
+  pub too_large : (p q : ℕ) (image : Image) → p ≡ 0 → image_header.read bytes p ≡ Ok (record { value = image; position = q }) → image_refusal image ≡ None → ¬ (Allow limits image) → FrontFails d limits bytes errors.TooLarge
+  too_large p q image start e supported beyond = (image, q, subst (λ n. StandsAt image_header bytes n image q) start e, supported, beyond)
 
   pub image_fails : (p q : ℕ) (e : Error) → p ≡ 0 → UnlessNoMemory (kind_of e) (IsErrorAt (image_header.read bytes p) (kind_of e) q) → FrontFails d limits bytes (errors.ImageHeader e)
   image_fails p q e start h = fails_at image_header bytes p 0 q (kind_of e) start h
 
   pub profile_fails : (image : Image) (p q : ℕ) (e : Error) → ImageStands d limits bytes image p → UnlessMemory (kind_of e) (IsErrorAt ((between d limits.profile image.shown.colour.profile).read bytes p) (kind_of e) q) → FrontFails d limits bytes (errors.Profile e)
-  profile_fails image p q e stands h = unless_so (kind_of e) (λ f. record { image = image; end = p; stands = stands; fails = (q, f) }) h
+  profile_fails image p q e stands h = unless_so (kind_of e) (λ f. (image, p, stands, (q, f))) h
+
+  -- where a frame begins
+  abbrev next_of : (image : Image) (start used : ℕ) → IsNext d limits bytes image start used → Next d limits bytes
+  next_of image start used next = record { image = image; saved = next.0; start = start; used = used; before = next.1 }
 
   -- a frame's header, where it begins
   pub frame_fails : (image : Image) (start used : ℕ) (here : List ℕ) (p q : ℕ) (e : Error) → IsNext d limits bytes image start used → here ≡ drop start bytes → p ≡ 0 →
@@ -59,83 +62,88 @@ module _ {D : Type 0} (d : Meaning D) (limits : Limits) (bytes : List ℕ) where
       let at : UnlessNoMemory (kind_of e) (IsErrorAt ((frame_header image).read (drop start bytes) 0) (kind_of e) q) =
       subst (λ n. UnlessNoMemory (kind_of e) (IsErrorAt ((frame_header image).read (drop start bytes) n) (kind_of e) q)) begin
       (subst (λ (b : List ℕ). UnlessNoMemory (kind_of e) (IsErrorAt ((frame_header image).read b p) (kind_of e) q)) lies h) in
-      unless_so (kind_of e) (λ f. record { image = image; start = start; used = used; next = next; fails = (q, f) })
+      unless_so (kind_of e) (λ f. (next_of image start used next, (q, f)))
       (unless_memory (kind_of e) (IsErrorAt ((frame_header image).read (drop start bytes) 0) (kind_of e) q) at)
 
   pub header_stands : (image : Image) (start : ℕ) (here : List ℕ) (p q : ℕ) (frame : Frame) → here ≡ drop start bytes → p ≡ 0 →
-      (frame_header image).read here p ≡ Ok (record { value = frame; position = q }) → StandsAt (frame_header image) (drop start bytes) 0 frame q
+      (frame_header image).read here p ≡ Ok (record { value = frame; position = q }) → HeaderStands d limits bytes image start frame q
   header_stands image start here p q frame lies begin e =
       subst (λ n. StandsAt (frame_header image) (drop start bytes) n frame q) begin (subst (λ (b : List ℕ). StandsAt (frame_header image) b p frame q) lies e)
 
-  pub frame_refused : (image : Image) (start used q : ℕ) (frame : Frame) (r : FrameRefusal) → IsNext d limits bytes image start used → StandsAt (frame_header image) (drop start bytes) 0 frame q →
-      frame_refusal image frame ≡ Some r → FrameIsRefused d limits bytes r
-  frame_refused image start used q frame r next header refused = record { image = image; start = start; used = used; next = next; frame = frame; end = q; header = header; refused = refused }
+  pub frame_refused : (image : Image) (start used q : ℕ) (frame : Frame) (r : FrameRefusal) → IsNext d limits bytes image start used → HeaderStands d limits bytes image start frame q →
+      frame_refusal image frame ≡ Some r → FrontFails d limits bytes (errors.Frame r)
+  frame_refused image start used q frame r next header refused = (next_of image start used next, frame, q, header, refused)
 
-  pub frames_too_large : (image : Image) (start used q : ℕ) (frame : Frame) → IsNext d limits bytes image start used → StandsAt (frame_header image) (drop start bytes) 0 frame q →
-      frame_refusal image frame ≡ None → ¬ (AllowFrame limits image used (frame_size image.size frame)) → FramesAreTooLarge d limits bytes
-  frames_too_large image start used q frame next header supported beyond =
-      record { image = image; start = start; used = used; next = next; frame = frame; end = q; stands = record { header = header; supported = supported }; beyond = beyond }
+  pub frames_too_large : (image : Image) (start used q : ℕ) (frame : Frame) → IsNext d limits bytes image start used → HeaderStands d limits bytes image start frame q →
+      frame_refusal image frame ≡ None → ¬ (AllowFrame limits image used (frame_size image.size frame)) → FrontFails d limits bytes errors.FramesTooLarge
+  frames_too_large image start used q frame next header supported beyond = (next_of image start used next, frame, q, header, supported, beyond)
 
-  pub goes_on : (image : Image) (start used q : ℕ) (frame : Frame) → IsNext d limits bytes image start used → StandsAt (frame_header image) (drop start bytes) 0 frame q →
-      frame_refusal image frame ≡ None → AllowFrame limits image used (frame_size image.size frame) → FrameGoesOn d limits bytes image start used frame q
-  goes_on image start used q frame next header supported allowed = record { next = next; stands = record { header = header; supported = supported }; allowed = allowed }
+  pub goes_on : (image : Image) (start used q : ℕ) (frame : Frame) → HeaderStands d limits bytes image start frame q → frame_refusal image frame ≡ None →
+      AllowFrame limits image used (frame_size image.size frame) → FrameGoesOn d limits bytes image start used frame q
+  goes_on image start used q frame header supported allowed = record { header = header; supported = supported; allowed = allowed }
 
-  pub contents_fail : (image : Image) (start used : ℕ) (frame : Frame) (here : List ℕ) (n p q : ℕ) (e : Error) → FrameGoesOn d limits bytes image start used frame p → here ≡ drop start bytes →
-      n ≡ section_count_of (layout_in image frame) → n ≤ 2 ^ 24 → UnlessMemory (kind_of e) (IsErrorAt ((toc d n).read here p) (kind_of e) q) → FrontFails d limits bytes (errors.Contents e)
-  contents_fail image start used frame here n p q e goes lies count few h =
-      unless_so (kind_of e) (λ f. record {
-        image = image;
-        start = start;
-        used = used;
-        frame = frame;
-        end = p;
-        goes = goes;
-        few = subst (λ m. m ≤ max_sections) count few;
-        fails = subst (λ m. FailsAt (toc d m) (drop start bytes) p (kind_of e)) count (q, f);
-      })
+  pub contents_fail : (image : Image) (start used : ℕ) (frame : Frame) (here : List ℕ) (n p q : ℕ) (e : Error) → IsNext d limits bytes image start used →
+      FrameGoesOn d limits bytes image start used frame p → here ≡ drop start bytes → n ≡ section_count_of (layout_in image frame) → n ≤ 2 ^ 24 →
+      UnlessMemory (kind_of e) (IsErrorAt ((toc d n).read here p) (kind_of e) q) → FrontFails d limits bytes (errors.Contents e)
+  contents_fail image start used frame here n p q e next goes lies count few h =
+      unless_so (kind_of e) (λ f. (
+        next_of image start used next,
+        frame,
+        p,
+        goes,
+        subst (λ m. m ≤ max_sections) count few,
+        subst (λ m. FailsAt (toc d m) (drop start bytes) p (kind_of e)) count (q, f),
+      ))
       (subst (λ (b : List ℕ). UnlessMemory (kind_of e) (IsErrorAt ((toc d n).read b p) (kind_of e) q)) lies h)
 
   pub contents_stand : (image : Image) (start used : ℕ) (frame : Frame) (here : List ℕ) (n p q : ℕ) (entries : List TocEntry) → FrameGoesOn d limits bytes image start used frame p → here ≡ drop start bytes →
       n ≡ section_count_of (layout_in image frame) → n ≤ 2 ^ 24 → ((table : Table) × ((toc d n).read here p ≡ Ok (record { value = table; position = q })) × IsToc table entries) →
-      ContentsStand d limits bytes image used (record { start = start; header = frame; entries = entries })
+      ContentsStand d limits bytes image start used frame entries
   contents_stand image start used frame here n p q entries goes lies count few h = record {
     end = p;
-    stands = goes.stands;
-    allowed = goes.allowed;
+    goes = goes;
     few = subst (λ m. m ≤ max_sections) count few;
-    table = h.0;
-    table_end = q;
-    contents = subst (λ m. StandsAt (toc d m) (drop start bytes) p h.0 q) count (subst (λ (b : List ℕ). StandsAt (toc d n) b p h.0 q) lies h.1);
-    sections = h.2;
+    contents = (h.0, q, subst (λ m. StandsAt (toc d m) (drop start bytes) p h.0 q) count (subst (λ (b : List ℕ). StandsAt (toc d n) b p h.0 q) lies h.1), h.2);
   }
 
-  pub too_many : (image : Image) (start used : ℕ) (frame : Frame) (p : ℕ) → FrameGoesOn d limits bytes image start used frame p → layout_if (layout_in image frame) ≡ None → HasTooMany d limits bytes
-  too_many image start used frame p goes none =
-      record { image = image; start = start; used = used; frame = frame; end = p; goes = goes; many = beyond (section_count_of (layout_in image frame)) (layout_in image frame) none } where
-        beyond : (n : ℕ) (l : Layout) → (if nat_le n max_sections then Some l else None) ≡ None → max_sections < n
-        beyond n l e = elim (cases_lt max_sections n) [
-          | inl lt ↦ lt
-          | inr le ↦ absurd (some_none (sym (ap (λ b. if b then Some l else None) (le-leb n max_sections le)) ∙ e))
-        ] where
-          some_none : {X : Type 0} {a : X} → ◌≡◌ {A = Option X} (Some a) None → ⊥
-          some_none e = cc
+  pub too_many : (image : Image) (start used : ℕ) (frame : Frame) (p : ℕ) (size : Size) → IsNext d limits bytes image start used → FrameGoesOn d limits bytes image start used frame p → size ≡ frame_size image.size frame →
+      None ≡ layout_if (layout_of size frame.group_dim frame.passes.count) → FrontFails d limits bytes errors.TooManySections
+  too_many image start used frame p size next goes is none = (
+    next_of image start used next,
+    frame,
+    p,
+    goes,
+    beyond (section_count_of (layout_in image frame)) (layout_in image frame) (sym (none ∙ ap (λ (s : Size). layout_if (layout_of s frame.group_dim frame.passes.count)) is)),
+  ) where
+    beyond : (n : ℕ) (l : Layout) → (if nat_le n max_sections then Some l else None) ≡ None → max_sections < n
+    beyond n l e = elim (cases_lt max_sections n) [
+      | inl lt ↦ lt
+      | inr le ↦ absurd (some_none (sym (ap (λ b. if b then Some l else None) (le-leb n max_sections le)) ∙ e))
+    ] where
+      some_none : {X : Type 0} {a : X} → ◌≡◌ {A = Option X} (Some a) None → ⊥
+      some_none e = cc
 
-  pub truncated : (image : Image) (frame : FrameAt) (used number : ℕ) → IsNext d limits bytes image frame.start used → ContentsStand d limits bytes image used frame →
-      IsFirstTruncated (length (drop frame.start bytes)) frame.entries number → IsTruncated d limits bytes number
-  truncated image frame used number next contents first = record { image = image; frame = frame; used = used; next = next; contents = contents; first = first }
+  pub truncated : (image : Image) (start used : ℕ) (frame : Frame) (entries : List TocEntry) (number : ℕ) → IsNext d limits bytes image start used → ContentsStand d limits bytes image start used frame entries →
+      IsFirstTruncated (length (drop start bytes)) entries number → FrontFails d limits bytes (errors.TruncatedSection number)
+  truncated image start used frame entries number next contents first = (next_of image start used next, frame, entries, contents, first)
+
+  -- the first frame begins after the profile
+  pub begins : (image : Image) (here : List ℕ) (p padding q : ℕ) → here ≡ bytes → ImageStands d limits bytes image p →
+      (between d limits.profile image.shown.colour.profile).read here p ≡ Ok (record { value = padding; position = q }) → AreBefore d limits bytes image [] (q / 8) 0
+  begins image here p padding q same stands passed =
+      NoFrame p padding q stands (subst (λ (b : List ℕ). StandsAt (between d limits.profile image.shown.colour.profile) b p padding q) same passed)
 
   -- one saved frame more
-  pub follow_more : (image : Image) (p m : ℕ) (fs : List FrameAt) (q n : ℕ) (f : FrameAt) → Follow d limits bytes image p m fs q n → f.start ≡ q → is_saved f.header ≡ true →
-      FrameStands d limits bytes image n f → Follow d limits bytes image p m (fs ++ f ∷ []) (q + end_of f.entries) (n + cells_in image f.header)
-  follow_more image p m [] q n f (at, used) start saved stands =
-      (start ∙ at, saved, subst (λ k. FrameStands d limits bytes image k f) used stands, (ap (λ k. k + end_of f.entries) at, ap (λ k. k + cells_in image f.header) used))
-  follow_more image p m (g ∷ gs) q n f (at, is, first, rest) start saved stands =
-      (at, is, first, follow_more image (p + end_of g.entries) (m + cells_in image g.header) gs q n f rest start saved stands)
-
   pub before_more : (image : Image) (fs : List FrameAt) (q n : ℕ) (f : FrameAt) → AreBefore d limits bytes image fs q n → f.start ≡ q → is_saved f.header ≡ true → FrameStands d limits bytes image n f →
-      AreBefore d limits bytes image (fs ++ f ∷ []) (q + end_of f.entries) (n + cells_in image f.header)
+      AreBefore d limits bytes image (fs ++ f ∷ []) (q + end_of f.entries) (n + cells_of (frame_size image.size f.header))
   before_more image fs q n f before start saved stands =
-      record { begin = before.begin; begins = before.begins; follow = follow_more image (before.begin / 8) 0 fs q n f before.follow start saved stands }
+      subst (λ k. AreBefore d limits bytes image (fs ++ f ∷ []) (k + end_of f.entries) (n + cells_of (frame_size image.size f.header))) start
+      (OneMore fs n f (subst (λ k. AreBefore d limits bytes image fs k n) (sym start) before) stands saved)
+
+  -- the image header stands there
+  pub image_before : {image : Image} {fs : List FrameAt} {q n : ℕ} → AreBefore d limits bytes image fs q n → (p : ℕ) × ImageStands d limits bytes image p
+  image_before (NoFrame end padding p stands passed) = (end, stands)
+  image_before (OneMore fs n f before stands saved) = image_before before
 
 pub layout_is : (image : Image) (frame : Frame) (l : Layout) → Some l ≡ layout_if (layout_in image frame) → l ≡ layout_in image frame
 layout_is image frame l e = by (nat_le (section_count_of (layout_in image frame)) max_sections) e where

@@ -11,7 +11,7 @@ use Rattle.jxl_toc.specs.LayoutParts.{parts_of}
 use Rattle.jxl_toc.specs.Tocs.{is_within}
 use Rattle.jxl_picture.specs.Limits.{channel_count}
 use Rattle.jxl_picture.specs.declared.limits.Limits.{Limits}
-use Rattle.jxl_front.specs.Fronts.{FrameAt, FrontStands, layout_in}
+use Rattle.jxl_front.specs.Fronts.{AreBefore, FrameAt, FrontStands, layout_in}
 use Rattle.jxl_front.specs.declared.frame.FrameFront.{FrameFront}
 use Rattle.jxl_front.specs.declared.front.Front.{Front}
 
@@ -45,6 +45,10 @@ pub record IsReady (bytes : List ℕ) (front : Front) : Type 0 where
   pub saved : All (IsReadyFrame bytes (image_of front.image)) front.saved.items
   pub shown : IsReadyFrame bytes (image_of front.image) front.shown
   pub covers : frame_size front.image.size (frame_of front.shown.header) ≡ front.image.size
+
+-- a frame begins at this byte, after saved frames with so many cells
+abbrev pub IsNext : {D : Type 0} → Meaning D → Limits → List ℕ → Image → ℕ → ℕ → Type 0
+IsNext d limits bytes image start used = (saved : List FrameAt) × AreBefore d limits bytes image saved start used
 
 -- what was read stands there
 pub record IsFrontOf {D : Type 0} (d : Meaning D) (limits : Limits) (bytes : List ℕ) (front : Front) : Type 0 where

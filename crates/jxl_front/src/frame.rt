@@ -11,8 +11,7 @@ ghost use Rattle.jxl_picture.specs.Limits.{channel_count};
 ghost use Rattle.jxl_toc.specs.Layouts.{section_count_of};
 ghost use Rattle.jxl_toc.specs.LayoutParts.{parts_of};
 ghost use Rattle.jxl_toc.specs.Tocs.{is_within};
-ghost use Rattle.jxl_front.specs.Fronts.{AllowFrame, ContentsStand, FrameStands, HeaderStands, cells_in, cells_of as the_cells_of, end_of as the_end_of, layout_in};
-ghost use Rattle.jxl_front.specs.FrontFailures.{FrameGoesOn, FrontFails, IsNext};
+ghost use Rattle.jxl_front.specs.Fronts.{AllowFrame, ContentsStand, FrameGoesOn, FrameStands, FrontFails, cells_of as the_cells_of, end_of as the_end_of, layout_in};
 
 use crate::error::FrontError;
 use jxl_frames::frame::FrameHeader;
@@ -94,6 +93,8 @@ struct Start<'a> {
 }
 
 impl Start<'_> {
+    ghost use Rattle.jxl_front.specs.FrontParts.{IsNext};
+
     /// The frame header, of a frame that is supported.
     fn read_header<D: Decoder>(
         self,
@@ -141,14 +142,14 @@ impl Start<'_> {
         layout: &Layout,
         bits: &mut Bitstream<'_>,
     ) -> Result<Toc, FrontError>
+        requires next { IsNext D.meaning self.limits.now self.bytes.now (image_of self.image.now) self.start self.used }
         requires goes { FrameGoesOn D.meaning self.limits.now self.bytes.now (image_of self.image.now) self.start
             self.used (frame_of header.now) (position_of bits.old) }
         requires cut { parts_of layout.now ≡ layout_in (image_of self.image.now) (frame_of header.now) }
         requires short { 8 * length self.bytes.now < 2 ^ 64 }
         requires lies { bytes_of bits.old ≡ drop self.start self.bytes.now }
         ensures ok { IfOk result (λ t. ContentsStand D.meaning self.entry.limits.now self.entry.bytes.now
-            (image_of self.entry.image.now) self.entry.used
-            (record { start = self.entry.start; header = frame_of header.now; entries = t.entries.items })) }
+            (image_of self.entry.image.now) self.entry.start self.entry.used (frame_of header.now) t.entries.items) }
         ensures count { IfOk result (λ t. length t.entries.items
             ≡ section_count_of (layout_in (image_of self.entry.image.now) (frame_of header.now))) }
         ensures err { IfErr result (FrontFails D.meaning self.entry.limits.now self.entry.bytes.now) }
@@ -161,7 +162,7 @@ impl Start<'_> {
 }
 
 impl FrameFront {
-    ghost use Rattle.jxl_front.specs.FrontParts.{IsReadyFrame, frame_at};
+    ghost use Rattle.jxl_front.specs.FrontParts.{IsNext, IsReadyFrame, frame_at};
 
     /// What a frame tells that begins at this byte, after others with so many cells: it is supported, with these within
     /// the limits, and all its sections lie in the codestream.
@@ -214,8 +215,8 @@ impl FrameFront {
 
     /// How many cells there are with those of this frame, which are at most so many.
     pub fn cells_with(&self, image: &ImageHeader, used: u64, most: u64) -> u64
-        requires within { used + cells_in (image_of image.now) (frame_of self.now.header) ≤ most }
-        ensures { result ≡ used + cells_in (image_of image.now) (frame_of self.now.header) }
+        requires within { used + the_cells_of (frame_size image.now.size (frame_of self.now.header)) ≤ most }
+        ensures { result ≡ used + the_cells_of (frame_size image.now.size (frame_of self.now.header)) }
     {
         used + cells_of(self.header.size(image.size))
     }

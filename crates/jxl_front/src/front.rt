@@ -5,8 +5,7 @@ ghost use Rattle.jxlm_base.specs.Bits.{bytes_of, position_of};
 ghost use Rattle.jxl_headers.specs.Images.{image_of};
 ghost use Rattle.jxl_toc.specs.Reading.{Decodes};
 ghost use Rattle.jxl_picture.specs.Limits.{Allow};
-ghost use Rattle.jxl_front.specs.Fronts.{AreBefore, FrameBegins, ImageStands, between};
-ghost use Rattle.jxl_front.specs.FrontFailures.{FrontFails};
+ghost use Rattle.jxl_front.specs.Fronts.{AreBefore, FrontFails, ImageStands, between};
 
 use crate::error::FrontError;
 use crate::frame::FrameFront;
@@ -85,8 +84,9 @@ fn read_begin<D: Decoder>(
 ) -> Result<ImageHeader, FrontError>
     requires start { position_of bits.old ≡ 0 }
     requires short { 8 * length (bytes_of bits.old) < 2 ^ 64 }
-    ensures ok { IfOk result (λ h. FrameBegins D.meaning limits.now (bytes_of bits.old) (image_of h)
-        (position_of bits.new)) }
+    ensures ok { IfOk result (λ h. AreBefore D.meaning limits.now (bytes_of bits.old) (image_of h) []
+        (position_of bits.new / 8) 0) }
+    ensures allowed { IfOk result (λ h. Allow limits.now (image_of h)) }
     ensures inside { position_of bits.new ≤ 8 * length (bytes_of bits.old) }
     ensures err { IfErr result (FrontFails D.meaning limits.now (bytes_of bits.old)) }
     ensures bytes { bytes_of bits.new ≡ bytes_of bits.old }

@@ -5,8 +5,7 @@ use Rattle.jxlm_base.specs.Decoding.{Meaning}
 use Rattle.jxl_file.specs.Files.{HasCodestream, UnlessMemory}
 use Rattle.jxl_headers.specs.Images.{Image, image_header}
 use Rattle.jxl_picture.specs.declared.limits.Limits.{Limits}
-use Rattle.jxl_front.specs.Fronts.{FrameAt, FrontStands, StandsAt}
-use Rattle.jxl_front.specs.FrontFailures.{FrontFails}
+use Rattle.jxl_front.specs.Fronts.{FrameAt, FrontFails, FrontStands, StandsAt}
 use Rattle.jxl_front.specs.declared.error.FrontError.{FrontError}
 use Rattle.jxl_info.specs.Reasons.{is_refusal}
 use Rattle.jxl_info.specs.Texts.{info_text}

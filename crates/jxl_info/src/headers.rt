@@ -2,7 +2,7 @@
 
 ghost use Rattle.std.specs.Prelude.{◌≡◌, true, IfErr, IfOk};
 ghost use Rattle.jxl_headers.specs.Images.{image_of};
-ghost use Rattle.jxl_front.specs.FrontFailures.{FrontFails};
+ghost use Rattle.jxl_front.specs.Fronts.{FrontFails};
 ghost use Rattle.jxl_info.specs.Reasons.{is_refusal as the_is_refusal};
 ghost use Rattle.jxl_info.specs.Headers.{HeadersFail, HeadersOfFile, HeadersStand, is_boxed as the_is_boxed};
 

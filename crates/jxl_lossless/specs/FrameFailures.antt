@@ -18,8 +18,7 @@ use Rattle.jxl_picture.specs.Limits.{channel_count}
 use Rattle.jxl_still.specs.StillFailures.{StillFails}
 use Rattle.jxl_still.specs.declared.error.FrameError.{FrameError}
 use Rattle.jxl_still.specs.declared.places.Places.{Places}
-use Rattle.jxl_front.specs.Fronts.{FrameAt, StandsAt, layout_in}
-use Rattle.jxl_front.specs.FrontFailures.{FailsAt}
+use Rattle.jxl_front.specs.Fronts.{FailsAt, FrameAt, StandsAt, layout_in}
 use Rattle.jxl_lossless.specs.Sections.{AreOfGroups, sections_in}
 use Rattle.jxl_patches.specs.Slots.{Slots, optional_patches}
 use Rattle.jxl_lossless.specs.Frames.{BeginsWith, SharedTree, channels_given}

@@ -15,5 +15,5 @@ returns-in-Ok-clause-ok g c =
 pub returns-in-Err-clause-err : goal.returns-in-Err-clause-err
 returns-in-Err-clause-err g c =
     contents_fail g.D.Decoder.meaning c.args.self.limits.now c.args.self.bytes.now (image_of c.args.self.image.now) c.args.self.start c.args.self.used (frame_of c.args.header.now) (bytes_of c.args.bits.now) c.section_count.result
-    (position_of c.args.bits.now) (position_of c.parse.new.bits) c.in-Err.error c.requires.goes c.requires.lies (c.section_count.ensures.count ∙ ap section_count_of c.requires.cut) c.section_count.ensures.most
+    (position_of c.args.bits.now) (position_of c.parse.new.bits) c.in-Err.error c.requires.next c.requires.goes c.requires.lies (c.section_count.ensures.count ∙ ap section_count_of c.requires.cut) c.section_count.ensures.most
     c.in-Err.ensures.gives

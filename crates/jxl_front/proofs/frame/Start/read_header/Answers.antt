@@ -23,7 +23,7 @@ returns-then-allows-clause-ok g c =
     let frame = frame_of c.in-Ok.frame in
     let q = position_of c.parse.new.bits in
     let allowed : AllowFrame c.args.self.limits.now image c.args.self.used c.size.result = c.allows.ensures.0 c.if-allows.true in
-    goes_on g.D.Decoder.meaning c.args.self.limits.now c.args.self.bytes.now image c.args.self.start c.args.self.used q frame c.requires.next
+    goes_on g.D.Decoder.meaning c.args.self.limits.now c.args.self.bytes.now image c.args.self.start c.args.self.used q frame
     (header_stands g.D.Decoder.meaning c.args.self.limits.now c.args.self.bytes.now image c.args.self.start (bytes_of c.args.bits.now) (position_of c.args.bits.now) q frame c.requires.lies c.requires.begin c.in-Ok.ensures.gives)
     (sym c.refused.ensures ∙ c.in-None.is)
     (subst (λ (s : Size). AllowFrame c.args.self.limits.now image c.args.self.used s) c.size.ensures allowed)

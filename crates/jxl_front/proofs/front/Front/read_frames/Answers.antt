@@ -5,7 +5,7 @@ use Rattle.jxl_headers.specs.Images.{image_of}
 use Rattle.jxl_frames.specs.Frames.{frame_of, is_saved}
 use Rattle.jxl_front.specs.Fronts.{AreBefore, end_of}
 use Rattle.jxl_front.specs.FrontParts.{IsReadyFrame, frame_at}
-use Rattle.jxl_front.proofs.Fronts.{before_more, covers, low}
+use Rattle.jxl_front.proofs.Fronts.{before_more, covers, image_before, low}
 use Rattle.jxl_front.proofs.front.Front.read_frames.Goals as goal
 
 pub loop-preserved : goal.loop-preserved
@@ -31,6 +31,7 @@ returns-then-not-is_saved-clause-ok g c =
     let f = c.in_ok-frame.frame in
     let image = image_of c.args.image in
     let stands = c.in_ok-frame.ensures.stands in
+    let header = image_before g.D.Decoder.meaning c.args.limits.now c.args.bytes.now c.loop.invariant.before in
     let shown : is_saved (frame_of f.header) ≡ false = search rules in
     record {
       stands = record {
@@ -42,9 +43,9 @@ returns-then-not-is_saved-clause-ok g c =
       ready = record {
         deep = c.requires.allowed.deep;
         many = c.requires.allowed.most;
-        low = low image c.loop.invariant.before.begins.stands.supported;
+        low = low image header.1.supported;
         saved = c.loop.invariant.ready;
         shown = c.in_ok-frame.ensures.ready;
-        covers = covers image image.size (frame_of f.header) stands.contents.stands.supported shown;
+        covers = covers image image.size (frame_of f.header) stands.contents.goes.supported shown;
       };
     }
