@@ -1,16 +1,12 @@
 -- Frame headers are read exactly: what is read stands there, and what stands there is read.
-use Rattle.std.proofs.Common.{◌≡◌, ℕ, zero, suc, ◌∷◌, ◌+◌, ◌-◌, ◌*◌, ◌^◌, Bool, true, false, List, [], length, Some, None, Option, Ok, Err, Result, refl, ap, sym}
-use Rattle.std.proofs.lemmas.Bool.{ltb-false, le-ltb}
-use Rattle.std.specs.Prelude.{nat_lt, nat_le, codes, ◌==◌, ◌&&◌, ◌||◌, not, if◌then◌else◌, is_some}
+use Rattle.std.proofs.Common.{ℕ, zero, suc, ◌∷◌, ◌-◌, ◌*◌, ◌^◌, Bool, true, false, List, [], length, Some, None, Option}
+use Rattle.std.specs.Prelude.{nat_lt, nat_le, codes, ◌==◌, ◌&&◌, ◌||◌, not, is_some, if◌then◌else◌}
 use Rattle.std.specs.Option.{option_map_or}
-use Rattle.jxlm_base.specs.Decoding.{Found}
-use Rattle.jxlm_base.specs.ErrorKind.{Eof, ErrorAt}
 use Rattle.jxlm_base.specs.Grammar.{Grammar, IsExact}
 use Rattle.jxlm_base.specs.Numbers.{unpack}
 use Rattle.jxlm_base.specs.declared.bits.U32Spec.TheVariants.{Const, Offset}
 use Rattle.jxlm_base.proofs.GrammarLaws.{exact-give, exact-number, exact-either, exact-repeated, exact-flag, exact-u32}
-use Rattle.jxl_headers.proofs.HeaderLaws.{bind, exact-extensions, exact-long, exact-meant, exact-name, found_same, none_found}
-use Rattle.jxl_headers.specs.Fields.{skipped, skipped_bits, when}
+use Rattle.jxl_headers.proofs.HeaderLaws.{bind, exact-extensions, exact-long, exact-meant, exact-name, exact-skipped, exact-when}
 use Rattle.jxl_headers.specs.Images.{Image}
 use Rattle.jxl_headers.specs.declared.size.Size.{Size}
 use Rattle.jxl_headers.specs.declared.image.Animation.{Animation}
@@ -22,9 +18,6 @@ use Rattle.jxl_frames.specs.Filters.{own_floats, usual_filter, filter}
 use Rattle.jxl_frames.specs.Frames.{usual_frame, frame_header}
 use Rattle.jxl_frames.specs.declared.coding.FrameType.{FrameType}
 use Rattle.jxl_frames.specs.declared.coding.Encoding.TheVariants.{VarDct, Modular}
-
-exact-when : {X : Type 0} (there : Bool) {field : Grammar X} (usual : X) → IsExact field → IsExact (when there field usual)
-exact-when there usual field = exact-either there _ _ field (exact-give usual)
 
 exact-factor : IsExact factor
 unfolding factor
@@ -105,20 +98,6 @@ exact-ending animation t replaces =
     bind (exact-when (not (is_lf t) && not last) 0 (exact-number 2)) λ reference.
     bind (exact-when (is_reference t || is_shown t && replaces && not last && ((time == 0) || not (reference == 0))) (is_lf t) exact-flag) λ before.
     exact-give (record { duration = time; timecode = code; is_last = last; save_as_reference = reference; save_before_ct = before })
-
-skips : (bytes : List ℕ) (p n : ℕ) (found : Found (Unit {0})) (b : Bool) → nat_lt (8 * length bytes) (p + n) ≡ b →
-    if◌then◌else◌ {A = Result (Found (Unit {0})) ErrorAt} b (Err (record { error = Eof; position = Some p })) (Ok (record { value = tt; position = p + n })) ≡ Ok found →
-    (skipped_bits n).Stands bytes p found.value found.position
-skips bytes p n found true t e = absurd (none_found (record { error = Eof; position = Some p }) found e)
-skips bytes p n found false t e =
-    let same = found_same (record { value = tt; position = p + n }) found e in
-    (ltb-false (8 * length bytes) (p + n) t, ap (λ f. f.position) (sym same))
-
-exact-skipped : (n : ℕ) → IsExact (skipped n)
-exact-skipped n = record {
-  read_stands = λ bytes p found e. skips bytes p (8 * n) found (nat_lt (8 * length bytes) (p + 8 * n)) refl e;
-  stands_read = λ bytes p v q s. rw (le-ltb (8 * length bytes) (p + 8 * n) s.0, s.1) refl;
-}
 
 exact-own_floats : (n : ℕ) → IsExact (own_floats n)
 unfolding own_floats

@@ -31,7 +31,7 @@ exact-optional exact = bind exact-flag λ there. exact-when there None (bind exa
 pub exact-usual_or : {X : Type 0} {told : Grammar X} (usual : X) → IsExact told → IsExact (usual_or usual told)
 exact-usual_or {told} usual exact = bind exact-flag λ all. exact-either all (give usual) told (exact-give usual) exact
 
-exact-skipped : (n : ℕ) → IsExact (skipped n)
+pub exact-skipped : (n : ℕ) → IsExact (skipped n)
 exact-skipped n = bind (exact-number (8 * n)) λ v. exact-give tt
 
 pub exact-here : IsExact here
