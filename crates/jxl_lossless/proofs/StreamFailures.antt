@@ -5,21 +5,21 @@ use Rattle.jxlm_entropy.specs.Tokens.{entropy}
 use Rattle.jxl_headers.specs.Images.{Image}
 use Rattle.jxl_picture.specs.declared.limits.Limits.{Limits}
 use Rattle.jxl_front.specs.Fronts.{FrameAt, FrontStands}
-use Rattle.jxl_lossless.specs.Pictures.{HasBadFrame, StreamFails}
+use Rattle.jxl_lossless.specs.Pictures.{HasFront, StreamFails}
 use Rattle.jxl_lossless.specs.Saved.{FramesFail}
 use Rattle.jxl_lossless.specs.declared.error.FileError.{FileError}
 use Rattle.jxl_lossless.specs.declared.error.FileError.TheVariants as errors
 
 module _ (limits : Limits) (bytes : List ℕ) (image : Image) (saved : List FrameAt) (shown : FrameAt) (front : FrontStands (entropy decoder_at) limits bytes image saved shown) where
-  bad : (e : FileError) → FramesFail (entropy decoder_at) bytes image (saved ++ shown ∷ []) e → HasBadFrame limits bytes e
-  bad e h = record { image = image; saved = saved; shown = shown; front = front; fails = h }
+  abbrev stands : HasFront limits bytes
+  stands = record { image = image; saved = saved; shown = shown; stands = front }
 
   -- what is wrong with a frame is wrong with the codestream
   pub stream_fails : (e : FileError) → FramesFail (entropy decoder_at) bytes image (saved ++ shown ∷ []) e → StreamFails limits bytes e
-  stream_fails errors.NoMemory h = bad errors.NoMemory h
-  stream_fails (errors.Patches e) h = bad (errors.Patches e) h
-  stream_fails (errors.Start e) h = bad (errors.Start e) h
-  stream_fails (errors.Tree e) h = bad (errors.Tree e) h
-  stream_fails (errors.Samples e) h = bad (errors.Samples e) h
-  stream_fails (errors.File e) h = bad (errors.File e) h
-  stream_fails (errors.Front e) h = absurd h.fails.fails.fails
+  stream_fails errors.NoMemory h = (stands, h)
+  stream_fails (errors.Patches e) h = (stands, h)
+  stream_fails (errors.Start e) h = (stands, h)
+  stream_fails (errors.Tree e) h = (stands, h)
+  stream_fails (errors.Samples e) h = (stands, h)
+  stream_fails (errors.File e) h = (stands, h)
+  stream_fails (errors.Front e) h = absurd h.8
