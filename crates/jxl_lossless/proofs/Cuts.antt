@@ -10,7 +10,7 @@ use Rattle.jxl_toc.specs.Layouts.{Layout, section_count_of, lf_section_of, pass_
 use Rattle.jxl_toc.specs.declared.toc.TocEntry.{TocEntry}
 use Rattle.jxl_still.specs.Places.{place_of}
 use Rattle.jxl_still.specs.declared.places.Places.{Places}
-use Rattle.jxl_lossless.specs.Sections.{AreOfGroups, lent, section_of, sections_of}
+use Rattle.jxl_lossless.specs.Sections.{AreOfGroups, lent, sections_of}
 
 module _ {X : Type 0} where
   slice_get-take : (m : ℕ) (xs : List X) (i : ℕ) → i < m → slice_get (take m xs) i ≡ slice_get xs i
@@ -32,7 +32,7 @@ lent_at xs ys i j e =
 
 -- there are as many as entries of the table, and the first one is the first
 pub same_count : (xs : List (Bor (List ℕ))) (bytes : List ℕ) (entries : List TocEntry) → lent xs ≡ sections_of bytes entries → length xs ≡ length entries
-same_count xs bytes entries e = sym (length-map xs (λ (s : Bor (List ℕ)). s.now)) ∙ ap length e ∙ length-map entries (section_of bytes)
+same_count xs bytes entries e = sym (length-map xs (λ (s : Bor (List ℕ)). s.now)) ∙ ap length e ∙ length-map entries (λ (e : TocEntry). take e.size (drop e.offset bytes))
 
 pub first_of : (xs : List (Bor (List ℕ))) (bytes : List ℕ) (entries : List TocEntry) (x : Bor (List ℕ)) → lent xs ≡ sections_of bytes entries → 0 < length xs → x ≡ get_or xs 0 x → slice_get (sections_of bytes entries) 0 ≡ Some x.now
 first_of xs bytes entries x e some is =

@@ -7,6 +7,7 @@ use Rattle.jxlm_base.specs.ErrorKind.{ErrorAt, UnlessMemory}
 use Rattle.jxlm_base.specs.Grammar.{IsErrorAt}
 use Rattle.jxlm_base.specs.Grid.{Grid}
 use Rattle.jxlm_ma.proofs.Memory.{unless_so}
+use Rattle.jxlm_ma.specs.Tree.{Config}
 use Rattle.jxl_headers.specs.Images.{Image}
 use Rattle.jxl_headers.specs.declared.size.Size.{Size}
 use Rattle.jxl_frames.specs.Frames.{Frame, frame_size}
@@ -16,10 +17,11 @@ use Rattle.jxl_front.specs.Fronts.{FrameAt, layout_in}
 use Rattle.jxl_patches.specs.Patches.{Patches}
 use Rattle.jxl_patches.specs.Errors.{patch_kind}
 use Rattle.jxl_patches.specs.declared.error.PatchError.{PatchError}
+use Rattle.jxl_picture.specs.Limits.{channel_count}
 use Rattle.jxl_lossless.specs.Sections.{AreOfGroups, sections_in}
 use Rattle.jxl_patches.specs.Slots.{Slots, optional_patches}
-use Rattle.jxl_lossless.specs.Frames.{BeginsWith, IsFrame, IsMade}
-use Rattle.jxl_lossless.specs.FrameFailures.{CodedFails, FrameFails, MadeFails}
+use Rattle.jxl_lossless.specs.Frames.{FrameFails, HasPatches, HasTree, IsCut, IsFrame, SharedTree}
+use Rattle.jxl_lossless.specs.Inner.Coded.{BeginsWith, CodedFails, IsMade, MadeFails}
 use Rattle.jxl_lossless.specs.declared.error.FileError.{FileError}
 use Rattle.jxl_lossless.specs.declared.error.FileError.TheVariants as errors
 
@@ -59,19 +61,35 @@ module _ {D : Type 0} (d : Meaning D) (image : Image) (slots : Slots) (frame : F
 module _ {D : Type 0} (d : Meaning D) (image : Image) (slots : Slots) (bytes : List ℕ) (frame : FrameAt)
     (first : List ℕ) (lies : slice_get (sections_in bytes frame) 0 ≡ Some first) (places : Places) (groups : AreOfGroups (layout_in image frame.header) (sections_in bytes frame) places)
     (passes : places.passes.now.entries ≡ shifts_held frame.header.passes) where
+  abbrev cut : IsCut d image slots bytes frame
+  cut = record { first = first; lies = lies; places = places; groups = groups; passes = passes }
+
+  abbrev has_patches : (patches : Option Patches) (begin : ℕ) → BeginsWith d image slots frame.header first patches begin → HasPatches d image slots bytes frame
+  has_patches patches begin stand = record { cut = cut; patches = patches; begin = begin; stand = stand }
+
+  abbrev has_tree : (patches : Option Patches) (begin : ℕ) → BeginsWith d image slots frame.header first patches begin → (global : Option (Config D)) (q : ℕ) →
+      SharedTree d (frame_size image.size frame.header) (channel_count image) first begin global q → HasTree d image slots bytes frame
+  has_tree patches begin stand global q shared = record { after = has_patches patches begin stand; global = global; begin = q; shared = shared }
+
+  -- the channels that were made are those of the frame
   pub framed : {X : Type 0} (grids : X → List (Grid ℤ)) (before after : ℕ) (result : Result X FileError) →
       IfOk result (λ x. IsMade d image slots frame.header first places (grids x) before after) → IfOk result (λ x. IsFrame d image slots bytes frame (grids x) before after)
-  framed grids before after (Ok x) h = record { first = first; lies = lies; places = places; groups = groups; passes = passes; made = h }
+  framed grids before after (Ok x) h = record {
+    tree = has_tree h.patches h.begin h.dictionary h.coded.global h.coded.begin h.coded.shared;
+    own = h.own;
+    still = h.coded.still;
+    put = h.put;
+  }
   framed grids before after (Err e) h = tt
 
   bad : (e : FileError) → MadeFails d image slots frame.header first places e → FrameFails d image slots bytes frame e
   bad errors.NoMemory h = tt
-  bad (errors.Patches e) h = record { first = first; lies = lies; places = places; groups = groups; passes = passes; fails = h }
-  bad (errors.Start e) h = record { first = first; lies = lies; places = places; groups = groups; passes = passes; fails = h }
-  bad (errors.Tree e) h = record { first = first; lies = lies; places = places; groups = groups; passes = passes; fails = h }
-  bad (errors.Samples e) h = record { first = first; lies = lies; places = places; groups = groups; passes = passes; fails = h }
-  bad (errors.File e) h = record { first = first; lies = lies; places = places; groups = groups; passes = passes; fails = h }
-  bad (errors.Front e) h = record { first = first; lies = lies; places = places; groups = groups; passes = passes; fails = h }
+  bad (errors.Patches e) h = (cut, h)
+  bad (errors.Start e) h = (has_patches h.patches h.begin h.dictionary, h.fails)
+  bad (errors.Tree e) h = (has_patches h.patches h.begin h.dictionary, h.fails)
+  bad (errors.Samples e) h = (has_tree h.patches h.begin h.dictionary h.fails.global h.fails.begin h.fails.shared, h.fails.fails)
+  bad (errors.File e) h = absurd h.fails
+  bad (errors.Front e) h = absurd h.fails
 
   pub frame_fails : {X : Type 0} (result : Result X FileError) → IfErr result (MadeFails d image slots frame.header first places) → IfErr result (FrameFails d image slots bytes frame)
   frame_fails (Ok x) h = tt

@@ -10,9 +10,8 @@ use Rattle.jxl_frames.specs.Frames.{frame_size}
 use Rattle.jxl_picture.specs.Pictures.{AreChannels, IsWhole}
 use Rattle.jxl_front.specs.Fronts.{FrameAt}
 use Rattle.jxl_patches.specs.Slots.{Slots, no_slots, saved_in}
-use Rattle.jxl_lossless.specs.Frames.{IsFrame}
-use Rattle.jxl_lossless.specs.FrameFailures.{FrameFails}
-use Rattle.jxl_lossless.specs.Saved.{AreDecoded, AreSaved, FramesFail, IsFirstBad}
+use Rattle.jxl_lossless.specs.Frames.{FrameFails, IsFrame}
+use Rattle.jxl_lossless.specs.Saved.{AreDecoded, AreSaved, FramesFail}
 use Rattle.jxl_lossless.proofs.Channels.{whole}
 use Rattle.jxl_lossless.specs.declared.error.FileError.{FileError}
 use Rattle.jxl_lossless.specs.declared.error.FileError.TheVariants as errors
@@ -35,24 +34,21 @@ module _ {D : Type 0} (d : Meaning D) (bytes : List ℕ) (image : Image) where
   pub first_bad : (frames decoded others : List FrameAt) (f : FrameAt) (slots : Slots) (before after : ℕ) (e : FileError) → frames ≡ decoded ++ f ∷ others →
       AreSaved d bytes image decoded no_slots slots before after → FrameFails d image slots bytes f e → FramesFail d bytes image frames e
   first_bad frames decoded others f slots before after e are saved fails = by e fails where
-    bad : (e : FileError) → FrameFails d image slots bytes f e → IsFirstBad d bytes image frames e
-    bad e h = record { decoded = decoded; frame = f; others = others; are = are; slots = slots; before = before; after = after; saved = saved; fails = h }
-
     by : (e : FileError) → FrameFails d image slots bytes f e → FramesFail d bytes image frames e
     by errors.NoMemory h = tt
-    by (errors.Patches e) h = bad (errors.Patches e) h
-    by (errors.Start e) h = bad (errors.Start e) h
-    by (errors.Tree e) h = bad (errors.Tree e) h
-    by (errors.Samples e) h = bad (errors.Samples e) h
-    by (errors.File e) h = bad (errors.File e) h
-    by (errors.Front e) h = bad (errors.Front e) h
+    by (errors.Patches e) h = (decoded, f, others, are, slots, before, after, saved, h)
+    by (errors.Start e) h = (decoded, f, others, are, slots, before, after, saved, h)
+    by (errors.Tree e) h = (decoded, f, others, are, slots, before, after, saved, h)
+    by (errors.Samples e) h = (decoded, f, others, are, slots, before, after, saved, h)
+    by (errors.File e) h = (decoded, f, others, are, slots, before, after, saved, h)
+    by (errors.Front e) h = (decoded, f, others, are, slots, before, after, saved, h)
 
 module _ {D : Type 0} (d : Meaning D) (bytes : List ℕ) (image : Image) (saved : List FrameAt) (shown : FrameAt) (slots : Slots) (begin before : ℕ)
     (are : AreSaved d bytes image saved no_slots slots begin before) where
   -- the frame that is shown, after the saved ones
   pub all_decoded : (after : ℕ) (result : Result (Vec (Grid ℤ)) FileError) → IfOk result (λ v. IsFrame d image slots bytes shown v.items before after) →
       IfOk result (λ v. AreDecoded d bytes image saved shown v.items begin after)
-  all_decoded after (Ok v) h = record { slots = slots; between = before; frames = are; last = h }
+  all_decoded after (Ok v) h = (slots, before, are, h)
   all_decoded after (Err e) h = tt
 
   pub last_fails : (result : Result (Vec (Grid ℤ)) FileError) → IfErr result (FrameFails d image slots bytes shown) → IfErr result (FramesFail d bytes image (saved ++ shown ∷ []))

@@ -1,25 +1,48 @@
 -- Why a codestream has no picture, once its headers and tables stand.
-use Rattle.std.proofs.Common.{ℕ, List, [], ◌∷◌, ◌++◌}
+use Rattle.std.proofs.Common.{ℕ, List, [], ◌∷◌, ◌++◌, Result, Ok, Err}
+use Rattle.std.specs.Prelude.{IfErr, IfOk}
 use Rattle.jxlm_entropy.specs.Parse.{decoder_at}
 use Rattle.jxlm_entropy.specs.Tokens.{entropy}
+use Rattle.jxl_file.specs.Files.{HasCodestream}
 use Rattle.jxl_headers.specs.Images.{Image}
 use Rattle.jxl_picture.specs.declared.limits.Limits.{Limits}
+use Rattle.jxl_picture.specs.declared.picture.Picture.{Picture}
 use Rattle.jxl_front.specs.Fronts.{FrameAt, FrontStands}
-use Rattle.jxl_lossless.specs.Pictures.{HasBadFrame, StreamFails}
+use Rattle.jxl_lossless.specs.Pictures.{FileFails, HasFront, IsPictureOf, IsPictureOfFile, StreamFails}
 use Rattle.jxl_lossless.specs.Saved.{FramesFail}
 use Rattle.jxl_lossless.specs.declared.error.FileError.{FileError}
 use Rattle.jxl_lossless.specs.declared.error.FileError.TheVariants as errors
 
 module _ (limits : Limits) (bytes : List ℕ) (image : Image) (saved : List FrameAt) (shown : FrameAt) (front : FrontStands (entropy decoder_at) limits bytes image saved shown) where
-  bad : (e : FileError) → FramesFail (entropy decoder_at) bytes image (saved ++ shown ∷ []) e → HasBadFrame limits bytes e
-  bad e h = record { image = image; saved = saved; shown = shown; front = front; fails = h }
+  abbrev stands : HasFront limits bytes
+  stands = record { image = image; saved = saved; shown = shown; stands = front }
 
   -- what is wrong with a frame is wrong with the codestream
   pub stream_fails : (e : FileError) → FramesFail (entropy decoder_at) bytes image (saved ++ shown ∷ []) e → StreamFails limits bytes e
-  stream_fails errors.NoMemory h = bad errors.NoMemory h
-  stream_fails (errors.Patches e) h = bad (errors.Patches e) h
-  stream_fails (errors.Start e) h = bad (errors.Start e) h
-  stream_fails (errors.Tree e) h = bad (errors.Tree e) h
-  stream_fails (errors.Samples e) h = bad (errors.Samples e) h
-  stream_fails (errors.File e) h = bad (errors.File e) h
-  stream_fails (errors.Front e) h = absurd h.fails.fails.fails
+  stream_fails errors.NoMemory h = (stands, h)
+  stream_fails (errors.Patches e) h = (stands, h)
+  stream_fails (errors.Start e) h = (stands, h)
+  stream_fails (errors.Tree e) h = (stands, h)
+  stream_fails (errors.Samples e) h = (stands, h)
+  stream_fails (errors.File e) h = (stands, h)
+  stream_fails (errors.Front e) h = absurd h.8
+
+module _ (limits : Limits) (file stream : List ℕ) (found : HasCodestream file (Ok stream)) where
+  -- the picture of the codestream of a file is that of the file
+  pub of_file : (before after : ℕ) (result : Result Picture FileError) → IfOk result (λ p. IsPictureOf limits stream p before after) → IfOk result (λ p. IsPictureOfFile limits file p before after)
+  of_file before after (Ok p) h = record { stream = stream; found = found; is = h }
+  of_file before after (Err e) h = tt
+
+  fails : (e : FileError) → StreamFails limits stream e → FileFails limits file e
+  fails errors.NoMemory h = (stream, found, h)
+  fails (errors.Patches e) h = (stream, found, h)
+  fails (errors.Start e) h = (stream, found, h)
+  fails (errors.Tree e) h = (stream, found, h)
+  fails (errors.Samples e) h = (stream, found, h)
+  fails (errors.Front e) h = (stream, found, h)
+  fails (errors.File e) h = absurd h.1.8
+
+  -- and what is wrong with it is wrong with the file
+  pub file_fails : (result : Result Picture FileError) → IfErr result (StreamFails limits stream) → IfErr result (FileFails limits file)
+  file_fails (Ok p) h = tt
+  file_fails (Err e) h = fails e h

@@ -1,7 +1,10 @@
--- The samples of a frame of a codestream (ISO/IEC 18181-1, frame: sections, LF global).
-use Rattle.std.specs.Prelude.{◌≡◌, ℕ, pos, ℤ, List, ◌++◌, length, map, replicate, slice_get, Bool, MatchBool, Option, Some, None}
-use Rattle.std.specs.Int.{Width, w32}
+-- The samples of a frame of a codestream (ISO/IEC 18181-1, frame: sections, LF global), stage by stage, and what fails at each:
+-- what is not supported is told before what is wrong with samples.
+use Rattle.std.specs.Prelude.{◌≡◌, ℕ, ◌⊎◌, pos, ℤ, List, ◌++◌, length, map, replicate, slice_get, Bool, true, MatchBool, Option, Some, None}
+use Rattle.std.specs.Int.{w32}
 use Rattle.jxlm_base.specs.Decoding.{Meaning}
+use Rattle.jxlm_base.specs.ErrorKind.{ErrorKind, UnlessMemory, kind_of}
+use Rattle.jxlm_base.specs.Grammar.{Grammar, IsErrorAt}
 use Rattle.jxlm_base.specs.Grid.{Grid}
 use Rattle.jxlm_transform.specs.Channels.{ChannelList, image_list}
 use Rattle.jxlm_transform.specs.Params.{sized, with_tables}
@@ -9,21 +12,24 @@ use Rattle.jxlm_transform.specs.declared.param.ChannelShift.TheVariants.{Shifts}
 use Rattle.jxlm_transform.specs.declared.param.ModularChannelParams.{ModularChannelParams}
 use Rattle.jxlm_transform.specs.declared.param.PaletteTables.TheVariants.{OfDeltasToo}
 use Rattle.jxlm_ma.specs.Tree.{Config}
-use Rattle.jxlm_ma.specs.TreeReading.{IsTreeAt}
+use Rattle.jxlm_ma.specs.TreeReading.{IsTooDeep, IsTreeAt, listing_at}
 use Rattle.jxl_headers.specs.Images.{Image}
 use Rattle.jxl_headers.specs.declared.channel.ExtraChannel.{ExtraChannel}
 use Rattle.jxl_headers.specs.declared.size.Size.{Size}
-use Rattle.jxl_frames.specs.Frames.{Frame, frame_size}
+use Rattle.jxl_frames.specs.Frames.{frame_size}
 use Rattle.jxl_frames.specs.Passes.{shifts_held}
 use Rattle.jxl_toc.specs.Starts.{section_start, tree_limit}
+use Rattle.jxl_patches.specs.Errors.{patch_kind}
 use Rattle.jxl_patches.specs.Patches.{Patches}
+use Rattle.jxl_patches.specs.Slots.{ArePut, Slots, optional_patches}
 use Rattle.jxl_picture.specs.Limits.{channel_count}
 use Rattle.jxl_picture.specs.Pictures.{colour_count}
-use Rattle.jxl_still.specs.Stills.{IsStill}
+use Rattle.jxl_still.specs.Stills.{IsStill, StillFails}
 use Rattle.jxl_still.specs.declared.places.Places.{Places}
-use Rattle.jxl_front.specs.Fronts.{FrameAt, StandsAt, layout_in}
+use Rattle.jxl_front.specs.Fronts.{FailsAt, FrameAt, StandsAt, layout_in}
 use Rattle.jxl_lossless.specs.Sections.{AreOfGroups, sections_in}
-use Rattle.jxl_patches.specs.Slots.{ArePut, Slots, optional_patches}
+use Rattle.jxl_lossless.specs.declared.error.FileError.{FileError}
+use Rattle.jxl_lossless.specs.declared.error.FileError.TheVariants as errors
 
 -- a channel of this shift in a picture of these sides; in a file the table of a palette has columns for deltas too
 abbrev pub in_file : ℕ → ℕ → ℕ → ModularChannelParams
@@ -45,36 +51,56 @@ pub record SharedTree {D : Type 0} (d : Meaning D) (size : Size) (n : ℕ) (firs
   pub start : StandsAt section_start first p there begin
   pub tree : MatchBool there ((tree : Config D) × (global ≡ Some tree) × IsTreeAt d first (tree_limit size n) 2048 begin tree q) ((global ≡ None) × (q ≡ begin))
 
--- These are the channels of a frame of this size, by its first section, which has the shared tree from bit p on, and by those
--- of its groups: they have the samples that the sections code.
-pub record IsCoded {S D : Type 0} (d : Meaning D) (w : Width) (to_int : S → ℤ) (zero : S) (image : Image) (size : Size) (group_dim : ℕ) (first : List ℕ) (p : ℕ) (places : Places) (grids : List (Grid ℤ)) (before after : ℕ) : Type 0 where
-  pub global : Option (Config D)
-  pub begin : ℕ
-  pub shared : SharedTree d size (channel_count image) first p global begin
-  pub still : IsStill d w to_int zero global (channels_given image size) group_dim image.samples.depth.bits first begin places grids before after
+-- such a tree follows there, which has this error
+abbrev pub TreeFails : {D : Type 0} → Meaning D → Size → ℕ → List ℕ → ℕ → ErrorKind → Type 0
+TreeFails d size n first p error = (begin : ℕ) × StandsAt section_start first p true begin
+    × (q : ℕ) × (IsErrorAt (listing_at d first (tree_limit size n) begin) error q ⊎ IsTooDeep d first (tree_limit size n) 2048 begin error q)
 
-module _ {D : Type 0} (d : Meaning D) (image : Image) (slots : Slots) where
-  -- The first section of a frame begins with these patches of the frames that the slots hold, or with none, up to bit q.
-  abbrev pub BeginsWith : Frame → List ℕ → Option Patches → ℕ → Type 0
-  BeginsWith frame first patches q =
-      StandsAt (optional_patches d frame.coding.flags.patches (frame_size image.size frame) (length image.extra) slots.sizes) first 0 patches q
-
-  -- These are the channels of a frame by its first section and those of its groups: with samples of 32 bits, into which its
-  -- patches are put.
-  pub record IsMade (frame : Frame) (first : List ℕ) (places : Places) (grids : List (Grid ℤ)) (before after : ℕ) : Type 0 where
-    pub patches : Option Patches
-    pub begin : ℕ
-    pub dictionary : BeginsWith frame first patches begin
-    pub own : List (Grid ℤ)
-    pub coded : IsCoded d w32 (λ (v : ℤ). v) (pos 0) image (frame_size image.size frame) frame.group_dim first begin places own before after
-    pub put : ArePut slots (colour_count image) patches own grids
-
-  -- These are the channels of a frame of a codestream: its sections lie where the table says, its passes hold the shifts that
-  -- the header says, and they make them.
-  pub record IsFrame (bytes : List ℕ) (frame : FrameAt) (grids : List (Grid ℤ)) (before after : ℕ) : Type 0 where
+module _ {D : Type 0} (d : Meaning D) (image : Image) (slots : Slots) (bytes : List ℕ) (frame : FrameAt) where
+  -- The sections lie where the table says, and the passes hold the shifts that the header says.
+  pub record IsCut : Type 0 where
     pub first : List ℕ
     pub lies : slice_get (sections_in bytes frame) 0 ≡ Some first
     pub places : Places
     pub groups : AreOfGroups (layout_in image frame.header) (sections_in bytes frame) places
     pub passes : places.passes.now.entries ≡ shifts_held frame.header.passes
-    pub made : IsMade frame.header first places grids before after
+
+  -- how large the frame is
+  abbrev pub sides : Size
+  sides = frame_size image.size frame.header
+
+  -- what its first section begins with: patches of the frames that the slots hold, or none
+  abbrev pub dictionary : Grammar (Option Patches)
+  dictionary = optional_patches d frame.header.coding.flags.patches sides (length image.extra) slots.sizes
+
+  -- They stand there,
+  pub record HasPatches : Type 0 where
+    pub cut : IsCut
+    pub patches : Option Patches
+    pub begin : ℕ
+    pub stand : StandsAt dictionary cut.first 0 patches begin
+
+  -- and after them the shared tree, if there is one.
+  pub record HasTree : Type 0 where
+    pub after : HasPatches
+    pub global : Option (Config D)
+    pub begin : ℕ
+    pub shared : SharedTree d sides (channel_count image) after.cut.first after.begin global begin
+
+  -- These are the channels of the frame: with samples of 32 bits, which the sections code, and into which its patches are put.
+  pub record IsFrame (grids : List (Grid ℤ)) (before after : ℕ) : Type 0 where
+    pub tree : HasTree
+    pub own : List (Grid ℤ)
+    pub still : IsStill d w32 (λ (v : ℤ). v) (pos 0) tree.global (channels_given image sides) frame.header.group_dim image.samples.depth.bits
+        tree.after.cut.first tree.begin tree.after.cut.places own before after
+    pub put : ArePut slots (colour_count image) tree.after.patches own grids
+
+  -- what each error says: up to which stage all stands, and what fails there
+  abbrev pub FrameFails : FileError → Type 0
+  FrameFails (errors.Patches e) = (s : IsCut) × UnlessMemory (patch_kind e) (FailsAt dictionary s.first 0 (patch_kind e))
+  FrameFails (errors.Start e) = (s : HasPatches) × FailsAt section_start s.cut.first s.begin (kind_of e)
+  FrameFails (errors.Tree e) = (s : HasPatches) × UnlessMemory (kind_of e) (TreeFails d sides (channel_count image) s.cut.first s.begin (kind_of e))
+  FrameFails (errors.Samples e) = (s : HasTree) × StillFails {S = ℤ} d w32 (λ (v : ℤ). v) (pos 0) s.global (channels_given image sides) frame.header.group_dim
+      image.samples.depth.bits s.after.cut.first s.begin s.after.cut.places e
+  FrameFails errors.NoMemory = Unit {0}
+  FrameFails e = ⊥

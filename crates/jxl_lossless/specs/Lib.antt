@@ -1,5 +1,5 @@
 pub mod Sections
 pub mod Frames
-pub mod FrameFailures
 pub mod Saved
 pub mod Pictures
+pub mod Inner

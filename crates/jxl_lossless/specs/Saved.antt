@@ -8,8 +8,7 @@ use Rattle.jxl_frames.specs.Frames.{frame_size}
 use Rattle.jxl_picture.specs.Pictures.{AreChannels}
 use Rattle.jxl_front.specs.Fronts.{FrameAt}
 use Rattle.jxl_patches.specs.Slots.{Slots, no_slots, saved_in}
-use Rattle.jxl_lossless.specs.Frames.{IsFrame}
-use Rattle.jxl_lossless.specs.FrameFailures.{FrameFails}
+use Rattle.jxl_lossless.specs.Frames.{FrameFails, IsFrame}
 use Rattle.jxl_lossless.specs.declared.error.FileError.{FileError}
 use Rattle.jxl_lossless.specs.declared.error.FileError.TheVariants as errors
 
@@ -28,25 +27,12 @@ module _ {D : Type 0} (d : Meaning D) (bytes : List ℕ) (image : Image) where
       × AreSaved fs (saved_in old f.header.ending.save_as_reference (frame_size image.size f.header) grids) new between after
 
   -- the saved frames are decoded, and after them these are the channels of the frame that is shown
-  pub record AreDecoded (saved : List FrameAt) (shown : FrameAt) (grids : List (Grid ℤ)) (before after : ℕ) : Type 0 where
-    pub slots : Slots
-    pub between : ℕ
-    pub frames : AreSaved saved no_slots slots before between
-    pub last : IsFrame d image slots bytes shown grids between after
+  abbrev pub AreDecoded : List FrameAt → FrameAt → List (Grid ℤ) → ℕ → ℕ → Type 0
+  AreDecoded saved shown grids before after =
+      (slots : Slots) × (between : ℕ) × AreSaved saved no_slots slots before between × IsFrame d image slots bytes shown grids between after
 
-  -- the frames before this one are decoded, and it has this error
-  pub record IsFirstBad (frames : List FrameAt) (error : FileError) : Type 0 where
-    pub decoded : List FrameAt
-    pub frame : FrameAt
-    pub others : List FrameAt
-    pub are : frames ≡ decoded ++ frame ∷ others
-    pub slots : Slots
-    pub before : ℕ
-    pub after : ℕ
-    pub saved : AreSaved decoded no_slots slots before after
-    pub fails : FrameFails d image slots bytes frame error
-
-  -- what each error says of the frames of a codestream
+  -- what each error says of the frames of a codestream: those before one are decoded, which has this error
   abbrev pub FramesFail : List FrameAt → FileError → Type 0
   FramesFail frames errors.NoMemory = Unit {0}
-  FramesFail frames e = IsFirstBad frames e
+  FramesFail frames e = (decoded : List FrameAt) × (frame : FrameAt) × (others : List FrameAt) × (frames ≡ decoded ++ frame ∷ others)
+      × (slots : Slots) × (before : ℕ) × (after : ℕ) × AreSaved decoded no_slots slots before after × FrameFails d image slots bytes frame e

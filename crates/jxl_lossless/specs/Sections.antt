@@ -7,12 +7,9 @@ use Rattle.jxl_still.specs.Places.{place_of}
 use Rattle.jxl_still.specs.declared.places.Places.{Places}
 use Rattle.jxl_front.specs.Fronts.{FrameAt}
 
--- the bytes of a section of a codestream, and of all sections, by their numbers
-abbrev pub section_of : List ℕ → TocEntry → List ℕ
-section_of bytes entry = take entry.size (drop entry.offset bytes)
-
+-- the bytes of the sections of a codestream, by their numbers
 abbrev pub sections_of : List ℕ → List TocEntry → List (List ℕ)
-sections_of bytes entries = map (section_of bytes) entries
+sections_of bytes entries = map (λ e. take e.size (drop e.offset bytes)) entries
 
 -- those of a frame of a codestream, which begins at a byte of its own
 abbrev pub sections_in : List ℕ → FrameAt → List (List ℕ)

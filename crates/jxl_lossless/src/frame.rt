@@ -13,9 +13,9 @@ ghost use Rattle.jxl_still.specs.Places.{AreUsable};
 ghost use Rattle.jxlm_transform.specs.Channels.{AreGridsOf};
 ghost use Rattle.jxlm_transform.specs.Params.{IsGroupDim};
 ghost use Rattle.jxl_patches.specs.SavedParts.{slots_of};
-ghost use Rattle.jxl_lossless.specs.Frames.{IsCoded, IsFrame, IsMade, channels_given, in_file, of_file};
+ghost use Rattle.jxl_lossless.specs.Frames.{FrameFails, IsFrame, channels_given, in_file, of_file};
 ghost use Rattle.jxl_lossless.specs.Saved.{HoldChannels};
-ghost use Rattle.jxl_lossless.specs.FrameFailures.{CodedFails, FrameFails, MadeFails};
+ghost use Rattle.jxl_lossless.specs.Inner.Coded.{CodedFails, IsCoded, IsMade, MadeFails};
 
 use crate::error::FileError;
 use crate::sections::{of_groups, sections};

@@ -3,7 +3,7 @@
 ghost use Rattle.std.specs.Prelude.{◌≡◌, IfErr, IfOk};
 ghost use Rattle.jxlm_base.specs.Bits.{bytes_of, position_of};
 ghost use Rattle.jxl_lossless.specs.Frames.{SharedTree};
-ghost use Rattle.jxl_lossless.specs.FrameFailures.{StartFails};
+ghost use Rattle.jxl_lossless.specs.Inner.Coded.{StartFails};
 
 use crate::error::FileError;
 use jxl_headers::size::Size;

@@ -8,8 +8,7 @@ use Rattle.jxlm_cut.specs.declared.part.SectionPart.{SectionPart}
 use Rattle.jxl_modular.specs.declared.sections.Section.{Section}
 use Rattle.jxlm_sections.proofs.PartLists.{IsAmong, among_filter, among_range}
 use Rattle.jxl_still.specs.Places.{IsOfGroup, held}
-use Rattle.jxl_still.specs.Inner.Listing.{AddingFails, AreAdded, IsPlaced}
-use Rattle.jxl_still.specs.StillFailures.{Lacks}
+use Rattle.jxl_still.specs.Inner.Listing.{AddingFails, AreAdded, IsPlaced, Lacks}
 use Rattle.jxl_still.specs.declared.error.FrameError.{FrameError}
 use Rattle.jxl_still.specs.declared.error.FrameError.TheVariants as errors
 use Rattle.jxl_still.specs.declared.places.Places.{Places}

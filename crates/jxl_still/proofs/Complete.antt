@@ -28,7 +28,8 @@ use Rattle.jxl_modular.specs.declared.sections.Section.{Section}
 use Rattle.jxlm_sections.specs.CutPicture.{lf_groups}
 use Rattle.jxlm_sections.proofs.PartLists.{AllDiffer, Differ, IsAmong, among_filter, among_left, among_range, among_right, any_section, differ_append, differ_filter, differ_range, each_of_range, each_section, sections_unlike}
 use Rattle.jxl_still.proofs.Passes.{all_passes, among_one, differ_passes}
-use Rattle.jxl_still.specs.Places.{groups_in_order, low_parts, parts_of_pass, parts_of_passes}
+use Rattle.jxl_still.specs.Inner.Parts.{low_parts, parts_of_pass, parts_of_passes}
+use Rattle.jxl_still.specs.Places.{groups_in_order}
 
 -- ---- each shift below 3 is held by a pass, whose number is counted
 

@@ -1,7 +1,7 @@
 -- A frame from the sections that were listed, or why there is none.
 use Rattle.std.proofs.Common.{◌≡◌, IsTrue, ℕ, Bool, true, false, ℤ, List, [], ◌∷◌, map, Option, is_some, Result, Ok, sym, ap, ◌∙◌, subst}
 use Rattle.std.specs.Int.{Width}
-use Rattle.std.specs.Prelude.{◌&&◌, ◌||◌}
+use Rattle.std.specs.Prelude.{◌&&◌, ◌||◌, Any, None}
 use Rattle.std.specs.List.{All, list_any}
 use Rattle.jxlm_base.specs.Bits.{bytes_of, position_of}
 use Rattle.jxlm_base.specs.Decoding.{Meaning}
@@ -18,21 +18,20 @@ use Rattle.jxlm_transform.specs.Params.{IsValidChannel}
 use Rattle.jxlm_transform.specs.declared.param.ModularChannelParams.{ModularChannelParams}
 use Rattle.jxlm_cut.proofs.Steps.{IsPictured}
 use Rattle.jxlm_cut.specs.Cutting.{can_cut}
+use Rattle.jxlm_cut.specs.declared.part.SectionPart.{SectionPart}
 use Rattle.jxlm_cut.specs.Passes.{can_group, one_picture}
 use Rattle.jxl_modular.specs.Fresh.{fresh}
 use Rattle.jxl_modular.specs.Image.{Image, coded_list}
-use Rattle.jxl_modular.specs.Parsing.{IsStartAt}
 use Rattle.jxl_modular.specs.Sections.{AreDecoded, IsComplete, SectionsFit, SectionsLeave, SectionsStop}
 use Rattle.jxl_modular.specs.declared.sections.Section.{Section}
 use Rattle.jxlm_sections.proofs.Openings.{opened_steps}
 use Rattle.jxlm_sections.proofs.Pictures.{still_picture}
 use Rattle.jxlm_sections.proofs.Whole.{all_whole}
 use Rattle.jxlm_cut.specs.declared.pass.Pass.{Pass}
-use Rattle.jxl_still.specs.Places.{groups_in_order, own_passes}
+use Rattle.jxl_still.specs.Places.{groups_in_order, held, own_passes}
 use Rattle.jxl_still.proofs.Complete.{complete, exist, unlike}
-use Rattle.jxl_still.specs.Stills.{IsStill, section_is_weighted, weighted_at}
-use Rattle.jxl_still.specs.StillFailures.{HeaderStands, StillFails}
-use Rattle.jxl_still.specs.Inner.Listing.{AreListed, ListingFails, SamplesStop}
+use Rattle.jxl_still.specs.Stills.{CanDecode, HasSections, HeaderStands, IsStill, StillFails, section_is_weighted, weighted_at}
+use Rattle.jxl_still.specs.Inner.Listing.{AreListed, Lacks, ListingFails, SamplesStop}
 use Rattle.jxl_still.specs.Inner.Openings.{OpenFails, Opens}
 use Rattle.jxl_still.specs.declared.error.FrameError.{FrameError}
 use Rattle.jxl_still.specs.declared.error.FrameError.TheVariants as errors
@@ -66,8 +65,20 @@ module _ {S D : Type 0} (d : Meaning D) (w : Width) (to_int : S → ℤ) (zero :
   abbrev Stands : Type 0
   Stands = HeaderStands {S = S} d w to_int zero global given group_dim bit_depth bytes p places
 
+  abbrev Has : Type 0
+  Has = HasSections {S = S} d w to_int zero global given group_dim bit_depth bytes p places
+
+  abbrev Can : Type 0
+  Can = CanDecode {S = S} d w to_int zero global given group_dim bit_depth bytes p places
+
   abbrev Made : List (Grid ℤ) → ℕ → ℕ → Type 0
   Made = IsStill {S = S} d w to_int zero global given group_dim bit_depth bytes p places
+
+  -- one of these parts has no section
+  none_for : (parts : List SectionPart) → Lacks places parts → Any (λ part. held places part ≡ None) parts
+  none_for parts lacks =
+      let (k, part, lt, is, same) = lacks.asked in
+      (k, part, lt, is, subst (λ q. held places q ≡ None) (sym same) lacks.none)
 
   -- opening the image fails
   pub open_fails : (e : FrameError) → OpenFails d global given bytes p e → Fails e
@@ -92,8 +103,9 @@ module _ {S D : Type 0} (d : Meaning D) (w : Width) (to_int : S → ℤ) (zero :
 
     -- listing the sections fails
     pub list_fails : (e : FrameError) → ListingFails places image e → Fails e
-    list_fails errors.NoGroups h = record { stands = stands; sideless = subst (λ (i : Image S D). ListingFails places i errors.NoGroups) o.is h }
-    list_fails errors.NoSection h = record { stands = stands; lacks = subst (λ (i : Image S D). ListingFails places i errors.NoSection) o.is h }
+    list_fails errors.NoGroups h = (stands, subst (λ (i : Image S D). ListingFails places i errors.NoGroups) o.is h)
+    list_fails errors.NoSection h =
+        (stands, none_for (groups_in_order begun passes) (subst (λ (i : Image S D). ListingFails places i errors.NoSection) o.is h))
     list_fails errors.NoMemory h = tt
     list_fails (errors.Header e) h = absurd h
     list_fails errors.WeightedPalette h = absurd h
@@ -142,38 +154,43 @@ module _ {S D : Type 0} (d : Meaning D) (w : Width) (to_int : S → ℤ) (zero :
       weighted_are : list_any section_is_weighted sections ≡ list_any section_is_weighted more
       weighted_are = ap (list_any section_is_weighted) sections_are ∙ ap (λ b. (b && weighted_at (bytes_of first.bits) (position_of first.bits)) || list_any section_is_weighted more) listed.of_global.nested
 
-      -- the section of a group has such a palette
-      pub weighted_fail : list_any section_is_weighted sections ≡ true → Fails errors.GroupWeightedPalette
-      weighted_fail some = record {
+      -- each group has a section
+      abbrev has : Has
+      has = record {
         stands = stands;
         cut = can_be_cut;
         groups = more;
         parts = parts_are;
         of_groups = listed.added.groups;
-        some = sym weighted_are ∙ some;
       }
+
+      -- and none has such a palette
+      abbrev can : list_any section_is_weighted sections ≡ false → Can
+      can plain = record {
+        has = has;
+        plain = sym weighted_are ∙ plain;
+        first = first;
+        bytes_are = first_bytes;
+        goes_on = first_place;
+        of_global = listed.of_global;
+      }
+
+      -- the section of a group has such a palette
+      pub weighted_fail : list_any section_is_weighted sections ≡ true → Fails errors.GroupWeightedPalette
+      weighted_fail some = (has, sym weighted_are ∙ some)
 
       -- decoding them fails
       pub samples_fail : (e : FrameError) → list_any section_is_weighted sections ≡ false → SamplesStop d w to_int zero image passes global sections e → Fails e
       samples_fail (errors.Samples e) plain h =
           let (left, before, after, stop) = h in
-          always_so (kind_of e) (record {
-            stands = stands;
-            first = first;
-            bytes_are = first_bytes;
-            goes_on = first_place;
-            of_global = listed.of_global;
-            cut = can_be_cut;
-            groups = more;
-            parts = parts_are;
-            of_groups = listed.added.groups;
-            plain_groups = sym weighted_are ∙ plain;
-            left = left;
-            before = before;
-            after = after;
-            stop = subst (λ (i : Image S D). SectionsStop d w to_int zero i passes global false (first ∷ more) e i.store left before after) o.is
-                (subst (λ ss. SectionsStop d w to_int zero image passes global false ss e image.store left before after) sections_are stop);
-          })
+          always_so (kind_of e) (
+            can plain,
+            left,
+            before,
+            after,
+            subst (λ (i : Image S D). SectionsStop d w to_int zero i passes global false (first ∷ more) e i.store left before after) o.is
+                (subst (λ ss. SectionsStop d w to_int zero image passes global false ss e image.store left before after) sections_are stop),
+          )
       samples_fail (errors.Header e) plain h = absurd h
       samples_fail errors.WeightedPalette plain h = absurd h
       samples_fail errors.NoGroups plain h = absurd h
@@ -184,18 +201,7 @@ module _ {S D : Type 0} (d : Meaning D) (w : Width) (to_int : S → ℤ) (zero :
       -- or there is the frame
       pub made : list_any section_is_weighted sections ≡ false → (grids : List (Grid ℤ)) (before after : ℕ) → AreDecoded d w to_int zero image passes global sections grids before after → Made grids before after
       made plain grids before after done = record {
-        head = o.head;
-        config = o.config;
-        first = first;
-        bytes_are = first_bytes;
-        plain = o.plain;
-        start = subst (λ n. IsStartAt d global bytes given p o.head o.config n) (sym first_place) o.start;
-        cut = can_be_cut;
-        of_global = listed.of_global;
-        groups = more;
-        parts = parts_are;
-        of_groups = listed.added.groups;
-        plain_groups = sym weighted_are ∙ plain;
+        can = can plain;
         decoded = subst (λ (i : Image S D). AreDecoded d w to_int zero i passes global (first ∷ more) grids before after) o.is
             (subst (λ ss. AreDecoded d w to_int zero image passes global ss grids before after) sections_are done);
       }
@@ -203,4 +209,4 @@ module _ {S D : Type 0} (d : Meaning D) (w : Width) (to_int : S → ℤ) (zero :
   -- whose grids have the sides of the channels
   pub still_sides : (grids : List (Grid ℤ)) (before after : ℕ) → Made grids before after → AreGridsOf given.channels grids
   still_sides grids before after s =
-      chain_sides w bit_depth s.head.coded.steps (record { channels = given.channels; nb_meta = 0 }) grids s.decoded.coded s.decoded.only.chain
+      chain_sides w bit_depth s.can.has.stands.head.coded.steps (record { channels = given.channels; nb_meta = 0 }) grids s.decoded.coded s.decoded.only.chain

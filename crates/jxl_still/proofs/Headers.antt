@@ -14,8 +14,7 @@ use Rattle.jxl_modular.specs.Image.{Image}
 use Rattle.jxl_modular.specs.Parsing.{ParseGives, image_of}
 use Rattle.jxl_modular.specs.declared.root.Modular.{Modular}
 use Rattle.jxl_still.specs.Stills.{weighted_at}
-use Rattle.jxl_still.specs.StillFailures.{HeaderFails}
-use Rattle.jxl_still.specs.Inner.Openings.{Opens}
+use Rattle.jxl_still.specs.Inner.Openings.{HeaderFails, Opens}
 
 pub list_any-map : {X Y : Type 0} (p : Y → Bool) (f : X → Y) (xs : List X) → list_any p (map f xs) ≡ list_any (λ x. p (f x)) xs
 list_any-map p f [] = refl

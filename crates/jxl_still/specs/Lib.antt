@@ -1,4 +1,3 @@
 pub mod Places
 pub mod Stills
-pub mod StillFailures
 pub mod Inner

@@ -9,8 +9,7 @@ ghost use Rattle.jxlm_cut.specs.Passes.{one_picture, passes_of};
 ghost use Rattle.jxl_modular.specs.Image.{image_grids};
 ghost use Rattle.jxl_modular.specs.SameButCells.{SameButCells};
 ghost use Rattle.jxl_modular.specs.Sections.{AreDecoded, IsComplete, SectionsFit};
-ghost use Rattle.jxl_still.specs.Stills.{IsStill};
-ghost use Rattle.jxl_still.specs.StillFailures.{StillFails};
+ghost use Rattle.jxl_still.specs.Stills.{IsStill, StillFails};
 ghost use Rattle.jxl_still.specs.Places.{AreUsable};
 ghost use Rattle.jxl_still.specs.Inner.Listing.{SamplesStop};
 

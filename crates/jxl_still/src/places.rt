@@ -33,8 +33,9 @@ pub struct Places<'a, 't> {
 
 impl<'a, 't> Places<'a, 't> {
     ghost use Rattle.jxl_modular.specs.GroupParts.{image_of, pass_count, passes_in, section_part};
-    ghost use Rattle.jxl_still.specs.Places.{AreUsable, held, low_parts, own_passes, parts_of_pass, parts_of_passes};
+    ghost use Rattle.jxl_still.specs.Places.{AreUsable, held, own_passes};
     ghost use Rattle.jxl_still.specs.Inner.Listing.{AddingFails, AreAdded, IsPlaced};
+    ghost use Rattle.jxl_still.specs.Inner.Parts.{low_parts, parts_of_pass, parts_of_passes};
 
     /// Whether there are at most 2^24 of each, so that the indices of their streams are numbers of 32 bits, and the
     /// passes can cut an image ([`can_group`](jxlm_cut::pass::can_group)).

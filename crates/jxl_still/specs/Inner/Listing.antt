@@ -1,5 +1,5 @@
 -- Sections that were found.
-use Rattle.std.specs.Prelude.{◌≡◌, ℕ, ℤ, List, [], ◌∷◌, ◌++◌, map, false, IsFalse, Option}
+use Rattle.std.specs.Prelude.{◌≡◌, ℕ, ℤ, List, [], ◌∷◌, ◌++◌, map, Any, false, IsFalse, Option, None}
 use Rattle.std.specs.Int.{Width}
 use Rattle.jxlm_base.specs.Decoding.{Meaning}
 use Rattle.jxlm_base.specs.Grid.{Grid}
@@ -13,8 +13,7 @@ use Rattle.jxlm_cut.specs.declared.pass.Pass.{Pass}
 use Rattle.jxl_modular.specs.Image.{Image, coded_list}
 use Rattle.jxl_modular.specs.declared.sections.Section.{Section}
 use Rattle.jxlm_sections.specs.Splitting.{IsOfGlobal}
-use Rattle.jxl_still.specs.Places.{IsOfGroup, groups_in_order, own_passes}
-use Rattle.jxl_still.specs.StillFailures.{Lacks}
+use Rattle.jxl_still.specs.Places.{IsOfGroup, groups_in_order, held, own_passes}
 use Rattle.jxl_still.specs.declared.error.FrameError.{FrameError}
 use Rattle.jxl_still.specs.declared.error.FrameError.TheVariants as errors
 use Rattle.jxl_still.specs.declared.places.Places.{Places}
@@ -30,6 +29,12 @@ pub record AreAdded (x : Places) (ps : List SectionPart) (before after : List Se
   pub in_order : after ≡ before ++ more
   pub parts_are : map (λ s. s.part) more ≡ ps
   pub groups : All (IsOfGroup x) more
+
+-- one of these parts has no section
+pub record Lacks (x : Places) (ps : List SectionPart) : Type 0 where
+  pub part : SectionPart
+  pub asked : Any (λ q. q ≡ part) ps
+  pub none : held x part ≡ None
 
 abbrev pub AddingFails : Places → List SectionPart → FrameError → Type 0
 AddingFails x ps errors.NoSection = Lacks x ps

@@ -1,17 +1,21 @@
 -- What reading the header of a frame's image gives, at a bit position.
-use Rattle.std.specs.Prelude.{◌≡◌, ℕ, List, true, false, Option}
+use Rattle.std.specs.Prelude.{◌≡◌, ℕ, ◌⊎◌, List, true, false, Option}
 use Rattle.jxlm_base.specs.Decoding.{Meaning}
-use Rattle.jxlm_base.specs.ErrorKind.{UnlessMemory, kind_of}
+use Rattle.jxlm_base.specs.ErrorKind.{ErrorKind, UnlessMemory, kind_of}
+use Rattle.jxlm_base.specs.Grammar.{IsErrorAt}
 use Rattle.jxlm_transform.specs.Channels.{ChannelList}
 use Rattle.jxlm_header.specs.Opening.{Opening}
 use Rattle.jxlm_ma.specs.Tree.{Config}
 use Rattle.jxl_modular.specs.Fresh.{fresh}
 use Rattle.jxl_modular.specs.Image.{Image}
-use Rattle.jxl_modular.specs.Parsing.{IsStartAt}
+use Rattle.jxl_modular.specs.Parsing.{IsStartAt, IsTreeErrorAt, opened}
 use Rattle.jxl_still.specs.Stills.{weighted_at}
-use Rattle.jxl_still.specs.StillFailures.{HeaderFails}
 use Rattle.jxl_still.specs.declared.error.FrameError.{FrameError}
 use Rattle.jxl_still.specs.declared.error.FrameError.TheVariants as errors
+
+-- at bit p a Modular header or its tree has this error
+abbrev pub HeaderFails : {D : Type 0} → Meaning D → Option (Config D) → ChannelList → List ℕ → ℕ → ErrorKind → Type 0
+HeaderFails d global given bytes p error = (q : ℕ) × (IsErrorAt (opened global bytes given p) error q ⊎ IsTreeErrorAt d global bytes given p error q)
 
 module _ {D : Type 0} (d : Meaning D) (global : Option (Config D)) (given : ChannelList) (bytes : List ℕ) (p : ℕ) where
   -- the image whose header stands there, up to bit q

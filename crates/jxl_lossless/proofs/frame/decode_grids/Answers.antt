@@ -6,7 +6,8 @@ use Rattle.jxlm_base.specs.Regions.{store_meanings}
 use Rattle.jxlm_transform.specs.Channels.{AreGridsOf}
 use Rattle.jxl_headers.specs.Images.{image_of}
 use Rattle.jxl_modular.specs.Image.{grids_given}
-use Rattle.jxl_lossless.specs.Frames.{IsCoded, channels_given}
+use Rattle.jxl_lossless.specs.Frames.{channels_given}
+use Rattle.jxl_lossless.specs.Inner.Coded.{IsCoded}
 use Rattle.jxl_lossless.proofs.Channels.{same_grids}
 use Rattle.jxl_lossless.proofs.frame.decode_grids.Goals as goal
 

@@ -1,5 +1,5 @@
 use Rattle.std.specs.Int.{w32}
-use Rattle.jxl_lossless.specs.FrameFailures.{CodedFails}
+use Rattle.jxl_lossless.specs.Inner.Coded.{CodedFails}
 use Rattle.std.proofs.Common.{ℕ, ℤ, pos, ◌≡◌, ◌∙◌, List, length, subst, sym, true, rules}
 use Rattle.std.specs.Option.{option_map}
 use Rattle.std.proofs.lemmas.List.{with_items_is}

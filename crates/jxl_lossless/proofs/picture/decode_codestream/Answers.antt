@@ -10,10 +10,12 @@ pub returns-clause-ok : goal.returns-clause-ok
 returns-clause-ok g c =
     let front = c.in-Ok.front in
     record {
-      image = image_of front.image;
-      saved = map frame_at front.saved.items;
-      shown = frame_at front.shown;
-      front = c.in-Ok.ensures.ok.stands;
+      front = record {
+        image = image_of front.image;
+        saved = map frame_at front.saved.items;
+        shown = frame_at front.shown;
+        stands = c.in-Ok.ensures.ok.stands;
+      };
       coded = c.in_ok-channels.channels.items;
       decoded = c.in_ok-channels.ensures.ok;
       upright = c.in_ok-shown.ensures;

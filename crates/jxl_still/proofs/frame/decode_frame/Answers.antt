@@ -8,10 +8,9 @@ use Rattle.jxl_modular.specs.Image.{Image, image_grids}
 use Rattle.jxl_modular.specs.Sections.{AreDecoded, IsComplete, SectionsFit}
 use Rattle.jxl_modular.specs.declared.sections.Section.{Section}
 use Rattle.jxl_still.specs.Places.{own_passes}
-use Rattle.jxl_still.specs.StillFailures.{StillFails}
 use Rattle.jxl_still.specs.Inner.Listing.{SamplesStop}
 use Rattle.jxl_still.specs.Inner.Openings.{Opens}
-use Rattle.jxl_still.specs.Stills.{section_is_weighted}
+use Rattle.jxl_still.specs.Stills.{StillFails, section_is_weighted}
 use Rattle.jxl_still.proofs.Headers.{at_some}
 use Rattle.jxl_still.proofs.Frames.{all_there, weighted_fail, fit, groups_possible, list_fails, made, open_fails, samples_fail, still_sides}
 use Rattle.jxl_still.proofs.frame.decode_frame.Goals as goal
