@@ -1,18 +1,19 @@
 use Rattle.std.specs.Int.{w32}
-use Rattle.jxl_lossless.specs.Inner.Coded.{CodedFails}
+use Rattle.jxl_lossless.specs.Inner.Coded.{CodedFails, IsCoded}
 use Rattle.std.proofs.Common.{ℕ, ℤ, pos, ◌≡◌, ◌∙◌, List, length, subst, sym, true, rules}
 use Rattle.std.specs.Option.{option_map}
 use Rattle.std.proofs.lemmas.List.{with_items_is}
 use Rattle.std.proofs.lemmas.Result.{err_from_is_err_and}
 use Rattle.jxlm_base.specs.Bits.{bytes_of, position_of}
+use Rattle.jxlm_base.specs.Grid.{Grid}
 use Rattle.jxl_headers.specs.Images.{image_of}
 use Rattle.jxl_headers.specs.declared.size.Size.{Size}
 use Rattle.jxl_frames.specs.Frames.{frame_of, has_shifts}
 use Rattle.jxl_patches.specs.Dictionaries.{patches_of}
 use Rattle.jxl_patches.specs.SavedParts.{slots_of}
-use Rattle.jxl_patches.specs.Slots.{AreOfSize}
+use Rattle.jxl_patches.specs.Slots.{AreOfSize, ArePut}
 use Rattle.jxl_picture.specs.Limits.{channel_count}
-use Rattle.jxl_picture.specs.Pictures.{AreChannels}
+use Rattle.jxl_picture.specs.Pictures.{AreChannels, colour_count}
 use Rattle.jxl_lossless.proofs.Channels.{are_channels, none_shifted, of_one_size, one_size}
 use Rattle.jxl_lossless.proofs.Holding.{hold_frames}
 use Rattle.jxl_lossless.proofs.Frames.{begins, made_fails}
@@ -62,6 +63,33 @@ returns-then-not-there-clause-sides g c =
     let image = image_of c.args.image.now in
     let items = c.in_ok-channels.channels.items in
     subst (λ (z : Size). AreChannels image z items) c.size-size.ensures (are_channels image c.size-size.result items c.in_ok-channels.ensures.sides)
+
+pub returns-clause-ok : goal.returns-clause-ok
+returns-clause-ok g c =
+    let d = g.D.Decoder.meaning in
+    let image = image_of c.args.image.now in
+    let slots = slots_of c.args.slots.now in
+    let frame = frame_of c.args.header.now in
+    let first = c.args.first.now in
+    let size = c.size-size.result in
+    let items = c.in_ok-channels.channels.items in
+    let changed = c.put_patches.new.channels in
+    let patches = option_map patches_of c.in-Ok.patches in
+    let q = position_of c.read_patches.new.bits in
+    let count : c.len-extra.result ≡ length c.args.image.now.extra.items = c.len-extra.ensures ∙ c.args.image.now.extra.ok.0 in
+    let stands = begins d image slots frame first c.args.places size c.len-extra.result c.deref.result.now (bytes_of c.new-bits.result) (position_of c.new-bits.result) q c.size-size.ensures count
+    c.deref.ensures.value c.new-bits.ensures.bytes c.new-bits.ensures.position patches c.in-Ok.ensures.gives in
+    let bytes : bytes_of c.read_patches.new.bits ≡ first = c.in-Ok.ensures.bytes ∙ c.new-bits.ensures.bytes in
+    let coded = subst (λ (z : Size). IsCoded d w32 (λ (v : ℤ). v) (pos 0) image z frame.group_dim first q c.args.places items c.args.steps.now c.decode_grids.new.steps) c.size-size.ensures
+    (subst (λ (b : List ℕ). IsCoded d w32 (λ (v : ℤ). v) (pos 0) image size frame.group_dim b q c.args.places items c.args.steps.now c.decode_grids.new.steps) bytes c.in_ok-channels.ensures.ok) in
+    let put = subst (λ (xs : List (Grid ℤ)). ArePut slots (colour_count image) patches xs changed) c.deref_mut.ensures.value
+    (subst (λ n. ArePut slots n patches c.deref_mut.result.now changed) c.colours.ensures c.put_patches.ensures.put) in
+    let there : c.args.header.now.coding.flags.patches ≡ true = search rules in
+    let none = none_shifted c.args.header.now.coding.flags.patches (has_shifts image) there c.requires.plain in
+    let before = are_channels image size items c.in_ok-channels.ensures.sides in
+    let after : AreOfSize (channel_count image) size changed = rw (sym c.colours.ensures, sym count) c.put_patches.ensures.sides in
+    let long : length changed ≡ c.in_ok-channels.channels.len = after.count ∙ sym (c.in_ok-channels.channels.ok.0 ∙ before.count) in
+    rw (with_items_is c.in_ok-channels.channels changed long) (record { patches = patches; begin = q; dictionary = stands; own = items; coded = coded; put = put })
 
 pub returns-clause-sides : goal.returns-clause-sides
 returns-clause-sides g c =
