@@ -10,7 +10,7 @@ use Rattle.jxl_toc.specs.Layouts.{Layout, section_count_of, lf_section_of, pass_
 use Rattle.jxl_toc.specs.declared.toc.TocEntry.{TocEntry}
 use Rattle.jxl_still.specs.Places.{place_of}
 use Rattle.jxl_still.specs.declared.places.Places.{Places}
-use Rattle.jxl_lossless.specs.Sections.{AreOfGroups, lent, sections_of}
+use Rattle.jxl_lossless.specs.Inner.Cuts.{AreOfGroups, lent, sections_of}
 
 module _ {X : Type 0} where
   slice_get-take : (m : ℕ) (xs : List X) (i : ℕ) → i < m → slice_get (take m xs) i ≡ slice_get xs i
@@ -46,7 +46,7 @@ some_sections l = by ((l.groups == 1) && (l.passes == 1)) where
 
 module _ (l : Layout) (xs : List (Bor (List ℕ))) (places : Places) where
   -- a frame of more sections than one
-  count_more : section_count_of l ≢ 1 → section_count_of l ≡ 2 + l.lf_groups + l.passes * l.groups
+  pub count_more : section_count_of l ≢ 1 → section_count_of l ≡ 2 + l.lf_groups + l.passes * l.groups
   count_more ne = by ((l.groups == 1) && (l.passes == 1)) ne where
     by : (b : Bool) → (if b then 1 else 2 + l.lf_groups + l.passes * l.groups) ≢ 1 → (if b then 1 else 2 + l.lf_groups + l.passes * l.groups) ≡ 2 + l.lf_groups + l.passes * l.groups
     by true h = absurd (h refl)

@@ -1,26 +1,33 @@
 -- What decoding a frame gives.
-use Rattle.std.proofs.Common.{◌≡◌, ◌∙◌, ℕ, pos, ℤ, List, length, Some, Option, Result, Ok, Err, ap, sym, subst}
-use Rattle.std.specs.Prelude.{IfErr, IfOk, slice_get}
+use Rattle.std.proofs.Common.{◌≡◌, ◌∙◌, ℕ, pos, ℤ, List, [], get_or, length, Option, Result, Ok, Err, ap, sym, subst}
+use Rattle.std.specs.Prelude.{IfErr, IfOk}
 use Rattle.std.specs.Int.{w32}
 use Rattle.jxlm_base.specs.Decoding.{Found, Meaning}
 use Rattle.jxlm_base.specs.ErrorKind.{ErrorAt, UnlessMemory}
 use Rattle.jxlm_base.specs.Grammar.{IsErrorAt}
 use Rattle.jxlm_base.specs.Grid.{Grid}
+use Rattle.jxlm_cut.specs.Passes.{passes_of}
+use Rattle.jxlm_cut.specs.declared.part.SectionPart.{SectionPart}
+use Rattle.jxlm_cut.specs.declared.pass.Pass.{Pass}
 use Rattle.jxlm_ma.proofs.Memory.{unless_so}
 use Rattle.jxlm_ma.specs.Tree.{Config}
 use Rattle.jxl_headers.specs.Images.{Image}
 use Rattle.jxl_headers.specs.declared.size.Size.{Size}
 use Rattle.jxl_frames.specs.Frames.{Frame, frame_size}
 use Rattle.jxl_frames.specs.Passes.{shifts_held}
+use Rattle.jxl_still.proofs.Alike.{fails_too, still_too}
+use Rattle.jxl_still.specs.Places.{own_passes, section_at}
+use Rattle.jxl_still.specs.Stills.{IsStill, StillFails}
+use Rattle.jxl_still.specs.declared.error.FrameError.{FrameError}
 use Rattle.jxl_still.specs.declared.places.Places.{Places}
 use Rattle.jxl_front.specs.Fronts.{FrameAt, layout_in}
 use Rattle.jxl_patches.specs.Patches.{Patches}
 use Rattle.jxl_patches.specs.Errors.{patch_kind}
 use Rattle.jxl_patches.specs.declared.error.PatchError.{PatchError}
 use Rattle.jxl_picture.specs.Limits.{channel_count}
-use Rattle.jxl_lossless.specs.Sections.{AreOfGroups, sections_in}
+use Rattle.jxl_lossless.specs.Sections.{section_of, sections_in}
 use Rattle.jxl_patches.specs.Slots.{Slots, optional_patches}
-use Rattle.jxl_lossless.specs.Frames.{FrameFails, HasPatches, HasTree, IsCut, IsFrame, SharedTree}
+use Rattle.jxl_lossless.specs.Frames.{FrameFails, HasPatches, HasTree, IsFrame, SharedTree, channels_given}
 use Rattle.jxl_lossless.specs.Inner.Coded.{BeginsWith, CodedFails, IsMade, MadeFails}
 use Rattle.jxl_lossless.specs.declared.error.FileError.{FileError}
 use Rattle.jxl_lossless.specs.declared.error.FileError.TheVariants as errors
@@ -58,17 +65,43 @@ module _ {D : Type 0} (d : Meaning D) (image : Image) (slots : Slots) (frame : F
     patches_fail e h =
         unless_so (patch_kind e) (λ f. (q, f)) (subst (λ (r : Result (Found (Option Patches)) ErrorAt). UnlessMemory (patch_kind e) (IsErrorAt r (patch_kind e) q)) read_there h)
 
-module _ {D : Type 0} (d : Meaning D) (image : Image) (slots : Slots) (bytes : List ℕ) (frame : FrameAt)
-    (first : List ℕ) (lies : slice_get (sections_in bytes frame) 0 ≡ Some first) (places : Places) (groups : AreOfGroups (layout_in image frame.header) (sections_in bytes frame) places)
-    (passes : places.passes.now.entries ≡ shifts_held frame.header.passes) where
-  abbrev cut : IsCut d image slots bytes frame
-  cut = record { first = first; lies = lies; places = places; groups = groups; passes = passes }
+module _ {D : Type 0} (d : Meaning D) (image : Image) (slots : Slots) (bytes : List ℕ) (frame : FrameAt) (places : Places)
+    (passes : places.passes.now.entries ≡ shifts_held frame.header.passes)
+    (alike : (part : SectionPart) → section_at places part ≡ section_of (layout_in image frame.header) (sections_in bytes frame) part) where
+  abbrev first : List ℕ
+  first = get_or (sections_in bytes frame) 0 []
+
+  abbrev size : Size
+  size = frame_size image.size frame.header
+
+  abbrev told : List Pass
+  told = passes_of (shifts_held frame.header.passes)
+
+  abbrev its : SectionPart → Option (List ℕ × ℕ)
+  its = section_of (layout_in image frame.header) (sections_in bytes frame)
+
+  abbrev Still : Option (Config D) → ℕ → List Pass → (SectionPart → Option (List ℕ × ℕ)) → List (Grid ℤ) → ℕ → ℕ → Type 0
+  Still global begin ps f = IsStill {S = ℤ} d w32 (λ (v : ℤ). v) (pos 0) global (channels_given image size) frame.header.group_dim image.samples.depth.bits first begin ps f
+
+  abbrev Fails : Option (Config D) → ℕ → List Pass → (SectionPart → Option (List ℕ × ℕ)) → FrameError → Type 0
+  Fails global begin ps f = StillFails {S = ℤ} d w32 (λ (v : ℤ). v) (pos 0) global (channels_given image size) frame.header.group_dim image.samples.depth.bits first begin ps f
+
+  -- the places are those of the frame
+  still_of : (global : Option (Config D)) (begin : ℕ) (grids : List (Grid ℤ)) (before after : ℕ) → Still global begin (own_passes places) (section_at places) grids before after → Still global begin told its grids before after
+  still_of global begin grids before after s =
+      still_too d w32 (λ (v : ℤ). v) (pos 0) global (channels_given image size) frame.header.group_dim image.samples.depth.bits first begin told (section_at places) its alike grids before after
+      (subst (λ (ps : List Pass). Still global begin ps (section_at places) grids before after) (ap passes_of passes) s)
+
+  fails_of : (global : Option (Config D)) (begin : ℕ) (e : FrameError) → Fails global begin (own_passes places) (section_at places) e → Fails global begin told its e
+  fails_of global begin e s =
+      fails_too d w32 (λ (v : ℤ). v) (pos 0) global (channels_given image size) frame.header.group_dim image.samples.depth.bits first begin told (section_at places) its alike e
+      (subst (λ (ps : List Pass). Fails global begin ps (section_at places) e) (ap passes_of passes) s)
 
   abbrev has_patches : (patches : Option Patches) (begin : ℕ) → BeginsWith d image slots frame.header first patches begin → HasPatches d image slots bytes frame
-  has_patches patches begin stand = record { cut = cut; patches = patches; begin = begin; stand = stand }
+  has_patches patches begin stand = record { patches = patches; begin = begin; stand = stand }
 
   abbrev has_tree : (patches : Option Patches) (begin : ℕ) → BeginsWith d image slots frame.header first patches begin → (global : Option (Config D)) (q : ℕ) →
-      SharedTree d (frame_size image.size frame.header) (channel_count image) first begin global q → HasTree d image slots bytes frame
+      SharedTree d size (channel_count image) first begin global q → HasTree d image slots bytes frame
   has_tree patches begin stand global q shared = record { after = has_patches patches begin stand; global = global; begin = q; shared = shared }
 
   -- the channels that were made are those of the frame
@@ -77,17 +110,17 @@ module _ {D : Type 0} (d : Meaning D) (image : Image) (slots : Slots) (bytes : L
   framed grids before after (Ok x) h = record {
     tree = has_tree h.patches h.begin h.dictionary h.coded.global h.coded.begin h.coded.shared;
     own = h.own;
-    still = h.coded.still;
+    still = still_of h.coded.global h.coded.begin h.own before after h.coded.still;
     put = h.put;
   }
   framed grids before after (Err e) h = tt
 
   bad : (e : FileError) → MadeFails d image slots frame.header first places e → FrameFails d image slots bytes frame e
   bad errors.NoMemory h = tt
-  bad (errors.Patches e) h = (cut, h)
+  bad (errors.Patches e) h = h
   bad (errors.Start e) h = (has_patches h.patches h.begin h.dictionary, h.fails)
   bad (errors.Tree e) h = (has_patches h.patches h.begin h.dictionary, h.fails)
-  bad (errors.Samples e) h = (has_tree h.patches h.begin h.dictionary h.fails.global h.fails.begin h.fails.shared, h.fails.fails)
+  bad (errors.Samples e) h = (has_tree h.patches h.begin h.dictionary h.fails.global h.fails.begin h.fails.shared, fails_of h.fails.global h.fails.begin e h.fails.fails)
   bad (errors.File e) h = absurd h.fails
   bad (errors.Front e) h = absurd h.fails
 

@@ -1,5 +1,6 @@
 pub mod Channels
 pub mod Cuts
+pub mod Places
 pub mod FrameSections
 pub mod Frames
 pub mod Holding

@@ -1,6 +1,6 @@
 -- The samples of a frame of a codestream (ISO/IEC 18181-1, frame: sections, LF global), stage by stage, and what fails at each:
 -- what is not supported is told before what is wrong with samples.
-use Rattle.std.specs.Prelude.{◌≡◌, ℕ, ◌⊎◌, pos, ℤ, List, ◌++◌, length, map, replicate, slice_get, Bool, true, MatchBool, Option, Some, None}
+use Rattle.std.specs.Prelude.{◌≡◌, ℕ, ◌⊎◌, pos, ℤ, List, [], ◌++◌, length, map, get_or, replicate, Bool, true, MatchBool, Option, Some, None}
 use Rattle.std.specs.Int.{w32}
 use Rattle.jxlm_base.specs.Decoding.{Meaning}
 use Rattle.jxlm_base.specs.ErrorKind.{ErrorKind, UnlessMemory, kind_of}
@@ -11,6 +11,7 @@ use Rattle.jxlm_transform.specs.Params.{sized, with_tables}
 use Rattle.jxlm_transform.specs.declared.param.ChannelShift.TheVariants.{Shifts}
 use Rattle.jxlm_transform.specs.declared.param.ModularChannelParams.{ModularChannelParams}
 use Rattle.jxlm_transform.specs.declared.param.PaletteTables.TheVariants.{OfDeltasToo}
+use Rattle.jxlm_cut.specs.Passes.{passes_of}
 use Rattle.jxlm_ma.specs.Tree.{Config}
 use Rattle.jxlm_ma.specs.TreeReading.{IsTooDeep, IsTreeAt, listing_at}
 use Rattle.jxl_headers.specs.Images.{Image}
@@ -25,9 +26,8 @@ use Rattle.jxl_patches.specs.Slots.{ArePut, Slots, optional_patches}
 use Rattle.jxl_picture.specs.Limits.{channel_count}
 use Rattle.jxl_picture.specs.Pictures.{colour_count}
 use Rattle.jxl_still.specs.Stills.{IsStill, StillFails}
-use Rattle.jxl_still.specs.declared.places.Places.{Places}
 use Rattle.jxl_front.specs.Fronts.{FailsAt, FrameAt, StandsAt, layout_in}
-use Rattle.jxl_lossless.specs.Sections.{AreOfGroups, sections_in}
+use Rattle.jxl_lossless.specs.Sections.{section_of, sections_in}
 use Rattle.jxl_lossless.specs.declared.error.FileError.{FileError}
 use Rattle.jxl_lossless.specs.declared.error.FileError.TheVariants as errors
 
@@ -57,13 +57,9 @@ TreeFails d size n first p error = (begin : ℕ) × StandsAt section_start first
     × (q : ℕ) × (IsErrorAt (listing_at d first (tree_limit size n) begin) error q ⊎ IsTooDeep d first (tree_limit size n) 2048 begin error q)
 
 module _ {D : Type 0} (d : Meaning D) (image : Image) (slots : Slots) (bytes : List ℕ) (frame : FrameAt) where
-  -- The sections lie where the table says, and the passes hold the shifts that the header says.
-  pub record IsCut : Type 0 where
-    pub first : List ℕ
-    pub lies : slice_get (sections_in bytes frame) 0 ≡ Some first
-    pub places : Places
-    pub groups : AreOfGroups (layout_in image frame.header) (sections_in bytes frame) places
-    pub passes : places.passes.now.entries ≡ shifts_held frame.header.passes
+  -- the first of its sections
+  abbrev pub first : List ℕ
+  first = get_or (sections_in bytes frame) 0 []
 
   -- how large the frame is
   abbrev pub sides : Size
@@ -75,32 +71,31 @@ module _ {D : Type 0} (d : Meaning D) (image : Image) (slots : Slots) (bytes : L
 
   -- They stand there,
   pub record HasPatches : Type 0 where
-    pub cut : IsCut
     pub patches : Option Patches
     pub begin : ℕ
-    pub stand : StandsAt dictionary cut.first 0 patches begin
+    pub stand : StandsAt dictionary first 0 patches begin
 
   -- and after them the shared tree, if there is one.
   pub record HasTree : Type 0 where
     pub after : HasPatches
     pub global : Option (Config D)
     pub begin : ℕ
-    pub shared : SharedTree d sides (channel_count image) after.cut.first after.begin global begin
+    pub shared : SharedTree d sides (channel_count image) first after.begin global begin
 
-  -- These are the channels of the frame: with samples of 32 bits, which the sections code, and into which its patches are put.
+  -- These are the frame's channels: samples of 32 bits, which the sections code by the header's passes, with its patches put in.
   pub record IsFrame (grids : List (Grid ℤ)) (before after : ℕ) : Type 0 where
     pub tree : HasTree
     pub own : List (Grid ℤ)
     pub still : IsStill d w32 (λ (v : ℤ). v) (pos 0) tree.global (channels_given image sides) frame.header.group_dim image.samples.depth.bits
-        tree.after.cut.first tree.begin tree.after.cut.places own before after
+        first tree.begin (passes_of (shifts_held frame.header.passes)) (section_of (layout_in image frame.header) (sections_in bytes frame)) own before after
     pub put : ArePut slots (colour_count image) tree.after.patches own grids
 
   -- what each error says: up to which stage all stands, and what fails there
   abbrev pub FrameFails : FileError → Type 0
-  FrameFails (errors.Patches e) = (s : IsCut) × UnlessMemory (patch_kind e) (FailsAt dictionary s.first 0 (patch_kind e))
-  FrameFails (errors.Start e) = (s : HasPatches) × FailsAt section_start s.cut.first s.begin (kind_of e)
-  FrameFails (errors.Tree e) = (s : HasPatches) × UnlessMemory (kind_of e) (TreeFails d sides (channel_count image) s.cut.first s.begin (kind_of e))
+  FrameFails (errors.Patches e) = UnlessMemory (patch_kind e) (FailsAt dictionary first 0 (patch_kind e))
+  FrameFails (errors.Start e) = (s : HasPatches) × FailsAt section_start first s.begin (kind_of e)
+  FrameFails (errors.Tree e) = (s : HasPatches) × UnlessMemory (kind_of e) (TreeFails d sides (channel_count image) first s.begin (kind_of e))
   FrameFails (errors.Samples e) = (s : HasTree) × StillFails {S = ℤ} d w32 (λ (v : ℤ). v) (pos 0) s.global (channels_given image sides) frame.header.group_dim
-      image.samples.depth.bits s.after.cut.first s.begin s.after.cut.places e
+      image.samples.depth.bits first s.begin (passes_of (shifts_held frame.header.passes)) (section_of (layout_in image frame.header) (sections_in bytes frame)) e
   FrameFails errors.NoMemory = Unit {0}
   FrameFails e = ⊥

@@ -1,34 +1,19 @@
--- Where the sections of a frame lie in a codestream (ISO/IEC 18181-1, frame: table of contents, sections).
-use Rattle.std.specs.Prelude.{◌≡◌, ℕ, ◌*◌, ◌<◌, ◌==◌, List, length, map, take, drop, slice_get, if◌then◌else◌}
-use Rattle.std.specs.Borrow.{Bor}
-use Rattle.jxl_toc.specs.Layouts.{Layout, section_count_of, lf_section_of, pass_section_of}
-use Rattle.jxl_toc.specs.declared.toc.TocEntry.{TocEntry}
-use Rattle.jxl_still.specs.Places.{place_of}
-use Rattle.jxl_still.specs.declared.places.Places.{Places}
+-- Where the sections of a frame lie in a codestream (ISO/IEC 18181-1, frame: table of contents, sections; Modular: stream index).
+use Rattle.std.specs.Prelude.{ℕ, List, map, take, drop, nat_lt, slice_get, if◌then◌else◌, Option, None}
+use Rattle.std.specs.Option.{option_map}
+use Rattle.jxlm_cut.specs.declared.part.SectionPart.{SectionPart}
+use Rattle.jxlm_cut.specs.declared.part.SectionPart.TheVariants as parts
+use Rattle.jxl_toc.specs.Layouts.{Layout, lf_section_of, lf_stream_of, pass_section_of, pass_stream_of}
 use Rattle.jxl_front.specs.Fronts.{FrameAt}
 
--- the bytes of the sections of a codestream, by their numbers
-abbrev pub sections_of : List ℕ → List TocEntry → List (List ℕ)
-sections_of bytes entries = map (λ e. take e.size (drop e.offset bytes)) entries
-
--- those of a frame of a codestream, which begins at a byte of its own
+-- the bytes of the sections of a frame of a codestream, by their numbers: they lie from the byte on at which the frame begins
 abbrev pub sections_in : List ℕ → FrameAt → List (List ℕ)
-sections_in bytes frame = sections_of (drop frame.start bytes) frame.entries
+sections_in bytes frame = map (λ e. take e.size (drop e.offset (drop frame.start bytes))) frame.entries
 
--- the bytes that are lent
-abbrev pub lent : List (Bor (List ℕ)) → List (List ℕ)
-lent sections = map (λ s. s.now) sections
-
--- how many of these groups have a section of their own: none in a frame of one section
-abbrev pub apart : Layout → ℕ → ℕ
-apart l n = if section_count_of l == 1 then 0 else n
-
--- These are the sections of the groups, of all sections of a frame that is cut in this way: those with their numbers. Those of
--- the passes stand one after another, pass by pass.
-pub record AreOfGroups (l : Layout) (sections : List (List ℕ)) (places : Places) : Type 0 where
-  pub low_count : length places.low.now ≡ apart l l.lf_groups
-  pub low : (k : ℕ) → k < length places.low.now → slice_get (lent places.low.now) k ≡ slice_get sections (lf_section_of k)
-  pub each : places.each ≡ l.groups
-  pub group_count : length places.groups.now ≡ apart l (l.passes * l.groups)
-  pub groups : (pass k : ℕ) → place_of places pass k < length places.groups.now →
-      slice_get (lent places.groups.now) (place_of places pass k) ≡ slice_get sections (pass_section_of l pass k)
+-- the section of a part other than the global one, and the index of its stream, where a frame that is cut in this way has it
+abbrev pub section_of : Layout → List (List ℕ) → SectionPart → Option (List ℕ × ℕ)
+section_of l sections parts.Global = None
+section_of l sections (parts.Lf k) =
+    if nat_lt k l.lf_groups then option_map (λ bytes. (bytes, lf_stream_of l k)) (slice_get sections (lf_section_of k)) else None
+section_of l sections (parts.Pass p k) =
+    if nat_lt k l.groups then option_map (λ bytes. (bytes, pass_stream_of l p k)) (slice_get sections (pass_section_of l p k)) else None

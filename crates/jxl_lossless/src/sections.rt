@@ -7,7 +7,7 @@ ghost use Rattle.jxl_toc.specs.Layouts.{section_count_of};
 ghost use Rattle.jxl_toc.specs.LayoutParts.{parts_of};
 ghost use Rattle.jxl_toc.specs.Tocs.{is_within};
 ghost use Rattle.jxl_still.specs.Places.{AreUsable};
-ghost use Rattle.jxl_lossless.specs.Sections.{AreOfGroups, lent, sections_of};
+ghost use Rattle.jxl_lossless.specs.Inner.Cuts.{AreOfGroups, lent, sections_of};
 
 use jxl_still::places::Places;
 use jxl_toc::layout::Layout;

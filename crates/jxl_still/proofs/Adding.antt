@@ -7,8 +7,8 @@ use Rattle.std.proofs.lemmas.List.Elements.{All-nil, All-cons, All-append}
 use Rattle.jxlm_cut.specs.declared.part.SectionPart.{SectionPart}
 use Rattle.jxl_modular.specs.declared.sections.Section.{Section}
 use Rattle.jxlm_sections.proofs.PartLists.{IsAmong, among_filter, among_range}
-use Rattle.jxl_still.specs.Places.{IsOfGroup, held}
-use Rattle.jxl_still.specs.Inner.Listing.{AddingFails, AreAdded, IsPlaced, Lacks}
+use Rattle.jxl_still.specs.Places.{held}
+use Rattle.jxl_still.specs.Inner.Listing.{AddingFails, AreAdded, IsOfGroup, IsPlaced, Lacks}
 use Rattle.jxl_still.specs.declared.error.FrameError.{FrameError}
 use Rattle.jxl_still.specs.declared.error.FrameError.TheVariants as errors
 use Rattle.jxl_still.specs.declared.places.Places.{Places}

@@ -1,10 +1,10 @@
 -- The parts of an image by the passes of a frame: which have cells, and that each of them is in order.
-use Rattle.std.proofs.Common.{◌≡◌, ◌≢◌, ℕ, zero, suc, ◌+◌, ◌<◌, ◌≤◌, ◌⊎◌, inl, inr, ◌&&◌, ◌||◌, Bool, true, false, cond, max, nat_lt, if◌then◌else◌, ℤ, pos, List, [], ◌∷◌, map, Some, refl, sym, ap, ◌∙◌, subst, arith, eqb-true}
-use Rattle.std.specs.Prelude.{find, int_le}
+use Rattle.std.proofs.Common.{◌≡◌, ◌≢◌, ◌↔◌, ℕ, zero, suc, ◌+◌, ◌<◌, ◌≤◌, ◌⊎◌, inl, inr, ◌&&◌, ◌||◌, Bool, true, false, cond, max, nat_lt, if◌then◌else◌, ℤ, pos, List, [], ◌∷◌, get_or, map, Some, refl, sym, ap, ◌∙◌, subst, arith, eqb-true}
+use Rattle.std.specs.Prelude.{Any, find, int_le}
 use Rattle.std.specs.List.{All, AllPairs, list_any, range_with_len}
 use Rattle.std.specs.Option.{option_map_or}
 use Rattle.std.proofs.lemmas.Bool.{cases_lt, le-leb, lt-ltb, ltb-true}
-use Rattle.std.proofs.lemmas.List.Elements.{All-append, All-filter}
+use Rattle.std.proofs.lemmas.List.Elements.{All-append, All-filter, filter_passes}
 use Rattle.jxlm_transform.proofs.StepFacts.{both_of}
 use Rattle.jxlm_transform.specs.Channels.{Channel, ChannelList}
 use Rattle.jxlm_cut.proofs.PartChannels.{counts_cells}
@@ -26,10 +26,10 @@ use Rattle.jxl_modular.specs.Image.{Image, coded_list}
 use Rattle.jxl_modular.specs.Sections.{IsComplete}
 use Rattle.jxl_modular.specs.declared.sections.Section.{Section}
 use Rattle.jxlm_sections.specs.CutPicture.{lf_groups}
-use Rattle.jxlm_sections.proofs.PartLists.{AllDiffer, Differ, IsAmong, among_filter, among_left, among_range, among_right, any_section, differ_append, differ_filter, differ_range, each_of_range, each_section, sections_unlike}
-use Rattle.jxl_still.proofs.Passes.{all_passes, among_one, differ_passes}
-use Rattle.jxl_still.specs.Inner.Parts.{low_parts, parts_of_pass, parts_of_passes}
-use Rattle.jxl_still.specs.Places.{groups_in_order}
+use Rattle.jxlm_sections.proofs.PartLists.{IsAmong, among_filter, among_left, among_range, among_right, any_section, each_of_range, each_section}
+use Rattle.jxl_still.proofs.Order.{Before, Ordered, before_unlike, ordered_append, ordered_filter, ordered_passes, ordered_range, sections_ordered}
+use Rattle.jxl_still.proofs.Passes.{all_passes, among_one}
+use Rattle.jxl_still.specs.Inner.Parts.{groups_in_order, low_parts, parts_of_pass, parts_of_passes, with_samples}
 
 -- ---- each shift below 3 is held by a pass, whose number is counted
 
@@ -140,6 +140,70 @@ module _ {S D : Type 0} (x : Image S D) (passes : List Pass) where
       let below = group_below passes can x.group_dim w h (coded_list x) pictured p k lt in
       inr (among_right part low_there passes_there (among_one (parts_of_pass x passes) part (pass_count passes) p below here))
 
+  -- what holds of each group holds of these parts
+  each_part : (P : SectionPart → Type 0) → ((k : ℕ) → k < lf_count → P (parts.Lf k)) → ((p k : ℕ) → k < count_of p → P (parts.Pass p k)) → All P (groups_in_order x passes)
+  each_part P low high =
+      All-append P low_there passes_there
+      (All-filter has_samples P (lf_groups lf_count) (each_of_range (λ k. parts.Lf k) P 0 lf_count (λ k from lt. low k (omega (arith, lt)))))
+      (all_passes (parts_of_pass x passes) P 0 (pass_count passes) (λ p le. All-filter has_samples P (map (λ k. parts.Pass p k) (range_with_len 0 (count_of p)))
+      (each_of_range (λ k. parts.Pass p k) P 0 (count_of p) (λ k from lt. high p k (omega (arith, lt))))))
+
+  lf_not_global : (k : ℕ) → parts.Lf k ≡ parts.Global → ⊥
+  lf_not_global k e = cc
+
+  pass_not_global : (p k : ℕ) → parts.Pass p k ≡ parts.Global → ⊥
+  pass_not_global p k e = cc
+
+  have_samples : (ps : List SectionPart) → All (λ q. 0 < cell_count (channels_in x passes q)) (with_samples x passes ps)
+  have_samples ps k d lt = ltb-true 0 (cell_count (channels_in x passes (get_or (with_samples x passes ps) k d))) (filter_passes has_samples ps k d lt)
+
+  -- they are groups with samples
+  abbrev IsOne : SectionPart → Type 0
+  IsOne part = (part ≢ parts.Global) × (0 < cell_count (channels_in x passes part))
+
+  pub all_ones : All IsOne (groups_in_order x passes)
+  all_ones k d lt = (
+    each_part (λ q. q ≢ parts.Global) (λ k lt. lf_not_global k) (λ p k lt. pass_not_global p k) k d lt,
+    All-append (λ q. 0 < cell_count (channels_in x passes q)) low_there passes_there (have_samples (lf_groups lf_count))
+        (all_passes (parts_of_pass x passes) (λ q. 0 < cell_count (channels_in x passes q)) 0 (pass_count passes) (λ p le. have_samples (map (λ k. parts.Pass p k) (range_with_len 0 (count_of p))))) k d lt,
+  )
+
+  -- each comes before the later ones
+  passes_apart : (a b : ℕ) → a < b → All (λ q. All (Before q) (parts_of_pass x passes b)) (parts_of_pass x passes a)
+  passes_apart a b lt =
+      All-filter has_samples (λ q. All (Before q) (parts_of_pass x passes b)) (map (λ k. parts.Pass a k) (range_with_len 0 (count_of a))) (each_of_range (λ k. parts.Pass a k) (λ q. All (Before q) (parts_of_pass x passes b)) 0 (count_of a) (λ j low high.
+      All-filter has_samples (Before (parts.Pass a j)) (map (λ k. parts.Pass b k) (range_with_len 0 (count_of b))) (each_of_range (λ k. parts.Pass b k) (Before (parts.Pass a j)) 0 (count_of b) (λ k from to. inl lt))))
+
+  lf_passes : All (λ p. All (Before p) passes_there) low_there
+  lf_passes = All-filter has_samples (λ p. All (Before p) passes_there) (lf_groups lf_count) (each_of_range (λ k. parts.Lf k) (λ p. All (Before p) passes_there) 0 lf_count (λ j low lt.
+      all_passes (parts_of_pass x passes) (Before (parts.Lf j)) 0 (pass_count passes) (λ p le.
+      All-filter has_samples (Before (parts.Lf j)) (map (λ k. parts.Pass p k) (range_with_len 0 (count_of p))) (each_of_range (λ k. parts.Pass p k) (Before (parts.Lf j)) 0 (count_of p) (λ k from to. tt)))))
+
+  pub groups_ordered : Ordered Before (groups_in_order x passes)
+  groups_ordered = ordered_append Before low_there passes_there
+      (ordered_filter Before has_samples (lf_groups lf_count) (ordered_range Before (λ k. parts.Lf k) (λ j k lt. lt) 0 lf_count))
+      (ordered_passes Before (parts_of_pass x passes) (λ p. ordered_filter Before has_samples (map (λ k. parts.Pass p k) (range_with_len 0 (count_of p))) (ordered_range Before (λ k. parts.Pass p k) (λ j k lt. inr (refl, lt)) 0 (count_of p))) passes_apart 0 (pass_count passes)) lf_passes
+
+  -- sections of them are those of the groups with samples
+  module _ (groups : List Section) (in_order : map (λ s. s.part) groups ≡ groups_in_order x passes) where
+    -- each group with samples has one
+    there : can_group passes [] ≡ true → (w h : ℕ) → IsPictured w h (coded_list x) → (part : SectionPart) → IsOne part → Any (λ s. s.part ≡ part) groups
+    there can w h pictured part one = elim (among_groups can w h pictured part one.1) [
+      | inl is ↦ absurd (one.0 is)
+      | inr among ↦ any_section part groups (subst (IsAmong part) (sym in_order) among)
+    ]
+
+    -- and no other part
+    is_one : (part : SectionPart) → Any (λ s. s.part ≡ part) groups → IsOne part
+    is_one part (k, s, lt, at, is) =
+        subst IsOne (ap (λ (s : Section). s.part) at ∙ is) (each_section IsOne groups (subst (All IsOne) (sym in_order) all_ones) k s lt)
+
+    pub each_one : can_group passes [] ≡ true → (w h : ℕ) → IsPictured w h (coded_list x) → (part : SectionPart) → IsOne part ↔ Any (λ s. s.part ≡ part) groups
+    each_one can w h pictured part = (there can w h pictured part, is_one part)
+
+    pub sections_in_order : Ordered Before (map (λ s. s.part) groups)
+    sections_in_order = subst (Ordered Before) (sym in_order) groups_ordered
+
   module _ (first : Section) (groups : List Section) (global : first.part ≡ parts.Global) (in_order : map (λ s. s.part) groups ≡ groups_in_order x passes) where
     all_parts : map (λ (s : Section). s.part) (first ∷ groups) ≡ parts.Global ∷ groups_in_order x passes
     all_parts = ap (λ p. p ∷ map (λ (s : Section). s.part) groups) global ∙ ap (λ ps. parts.Global ∷ ps) in_order
@@ -153,14 +217,6 @@ module _ {S D : Type 0} (x : Image S D) (passes : List Pass) where
         ] in
         any_section part (first ∷ groups) (subst (IsAmong part) (sym all_parts) here)
 
-    -- what holds of each group holds of these parts
-    each_part : (P : SectionPart → Type 0) → ((k : ℕ) → k < lf_count → P (parts.Lf k)) → ((p k : ℕ) → k < count_of p → P (parts.Pass p k)) → All P (groups_in_order x passes)
-    each_part P low high =
-        All-append P low_there passes_there
-        (All-filter has_samples P (lf_groups lf_count) (each_of_range (λ k. parts.Lf k) P 0 lf_count (λ k from lt. low k (omega (arith, lt)))))
-        (all_passes (parts_of_pass x passes) P 0 (pass_count passes) (λ p le. All-filter has_samples P (map (λ k. parts.Pass p k) (range_with_len 0 (count_of p)))
-        (each_of_range (λ k. parts.Pass p k) P 0 (count_of p) (λ k from lt. high p k (omega (arith, lt))))))
-
     -- each part is there
     pub exist : All (λ s. Exists x passes s.part) (first ∷ groups)
     exist = each_section (Exists x passes) (first ∷ groups) (subst (All (Exists x passes)) (sym all_parts)
@@ -171,43 +227,11 @@ module _ {S D : Type 0} (x : Image S D) (passes : List Pass) where
             one p zero d lt = p
             one p (suc k) d lt = absurd (omega (arith, lt))
 
-    lf_not_pass : (j p k : ℕ) → parts.Pass p k ≡ parts.Lf j → ⊥
-    lf_not_pass j p k e = cc
-
-    lf_not_global : (k : ℕ) → parts.Lf k ≡ parts.Global → ⊥
-    lf_not_global k e = cc
-
-    pass_not_global : (p k : ℕ) → parts.Pass p k ≡ parts.Global → ⊥
-    pass_not_global p k e = cc
-
-    one_lf : (j k : ℕ) → parts.Lf j ≡ parts.Lf k → j ≡ k
-    one_lf j k e = cc
-
-    one_group : (p j k : ℕ) → parts.Pass p j ≡ parts.Pass p k → j ≡ k
-    one_group p j k e = cc
-
-    same_pass : (p q j k : ℕ) → parts.Pass q k ≡ parts.Pass p j → p ≡ q
-    same_pass p q j k e = cc
-
-    passes_apart : (a b : ℕ) → a < b → All (λ q. Differ q (parts_of_pass x passes b)) (parts_of_pass x passes a)
-    passes_apart a b lt =
-        All-filter has_samples (λ q. Differ q (parts_of_pass x passes b)) (map (λ k. parts.Pass a k) (range_with_len 0 (count_of a))) (each_of_range (λ k. parts.Pass a k) (λ q. Differ q (parts_of_pass x passes b)) 0 (count_of a) (λ j low high.
-        All-filter has_samples (λ q. q ≡ parts.Pass a j → ⊥) (map (λ k. parts.Pass b k) (range_with_len 0 (count_of b))) (each_of_range (λ k. parts.Pass b k) (λ q. q ≡ parts.Pass a j → ⊥) 0 (count_of b) (λ k from to e.
-        let same = same_pass a b j k e in omega (arith, lt, same)))))
-
-    lf_passes : All (λ p. Differ p passes_there) low_there
-    lf_passes = All-filter has_samples (λ p. Differ p passes_there) (lf_groups lf_count) (each_of_range (λ k. parts.Lf k) (λ p. Differ p passes_there) 0 lf_count (λ j low lt.
-        all_passes (parts_of_pass x passes) (λ q. q ≡ parts.Lf j → ⊥) 0 (pass_count passes) (λ p le.
-        All-filter has_samples (λ q. q ≡ parts.Lf j → ⊥) (map (λ k. parts.Pass p k) (range_with_len 0 (count_of p))) (each_of_range (λ k. parts.Pass p k) (λ q. q ≡ parts.Lf j → ⊥) 0 (count_of p) (λ k from to. lf_not_pass j p k)))))
-
-    groups_differ : AllDiffer (groups_in_order x passes)
-    groups_differ = differ_append low_there passes_there
-        (differ_filter has_samples (lf_groups lf_count) (differ_range (λ k. parts.Lf k) one_lf 0 lf_count))
-        (differ_passes (parts_of_pass x passes) (λ p. differ_filter has_samples (map (λ k. parts.Pass p k) (range_with_len 0 (count_of p))) (differ_range (λ k. parts.Pass p k) (one_group p) 0 (count_of p))) passes_apart 0 (pass_count passes)) lf_passes
-
-    no_global : Differ parts.Global (groups_in_order x passes)
-    no_global = each_part (λ q. q ≡ parts.Global → ⊥) (λ k lt. lf_not_global k) (λ p k lt. pass_not_global p k)
+    global_first : All (Before parts.Global) (groups_in_order x passes)
+    global_first = each_part (Before parts.Global) (λ k lt. tt) (λ p k lt. tt)
 
     -- and no two sections are of one part
     pub unlike : AllPairs (λ s t. s.part ≢ t.part) (first ∷ groups)
-    unlike = sections_unlike (first ∷ groups) (subst AllDiffer (sym all_parts) (no_global, groups_differ))
+    unlike i j d lt within =
+        before_unlike (get_or (first ∷ groups) i d).part (get_or (first ∷ groups) j d).part
+        (sections_ordered (first ∷ groups) (subst (Ordered Before) (sym all_parts) (global_first, groups_ordered)) i j d lt within)

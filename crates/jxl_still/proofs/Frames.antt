@@ -1,7 +1,9 @@
 -- A frame from the sections that were listed, or why there is none.
-use Rattle.std.proofs.Common.{◌≡◌, IsTrue, ℕ, Bool, true, false, ℤ, List, [], ◌∷◌, map, Option, is_some, Result, Ok, sym, ap, ◌∙◌, subst}
+use Rattle.std.proofs.Common.{◌≡◌, IsTrue, ℕ, Bool, true, false, ℤ, List, [], ◌∷◌, get_or, Option, Some, is_some, Result, Ok, sym, ap, ◌∙◌, subst}
 use Rattle.std.specs.Int.{Width}
-use Rattle.std.specs.Prelude.{◌&&◌, ◌||◌, Any, None}
+use Rattle.std.specs.Option.{option_map}
+use Rattle.std.specs.Prelude.{◌&&◌, ◌||◌, ◌↔◌, ◌<◌, Any, IsFalse}
+use Rattle.std.specs.Borrow.{Bor}
 use Rattle.std.specs.List.{All, list_any}
 use Rattle.jxlm_base.specs.Bits.{bytes_of, position_of}
 use Rattle.jxlm_base.specs.Decoding.{Meaning}
@@ -19,8 +21,10 @@ use Rattle.jxlm_transform.specs.declared.param.ModularChannelParams.{ModularChan
 use Rattle.jxlm_cut.proofs.Steps.{IsPictured}
 use Rattle.jxlm_cut.specs.Cutting.{can_cut}
 use Rattle.jxlm_cut.specs.declared.part.SectionPart.{SectionPart}
+use Rattle.jxlm_cut.specs.declared.part.SectionPart.TheVariants as parts
+use Rattle.jxlm_part.specs.Part.{cell_count}
 use Rattle.jxlm_cut.specs.Passes.{can_group, one_picture}
-use Rattle.jxl_modular.specs.Fresh.{fresh}
+use Rattle.jxl_modular.specs.Groups.{channels_in}
 use Rattle.jxl_modular.specs.Image.{Image, coded_list}
 use Rattle.jxl_modular.specs.Sections.{AreDecoded, IsComplete, SectionsFit, SectionsLeave, SectionsStop}
 use Rattle.jxl_modular.specs.declared.sections.Section.{Section}
@@ -28,11 +32,15 @@ use Rattle.jxlm_sections.proofs.Openings.{opened_steps}
 use Rattle.jxlm_sections.proofs.Pictures.{still_picture}
 use Rattle.jxlm_sections.proofs.Whole.{all_whole}
 use Rattle.jxlm_cut.specs.declared.pass.Pass.{Pass}
-use Rattle.jxl_still.specs.Places.{groups_in_order, held, own_passes}
-use Rattle.jxl_still.proofs.Complete.{complete, exist, unlike}
-use Rattle.jxl_still.specs.Stills.{CanDecode, HasSections, HeaderStands, IsStill, StillFails, section_is_weighted, weighted_at}
-use Rattle.jxl_still.specs.Inner.Listing.{AreListed, Lacks, ListingFails, SamplesStop}
+use Rattle.jxl_still.specs.Places.{own_passes, section_at, stream_of}
+use Rattle.jxl_still.proofs.Complete.{all_ones, complete, each_one, exist, sections_in_order, unlike}
+use Rattle.jxl_still.proofs.Order.{streams_rise}
+use Rattle.jxl_still.proofs.Weighted.{all_plain, none_there, some_weighted, stands_there}
+use Rattle.jxl_still.specs.Stills.{CanDecode, HasSections, HeaderStands, IsStill, StillFails}
+use Rattle.jxl_still.specs.Inner.Listing.{AreListed, IsOfGroup, Lacks, ListingFails, SamplesStop}
 use Rattle.jxl_still.specs.Inner.Openings.{OpenFails, Opens}
+use Rattle.jxl_still.specs.Inner.Parts.{groups_in_order}
+use Rattle.jxl_still.specs.Inner.Weighted.{section_is_weighted, weighted_at}
 use Rattle.jxl_still.specs.declared.error.FrameError.{FrameError}
 use Rattle.jxl_still.specs.declared.error.FrameError.TheVariants as errors
 use Rattle.jxl_still.specs.declared.places.Places.{Places}
@@ -60,30 +68,45 @@ module _ {S D : Type 0} (d : Meaning D) (w : Width) (to_int : S → ℤ) (zero :
   passes = own_passes places
 
   abbrev Fails : FrameError → Type 0
-  Fails = StillFails {S = S} d w to_int zero global given group_dim bit_depth bytes p places
+  Fails = StillFails {S = S} d w to_int zero global given group_dim bit_depth bytes p (own_passes places) (section_at places)
 
   abbrev Stands : Type 0
-  Stands = HeaderStands {S = S} d w to_int zero global given group_dim bit_depth bytes p places
+  Stands = HeaderStands {S = S} d w to_int zero global given group_dim bit_depth bytes p (own_passes places) (section_at places)
 
   abbrev Has : Type 0
-  Has = HasSections {S = S} d w to_int zero global given group_dim bit_depth bytes p places
+  Has = HasSections {S = S} d w to_int zero global given group_dim bit_depth bytes p (own_passes places) (section_at places)
 
   abbrev Can : Type 0
-  Can = CanDecode {S = S} d w to_int zero global given group_dim bit_depth bytes p places
+  Can = CanDecode {S = S} d w to_int zero global given group_dim bit_depth bytes p (own_passes places) (section_at places)
 
   abbrev Made : List (Grid ℤ) → ℕ → ℕ → Type 0
-  Made = IsStill {S = S} d w to_int zero global given group_dim bit_depth bytes p places
+  Made = IsStill {S = S} d w to_int zero global given group_dim bit_depth bytes p (own_passes places) (section_at places)
 
-  -- one of these parts has no section
-  none_for : (parts : List SectionPart) → Lacks places parts → Any (λ part. held places part ≡ None) parts
-  none_for parts lacks =
-      let (k, part, lt, is, same) = lacks.asked in
-      (k, part, lt, is, subst (λ q. held places q ≡ None) (sym same) lacks.none)
+  -- what holds of each of these parts holds of the one that has no section
+  of_lacking : (P : SectionPart → Type 0) (ps : List SectionPart) → All P ps → (lacks : Lacks places ps) → P lacks.part
+  of_lacking P ps all lacks =
+      let (k, part, lt, at, same) = lacks.asked in
+      subst P (at ∙ same) (all k part lt)
+
+  -- the bytes of a section with the index of a stream
+  abbrev with_stream : ℕ → Option (Bor (List ℕ)) → Option (List ℕ × ℕ)
+  with_stream n found = option_map {U = List ℕ × ℕ} (λ (b : Bor (List ℕ)). (b.now, n)) found
+
+  abbrev both : List ℕ → ℕ → Option (List ℕ × ℕ)
+  both section n = Some (section, n)
+
+  -- a section that was found is that of a group
+  of_group : (s : Section) → IsOfGroup places s → (section_at places s.part ≡ Some (bytes_of s.bits, s.stream_index)) × (position_of s.bits ≡ 0) × (s.nested ≡ true)
+  of_group s g = (
+    ap (with_stream (stream_of places s.part)) g.there ∙ ap (λ b. both b (stream_of places s.part)) (sym g.lies) ∙ ap (both (bytes_of s.bits)) (sym g.stream),
+    g.begins,
+    g.nested,
+  )
 
   -- opening the image fails
   pub open_fails : (e : FrameError) → OpenFails d global given bytes p e → Fails e
   open_fails (errors.Header e) h = h
-  open_fails errors.WeightedPalette h = h
+  open_fails errors.WeightedPalette h = stands_there bytes p h
   open_fails errors.NoMemory h = tt
   open_fails errors.NoGroups h = absurd h
   open_fails errors.NoSection h = absurd h
@@ -92,10 +115,10 @@ module _ {S D : Type 0} (d : Meaning D) (w : Width) (to_int : S → ℤ) (zero :
 
   module _ (image : Image S D) (q : ℕ) (o : Opens d global given bytes p zero group_dim bit_depth image q) where
     abbrev stands : Stands
-    stands = record { head = o.head; config = o.config; end = q; plain = o.plain; start = o.start }
+    stands = record { head = o.head; image = image; end = q; plain = none_there bytes p o.plain; start = o.start; is = o.is }
 
-    abbrev begun : Image S D
-    begun = fresh zero given o.head o.config group_dim bit_depth
+    dim_is : image.group_dim ≡ group_dim
+    dim_is = ap (λ (i : Image S D). i.group_dim) o.is
 
     -- the image can be cut by the passes
     pub groups_possible : IsTrue (can_group passes []) → IsTrue (one_picture given.channels) → IsTrue (can_group passes image.given)
@@ -103,9 +126,13 @@ module _ {S D : Type 0} (d : Meaning D) (w : Width) (to_int : S → ℤ) (zero :
 
     -- listing the sections fails
     pub list_fails : (e : FrameError) → ListingFails places image e → Fails e
-    list_fails errors.NoGroups h = (stands, subst (λ (i : Image S D). ListingFails places i errors.NoGroups) o.is h)
-    list_fails errors.NoSection h =
-        (stands, none_for (groups_in_order begun passes) (subst (λ (i : Image S D). ListingFails places i errors.NoSection) o.is h))
+    list_fails errors.NoGroups h = (stands, subst (λ n. IsFalse (can_cut n (coded_list image))) dim_is h)
+    list_fails errors.NoSection h = (
+      stands,
+      h.part,
+      of_lacking (λ part. (part ≡ parts.Global → ⊥) × (0 < cell_count (channels_in image passes part))) (groups_in_order image passes) (all_ones image passes) h,
+      ap (with_stream (stream_of places h.part)) h.none,
+    )
     list_fails errors.NoMemory h = tt
     list_fails (errors.Header e) h = absurd h
     list_fails errors.WeightedPalette h = absurd h
@@ -128,85 +155,90 @@ module _ {S D : Type 0} (d : Meaning D) (w : Width) (to_int : S → ℤ) (zero :
       first_place : position_of first.bits ≡ q
       first_place = ap position_of listed.goes_on ∙ place
 
-      can_be_cut : IsTrue (can_cut group_dim o.head.coded.list)
-      can_be_cut = subst (λ (i : Image S D). IsTrue (can_cut i.group_dim (coded_list i))) o.is cut
+      can_be_cut : IsTrue (can_cut group_dim (coded_list image))
+      can_be_cut = subst (λ n. IsTrue (can_cut n (coded_list image))) dim_is cut
 
-      parts_are : map (λ s. s.part) more ≡ groups_in_order begun passes
-      parts_are = listed.added.parts_are ∙ ap (λ (i : Image S D). groups_in_order i passes) o.is
+      first_part : first.part ≡ parts.Global
+      first_part = ap (λ (s : Section). s.part) listed.of_global
 
       -- the sections fit the image
       pub fit : IsTrue (can_group passes []) → IsTrue (one_picture given.channels) → SectionsFit image passes sections
       fit can one = subst (SectionsFit image passes) (sym sections_are) (record {
         cut = record { groups = groups_possible can one; cells = cut };
-        exist = exist image passes first more listed.of_global.part listed.added.parts_are;
-        unlike = unlike image passes first more listed.of_global.part listed.added.parts_are;
+        exist = exist image passes first more first_part listed.added.parts_are;
+        unlike = unlike image passes first more first_part listed.added.parts_are;
       })
+
+      -- its coded channels are of one picture
+      pictured : All IsValidChannel ps → IsTrue (one_picture given.channels) → (w : ℕ) × (h : ℕ) × IsPictured w h (coded_list image)
+      pictured valid one =
+          let pic = still_picture ps o.head valid one (opened_steps (is_some global) given bytes p o.head o.start.tree_at o.start.header) in
+          let list_is : coded_list image ≡ o.head.coded.list = ap (λ (i : Image S D). coded_list i) o.is in
+          (pic.w, pic.h, subst (IsPictured pic.w pic.h) (sym list_is) pic.is)
 
       -- and each part with samples has one
       pub all_there : IsTrue (can_group passes []) → All IsValidChannel ps → IsTrue (one_picture given.channels) → IsComplete image passes sections
       all_there can valid one =
-          let pictured = still_picture ps o.head valid one (opened_steps (is_some global) given bytes p o.head o.start.tree_at o.start.header) in
-          let list_is : coded_list image ≡ o.head.coded.list = ap (λ (i : Image S D). coded_list i) o.is in
-          subst (IsComplete image passes) (sym sections_are) (complete image passes first more listed.of_global.part listed.added.parts_are can pictured.w pictured.h
-          (subst (IsPictured pictured.w pictured.h) (sym list_is) pictured.is))
+          let (w, h, is) = pictured valid one in
+          subst (IsComplete image passes) (sym sections_are) (complete image passes first more first_part listed.added.parts_are can w h is)
 
       -- the first section has no header of its own, so all or the others alone have such a palette
       weighted_are : list_any section_is_weighted sections ≡ list_any section_is_weighted more
-      weighted_are = ap (list_any section_is_weighted) sections_are ∙ ap (λ b. (b && weighted_at (bytes_of first.bits) (position_of first.bits)) || list_any section_is_weighted more) listed.of_global.nested
+      weighted_are = ap (list_any section_is_weighted) sections_are ∙ ap (λ b. (b && weighted_at (bytes_of first.bits) (position_of first.bits)) || list_any section_is_weighted more) (ap (λ (s : Section). s.nested) listed.of_global)
 
-      -- each group has a section
-      abbrev has : Has
-      has = record {
-        stands = stands;
-        cut = can_be_cut;
-        groups = more;
-        parts = parts_are;
-        of_groups = listed.added.groups;
-      }
+      begin_groups : All (λ s. (position_of s.bits ≡ 0) × (s.nested ≡ true)) more
+      begin_groups k d lt = let (there, begins, nested) = of_group (get_or more k d) (listed.added.groups k d lt) in (begins, nested)
 
-      -- and none has such a palette
-      abbrev can : list_any section_is_weighted sections ≡ false → Can
-      can plain = record {
-        has = has;
-        plain = sym weighted_are ∙ plain;
-        first = first;
-        bytes_are = first_bytes;
-        goes_on = first_place;
-        of_global = listed.of_global;
-      }
+      module _ (possible : IsTrue (can_group passes [])) (valid : All IsValidChannel ps) (one : IsTrue (one_picture given.channels)) where
+        each_group : (part : SectionPart) → ((part ≡ parts.Global → ⊥) × (0 < cell_count (channels_in image passes part))) ↔ Any (λ s. s.part ≡ part) more
+        each_group = let (w, h, is) = pictured valid one in each_one image passes more listed.added.parts_are possible w h is
 
-      -- the section of a group has such a palette
-      pub weighted_fail : list_any section_is_weighted sections ≡ true → Fails errors.GroupWeightedPalette
-      weighted_fail some = (has, sym weighted_are ∙ some)
+        -- each group has a section
+        abbrev has : Has
+        has = record {
+          stands = stands;
+          cut = can_be_cut;
+          groups = more;
+          are = λ k d lt. of_group (get_or more k d) (listed.added.groups k d lt);
+          each = each_group;
+          in_order = streams_rise places more listed.added.groups (sections_in_order image passes more listed.added.parts_are);
+        }
 
-      -- decoding them fails
-      pub samples_fail : (e : FrameError) → list_any section_is_weighted sections ≡ false → SamplesStop d w to_int zero image passes global sections e → Fails e
-      samples_fail (errors.Samples e) plain h =
-          let (left, before, after, stop) = h in
-          always_so (kind_of e) (
-            can plain,
-            left,
-            before,
-            after,
-            subst (λ (i : Image S D). SectionsStop d w to_int zero i passes global false (first ∷ more) e i.store left before after) o.is
-                (subst (λ ss. SectionsStop d w to_int zero image passes global false ss e image.store left before after) sections_are stop),
-          )
-      samples_fail (errors.Header e) plain h = absurd h
-      samples_fail errors.WeightedPalette plain h = absurd h
-      samples_fail errors.NoGroups plain h = absurd h
-      samples_fail errors.NoSection plain h = absurd h
-      samples_fail errors.GroupWeightedPalette plain h = absurd h
-      samples_fail errors.NoMemory plain h = absurd h
+        -- and none has such a palette
+        abbrev can : list_any section_is_weighted sections ≡ false → Can
+        can plain = record {
+          has = has;
+          plain = all_plain more begin_groups (sym weighted_are ∙ plain);
+          first = first;
+          bytes_are = first_bytes;
+          goes_on = first_place;
+          is = listed.of_global;
+        }
 
-      -- or there is the frame
-      pub made : list_any section_is_weighted sections ≡ false → (grids : List (Grid ℤ)) (before after : ℕ) → AreDecoded d w to_int zero image passes global sections grids before after → Made grids before after
-      made plain grids before after done = record {
-        can = can plain;
-        decoded = subst (λ (i : Image S D). AreDecoded d w to_int zero i passes global (first ∷ more) grids before after) o.is
-            (subst (λ ss. AreDecoded d w to_int zero image passes global ss grids before after) sections_are done);
-      }
+        -- the section of a group has such a palette
+        pub weighted_fail : list_any section_is_weighted sections ≡ true → Fails errors.GroupWeightedPalette
+        weighted_fail some = (has, some_weighted more begin_groups (sym weighted_are ∙ some))
+
+        -- decoding them fails
+        pub samples_fail : (e : FrameError) → list_any section_is_weighted sections ≡ false → SamplesStop d w to_int zero image passes global sections e → Fails e
+        samples_fail (errors.Samples e) plain h =
+            let (left, before, after, stop) = h in
+            always_so (kind_of e) (can plain, left, before, after, subst (λ ss. SectionsStop d w to_int zero image passes global false ss e image.store left before after) sections_are stop)
+        samples_fail (errors.Header e) plain h = absurd h
+        samples_fail errors.WeightedPalette plain h = absurd h
+        samples_fail errors.NoGroups plain h = absurd h
+        samples_fail errors.NoSection plain h = absurd h
+        samples_fail errors.GroupWeightedPalette plain h = absurd h
+        samples_fail errors.NoMemory plain h = absurd h
+
+        -- or there is the frame
+        pub made : list_any section_is_weighted sections ≡ false → (grids : List (Grid ℤ)) (before after : ℕ) → AreDecoded d w to_int zero image passes global sections grids before after → Made grids before after
+        made plain grids before after done =
+            record { can = can plain; decoded = subst (λ ss. AreDecoded d w to_int zero image passes global ss grids before after) sections_are done }
 
   -- whose grids have the sides of the channels
   pub still_sides : (grids : List (Grid ℤ)) (before after : ℕ) → Made grids before after → AreGridsOf given.channels grids
   still_sides grids before after s =
-      chain_sides w bit_depth s.can.has.stands.head.coded.steps (record { channels = given.channels; nb_meta = 0 }) grids s.decoded.coded s.decoded.only.chain
+      let image = s.can.has.stands.image in
+      let sides = chain_sides w image.bit_depth image.steps (record { channels = image.given; nb_meta = 0 }) grids s.decoded.coded s.decoded.only.chain in
+      subst (λ (l : List Channel). AreGridsOf l grids) (ap (λ (i : Image S D). i.given) s.can.has.stands.is) sides

@@ -13,8 +13,8 @@ use Rattle.jxlm_transform.specs.declared.param.ModularParams.{ModularParams}
 use Rattle.jxl_modular.specs.Image.{Image}
 use Rattle.jxl_modular.specs.Parsing.{ParseGives, image_of}
 use Rattle.jxl_modular.specs.declared.root.Modular.{Modular}
-use Rattle.jxl_still.specs.Stills.{weighted_at}
 use Rattle.jxl_still.specs.Inner.Openings.{HeaderFails, Opens}
+use Rattle.jxl_still.specs.Inner.Weighted.{weighted_at}
 
 pub list_any-map : {X Y : Type 0} (p : Y → Bool) (f : X → Y) (xs : List X) → list_any p (map f xs) ≡ list_any (λ x. p (f x)) xs
 list_any-map p f [] = refl
@@ -33,7 +33,7 @@ module _ {S D : Type 0} (d : Meaning D) (zero : S) (bytes : List ℕ) (p : ℕ) 
   opened_as (c ∷ cs) q m made gives is plain =
       let (image, found, at) = gives in
       subst (λ (o : Option (Image S D)). IfSome o (λ image. Opens d (option_copied params.ma_config) (image_list params.channels.items) bytes p zero params.group_dim params.bit_depth image q)) (sym (is ∙ found))
-      (record { head = at.head; config = image.config; plain = plain; start = at.start; is = at.cells })
+      (record { head = at.head; plain = plain; start = at.start; is = at.cells })
 
   -- or why there is none
   pub not_opened : (ps : List ModularChannelParams) (q : ℕ) (e : Error) → ParseGives {S = S} d zero bytes p params ps (Err e) q →

@@ -3,4 +3,7 @@ pub mod Listings
 pub mod Headers
 pub mod Frames
 pub mod Passes
+pub mod Order
+pub mod Weighted
+pub mod Alike
 pub mod Complete

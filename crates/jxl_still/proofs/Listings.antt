@@ -7,8 +7,8 @@ use Rattle.jxl_modular.specs.Image.{Image}
 use Rattle.jxl_modular.specs.declared.sections.Section.{Section}
 use Rattle.jxlm_sections.proofs.PartLists.{IsAmong, among_left, among_right}
 use Rattle.jxl_still.specs.Inner.Listing.{AddingFails, AreAdded, ListingFails}
-use Rattle.jxl_still.specs.Inner.Parts.{low_parts, parts_of_passes}
-use Rattle.jxl_still.specs.Places.{groups_in_order, own_passes}
+use Rattle.jxl_still.specs.Inner.Parts.{groups_in_order, low_parts, parts_of_passes}
+use Rattle.jxl_still.specs.Places.{own_passes}
 use Rattle.jxl_still.specs.declared.error.FrameError.{FrameError}
 use Rattle.jxl_still.specs.declared.error.FrameError.TheVariants as errors
 use Rattle.jxl_still.specs.declared.places.Places.{Places}

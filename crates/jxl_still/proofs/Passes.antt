@@ -1,21 +1,16 @@
 -- Lists of parts, pass after pass.
-use Rattle.std.proofs.Common.{◌≡◌, ℕ, zero, suc, ◌+◌, ◌<◌, ◌≤◌, ◌⊎◌, inl, inr, List, [], ◌∷◌, ◌++◌, get_or, sym, ap, ◌∙◌, subst, arith}
+use Rattle.std.proofs.Common.{◌≡◌, ℕ, zero, suc, ◌+◌, ◌<◌, ◌≤◌, ◌⊎◌, inl, inr, List, [], ◌∷◌, ◌++◌, sym, ap, ◌∙◌, subst, arith}
 use Rattle.std.specs.List.{All, flat_map, range_with_len}
 use Rattle.std.proofs.lemmas.Bool.{cases_lt}
 use Rattle.std.proofs.lemmas.Grind.{flat_map-append}
 use Rattle.std.proofs.lemmas.List.{append-nil}
 use Rattle.std.proofs.lemmas.List.Elements.{All-append, All-nil}
-use Rattle.jxlm_sections.proofs.PartLists.{AllDiffer, Differ, IsAmong, among_left, among_right, differ_append}
+use Rattle.jxlm_sections.proofs.PartLists.{IsAmong, among_left, among_right}
 
 module _ {X : Type 0} (f : ℕ → List X) where
   pub all_passes : (P : X → Type 0) (a n : ℕ) → ((k : ℕ) → a ≤ k → All P (f k)) → All P (flat_map f (range_with_len a n))
   all_passes P a zero h = All-nil P
   all_passes P a (suc n) h = All-append P (f a) (flat_map f (range_with_len (a + 1) n)) (h a (omega arith)) (all_passes P (a + 1) n (λ k le. h k (omega (arith, le))))
-
-  pub differ_passes : ((k : ℕ) → AllDiffer (f k)) → ((a b : ℕ) → a < b → All (λ x. Differ x (f b)) (f a)) → (a n : ℕ) → AllDiffer (flat_map f (range_with_len a n))
-  differ_passes own apart a zero = tt
-  differ_passes own apart a (suc n) = differ_append (f a) (flat_map f (range_with_len (a + 1) n)) (own a) (differ_passes own apart (a + 1) n) (λ i d lt.
-      all_passes (λ y. y ≡ get_or (f a) i d → ⊥) (a + 1) n (λ b le. apart a b (omega (arith, le)) i d lt))
 
   among_passes : (x : X) (a n k : ℕ) → a ≤ k → k < a + n → IsAmong x (f k) → IsAmong x (flat_map f (range_with_len a n))
   among_passes x a zero k low high h = absurd (omega (arith, low, high))

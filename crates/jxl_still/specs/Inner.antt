@@ -1,3 +1,4 @@
 pub mod Listing
 pub mod Openings
 pub mod Parts
+pub mod Weighted

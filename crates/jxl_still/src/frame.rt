@@ -10,7 +10,7 @@ ghost use Rattle.jxl_modular.specs.Image.{image_grids};
 ghost use Rattle.jxl_modular.specs.SameButCells.{SameButCells};
 ghost use Rattle.jxl_modular.specs.Sections.{AreDecoded, IsComplete, SectionsFit};
 ghost use Rattle.jxl_still.specs.Stills.{IsStill, StillFails};
-ghost use Rattle.jxl_still.specs.Places.{AreUsable};
+ghost use Rattle.jxl_still.specs.Places.{AreUsable, own_passes, section_at};
 ghost use Rattle.jxl_still.specs.Inner.Listing.{SamplesStop};
 
 use crate::error::FrameError;
@@ -90,13 +90,14 @@ pub fn decode_frame<'a, S: Sample, D: Decoder, P: Progress>(
     ensures none { (result ≡ Ok None) ↔ (params.entry.channels.items ≡ []) }
     ensures still { IfOk result (λ made. IfSome made (λ image. IsStill D.meaning S.width S.to_int (S.from_int (pos 0))
         (option_copied params.entry.ma_config) (image_list params.entry.channels.items) params.entry.group_dim
-        params.entry.bit_depth (bytes_of first.entry) (position_of first.entry) places.entry
-        (image_grids S.to_int image) steps.old steps.new)) }
+        params.entry.bit_depth (bytes_of first.entry) (position_of first.entry) (own_passes places.entry)
+        (section_at places.entry) (image_grids S.to_int image) steps.old steps.new)) }
     ensures sides { IfOk result (λ made. IfSome made (λ image.
         AreGridsOf (image_list params.entry.channels.items).channels (image_grids S.to_int image))) }
     ensures err { IfErr result (StillFails D.meaning S.width S.to_int (S.from_int (pos 0))
         (option_copied params.entry.ma_config) (image_list params.entry.channels.items) params.entry.group_dim
-        params.entry.bit_depth (bytes_of first.entry) (position_of first.entry) places.entry) }
+        params.entry.bit_depth (bytes_of first.entry) (position_of first.entry) (own_passes places.entry)
+        (section_at places.entry)) }
 {
     let global = params.ma_config;
     let mut bits = first;

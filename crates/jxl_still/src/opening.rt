@@ -7,7 +7,7 @@ ghost use Rattle.jxlm_base.specs.Bits.{bytes_of, position_of};
 ghost use Rattle.jxlm_transform.specs.Channels.{image_list};
 ghost use Rattle.jxlm_transform.specs.Params.{IsValidParams};
 ghost use Rattle.jxlm_transform.specs.Transforms.{transform_of};
-ghost use Rattle.jxl_still.specs.Stills.{is_weighted as the_weighted_palette, section_is_weighted, weighted, weighted_at};
+ghost use Rattle.jxl_still.specs.Inner.Weighted.{is_weighted as the_weighted_palette, section_is_weighted, weighted, weighted_at};
 ghost use Rattle.jxl_still.specs.Inner.Openings.{OpenFails, Opens};
 
 use crate::error::FrameError;

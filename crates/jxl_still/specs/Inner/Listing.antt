@@ -1,6 +1,8 @@
 -- Sections that were found.
-use Rattle.std.specs.Prelude.{◌≡◌, ℕ, ℤ, List, [], ◌∷◌, ◌++◌, map, Any, false, IsFalse, Option, None}
+use Rattle.std.specs.Prelude.{◌≡◌, ℕ, ℤ, List, [], ◌∷◌, ◌++◌, map, Any, true, false, IsFalse, Option, None, Some}
+use Rattle.std.specs.Borrow.{Bor}
 use Rattle.std.specs.Int.{Width}
+use Rattle.jxlm_base.specs.Bits.{bytes_of, position_of}
 use Rattle.jxlm_base.specs.Decoding.{Meaning}
 use Rattle.jxlm_base.specs.Grid.{Grid}
 use Rattle.jxlm_ma.specs.Tree.{Config}
@@ -9,14 +11,24 @@ use Rattle.std.specs.List.{All}
 use Rattle.jxlm_base.specs.declared.bits.Bitstream.{Bitstream}
 use Rattle.jxlm_cut.specs.Cutting.{can_cut}
 use Rattle.jxlm_cut.specs.declared.part.SectionPart.{SectionPart}
+use Rattle.jxlm_cut.specs.declared.part.SectionPart.TheVariants as parts
 use Rattle.jxlm_cut.specs.declared.pass.Pass.{Pass}
 use Rattle.jxl_modular.specs.Image.{Image, coded_list}
 use Rattle.jxl_modular.specs.declared.sections.Section.{Section}
-use Rattle.jxlm_sections.specs.Splitting.{IsOfGlobal}
-use Rattle.jxl_still.specs.Places.{IsOfGroup, groups_in_order, held, own_passes}
+use Rattle.jxl_still.specs.Inner.Parts.{groups_in_order}
+use Rattle.jxl_still.specs.Places.{held, own_passes, stream_of}
 use Rattle.jxl_still.specs.declared.error.FrameError.{FrameError}
 use Rattle.jxl_still.specs.declared.error.FrameError.TheVariants as errors
 use Rattle.jxl_still.specs.declared.places.Places.{Places}
+
+-- The section is that of a group: it holds the bytes that the frame has for its part, and begins with a header of its own.
+pub record IsOfGroup (x : Places) (s : Section) : Type 0 where
+  pub section : Bor (List ℕ)
+  pub there : held x s.part ≡ Some section
+  pub lies : bytes_of s.bits ≡ section.now
+  pub begins : position_of s.bits ≡ 0
+  pub stream : s.stream_index ≡ stream_of x s.part
+  pub nested : s.nested ≡ true
 
 -- the section is that of this part
 pub record IsPlaced (x : Places) (part : SectionPart) (s : Section) : Type 0 where
@@ -44,7 +56,7 @@ AddingFails x ps e = ⊥
 -- the sections of an image: that of the global part goes on after the header, and the others were found
 pub record AreListed {S D : Type 0} (x : Places) (image : Image S D) (first : Bitstream) (sections : List Section) : Type 0 where
   pub global : Section
-  pub of_global : IsOfGlobal global
+  pub of_global : global ≡ record { part = parts.Global; bits = global.bits; stream_index = 0; nested = false }
   pub goes_on : global.bits ≡ first
   pub added : AreAdded x (groups_in_order image (own_passes x)) (global ∷ []) sections
 

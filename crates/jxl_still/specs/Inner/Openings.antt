@@ -9,7 +9,7 @@ use Rattle.jxlm_ma.specs.Tree.{Config}
 use Rattle.jxl_modular.specs.Fresh.{fresh}
 use Rattle.jxl_modular.specs.Image.{Image}
 use Rattle.jxl_modular.specs.Parsing.{IsStartAt, IsTreeErrorAt, opened}
-use Rattle.jxl_still.specs.Stills.{weighted_at}
+use Rattle.jxl_still.specs.Inner.Weighted.{weighted_at}
 use Rattle.jxl_still.specs.declared.error.FrameError.{FrameError}
 use Rattle.jxl_still.specs.declared.error.FrameError.TheVariants as errors
 
@@ -21,10 +21,9 @@ module _ {D : Type 0} (d : Meaning D) (global : Option (Config D)) (given : Chan
   -- the image whose header stands there, up to bit q
   pub record Opens {S : Type 0} (zero : S) (group_dim bit_depth : ℕ) (image : Image S D) (q : ℕ) : Type 0 where
     pub head : Opening
-    pub config : Config D
     pub plain : weighted_at bytes p ≡ false
-    pub start : IsStartAt d global bytes given p head config q
-    pub is : image ≡ fresh zero given head config group_dim bit_depth
+    pub start : IsStartAt d global bytes given p head image.config q
+    pub is : image ≡ fresh zero given head image.config group_dim bit_depth
 
   abbrev pub OpenFails : FrameError → Type 0
   OpenFails (errors.Header e) = UnlessMemory (kind_of e) (HeaderFails d global given bytes p (kind_of e))

@@ -2,7 +2,7 @@ use Rattle.std.proofs.Common.{ap, sym, ◌∙◌, List}
 use Rattle.std.specs.List.{list_any}
 use Rattle.jxlm_transform.specs.Transforms.{transform_of}
 use Rattle.jxlm_transform.specs.declared.transform.TransformInfo.{TransformInfo}
-use Rattle.jxl_still.specs.Stills.{found_weighted, is_weighted}
+use Rattle.jxl_still.specs.Inner.Weighted.{found_weighted, is_weighted}
 use Rattle.jxl_still.proofs.Headers.{list_any-map}
 use Rattle.jxl_still.proofs.opening.begins_weighted.Goals as goal
 

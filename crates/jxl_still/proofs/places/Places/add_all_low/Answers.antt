@@ -7,7 +7,7 @@ use Rattle.jxl_modular.specs.Groups.{channels_in}
 use Rattle.jxl_modular.specs.GroupParts.{groups_of, image_of, passes_in}
 use Rattle.jxlm_sections.specs.CutPicture.{lf_groups}
 use Rattle.jxlm_sections.proofs.SectionRows.{has_none, has_some, passed_over, taken}
-use Rattle.jxl_still.specs.Places.{with_samples}
+use Rattle.jxl_still.specs.Inner.Parts.{with_samples}
 use Rattle.jxl_still.specs.Inner.Listing.{AddingFails}
 use Rattle.jxl_still.proofs.Adding.{added_then, among_first, fails_among, none_added}
 use Rattle.jxl_still.proofs.places.Places.add_all_low.Goals as goal

@@ -12,7 +12,7 @@ returns-clause-listed g c =
     let begun : c.push.new.self.items ≡ global ∷ [] = search rules in
     record {
       global = global;
-      of_global = record { part = refl; stream = refl; nested = refl };
+      of_global = refl;
       goes_on = refl;
       added = all_added c.args.self.now c.args.image.now (image_of c.in-Ok.groups) (passes_in c.in-Ok.groups) (global ∷ []) c.push.new.self.items
           c.add_all_low.new.list.items c.add_all_passes.new.list.items c.in-Ok.ensures.unchanged c.in-Ok.ensures.passes begun c.in_ok-add_all_low.ensures.ok c.in_ok-add_all_passes.ensures.ok;
