@@ -8,7 +8,9 @@ use Rattle.std.proofs.lemmas.List.Folds.{list_any_at}
 use Rattle.std.proofs.lemmas.Bool.{eqb-true, eqb-false, cases_lt}
 use Rattle.jxl_toc.proofs.Cases.{trichotomy, less_or_same}
 use Rattle.jxl_toc.proofs.Free.{free_all, free_over, free_after, free_up_to, none_left, other_taken, equals_itself}
-use Rattle.jxl_toc.specs.Orders.{free_below, is_taken, IsNext, IsOrder, IsBijection}
+use Rattle.jxl_toc.proofs.Lefts.{leads_to, stands_at}
+use Rattle.jxl_toc.specs.Orders.{IsOrder, IsBijection}
+use Rattle.jxl_toc.specs.Inner.Free.{free_below, is_taken, IsNext}
 use Rattle.jxl_toc.specs.Inner.Counts.{AreDigits, IsBegun}
 
 -- so many are left after the first i
@@ -22,8 +24,12 @@ left_after code n order o (suc i) h =
     let less = free_after (take i order) (slice_index order i) n next.free next.below in
     rw taken (omega (arith, before, less))
 
+-- each number of an order is the one that its digit leads to
+pub next_at : (code : List ℕ) (n : ℕ) (order : List ℕ) → IsOrder code n order → (i : ℕ) → i < n → IsNext n (take i order) (slice_index_or code i 0) (slice_index order i)
+next_at code n order o i h = leads_to n (take i order) (slice_index_or code i 0) (slice_index order i) (o.each i h)
+
 begun : (code : List ℕ) (n : ℕ) (order : List ℕ) → IsOrder code n order → IsBegun code n order
-begun code n order o = record { each = λ i h. o.each i (omega (arith, h, o.length)) }
+begun code n order o = record { each = λ i h. next_at code n order o i (omega (arith, h, o.length)) }
 
 -- a number that is among the first so many stands at one of these places
 abbrev StandsBelow : List ℕ → ℕ → ℕ → Type 0
@@ -57,7 +63,7 @@ stands_before order i j lt h =
 first_only : (code : List ℕ) (n : ℕ) (order : List ℕ) → IsOrder code n order → (i j : ℕ) → i < j → j < n → slice_index order i ≡ slice_index order j → ⊥
 first_only code n order o i j lt h same =
     let taken = stands_before order i j lt (omega (arith, h, o.length)) in
-    let free = (o.each j h).free in
+    let free = (next_at code n order o j h).free in
     no_true (sym free ∙ (rw same at taken))
 
 pub is_bijection : (code : List ℕ) (n : ℕ) (order : List ℕ) → IsOrder code n order → IsBijection n order
@@ -90,7 +96,7 @@ same_first code n x y a b (suc i) h =
     let lt : i < n = omega (arith, h) in
     let tx = take-suc x i 0 (omega (arith, lt, a.length)) in
     let ty = take-suc y i 0 (omega (arith, lt, b.length)) in
-    let same = one_next n (take i x) (slice_index_or code i 0) (slice_index x i) (slice_index y i) (a.each i lt) (rw before (b.each i lt)) in
+    let same = one_next n (take i x) (slice_index_or code i 0) (slice_index x i) (slice_index y i) (next_at code n x a i lt) (rw before (next_at code n y b i lt)) in
     tx ∙ rw (before, same) (sym ty)
 
 -- a code tells one order
@@ -132,7 +138,10 @@ pub begun_none : (code : List ℕ) (n : ℕ) → IsBegun code n []
 begun_none code n = record { each = λ i h. absurd (omega (arith, h)) }
 
 pub begun_whole : (code : List ℕ) (n : ℕ) (order : List ℕ) → length order ≡ n → IsBegun code n order → IsOrder code n order
-begun_whole code n order long begun = record { length = long; each = λ i h. begun.each i (omega (arith, h, long)) }
+begun_whole code n order long begun = record {
+  length = long;
+  each = λ i h. stands_at n (take i order) (slice_index_or code i 0) (slice_index order i) (begun.each i (omega (arith, h, long)));
+}
 
 digit_at : (code : List ℕ) (n v : ℕ) → AreDigits code n → v + length code < n → (i : ℕ) → (i < length code) ⊎ (i ≡ length code) → slice_index (code ++ v ∷ []) i + i < n
 digit_at code n v valid h i (inl lt) = rw (get_or-append code (v ∷ []) 0 i lt) (valid i lt)

@@ -7,7 +7,7 @@ use Rattle.std.proofs.lemmas.List.{get_or-set_same, get_or-set_other, get_or_pus
 use Rattle.std.proofs.Math.ListN.{get_or-append}
 use Rattle.jxl_toc.proofs.Cases.{trichotomy, less_or_same}
 use Rattle.jxl_toc.proofs.Free.{free_all, free_up_to, free_over, free_same, free_after, free_none, is_found}
-use Rattle.jxl_toc.specs.Orders.{free_below, is_taken, IsNext}
+use Rattle.jxl_toc.specs.Inner.Free.{free_below, is_taken, IsNext}
 use Rattle.jxl_toc.specs.Inner.Counts.{IsCounted, IsPartly, AreAllFree}
 
 -- twice as many halves

@@ -3,6 +3,7 @@ use Rattle.std.proofs.Common.{◌≡◌, ℕ, ◌+◌, ◌<◌, List, [], ◌∷
 use Rattle.std.specs.Prelude.{slice_index}
 use Rattle.std.proofs.lemmas.List.{get_or_push, get_or-map, length-map, ext_get_or}
 use Rattle.std.proofs.Math.ListN.{get_or-append}
+use Rattle.jxl_toc.proofs.Bijections.{next_at}
 use Rattle.jxl_toc.proofs.Cases.{less_or_same}
 use Rattle.jxl_toc.specs.Orders.{IsOrder}
 use Rattle.jxl_toc.specs.Tocs.{IsToc}
@@ -31,6 +32,6 @@ in_order code sizes start stand entries order stands is_order long same = record
       let f : ℕ → TocEntry = entry_at start sizes in
       ext_get_or d entries (map f order) (long ∙ sym (length-map order f)) λ k lt.
       let within : k < length order = omega (arith, lt, long) in
-      let next = is_order.each k (omega (arith, within, is_order.length)) in
+      let next = next_at code (length sizes) order is_order k (omega (arith, within, is_order.length)) in
       same k d within ∙ stands.each (slice_index order k) d (omega (arith, next.below, stands.count)) ∙ sym (get_or-map f order k 0 d within);
 }

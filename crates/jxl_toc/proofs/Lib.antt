@@ -1,6 +1,7 @@
 pub mod ReadSteps
 pub mod Cases
 pub mod Free
+pub mod Lefts
 pub mod Counted
 pub mod Bijections
 pub mod Chains

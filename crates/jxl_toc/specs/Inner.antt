@@ -1,3 +1,4 @@
 pub mod Counts
-pub mod Steps
 pub mod Entries
+pub mod Free
+pub mod Steps

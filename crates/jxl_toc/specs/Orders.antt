@@ -1,6 +1,6 @@
 -- The order of sections in the file: a permutation by its Lehmer code (ISO/IEC 18181-1, permutations).
-use Rattle.std.specs.Prelude.{◌≡◌, ℕ, zero, suc, ◌+◌, ◌-◌, ◌<◌, List, [], ◌∷◌, ◌++◌, length, take, count_by, nat_lt, nat_le, ◌==◌, Bool, false, if◌then◌else◌, slice_index, slice_index_or, codes}
-use Rattle.std.specs.List.{list_any}
+use Rattle.std.specs.Prelude.{◌≡◌, ℕ, ◌+◌, ◌-◌, ◌<◌, List, [], ◌∷◌, ◌++◌, length, take, count_by, nat_lt, nat_le, ◌==◌, not, slice_get, slice_index, slice_index_or, codes, Some}
+use Rattle.std.specs.List.{filter, list_any, range_with_len}
 use Rattle.jxlm_base.specs.Decoding.{Meaning}
 use Rattle.jxlm_base.specs.ErrorKind.{BadEnum}
 use Rattle.jxlm_base.specs.Grammar.{Grammar, give, fail, either}
@@ -8,25 +8,15 @@ use Rattle.jxl_headers.specs.Fields.{meant}
 use Rattle.jxl_toc.specs.Tokens.{Tokens, token, coded}
 use Rattle.jxl_toc.specs.Turns.{◌>>=◌, chained}
 
--- a number is among those that were taken
-abbrev pub is_taken : List ℕ → ℕ → Bool
-is_taken taken v = list_any (λ w. w == v) taken
+-- the numbers below n that were not taken, in their order
+abbrev pub left_of : ℕ → List ℕ → List ℕ
+left_of n taken = filter (λ v. not (list_any (λ w. w == v) taken)) (range_with_len 0 n)
 
--- how many numbers below v were not taken
-unfoldable pub free_below : List ℕ → ℕ → ℕ
-free_below taken zero = 0
-free_below taken (suc v) = free_below taken v + (if is_taken taken v then 0 else 1)
-
--- The number that a digit leads to, of n numbers: it was not taken, and as many below it were not as the digit says.
-pub record IsNext (n : ℕ) (taken : List ℕ) (digit v : ℕ) : Type 0 where
-  pub below : v < n
-  pub free : is_taken taken v ≡ false
-  pub passes : free_below taken v ≡ digit
-
--- The order of n numbers that a Lehmer code tells: each is the one that its digit leads to; a digit that is not told is 0.
+-- The order of n numbers that a Lehmer code tells: each stands, among those that are left, at the place of its digit; a digit
+-- that is not told is 0.
 pub record IsOrder (code : List ℕ) (n : ℕ) (order : List ℕ) : Type 0 where
   pub length : length order ≡ n
-  pub each : (i : ℕ) → i < n → IsNext n (take i order) (slice_index_or code i 0) (slice_index order i)
+  pub each : (i : ℕ) → i < n → slice_get (left_of n (take i order)) (slice_index_or code i 0) ≡ Some (slice_index order i)
 
 -- Each number below n stands at one place, and at no other.
 pub record IsBijection (n : ℕ) (order : List ℕ) : Type 0 where

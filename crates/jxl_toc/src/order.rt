@@ -6,7 +6,8 @@ ghost use Rattle.jxlm_base.specs.ErrorKind.{NoMemory, kind_of};
 ghost use Rattle.jxl_toc.specs.Tokens.{told as the_told};
 ghost use Rattle.jxl_toc.specs.Turns.{chained};
 ghost use Rattle.jxl_toc.specs.Reading.{Decodes};
-ghost use Rattle.jxl_toc.specs.Orders.{IsNext, IsOrder, free_below, is_taken, context_of as the_context_of, one_more, lehmer_code as the_lehmer_code};
+ghost use Rattle.jxl_toc.specs.Orders.{IsOrder, context_of as the_context_of, one_more, lehmer_code as the_lehmer_code};
+ghost use Rattle.jxl_toc.specs.Inner.Free.{IsNext, free_below, is_taken};
 ghost use Rattle.jxl_toc.specs.Inner.Counts.{AreDigits, IsCounted};
 ghost use Rattle.jxl_toc.specs.Inner.Steps.{TokensRead, decoder as the_decoder, told_digits as the_told_digits};
 

@@ -1,6 +1,6 @@
 -- Numbers that were not taken, counted by a full binary tree; orders as far as they are known.
 use Rattle.std.specs.Prelude.{◌≡◌, ℕ, suc, ◌+◌, ◌*◌, ◌^◌, ◌<◌, ◌≤◌, List, [], ◌∷◌, ◌++◌, length, take, slice_index, slice_index_or}
-use Rattle.jxl_toc.specs.Orders.{free_below, IsNext}
+use Rattle.jxl_toc.specs.Inner.Free.{free_below, IsNext}
 
 -- Node 2 ^ m + i counts the numbers not taken among 2 ^ h, from i * 2 ^ h on, where all are 2 ^ (m + h).
 pub record IsCounted (counts : List ℕ) (levels : ℕ) (taken : List ℕ) : Type 0 where

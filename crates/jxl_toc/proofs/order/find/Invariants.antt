@@ -1,5 +1,5 @@
 use Rattle.std.proofs.Common.{◌≡◌, ℕ, suc, ◌+◌, ◌*◌, ◌^◌, ◌<◌, List}
-use Rattle.jxl_toc.specs.Orders.{free_below}
+use Rattle.jxl_toc.specs.Inner.Free.{free_below}
 use Rattle.jxl_toc.specs.Inner.Counts.{IsCounted}
 use Rattle.jxl_toc.proofs.order.find.Given as goal
 

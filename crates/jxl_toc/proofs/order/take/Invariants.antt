@@ -1,5 +1,5 @@
 use Rattle.std.proofs.Common.{◌≡◌, ℕ, ◌/◌, ◌^◌, List, length, false}
-use Rattle.jxl_toc.specs.Orders.{is_taken}
+use Rattle.jxl_toc.specs.Inner.Free.{is_taken}
 use Rattle.jxl_toc.specs.Inner.Counts.{IsCounted, IsPartly}
 use Rattle.jxl_toc.proofs.order.take.Given as goal
 

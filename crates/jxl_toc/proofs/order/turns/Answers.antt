@@ -1,8 +1,8 @@
 use Rattle.std.proofs.Common.{◌≡◌, ℕ, [], ◌∷◌, ◌++◌, ◌+◌, ◌^◌, ◌<◌, length, rules, ◌∙◌, arith}
 use Rattle.std.specs.Prelude.{slice_index_or}
 use Rattle.std.proofs.lemmas.List.{length-append}
-use Rattle.jxl_toc.specs.Orders.{IsNext}
-use Rattle.jxl_toc.proofs.Bijections.{begun_more, digit_fits, digit_leads, leads_below}
+use Rattle.jxl_toc.specs.Inner.Free.{IsNext}
+use Rattle.jxl_toc.proofs.Bijections.{begun_more, begun_whole, digit_fits, digit_leads, leads_below}
 use Rattle.jxl_toc.proofs.order.turns.Goals as goal
 
 pub loop-i-preserved : goal.loop-i-preserved
@@ -25,3 +25,9 @@ loop-i-preserved c =
       so_many = rw pushed (omega (arith, length-append order (v ∷ []), c.loop-i.invariant.so_many));
       begun = rw pushed (begun_more c.args.code.now n order c.loop-i.invariant.begun v below);
     }
+
+pub returns-clause-order : goal.returns-clause-order
+returns-clause-order c =
+    let i = c.loop-i.i in
+    let end : i ≡ c.args.count = search rules in
+    begun_whole c.args.code.now c.args.count c.loop-i.order.items (c.loop-i.invariant.so_many ∙ end) c.loop-i.invariant.begun
