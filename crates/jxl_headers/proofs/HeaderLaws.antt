@@ -10,7 +10,7 @@ use Rattle.jxl_headers.specs.Fields.{groups, long, when, optional, told_if, enum
 use Rattle.jxl_headers.specs.Sizes.{side, size, width_at}
 use Rattle.jxl_headers.specs.Channels.{fits_float, bit_depth, extra_channel}
 use Rattle.jxl_headers.specs.Colours.{coordinate, chromaticity, primary_colours, white, basis, is_curve, transfer, colour_encoding, tone_mapping}
-use Rattle.jxl_headers.specs.Images.{animation, display, samples, extra_channels, shown, matrices, image_header}
+use Rattle.jxl_headers.specs.Images.{animation, matrices, image_header}
 
 pub bind : {X Y : Type 0} {field : Grammar X} {next : X → Grammar Y} → IsExact field → ((x : X) → IsExact (next x)) → IsExact (field >>= next)
 bind {field} {next} first rest = exact-bind field next first rest
@@ -165,28 +165,6 @@ exact-animation =
     bind (exact-u32 (Const 100) (Const 1000) (Offset 1 10) (Offset 1 30)) λ a. bind (exact-u32 (Const 1) (Const 1001) (Offset 1 8) (Offset 1 10)) λ b.
     bind (exact-u32 (Const 0) (Offset 0 3) (Offset 0 16) (Offset 0 32)) λ c. bind exact-flag λ d. exact-give (record { numerator = a; denominator = b; loops = c; timecodes = d })
 
-exact-display : (more : Bool) → IsExact (display more)
-unfolding display
-exact-display more =
-    bind (exact-when more 0 (exact-number 3)) λ o. bind (exact-when more None (exact-optional (exact-size false))) λ i.
-    bind (exact-when more None (exact-optional (exact-size true))) λ p. bind (exact-when more None (exact-optional exact-animation)) λ a.
-    exact-give (record { orientation = o + 1; intrinsic = i; preview = p; animation = a })
-
-exact-samples : (told : Bool) → IsExact (samples told)
-unfolding samples
-exact-samples told =
-    bind (exact-when told (record { bits = 8; exponent_bits = 0 }) exact-depth) λ d. bind (exact-when told true exact-flag) λ n. exact-give (record { depth = d; narrow = n })
-
-exact-extra_channels : IsExact extra_channels
-unfolding extra_channels
-exact-extra_channels = bind (exact-u32 (Const 0) (Const 1) (Offset 2 4) (Offset 1 12)) λ n. exact-repeated n extra_channel exact-channel
-
-exact-shown : (told more : Bool) → IsExact (shown told more)
-unfolding shown
-exact-shown told more =
-    bind (exact-when told true exact-flag) λ xyb. bind (exact-colours told) λ c. bind (exact-tone more) λ t. bind (exact-when told 0 exact-extensions) λ e.
-    exact-give (record { xyb = xyb; colour = c; tone = t; extensions = e })
-
 exact-matrices : (xyb : Bool) → IsExact (matrices xyb)
 unfolding matrices
 exact-matrices xyb =
@@ -198,5 +176,15 @@ pub exact-image_header : IsExact image_header
 unfolding image_header
 exact-image_header =
     bind (exact-checked (codes "signature") (λ v. v == 0x0AFF) (exact-number 16)) λ v. bind (exact-size false) λ size. bind (exact-told_if true) λ told.
-    bind (exact-when told false exact-flag) λ more. bind (exact-display more) λ d. bind (exact-samples told) λ s. bind (exact-when told [] exact-extra_channels) λ e.
-    bind (exact-shown told more) λ x. bind (exact-matrices x.xyb) λ u. exact-give (record { size = size; display = d; samples = s; extra = e; shown = x })
+    bind (exact-when told false exact-flag) λ more. bind (exact-when more 0 (exact-number 3)) λ o. bind (exact-when more None (exact-optional (exact-size false))) λ i.
+    bind (exact-when more None (exact-optional (exact-size true))) λ p. bind (exact-when more None (exact-optional exact-animation)) λ a.
+    bind (exact-when told (record { bits = 8; exponent_bits = 0 }) exact-depth) λ d. bind (exact-when told true exact-flag) λ n.
+    bind (exact-when told [] (bind (exact-u32 (Const 0) (Const 1) (Offset 2 4) (Offset 1 12)) λ n. exact-repeated n extra_channel exact-channel)) λ extra.
+    bind (exact-when told true exact-flag) λ xyb. bind (exact-colours told) λ c. bind (exact-tone more) λ t. bind (exact-when told 0 exact-extensions) λ e.
+    bind (exact-matrices xyb) λ u. exact-give (record {
+      size = size;
+      display = record { orientation = o + 1; intrinsic = i; preview = p; animation = a };
+      samples = record { depth = d; narrow = n };
+      extra = extra;
+      shown = record { xyb = xyb; colour = c; tone = t; extensions = e };
+    })

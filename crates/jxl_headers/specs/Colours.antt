@@ -65,9 +65,8 @@ colour_encoding there = do
 unfoldable pub tone_mapping : Bool → Grammar ToneMapping
 tone_mapping there = do
   told ← told_if there
-  give (record {
-    intensity_target = (← when told (number 16) 0x5BF8);
-    min_nits = (← when told (number 16) 0);
-    relative = (← when told flag false);
-    linear_below = (← when told (number 16) 0);
-  })
+  target ← when told (number 16) 0x5BF8
+  least ← when told (number 16) 0
+  relative ← when told flag false
+  below ← when told (number 16) 0
+  give (record { intensity_target = target; min_nits = least; relative = relative; linear_below = below })

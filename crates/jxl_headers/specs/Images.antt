@@ -36,37 +36,7 @@ animation = do
   loops ← u32 (Const 0) (Offset 0 3) (Offset 0 16) (Offset 0 32)
   give (record { numerator = numerator; denominator = denominator; loops = loops; timecodes = (← flag) })
 
--- how the image is shown
-unfoldable pub display : Bool → Grammar Display
-display more = do
-  orientation ← when more (number 3) 0
-  give (record {
-    orientation = orientation + 1;
-    intrinsic = (← when more (optional (size false)) None);
-    preview = (← when more (optional (size true)) None);
-    animation = (← when more (optional animation) None);
-  })
-
--- how samples are stored, and whether 16 bits are enough for all of decoding
-unfoldable pub samples : Bool → Grammar Samples
-samples told = do
-  give (record { depth = (← when told bit_depth (record { bits = 8; exponent_bits = 0 })); narrow = (← when told flag true) })
-
-unfoldable pub extra_channels : Grammar (List ExtraChannel)
-extra_channels = u32 (Const 0) (Const 1) (Offset 2 4) (Offset 1 12) >>= λ n. repeated n extra_channel
-
--- what colours mean, brightness where more is told, and which extensions there are
-unfoldable pub shown : Bool → Bool → Grammar Shown
-shown told more = do
-  give (record {
-    xyb = (← when told flag true);
-    colour = (← colour_encoding told);
-    tone = (← tone_mapping more);
-    extensions = (← when told extensions 0);
-  })
-
--- what is not looked at: the matrix of XYB, of 16 floats of 16 bits, and weights of upsampling, 15, 55 and 210 such floats,
--- each by a bit of the mask
+-- what is not looked at: floats of 16 bits, the matrix of XYB of 16, and by a mask weights of upsampling, 15, 55, 210
 unfoldable pub matrices : Bool → Grammar (Unit {0})
 matrices xyb = do
   told ← told_if true
@@ -77,18 +47,29 @@ matrices xyb = do
   _ ← when (mask / 2 % 2 == 1) (skipped 110) tt
   when (mask / 4 == 1) (skipped 420) tt
 
--- the image header, after the first 16 bits of each codestream; what is not told is as by default
+-- The image header: the first 16 bits of each codestream; the size; how it is shown; how samples are stored, and whether
+-- 16 bits are enough for all of decoding; channels beside the colours; what colours mean; and which extensions there are.
 unfoldable pub image_header : Grammar Image
 image_header = do
   _ ← checked (codes "signature") (λ v. v == 0x0AFF) (number 16)
   sides ← size false
   told ← told_if true
   more ← when told flag false
-  display ← display more
-  samples ← samples told
-  extra ← when told extra_channels []
-  shown ← shown told more
-  _ ← matrices shown.xyb
+  turned ← when more (number 3) 0
+  own ← when more (optional (size false)) None
+  preview ← when more (optional (size true)) None
+  animation ← when more (optional animation) None
+  depth ← when told bit_depth (record { bits = 8; exponent_bits = 0 })
+  narrow ← when told flag true
+  extra ← when told (u32 (Const 0) (Const 1) (Offset 2 4) (Offset 1 12) >>= λ n. repeated n extra_channel) []
+  xyb ← when told flag true
+  colour ← colour_encoding told
+  tone ← tone_mapping more
+  extensions ← when told extensions 0
+  _ ← matrices xyb
+  let display : Display = record { orientation = turned + 1; intrinsic = own; preview = preview; animation = animation }
+  let samples : Samples = record { depth = depth; narrow = narrow }
+  let shown : Shown = record { xyb = xyb; colour = colour; tone = tone; extensions = extensions }
   give (record { size = sides; display = display; samples = samples; extra = extra; shown = shown })
 
 -- what extra channels have that is not supported, by the first that has something

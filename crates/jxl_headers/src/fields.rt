@@ -126,6 +126,15 @@ pub fn long(bits: &mut Bitstream<'_>) -> Result<u64>
     grouped(bits)
 }
 
+/// A `U64`, where it is there.
+pub fn long_if(bits: &mut Bitstream<'_>, there: bool) -> Result<u64>
+    ensures gives { Reads (λ v. v) result (position_of bits.new)
+        ((when there the_long 0).read (bytes_of bits.old) (position_of bits.old)) }
+    ensures bytes { bytes_of bits.new ≡ bytes_of bits.old }
+{
+    if there { long(bits) } else { Ok(0) }
+}
+
 /// The number of an enumeration, at most 81, before it is known to mean something.
 #[tactic(auto, unfolding(crate::specs::Fields::enumerated))]
 pub fn enumerated(bits: &mut Bitstream<'_>) -> Result<u32>
@@ -204,8 +213,8 @@ pub fn extensions(bits: &mut Bitstream<'_>) -> Result<u64>
     Ok(mask)
 }
 
-// Passes extensions, where they are there.
-pub(crate) fn extensions_if(bits: &mut Bitstream<'_>, there: bool) -> Result<u64>
+/// Passes extensions, where they are there.
+pub fn extensions_if(bits: &mut Bitstream<'_>, there: bool) -> Result<u64>
     ensures gives { Reads (λ v. v) result (position_of bits.new)
         ((when there the_extensions 0).read (bytes_of bits.old) (position_of bits.old)) }
     ensures bytes { bytes_of bits.new ≡ bytes_of bits.old }
@@ -228,6 +237,15 @@ pub fn name(bits: &mut Bitstream<'_>) -> Result<u32>
     )?;
     skip(bits, count)?;
     Ok(count)
+}
+
+/// Passes a name, where it is there.
+pub fn name_if(bits: &mut Bitstream<'_>, there: bool) -> Result<u32>
+    ensures gives { Reads (λ v. v) result (position_of bits.new)
+        ((when there the_name 0).read (bytes_of bits.old) (position_of bits.old)) }
+    ensures bytes { bytes_of bits.new ≡ bytes_of bits.old }
+{
+    if there { name(bits) } else { Ok(0) }
 }
 
 /// Passes the bits up to the next byte. `InvalidEnum` if one of them is not 0.

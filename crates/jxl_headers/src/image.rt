@@ -5,9 +5,9 @@ ghost use Rattle.jxlm_base.specs.Bits.{bytes_of, position_of};
 ghost use Rattle.jxlm_base.specs.Grammar.{Reads, number as the_number, repeated};
 ghost use Rattle.jxl_headers.specs.Channels.{extra_channel};
 ghost use Rattle.jxl_headers.specs.Fields.{checked, optional, when};
-ghost use Rattle.jxl_headers.specs.Inner.Groups.{weights as the_weights};
+ghost use Rattle.jxl_headers.specs.Inner.Groups.{extra_channels as the_extra_channels, weights as the_weights};
 ghost use Rattle.jxl_headers.specs.Sizes.{size as the_size};
-ghost use Rattle.jxl_headers.specs.Images.{image_of, animation as the_animation, display as the_display, samples, extra_channels as the_extra_channels, shown, matrices as the_matrices, image_header, channels_refusal as the_channels_refusal, image_refusal};
+ghost use Rattle.jxl_headers.specs.Images.{image_of, animation as the_animation, matrices as the_matrices, image_header, channels_refusal as the_channels_refusal, image_refusal};
 ghost use Rattle.jxl_headers.specs.declared.refusal.Refusal.TheVariants.{Xyb};
 ghost use Rattle.jxl_headers.specs.Reading.{Parses};
 
@@ -158,59 +158,6 @@ impl Animation {
     }
 }
 
-impl Display {
-    #[tactic(auto, unfolding(crate::specs::Images::display))]
-    fn parse(bits: &mut Bitstream<'_>, more: bool) -> Result<Display>
-        ensures gives { Reads (λ v. v) result (position_of bits.new)
-            ((the_display more).read (bytes_of bits.old) (position_of bits.old)) }
-        ensures bytes { bytes_of bits.new ≡ bytes_of bits.old }
-    {
-        let orientation = number_if(bits, more, 3, 0)?;
-        let intrinsic = size_if(bits, more, false)?;
-        let preview = size_if(bits, more, true)?;
-        let animation = Animation::optional_if(bits, more)?;
-        Ok(Display {
-            orientation: orientation + 1,
-            intrinsic,
-            preview,
-            animation,
-        })
-    }
-}
-
-impl Samples {
-    #[tactic(auto, unfolding(crate::specs::Images::samples))]
-    fn parse(bits: &mut Bitstream<'_>, told: bool) -> Result<Samples>
-        ensures gives { Reads (λ v. v) result (position_of bits.new)
-            ((samples told).read (bytes_of bits.old) (position_of bits.old)) }
-        ensures bytes { bytes_of bits.new ≡ bytes_of bits.old }
-    {
-        let depth = BitDepth::parse_if(bits, told)?;
-        let narrow = flag_if(bits, told, true)?;
-        Ok(Samples { depth, narrow })
-    }
-}
-
-impl Shown {
-    #[tactic(auto, unfolding(crate::specs::Images::shown))]
-    fn parse(bits: &mut Bitstream<'_>, told: bool, more: bool) -> Result<Shown>
-        ensures gives { Reads (λ v. v) result (position_of bits.new)
-            ((shown told more).read (bytes_of bits.old) (position_of bits.old)) }
-        ensures bytes { bytes_of bits.new ≡ bytes_of bits.old }
-    {
-        let xyb = flag_if(bits, told, true)?;
-        let colour = ColourEncoding::parse_if(bits, told)?;
-        let tone = ToneMapping::parse_if(bits, more)?;
-        let extensions = extensions_if(bits, told)?;
-        Ok(Shown {
-            xyb,
-            colour,
-            tone,
-            extensions,
-        })
-    }
-}
-
 // So many extra channels.
 fn read_channels(
     alloc: Global,
@@ -229,7 +176,6 @@ fn read_channels(
     Ok(channels)
 }
 
-#[tactic(auto, unfolding(crate::specs::Images::extra_channels))]
 fn extra_channels(alloc: Global, bits: &mut Bitstream<'_>) -> error::Result<Vec<ExtraChannel>>
     ensures gives { Parses (λ v. v.items) result (position_of bits.new)
         (the_extra_channels.read (bytes_of bits.old) (position_of bits.old)) }
@@ -345,17 +291,35 @@ impl ImageHeader {
         let size = read_size(bits, false)?;
         let told = told_if(bits, true)?;
         let more = flag_if(bits, told, false)?;
-        let display = Display::parse(bits, more)?;
-        let samples = Samples::parse(bits, told)?;
+        let orientation = number_if(bits, more, 3, 0)?;
+        let intrinsic = size_if(bits, more, false)?;
+        let preview = size_if(bits, more, true)?;
+        let animation = Animation::optional_if(bits, more)?;
+        let depth = BitDepth::parse_if(bits, told)?;
+        let narrow = flag_if(bits, told, true)?;
         let extra = channels_if(alloc, bits, told)?;
-        let shown = Shown::parse(bits, told, more)?;
-        matrices(bits, shown.xyb)?;
+        let xyb = flag_if(bits, told, true)?;
+        let colour = ColourEncoding::parse_if(bits, told)?;
+        let tone = ToneMapping::parse_if(bits, more)?;
+        let extensions = extensions_if(bits, told)?;
+        matrices(bits, xyb)?;
+        let orientation = orientation + 1;
         Ok(ImageHeader {
             size,
-            display,
-            samples,
+            display: Display {
+                orientation,
+                intrinsic,
+                preview,
+                animation,
+            },
+            samples: Samples { depth, narrow },
             extra,
-            shown,
+            shown: Shown {
+                xyb,
+                colour,
+                tone,
+                extensions,
+            },
         })
     }
 
