@@ -40,9 +40,9 @@ crop size shown = do
   let partial = shown && not (covers x width size.width && covers y height size.height)
   give (record { x0 = unpack x; y0 = unpack y; width = width; height = height; partial = partial })
 
--- the place of a frame of this type: how often its low frequencies are low frequencies, and its crop
-unfoldable pub place : Size → FrameType → Grammar Place
-place size frame_type = do
+-- the place of a frame of this type: how often its low frequencies are low frequencies, and its crop, where it is told
+unfoldable pub place : Bool → Size → FrameType → Grammar Place
+place told size frame_type = do
   level ← when (is_lf frame_type) (u32 (Const 1) (Const 2) (Const 3) (Const 4)) 0
-  crop ← when (not (is_lf frame_type)) (optional (crop size (is_shown frame_type))) None
+  crop ← when (told && not (is_lf frame_type)) (optional (crop size (is_shown frame_type))) None
   give (record { lf_level = level; crop = crop })

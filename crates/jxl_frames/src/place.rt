@@ -8,7 +8,6 @@ ghost use Rattle.jxlm_base.specs.Numbers.{unpack};
 ghost use Rattle.jxlm_base.specs.declared.bits.U32Spec.TheVariants.{Const};
 ghost use Rattle.jxl_headers.specs.Fields.{optional, when};
 ghost use Rattle.jxl_frames.specs.Places.{is_shown as the_is_shown, is_lf as the_is_lf, is_reference as the_is_reference, extent as the_extent, covers as the_covers, crop, place};
-ghost use Rattle.jxl_frames.specs.Frames.{usual_frame};
 ghost use Rattle.jxl_frames.specs.declared.refusal.Refusal.TheVariants as refusals;
 
 use crate::coding::FrameType;
@@ -194,26 +193,23 @@ impl Crop {
 }
 
 impl Place {
-    /// The place of a frame of this type in a picture of this size, as it stands at the reader's position.
+    /// The place of a frame of this type in a picture of this size, as it stands at the reader's position, where it is
+    /// told; else it covers the picture.
     #[tactic(auto, unfolding(crate::specs::Places::place))]
-    pub fn parse(bits: &mut Bitstream<'_>, size: Size, frame_type: FrameType) -> Result<Place>
+    pub fn parse(
+        bits: &mut Bitstream<'_>,
+        told: bool,
+        size: Size,
+        frame_type: FrameType,
+    ) -> Result<Place>
         ensures gives { Reads (λ v. v) result (position_of bits.new)
-            ((place size frame_type).read (bytes_of bits.old) (position_of bits.old)) }
+            ((place told size frame_type).read (bytes_of bits.old) (position_of bits.old)) }
         ensures bytes { bytes_of bits.new ≡ bytes_of bits.old }
     {
         let lf_level = lf_level(bits, frame_type.is_lf())?;
-        let crop = Crop::told_if(bits, !frame_type.is_lf(), size, frame_type.is_shown())?;
+        let there = told & !frame_type.is_lf();
+        let crop = Crop::told_if(bits, there, size, frame_type.is_shown())?;
         Ok(Place { lf_level, crop })
-    }
-
-    /// The place of a frame that covers the picture.
-    pub fn usual() -> Place
-        ensures { result ≡ usual_frame.place }
-    {
-        Place {
-            lf_level: 0,
-            crop: None,
-        }
     }
 
     /// Whether it is shown, and leaves a part of the picture to the frame before.
