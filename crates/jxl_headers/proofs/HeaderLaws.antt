@@ -9,7 +9,7 @@ use Rattle.jxlm_base.proofs.GrammarLaws.{exact-give, exact-fail, exact-number, e
 use Rattle.jxl_headers.specs.Fields.{groups, long, when, optional, told_if, enumerated, meant, checked, skipped, extensions, name, here, aligned}
 use Rattle.jxl_headers.specs.Sizes.{side, size, width_at}
 use Rattle.jxl_headers.specs.Channels.{fits_float, bit_depth, extra_channel}
-use Rattle.jxl_headers.specs.Colours.{coordinate, chromaticity, primary_colours, white, basis, is_curve, transfer, colour_encoding, tone_mapping}
+use Rattle.jxl_headers.specs.Colours.{coordinate, chromaticity, primary_colours, white, basis, transfer, colour_encoding, tone_mapping}
 use Rattle.jxl_headers.specs.Images.{animation, matrices, image_header}
 
 pub bind : {X Y : Type 0} {field : Grammar X} {next : X → Grammar Y} → IsExact field → ((x : X) → IsExact (next x)) → IsExact (field >>= next)
@@ -139,7 +139,7 @@ unfolding transfer
 exact-transfer there =
     bind (exact-when there false exact-flag) λ by_gamma.
     bind (exact-when by_gamma 0 (exact-checked (codes "gamma") (λ v. nat_le v 10000000 && nat_le 10000000 (8192 * v)) (exact-number 24))) λ g.
-    bind (exact-when (not by_gamma) 0 (exact-when there 13 (exact-told (codes "TransferFunction") is_curve))) λ n. exact-give (record { number = n; gamma = g })
+    bind (exact-when (not by_gamma) 0 (exact-when there 13 (exact-told (codes "TransferFunction") (λ v. (v == 1) || (v == 8) || (v == 13) || (v == 16) || (v == 17) || (v == 18))))) λ n. exact-give (record { number = n; gamma = g })
 
 pub exact-colours : (there : Bool) → IsExact (colour_encoding there)
 unfolding colour_encoding

@@ -19,8 +19,8 @@ bit_depth = do
   exponent ← when float (checked (codes "exponent_bits") (fits_float bits) (part (Offset 1 4))) 0
   give (record { bits = bits; exponent_bits = exponent })
 
--- an extra channel, by default alpha of 8 bits: its kind, depth, shift and name, and what its kind has: of alpha whether colours
--- were multiplied by it, the four numbers of a spot colour, the number of a colour filter's channel
+-- an extra channel, by default alpha of 8 bits: its kind, depth, shift and name; and what its kind has, of alpha whether
+-- colours were multiplied by it, the four numbers of a spot colour, the number of a colour filter's channel
 unfoldable pub extra_channel : Grammar ExtraChannel
 extra_channel = do
   told ← told_if true

@@ -34,21 +34,18 @@ basis there = do
   number ← when there (checked (codes "Primaries") (λ v. (v == 1) || (v == 2) || (v == 9) || (v == 11)) enumerated) 1
   give (record { number = number; own = (← primary_colours (number == 2)) })
 
--- the curves that have a number, but for 2, which is not known
-abbrev pub is_curve : ℕ → Bool
-is_curve v = (v == 1) || (v == 8) || (v == 13) || (v == 16) || (v == 17) || (v == 18)
-
 -- how light follows from samples: by its exponent in 10 millionths, from 1 in 8192 to 1, or by a curve, 13 by default
 unfoldable pub transfer : Bool → Grammar Transfer
 transfer there = do
   by_gamma ← when there flag false
   gamma ← when by_gamma (checked (codes "gamma") (λ v. nat_le v 10000000 && nat_le 10000000 (8192 * v)) (number 24)) 0
+  let is_curve : ℕ → Bool = λ v. (v == 1) || (v == 8) || (v == 13) || (v == 16) || (v == 17) || (v == 18)
   number ← when (not by_gamma) (when there (checked (codes "TransferFunction") is_curve enumerated) 13) 0
   give (record { number = number; gamma = gamma })
 
--- the colours of an image, by default sRGB: whether by a profile, the kind (red, green and blue; grey; XYB; one that only a
--- profile tells), and, where no profile tells them, white and curve unless the kind is XYB, which has its own, what is mixed
--- unless it is grey or XYB, and how colours outside a range are shown
+-- the colours of an image, by default sRGB: whether by a profile; the kind (red, green and blue; grey; XYB; one that only
+-- a profile tells); and, where no profile tells them, white and curve unless the kind is XYB, what is mixed unless it is
+-- grey or XYB, and how colours outside a range are shown
 unfoldable pub colour_encoding : Bool → Grammar ColourEncoding
 colour_encoding there = do
   told ← told_if there

@@ -49,8 +49,7 @@ unfoldable pub extensions : Grammar ℕ
 extensions = do
   mask ← long
   sizes ← repeated (count_ones mask) long
-  _ ← number (sum sizes)
-  give mask
+  number (sum sizes) >>= λ v. give mask
 
 -- a name: how many bytes it has, which are not looked at
 unfoldable pub name : Grammar ℕ

@@ -28,7 +28,7 @@ pub record Image : Type 0 where
 abbrev pub image_of : ImageHeader → Image
 image_of h = record { size = h.size; display = h.display; samples = h.samples; extra = h.extra.items; shown = h.shown }
 
--- how often pictures change a second, as a fraction; how often all are shown, 0 for ever; whether frames have time codes
+-- how often pictures change a second, as a fraction; how often all are shown, 0 for ever; whether there are time codes
 unfoldable pub animation : Grammar Animation
 animation = do
   numerator ← u32 (Const 100) (Const 1000) (Offset 1 10) (Offset 1 30)
@@ -47,8 +47,8 @@ matrices xyb = do
   _ ← when (mask / 2 % 2 == 1) (skipped 110) tt
   when (mask / 4 == 1) (skipped 420) tt
 
--- The image header: the first 16 bits of each codestream; the size; how it is shown; how samples are stored, and whether
--- 16 bits are enough for all of decoding; channels beside the colours; what colours mean; and which extensions there are.
+-- The image header: the first 16 bits of each codestream; its size; how it is shown; how samples are stored; whether
+-- 16 bits are enough for all of decoding; channels beside the colours; what colours mean; which extensions there are.
 unfoldable pub image_header : Grammar Image
 image_header = do
   _ ← checked (codes "signature") (λ v. v == 0x0AFF) (number 16)

@@ -4,7 +4,7 @@ ghost use Rattle.std.specs.Prelude.{◌≡◌, ◌==◌, ◌||◌, ◌&&◌, not
 ghost use Rattle.jxlm_base.specs.Bits.{bytes_of, position_of};
 ghost use Rattle.jxlm_base.specs.Grammar.{Reads, number as the_number};
 ghost use Rattle.jxl_headers.specs.Fields.{checked, enumerated as the_enumerated, when};
-ghost use Rattle.jxl_headers.specs.Colours.{coordinate as the_coordinate, chromaticity, primary_colours, white as the_white, basis as the_basis, is_curve, transfer as the_transfer, colour_encoding, tone_mapping};
+ghost use Rattle.jxl_headers.specs.Colours.{coordinate as the_coordinate, chromaticity, primary_colours, white as the_white, basis as the_basis, transfer as the_transfer, colour_encoding, tone_mapping};
 
 use crate::fields::{Result, enumerated, flag_if, number, number_if, told_if};
 use jxlm_base::bits::{Bitstream, BitstreamError, U32Spec};
@@ -215,7 +215,8 @@ fn gamma(bits: &mut Bitstream<'_>, by_gamma: bool) -> Result<u32>
 // The number of a curve, by default 13.
 fn curve(bits: &mut Bitstream<'_>, there: bool) -> Result<u32>
     ensures gives { Reads (λ v. v) result (position_of bits.new)
-        ((when there (checked (codes "TransferFunction") is_curve the_enumerated) 13).read
+        ((when there (checked (codes "TransferFunction")
+        (λ v. (v == 1) || (v == 8) || (v == 13) || (v == 16) || (v == 17) || (v == 18)) the_enumerated) 13).read
         (bytes_of bits.old) (position_of bits.old)) }
     ensures bytes { bytes_of bits.new ≡ bytes_of bits.old }
 {
@@ -235,7 +236,8 @@ fn curve(bits: &mut Bitstream<'_>, there: bool) -> Result<u32>
 // The number of a curve, or 0 where it is by an exponent.
 fn curve_if(bits: &mut Bitstream<'_>, by_gamma: bool, there: bool) -> Result<u32>
     ensures gives { Reads (λ v. v) result (position_of bits.new)
-        ((when (not by_gamma) (when there (checked (codes "TransferFunction") is_curve the_enumerated) 13) 0).read
+        ((when (not by_gamma) (when there (checked (codes "TransferFunction")
+        (λ v. (v == 1) || (v == 8) || (v == 13) || (v == 16) || (v == 17) || (v == 18)) the_enumerated) 13) 0).read
         (bytes_of bits.old) (position_of bits.old)) }
     ensures bytes { bytes_of bits.new ≡ bytes_of bits.old }
 {

@@ -25,7 +25,8 @@ extension_bits n = repeated n long >>= λ sizes. give (sum sizes)
 
 -- the three lists of weights of upsampling, each there or not
 abbrev pub weights : Bool → Bool → Bool → Grammar (Unit {0})
-weights first second third = when first (skipped 30) tt >>= λ a. when second (skipped 110) tt >>= λ b. when third (skipped 420) tt
+weights first second third =
+    when first (skipped 30) tt >>= λ a. when second (skipped 110) tt >>= λ b. when third (skipped 420) tt
 
 -- the channels beside the colours, after their number
 abbrev pub extra_channels : Grammar (List ExtraChannel)
