@@ -6,14 +6,14 @@ use Rattle.jxlm_base.specs.Grammar.{Grammar, IsExact}
 use Rattle.jxlm_base.specs.Numbers.{unpack}
 use Rattle.jxlm_base.specs.declared.bits.U32Spec.TheVariants.{Const, Offset}
 use Rattle.jxlm_base.proofs.GrammarLaws.{exact-give, exact-number, exact-either, exact-repeated, exact-flag, exact-u32}
-use Rattle.jxl_headers.proofs.HeaderLaws.{bind, exact-checked, exact-extensions, exact-long, exact-name, exact-skipped, exact-told_if, exact-when}
+use Rattle.jxl_headers.proofs.HeaderLaws.{bind, exact-checked, exact-extensions, exact-long, exact-name, exact-optional, exact-skipped, exact-told_if, exact-when}
 use Rattle.jxl_headers.specs.Images.{Image}
 use Rattle.jxl_headers.specs.declared.size.Size.{Size}
 use Rattle.jxl_headers.specs.declared.image.Animation.{Animation}
 use Rattle.jxl_frames.specs.Codings.{type_of, flags_of, factor, coding, is_modular}
 use Rattle.jxl_frames.specs.Passes.{in_turn, passes}
 use Rattle.jxl_frames.specs.Inner.Checked.{finer, later}
-use Rattle.jxl_frames.specs.Places.{is_shown, is_lf, is_reference, extent, covers, crop, place}
+use Rattle.jxl_frames.specs.Places.{is_shown, is_lf, is_reference, extent, covers, crop}
 use Rattle.jxl_frames.specs.Blendings.{mode_of, blending_info, is_replace, ending}
 use Rattle.jxl_frames.specs.Filters.{own_floats, filter}
 use Rattle.jxl_frames.specs.Frames.{frame_header}
@@ -65,13 +65,6 @@ exact-crop size shown =
     bind (exact-when shown 0 exact-extent) λ x. bind (exact-when shown 0 exact-extent) λ y. bind exact-extent λ w. bind exact-extent λ h.
     exact-give (record { x0 = unpack x; y0 = unpack y; width = w; height = h; partial = shown && not (covers x w size.width && covers y h size.height) })
 
-exact-place : (told : Bool) (size : Size) (t : FrameType) → IsExact (place told size t)
-unfolding place
-exact-place told size t =
-    bind (exact-when (is_lf t) 0 (exact-u32 (Const 1) (Const 2) (Const 3) (Const 4))) λ level.
-    bind (exact-when (told && not (is_lf t)) None (bind exact-flag λ there. exact-when there None (bind (exact-crop size (is_shown t)) λ c. exact-give (Some c)))) λ crop.
-    exact-give (record { lf_level = level; crop = crop })
-
 exact-info : (there : Bool) (extra : ℕ) (partial : Bool) → IsExact (blending_info there extra partial)
 unfolding blending_info
 exact-info there extra partial =
@@ -114,18 +107,20 @@ exact-frame_header image =
     bind (exact-when (told && not c.flags.use_lf_frame) [] (exact-repeated (length image.extra) factor exact-factor)) λ factors.
     bind (exact-when (is_modular c.encoding) 1 (exact-number 2)) λ shift.
     bind (exact-when (told && not (is_modular c.encoding) && image.shown.xyb) 0 (exact-number 6)) λ scales.
-    bind (exact-passes (told && not (is_reference c.frame_type))) λ passes. bind (exact-place told image.size c.frame_type) λ place.
-    bind (exact-info (told && is_shown c.frame_type) (length image.extra) (option_map_or (λ c. c.partial) place.crop false)) λ colours.
-    bind (exact-when (told && is_shown c.frame_type) [] (exact-repeated (length image.extra) (blending_info true (length image.extra) (option_map_or (λ c. c.partial) place.crop false))
-    (exact-info true (length image.extra) (option_map_or (λ c. c.partial) place.crop false)))) λ others.
-    bind (exact-ending (told && is_shown c.frame_type) image.display.animation c.frame_type (is_replace colours.mode && not (option_map_or (λ c. c.partial) place.crop false))) λ ending.
+    bind (exact-passes (told && not (is_reference c.frame_type))) λ passes.
+    bind (exact-when (is_lf c.frame_type) 0 (exact-u32 (Const 1) (Const 2) (Const 3) (Const 4))) λ level.
+    bind (exact-when (told && not (is_lf c.frame_type)) None (exact-optional (exact-crop image.size (is_shown c.frame_type)))) λ crop.
+    bind (exact-info (told && is_shown c.frame_type) (length image.extra) (option_map_or (λ c. c.partial) crop false)) λ colours.
+    bind (exact-when (told && is_shown c.frame_type) [] (exact-repeated (length image.extra) (blending_info true (length image.extra) (option_map_or (λ c. c.partial) crop false))
+    (exact-info true (length image.extra) (option_map_or (λ c. c.partial) crop false)))) λ others.
+    bind (exact-ending (told && is_shown c.frame_type) image.display.animation c.frame_type (is_replace colours.mode && not (option_map_or (λ c. c.partial) crop false))) λ ending.
     bind (exact-when told 0 exact-name) λ n. bind (exact-filter told (is_modular c.encoding)) λ f. bind (exact-when told 0 exact-extensions) λ e.
     exact-give (record {
       coding = c;
       ec_upsampling = factors;
       group_dim = 128 * 2 ^ shift;
       passes = passes;
-      place = place;
+      place = record { lf_level = level; crop = crop };
       colours = colours;
       extra = others;
       ending = ending;

@@ -16,8 +16,7 @@ use Rattle.jxl_frames.specs.declared.blending.Ending.{Ending}
 abbrev pub mode_of : ℕ → BlendMode
 mode_of n = if n == 0 then Replace else if n == 1 then Add else if n == 2 then Blend else if n == 3 then MulAdd else Mul
 
--- how some channels are blended, where that is told, in an image with so many extra channels, where some modes look at one of
--- these: alpha
+-- how some channels are blended, in an image with so many extra channels, where some modes look at one of these: alpha
 unfoldable pub blending_info : Bool → ℕ → Bool → Grammar BlendingInfo
 blending_info there extra partial = do
   mode ← when there (checked (codes "BlendMode") (λ v. nat_lt v 5) (u32 (Const 0) (Const 1) (Const 2) (Offset 3 2))) 0
@@ -31,8 +30,8 @@ abbrev pub is_replace : BlendMode → Bool
 is_replace Replace = true
 is_replace other = false
 
--- For how long a frame of an animation is shown, where it is, whether it is the last, and how it is saved for others, before
--- its colours are transformed or after: one that others may use, and that nothing was blended into, has a flag for that.
+-- For how long a frame of an animation is shown, whether it is the last, and how it is saved for others, before colours
+-- are transformed or after: one that others may use, and that nothing was blended into, has a flag for that.
 unfoldable pub ending : Bool → Option Animation → FrameType → Bool → Grammar Ending
 ending shown animation frame_type replaces = do
   time ← when (shown && is_some animation) (u32 (Const 0) (Const 1) (Offset 0 8) (Offset 0 32)) 0

@@ -2,13 +2,14 @@
 use Rattle.std.specs.Prelude.{ℕ, ◌*◌, ◌^◌, ◌==◌, ◌&&◌, ◌||◌, not, List, [], length, Bool, true, false, if◌then◌else◌, Option, is_some, Some, None}
 use Rattle.std.specs.List.{list_any}
 use Rattle.std.specs.Option.{option_map_or, option_or}
-use Rattle.jxlm_base.specs.Grammar.{Grammar, number, give, repeated, ◌>>=◌}
-use Rattle.jxl_headers.specs.Fields.{extensions, name, told_if, when}
+use Rattle.jxlm_base.specs.Grammar.{Grammar, number, u32, give, repeated, ◌>>=◌}
+use Rattle.jxlm_base.specs.declared.bits.U32Spec.TheVariants.{Const}
+use Rattle.jxl_headers.specs.Fields.{extensions, name, optional, told_if, when}
 use Rattle.jxl_headers.specs.Images.{Image}
 use Rattle.jxl_headers.specs.declared.size.Size.{Size}
 use Rattle.jxl_frames.specs.Codings.{factor, coding, is_modular, coding_refusal}
 use Rattle.jxl_frames.specs.Passes.{Passes, passes, passes_of}
-use Rattle.jxl_frames.specs.Places.{place, is_shown, is_reference}
+use Rattle.jxl_frames.specs.Places.{crop, is_lf, is_shown, is_reference}
 use Rattle.jxl_frames.specs.Blendings.{blending_info, is_replace, ending}
 use Rattle.jxl_frames.specs.Filters.{filter}
 use Rattle.jxl_frames.specs.declared.coding.Coding.{Coding}
@@ -45,8 +46,8 @@ frame_of h = record {
   closing = h.closing;
 }
 
--- The header of a frame of this image; what is not told is as by default. The side of a group is 128 times 2 to the power of two
--- bits, and of VarDCT 256, which has with XYB two scales of three bits, which are not looked at.
+-- The header of a frame of this image. The side of a group is 128 times 2 to the power of two bits, and 256 of VarDCT,
+-- which has with XYB two scales of three bits that are not looked at. One of low frequencies tells how often it is one.
 unfoldable pub frame_header : Image → Grammar Frame
 frame_header image = do
   told ← told_if true
@@ -55,8 +56,9 @@ frame_header image = do
   shift ← when (is_modular coding.encoding) (number 2) 1
   _ ← when (told && not (is_modular coding.encoding) && image.shown.xyb) (number 6) 0
   passes ← passes (told && not (is_reference coding.frame_type))
-  place ← place told image.size coding.frame_type
-  let partial = option_map_or (λ c. c.partial) place.crop false
+  level ← when (is_lf coding.frame_type) (u32 (Const 1) (Const 2) (Const 3) (Const 4)) 0
+  crop ← when (told && not (is_lf coding.frame_type)) (optional (crop image.size (is_shown coding.frame_type))) None
+  let partial = option_map_or (λ c. c.partial) crop false
   let shown = told && is_shown coding.frame_type
   colours ← blending_info shown (length image.extra) partial
   others ← when shown (repeated (length image.extra) (blending_info true (length image.extra) partial)) []
@@ -69,7 +71,7 @@ frame_header image = do
     ec_upsampling = factors;
     group_dim = 128 * 2 ^ shift;
     passes = passes;
-    place = place;
+    place = record { lf_level = level; crop = crop };
     colours = colours;
     extra = others;
     ending = ending;

@@ -8,8 +8,7 @@ use Rattle.jxl_headers.specs.Fields.{checked, when}
 use Rattle.jxl_frames.specs.Codings.{factor}
 use Rattle.jxl_frames.specs.declared.passes.Passes.{Passes as PassesInMemory}
 
--- the passes of a frame, seen without their memory: how many there are; by how many bits each but the last is shifted;
--- the resolutions that some passes end, and these passes
+-- how many passes there are, by how many bits each but the last is shifted, resolutions, and the passes that end them
 pub record Passes : Type 0 where
   pub count : ℕ
   pub shift : List ℕ
@@ -24,8 +23,8 @@ abbrev pub in_turn : ℕ → (Option ℕ → Grammar ℕ) → Option ℕ → Gra
 in_turn zero field before = give []
 in_turn (suc n) field before = field before >>= λ v. in_turn n field (Some v) >>= λ vs. give (v ∷ vs)
 
--- The passes of a frame, with no more resolutions than passes; frames that others use have one. The factor of a resolution is
--- finer than the one before, and its last pass, which is one of so many, a later one.
+-- The passes of a frame, with no more resolutions than passes; frames that others use have one pass. The factor of a
+-- resolution is finer than the one before, and its last pass, which is one of so many, a later one.
 unfoldable pub passes : Bool → Grammar Passes
 passes there = do
   count ← when there (u32 (Const 1) (Const 2) (Const 3) (Offset 4 3)) 1

@@ -16,7 +16,7 @@ use crate::blending::{Blending, BlendingInfo, Ending, read_infos_if};
 use crate::coding::Coding;
 use crate::filter::RestorationFilter;
 use crate::passes::{Passes, factors};
-use crate::place::Place;
+use crate::place::{Crop, Place, lf_level};
 use crate::refusal::Refusal;
 use jxl_headers::fields::{extensions_if, name_if, number_if, told_if};
 use jxl_headers::image::ImageHeader;
@@ -131,7 +131,14 @@ impl FrameHeader {
         let shift = number_if(bits, modular, 2, 1)?;
         number_if(bits, told & !modular & xyb, 6, 0)?;
         let passes = Passes::parse(alloc, bits, told & !frame_type.is_reference())?;
-        let place = Place::parse(bits, told, image.size, frame_type)?;
+        let lf_level = lf_level(bits, frame_type.is_lf())?;
+        let crop = Crop::told_if(
+            bits,
+            told & !frame_type.is_lf(),
+            image.size,
+            frame_type.is_shown(),
+        )?;
+        let place = Place { lf_level, crop };
         let partial = place.is_partial();
         let shown = told & frame_type.is_shown();
         let colours = BlendingInfo::parse_if(bits, shown, extra, partial)?;
