@@ -1,11 +1,11 @@
 -- Frame headers are read exactly: what is read stands there, and what stands there is read.
-use Rattle.std.proofs.Common.{ℕ, zero, suc, ◌∷◌, ◌-◌, ◌*◌, ◌^◌, Bool, true, false, List, [], length, Some, None, Option}
+use Rattle.std.proofs.Common.{ℕ, zero, suc, ◌∷◌, ◌-◌, ◌*◌, ◌^◌, Bool, true, false, [], length, Some, None, Option}
 use Rattle.std.specs.Prelude.{nat_lt, nat_le, codes, ◌==◌, ◌&&◌, ◌||◌, not, is_some, if◌then◌else◌}
 use Rattle.std.specs.Option.{option_map_or}
 use Rattle.jxlm_base.specs.Grammar.{Grammar, IsExact}
 use Rattle.jxlm_base.specs.Numbers.{unpack}
 use Rattle.jxlm_base.specs.declared.bits.U32Spec.TheVariants.{Const, Offset}
-use Rattle.jxlm_base.proofs.GrammarLaws.{exact-give, exact-number, exact-either, exact-repeated, exact-flag, exact-u32}
+use Rattle.jxlm_base.proofs.GrammarLaws.{exact-give, exact-number, exact-repeated, exact-flag, exact-u32}
 use Rattle.jxl_headers.proofs.HeaderLaws.{bind, exact-checked, exact-extensions, exact-long, exact-name, exact-optional, exact-skipped, exact-told_if, exact-when}
 use Rattle.jxl_headers.specs.Images.{Image}
 use Rattle.jxl_headers.specs.declared.size.Size.{Size}
