@@ -1,5 +1,4 @@
 pub mod FrameLaws
-pub mod ReadSteps
 pub mod InTurn
 pub mod Ended
 pub mod Entries

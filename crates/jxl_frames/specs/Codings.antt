@@ -28,15 +28,16 @@ unfoldable pub factor : Grammar ℕ
 factor = u32 (Const 1) (Const 2) (Const 4) (Const 8)
 
 -- How a frame is coded whose colours are XYB or not; how the parts of YCbCr are sampled is not looked at.
-unfoldable pub coding : Bool → Grammar Coding
-coding xyb = do
-  frame_type ← number 2
-  modular ← flag
-  flags ← long >>= λ v. give (flags_of v)
-  ycbcr ← when (not xyb) flag false
-  sampled ← when (ycbcr && not flags.use_lf_frame) (number 6) 0
-  upsampling ← when (not flags.use_lf_frame) factor 1
-  give (record { frame_type = type_of frame_type; encoding = if modular then Modular else VarDct; flags = flags; ycbcr = ycbcr; upsampling = upsampling })
+unfoldable pub coding : Bool → Bool → Grammar Coding
+coding told xyb = do
+  frame_type ← when told (number 2) 0
+  modular ← when told flag false
+  flags ← when told long 0 >>= λ v. give (flags_of v)
+  ycbcr ← when (told && not xyb) flag false
+  _ ← when (ycbcr && not flags.use_lf_frame) (number 6) 0
+  upsampling ← when (told && not flags.use_lf_frame) factor 1
+  let encoding = if modular then Modular else VarDct
+  give (record { frame_type = type_of frame_type; encoding = encoding; flags = flags; ycbcr = ycbcr; upsampling = upsampling })
 
 abbrev pub is_modular : Encoding → Bool
 is_modular VarDct = false

@@ -2,19 +2,19 @@
 use Rattle.std.specs.Prelude.{ℕ, ◌*◌, ◌^◌, ◌==◌, ◌&&◌, ◌||◌, not, List, [], length, Bool, true, false, if◌then◌else◌, Option, is_some, Some, None}
 use Rattle.std.specs.List.{list_any}
 use Rattle.std.specs.Option.{option_map_or, option_or}
-use Rattle.jxlm_base.specs.Grammar.{Grammar, number, give, repeated, ◌>>=◌}
-use Rattle.jxl_headers.specs.Fields.{extensions, name, usual_or, when}
+use Rattle.jxlm_base.specs.Grammar.{Grammar, number, u32, give, repeated, ◌>>=◌}
+use Rattle.jxlm_base.specs.declared.bits.U32Spec.TheVariants.{Const}
+use Rattle.jxl_headers.specs.Fields.{extensions, name, optional, told_if, when}
 use Rattle.jxl_headers.specs.Images.{Image}
 use Rattle.jxl_headers.specs.declared.size.Size.{Size}
-use Rattle.jxl_frames.specs.Codings.{factor, flags_of, coding, is_modular, coding_refusal}
+use Rattle.jxl_frames.specs.Codings.{factor, coding, is_modular, coding_refusal}
 use Rattle.jxl_frames.specs.Passes.{Passes, passes, passes_of}
-use Rattle.jxl_frames.specs.Places.{place, is_shown, is_reference}
-use Rattle.jxl_frames.specs.Blendings.{Blending, blending, blending_of, usual_info, is_replace, ending}
-use Rattle.jxl_frames.specs.Filters.{filter, usual_filter}
+use Rattle.jxl_frames.specs.Places.{crop, is_lf, is_shown, is_reference}
+use Rattle.jxl_frames.specs.Blendings.{blending_info, is_replace, ending}
+use Rattle.jxl_frames.specs.Filters.{filter}
 use Rattle.jxl_frames.specs.declared.coding.Coding.{Coding}
-use Rattle.jxl_frames.specs.declared.coding.Encoding.TheVariants.{VarDct}
-use Rattle.jxl_frames.specs.declared.coding.FrameType.TheVariants.{Regular}
 use Rattle.jxl_frames.specs.declared.place.Place.{Place}
+use Rattle.jxl_frames.specs.declared.blending.BlendingInfo.{BlendingInfo}
 use Rattle.jxl_frames.specs.declared.blending.Ending.{Ending}
 use Rattle.jxl_frames.specs.declared.frame.Closing.{Closing}
 use Rattle.jxl_frames.specs.declared.frame.FrameHeader.{FrameHeader}
@@ -28,7 +28,8 @@ pub record Frame : Type 0 where
   pub group_dim : ℕ
   pub passes : Passes
   pub place : Place
-  pub blending : Blending
+  pub colours : BlendingInfo
+  pub extra : List BlendingInfo
   pub ending : Ending
   pub closing : Closing
 
@@ -39,47 +40,40 @@ frame_of h = record {
   group_dim = h.group_dim;
   passes = passes_of h.passes;
   place = h.place;
-  blending = blending_of h.blending;
+  colours = h.blending.colours;
+  extra = h.blending.extra.items;
   ending = h.ending;
   closing = h.closing;
 }
 
--- a frame whose header says nothing
-abbrev pub usual_frame : Frame
-usual_frame = record {
-  coding = record { frame_type = Regular; encoding = VarDct; flags = flags_of 0; ycbcr = false; upsampling = 1 };
-  ec_upsampling = [];
-  group_dim = 256;
-  passes = record { count = 1; shift = []; downsample = []; last_pass = [] };
-  place = record { lf_level = 0; crop = None };
-  blending = record { colours = usual_info; extra = [] };
-  ending = record { duration = 0; timecode = 0; is_last = true; save_as_reference = 0; save_before_ct = false };
-  closing = record { name_bytes = 0; filter = usual_filter; extensions = 0 };
-}
-
--- The header of a frame of this image: as by default, or what is told of it. The side of a group is 128 times 2 to the
--- power of two bits, and of VarDCT 256, which has with XYB two scales of three bits, which are not looked at.
+-- The header of a frame of this image. The side of a group is 128 times 2 to the power of two bits, and 256 of VarDCT,
+-- which has with XYB two scales of three bits that are not looked at. One of low frequencies tells how often it is one.
 unfoldable pub frame_header : Image → Grammar Frame
-frame_header image = usual_or usual_frame do
-  coding ← coding image.shown.xyb
-  factors ← when (not coding.flags.use_lf_frame) (repeated (length image.extra) factor) []
+frame_header image = do
+  told ← told_if true
+  coding ← coding told image.shown.xyb
+  factors ← when (told && not coding.flags.use_lf_frame) (repeated (length image.extra) factor) []
   shift ← when (is_modular coding.encoding) (number 2) 1
-  scales ← when (not (is_modular coding.encoding) && image.shown.xyb) (number 6) 0
-  passes ← passes (not (is_reference coding.frame_type))
-  place ← place image.size coding.frame_type
-  let partial = option_map_or (λ c. c.partial) place.crop false
-  blending ← blending (is_shown coding.frame_type) (length image.extra) partial
-  ending ← ending image.display.animation coding.frame_type (is_replace blending.colours.mode && not partial)
-  name_bytes ← name
-  filter ← filter (is_modular coding.encoding)
-  extensions ← extensions
+  _ ← when (told && not (is_modular coding.encoding) && image.shown.xyb) (number 6) 0
+  passes ← passes (told && not (is_reference coding.frame_type))
+  level ← when (is_lf coding.frame_type) (u32 (Const 1) (Const 2) (Const 3) (Const 4)) 0
+  crop ← when (told && not (is_lf coding.frame_type)) (optional (crop image.size (is_shown coding.frame_type))) None
+  let partial = option_map_or (λ c. c.partial) crop false
+  let shown = told && is_shown coding.frame_type
+  colours ← blending_info shown (length image.extra) partial
+  others ← when shown (repeated (length image.extra) (blending_info true (length image.extra) partial)) []
+  ending ← ending shown image.display.animation coding.frame_type (is_replace colours.mode && not partial)
+  name_bytes ← when told name 0
+  filter ← filter told (is_modular coding.encoding)
+  extensions ← when told extensions 0
   give (record {
     coding = coding;
     ec_upsampling = factors;
     group_dim = 128 * 2 ^ shift;
     passes = passes;
-    place = place;
-    blending = blending;
+    place = record { lf_level = level; crop = crop };
+    colours = colours;
+    extra = others;
     ending = ending;
     closing = record { name_bytes = name_bytes; filter = filter; extensions = extensions };
   })
@@ -102,8 +96,8 @@ frame_refusal image h = option_or (coding_refusal (not (image.samples.depth.expo
     if list_any (λ f. not (f == 1)) h.ec_upsampling then Some refusals.ExtraUpsampling else
     if is_some h.place.crop && not (is_saved h) then Some refusals.Crop else
     if option_map_or (λ c. (c.width == 0) || (c.height == 0)) h.place.crop false then Some refusals.EmptyFrame else
-    if not (is_replace h.blending.colours.mode) then Some refusals.Blending else
-    if list_any (λ b. not (is_replace b.mode)) h.blending.extra then Some refusals.ExtraBlending else
+    if not (is_replace h.colours.mode) then Some refusals.Blending else
+    if list_any (λ b. not (is_replace b.mode)) h.extra then Some refusals.ExtraBlending else
     if is_saved h && not h.ending.save_before_ct then Some refusals.SavedAfter else
     if not (is_saved h || h.ending.is_last) then Some refusals.Frames else
     if h.closing.filter.gab || not (h.closing.filter.epf_iters == 0) then Some refusals.LoopFilter else None)

@@ -4,12 +4,11 @@ use Rattle.std.specs.List.{find, range_with_len, zip}
 use Rattle.std.specs.Option.{option_map_or}
 use Rattle.jxlm_base.specs.Grammar.{Grammar, u32, give, repeated, ◌>>=◌}
 use Rattle.jxlm_base.specs.declared.bits.U32Spec.TheVariants.{Const, Offset}
-use Rattle.jxl_headers.specs.Fields.{meant, when}
+use Rattle.jxl_headers.specs.Fields.{checked, when}
 use Rattle.jxl_frames.specs.Codings.{factor}
 use Rattle.jxl_frames.specs.declared.passes.Passes.{Passes as PassesInMemory}
 
--- the passes of a frame, seen without their memory: how many there are; by how many bits each but the last is shifted;
--- the resolutions that some passes end, and these passes
+-- how many passes there are, by how many bits each but the last is shifted, resolutions, and the passes that end them
 pub record Passes : Type 0 where
   pub count : ℕ
   pub shift : List ℕ
@@ -19,27 +18,21 @@ pub record Passes : Type 0 where
 abbrev pub passes_of : PassesInMemory → Passes
 passes_of p = record { count = p.count; shift = p.shift.items; downsample = p.downsample.items; last_pass = p.last_pass.items }
 
--- the factor of a resolution, finer than the one before; and its last pass, which is one of so many, and a later one
-unfoldable pub finer : Option ℕ → Grammar ℕ
-finer before = factor >>= λ v. meant (codes "downsample") (option_map_or (λ b. nat_lt v b) before true) v
-
-unfoldable pub later : ℕ → Option ℕ → Grammar ℕ
-later count before =
-    u32 (Const 0) (Const 1) (Const 2) (Offset 0 3) >>= λ v. meant (codes "last_pass") (option_map_or (λ b. nat_lt b v) before true && nat_lt v count) v
-
 -- n fields, each of which may depend on the number before it
 abbrev pub in_turn : ℕ → (Option ℕ → Grammar ℕ) → Option ℕ → Grammar (List ℕ)
 in_turn zero field before = give []
 in_turn (suc n) field before = field before >>= λ v. in_turn n field (Some v) >>= λ vs. give (v ∷ vs)
 
--- the passes of a frame, with no more resolutions than passes; frames that others use have one
+-- The passes of a frame, with no more resolutions than passes; frames that others use have one pass. The factor of a
+-- resolution is finer than the one before, and its last pass, which is one of so many, a later one.
 unfoldable pub passes : Bool → Grammar Passes
 passes there = do
   count ← when there (u32 (Const 1) (Const 2) (Const 3) (Offset 4 3)) 1
-  n ← when (not (count == 1)) (u32 (Const 0) (Const 1) (Const 2) (Offset 3 1) >>= λ n. meant (codes "num_downsample") (nat_le n count) n) 0
+  n ← when (not (count == 1)) (checked (codes "num_downsample") (λ n. nat_le n count) (u32 (Const 0) (Const 1) (Const 2) (Offset 3 1))) 0
   shifts ← repeated (count - 1) (u32 (Const 0) (Const 1) (Const 2) (Const 3))
-  factors ← in_turn n finer None
-  lasts ← in_turn n (later count) None
+  factors ← in_turn n (λ before. checked (codes "downsample") (λ v. option_map_or (λ b. nat_lt v b) before true) factor) None
+  lasts ← in_turn n (λ before. checked (codes "last_pass") (λ v. option_map_or (λ b. nat_lt b v) before true && nat_lt v count)
+      (u32 (Const 0) (Const 1) (Const 2) (Offset 0 3))) None
   give (record { count = count; shift = shifts; downsample = factors; last_pass = lasts })
 
 -- there are from 1 to 11

@@ -1,14 +1,13 @@
 -- The place of a frame in the picture (ISO/IEC 18181-1, frame header: level of low frequencies, crop).
-use Rattle.std.specs.Prelude.{ℕ, ◌+◌, ◌/◌, ◌%◌, ◌==◌, ◌&&◌, ◌||◌, not, nat_lt, Bool, true, false, None}
+use Rattle.std.specs.Prelude.{ℕ, ◌+◌, ◌/◌, ◌%◌, ◌==◌, ◌&&◌, ◌||◌, not, nat_lt, Bool, true, false}
 use Rattle.jxlm_base.specs.Grammar.{Grammar, u32, give, ◌>>=◌}
 use Rattle.jxlm_base.specs.Numbers.{unpack}
-use Rattle.jxlm_base.specs.declared.bits.U32Spec.TheVariants.{Const, Offset}
-use Rattle.jxl_headers.specs.Fields.{optional, when}
+use Rattle.jxlm_base.specs.declared.bits.U32Spec.TheVariants.{Offset}
+use Rattle.jxl_headers.specs.Fields.{when}
 use Rattle.jxl_headers.specs.declared.size.Size.{Size}
 use Rattle.jxl_frames.specs.declared.coding.FrameType.{FrameType}
 use Rattle.jxl_frames.specs.declared.coding.FrameType.TheVariants.{LfFrame, ReferenceOnly}
 use Rattle.jxl_frames.specs.declared.place.Crop.{Crop}
-use Rattle.jxl_frames.specs.declared.place.Place.{Place}
 
 abbrev pub is_lf : FrameType → Bool
 is_lf LfFrame = true
@@ -39,10 +38,3 @@ crop size shown = do
   height ← extent
   let partial = shown && not (covers x width size.width && covers y height size.height)
   give (record { x0 = unpack x; y0 = unpack y; width = width; height = height; partial = partial })
-
--- the place of a frame of this type: how often its low frequencies are low frequencies, and its crop
-unfoldable pub place : Size → FrameType → Grammar Place
-place size frame_type = do
-  level ← when (is_lf frame_type) (u32 (Const 1) (Const 2) (Const 3) (Const 4)) 0
-  crop ← when (not (is_lf frame_type)) (optional (crop size (is_shown frame_type))) None
-  give (record { lf_level = level; crop = crop })

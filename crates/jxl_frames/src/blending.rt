@@ -1,6 +1,6 @@
 //! How a frame is blended with others, and what becomes of it.
 
-ghost use Rattle.std.specs.Prelude.{◌≡◌, ◌==◌, ◌&&◌, ◌||◌, not, nat_lt, [], None, Some, false, is_some, if◌then◌else◌};
+ghost use Rattle.std.specs.Prelude.{◌≡◌, ◌==◌, ◌&&◌, ◌||◌, not, nat_lt, [], None, Some, true, false, is_some, if◌then◌else◌};
 ghost use Rattle.std.specs.List.{list_any};
 ghost use Rattle.std.specs.Option.{option_map_or};
 ghost use Rattle.jxlm_base.specs.Bits.{bytes_of, position_of};
@@ -8,16 +8,15 @@ ghost use Rattle.jxlm_base.specs.Grammar.{Reads, repeated, u32};
 ghost use Rattle.jxlm_base.specs.declared.bits.U32Spec.TheVariants.{Const, Offset};
 ghost use Rattle.jxl_headers.specs.Fields.{when};
 ghost use Rattle.jxl_headers.specs.Reading.{Parses};
-ghost use Rattle.jxl_frames.specs.Places.{is_reference as the_is_reference, is_shown as the_is_shown};
-ghost use Rattle.jxl_frames.specs.Blendings.{mode_of as the_mode_of, blending_info, usual_info, blending_of, blending, is_replace as the_is_replace, ending};
+ghost use Rattle.jxl_frames.specs.Places.{is_reference as the_is_reference};
+ghost use Rattle.jxl_frames.specs.Blendings.{mode_of as the_mode_of, blending_info, is_replace as the_is_replace, ending};
 ghost use Rattle.jxl_frames.specs.Inner.Checked.{mode_number as the_mode_number, alpha as the_alpha};
-ghost use Rattle.jxl_frames.specs.Frames.{usual_frame};
 ghost use Rattle.jxl_frames.specs.declared.refusal.Refusal.TheVariants as refusals;
 
 use crate::coding::FrameType;
-use crate::fields::{both, field_if, flag_if, number_if};
+use crate::fields::field_if;
 use crate::refusal::Refusal;
-use jxl_headers::fields::Result;
+use jxl_headers::fields::{Result, flag_if, number_if};
 use jxl_headers::image::Animation;
 use jxlm_base::bits::{Bitstream, BitstreamError, U32Spec};
 use jxlm_base::error;
@@ -107,6 +106,14 @@ fn mode_number(bits: &mut Bitstream<'_>) -> Result<u32>
     }
 }
 
+fn mode_if(bits: &mut Bitstream<'_>, there: bool) -> Result<u32>
+    ensures gives { Reads (λ v. v) result (position_of bits.new)
+        ((when there the_mode_number 0).read (bytes_of bits.old) (position_of bits.old)) }
+    ensures bytes { bytes_of bits.new ≡ bytes_of bits.old }
+{
+    if there { mode_number(bits) } else { Ok(0) }
+}
+
 fn by_alpha(extra: usize, mode: u32) -> bool
     ensures { result ≡ (nat_lt 0 extra && ((mode == 2) || (mode == 3))) }
 {
@@ -143,51 +150,37 @@ fn alpha_if(bits: &mut Bitstream<'_>, there: bool, extra: usize) -> Result<u32>
 impl BlendingInfo {
     /// How some channels are blended, in an image with so many extra channels, of a frame that is partial or not.
     /// `InvalidEnum` for a mode that there is not, and for an alpha channel that there is not.
-    #[tactic(auto, unfolding(crate::specs::Blendings::blending_info))]
     pub fn parse(bits: &mut Bitstream<'_>, extra: usize, partial: bool) -> Result<BlendingInfo>
         ensures gives { Reads (λ v. v) result (position_of bits.new)
-            ((blending_info extra partial).read (bytes_of bits.old) (position_of bits.old)) }
+            ((blending_info true extra partial).read (bytes_of bits.old) (position_of bits.old)) }
         ensures bytes { bytes_of bits.new ≡ bytes_of bits.old }
     {
-        let mode = mode_number(bits)?;
-        let alpha_channel = alpha_if(bits, by_alpha(extra, mode), extra)?;
-        let clamp = flag_if(bits, by_alpha(extra, mode) || mode == 4, false)?;
-        let source = number_if(bits, mode != 0 || partial, 2, 0)?;
-        Ok(BlendingInfo {
-            mode: mode_of(mode),
-            alpha_channel,
-            clamp,
-            source,
-        })
+        BlendingInfo::parse_if(bits, true, extra, partial)
     }
 
-    fn parse_if(
+    /// The same where it is told; else the frame's samples replace others.
+    #[tactic(auto, unfolding(crate::specs::Blendings::blending_info))]
+    pub fn parse_if(
         bits: &mut Bitstream<'_>,
         there: bool,
         extra: usize,
         partial: bool,
     ) -> Result<BlendingInfo>
         ensures gives { Reads (λ v. v) result (position_of bits.new)
-            ((when there (blending_info extra partial) usual_info).read (bytes_of bits.old) (position_of bits.old)) }
+            ((blending_info there extra partial).read (bytes_of bits.old) (position_of bits.old)) }
         ensures bytes { bytes_of bits.new ≡ bytes_of bits.old }
     {
-        if there {
-            BlendingInfo::parse(bits, extra, partial)
-        } else {
-            Ok(BlendingInfo::usual())
-        }
-    }
-
-    /// The frame's samples replace others.
-    pub fn usual() -> BlendingInfo
-        ensures { result ≡ usual_info }
-    {
-        BlendingInfo {
-            mode: BlendMode::Replace,
-            alpha_channel: 0,
-            clamp: false,
-            source: 0,
-        }
+        let mode = mode_if(bits, there)?;
+        let by_alpha = by_alpha(extra, mode);
+        let alpha_channel = alpha_if(bits, by_alpha, extra)?;
+        let clamp = flag_if(bits, by_alpha | (mode == 4), false)?;
+        let source = number_if(bits, (mode != 0) | (there & partial), 2, 0)?;
+        Ok(BlendingInfo {
+            mode: mode_of(mode),
+            alpha_channel,
+            clamp,
+            source,
+        })
     }
 
     /// Whether the frame's samples replace others.
@@ -213,7 +206,7 @@ fn read_infos(
     partial: bool,
 ) -> error::Result<Vec<BlendingInfo>>
     ensures gives { Parses (λ v. v.items) result (position_of bits.new)
-        ((repeated count (blending_info extra partial)).read (bytes_of bits.old) (position_of bits.old)) }
+        ((repeated count (blending_info true extra partial)).read (bytes_of bits.old) (position_of bits.old)) }
     ensures bytes { bytes_of bits.new ≡ bytes_of bits.old }
 {
     let mut infos = Vec::new(alloc);
@@ -225,7 +218,7 @@ fn read_infos(
 }
 
 // So many extra channels, where they are told.
-fn read_infos_if(
+pub(crate) fn read_infos_if(
     alloc: Global,
     bits: &mut Bitstream<'_>,
     there: bool,
@@ -233,7 +226,7 @@ fn read_infos_if(
     partial: bool,
 ) -> error::Result<Vec<BlendingInfo>>
     ensures gives { Parses (λ v. v.items) result (position_of bits.new)
-        ((when there (repeated extra (blending_info extra partial)) []).read
+        ((when there (repeated extra (blending_info true extra partial)) []).read
         (bytes_of bits.old) (position_of bits.old)) }
     ensures bytes { bytes_of bits.new ≡ bytes_of bits.old }
 {
@@ -252,35 +245,6 @@ fn is_blended(infos: &[BlendingInfo]) -> bool
 }
 
 impl Blending {
-    /// Nothing is blended.
-    pub fn usual(alloc: Global) -> Blending
-        ensures { blending_of result ≡ usual_frame.blending }
-    {
-        Blending {
-            colours: BlendingInfo::usual(),
-            extra: Vec::new(alloc),
-        }
-    }
-
-    /// How a frame is blended, as it stands at the reader's position, where the frame is shown: in an image with so
-    /// many extra channels, of a frame that is partial or not.
-    #[tactic(auto, unfolding(crate::specs::Blendings::blending))]
-    pub fn parse(
-        alloc: Global,
-        bits: &mut Bitstream<'_>,
-        shown: bool,
-        extra: usize,
-        partial: bool,
-    ) -> error::Result<Blending>
-        ensures gives { Parses blending_of result (position_of bits.new)
-            ((blending shown extra partial).read (bytes_of bits.old) (position_of bits.old)) }
-        ensures bytes { bytes_of bits.new ≡ bytes_of bits.old }
-    {
-        let colours = BlendingInfo::parse_if(bits, shown, extra, partial)?;
-        let extra = read_infos_if(alloc, bits, shown, extra, partial)?;
-        Ok(Blending { colours, extra })
-    }
-
     /// What of it is not supported: the first channels, in order, that are blended.
     pub fn refused(&self) -> Option<Refusal>
         ensures { result ≡ (if not (the_is_replace self.now.colours.mode) then Some refusals.Blending else
@@ -326,39 +290,39 @@ fn has_timecodes(animation: Option<Animation>) -> bool
 
 fn may_save_before(
     frame_type: FrameType,
-    replaces: bool,
+    replaced: bool,
     is_last: bool,
     duration: u32,
     reference: u32,
 ) -> bool
-    ensures { result ≡ (the_is_reference frame_type || the_is_shown frame_type && replaces && not is_last
+    ensures { result ≡ (the_is_reference frame_type || replaced && not is_last
         && ((duration == 0) || not (reference == 0))) }
 {
-    frame_type.is_reference()
-        || frame_type.is_shown() && replaces && !is_last && (duration == 0 || reference != 0)
+    frame_type.is_reference() || replaced && !is_last && (duration == 0 || reference != 0)
 }
 
 impl Ending {
-    /// What becomes of a frame of this type, as it stands at the reader's position; it replaces the whole picture or
-    /// not.
+    /// What becomes of a frame of this type, as it stands at the reader's position, where it is told, and the frame is
+    /// shown or not; it replaces the whole picture or not.
     #[tactic(auto, unfolding(crate::specs::Blendings::ending))]
     pub fn parse(
         bits: &mut Bitstream<'_>,
+        shown: bool,
         animation: Option<Animation>,
         frame_type: FrameType,
         replaces: bool,
     ) -> Result<Ending>
         ensures gives { Reads (λ v. v) result (position_of bits.new)
-            ((ending animation frame_type replaces).read (bytes_of bits.old) (position_of bits.old)) }
+            ((ending shown animation frame_type replaces).read (bytes_of bits.old) (position_of bits.old)) }
         ensures bytes { bytes_of bits.new ≡ bytes_of bits.old }
     {
-        let shown = frame_type.is_shown();
-        let duration = duration_if(bits, both(shown, animation.is_some()))?;
-        let timecode = number_if(bits, both(shown, has_timecodes(animation)), 32, 0)?;
-        let is_last = flag_if(bits, shown, false)?;
-        let kept = both(!frame_type.is_lf(), !is_last);
+        let duration = duration_if(bits, shown & animation.is_some())?;
+        let timecode = number_if(bits, shown & has_timecodes(animation), 32, 0)?;
+        let is_last = flag_if(bits, shown, frame_type.is_shown())?;
+        let kept = !frame_type.is_lf() & !is_last;
         let save_as_reference = number_if(bits, kept, 2, 0)?;
-        let there = may_save_before(frame_type, replaces, is_last, duration, save_as_reference);
+        let replaced = shown & replaces;
+        let there = may_save_before(frame_type, replaced, is_last, duration, save_as_reference);
         let save_before_ct = flag_if(bits, there, frame_type.is_lf())?;
         Ok(Ending {
             duration,
@@ -367,19 +331,6 @@ impl Ending {
             save_as_reference,
             save_before_ct,
         })
-    }
-
-    /// What becomes of the last frame of an image.
-    pub fn usual() -> Ending
-        ensures { result ≡ usual_frame.ending }
-    {
-        Ending {
-            duration: 0,
-            timecode: 0,
-            is_last: true,
-            save_as_reference: 0,
-            save_before_ct: false,
-        }
     }
 
     /// Whether it is not supported, of a frame of this type: other frames follow one that is shown, or another is saved

@@ -5,14 +5,13 @@ ghost use Rattle.jxlm_base.specs.Bits.{bytes_of, position_of};
 ghost use Rattle.jxlm_base.specs.Grammar.{Reads};
 ghost use Rattle.jxl_headers.specs.Fields.{when};
 ghost use Rattle.jxl_frames.specs.Codings.{factor, type_of as the_type_of, flags_of as the_flags_of, coding, is_modular as the_is_modular, type_refusal, coding_refusal};
-ghost use Rattle.jxl_frames.specs.Inner.Described.{flags as the_flags};
-ghost use Rattle.jxl_frames.specs.Frames.{usual_frame};
+ghost use Rattle.jxl_frames.specs.Inner.Checked.{flags as the_flags};
 ghost use Rattle.jxl_frames.specs.declared.coding.Encoding.TheVariants as encodings;
 ghost use Rattle.jxl_frames.specs.declared.refusal.Refusal.TheVariants as refusals;
 
-use crate::fields::{both, field_if, flag_if, number_if};
+use crate::fields::field_if;
 use crate::refusal::Refusal;
-use jxl_headers::fields::{Result, long, number};
+use jxl_headers::fields::{Result, flag_if, long_if, number_if};
 use jxlm_base::bits::{Bitstream, U32Spec};
 
 /// What a frame is for.
@@ -108,12 +107,12 @@ impl Encoding {
 }
 
 impl FrameFlags {
-    fn parse(bits: &mut Bitstream<'_>) -> Result<FrameFlags>
+    fn parse(bits: &mut Bitstream<'_>, told: bool) -> Result<FrameFlags>
         ensures gives { Reads (λ v. v) result (position_of bits.new)
-            (the_flags.read (bytes_of bits.old) (position_of bits.old)) }
+            ((the_flags told).read (bytes_of bits.old) (position_of bits.old)) }
         ensures bytes { bytes_of bits.new ≡ bytes_of bits.old }
     {
-        let value = long(bits)?;
+        let value = long_if(bits, told)?;
         Ok(flags_of(value))
     }
 }
@@ -137,19 +136,20 @@ fn factor_if(bits: &mut Bitstream<'_>, there: bool) -> Result<u32>
 }
 
 impl Coding {
-    /// How a frame of an image whose colours are XYB, or are not, is coded, as it stands at the reader's position.
+    /// How a frame of an image whose colours are XYB, or are not, is coded, as it stands at the reader's position, where
+    /// that is told.
     #[tactic(auto, unfolding(crate::specs::Codings::coding))]
-    pub fn parse(bits: &mut Bitstream<'_>, xyb: bool) -> Result<Coding>
+    pub fn parse(bits: &mut Bitstream<'_>, told: bool, xyb: bool) -> Result<Coding>
         ensures gives { Reads (λ v. v) result (position_of bits.new)
-            ((coding xyb).read (bytes_of bits.old) (position_of bits.old)) }
+            ((coding told xyb).read (bytes_of bits.old) (position_of bits.old)) }
         ensures bytes { bytes_of bits.new ≡ bytes_of bits.old }
     {
-        let frame_type = number(bits, 2)?;
-        let modular = bits.read_bool()?;
-        let flags = FrameFlags::parse(bits)?;
-        let ycbcr = flag_if(bits, !xyb, false)?;
-        number_if(bits, both(ycbcr, !flags.use_lf_frame), 6, 0)?;
-        let upsampling = factor_if(bits, !flags.use_lf_frame)?;
+        let frame_type = number_if(bits, told, 2, 0)?;
+        let modular = flag_if(bits, told, false)?;
+        let flags = FrameFlags::parse(bits, told)?;
+        let ycbcr = flag_if(bits, told & !xyb, false)?;
+        number_if(bits, ycbcr & !flags.use_lf_frame, 6, 0)?;
+        let upsampling = factor_if(bits, told & !flags.use_lf_frame)?;
         Ok(Coding {
             frame_type: type_of(frame_type),
             encoding: encoding_of(modular),
@@ -157,25 +157,6 @@ impl Coding {
             ycbcr,
             upsampling,
         })
-    }
-
-    /// How a frame is coded whose header says nothing.
-    pub fn usual() -> Coding
-        ensures { result ≡ usual_frame.coding }
-    {
-        Coding {
-            frame_type: FrameType::Regular,
-            encoding: Encoding::VarDct,
-            flags: FrameFlags {
-                noise: false,
-                patches: false,
-                splines: false,
-                use_lf_frame: false,
-                skip_adaptive_lf_smoothing: false,
-            },
-            ycbcr: false,
-            upsampling: 1,
-        }
     }
 
     fn type_refused(&self) -> Option<Refusal>

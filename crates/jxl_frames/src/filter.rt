@@ -4,13 +4,11 @@ ghost use Rattle.std.specs.Prelude.{◌≡◌, ◌||◌, ◌==◌, not, if◌the
 ghost use Rattle.jxlm_base.specs.Bits.{bytes_of, position_of};
 ghost use Rattle.jxlm_base.specs.Grammar.{Reads};
 ghost use Rattle.jxl_headers.specs.Fields.{when};
-ghost use Rattle.jxl_frames.specs.Filters.{own_floats as the_own_floats, usual_filter, filter};
-ghost use Rattle.jxl_frames.specs.Inner.Described.{own_filter};
+ghost use Rattle.jxl_frames.specs.Filters.{own_floats as the_own_floats, filter};
 ghost use Rattle.jxl_frames.specs.declared.refusal.Refusal.TheVariants as refusals;
 
-use crate::fields::{both, skip_if};
 use crate::refusal::Refusal;
-use jxl_headers::fields::{Result, extensions, number};
+use jxl_headers::fields::{Result, extensions_if, flag_if, number_if, skip_if, told_if};
 use jxlm_base::bits::Bitstream;
 
 /// Filters of what was decoded.
@@ -53,52 +51,29 @@ fn sigma_bytes(modular: bool) -> u32
 }
 
 impl RestorationFilter {
-    #[tactic(auto, unfolding(crate::specs::Inner::Described::own_filter))]
-    fn own(bits: &mut Bitstream<'_>, modular: bool) -> Result<RestorationFilter>
+    /// The filters of a frame that is Modular or not, as they stand at the reader's position, where they may be told; their
+    /// floats and extensions are passed.
+    #[tactic(auto, unfolding(crate::specs::Filters::filter))]
+    pub fn parse(bits: &mut Bitstream<'_>, there: bool, modular: bool) -> Result<RestorationFilter>
         ensures gives { Reads (λ v. v) result (position_of bits.new)
-            ((own_filter modular).read (bytes_of bits.old) (position_of bits.old)) }
+            ((filter there modular).read (bytes_of bits.old) (position_of bits.old)) }
         ensures bytes { bytes_of bits.new ≡ bytes_of bits.old }
     {
-        let gab = bits.read_bool()?;
-        own_floats_if(bits, gab, 12)?;
-        let epf_iters = number(bits, 2)?;
-        let edges = epf_iters != 0;
-        own_floats_if(bits, both(edges, !modular), 16)?;
+        let told = told_if(bits, there)?;
+        let gab = flag_if(bits, told, true)?;
+        own_floats_if(bits, told & gab, 12)?;
+        let epf_iters = number_if(bits, told, 2, 2)?;
+        let edges = told & (epf_iters != 0);
+        own_floats_if(bits, edges & !modular, 16)?;
         own_floats_if(bits, edges, 10)?;
         own_floats_if(bits, edges, sigma_bytes(modular))?;
-        skip_if(bits, both(edges, modular), 2)?;
-        let extensions = extensions(bits)?;
+        skip_if(bits, edges & modular, 2)?;
+        let extensions = extensions_if(bits, told)?;
         Ok(RestorationFilter {
             gab,
             epf_iters,
             extensions,
         })
-    }
-
-    /// The filters of a frame whose header says nothing.
-    pub fn usual() -> RestorationFilter
-        ensures { result ≡ usual_filter }
-    {
-        RestorationFilter {
-            gab: true,
-            epf_iters: 2,
-            extensions: 0,
-        }
-    }
-
-    /// The filters of a frame that is Modular or not, as they stand at the reader's position; their floats and extensions
-    /// are passed.
-    #[tactic(auto, unfolding(crate::specs::Filters::filter, crate::specs::Inner::Described::own_filter))]
-    pub fn parse(bits: &mut Bitstream<'_>, modular: bool) -> Result<RestorationFilter>
-        ensures gives { Reads (λ v. v) result (position_of bits.new)
-            ((filter modular).read (bytes_of bits.old) (position_of bits.old)) }
-        ensures bytes { bytes_of bits.new ≡ bytes_of bits.old }
-    {
-        if bits.read_bool()? {
-            Ok(RestorationFilter::usual())
-        } else {
-            RestorationFilter::own(bits, modular)
-        }
     }
 
     /// What of it is not supported: a filter.

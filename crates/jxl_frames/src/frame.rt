@@ -1,26 +1,24 @@
 //! The frame header.
 
-ghost use Rattle.std.specs.Prelude.{◌≡◌, ◌≤◌, ◌<◌, ◌*◌, ◌^◌, ◌==◌, not, [], IfOk, length, if◌then◌else◌, Some, None};
+ghost use Rattle.std.specs.Prelude.{◌≡◌, ◌<◌, ◌*◌, ◌==◌, not, [], IfOk, if◌then◌else◌, Some, None};
 ghost use Rattle.std.specs.List.{list_any};
 ghost use Rattle.jxlm_base.specs.Bits.{bytes_of, position_of};
-ghost use Rattle.jxlm_base.specs.Grammar.{Reads, repeated};
+ghost use Rattle.jxlm_base.specs.Grammar.{repeated};
 ghost use Rattle.jxl_headers.specs.Fields.{when};
 ghost use Rattle.jxl_headers.specs.Images.{image_of};
 ghost use Rattle.jxl_headers.specs.Reading.{Parses};
 ghost use Rattle.jxl_frames.specs.Passes.{IsPassCount};
 ghost use Rattle.jxl_frames.specs.Codings.{factor};
-ghost use Rattle.jxl_frames.specs.Frames.{frame_of, usual_frame, frame_header, has_shifts as the_has_shifts, frame_refusal, is_saved as the_is_saved, frame_size};
-ghost use Rattle.jxl_frames.specs.Inner.Described.{rest, described_frame};
+ghost use Rattle.jxl_frames.specs.Frames.{frame_of, frame_header, has_shifts as the_has_shifts, frame_refusal, is_saved as the_is_saved, frame_size};
 ghost use Rattle.jxl_frames.specs.declared.refusal.Refusal.TheVariants as refusals;
 
-use crate::blending::{Blending, Ending};
+use crate::blending::{Blending, BlendingInfo, Ending, read_infos_if};
 use crate::coding::Coding;
-use crate::fields::{both, number_if};
 use crate::filter::RestorationFilter;
 use crate::passes::{Passes, factors};
-use crate::place::Place;
+use crate::place::{Crop, Place, lf_level};
 use crate::refusal::Refusal;
-use jxl_headers::fields::{extensions, name};
+use jxl_headers::fields::{extensions_if, name_if, number_if, told_if};
 use jxl_headers::image::ImageHeader;
 use jxl_headers::size::Size;
 use jxlm_base::bits::Bitstream;
@@ -102,101 +100,7 @@ fn has_shifts(image: &ImageHeader) -> bool
     image.extra.iter().any(|channel| channel.shift != 0)
 }
 
-impl Closing {
-    fn usual() -> Closing
-        ensures { result ≡ usual_frame.closing }
-    {
-        Closing {
-            name_bytes: 0,
-            filter: RestorationFilter::usual(),
-            extensions: 0,
-        }
-    }
-}
-
 impl FrameHeader {
-    fn usual(alloc: Global) -> FrameHeader
-        ensures frame { frame_of result ≡ usual_frame }
-        ensures count { result.passes.count ≡ 1 }
-    {
-        FrameHeader {
-            coding: Coding::usual(),
-            ec_upsampling: Vec::new(alloc),
-            group_dim: 256,
-            passes: Passes::one(alloc),
-            place: Place::usual(),
-            blending: Blending::usual(alloc),
-            ending: Ending::usual(),
-            closing: Closing::usual(),
-        }
-    }
-
-    #[tactic(auto, unfolding(crate::specs::Inner::Described::rest))]
-    fn rest(
-        alloc: Global,
-        bits: &mut Bitstream<'_>,
-        image: &ImageHeader,
-        coding: Coding,
-        ec_upsampling: Vec<u32>,
-        shift: u32,
-    ) -> Result<FrameHeader>
-        requires shift { shift < 4 }
-        ensures gives { Parses frame_of result (position_of bits.new)
-            ((rest (image_of image.now) coding ec_upsampling.items shift).read
-            (bytes_of bits.old) (position_of bits.old)) }
-        ensures dim { IfOk result (λ h. 0 < h.group_dim) }
-        ensures counted { IfOk result (λ h. IsPassCount h.passes.count) }
-        ensures bytes { bytes_of bits.new ≡ bytes_of bits.old }
-    {
-        let frame_type = coding.frame_type;
-        let passes = Passes::parse(alloc, bits, !frame_type.is_reference())?;
-        let place = Place::parse(bits, image.size, frame_type)?;
-        let partial = place.is_partial();
-        let extra = image.extra.len();
-        let blending = Blending::parse(alloc, bits, frame_type.is_shown(), extra, partial)?;
-        let replaces = blending.colours.replaces() && !partial;
-        let ending = Ending::parse(bits, image.display.animation, frame_type, replaces)?;
-        let name_bytes = name(bits)?;
-        let filter = RestorationFilter::parse(bits, coding.encoding.is_modular())?;
-        let extensions = extensions(bits)?;
-        Ok(FrameHeader {
-            coding,
-            ec_upsampling,
-            group_dim: 128 << shift,
-            passes,
-            place,
-            blending,
-            ending,
-            closing: Closing {
-                name_bytes,
-                filter,
-                extensions,
-            },
-        })
-    }
-
-    #[tactic(auto, unfolding(crate::specs::Inner::Described::described_frame))]
-    fn described(
-        alloc: Global,
-        bits: &mut Bitstream<'_>,
-        image: &ImageHeader,
-    ) -> Result<FrameHeader>
-        ensures gives { Parses frame_of result (position_of bits.new)
-            ((described_frame (image_of image.now)).read (bytes_of bits.old) (position_of bits.old)) }
-        ensures dim { IfOk result (λ h. 0 < h.group_dim) }
-        ensures counted { IfOk result (λ h. IsPassCount h.passes.count) }
-        ensures bytes { bytes_of bits.new ≡ bytes_of bits.old }
-    {
-        let xyb = image.shown.xyb;
-        let extra = image.extra.len();
-        let coding = Coding::parse(bits, xyb)?;
-        let ec_upsampling = factors_if(alloc, bits, !coding.flags.use_lf_frame, extra)?;
-        let modular = coding.encoding.is_modular();
-        let shift = number_if(bits, modular, 2, 1)?;
-        number_if(bits, both(!modular, xyb), 6, 0)?;
-        FrameHeader::rest(alloc, bits, image, coding, ec_upsampling, shift)
-    }
-
     /// The header of a frame of this image that stands at the reader's position, which is the start of a byte. What is
     /// not supported is read too, and `refused` names it. The reader is left where the table of contents begins.
     ///
@@ -217,11 +121,50 @@ impl FrameHeader {
         ensures counted { IfOk result (λ h. IsPassCount h.passes.count) }
         ensures bytes { bytes_of bits.new ≡ bytes_of bits.old }
     {
-        if bits.read_bool()? {
-            Ok(FrameHeader::usual(alloc))
-        } else {
-            FrameHeader::described(alloc, bits, image)
-        }
+        let xyb = image.shown.xyb;
+        let extra = image.extra.len();
+        let told = told_if(bits, true)?;
+        let coding = Coding::parse(bits, told, xyb)?;
+        let frame_type = coding.frame_type;
+        let modular = coding.encoding.is_modular();
+        let ec_upsampling = factors_if(alloc, bits, told & !coding.flags.use_lf_frame, extra)?;
+        let shift = number_if(bits, modular, 2, 1)?;
+        number_if(bits, told & !modular & xyb, 6, 0)?;
+        let passes = Passes::parse(alloc, bits, told & !frame_type.is_reference())?;
+        let lf_level = lf_level(bits, frame_type.is_lf())?;
+        let crop = Crop::told_if(
+            bits,
+            told & !frame_type.is_lf(),
+            image.size,
+            frame_type.is_shown(),
+        )?;
+        let place = Place { lf_level, crop };
+        let partial = place.is_partial();
+        let shown = told & frame_type.is_shown();
+        let colours = BlendingInfo::parse_if(bits, shown, extra, partial)?;
+        let others = read_infos_if(alloc, bits, shown, extra, partial)?;
+        let replaces = colours.replaces() & !partial;
+        let ending = Ending::parse(bits, shown, image.display.animation, frame_type, replaces)?;
+        let name_bytes = name_if(bits, told)?;
+        let filter = RestorationFilter::parse(bits, told, modular)?;
+        let extensions = extensions_if(bits, told)?;
+        Ok(FrameHeader {
+            coding,
+            ec_upsampling,
+            group_dim: 128 << shift,
+            passes,
+            place,
+            blending: Blending {
+                colours,
+                extra: others,
+            },
+            ending,
+            closing: Closing {
+                name_bytes,
+                filter,
+                extensions,
+            },
+        })
     }
 
     /// What the frame of this image has that is not supported: the first in the order of the bits, or none.

@@ -8,10 +8,9 @@ ghost use Rattle.jxlm_base.specs.declared.bits.U32Spec.TheVariants.{Const, Offse
 ghost use Rattle.jxl_headers.specs.Fields.{when};
 ghost use Rattle.jxl_headers.specs.Reading.{Parses};
 ghost use Rattle.jxl_frames.specs.Codings.{factor};
-ghost use Rattle.jxl_frames.specs.Passes.{IsPassCount, passes_of, finer as the_finer, later as the_later, in_turn as the_list, passes, shift_of as the_shift_of, least_shift as the_least_shift, shifts_held};
-ghost use Rattle.jxl_frames.specs.Inner.Checked.{next as the_next, resolutions as the_resolutions};
+ghost use Rattle.jxl_frames.specs.Passes.{IsPassCount, passes_of, in_turn as the_list, passes, shift_of as the_shift_of, least_shift as the_least_shift, shifts_held};
+ghost use Rattle.jxl_frames.specs.Inner.Checked.{finer as the_finer, later as the_later, next as the_next, resolutions as the_resolutions};
 ghost use Rattle.jxl_frames.specs.Inner.Ended.{ended as the_ended};
-ghost use Rattle.jxl_frames.specs.Frames.{usual_frame};
 
 use crate::fields::fields as fields_of;
 use jxl_headers::fields;
@@ -126,7 +125,7 @@ fn is_above(before: Option<u32>, value: u32) -> bool
     }
 }
 
-#[tactic(auto, unfolding(crate::specs::Passes::finer, crate::specs::Codings::factor))]
+#[tactic(auto, unfolding(crate::specs::Codings::factor))]
 fn finer(bits: &mut Bitstream<'_>, before: Option<u32>) -> fields::Result<u32>
     ensures gives { Reads (λ v. v) result (position_of bits.new)
         ((the_finer before).read (bytes_of bits.old) (position_of bits.old)) }
@@ -146,7 +145,6 @@ fn finer(bits: &mut Bitstream<'_>, before: Option<u32>) -> fields::Result<u32>
     }
 }
 
-#[tactic(auto, unfolding(crate::specs::Passes::later))]
 fn later(bits: &mut Bitstream<'_>, count: u32, before: Option<u32>) -> fields::Result<u32>
     ensures gives { Reads (λ v. v) result (position_of bits.new)
         ((the_later count before).read (bytes_of bits.old) (position_of bits.old)) }
@@ -235,19 +233,6 @@ fn shift_of(factor: u32) -> u32
 }
 
 impl Passes {
-    /// One pass.
-    pub fn one(alloc: Global) -> Passes
-        ensures is { passes_of result ≡ usual_frame.passes }
-        ensures count { result.count ≡ 1 }
-    {
-        Passes {
-            count: 1,
-            shift: Vec::new(alloc),
-            downsample: Vec::new(alloc),
-            last_pass: Vec::new(alloc),
-        }
-    }
-
     /// The passes that stand at the reader's position, where they are told; else there is one. `InvalidEnum` of
     /// `num_downsample` for more resolutions than passes, of `downsample` for one that is not finer than the one
     /// before, and of `last_pass` for a last pass that there is not, or that is not later than the one before.

@@ -7,8 +7,7 @@ ghost use Rattle.jxlm_base.specs.Grammar.{Reads, u32};
 ghost use Rattle.jxlm_base.specs.Numbers.{unpack};
 ghost use Rattle.jxlm_base.specs.declared.bits.U32Spec.TheVariants.{Const};
 ghost use Rattle.jxl_headers.specs.Fields.{optional, when};
-ghost use Rattle.jxl_frames.specs.Places.{is_shown as the_is_shown, is_lf as the_is_lf, is_reference as the_is_reference, extent as the_extent, covers as the_covers, crop, place};
-ghost use Rattle.jxl_frames.specs.Frames.{usual_frame};
+ghost use Rattle.jxl_frames.specs.Places.{is_shown as the_is_shown, is_lf as the_is_lf, is_reference as the_is_reference, extent as the_extent, covers as the_covers, crop};
 ghost use Rattle.jxl_frames.specs.declared.refusal.Refusal.TheVariants as refusals;
 
 use crate::coding::FrameType;
@@ -72,7 +71,8 @@ impl FrameType {
     }
 }
 
-fn lf_level(bits: &mut Bitstream<'_>, there: bool) -> Result<u32>
+/// How often the low frequencies of a frame are low frequencies, where that is told.
+pub(crate) fn lf_level(bits: &mut Bitstream<'_>, there: bool) -> Result<u32>
     ensures gives { Reads (λ v. v) result (position_of bits.new)
         ((when there (u32 (Const 1) (Const 2) (Const 3) (Const 4)) 0).read (bytes_of bits.old) (position_of bits.old)) }
     ensures bytes { bytes_of bits.new ≡ bytes_of bits.old }
@@ -162,7 +162,8 @@ impl Crop {
         Ok(Some(crop))
     }
 
-    fn told_if(
+    /// A size and a place of its own, where they may be told.
+    pub(crate) fn told_if(
         bits: &mut Bitstream<'_>,
         there: bool,
         size: Size,
@@ -194,28 +195,6 @@ impl Crop {
 }
 
 impl Place {
-    /// The place of a frame of this type in a picture of this size, as it stands at the reader's position.
-    #[tactic(auto, unfolding(crate::specs::Places::place))]
-    pub fn parse(bits: &mut Bitstream<'_>, size: Size, frame_type: FrameType) -> Result<Place>
-        ensures gives { Reads (λ v. v) result (position_of bits.new)
-            ((place size frame_type).read (bytes_of bits.old) (position_of bits.old)) }
-        ensures bytes { bytes_of bits.new ≡ bytes_of bits.old }
-    {
-        let lf_level = lf_level(bits, frame_type.is_lf())?;
-        let crop = Crop::told_if(bits, !frame_type.is_lf(), size, frame_type.is_shown())?;
-        Ok(Place { lf_level, crop })
-    }
-
-    /// The place of a frame that covers the picture.
-    pub fn usual() -> Place
-        ensures { result ≡ usual_frame.place }
-    {
-        Place {
-            lf_level: 0,
-            crop: None,
-        }
-    }
-
     /// Whether it is shown, and leaves a part of the picture to the frame before.
     pub fn is_partial(&self) -> bool
         ensures { result ≡ option_map_or (λ c. c.partial) self.now.crop false }

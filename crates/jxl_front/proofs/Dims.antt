@@ -1,6 +1,5 @@
 -- The side of a frame's groups is a power of two that an image may be cut by.
 use Rattle.std.proofs.Common.{◌≡◌, ℕ, zero, suc, ◌*◌, ◌^◌, ◌<◌, ◌≤◌, Bool, true, false, List, Ok, refl, sym, ap, subst, arith}
-use Rattle.std.specs.Prelude.{MatchBool}
 use Rattle.jxlm_base.proofs.BitsLemmas.{bits_at-bound}
 use Rattle.jxlm_base.specs.Bits.{bits_at}
 use Rattle.jxlm_base.specs.Grammar.{number}
@@ -11,10 +10,6 @@ use Rattle.jxl_headers.specs.Images.{Image}
 use Rattle.jxl_frames.proofs.FrameLaws.{exact-frame_header}
 use Rattle.jxl_frames.specs.Codings.{is_modular}
 use Rattle.jxl_frames.specs.Frames.{Frame, frame_header}
-
-either_of : {R P Q : Type 0} (b : Bool) → (P → R) → (Q → R) → MatchBool b P Q → R
-either_of true f g h = f h
-either_of false f g h = g h
 
 power : (k n : ℕ) → 1 ≤ k → k ≤ 20 → n ≡ 2 ^ k → IsGroupDim n
 power k n low high e = subst IsGroupDim (sym e) (powers_are_group_dims k low high)
@@ -35,19 +30,19 @@ of_shift false bytes p shift q s = let is : shift ≡ 1 = s.0 in of_two_bits shi
 pub dim_of : (image : Image) (bytes : List ℕ) (p : ℕ) (frame : Frame) (q : ℕ) → (frame_header image).read bytes p ≡ Ok (record { value = frame; position = q }) → IsGroupDim frame.group_dim
 unfolding frame_header
 dim_of image bytes p frame q e =
-    let (usual, m, one, chosen) = (exact-frame_header image).read_stands bytes p (record { value = frame; position = q }) e in
-    either_of usual (λ h. let is : frame.group_dim ≡ 256 = ap (λ (f : Frame). f.group_dim) h.0 in power 8 frame.group_dim (omega arith) (omega arith) is)
-    (λ h.
-    let (coding, a, two, after_coding) = h in
+    let (told, m, one, after_told) = (exact-frame_header image).read_stands bytes p (record { value = frame; position = q }) e in
+    let (coding, a, two, after_coding) = after_told in
     let (factors, b, three, after_factors) = after_coding in
     let (shift, c, four, after_shift) = after_factors in
     let (scales, d, five, after_scales) = after_shift in
     let (passes, f, six, after_passes) = after_scales in
-    let (place, g, seven, after_place) = after_passes in
-    let (blending, i, eight, after_blending) = after_place in
-    let (ending, j, nine, after_ending) = after_blending in
-    let (name, k, ten, after_name) = after_ending in
-    let (filter, l, eleven, after_filter) = after_name in
-    let (extensions, n, twelve, last) = after_filter in
+    let (level, g, seven, after_level) = after_passes in
+    let (crop, h, eight, after_crop) = after_level in
+    let (colours, i, nine, after_colours) = after_crop in
+    let (others, j, ten, after_others) = after_colours in
+    let (ending, k, eleven, after_ending) = after_others in
+    let (name, l, twelve, after_name) = after_ending in
+    let (filter, n, thirteen, after_filter) = after_name in
+    let (extensions, o, fourteen, last) = after_filter in
     let is : frame.group_dim ≡ 128 * 2 ^ shift = ap (λ (f : Frame). f.group_dim) last.0 in
-    subst IsGroupDim (sym is) (of_shift (is_modular coding.encoding) bytes b shift c four)) chosen
+    subst IsGroupDim (sym is) (of_shift (is_modular coding.encoding) bytes b shift c four)

@@ -1,17 +1,16 @@
 -- Headers are read exactly: what is read stands there, and what stands there is read.
-use Rattle.std.proofs.Common.{◌≡◌, ℕ, zero, suc, ◌+◌, ◌*◌, ◌/◌, ◌%◌, Bool, true, false, List, Ok, Err, Some, None, Result, refl, ap, sym}
+use Rattle.std.proofs.Common.{◌≡◌, ℕ, zero, suc, ◌+◌, ◌*◌, ◌/◌, ◌%◌, Bool, true, false, List, [], Ok, Err, Some, None, Result, refl, ap, sym}
 use Rattle.std.specs.Prelude.{◌-◌, nat_lt, nat_le, codes, ◌==◌, ◌&&◌, ◌||◌, not, count_ones, sum}
 use Rattle.jxlm_base.specs.Decoding.{Found}
 use Rattle.jxlm_base.specs.ErrorKind.{ErrorAt, BadEnum}
 use Rattle.jxlm_base.specs.Grammar.{Grammar, IsExact, give, fail, ◌>>=◌}
 use Rattle.jxlm_base.specs.declared.bits.U32Spec.TheVariants.{Const, Offset}
 use Rattle.jxlm_base.proofs.GrammarLaws.{exact-give, exact-fail, exact-number, exact-bind, exact-either, exact-repeated, exact-flag, exact-part, exact-u32}
-use Rattle.jxl_headers.specs.Fields.{groups, long, when, optional, usual_or, enumerated, meant, checked, skipped, extensions, name, here, aligned}
+use Rattle.jxl_headers.specs.Fields.{groups, long, when, optional, told_if, enumerated, meant, checked, skipped, extensions, name, here, aligned}
 use Rattle.jxl_headers.specs.Sizes.{side, size, width_at}
-use Rattle.jxl_headers.specs.Channels.{fits_float, bit_depth, usual_channel, extra_channel}
-use Rattle.jxl_headers.specs.Colours.{coordinate, chromaticity, no_colour, primary_colours, no_primaries, white, basis, is_curve, transfer, usual_colours, colour_encoding, usual_tone, tone_mapping}
-use Rattle.jxl_headers.specs.Images.{animation, display, samples, extra_channels, shown, usual_image, own_image, skipped_if, matrices, image_header}
-use Rattle.jxl_headers.specs.declared.size.Size.{Size}
+use Rattle.jxl_headers.specs.Channels.{fits_float, bit_depth, extra_channel}
+use Rattle.jxl_headers.specs.Colours.{coordinate, chromaticity, primary_colours, white, basis, transfer, colour_encoding, tone_mapping}
+use Rattle.jxl_headers.specs.Images.{animation, matrices, image_header}
 
 pub bind : {X Y : Type 0} {field : Grammar X} {next : X → Grammar Y} → IsExact field → ((x : X) → IsExact (next x)) → IsExact (field >>= next)
 bind {field} {next} first rest = exact-bind field next first rest
@@ -28,8 +27,8 @@ exact-when {field} there usual exact = exact-either there field (give usual) exa
 pub exact-optional : {X : Type 0} {field : Grammar X} → IsExact field → IsExact (optional field)
 exact-optional exact = bind exact-flag λ there. exact-when there None (bind exact λ v. exact-give (Some v))
 
-pub exact-usual_or : {X : Type 0} {told : Grammar X} (usual : X) → IsExact told → IsExact (usual_or usual told)
-exact-usual_or {told} usual exact = bind exact-flag λ all. exact-either all (give usual) told (exact-give usual) exact
+pub exact-told_if : (there : Bool) → IsExact (told_if there)
+exact-told_if there = exact-when there false (bind exact-flag λ all_default. exact-give (not all_default))
 
 pub exact-skipped : (n : ℕ) → IsExact (skipped n)
 exact-skipped n = bind (exact-number (8 * n)) λ v. exact-give tt
@@ -103,56 +102,62 @@ exact-depth =
 pub exact-channel : IsExact extra_channel
 unfolding extra_channel
 exact-channel =
-    exact-usual_or usual_channel (bind (exact-told (codes "ExtraChannelType") (λ v. nat_lt v 7 || (v == 15) || (v == 16))) λ kind. bind exact-depth λ depth.
-    bind (exact-u32 (Const 0) (Const 3) (Const 4) (Offset 1 3)) λ shift. bind exact-name λ n. bind (exact-when (kind == 0) false exact-flag) λ p.
-    bind (exact-when (kind == 2) tt (exact-skipped 8)) λ u. bind (exact-when (kind == 5) 0 (exact-u32 (Const 1) (Offset 0 2) (Offset 3 4) (Offset 19 8))) λ v.
-    exact-give (record { kind = kind; depth = depth; shift = shift; name_bytes = n; premultiplied = p }))
+    bind (exact-told_if true) λ told. bind (exact-when told 0 (exact-told (codes "ExtraChannelType") (λ v. nat_lt v 7 || (v == 15) || (v == 16)))) λ kind.
+    bind (exact-when told (record { bits = 8; exponent_bits = 0 }) exact-depth) λ depth.
+    bind (exact-when told 0 (exact-u32 (Const 0) (Const 3) (Const 4) (Offset 1 3))) λ shift. bind (exact-when told 0 exact-name) λ n.
+    bind (exact-when (told && (kind == 0)) false exact-flag) λ p. bind (exact-when (kind == 2) tt (exact-skipped 8)) λ u.
+    bind (exact-when (kind == 5) 0 (exact-u32 (Const 1) (Offset 0 2) (Offset 3 4) (Offset 19 8))) λ v.
+    exact-give (record { kind = kind; depth = depth; shift = shift; name_bytes = n; premultiplied = p })
 
-exact-coordinate : IsExact coordinate
+exact-coordinate : (there : Bool) → IsExact (coordinate there)
 unfolding coordinate
-exact-coordinate = exact-u32 (Offset 0 19) (Offset 524288 19) (Offset 1048576 20) (Offset 2097152 21)
+exact-coordinate there = exact-when there 0 (exact-u32 (Offset 0 19) (Offset 524288 19) (Offset 1048576 20) (Offset 2097152 21))
 
-exact-chromaticity : IsExact chromaticity
+exact-chromaticity : (there : Bool) → IsExact (chromaticity there)
 unfolding chromaticity
-exact-chromaticity = bind exact-coordinate λ x. bind exact-coordinate λ y. exact-give (record { x = x; y = y })
+exact-chromaticity there = bind (exact-coordinate there) λ x. bind (exact-coordinate there) λ y. exact-give (record { x = x; y = y })
 
-exact-primaries : IsExact primary_colours
+exact-primaries : (there : Bool) → IsExact (primary_colours there)
 unfolding primary_colours
-exact-primaries = bind exact-chromaticity λ r. bind exact-chromaticity λ g. bind exact-chromaticity λ b. exact-give (record { red = r; green = g; blue = b })
+exact-primaries there =
+    bind (exact-chromaticity there) λ r. bind (exact-chromaticity there) λ g. bind (exact-chromaticity there) λ b. exact-give (record { red = r; green = g; blue = b })
 
-exact-white : IsExact white
+exact-white : (there : Bool) → IsExact (white there)
 unfolding white
-exact-white =
-    bind (exact-told (codes "WhitePoint") (λ v. (v == 1) || (v == 2) || (v == 10) || (v == 11))) λ n. bind (exact-when (n == 2) no_colour exact-chromaticity) λ own.
+exact-white there =
+    bind (exact-when there 1 (exact-told (codes "WhitePoint") (λ v. (v == 1) || (v == 2) || (v == 10) || (v == 11)))) λ n. bind (exact-chromaticity (n == 2)) λ own.
     exact-give (record { number = n; own = own })
 
-exact-basis : IsExact basis
+exact-basis : (there : Bool) → IsExact (basis there)
 unfolding basis
-exact-basis =
-    bind (exact-told (codes "Primaries") (λ v. (v == 1) || (v == 2) || (v == 9) || (v == 11))) λ n. bind (exact-when (n == 2) no_primaries exact-primaries) λ own.
+exact-basis there =
+    bind (exact-when there 1 (exact-told (codes "Primaries") (λ v. (v == 1) || (v == 2) || (v == 9) || (v == 11)))) λ n. bind (exact-primaries (n == 2)) λ own.
     exact-give (record { number = n; own = own })
 
-exact-transfer : IsExact transfer
+exact-transfer : (there : Bool) → IsExact (transfer there)
 unfolding transfer
-exact-transfer =
-    bind exact-flag λ by_gamma. bind (exact-when by_gamma 0 (exact-checked (codes "gamma") (λ v. nat_le v 10000000 && nat_le 10000000 (8192 * v)) (exact-number 24))) λ g.
-    bind (exact-when (not by_gamma) 0 (exact-told (codes "TransferFunction") is_curve)) λ n. exact-give (record { number = n; gamma = g })
+exact-transfer there =
+    bind (exact-when there false exact-flag) λ by_gamma.
+    bind (exact-when by_gamma 0 (exact-checked (codes "gamma") (λ v. nat_le v 10000000 && nat_le 10000000 (8192 * v)) (exact-number 24))) λ g.
+    bind (exact-when (not by_gamma) 0 (exact-when there 13 (exact-told (codes "TransferFunction") (λ v. (v == 1) || (v == 8) || (v == 13) || (v == 16) || (v == 17) || (v == 18))))) λ n. exact-give (record { number = n; gamma = g })
 
-pub exact-colours : IsExact colour_encoding
+pub exact-colours : (there : Bool) → IsExact (colour_encoding there)
 unfolding colour_encoding
-exact-colours =
-    exact-usual_or usual_colours (bind exact-flag λ profile. bind (exact-told (codes "ColourSpace") (λ v. nat_lt v 3 || (v == 3) && profile)) λ space.
-    bind (exact-when (not profile && not (space == 2)) usual_colours.white exact-white) λ w.
-    bind (exact-when (not profile && not ((space == 1) || (space == 2))) usual_colours.basis exact-basis) λ b.
-    bind (exact-when (not profile && not (space == 2)) usual_colours.transfer exact-transfer) λ t.
-    bind (exact-when (not profile) usual_colours.intent (exact-told (codes "RenderingIntent") (λ v. nat_lt v 4))) λ i.
-    exact-give (record { profile = profile; space = space; white = w; basis = b; transfer = t; intent = i }))
+exact-colours there =
+    bind (exact-told_if there) λ told. bind (exact-when told false exact-flag) λ profile.
+    bind (exact-when told 0 (exact-told (codes "ColourSpace") (λ v. nat_lt v 3 || (v == 3) && profile))) λ space.
+    bind (exact-white (told && not profile && not (space == 2))) λ w.
+    bind (exact-basis (told && not profile && not ((space == 1) || (space == 2)))) λ b.
+    bind (exact-transfer (told && not profile && not (space == 2))) λ t.
+    bind (exact-when (told && not profile) 1 (exact-told (codes "RenderingIntent") (λ v. nat_lt v 4))) λ i.
+    exact-give (record { profile = profile; space = space; white = w; basis = b; transfer = t; intent = i })
 
-exact-tone : IsExact tone_mapping
+exact-tone : (there : Bool) → IsExact (tone_mapping there)
 unfolding tone_mapping
-exact-tone =
-    exact-usual_or usual_tone (bind (exact-number 16) λ a. bind (exact-number 16) λ b. bind exact-flag λ c. bind (exact-number 16) λ d.
-    exact-give (record { intensity_target = a; min_nits = b; relative = c; linear_below = d }))
+exact-tone there =
+    bind (exact-told_if there) λ told. bind (exact-when told 0x5BF8 (exact-number 16)) λ a. bind (exact-when told 0 (exact-number 16)) λ b.
+    bind (exact-when told false exact-flag) λ c. bind (exact-when told 0 (exact-number 16)) λ d.
+    exact-give (record { intensity_target = a; min_nits = b; relative = c; linear_below = d })
 
 exact-animation : IsExact animation
 unfolding animation
@@ -160,44 +165,26 @@ exact-animation =
     bind (exact-u32 (Const 100) (Const 1000) (Offset 1 10) (Offset 1 30)) λ a. bind (exact-u32 (Const 1) (Const 1001) (Offset 1 8) (Offset 1 10)) λ b.
     bind (exact-u32 (Const 0) (Offset 0 3) (Offset 0 16) (Offset 0 32)) λ c. bind exact-flag λ d. exact-give (record { numerator = a; denominator = b; loops = c; timecodes = d })
 
-exact-display : IsExact display
-unfolding display
-exact-display =
-    bind (exact-number 3) λ o. bind (exact-optional (exact-size false)) λ i. bind (exact-optional (exact-size true)) λ p. bind (exact-optional exact-animation) λ a.
-    exact-give (record { orientation = o + 1; intrinsic = i; preview = p; animation = a })
-
-exact-samples : IsExact samples
-unfolding samples
-exact-samples = bind exact-depth λ d. bind exact-flag λ n. exact-give (record { depth = d; narrow = n })
-
-exact-extra_channels : IsExact extra_channels
-unfolding extra_channels
-exact-extra_channels = bind (exact-u32 (Const 0) (Const 1) (Offset 2 4) (Offset 1 12)) λ n. exact-repeated n extra_channel exact-channel
-
-exact-shown : (more : Bool) → IsExact (shown more)
-unfolding shown
-exact-shown more =
-    bind exact-flag λ xyb. bind exact-colours λ c. bind (exact-when more usual_tone exact-tone) λ t. bind exact-extensions λ e.
-    exact-give (record { xyb = xyb; colour = c; tone = t; extensions = e })
-
-exact-own_image : (size : Size) → IsExact (own_image size)
-unfolding own_image
-exact-own_image size =
-    exact-usual_or (usual_image size) (bind exact-flag λ more. bind (exact-when more (usual_image size).display exact-display) λ d. bind exact-samples λ s.
-    bind exact-extra_channels λ e. bind (exact-shown more) λ x. exact-give (record { size = size; display = d; samples = s; extra = e; shown = x }))
-
-pub exact-skipped_if : (there : Bool) (n : ℕ) → IsExact (skipped_if there n)
-unfolding skipped_if
-exact-skipped_if there n = exact-when there tt (exact-skipped n)
-
 exact-matrices : (xyb : Bool) → IsExact (matrices xyb)
 unfolding matrices
 exact-matrices xyb =
-    exact-usual_or tt (bind (exact-when xyb tt (exact-usual_or tt (exact-skipped 32))) λ u. bind (exact-number 3) λ mask.
-    bind (exact-skipped_if (mask % 2 == 1) 30) λ a. bind (exact-skipped_if (mask / 2 % 2 == 1) 110) λ b. exact-skipped_if (mask / 4 == 1) 420)
+    bind (exact-told_if true) λ told. bind (exact-told_if (told && xyb)) λ opsin. bind (exact-when opsin tt (exact-skipped 32)) λ u.
+    bind (exact-when told 0 (exact-number 3)) λ mask. bind (exact-when (mask % 2 == 1) tt (exact-skipped 30)) λ a.
+    bind (exact-when (mask / 2 % 2 == 1) tt (exact-skipped 110)) λ b. exact-when (mask / 4 == 1) tt (exact-skipped 420)
 
 pub exact-image_header : IsExact image_header
 unfolding image_header
 exact-image_header =
-    bind (exact-checked (codes "signature") (λ v. v == 0x0AFF) (exact-number 16)) λ v. bind (exact-size false) λ size. bind (exact-own_image size) λ image.
-    bind (exact-matrices image.shown.xyb) λ u. exact-give image
+    bind (exact-checked (codes "signature") (λ v. v == 0x0AFF) (exact-number 16)) λ v. bind (exact-size false) λ size. bind (exact-told_if true) λ told.
+    bind (exact-when told false exact-flag) λ more. bind (exact-when more 0 (exact-number 3)) λ o. bind (exact-when more None (exact-optional (exact-size false))) λ i.
+    bind (exact-when more None (exact-optional (exact-size true))) λ p. bind (exact-when more None (exact-optional exact-animation)) λ a.
+    bind (exact-when told (record { bits = 8; exponent_bits = 0 }) exact-depth) λ d. bind (exact-when told true exact-flag) λ n.
+    bind (exact-when told [] (bind (exact-u32 (Const 0) (Const 1) (Offset 2 4) (Offset 1 12)) λ n. exact-repeated n extra_channel exact-channel)) λ extra.
+    bind (exact-when told true exact-flag) λ xyb. bind (exact-colours told) λ c. bind (exact-tone more) λ t. bind (exact-when told 0 exact-extensions) λ e.
+    bind (exact-matrices xyb) λ u. exact-give (record {
+      size = size;
+      display = record { orientation = o + 1; intrinsic = i; preview = p; animation = a };
+      samples = record { depth = d; narrow = n };
+      extra = extra;
+      shown = record { xyb = xyb; colour = c; tone = t; extensions = e };
+    })

@@ -1,7 +1,6 @@
 pub mod FieldRanges
 pub mod GroupLaws
 pub mod HeaderLaws
-pub mod ImageSteps
 pub mod Refusals
 pub mod RepeatedLoop
 pub mod SummedLoop

@@ -1,5 +1,8 @@
 -- Facts of errors other than out of memory.
-use Rattle.jxlm_base.specs.ErrorKind.{ErrorKind, Eof, BadEnum, BadProfile, BadTree, NoGlobalTree, BadRct, BadPalette, BadSqueeze, OfDecoder, NoMemory, UnlessNoMemory}
+use Rattle.std.proofs.Common.{ℕ, Result, refl}
+use Rattle.jxlm_base.specs.Decoding.{Found}
+use Rattle.jxlm_base.specs.Grammar.{IsErrorAt}
+use Rattle.jxlm_base.specs.ErrorKind.{ErrorKind, Eof, BadEnum, BadProfile, BadTree, NoGlobalTree, BadRct, BadPalette, BadSqueeze, OfDecoder, NoMemory, UnlessNoMemory, ErrorAt, ◌>>=◌}
 
 -- a fact holds also where it is asked for unless it is out of memory
 pub unless_no_memory : (error : ErrorKind) (P : Type 0) → P → UnlessNoMemory error P
@@ -26,3 +29,9 @@ unless_so BadRct P Q step holds = step holds
 unless_so BadPalette P Q step holds = step holds
 unless_so BadSqueeze P Q step holds = step holds
 unless_so (OfDecoder e) P Q step holds = step holds
+
+-- where a field is not read, neither is what begins with it
+pub fails_first : {X Y : Type 0} (r : Result (Found X) ErrorAt) (next : Found X → Result (Found Y) ErrorAt) (error : ErrorKind) (q : ℕ) →
+    UnlessNoMemory error (IsErrorAt r error q) → UnlessNoMemory error (IsErrorAt (r >>= next) error q)
+fails_first r next error q refused =
+    unless_so error (IsErrorAt r error q) (IsErrorAt (r >>= next) error q) (λ f. record { place = f.place; refuses = rw f.refuses refl; stands = f.stands }) refused

@@ -1,8 +1,8 @@
 -- Depths of samples, and extra channels (ISO/IEC 18181-1, image header: BitDepth, ExtraChannelInfo).
-use Rattle.std.specs.Prelude.{ℕ, ◌+◌, ◌==◌, ◌&&◌, ◌||◌, nat_lt, nat_le, Bool, false, codes}
+use Rattle.std.specs.Prelude.{ℕ, ◌+◌, ◌==◌, ◌&&◌, ◌||◌, nat_lt, nat_le, Bool, true, false, codes}
 use Rattle.jxlm_base.specs.Grammar.{Grammar, flag, part, u32, give, either, ◌>>=◌}
 use Rattle.jxlm_base.specs.declared.bits.U32Spec.TheVariants.{Const, Offset}
-use Rattle.jxl_headers.specs.Fields.{checked, enumerated, name, skipped, usual_or, when}
+use Rattle.jxl_headers.specs.Fields.{checked, enumerated, name, skipped, told_if, when}
 use Rattle.jxl_headers.specs.declared.channel.BitDepth.{BitDepth}
 use Rattle.jxl_headers.specs.declared.channel.ExtraChannel.{ExtraChannel}
 
@@ -19,18 +19,16 @@ bit_depth = do
   exponent ← when float (checked (codes "exponent_bits") (fits_float bits) (part (Offset 1 4))) 0
   give (record { bits = bits; exponent_bits = exponent })
 
--- an extra channel: as by default, which is alpha of 8 bits, or its kind, depth, shift and name, and what its kind has:
--- of alpha whether colours were multiplied by it, the four numbers of a spot colour, the number of a colour filter's channel
-abbrev pub usual_channel : ExtraChannel
-usual_channel = record { kind = 0; depth = record { bits = 8; exponent_bits = 0 }; shift = 0; name_bytes = 0; premultiplied = false }
-
+-- an extra channel, by default alpha of 8 bits: its kind, depth, shift and name; and what its kind has, of alpha whether
+-- colours were multiplied by it, the four numbers of a spot colour, the number of a colour filter's channel
 unfoldable pub extra_channel : Grammar ExtraChannel
-extra_channel = usual_or usual_channel do
-  kind ← checked (codes "ExtraChannelType") (λ v. nat_lt v 7 || (v == 15) || (v == 16)) enumerated
-  depth ← bit_depth
-  shift ← u32 (Const 0) (Const 3) (Const 4) (Offset 1 3)
-  length ← name
-  premultiplied ← when (kind == 0) flag false
+extra_channel = do
+  told ← told_if true
+  kind ← when told (checked (codes "ExtraChannelType") (λ v. nat_lt v 7 || (v == 15) || (v == 16)) enumerated) 0
+  depth ← when told bit_depth (record { bits = 8; exponent_bits = 0 })
+  shift ← when told (u32 (Const 0) (Const 3) (Const 4) (Offset 1 3)) 0
+  length ← when told name 0
+  premultiplied ← when (told && (kind == 0)) flag false
   _ ← when (kind == 2) (skipped 8) tt
   _ ← when (kind == 5) (u32 (Const 1) (Offset 0 2) (Offset 3 4) (Offset 19 8)) 0
   give (record { kind = kind; depth = depth; shift = shift; name_bytes = length; premultiplied = premultiplied })

@@ -1,5 +1,5 @@
 -- Fields of headers (ISO/IEC 18181-1, notation of bundles and fields). In a record `(← field)` is what is read there.
-use Rattle.std.specs.Prelude.{◌≡◌, ℕ, zero, suc, ◌+◌, ◌-◌, ◌*◌, ◌%◌, List, Bool, ◌==◌, Option, Some, None, Ok, codes, count_ones, sum}
+use Rattle.std.specs.Prelude.{◌≡◌, ℕ, zero, suc, ◌+◌, ◌-◌, ◌*◌, ◌%◌, List, Bool, false, not, ◌==◌, Option, Some, None, Ok, codes, count_ones, sum}
 use Rattle.jxlm_base.specs.ErrorKind.{BadEnum}
 use Rattle.jxlm_base.specs.Grammar.{Grammar, number, flag, part, u32, give, fail, either, repeated, ◌>>=◌}
 use Rattle.jxlm_base.specs.declared.bits.U32Spec.TheVariants.{Const, Offset}
@@ -24,9 +24,9 @@ when there field usual = either there field (give usual)
 abbrev pub optional : {X : Type 0} → Grammar X → Grammar (Option X)
 optional field = flag >>= λ there. when there (field >>= λ v. give (Some v)) None
 
--- this value, where a flag says so, or what is told
-abbrev pub usual_or : {X : Type 0} → X → Grammar X → Grammar X
-usual_or usual told = flag >>= λ all. either all (give usual) told
+-- whether a bundle is told: it may be there, and no flag says that all of it is as by default
+abbrev pub told_if : Bool → Grammar Bool
+told_if there = when there (flag >>= λ all_default. give (not all_default)) false
 
 -- the number of an enumeration, before it is known to mean something
 unfoldable pub enumerated : Grammar ℕ
@@ -49,8 +49,7 @@ unfoldable pub extensions : Grammar ℕ
 extensions = do
   mask ← long
   sizes ← repeated (count_ones mask) long
-  _ ← number (sum sizes)
-  give mask
+  number (sum sizes) >>= λ v. give mask
 
 -- a name: how many bytes it has, which are not looked at
 unfoldable pub name : Grammar ℕ

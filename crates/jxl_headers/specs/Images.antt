@@ -1,12 +1,12 @@
 -- The image header (ISO/IEC 18181-1, image header: ImageMetadata and what is before and after it).
-use Rattle.std.specs.Prelude.{ℕ, ◌+◌, ◌/◌, ◌%◌, ◌==◌, ◌&&◌, not, nat_lt, List, [], ◌∷◌, Bool, true, false, if◌then◌else◌, Option, Some, None, is_some, codes}
+use Rattle.std.specs.Prelude.{◌+◌, ◌/◌, ◌%◌, ◌==◌, ◌&&◌, not, nat_lt, List, [], ◌∷◌, Bool, true, false, if◌then◌else◌, Option, Some, None, is_some, codes}
 use Rattle.std.specs.Option.{option_or}
 use Rattle.jxlm_base.specs.Grammar.{Grammar, number, flag, u32, give, repeated, ◌>>=◌}
 use Rattle.jxlm_base.specs.declared.bits.U32Spec.TheVariants.{Const, Offset}
-use Rattle.jxl_headers.specs.Fields.{checked, extensions, optional, skipped, usual_or, when}
+use Rattle.jxl_headers.specs.Fields.{checked, extensions, optional, skipped, told_if, when}
 use Rattle.jxl_headers.specs.Sizes.{size}
 use Rattle.jxl_headers.specs.Channels.{bit_depth, extra_channel}
-use Rattle.jxl_headers.specs.Colours.{colour_encoding, tone_mapping, usual_colours, usual_tone}
+use Rattle.jxl_headers.specs.Colours.{colour_encoding, tone_mapping}
 use Rattle.jxl_headers.specs.declared.size.Size.{Size}
 use Rattle.jxl_headers.specs.declared.channel.ExtraChannel.{ExtraChannel}
 use Rattle.jxl_headers.specs.declared.image.Animation.{Animation}
@@ -28,75 +28,49 @@ pub record Image : Type 0 where
 abbrev pub image_of : ImageHeader → Image
 image_of h = record { size = h.size; display = h.display; samples = h.samples; extra = h.extra.items; shown = h.shown }
 
--- how often pictures change a second, as a fraction; how often all are shown, 0 for ever; whether frames have time codes
+-- how often pictures change a second, as a fraction; how often all are shown, 0 for ever; whether there are time codes
 unfoldable pub animation : Grammar Animation
 animation = do
   numerator ← u32 (Const 100) (Const 1000) (Offset 1 10) (Offset 1 30)
   denominator ← u32 (Const 1) (Const 1001) (Offset 1 8) (Offset 1 10)
   loops ← u32 (Const 0) (Offset 0 3) (Offset 0 16) (Offset 0 32)
-  timecodes ← flag
-  give (record { numerator = numerator; denominator = denominator; loops = loops; timecodes = timecodes })
+  give (record { numerator = numerator; denominator = denominator; loops = loops; timecodes = (← flag) })
 
--- how the image is shown
-unfoldable pub display : Grammar Display
-display = do
-  orientation ← number 3
-  intrinsic ← optional (size false)
-  preview ← optional (size true)
-  animation ← optional animation
-  give (record { orientation = orientation + 1; intrinsic = intrinsic; preview = preview; animation = animation })
-
--- how samples are stored, and whether 16 bits are enough for all of decoding
-unfoldable pub samples : Grammar Samples
-samples = do give (record { depth = (← bit_depth); narrow = (← flag) })
-
-unfoldable pub extra_channels : Grammar (List ExtraChannel)
-extra_channels = u32 (Const 0) (Const 1) (Offset 2 4) (Offset 1 12) >>= λ n. repeated n extra_channel
-
--- what colours mean, brightness where more is told, and which extensions there are
-unfoldable pub shown : Bool → Grammar Shown
-shown more = do
-  give (record { xyb = (← flag); colour = (← colour_encoding); tone = (← when more tone_mapping usual_tone); extensions = (← extensions) })
-
--- an image of this size whose header says nothing else
-abbrev pub usual_image : Size → Image
-usual_image size = record {
-  size = size;
-  display = record { orientation = 1; intrinsic = None; preview = None; animation = None };
-  samples = record { depth = record { bits = 8; exponent_bits = 0 }; narrow = true };
-  extra = [];
-  shown = record { xyb = true; colour = usual_colours; tone = usual_tone; extensions = 0 };
-}
-
--- an image of this size: as by default, or described
-unfoldable pub own_image : Size → Grammar Image
-own_image size = usual_or (usual_image size) do
-  more ← flag
-  display ← when more display (usual_image size).display
-  give (record { size = size; display = display; samples = (← samples); extra = (← extra_channels); shown = (← shown more) })
-
--- bytes that are not looked at, where they are there
-unfoldable pub skipped_if : Bool → ℕ → Grammar (Unit {0})
-skipped_if there n = when there (skipped n) tt
-
--- what is not looked at: the matrix of XYB, of 16 floats of 16 bits, and weights of upsampling, 15, 55 and 210 such floats,
--- each by a bit of the mask
+-- what is not looked at: floats of 16 bits, the matrix of XYB of 16, and by a mask weights of upsampling, 15, 55, 210
 unfoldable pub matrices : Bool → Grammar (Unit {0})
-matrices xyb = usual_or tt do
-  _ ← when xyb (usual_or tt (skipped 32)) tt
-  mask ← number 3
-  _ ← skipped_if (mask % 2 == 1) 30
-  _ ← skipped_if (mask / 2 % 2 == 1) 110
-  skipped_if (mask / 4 == 1) 420
+matrices xyb = do
+  told ← told_if true
+  opsin ← told_if (told && xyb)
+  _ ← when opsin (skipped 32) tt
+  mask ← when told (number 3) 0
+  _ ← when (mask % 2 == 1) (skipped 30) tt
+  _ ← when (mask / 2 % 2 == 1) (skipped 110) tt
+  when (mask / 4 == 1) (skipped 420) tt
 
--- the image header, after the first 16 bits of each codestream
+-- The image header: the first 16 bits of each codestream; its size; how it is shown; how samples are stored; whether
+-- 16 bits are enough for all of decoding; channels beside the colours; what colours mean; which extensions there are.
 unfoldable pub image_header : Grammar Image
 image_header = do
   _ ← checked (codes "signature") (λ v. v == 0x0AFF) (number 16)
-  size ← size false
-  image ← own_image size
-  _ ← matrices image.shown.xyb
-  give image
+  sides ← size false
+  told ← told_if true
+  more ← when told flag false
+  turned ← when more (number 3) 0
+  own ← when more (optional (size false)) None
+  preview ← when more (optional (size true)) None
+  animation ← when more (optional animation) None
+  depth ← when told bit_depth (record { bits = 8; exponent_bits = 0 })
+  narrow ← when told flag true
+  extra ← when told (u32 (Const 0) (Const 1) (Offset 2 4) (Offset 1 12) >>= λ n. repeated n extra_channel) []
+  xyb ← when told flag true
+  colour ← colour_encoding told
+  tone ← tone_mapping more
+  extensions ← when told extensions 0
+  _ ← matrices xyb
+  let display : Display = record { orientation = turned + 1; intrinsic = own; preview = preview; animation = animation }
+  let samples : Samples = record { depth = depth; narrow = narrow }
+  let shown : Shown = record { xyb = xyb; colour = colour; tone = tone; extensions = extensions }
+  give (record { size = sides; display = display; samples = samples; extra = extra; shown = shown })
 
 -- what extra channels have that is not supported, by the first that has something
 abbrev pub channels_refusal : List ExtraChannel → Option Refusal

@@ -35,12 +35,14 @@ pub struct ExtraChannel {
     pub premultiplied: bool,
 }
 
+const USUAL_DEPTH: BitDepth = BitDepth {
+    bits: 8,
+    exponent_bits: 0,
+};
+
 const USUAL_CHANNEL: ExtraChannel = ExtraChannel {
     kind: 0,
-    depth: BitDepth {
-        bits: 8,
-        exponent_bits: 0,
-    },
+    depth: USUAL_DEPTH,
     shift: 0,
     name_bytes: 0,
     premultiplied: false,
@@ -118,6 +120,20 @@ impl BitDepth {
             bits: all,
             exponent_bits,
         })
+    }
+
+    // How samples are stored, where that is told.
+    pub(crate) fn parse_if(bits: &mut Bitstream<'_>, there: bool) -> Result<BitDepth>
+        ensures gives { Reads (λ v. v) result (position_of bits.new)
+            ((when there bit_depth (record { bits = 8; exponent_bits = 0 })).read
+            (bytes_of bits.old) (position_of bits.old)) }
+        ensures bytes { bytes_of bits.new ≡ bytes_of bits.old }
+    {
+        if there {
+            BitDepth::parse(bits)
+        } else {
+            Ok(USUAL_DEPTH)
+        }
     }
 }
 

@@ -1,12 +1,12 @@
 //! Colour encodings, and what is told of brightness.
 
-ghost use Rattle.std.specs.Prelude.{◌≡◌, ◌==◌, ◌||◌, ◌&&◌, not, nat_lt, nat_le, ◌*◌, codes};
+ghost use Rattle.std.specs.Prelude.{◌≡◌, ◌==◌, ◌||◌, ◌&&◌, not, nat_lt, nat_le, ◌*◌, true, codes};
 ghost use Rattle.jxlm_base.specs.Bits.{bytes_of, position_of};
 ghost use Rattle.jxlm_base.specs.Grammar.{Reads, number as the_number};
 ghost use Rattle.jxl_headers.specs.Fields.{checked, enumerated as the_enumerated, when};
-ghost use Rattle.jxl_headers.specs.Colours.{coordinate as the_coordinate, chromaticity, no_colour, primary_colours, no_primaries, white as the_white, basis as the_basis, is_curve, transfer as the_transfer, usual_colours, colour_encoding, tone_mapping};
+ghost use Rattle.jxl_headers.specs.Colours.{coordinate as the_coordinate, chromaticity, primary_colours, white as the_white, basis as the_basis, transfer as the_transfer, colour_encoding, tone_mapping};
 
-use crate::fields::{Result, enumerated, number};
+use crate::fields::{Result, enumerated, flag_if, number, number_if, told_if};
 use jxlm_base::bits::{Bitstream, BitstreamError, U32Spec};
 
 /// A colour without its brightness.
@@ -80,45 +80,15 @@ pub struct ToneMapping {
     pub linear_below: u32,
 }
 
-const NO_COLOUR: Chromaticity = Chromaticity { x: 0, y: 0 };
-
-const NO_PRIMARIES: Primaries = Primaries {
-    red: NO_COLOUR,
-    green: NO_COLOUR,
-    blue: NO_COLOUR,
-};
-
-pub(crate) const USUAL_COLOURS: ColourEncoding = ColourEncoding {
-    profile: false,
-    space: 0,
-    white: White {
-        number: 1,
-        own: NO_COLOUR,
-    },
-    basis: Basis {
-        number: 1,
-        own: NO_PRIMARIES,
-    },
-    transfer: Transfer {
-        number: 13,
-        gamma: 0,
-    },
-    intent: 1,
-};
-
-pub(crate) const USUAL_TONE: ToneMapping = ToneMapping {
-    intensity_target: 0x5BF8,
-    min_nits: 0,
-    relative: false,
-    linear_below: 0,
-};
-
 #[tactic(auto, unfolding(crate::specs::Colours::coordinate))]
-fn coordinate(bits: &mut Bitstream<'_>) -> Result<u32>
+fn coordinate(bits: &mut Bitstream<'_>, there: bool) -> Result<u32>
     ensures gives { Reads (λ v. v) result (position_of bits.new)
-        (the_coordinate.read (bytes_of bits.old) (position_of bits.old)) }
+        ((the_coordinate there).read (bytes_of bits.old) (position_of bits.old)) }
     ensures bytes { bytes_of bits.new ≡ bytes_of bits.old }
 {
+    if !there {
+        return Ok(0);
+    }
     bits.read_u32(
         U32Spec::Offset(0, 19),
         U32Spec::Offset(524288, 19),
@@ -129,37 +99,40 @@ fn coordinate(bits: &mut Bitstream<'_>) -> Result<u32>
 
 impl Chromaticity {
     #[tactic(auto, unfolding(crate::specs::Colours::chromaticity))]
-    fn parse(bits: &mut Bitstream<'_>) -> Result<Chromaticity>
+    fn parse(bits: &mut Bitstream<'_>, there: bool) -> Result<Chromaticity>
         ensures gives { Reads (λ v. v) result (position_of bits.new)
-            (chromaticity.read (bytes_of bits.old) (position_of bits.old)) }
+            ((chromaticity there).read (bytes_of bits.old) (position_of bits.old)) }
         ensures bytes { bytes_of bits.new ≡ bytes_of bits.old }
     {
-        let x = coordinate(bits)?;
-        let y = coordinate(bits)?;
+        let x = coordinate(bits, there)?;
+        let y = coordinate(bits, there)?;
         Ok(Chromaticity { x, y })
     }
 }
 
 impl Primaries {
     #[tactic(auto, unfolding(crate::specs::Colours::primary_colours))]
-    fn parse(bits: &mut Bitstream<'_>) -> Result<Primaries>
+    fn parse(bits: &mut Bitstream<'_>, there: bool) -> Result<Primaries>
         ensures gives { Reads (λ v. v) result (position_of bits.new)
-            (primary_colours.read (bytes_of bits.old) (position_of bits.old)) }
+            ((primary_colours there).read (bytes_of bits.old) (position_of bits.old)) }
         ensures bytes { bytes_of bits.new ≡ bytes_of bits.old }
     {
-        let red = Chromaticity::parse(bits)?;
-        let green = Chromaticity::parse(bits)?;
-        let blue = Chromaticity::parse(bits)?;
+        let red = Chromaticity::parse(bits, there)?;
+        let green = Chromaticity::parse(bits, there)?;
+        let blue = Chromaticity::parse(bits, there)?;
         Ok(Primaries { red, green, blue })
     }
 }
 
-fn white_number(bits: &mut Bitstream<'_>) -> Result<u32>
+fn white_number(bits: &mut Bitstream<'_>, there: bool) -> Result<u32>
     ensures gives { Reads (λ v. v) result (position_of bits.new)
-        ((checked (codes "WhitePoint") (λ v. (v == 1) || (v == 2) || (v == 10) || (v == 11)) the_enumerated).read
-        (bytes_of bits.old) (position_of bits.old)) }
+        ((when there (checked (codes "WhitePoint") (λ v. (v == 1) || (v == 2) || (v == 10) || (v == 11))
+        the_enumerated) 1).read (bytes_of bits.old) (position_of bits.old)) }
     ensures bytes { bytes_of bits.new ≡ bytes_of bits.old }
 {
+    if !there {
+        return Ok(1);
+    }
     let value = enumerated(bits)?;
     if value == 1 || value == 2 || value == 10 || value == 11 {
         Ok(value)
@@ -169,51 +142,28 @@ fn white_number(bits: &mut Bitstream<'_>) -> Result<u32>
     }
 }
 
-// The colour of white where its number is 2.
-fn own_white(bits: &mut Bitstream<'_>, number: u32) -> Result<Chromaticity>
-    ensures gives { Reads (λ v. v) result (position_of bits.new)
-        ((when (number == 2) chromaticity no_colour).read (bytes_of bits.old) (position_of bits.old)) }
-    ensures bytes { bytes_of bits.new ≡ bytes_of bits.old }
-{
-    if number == 2 {
-        Chromaticity::parse(bits)
-    } else {
-        Ok(NO_COLOUR)
-    }
-}
-
 impl White {
     #[tactic(auto, unfolding(crate::specs::Colours::white))]
-    fn listed(bits: &mut Bitstream<'_>) -> Result<White>
+    fn parse(bits: &mut Bitstream<'_>, there: bool) -> Result<White>
         ensures gives { Reads (λ v. v) result (position_of bits.new)
-            (the_white.read (bytes_of bits.old) (position_of bits.old)) }
+            ((the_white there).read (bytes_of bits.old) (position_of bits.old)) }
         ensures bytes { bytes_of bits.new ≡ bytes_of bits.old }
     {
-        let number = white_number(bits)?;
-        let own = own_white(bits, number)?;
+        let number = white_number(bits, there)?;
+        let own = Chromaticity::parse(bits, number == 2)?;
         Ok(White { number, own })
-    }
-
-    fn parse(bits: &mut Bitstream<'_>, profile: bool, space: u32) -> Result<White>
-        ensures gives { Reads (λ v. v) result (position_of bits.new)
-            ((when (not profile && not (space == 2)) the_white usual_colours.white).read
-            (bytes_of bits.old) (position_of bits.old)) }
-        ensures bytes { bytes_of bits.new ≡ bytes_of bits.old }
-    {
-        if profile || space == 2 {
-            Ok(USUAL_COLOURS.white)
-        } else {
-            White::listed(bits)
-        }
     }
 }
 
-fn basis_number(bits: &mut Bitstream<'_>) -> Result<u32>
+fn basis_number(bits: &mut Bitstream<'_>, there: bool) -> Result<u32>
     ensures gives { Reads (λ v. v) result (position_of bits.new)
-        ((checked (codes "Primaries") (λ v. (v == 1) || (v == 2) || (v == 9) || (v == 11)) the_enumerated).read
-        (bytes_of bits.old) (position_of bits.old)) }
+        ((when there (checked (codes "Primaries") (λ v. (v == 1) || (v == 2) || (v == 9) || (v == 11))
+        the_enumerated) 1).read (bytes_of bits.old) (position_of bits.old)) }
     ensures bytes { bytes_of bits.new ≡ bytes_of bits.old }
 {
+    if !there {
+        return Ok(1);
+    }
     let value = enumerated(bits)?;
     if value == 1 || value == 2 || value == 9 || value == 11 {
         Ok(value)
@@ -223,42 +173,16 @@ fn basis_number(bits: &mut Bitstream<'_>) -> Result<u32>
     }
 }
 
-// The colours that are mixed where their number is 2.
-fn own_primaries(bits: &mut Bitstream<'_>, number: u32) -> Result<Primaries>
-    ensures gives { Reads (λ v. v) result (position_of bits.new)
-        ((when (number == 2) primary_colours no_primaries).read (bytes_of bits.old) (position_of bits.old)) }
-    ensures bytes { bytes_of bits.new ≡ bytes_of bits.old }
-{
-    if number == 2 {
-        Primaries::parse(bits)
-    } else {
-        Ok(NO_PRIMARIES)
-    }
-}
-
 impl Basis {
     #[tactic(auto, unfolding(crate::specs::Colours::basis))]
-    fn listed(bits: &mut Bitstream<'_>) -> Result<Basis>
+    fn parse(bits: &mut Bitstream<'_>, there: bool) -> Result<Basis>
         ensures gives { Reads (λ v. v) result (position_of bits.new)
-            (the_basis.read (bytes_of bits.old) (position_of bits.old)) }
+            ((the_basis there).read (bytes_of bits.old) (position_of bits.old)) }
         ensures bytes { bytes_of bits.new ≡ bytes_of bits.old }
     {
-        let number = basis_number(bits)?;
-        let own = own_primaries(bits, number)?;
+        let number = basis_number(bits, there)?;
+        let own = Primaries::parse(bits, number == 2)?;
         Ok(Basis { number, own })
-    }
-
-    fn parse(bits: &mut Bitstream<'_>, profile: bool, space: u32) -> Result<Basis>
-        ensures gives { Reads (λ v. v) result (position_of bits.new)
-            ((when (not profile && not ((space == 1) || (space == 2))) the_basis usual_colours.basis).read
-            (bytes_of bits.old) (position_of bits.old)) }
-        ensures bytes { bytes_of bits.new ≡ bytes_of bits.old }
-    {
-        if profile || space == 1 || space == 2 {
-            Ok(USUAL_COLOURS.basis)
-        } else {
-            Basis::listed(bits)
-        }
     }
 }
 
@@ -288,15 +212,16 @@ fn gamma(bits: &mut Bitstream<'_>, by_gamma: bool) -> Result<u32>
     }
 }
 
-// The number of a curve, or 0 where it is by an exponent.
-fn curve(bits: &mut Bitstream<'_>, by_gamma: bool) -> Result<u32>
+// The number of a curve, by default 13.
+fn curve(bits: &mut Bitstream<'_>, there: bool) -> Result<u32>
     ensures gives { Reads (λ v. v) result (position_of bits.new)
-        ((when (not by_gamma) (checked (codes "TransferFunction") is_curve the_enumerated) 0).read
+        ((when there (checked (codes "TransferFunction")
+        (λ v. (v == 1) || (v == 8) || (v == 13) || (v == 16) || (v == 17) || (v == 18)) the_enumerated) 13).read
         (bytes_of bits.old) (position_of bits.old)) }
     ensures bytes { bytes_of bits.new ≡ bytes_of bits.old }
 {
-    if by_gamma {
-        return Ok(0);
+    if !there {
+        return Ok(13);
     }
     let value = enumerated(bits)?;
     match value {
@@ -308,42 +233,40 @@ fn curve(bits: &mut Bitstream<'_>, by_gamma: bool) -> Result<u32>
     }
 }
 
+// The number of a curve, or 0 where it is by an exponent.
+fn curve_if(bits: &mut Bitstream<'_>, by_gamma: bool, there: bool) -> Result<u32>
+    ensures gives { Reads (λ v. v) result (position_of bits.new)
+        ((when (not by_gamma) (when there (checked (codes "TransferFunction")
+        (λ v. (v == 1) || (v == 8) || (v == 13) || (v == 16) || (v == 17) || (v == 18)) the_enumerated) 13) 0).read
+        (bytes_of bits.old) (position_of bits.old)) }
+    ensures bytes { bytes_of bits.new ≡ bytes_of bits.old }
+{
+    if by_gamma { Ok(0) } else { curve(bits, there) }
+}
+
 impl Transfer {
     #[tactic(auto, unfolding(crate::specs::Colours::transfer))]
-    fn listed(bits: &mut Bitstream<'_>) -> Result<Transfer>
+    fn parse(bits: &mut Bitstream<'_>, there: bool) -> Result<Transfer>
         ensures gives { Reads (λ v. v) result (position_of bits.new)
-            (the_transfer.read (bytes_of bits.old) (position_of bits.old)) }
+            ((the_transfer there).read (bytes_of bits.old) (position_of bits.old)) }
         ensures bytes { bytes_of bits.new ≡ bytes_of bits.old }
     {
-        let by_gamma = bits.read_bool()?;
+        let by_gamma = flag_if(bits, there, false)?;
         let gamma = gamma(bits, by_gamma)?;
-        let number = curve(bits, by_gamma)?;
+        let number = curve_if(bits, by_gamma, there)?;
         Ok(Transfer { number, gamma })
-    }
-
-    fn parse(bits: &mut Bitstream<'_>, profile: bool, space: u32) -> Result<Transfer>
-        ensures gives { Reads (λ v. v) result (position_of bits.new)
-            ((when (not profile && not (space == 2)) the_transfer usual_colours.transfer).read
-            (bytes_of bits.old) (position_of bits.old)) }
-        ensures bytes { bytes_of bits.new ≡ bytes_of bits.old }
-    {
-        if profile || space == 2 {
-            Ok(USUAL_COLOURS.transfer)
-        } else {
-            Transfer::listed(bits)
-        }
     }
 }
 
 // How colours outside a range are shown.
-fn intent(bits: &mut Bitstream<'_>, profile: bool) -> Result<u32>
+fn intent(bits: &mut Bitstream<'_>, there: bool) -> Result<u32>
     ensures gives { Reads (λ v. v) result (position_of bits.new)
-        ((when (not profile) (checked (codes "RenderingIntent") (λ v. nat_lt v 4) the_enumerated)
-        usual_colours.intent).read (bytes_of bits.old) (position_of bits.old)) }
+        ((when there (checked (codes "RenderingIntent") (λ v. nat_lt v 4) the_enumerated) 1).read
+        (bytes_of bits.old) (position_of bits.old)) }
     ensures bytes { bytes_of bits.new ≡ bytes_of bits.old }
 {
-    if profile {
-        return Ok(USUAL_COLOURS.intent);
+    if !there {
+        return Ok(1);
     }
     let value = enumerated(bits)?;
     if value < 4 {
@@ -354,12 +277,15 @@ fn intent(bits: &mut Bitstream<'_>, profile: bool) -> Result<u32>
     }
 }
 
-fn space(bits: &mut Bitstream<'_>, profile: bool) -> Result<u32>
+fn space(bits: &mut Bitstream<'_>, there: bool, profile: bool) -> Result<u32>
     ensures gives { Reads (λ v. v) result (position_of bits.new)
-        ((checked (codes "ColourSpace") (λ v. nat_lt v 3 || (v == 3) && profile) the_enumerated).read
+        ((when there (checked (codes "ColourSpace") (λ v. nat_lt v 3 || (v == 3) && profile) the_enumerated) 0).read
         (bytes_of bits.old) (position_of bits.old)) }
     ensures bytes { bytes_of bits.new ≡ bytes_of bits.old }
 {
+    if !there {
+        return Ok(0);
+    }
     let value = enumerated(bits)?;
     if value < 3 || value == 3 && profile {
         Ok(value)
@@ -372,21 +298,29 @@ fn space(bits: &mut Bitstream<'_>, profile: bool) -> Result<u32>
 impl ColourEncoding {
     /// What the samples of colours mean, as it stands at the reader's position. `InvalidEnum` for a number that names
     /// nothing, for a space that only a profile could tell where there is none, and for an exponent out of range.
-    #[tactic(auto, unfolding(crate::specs::Colours::colour_encoding))]
     pub fn parse(bits: &mut Bitstream<'_>) -> Result<ColourEncoding>
         ensures gives { Reads (λ v. v) result (position_of bits.new)
-            (colour_encoding.read (bytes_of bits.old) (position_of bits.old)) }
+            ((colour_encoding true).read (bytes_of bits.old) (position_of bits.old)) }
         ensures bytes { bytes_of bits.new ≡ bytes_of bits.old }
     {
-        if bits.read_bool()? {
-            return Ok(USUAL_COLOURS);
-        }
-        let profile = bits.read_bool()?;
-        let space = space(bits, profile)?;
-        let white = White::parse(bits, profile, space)?;
-        let basis = Basis::parse(bits, profile, space)?;
-        let transfer = Transfer::parse(bits, profile, space)?;
-        let intent = intent(bits, profile)?;
+        ColourEncoding::parse_if(bits, true)
+    }
+
+    // What the samples of colours mean, where that may be told.
+    #[tactic(auto, unfolding(crate::specs::Colours::colour_encoding))]
+    pub(crate) fn parse_if(bits: &mut Bitstream<'_>, there: bool) -> Result<ColourEncoding>
+        ensures gives { Reads (λ v. v) result (position_of bits.new)
+            ((colour_encoding there).read (bytes_of bits.old) (position_of bits.old)) }
+        ensures bytes { bytes_of bits.new ≡ bytes_of bits.old }
+    {
+        let told = told_if(bits, there)?;
+        let profile = flag_if(bits, told, false)?;
+        let space = space(bits, told, profile)?;
+        let listed = told & !profile;
+        let white = White::parse(bits, listed & (space != 2))?;
+        let basis = Basis::parse(bits, listed & !((space == 1) | (space == 2)))?;
+        let transfer = Transfer::parse(bits, listed & (space != 2))?;
+        let intent = intent(bits, listed)?;
         Ok(ColourEncoding {
             profile,
             space,
@@ -400,19 +334,26 @@ impl ColourEncoding {
 
 impl ToneMapping {
     /// What is told of brightness at the reader's position. The floats are not looked at.
-    #[tactic(auto, unfolding(crate::specs::Colours::tone_mapping))]
     pub fn parse(bits: &mut Bitstream<'_>) -> Result<ToneMapping>
         ensures gives { Reads (λ v. v) result (position_of bits.new)
-            (tone_mapping.read (bytes_of bits.old) (position_of bits.old)) }
+            ((tone_mapping true).read (bytes_of bits.old) (position_of bits.old)) }
         ensures bytes { bytes_of bits.new ≡ bytes_of bits.old }
     {
-        if bits.read_bool()? {
-            return Ok(USUAL_TONE);
-        }
-        let intensity_target = number(bits, 16)?;
-        let min_nits = number(bits, 16)?;
-        let relative = bits.read_bool()?;
-        let linear_below = number(bits, 16)?;
+        ToneMapping::parse_if(bits, true)
+    }
+
+    // What is told of brightness, where something may be.
+    #[tactic(auto, unfolding(crate::specs::Colours::tone_mapping))]
+    pub(crate) fn parse_if(bits: &mut Bitstream<'_>, there: bool) -> Result<ToneMapping>
+        ensures gives { Reads (λ v. v) result (position_of bits.new)
+            ((tone_mapping there).read (bytes_of bits.old) (position_of bits.old)) }
+        ensures bytes { bytes_of bits.new ≡ bytes_of bits.old }
+    {
+        let told = told_if(bits, there)?;
+        let intensity_target = number_if(bits, told, 16, 0x5BF8)?;
+        let min_nits = number_if(bits, told, 16, 0)?;
+        let relative = flag_if(bits, told, false)?;
+        let linear_below = number_if(bits, told, 16, 0)?;
         Ok(ToneMapping {
             intensity_target,
             min_nits,

@@ -2,8 +2,8 @@
 
 ghost use Rattle.std.specs.Prelude.{◌≡◌, ℕ, ◌+◌, ◌-◌, ◌*◌, ◌%◌, ◌^◌, ◌<◌, ◌≤◌, IfOk, length};
 ghost use Rattle.jxlm_base.specs.Bits.{bytes_of, position_of};
-ghost use Rattle.jxlm_base.specs.Grammar.{FitsU32, Reads, number as the_number, u32 as the_u32};
-ghost use Rattle.jxl_headers.specs.Fields.{groups as the_groups, long as the_long, enumerated as the_enumerated, skipped, extensions as the_extensions, name as the_name, aligned};
+ghost use Rattle.jxlm_base.specs.Grammar.{FitsU32, Reads, flag, number as the_number, u32 as the_u32};
+ghost use Rattle.jxl_headers.specs.Fields.{groups as the_groups, long as the_long, enumerated as the_enumerated, skipped, extensions as the_extensions, name as the_name, aligned, told_if as the_told_if, when};
 ghost use Rattle.jxl_headers.specs.Inner.FieldRanges.{max_of};
 ghost use Rattle.jxl_headers.specs.Inner.Groups.{group_bound, grouped as the_grouped, extension_bits as the_extension_bits, skipped_bits};
 
@@ -39,6 +39,40 @@ pub fn field(
     ensures bytes { bytes_of bits.new ≡ bytes_of bits.old }
 {
     bits.read_u32(d0, d1, d2, d3)
+}
+
+/// A flag, where it is there.
+pub fn flag_if(bits: &mut Bitstream<'_>, there: bool, usual: bool) -> Result<bool>
+    ensures gives { Reads (λ v. v) result (position_of bits.new)
+        ((when there flag usual).read (bytes_of bits.old) (position_of bits.old)) }
+    ensures bytes { bytes_of bits.new ≡ bytes_of bits.old }
+{
+    if there { bits.read_bool() } else { Ok(usual) }
+}
+
+/// The number of `n` bits, where it is there.
+pub fn number_if(bits: &mut Bitstream<'_>, there: bool, n: u32, usual: u32) -> Result<u32>
+    requires n { n ≤ 32 }
+    requires usual { usual < 2 ^ n }
+    ensures gives { Reads (λ v. v) result (position_of bits.new)
+        ((when there (the_number n) usual).read (bytes_of bits.old) (position_of bits.old)) }
+    ensures below { IfOk result (λ v. v < 2 ^ n) }
+    ensures bytes { bytes_of bits.new ≡ bytes_of bits.old }
+{
+    if there { number(bits, n) } else { Ok(usual) }
+}
+
+/// Whether a bundle is told: it may be there, and its first bit does not say that all of it is as by default.
+pub fn told_if(bits: &mut Bitstream<'_>, there: bool) -> Result<bool>
+    ensures gives { Reads (λ v. v) result (position_of bits.new)
+        ((the_told_if there).read (bytes_of bits.old) (position_of bits.old)) }
+    ensures bytes { bytes_of bits.new ≡ bytes_of bits.old }
+{
+    if !there {
+        return Ok(false);
+    }
+    let all_default = bits.read_bool()?;
+    Ok(!all_default)
 }
 
 // `n` groups of a `U64` and its last one.
@@ -92,6 +126,15 @@ pub fn long(bits: &mut Bitstream<'_>) -> Result<u64>
     grouped(bits)
 }
 
+/// A `U64`, where it is there.
+pub fn long_if(bits: &mut Bitstream<'_>, there: bool) -> Result<u64>
+    ensures gives { Reads (λ v. v) result (position_of bits.new)
+        ((when there the_long 0).read (bytes_of bits.old) (position_of bits.old)) }
+    ensures bytes { bytes_of bits.new ≡ bytes_of bits.old }
+{
+    if there { long(bits) } else { Ok(0) }
+}
+
 /// The number of an enumeration, at most 81, before it is known to mean something.
 #[tactic(auto, unfolding(crate::specs::Fields::enumerated))]
 pub fn enumerated(bits: &mut Bitstream<'_>) -> Result<u32>
@@ -133,6 +176,15 @@ pub fn skip(bits: &mut Bitstream<'_>, count: u32) -> Result<()>
     skip_bits(bits, 8 * u128::from(count))
 }
 
+/// Passes `count` bytes, where they are there.
+pub fn skip_if(bits: &mut Bitstream<'_>, there: bool, count: u32) -> Result<()>
+    ensures gives { Reads (λ v. v) result (position_of bits.new)
+        ((when there (skipped count) tt).read (bytes_of bits.old) (position_of bits.old)) }
+    ensures bytes { bytes_of bits.new ≡ bytes_of bits.old }
+{
+    if there { skip(bits, count) } else { Ok(()) }
+}
+
 // How many bits `count` extensions have.
 fn extension_bits(bits: &mut Bitstream<'_>, count: u32) -> Result<u128>
     requires few { count ≤ 64 }
@@ -161,6 +213,15 @@ pub fn extensions(bits: &mut Bitstream<'_>) -> Result<u64>
     Ok(mask)
 }
 
+/// Passes extensions, where they are there.
+pub fn extensions_if(bits: &mut Bitstream<'_>, there: bool) -> Result<u64>
+    ensures gives { Reads (λ v. v) result (position_of bits.new)
+        ((when there the_extensions 0).read (bytes_of bits.old) (position_of bits.old)) }
+    ensures bytes { bytes_of bits.new ≡ bytes_of bits.old }
+{
+    if there { extensions(bits) } else { Ok(0) }
+}
+
 /// Passes a name: how many bytes it has, at most 1071.
 #[tactic(auto, unfolding(crate::specs::Fields::name))]
 pub fn name(bits: &mut Bitstream<'_>) -> Result<u32>
@@ -176,6 +237,15 @@ pub fn name(bits: &mut Bitstream<'_>) -> Result<u32>
     )?;
     skip(bits, count)?;
     Ok(count)
+}
+
+/// Passes a name, where it is there.
+pub fn name_if(bits: &mut Bitstream<'_>, there: bool) -> Result<u32>
+    ensures gives { Reads (λ v. v) result (position_of bits.new)
+        ((when there the_name 0).read (bytes_of bits.old) (position_of bits.old)) }
+    ensures bytes { bytes_of bits.new ≡ bytes_of bits.old }
+{
+    if there { name(bits) } else { Ok(0) }
 }
 
 /// Passes the bits up to the next byte. `InvalidEnum` if one of them is not 0.

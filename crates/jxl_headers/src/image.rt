@@ -1,19 +1,19 @@
 //! The image header.
 
-ghost use Rattle.std.specs.Prelude.{◌≡◌, ◌==◌, ◌&&◌, not, if◌then◌else◌, Some, None, codes};
+ghost use Rattle.std.specs.Prelude.{◌≡◌, ◌==◌, ◌&&◌, not, if◌then◌else◌, Some, None, [], codes};
 ghost use Rattle.jxlm_base.specs.Bits.{bytes_of, position_of};
 ghost use Rattle.jxlm_base.specs.Grammar.{Reads, number as the_number, repeated};
 ghost use Rattle.jxl_headers.specs.Channels.{extra_channel};
-ghost use Rattle.jxl_headers.specs.Colours.{tone_mapping, usual_tone};
-ghost use Rattle.jxl_headers.specs.Fields.{checked, optional, skipped, usual_or, when};
+ghost use Rattle.jxl_headers.specs.Fields.{checked, optional, when};
+ghost use Rattle.jxl_headers.specs.Inner.Groups.{extra_channels as the_extra_channels, weights as the_weights};
 ghost use Rattle.jxl_headers.specs.Sizes.{size as the_size};
-ghost use Rattle.jxl_headers.specs.Images.{image_of, animation as the_animation, display as the_display, samples, extra_channels as the_extra_channels, shown, own_image, usual_image, skipped_if, matrices as the_matrices, image_header, channels_refusal as the_channels_refusal, image_refusal};
+ghost use Rattle.jxl_headers.specs.Images.{image_of, animation as the_animation, matrices as the_matrices, image_header, channels_refusal as the_channels_refusal, image_refusal};
 ghost use Rattle.jxl_headers.specs.declared.refusal.Refusal.TheVariants.{Xyb};
 ghost use Rattle.jxl_headers.specs.Reading.{Parses};
 
 use crate::channel::{BitDepth, ExtraChannel};
-use crate::colour::{ColourEncoding, ToneMapping, USUAL_COLOURS, USUAL_TONE};
-use crate::fields::{Result, extensions, number, skip};
+use crate::colour::{ColourEncoding, ToneMapping};
+use crate::fields::{Result, extensions_if, flag_if, number, number_if, skip_if, told_if};
 use crate::refusal::Refusal;
 use crate::size::{Size, read_size};
 use jxlm_base::bits::{Bitstream, BitstreamError, U32Spec};
@@ -75,13 +75,6 @@ pub struct ImageHeader {
     pub shown: Shown,
 }
 
-const USUAL_DISPLAY: Display = Display {
-    orientation: 1,
-    intrinsic: None,
-    preview: None,
-    animation: None,
-};
-
 fn optional_size(bits: &mut Bitstream<'_>, preview: bool) -> Result<Option<Size>>
     ensures gives { Reads (λ v. v) result (position_of bits.new)
         ((optional (the_size preview)).read (bytes_of bits.old) (position_of bits.old)) }
@@ -92,6 +85,18 @@ fn optional_size(bits: &mut Bitstream<'_>, preview: bool) -> Result<Option<Size>
     }
     let size = read_size(bits, preview)?;
     Ok(Some(size))
+}
+
+fn size_if(bits: &mut Bitstream<'_>, there: bool, preview: bool) -> Result<Option<Size>>
+    ensures gives { Reads (λ v. v) result (position_of bits.new)
+        ((when there (optional (the_size preview)) None).read (bytes_of bits.old) (position_of bits.old)) }
+    ensures bytes { bytes_of bits.new ≡ bytes_of bits.old }
+{
+    if there {
+        optional_size(bits, preview)
+    } else {
+        Ok(None)
+    }
 }
 
 impl Animation {
@@ -139,83 +144,17 @@ impl Animation {
         let animation = Animation::parse(bits)?;
         Ok(Some(animation))
     }
-}
 
-impl Display {
-    #[tactic(auto, unfolding(crate::specs::Images::display))]
-    fn listed(bits: &mut Bitstream<'_>) -> Result<Display>
+    fn optional_if(bits: &mut Bitstream<'_>, there: bool) -> Result<Option<Animation>>
         ensures gives { Reads (λ v. v) result (position_of bits.new)
-            (the_display.read (bytes_of bits.old) (position_of bits.old)) }
+            ((when there (optional the_animation) None).read (bytes_of bits.old) (position_of bits.old)) }
         ensures bytes { bytes_of bits.new ≡ bytes_of bits.old }
     {
-        let orientation = number(bits, 3)?;
-        let intrinsic = optional_size(bits, false)?;
-        let preview = optional_size(bits, true)?;
-        let animation = Animation::optional(bits)?;
-        Ok(Display {
-            orientation: orientation + 1,
-            intrinsic,
-            preview,
-            animation,
-        })
-    }
-
-    fn parse(bits: &mut Bitstream<'_>, more: bool) -> Result<Display>
-        ensures gives { Reads (λ v. v) result (position_of bits.new)
-            ((when more the_display
-            (record { orientation = 1; intrinsic = None; preview = None; animation = None })).read (bytes_of bits.old) (position_of bits.old)) }
-        ensures bytes { bytes_of bits.new ≡ bytes_of bits.old }
-    {
-        if more {
-            Display::listed(bits)
+        if there {
+            Animation::optional(bits)
         } else {
-            Ok(USUAL_DISPLAY)
+            Ok(None)
         }
-    }
-}
-
-impl Samples {
-    #[tactic(auto, unfolding(crate::specs::Images::samples))]
-    fn parse(bits: &mut Bitstream<'_>) -> Result<Samples>
-        ensures gives { Reads (λ v. v) result (position_of bits.new)
-            (samples.read (bytes_of bits.old) (position_of bits.old)) }
-        ensures bytes { bytes_of bits.new ≡ bytes_of bits.old }
-    {
-        let depth = BitDepth::parse(bits)?;
-        let narrow = bits.read_bool()?;
-        Ok(Samples { depth, narrow })
-    }
-}
-
-fn brightness(bits: &mut Bitstream<'_>, more: bool) -> Result<ToneMapping>
-    ensures gives { Reads (λ v. v) result (position_of bits.new)
-        ((when more tone_mapping usual_tone).read (bytes_of bits.old) (position_of bits.old)) }
-    ensures bytes { bytes_of bits.new ≡ bytes_of bits.old }
-{
-    if more {
-        ToneMapping::parse(bits)
-    } else {
-        Ok(USUAL_TONE)
-    }
-}
-
-impl Shown {
-    #[tactic(auto, unfolding(crate::specs::Images::shown))]
-    fn parse(bits: &mut Bitstream<'_>, more: bool) -> Result<Shown>
-        ensures gives { Reads (λ v. v) result (position_of bits.new)
-            ((shown more).read (bytes_of bits.old) (position_of bits.old)) }
-        ensures bytes { bytes_of bits.new ≡ bytes_of bits.old }
-    {
-        let xyb = bits.read_bool()?;
-        let colour = ColourEncoding::parse(bits)?;
-        let tone = brightness(bits, more)?;
-        let extensions = extensions(bits)?;
-        Ok(Shown {
-            xyb,
-            colour,
-            tone,
-            extensions,
-        })
     }
 }
 
@@ -237,7 +176,6 @@ fn read_channels(
     Ok(channels)
 }
 
-#[tactic(auto, unfolding(crate::specs::Images::extra_channels))]
 fn extra_channels(alloc: Global, bits: &mut Bitstream<'_>) -> error::Result<Vec<ExtraChannel>>
     ensures gives { Parses (λ v. v.items) result (position_of bits.new)
         (the_extra_channels.read (bytes_of bits.old) (position_of bits.old)) }
@@ -252,35 +190,31 @@ fn extra_channels(alloc: Global, bits: &mut Bitstream<'_>) -> error::Result<Vec<
     read_channels(alloc, bits, count)
 }
 
-// Passes `count` bytes where they are there.
-#[tactic(auto, unfolding(crate::specs::Images::skipped_if))]
-fn skip_if(bits: &mut Bitstream<'_>, there: bool, count: u32) -> Result<()>
-    ensures gives { Reads (λ v. v) result (position_of bits.new)
-        ((skipped_if there count).read (bytes_of bits.old) (position_of bits.old)) }
+fn channels_if(
+    alloc: Global,
+    bits: &mut Bitstream<'_>,
+    there: bool,
+) -> error::Result<Vec<ExtraChannel>>
+    ensures gives { Parses (λ v. v.items) result (position_of bits.new)
+        ((when there the_extra_channels []).read (bytes_of bits.old) (position_of bits.old)) }
     ensures bytes { bytes_of bits.new ≡ bytes_of bits.old }
 {
-    if there { skip(bits, count) } else { Ok(()) }
-}
-
-fn own_opsin(bits: &mut Bitstream<'_>) -> Result<()>
-    ensures gives { Reads (λ v. v) result (position_of bits.new)
-        ((usual_or tt (skipped 32)).read (bytes_of bits.old) (position_of bits.old)) }
-    ensures bytes { bytes_of bits.new ≡ bytes_of bits.old }
-{
-    if bits.read_bool()? {
-        return Ok(());
+    if there {
+        extra_channels(alloc, bits)
+    } else {
+        Ok(Vec::new(alloc))
     }
-    skip(bits, 32)?;
-    Ok(())
 }
 
-// The matrix of XYB.
-fn opsin(bits: &mut Bitstream<'_>, xyb: bool) -> Result<()>
+// Passes those weights of upsampling that are there.
+fn weights(bits: &mut Bitstream<'_>, first: bool, second: bool, third: bool) -> Result<()>
     ensures gives { Reads (λ v. v) result (position_of bits.new)
-        ((when xyb (usual_or tt (skipped 32)) tt).read (bytes_of bits.old) (position_of bits.old)) }
+        ((the_weights first second third).read (bytes_of bits.old) (position_of bits.old)) }
     ensures bytes { bytes_of bits.new ≡ bytes_of bits.old }
 {
-    if xyb { own_opsin(bits) } else { Ok(()) }
+    skip_if(bits, first, 30)?;
+    skip_if(bits, second, 110)?;
+    skip_if(bits, third, 420)
 }
 
 // The matrix of XYB, and the weights of upsampling that a mask says are there.
@@ -290,14 +224,11 @@ fn matrices(bits: &mut Bitstream<'_>, xyb: bool) -> Result<()>
         ((the_matrices xyb).read (bytes_of bits.old) (position_of bits.old)) }
     ensures bytes { bytes_of bits.new ≡ bytes_of bits.old }
 {
-    if bits.read_bool()? {
-        return Ok(());
-    }
-    opsin(bits, xyb)?;
-    let mask = number(bits, 3)?;
-    skip_if(bits, mask % 2 == 1, 30)?;
-    skip_if(bits, mask / 2 % 2 == 1, 110)?;
-    skip_if(bits, mask / 4 == 1, 420)
+    let told = told_if(bits, true)?;
+    let opsin = told_if(bits, told & xyb)?;
+    skip_if(bits, opsin, 32)?;
+    let mask = number_if(bits, told, 3, 0)?;
+    weights(bits, mask % 2 == 1, mask / 2 % 2 == 1, mask / 4 == 1)
 }
 
 fn signature(bits: &mut Bitstream<'_>) -> Result<u32>
@@ -343,53 +274,6 @@ fn xyb_refusal(xyb: bool) -> Option<Refusal>
 }
 
 impl ImageHeader {
-    // A header of this size that says nothing else.
-    fn usual(alloc: Global, size: Size) -> ImageHeader
-        ensures { image_of result ≡ usual_image size }
-    {
-        ImageHeader {
-            size,
-            display: USUAL_DISPLAY,
-            samples: Samples {
-                depth: BitDepth {
-                    bits: 8,
-                    exponent_bits: 0,
-                },
-                narrow: true,
-            },
-            extra: Vec::new(alloc),
-            shown: Shown {
-                xyb: true,
-                colour: USUAL_COLOURS,
-                tone: USUAL_TONE,
-                extensions: 0,
-            },
-        }
-    }
-
-    #[tactic(auto, unfolding(crate::specs::Images::own_image))]
-    fn own(alloc: Global, bits: &mut Bitstream<'_>, size: Size) -> error::Result<ImageHeader>
-        ensures gives { Parses image_of result (position_of bits.new)
-            ((own_image size).read (bytes_of bits.old) (position_of bits.old)) }
-        ensures bytes { bytes_of bits.new ≡ bytes_of bits.old }
-    {
-        if bits.read_bool()? {
-            return Ok(ImageHeader::usual(alloc, size));
-        }
-        let more = bits.read_bool()?;
-        let display = Display::parse(bits, more)?;
-        let samples = Samples::parse(bits)?;
-        let extra = extra_channels(alloc, bits)?;
-        let shown = Shown::parse(bits, more)?;
-        Ok(ImageHeader {
-            size,
-            display,
-            samples,
-            extra,
-            shown,
-        })
-    }
-
     /// The header that stands at the reader's position, from its signature on. What is not supported is read too, and
     /// `refused` names it. The reader is left where the profile begins, if there is one, or the bits up to the next byte.
     ///
@@ -405,9 +289,38 @@ impl ImageHeader {
     {
         signature(bits)?;
         let size = read_size(bits, false)?;
-        let header = ImageHeader::own(alloc, bits, size)?;
-        matrices(bits, header.shown.xyb)?;
-        Ok(header)
+        let told = told_if(bits, true)?;
+        let more = flag_if(bits, told, false)?;
+        let orientation = number_if(bits, more, 3, 0)?;
+        let intrinsic = size_if(bits, more, false)?;
+        let preview = size_if(bits, more, true)?;
+        let animation = Animation::optional_if(bits, more)?;
+        let depth = BitDepth::parse_if(bits, told)?;
+        let narrow = flag_if(bits, told, true)?;
+        let extra = channels_if(alloc, bits, told)?;
+        let xyb = flag_if(bits, told, true)?;
+        let colour = ColourEncoding::parse_if(bits, told)?;
+        let tone = ToneMapping::parse_if(bits, more)?;
+        let extensions = extensions_if(bits, told)?;
+        matrices(bits, xyb)?;
+        let orientation = orientation + 1;
+        Ok(ImageHeader {
+            size,
+            display: Display {
+                orientation,
+                intrinsic,
+                preview,
+                animation,
+            },
+            samples: Samples { depth, narrow },
+            extra,
+            shown: Shown {
+                xyb,
+                colour,
+                tone,
+                extensions,
+            },
+        })
     }
 
     /// What the image has that is not supported: the first in the order of the bits, or none.

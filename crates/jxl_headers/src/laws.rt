@@ -1,5 +1,6 @@
 //! Laws of headers, each the contract of a function that does nothing.
 
+ghost use Rattle.std.specs.Prelude.{Bool};
 ghost use Rattle.jxlm_base.specs.Grammar.{IsExact};
 ghost use Rattle.jxl_headers.specs.Channels.{bit_depth, extra_channel};
 ghost use Rattle.jxl_headers.specs.Colours.{colour_encoding};
@@ -14,7 +15,7 @@ pub fn header_fields_are_read_exactly()
     ensures aligned { IsExact aligned }
     ensures depth { IsExact bit_depth }
     ensures channel { IsExact extra_channel }
-    ensures colours { IsExact colour_encoding }
+    ensures colours { (there : Bool) → IsExact (colour_encoding there) }
 {}
 
 /// What is read as an image header stands there, and what stands there is read.

@@ -4,21 +4,10 @@ ghost use Rattle.std.specs.Prelude.{◌≡◌};
 ghost use Rattle.jxlm_base.specs.Bits.{bytes_of, position_of};
 ghost use Rattle.jxlm_base.specs.Grammar.{Reads};
 ghost use Rattle.jxl_toc.specs.Starts.{section_start as the_section_start, tree_limit as the_tree_limit};
-ghost use Rattle.jxl_headers.specs.Fields.{skipped, usual_or};
 
-use jxl_headers::fields::{Result, skip};
+use jxl_headers::fields::{Result, skip_if, told_if};
 use jxl_headers::size::Size;
 use jxlm_base::bits::Bitstream;
-
-// Passes the factors of low frequencies.
-fn dequantisation(bits: &mut Bitstream<'_>) -> Result<()>
-    ensures gives { Reads (λ v. v) result (position_of bits.new)
-        ((usual_or tt (skipped 6)).read (bytes_of bits.old) (position_of bits.old)) }
-    ensures bytes { bytes_of bits.new ≡ bytes_of bits.old }
-{
-    let usual = bits.read_bool()?;
-    if usual { Ok(()) } else { skip(bits, 6) }
-}
 
 /// What the first section of a Modular frame without patches, splines and noise begins with: it passes the factors of
 /// low frequencies, and returns whether a tree follows that sections may share. After that tree, or at once, comes the
@@ -28,7 +17,8 @@ pub fn section_start(bits: &mut Bitstream<'_>) -> Result<bool>
         (the_section_start.read (bytes_of bits.old) (position_of bits.old)) }
     ensures bytes { bytes_of bits.new ≡ bytes_of bits.old }
 {
-    dequantisation(bits)?;
+    let told = told_if(bits, true)?;
+    skip_if(bits, told, 6)?;
     bits.read_bool()
 }
 

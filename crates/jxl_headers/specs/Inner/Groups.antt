@@ -1,7 +1,10 @@
--- Parts of a U64, and of extensions and other bits that are passed, as their functions read them.
-use Rattle.std.specs.Prelude.{ℕ, zero, suc, ◌+◌, ◌*◌, sum}
-use Rattle.jxlm_base.specs.Grammar.{Grammar, number, give, repeated, ◌>>=◌}
-use Rattle.jxl_headers.specs.Fields.{groups, long}
+-- Parts of a U64, of extensions and other bits that are passed, and of an image header, as their functions read them.
+use Rattle.std.specs.Prelude.{ℕ, zero, suc, ◌+◌, ◌*◌, sum, List, Bool}
+use Rattle.jxlm_base.specs.Grammar.{Grammar, number, u32, give, repeated, ◌>>=◌}
+use Rattle.jxlm_base.specs.declared.bits.U32Spec.TheVariants.{Const, Offset}
+use Rattle.jxl_headers.specs.Channels.{extra_channel}
+use Rattle.jxl_headers.specs.declared.channel.ExtraChannel.{ExtraChannel}
+use Rattle.jxl_headers.specs.Fields.{groups, long, skipped, when}
 
 -- the number of n groups and the last one is below this
 abbrev pub group_bound : ℕ → ℕ
@@ -19,3 +22,12 @@ skipped_bits n = number n >>= λ v. give tt
 -- how many bits n extensions have: a U64 for each
 unfoldable pub extension_bits : ℕ → Grammar ℕ
 extension_bits n = repeated n long >>= λ sizes. give (sum sizes)
+
+-- the three lists of weights of upsampling, each there or not
+abbrev pub weights : Bool → Bool → Bool → Grammar (Unit {0})
+weights first second third =
+    when first (skipped 30) tt >>= λ a. when second (skipped 110) tt >>= λ b. when third (skipped 420) tt
+
+-- the channels beside the colours, after their number
+abbrev pub extra_channels : Grammar (List ExtraChannel)
+extra_channels = u32 (Const 0) (Const 1) (Offset 2 4) (Offset 1 12) >>= λ n. repeated n extra_channel
