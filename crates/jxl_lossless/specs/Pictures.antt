@@ -13,7 +13,7 @@ use Rattle.jxl_lossless.specs.Saved.{AreDecoded, FramesFail}
 use Rattle.jxl_lossless.specs.declared.error.FileError.{FileError}
 use Rattle.jxl_lossless.specs.declared.error.FileError.TheVariants as errors
 
--- The codestream of a file has at its bits headers and tables: of an image, of frames that are saved, and of the one that is shown.
+-- At the bits of a file's codestream stand headers and tables: of an image, of frames that are saved, and of the one shown.
 pub record HasFront (limits : Limits) (file : List ℕ) : Type 0 where
   pub bytes : List ℕ
   pub found : HasCodestream file (Ok bytes)
