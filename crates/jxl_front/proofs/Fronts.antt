@@ -1,11 +1,10 @@
 -- What reading the front of a codestream gives.
 use Rattle.std.proofs.Common.{◌≡◌, ℕ, ◌+◌, ◌<◌, ◌≤◌, ◌^◌, ◌/◌, Bool, true, false, List, [], ◌∷◌, ◌++◌, length, drop, Option, Ok, Some, None, ap, subst, sym, refl, ◌∙◌, inl, inr, arith}
 use Rattle.std.specs.Prelude.{if◌then◌else◌, is_some, nat_le, not, ◌&&◌, ◌==◌}
-use Rattle.std.specs.List.{All, list_all, list_any}
+use Rattle.std.specs.List.{list_all, list_any}
 use Rattle.std.specs.Option.{option_map_or, option_or}
 use Rattle.std.proofs.Math.Nat.{max-le}
 use Rattle.std.proofs.lemmas.Bool.{cases_lt, le-leb, leb-true}
-use Rattle.std.proofs.lemmas.List.Elements.{All-cons, All-nil}
 use Rattle.jxlm_base.specs.Decoding.{Meaning}
 use Rattle.jxlm_base.specs.ErrorKind.{ErrorKind, UnlessMemory, UnlessNoMemory, kind_of}
 use Rattle.jxlm_base.specs.Grammar.{Grammar, IsErrorAt}
@@ -24,9 +23,9 @@ use Rattle.jxl_frames.specs.declared.refusal.Refusal.TheVariants as refusals
 use Rattle.jxl_toc.specs.Layouts.{Layout, layout_if, layout_of, max_sections, section_count_of}
 use Rattle.jxl_toc.specs.Tocs.{IsFirstTruncated, IsToc, Table, is_within, toc}
 use Rattle.jxl_toc.specs.declared.toc.TocEntry.{TocEntry}
-use Rattle.jxl_picture.specs.Limits.{Allow}
+use Rattle.jxl_picture.specs.Limits.{Allow, AllowFrame, cells_of}
 use Rattle.jxl_picture.specs.declared.limits.Limits.{Limits}
-use Rattle.jxl_front.specs.Fronts.{AllowFrame, AreBefore, NoFrame, OneMore, ContentsStand, FailsAt, FrameAt, FrameGoesOn, FrameStands, FrontFails, HeaderStands, ImageStands, Next, StandsAt, between, cells_of, end_of, layout_in}
+use Rattle.jxl_front.specs.Fronts.{AreBefore, NoFrame, OneMore, ContentsStand, FailsAt, FrameAt, FrameGoesOn, FrameStands, FrontFails, ImageStands, Next, StandsAt, between, end_of, layout_in}
 use Rattle.jxl_front.specs.FrontParts.{HasLowShifts, IsNext}
 use Rattle.jxl_front.specs.declared.error.FrontError.TheVariants as errors
 
@@ -37,7 +36,7 @@ fails_at field bytes p p' q e same h =
 
 module _ {D : Type 0} (d : Meaning D) (limits : Limits) (bytes : List ℕ) where
   pub image_stands : (p q : ℕ) (image : Image) → p ≡ 0 → image_header.read bytes p ≡ Ok (record { value = image; position = q }) → image_refusal image ≡ None → Allow limits image → ImageStands d limits bytes image q
-  image_stands p q image start e supported allowed = record { header = subst (λ n. StandsAt image_header bytes n image q) start e; supported = supported; allowed = allowed }
+  image_stands p q image start e supported allowed = (subst (λ n. StandsAt image_header bytes n image q) start e, supported, allowed)
 
   pub image_refused : (p q : ℕ) (image : Image) (r : ImageRefusal) → p ≡ 0 → image_header.read bytes p ≡ Ok (record { value = image; position = q }) → image_refusal image ≡ Some r → FrontFails d limits bytes (errors.Image r)
   image_refused p q image r start e refused = (image, q, subst (λ n. StandsAt image_header bytes n image q) start e, refused)
@@ -66,21 +65,21 @@ module _ {D : Type 0} (d : Meaning D) (limits : Limits) (bytes : List ℕ) where
       (unless_memory (kind_of e) (IsErrorAt ((frame_header image).read (drop start bytes) 0) (kind_of e) q) at)
 
   pub header_stands : (image : Image) (start : ℕ) (here : List ℕ) (p q : ℕ) (frame : Frame) → here ≡ drop start bytes → p ≡ 0 →
-      (frame_header image).read here p ≡ Ok (record { value = frame; position = q }) → HeaderStands d limits bytes image start frame q
+      (frame_header image).read here p ≡ Ok (record { value = frame; position = q }) → StandsAt (frame_header image) (drop start bytes) 0 frame q
   header_stands image start here p q frame lies begin e =
       subst (λ n. StandsAt (frame_header image) (drop start bytes) n frame q) begin (subst (λ (b : List ℕ). StandsAt (frame_header image) b p frame q) lies e)
 
-  pub frame_refused : (image : Image) (start used q : ℕ) (frame : Frame) (r : FrameRefusal) → IsNext d limits bytes image start used → HeaderStands d limits bytes image start frame q →
+  pub frame_refused : (image : Image) (start used q : ℕ) (frame : Frame) (r : FrameRefusal) → IsNext d limits bytes image start used → StandsAt (frame_header image) (drop start bytes) 0 frame q →
       frame_refusal image frame ≡ Some r → FrontFails d limits bytes (errors.Frame r)
   frame_refused image start used q frame r next header refused = (next_of image start used next, frame, q, header, refused)
 
-  pub frames_too_large : (image : Image) (start used q : ℕ) (frame : Frame) → IsNext d limits bytes image start used → HeaderStands d limits bytes image start frame q →
+  pub frames_too_large : (image : Image) (start used q : ℕ) (frame : Frame) → IsNext d limits bytes image start used → StandsAt (frame_header image) (drop start bytes) 0 frame q →
       frame_refusal image frame ≡ None → ¬ (AllowFrame limits image used (frame_size image.size frame)) → FrontFails d limits bytes errors.FramesTooLarge
   frames_too_large image start used q frame next header supported beyond = (next_of image start used next, frame, q, header, supported, beyond)
 
-  pub goes_on : (image : Image) (start used q : ℕ) (frame : Frame) → HeaderStands d limits bytes image start frame q → frame_refusal image frame ≡ None →
+  pub goes_on : (image : Image) (start used q : ℕ) (frame : Frame) → StandsAt (frame_header image) (drop start bytes) 0 frame q → frame_refusal image frame ≡ None →
       AllowFrame limits image used (frame_size image.size frame) → FrameGoesOn d limits bytes image start used frame q
-  goes_on image start used q frame header supported allowed = record { header = header; supported = supported; allowed = allowed }
+  goes_on image start used q frame header supported allowed = (header, supported, allowed)
 
   pub contents_fail : (image : Image) (start used : ℕ) (frame : Frame) (here : List ℕ) (n p q : ℕ) (e : Error) → IsNext d limits bytes image start used →
       FrameGoesOn d limits bytes image start used frame p → here ≡ drop start bytes → n ≡ section_count_of (layout_in image frame) → n ≤ 2 ^ 24 →

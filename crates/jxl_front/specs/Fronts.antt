@@ -1,19 +1,18 @@
 -- What a codestream has before the sections of its frames (ISO/IEC 18181-1, codestream: image header, frame headers, tables
 -- of contents), stage by stage, and what fails at each.
-use Rattle.std.specs.Prelude.{◌≡◌, ℕ, ◌+◌, ◌*◌, ◌/◌, ◌^◌, ◌<◌, ◌≤◌, max, List, [], ◌∷◌, ◌++◌, length, drop, Bool, true, false, None, Some, Ok}
+use Rattle.std.specs.Prelude.{◌≡◌, ℕ, ◌+◌, ◌/◌, ◌^◌, ◌<◌, ◌≤◌, max, List, [], ◌∷◌, ◌++◌, length, drop, Bool, true, false, None, Some, Ok}
 use Rattle.std.specs.List.{list_all}
 use Rattle.jxlm_base.specs.Decoding.{Meaning}
 use Rattle.jxlm_base.specs.ErrorKind.{ErrorKind, UnlessMemory, kind_of}
 use Rattle.jxlm_base.specs.Grammar.{Grammar, IsErrorAt, give, either, ◌>>=◌}
 use Rattle.jxl_headers.specs.Fields.{aligned}
 use Rattle.jxl_headers.specs.Images.{Image, image_header, image_refusal}
-use Rattle.jxl_headers.specs.declared.size.Size.{Size}
 use Rattle.jxl_frames.specs.Frames.{Frame, frame_header, frame_refusal, frame_size, is_saved}
 use Rattle.jxl_toc.specs.Layouts.{Layout, layout_of, max_sections, section_count_of}
 use Rattle.jxl_toc.specs.Profiles.{profile}
 use Rattle.jxl_toc.specs.Tocs.{IsFirstTruncated, IsToc, Table, is_within, toc}
 use Rattle.jxl_toc.specs.declared.toc.TocEntry.{TocEntry}
-use Rattle.jxl_picture.specs.Limits.{Allow, channel_count}
+use Rattle.jxl_picture.specs.Limits.{Allow, AllowFrame, cells_of}
 use Rattle.jxl_picture.specs.declared.limits.Limits.{Limits}
 use Rattle.jxl_front.specs.declared.error.FrontError.{FrontError}
 use Rattle.jxl_front.specs.declared.error.FrontError.TheVariants as errors
@@ -40,39 +39,20 @@ pub record FrameAt : Type 0 where
 abbrev pub layout_in : Image → Frame → Layout
 layout_in image frame = layout_of (frame_size image.size frame) frame.group_dim frame.passes.count
 
--- how many cells a channel of this size has
-abbrev pub cells_of : Size → ℕ
-cells_of size = size.width * size.height
-
 -- where sections end: the last byte that one of them reaches
 abbrev pub end_of : List TocEntry → ℕ
 end_of [] = 0
 end_of (e ∷ es) = max (e.offset + e.size) (end_of es)
 
--- A frame of this size, after others with so many cells, is within the limits: its sides are those of a Modular image, and
--- together they have no more cells and bytes than one picture may have, where samples have four bytes each.
-pub record AllowFrame (limits : Limits) (image : Image) (used : ℕ) (size : Size) : Type 0 where
-  pub wide : size.width ≤ 2 ^ 30
-  pub high : size.height ≤ 2 ^ 30
-  pub pixels : used + cells_of size ≤ limits.pixels
-  pub bytes : (used + cells_of size) * (4 * channel_count image) ≤ limits.bytes
-
 module _ {D : Type 0} (d : Meaning D) (limits : Limits) (bytes : List ℕ) where
   -- The image header stands at the start, up to bit p: it says nothing that is not supported, of a picture within the limits.
-  pub record ImageStands (image : Image) (p : ℕ) : Type 0 where
-    pub header : StandsAt image_header bytes 0 image p
-    pub supported : image_refusal image ≡ None
-    pub allowed : Allow limits image
+  abbrev pub ImageStands : Image → ℕ → Type 0
+  ImageStands image p = StandsAt image_header bytes 0 image p × (image_refusal image ≡ None) × Allow limits image
 
-  -- the header of a frame stands at this byte, up to bit q from there
-  abbrev pub HeaderStands : Image → ℕ → Frame → ℕ → Type 0
-  HeaderStands image start frame q = StandsAt (frame_header image) (drop start bytes) 0 frame q
-
-  -- It is supported, of a frame that is within the limits after others with so many cells.
-  pub record FrameGoesOn (image : Image) (start used : ℕ) (frame : Frame) (q : ℕ) : Type 0 where
-    pub header : HeaderStands image start frame q
-    pub supported : frame_refusal image frame ≡ None
-    pub allowed : AllowFrame limits image used (frame_size image.size frame)
+  -- A frame's header stands at this byte, up to bit q from there: it is supported, and after so many cells within the limits.
+  abbrev pub FrameGoesOn : Image → ℕ → ℕ → Frame → ℕ → Type 0
+  FrameGoesOn image start used frame q = StandsAt (frame_header image) (drop start bytes) 0 frame q × (frame_refusal image frame ≡ None)
+      × AllowFrame limits image used (frame_size image.size frame)
 
   -- The table of contents follows, of not too many sections: it says where each of them lies.
   pub record ContentsStand (image : Image) (start used : ℕ) (frame : Frame) (entries : List TocEntry) : Type 0 where
@@ -82,9 +62,9 @@ module _ {D : Type 0} (d : Meaning D) (limits : Limits) (bytes : List ℕ) where
     pub contents : (table : Table) × (q : ℕ) × StandsAt (toc d (section_count_of (layout_in image frame))) (drop start bytes) end table q × IsToc table entries
 
   -- And all sections lie in the codestream.
-  pub record FrameStands (image : Image) (used : ℕ) (frame : FrameAt) : Type 0 where
-    pub contents : ContentsStand image frame.start used frame.header frame.entries
-    pub within : list_all (is_within (length (drop frame.start bytes))) frame.entries ≡ true
+  abbrev pub FrameStands : Image → ℕ → FrameAt → Type 0
+  FrameStands image used frame = ContentsStand image frame.start used frame.header frame.entries
+      × (list_all (is_within (length (drop frame.start bytes))) frame.entries ≡ true)
 
   -- These saved frames, with so many cells together, stand one after another before the frame that begins at this byte. The first
   -- frame begins after the image header and what comes between them.
@@ -94,11 +74,8 @@ module _ {D : Type 0} (d : Meaning D) (limits : Limits) (bytes : List ℕ) where
         AreBefore image (saved ++ f ∷ []) (f.start + end_of f.entries) (used + cells_of (frame_size image.size f.header))
 
   -- The image header and saved frames stand there, and after them the frame that is shown.
-  pub record FrontStands (image : Image) (saved : List FrameAt) (shown : FrameAt) : Type 0 where
-    pub used : ℕ
-    pub before : AreBefore image saved shown.start used
-    pub stands : FrameStands image used shown
-    pub is_shown : is_saved shown.header ≡ false
+  abbrev pub FrontStands : Image → List FrameAt → FrameAt → Type 0
+  FrontStands image saved shown = (used : ℕ) × AreBefore image saved shown.start used × FrameStands image used shown × (is_saved shown.header ≡ false)
 
   -- where a frame begins: after saved frames with so many cells
   pub record Next : Type 0 where
@@ -117,8 +94,8 @@ module _ {D : Type 0} (d : Meaning D) (limits : Limits) (bytes : List ℕ) where
   FrontFails (errors.Profile e) = UnlessMemory (kind_of e)
       ((image : Image) × (q : ℕ) × ImageStands image q × FailsAt (between d limits.profile image.shown.colour.profile) bytes q (kind_of e))
   FrontFails (errors.FrameHeader e) = UnlessMemory (kind_of e) ((n : Next) × FailsAt (frame_header n.image) (drop n.start bytes) 0 (kind_of e))
-  FrontFails (errors.Frame reason) = (n : Next) × (frame : Frame) × (q : ℕ) × HeaderStands n.image n.start frame q × (frame_refusal n.image frame ≡ Some reason)
-  FrontFails errors.FramesTooLarge = (n : Next) × (frame : Frame) × (q : ℕ) × HeaderStands n.image n.start frame q × (frame_refusal n.image frame ≡ None)
+  FrontFails (errors.Frame reason) = (n : Next) × (frame : Frame) × (q : ℕ) × StandsAt (frame_header n.image) (drop n.start bytes) 0 frame q × (frame_refusal n.image frame ≡ Some reason)
+  FrontFails errors.FramesTooLarge = (n : Next) × (frame : Frame) × (q : ℕ) × StandsAt (frame_header n.image) (drop n.start bytes) 0 frame q × (frame_refusal n.image frame ≡ None)
       × ¬ (AllowFrame limits n.image n.used (frame_size n.image.size frame))
   FrontFails errors.TooManySections = (n : Next) × (frame : Frame) × (q : ℕ) × FrameGoesOn n.image n.start n.used frame q
       × (max_sections < section_count_of (layout_in n.image frame))

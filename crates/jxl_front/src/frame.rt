@@ -7,11 +7,11 @@ ghost use Rattle.jxlm_transform.specs.Params.{IsGroupDim};
 ghost use Rattle.jxl_headers.specs.Images.{image_of};
 ghost use Rattle.jxl_frames.specs.Frames.{frame_of, frame_size, has_shifts};
 ghost use Rattle.jxl_frames.specs.Passes.{IsPassCount};
-ghost use Rattle.jxl_picture.specs.Limits.{channel_count};
+ghost use Rattle.jxl_picture.specs.Limits.{AllowFrame, cells_of as the_cells_of, channel_count};
 ghost use Rattle.jxl_toc.specs.Layouts.{section_count_of};
 ghost use Rattle.jxl_toc.specs.LayoutParts.{parts_of};
 ghost use Rattle.jxl_toc.specs.Tocs.{is_within};
-ghost use Rattle.jxl_front.specs.Fronts.{AllowFrame, ContentsStand, FrameGoesOn, FrameStands, FrontFails, cells_of as the_cells_of, end_of as the_end_of, layout_in};
+ghost use Rattle.jxl_front.specs.Fronts.{ContentsStand, FrameGoesOn, FrameStands, FrontFails, end_of as the_end_of, layout_in};
 
 use crate::error::FrontError;
 use jxl_frames::frame::FrameHeader;

@@ -1,15 +1,16 @@
 -- The channels of a picture: those of colours of its size, and the extra ones by their shifts.
-use Rattle.std.proofs.Common.{◌≡◌, ℕ, zero, suc, Bool, true, false, ◌+◌, ◌^◌, ◌≤◌, List, [], ◌∷◌, length, map, take, drop, ℤ, refl, arith, ◌∙◌, ap, sym, subst}
+use Rattle.std.proofs.Common.{◌≡◌, ℕ, zero, suc, Bool, true, false, ◌+◌, ◌^◌, ◌≤◌, List, [], ◌∷◌, ◌++◌, length, map, pos, ℤ, refl, arith, ◌∙◌, ap, sym, subst}
 use Rattle.std.specs.Prelude.{if◌then◌else◌, not, replicate, ◌&&◌, ◌||◌, ◌==◌, ◌≢◌}
+use Rattle.std.specs.Int.{cast_signed, w32}
 use Rattle.std.specs.List.{All, AllZip, list_all, list_any}
 use Rattle.std.proofs.lemmas.Bool.{eqb-true}
 use Rattle.std.proofs.lemmas.Bool.Decides.{nat_tests}
-use Rattle.std.proofs.lemmas.List.{length-append, length-drop, length-map, length-replicate, map-id, take-append-drop}
-use Rattle.std.proofs.lemmas.List.Elements.{All-append, All-cons, All-drop, All-from_get_or, All-get_or, All-head, All-nil, All-tail, All-take}
+use Rattle.std.proofs.lemmas.List.{length-append, length-map, length-replicate, map-id}
+use Rattle.std.proofs.lemmas.List.Elements.{All-append, All-cons, All-from_get_or, All-get_or, All-head, All-nil, All-tail}
 use Rattle.jxlm_base.specs.Grid.{Grid, grid}
 use Rattle.jxlm_base.specs.Regions.{store_meanings}
 use Rattle.jxlm_cut.specs.Passes.{is_of_picture_of, one_picture}
-use Rattle.jxlm_transform.specs.Channels.{AreGridsOf, image_channel, image_list}
+use Rattle.jxlm_transform.specs.Channels.{AreGridsOf, Channel, ChannelList, image_channel, image_list}
 use Rattle.jxlm_transform.specs.Params.{IsGroupDim, IsSide, IsValidChannel, IsValidParams}
 use Rattle.jxlm_transform.specs.declared.param.ModularChannelParams.{ModularChannelParams}
 use Rattle.jxlm_transform.specs.declared.param.ModularParams.{ModularParams}
@@ -19,10 +20,12 @@ use Rattle.jxl_headers.specs.declared.size.Size.{Size}
 use Rattle.jxl_frames.specs.Frames.{has_shifts}
 use Rattle.jxl_picture.specs.Limits.{channel_count}
 use Rattle.jxl_picture.specs.Orientations.{IsOriented, IsUpright, is_turned, shown_size}
-use Rattle.jxl_picture.specs.Pictures.{AreChannels, HasShiftedSides, HasSides, IsWhole, colour_count}
-use Rattle.jxl_picture.proofs.Shifts.{full_sides, shifted, shifted_none, sides_of_full}
+use Rattle.jxl_picture.specs.Pictures.{AreChannels, IsWhole, colour_count, shifts_of}
+use Rattle.jxl_picture.proofs.Channels.{HasShift, zip_length}
+use Rattle.jxl_picture.proofs.Shifts.{shifted, shifted_none}
 use Rattle.jxl_patches.specs.Slots.{AreOfSize}
-use Rattle.jxl_lossless.specs.Frames.{channels_given, in_file, of_file}
+use Rattle.jxl_lossless.specs.Frames.{channel_in, channels_given}
+use Rattle.jxl_lossless.specs.Inner.Given.{in_file, of_file}
 
 abbrev extra_in : ℕ → ℕ → ExtraChannel → ModularChannelParams
 extra_in w h c = in_file w h c.shift
@@ -79,45 +82,48 @@ pub some_given : (n w h : ℕ) (cs : List ExtraChannel) → 1 ≤ n → of_file 
 some_given zero w h cs some e = absurd (omega (arith, some))
 some_given (suc n) w h cs some e = cc
 
+-- for shifts that are low these are the channels of a frame
+low_cast : (s : ℕ) → s ≤ 3 → cast_signed w32 s ≡ pos s
+low_cast zero low = refl
+low_cast (suc zero) low = refl
+low_cast (suc (suc zero)) low = refl
+low_cast (suc (suc (suc zero))) low = refl
+low_cast (suc (suc (suc (suc s)))) low = absurd (omega (arith, low))
+
+abbrev halved_by : Size → ℕ → ℤ → Channel
+halved_by size s h = record (channel_in size s) { hshift = h; vshift = h }
+
+one_given : (size : Size) (s : ℕ) → s ≤ 3 → image_channel (in_file size.width size.height s) ≡ channel_in size s
+one_given size s low = ap (halved_by size s) (low_cast s low)
+
+all_given : (size : Size) (n : ℕ) (cs : List ExtraChannel) → All (λ c. c.shift ≤ 3) cs →
+    map image_channel (of_file n cs size.width size.height) ≡ map (channel_in size) (replicate n 0 ++ map (λ (c : ExtraChannel). c.shift) cs)
+all_given size zero [] low = refl
+all_given size zero (c ∷ cs) low =
+    let first : c.shift ≤ 3 = All-head (λ (c : ExtraChannel). c.shift ≤ 3) c cs low in
+    ap (λ (x : Channel). x ∷ map image_channel (of_file 0 cs size.width size.height)) (one_given size c.shift first)
+    ∙ ap (λ (xs : List Channel). channel_in size c.shift ∷ xs) (all_given size zero cs (All-tail (λ (c : ExtraChannel). c.shift ≤ 3) c cs low))
+all_given size (suc n) cs low =
+    ap (λ (x : Channel). x ∷ map image_channel (of_file n cs size.width size.height)) (one_given size 0 (omega arith))
+    ∙ ap (λ (xs : List Channel). channel_in size 0 ∷ xs) (all_given size n cs low)
+
+pub are_given : (image : Image) (size : Size) (list : List ModularChannelParams) → All (λ c. c.shift ≤ 3) image.extra → list ≡ of_file (colour_count image) image.extra size.width size.height → image_list list ≡ channels_given image size
+are_given image size list low is = ap image_list is ∙ ap {B = ChannelList} (λ (cs : List Channel). record { channels = cs; nb_meta = 0 }) (all_given size (colour_count image) image.extra low)
+
 -- grids of their sides are all channels of a frame
-zip_length : {A B : Type 0} (R : A → B → Type 0) (xs : List A) (ys : List B) → AllZip R xs ys → length ys ≡ length xs
-zip_length R [] [] s = refl
-zip_length R [] (y ∷ ys) s = absurd s
-zip_length R (x ∷ xs) [] s = absurd s
-zip_length R (x ∷ xs) (y ∷ ys) s = ap suc (zip_length R xs ys s.1)
-
-extra_sides : (size : Size) (cs : List ExtraChannel) (gs : List (Grid ℤ)) → AreGridsOf (map image_channel (map (extra_in size.width size.height) cs)) gs → AllZip (HasShiftedSides size) cs gs
-extra_sides size [] [] s = tt
-extra_sides size [] (g ∷ gs) s = absurd s
-extra_sides size (c ∷ cs) [] s = absurd s
-extra_sides size (c ∷ cs) (g ∷ gs) s = (record { wide = s.0.same_width; high = s.0.same_height }, extra_sides size cs gs s.1)
-
--- so many channels of colours, and extra ones
-record Given (size : Size) (n : ℕ) (cs : List ExtraChannel) (gs : List (Grid ℤ)) : Type 0 where
-  count : length gs ≡ n + length cs
-  colours : All (HasSides size.width size.height) (take n gs)
-  extra : AllZip (HasShiftedSides size) cs (drop n gs)
-
-abbrev Sides : Size → Grid ℤ → Type 0
-Sides size g = HasSides size.width size.height g
-
-given : (size : Size) (n : ℕ) (cs : List ExtraChannel) (gs : List (Grid ℤ)) → AreGridsOf (map image_channel (of_file n cs size.width size.height)) gs → Given size n cs gs
-given size zero cs gs s =
-    let extra = extra_sides size cs gs s in
-    record { count = omega (arith, zip_length (HasShiftedSides size) cs gs extra); colours = All-nil (Sides size); extra = extra }
-given size (suc n) cs [] s = absurd s
-given size (suc n) cs (g ∷ gs) s =
-    let rest = given size n cs gs s.1 in
-    record {
-      count = omega (arith, rest.count);
-      colours = All-cons (Sides size) g (take n gs) (record { wide = s.0.same_width ∙ shifted_none size.width; high = s.0.same_height ∙ shifted_none size.height }) rest.colours;
-      extra = rest.extra;
-    }
+zip_sides : (size : Size) (ss : List ℕ) (gs : List (Grid ℤ)) → AreGridsOf (map (channel_in size) ss) gs → AllZip (HasShift size) ss gs
+zip_sides size [] [] s = tt
+zip_sides size [] (g ∷ gs) s = absurd s
+zip_sides size (h ∷ ss) [] s = absurd s
+zip_sides size (h ∷ ss) (g ∷ gs) s = ((s.0.same_width, s.0.same_height), zip_sides size ss gs s.1)
 
 pub are_channels : (image : Image) (size : Size) (grids : List (Grid ℤ)) → AreGridsOf (channels_given image size).channels grids → AreChannels image size grids
-are_channels image size grids s =
-    let are = given size (colour_count image) image.extra grids s in
-    record { count = are.count; colours = are.colours; extra = are.extra }
+are_channels image size grids s = zip_sides size (shifts_of image) grids s
+
+count_shifts : (image : Image) → length (shifts_of image) ≡ channel_count image
+count_shifts image =
+    let rest = map (λ (c : ExtraChannel). c.shift) image.extra in
+    length-append (replicate (colour_count image) 0) rest ∙ ap (λ k. k + length rest) (length-replicate (colour_count image) 0) ∙ ap (λ k. colour_count image + k) (length-map image.extra (λ (c : ExtraChannel). c.shift))
 
 -- where no extra channel has a size of its own, all have one size
 or_false : (a b : Bool) → (a || b) ≡ false → (a ≡ false) × (b ≡ false)
@@ -134,21 +140,40 @@ some_shifted cs = list_any (λ c. not (c.shift == 0)) cs
 unshifted : (c : ExtraChannel) → not (c.shift == 0) ≡ false → c.shift ≡ 0
 unshifted c e = eqb-true c.shift 0 (not_false (c.shift == 0) e)
 
-all_full : (size : Size) (cs : List ExtraChannel) (gs : List (Grid ℤ)) → some_shifted cs ≡ false → AllZip (HasShiftedSides size) cs gs → All (Sides size) gs
+abbrev IsNone : ℕ → Type 0
+IsNone s = s ≡ 0
+
+none_halved : (n : ℕ) (cs : List ExtraChannel) → some_shifted cs ≡ false → All IsNone (replicate n 0 ++ map (λ (c : ExtraChannel). c.shift) cs)
+none_halved zero [] none = All-nil IsNone
+none_halved zero (c ∷ cs) none =
+    let parts = or_false (not (c.shift == 0)) (some_shifted cs) none in
+    All-cons IsNone c.shift (map (λ (c : ExtraChannel). c.shift) cs) (unshifted c parts.0) (none_halved zero cs parts.1)
+none_halved (suc n) cs none = All-cons IsNone 0 (replicate n 0 ++ map (λ (c : ExtraChannel). c.shift) cs) refl (none_halved n cs none)
+
+abbrev Sides : Size → Grid ℤ → Type 0
+Sides size g = (g.width ≡ size.width) × (g.height ≡ size.height)
+
+not_halved : (s n : ℕ) → s ≡ 0 → shifted s n ≡ n
+not_halved s n none = ap (λ k. shifted k n) none ∙ shifted_none n
+
+all_full : (size : Size) (ss : List ℕ) (gs : List (Grid ℤ)) → All IsNone ss → AllZip (HasShift size) ss gs → All (Sides size) gs
 all_full size [] [] none s = All-nil (Sides size)
 all_full size [] (g ∷ gs) none s = absurd s
-all_full size (c ∷ cs) [] none s = absurd s
-all_full size (c ∷ cs) (g ∷ gs) none s =
-    let parts = or_false (not (c.shift == 0)) (some_shifted cs) none in
-    All-cons (Sides size) g gs (full_sides size c g (unshifted c parts.0) s.0) (all_full size cs gs parts.1 s.1)
+all_full size (h ∷ ss) [] none s = absurd s
+all_full size (h ∷ ss) (g ∷ gs) none s =
+    let first = All-head IsNone h ss none in
+    All-cons (Sides size) g gs (s.0.0 ∙ not_halved h size.width first, s.0.1 ∙ not_halved h size.height first) (all_full size ss gs (All-tail IsNone h ss none) s.1)
 
-full_extra : (size : Size) (cs : List ExtraChannel) (gs : List (Grid ℤ)) → some_shifted cs ≡ false → length gs ≡ length cs → All (Sides size) gs → AllZip (HasShiftedSides size) cs gs
-full_extra size [] [] none long all = tt
-full_extra size [] (g ∷ gs) none long all = absurd (omega (arith, long))
-full_extra size (c ∷ cs) [] none long all = absurd (omega (arith, long))
-full_extra size (c ∷ cs) (g ∷ gs) none long all =
-    let parts = or_false (not (c.shift == 0)) (some_shifted cs) none in
-    (sides_of_full size c g (unshifted c parts.0) (All-head (Sides size) g gs all), full_extra size cs gs parts.1 (omega (arith, long)) (All-tail (Sides size) g gs all))
+of_full : (size : Size) (ss : List ℕ) (gs : List (Grid ℤ)) → All IsNone ss → length gs ≡ length ss → All (Sides size) gs → AllZip (HasShift size) ss gs
+of_full size [] [] none long all = tt
+of_full size [] (g ∷ gs) none long all = absurd (omega (arith, long))
+of_full size (h ∷ ss) [] none long all = absurd (omega (arith, long))
+of_full size (h ∷ ss) (g ∷ gs) none long all =
+    let first = All-head IsNone h ss none in
+    let sides = All-head (Sides size) g gs all in (
+      (sides.0 ∙ sym (not_halved h size.width first), sides.1 ∙ sym (not_halved h size.height first)),
+      of_full size ss gs (All-tail IsNone h ss none) (omega (arith, long)) (All-tail (Sides size) g gs all),
+    )
 
 pub none_shifted : (patches shifts : Bool) → patches ≡ true → (patches && shifts) ≡ false → shifts ≡ false
 none_shifted true shifts is e = e
@@ -156,27 +181,23 @@ none_shifted false shifts is e = cc
 
 pub one_size : (image : Image) (size : Size) (grids : List (Grid ℤ)) → has_shifts image ≡ false → AreChannels image size grids → AreOfSize (channel_count image) size grids
 one_size image size grids none are =
-    let n = colour_count image in
-    let all : All (Sides size) grids = subst (λ (gs : List (Grid ℤ)). All (Sides size) gs) (take-append-drop n grids)
-    (All-append (Sides size) (take n grids) (drop n grids) are.colours (all_full size image.extra (drop n grids) none are.extra)) in
+    let all = all_full size (shifts_of image) grids (none_halved (colour_count image) image.extra none) are in
     record {
-      count = are.count;
+      count = zip_length (HasShift size) (shifts_of image) grids are ∙ count_shifts image;
       sides = record {
-        width = λ c lt. (All-get_or (Sides size) grids c (grid 0 0 []) lt all).wide;
-        height = λ c lt. (All-get_or (Sides size) grids c (grid 0 0 []) lt all).high;
+        width = λ c lt. (All-get_or (Sides size) grids c (grid 0 0 []) lt all).0;
+        height = λ c lt. (All-get_or (Sides size) grids c (grid 0 0 []) lt all).1;
       };
     }
 
 pub of_one_size : (image : Image) (size : Size) (grids : List (Grid ℤ)) → has_shifts image ≡ false → AreOfSize (channel_count image) size grids → AreChannels image size grids
 of_one_size image size grids none are =
-    let n = colour_count image in
-    let all = All-from_get_or (Sides size) grids (grid 0 0 []) (λ c lt. record { wide = are.sides.width c lt; high = are.sides.height c lt }) in
-    let left = length-drop n grids in
-    record {
-      count = are.count;
-      colours = All-take (Sides size) n grids all;
-      extra = full_extra size image.extra (drop n grids) none (omega (arith, left, are.count)) (All-drop (Sides size) n grids all);
-    }
+    let all = All-from_get_or (Sides size) grids (grid 0 0 []) (λ c lt. (are.sides.width c lt, are.sides.height c lt)) in
+    of_full size (shifts_of image) grids (none_halved (colour_count image) image.extra none) (are.count ∙ sym (count_shifts image)) all
+
+-- so many channels have a frame
+pub count_channels : (image : Image) (size : Size) (grids : List (Grid ℤ)) → AreChannels image size grids → length grids ≡ channel_count image
+count_channels image size grids are = zip_length (HasShift size) (shifts_of image) grids are ∙ count_shifts image
 
 pub whole : (image : Image) (size : Size) (grids : List (Grid ℤ)) → size ≡ image.size → AreChannels image size grids → IsWhole image grids
 whole image size grids same given = subst (λ (z : Size). AreChannels image z grids) same given
@@ -190,50 +211,24 @@ turned_high : (t : Bool) (f : ℕ → ℕ) (size : Size) → (if t then f size.w
 turned_high true f size = refl
 turned_high false f size = refl
 
-shown_sides : (o : ℕ) (f : ℕ → ℕ) (size : Size) (a b : Grid ℤ) → IsOriented o a b → HasSides (f size.width) (f size.height) a → HasSides (f (shown_size o size).width) (f (shown_size o size).height) b
-shown_sides o f size a b s sides =
-    let wide : b.width ≡ (if is_turned o then f size.height else f size.width) = rw (sides.wide, sides.high) at s.wide in
-    let high : b.height ≡ (if is_turned o then f size.width else f size.height) = rw (sides.wide, sides.high) at s.high in
-    record { wide = wide ∙ turned_wide (is_turned o) f size; high = high ∙ turned_high (is_turned o) f size }
+shown_sides : (o : ℕ) (f : ℕ → ℕ) (size : Size) (a b : Grid ℤ) → IsOriented o a b → a.width ≡ f size.width → a.height ≡ f size.height →
+    (b.width ≡ f (shown_size o size).width) × (b.height ≡ f (shown_size o size).height)
+shown_sides o f size a b s w h =
+    let wide : b.width ≡ (if is_turned o then f size.height else f size.width) = rw (w, h) at s.wide in
+    let high : b.height ≡ (if is_turned o then f size.width else f size.height) = rw (w, h) at s.high in
+    (wide ∙ turned_wide (is_turned o) f size, high ∙ turned_high (is_turned o) f size)
 
-colours_shown : (o : ℕ) (size : Size) (coded shown : List (Grid ℤ)) → AllZip (IsOriented o) coded shown → All (Sides size) coded → All (Sides (shown_size o size)) shown
-colours_shown o size [] [] s all = All-nil (Sides (shown_size o size))
-colours_shown o size [] (g ∷ gs) s all = absurd s
-colours_shown o size (f ∷ fs) [] s all = absurd s
-colours_shown o size (f ∷ fs) (g ∷ gs) s all =
-    All-cons (Sides (shown_size o size)) g gs (shown_sides o (λ n. n) size f g s.0 (All-head (Sides size) f fs all)) (colours_shown o size fs gs s.1 (All-tail (Sides size) f fs all))
-
-extra_shown : (o : ℕ) (size : Size) (cs : List ExtraChannel) (coded shown : List (Grid ℤ)) → AllZip (IsOriented o) coded shown → AllZip (HasShiftedSides size) cs coded → AllZip (HasShiftedSides (shown_size o size)) cs shown
-extra_shown o size [] [] [] s all = tt
-extra_shown o size [] [] (g ∷ gs) s all = absurd s
-extra_shown o size [] (f ∷ fs) gs s all = absurd all
-extra_shown o size (c ∷ cs) [] gs s all = absurd all
-extra_shown o size (c ∷ cs) (f ∷ fs) [] s all = absurd s
-extra_shown o size (c ∷ cs) (f ∷ fs) (g ∷ gs) s all = (shown_sides o (shifted c.shift) size f g s.0 all.0, extra_shown o size cs fs gs s.1 all.1)
-
-zip_take : (o n : ℕ) (fs gs : List (Grid ℤ)) → AllZip (IsOriented o) fs gs → AllZip (IsOriented o) (take n fs) (take n gs)
-zip_take o zero fs gs s = tt
-zip_take o (suc n) [] [] s = tt
-zip_take o (suc n) [] (g ∷ gs) s = absurd s
-zip_take o (suc n) (f ∷ fs) [] s = absurd s
-zip_take o (suc n) (f ∷ fs) (g ∷ gs) s = (s.0, zip_take o n fs gs s.1)
-
-zip_drop : (o n : ℕ) (fs gs : List (Grid ℤ)) → AllZip (IsOriented o) fs gs → AllZip (IsOriented o) (drop n fs) (drop n gs)
-zip_drop o zero fs gs s = s
-zip_drop o (suc n) [] [] s = tt
-zip_drop o (suc n) [] (g ∷ gs) s = absurd s
-zip_drop o (suc n) (f ∷ fs) [] s = absurd s
-zip_drop o (suc n) (f ∷ fs) (g ∷ gs) s = zip_drop o n fs gs s.1
+all_shown : (o : ℕ) (size : Size) (ss : List ℕ) (coded shown : List (Grid ℤ)) → AllZip (IsOriented o) coded shown → AllZip (HasShift size) ss coded → AllZip (HasShift (shown_size o size)) ss shown
+all_shown o size [] [] [] s all = tt
+all_shown o size [] [] (g ∷ gs) s all = absurd s
+all_shown o size [] (f ∷ fs) gs s all = absurd all
+all_shown o size (h ∷ ss) [] gs s all = absurd all
+all_shown o size (h ∷ ss) (f ∷ fs) [] s all = absurd s
+all_shown o size (h ∷ ss) (f ∷ fs) (g ∷ gs) s all = (shown_sides o (shifted h) size f g s.0 all.0.0 all.0.1, all_shown o size ss fs gs s.1 all.1)
 
 pub whole_upright : (image : Image) (coded : List (Grid ℤ)) (shown : Image) (channels : List (Grid ℤ)) → IsWhole image coded → IsUpright image coded shown channels → IsWhole shown channels
 whole_upright image coded shown channels is turned =
-    let o = image.display.orientation in
-    let n = colour_count image in
-    subst (λ (i : Image). IsWhole i channels) (sym turned.header) (record {
-      count = zip_length (IsOriented o) coded channels turned.oriented ∙ is.count;
-      colours = colours_shown o image.size (take n coded) (take n channels) (zip_take o n coded channels turned.oriented) is.colours;
-      extra = extra_shown o image.size image.extra (drop n coded) (drop n channels) (zip_drop o n coded channels turned.oriented) is.extra;
-    })
+    subst (λ (i : Image). IsWhole i channels) (sym turned.header) (all_shown image.display.orientation image.size (shifts_of image) coded channels turned.oriented is)
 
 -- samples of 32 bits are the numbers that they stand for
 pub same_grids : (gs : List (Grid ℤ)) → store_meanings (λ (v : ℤ). v) gs ≡ gs

@@ -56,9 +56,9 @@ hold_frames image slots none held = record {
   count = held.count;
   held = record {
     slot = λ k size e. within k size e (within_or_not k (length slots.sizes));
-    count = λ k size e. omega (arith, (held.held k size e).count);
-    width = λ k c size e lt. (frame k size e).sides.width c (omega (arith, lt, (held.held k size e).count));
-    height = λ k c size e lt. (frame k size e).sides.height c (omega (arith, lt, (held.held k size e).count));
+    count = λ k size e. omega (arith, (frame k size e).count);
+    width = λ k c size e lt. (frame k size e).sides.width c (omega (arith, lt, (frame k size e).count));
+    height = λ k c size e lt. (frame k size e).sides.height c (omega (arith, lt, (frame k size e).count));
   };
 } where
   within : (k : ℕ) (size : Size) → get_or slots.sizes k None ≡ Some size → (k < length slots.sizes) ⊎ (length slots.sizes ≤ k) → k < length slots.frames

@@ -1,21 +1,18 @@
 -- The samples of a frame of a codestream (ISO/IEC 18181-1, frame: sections, LF global), stage by stage, and what fails at each:
 -- what is not supported is told before what is wrong with samples.
-use Rattle.std.specs.Prelude.{◌≡◌, ℕ, ◌⊎◌, pos, ℤ, List, [], ◌++◌, length, map, get_or, replicate, Bool, true, MatchBool, Option, Some, None}
-use Rattle.std.specs.Int.{w32}
+use Rattle.std.specs.Prelude.{◌≡◌, ℕ, ◌^◌, ◌⊎◌, pos, ℤ, List, [], length, map, get_or, Bool, true, MatchBool, Option, Some, None}
+use Rattle.std.specs.Int.{div_ceil, w32}
 use Rattle.jxlm_base.specs.Decoding.{Meaning}
 use Rattle.jxlm_base.specs.ErrorKind.{ErrorKind, UnlessMemory, kind_of}
 use Rattle.jxlm_base.specs.Grammar.{Grammar, IsErrorAt}
 use Rattle.jxlm_base.specs.Grid.{Grid}
-use Rattle.jxlm_transform.specs.Channels.{ChannelList, image_list}
-use Rattle.jxlm_transform.specs.Params.{sized, with_tables}
+use Rattle.jxlm_transform.specs.Channels.{Channel, ChannelList}
 use Rattle.jxlm_transform.specs.declared.param.ChannelShift.TheVariants.{Shifts}
-use Rattle.jxlm_transform.specs.declared.param.ModularChannelParams.{ModularChannelParams}
 use Rattle.jxlm_transform.specs.declared.param.PaletteTables.TheVariants.{OfDeltasToo}
 use Rattle.jxlm_cut.specs.Passes.{passes_of}
 use Rattle.jxlm_ma.specs.Tree.{Config}
 use Rattle.jxlm_ma.specs.TreeReading.{IsTooDeep, IsTreeAt, listing_at}
 use Rattle.jxl_headers.specs.Images.{Image}
-use Rattle.jxl_headers.specs.declared.channel.ExtraChannel.{ExtraChannel}
 use Rattle.jxl_headers.specs.declared.size.Size.{Size}
 use Rattle.jxl_frames.specs.Frames.{frame_size}
 use Rattle.jxl_frames.specs.Passes.{shifts_held}
@@ -24,24 +21,29 @@ use Rattle.jxl_patches.specs.Errors.{patch_kind}
 use Rattle.jxl_patches.specs.Patches.{Patches}
 use Rattle.jxl_patches.specs.Slots.{ArePut, Slots, optional_patches}
 use Rattle.jxl_picture.specs.Limits.{channel_count}
-use Rattle.jxl_picture.specs.Pictures.{colour_count}
+use Rattle.jxl_picture.specs.Pictures.{colour_count, shifts_of}
 use Rattle.jxl_still.specs.Stills.{IsStill, StillFails}
 use Rattle.jxl_front.specs.Fronts.{FailsAt, FrameAt, StandsAt, layout_in}
 use Rattle.jxl_lossless.specs.Sections.{section_of, sections_in}
 use Rattle.jxl_lossless.specs.declared.error.FileError.{FileError}
 use Rattle.jxl_lossless.specs.declared.error.FileError.TheVariants as errors
 
--- a channel of this shift in a picture of these sides; in a file the table of a palette has columns for deltas too
-abbrev pub in_file : ℕ → ℕ → ℕ → ModularChannelParams
-in_file width height shift = with_tables OfDeltasToo (sized width height (Shifts shift))
+-- a channel of this shift in a frame of this size; in a file the table of a palette has columns for deltas too
+abbrev pub channel_in : Size → ℕ → Channel
+channel_in size s = record {
+  width = div_ceil size.width (2 ^ s);
+  height = div_ceil size.height (2 ^ s);
+  original_width = size.width;
+  original_height = size.height;
+  hshift = pos s;
+  vshift = pos s;
+  original_shift = Shifts s;
+  palette_tables = OfDeltasToo;
+}
 
--- n channels as large as a picture of these sides, and after them these extra channels, each of its own shift
-abbrev pub of_file : ℕ → List ExtraChannel → ℕ → ℕ → List ModularChannelParams
-of_file n extra width height = replicate n (in_file width height 0) ++ map (λ c. in_file width height c.shift) extra
-
--- the channels of a frame of an image: those of colours have the frame's sides, and each extra channel has its own
+-- the channels of a frame of an image, of this size
 abbrev pub channels_given : Image → Size → ChannelList
-channels_given image size = image_list (of_file (colour_count image) image.extra size.width size.height)
+channels_given image size = record { channels = map (channel_in size) (shifts_of image); nb_meta = 0 }
 
 -- The first section of a frame of this size with n channels has, from bit p on, factors that Modular does not use, and the
 -- tree that sections share, if there is one, up to bit q. Its nodes are within the frame's limit.

@@ -13,33 +13,25 @@ use Rattle.jxl_lossless.specs.Saved.{AreDecoded, FramesFail}
 use Rattle.jxl_lossless.specs.declared.error.FileError.{FileError}
 use Rattle.jxl_lossless.specs.declared.error.FileError.TheVariants as errors
 
--- Headers and tables stand at the bits of a codestream: of an image, of frames that are saved, and of the one that is shown.
-pub record HasFront (limits : Limits) (bytes : List ℕ) : Type 0 where
+-- At the bits of a file's codestream stand headers and tables: of an image, of frames that are saved, and of the one shown.
+pub record HasFront (limits : Limits) (file : List ℕ) : Type 0 where
+  pub bytes : List ℕ
+  pub found : HasCodestream file (Ok bytes)
   pub image : Image
   pub saved : List FrameAt
   pub shown : FrameAt
   pub stands : FrontStands (entropy decoder_at) limits bytes image saved shown
 
--- The picture of a codestream: the saved frames are decoded, and its channels are those of the frame that is shown, upright. The
--- steps in trees are counted from `before` to `after`.
-pub record IsPictureOf (limits : Limits) (bytes : List ℕ) (picture : Picture) (before after : ℕ) : Type 0 where
-  pub front : HasFront limits bytes
+-- The picture of a file: the saved frames of its codestream are decoded, and its channels are those of the frame that is shown,
+-- upright. The steps in trees are counted from `before` to `after`.
+pub record IsPictureOfFile (limits : Limits) (file : List ℕ) (picture : Picture) (before after : ℕ) : Type 0 where
+  pub front : HasFront limits file
   pub coded : List (Grid ℤ)
-  pub decoded : AreDecoded (entropy decoder_at) bytes front.image front.saved front.shown coded before after
+  pub decoded : AreDecoded (entropy decoder_at) front.bytes front.image front.saved front.shown coded before after
   pub upright : IsUpright front.image coded (image_of picture.header) picture.channels.items
 
--- The picture of a file: that of its codestream.
-pub record IsPictureOfFile (limits : Limits) (file : List ℕ) (picture : Picture) (before after : ℕ) : Type 0 where
-  pub stream : List ℕ
-  pub found : HasCodestream file (Ok stream)
-  pub is : IsPictureOf limits stream picture before after
-
--- A codestream has no picture, by this error: of its headers and tables, or of the first frame that has one.
-abbrev pub StreamFails : Limits → List ℕ → FileError → Type 0
-StreamFails limits bytes (errors.Front e) = FrontFails (entropy decoder_at) limits bytes e
-StreamFails limits bytes e = (f : HasFront limits bytes) × FramesFail (entropy decoder_at) bytes f.image (f.saved ++ f.shown ∷ []) e
-
--- A file is not decoded, by this error: it has no codestream, or its codestream no picture.
+-- A file is not decoded, by this error: of its boxes, of headers and tables, or of the first frame that has one.
 abbrev pub FileFails : Limits → List ℕ → FileError → Type 0
 FileFails limits file (errors.File e) = UnlessMemory e (HasCodestream file (Err e))
-FileFails limits file e = (stream : List ℕ) × HasCodestream file (Ok stream) × StreamFails limits stream e
+FileFails limits file (errors.Front e) = (bytes : List ℕ) × HasCodestream file (Ok bytes) × FrontFails (entropy decoder_at) limits bytes e
+FileFails limits file e = (f : HasFront limits file) × FramesFail (entropy decoder_at) f.bytes f.image (f.saved ++ f.shown ∷ []) e

@@ -13,9 +13,10 @@ ghost use Rattle.jxl_still.specs.Places.{AreUsable};
 ghost use Rattle.jxlm_transform.specs.Channels.{AreGridsOf};
 ghost use Rattle.jxlm_transform.specs.Params.{IsGroupDim};
 ghost use Rattle.jxl_patches.specs.SavedParts.{slots_of};
-ghost use Rattle.jxl_lossless.specs.Frames.{FrameFails, IsFrame, channels_given, in_file, of_file};
+ghost use Rattle.jxl_lossless.specs.Frames.{FrameFails, IsFrame, channels_given};
 ghost use Rattle.jxl_lossless.specs.Saved.{HoldChannels};
 ghost use Rattle.jxl_lossless.specs.Inner.Coded.{CodedFails, IsCoded, IsMade, MadeFails};
+ghost use Rattle.jxl_lossless.specs.Inner.Given.{in_file, of_file};
 
 use crate::error::FileError;
 use crate::sections::{of_groups, sections};

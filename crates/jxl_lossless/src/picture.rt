@@ -7,7 +7,8 @@ ghost use Rattle.jxl_headers.specs.Images.{image_of};
 ghost use Rattle.jxl_front.specs.FrontParts.{IsReady, frame_at};
 ghost use Rattle.jxl_picture.specs.Pictures.{IsWhole};
 ghost use Rattle.jxl_lossless.specs.Saved.{AreDecoded, FramesFail};
-ghost use Rattle.jxl_lossless.specs.Pictures.{FileFails, IsPictureOf, IsPictureOfFile, StreamFails};
+ghost use Rattle.jxl_lossless.specs.Pictures.{FileFails, IsPictureOfFile};
+ghost use Rattle.jxl_lossless.specs.Inner.Streams.{IsPictureOf, StreamFails};
 
 use crate::error::FileError;
 use crate::frame::decode_channels;

@@ -11,10 +11,12 @@ use Rattle.jxl_headers.specs.Images.{Image}
 use Rattle.jxl_headers.specs.declared.channel.ExtraChannel.{ExtraChannel}
 use Rattle.jxl_headers.specs.declared.channel.BitDepth.{BitDepth}
 use Rattle.jxl_headers.specs.declared.size.Size.{Size}
-use Rattle.jxl_picture.specs.Pictures.{HasShiftedSides, HasSides, IsWhole, is_alpha, is_full_alpha}
+use Rattle.jxl_picture.specs.Pictures.{IsWhole, is_alpha, is_full_alpha}
+use Rattle.jxl_picture.specs.Inner.Sides.{HasShiftedSides, HasSides}
 use Rattle.jxl_picture.specs.Rasters.{Layer, maximum}
 use Rattle.jxl_picture.specs.Formats.{can_stand, first_alpha, is_whole, colour_layers, colours_of, most_of, pam_layers}
 use Rattle.jxl_picture.proofs.Shifts.{full_sides}
+use Rattle.jxl_picture.proofs.Channels.{have_sides}
 use Rattle.jxl_picture.specs.Inner.Layers.{AllCover, AllHave, Covers, Has, layer_of, layers_of}
 use Rattle.jxl_picture.specs.declared.raster.Layer.{Layer as Held}
 
@@ -80,13 +82,13 @@ alpha_covers size (g ∷ gs) (c ∷ cs) all e =
 pub colours_cover : (image : Image) (channels : List (Grid ℤ)) → IsWhole image channels → is_whole 16 image.samples.depth ≡ true → All (Cover image.size.width image.size.height) (colour_layers image channels)
 colours_cover image channels whole depth =
     grids_cover image.size.width image.size.height (most_of image) (colours_of image channels) (maximum_some image.samples.depth.bits (whole_some 16 image.samples.depth depth).0)
-    whole.colours
+    (have_sides image image.size channels whole).colours
 
 pub pam_covers : (image : Image) (channels : List (Grid ℤ)) → IsWhole image channels → (is_whole 16 image.samples.depth && list_all can_stand image.extra) ≡ true → All (Cover image.size.width image.size.height) (pam_layers image channels)
 pam_covers image channels whole suits =
     let (depth, alpha) = both_true (is_whole 16 image.samples.depth) (list_all can_stand image.extra) suits in
     All-append (Cover image.size.width image.size.height) (colour_layers image channels) _ (colours_cover image channels whole depth)
-    (alpha_covers image.size _ image.extra whole.extra alpha)
+    (alpha_covers image.size _ image.extra (have_sides image image.size channels whole).extra alpha)
 
 one_has : (w h : ℕ) (g : Grid ℤ) → HasSides w h g → Has w h g
 one_has w h g s = record { wide = omega (arith, s.wide); high = omega (arith, s.high) }

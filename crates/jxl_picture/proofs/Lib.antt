@@ -1,6 +1,7 @@
 pub mod Growing
 pub mod Pieces
 pub mod Shifts
+pub mod Channels
 pub mod LayerLaws
 pub mod Numbers
 pub mod Orienting

@@ -1,6 +1,7 @@
 -- How large a picture may be.
 use Rattle.std.specs.Prelude.{ℕ, ◌+◌, ◌*◌, ◌^◌, ◌≤◌, length}
 use Rattle.jxl_headers.specs.Images.{Image}
+use Rattle.jxl_headers.specs.declared.size.Size.{Size}
 use Rattle.jxl_picture.specs.Pictures.{colour_count}
 use Rattle.jxl_picture.specs.declared.limits.Limits.{Limits}
 
@@ -8,12 +9,19 @@ use Rattle.jxl_picture.specs.declared.limits.Limits.{Limits}
 abbrev pub channel_count : Image → ℕ
 channel_count image = colour_count image + length image.extra
 
--- the picture is within the limits: its sides are those of a Modular image, and samples have four bytes each
+-- how many cells a channel of this size has
+abbrev pub cells_of : Size → ℕ
+cells_of size = size.width * size.height
+
+-- A frame of this size, after others with so many cells, is within the limits: its sides are those of a Modular image, and
+-- together they have no more cells and bytes than one picture may have, where samples have four bytes each.
+abbrev pub AllowFrame : Limits → Image → ℕ → Size → Type 0
+AllowFrame limits image used size = (size.width ≤ 2 ^ 30) × (size.height ≤ 2 ^ 30) × (used + cells_of size ≤ limits.pixels)
+    × ((used + cells_of size) * (4 * channel_count image) ≤ limits.bytes)
+
+-- the picture is within the limits: so is a first frame of its size, and its samples and channels are
 pub record Allow (limits : Limits) (image : Image) : Type 0 where
-  pub wide : image.size.width ≤ 2 ^ 30
-  pub high : image.size.height ≤ 2 ^ 30
+  pub frame : AllowFrame limits image 0 image.size
   pub deep : image.samples.depth.bits ≤ 32
-  pub pixels : image.size.width * image.size.height ≤ limits.pixels
   pub channels : channel_count image ≤ limits.channels
   pub most : channel_count image ≤ 2 ^ 20
-  pub bytes : image.size.width * image.size.height * (4 * channel_count image) ≤ limits.bytes

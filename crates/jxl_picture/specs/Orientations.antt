@@ -13,19 +13,13 @@ is_turned o = nat_lt 4 o
 abbrev pub counted : Bool → ℕ → ℕ → ℕ
 counted back n i = if back then n - 1 - i else i
 
--- which coded column, of so many, is shown in column x of row y, and which row: some count columns from the right, some
--- rows from the bottom
-abbrev pub column_of : ℕ → ℕ → ℕ → ℕ → ℕ
-column_of o width x y = counted ((o == 2) || (o == 3) || (o == 7) || (o == 8)) width (if is_turned o then y else x)
-
-abbrev pub row_of : ℕ → ℕ → ℕ → ℕ → ℕ
-row_of o height x y = counted ((o == 3) || (o == 4) || (o == 6) || (o == 7)) height (if is_turned o then x else y)
-
--- The second grid shows the cells of the first by this orientation.
+-- The second grid shows the cells of the first by this orientation: some count columns from the right, some rows from the bottom.
 pub record IsOriented {S : Type 0} (o : ℕ) (coded shown : Grid S) : Type 0 where
   pub wide : shown.width ≡ (if is_turned o then coded.height else coded.width)
   pub high : shown.height ≡ (if is_turned o then coded.width else coded.height)
-  pub cells : (x y : ℕ) → x < shown.width → y < shown.height → cell shown x y ≡ cell coded (column_of o coded.width x y) (row_of o coded.height x y)
+  pub cells : (x y : ℕ) → x < shown.width → y < shown.height → cell shown x y
+      ≡ cell coded (counted ((o == 2) || (o == 3) || (o == 7) || (o == 8)) coded.width (if is_turned o then y else x))
+      (counted ((o == 3) || (o == 4) || (o == 6) || (o == 7)) coded.height (if is_turned o then x else y))
 
 -- the orientation that undoes this one
 abbrev pub undoing : ℕ → ℕ

@@ -1,7 +1,7 @@
 -- A decoded picture: its channels, and what is told of it.
-use Rattle.std.specs.Prelude.{◌≡◌, ℕ, ◌+◌, ◌^◌, ◌==◌, ◌&&◌, ℤ, List, length, take, drop, Bool, if◌then◌else◌}
+use Rattle.std.specs.Prelude.{◌≡◌, ℕ, ◌^◌, ◌==◌, ◌&&◌, ℤ, List, ◌++◌, map, replicate, Bool, if◌then◌else◌}
 use Rattle.std.specs.Int.{div_ceil}
-use Rattle.std.specs.List.{All, AllZip, list_any}
+use Rattle.std.specs.List.{AllZip, list_any}
 use Rattle.jxlm_base.specs.Grid.{Grid}
 use Rattle.jxl_headers.specs.Images.{Image}
 use Rattle.jxl_headers.specs.declared.channel.ExtraChannel.{ExtraChannel}
@@ -29,20 +29,13 @@ is_full_alpha c = is_alpha c && (c.shift == 0)
 abbrev pub has_full_alpha : Image → Bool
 has_full_alpha image = list_any is_full_alpha image.extra
 
--- a channel has these sides
-pub record HasSides (width height : ℕ) (g : Grid ℤ) : Type 0 where
-  pub wide : g.width ≡ width
-  pub high : g.height ≡ height
+-- how often each channel is halved: those of colours not at all, extra channels by their shifts
+abbrev pub shifts_of : Image → List ℕ
+shifts_of image = replicate (colour_count image) 0 ++ map (λ c. c.shift) image.extra
 
--- a channel has the sides that an extra channel of a frame of this size has: by its own shift halved so often, and rounded up
-abbrev pub HasShiftedSides : Size → ExtraChannel → Grid ℤ → Type 0
-HasShiftedSides size c g = HasSides (div_ceil size.width (2 ^ c.shift)) (div_ceil size.height (2 ^ c.shift)) g
-
--- these are all channels of a frame of this size: those of colours have its sides, and each extra channel has its own
-pub record AreChannels (image : Image) (size : Size) (channels : List (Grid ℤ)) : Type 0 where
-  pub count : length channels ≡ colour_count image + length image.extra
-  pub colours : All (HasSides size.width size.height) (take (colour_count image) channels)
-  pub extra : AllZip (HasShiftedSides size) image.extra (drop (colour_count image) channels)
+-- these are all channels of a frame of this size: each has its sides, halved so often and rounded up
+abbrev pub AreChannels : Image → Size → List (Grid ℤ) → Type 0
+AreChannels image size channels = AllZip (λ s g. (g.width ≡ div_ceil size.width (2 ^ s)) × (g.height ≡ div_ceil size.height (2 ^ s))) (shifts_of image) channels
 
 -- these are all channels of a picture
 abbrev pub IsWhole : Image → List (Grid ℤ) → Type 0

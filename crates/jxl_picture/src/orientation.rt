@@ -3,7 +3,8 @@
 ghost use Rattle.std.specs.Prelude.{◌≡◌, ◌==◌, ◌||◌, ◌<◌, ℕ, IfOk, length, slice_get, if◌then◌else◌};
 ghost use Rattle.std.specs.List.{AllZip};
 ghost use Rattle.jxlm_base.specs.Grid.{cell};
-ghost use Rattle.jxl_picture.specs.Orientations.{AreUndone, IsOriented, is_turned as turned, counted as the_counted, column_of as the_column, row_of as the_row, shown_size as the_shown_size};
+ghost use Rattle.jxl_picture.specs.Inner.Cells.{column_of as the_column, row_of as the_row};
+ghost use Rattle.jxl_picture.specs.Orientations.{AreUndone, IsOriented, is_turned as turned, counted as the_counted, shown_size as the_shown_size};
 
 use jxl_headers::size::Size;
 use jxlm_base::grid::{AlignedGrid, OutOfMemory};

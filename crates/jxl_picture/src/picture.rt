@@ -4,7 +4,8 @@ ghost use Rattle.std.specs.Prelude.{◌≡◌, ◌^◌, ◌↔◌, IfOk, IsTrue,
 ghost use Rattle.std.specs.Int.{div_ceil};
 ghost use Rattle.std.specs.List.{AllZip};
 ghost use Rattle.jxl_headers.specs.Images.{image_of};
-ghost use Rattle.jxl_picture.specs.Pictures.{HasShiftedSides, HasSides, IsWhole, colour_count, is_grey as colours_are_grey, has_alpha as there_is_alpha, has_full_alpha as there_is_full_alpha, is_full_alpha as the_full_alpha};
+ghost use Rattle.jxl_picture.specs.Inner.Sides.{HasShiftedSides, HasSides};
+ghost use Rattle.jxl_picture.specs.Pictures.{IsWhole, colour_count, is_grey as colours_are_grey, has_alpha as there_is_alpha, has_full_alpha as there_is_full_alpha, is_full_alpha as the_full_alpha};
 ghost use Rattle.jxl_picture.specs.Orientations.{IsUpright};
 
 use crate::orientation::{shown_channels, shown_size};

@@ -1,5 +1,5 @@
 use Rattle.std.proofs.Common.{◌≡◌, take}
-use Rattle.jxl_lossless.specs.Frames.{of_file}
+use Rattle.jxl_lossless.specs.Inner.Given.{of_file}
 use Rattle.jxl_lossless.proofs.frame.channel_list.Given as goal
 
 abbrev pub invariant-loop-channel : goal.invariant-loop-channel

@@ -14,7 +14,7 @@ use Rattle.jxl_patches.specs.SavedParts.{slots_of}
 use Rattle.jxl_patches.specs.Slots.{AreOfSize, ArePut}
 use Rattle.jxl_picture.specs.Limits.{channel_count}
 use Rattle.jxl_picture.specs.Pictures.{AreChannels, colour_count}
-use Rattle.jxl_lossless.proofs.Channels.{are_channels, none_shifted, of_one_size, one_size}
+use Rattle.jxl_lossless.proofs.Channels.{are_channels, count_channels, none_shifted, of_one_size, one_size}
 use Rattle.jxl_lossless.proofs.Holding.{hold_frames}
 use Rattle.jxl_lossless.proofs.Frames.{begins, made_fails}
 use Rattle.jxl_lossless.proofs.frame.decode_made.Goals as goal
@@ -86,9 +86,9 @@ returns-clause-ok g c =
     (subst (λ n. ArePut slots n patches c.deref_mut.result.now changed) c.colours.ensures c.put_patches.ensures.put) in
     let there : c.args.header.now.coding.flags.patches ≡ true = search rules in
     let none = none_shifted c.args.header.now.coding.flags.patches (has_shifts image) there c.requires.plain in
-    let before = are_channels image size items c.in_ok-channels.ensures.sides in
+    let before = count_channels image size items (are_channels image size items c.in_ok-channels.ensures.sides) in
     let after : AreOfSize (channel_count image) size changed = rw (sym c.colours.ensures, sym count) c.put_patches.ensures.sides in
-    let long : length changed ≡ c.in_ok-channels.channels.len = after.count ∙ sym (c.in_ok-channels.channels.ok.0 ∙ before.count) in
+    let long : length changed ≡ c.in_ok-channels.channels.len = after.count ∙ sym (c.in_ok-channels.channels.ok.0 ∙ before) in
     rw (with_items_is c.in_ok-channels.channels changed long) (record { patches = patches; begin = q; dictionary = stands; own = items; coded = coded; put = put })
 
 pub returns-clause-sides : goal.returns-clause-sides
@@ -100,7 +100,7 @@ returns-clause-sides g c =
     let count : c.len-extra.result ≡ length c.args.image.now.extra.items = c.len-extra.ensures ∙ c.args.image.now.extra.ok.0 in
     let there : c.args.header.now.coding.flags.patches ≡ true = search rules in
     let none = none_shifted c.args.header.now.coding.flags.patches (has_shifts image) there c.requires.plain in
-    let before = are_channels image size items c.in_ok-channels.ensures.sides in
+    let before = count_channels image size items (are_channels image size items c.in_ok-channels.ensures.sides) in
     let after : AreOfSize (channel_count image) size changed = rw (sym c.colours.ensures, sym count) c.put_patches.ensures.sides in
-    let long : length changed ≡ c.in_ok-channels.channels.len = after.count ∙ sym (c.in_ok-channels.channels.ok.0 ∙ before.count) in
+    let long : length changed ≡ c.in_ok-channels.channels.len = after.count ∙ sym (c.in_ok-channels.channels.ok.0 ∙ before) in
     rw (with_items_is c.in_ok-channels.channels changed long) (subst (λ (z : Size). AreChannels image z changed) c.size-size.ensures (of_one_size image size changed none after))

@@ -2,7 +2,8 @@ use Rattle.std.proofs.Common.{◌≡◌, ◌<◌, rules, arith, ◌∙◌}
 use Rattle.std.specs.Prelude.{if◌then◌else◌}
 use Rattle.jxlm_base.specs.Grid.{cell}
 use Rattle.jxlm_base.proofs.RegionRows.{IsFull-with_row}
-use Rattle.jxl_picture.specs.Orientations.{column_of, is_turned, row_of}
+use Rattle.jxl_picture.specs.Orientations.{is_turned}
+use Rattle.jxl_picture.specs.Inner.Cells.{column_of, row_of}
 use Rattle.jxl_picture.proofs.Orienting.{one_more_row}
 use Rattle.jxl_picture.proofs.orientation.oriented.Goals as goal
 

@@ -1,6 +1,6 @@
 use Rattle.std.proofs.Common.{◌≡◌, ℕ, ◌<◌}
 use Rattle.jxlm_base.specs.Grid.{IsFull, cell}
-use Rattle.jxl_picture.specs.Orientations.{column_of, row_of}
+use Rattle.jxl_picture.specs.Inner.Cells.{column_of, row_of}
 use Rattle.jxl_picture.proofs.orientation.oriented.Given as goal
 
 abbrev pub invariant-loop-y : goal.invariant-loop-y

@@ -1,6 +1,6 @@
 use Rattle.std.proofs.Common.{◌≡◌, arith}
 use Rattle.jxlm_base.specs.Grid.{cell}
-use Rattle.jxl_picture.specs.Orientations.{column_of, row_of}
+use Rattle.jxl_picture.specs.Inner.Cells.{column_of, row_of}
 use Rattle.jxl_picture.proofs.Orienting.{one_more_cell}
 use Rattle.jxl_picture.proofs.orientation.show_row.Goals as goal
 

@@ -1,7 +1,7 @@
 use Rattle.std.proofs.Common.{◌≡◌, ℕ, ◌<◌}
 use Rattle.std.specs.Prelude.{slice_get}
 use Rattle.jxlm_base.specs.Grid.{cell}
-use Rattle.jxl_picture.specs.Orientations.{column_of, row_of}
+use Rattle.jxl_picture.specs.Inner.Cells.{column_of, row_of}
 use Rattle.jxl_picture.proofs.orientation.show_row.Given as goal
 
 abbrev pub invariant-loop-x : goal.invariant-loop-x

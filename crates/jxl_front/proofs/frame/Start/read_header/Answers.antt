@@ -3,7 +3,7 @@ use Rattle.jxlm_base.specs.Bits.{bytes_of, position_of}
 use Rattle.jxl_headers.specs.Images.{image_of}
 use Rattle.jxl_headers.specs.declared.size.Size.{Size}
 use Rattle.jxl_frames.specs.Frames.{frame_of}
-use Rattle.jxl_front.specs.Fronts.{AllowFrame}
+use Rattle.jxl_picture.specs.Limits.{AllowFrame}
 use Rattle.jxl_front.proofs.Dims.{dim_of}
 use Rattle.jxl_front.proofs.Fronts.{frame_fails, frame_refused, frames_too_large, goes_on, header_stands, plain}
 use Rattle.jxl_front.proofs.frame.Start.read_header.Goals as goal

@@ -34,18 +34,18 @@ returns-then-not-is_saved-clause-ok g c =
     let header = image_before g.D.Decoder.meaning c.args.limits.now c.args.bytes.now c.loop.invariant.before in
     let shown : is_saved (frame_of f.header) ≡ false = search rules in
     record {
-      stands = record {
-        used = c.loop.used;
-        before = subst (λ n. AreBefore g.D.Decoder.meaning c.args.limits.now c.args.bytes.now image (map frame_at c.loop.saved.items) n c.loop.used) (sym c.in_ok-frame.ensures.start) c.loop.invariant.before;
-        stands = stands;
-        is_shown = shown;
-      };
+      stands = (
+        c.loop.used,
+        subst (λ n. AreBefore g.D.Decoder.meaning c.args.limits.now c.args.bytes.now image (map frame_at c.loop.saved.items) n c.loop.used) (sym c.in_ok-frame.ensures.start) c.loop.invariant.before,
+        stands,
+        shown,
+      );
       ready = record {
         deep = c.requires.allowed.deep;
         many = c.requires.allowed.most;
-        low = low image header.1.supported;
+        low = low image header.1.1;
         saved = c.loop.invariant.ready;
         shown = c.in_ok-frame.ensures.ready;
-        covers = covers image image.size (frame_of f.header) stands.contents.goes.supported shown;
+        covers = covers image image.size (frame_of f.header) stands.0.goes.1 shown;
       };
     }
