@@ -136,8 +136,8 @@ fn factor_if(bits: &mut Bitstream<'_>, there: bool) -> Result<u32>
 }
 
 impl Coding {
-    /// How a frame of an image whose colours are XYB, or are not, is coded, as it stands at the reader's position, where
-    /// that is told.
+    /// How a frame of an image whose colours are XYB, or are not, is coded, as it stands at the reader's position,
+    /// where that is told.
     #[tactic(auto, unfolding(crate::specs::Codings::coding))]
     pub fn parse(bits: &mut Bitstream<'_>, told: bool, xyb: bool) -> Result<Coding>
         ensures gives { Reads (λ v. v) result (position_of bits.new)
