@@ -10,14 +10,16 @@ use Rattle.jxl_headers.proofs.HeaderLaws.{bind, exact-checked, exact-extensions,
 use Rattle.jxl_headers.specs.Images.{Image}
 use Rattle.jxl_headers.specs.declared.size.Size.{Size}
 use Rattle.jxl_headers.specs.declared.image.Animation.{Animation}
-use Rattle.jxl_frames.specs.Codings.{type_of, flags_of, factor, coding, is_modular}
+use Rattle.jxl_frames.specs.Codings.{flags_of, factor, coding, is_modular}
 use Rattle.jxl_frames.specs.Passes.{in_turn, passes}
 use Rattle.jxl_frames.specs.Inner.Checked.{finer, later}
 use Rattle.jxl_frames.specs.Places.{is_shown, is_lf, is_reference, extent, covers, crop}
-use Rattle.jxl_frames.specs.Blendings.{mode_of, blending_info, is_replace, ending}
+use Rattle.jxl_frames.specs.Blendings.{blending_info, is_replace, ending}
 use Rattle.jxl_frames.specs.Filters.{own_floats, filter}
 use Rattle.jxl_frames.specs.Frames.{frame_header}
+use Rattle.jxl_frames.specs.declared.blending.BlendMode.TheVariants.{Replace, Add, Blend, MulAdd, Mul}
 use Rattle.jxl_frames.specs.declared.coding.FrameType.{FrameType}
+use Rattle.jxl_frames.specs.declared.coding.FrameType.TheVariants.{Regular, LfFrame, ReferenceOnly, SkipProgressive}
 use Rattle.jxl_frames.specs.declared.coding.Encoding.TheVariants.{VarDct, Modular}
 
 exact-factor : IsExact factor
@@ -32,7 +34,7 @@ exact-coding told xyb =
     bind (exact-when (told && not xyb) false exact-flag) λ ycbcr.
     bind (exact-when (ycbcr && not f.use_lf_frame) 0 (exact-number 6)) λ sampled.
     bind (exact-when (told && not f.use_lf_frame) 1 exact-factor) λ upsampling.
-    exact-give (record { frame_type = type_of t; encoding = if modular then Modular else VarDct; flags = f; ycbcr = ycbcr; upsampling = upsampling })
+    exact-give (record { frame_type = if t == 0 then Regular else if t == 1 then LfFrame else if t == 2 then ReferenceOnly else SkipProgressive; encoding = if modular then Modular else VarDct; flags = f; ycbcr = ycbcr; upsampling = upsampling })
 
 exact-in_turn : (n : ℕ) (field : Option ℕ → Grammar ℕ) → ((before : Option ℕ) → IsExact (field before)) → (before : Option ℕ) → IsExact (in_turn n field before)
 exact-in_turn zero field each before = exact-give []
@@ -72,7 +74,7 @@ exact-info there extra partial =
     bind (exact-when (nat_lt 0 extra && ((mode == 2) || (mode == 3))) 0 (exact-checked (codes "alpha_channel") (λ v. nat_lt v extra) (exact-u32 (Const 0) (Const 1) (Const 2) (Offset 3 3)))) λ a.
     bind (exact-when (nat_lt 0 extra && ((mode == 2) || (mode == 3)) || (mode == 4)) false exact-flag) λ c.
     bind (exact-when (not (mode == 0) || there && partial) 0 (exact-number 2)) λ s.
-    exact-give (record { mode = mode_of mode; alpha_channel = a; clamp = c; source = s })
+    exact-give (record { mode = if mode == 0 then Replace else if mode == 1 then Add else if mode == 2 then Blend else if mode == 3 then MulAdd else Mul; alpha_channel = a; clamp = c; source = s })
 
 exact-ending : (shown : Bool) (animation : Option Animation) (t : FrameType) (replaces : Bool) → IsExact (ending shown animation t replaces)
 unfolding ending

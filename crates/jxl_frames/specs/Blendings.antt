@@ -12,19 +12,16 @@ use Rattle.jxl_frames.specs.declared.blending.BlendMode.TheVariants.{Replace, Ad
 use Rattle.jxl_frames.specs.declared.blending.BlendingInfo.{BlendingInfo}
 use Rattle.jxl_frames.specs.declared.blending.Ending.{Ending}
 
--- how the samples of a frame and of the one before make one picture, by number
-abbrev pub mode_of : ℕ → BlendMode
-mode_of n = if n == 0 then Replace else if n == 1 then Add else if n == 2 then Blend else if n == 3 then MulAdd else Mul
-
 -- how some channels are blended, in an image with so many extra channels, where some modes look at one of these: alpha
 unfoldable pub blending_info : Bool → ℕ → Bool → Grammar BlendingInfo
 blending_info there extra partial = do
-  mode ← when there (checked (codes "BlendMode") (λ v. nat_lt v 5) (u32 (Const 0) (Const 1) (Const 2) (Offset 3 2))) 0
-  let by_alpha = nat_lt 0 extra && ((mode == 2) || (mode == 3))
+  n ← when there (checked (codes "BlendMode") (λ v. nat_lt v 5) (u32 (Const 0) (Const 1) (Const 2) (Offset 3 2))) 0
+  let by_alpha = nat_lt 0 extra && ((n == 2) || (n == 3))
   alpha ← when by_alpha (checked (codes "alpha_channel") (λ v. nat_lt v extra) (u32 (Const 0) (Const 1) (Const 2) (Offset 3 3))) 0
-  clamp ← when (by_alpha || (mode == 4)) flag false
-  source ← when (not (mode == 0) || there && partial) (number 2) 0
-  give (record { mode = mode_of mode; alpha_channel = alpha; clamp = clamp; source = source })
+  clamp ← when (by_alpha || (n == 4)) flag false
+  source ← when (not (n == 0) || there && partial) (number 2) 0
+  let mode = if n == 0 then Replace else if n == 1 then Add else if n == 2 then Blend else if n == 3 then MulAdd else Mul
+  give (record { mode = mode; alpha_channel = alpha; clamp = clamp; source = source })
 
 abbrev pub is_replace : BlendMode → Bool
 is_replace Replace = true

@@ -13,10 +13,6 @@ use Rattle.jxl_frames.specs.declared.coding.Coding.{Coding}
 use Rattle.jxl_frames.specs.declared.refusal.Refusal.{Refusal}
 use Rattle.jxl_frames.specs.declared.refusal.Refusal.TheVariants as refusals
 
--- the types of frames, by their numbers
-abbrev pub type_of : ℕ → FrameType
-type_of n = if n == 0 then Regular else if n == 1 then LfFrame else if n == 2 then ReferenceOnly else SkipProgressive
-
 -- the flags, each by its bit; the others mean nothing
 abbrev pub flags_of : ℕ → FrameFlags
 flags_of v =
@@ -30,14 +26,15 @@ factor = u32 (Const 1) (Const 2) (Const 4) (Const 8)
 -- How a frame is coded whose colours are XYB or not; how the parts of YCbCr are sampled is not looked at.
 unfoldable pub coding : Bool → Bool → Grammar Coding
 coding told xyb = do
-  frame_type ← when told (number 2) 0
+  n ← when told (number 2) 0
   modular ← when told flag false
   flags ← when told long 0 >>= λ v. give (flags_of v)
   ycbcr ← when (told && not xyb) flag false
   _ ← when (ycbcr && not flags.use_lf_frame) (number 6) 0
   upsampling ← when (told && not flags.use_lf_frame) factor 1
+  let kind = if n == 0 then Regular else if n == 1 then LfFrame else if n == 2 then ReferenceOnly else SkipProgressive
   let encoding = if modular then Modular else VarDct
-  give (record { frame_type = type_of frame_type; encoding = encoding; flags = flags; ycbcr = ycbcr; upsampling = upsampling })
+  give (record { frame_type = kind; encoding = encoding; flags = flags; ycbcr = ycbcr; upsampling = upsampling })
 
 abbrev pub is_modular : Encoding → Bool
 is_modular VarDct = false

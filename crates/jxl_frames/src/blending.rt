@@ -9,8 +9,9 @@ ghost use Rattle.jxlm_base.specs.declared.bits.U32Spec.TheVariants.{Const, Offse
 ghost use Rattle.jxl_headers.specs.Fields.{when};
 ghost use Rattle.jxl_headers.specs.Reading.{Parses};
 ghost use Rattle.jxl_frames.specs.Places.{is_reference as the_is_reference};
-ghost use Rattle.jxl_frames.specs.Blendings.{mode_of as the_mode_of, blending_info, is_replace as the_is_replace, ending};
+ghost use Rattle.jxl_frames.specs.Blendings.{blending_info, is_replace as the_is_replace, ending};
 ghost use Rattle.jxl_frames.specs.Inner.Checked.{mode_number as the_mode_number, alpha as the_alpha};
+ghost use Rattle.jxl_frames.specs.declared.blending.BlendMode.TheVariants as modes;
 ghost use Rattle.jxl_frames.specs.declared.refusal.Refusal.TheVariants as refusals;
 
 use crate::coding::FrameType;
@@ -72,7 +73,8 @@ pub struct Ending {
 }
 
 fn mode_of(n: u32) -> BlendMode
-    ensures { result ≡ the_mode_of n }
+    ensures { result ≡ (if n == 0 then modes.Replace else if n == 1 then modes.Add else
+        if n == 2 then modes.Blend else if n == 3 then modes.MulAdd else modes.Mul) }
 {
     if n == 0 {
         BlendMode::Replace

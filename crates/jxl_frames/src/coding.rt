@@ -4,9 +4,10 @@ ghost use Rattle.std.specs.Prelude.{◌≡◌, ◌==◌, if◌then◌else◌, So
 ghost use Rattle.jxlm_base.specs.Bits.{bytes_of, position_of};
 ghost use Rattle.jxlm_base.specs.Grammar.{Reads};
 ghost use Rattle.jxl_headers.specs.Fields.{when};
-ghost use Rattle.jxl_frames.specs.Codings.{factor, type_of as the_type_of, flags_of as the_flags_of, coding, is_modular as the_is_modular, type_refusal, coding_refusal};
+ghost use Rattle.jxl_frames.specs.Codings.{factor, flags_of as the_flags_of, coding, is_modular as the_is_modular, type_refusal, coding_refusal};
 ghost use Rattle.jxl_frames.specs.Inner.Checked.{flags as the_flags};
 ghost use Rattle.jxl_frames.specs.declared.coding.Encoding.TheVariants as encodings;
+ghost use Rattle.jxl_frames.specs.declared.coding.FrameType.TheVariants as types;
 ghost use Rattle.jxl_frames.specs.declared.refusal.Refusal.TheVariants as refusals;
 
 use crate::fields::field_if;
@@ -59,7 +60,8 @@ pub struct Coding {
 }
 
 fn type_of(n: u32) -> FrameType
-    ensures { result ≡ the_type_of n }
+    ensures { result ≡ (if n == 0 then types.Regular else if n == 1 then types.LfFrame else
+        if n == 2 then types.ReferenceOnly else types.SkipProgressive) }
 {
     if n == 0 {
         FrameType::Regular
@@ -136,8 +138,8 @@ fn factor_if(bits: &mut Bitstream<'_>, there: bool) -> Result<u32>
 }
 
 impl Coding {
-    /// How a frame of an image whose colours are XYB, or are not, is coded, as it stands at the reader's position, where
-    /// that is told.
+    /// How a frame of an image whose colours are XYB, or are not, is coded, as it stands at the reader's position,
+    /// where that is told.
     #[tactic(auto, unfolding(crate::specs::Codings::coding))]
     pub fn parse(bits: &mut Bitstream<'_>, told: bool, xyb: bool) -> Result<Coding>
         ensures gives { Reads (λ v. v) result (position_of bits.new)

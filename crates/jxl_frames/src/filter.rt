@@ -51,8 +51,8 @@ fn sigma_bytes(modular: bool) -> u32
 }
 
 impl RestorationFilter {
-    /// The filters of a frame that is Modular or not, as they stand at the reader's position, where they may be told; their
-    /// floats and extensions are passed.
+    /// The filters of a frame that is Modular or not, as they stand at the reader's position, where they may be told;
+    /// their floats and extensions are passed.
     #[tactic(auto, unfolding(crate::specs::Filters::filter))]
     pub fn parse(bits: &mut Bitstream<'_>, there: bool, modular: bool) -> Result<RestorationFilter>
         ensures gives { Reads (λ v. v) result (position_of bits.new)
