@@ -138,7 +138,7 @@ pub sizes_stay : (n colours : ℕ) (size : Size) (slots : Slots) (patches : Patc
 sizes_stay n colours size slots patches old changed put are = record {
   count = put.count ∙ are.count;
   sides = record {
-    width = λ c lt. let in_old : c < length old = omega (arith, lt, put.count) in (put.each c in_old).width ∙ are.sides.width c in_old;
-    height = λ c lt. let in_old : c < length old = omega (arith, lt, put.count) in (put.each c in_old).height ∙ are.sides.height c in_old;
+    width = λ c lt. let in_old : c < length old = omega (arith, lt, put.count) in put.width c in_old ∙ are.sides.width c in_old;
+    height = λ c lt. let in_old : c < length old = omega (arith, lt, put.count) in put.height c in_old ∙ are.sides.height c in_old;
   };
 }

@@ -43,8 +43,7 @@ abbrev pub coordinate : {S : Type 0} → Meaning S → Bool → ℕ → ℕ → 
 coordinate d later before extent side = token d (if later then 6 else 4) (λ v.
     checked (ok_or (option_and_then (λ c. if nat_le (c + extent) side then Some c else None) (moved later before v)) (BadEnum (codes "place of a patch") v)))
 
--- Patches, in the order in which they are put: where, and how; of each place one mode for the colours, and one for each extra
--- channel.
+-- patches, in the order in which they are put; of each place one mode for the colours, and one for each extra channel
 pub record Patches : Type 0 where
   pub places : List Place
   pub modes : List PatchMode
@@ -69,8 +68,7 @@ one_place d size kinds n r a = do
   y ← coordinate d (nat_lt n (length a.places)) (get_or a.places (length a.places - 1) nowhere).y r.height size.height
   chained (one_mode d) kinds (record { places = a.places ++ (record { source = r; x = x; y = y }) ∷ []; modes = a.modes })
 
--- a rectangle, and its places: one more than is told, with those before at most four times as many as there may be rectangles;
--- and of all cells at most so many
+-- a rectangle, and its places, one more than is told: with those before not too many, and of not too many cells
 abbrev pub one_rectangle : {S : Type 0} → Meaning S → Size → ℕ → List (Option Size) → ℕ → Patches → Tokens S Patches
 one_rectangle d size kinds slots limit a = do
   r ← source d slots
@@ -79,8 +77,7 @@ one_rectangle d size kinds slots limit a = do
       else Err (BadProfile (codes "patches of too many cells"))) else Err (BadEnum (codes "places of a patch") v)))
   chained (one_place d size kinds (length a.places) r) n a
 
--- The dictionary of a frame of this size with so many extra channels, by a decoder of 10 contexts; each slot holds a saved frame
--- of its size, or none; and at most so many cells are put.
+-- the dictionary of a frame of this size with so many extra channels, of slots with these sizes, that puts at most so many cells
 abbrev pub dictionary : {S : Type 0} → Meaning S → Size → ℕ → List (Option Size) → ℕ → Grammar Patches
 dictionary d size extra slots limit = coded d 10 (token d 0 (λ v. meant (codes "count of patches") (nat_le v (most_rectangles size)) v) >>= λ n.
     chained (one_rectangle d size (1 + extra) slots limit) n (record { places = []; modes = [] }))
