@@ -59,7 +59,7 @@ pub struct Dictionary {
     pub modes: Vec<PatchMode>,
 }
 
-// One rectangle more, and its places, after those of so many cells. Of how many cells they are with these.
+// One rectangle more, and its places, where so many cells are put before: gives how many are put with its own.
 fn one_rectangle<D: Decoder>(
     decoder: &mut D,
     bits: &mut Bitstream<'_>,
