@@ -11,7 +11,7 @@ use Rattle.jxl_headers.specs.declared.size.Size.{Size}
 use Rattle.jxl_toc.specs.Tokens.{After}
 use Rattle.jxl_toc.specs.Turns.{chained}
 use Rattle.jxl_patches.proofs.Fitting.{token_ok}
-use Rattle.jxl_patches.specs.Patches.{Patches, most_rectangles, Told, one_mode, one_place, one_rectangle, dictionary}
+use Rattle.jxl_patches.specs.Patches.{Patches, most_rectangles, one_mode, one_place, one_rectangle, dictionary}
 use Rattle.jxl_patches.specs.Dictionaries.{area}
 use Rattle.jxl_patches.specs.declared.dictionary.Place.{Place}
 use Rattle.jxl_patches.specs.declared.dictionary.Rectangle.{Rectangle}
@@ -32,77 +32,59 @@ within_limit size done cells area limit v n = by_tests (nat_le (done + (v + 1)) 
 
 module _ {S : Type 0} (d : Meaning S) where
   -- how many cells places put
-  abbrev put : Told → ℕ
+  abbrev put : Patches → ℕ
   put a = sum_by area a.places
 
-  -- places of so many cells were told, of those that were counted before
-  record Adds (n : ℕ) (a b : Told) : Type 0 where
-    places : put b ≡ put a + n
-    cells : b.cells ≡ a.cells
-
-  modes_add : (n : ℕ) (a : Told) (s : S) (b : After S Told) (bytes : List ℕ) (p q : ℕ) → (chained (one_mode d) n a s).Stands bytes p b q → Adds 0 a b.value
+  modes_add : (n : ℕ) (a : Patches) (s : S) (b : After S Patches) (bytes : List ℕ) (p q : ℕ) → (chained (one_mode d) n a s).Stands bytes p b q → put b.value ≡ put a
   unfolding chained
-  modes_add zero a s b bytes p q st = rw st.0 (record { places = omega arith; cells = refl })
+  modes_add zero a s b bytes p q st = rw st.0 refl
   modes_add (suc n) a s b bytes p q st =
       let first = st.2.3.0 in
-      let places : put (st.0).value ≡ put a = ap (λ (t : After S Told). put t.value) first in
-      let cells : ((st.0).value).cells ≡ a.cells = ap (λ (t : After S Told). (t.value).cells) first in
-      let rest = modes_add n (st.0).value (st.0).state b bytes st.1 q st.3 in
-      record { places = omega (arith, places, rest.places); cells = rest.cells ∙ cells }
+      let places : put (st.0).value ≡ put a = ap (λ (t : After S Patches). put t.value) first in
+      modes_add n (st.0).value (st.0).state b bytes st.1 q st.3 ∙ places
 
-  module _ (size : Size) (kinds : ℕ) where
-    place_adds : (r : Rectangle) (a : Told) (s : S) (b : After S Told) (bytes : List ℕ) (p q : ℕ) → (one_place d size kinds r a s).Stands bytes p b q → Adds (r.width * r.height) a b.value
-    place_adds r a s b bytes p q st =
+  module _ (size : Size) (kinds k : ℕ) (r : Rectangle) where
+    place_adds : (a : Patches) (s : S) (b : After S Patches) (bytes : List ℕ) (p q : ℕ) → (one_place d size kinds k r a s).Stands bytes p b q → put b.value ≡ put a + r.width * r.height
+    place_adds a s b bytes p q st =
         let x = st.0 in
         let y = st.3.0 in
         let place : Place = record { source = r; x = x.value; y = y.value } in
         let more = sum_by_push area a.places place in
-        let rest = modes_add kinds (record { places = a.places ++ place ∷ []; modes = a.modes; cells = a.cells; later = true; x = x.value; y = y.value }) y.state b bytes st.3.1 q st.3.3 in
-        record { places = omega (arith, more, rest.places); cells = rest.cells }
+        let rest = modes_add kinds (record { places = a.places ++ place ∷ []; modes = a.modes }) y.state b bytes st.3.1 q st.3.3 in
+        omega (arith, more, rest)
 
-    places_add : (r : Rectangle) (n : ℕ) (a : Told) (s : S) (b : After S Told) (bytes : List ℕ) (p q : ℕ) → (chained (one_place d size kinds r) n a s).Stands bytes p b q → Adds (n * (r.width * r.height)) a b.value
+    -- so many places of a rectangle put its cells so often
+    pub places_add : (n : ℕ) (a : Patches) (s : S) (b : After S Patches) (bytes : List ℕ) (p q : ℕ) → (chained (one_place d size kinds k r) n a s).Stands bytes p b q → put b.value ≡ put a + n * (r.width * r.height)
     unfolding chained
-    places_add r zero a s b bytes p q st = rw st.0 (record { places = omega arith; cells = refl })
-    places_add r (suc n) a s b bytes p q st =
-        let first = place_adds r a s st.0 bytes p st.1 st.2 in
-        let rest = places_add r n (st.0).value (st.0).state b bytes st.1 q st.3 in
+    places_add zero a s b bytes p q st = rw st.0 (omega arith)
+    places_add (suc n) a s b bytes p q st =
+        let first = place_adds a s st.0 bytes p st.1 st.2 in
+        let rest = places_add n (st.0).value (st.0).state b bytes st.1 q st.3 in
         let more = suc-mul n (r.width * r.height) in
-        record { places = omega (arith, first.places, rest.places, more); cells = rest.cells ∙ first.cells }
+        omega (arith, first, rest, more)
 
-    module _ (slots : List (Option Size)) (limit : ℕ) where
-      -- all cells that places put are counted, and they are within the limit
-      record Counted (a : Told) : Type 0 where
-        counted : put a ≡ a.cells
-        most : a.cells ≤ limit
+  module _ (size : Size) (kinds : ℕ) (slots : List (Option Size)) (limit : ℕ) where
+    rectangle_within : (a : Patches) (s : S) (b : After S Patches) (bytes : List ℕ) (p q : ℕ) → (one_rectangle d size kinds slots limit a s).Stands bytes p b q → put b.value ≤ limit
+    rectangle_within a s b bytes p q st =
+        let r = (st.0).value in
+        let counted = st.3 in
+        let n = (counted.0).value in
+        let ok = token_ok d 7 (λ v. count_of size (length a.places) (put a) (r.width * r.height) limit v) (st.0).state bytes st.1 counted.0 counted.1 counted.2 in
+        let most = within_limit size (length a.places) (put a) (r.width * r.height) limit ok.0 n ok.1 in
+        let adds = places_add size kinds (length a.places) r n a (counted.0).state b bytes counted.1 q counted.3 in
+        let turned = mul_comm n (r.width * r.height) in
+        omega (arith, adds, turned, most)
 
-      rectangle_counts : (a : Told) (s : S) (b : After S Told) (bytes : List ℕ) (p q : ℕ) → Counted a → (one_rectangle d size kinds slots limit a s).Stands bytes p b q → Counted b.value
-      rectangle_counts a s b bytes p q f st =
-          let r = (st.0).value in
-          let counted = st.3 in
-          let n = (counted.0).value in
-          let ok = token_ok d 7 (λ v. count_of size (length a.places) a.cells (r.width * r.height) limit v) (st.0).state bytes st.1 counted.0 counted.1 counted.2 in
-          let most = within_limit size (length a.places) a.cells (r.width * r.height) limit ok.0 n ok.1 in
-          let start : Told = record { places = a.places; modes = a.modes; cells = a.cells + r.width * r.height * n; later = false; x = 0; y = 0 } in
-          let adds = places_add r n start (counted.0).state b bytes counted.1 q counted.3 in
-          let turned = mul_comm n (r.width * r.height) in
-          let c = f.counted in
-          record { counted = omega (arith, adds.places, adds.cells, turned, c); most = omega (arith, adds.cells, most) }
-
-      rectangles_count : (n : ℕ) (a : Told) (s : S) (b : After S Told) (bytes : List ℕ) (p q : ℕ) → Counted a → (chained (one_rectangle d size kinds slots limit) n a s).Stands bytes p b q → Counted b.value
-      unfolding chained
-      rectangles_count zero a s b bytes p q f st = rw st.0 f
-      rectangles_count (suc n) a s b bytes p q f st = rectangles_count n (st.0).value (st.0).state b bytes st.1 q (rectangle_counts a s st.0 bytes p st.1 f st.2) st.3
+    rectangles_within : (n : ℕ) (a : Patches) (s : S) (b : After S Patches) (bytes : List ℕ) (p q : ℕ) → put a ≤ limit → (chained (one_rectangle d size kinds slots limit) n a s).Stands bytes p b q → put b.value ≤ limit
+    unfolding chained
+    rectangles_within zero a s b bytes p q f st = rw st.0 f
+    rectangles_within (suc n) a s b bytes p q f st = rectangles_within n (st.0).value (st.0).state b bytes st.1 q (rectangle_within a s st.0 bytes p st.1 st.2) st.3
 
 pub cells_bounded : {S : Type 0} (d : Meaning S) (size : Size) (extra : ℕ) (slots : List (Option Size)) (limit : ℕ) (bytes : List ℕ) (p : ℕ) (patches : Patches) (q : ℕ) →
     (dictionary d size extra slots limit).Stands bytes p patches q → sum_by area patches.places ≤ limit
 cells_bounded {S} d size extra slots limit bytes p patches q st =
     let told = st.3 in
     let counted = told.2 in
-    let all = counted.3 in
-    let none : Counted d size (1 + extra) slots limit (record { places = []; modes = []; cells = 0; later = false; x = 0; y = 0 }) =
-    record { counted = refl; most = omega arith } in
-    let end = rectangles_count d size (1 + extra) slots limit (counted.0).value _ (counted.0).state all.0 bytes counted.1 all.1 none all.2 in
-    let first : patches ≡ (told.0).value = told.3.3.0 in
-    let same : (told.0).value ≡ record { places = ((all.0).value).places; modes = ((all.0).value).modes } = ap (λ (t : After S Patches). t.value) all.3.0 in
-    let places : patches.places ≡ ((all.0).value).places = ap (λ (t : Patches). t.places) (first ∙ same) in
-    rw places (omega (arith, end.counted, end.most))
+    let end = rectangles_within d size (1 + extra) slots limit (counted.0).value (record { places = []; modes = [] }) (counted.0).state told.0 bytes counted.1 told.1 (omega arith) counted.3 in
+    let same : patches ≡ (told.0).value = told.3.3.0 in
+    rw same end

@@ -1,12 +1,12 @@
 -- Channels, patched one after another.
-use Rattle.std.proofs.Common.{◌≡◌, ℕ, ℤ, ◌+◌, ◌-◌, ◌<◌, ◌≤◌, Bool, true, false, List, length, get_or, set, inl, inr, refl, ◌∙◌, add-one, arith}
-use Rattle.std.specs.Prelude.{nat_lt, if◌then◌else◌}
-use Rattle.std.proofs.lemmas.Bool.{cases_lt, ltb-false}
+use Rattle.std.proofs.Common.{◌≡◌, ℕ, ℤ, ◌+◌, ◌<◌, ◌≤◌, List, length, get_or, set, inl, inr, refl, ◌∙◌, add-one, arith}
+use Rattle.std.proofs.lemmas.Bool.{cases_lt}
 use Rattle.std.proofs.lemmas.List.{get_or-set_same, get_or-set_other}
 use Rattle.jxlm_base.specs.Grid.{Grid}
 use Rattle.jxl_patches.specs.Dictionaries.{place_at}
 use Rattle.jxl_patches.specs.Patches.{Patches}
-use Rattle.jxl_patches.specs.Patched.{channel_of, kind_of, kinds_of, mode_at, patched, put}
+use Rattle.jxl_patches.specs.Patched.{channel_of, kinds_of, mode_at, patched, put}
+use Rattle.jxl_patches.specs.Inner.Rows.{kind_of}
 use Rattle.jxl_patches.specs.declared.dictionary.Place.{Place}
 use Rattle.jxl_patches.specs.declared.dictionary.PatchMode.{PatchMode}
 
@@ -32,10 +32,6 @@ module _ (old now : List (Grid ℤ)) (k : ℕ) (g d : Grid ℤ) where
   pub channels_left : ((c : ℕ) → k ≤ c → get_or now c d ≡ get_or old c d) → (c : ℕ) → k + 1 ≤ c → get_or (set now k g) c d ≡ get_or old c d
   channels_left rest c ge = get_or-set_other now k c g d (λ e. omega (arith, e, ge)) ∙ rest c (omega (arith, ge))
 
-kind_by_test : (colours c n : ℕ) (b : Bool) → nat_lt c colours ≡ b → c < n → (if b then 0 else 1 + (c - colours)) < kinds_of colours n
-kind_by_test colours c n true t h = omega arith
-kind_by_test colours c n false t h = let ge = ltb-false c colours t in omega (arith, ge, h)
-
 -- each channel has a kind
 pub kind_below : (colours c n : ℕ) → c < n → kind_of colours c < kinds_of colours n
-kind_below colours c n h = kind_by_test colours c n (nat_lt c colours) refl h
+kind_below colours c n h = omega (arith, h)

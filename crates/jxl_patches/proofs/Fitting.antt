@@ -1,7 +1,7 @@
 -- Patches that stand in a dictionary lie in their frames.
 use Rattle.std.proofs.Common.{◌≡◌, ℕ, zero, suc, ◌+◌, ◌*◌, ◌<◌, ◌≤◌, Bool, true, false, List, [], ◌∷◌, ◌++◌, length, get_or, Option, Some, None, Result, Ok, Err, ◌⊎◌, inl, inr, refl, sym, ap, ◌∙◌, arith}
 use Rattle.std.specs.Prelude.{nat_lt, nat_le, ◌&&◌, codes, if◌then◌else◌}
-use Rattle.std.specs.Option.{option_map_or}
+use Rattle.std.specs.Option.{ok_or, option_map_or}
 use Rattle.std.proofs.lemmas.Bool.{leb-true, ltb-true, and_parts}
 use Rattle.std.proofs.lemmas.List.{length-append, get_or_push, get_or_append_left}
 use Rattle.std.proofs.Math.Nat.{suc-mul}
@@ -11,8 +11,9 @@ use Rattle.jxl_headers.specs.declared.size.Size.{Size}
 use Rattle.jxl_toc.proofs.Cases.{less_or_same}
 use Rattle.jxl_toc.specs.Tokens.{After, token}
 use Rattle.jxl_toc.specs.Turns.{chained}
-use Rattle.jxl_patches.specs.Patches.{Patches, checked, source, moved, inside, coordinate, Told, one_mode, one_place, one_rectangle, dictionary}
-use Rattle.jxl_patches.specs.Dictionaries.{IsWithin, AreWithin, nowhere}
+use Rattle.jxl_patches.specs.Patches.{Patches, checked, source, moved, nowhere, coordinate, one_mode, one_place, one_rectangle, dictionary}
+use Rattle.jxl_patches.specs.Dictionaries.{IsWithin, AreWithin}
+use Rattle.jxl_patches.specs.Inner.Steps.{inside}
 use Rattle.jxl_patches.specs.declared.dictionary.Place.{Place}
 use Rattle.jxl_patches.specs.declared.dictionary.Rectangle.{Rectangle}
 
@@ -63,7 +64,7 @@ in_frame slots slot x0 y0 w h None r held e = cc
 inside_fits : (extent side v : ℕ) (o : Option ℕ) (c : ℕ) → inside extent side v o ≡ Ok c → c + extent ≤ side
 inside_fits extent side v (Some w) c h = by_test (nat_le (w + extent) side) refl h
   where
-    by_test : (b : Bool) → nat_le (w + extent) side ≡ b → if◌then◌else◌ {A = Result ℕ ErrorKind} b (Ok w) (Err (BadEnum (codes "place of a patch") v)) ≡ Ok c → c + extent ≤ side
+    by_test : (b : Bool) → nat_le (w + extent) side ≡ b → ok_or (if◌then◌else◌ {A = Option ℕ} b (Some w) None) (BadEnum (codes "place of a patch") v) ≡ Ok c → c + extent ≤ side
     by_test true t e = let same : w ≡ c = cc in let le = leb-true (w + extent) side t in omega (arith, same, le)
     by_test false t e = cc
 inside_fits extent side v None c h = cc
@@ -80,16 +81,16 @@ module _ {S : Type 0} (d : Meaning S) (size : Size) (kinds : ℕ) (slots : List 
       in_frame slots slot x0 y0 w.value ok.0 (get_or slots slot None) y.value refl ok.1
 
   -- What was read so far lies in its frames; so many modes are owed.
-  record Framed (owed : ℕ) (a : Told) : Type 0 where
+  record Framed (owed : ℕ) (a : Patches) : Type 0 where
     modes : length a.modes + owed ≡ length a.places * kinds
     each : (n : ℕ) → n < length a.places → IsWithin size slots (get_or a.places n nowhere)
 
-  mode_more : (owed : ℕ) (a : Told) (s : S) (b : After S Told) (bytes : List ℕ) (p q : ℕ) → Framed (suc owed) a → (one_mode d a s).Stands bytes p b q → Framed owed b.value
+  mode_more : (owed : ℕ) (a : Patches) (s : S) (b : After S Patches) (bytes : List ℕ) (p q : ℕ) → Framed (suc owed) a → (one_mode d a s).Stands bytes p b q → Framed owed b.value
   mode_more owed a s b bytes p q f st =
       let m = (st.0).value in
       rw st.3.0 (record { modes = omega (arith, f.modes, length-append a.modes (m ∷ [])); each = f.each })
 
-  modes_more : (n : ℕ) (a : Told) (s : S) (b : After S Told) (bytes : List ℕ) (p q : ℕ) → Framed n a → (chained (one_mode d) n a s).Stands bytes p b q → Framed 0 b.value
+  modes_more : (n : ℕ) (a : Patches) (s : S) (b : After S Patches) (bytes : List ℕ) (p q : ℕ) → Framed n a → (chained (one_mode d) n a s).Stands bytes p b q → Framed 0 b.value
   unfolding chained
   modes_more zero a s b bytes p q f st = rw st.0 f
   modes_more (suc n) a s b bytes p q f st = modes_more n (st.0).value (st.0).state b bytes st.1 q (mode_more n a s st.0 bytes p st.1 f st.2) st.3
@@ -104,17 +105,17 @@ module _ {S : Type 0} (d : Meaning S) (size : Size) (kinds : ℕ) (slots : List 
       let ok = token_ok d (if later then 6 else 4) (λ v. inside extent side v (moved later before v)) s bytes p y q st in
       inside_fits extent side ok.0 (moved later before ok.0) y.value ok.1
 
-  place_more : (r : Rectangle) → InFrame slots r → (a : Told) (s : S) (b : After S Told) (bytes : List ℕ) (p q : ℕ) → Framed 0 a → (one_place d size kinds r a s).Stands bytes p b q → Framed 0 b.value
-  place_more r i a s b bytes p q f st =
+  place_more : (k : ℕ) (r : Rectangle) → InFrame slots r → (a : Patches) (s : S) (b : After S Patches) (bytes : List ℕ) (p q : ℕ) → Framed 0 a → (one_place d size kinds k r a s).Stands bytes p b q → Framed 0 b.value
+  place_more k r i a s b bytes p q f st =
       let x = st.0 in
       let rest = st.3 in
       let y = rest.0 in
-      let right = coordinate_fits a.later a.x r.width size.width s bytes p x st.1 st.2 in
-      let down = coordinate_fits a.later a.y r.height size.height x.state bytes st.1 y rest.1 rest.2 in
+      let right = coordinate_fits _ _ r.width size.width s bytes p x st.1 st.2 in
+      let down = coordinate_fits _ _ r.height size.height x.state bytes st.1 y rest.1 rest.2 in
       let place : Place = record { source = r; x = x.value; y = y.value } in
       let long : length (a.places ++ place ∷ []) ≡ suc (length a.places) = omega (arith, length-append a.places (place ∷ [])) in
       let more = suc-mul (length a.places) kinds in
-      let c : Told = record { places = a.places ++ place ∷ []; modes = a.modes; cells = a.cells; later = true; x = x.value; y = y.value } in
+      let c : Patches = record { places = a.places ++ place ∷ []; modes = a.modes } in
       let framed : Framed kinds c = record {
         modes = omega (arith, f.modes, more) ∙ ap (λ (n : ℕ). n * kinds) (sym long);
         each = λ n lt.
@@ -123,20 +124,20 @@ module _ {S : Type 0} (d : Meaning S) (size : Size) (kinds : ℕ) (slots : List 
       } in
       modes_more kinds c y.state b bytes rest.1 q framed rest.3
 
-  places_more : (r : Rectangle) → InFrame slots r → (n : ℕ) (a : Told) (s : S) (b : After S Told) (bytes : List ℕ) (p q : ℕ) → Framed 0 a → (chained (one_place d size kinds r) n a s).Stands bytes p b q → Framed 0 b.value
+  places_more : (k : ℕ) (r : Rectangle) → InFrame slots r → (n : ℕ) (a : Patches) (s : S) (b : After S Patches) (bytes : List ℕ) (p q : ℕ) → Framed 0 a → (chained (one_place d size kinds k r) n a s).Stands bytes p b q → Framed 0 b.value
   unfolding chained
-  places_more r i zero a s b bytes p q f st = rw st.0 f
-  places_more r i (suc n) a s b bytes p q f st = places_more r i n (st.0).value (st.0).state b bytes st.1 q (place_more r i a s st.0 bytes p st.1 f st.2) st.3
+  places_more k r i zero a s b bytes p q f st = rw st.0 f
+  places_more k r i (suc n) a s b bytes p q f st = places_more k r i n (st.0).value (st.0).state b bytes st.1 q (place_more k r i a s st.0 bytes p st.1 f st.2) st.3
 
   module _ (limit : ℕ) where
-    rectangle_more : (a : Told) (s : S) (b : After S Told) (bytes : List ℕ) (p q : ℕ) → Framed 0 a → (one_rectangle d size kinds slots limit a s).Stands bytes p b q → Framed 0 b.value
+    rectangle_more : (a : Patches) (s : S) (b : After S Patches) (bytes : List ℕ) (p q : ℕ) → Framed 0 a → (one_rectangle d size kinds slots limit a s).Stands bytes p b q → Framed 0 b.value
     rectangle_more a s b bytes p q f st =
         let r = st.0 in
         let i = source_fits s bytes p st.1 r st.2 in
         let counted = st.3 in
-        places_more r.value i (counted.0).value _ (counted.0).state b bytes counted.1 q (record { modes = f.modes; each = f.each }) counted.3
+        places_more (length a.places) r.value i (counted.0).value a (counted.0).state b bytes counted.1 q f counted.3
 
-    rectangles_more : (n : ℕ) (a : Told) (s : S) (b : After S Told) (bytes : List ℕ) (p q : ℕ) → Framed 0 a → (chained (one_rectangle d size kinds slots limit) n a s).Stands bytes p b q → Framed 0 b.value
+    rectangles_more : (n : ℕ) (a : Patches) (s : S) (b : After S Patches) (bytes : List ℕ) (p q : ℕ) → Framed 0 a → (chained (one_rectangle d size kinds slots limit) n a s).Stands bytes p b q → Framed 0 b.value
     unfolding chained
     rectangles_more zero a s b bytes p q f st = rw st.0 f
     rectangles_more (suc n) a s b bytes p q f st = rectangles_more n (st.0).value (st.0).state b bytes st.1 q (rectangle_more a s st.0 bytes p st.1 f st.2) st.3
@@ -146,11 +147,8 @@ pub patches_fit : {S : Type 0} (d : Meaning S) (size : Size) (extra : ℕ) (slot
 patches_fit {S} d size extra slots limit bytes p patches q st =
     let told = st.3 in
     let counted = told.2 in
-    let all = counted.3 in
-    let none : Framed d size (1 + extra) slots 0 (record { places = []; modes = []; cells = 0; later = false; x = 0; y = 0 }) =
-    record { modes = omega arith; each = λ n lt. absurd (omega (arith, lt)) } in
-    let framed = rectangles_more d size (1 + extra) slots limit (counted.0).value _ (counted.0).state all.0 bytes counted.1 all.1 none all.2 in
-    let fits : AreWithin size extra slots (record { places = ((all.0).value).places; modes = ((all.0).value).modes }) = record { modes = omega (arith, framed.modes); each = framed.each } in
-    let first : patches ≡ (told.0).value = told.3.3.0 in
-    let same : (told.0).value ≡ record { places = ((all.0).value).places; modes = ((all.0).value).modes } = ap (λ (t : After S Patches). t.value) all.3.0 in
-    rw (first ∙ same) fits
+    let none : Framed d size (1 + extra) slots 0 (record { places = []; modes = [] }) = record { modes = omega arith; each = λ n lt. absurd (omega (arith, lt)) } in
+    let framed = rectangles_more d size (1 + extra) slots limit (counted.0).value _ (counted.0).state told.0 bytes counted.1 told.1 none counted.3 in
+    let fits : AreWithin size extra slots (told.0).value = record { modes = omega (arith, framed.modes); each = framed.each } in
+    let same : patches ≡ (told.0).value = told.3.3.0 in
+    rw same fits

@@ -1,5 +1,5 @@
 -- Patches are read exactly: what is read stands there, and what stands there is read.
-use Rattle.std.proofs.Common.{ℕ, ◌+◌, Bool, List, get_or, Ok, Err, Option, None, Result}
+use Rattle.std.proofs.Common.{ℕ, ◌+◌, Bool, List, length, get_or, Ok, Err, Option, None, Result}
 use Rattle.std.specs.Prelude.{nat_le, codes, is_some}
 use Rattle.jxlm_base.specs.Decoding.{Meaning}
 use Rattle.jxlm_base.specs.ErrorKind.{ErrorKind}
@@ -8,7 +8,7 @@ use Rattle.jxlm_base.proofs.GrammarLaws.{exact-give, exact-fail}
 use Rattle.jxl_headers.proofs.HeaderLaws.{bind, exact-meant}
 use Rattle.jxl_headers.specs.declared.size.Size.{Size}
 use Rattle.jxl_toc.proofs.TocLaws.{exact-token, exact-chained, exact-coded}
-use Rattle.jxl_patches.specs.Patches.{most_rectangles, source, checked, moved, inside, coordinate, Told, mode_of, one_mode, one_place, one_rectangle, dictionary}
+use Rattle.jxl_patches.specs.Patches.{Patches, most_rectangles, source, checked, coordinate, mode_of, one_mode, one_place, one_rectangle, dictionary}
 use Rattle.jxl_patches.specs.declared.dictionary.Rectangle.{Rectangle}
 
 exact-checked : {X : Type 0} (r : Result X ErrorKind) → IsExact (checked r)
@@ -23,23 +23,22 @@ module _ {S : Type 0} (d : Meaning S) where
       exact-token d 2 _ (λ h. exact-checked _) w.state
 
   exact-coordinate : (later : Bool) (before extent side : ℕ) (s : S) → IsExact (coordinate d later before extent side s)
-  exact-coordinate later before extent side s = exact-token d _ _ (λ v. exact-checked (inside extent side v (moved later before v))) s
+  exact-coordinate later before extent side s = exact-token d _ _ (λ v. exact-checked _) s
 
-  exact-one_mode : (a : Told) (s : S) → IsExact (one_mode d a s)
+  exact-one_mode : (a : Patches) (s : S) → IsExact (one_mode d a s)
   exact-one_mode a s = bind (exact-token d 5 _ (λ v. exact-checked (mode_of v)) s) λ m. exact-give _
 
-  exact-one_place : (size : Size) (kinds : ℕ) (r : Rectangle) (a : Told) (s : S) → IsExact (one_place d size kinds r a s)
-  exact-one_place size kinds r a s =
-      bind (exact-coordinate a.later a.x r.width size.width s) λ x. bind (exact-coordinate a.later a.y r.height size.height x.state) λ y.
+  pub exact-one_place : (size : Size) (kinds n : ℕ) (r : Rectangle) (a : Patches) (s : S) → IsExact (one_place d size kinds n r a s)
+  exact-one_place size kinds n r a s =
+      bind (exact-coordinate _ _ r.width size.width s) λ x. bind (exact-coordinate _ _ r.height size.height x.state) λ y.
       exact-chained (one_mode d) exact-one_mode kinds _ y.state
 
-  exact-one_rectangle : (size : Size) (kinds : ℕ) (slots : List (Option Size)) (limit : ℕ) (a : Told) (s : S) → IsExact (one_rectangle d size kinds slots limit a s)
+  exact-one_rectangle : (size : Size) (kinds : ℕ) (slots : List (Option Size)) (limit : ℕ) (a : Patches) (s : S) → IsExact (one_rectangle d size kinds slots limit a s)
   exact-one_rectangle size kinds slots limit a s =
       bind (exact-source slots s) λ r. bind (exact-token d 7 _ (λ v. exact-checked _) r.state) λ n.
-      exact-chained (one_place d size kinds r.value) (exact-one_place size kinds r.value) n.value _ n.state
+      exact-chained (one_place d size kinds (length a.places) r.value) (exact-one_place size kinds (length a.places) r.value) n.value _ n.state
 
   pub exact-dictionary : (size : Size) (extra : ℕ) (slots : List (Option Size)) (limit : ℕ) → IsExact (dictionary d size extra slots limit)
   exact-dictionary size extra slots limit = exact-coded d 10 _ λ s.
       bind (exact-token d 0 _ (λ v. exact-meant (codes "count of patches") (nat_le v (most_rectangles size)) v) s) λ n.
-      bind (exact-chained (one_rectangle d size (1 + extra) slots limit) (exact-one_rectangle size (1 + extra) slots limit) n.value _ n.state) λ all.
-      exact-give _
+      exact-chained (one_rectangle d size (1 + extra) slots limit) (exact-one_rectangle size (1 + extra) slots limit) n.value _ n.state

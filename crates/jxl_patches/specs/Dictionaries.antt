@@ -1,7 +1,7 @@
 -- A dictionary in memory, as patches, and what is true of those that were read.
 use Rattle.std.specs.Prelude.{◌≡◌, ℕ, ◌+◌, ◌*◌, ◌<◌, ◌≤◌, List, length, get_or, Option, Some, None}
 use Rattle.jxl_headers.specs.declared.size.Size.{Size}
-use Rattle.jxl_patches.specs.Patches.{Patches}
+use Rattle.jxl_patches.specs.Patches.{Patches, nowhere}
 use Rattle.jxl_patches.specs.declared.dictionary.Dictionary.{Dictionary}
 use Rattle.jxl_patches.specs.declared.dictionary.Place.{Place}
 
@@ -9,9 +9,6 @@ abbrev pub patches_of : Dictionary → Patches
 patches_of d = record { places = d.places.items; modes = d.modes.items }
 
 -- place n, and one that covers no cell where there are fewer
-abbrev pub nowhere : Place
-nowhere = record { source = record { slot = 0; x0 = 0; y0 = 0; width = 0; height = 0 }; x = 0; y = 0 }
-
 abbrev pub place_at : Patches → ℕ → Place
 place_at patches n = get_or patches.places n nowhere
 

@@ -4,8 +4,8 @@ use Rattle.std.specs.Global.{Vec}
 use Rattle.std.specs.Int.{int_wrap, w32}
 use Rattle.jxlm_base.specs.Grid.{Grid, grid, at}
 use Rattle.jxl_headers.specs.declared.size.Size.{Size}
-use Rattle.jxl_patches.specs.Dictionaries.{AreWithin, nowhere, place_at}
-use Rattle.jxl_patches.specs.Patches.{Patches}
+use Rattle.jxl_patches.specs.Dictionaries.{AreWithin, place_at}
+use Rattle.jxl_patches.specs.Patches.{Patches, nowhere}
 use Rattle.jxl_patches.specs.declared.dictionary.Place.{Place}
 use Rattle.jxl_patches.specs.declared.dictionary.PatchMode.{PatchMode}
 use Rattle.jxl_patches.specs.declared.dictionary.PatchMode.TheVariants.{Keep, Replace, Add}
@@ -19,11 +19,6 @@ abbrev pub mixed : PatchMode → ℤ → ℤ → ℤ
 mixed Keep v r = v
 mixed Replace v r = r
 mixed Add v r = int_wrap w32 (v +ℤ r)
-
--- of the modes of a place the one of this channel, where so many are of colours: the first of colours, then one of each extra
--- channel
-abbrev pub kind_of : ℕ → ℕ → ℕ
-kind_of colours channel = if nat_lt channel colours then 0 else 1 + (channel - colours)
 
 -- the channels of each slot
 abbrev pub frames_of : List (Vec (Grid ℤ)) → List (List (Grid ℤ))
@@ -40,8 +35,7 @@ put source p mode x y v = if covers p x y then mixed mode v (at source (p.source
 -- What the first n places make of a sample in column x of row y of a channel, one after another.
 unfoldable pub patched : List (List (Grid ℤ)) → Patches → ℕ → ℕ → ℕ → ℕ → ℕ → ℕ → ℤ → ℤ
 patched frames patches kinds kind channel x y zero v = v
-patched frames patches kinds kind channel x y (suc n) v =
-    let p : Place = get_or patches.places n nowhere in
+patched frames patches kinds kind channel x y (suc n) v = let p : Place = get_or patches.places n nowhere in
     put (channel_of frames p.source.slot channel) p (get_or patches.modes (n * kinds + kind) Keep) x y (patched frames patches kinds kind channel x y n v)
 
 -- how many modes a place has; its mode for a kind of channels, of so many kinds
@@ -87,17 +81,14 @@ abbrev pub ReadPatchesFit : Type 0
 ReadPatchesFit = (size : Size) (extra : ℕ) (slots : List (Option Size)) (patches : Patches) (frames : List (List (Grid ℤ))) (colours : ℕ) (channels : List (Grid ℤ)) →
     AreWithin size extra slots patches → AreSaved slots (length channels) frames → HaveSides size channels → length channels ≡ colours + extra → Fits frames colours patches channels
 
--- A channel is patched: it keeps its size, and each sample is what all places make of it.
-pub record IsPatched (frames : List (List (Grid ℤ))) (patches : Patches) (kinds kind channel : ℕ) (old new : Grid ℤ) : Type 0 where
-  pub width : new.width ≡ old.width
-  pub height : new.height ≡ old.height
-  pub each : (x y : ℕ) → x < old.width → y < old.height → at new x y ≡ patched frames patches kinds kind channel x y (length patches.places) (at old x y)
-
--- So are all channels, of which so many are colours.
+-- Channels, of which so many are colours, are patched: they keep their sizes, and each sample is what all places make of it. Colours
+-- take the first mode of a place, each extra channel one of its own.
 pub record ArePatched (frames : List (List (Grid ℤ))) (colours : ℕ) (patches : Patches) (old new : List (Grid ℤ)) : Type 0 where
   pub count : length new ≡ length old
-  pub each : (c : ℕ) → c < length old →
-      IsPatched frames patches (1 + (length old - colours)) (kind_of colours c) c (get_or old c (grid 0 0 [])) (get_or new c (grid 0 0 []))
+  pub width : (c : ℕ) → c < length old → (get_or new c (grid 0 0 [])).width ≡ (get_or old c (grid 0 0 [])).width
+  pub height : (c : ℕ) → c < length old → (get_or new c (grid 0 0 [])).height ≡ (get_or old c (grid 0 0 [])).height
+  pub each : (c x y : ℕ) → c < length old → x < (get_or old c (grid 0 0 [])).width → y < (get_or old c (grid 0 0 [])).height → at (get_or new c (grid 0 0 [])) x y
+      ≡ patched frames patches (1 + (length old - colours)) (1 + c - colours) c x y (length patches.places) (at (get_or old c (grid 0 0 [])) x y)
 
 -- A cell that no place covers stays as it is.
 abbrev pub UncoveredCellsStay : Type 0

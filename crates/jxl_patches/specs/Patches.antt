@@ -1,6 +1,7 @@
 -- The dictionary of patches: which rectangles of saved frames are put where (ISO/IEC 18181-1, frame: LF global, patches).
-use Rattle.std.specs.Prelude.{ℕ, ◌+◌, ◌-◌, ◌*◌, ◌/◌, ◌%◌, ◌==◌, ◌&&◌, nat_lt, nat_le, Bool, true, false, if◌then◌else◌, List, [], ◌∷◌, ◌++◌, length, get_or, codes, Option, Some, None, is_some, Result, Ok, Err}
-use Rattle.std.specs.Option.{option_map_or}
+use Rattle.std.specs.Prelude.{ℕ, ◌+◌, ◌-◌, ◌*◌, ◌/◌, ◌%◌, ◌==◌, ◌&&◌, nat_lt, nat_le, Bool, false, if◌then◌else◌, List, [], ◌∷◌, ◌++◌, length, get_or, codes, Option, Some, None, is_some, Result, Ok, Err}
+use Rattle.std.specs.List.{sum_by}
+use Rattle.std.specs.Option.{ok_or, option_and_then, option_map_or}
 use Rattle.jxlm_base.specs.Decoding.{Meaning}
 use Rattle.jxlm_base.specs.ErrorKind.{ErrorKind, BadEnum, BadProfile}
 use Rattle.jxlm_base.specs.Grammar.{Grammar, give, fail}
@@ -32,69 +33,51 @@ source d slots = do
   token d 2 (λ h. checked (if option_map_or (λ f. nat_lt (x0 + w) f.width && nat_lt (y0 + h) f.height) (get_or slots slot None) false
       then Ok (record { slot = slot; x0 = x0; y0 = y0; width = w + 1; height = h + 1 }) else Err (BadEnum (codes "rectangle of a patch") slot)))
 
--- A coordinate is told as it is; a later one as how far it lies from the one before: 2k for k, 2k + 1 for -k - 1. None where it
--- would be below 0.
+-- a coordinate is told as it is; a later one as how far it lies from the one before: 2k for k, 2k + 1 for -k - 1, if at 0 or above
 abbrev pub moved : Bool → ℕ → ℕ → Option ℕ
 moved later before v =
     if later then (if v % 2 == 0 then Some (before + v / 2) else if nat_lt (v / 2) before then Some (before - (v / 2 + 1)) else None) else Some v
 
 -- such a coordinate, from which so much lies within a side
-abbrev pub inside : ℕ → ℕ → ℕ → Option ℕ → Result ℕ ErrorKind
-inside extent side v (Some c) = if nat_le (c + extent) side then Ok c else Err (BadEnum (codes "place of a patch") v)
-inside extent side v None = Err (BadEnum (codes "place of a patch") v)
-
 abbrev pub coordinate : {S : Type 0} → Meaning S → Bool → ℕ → ℕ → ℕ → Tokens S ℕ
-coordinate d later before extent side = token d (if later then 6 else 4) (λ v. checked (inside extent side v (moved later before v)))
+coordinate d later before extent side = token d (if later then 6 else 4) (λ v.
+    checked (ok_or (option_and_then (λ c. if nat_le (c + extent) side then Some c else None) (moved later before v)) (BadEnum (codes "place of a patch") v)))
 
--- What was told so far: the places, and their modes, one list behind another; how many cells they put; and of the rectangle
--- at hand, whether a place was told, and the last one.
-pub record Told : Type 0 where
-  pub places : List Place
-  pub modes : List PatchMode
-  pub cells : ℕ
-  pub later : Bool
-  pub x : ℕ
-  pub y : ℕ
-
--- the mode of this number: samples are kept, replaced, or added; multiplied or blended by alpha they are not supported
-abbrev pub mode_of : ℕ → Result PatchMode ErrorKind
-mode_of v =
-    if v == 0 then Ok Keep else if v == 1 then Ok Replace else if v == 2 then Ok Add else
-    if nat_lt v 8 then Err (BadProfile (codes "patches that are blended")) else Err (BadEnum (codes "mode of a patch") v)
-
-abbrev pub one_mode : {S : Type 0} → Meaning S → Told → Tokens S Told
-one_mode d a = token d 5 (λ v. checked (mode_of v)) >>= λ m s. give (record {
-  value = record { places = a.places; modes = a.modes ++ m ∷ []; cells = a.cells; later = a.later; x = a.x; y = a.y };
-  state = s;
-})
-
--- a place of a rectangle in a frame of this size, and its modes: one of the colours together, and one of each extra channel
-abbrev pub one_place : {S : Type 0} → Meaning S → Size → ℕ → Rectangle → Told → Tokens S Told
-one_place d size kinds r a = do
-  x ← coordinate d a.later a.x r.width size.width
-  y ← coordinate d a.later a.y r.height size.height
-  chained (one_mode d) kinds (record { places = a.places ++ (record { source = r; x = x; y = y }) ∷ []; modes = a.modes; cells = a.cells; later = true; x = x; y = y })
-
--- a rectangle, and its places, with their modes: one place more than is told, with those before it at most four times as many
--- as there may be rectangles; and of all cells at most so many
-abbrev pub one_rectangle : {S : Type 0} → Meaning S → Size → ℕ → List (Option Size) → ℕ → Told → Tokens S Told
-one_rectangle d size kinds slots limit a = do
-  r ← source d slots
-  n ← token d 7 (λ v. checked (if nat_le (length a.places + (v + 1)) (4 * most_rectangles size)
-      then (if nat_le (a.cells + r.width * r.height * (v + 1)) limit then Ok (v + 1) else Err (BadProfile (codes "patches of too many cells")))
-      else Err (BadEnum (codes "places of a patch") v)))
-  chained (one_place d size kinds r) n (record { places = a.places; modes = a.modes; cells = a.cells + r.width * r.height * n; later = false; x = 0; y = 0 })
-
--- Patches, in the order in which they are put: where, and how; of each place one mode for the colours, and one for each extra
--- channel.
+-- patches, in the order in which they are put; of each place one mode for the colours, and one for each extra channel
 pub record Patches : Type 0 where
   pub places : List Place
   pub modes : List PatchMode
 
--- The dictionary of a frame of this size with so many extra channels, by a decoder of 10 contexts; each slot holds a saved frame
--- of its size, or none; and at most so many cells are put.
+-- a place that covers no cell
+abbrev pub nowhere : Place
+nowhere = record { source = record { slot = 0; x0 = 0; y0 = 0; width = 0; height = 0 }; x = 0; y = 0 }
+
+-- the mode of this number: samples are kept, replaced, or added; multiplied or blended by alpha they are not supported
+abbrev pub mode_of : ℕ → Result PatchMode ErrorKind
+mode_of v = if v == 0 then Ok Keep else if v == 1 then Ok Replace else if v == 2 then Ok Add else
+    if nat_lt v 8 then Err (BadProfile (codes "patches that are blended")) else Err (BadEnum (codes "mode of a patch") v)
+
+-- one mode more
+abbrev pub one_mode : {S : Type 0} → Meaning S → Patches → Tokens S Patches
+one_mode d a = token d 5 (λ v. checked (mode_of v)) >>= λ m s. give (record { value = record { places = a.places; modes = a.modes ++ m ∷ [] }; state = s })
+
+-- a place of a rectangle whose first is place n, told from the last one if it is a later one; and its modes
+abbrev pub one_place : {S : Type 0} → Meaning S → Size → ℕ → ℕ → Rectangle → Patches → Tokens S Patches
+one_place d size kinds n r a = do
+  x ← coordinate d (nat_lt n (length a.places)) (get_or a.places (length a.places - 1) nowhere).x r.width size.width
+  y ← coordinate d (nat_lt n (length a.places)) (get_or a.places (length a.places - 1) nowhere).y r.height size.height
+  chained (one_mode d) kinds (record { places = a.places ++ (record { source = r; x = x; y = y }) ∷ []; modes = a.modes })
+
+-- a rectangle, and its places, one more than is told: with those before not too many, and of not too many cells
+abbrev pub one_rectangle : {S : Type 0} → Meaning S → Size → ℕ → List (Option Size) → ℕ → Patches → Tokens S Patches
+one_rectangle d size kinds slots limit a = do
+  r ← source d slots
+  n ← token d 7 (λ v. checked (if nat_le (length a.places + (v + 1)) (4 * most_rectangles size) then (
+      if nat_le (sum_by (λ (p : Place). p.source.width * p.source.height) a.places + r.width * r.height * (v + 1)) limit then Ok (v + 1)
+      else Err (BadProfile (codes "patches of too many cells"))) else Err (BadEnum (codes "places of a patch") v)))
+  chained (one_place d size kinds (length a.places) r) n a
+
+-- the dictionary of a frame of this size with so many extra channels, of slots with these sizes, that puts at most so many cells
 abbrev pub dictionary : {S : Type 0} → Meaning S → Size → ℕ → List (Option Size) → ℕ → Grammar Patches
-dictionary d size extra slots limit = coded d 10 (
-    token d 0 (λ v. meant (codes "count of patches") (nat_le v (most_rectangles size)) v) >>= λ n.
-    chained (one_rectangle d size (1 + extra) slots limit) n (record { places = []; modes = []; cells = 0; later = false; x = 0; y = 0 }) >>= λ all s.
-    give (record { value = record { places = all.places; modes = all.modes }; state = s }))
+dictionary d size extra slots limit = coded d 10 (token d 0 (λ v. meant (codes "count of patches") (nat_le v (most_rectangles size)) v) >>= λ n.
+    chained (one_rectangle d size (1 + extra) slots limit) n (record { places = []; modes = [] }))

@@ -1,9 +1,9 @@
--- What the four slots hold, in which frames are saved, and the patches that a frame has of them (ISO/IEC 18181-1, frame:
--- saving, patches).
+-- What the four slots hold, and the patches that a frame has of it (ISO/IEC 18181-1, frame: saving, patches).
 use Rattle.std.specs.Prelude.{◌≡◌, ℕ, ◌+◌, ◌*◌, ℤ, List, [], length, replicate, set, Bool, Option, Some, None}
 use Rattle.jxlm_base.specs.Decoding.{Meaning}
-use Rattle.jxlm_base.specs.Grammar.{Grammar, give, either, ◌>>=◌}
+use Rattle.jxlm_base.specs.Grammar.{Grammar, give, ◌>>=◌}
 use Rattle.jxlm_base.specs.Grid.{Grid}
+use Rattle.jxl_headers.specs.Fields.{when}
 use Rattle.jxl_headers.specs.declared.size.Size.{Size}
 use Rattle.jxl_patches.specs.Patches.{Patches, dictionary}
 use Rattle.jxl_patches.specs.Patched.{ArePatched, AreSaved, HaveSides}
@@ -31,13 +31,10 @@ pub record AreOfSize (n : ℕ) (size : Size) (grids : List (Grid ℤ)) : Type 0 
   pub count : length grids ≡ n
   pub sides : HaveSides size grids
 
--- how many cells the patches of a frame may put, with repetitions: four times its own, and 4096
-abbrev pub patch_limit : Size → ℕ
-patch_limit size = 4096 + 4 * (size.width * size.height)
-
--- the dictionary of patches, if its header says that there is one, of a frame of this size with so many extra channels
+-- the dictionary of patches, if its header says that there is one, of a frame of this size with so many extra channels; they
+-- may put, with repetitions, four times its cells, and 4096
 abbrev pub optional_patches : {D : Type 0} → Meaning D → Bool → Size → ℕ → List (Option Size) → Grammar (Option Patches)
-optional_patches d there size extra sizes = either there (dictionary d size extra sizes (patch_limit size) >>= λ patches. give (Some patches)) (give None)
+optional_patches d there size extra sizes = when there (dictionary d size extra sizes (4096 + 4 * (size.width * size.height)) >>= λ p. give (Some p)) None
 
 -- Patches, if there are any, are put into channels, of which so many are colours.
 abbrev pub ArePut : Slots → ℕ → Option Patches → List (Grid ℤ) → List (Grid ℤ) → Type 0

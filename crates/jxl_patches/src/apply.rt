@@ -4,8 +4,8 @@ ghost use Rattle.std.specs.Prelude.{◌≡◌, ℕ, ◌+◌, ◌<◌, ◌≤◌,
 ghost use Rattle.std.specs.Int.{int_wrap, w32};
 ghost use Rattle.jxlm_base.specs.Grid.{at};
 ghost use Rattle.jxl_patches.specs.Dictionaries.{patches_of, place_at};
-ghost use Rattle.jxl_patches.specs.Patched.{channel_of, frames_of, mode_at, kind_of as the_kind_of, kinds_of as the_kinds_of, PlaceFits, Fits, IsPatched, ArePatched};
-ghost use Rattle.jxl_patches.specs.Inner.Rows.{IsRowMixed, IsPut, FitsChannel};
+ghost use Rattle.jxl_patches.specs.Patched.{channel_of, frames_of, mode_at, kinds_of as the_kinds_of, PlaceFits, Fits, ArePatched};
+ghost use Rattle.jxl_patches.specs.Inner.Rows.{IsRowMixed, IsPut, FitsChannel, IsPatched, kind_of as the_kind_of};
 
 use crate::dictionary::{Dictionary, PatchMode, Place};
 use jxlm_base::grid::AlignedGrid;

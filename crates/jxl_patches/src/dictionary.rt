@@ -6,11 +6,11 @@ ghost use Rattle.jxlm_base.specs.Bits.{bytes_of, position_of};
 ghost use Rattle.jxl_toc.specs.Turns.{chained};
 ghost use Rattle.jxl_patches.specs.Reading.{PatchesRead};
 ghost use Rattle.jxl_patches.specs.Patches.{one_rectangle as the_one_rectangle, dictionary as the_dictionary};
-ghost use Rattle.jxl_patches.specs.Inner.Steps.{StepRead, told_of};
+ghost use Rattle.jxl_patches.specs.Inner.Steps.{StepRead};
 ghost use Rattle.jxl_patches.specs.Dictionaries.{AreWithin, area, patches_of};
 
 use crate::error::Result;
-use crate::place::{Growing, places};
+use crate::place::places;
 use crate::source::{place_count, rectangle_count, source};
 use crate::token::decoder;
 use jxl_headers::size::Size;
@@ -59,7 +59,7 @@ pub struct Dictionary {
     pub modes: Vec<PatchMode>,
 }
 
-// One rectangle more, and its places.
+// One rectangle more, and its places, where so many cells are put before: gives how many are put with its own.
 fn one_rectangle<D: Decoder>(
     decoder: &mut D,
     bits: &mut Bitstream<'_>,
@@ -67,31 +67,32 @@ fn one_rectangle<D: Decoder>(
     kinds: usize,
     slots: &[Option<Size>],
     limit: u64,
-    growing: &mut Growing,
-) -> Result<()>
-    requires { length (D.meaning.cluster_map decoder.old) ≡ 10 }
+    cells: u64,
+    growing: &mut Dictionary,
+) -> Result<u64>
+    requires clusters { length (D.meaning.cluster_map decoder.old) ≡ 10 }
+    requires counted { cells ≡ sum_by area growing.old.places.items }
     ensures gives { StepRead result decoder.new growing.new (position_of bits.new)
-        ((the_one_rectangle D.meaning size kinds slots.now limit (told_of growing.old) decoder.old).read
+        ((the_one_rectangle D.meaning size kinds slots.now limit (patches_of growing.old) decoder.old).read
         (bytes_of bits.old) (position_of bits.old)) }
+    ensures counted { IfOk result (λ n. n ≡ sum_by area growing.new.places.items) }
     ensures clusters { IfOk result (λ _. length (D.meaning.cluster_map decoder.new) ≡ 10) }
     ensures bytes { bytes_of bits.new ≡ bytes_of bits.old }
 {
     let rectangle = source(decoder, bits, slots)?;
     let done = growing.places.len();
-    let counted = place_count(decoder, bits, size, done, growing.cells, rectangle, limit)?;
-    growing.cells = counted.cells;
-    growing.later = false;
-    growing.x = 0;
-    growing.y = 0;
+    let counted = place_count(decoder, bits, size, done, cells, rectangle, limit)?;
     places(
         decoder,
         bits,
         size,
         kinds,
+        done,
         rectangle,
         counted.places,
         growing,
-    )
+    )?;
+    Ok(counted.cells)
 }
 
 // So many rectangles.
@@ -103,16 +104,18 @@ fn rectangles<D: Decoder>(
     slots: &[Option<Size>],
     limit: u64,
     count: u32,
-    growing: &mut Growing,
+    growing: &mut Dictionary,
 ) -> Result<()>
-    requires { length (D.meaning.cluster_map decoder.old) ≡ 10 }
+    requires clusters { length (D.meaning.cluster_map decoder.old) ≡ 10 }
+    requires none { sum_by area growing.old.places.items ≡ 0 }
     ensures gives { StepRead result decoder.new growing.new (position_of bits.new)
-        ((chained (the_one_rectangle D.meaning size kinds slots.now limit) count (told_of growing.old) decoder.old).read
+        ((chained (the_one_rectangle D.meaning size kinds slots.now limit) count (patches_of growing.old) decoder.old).read
         (bytes_of bits.old) (position_of bits.old)) }
     ensures bytes { bytes_of bits.new ≡ bytes_of bits.old }
 {
+    let mut cells = 0;
     for _ in 0..count {
-        one_rectangle(decoder, bits, size, kinds, slots, limit, growing)?;
+        cells = one_rectangle(decoder, bits, size, kinds, slots, limit, cells, growing)?;
     }
     Ok(())
 }
@@ -133,13 +136,9 @@ fn read<D: Decoder>(
 {
     let mut decoder: D = decoder(alloc, bits, 10)?;
     let count = rectangle_count(&mut decoder, bits, size)?;
-    let mut growing = Growing {
+    let mut growing = Dictionary {
         places: Vec::new(alloc),
         modes: Vec::new(alloc),
-        cells: 0,
-        later: false,
-        x: 0,
-        y: 0,
     };
     let kinds = 1 + extra;
     rectangles(
@@ -153,15 +152,7 @@ fn read<D: Decoder>(
         &mut growing,
     )?;
     decoder.finalize()?;
-    let Growing {
-        places,
-        modes,
-        cells: _,
-        later: _,
-        x: _,
-        y: _,
-    } = growing;
-    Ok(Dictionary { places, modes })
+    Ok(growing)
 }
 
 impl Dictionary {

@@ -1,11 +1,11 @@
 //! The patches of a frame: they stand at the begin of its first section, and are put into its channels.
 
-ghost use Rattle.std.specs.Prelude.{◌≡◌, ◌+◌, ◌<◌, ◌≤◌, ◌^◌, length, IfOk};
+ghost use Rattle.std.specs.Prelude.{◌≡◌, ◌+◌, ◌*◌, ◌<◌, ◌≤◌, ◌^◌, length, IfOk};
 ghost use Rattle.std.specs.Option.{IfSome, option_map};
 ghost use Rattle.jxlm_base.specs.Bits.{bytes_of, position_of};
 ghost use Rattle.jxl_patches.specs.Dictionaries.{AreWithin, patches_of};
 ghost use Rattle.jxl_patches.specs.Reading.{PatchesRead};
-ghost use Rattle.jxl_patches.specs.Slots.{ArePut, AreOfSize, HoldFrames, optional_patches, patch_limit as the_patch_limit};
+ghost use Rattle.jxl_patches.specs.Slots.{ArePut, AreOfSize, HoldFrames, optional_patches};
 ghost use Rattle.jxl_patches.specs.SavedParts.{slots_of};
 
 use crate::dictionary::Dictionary;
@@ -21,7 +21,7 @@ use std::alloc::Global;
 fn patch_limit(size: Size) -> u64
     requires wide { size.width ≤ 2 ^ 30 }
     requires high { size.height ≤ 2 ^ 30 }
-    ensures { result ≡ the_patch_limit size }
+    ensures { result ≡ 4096 + 4 * (size.width * size.height) }
 {
     4096 + 4 * (u64::from(size.width) * u64::from(size.height))
 }

@@ -1,30 +1,18 @@
 //! The places at which a rectangle is put, and how.
 
-ghost use Rattle.std.specs.Prelude.{◌≡◌, ◌<◌, ◌^◌, length, IfOk, IfSome};
+ghost use Rattle.std.specs.Prelude.{◌≡◌, ◌<◌, ◌^◌, ◌-◌, length, get_or, IfOk, IfSome};
 ghost use Rattle.jxlm_base.specs.Bits.{bytes_of, position_of};
 ghost use Rattle.jxl_toc.specs.Turns.{chained};
-ghost use Rattle.jxl_patches.specs.Patches.{moved as the_moved, inside as the_inside, coordinate as the_coordinate, mode_of as the_mode_of, one_mode, one_place};
-ghost use Rattle.jxl_patches.specs.Inner.Steps.{TokenRead, Checks, StepRead, told_of};
+ghost use Rattle.jxl_patches.specs.Patches.{moved as the_moved, nowhere, coordinate as the_coordinate, mode_of as the_mode_of, one_mode, one_place};
+ghost use Rattle.jxl_patches.specs.Dictionaries.{patches_of};
+ghost use Rattle.jxl_patches.specs.Inner.Steps.{TokenRead, Checks, StepRead, inside as the_inside};
 
-use crate::dictionary::{PatchMode, Place, Rectangle};
+use crate::dictionary::{Dictionary, PatchMode, Place, Rectangle};
 use crate::error::{PatchError, Result};
 use crate::token::token;
 use jxl_headers::size::Size;
 use jxlm_base::bits::Bitstream;
 use jxlm_base::decoder::Decoder;
-
-/// What was read so far.
-#[derive(Drop)]
-pub struct Growing {
-    pub places: Vec<Place>,
-    pub modes: Vec<PatchMode>,
-    /// How many cells are put.
-    pub cells: u64,
-    /// Of the rectangle at hand, whether a place was read, and the last one.
-    pub later: bool,
-    pub x: u32,
-    pub y: u32,
-}
 
 fn moved(later: bool, before: u32, value: u32) -> Option<u64>
     ensures value { result ≡ the_moved later before value }
@@ -97,10 +85,14 @@ fn mode_of(value: u32) -> Result<PatchMode>
 }
 
 // One mode more.
-fn mode<D: Decoder>(decoder: &mut D, bits: &mut Bitstream<'_>, growing: &mut Growing) -> Result<()>
+fn mode<D: Decoder>(
+    decoder: &mut D,
+    bits: &mut Bitstream<'_>,
+    growing: &mut Dictionary,
+) -> Result<()>
     requires { length (D.meaning.cluster_map decoder.old) ≡ 10 }
     ensures gives { StepRead result decoder.new growing.new (position_of bits.new)
-        ((one_mode D.meaning (told_of growing.old) decoder.old).read (bytes_of bits.old) (position_of bits.old)) }
+        ((one_mode D.meaning (patches_of growing.old) decoder.old).read (bytes_of bits.old) (position_of bits.old)) }
     ensures clusters { IfOk result (λ _. D.meaning.cluster_map decoder.new ≡ D.meaning.cluster_map decoder.old) }
     ensures bytes { bytes_of bits.new ≡ bytes_of bits.old }
 {
@@ -115,11 +107,11 @@ fn modes<D: Decoder>(
     decoder: &mut D,
     bits: &mut Bitstream<'_>,
     kinds: usize,
-    growing: &mut Growing,
+    growing: &mut Dictionary,
 ) -> Result<()>
     requires { length (D.meaning.cluster_map decoder.old) ≡ 10 }
     ensures gives { StepRead result decoder.new growing.new (position_of bits.new)
-        ((chained (one_mode D.meaning) kinds (told_of growing.old) decoder.old).read (bytes_of bits.old)
+        ((chained (one_mode D.meaning) kinds (patches_of growing.old) decoder.old).read (bytes_of bits.old)
         (position_of bits.old)) }
     ensures clusters { IfOk result (λ _. length (D.meaning.cluster_map decoder.new) ≡ 10) }
     ensures bytes { bytes_of bits.new ≡ bytes_of bits.old }
@@ -130,51 +122,69 @@ fn modes<D: Decoder>(
     Ok(())
 }
 
-// One place more.
+// The last of these places, and one that covers no cell where there is none.
+fn last(places: &[Place]) -> Place
+    ensures { result ≡ get_or places.now (length places.now - 1) nowhere }
+{
+    let n = places.len().saturating_sub(1);
+    if let Some(place) = places.get(n) {
+        return *place;
+    }
+    let source = Rectangle {
+        slot: 0,
+        x0: 0,
+        y0: 0,
+        width: 0,
+        height: 0,
+    };
+    Place { source, x: 0, y: 0 }
+}
+
+// One place more of a rectangle, whose places are those from the first of these on.
 fn place<D: Decoder>(
     decoder: &mut D,
     bits: &mut Bitstream<'_>,
     size: Size,
     kinds: usize,
+    first: usize,
     source: Rectangle,
-    growing: &mut Growing,
+    growing: &mut Dictionary,
 ) -> Result<()>
     requires { length (D.meaning.cluster_map decoder.old) ≡ 10 }
     ensures gives { StepRead result decoder.new growing.new (position_of bits.new)
-        ((one_place D.meaning size kinds source (told_of growing.old) decoder.old).read (bytes_of bits.old)
+        ((one_place D.meaning size kinds first source (patches_of growing.old) decoder.old).read (bytes_of bits.old)
         (position_of bits.old)) }
     ensures clusters { IfOk result (λ _. length (D.meaning.cluster_map decoder.new) ≡ 10) }
     ensures bytes { bytes_of bits.new ≡ bytes_of bits.old }
 {
-    let later = growing.later;
-    let x = coordinate(decoder, bits, later, growing.x, source.width, size.width)?;
-    let y = coordinate(decoder, bits, later, growing.y, source.height, size.height)?;
+    let later = first < growing.places.len();
+    let before = last(&growing.places);
+    let x = coordinate(decoder, bits, later, before.x, source.width, size.width)?;
+    let y = coordinate(decoder, bits, later, before.y, source.height, size.height)?;
     growing.places.push(Place { source, x, y })?;
-    growing.later = true;
-    growing.x = x;
-    growing.y = y;
     modes(decoder, bits, kinds, growing)
 }
 
-/// So many places of a rectangle.
+/// So many places of a rectangle, after those of the rectangles before, of which there are `first`.
 pub fn places<D: Decoder>(
     decoder: &mut D,
     bits: &mut Bitstream<'_>,
     size: Size,
     kinds: usize,
+    first: usize,
     source: Rectangle,
     count: u64,
-    growing: &mut Growing,
+    growing: &mut Dictionary,
 ) -> Result<()>
     requires { length (D.meaning.cluster_map decoder.old) ≡ 10 }
     ensures gives { StepRead result decoder.new growing.new (position_of bits.new)
-        ((chained (one_place D.meaning size kinds source) count (told_of growing.old) decoder.old).read
+        ((chained (one_place D.meaning size kinds first source) count (patches_of growing.old) decoder.old).read
         (bytes_of bits.old) (position_of bits.old)) }
     ensures clusters { IfOk result (λ _. length (D.meaning.cluster_map decoder.new) ≡ 10) }
     ensures bytes { bytes_of bits.new ≡ bytes_of bits.old }
 {
     for _ in 0..count {
-        place(decoder, bits, size, kinds, source, growing)?;
+        place(decoder, bits, size, kinds, first, source, growing)?;
     }
     Ok(())
 }

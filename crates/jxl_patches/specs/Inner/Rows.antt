@@ -1,9 +1,9 @@
 -- Rows and channels while patches are put into them.
-use Rattle.std.specs.Prelude.{◌≡◌, ◌⊎◌, ℕ, ◌+◌, ◌*◌, ◌<◌, ◌≤◌, List, [], length, get_or, ℤ, pos}
+use Rattle.std.specs.Prelude.{◌≡◌, ◌⊎◌, ℕ, ◌+◌, ◌-◌, ◌*◌, ◌<◌, ◌≤◌, List, [], length, get_or, ℤ, pos}
 use Rattle.jxlm_base.specs.Grid.{Grid, at, IsFull}
 use Rattle.jxl_patches.specs.Dictionaries.{place_at}
 use Rattle.jxl_patches.specs.Patches.{Patches}
-use Rattle.jxl_patches.specs.Patched.{PlaceFits, channel_of, mixed, put}
+use Rattle.jxl_patches.specs.Patched.{PlaceFits, channel_of, mixed, patched, put}
 use Rattle.jxl_patches.specs.declared.dictionary.Place.{Place}
 use Rattle.jxl_patches.specs.declared.dictionary.PatchMode.{PatchMode}
 
@@ -31,3 +31,13 @@ pub record FitsChannel (frames : List (List (Grid ℤ))) (patches : Patches) (ki
   pub slots : (n : ℕ) → n < length patches.places → (place_at patches n).source.slot < length frames
   pub held : (n : ℕ) → n < length patches.places → channel < length (get_or frames (place_at patches n).source.slot [])
   pub places : (n : ℕ) → n < length patches.places → PlaceFits (place_at patches n) (channel_of frames (place_at patches n).source.slot channel) grid
+
+-- of the modes of a place that of this channel, where so many are of colours: the first of colours, then one of each extra channel
+abbrev pub kind_of : ℕ → ℕ → ℕ
+kind_of colours channel = 1 + channel - colours
+
+-- a channel is patched: it keeps its size, and each sample is what all places make of it
+pub record IsPatched (frames : List (List (Grid ℤ))) (patches : Patches) (kinds kind channel : ℕ) (old new : Grid ℤ) : Type 0 where
+  pub width : new.width ≡ old.width
+  pub height : new.height ≡ old.height
+  pub each : (x y : ℕ) → x < old.width → y < old.height → at new x y ≡ patched frames patches kinds kind channel x y (length patches.places) (at old x y)

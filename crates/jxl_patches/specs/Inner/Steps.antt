@@ -1,21 +1,18 @@
 -- What calls and loops that read patches return.
-use Rattle.std.specs.Prelude.{◌≡◌, ℕ, ◌+◌, ◌*◌, ◌&&◌, nat_lt, nat_le, false, if◌then◌else◌, List, get_or, codes, Option, None, is_some, Result, Ok, Err}
-use Rattle.std.specs.Option.{option_map_or}
+use Rattle.std.specs.Prelude.{◌≡◌, ℕ, ◌+◌, ◌*◌, ◌&&◌, nat_lt, nat_le, false, if◌then◌else◌, List, get_or, codes, Option, Some, None, is_some, Result, Ok, Err}
+use Rattle.std.specs.Option.{ok_or, option_and_then, option_map_or}
 use Rattle.jxlm_base.specs.Decoding.{Found, Meaning}
 use Rattle.jxlm_base.specs.ErrorKind.{BadEnum, BadProfile, ErrorAt, ErrorKind, UnlessMemory}
 use Rattle.jxlm_base.specs.Grammar.{Grammar, IsErrorAt, ◌>>=◌}
 use Rattle.jxl_headers.specs.Fields.{meant}
 use Rattle.jxl_headers.specs.declared.size.Size.{Size}
 use Rattle.jxl_toc.specs.Tokens.{After, Tokens, called, token}
+use Rattle.jxl_patches.specs.Dictionaries.{patches_of}
 use Rattle.jxl_patches.specs.Errors.{patch_kind}
-use Rattle.jxl_patches.specs.Patches.{Told, checked, most_rectangles}
+use Rattle.jxl_patches.specs.Patches.{Patches, checked, most_rectangles}
+use Rattle.jxl_patches.specs.declared.dictionary.Dictionary.{Dictionary}
 use Rattle.jxl_patches.specs.declared.dictionary.Rectangle.{Rectangle}
 use Rattle.jxl_patches.specs.declared.error.PatchError.{PatchError}
-use Rattle.jxl_patches.specs.declared.place.Growing.{Growing}
-
--- what was told so far, seen without its memory
-abbrev pub told_of : Growing → Told
-told_of g = record { places = g.places.items; modes = g.modes.items; cells = g.cells; later = g.later; x = g.x; y = g.y }
 
 -- What was read, seen by view, and the decoder's state s and the reader's position q after it, are what reading gives, unless it
 -- or the decoder is out of memory.
@@ -23,9 +20,10 @@ abbrev pub TokenRead : {S X Y : Type 0} → (X → Y) → Result X PatchError �
 TokenRead view (Ok v) s q reading = reading ≡ Ok (record { value = record { value = view v; state = s }; position = q })
 TokenRead view (Err e) s q reading = UnlessMemory (patch_kind e) (IsErrorAt reading (patch_kind e) q)
 
-abbrev pub StepRead : {S : Type 0} → Result (Unit {0}) PatchError → S → Growing → ℕ → Result (Found (After S Told)) ErrorAt → Type 0
-StepRead (Ok u) s g q reading = reading ≡ Ok (record { value = record { value = told_of g; state = s }; position = q })
-StepRead (Err e) s g q reading = UnlessMemory (patch_kind e) (IsErrorAt reading (patch_kind e) q)
+-- So are the patches in memory that were read so far, whatever the call returned besides.
+abbrev pub StepRead : {S X : Type 0} → Result X PatchError → S → Dictionary → ℕ → Result (Found (After S Patches)) ErrorAt → Type 0
+StepRead (Ok x) s told q reading = reading ≡ Ok (record { value = record { value = patches_of told; state = s }; position = q })
+StepRead (Err e) s told q reading = UnlessMemory (patch_kind e) (IsErrorAt reading (patch_kind e) q)
 
 -- a check returned this value, or this error
 abbrev pub Checks : {X : Type 0} → Result X PatchError → Result X ErrorKind → Type 0
@@ -56,3 +54,7 @@ count_within size done cells r limit v = if nat_le (done + (v + 1)) (4 * most_re
 
 abbrev pub place_count : {S : Type 0} → Meaning S → Size → ℕ → ℕ → Rectangle → ℕ → Tokens S ℕ
 place_count d size done cells r limit = token d 7 (λ v. checked (count_within size done cells r limit v))
+
+-- a coordinate, from which so much lies within a side
+abbrev pub inside : ℕ → ℕ → ℕ → Option ℕ → Result ℕ ErrorKind
+inside extent side v place = ok_or (option_and_then (λ c. if nat_le (c + extent) side then Some c else None) place) (BadEnum (codes "place of a patch") v)

@@ -6,20 +6,20 @@ use Rattle.jxlm_base.specs.Grammar.{IsErrorAt}
 use Rattle.jxl_toc.proofs.Chains.{chain_step, chain_fails, chain_ends}
 use Rattle.jxl_patches.specs.Errors.{patch_kind}
 use Rattle.jxl_patches.specs.Patches.{one_rectangle}
-use Rattle.jxl_patches.specs.Inner.Steps.{told_of}
+use Rattle.jxl_patches.specs.Dictionaries.{patches_of}
 use Rattle.jxl_patches.proofs.dictionary.rectangles.Goals as goal
 
-pub returns-in_err-one_rectangle-clause-gives : goal.returns-in_err-one_rectangle-clause-gives
-returns-in_err-one_rectangle-clause-gives g c =
+pub returns-in_err-cells-clause-gives : goal.returns-in_err-cells-clause-gives
+returns-in_err-cells-clause-gives g c =
     let p = err_from_is_err_and c.from_residual.result c.from_residual.ensures.1 in
     let d = g.D.Decoder.meaning in
-    let error = patch_kind c.in_err-one_rectangle.field-0.0 in
+    let error = patch_kind c.in_err-cells.field-0.0 in
     let bytes = bytes_of c.args.bits.now in
-    let x = told_of c.loop.growing in
+    let x = patches_of c.loop.growing in
     let s = c.loop.decoder in
     let at = position_of c.loop.bits in
     let q = position_of c.one_rectangle.new.bits in
-    let one : UnlessMemory error (IsErrorAt ((one_rectangle d c.args.size c.args.kinds c.args.slots.now c.args.limit x s).read bytes at) error q) = rw c.loop.invariant.same at c.in_err-one_rectangle.ensures.gives in
+    let one : UnlessMemory error (IsErrorAt ((one_rectangle d c.args.size c.args.kinds c.args.slots.now c.args.limit x s).read bytes at) error q) = rw c.loop.invariant.same at c.in_err-cells.ensures.gives in
     let this = chain_fails (one_rectangle d c.args.size c.args.kinds c.args.slots.now c.args.limit) bytes c.args.count c.loop.counter at q x s error c.loop-test.true one in
     rw (p.1, p.2) (rw c.loop.invariant.read at this)
 
@@ -27,23 +27,24 @@ pub loop-preserved : goal.loop-preserved
 loop-preserved g c =
     let d = g.D.Decoder.meaning in
     let bytes = bytes_of c.args.bits.now in
-    let x = told_of c.loop.growing in
+    let x = patches_of c.loop.growing in
     let s = c.loop.decoder in
-    let y = told_of c.one_rectangle.new.growing in
+    let y = patches_of c.one_rectangle.new.growing in
     let t = c.one_rectangle.new.decoder in
     let at = position_of c.loop.bits in
     let q = position_of c.one_rectangle.new.bits in
-    let one = rw c.loop.invariant.same at c.in_ok-one_rectangle.ensures.gives in
+    let one = rw c.loop.invariant.same at c.in_ok-cells.ensures.gives in
     record {
       same = c.one_rectangle.ensures.bytes ∙ c.loop.invariant.same;
-      clusters = c.in_ok-one_rectangle.ensures.clusters;
+      clusters = c.in_ok-cells.ensures.clusters;
+      counted = c.in_ok-cells.ensures.counted;
       read = sym (chain_step (one_rectangle d c.args.size c.args.kinds c.args.slots.now c.args.limit) bytes c.args.count c.loop.counter at q x y s t c.loop-test.true one) ∙ c.loop.invariant.read;
     }
 
 pub returns-clause-gives : goal.returns-clause-gives
 returns-clause-gives g c =
     let d = g.D.Decoder.meaning in
-    let x = told_of c.loop.growing in
+    let x = patches_of c.loop.growing in
     let s = c.loop.decoder in
     let end = chain_ends (one_rectangle d c.args.size c.args.kinds c.args.slots.now c.args.limit) (bytes_of c.args.bits.now) c.args.count c.loop.counter (position_of c.loop.bits) x s c.loop-test.false in
     sym c.loop.invariant.read ∙ end

@@ -6,7 +6,7 @@ use Rattle.jxlm_base.specs.Grammar.{IsErrorAt}
 use Rattle.jxl_toc.proofs.Chains.{chain_step, chain_fails, chain_ends}
 use Rattle.jxl_patches.specs.Errors.{patch_kind}
 use Rattle.jxl_patches.specs.Patches.{one_mode}
-use Rattle.jxl_patches.specs.Inner.Steps.{told_of}
+use Rattle.jxl_patches.specs.Dictionaries.{patches_of}
 use Rattle.jxl_patches.proofs.place.modes.Goals as goal
 
 pub returns-in_err-mode-clause-gives : goal.returns-in_err-mode-clause-gives
@@ -15,7 +15,7 @@ returns-in_err-mode-clause-gives g c =
     let d = g.D.Decoder.meaning in
     let error = patch_kind c.in_err-mode.field-0.0 in
     let bytes = bytes_of c.args.bits.now in
-    let x = told_of c.loop.growing in
+    let x = patches_of c.loop.growing in
     let s = c.loop.decoder in
     let at = position_of c.loop.bits in
     let q = position_of c.mode.new.bits in
@@ -27,9 +27,9 @@ pub loop-preserved : goal.loop-preserved
 loop-preserved g c =
     let d = g.D.Decoder.meaning in
     let bytes = bytes_of c.args.bits.now in
-    let x = told_of c.loop.growing in
+    let x = patches_of c.loop.growing in
     let s = c.loop.decoder in
-    let y = told_of c.mode.new.growing in
+    let y = patches_of c.mode.new.growing in
     let t = c.mode.new.decoder in
     let at = position_of c.loop.bits in
     let q = position_of c.mode.new.bits in
@@ -43,7 +43,7 @@ loop-preserved g c =
 pub returns-clause-gives : goal.returns-clause-gives
 returns-clause-gives g c =
     let d = g.D.Decoder.meaning in
-    let x = told_of c.loop.growing in
+    let x = patches_of c.loop.growing in
     let s = c.loop.decoder in
     let end = chain_ends (one_mode d) (bytes_of c.args.bits.now) c.args.kinds c.loop.counter (position_of c.loop.bits) x s c.loop-test.false in
     sym c.loop.invariant.read ∙ end

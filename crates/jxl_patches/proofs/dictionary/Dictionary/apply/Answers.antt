@@ -2,7 +2,8 @@ use Rattle.std.proofs.Common.{◌≡◌, ℕ, ℤ, ◌<◌, [], length, get_or, 
 use Rattle.std.proofs.lemmas.List.{get_or_default, length-set}
 use Rattle.jxlm_base.specs.Grid.{Grid, grid}
 use Rattle.jxl_patches.specs.Dictionaries.{patches_of}
-use Rattle.jxl_patches.specs.Patched.{frames_of, kinds_of, kind_of, IsPatched}
+use Rattle.jxl_patches.specs.Patched.{frames_of, kinds_of}
+use Rattle.jxl_patches.specs.Inner.Rows.{kind_of, IsPatched}
 use Rattle.jxl_patches.proofs.Channels.{channels_more, channels_left, kind_below}
 use Rattle.jxl_patches.proofs.dictionary.Dictionary.apply.Goals as goal
 
@@ -48,4 +49,5 @@ loop-channel-preserved c =
 pub returns : goal.returns
 returns c =
     let i = c.loop-channel.invariant in
-    record { count = i.count; each = λ k h. i.done k (omega (arith, h, i.count, c.loop-channel-test.false)) }
+    let done = λ (k : ℕ) (h : k < length c.args.channels.now). i.done k (omega (arith, h, i.count, c.loop-channel-test.false)) in
+    record { count = i.count; width = λ k h. (done k h).width; height = λ k h. (done k h).height; each = λ k x y h. (done k h).each x y }

@@ -1,7 +1,8 @@
 use Rattle.std.proofs.Common.{◌≡◌, ℕ, ◌<◌, ◌≤◌, [], length, get_or}
 use Rattle.jxlm_base.specs.Grid.{grid}
 use Rattle.jxl_patches.specs.Dictionaries.{patches_of}
-use Rattle.jxl_patches.specs.Patched.{frames_of, kinds_of, kind_of, IsPatched}
+use Rattle.jxl_patches.specs.Patched.{frames_of, kinds_of}
+use Rattle.jxl_patches.specs.Inner.Rows.{kind_of, IsPatched}
 use Rattle.jxl_patches.proofs.dictionary.Dictionary.apply.Given as goal
 
 abbrev pub invariant-loop-channel : goal.invariant-loop-channel
