@@ -34,7 +34,7 @@ pub fn fields(
     Ok(values)
 }
 
-/// A `U32` field, where it is there.
+/// A `U32` field where it is there, and else `usual`.
 pub fn field_if(
     bits: &mut Bitstream<'_>,
     there: bool,

@@ -41,7 +41,7 @@ pub fn field(
     bits.read_u32(d0, d1, d2, d3)
 }
 
-/// A flag, where it is there.
+/// A flag where it is there, and else `usual`.
 pub fn flag_if(bits: &mut Bitstream<'_>, there: bool, usual: bool) -> Result<bool>
     ensures gives { Reads (λ v. v) result (position_of bits.new)
         ((when there flag usual).read (bytes_of bits.old) (position_of bits.old)) }
@@ -50,7 +50,7 @@ pub fn flag_if(bits: &mut Bitstream<'_>, there: bool, usual: bool) -> Result<boo
     if there { bits.read_bool() } else { Ok(usual) }
 }
 
-/// The number of `n` bits, where it is there.
+/// The number of `n` bits, at most 32, where it is there, and else `usual`, which has no more bits.
 pub fn number_if(bits: &mut Bitstream<'_>, there: bool, n: u32, usual: u32) -> Result<u32>
     requires n { n ≤ 32 }
     requires usual { usual < 2 ^ n }
@@ -126,7 +126,7 @@ pub fn long(bits: &mut Bitstream<'_>) -> Result<u64>
     grouped(bits)
 }
 
-/// A `U64`, where it is there.
+/// A `U64` where it is there, and else 0.
 pub fn long_if(bits: &mut Bitstream<'_>, there: bool) -> Result<u64>
     ensures gives { Reads (λ v. v) result (position_of bits.new)
         ((when there the_long 0).read (bytes_of bits.old) (position_of bits.old)) }
@@ -176,7 +176,7 @@ pub fn skip(bits: &mut Bitstream<'_>, count: u32) -> Result<()>
     skip_bits(bits, 8 * u128::from(count))
 }
 
-/// Passes `count` bytes, where they are there.
+/// Passes `count` bytes where they are there, as [`skip`] does.
 pub fn skip_if(bits: &mut Bitstream<'_>, there: bool, count: u32) -> Result<()>
     ensures gives { Reads (λ v. v) result (position_of bits.new)
         ((when there (skipped count) tt).read (bytes_of bits.old) (position_of bits.old)) }
@@ -213,7 +213,7 @@ pub fn extensions(bits: &mut Bitstream<'_>) -> Result<u64>
     Ok(mask)
 }
 
-/// Passes extensions, where they are there.
+/// Passes extensions where they are there; else there are none, and it returns 0.
 pub fn extensions_if(bits: &mut Bitstream<'_>, there: bool) -> Result<u64>
     ensures gives { Reads (λ v. v) result (position_of bits.new)
         ((when there the_extensions 0).read (bytes_of bits.old) (position_of bits.old)) }
@@ -239,7 +239,7 @@ pub fn name(bits: &mut Bitstream<'_>) -> Result<u32>
     Ok(count)
 }
 
-/// Passes a name, where it is there.
+/// Passes a name where it is there; else it has no bytes.
 pub fn name_if(bits: &mut Bitstream<'_>, there: bool) -> Result<u32>
     ensures gives { Reads (λ v. v) result (position_of bits.new)
         ((when there the_name 0).read (bytes_of bits.old) (position_of bits.old)) }
