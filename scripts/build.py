@@ -1,19 +1,20 @@
 #!/usr/bin/env python3
-"""Proves and builds a program of this repository, with all processors: `python3 scripts/build.py jxldec`.
+"""Proves and builds a program of this repository: `python3 scripts/build.py jxldec`.
 
-Each library below the program is proved once those that it uses are, the longest chain first, by `rt lib`; then `rt run` proves the
-program, compiles and links it, and runs it once with the arguments that follow its name. What is proved already is kept in
-crates/NAME/out, and is not proved again. `--list` prints the libraries, and proves nothing.
+`rt all check` proves the program and the libraries below it, on all processors that memory allows, and `rt run` links the program and
+runs it once, with the arguments that follow its name. Both work in a copy of these crates alone, since `rt all` takes every crate that
+a crates.txt lists. What they proved stays in crates/NAME/out, so that the next call proves only what has changed.
 """
-import concurrent.futures
 import os
+import shutil
 import subprocess
 import sys
+import tempfile
 import time
 
 ROOT = os.path.dirname(os.path.dirname(os.path.abspath(__file__)))
-# A check takes up to 3 GB, and another half of it for each further job.
-MEMORY = 3 << 30
+# The memory of a check, at most.
+MEMORY = 4 << 30
 
 
 def libraries():
@@ -24,69 +25,67 @@ def libraries():
             name, colon, rest = line.partition("#")[0].partition(":")
             if colon:
                 uses[name.split()[0]] = rest.split()
-    return {name: [it for it in below if it in uses] for name, below in uses.items()}
+    return uses
 
 
 def all_below(uses, name):
-    """Returns the crates below a crate, lowest first."""
+    """Returns a crate and the crates below it, lowest first."""
     found = []
-    for it in uses[name]:
-        found += [below for below in [*all_below(uses, it), it] if below not in found]
-    return found
+    for below in uses[name]:
+        if below in uses:
+            found += [it for it in all_below(uses, below) if it not in found]
+    return [*found, name]
 
 
-def lines(name):
-    """Returns the number of lines of a crate, by which its proof takes time."""
-    count = 0
-    for folder, _, files in os.walk(f"{ROOT}/crates/{name}"):
-        if f"{name}/out" not in folder:
-            for file in files:
-                if file.endswith((".rt", ".antt")):
-                    with open(f"{folder}/{file}", "rb") as it:
-                        count += it.read().count(b"\n")
-    return count
-
-
-def free_memory():
-    """Returns the free memory in bytes."""
+def processors():
+    """Returns how many checks run side by side: one a processor, as far as memory allows."""
     with open("/proc/meminfo", encoding="ascii") as file:
-        return next(1024 * int(it.split()[1]) for it in file if it.startswith("MemAvailable"))
+        free = next(1024 * int(it.split()[1]) for it in file if it.startswith("MemAvailable"))
+    return max(1, min(len(os.sched_getaffinity(0)), free // MEMORY))
 
 
-def prove(name, jobs):
-    """Proves a library over what an earlier run kept, and returns whether it is proved, with what rt printed."""
-    began = time.time()
-    command = ["rt", "lib", "--jobs", str(jobs)]
-    ran = subprocess.run(command, cwd=f"{ROOT}/crates/{name}", capture_output=True, text=True, errors="replace", check=False)
-    print(f"{name}: {'proved' if ran.returncode == 0 else 'NOT PROVED'}, {time.time() - began:.0f} s", flush=True)
-    return ran.returncode == 0, ran.stdout + ran.stderr
+def lay_out(uses, names, room):
+    """Copies these crates to a folder; what earlier runs proved moves there."""
+    for name in names:
+        own, copy = f"{ROOT}/crates/{name}", f"{room}/crates/{name}"
+        os.makedirs(copy, exist_ok=True)
+        for part in os.listdir(copy):
+            if part != "out":
+                shutil.rmtree(f"{copy}/{part}") if os.path.isdir(f"{copy}/{part}") else os.remove(f"{copy}/{part}")
+        for part in os.listdir(own):
+            if part == "out":
+                if not os.path.isdir(f"{copy}/out"):
+                    shutil.move(f"{own}/out", copy)
+            elif os.path.isdir(f"{own}/{part}"):
+                shutil.copytree(f"{own}/{part}", f"{copy}/{part}")
+            else:
+                shutil.copy(f"{own}/{part}", copy)
+    shutil.copy(f"{ROOT}/HANDLES", room)
+    with open(f"{room}/crates.txt", "w", encoding="utf-8") as file:
+        file.writelines(f"{name}: {' '.join(uses[name])}\n" for name in names)
 
 
-def prove_all(uses, names):
-    """Proves these libraries side by side, and returns whether all are proved."""
-    behind = {it: lines(it) for it in names}
-    for name in reversed(names):
-        behind[name] += max((behind[it] for it in names if name in uses[it]), default=0)
-    lanes = max(1, min(len(os.sched_getaffinity(0)), free_memory() // MEMORY))
-    left, running, done, idle = sorted(names, key=lambda it: -behind[it]), {}, set(), lanes
-    with concurrent.futures.ThreadPoolExecutor(lanes) as pool:
-        while left or running:
-            ready = [it for it in left if done.issuperset(uses[it])][:idle]
-            for at, name in enumerate(ready):
-                jobs = max(1, idle // (len(ready) - at))
-                left.remove(name)
-                running[pool.submit(prove, name, jobs)] = name, jobs
-                idle -= jobs
-            ended = concurrent.futures.wait(running, return_when=concurrent.futures.FIRST_COMPLETED).done
-            for it in ended:
-                name, jobs = running.pop(it)
-                idle += jobs
-                is_proved, said = it.result()
-                if not is_proved:
-                    print(said, file=sys.stderr)
-                    return False
-                done.add(name)
-    return True
+def give_back(names, room):
+    """Moves what was proved back to the repository's crates."""
+    for name in names:
+        if os.path.isdir(f"{room}/crates/{name}/out"):
+            shutil.rmtree(f"{ROOT}/crates/{name}/out", ignore_errors=True)
+            shutil.move(f"{room}/crates/{name}/out", f"{ROOT}/crates/{name}")
+    shutil.rmtree(room)
+
+
+def prove(room):
+    """Proves all crates of a folder, prints a line for each, and returns whether all are proved."""
+    began, said = time.time(), []
+    command = ["rt", "all", "check", "--jobs", str(processors())]
+    with subprocess.Popen(command, cwd=room, stdout=subprocess.PIPE, stderr=subprocess.STDOUT, text=True, errors="replace") as ran:
+        for line in ran.stdout:
+            said.append(line)
+            if line.startswith("== "):
+                print(f"{time.time() - began:5.0f} s {line[3:].strip()}", flush=True)
+    if ran.returncode:
+        print("".join(said[-60:]), file=sys.stderr)
+    return ran.returncode == 0
 
 
 def main(words):
@@ -95,16 +94,22 @@ def main(words):
         sys.exit(__doc__)
     name, *arguments = words
     names = all_below(uses, name)
-    if arguments == ["--list"]:
-        print("\n".join(names))
-        return 0
-    if not prove_all(uses, names):
-        return 1
-    with open(os.devnull, "rb") as nothing:
-        given = f"{ROOT}/crates/{name}/stdin"
-        with open(given, "rb") if os.path.isfile(given) else nothing as stdin:
-            ran = subprocess.run(["rt", "run", "--", *arguments], cwd=f"{ROOT}/crates/{name}", stdin=stdin, check=False)
-    if ran.returncode == 0:
+    print(f"{name}: {len(names)} crates to prove, but those that crates/NAME/out has proved; the time at which each is done", flush=True)
+    room = f"{ROOT}/.git" if os.path.isdir(f"{ROOT}/.git") else tempfile.gettempdir()
+    room = f"{room}/build-{name}"
+    lay_out(uses, names, room)
+    try:
+        if not prove(room):
+            return 1
+        given = f"{room}/crates/{name}/stdin"
+        with open(given if os.path.isfile(given) else os.devnull, "rb") as stdin:
+            command = ["rt", "run", "--", *arguments]
+            ran = subprocess.run(command, cwd=f"{room}/crates/{name}", stdin=stdin, stderr=subprocess.PIPE, check=False)
+    finally:
+        give_back(names, room)
+    if ran.returncode:
+        print(ran.stderr.decode(errors="replace")[-4000:], file=sys.stderr)
+    else:
         print(f"crates/{name}/out/{name}")
     return ran.returncode
 
