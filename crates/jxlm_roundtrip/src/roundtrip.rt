@@ -103,8 +103,8 @@ fn decoded<S: Sample, D: Decoder>(
     }
 }
 
-/// Encodes an image by [`encode`], decodes the bytes that were written, and returns the picture that stands in them: the
-/// image itself, whatever the side of groups and the bit depth that it is read by.
+/// Encodes an image by [`encode`], decodes the bytes that were written, and returns the picture that stands in them:
+/// the image itself, whatever the side of groups and the bit depth that it is read by.
 ///
 /// No side of a channel is above 2^30, and there are at most 2^20 channels.
 ///
