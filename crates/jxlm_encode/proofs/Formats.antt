@@ -1,6 +1,6 @@
 -- What was prepared is encoded by its bits, in either format.
-use Rattle.std.proofs.Common.{◌≡◌, inl, inr, ℕ, zero, suc, ◌+◌, ℤ, List, [], ◌∷◌, ◌++◌, length, refl, arith}
-use Rattle.std.specs.List.{flat_map}
+use Rattle.std.proofs.Common.{◌≡◌, inl, inr, ℕ, zero, suc, ◌+◌, ◌^◌, ◌<◌, ℤ, List, [], ◌∷◌, ◌++◌, length, refl, arith}
+use Rattle.std.specs.List.{All, flat_map}
 use Rattle.std.specs.Int.{Width}
 use Rattle.jxlm_base.specs.Decoding.{Meaning}
 use Rattle.jxlm_base.specs.Grid.{Grid}
@@ -15,15 +15,17 @@ use Rattle.jxlm_tokens.specs.Laws.{HasOneCluster}
 use Rattle.jxlm_tokens.proofs.WrittenCoded.{gamma_written_coded, written_coded}
 use Rattle.jxlm_transform.specs.Transforms.{Transform}
 use Rattle.jxlm_write.specs.Headers.{header_bits}
+use Rattle.jxlm_write.specs.Nodes.{tree_tokens}
 use Rattle.jxlm_write.specs.Tokens.{gamma_bits, gamma_token_bits, one_cluster, one_gamma_cluster, token_bits}
 use Rattle.jxlm_write.specs.Trees.{gamma_tree_bits, leaves_in, tree_bits}
 use Rattle.jxlm_write.specs.Written.{HasBits, digits}
 use Rattle.jxlm_write.specs.declared.tree.EncodeNode.{EncodeNode}
-use Rattle.jxlm_write.proofs.BitLists.{has_first, has_rest}
+use Rattle.jxlm_write.proofs.BitLists.{filled_stands, has_first, has_rest}
 use Rattle.jxlm_write.proofs.HeaderLaws.{headers_stand}
 use Rattle.jxlm_write.proofs.TreeLaws.{gamma_trees_stand, trees_stand}
-use Rattle.jxlm_encode.specs.Encoded.{IsEncoded, IsEncoded2, IsEncodedFor, coded_part}
-use Rattle.jxlm_encode.specs.Inner.Writing.{ArePrepared, AreWritten, AreWritten2}
+use Rattle.jxlm_encode.specs.Encoded.{coded_part}
+use Rattle.jxlm_encode.specs.Bytes.{AreBytesFor, AreBytesOf, AreBytesOf2, AreWritten, AreWritten2}
+use Rattle.jxlm_encode.specs.Inner.Writing.{ArePrepared}
 use Rattle.jxlm_encode.proofs.Listings.{IsGivenLeaf, leaves_given}
 
 no_bits : (one : ℕ → List ℕ) (ts : List ℕ) → length ts ≡ 0 → length (flat_map one ts) ≡ 0
@@ -41,24 +43,29 @@ module _ (ts : List Transform) (nodes : List EncodeNode) (image : List (Grid ℤ
   one_cluster_each before = (reached_leaf IsGivenLeaf p.tree _ (leaves_given p.tree nodes p.given.listed)).0
 
   -- by whatever decoder, where the tree and the samples stand for it behind the header
-  is_encoded_for : {V : Type 0} (d : Meaning V) (decoder : V) (rest : List ℕ) (samples_at end : ℕ) → HasBits bytes 0 (header_bits ts ++ rest) →
+  bytes_for : {V : Type 0} (d : Meaning V) (Written : List ℕ → List ℕ → Type 0) (decoder : V) (rest : List ℕ) (samples_at end : ℕ) → HasBits bytes 0 (header_bits ts ++ rest) →
       TreeStands d bytes (node_limit p.coded.list.channels) depth_limit header_end (config_of p.tree decoder) samples_at → IsCodedToTheEnd d w part bytes decoder samples_at p.samples end →
-      (length tokens ≡ 0 → end ≡ samples_at) → IsEncodedFor ts nodes image d w bytes
-  is_encoded_for d decoder rest samples_at end has stands coded none = record {
-    coded = p.coded;
-    accepted = p.accepted;
-    count = p.count;
-    tree = p.tree;
-    given = p.given;
-    decoder = decoder;
-    tree_at = header_end;
-    header_stands = headers_stand bytes 0 ts p.accepted.few p.accepted.written (has_first bytes 0 (header_bits ts) rest has);
-    samples_at = samples_at;
-    tree_stands = stands;
-    samples = p.samples;
-    end = end;
-    codes = of_count (cell_count p.coded.list.channels) refl;
-    chain = p.chain;
+      (length tokens ≡ 0 → end ≡ samples_at) → Written tokens bytes → AreBytesFor ts nodes image d Written w bytes
+  bytes_for d Written decoder rest samples_at end has stands coded none written = record {
+    encoded = record {
+      coded = p.coded;
+      accepted = p.accepted;
+      count = p.count;
+      tree = p.tree;
+      given = p.given;
+      decoder = decoder;
+      tree_at = header_end;
+      header_stands = headers_stand bytes 0 ts p.accepted.few p.accepted.written (has_first bytes 0 (header_bits ts) rest has);
+      samples_at = samples_at;
+      tree_stands = stands;
+      samples = p.samples;
+      end = end;
+      codes = of_count (cell_count p.coded.list.channels) refl;
+      chain = p.chain;
+    };
+    tokens = tokens;
+    are = p.are;
+    written = written;
   } where
     of_count : (n : ℕ) → cell_count p.coded.list.channels ≡ n → IsCodedWhole d w part bytes decoder samples_at p.samples end
     of_count zero e =
@@ -67,32 +74,35 @@ module _ (ts : List Transform) (nodes : List EncodeNode) (image : List (Grid ℤ
         inr (e, none (omega (arith, count, cells, e)))
     of_count (suc n) e = inl (omega (arith, e), coded)
 
-  -- in the first format
-  pub encoded_first : AreWritten ts nodes tokens bytes → IsEncoded ts nodes image w bytes
-  encoded_first written =
-      let limit = p.given.limit in
-      let tree : List ℕ = tree_bits nodes written.own written.width in
-      let samples : List ℕ = token_bits written.width tokens in
-      let tree_end : ℕ = header_end + length tree in
-      let second : HasBits bytes header_end (tree ++ samples) = has_rest bytes 0 (header_bits ts) (tree ++ samples) written.has in
-      let third : HasBits bytes tree_end samples = has_rest bytes header_end tree samples second in
-      is_encoded_for plain (one_cluster (leaves_in nodes) written.width) (tree ++ samples) tree_end (tree_end + length samples) written.has
-      (trees_stand bytes header_end written.own written.width (node_limit p.coded.list.channels) depth_limit p.tree nodes p.given.listed written.own_most written.most written.own_fits
-      (omega (arith, limit)) p.given.limit p.given.within (has_first bytes header_end tree samples second))
-      (written_coded w part bytes (leaves_in nodes) written.width tree_end p.samples tokens p.are p.counted written.fits one_cluster_each third)
-      (λ none. let empty = no_bits (digits written.width) tokens none in omega (arith, empty))
+  module _ (own_fits : All (λ t. t < 2 ^ 32) (tree_tokens nodes)) (fits : All (λ t. t < 2 ^ 32) tokens) where
+    -- in the first format
+    pub bytes_first : AreWritten ts nodes tokens bytes → AreBytesOf ts nodes image w bytes
+    bytes_first written =
+        let limit = p.given.limit in
+        let tree : List ℕ = tree_bits nodes written.own written.width in
+        let samples : List ℕ = token_bits written.width tokens in
+        let tree_end : ℕ = header_end + length tree in
+        let first : HasBits bytes 0 (header_bits ts ++ (tree ++ samples)) = filled_stands bytes (header_bits ts ++ (tree ++ samples)) written.filled in
+        let second : HasBits bytes header_end (tree ++ samples) = has_rest bytes 0 (header_bits ts) (tree ++ samples) first in
+        let third : HasBits bytes tree_end samples = has_rest bytes header_end tree samples second in
+        bytes_for plain (AreWritten ts nodes) (one_cluster (leaves_in nodes) written.width) (tree ++ samples) tree_end (tree_end + length samples) first
+        (trees_stand bytes header_end written.own written.width (node_limit p.coded.list.channels) depth_limit p.tree nodes p.given.listed (written.own_least.least 32 own_fits) (written.least.least 32 fits)
+        written.own_least.fits (omega (arith, limit)) p.given.limit p.given.within (has_first bytes header_end tree samples second))
+        (written_coded w part bytes (leaves_in nodes) written.width tree_end p.samples tokens p.are p.counted written.least.fits one_cluster_each third)
+        (λ none. let empty = no_bits (digits written.width) tokens none in omega (arith, empty)) written
 
-  -- in the second
-  pub encoded_second : AreWritten2 ts nodes tokens bytes → IsEncoded2 ts nodes image w bytes
-  encoded_second written =
-      let limit = p.given.limit in
-      let tree : List ℕ = gamma_tree_bits nodes in
-      let samples : List ℕ = gamma_token_bits tokens in
-      let tree_end : ℕ = header_end + length tree in
-      let second : HasBits bytes header_end (tree ++ samples) = has_rest bytes 0 (header_bits ts) (tree ++ samples) written.has in
-      let third : HasBits bytes tree_end samples = has_rest bytes header_end tree samples second in
-      is_encoded_for plain2 (one_gamma_cluster (leaves_in nodes)) (tree ++ samples) tree_end (tree_end + length samples) written.has
-      (gamma_trees_stand bytes header_end (node_limit p.coded.list.channels) depth_limit p.tree nodes p.given.listed written.own_fits
-      (omega (arith, limit)) p.given.limit p.given.within (has_first bytes header_end tree samples second))
-      (gamma_written_coded w part bytes (leaves_in nodes) tree_end p.samples tokens p.are p.counted written.fits one_cluster_each third)
-      (λ none. let empty = no_bits gamma_bits tokens none in omega (arith, empty))
+    -- in the second
+    pub bytes_second : AreWritten2 ts nodes tokens bytes → AreBytesOf2 ts nodes image w bytes
+    bytes_second written =
+        let limit = p.given.limit in
+        let tree : List ℕ = gamma_tree_bits nodes in
+        let samples : List ℕ = gamma_token_bits tokens in
+        let tree_end : ℕ = header_end + length tree in
+        let first : HasBits bytes 0 (header_bits ts ++ (tree ++ samples)) = filled_stands bytes (header_bits ts ++ (tree ++ samples)) written in
+        let second : HasBits bytes header_end (tree ++ samples) = has_rest bytes 0 (header_bits ts) (tree ++ samples) first in
+        let third : HasBits bytes tree_end samples = has_rest bytes header_end tree samples second in
+        bytes_for plain2 (AreWritten2 ts nodes) (one_gamma_cluster (leaves_in nodes)) (tree ++ samples) tree_end (tree_end + length samples) first
+        (gamma_trees_stand bytes header_end (node_limit p.coded.list.channels) depth_limit p.tree nodes p.given.listed own_fits
+        (omega (arith, limit)) p.given.limit p.given.within (has_first bytes header_end tree samples second))
+        (gamma_written_coded w part bytes (leaves_in nodes) tree_end p.samples tokens p.are p.counted fits one_cluster_each third)
+        (λ none. let empty = no_bits gamma_bits tokens none in omega (arith, empty)) written

@@ -3,6 +3,8 @@ pub mod Encodings
 pub mod Formats
 pub mod Listings
 pub mod NoPalettes
+pub mod OneEncoding
+pub mod OneWriting
 pub mod OwnGrids
 pub mod TreesRead
 pub mod Writings

@@ -19,42 +19,40 @@ use Rattle.jxlm_write.specs.Tokens.{gamma_token_bits, token_bits}
 use Rattle.jxlm_write.specs.Trees.{gamma_tree_bits, tree_bits}
 use Rattle.jxlm_write.specs.Written.{AreFilled}
 use Rattle.jxlm_write.specs.declared.tree.EncodeNode.{EncodeNode}
-use Rattle.jxlm_write.proofs.BitLists.{filled_stands}
-use Rattle.jxlm_encode.specs.Inner.Writing.{AreWritten, AreWritten2, ChannelsLie}
+use Rattle.jxlm_encode.specs.Bytes.{AreWritten, AreWritten2, IsLeastWidth}
+use Rattle.jxlm_encode.specs.Inner.Writing.{ChannelsLie}
+
+-- the least width of a list of tokens
+least_of : (of_nodes tokens : List ℕ) (width : ℕ) → of_nodes ≡ tokens → All (λ t. t < 2 ^ width) of_nodes → ((n : ℕ) → All (λ t. t < 2 ^ n) of_nodes → width ≤ n) → IsLeastWidth tokens width
+least_of of_nodes tokens width are fits least = subst (λ (ts : List ℕ). IsLeastWidth ts width) are (record { fits = fits; least = least })
 
 -- header, tree and tokens, one after another
 pub all_written : {E : Type 0} (r : Result (Vec ℕ) E) (ts : List Transform) (nodes : List EncodeNode) (of_nodes tokens : List ℕ) (own width : ℕ) (start a b d : List ℕ) → start ≡ [] → a ≡ start ++ header_bits ts →
-    b ≡ a ++ tree_bits nodes own width → d ≡ b ++ token_bits width tokens → own ≤ 32 → All (λ t. t < 2 ^ own) of_nodes → width ≤ 32 → All (λ t. t < 2 ^ width) tokens → of_nodes ≡ tree_tokens nodes →
+    b ≡ a ++ tree_bits nodes own width → d ≡ b ++ token_bits width tokens → All (λ t. t < 2 ^ own) of_nodes → ((n : ℕ) → All (λ t. t < 2 ^ n) of_nodes → own ≤ n) →
+    All (λ t. t < 2 ^ width) tokens → ((n : ℕ) → All (λ t. t < 2 ^ n) tokens → width ≤ n) → of_nodes ≡ tree_tokens nodes →
     IfOk r (λ v. AreFilled v.items d) → IfOk r (λ v. AreWritten ts nodes tokens v.items)
-all_written (Err e) ts nodes of_nodes tokens own width start a b d none header tree last own_most own_fits most fits are filled = filled
-all_written (Ok v) ts nodes of_nodes tokens own width start a b d none header tree last own_most own_fits most fits are filled =
+all_written (Err e) ts nodes of_nodes tokens own width start a b d none header tree last own_fits own_least fits least are filled = filled
+all_written (Ok v) ts nodes of_nodes tokens own width start a b d none header tree last own_fits own_least fits least are filled =
     let all : d ≡ header_bits ts ++ (tree_bits nodes own width ++ token_bits width tokens) =
     last ∙ ap (λ xs. xs ++ token_bits width tokens) (tree ∙ ap (λ xs. xs ++ tree_bits nodes own width) (header ∙ ap (λ xs. xs ++ header_bits ts) none))
     ∙ append_assoc (header_bits ts) (tree_bits nodes own width) (token_bits width tokens) in
     record {
       own = own;
-      own_most = own_most;
-      own_fits = subst (All (λ t. t < 2 ^ own)) are own_fits;
+      own_least = least_of of_nodes (tree_tokens nodes) own are own_fits own_least;
       width = width;
-      most = most;
-      fits = fits;
-      has = filled_stands v.items (header_bits ts ++ (tree_bits nodes own width ++ token_bits width tokens)) (subst (AreFilled v.items) all filled);
+      least = record { fits = fits; least = least };
+      filled = subst (AreFilled v.items) all filled;
     }
 
 -- so they are in the second format
-pub all_written2 : {E : Type 0} (r : Result (Vec ℕ) E) (ts : List Transform) (nodes : List EncodeNode) (of_nodes tokens : List ℕ) (start a b d : List ℕ) → start ≡ [] → a ≡ start ++ header_bits ts →
-    b ≡ a ++ gamma_tree_bits nodes → d ≡ b ++ gamma_token_bits tokens → All (λ t. t < 2 ^ 32) of_nodes → All (λ t. t < 2 ^ 32) tokens → of_nodes ≡ tree_tokens nodes →
-    IfOk r (λ v. AreFilled v.items d) → IfOk r (λ v. AreWritten2 ts nodes tokens v.items)
-all_written2 (Err e) ts nodes of_nodes tokens start a b d none header tree last own_fits fits are filled = filled
-all_written2 (Ok v) ts nodes of_nodes tokens start a b d none header tree last own_fits fits are filled =
+pub all_written2 : {E : Type 0} (r : Result (Vec ℕ) E) (ts : List Transform) (nodes : List EncodeNode) (tokens start a b d : List ℕ) → start ≡ [] → a ≡ start ++ header_bits ts →
+    b ≡ a ++ gamma_tree_bits nodes → d ≡ b ++ gamma_token_bits tokens → IfOk r (λ v. AreFilled v.items d) → IfOk r (λ v. AreWritten2 ts nodes tokens v.items)
+all_written2 (Err e) ts nodes tokens start a b d none header tree last filled = filled
+all_written2 (Ok v) ts nodes tokens start a b d none header tree last filled =
     let all : d ≡ header_bits ts ++ (gamma_tree_bits nodes ++ gamma_token_bits tokens) =
     last ∙ ap (λ xs. xs ++ gamma_token_bits tokens) (tree ∙ ap (λ xs. xs ++ gamma_tree_bits nodes) (header ∙ ap (λ xs. xs ++ header_bits ts) none))
     ∙ append_assoc (header_bits ts) (gamma_tree_bits nodes) (gamma_token_bits tokens) in
-    record {
-      own_fits = subst (All (λ t. t < 2 ^ 32)) are own_fits;
-      fits = fits;
-      has = filled_stands v.items (header_bits ts ++ (gamma_tree_bits nodes ++ gamma_token_bits tokens)) (subst (AreFilled v.items) all filled);
-    }
+    subst (AreFilled v.items) all filled
 
 default_header : IsHeader default_weights
 default_header = record { p1 = omega arith; p2 = omega arith; p3a = omega arith; p3b = omega arith; p3c = omega arith; p3d = omega arith; p3e = omega arith; w0 = omega arith; w1 = omega arith; w2 = omega arith; w3 = omega arith }

@@ -1,2 +1,4 @@
 pub mod Encoded
+pub mod Bytes
+pub mod Laws
 pub mod Inner

@@ -14,9 +14,10 @@ ghost use Rattle.jxlm_part.specs.Part.{cells_of};
 ghost use Rattle.jxlm_transform.specs.Transforms.{IsTransform};
 ghost use Rattle.jxlm_write.specs.Headers.{transform_of};
 ghost use Rattle.jxlm_write.specs.Nodes.{tree_tokens};
+ghost use Rattle.jxlm_encode.specs.Bytes.{AreBytesOf, AreBytesOf2, AreWritten, AreWritten2};
 ghost use Rattle.jxlm_encode.specs.Encoded.{EncodeFails, IsEncoded, IsEncoded2, IsSmall};
 ghost use Rattle.jxlm_encode.specs.Inner.Listing.{ListsOneTree};
-ghost use Rattle.jxlm_encode.specs.Inner.Writing.{ArePrepared, AreWritten, AreWritten2, ChannelsLie, part_at};
+ghost use Rattle.jxlm_encode.specs.Inner.Writing.{ArePrepared, ChannelsLie, part_at};
 ghost use Rattle.jxlm_redo.specs.Redo.{UndoesNoPalette};
 ghost use Rattle.jxlm_tokens.specs.Tokens.{AreTokensOf};
 
@@ -116,11 +117,6 @@ fn written(
     bits.into_bytes()
 }
 
-/// These are numbers of 32 bits.
-fn fit_32_bits(tokens: &[u32])
-    ensures { All (λ t. t < 2 ^ 32) tokens.now }
-{}
-
 /// The same in the second format, as gamma codes.
 fn written2(
     alloc: Global,
@@ -135,8 +131,6 @@ fn written2(
     requires nodes { nodes.now ≡ tree_tokens tree.now }
     ensures { IfOk result (λ v. AreWritten2 (map transform_of transforms.now) tree.now tokens.now v.items) }
 {
-    fit_32_bits(nodes);
-    fit_32_bits(tokens);
     let mut bits = BitWriter::new(alloc);
     write_header(&mut bits, transforms)?;
     write_gamma_tree(&mut bits, tree, nodes)?;
@@ -178,6 +172,11 @@ fn prepared<S: Sample>(
     Ok(TokenLists { nodes, samples })
 }
 
+/// These are numbers of 32 bits.
+fn fit_32_bits(tokens: &[u32])
+    ensures { All (λ t. t < 2 ^ 32) tokens.now }
+{}
+
 /// The bytes of an image that has channels.
 fn encoded<S: Sample>(
     alloc: Global,
@@ -188,10 +187,14 @@ fn encoded<S: Sample>(
     requires sides { All IsSmall channels.now }
     ensures ok { IfOk result (λ v. IsEncoded (map transform_of transforms.now) tree.now
         (store_meanings S.to_int channels.now) S.width v.items) }
+    ensures bytes { IfOk result (λ v. AreBytesOf (map transform_of transforms.now) tree.now
+        (store_meanings S.to_int channels.now) S.width v.items) }
     ensures err { IfErr result (λ e. EncodeFails (map transform_of transforms.now) tree.now
         (store_meanings S.to_int channels.now) e) }
 {
     let TokenLists { nodes, samples } = prepared(alloc, channels, transforms, tree)?;
+    fit_32_bits(&nodes);
+    fit_32_bits(&samples);
     Ok(written(alloc, transforms, tree, &nodes, &samples)?)
 }
 
@@ -205,16 +208,23 @@ fn encoded2<S: Sample>(
     requires sides { All IsSmall channels.now }
     ensures ok { IfOk result (λ v. IsEncoded2 (map transform_of transforms.now) tree.now
         (store_meanings S.to_int channels.now) S.width v.items) }
+    ensures bytes { IfOk result (λ v. AreBytesOf2 (map transform_of transforms.now) tree.now
+        (store_meanings S.to_int channels.now) S.width v.items) }
     ensures err { IfErr result (λ e. EncodeFails (map transform_of transforms.now) tree.now
         (store_meanings S.to_int channels.now) e) }
 {
     let TokenLists { nodes, samples } = prepared(alloc, channels, transforms, tree)?;
+    fit_32_bits(&nodes);
+    fit_32_bits(&samples);
     Ok(written2(alloc, transforms, tree, &nodes, &samples)?)
 }
 
 /// Encodes an image without loss, for the plain decoder (ISO/IEC 18181-1, Modular): a header with these transforms,
 /// the tree that the nodes list, and the samples that the transforms make of the image, each by its token. Decoding
 /// gives the image back, without a global tree and at stream index 0, whatever the side of groups and the bit depth.
+///
+/// Each field of the header is written in the first of its spellings that holds the value. The tokens of the tree have
+/// the least width that all of them fit, and so do those of the samples. Zero bits fill the last byte; nothing follows.
 ///
 /// Each grid is a channel of its size, with shift 0. No side is above 2^30, and there are at most 2^20 channels.
 /// Transforms are applied in their order; a squeeze without steps is the default one. The nodes are listed level by
@@ -243,6 +253,8 @@ pub fn encode<S: Sample>(
     ensures none { channels.now ≡ [] → IsOk result × IfOk result (λ v. v.items ≡ []) }
     ensures ok { channels.now ≢ [] → IfOk result (λ v. IsEncoded (map transform_of transforms.now) tree.now
         (store_meanings S.to_int channels.now) S.width v.items) }
+    ensures bytes { channels.now ≢ [] → IfOk result (λ v. AreBytesOf (map transform_of transforms.now) tree.now
+        (store_meanings S.to_int channels.now) S.width v.items) }
     ensures err { IfErr result (λ e. EncodeFails (map transform_of transforms.now) tree.now
         (store_meanings S.to_int channels.now) e) }
 {
@@ -256,7 +268,7 @@ pub fn encode<S: Sample>(
 /// all tokens, those of the tree and those of the samples, are gamma codes.
 ///
 /// A small token takes few bits, whatever the largest one is: n zeros, a one and n bits for the n + 1 binary digits of
-/// the token and one more.
+/// the token and one more. The header is that of [`encode`], and zero bits fill the last byte.
 pub fn encode2<S: Sample>(
     alloc: Global,
     channels: &[AlignedGrid<S>],
@@ -267,6 +279,8 @@ pub fn encode2<S: Sample>(
     requires count { length channels.now ≤ 2 ^ 20 }
     ensures none { channels.now ≡ [] → IsOk result × IfOk result (λ v. v.items ≡ []) }
     ensures ok { channels.now ≢ [] → IfOk result (λ v. IsEncoded2 (map transform_of transforms.now) tree.now
+        (store_meanings S.to_int channels.now) S.width v.items) }
+    ensures bytes { channels.now ≢ [] → IfOk result (λ v. AreBytesOf2 (map transform_of transforms.now) tree.now
         (store_meanings S.to_int channels.now) S.width v.items) }
     ensures err { IfErr result (λ e. EncodeFails (map transform_of transforms.now) tree.now
         (store_meanings S.to_int channels.now) e) }

@@ -3,5 +3,6 @@
 
 pub mod encode;
 mod error;
+pub mod laws;
 mod listing;
 mod placing;

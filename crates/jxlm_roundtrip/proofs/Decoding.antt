@@ -16,6 +16,7 @@ use Rattle.jxl_modular.specs.Picture.{IsPicture, PictureFails}
 use Rattle.jxlm_write.specs.declared.tree.EncodeNode.{EncodeNode}
 use Rattle.jxlm_encode.specs.Encoded.{IsEncodedFor, given_list}
 use Rattle.jxlm_roundtrip.specs.Inner.Decoded.{IsDecoded, IsNotDecoded}
+use Rattle.jxlm_roundtrip.specs.RoundTrip.{IsReadBack}
 use Rattle.jxlm_roundtrip.proofs.OnePicture.{comes_back, only_memory}
 use Rattle.jxlm_roundtrip.proofs.SameSamples.{same_grids}
 
@@ -89,3 +90,10 @@ module _ {S V : Type 0} (d : Meaning V) (exact : TreesAreReadExactly d) (to_int 
   memory_alone bit_depth error (inr f) =
       let some : grids ≢ [] = λ e. f.some (ap (store_meanings to_int) e) in
       only_memory d exact w ts nodes (store_meanings to_int grids) bytes bit_depth (encoded some) error f.place f.before f.after f.fails
+
+-- so these bytes, that were made of it, are read back
+pub read_back : {S V : Type 0} (d : Meaning V) (Made : Width → List ℕ → Type 0) (f : S → ℤ) (w : Width) (grids others : List (Grid S)) (bytes : List ℕ) (bit_depth : ℕ) → (grids ≢ [] → Made w bytes) →
+    IsDecoded d w bytes bit_depth (store_meanings f grids) (store_meanings f others) → grids ≢ [] → IsReadBack d Made w (store_meanings f grids) bit_depth (store_meanings f others)
+read_back d Made f w grids others bytes bit_depth made h some =
+    let picture = h.picture (λ e. some (none_of_meanings f grids e)) in
+    record { bytes = bytes; made = made some; end = picture.0; picture = picture.1 }

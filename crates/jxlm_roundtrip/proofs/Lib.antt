@@ -3,3 +3,4 @@ pub mod EncodedPictures
 pub mod OnePicture
 pub mod OwnParams
 pub mod SameSamples
+pub mod TwoPictures

@@ -1,13 +1,23 @@
--- Why an image does not come back after it was encoded.
-use Rattle.std.specs.Prelude.{ℤ, List}
+-- What comes back of an image that was encoded, and why nothing does.
+use Rattle.std.specs.Prelude.{ℕ, ℤ, List, None}
+use Rattle.std.specs.Int.{Width}
+use Rattle.jxlm_base.specs.Decoding.{Meaning}
 use Rattle.jxlm_base.specs.ErrorKind.{kind_of}
 use Rattle.jxlm_base.specs.Grid.{Grid}
 use Rattle.jxlm_ma.specs.TreeReading.{IsOutOfMemory}
 use Rattle.jxlm_transform.specs.Transforms.{Transform}
+use Rattle.jxl_modular.specs.Picture.{IsPicture}
 use Rattle.jxlm_write.specs.declared.tree.EncodeNode.{EncodeNode}
-use Rattle.jxlm_encode.specs.Encoded.{EncodeFails}
+use Rattle.jxlm_encode.specs.Encoded.{EncodeFails, given_list}
 use Rattle.jxlm_roundtrip.specs.declared.roundtrip.RoundTripError.{RoundTripError}
 use Rattle.jxlm_roundtrip.specs.declared.roundtrip.RoundTripError.TheVariants.{Encode, Decode}
+
+-- There are bytes that were made of the image, and these grids are the picture that stands in them from the first bit on.
+pub record IsReadBack {V : Type 0} (d : Meaning V) (Made : Width → List ℕ → Type 0) (w : Width) (image : List (Grid ℤ)) (bit_depth : ℕ) (grids : List (Grid ℤ)) : Type 0 where
+  pub bytes : List ℕ
+  pub made : Made w bytes
+  pub end : ℕ
+  pub picture : IsPicture d w None bytes 0 (given_list image) 0 bit_depth grids end
 
 -- it is refused by the encoder, or decoding is out of memory
 abbrev pub RoundTripFails : List Transform → List EncodeNode → List (Grid ℤ) → RoundTripError → Type 0

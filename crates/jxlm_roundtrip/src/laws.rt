@@ -1,7 +1,8 @@
-//! Laws of what is encoded.
+//! Laws of what is encoded, and of pictures.
 
-ghost use Rattle.jxlm_roundtrip.specs.Pictures.{Encoded2IsPicture, EncodedIsPicture};
+ghost use Rattle.jxlm_roundtrip.specs.Pictures.{Encoded2IsPicture, EncodedIsPicture, PicturesAreOne};
 
+use jxlm_base::decoder::Decoder;
 use jxlm_ma::ma::each_tree_is_read_exactly;
 use jxlm_plain::plain::PlainDecoder;
 use jxlm_plain::plain2::PlainDecoder2;
@@ -20,3 +21,9 @@ pub fn encoded2_is_a_picture()
 {
     each_tree_is_read_exactly::<PlainDecoder2>();
 }
+
+/// At one bit position there are no two pictures of the same channels, for any decoder: they have one header, one tree,
+/// the same coded samples and the same image, and end at one bit.
+pub fn pictures_are_one<D: Decoder>()
+    ensures { PicturesAreOne D.meaning }
+{}

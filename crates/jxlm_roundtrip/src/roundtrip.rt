@@ -1,15 +1,17 @@
 //! An image encoded, and decoded again.
 
-ghost use Rattle.std.specs.Prelude.{◌≡◌, ◌≤◌, ◌^◌, IfOk, IfErr, None, length, map};
+ghost use Rattle.std.specs.Prelude.{◌≡◌, ◌≢◌, ◌≤◌, ◌^◌, [], IfOk, IfErr, None, length, map};
 ghost use Rattle.std.specs.List.{All};
 ghost use Rattle.jxlm_base.specs.ErrorKind.{kind_of};
 ghost use Rattle.jxlm_base.specs.Regions.{store_meanings};
 ghost use Rattle.jxlm_transform.specs.Channels.{image_list};
 ghost use Rattle.jxlm_transform.specs.Params.{IsGroupDim, IsValidChannel, params_of as given_params};
 ghost use Rattle.jxlm_write.specs.Headers.{transform_of};
+ghost use Rattle.jxlm_plain.specs.Plain.{plain, plain2};
+ghost use Rattle.jxlm_encode.specs.Bytes.{AreBytesOf, AreBytesOf2};
 ghost use Rattle.jxlm_encode.specs.Encoded.{IsSmall, given_list};
 ghost use Rattle.jxlm_roundtrip.specs.Inner.Decoded.{IsDecoded, IsNotDecoded};
-ghost use Rattle.jxlm_roundtrip.specs.RoundTrip.{RoundTripFails};
+ghost use Rattle.jxlm_roundtrip.specs.RoundTrip.{IsReadBack, RoundTripFails};
 
 use jxl_modular::decode_picture;
 use jxlm_base::bits::Bitstream;
@@ -101,8 +103,8 @@ fn decoded<S: Sample, D: Decoder>(
     }
 }
 
-/// Encodes an image, decodes what was written, and returns the image that is decoded: the same one, whatever the side
-/// of groups and the bit depth that it is read by.
+/// Encodes an image by [`encode`], decodes the bytes that were written, and returns the picture that stands in them:
+/// the image itself, whatever the side of groups and the bit depth that it is read by.
 ///
 /// No side of a channel is above 2^30, and there are at most 2^20 channels.
 ///
@@ -121,6 +123,9 @@ pub fn encode_and_decode<S: Sample>(
     requires count { length channels.now ≤ 2 ^ 20 }
     requires group { IsGroupDim group_dim }
     requires deep { bit_depth ≤ 32 }
+    ensures read { channels.now ≢ [] → IfOk result (λ v. IsReadBack plain
+        (AreBytesOf (map transform_of transforms.now) tree.now (store_meanings S.to_int channels.now))
+        S.width (store_meanings S.to_int channels.now) bit_depth (store_meanings S.to_int v.items)) }
     ensures same { IfOk result (λ v. v.items ≡ channels.now) }
     ensures err { IfErr result (λ e. RoundTripFails (map transform_of transforms.now) tree.now
         (store_meanings S.to_int channels.now) e) }
@@ -146,6 +151,9 @@ pub fn encode_and_decode2<S: Sample>(
     requires count { length channels.now ≤ 2 ^ 20 }
     requires group { IsGroupDim group_dim }
     requires deep { bit_depth ≤ 32 }
+    ensures read { channels.now ≢ [] → IfOk result (λ v. IsReadBack plain2
+        (AreBytesOf2 (map transform_of transforms.now) tree.now (store_meanings S.to_int channels.now))
+        S.width (store_meanings S.to_int channels.now) bit_depth (store_meanings S.to_int v.items)) }
     ensures same { IfOk result (λ v. v.items ≡ channels.now) }
     ensures err { IfErr result (λ e. RoundTripFails (map transform_of transforms.now) tree.now
         (store_meanings S.to_int channels.now) e) }

@@ -1,5 +1,5 @@
--- What an encoder writes, and the part that it writes the samples of.
-use Rattle.std.specs.Prelude.{◌≡◌, ℕ, ◌^◌, ◌<◌, ◌≤◌, ℤ, List, ◌++◌, length}
+-- The part that an encoder writes the samples of, and their tokens.
+use Rattle.std.specs.Prelude.{◌≡◌, ℕ, ◌≤◌, ℤ, List, length}
 use Rattle.std.specs.Int.{Width}
 use Rattle.std.specs.List.{All}
 use Rattle.jxlm_transform.specs.Lists.{list_of, layout_of}
@@ -15,11 +15,6 @@ use Rattle.jxlm_part.specs.Part.{Part, cell_count, cells_of}
 use Rattle.jxlm_tokens.specs.Tokens.{AreTokensOf}
 use Rattle.jxlm_transform.specs.ChannelSteps.{CodedList}
 use Rattle.jxlm_tree.specs.WeightsHeader.{default_weights}
-use Rattle.jxlm_write.specs.Headers.{header_bits}
-use Rattle.jxlm_write.specs.Nodes.{tree_tokens}
-use Rattle.jxlm_write.specs.Tokens.{gamma_token_bits, token_bits}
-use Rattle.jxlm_write.specs.Trees.{gamma_tree_bits, tree_bits}
-use Rattle.jxlm_write.specs.Written.{HasBits}
 use Rattle.jxlm_write.specs.declared.tree.EncodeNode.{EncodeNode}
 use Rattle.jxlm_encode.specs.Encoded.{AreAccepted, IsTreeGiven, coded_part, given_list}
 
@@ -34,22 +29,6 @@ pub record ChannelsLie {S : Type 0} (p : PlacedChannels) (store : List (Grid S))
 -- the part of all coded channels, as this tree predicts them
 abbrev pub part_at : PlacedChannels → Shape Leaf → Part
 part_at p tree = record { channels = (list_of p.channels).channels; weights = default_weights; tree = tree; stream = 0 }
-
--- the bytes begin with the bits of a header, a tree and tokens, each of which fits its width
-pub record AreWritten (ts : List Transform) (nodes : List EncodeNode) (tokens bytes : List ℕ) : Type 0 where
-  pub own : ℕ
-  pub own_most : own ≤ 32
-  pub own_fits : All (λ t. t < 2 ^ own) (tree_tokens nodes)
-  pub width : ℕ
-  pub most : width ≤ 32
-  pub fits : All (λ t. t < 2 ^ width) tokens
-  pub has : HasBits bytes 0 (header_bits ts ++ (tree_bits nodes own width ++ token_bits width tokens))
-
--- the same in the second format: the tree and the tokens are gamma codes
-pub record AreWritten2 (ts : List Transform) (nodes : List EncodeNode) (tokens bytes : List ℕ) : Type 0 where
-  pub own_fits : All (λ t. t < 2 ^ 32) (tree_tokens nodes)
-  pub fits : All (λ t. t < 2 ^ 32) tokens
-  pub has : HasBits bytes 0 (header_bits ts ++ (gamma_tree_bits nodes ++ gamma_token_bits tokens))
 
 -- The transforms are accepted and make samples of the image, at whatever bit depth; the nodes list the tree; and these
 -- are the tokens of the samples.
