@@ -20,6 +20,7 @@ pub mod LayerUndone
 pub mod ParsingLaws
 pub mod SectionLaws
 pub mod TurnLaws
+pub mod Hearing
 pub mod SectionParts
 pub mod Shown
 pub mod PictureAreas

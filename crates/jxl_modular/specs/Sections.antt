@@ -1,7 +1,7 @@
 -- Whole runs: an image decoded from sections, each of which codes one part
 -- (ISO/IEC 18181-1, frame: sections; Modular: image decoding, global and group sub-bitstreams).
-use Rattle.std.specs.Prelude.{◌≡◌, ◌≢◌, ◌↔◌, ◌⊎◌, ℕ, ◌+◌, ◌*◌, ◌<◌, ℤ, List, [], ◌∷◌, ◌++◌, map, sum, Bool, false, IsTrue, Any, MatchBool, Option, Result, Ok, Err}
-use Rattle.std.specs.List.{All, AllPairs, AllZip}
+use Rattle.std.specs.Prelude.{◌≡◌, ◌≢◌, ◌↔◌, ◌⊎◌, ℕ, ◌+◌, ◌*◌, ◌<◌, ◌≤◌, ℤ, List, [], ◌∷◌, ◌++◌, map, replicate, sum, Bool, false, IsTrue, Any, MatchBool, Option, Result, Ok, Err}
+use Rattle.std.specs.List.{All, AllPairs, AllZip, FoldsTo}
 use Rattle.std.specs.Int.{Width}
 use Rattle.jxlm_base.specs.Bits.{bytes_of, position_of}
 use Rattle.jxlm_base.specs.Decoding.{Meaning}
@@ -41,12 +41,13 @@ module _ {S D : Type 0} (x : Image S D) (passes : List Pass) where
     pub exist : All (λ s. Exists x passes s.part) sections
     pub unlike : AllPairs (λ s t. s.part ≢ t.part) sections
 
-  -- Whether sections fit. None fit an image that cannot be cut into groups; a group with a side of 0 is an error.
+  -- Whether sections fit. None fit an image that cannot be cut into groups, and no error comes then; a group with a side
+  -- of 0 is an error.
   abbrev pub FitGives : List Section → Result Bool Error → Type 0
   FitGives sections (Ok b) =
       (IsTrue b ↔ SectionsFit sections) × (IsTrue (can_group passes x.given) → IsTrue (can_cut x.group_dim (coded_list x)))
-  FitGives sections (Err e) = UnlessNoMemory (kind_of e)
-      ((kind_of e ≡ BadSqueeze) × IsTrue (can_group passes x.given) × (IsTrue (can_cut x.group_dim (coded_list x)) → ⊥))
+  FitGives sections (Err e) = IsTrue (can_group passes x.given) × UnlessNoMemory (kind_of e)
+      ((kind_of e ≡ BadSqueeze) × (IsTrue (can_cut x.group_dim (coded_list x)) → ⊥))
 
   -- each part with samples has a section
   abbrev pub IsComplete : List Section → Type 0
@@ -127,3 +128,12 @@ module _ {S D : Type 0} (d : Meaning D) (w : Width) (to_int : S → ℤ) (zero :
     pub ends : NotBegun (kind_of e ≡ NoMemory) last between new
         ⊎ ((s : Section) × (later : List Section) × (rest ≡ s ∷ later) × SectionTurn partly s (Err e) last between new)
     pub counted : MovesWithin before after (sum (map most turns) + most last)
+
+-- Who hears how far n sections have come (`Progress`) was called k times, each time with n: what each call leaves is said
+-- by `gives`.
+abbrev pub Heard : {P : Type 0} → (P → ℕ → P → Type 0) → ℕ → ℕ → P → P → Type 0
+Heard gives n k old new = FoldsTo gives old (replicate k n) new
+
+-- the same of so many calls as there are sections, or of fewer
+abbrev pub HeardSome : {P : Type 0} → (P → ℕ → P → Type 0) → ℕ → P → P → Type 0
+HeardSome gives n old new = (k : ℕ) × (k ≤ n) × Heard gives n k old new

@@ -381,8 +381,9 @@ impl<'dest, S: Sample, D: Decoder> TransformedGlobalModular<'dest, S, D> {
     ///
     /// # Errors
     ///
-    /// Those of [`read_header`](Self::read_header). That image and parts are as before then is its promise; a contract
-    /// cannot say it of this call.
+    /// Those of [`read_header`](Self::read_header), whose promise it is that image and parts are as before then. A
+    /// contract cannot say of this call what image, passes and parts are after an error, nor what they are once the
+    /// header is given up. Where that is wanted, make the two calls.
     pub fn recursive(
         &mut self,
         alloc: Global,

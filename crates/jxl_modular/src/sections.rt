@@ -1,11 +1,11 @@
 //! Whole runs: an image decoded from sections, each of which codes one part (ISO/IEC 18181-1, frame: sections).
 
-ghost use Rattle.std.specs.Prelude.{◌≡◌, pos, true, Ok, IfOk, IfErr};
+ghost use Rattle.std.specs.Prelude.{◌≡◌, length, pos, true, Ok, IfOk, IfErr, OnErr, OnOk};
 ghost use Rattle.std.specs.Option.{option_copied};
 ghost use Rattle.jxlm_cut.specs.Passes.{passes_of};
 ghost use Rattle.jxl_modular.specs.Image.{image_grids};
 ghost use Rattle.jxl_modular.specs.SameButCells.{SameButCells};
-ghost use Rattle.jxl_modular.specs.Sections.{AreDecoded, SectionsFit, SectionsLeave, SectionsStop};
+ghost use Rattle.jxl_modular.specs.Sections.{AreDecoded, Heard, HeardSome, SectionsFit, SectionsLeave, SectionsStop};
 
 mod complete;
 mod fit;
@@ -94,7 +94,8 @@ pub fn decode_sections<S: Sample, D: Decoder>(
     )
 }
 
-/// Decodes sections as [`decode_sections`] does, and tells of each after it was decoded.
+/// Decodes sections as [`decode_sections`] does, and tells of each after it was decoded: once for each section where it
+/// is Ok, and for none, some or all of them, from the first on, where it is not.
 pub fn decode_sections_with<S: Sample, D: Decoder, P: Progress>(
     alloc: Global,
     image: &mut ModularImageDestination<S, D>,
@@ -115,6 +116,10 @@ pub fn decode_sections_with<S: Sample, D: Decoder, P: Progress>(
     ensures stopped { IfErr result (λ e. SectionsStop D.meaning S.width S.to_int (S.from_int (pos 0)) image.old
         (passes_of pass_shifts.now.entries) (option_copied global.entry) allow_partial sections.now e
         image.old.store image.new.store steps.old steps.new) }
+    ensures told { OnOk result (Heard P.section_decoded_gives (length sections.now) (length sections.now) progress.old
+        progress.new) }
+    ensures told_some { OnErr result (HeardSome P.section_decoded_gives (length sections.now) progress.old
+        progress.new) }
     ensures same { SameButCells image.old image.new }
 {
     let passes = passes(alloc, pass_shifts)?;

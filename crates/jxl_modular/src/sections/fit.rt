@@ -23,7 +23,7 @@ use std::collections::{BTreeMap, BTreeSet};
 /// # Errors
 ///
 /// `InvalidSqueezeParams` if it can be cut and a group has a side of 0, because of a squeeze's shift. `Buffer` if it is
-/// out of memory.
+/// out of memory, which it never is where the image cannot be cut into groups.
 pub fn sections_fit<S: Sample, D: Decoder>(
     alloc: Global,
     image: &ModularImageDestination<S, D>,

@@ -1,7 +1,7 @@
 //! Sections decoded one after another.
 
 ghost use Rattle.std.specs.Option.{option_copied};
-ghost use Rattle.std.specs.Prelude.{pos, IfOk, IfErr};
+ghost use Rattle.std.specs.Prelude.{pos, length, IfOk, IfErr, OnErr, OnOk};
 
 use super::Section;
 use super::progress::Progress;
@@ -16,6 +16,7 @@ use std::alloc::Global;
 
 impl<S: Sample, D: Decoder> ModularImageDestination<S, D> {
     ghost use Rattle.jxl_modular.specs.SameButCells.{SameButCells};
+    ghost use Rattle.jxl_modular.specs.Sections.{Heard, HeardSome};
     ghost use Rattle.jxl_modular.specs.Inner.Turns.{HasTurned, HasStopped, PlainGives, TurnGives};
 
     /// Decodes a section without a header of its own, and returns whether all samples of its part were decoded.
@@ -95,6 +96,10 @@ impl<S: Sample, D: Decoder> ModularImageDestination<S, D> {
         ensures stopped { IfErr result (λ e. HasStopped D.meaning S.width S.to_int (S.from_int (pos 0)) self.old
             passes.now (option_copied global.entry) allow_partial sections.now e self.old.store self.new.store
             steps.old steps.new) }
+        ensures told { OnOk result (Heard P.section_decoded_gives (length sections.now) (length sections.now)
+            progress.old progress.new) }
+        ensures told_some { OnErr result (HeardSome P.section_decoded_gives (length sections.now) progress.old
+            progress.new) }
         ensures same { SameButCells self.old self.new }
     {
         let mut whole = true;
