@@ -22,6 +22,8 @@ def public_calls():
     names = set()
     for crate in [f"jxlm_{name}" for name in LIBRARY] + ["jxl_modular"]:
         code = text_of(f"crates/{crate}/src/**/*.rt")
+        if not code:
+            sys.exit(f"scripts/check_memory.py: no code in crates/{crate}/src")
         names |= set(re.findall(r"\bpub (?:const )?fn (\w+)", code))
         for trait in re.findall(r"\npub trait [^\n]*\n(.*?)\n}", code, re.S):
             names |= set(re.findall(r"\n    fn (\w+)", trait))

@@ -53,7 +53,7 @@ module _ {S D : Type 0} (d : Meaning D) (w : Width) (to_int : S → ℤ) (zero :
   fails_too (errors.Header e) h = h
   fails_too errors.WeightedPalette h = h
   fails_too errors.NoGroups h = (stands_too h.0, h.1)
-  fails_too errors.NoSection h = let (s, part, is, none) = h in (stands_too s, part, is, sym (alike part) ∙ none)
+  fails_too errors.NoSection h = let (s, cut, part, is, none) = h in (stands_too s, cut, part, is, sym (alike part) ∙ none)
   fails_too errors.GroupWeightedPalette h = (has_too h.0, h.1)
   fails_too (errors.Samples e) h = unless_so (kind_of e) (λ f. let (s, left, before, after, stops) = f in (can_too s, left, before, after, stops)) h
   fails_too errors.NoMemory h = tt

@@ -11,7 +11,7 @@ use Rattle.jxlm_base.specs.ErrorKind.{kind_of}
 use Rattle.jxlm_base.specs.Grid.{Grid}
 use Rattle.jxlm_base.specs.declared.bits.Bitstream.{Bitstream}
 use Rattle.jxlm_base.specs.declared.error.Error.{Error}
-use Rattle.jxlm_ma.proofs.Memory.{always_so}
+use Rattle.jxlm_ma.proofs.Memory.{always_so, unless_so}
 use Rattle.jxlm_ma.specs.Tree.{Config}
 use Rattle.jxlm_chain.specs.Chain.{Chain}
 use Rattle.jxlm_transform.specs.ChannelSteps.{Step}
@@ -105,7 +105,7 @@ module _ {S D : Type 0} (d : Meaning D) (w : Width) (to_int : S → ℤ) (zero :
 
   -- opening the image fails
   pub open_fails : (e : FrameError) → OpenFails d global given bytes p e → Fails e
-  open_fails (errors.Header e) h = h
+  open_fails (errors.Header e) h = unless_so (kind_of e) (λ f. (none_there bytes p f.0, f.1.0, f.1.1)) h
   open_fails errors.WeightedPalette h = stands_there bytes p h
   open_fails errors.NoMemory h = tt
   open_fails errors.NoGroups h = absurd h
@@ -127,11 +127,12 @@ module _ {S D : Type 0} (d : Meaning D) (w : Width) (to_int : S → ℤ) (zero :
     -- listing the sections fails
     pub list_fails : (e : FrameError) → ListingFails places image e → Fails e
     list_fails errors.NoGroups h = (stands, subst (λ n. IsFalse (can_cut n (coded_list image))) dim_is h)
-    list_fails errors.NoSection h = (
+    list_fails errors.NoSection (cut, lacks) = (
       stands,
-      h.part,
-      of_lacking (λ part. (part ≡ parts.Global → ⊥) × (0 < cell_count (channels_in image passes part))) (groups_in_order image passes) (all_ones image passes) h,
-      ap (with_stream (stream_of places h.part)) h.none,
+      subst (λ n. IsTrue (can_cut n (coded_list image))) dim_is cut,
+      lacks.part,
+      of_lacking (λ part. (part ≡ parts.Global → ⊥) × (0 < cell_count (channels_in image passes part))) (groups_in_order image passes) (all_ones image passes) lacks,
+      ap (with_stream (stream_of places lacks.part)) lacks.none,
     )
     list_fails errors.NoMemory h = tt
     list_fails (errors.Header e) h = absurd h

@@ -36,7 +36,7 @@ module _ {S D : Type 0} (d : Meaning D) (zero : S) (bytes : List ℕ) (p : ℕ) 
       (record { head = at.head; plain = plain; start = at.start; is = at.cells })
 
   -- or why there is none
-  pub not_opened : (ps : List ModularChannelParams) (q : ℕ) (e : Error) → ParseGives {S = S} d zero bytes p params ps (Err e) q →
-      UnlessMemory (kind_of e) (HeaderFails d (option_copied params.ma_config) (image_list params.channels.items) bytes p (kind_of e))
-  not_opened [] q e gives = absurd gives
-  not_opened (c ∷ cs) q e gives = unless_so (kind_of e) (λ h. (q, h)) gives
+  pub not_opened : (ps : List ModularChannelParams) (q : ℕ) (e : Error) → ParseGives {S = S} d zero bytes p params ps (Err e) q → weighted_at bytes p ≡ false →
+      UnlessMemory (kind_of e) ((weighted_at bytes p ≡ false) × HeaderFails d (option_copied params.ma_config) (image_list params.channels.items) bytes p (kind_of e))
+  not_opened [] q e gives plain = absurd gives
+  not_opened (c ∷ cs) q e gives plain = unless_so (kind_of e) (λ h. (plain, (q, h))) gives

@@ -1,9 +1,11 @@
 -- The sections of an image, or why there are none.
-use Rattle.std.proofs.Common.{◌≡◌, List, subst}
+use Rattle.std.proofs.Common.{◌≡◌, IsTrue, List, subst}
+use Rattle.jxlm_cut.specs.Cutting.{can_cut}
 use Rattle.jxlm_cut.specs.declared.part.SectionPart.{SectionPart}
 use Rattle.jxlm_cut.specs.declared.pass.Pass.{Pass}
 use Rattle.jxl_modular.specs.GroupParts.{pass_count}
-use Rattle.jxl_modular.specs.Image.{Image}
+use Rattle.jxl_modular.specs.Groups.{IsCut}
+use Rattle.jxl_modular.specs.Image.{Image, coded_list}
 use Rattle.jxl_modular.specs.declared.sections.Section.{Section}
 use Rattle.jxlm_sections.proofs.PartLists.{IsAmong, among_left, among_right}
 use Rattle.jxl_still.specs.Inner.Listing.{AddingFails, AreAdded, ListingFails}
@@ -15,14 +17,14 @@ use Rattle.jxl_still.specs.declared.places.Places.{Places}
 use Rattle.jxl_still.proofs.Adding.{added_then, fails_wider}
 
 -- what fails for all parts of an image fails for it
-of_all : {S D : Type 0} (x : Places) (image : Image S D) → (e : FrameError) → AddingFails x (groups_in_order image (own_passes x)) e → ListingFails x image e
-of_all x image errors.NoSection h = h
-of_all x image errors.NoMemory h = tt
-of_all x image (errors.Header e) h = absurd h
-of_all x image errors.WeightedPalette h = absurd h
-of_all x image errors.NoGroups h = absurd h
-of_all x image errors.GroupWeightedPalette h = absurd h
-of_all x image (errors.Samples e) h = absurd h
+of_all : {S D : Type 0} (x : Places) (image : Image S D) → (e : FrameError) → IsTrue (can_cut image.group_dim (coded_list image)) → AddingFails x (groups_in_order image (own_passes x)) e → ListingFails x image e
+of_all x image errors.NoSection cut h = (cut, h)
+of_all x image errors.NoMemory cut h = tt
+of_all x image (errors.Header e) cut h = absurd h
+of_all x image errors.WeightedPalette cut h = absurd h
+of_all x image errors.NoGroups cut h = absurd h
+of_all x image errors.GroupWeightedPalette cut h = absurd h
+of_all x image (errors.Samples e) cut h = absurd h
 
 module _ {S D : Type 0} (x : Places) where
   abbrev high : Image S D → List Pass → List SectionPart
@@ -33,15 +35,15 @@ module _ {S D : Type 0} (x : Places) where
 
   -- what fails for some of its parts does, too
   some_failed : (part : Image S D → List Pass → List SectionPart) → ((i : Image S D) (ps : List Pass) (q : SectionPart) → IsAmong q (part i ps) → IsAmong q (groups_in_order i ps)) →
-      (image image' : Image S D) (ps : List Pass) (e : FrameError) → image' ≡ image → ps ≡ own_passes x → AddingFails x (part image' ps) e → ListingFails x image e
-  some_failed part wider image image' ps e is passes fails =
+      (image image' : Image S D) (ps : List Pass) (e : FrameError) → image' ≡ image → ps ≡ own_passes x → IsCut image' ps → AddingFails x (part image' ps) e → ListingFails x image e
+  some_failed part wider image image' ps e is passes cut fails =
       subst (λ (i : Image S D). ListingFails x i e) is
-      (of_all x image' e (fails_wider x (part image' (own_passes x)) (own image') (wider image' (own_passes x)) e (subst (λ (l : List Pass). AddingFails x (part image' l) e) passes fails)))
+      (of_all x image' e cut.cells (fails_wider x (part image' (own_passes x)) (own image') (wider image' (own_passes x)) e (subst (λ (l : List Pass). AddingFails x (part image' l) e) passes fails)))
 
-  pub low_failed : (image image' : Image S D) (ps : List Pass) (e : FrameError) → image' ≡ image → ps ≡ own_passes x → AddingFails x (low_parts image' ps) e → ListingFails x image e
+  pub low_failed : (image image' : Image S D) (ps : List Pass) (e : FrameError) → image' ≡ image → ps ≡ own_passes x → IsCut image' ps → AddingFails x (low_parts image' ps) e → ListingFails x image e
   low_failed = some_failed (λ i ps. low_parts i ps) (λ i ps q h. among_left q (low_parts i ps) (high i ps) h)
 
-  pub passes_failed : (image image' : Image S D) (ps : List Pass) (e : FrameError) → image' ≡ image → ps ≡ own_passes x → AddingFails x (high image' ps) e → ListingFails x image e
+  pub passes_failed : (image image' : Image S D) (ps : List Pass) (e : FrameError) → image' ≡ image → ps ≡ own_passes x → IsCut image' ps → AddingFails x (high image' ps) e → ListingFails x image e
   passes_failed = some_failed (λ i ps. high i ps) (λ i ps q h. among_right q (low_parts i ps) (high i ps) h)
 
   pub all_added : (image image' : Image S D) (ps : List Pass) (before begun between after : List Section) → image' ≡ image → ps ≡ own_passes x → begun ≡ before →

@@ -78,13 +78,13 @@ module _ {S D : Type 0} (d : Meaning D) (w : Width) (to_int : S → ℤ) (zero :
     pub can : CanDecode
     pub decoded : AreDecoded d w to_int zero can.has.stands.image passes global (can.first ∷ can.has.groups) grids before after
 
-  -- what each error says: up to which stage all stands, and what fails there
+  -- what each error says: up to which stage all stands, and what fails there; no two hold of one input, memory aside
   abbrev pub StillFails : FrameError → Type 0
   StillFails (errors.Header e) = UnlessMemory (kind_of e)
-      ((q : ℕ) × (IsErrorAt (opened global bytes given p) (kind_of e) q ⊎ IsTreeErrorAt d global bytes given p (kind_of e) q))
+      ((¬ (IsWeightedAt bytes p)) × (q : ℕ) × (IsErrorAt (opened global bytes given p) (kind_of e) q ⊎ IsTreeErrorAt d global bytes given p (kind_of e) q))
   StillFails errors.WeightedPalette = IsWeightedAt bytes p
   StillFails errors.NoGroups = (s : HeaderStands) × IsFalse (can_cut group_dim (coded_list s.image))
-  StillFails errors.NoSection = (s : HeaderStands) × (part : SectionPart) × IsGroup s part × (section_of part ≡ None)
+  StillFails errors.NoSection = (s : HeaderStands) × IsTrue (can_cut group_dim (coded_list s.image)) × (part : SectionPart) × IsGroup s part × (section_of part ≡ None)
   StillFails errors.GroupWeightedPalette = (s : HasSections) × Any (λ t. IsWeightedAt (bytes_of t.bits) 0) s.groups
   StillFails (errors.Samples e) = UnlessMemory (kind_of e) ((s : CanDecode) × (left : List (Grid S)) × (before : ℕ) × (after : ℕ)
       × SectionsStop d w to_int zero s.has.stands.image passes global false (s.first ∷ s.has.groups) e s.has.stands.image.store left before after)

@@ -6,8 +6,8 @@ use jxlm_base::error::Error;
 use jxlm_base::grid::OutOfMemory;
 use std::alloc::AllocFailed;
 
-/// Why a frame is not decoded: the first reason in the order of its bits, but that a palette with the weighted predictor in
-/// the header of a group is told before what is wrong with samples.
+/// Why a frame is not decoded: the first reason in the order of its bits, but that the parser looks for palettes with the
+/// weighted predictor first: in the header before its conditions and its tree, in those of groups before any samples.
 #[derive(Clone, Copy, Debug, PartialEq, Eq, thiserror::Error)]
 pub enum FrameError {
     /// The image's header, or its tree, has this error.

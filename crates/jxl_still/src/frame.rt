@@ -71,10 +71,10 @@ fn decode_all<S: Sample, D: Decoder, P: Progress>(
 ///
 /// # Errors
 ///
-/// The first in the order of the bits: `Header` for the header and the tree, as by
-/// [`Modular::parse`](jxl_modular::Modular::parse); `WeightedPalette` where that header has a palette with
-/// the weighted predictor; `NoGroups`; `NoSection`; `GroupWeightedPalette` where the header of a group has one, which is
-/// looked for before samples are decoded; `Samples` for the first section that cannot be decoded, as by
+/// The first of these: `WeightedPalette` where the header can be read and has a palette with the weighted predictor;
+/// `Header` for the header, its conditions and the tree, as by [`Modular::parse`](jxl_modular::Modular::parse);
+/// `NoGroups`; `NoSection`; `GroupWeightedPalette` where the header of a group has such a palette, which is looked for
+/// before samples are decoded; `Samples` for the first section that cannot be decoded, as by
 /// [`decode_sections`](jxl_modular::sections::decode_sections). Or it is out of memory, at any time.
 pub fn decode_frame<'a, S: Sample, D: Decoder, P: Progress>(
     alloc: Global,

@@ -1,5 +1,5 @@
 -- Sections that were found.
-use Rattle.std.specs.Prelude.{◌≡◌, ℕ, ℤ, List, [], ◌∷◌, ◌++◌, map, Any, true, false, IsFalse, Option, None, Some}
+use Rattle.std.specs.Prelude.{◌≡◌, ℕ, ℤ, List, [], ◌∷◌, ◌++◌, map, Any, true, false, IsFalse, IsTrue, Option, None, Some}
 use Rattle.std.specs.Borrow.{Bor}
 use Rattle.std.specs.Int.{Width}
 use Rattle.jxlm_base.specs.Bits.{bytes_of, position_of}
@@ -62,7 +62,7 @@ pub record AreListed {S D : Type 0} (x : Places) (image : Image S D) (first : Bi
 
 abbrev pub ListingFails : {S D : Type 0} → Places → Image S D → FrameError → Type 0
 ListingFails x image errors.NoGroups = IsFalse (can_cut image.group_dim (coded_list image))
-ListingFails x image errors.NoSection = Lacks x (groups_in_order image (own_passes x))
+ListingFails x image errors.NoSection = IsTrue (can_cut image.group_dim (coded_list image)) × Lacks x (groups_in_order image (own_passes x))
 ListingFails x image errors.NoMemory = Unit {0}
 ListingFails x image e = ⊥
 

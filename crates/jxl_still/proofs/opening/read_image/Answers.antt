@@ -10,4 +10,4 @@ returns-in-Ok-clause-ok g c =
 
 pub returns-in-Err-clause-err : goal.returns-in-Err-clause-err
 returns-in-Err-clause-err g c =
-    not_opened g.D.Decoder.meaning (g.S.Sealed.from_int (pos 0)) (bytes_of c.args.bits.now) (position_of c.args.bits.now) c.args.params c.args.params.channels.items (position_of c.parse.new.bits) c.in-Err.error c.in-Err.ensures.gives
+    not_opened g.D.Decoder.meaning (g.S.Sealed.from_int (pos 0)) (bytes_of c.args.bits.now) (position_of c.args.bits.now) c.args.params c.args.params.channels.items (position_of c.parse.new.bits) c.in-Err.error c.in-Err.ensures.gives c.requires.plain

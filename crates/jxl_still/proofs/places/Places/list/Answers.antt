@@ -22,12 +22,12 @@ pub returns-in_err-add_all_low-clause-err : goal.returns-in_err-add_all_low-clau
 returns-in_err-add_all_low-clause-err g c =
     let e = c.in_err-add_all_low.field-0.0 in
     let fails : ListingFails c.args.self.now c.args.image.now e =
-    low_failed c.args.self.now c.args.image.now (image_of c.in-Ok.groups) (passes_in c.in-Ok.groups) e c.in-Ok.ensures.unchanged c.in-Ok.ensures.passes c.in_err-add_all_low.ensures.err in
+    low_failed c.args.self.now c.args.image.now (image_of c.in-Ok.groups) (passes_in c.in-Ok.groups) e c.in-Ok.ensures.unchanged c.in-Ok.ensures.passes c.in-Ok.ensures.cut c.in_err-add_all_low.ensures.err in
     search rules
 
 pub returns-in_err-add_all_passes-clause-err : goal.returns-in_err-add_all_passes-clause-err
 returns-in_err-add_all_passes-clause-err g c =
     let e = c.in_err-add_all_passes.field-0.0 in
     let fails : ListingFails c.args.self.now c.args.image.now e =
-    passes_failed c.args.self.now c.args.image.now (image_of c.in-Ok.groups) (passes_in c.in-Ok.groups) e c.in-Ok.ensures.unchanged c.in-Ok.ensures.passes c.in_err-add_all_passes.ensures.err in
+    passes_failed c.args.self.now c.args.image.now (image_of c.in-Ok.groups) (passes_in c.in-Ok.groups) e c.in-Ok.ensures.unchanged c.in-Ok.ensures.passes c.in-Ok.ensures.cut c.in_err-add_all_passes.ensures.err in
     search rules
