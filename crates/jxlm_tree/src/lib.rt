@@ -2,6 +2,7 @@
 #![tactic(auto)]
 
 mod around;
+pub mod clamping;
 pub mod earlier;
 pub mod eighths;
 pub mod place;
@@ -10,3 +11,4 @@ mod properties;
 pub mod reduced;
 mod self_correcting;
 mod state;
+
