@@ -31,7 +31,8 @@ use Rattle.jxlm_tree.specs.declared.state.PredictorState.{PredictorState}
 use Rattle.jxlm_tree.proofs.EarlierLaws.{in_state, of_setting}
 use Rattle.jxlm_tree.proofs.StandingLaws.{stands_row}
 use Rattle.jxlm_part.specs.Coded.{next_prediction, sample_of}
-use Rattle.jxlm_ma.specs.SumTrees.{GoesBySum}
+use Rattle.jxlm_ma.specs.SumTrees.{GoesBySum, takes_sums_at}
+use Rattle.jxlm_transform.specs.Params.{are_clamped}
 use Rattle.jxlm_ma.proofs.SumTrees.{goes_by_sum, second_of}
 use Rattle.jxlm_part.specs.Part.{clamps, channel, max_width, no_channel}
 use Rattle.jxlm_part.specs.Reading.{FindsClusters, HasRoomFor, IsCodingOf, IsTreeOf, alone_at, are_weighted, cost_of, flat, part_of, regions_of, weights_used}
@@ -117,7 +118,7 @@ module _ {D : Type 0} (c : PartCoding D) (coding : IsCodingOf c) (i : ℕ) (li :
 
   -- where property 9 is clamped, its walks go by that alone
   pub sums_at : (other : ChannelTree) → clamps (part_of c) i ≡ true → GoesBySum (slice_index_or c.flats.now i other).flat
-  sums_at other yes = subst GoesBySum (sym (flat_at other)) (goes_by_sum (flat c.config.now.tree c.stream_index i) (second_of _ _ yes))
+  sums_at other h = subst GoesBySum (sym (flat_at other)) (goes_by_sum (flat c.config.now.tree c.stream_index i) (second_of (are_clamped (channel (part_of c).channels i).gradient_sums) (takes_sums_at i c.stream_index c.config.now.tree) h))
 
   pub cost_at : (other : ChannelTree) (path : Path) (before after : ℕ) → after ≤ before + steps_walked path (slice_index_or c.flats.now i other).flat.tree → steps_walked path c.config.now.tree ≤ cost_of c → after ≤ before + cost_of c
   cost_at other path before after h bound =

@@ -1,5 +1,5 @@
 -- Where property 9 is clamped: its range, and the walks that see it.
-use Rattle.std.proofs.Common.{◌≡◌, ℕ, ◌+◌, ◌*◌, ◌≤◌, length, Bool, true, false, ◌&&◌, ◌==◌, nat_lt, if◌then◌else◌, refl, arith, FitsSigned, ℤ, pos, neg_ℤ, ◌^◌, ◌≤ℤ◌, ◌<ℤ◌, int_lt}
+use Rattle.std.proofs.Common.{◌≡◌, ℕ, ◌+◌, ◌*◌, ◌≤◌, length, Bool, true, false, ◌&&◌, ◌==◌, nat_lt, if◌then◌else◌, refl, arith, FitsSigned, ℤ, pos, neg_ℤ, ◌^◌, ◌≤ℤ◌, ◌<ℤ◌, ◌+ℤ◌, ◌-ℤ◌, int_lt}
 use Rattle.std.specs.Int.{w32, int_wrap}
 use Rattle.std.proofs.lemmas.Bool.{eqb-true}
 use Rattle.std.proofs.lemmas.Bool.Decides.{nat_tests}
@@ -9,6 +9,7 @@ use Rattle.jxlm_ma.specs.ShortTrees.{Fits}
 use Rattle.jxlm_ma.specs.Tree.{walk}
 use Rattle.jxlm_ma.proofs.FlatCasts.{less, not_less}
 use Rattle.jxlm_ma.proofs.FlatTrees.{asked_is, walk_by}
+use Rattle.jxlm_tree.specs.Neighbours.{neighbours}
 use Rattle.jxlm_tree.specs.Properties.{Surroundings, place_property}
 use Rattle.jxlm_tree.specs.Sums.{clamped, clamped_sum}
 use Rattle.jxlm_part.specs.Part.{place_by, property_by}
@@ -31,6 +32,10 @@ pub sum-fits : (b : Bool) (z : ℤ) → FitsSigned w32 (sum_by b z)
 sum-fits true z = let f = clamped-fit z in let low = f.0 in let high = f.1 in omega (arith, ints, low, high)
 sum-fits false z = SFits-int_wrap w32 z
 
+-- and so is the clamped sum
+clamped_sum-fit : (s : Surroundings) → (neg_ℤ (pos (2 ^ 31)) ≤ℤ clamped_sum s) × (clamped_sum s <ℤ pos (2 ^ 31))
+clamped_sum-fit s = clamped-fit ((neighbours s.samples s.width).w -ℤ (neighbours s.samples s.width).nw +ℤ (neighbours s.samples s.width).n)
+
 -- one of two numbers, each of which fits
 one-fit : (b : Bool) (x y : ℤ) → (neg_ℤ (pos (2 ^ 31)) ≤ℤ x) × (x <ℤ pos (2 ^ 31)) → (neg_ℤ (pos (2 ^ 31)) ≤ℤ y) × (y <ℤ pos (2 ^ 31)) →
     (neg_ℤ (pos (2 ^ 31)) ≤ℤ (if b then x else y)) × ((if b then x else y) <ℤ pos (2 ^ 31))
@@ -39,8 +44,8 @@ one-fit false x y h k = k
 
 pub by-fit : (b : Bool) (s : Surroundings) → Fits (place_property s) → Fits (place_by b s)
 by-fit b s rest = record {
-  low = λ k. (one-fit (b && k == 9) (clamped_sum s) (place_property s k) (clamped-fit _) (rest.low k, rest.high k)).0;
-  high = λ k. (one-fit (b && k == 9) (clamped_sum s) (place_property s k) (clamped-fit _) (rest.low k, rest.high k)).1;
+  low = λ k. (one-fit (b && k == 9) (clamped_sum s) (place_property s k) (clamped_sum-fit s) (rest.low k, rest.high k)).0;
+  high = λ k. (one-fit (b && k == 9) (clamped_sum s) (place_property s k) (clamped_sum-fit s) (rest.low k, rest.high k)).1;
 }
 
 -- one of two numbers is the same where both are

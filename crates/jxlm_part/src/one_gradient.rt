@@ -2,7 +2,7 @@
 //!
 //! Tokens are read a stretch of the row at a time, and then the stretch is made of them and of the row above.
 
-ghost use Rattle.std.specs.Prelude.{◌≡◌, ◌+◌, ◌<◌, ◌≤◌, map, length, Contains, if◌then◌else◌};
+ghost use Rattle.std.specs.Prelude.{◌≡◌, ◌+◌, ◌<◌, ◌≤◌, map, length, Contains, false, if◌then◌else◌};
 ghost use Rattle.jxlm_base.specs.Bits.{bytes_of};
 ghost use Rattle.jxlm_ma.specs.declared.flat.Leaf.{Leaf};
 ghost use Rattle.jxlm_part.specs.Coded.{sample_of};

@@ -158,7 +158,13 @@ pub(crate) fn walked_row<S: Sample, D: Decoder>(
     let rows = earlier.rows();
     let clamped = coding.clamps(i);
     let (from, to) = inner_columns(width, y);
-    cell_tokens::<S, D, true>(state, steps, store, rows, coding, clamped, row, out, i, y, 0, from);
-    cell_tokens::<S, D, false>(state, steps, store, rows, coding, clamped, row, out, i, y, from, to);
-    cell_tokens::<S, D, true>(state, steps, store, rows, coding, clamped, row, out, i, y, to, width);
+    cell_tokens::<S, D, true>(
+        state, steps, store, rows, coding, clamped, row, out, i, y, 0, from,
+    );
+    cell_tokens::<S, D, false>(
+        state, steps, store, rows, coding, clamped, row, out, i, y, from, to,
+    );
+    cell_tokens::<S, D, true>(
+        state, steps, store, rows, coding, clamped, row, out, i, y, to, width,
+    );
 }

@@ -11,4 +11,3 @@ mod properties;
 pub mod reduced;
 mod self_correcting;
 mod state;
-

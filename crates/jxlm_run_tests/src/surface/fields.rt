@@ -128,9 +128,7 @@ fn shift(shift: ChannelShift) -> (Option<[bool; 4]>, Option<u32>, Option<(i32, i
     }
 }
 
-fn channel(
-    channel: ModularChannelParams,
-) -> (u32, u32, ChannelShift, PaletteTables, GradientSums) {
+fn channel(channel: ModularChannelParams) -> (u32, u32, ChannelShift, PaletteTables, GradientSums) {
     let ModularChannelParams {
         width,
         height,

@@ -1,4 +1,5 @@
-use Rattle.std.proofs.Common.{ap, arith, subst, ◌∙◌}
+use Rattle.std.proofs.Common.{true, arith, rules, subst, ◌∙◌, FitsSigned, w32}
+use Rattle.std.proofs.lemmas.Int.{to_z-of_z}
 use Rattle.jxlm_base.specs.Regions.{store_meanings}
 use Rattle.jxlm_ma.specs.Paths.{Gives}
 use Rattle.jxlm_tree.specs.Holding.{store_of, surroundings}
@@ -8,7 +9,8 @@ use Rattle.jxlm_part.proofs.cell.leaf_of.Goals as goal
 
 pub returns-then-clamped : goal.returns-then-clamped
 returns-then-clamped g c =
-    let found = c.leaf_by_number.ensures in
+    let fits : FitsSigned w32 c.clamped_sum.result = search rules in
+    let found = rw (to_z-of_z w32 c.clamped_sum.result fits) at c.leaf_by_number.ensures in
     rw c.if-clamped.true (record {
       leaf = λ s samples stands.
           found.leaf ∙ c.requires.sums c.if-clamped.true (λ k. c.clamped_sum.result) (place_by true (surroundings s (store_meanings g.S.Sealed.to_int (store_of c.args.properties.now)) samples)) (c.clamped_sum.ensures s samples stands);

@@ -1,4 +1,4 @@
-use Rattle.std.proofs.Common.{◌+◌, ◌≤◌, arith, length, map, refl}
+use Rattle.std.proofs.Common.{false, ◌+◌, ◌≤◌, arith, length, map, refl}
 use Rattle.std.proofs.lemmas.List.{length-map}
 use Rattle.jxlm_part.specs.Inner.Paths.{gradient_rule}
 use Rattle.jxlm_part.specs.declared.gradient.Leaves.TheVariants.{One}

@@ -1,4 +1,4 @@
-use Rattle.std.proofs.Common.{◌≡◌, ◌-◌, ◌≤◌, map, length}
+use Rattle.std.proofs.Common.{false, ◌≡◌, ◌-◌, ◌≤◌, map, length}
 use Rattle.jxlm_base.specs.Bits.{bytes_of}
 use Rattle.jxlm_part.specs.Inner.Paths.{gradient_rule}
 use Rattle.jxlm_part.specs.Inner.Rows.{ReadsCells}
