@@ -2,9 +2,10 @@
 """Draws a dozen pictures into a folder: draw_pictures.py FOLDER [SIDE]
 
 They are what lossless coders meet: gradients, noise, few colours, letters, shades with noise, one colour, alpha, and
-depths of 8 and 16 bits. SIDE is the longer side, 300 unless another is given; two pictures are narrow. The files are PGM
-and PPM, and PAM where there is alpha. The same pictures are drawn each time.
+depths of 8 and 16 bits; and floats of 32 bits, of both signs. SIDE is the longer side, 300 unless another is given; two pictures are narrow. The files are PGM
+and PPM, PAM where there is alpha, and PFM for floats. The same pictures are drawn each time.
 """
+import math
 import os
 import random
 import struct
@@ -45,6 +46,18 @@ def round_alpha(x, y, c, maximum, rng):
     return shades(x, y, c, maximum, rng)
 
 
+def signed_noise(_x, _y, _c, _maximum, rng):
+    return rng.uniform(-1, 1)
+
+
+def waves(x, y, c, _maximum, _):
+    return math.sin(x / 9 + c) * math.cos(y / 7)
+
+
+def signed_few(x, y, c, maximum, rng):
+    return few_colours(x, y, c, 255, rng) / 100 - 1
+
+
 PICTURES = [
     ("grey_gradient", 1, 255, 1, 0.7, gradient),
     ("grey_noise", 1, 255, 1, 0.3, noise),
@@ -59,6 +72,16 @@ PICTURES = [
     ("alpha_round", 4, 255, 1, 0.7, round_alpha),
     ("narrow", 3, 255, 1, 0.01, shades),
     ("low", 1, 255, 0.02, 1, few_colours),
+]
+
+# of floats: name, channels, width and height by the side, value
+FLOATS = [
+    ("float_grey_noise", 1, 0.4, 0.3, signed_noise),
+    ("float_grey_waves", 1, 1, 0.8, waves),
+    ("float_noise", 3, 0.3, 0.3, signed_noise),
+    ("float_waves", 3, 1, 0.5, waves),
+    ("float_few", 3, 0.6, 0.6, signed_few),
+    ("float_narrow", 3, 0.01, 1, waves),
 ]
 
 
@@ -81,6 +104,13 @@ def main():
         with open(os.path.join(folder, f"{name}.{ending}"), "wb") as file:
             file.write(head(channels, width, height, maximum).encode())
             file.write(struct.pack(f">{len(samples)}{'B' if maximum < 256 else 'H'}", *samples))
+    for name, channels, across, down, value in FLOATS:
+        rng = random.Random(name)
+        width, height = max(1, int(side * across)), max(1, int(side * down))
+        samples = [value(x, y, c, 1, rng) for y in range(height) for x in range(width) for c in range(channels)]
+        with open(os.path.join(folder, f"{name}.pfm"), "wb") as file:
+            file.write(f"P{'f' if channels == 1 else 'F'}\n{width} {height}\n-1.0\n".encode())
+            file.write(struct.pack(f"<{len(samples)}f", *samples))
 
 
 if __name__ == "__main__":

@@ -8,6 +8,7 @@ use Rattle.jxlm_base.specs.Grammar.{Grammar, IsErrorAt}
 use Rattle.jxlm_base.specs.Grid.{Grid}
 use Rattle.jxlm_transform.specs.Channels.{Channel, ChannelList}
 use Rattle.jxlm_transform.specs.declared.param.ChannelShift.TheVariants.{Shifts}
+use Rattle.jxlm_transform.specs.declared.param.GradientSums.TheVariants.{Clamped}
 use Rattle.jxlm_transform.specs.declared.param.PaletteTables.TheVariants.{OfDeltasToo}
 use Rattle.jxlm_cut.specs.Passes.{passes_of}
 use Rattle.jxlm_ma.specs.Tree.{Config}
@@ -28,7 +29,8 @@ use Rattle.jxl_lossless.specs.Sections.{section_of, sections_in}
 use Rattle.jxl_lossless.specs.declared.error.FileError.{FileError}
 use Rattle.jxl_lossless.specs.declared.error.FileError.TheVariants as errors
 
--- a channel of this shift in a frame of this size; in a file the table of a palette has columns for deltas too
+-- a channel of this shift in a frame of this size; in a file the table of a palette has columns for deltas too, and
+-- sums are clamped
 abbrev pub channel_in : Size → ℕ → Channel
 channel_in size s = record {
   width = div_ceil size.width (2 ^ s);
@@ -39,6 +41,7 @@ channel_in size s = record {
   vshift = pos s;
   original_shift = Shifts s;
   palette_tables = OfDeltasToo;
+  gradient_sums = Clamped;
 }
 
 -- the channels of a frame of an image, of this size

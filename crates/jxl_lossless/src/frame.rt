@@ -38,17 +38,19 @@ use jxlm_base::decoder::Decoder;
 use jxlm_base::grid::{AlignedGrid, OutOfMemory};
 use jxlm_base::sample::Sample;
 use jxlm_ma::flat::Steps;
-use jxlm_transform::param::{ChannelShift, ModularChannelParams, ModularParams, PaletteTables};
+use jxlm_transform::param::{
+    ChannelShift, GradientSums, ModularChannelParams, ModularParams, PaletteTables,
+};
 use std::alloc::Global;
 
-// A channel of this shift in a frame of this size, with the tables of palettes that files hold.
+// A channel of this shift in a frame of this size, with the tables of palettes and the sums that files hold.
 fn channel_of(size: Size, shift: u32) -> ModularChannelParams
     ensures { result ≡ in_file size.width size.height shift }
 {
     let shift = ChannelShift::from_shift(shift);
-    ModularChannelParams::with_shift(size.width, size.height, shift).with_palette_tables(
-        PaletteTables::OfDeltasToo,
-    )
+    ModularChannelParams::with_shift(size.width, size.height, shift)
+        .with_palette_tables(PaletteTables::OfDeltasToo)
+        .with_gradient_sums(GradientSums::Clamped)
 }
 
 // Channels of a frame of this size: so many of colours, and the extra ones, each of its own shift.

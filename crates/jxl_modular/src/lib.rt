@@ -49,7 +49,7 @@ pub mod ma {
 /// What an image is read by.
 pub mod param {
     pub use jxlm_transform::param::{
-        ChannelShift, ModularChannelParams, ModularParams, PaletteTables,
+        ChannelShift, GradientSums, ModularChannelParams, ModularParams, PaletteTables,
     };
 }
 
@@ -91,6 +91,8 @@ pub use jxlm_base::sample::Sample;
 pub use jxlm_ma::flat::FlatMaTree;
 pub use jxlm_ma::ma::{MaConfig, MaConfigParams};
 pub use jxlm_transform::channels::ModularChannelInfo;
-pub use jxlm_transform::param::{ChannelShift, ModularChannelParams, ModularParams, PaletteTables};
+pub use jxlm_transform::param::{
+    ChannelShift, GradientSums, ModularChannelParams, ModularParams, PaletteTables,
+};
 pub use picture::decode_picture;
 pub use root::Modular;

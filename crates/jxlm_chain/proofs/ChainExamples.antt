@@ -6,6 +6,7 @@ use Rattle.jxlm_base.specs.SqueezedGrids.{AreGridSamples}
 use Rattle.jxlm_transform.specs.Channels.{Channel, ChannelList}
 use Rattle.jxlm_transform.specs.ChannelSteps.{RctStep, SqueezeStep, Step, list_after}
 use Rattle.jxlm_transform.specs.declared.param.ChannelShift.TheVariants.{Raw}
+use Rattle.jxlm_transform.specs.declared.param.GradientSums.TheVariants.{Wrapped}
 use Rattle.jxlm_transform.specs.declared.param.PaletteTables.TheVariants.{OfColours}
 use Rattle.jxlm_chain.specs.Chain.{Codes, Chain}
 use Rattle.jxlm_chain.proofs.SampleGrids.{AreSampleGrids}
@@ -40,7 +41,7 @@ recoloured_cell samples = (samples, refl)
 -- ---- a whole chain
 
 abbrev channel : ℕ → ℤ → Channel
-channel n shift = record { width = n; height = 1; original_width = 4; original_height = 1; hshift = shift; vshift = pos 0; original_shift = Raw (pos 0) (pos 0); palette_tables = OfColours }
+channel n shift = record { width = n; height = 1; original_width = 4; original_height = 1; hshift = shift; vshift = pos 0; original_shift = Raw (pos 0) (pos 0); palette_tables = OfColours; gradient_sums = Wrapped }
 
 abbrev before : ChannelList
 before = record { channels = channel 4 (pos 0) ∷ []; nb_meta = 0 }

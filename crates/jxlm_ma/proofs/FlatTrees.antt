@@ -44,7 +44,7 @@ seen_is s k n h = either (cases_lt k (16 + 4 * n)) where
   either (inl inside) = let is : nat_lt k (16 + 4 * n) ≡ true = grind (arith, nat_tests) in rw is refl
   either (inr past) = let is : nat_lt k (16 + 4 * n) ≡ false = grind (arith, nat_tests) in rw is (sym (beyond s k n h past))
 
-asked_is : (t : FlatTree) (s : Surroundings) (k : ℕ) → length s.earlier ≤ t.prev_channels → asked t (place_property s) k ≡ property t.channel t.stream_idx s k
+pub asked_is : (t : FlatTree) (s : Surroundings) (k : ℕ) → length s.earlier ≤ t.prev_channels → asked t (place_property s) k ≡ property t.channel t.stream_idx s k
 asked_is t s k h = ap (λ (v : ℤ). if k == 0 then int_wrap w32 (pos t.channel) else if k == 1 then int_wrap w32 (pos t.stream_idx) else v) (seen_is s k t.prev_channels h)
 
 pub walk_by : {L : Type 0} (t : Shape L) (f g : ℕ → ℤ) → ((k : ℕ) → f k ≡ g k) → walk t f ≡ walk t g

@@ -31,3 +31,4 @@ pub mod FewSteps
 pub mod StepErrors
 pub mod NextChannels
 pub mod OneNode
+pub mod SumTrees

@@ -9,5 +9,6 @@ pub mod ShortTrees
 pub mod ClusterTables
 pub mod Paths
 pub mod Steps
+pub mod SumTrees
 pub mod CompiledNodes
 pub mod NextChannel

@@ -10,4 +10,5 @@ mod marks;
 mod nodes;
 pub mod paths;
 mod steps;
+mod sums;
 mod tree;

@@ -31,7 +31,10 @@ use Rattle.jxlm_tree.specs.declared.state.PredictorState.{PredictorState}
 use Rattle.jxlm_tree.proofs.EarlierLaws.{in_state, of_setting}
 use Rattle.jxlm_tree.proofs.StandingLaws.{stands_row}
 use Rattle.jxlm_part.specs.Coded.{next_prediction, sample_of}
-use Rattle.jxlm_part.specs.Part.{channel, max_width, no_channel}
+use Rattle.jxlm_ma.specs.SumTrees.{GoesBySum, takes_sums_at}
+use Rattle.jxlm_transform.specs.Params.{are_clamped}
+use Rattle.jxlm_ma.proofs.SumTrees.{goes_by_sum, second_of}
+use Rattle.jxlm_part.specs.Part.{clamps, channel, max_width, no_channel}
 use Rattle.jxlm_part.specs.Reading.{FindsClusters, HasRoomFor, IsCodingOf, IsTreeOf, alone_at, are_weighted, cost_of, flat, part_of, regions_of, weights_used}
 use Rattle.jxlm_part.specs.Inner.Cells.{FailsSample, ReadsSample, leaf_at, predicted_at}
 use Rattle.jxlm_part.specs.Inner.Channels.{StandsAfter, asked_at, handed, region_at, setting_of, weighted_at, weights_at}
@@ -112,6 +115,10 @@ module _ {D : Type 0} (c : PartCoding D) (coding : IsCodingOf c) (i : ℕ) (li :
 
   pub clusters_at : (other : ChannelTree) (clusters : List ℕ) → FindsClusters c clusters → ClustersStandIn clusters (slice_index_or c.flats.now i other).flat.tree
   clusters_at other clusters h = subst (λ (t : FlatTree). ClustersStandIn clusters t.tree) (sym (flat_at other)) h
+
+  -- where property 9 is clamped, its walks go by that alone
+  pub sums_at : (other : ChannelTree) → clamps (part_of c) i ≡ true → GoesBySum (slice_index_or c.flats.now i other).flat
+  sums_at other h = subst GoesBySum (sym (flat_at other)) (goes_by_sum (flat c.config.now.tree c.stream_index i) (second_of (are_clamped (channel (part_of c).channels i).gradient_sums) (takes_sums_at i c.stream_index c.config.now.tree) h))
 
   pub cost_at : (other : ChannelTree) (path : Path) (before after : ℕ) → after ≤ before + steps_walked path (slice_index_or c.flats.now i other).flat.tree → steps_walked path c.config.now.tree ≤ cost_of c → after ≤ before + cost_of c
   cost_at other path before after h bound =
@@ -247,26 +254,29 @@ module _ {D X : Type 0} (l : Line X D) (to_int : X → ℤ) (is : IsLine l) (x :
     abbrev here : List ℤ
     here = preceding_cells (part_of c) (grids_in (regions_of c) ints) i 0 y ++ so_far
 
+    abbrev clamped : Bool
+    clamped = clamps (part_of c) i
+
     next : IsNext (part_of c) (regions_of c) ints i here own (sees_regions (part_of c) (regions_of c) ints i y coding.sizes is.here.channel is.below so_far (omega (arith, row_long, px))) (setting_of c i)
     next =
         is_next (part_of c) (regions_of c) ints i here own (sees_regions (part_of c) (regions_of c) ints i y coding.sizes is.here.channel is.below so_far (omega (arith, row_long, px)))
         (asked_at c i) (reads_below c coding i is.here.channel) (weighted_at c i) (goes_without c coding i is.here.channel)
 
     -- the read of the rule is that of the leaf to which the flat tree leads
-    read_is : rule.read so_far old.decoder (position_of old.bits) ≡ d.read old.decoder (bytes_of old.bits) (position_of old.bits) (leaf_at the_flat (setting_of c i) ints own).cluster c.widest
+    read_is : rule.read so_far old.decoder (position_of old.bits) ≡ d.read old.decoder (bytes_of old.bits) (position_of old.bits) (leaf_at clamped the_flat (setting_of c i) ints own).cluster c.widest
     read_is =
         sym (ap (λ (k : Leaf). d.read old.decoder (bytes_of old.bits) (position_of old.bits) k.cluster (max_width (part_of c).channels)) next.leaf_is)
-        ∙ sym (ap (d.read old.decoder (bytes_of old.bits) (position_of old.bits) (leaf_at (flat c.config.now.tree c.stream_index i) (setting_of c i) ints own).cluster) coding.widest)
-        ∙ sym (ap (λ (t : FlatTree). d.read old.decoder (bytes_of old.bits) (position_of old.bits) (leaf_at t (setting_of c i) ints own).cluster c.widest) (flat_at c coding i is.here.channel other))
+        ∙ sym (ap (d.read old.decoder (bytes_of old.bits) (position_of old.bits) (leaf_at clamped (flat c.config.now.tree c.stream_index i) (setting_of c i) ints own).cluster) coding.widest)
+        ∙ sym (ap (λ (t : FlatTree). d.read old.decoder (bytes_of old.bits) (position_of old.bits) (leaf_at clamped t (setting_of c i) ints own).cluster c.widest) (flat_at c coding i is.here.channel other))
 
-    value_is : (token : ℕ) → rule.value so_far token ≡ sample_of w (leaf_at the_flat (setting_of c i) ints own) (predicted_at the_flat (setting_of c i) ints own) token
+    value_is : (token : ℕ) → rule.value so_far token ≡ sample_of w (leaf_at clamped the_flat (setting_of c i) ints own) (predicted_at clamped the_flat (setting_of c i) ints own) token
     value_is token =
         sym (ap (λ (k : Leaf). sample_of w k (next_prediction (part_of c) here) token) next.leaf_is)
-        ∙ sym (ap (λ z. sample_of w (leaf_at (flat c.config.now.tree c.stream_index i) (setting_of c i) ints own) z token) next.predicted_is)
-        ∙ sym (ap (λ (t : FlatTree). sample_of w (leaf_at t (setting_of c i) ints own) (predicted_at t (setting_of c i) ints own) token) (flat_at c coding i is.here.channel other))
+        ∙ sym (ap (λ z. sample_of w (leaf_at clamped (flat c.config.now.tree c.stream_index i) (setting_of c i) ints own) z token) next.predicted_is)
+        ∙ sym (ap (λ (t : FlatTree). sample_of w (leaf_at clamped t (setting_of c i) ints own) (predicted_at clamped t (setting_of c i) ints own) token) (flat_at c coding i is.here.channel other))
 
     module _ (bound : steps_walked l.path c.config.now.tree ≤ cost_of c) (new : Source D) (properties : Properties X) (same : store_of properties ≡ l.store.now) (at : StandsAt (state_of properties) (setting_of c i) own) where
-      pub fails_cell : (e : DecoderError) → FailsSample d to_int the_flat c.widest properties old new (steps_walked l.path the_flat.tree) e → FailsCell d (cost_of c) rule row x old new row e
+      pub fails_cell : (e : DecoderError) → FailsSample d to_int clamped the_flat c.widest properties old new (steps_walked l.path the_flat.tree) e → FailsCell d (cost_of c) rule row x old new row e
       fails_cell e h = record {
         error = read_is ∙ rw same at (h.error (setting_of c i) own at);
         row_is = refl;
@@ -278,7 +288,7 @@ module _ {D X : Type 0} (l : Line X D) (to_int : X → ℤ) (is : IsLine l) (x :
       }
 
       pub reads_cell : (from_int : ℤ → X) → ((n : ℤ) → to_int (from_int n) ≡ n) → (sample : X) →
-          ReadsSample d to_int the_flat c.widest properties old new w from_int (steps_walked l.path the_flat.tree) sample → ReadsCell d (cost_of c) rule row x old new (map to_int (slice_set vs x sample))
+          ReadsSample d to_int clamped the_flat c.widest properties old new w from_int (steps_walked l.path the_flat.tree) sample → ReadsCell d (cost_of c) rule row x old new (map to_int (slice_set vs x sample))
       reads_cell from_int back sample h =
           let reads = rw same at (h.reads (setting_of c i) own at) in
           record {

@@ -13,7 +13,8 @@ use Rattle.jxlm_part.specs.Inner.Levels.{IsAtRow, IsOnPath, IsReady}
 use Rattle.jxlm_part.specs.Inner.Progress.{DecodesCells, FailsInCells, Moment, WalkGives}
 use Rattle.jxlm_part.specs.Inner.Rows.{IsDecodingPart, IsLine, RowGives, SetsRead, StandsInRow, region_on}
 use Rattle.jxlm_part.specs.declared.source.Source.{Source}
-use Rattle.jxlm_part.specs.Reading.{FindsClusters, HasRoom, cost_of, regions_of}
+use Rattle.jxlm_part.specs.Part.{clamps}
+use Rattle.jxlm_part.specs.Reading.{FindsClusters, HasRoom, cost_of, part_of, regions_of}
 use Rattle.jxlm_part.specs.declared.coding.PartCoding.{PartCoding}
 use Rattle.jxlm_part.specs.declared.rows.Line.{Line}
 use Rattle.jxlm_part.specs.declared.rows.RowError.{RowError}
@@ -109,5 +110,5 @@ at_first_row c i to_int store state stands =
 -- ---- before a row is read
 
 module _ {D X : Type 0} (l : Line X D) (d : Meaning D) (to_int : X → ℤ) where
-  pub is_line : (walk : Walk X D) → IsAtRow d l.coding.now walk to_int l.store.now l.path l.i l.y → l.y < (region_on l).height → IsLine l
-  is_line walk at below = record { here = at.here; below = below; gives = at.gives; allows = at.allows; steps = at.steps }
+  pub is_line : (walk : Walk X D) → IsAtRow d l.coding.now walk to_int l.store.now l.path l.i l.y → l.y < (region_on l).height → l.clamped ≡ clamps (part_of l.coding.now) l.i → IsLine l
+  is_line walk at below clamped = record { here = at.here; below = below; gives = at.gives; allows = at.allows; steps = at.steps; clamped = clamped }

@@ -1,5 +1,5 @@
 -- One more cell of a row is read from the row above it.
-use Rattle.std.proofs.Common.{◌≡◌, ℕ, zero, suc, ◌+◌, ◌<◌, List, Contains, length, take, map, Ok, Err, Result, refl, sym, ap, ◌∙◌, subst, arith, rules, ℤ, pos, ◌+ℤ◌, ◌-ℤ◌, ◌*ℤ◌}
+use Rattle.std.proofs.Common.{◌≡◌, ℕ, zero, suc, ◌+◌, ◌<◌, List, Contains, length, take, map, Ok, Err, Result, Bool, true, false, refl, sym, ap, ◌∙◌, subst, arith, rules, ℤ, pos, ◌+ℤ◌, ◌-ℤ◌, ◌*ℤ◌}
 use Rattle.std.specs.Prelude.{get_or, slice_set}
 use Rattle.std.specs.Int.{Width, w32, int_wrap}
 use Rattle.std.proofs.Math.IntN.{+ℤ_idr, *ℤ_comm, suc_ℤ-*ℤ, zero-*ℤ, +ℤ_idl}
@@ -12,11 +12,12 @@ use Rattle.jxlm_base.specs.Numbers.{clamped_gradient, unpack}
 use Rattle.jxlm_base.specs.declared.decoder.DecoderError.{DecoderError}
 use Rattle.jxlm_ma.specs.declared.flat.Leaf.{Leaf}
 use Rattle.jxlm_part.specs.Coded.{sample_of}
-use Rattle.jxlm_part.specs.Inner.Paths.{AreGradients, AreLeft, IsPlain, gradient_in, gradient_rule, leaf_by, north_in, north_west_in, property_9_in, steps_by, west_in}
+use Rattle.jxlm_part.specs.Inner.Paths.{AreGradients, AreLeft, IsPlain, gradient_in, gradient_rule, leaf_by, north_in, north_west_in, property_9_in, steps_by, sum_by, west_in}
 use Rattle.jxlm_part.specs.Inner.Rows.{FailsRow, ReadsCells}
 use Rattle.jxlm_part.specs.declared.source.Source.{Source}
 use Rattle.jxlm_part.specs.Rule.{Rule}
 use Rattle.jxlm_part.specs.declared.gradient.Leaves.{Leaves}
+use Rattle.jxlm_part.proofs.ClampedSums.{sum-fits}
 use Rattle.jxlm_part.proofs.RowReads.{cell_fails, cell_more}
 
 -- at a leaf that adds nothing more, tokens and predictions are added as samples
@@ -55,11 +56,11 @@ module _ (above row : List ℤ) where
   north_west_before zero = refl
   north_west_before (suc x) = ap (get_or above x) (west_before (suc x))
 
-  property_9_before : (x : ℕ) → property_9_in above (take x row) x ≡ property_9_in above row x
-  property_9_before x =
-      ap (λ z. int_wrap w32 (z -ℤ north_west_in above (take x row) x +ℤ north_in above (take x row) x)) (west_before x)
-      ∙ ap (λ z. int_wrap w32 (west_in above row x -ℤ z +ℤ north_in above (take x row) x)) (north_west_before x)
-      ∙ ap (λ z. int_wrap w32 (west_in above row x -ℤ north_west_in above row x +ℤ get_or above x z)) (west_before x)
+  property_9_before : (b : Bool) (x : ℕ) → property_9_in above (take x row) b x ≡ property_9_in above row b x
+  property_9_before b x =
+      ap (λ z. sum_by b (z -ℤ north_west_in above (take x row) x +ℤ north_in above (take x row) x)) (west_before x)
+      ∙ ap (λ z. sum_by b (west_in above row x -ℤ z +ℤ north_in above (take x row) x)) (north_west_before x)
+      ∙ ap (λ z. sum_by b (west_in above row x -ℤ north_west_in above row x +ℤ get_or above x z)) (west_before x)
 
 -- a sample of the row above, or another in the first row, as the code has it
 pub sample_above_is : {X : Type 0} (to_int : X → ℤ) (above : List X) (x : ℕ) (n other : X) (e : ℤ) → n ≡ get_or above x other → to_int other ≡ e → to_int n ≡ get_or (map to_int above) x e
@@ -97,12 +98,12 @@ module _ {X : Type 0} {to_int : X → ℤ} {above row : List X} {x : ℕ} {w nw 
     north = sample_above_is to_int above x n w _ up left.west
 
     -- property 9, as the code computes it
-    pub property_9_is : int_wrap w32 (to_int w -ℤ to_int nw +ℤ to_int n) ≡ property_9_in A (take x R) (length (take x R))
-    property_9_is =
-        ap (λ z. int_wrap w32 (z -ℤ to_int nw +ℤ to_int n)) left.west
-        ∙ ap (λ z. int_wrap w32 (west_in A R x -ℤ z +ℤ to_int n)) left.north_west
-        ∙ ap (λ z. int_wrap w32 (west_in A R x -ℤ north_west_in A R x +ℤ z)) north
-        ∙ sym (ap (property_9_in A (take x R)) (length-take-le x R (omega (arith, in_row))) ∙ property_9_before A R x)
+    pub property_9_is : (b : Bool) → sum_by b (to_int w -ℤ to_int nw +ℤ to_int n) ≡ property_9_in A (take x R) b (length (take x R))
+    property_9_is b =
+        ap (λ z. sum_by b (z -ℤ to_int nw +ℤ to_int n)) left.west
+        ∙ ap (λ z. sum_by b (west_in A R x -ℤ z +ℤ to_int n)) left.north_west
+        ∙ ap (λ z. sum_by b (west_in A R x -ℤ north_west_in A R x +ℤ z)) north
+        ∙ sym (ap (property_9_in A (take x R) b) (length-take-le x R (omega (arith, in_row))) ∙ property_9_before A R b x)
 
     -- the sample of a token over the clamped gradient, as the code computes it
     pub gradient_sample : (width : Width) (from_int : ℤ → X) → ((z : ℤ) → to_int (from_int z) ≡ z) → ((z : ℤ) → int_wrap width (int_wrap w32 z) ≡ int_wrap width z) → (l : Leaf) → IsPlain l →
@@ -123,33 +124,33 @@ module _ {X : Type 0} {to_int : X → ℤ} {above row : List X} {x : ℕ} {w nw 
 -- ---- the loop over the cells of a row
 
 -- The cells before column x of a row were read below the row above, from `start` to `old`; these are to the left of it.
-pub record ReadsBelow {D X : Type 0} (d : Meaning D) (width : Width) (to_int : X → ℤ) (leaves : Leaves) (widest : ℕ) (above : List X) (start : Source D) (row : List X) (x : ℕ) (w nw : X) (old : Source D) :
-    Type 0 where
-  pub reads : ReadsCells d (steps_by leaves) (gradient_rule d width (bytes_of start.bits) widest leaves (map to_int above)) (map to_int row) x start old
+pub record ReadsBelow {D X : Type 0} (d : Meaning D) (width : Width) (to_int : X → ℤ) (clamped : Bool) (leaves : Leaves) (widest : ℕ) (above : List X) (start : Source D) (row : List X) (x : ℕ) (w nw : X)
+    (old : Source D) : Type 0 where
+  pub reads : ReadsCells d (steps_by leaves) (gradient_rule d width clamped (bytes_of start.bits) widest leaves (map to_int above)) (map to_int row) x start old
   pub left : AreLeft to_int above row x w nw
 
 -- k is the cluster of the cell in that column
-module _ {D X : Type 0} {d : Meaning D} {width : Width} {to_int : X → ℤ} {leaves : Leaves} {widest : ℕ} {above row : List X} {start old : Source D} {x : ℕ} {w nw : X} (law : IsLawful d)
-    (grads : AreGradients (d.cluster_map start.decoder) leaves) (inside : x < length row) (h : ReadsBelow d width to_int leaves widest above start row x w nw old) (n : X) (up : n ≡ get_or above x w) (k : ℕ)
-    (looked_up : k ≡ (leaf_by leaves (int_wrap w32 (to_int w -ℤ to_int nw +ℤ to_int n))).cluster) where
+module _ {D X : Type 0} {d : Meaning D} {width : Width} {to_int : X → ℤ} {clamped : Bool} {leaves : Leaves} {widest : ℕ} {above row : List X} {start old : Source D} {x : ℕ} {w nw : X} (law : IsLawful d)
+    (grads : AreGradients (d.cluster_map start.decoder) leaves) (inside : x < length row) (h : ReadsBelow d width to_int clamped leaves widest above start row x w nw old) (n : X) (up : n ≡ get_or above x w) (k : ℕ)
+    (looked_up : k ≡ (leaf_by leaves (sum_by clamped (to_int w -ℤ to_int nw +ℤ to_int n))).cluster) where
   abbrev rule : Rule D
-  rule = gradient_rule d width (bytes_of start.bits) widest leaves (map to_int above)
+  rule = gradient_rule d width clamped (bytes_of start.bits) widest leaves (map to_int above)
 
   abbrev cells : List ℤ
   cells = map to_int row
 
   abbrev property_9 : ℤ
-  property_9 = property_9_in (map to_int above) (take x cells) (length (take x cells))
+  property_9 = property_9_in (map to_int above) (take x cells) clamped (length (take x cells))
 
   within : x < length cells
   within = let m = length-map row to_int in omega (arith, m, inside)
 
   is : k ≡ (leaf_by leaves property_9).cluster
-  is = looked_up ∙ ap (λ z. (leaf_by leaves z).cluster) (property_9_is h.left inside n up)
+  is = looked_up ∙ ap (λ z. (leaf_by leaves z).cluster) (property_9_is h.left inside n up clamped)
 
   -- the cluster is one of the decoder's
   pub known_now : Contains (d.cluster_map old.decoder) k
-  known_now = rw (is, h.reads.clusters) (grads.known _ (SFits-int_wrap w32 _))
+  known_now = rw (is, h.reads.clusters) (grads.known _ (sum-fits clamped _))
 
   -- so its read is that of the leaf
   read_at_leaf : (r : Result (Taken ℕ D) DecoderError) → d.read old.decoder (bytes_of old.bits) (position_of old.bits) k widest ≡ r → rule.read (take x cells) old.decoder (position_of old.bits) ≡ r
@@ -160,7 +161,7 @@ module _ {D X : Type 0} {d : Meaning D} {width : Width} {to_int : X → ℤ} {le
     pub below_more : (from_int : ℤ → X) → ((z : ℤ) → to_int (from_int z) ≡ z) → ((z : ℤ) → int_wrap width (int_wrap w32 z) ≡ int_wrap width z) → (token : ℕ) (u g v m : X) →
         d.read old.decoder (bytes_of old.bits) (position_of old.bits) k widest ≡ Ok (record { value = token; state = new.decoder; position = position_of new.bits }) →
         u ≡ from_int (int_wrap width (unpack token)) → g ≡ from_int (clamped_gradient (to_int n) (to_int w) (to_int nw)) → v ≡ from_int (int_wrap width (to_int u +ℤ to_int g)) →
-        m ≡ get_or above x v → ReadsBelow d width to_int leaves widest above start (slice_set row x v) (x + 1) v m new
+        m ≡ get_or above x v → ReadsBelow d width to_int clamped leaves widest above start (slice_set row x v) (x + 1) v m new
     below_more from_int back after token u g v m read hu hg hv hm =
         let plain = grads.plain property_9 in
         let value = gradient_sample h.left inside n up width from_int back after (leaf_by leaves property_9) (record { offset = plain.1.0; multiplier = plain.1.1 }) token u g v hu hg hv in

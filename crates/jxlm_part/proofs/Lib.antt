@@ -1,4 +1,5 @@
 pub mod CellLaws
+pub mod ClampedSums
 pub mod Decoding
 pub mod Earlier
 pub mod GradientCells

@@ -20,12 +20,12 @@ use Rattle.jxlm_ma.specs.declared.flat.Leaf.{Leaf}
 use Rattle.jxlm_tree.specs.declared.predictor.Predictor.{Predictor}
 use Rattle.jxlm_tree.specs.declared.predictor.Predictor.TheVariants.{Zero, West, North, AvgWestAndNorth, Select, Gradient, SelfCorrecting, NorthEast, NorthWest, WestWest, AvgWestAndNorthWest, AvgNorthAndNorthWest, AvgNorthAndNorthEast, AvgAll}
 use Rattle.jxlm_tree.specs.declared.predictor.WpHeader.{WpHeader}
-use Rattle.jxlm_ma.proofs.FlatTrees.{walks_by_properties}
 use Rattle.jxlm_part.specs.Coded.{next_prediction}
 use Rattle.jxlm_part.specs.Reading.{flat}
 use Rattle.jxlm_part.specs.Inner.Cells.{leaf_at, predicted_at}
 use Rattle.jxlm_part.specs.Inner.Channels.{handed, region_at}
-use Rattle.jxlm_part.specs.Part.{Part, channel, earlier_alike, grid_of as grid_before, next_channel, samples_of, next_leaf, surroundings}
+use Rattle.jxlm_part.specs.Part.{Part, channel, clamps, earlier_alike, grid_of as grid_before, next_channel, samples_of, next_leaf, place_by, property_by, surroundings}
+use Rattle.jxlm_part.proofs.ClampedSums.{by-fit, by_same, walks_by}
 use Rattle.jxlm_part.proofs.Earlier.{earlier_mapped, few_earlier}
 
 -- what properties look at, with and without weights
@@ -148,11 +148,11 @@ module _ (part : Part) (regions : List Region) (ints : List (Grid ℤ)) (i : ℕ
       omega (arith, a, b, c)
 
   -- with weights, the flat tree leads to the leaf of the part
-  pub leaf_with : leaf_reached (flat part.tree part.stream i) (place_property (seen_with (Some part.weights))) ≡ next_leaf part before
+  pub leaf_with : leaf_reached (flat part.tree part.stream i) (place_by (clamps part i) (seen_with (Some part.weights))) ≡ next_leaf part before
   leaf_with =
-      walks_by_properties (flat part.tree part.stream i) (seen_with (Some part.weights)) few
-      ∙ sym (ap (λ (s : Surroundings). walk part.tree (property i part.stream s)) same_seen)
-      ∙ sym (ap (λ n. walk part.tree (property n part.stream (surroundings part before))) sees.stands)
+      walks_by (clamps part i) (flat part.tree part.stream i) (seen_with (Some part.weights)) few
+      ∙ sym (ap (λ (s : Surroundings). walk part.tree (property_by (clamps part i) i part.stream s)) same_seen)
+      ∙ sym (ap (λ n. walk part.tree (property_by (clamps part n) n part.stream (surroundings part before))) sees.stands)
 
   -- the prediction of the part, at its leaf
   predicted_with : next_prediction part before ≡ prediction (Some part.weights) own reg.width (next_leaf part before).predictor
@@ -160,8 +160,8 @@ module _ (part : Part) (regions : List Region) (ints : List (Grid ℤ)) (i : ℕ
 
   -- The leaf and the prediction that the flat tree leads to are those of the next sample of the part.
   pub record IsNext (s : Setting) : Type 0 where
-    pub leaf_is : leaf_at (flat part.tree part.stream i) s ints own ≡ next_leaf part before
-    pub predicted_is : predicted_at (flat part.tree part.stream i) s ints own ≡ next_prediction part before
+    pub leaf_is : leaf_at (clamps part i) (flat part.tree part.stream i) s ints own ≡ next_leaf part before
+    pub predicted_is : predicted_at (clamps part i) (flat part.tree part.stream i) s ints own ≡ next_prediction part before
 
   -- the earlier channels, where the tree asks for any
   module _ (n : ℕ) (below : ReadsEarlierBelow (flat part.tree part.stream i) n) where
@@ -171,10 +171,13 @@ module _ (part : Part) (regions : List Region) (ints : List (Grid ℤ)) (i : ℕ
     abbrev cut_with : Option WpHeader → Surroundings
     cut_with weights = surroundings_of (setting reg.width weights handed_on) ints own
 
-    cut_leaf : (weights : Option WpHeader) → leaf_reached (flat part.tree part.stream i) (place_property (cut_with weights)) ≡ leaf_reached (flat part.tree part.stream i) (place_property (seen_with weights))
+    abbrev b : Bool
+    b = clamps part i
+
+    cut_leaf : (weights : Option WpHeader) → leaf_reached (flat part.tree part.stream i) (place_by b (cut_with weights)) ≡ leaf_reached (flat part.tree part.stream i) (place_by b (seen_with weights))
     cut_leaf weights =
-        below (place_property (cut_with weights)) (place_property (seen_with weights)) (place-fit (cut_with weights)) (place-fit (seen_with weights))
-        (λ k less. cut_handed (seen_with weights) (grid_of ints) earlier n k less)
+        below (place_by b (cut_with weights)) (place_by b (seen_with weights)) (by-fit b (cut_with weights) (place-fit (cut_with weights))) (by-fit b (seen_with weights) (place-fit (seen_with weights)))
+        (λ k less. by_same b (cut_with weights) (seen_with weights) k refl (cut_handed (seen_with weights) (grid_of ints) earlier n k less))
 
     pub is_next : (used : Bool) → (used ≡ false → GoesWithoutWeights (flat part.tree part.stream i)) → IsNext (setting reg.width (if used then Some part.weights else None) handed_on)
     is_next true without =
@@ -184,11 +187,11 @@ module _ (part : Part) (regions : List Region) (ints : List (Grid ℤ)) (i : ℕ
           predicted_is = ap (λ (k : Leaf). prediction (Some part.weights) own reg.width k.predictor) same ∙ sym predicted_with;
         }
     is_next false without =
-        let goes = without refl (place_property (cut_with None)) (place_property (cut_with (Some part.weights))) (place-fit (cut_with None)) (place-fit (cut_with (Some part.weights)))
-        (λ k other. weightless (cut_with None) None (Some part.weights) k other) in
+        let goes = without refl (place_by b (cut_with None)) (place_by b (cut_with (Some part.weights))) (by-fit b (cut_with None) (place-fit (cut_with None))) (by-fit b (cut_with (Some part.weights)) (place-fit (cut_with (Some part.weights))))
+        (λ k other. by_same b (cut_with None) (cut_with (Some part.weights)) k refl (weightless (cut_with None) None (Some part.weights) k other)) in
         let same = goes.0 ∙ cut_leaf (Some part.weights) ∙ leaf_with in
         record {
           leaf_is = same;
-          predicted_is = predicts_without None (Some part.weights) own reg.width (leaf_at (flat part.tree part.stream i) (setting reg.width None handed_on) ints own).predictor goes.1
+          predicted_is = predicts_without None (Some part.weights) own reg.width (leaf_at b (flat part.tree part.stream i) (setting reg.width None handed_on) ints own).predictor goes.1
               ∙ ap (λ (k : Leaf). prediction (Some part.weights) own reg.width k.predictor) same ∙ sym predicted_with;
         }

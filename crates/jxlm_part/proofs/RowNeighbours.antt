@@ -1,5 +1,5 @@
 -- The neighbours of a cell of a row are those of the samples before it.
-use Rattle.std.proofs.Common.{◌≡◌, ℕ, zero, suc, ◌+◌, ◌*◌, ◌-◌, ◌/◌, ◌%◌, ◌<◌, List, [], ◌++◌, length, take, map, Option, Some, refl, sym, ap, ◌∙◌, subst, arith, ℤ, pos, ◌+ℤ◌, ◌-ℤ◌}
+use Rattle.std.proofs.Common.{◌≡◌, ℕ, zero, suc, ◌+◌, ◌*◌, ◌-◌, ◌/◌, ◌%◌, ◌<◌, List, [], ◌++◌, length, take, map, Option, Some, true, false, refl, sym, ap, ◌∙◌, subst, arith, ℤ, pos, ◌+ℤ◌, ◌-ℤ◌}
 use Rattle.std.specs.Prelude.{get_or, slice_get}
 use Rattle.std.specs.Int.{w32, int_wrap}
 use Rattle.std.proofs.lemmas.List.{get_or-append-add, get_or-take, get_or_append_left, get_or_default, length-append, length-map, length-take-le, same_lists}
@@ -14,10 +14,11 @@ use Rattle.jxlm_base.proofs.RegionRows.{get_row, length-row}
 use Rattle.jxlm_base.proofs.Regions.{IsFull-grid_of, cell-grid_of}
 use Rattle.jxlm_tree.specs.Neighbours.{at, column, neighbours, north, north_west, row as line, west}
 use Rattle.jxlm_tree.specs.Predictions.{prediction}
-use Rattle.jxlm_tree.specs.Properties.{gradient_at}
+use Rattle.jxlm_tree.specs.Properties.{Surroundings, gradient_at}
+use Rattle.jxlm_tree.specs.Sums.{clamped_sum}
 use Rattle.jxlm_tree.specs.declared.predictor.WpHeader.{WpHeader}
 use Rattle.jxlm_tree.specs.declared.predictor.Predictor.TheVariants as predictor
-use Rattle.jxlm_part.specs.Inner.Paths.{gradient_in, north_in, north_west_in, property_9_in, row_above, west_in}
+use Rattle.jxlm_part.specs.Inner.Paths.{gradient_in, north_in, north_west_in, property_9_in, row_above, sum_by, west_in}
 
 -- the row above, as it is read from a store
 pub row_above_is : {X : Type 0} (f : X → ℤ) (store : List (Grid X)) (r : Region) (y : ℕ) (vs : List X) → 0 < y → y < r.height → length vs ≡ r.width →
@@ -119,5 +120,12 @@ module _ (g : Grid ℤ) (full : IsFull g) (y : ℕ) (below : y < g.height) (row 
   gradient_is weights = from_three samples (row_above g y) row g.width (λ n w nw. int_wrap w32 (clamped_gradient n w nw)) (length row) y samples_long short none_over over own
 
   -- and so is property 9
-  pub property_9_seen : gradient_at samples g.width (column samples g.width) (line samples g.width) ≡ property_9_in (row_above g y) row (length row)
+  pub property_9_seen : gradient_at samples g.width (column samples g.width) (line samples g.width) ≡ property_9_in (row_above g y) row false (length row)
   property_9_seen = from_three samples (row_above g y) row g.width (λ n w nw. int_wrap w32 (w -ℤ nw +ℤ n)) (length row) y samples_long short none_over over own
+
+  -- and the clamped sum
+  pub sum_seen : (s : Surroundings) → s.samples ≡ samples → s.width ≡ g.width → clamped_sum s ≡ property_9_in (row_above g y) row true (length row)
+  sum_seen s same wide =
+      ap (λ xs. sum_by true ((neighbours xs s.width).w -ℤ (neighbours xs s.width).nw +ℤ (neighbours xs s.width).n)) same
+      ∙ ap (λ n. sum_by true ((neighbours samples n).w -ℤ (neighbours samples n).nw +ℤ (neighbours samples n).n)) wide
+      ∙ from_three samples (row_above g y) row g.width (λ n w nw. sum_by true (w -ℤ nw +ℤ n)) (length row) y samples_long short none_over over own

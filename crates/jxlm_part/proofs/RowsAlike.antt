@@ -1,5 +1,5 @@
 -- Rows that are read at one leaf or from the row above are those of a part whose tree leads there in the channel.
-use Rattle.std.proofs.Common.{◌≡◌, ℕ, ◌<◌, ◌≤◌, List, ◌++◌, length, map, Some, Result, Contains, sym, ap, ◌∙◌, arith, ℤ, pos}
+use Rattle.std.proofs.Common.{◌≡◌, ℕ, ◌<◌, ◌≤◌, List, ◌++◌, length, map, Some, Result, Contains, Bool, true, false, refl, subst, sym, ap, ◌∙◌, arith, ℤ, pos}
 use Rattle.std.specs.Int.{Width, w32}
 use Rattle.std.proofs.lemmas.Int.{SFits-int_wrap, int_wrap_fits, ints}
 use Rattle.std.proofs.lemmas.List.{length-map}
@@ -11,7 +11,7 @@ use Rattle.jxlm_base.specs.declared.subgrid.Region.{Region}
 use Rattle.jxlm_base.proofs.Regions.{IsFull-grid_of}
 use Rattle.jxlm_tree.specs.Neighbours.{column, row as line}
 use Rattle.jxlm_tree.specs.Predictions.{prediction}
-use Rattle.jxlm_tree.specs.Properties.{gradient_at, place_property}
+use Rattle.jxlm_tree.specs.Properties.{gradient_at}
 use Rattle.jxlm_tree.specs.declared.predictor.Predictor.TheVariants as predictor
 use Rattle.jxlm_ma.specs.ClusterTables.{table_leaf}
 use Rattle.jxlm_ma.specs.FlatTree.{leaf_reached}
@@ -21,7 +21,7 @@ use Rattle.jxlm_ma.specs.declared.flat.Leaf.{Leaf}
 use Rattle.jxlm_ma.proofs.FlatTrees.{standing_leaf}
 use Rattle.jxlm_transform.specs.Channels.{AreRegionsOf}
 use Rattle.jxlm_part.specs.Coded.{next_prediction, sample_of}
-use Rattle.jxlm_part.specs.Part.{Part, channel, max_width, next_channel, next_leaf, samples_of}
+use Rattle.jxlm_part.specs.Part.{Part, channel, clamps, max_width, next_channel, next_leaf, place_by, samples_of}
 use Rattle.jxlm_part.specs.Progress.{grids_in}
 use Rattle.jxlm_part.specs.Reading.{FindsClusters, cost_of, flat, part_of, regions_of, tree_of}
 use Rattle.jxlm_part.specs.Inner.Channels.{region_at}
@@ -35,8 +35,9 @@ use Rattle.jxlm_part.specs.declared.gradient.Leaves.{Leaves}
 use Rattle.jxlm_part.specs.declared.gradient.Leaves.TheVariants.{One, Table}
 use Rattle.jxlm_part.specs.declared.rows.Line.{Line}
 use Rattle.jxlm_part.specs.declared.rows.RowError.{RowError}
+use Rattle.jxlm_part.proofs.ClampedSums.{by-fit}
 use Rattle.jxlm_part.proofs.NextSample.{SeesRegions, leaf_with, place-fit, seen_with}
-use Rattle.jxlm_part.proofs.RowNeighbours.{gradient_is, property_9_seen, samples, zero_is}
+use Rattle.jxlm_part.proofs.RowNeighbours.{gradient_is, property_9_seen, samples, sum_seen, zero_is}
 use Rattle.jxlm_part.proofs.RowReads.{alike_row}
 use Rattle.jxlm_part.proofs.RowSees.{sees_regions}
 
@@ -60,7 +61,7 @@ module _ {S : Type 0} (d : Meaning S) (w : Width) (part : Part) (bytes : List �
 
     -- the properties that the next sample has
     abbrev of_place : ℕ → ℤ
-    of_place = place_property (seen_with part regions ints i (here row) own sees (Some part.weights))
+    of_place = place_by (clamps part i) (seen_with part regions ints i (here row) own sees (Some part.weights))
 
     next_is : next_leaf part (here row) ≡ leaf_reached (flat part.tree part.stream i) of_place
     next_is = sym (leaf_with part regions ints i (here row) own sees)
@@ -73,15 +74,19 @@ module _ {S : Type 0} (d : Meaning S) (w : Width) (part : Part) (bytes : List �
         ∙ ap (λ xs. prediction (Some part.weights) xs reg.width l.predictor) sees.own_is
 
     -- property 9 as a decision asks for it
-    property_is : of_place 9 ≡ property_9_in (row_above own_grid y) row (length row)
-    property_is =
+    property_by : (b : Bool) → place_by b (seen_with part regions ints i (here row) own sees (Some part.weights)) 9 ≡ property_9_in (row_above own_grid y) row b (length row)
+    property_by true = sum_seen own_grid (IsFull-grid_of ints reg) y qy row short (seen_with part regions ints i (here row) own sees (Some part.weights)) refl refl
+    property_by false =
         int_wrap_fits w32 (gradient_at own reg.width (column own reg.width) (line own reg.width)) (SFits-int_wrap w32 _)
         ∙ property_9_seen own_grid (IsFull-grid_of ints reg) y qy row short
 
-    leads : (leaves : Leaves) → AreLeavesOf (flat part.tree part.stream i) leaves → leaf_reached (flat part.tree part.stream i) of_place ≡ leaf_by leaves (property_9_in (row_above own_grid y) row (length row))
+    property_is : of_place 9 ≡ property_9_in (row_above own_grid y) row (clamps part i) (length row)
+    property_is = property_by (clamps part i)
+
+    leads : (leaves : Leaves) → AreLeavesOf (flat part.tree part.stream i) leaves → leaf_reached (flat part.tree part.stream i) of_place ≡ leaf_by leaves (property_9_in (row_above own_grid y) row (clamps part i) (length row))
     leads (One l) to = to.0.leaf of_place
     leads (Table c) to =
-        let fit : Fits of_place = place-fit (seen_with part regions ints i (here row) own sees (Some part.weights)) in
+        let fit : Fits of_place = by-fit (clamps part i) (seen_with part regions ints i (here row) own sees (Some part.weights)) (place-fit (seen_with part regions ints i (here row) own sees (Some part.weights))) in
         to.0.leaf of_place (record { low = λ k. fit.low c.now.property; high = λ k. fit.high c.now.property }) ∙ ap (table_leaf c.now) (ap of_place to.1.0 ∙ property_is)
 
   -- a rule whose leaves and predictions are the part's reads the part's rows
@@ -104,10 +109,10 @@ module _ {S : Type 0} (d : Meaning S) (w : Width) (part : Part) (bytes : List �
   plain_by (Table c) to x = to.1.1
 
   pub gradient_rows : (leaves : Leaves) → AreLeavesOf (flat part.tree part.stream i) leaves →
-      AreAlike (gradient_rule d w bytes (max_width part.channels) leaves (row_above own_grid y)) (row_rule d w part bytes regions ints i y) reg.width
+      AreAlike (gradient_rule d w (clamps part i) bytes (max_width part.channels) leaves (row_above own_grid y)) (row_rule d w part bytes regions ints i y) reg.width
   gradient_rows leaves to =
-      by_leaf (λ row. leaf_by leaves (property_9_in (row_above own_grid y) row (length row))) (λ row. gradient_in (row_above own_grid y) row (length row)) (λ row short.
-      let x : ℤ = property_9_in (row_above own_grid y) row (length row) in
+      by_leaf (λ row. leaf_by leaves (property_9_in (row_above own_grid y) row (clamps part i) (length row))) (λ row. gradient_in (row_above own_grid y) row (length row)) (λ row short.
+      let x : ℤ = property_9_in (row_above own_grid y) row (clamps part i) (length row) in
       let is = next_is row short ∙ leads row short leaves to in (
         is,
         predicted_by row short (leaf_by leaves x) is ∙ ap (prediction (Some part.weights) (own row short) reg.width) (plain_by leaves to x).0
@@ -153,8 +158,8 @@ module _ {D X : Type 0} (l : Line X D) (d : Meaning D) (to_int : X → ℤ) (w :
         (omega arith) result old new h
 
     pub row_of_gradients : (leaves : Leaves) → AreLeavesOf (tree_of c l.i) leaves → steps_by leaves ≤ cost_of c →
-        GradientGives d w leaves c.widest above R old new result → RowGives l d to_int w row old new result
+        GradientGives d w l.clamped leaves c.widest above R old new result → RowGives l d to_int w row old new result
     row_of_gradients leaves to few h =
-        alike_row d (steps_by leaves) (cost_of c) (gradient_rule d w (bytes_of old.bits) c.widest leaves above) (rule_on l d to_int w (bytes_of old.bits)) R
-        (on_line (bytes_of old.bits) (λ m. gradient_rule d w (bytes_of old.bits) m leaves above) (gradient_rows d w (part_of c) (bytes_of old.bits) (regions_of c) numbers l.i l.y is.here.part.coding.sizes is.here.channel is.below leaves to))
-        few result old new h
+        alike_row d (steps_by leaves) (cost_of c) (gradient_rule d w (clamps (part_of c) l.i) (bytes_of old.bits) c.widest leaves above) (rule_on l d to_int w (bytes_of old.bits)) R
+        (on_line (bytes_of old.bits) (λ m. gradient_rule d w (clamps (part_of c) l.i) (bytes_of old.bits) m leaves above) (gradient_rows d w (part_of c) (bytes_of old.bits) (regions_of c) numbers l.i l.y is.here.part.coding.sizes is.here.channel is.below leaves to))
+        few result old new (rw is.clamped at h)

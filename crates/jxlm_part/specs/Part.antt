@@ -4,7 +4,10 @@ use Rattle.std.specs.Ordering.{int_eq}
 use Rattle.jxlm_base.specs.Grid.{Grid}
 use Rattle.jxlm_transform.specs.Channels.{AreGridsOf, Channel, area}
 use Rattle.jxlm_transform.specs.ChannelSteps.{table_channel}
-use Rattle.jxlm_tree.specs.Properties.{Surroundings, property}
+use Rattle.jxlm_transform.specs.Params.{are_clamped}
+use Rattle.jxlm_tree.specs.Properties.{Surroundings, place_property, property}
+use Rattle.jxlm_tree.specs.Sums.{clamped_sum}
+use Rattle.jxlm_ma.specs.SumTrees.{takes_sums_at}
 use Rattle.jxlm_ma.specs.Tree.{Shape, walk}
 use Rattle.jxlm_ma.specs.declared.flat.Leaf.{Leaf}
 use Rattle.jxlm_tree.specs.declared.predictor.WpHeader.{WpHeader}
@@ -80,10 +83,23 @@ surroundings part before =
       earlier = map (grid_of part.channels before) (earlier_alike part.channels i);
     }
 
+-- property 9 of the samples of channel i is clamped: the channel is read so, and its tree asks for property 9 alone
+abbrev pub clamps : Part → ℕ → Bool
+clamps part i = are_clamped (channel part.channels i).gradient_sums && takes_sums_at i part.stream part.tree
+
+-- property k of a cell, where property 9 is clamped or not; properties 0 and 1 are not of the cell, and are 0 here
+abbrev pub place_by : Bool → Surroundings → ℕ → ℤ
+place_by clamped s k = if clamped && k == 9 then clamped_sum s else place_property s k
+
+-- the same as a walk sees it: 0 and 1 are the channel's index in its part and the stream index
+abbrev pub property_by : Bool → ℕ → ℕ → Surroundings → ℕ → ℤ
+property_by clamped channel stream s k = if clamped && k == 9 then clamped_sum s else property channel stream s k
+
 -- the leaf of the next sample
 abbrev pub next_leaf : Part → List ℤ → Leaf
 next_leaf part before =
-    walk part.tree (property (next_channel part.channels before) part.stream (surroundings part before))
+    let i = next_channel part.channels before in
+    walk part.tree (property_by (clamps part i) i part.stream (surroundings part before))
 
 -- the cells of grids, grid by grid and row by row
 abbrev pub cells_of : List (Grid ℤ) → List ℤ

@@ -5,13 +5,15 @@ ghost use Rattle.std.specs.Int.{int_wrap};
 ghost use Rattle.jxlm_base.specs.Numbers.{unpack};
 ghost use Rattle.jxlm_ma.specs.FlatTree.{ClustersStandIn};
 ghost use Rattle.jxlm_ma.specs.Paths.{Gives};
+ghost use Rattle.jxlm_ma.specs.SumTrees.{GoesBySum};
 ghost use Rattle.jxlm_ma.specs.Tree.{depth};
 ghost use Rattle.jxlm_tree.specs.Holding.{IsCurrent};
 ghost use Rattle.jxlm_tree.specs.Standing.{used_weights};
-ghost use Rattle.jxlm_part.specs.Inner.Cells.{IsFound, SampleGives};
+ghost use Rattle.jxlm_part.specs.Inner.Cells.{IsFound, IsFoundBy, SampleGives};
 ghost use Rattle.jxlm_part.specs.Inner.Paths.{is_walked, steps_walked};
 ghost use Rattle.jxlm_part.specs.Inner.Rows.{AreAway, CellGives, CellsGive, IsAtCell, IsAway, IsLine, IsWalked, RowGives, region_on};
 
+use crate::number::Number;
 use crate::rows::{Line, RowError};
 use crate::source::{Source, Walk};
 use jxlm_base::decoder::{Decoder, DecoderError};
@@ -40,7 +42,7 @@ fn walked_leaf<S: Sample>(
     steps: &mut Steps,
 ) -> Leaf
     requires { IsCurrent properties.now }
-    ensures { IsFound flat.now S.to_int properties.now steps.old steps.new (depth flat.now.tree + 1) result }
+    ensures { IsFound false flat.now S.to_int properties.now steps.old steps.new (depth flat.now.tree + 1) result }
 {
     match flat.only_leaf() {
         Some(leaf) => leaf,
@@ -51,19 +53,38 @@ fn walked_leaf<S: Sample>(
     }
 }
 
-/// The leaf to which these properties lead in this tree: by the path's table, where it has one.
+/// The leaf to which this tree leads where each property is this number: by the path's table, where it has one.
+#[inline(never)]
+fn leaf_by_number(flat: &FlatMaTree, path: Path<'_>, number: i32, steps: &mut Steps) -> Leaf
+    requires { Gives flat.now path }
+    ensures { IsFoundBy flat.now number steps.old steps.new (steps_walked path.entry flat.now.tree) result }
+{
+    let place = Number { value: number };
+    match path {
+        Path::Clusters(table) => table.leaf_by(&place, steps),
+        _ => *flat.leaf(&place, steps),
+    }
+}
+
+/// The leaf to which these properties lead in this tree: by the path's table, where it has one. With `clamped` the tree
+/// asks for property 9 alone, which is clamped.
 #[inline(always)]
 fn leaf_of<S: Sample>(
     flat: &FlatMaTree,
     path: Path<'_>,
+    clamped: bool,
     properties: &Properties<'_, S>,
     steps: &mut Steps,
 ) -> Leaf
     requires current { IsCurrent properties.now }
     requires gives { Gives flat.now path }
-    ensures { IsFound flat.now S.to_int properties.now steps.old steps.new (steps_walked path.entry flat.now.tree)
-        result }
+    requires sums { clamped ≡ true → GoesBySum flat.now }
+    ensures { IsFound clamped flat.now S.to_int properties.now steps.old steps.new
+        (steps_walked path.entry flat.now.tree) result }
 {
+    if clamped {
+        return leaf_by_number(flat, path, properties.clamped_sum(), steps);
+    }
     match path {
         Path::Clusters(table) => table.leaf_by(properties, steps),
         _ => walked_leaf(flat, properties, steps),
@@ -77,15 +98,17 @@ fn next_sample<S: Sample, D: Decoder>(
     properties: &Properties<'_, S>,
     flat: &FlatMaTree,
     path: Path<'_>,
+    clamped: bool,
     widest: u32,
 ) -> Result<S, DecoderError>
     requires gives { Gives flat.now path }
+    requires sums { clamped ≡ true → GoesBySum flat.now }
     requires current { IsCurrent properties.now }
     requires clusters { ClustersStandIn (D.meaning.cluster_map source.old.decoder) flat.now.tree }
-    ensures { SampleGives D.meaning S.to_int flat.now widest properties.now
+    ensures { SampleGives D.meaning S.to_int clamped flat.now widest properties.now
         source.old source.new S.width S.from_int (steps_walked path.entry flat.now.tree) result }
 {
-    let leaf = leaf_of(flat, path, properties, &mut source.steps);
+    let leaf = leaf_of(flat, path, clamped, properties, &mut source.steps);
     let token = source
         .decoder
         .read_varint_with_multiplier_clustered(&mut source.bits, leaf.cluster, widest)?;
@@ -120,6 +143,7 @@ fn decode_cell_by<'s, S: Sample, D: Decoder, const EDGE: bool, const WEIGHTED: b
         &properties,
         flat,
         line.path,
+        line.clamped,
         line.coding.widest,
     )?;
     properties.record_in_row::<EDGE>(sample.to_i32());

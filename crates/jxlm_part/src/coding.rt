@@ -5,9 +5,9 @@ ghost use Rattle.jxlm_base.specs.ErrorKind.{NoMemory, kind_of};
 ghost use Rattle.jxlm_base.specs.Grid.{Grid};
 ghost use Rattle.jxlm_tree.specs.SelfCorrecting.{IsHeader};
 ghost use Rattle.jxlm_transform.specs.Layout.{no_region};
-ghost use Rattle.jxlm_part.specs.Part.{is_alike as alike};
+ghost use Rattle.jxlm_part.specs.Part.{clamps, is_alike as alike};
 ghost use Rattle.jxlm_tree.specs.Standing.{Setting, StandsAt, earlier_count, setting};
-ghost use Rattle.jxlm_part.specs.Reading.{HasFlats, HasRoom, IsCodingOf, IsLone, IsRoomyFor, IsTreeOf, LeadsAlone, ReadsAlone, alone_at, flat, regions_of};
+ghost use Rattle.jxlm_part.specs.Reading.{HasFlats, HasRoom, IsCodingOf, IsLone, IsRoomyFor, IsTreeOf, LeadsAlone, ReadsAlone, alone_at, flat, part_of, regions_of};
 ghost use Rattle.jxlm_part.specs.Inner.Channels.{IsNext, StandsAfter, all_alike};
 
 use jxlm_base::decoder::Decoder;
@@ -69,6 +69,16 @@ impl<'a, D: Decoder> PartCoding<'a, D> {
         ensures { result ≡ get_or (regions_of self.now) i no_region }
     {
         self.channels[i].region
+    }
+
+    /// Whether property 9 of the samples of channel `i` is clamped: the channel is read so, and its tree asks for
+    /// property 9 alone.
+    pub fn clamps(&self, i: usize) -> bool
+        requires channel { i < length (regions_of self.now) }
+        requires coding { IsCodingOf self.now }
+        ensures { result ≡ clamps (part_of self.now) i }
+    {
+        self.channels[i].info.gradient_sums.are_clamped() && self.flats[i].flat.takes_sums()
     }
 }
 

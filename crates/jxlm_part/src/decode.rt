@@ -1,7 +1,7 @@
 //! The loops that decode the samples of a part, in the order of its cells.
 
 ghost use Rattle.std.specs.Prelude.{◌≡◌, ◌+◌, ◌<◌, ◌≤◌, OnOk, false, length};
-ghost use Rattle.jxlm_part.specs.Part.{cells_before, cell_count};
+ghost use Rattle.jxlm_part.specs.Part.{cells_before, cell_count, clamps};
 ghost use Rattle.jxlm_ma.specs.FlatTree.{FlatTree};
 ghost use Rattle.jxlm_part.specs.Inner.Channels.{IsNext, region_at};
 ghost use Rattle.jxlm_part.specs.Inner.Levels.{CanBegin, HasRooms, IsAtChannel, IsAtRow, IsOnPath};
@@ -36,6 +36,7 @@ fn read_row<S: Sample, D: Decoder>(
     requires long { length row.old ≡ (region_on line.now).width }
     requires at { IsAtRow D.meaning line.now.coding.now walk.old S.to_int line.now.store.now line.now.path line.now.i
         line.now.y }
+    requires clamped { line.now.clamped ≡ clamps (part_of line.now.coding.now) line.now.i }
     ensures gives { RowGives line.now D.meaning S.to_int S.width row.new walk.old.source walk.new.source result }
     ensures state { OnOk result (IsOnPath line.now S.to_int row.new walk.new) }
 {
@@ -59,6 +60,7 @@ fn decode_row<'x, S: Sample, D: Decoder>(
     coding: &'x PartCoding<'x, D>,
     store: &mut [AlignedGrid<S>],
     path: Path<'x>,
+    clamped: bool,
     row: &mut [S],
     i: usize,
     y: usize,
@@ -66,6 +68,7 @@ fn decode_row<'x, S: Sample, D: Decoder>(
     requires below { y < (region_at (regions_of coding.now) i).height }
     requires long { length row.old ≡ (region_at (regions_of coding.now) i).width }
     requires at { IsAtRow D.meaning coding.now walk.old S.to_int store.old path i y }
+    requires clamped { clamped ≡ clamps (part_of coding.now) i }
     ensures gives { WalkGives coding.now D.meaning S.width S.to_int
         (place_of (part_of coding.now) i 0 y) (place_of (part_of coding.now) i 0 (y + 1)) result
         (moment walk.old.source store.old) (moment walk.new.source store.new) }
@@ -77,6 +80,7 @@ fn decode_row<'x, S: Sample, D: Decoder>(
         path,
         i,
         y,
+        clamped,
     };
     let read = read_row(walk, &line, row);
     write_read(store, coding.region(i), y, row, read)
@@ -88,11 +92,13 @@ fn decode_rows<'x, S: Sample, D: Decoder>(
     coding: &'x PartCoding<'x, D>,
     store: &mut [AlignedGrid<S>],
     path: Path<'x>,
+    clamped: bool,
     row: &mut [S],
     i: usize,
 ) -> Result<(), DecoderError>
     requires long { length row.old ≡ (region_at (regions_of coding.now) i).width }
     requires at { IsAtRow D.meaning coding.now walk.old S.to_int store.old path i 0 }
+    requires clamped { clamped ≡ clamps (part_of coding.now) i }
     ensures gives { WalkGives coding.now D.meaning S.width S.to_int
         (place_of (part_of coding.now) i 0 0)
         (place_of (part_of coding.now) i 0 (region_at (regions_of coding.now) i).height) result
@@ -101,7 +107,7 @@ fn decode_rows<'x, S: Sample, D: Decoder>(
         (region_at (regions_of coding.now) i).height) }
 {
     for y in 0..coding.region(i).height {
-        decode_row(walk, coding, store, path, row, i, y)?;
+        decode_row(walk, coding, store, path, clamped, row, i, y)?;
     }
     Ok(())
 }
@@ -157,8 +163,9 @@ fn decode_channel<'x, S: Sample, D: Decoder>(
         return Ok(());
     }
     let path = begin_channel(&mut walk.state, coding, &walk.source.decoder, i);
+    let clamped = coding.clamps(i);
     let row = &mut scratch[..region.width];
-    decode_rows(walk, coding, store, path, row, i)
+    decode_rows(walk, coding, store, path, clamped, row, i)
 }
 
 /// Reads all channels of a part, in order. `scratch` has room for a row of each that has cells.

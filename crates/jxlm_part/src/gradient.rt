@@ -4,7 +4,7 @@
 
 ghost use Rattle.std.specs.Prelude.{◌≡◌, ◌+◌, ◌+ℤ◌, ◌-ℤ◌, ◌<◌, ◌≤◌, true, map, length, if◌then◌else◌};
 ghost use Rattle.std.specs.Int.{int_wrap, w32};
-ghost use Rattle.jxlm_part.specs.Inner.Paths.{AreGradients, AreLeavesOf, are_of_table, leaf_by, steps_by};
+ghost use Rattle.jxlm_part.specs.Inner.Paths.{AreGradients, AreLeavesOf, are_of_table, leaf_by, steps_by, sum_by};
 ghost use Rattle.jxlm_part.specs.Inner.Rows.{GradientGives, IsLine, RowGives, region_on};
 ghost use Rattle.jxlm_part.specs.Reading.{FindsClusters, cost_of, tree_of};
 
@@ -17,6 +17,7 @@ use jxlm_base::region::region_row;
 use jxlm_base::sample::{Sample, Sealed};
 use jxlm_ma::flat::{Leaf, Steps};
 use jxlm_ma::paths::ClusterTable;
+use jxlm_tree::clamping::clamped_sum;
 
 /// The leaves of a channel whose cells are all predicted by the clamped gradient.
 #[derive(Clone, Copy)]
@@ -27,9 +28,9 @@ pub(crate) enum Leaves<'t> {
     Table(&'t ClusterTable),
 }
 
-/// Property 9: west less north west plus north, reduced to 32 bits.
+/// West less north west plus north, reduced to 32 bits.
 #[inline(always)]
-fn property_9<S: Sample>(n: S, w: S, nw: S) -> i32
+fn reduced_sum<S: Sample>(n: S, w: S, nw: S) -> i32
     ensures { result ≡ int_wrap w32 (S.to_int w -ℤ S.to_int nw +ℤ S.to_int n) }
 {
     w.to_i32()
@@ -37,15 +38,34 @@ fn property_9<S: Sample>(n: S, w: S, nw: S) -> i32
         .wrapping_add(n.to_i32())
 }
 
+/// Property 9: west less north west plus north, clamped or reduced to 32 bits.
+#[inline(always)]
+fn property_9<S: Sample>(clamped: bool, n: S, w: S, nw: S) -> i32
+    ensures { result ≡ sum_by clamped (S.to_int w -ℤ S.to_int nw +ℤ S.to_int n) }
+{
+    if clamped {
+        clamped_sum(w.to_i32(), nw.to_i32(), n.to_i32())
+    } else {
+        reduced_sum(n, w, nw)
+    }
+}
+
 /// The cluster of a cell with these neighbours, by the table.
 #[inline(always)]
-fn cluster_of<S: Sample>(leaves: Leaves<'_>, n: S, w: S, nw: S, steps: &mut Steps) -> u8
+fn cluster_of<S: Sample>(
+    leaves: Leaves<'_>,
+    clamped: bool,
+    n: S,
+    w: S,
+    nw: S,
+    steps: &mut Steps,
+) -> u8
     requires kind { are_of_table leaves ≡ true }
-    ensures cluster { result ≡ (leaf_by leaves.entry (int_wrap w32 (S.to_int w -ℤ S.to_int nw +ℤ S.to_int n))).cluster }
+    ensures cluster { result ≡ (leaf_by leaves.entry (sum_by clamped (S.to_int w -ℤ S.to_int nw +ℤ S.to_int n))).cluster }
     ensures cost { steps.new ≡ steps.old + steps_by leaves.entry }
 {
     match leaves {
-        Leaves::Table(table) => table.cluster(property_9(n, w, nw), steps),
+        Leaves::Table(table) => table.cluster(property_9(clamped, n, w, nw), steps),
         Leaves::One(_) => unreachable!(),
     }
 }
@@ -60,6 +80,7 @@ fn cluster_of<S: Sample>(leaves: Leaves<'_>, n: S, w: S, nw: S, steps: &mut Step
 fn read_below<S: Sample, D: Decoder, const FIRST: bool>(
     source: &mut Source<'_, D>,
     leaves: Leaves<'_>,
+    clamped: bool,
     widest: u32,
     above: &[S],
     row: &mut [S],
@@ -68,7 +89,7 @@ fn read_below<S: Sample, D: Decoder, const FIRST: bool>(
     requires kind { are_of_table leaves ≡ true }
     requires columns { 0 < length row.old }
     requires above { length above.now ≡ (if FIRST then 0 else length row.old) }
-    ensures { GradientGives D.meaning S.width leaves.entry widest (map S.to_int above.now) (map S.to_int row.new)
+    ensures { GradientGives D.meaning S.width clamped leaves.entry widest (map S.to_int above.now) (map S.to_int row.new)
         source.old source.new result }
 {
     let mut reader = source.bits;
@@ -76,7 +97,7 @@ fn read_below<S: Sample, D: Decoder, const FIRST: bool>(
     let mut nw = w;
     for x in 0..row.len() {
         let n = sample_above::<S, FIRST>(above, x, w);
-        let cluster = cluster_of(leaves, n, w, nw, &mut source.steps);
+        let cluster = cluster_of(leaves, clamped, n, w, nw, &mut source.steps);
         let token = match source
             .decoder
             .read_varint_with_multiplier_clustered(&mut reader, cluster, widest)
@@ -101,6 +122,7 @@ fn read_below<S: Sample, D: Decoder, const FIRST: bool>(
 fn read_by_kind<S: Sample, D: Decoder, const FIRST: bool>(
     source: &mut Source<'_, D>,
     leaves: Leaves<'_>,
+    clamped: bool,
     widest: u32,
     above: &[S],
     row: &mut [S],
@@ -108,12 +130,14 @@ fn read_by_kind<S: Sample, D: Decoder, const FIRST: bool>(
     requires leaves { AreGradients (D.meaning.cluster_map source.old.decoder) leaves }
     requires columns { 0 < length row.old }
     requires above { length above.now ≡ (if FIRST then 0 else length row.old) }
-    ensures { GradientGives D.meaning S.width leaves.entry widest (map S.to_int above.now) (map S.to_int row.new)
+    ensures { GradientGives D.meaning S.width clamped leaves.entry widest (map S.to_int above.now) (map S.to_int row.new)
         source.old source.new result }
 {
     match leaves {
         Leaves::One(leaf) => read_one_gradient::<S, D, FIRST>(source, leaf, widest, above, row),
-        Leaves::Table(_) => read_below::<S, D, FIRST>(source, leaves, widest, above, row),
+        Leaves::Table(_) => {
+            read_below::<S, D, FIRST>(source, leaves, clamped, widest, above, row)
+        }
     }
 }
 
@@ -138,8 +162,8 @@ pub(crate) fn read_gradients<S: Sample, D: Decoder>(
 {
     let widest = line.coding.widest;
     if line.y == 0 {
-        return read_by_kind::<S, D, true>(source, leaves, widest, &[], row);
+        return read_by_kind::<S, D, true>(source, leaves, line.clamped, widest, &[], row);
     }
     let above = region_row(line.store, line.coding.region(line.i), line.y - 1);
-    read_by_kind::<S, D, false>(source, leaves, widest, above, row)
+    read_by_kind::<S, D, false>(source, leaves, line.clamped, widest, above, row)
 }

@@ -9,6 +9,7 @@ pub mod coding;
 mod decode;
 mod gradient;
 pub mod laws;
+pub mod number;
 mod one_gradient;
 pub mod part;
 mod rows;

@@ -2,7 +2,7 @@
 //!
 //! Tokens are read a stretch of the row at a time, and then the stretch is made of them and of the row above.
 
-ghost use Rattle.std.specs.Prelude.{◌≡◌, ◌+◌, ◌<◌, ◌≤◌, map, length, Contains, if◌then◌else◌};
+ghost use Rattle.std.specs.Prelude.{◌≡◌, ◌+◌, ◌<◌, ◌≤◌, map, length, Contains, false, if◌then◌else◌};
 ghost use Rattle.jxlm_base.specs.Bits.{bytes_of};
 ghost use Rattle.jxlm_ma.specs.declared.flat.Leaf.{Leaf};
 ghost use Rattle.jxlm_part.specs.Coded.{sample_of};
@@ -79,7 +79,7 @@ fn gradient_stretch<S: Sample, D: Decoder, const FIRST: bool>(
     requires inside { from + length tokens.old ≤ length row.old }
     requires above { length above.now ≡ (if FIRST then 0 else length row.old) }
     ensures { StretchGives D.meaning
-        (λ bytes. gradient_rule D.meaning S.width bytes widest (One leaf) (map S.to_int above.now)) from
+        (λ bytes. gradient_rule D.meaning S.width false bytes widest (One leaf) (map S.to_int above.now)) from
         (length tokens.old) (map S.to_int row.old) (map S.to_int row.new) source.old source.new result }
 {
     match source
@@ -117,7 +117,7 @@ pub(crate) fn read_one_gradient<S: Sample, D: Decoder, const FIRST: bool>(
     requires cluster { Contains (D.meaning.cluster_map source.old.decoder) leaf.cluster }
     requires above { length above.now ≡ (if FIRST then 0 else length row.old) }
     ensures { ReadsRow D.meaning 0
-        (gradient_rule D.meaning S.width (bytes_of source.old.bits) widest (One leaf) (map S.to_int above.now))
+        (gradient_rule D.meaning S.width false (bytes_of source.old.bits) widest (One leaf) (map S.to_int above.now))
         (map S.to_int row.new) result source.old source.new }
 {
     let mut room = [0; STRETCH];

@@ -26,6 +26,8 @@ pub(crate) struct Line<'a, 's, S, D: Decoder> {
     pub(crate) i: usize,
     /// The row.
     pub(crate) y: usize,
+    /// Whether property 9 is clamped.
+    pub(crate) clamped: bool,
 }
 
 /// Where the read of a row ended before its end, and why.

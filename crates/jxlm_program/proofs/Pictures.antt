@@ -10,6 +10,7 @@ use Rattle.std.proofs.lemmas.List.Sums.{list_all-from_AllPass}
 use Rattle.std.proofs.lemmas.Bool.Decides.{nat_tests}
 use Rattle.jxlm_transform.specs.Params.{IsValidParams, IsValidChannel, IsSide, sized}
 use Rattle.jxlm_transform.specs.declared.param.ChannelShift.TheVariants.{Shifts}
+use Rattle.jxlm_transform.specs.declared.param.GradientSums.TheVariants.{Wrapped}
 use Rattle.jxlm_transform.specs.declared.param.PaletteTables.TheVariants.{OfColours}
 use Rattle.jxlm_transform.specs.declared.param.ModularChannelParams.{ModularChannelParams}
 use Rattle.jxlm_transform.specs.declared.param.ModularParams.{ModularParams}
@@ -46,8 +47,8 @@ size_same n = let one = div-one n in let rest : n % 1 ≡ 0 = omega arith in rw 
 
 pub each_asked : (width height : ℕ) → image_channel (sized width height (Shifts 0)) ≡ plain_channel width height
 each_asked width height =
-    ap (λ n. record { width = n; height = div_ceil height (2 ^ 0); original_width = width; original_height = height; hshift = pos 0; vshift = pos 0; original_shift = Shifts 0; palette_tables = OfColours }) (size_same width)
-    ∙ ap (λ n. record { width = width; height = n; original_width = width; original_height = height; hshift = pos 0; vshift = pos 0; original_shift = Shifts 0; palette_tables = OfColours }) (size_same height)
+    ap (λ n. record { width = n; height = div_ceil height (2 ^ 0); original_width = width; original_height = height; hshift = pos 0; vshift = pos 0; original_shift = Shifts 0; palette_tables = OfColours; gradient_sums = Wrapped }) (size_same width)
+    ∙ ap (λ n. record { width = width; height = n; original_width = width; original_height = height; hshift = pos 0; vshift = pos 0; original_shift = Shifts 0; palette_tables = OfColours; gradient_sums = Wrapped }) (size_same height)
 
 replicated : (n : ℕ) (c : ModularChannelParams) (d : Channel) → image_channel c ≡ d → map image_channel (replicate n c) ≡ replicate n d
 replicated zero c d same = refl

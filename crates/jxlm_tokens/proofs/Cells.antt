@@ -19,7 +19,6 @@ use Rattle.jxlm_tree.specs.EarlierRows.{AreRowsOf, HoldRows}
 use Rattle.jxlm_tree.specs.Holding.{surroundings}
 use Rattle.jxlm_tree.specs.Neighbours.{row as line}
 use Rattle.jxlm_tree.specs.Predictions.{prediction}
-use Rattle.jxlm_tree.specs.Properties.{place_property}
 use Rattle.jxlm_tree.specs.Standing.{HasSameRoom, HoldsRow, IsInner, IsReady, Setting, StandsAt, row_of, setting}
 use Rattle.jxlm_tree.specs.declared.earlier.EarlierRow.{EarlierRow}
 use Rattle.jxlm_tree.specs.declared.state.PredictorState.{PredictorState}
@@ -27,7 +26,7 @@ use Rattle.jxlm_tree.proofs.EarlierLaws.{in_state, of_setting}
 use Rattle.jxlm_tree.proofs.StandingLaws.{stands_row}
 use Rattle.jxlm_part.specs.Coded.{next_prediction}
 use Rattle.jxlm_tokens.specs.Inner.Channels.{StandsAfter, asked_at, handed, region_at, setting_of, weighted_at}
-use Rattle.jxlm_part.specs.Part.{SeesBefore, cells_before, cells_of, channel, earlier_alike, grid as grid_at}
+use Rattle.jxlm_part.specs.Part.{clamps, place_by, SeesBefore, cells_before, cells_of, channel, earlier_alike, grid as grid_at}
 use Rattle.jxlm_part.specs.Reading.{IsCodingOf, part_of, regions_of, tree_of}
 use Rattle.jxlm_part.specs.declared.coding.ChannelTree.{ChannelTree}
 use Rattle.jxlm_part.specs.declared.coding.PartCoding.{PartCoding}
@@ -126,16 +125,16 @@ module _ {D : Type 0} (c : PartCoding D) (coding : IsCodingOf c) (i : ℕ) (li :
 
       -- the leaf and the prediction there
       abbrev reached : Leaf
-      reached = leaf_reached (tree_of c i) (place_property (surroundings (setting_of c i) ints (take j own)))
+      reached = leaf_reached (tree_of c i) (place_by (clamps (part_of c) i) (surroundings (setting_of c i) ints (take j own)))
 
       abbrev predicted : ℤ
       predicted = prediction (setting_of c i).weights (take j own) (setting_of c i).width reached.predictor
 
       -- so is its token
       pub token_is : (w : Width) (flat : FlatTree) (sample : ℤ) (token : ℕ) → flat ≡ tree_of c i → sample ≡ get_or own j (pos 0) →
-          IsNextToken flat w ints (setting_of c i) (take j own) sample token → IsTokenOfCell w (part_of c) all (first + j) token
+          IsNextToken (clamps (part_of c) i) flat w ints (setting_of c i) (take j own) sample token → IsTokenOfCell w (part_of c) all (first + j) token
       token_is w flat sample token same is h =
-          let here : IsSampleToken w reached predicted sample token = subst (λ f. IsNextToken f w ints (setting_of c i) (take j own) sample token) same h in
+          let here : IsSampleToken w reached predicted sample token = subst (λ f. IsNextToken (clamps (part_of c) i) f w ints (setting_of c i) (take j own) sample token) same h in
           let of_cell = subst (λ z. IsSampleToken w reached predicted z token) (is ∙ sym cell_is) here in
           let over = subst (λ z. IsSampleToken w reached z (get_or all (first + j) (pos 0)) token) next.predicted_is of_cell in
           subst (λ (l : Leaf). IsSampleToken w l (next_prediction (part_of c) (take (first + j) all)) (get_or all (first + j) (pos 0)) token) next.leaf_is over

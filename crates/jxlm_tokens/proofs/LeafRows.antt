@@ -12,10 +12,10 @@ use Rattle.jxlm_ma.specs.declared.flat.Leaf.{Leaf}
 use Rattle.jxlm_tree.specs.Holding.{surroundings}
 use Rattle.jxlm_tree.specs.Neighbours.{at}
 use Rattle.jxlm_tree.specs.Predictions.{prediction}
-use Rattle.jxlm_tree.specs.Properties.{place_property}
 use Rattle.jxlm_tree.specs.declared.predictor.Predictor.{Predictor}
 use Rattle.jxlm_tree.specs.declared.predictor.Predictor.TheVariants.{Zero, Gradient}
-use Rattle.jxlm_part.specs.Reading.{IsCodingOf, regions_of, tree_of}
+use Rattle.jxlm_part.specs.Part.{clamps, place_by}
+use Rattle.jxlm_part.specs.Reading.{IsCodingOf, part_of, regions_of, tree_of}
 use Rattle.jxlm_part.specs.declared.coding.PartCoding.{PartCoding}
 use Rattle.jxlm_tokens.specs.Inner.Channels.{region_at, setting_of, weights_at}
 use Rattle.jxlm_tokens.specs.Inner.Neighbours.{gradient_in}
@@ -49,9 +49,9 @@ module _ {D X : Type 0} (c : PartCoding D) (coding : IsCodingOf c) (i : ℕ) (li
       let token : ℕ = get_or out x 0 in
       let here = subst (λ z. IsSampleToken w l z sample token) (sym (same x px)) (tokens x px) in
       let at_leaf = subst (λ q. IsSampleToken w l (prediction (weights_at c i) (before x) reg.width q) sample token) (sym is) here in
-      let next : IsNextToken (tree_of c i) w ints (setting_of c i) (before x) sample token =
+      let next : IsNextToken (clamps (part_of c) i) (tree_of c i) w ints (setting_of c i) (before x) sample token =
       subst (λ (k : Leaf). IsSampleToken w k (prediction (weights_at c i) (before x) reg.width k.predictor) sample token)
-      (sym (only.leaf (place_property (surroundings (setting_of c i) ints (before x))))) at_leaf in
+      (sym (only.leaf (place_by (clamps (part_of c) i) (surroundings (setting_of c i) ints (before x))))) at_leaf in
       token_is c coding i li to_int store (y * reg.width + x) (within_at c coding i li to_int store x y px has.below) w (tree_of c i) sample token refl
       (number_is c coding i li to_int store x y px has.below row has) next
 

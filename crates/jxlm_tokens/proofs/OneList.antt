@@ -7,9 +7,8 @@ use Rattle.jxlm_base.specs.Numbers.{unpack}
 use Rattle.jxlm_ma.specs.Tree.{AllLeaves}
 use Rattle.jxlm_ma.specs.declared.flat.Leaf.{Leaf}
 use Rattle.jxlm_ma.proofs.FlatTrees.{reached_leaf}
-use Rattle.jxlm_tree.specs.Properties.{property}
 use Rattle.jxlm_part.specs.Coded.{next_prediction}
-use Rattle.jxlm_part.specs.Part.{Part, next_channel, next_leaf, surroundings}
+use Rattle.jxlm_part.specs.Part.{Part, clamps, next_channel, next_leaf, property_by, surroundings}
 use Rattle.jxlm_part.proofs.TokenLaw.{each_has_token}
 use Rattle.jxlm_write.specs.Nodes.{packed}
 use Rattle.jxlm_tokens.specs.Laws.{EachPartHasOneList}
@@ -34,7 +33,7 @@ one_odd leaf predicted sample a b odd ha hb =
 module _ (w : Width) (part : Part) (cells : List ℤ) (a b : List ℕ) (P : Leaf → Type 0) (one : (leaf : Leaf) (predicted sample : ℤ) (x y : ℕ) → P leaf → IsSampleToken w leaf predicted sample x → IsSampleToken w leaf predicted sample y → x ≡ y)
     (leaves : AllLeaves P part.tree) (ha : AreTokensOf w part cells a) (hb : AreTokensOf w part cells b) where
   leaf_has : (before : List ℤ) → P (next_leaf part before)
-  leaf_has before = reached_leaf P part.tree (property (next_channel part.channels before) part.stream (surroundings part before)) leaves
+  leaf_has before = reached_leaf P part.tree (property_by (clamps part (next_channel part.channels before)) (next_channel part.channels before) part.stream (surroundings part before)) leaves
 
   one_list : a ≡ b
   one_list =

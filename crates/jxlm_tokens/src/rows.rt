@@ -1,12 +1,16 @@
 //! Rows of a channel, cell by cell: each at the leaf to which the tree leads.
 
-ghost use Rattle.std.specs.Prelude.{◌≡◌, ◌+◌, ◌*◌, ◌<◌, ◌≤◌, ℤ, List, [], ◌∷◌, ◌++◌, false, length};
+ghost use Rattle.std.specs.Prelude.{◌≡◌, ◌+◌, ◌*◌, ◌<◌, ◌≤◌, ℤ, List, [], ◌∷◌, ◌++◌, false, true, length};
 ghost use Rattle.jxlm_base.specs.Regions.{store_meanings};
-ghost use Rattle.jxlm_ma.specs.Tree.{AllLeaves};
+ghost use Rattle.jxlm_ma.specs.FlatTree.{leaf_reached};
+ghost use Rattle.jxlm_ma.specs.SumTrees.{GoesBySum};
+ghost use Rattle.jxlm_ma.specs.Tree.{AllLeaves, StandsAtLeaf};
 ghost use Rattle.jxlm_tree.specs.EarlierRows.{AreRowsOf, HoldRows};
+ghost use Rattle.jxlm_tree.specs.Holding.{IsCurrent, state_of, store_of, surroundings};
 ghost use Rattle.jxlm_tree.specs.Standing.{HasSameRoom, IsInner as IsInnerCell, IsReady, Setting, StandsAt};
 ghost use Rattle.jxlm_tokens.specs.Inner.Channels.{StandsAfter, region_at, setting_of};
-ghost use Rattle.jxlm_part.specs.Reading.{regions_of};
+ghost use Rattle.jxlm_part.specs.Part.{clamps, place_by};
+ghost use Rattle.jxlm_part.specs.Reading.{part_of, regions_of};
 ghost use Rattle.jxlm_tokens.specs.Tokens.{MultipliesByOne};
 ghost use Rattle.jxlm_tokens.specs.Inner.Walks.{AreInner, AreRowTokens, HasRow, IsInChannel, IsNextToken};
 
@@ -15,10 +19,35 @@ use jxlm_base::decoder::Decoder;
 use jxlm_base::grid::AlignedGrid;
 use jxlm_base::region::region_row;
 use jxlm_base::sample::{Sample, Sealed};
-use jxlm_ma::flat::{FlatMaTree, Steps};
+use jxlm_ma::flat::{FlatMaTree, Leaf, Steps};
 use jxlm_part::coding::PartCoding;
+use jxlm_part::number::Number;
 use jxlm_tree::earlier::{EarlierRow, EarlierRows};
-use jxlm_tree::predictor::PredictorState;
+use jxlm_tree::predictor::{PredictorState, Properties};
+
+/// The leaf to which this tree leads at the cell of these properties. With `clamped` the tree asks for property 9 alone,
+/// which is clamped.
+#[inline(always)]
+fn leaf_of<S: Sample>(
+    flat: &FlatMaTree,
+    properties: &Properties<'_, S>,
+    clamped: bool,
+    steps: &mut Steps,
+) -> Leaf
+    requires current { IsCurrent properties.now }
+    requires sums { clamped ≡ true → GoesBySum flat.now }
+    ensures leaf { (s : Setting) (samples : List ℤ) → StandsAt (state_of properties.now) s samples → result
+        ≡ leaf_reached flat.now
+        (place_by clamped (surroundings s (store_meanings S.to_int (store_of properties.now)) samples)) }
+    ensures stands { StandsAtLeaf flat.now.tree result }
+{
+    if clamped {
+        let value = properties.clamped_sum();
+        *flat.leaf(&Number { value }, steps)
+    } else {
+        *flat.leaf(properties, steps)
+    }
+}
 
 /// The token of the sample at the state's cell; the state is at the next one afterwards.
 #[inline(always)]
@@ -28,20 +57,22 @@ fn next_token<S: Sample, const EDGE: bool>(
     store: &[AlignedGrid<S>],
     rows: &[EarlierRow<'_, S>],
     flat: &FlatMaTree,
+    clamped: bool,
     sample: S,
 ) -> u32
     requires ready { IsReady state.old store.now }
     requires inner { EDGE ≡ false → IsInnerCell state.old }
     requires rows { HoldRows state.old store.now rows.now }
     requires ones { AllLeaves MultipliesByOne flat.now.tree }
+    requires sums { clamped ≡ true → GoesBySum flat.now }
     ensures token { (s : Setting) (samples : List ℤ) → StandsAt state.old s samples →
-        IsNextToken flat.now S.width (store_meanings S.to_int store.now) s samples (S.to_int sample) result }
+        IsNextToken clamped flat.now S.width (store_meanings S.to_int store.now) s samples (S.to_int sample) result }
     ensures stands { (s : Setting) (samples : List ℤ) → StandsAt state.old s samples →
         StandsAt state.new s (samples ++ S.to_int sample ∷ []) }
     ensures room { HasSameRoom state.old state.new }
 {
     let properties = state.properties_by_rows::<EDGE>(store, rows);
-    let leaf = *flat.leaf(&properties, steps);
+    let leaf = leaf_of(flat, &properties, clamped, steps);
     let predicted = leaf.predictor.predict(&properties);
     properties.record(sample.to_i32());
     sample_token(&leaf, sample, predicted)
@@ -55,6 +86,7 @@ fn cell_tokens<S: Sample, D: Decoder, const EDGE: bool>(
     store: &[AlignedGrid<S>],
     rows: &[EarlierRow<'_, S>],
     coding: &PartCoding<'_, D>,
+    clamped: bool,
     row: &[S],
     out: &mut [u32],
     i: usize,
@@ -63,6 +95,7 @@ fn cell_tokens<S: Sample, D: Decoder, const EDGE: bool>(
     to: usize,
 )
     requires here { IsInChannel coding.now store.now i }
+    requires clamped { clamped ≡ clamps (part_of coding.now) i }
     requires row { HasRow coding.now store.now i y row.now }
     requires order { from ≤ to }
     requires in_row { to ≤ (region_at (regions_of coding.now) i).width }
@@ -79,7 +112,7 @@ fn cell_tokens<S: Sample, D: Decoder, const EDGE: bool>(
 {
     let flat = &coding.flats[i].flat;
     for x in from..to {
-        out[x] = next_token::<S, EDGE>(state, steps, store, rows, flat, row[x]);
+        out[x] = next_token::<S, EDGE>(state, steps, store, rows, flat, clamped, row[x]);
     }
 }
 
@@ -123,8 +156,15 @@ pub(crate) fn walked_row<S: Sample, D: Decoder>(
     let width = row.len();
     let earlier = EarlierRows::of(state, store, coding.flats[i].asked);
     let rows = earlier.rows();
+    let clamped = coding.clamps(i);
     let (from, to) = inner_columns(width, y);
-    cell_tokens::<S, D, true>(state, steps, store, rows, coding, row, out, i, y, 0, from);
-    cell_tokens::<S, D, false>(state, steps, store, rows, coding, row, out, i, y, from, to);
-    cell_tokens::<S, D, true>(state, steps, store, rows, coding, row, out, i, y, to, width);
+    cell_tokens::<S, D, true>(
+        state, steps, store, rows, coding, clamped, row, out, i, y, 0, from,
+    );
+    cell_tokens::<S, D, false>(
+        state, steps, store, rows, coding, clamped, row, out, i, y, from, to,
+    );
+    cell_tokens::<S, D, true>(
+        state, steps, store, rows, coding, clamped, row, out, i, y, to, width,
+    );
 }

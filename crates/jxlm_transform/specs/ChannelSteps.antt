@@ -7,6 +7,7 @@ use Rattle.jxlm_base.specs.declared.error.Error.{Error}
 use Rattle.jxlm_transform.specs.Channels.{Channel, ChannelList}
 use Rattle.jxlm_transform.specs.Transforms.{Transform, OfRct, OfPalette, OfSqueeze}
 use Rattle.jxlm_transform.specs.declared.param.ChannelShift.TheVariants.{Raw}
+use Rattle.jxlm_transform.specs.declared.param.GradientSums.TheVariants.{Wrapped}
 use Rattle.jxlm_transform.specs.declared.param.PaletteTables.TheVariants.{OfColours}
 use Rattle.jxlm_transform.specs.declared.transform.Rct.{Rct}
 use Rattle.jxlm_transform.specs.declared.transform.Palette.{Palette}
@@ -52,7 +53,7 @@ rct_step t l = if has_range t.begin_c 3 l.channels && one_size (range t.begin_c 
 
 -- a table: a column for each colour, a row for each channel; its shifts are -1
 abbrev pub table_channel : ℕ → ℕ → Channel
-table_channel colours channels = record { width = colours; height = channels; original_width = colours; original_height = channels; hshift = negsuc 0; vshift = negsuc 0; original_shift = Raw (negsuc 0) (negsuc 0); palette_tables = OfColours }
+table_channel colours channels = record { width = colours; height = channels; original_width = colours; original_height = channels; hshift = negsuc 0; vshift = negsuc 0; original_shift = Raw (negsuc 0) (negsuc 0); palette_tables = OfColours; gradient_sums = Wrapped }
 
 -- channels of one size, all meta or none, become a table, which comes first and is meta, and a channel of indices
 abbrev pub palette_step : Palette → ChannelList → Result ChannelList ErrorKind

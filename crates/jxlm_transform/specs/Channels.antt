@@ -11,7 +11,7 @@ use Rattle.jxlm_transform.specs.declared.param.PaletteTables.TheVariants.{OfColo
 use Rattle.jxlm_transform.specs.Params.{IsSide, has_deltas}
 use Rattle.jxlm_transform.specs.Shifts as shifts
 
--- a coded channel: its sides, its picture's, its shifts (a table's are -1); the shift and tables of palettes it came with
+-- a coded channel: its sides, its picture's, its shifts (a table's are -1); the shift, tables of palettes and sums it came with
 abbrev pub Channel : Type 0
 Channel = ModularChannelInfo
 
@@ -28,6 +28,7 @@ image_channel p =
       vshift = shifts.vshift p.shift;
       original_shift = p.shift;
       palette_tables = p.palette_tables;
+      gradient_sums = p.gradient_sums;
     }
 
 -- no side of it is above 2 ^ 30

@@ -7,6 +7,8 @@ use Rattle.std.specs.List.{All}
 use Rattle.jxlm_ma.specs.declared.ma.MaConfig.{MaConfig}
 use Rattle.jxlm_transform.specs.declared.param.ChannelShift.{ChannelShift}
 use Rattle.jxlm_transform.specs.declared.param.ChannelShift.TheVariants.{Shifts}
+use Rattle.jxlm_transform.specs.declared.param.GradientSums.{GradientSums}
+use Rattle.jxlm_transform.specs.declared.param.GradientSums.TheVariants.{Wrapped, Clamped}
 use Rattle.jxlm_transform.specs.declared.param.ModularChannelParams.{ModularChannelParams}
 use Rattle.jxlm_transform.specs.declared.param.ModularParams.{ModularParams}
 use Rattle.jxlm_transform.specs.declared.param.PaletteTables.{PaletteTables}
@@ -46,13 +48,22 @@ abbrev pub columns : PaletteTables → ℕ → ℕ → ℕ
 columns OfColours colours deltas = colours
 columns OfDeltasToo colours deltas = colours + deltas
 
+-- whether property 9 is clamped where a channel's tree asks for it alone
+abbrev pub are_clamped : GradientSums → Bool
+are_clamped Wrapped = false
+are_clamped Clamped = true
+
 -- a channel with this shift in a picture of these sides
 abbrev pub sized : ℕ → ℕ → ChannelShift → ModularChannelParams
-sized width height shift = record { width = width; height = height; shift = shift; palette_tables = OfColours }
+sized width height shift = record { width = width; height = height; shift = shift; palette_tables = OfColours; gradient_sums = Wrapped }
 
 -- the same channel, read by these tables of palettes
 abbrev pub with_tables : PaletteTables → ModularChannelParams → ModularChannelParams
 with_tables tables p = record p { palette_tables = tables }
+
+-- the same channel, read by these sums
+abbrev pub with_sums : GradientSums → ModularChannelParams → ModularChannelParams
+with_sums sums p = record p { gradient_sums = sums }
 
 -- n channels as large as a picture of these sides
 abbrev pub of_one_size : ℕ → ℕ → ℕ → List ModularChannelParams

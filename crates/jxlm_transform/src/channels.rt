@@ -11,7 +11,7 @@ ghost use Rattle.jxlm_transform.specs.Ends.{HasEnds};
 ghost use Rattle.jxlm_transform.specs.Params.{IsValidChannel, has_deltas};
 ghost use Rattle.jxlm_transform.specs.SqueezedRegions.{average_region, residual_region};
 
-use crate::param::{ChannelShift, ModularChannelParams, PaletteTables};
+use crate::param::{ChannelShift, GradientSums, ModularChannelParams, PaletteTables};
 use jxlm_base::error::Result;
 use jxlm_base::grid::{OutOfMemory, Region};
 use std::alloc::Global;
@@ -35,6 +35,8 @@ pub struct ModularChannelInfo {
     pub original_shift: ChannelShift,
     /// The tables of palettes with which it was given; for a table itself those of colours alone.
     pub palette_tables: PaletteTables,
+    /// The sums by which it was given; a table itself has those that wrap.
+    pub gradient_sums: GradientSums,
 }
 
 impl ModularChannelInfo {
@@ -53,6 +55,7 @@ impl ModularChannelInfo {
             vshift: params.shift.vshift(),
             original_shift: params.shift,
             palette_tables: params.palette_tables,
+            gradient_sums: params.gradient_sums,
         }
     }
 
@@ -69,6 +72,7 @@ impl ModularChannelInfo {
             vshift: -1,
             original_shift: ChannelShift::Raw(-1, -1),
             palette_tables: PaletteTables::OfColours,
+            gradient_sums: GradientSums::Wrapped,
         }
     }
 

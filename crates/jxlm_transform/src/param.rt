@@ -4,7 +4,7 @@ ghost use Rattle.std.specs.Prelude.{◌≡◌, ◌+◌, ◌<◌, ◌≤◌, ◌�
 ghost use Rattle.std.specs.Int.{div_ceil};
 ghost use Rattle.std.specs.List.{All, list_any};
 ghost use Rattle.jxlm_transform.specs.Shifts.{IsValidShift, shift_size, jpeg_shift, hshift, vshift, IsShift, upsampled_side as the_upsampled_side};
-ghost use Rattle.jxlm_transform.specs.Params.{IsSide, IsValidChannel, IsGroupDim, IsValidParams, OneSizeIsValid, OneSizeOfImageIsValid, PowersAreGroupDims, columns, has_deltas, params_of, sized, with_tables};
+ghost use Rattle.jxlm_transform.specs.Params.{IsSide, IsValidChannel, IsGroupDim, IsValidParams, OneSizeIsValid, OneSizeOfImageIsValid, PowersAreGroupDims, are_clamped, columns, has_deltas, params_of, sized, with_sums, with_tables};
 ghost use Rattle.jxlm_base.specs.ErrorKind.{NoMemory, kind_of};
 
 use jxlm_base::decoder::Decoder;
@@ -216,8 +216,28 @@ impl PaletteTables {
     }
 }
 
+/// How property 9, west less north west plus north, is brought to 32 bits.
+#[derive(Clone, Copy, Debug, PartialEq, Eq)]
+pub enum GradientSums {
+    /// It is reduced to 32 bits, as each other property. So the Rust crate `jxl-modular` reads it.
+    Wrapped,
+    /// It is clamped to -512..=511 in a channel whose tree asks for it alone, with cuts from -513 to 510, once the
+    /// decisions on the channel and the stream are taken, and predicts by the gradient alone, with offsets from -128 to
+    /// 127 and multipliers up to 127; else it is reduced. So libjxl reads and writes files.
+    Clamped,
+}
+
+impl GradientSums {
+    /// Whether it is clamped where the tree allows it.
+    pub fn are_clamped(&self) -> bool
+        ensures { result ≡ are_clamped self.now }
+    {
+        matches!(self, GradientSums::Clamped)
+    }
+}
+
 /// A channel of an image: the sides of the picture, how the channel is smaller than it, and by which tables of palettes
-/// it is read.
+/// and which sums it is read.
 #[derive(Clone, Copy)]
 pub struct ModularChannelParams {
     /// The width of the picture in samples.
@@ -229,6 +249,8 @@ pub struct ModularChannelParams {
     /// The tables of palettes in the headers that it is read by: that of the image, and that of a part which holds some
     /// of its samples. Where a channel asks for tables of deltas, all channels of its header are read by these.
     pub palette_tables: PaletteTables,
+    /// How property 9 of its samples is brought to 32 bits.
+    pub gradient_sums: GradientSums,
 }
 
 impl ModularChannelParams {
@@ -265,6 +287,7 @@ impl ModularChannelParams {
             height,
             shift,
             palette_tables: PaletteTables::OfColours,
+            gradient_sums: GradientSums::Wrapped,
         }
     }
 
@@ -275,6 +298,16 @@ impl ModularChannelParams {
     {
         ModularChannelParams {
             palette_tables,
+            ..self
+        }
+    }
+
+    /// The same channel, read by these sums. Those of the other calls are [`Wrapped`](GradientSums::Wrapped).
+    pub fn with_gradient_sums(self, gradient_sums: GradientSums) -> ModularChannelParams
+        ensures { result ≡ with_sums gradient_sums self }
+    {
+        ModularChannelParams {
+            gradient_sums,
             ..self
         }
     }

@@ -9,5 +9,6 @@ pub mod Rolling
 pub mod SelfCorrecting
 pub mod SelfCorrectingRanges
 pub mod Standing
+pub mod Sums
 pub mod WeightsHeader
 pub mod Inner

@@ -2,6 +2,7 @@
 #![tactic(auto)]
 
 mod around;
+pub mod clamping;
 pub mod earlier;
 pub mod eighths;
 pub mod place;

@@ -1,5 +1,5 @@
 -- How one cell of a part is read.
-use Rattle.std.specs.Prelude.{◌≡◌, ◌≢◌, ℕ, ◌+◌, ◌≤◌, ℤ, List, Result, Ok, Err}
+use Rattle.std.specs.Prelude.{◌≡◌, ◌≢◌, ℕ, ◌+◌, ◌≤◌, ℤ, Bool, List, Result, Ok, Err}
 use Rattle.std.specs.Int.{Width}
 use Rattle.jxlm_base.specs.Bits.{bytes_of, position_of}
 use Rattle.jxlm_base.specs.Decoding.{Meaning, Taken}
@@ -11,11 +11,11 @@ use Rattle.jxlm_ma.specs.FlatTree.{FlatTree, HasMultiplier, leaf_reached}
 use Rattle.jxlm_ma.specs.Tree.{StandsAtLeaf}
 use Rattle.jxlm_tree.specs.Holding.{state_of, store_of, surroundings}
 use Rattle.jxlm_tree.specs.Predictions.{prediction}
-use Rattle.jxlm_tree.specs.Properties.{place_property}
 use Rattle.jxlm_tree.specs.Standing.{Setting, StandsAt}
 use Rattle.jxlm_ma.specs.declared.flat.Leaf.{Leaf}
 use Rattle.jxlm_tree.specs.declared.properties.Properties.{Properties}
 use Rattle.jxlm_part.specs.Coded.{sample_of}
+use Rattle.jxlm_part.specs.Part.{place_by}
 use Rattle.jxlm_part.specs.declared.source.Source.{Source}
 
 -- a sample was read at this leaf, over this prediction, from this reading; it left state t and position q
@@ -25,31 +25,40 @@ pub record ReadsNext {S X : Type 0} (w : Width) (from_int : ℤ → X) (l : Leaf
   pub read : reading ≡ Ok (record { value = token; state = t; position = q })
   pub sample_is : sample ≡ from_int (sample_of w l predicted token)
 
--- the leaf to which a flat tree leads where a state was set so, after these samples
-abbrev pub leaf_at : FlatTree → Setting → List (Grid ℤ) → List ℤ → Leaf
-leaf_at flat s store samples = leaf_reached flat (place_property (surroundings s store samples))
+-- the leaf to which a flat tree leads where a state was set so, after these samples, and property 9 is clamped or not
+abbrev pub leaf_at : Bool → FlatTree → Setting → List (Grid ℤ) → List ℤ → Leaf
+leaf_at clamped flat s store samples = leaf_reached flat (place_by clamped (surroundings s store samples))
 
 -- the leaf to which the tree leads at a cell with these properties, wherever the state is at that cell
-abbrev pub IsReached : {X : Type 0} → FlatTree → (X → ℤ) → Properties X → Leaf → Type 0
-IsReached flat to_int properties l = (s : Setting) (samples : List ℤ) → StandsAt (state_of properties) s samples →
-    l ≡ leaf_at flat s (store_meanings to_int (store_of properties)) samples
+abbrev pub IsReached : {X : Type 0} → Bool → FlatTree → (X → ℤ) → Properties X → Leaf → Type 0
+IsReached clamped flat to_int properties l = (s : Setting) (samples : List ℤ) → StandsAt (state_of properties) s samples →
+    l ≡ leaf_at clamped flat s (store_meanings to_int (store_of properties)) samples
+
+-- the leaf to which the tree leads where each property is this number, found in at most so many steps
+pub record IsFoundBy (flat : FlatTree) (number : ℤ) (before after most : ℕ) (l : Leaf) : Type 0 where
+  pub leaf : l ≡ leaf_reached flat (λ k. number)
+  pub stands : StandsAtLeaf flat.tree l
+  pub multiplier : HasMultiplier l
+  pub cost : after ≤ before + most
+  pub more : before ≤ after
 
 -- it is that leaf, found in at most so many steps
-pub record IsFound {X : Type 0} (flat : FlatTree) (to_int : X → ℤ) (properties : Properties X) (before after most : ℕ)
-    (l : Leaf) : Type 0 where
-  pub leaf : IsReached flat to_int properties l
+pub record IsFound {X : Type 0} (clamped : Bool) (flat : FlatTree) (to_int : X → ℤ) (properties : Properties X)
+    (before after most : ℕ) (l : Leaf) : Type 0 where
+  pub leaf : IsReached clamped flat to_int properties l
   pub stands : StandsAtLeaf flat.tree l
   pub multiplier : HasMultiplier l
   pub cost : after ≤ before + most
   pub more : before ≤ after
 
 -- the prediction there
-abbrev pub predicted_at : FlatTree → Setting → List (Grid ℤ) → List ℤ → ℤ
-predicted_at flat s store samples = prediction s.weights samples s.width (leaf_at flat s store samples).predictor
+abbrev pub predicted_at : Bool → FlatTree → Setting → List (Grid ℤ) → List ℤ → ℤ
+predicted_at clamped flat s store samples =
+    prediction s.weights samples s.width (leaf_at clamped flat s store samples).predictor
 
 -- What the read of a sample at a cell with these properties returns, in whatever setting and after whatever samples the
 -- state is at that cell.
-module _ {D X : Type 0} (d : Meaning D) (to_int : X → ℤ) (flat : FlatTree) (widest : ℕ) (properties : Properties X)
+module _ {D X : Type 0} (d : Meaning D) (to_int : X → ℤ) (clamped : Bool) (flat : FlatTree) (widest : ℕ) (properties : Properties X)
     (old new : Source D) where
   -- the numbers of the store that the properties look at
   abbrev pub numbers : List (Grid ℤ)
@@ -58,12 +67,12 @@ module _ {D X : Type 0} (d : Meaning D) (to_int : X → ℤ) (flat : FlatTree) (
   -- the read of its token
   abbrev pub reading : Setting → List ℤ → Result (Taken ℕ D) DecoderError
   reading s samples =
-      d.read old.decoder (bytes_of old.bits) (position_of old.bits) (leaf_at flat s numbers samples).cluster widest
+      d.read old.decoder (bytes_of old.bits) (position_of old.bits) (leaf_at clamped flat s numbers samples).cluster widest
 
   -- this sample
   pub record ReadsSample (w : Width) (from_int : ℤ → X) (cost : ℕ) (sample : X) : Type 0 where
     pub reads : (s : Setting) (samples : List ℤ) → StandsAt (state_of properties) s samples →
-        ReadsNext w from_int (leaf_at flat s numbers samples) (predicted_at flat s numbers samples) sample
+        ReadsNext w from_int (leaf_at clamped flat s numbers samples) (predicted_at clamped flat s numbers samples) sample
         new.decoder (position_of new.bits) (reading s samples)
     pub clusters : d.cluster_map new.decoder ≡ d.cluster_map old.decoder
     pub bytes : bytes_of new.bits ≡ bytes_of old.bits

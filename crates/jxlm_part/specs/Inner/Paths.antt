@@ -12,6 +12,7 @@ use Rattle.jxlm_ma.specs.Tree.{Shape, depth}
 use Rattle.jxlm_ma.specs.declared.flat.Leaf.{Leaf}
 use Rattle.jxlm_ma.specs.declared.paths.Path.{Path}
 use Rattle.jxlm_ma.specs.declared.paths.Path.TheVariants as path
+use Rattle.jxlm_tree.specs.Sums.{clamped}
 use Rattle.jxlm_tree.specs.declared.predictor.Predictor.TheVariants as predictor
 use Rattle.jxlm_part.specs.Coded.{sample_of}
 use Rattle.jxlm_part.specs.Rule.{Rule}
@@ -85,6 +86,11 @@ abbrev pub AreLeavesOf : FlatTree → Leaves → Type 0
 AreLeavesOf t (One l) = IsLeafOf t l × IsPlainGradient l
 AreLeavesOf t (Table c) = IsTableOf t c.now × IsOnGradient c.now
 
+-- a sum as property 9 has it, clamped or reduced to 32 bits
+abbrev pub sum_by : Bool → ℤ → ℤ
+sum_by true z = clamped z
+sum_by false z = int_wrap w32 z
+
 -- The neighbours in column x of a row, from the row above (none above the first row) and the cells of the row before
 -- it (ISO/IEC 18181-1, Modular: neighbouring samples).
 module _ (above row : List ℤ) where
@@ -106,9 +112,9 @@ module _ (above row : List ℤ) where
   abbrev pub gradient_in : ℕ → ℤ
   gradient_in x = int_wrap w32 (clamped_gradient (north_in x) (west_in x) (north_west_in x))
 
-  -- property 9: west less north west plus north, reduced to 32 bits
-  abbrev pub property_9_in : ℕ → ℤ
-  property_9_in x = int_wrap w32 (west_in x -ℤ north_west_in x +ℤ north_in x)
+  -- property 9: west less north west plus north, clamped or reduced to 32 bits
+  abbrev pub property_9_in : Bool → ℕ → ℤ
+  property_9_in clamped x = sum_by clamped (west_in x -ℤ north_west_in x +ℤ north_in x)
 
 -- two samples are those to the left of column x of a row, and above that one
 pub record AreLeft {X : Type 0} (to_int : X → ℤ) (above row : List X) (x : ℕ) (w nw : X) : Type 0 where
@@ -132,6 +138,6 @@ abbrev pub zero_rule : {S : Type 0} → Meaning S → Width → List ℕ → ℕ
 zero_rule d w bytes widest l = leaf_rule d w bytes widest (λ row. l) (λ row. pos 0)
 
 -- over the clamped gradient, at the leaf where property 9 is as it is there
-abbrev pub gradient_rule : {S : Type 0} → Meaning S → Width → List ℕ → ℕ → Leaves → List ℤ → Rule S
-gradient_rule d w bytes widest leaves above =
-    leaf_rule d w bytes widest (λ row. leaf_by leaves (property_9_in above row (length row))) (λ row. gradient_in above row (length row))
+abbrev pub gradient_rule : {S : Type 0} → Meaning S → Width → Bool → List ℕ → ℕ → Leaves → List ℤ → Rule S
+gradient_rule d w clamped bytes widest leaves above =
+    leaf_rule d w bytes widest (λ row. leaf_by leaves (property_9_in above row clamped (length row))) (λ row. gradient_in above row (length row))

@@ -1,5 +1,5 @@
 -- Rows of cells that are read one after another.
-use Rattle.std.specs.Prelude.{◌≡◌, ◌≢◌, ℕ, ◌+◌, ◌*◌, ◌<◌, ◌≤◌, ℤ, List, ◌++◌, length, map, take, slice_get, slice_index, slice_set, Some, Result, Ok, Err}
+use Rattle.std.specs.Prelude.{◌≡◌, ◌≢◌, ℕ, ◌+◌, ◌*◌, ◌<◌, ◌≤◌, ℤ, Bool, List, ◌++◌, length, map, take, slice_get, slice_index, slice_set, Some, Result, Ok, Err}
 use Rattle.std.specs.Int.{Width}
 use Rattle.jxlm_base.specs.Bits.{bytes_of, position_of}
 use Rattle.jxlm_base.specs.Decoding.{Meaning}
@@ -15,7 +15,7 @@ use Rattle.jxlm_tree.specs.Standing.{StandsAt}
 use Rattle.jxlm_tree.specs.declared.earlier.EarlierRow.{EarlierRow}
 use Rattle.jxlm_tree.specs.declared.state.PredictorState.{PredictorState}
 use Rattle.jxlm_part.specs.Coded.{part_rule}
-use Rattle.jxlm_part.specs.Part.{Part}
+use Rattle.jxlm_part.specs.Part.{Part, clamps}
 use Rattle.jxlm_part.specs.Reading.{FindsClusters, HasRoom, IsCodingOf, cost_of, part_of, regions_of, tree_of}
 use Rattle.jxlm_part.specs.Rule.{Rule, CodedPrefix}
 use Rattle.jxlm_part.specs.Inner.Channels.{region_at, setting_of}
@@ -97,10 +97,10 @@ module _ {S : Type 0} (d : Meaning S) (rule : List ℕ → Rule S) (x n : ℕ) (
       FailsRow d 0 (rule (bytes_of start.bits)) now start new r
 
 -- what the read of a row below another returned, and what it left
-abbrev pub GradientGives : {D : Type 0} → Meaning D → Width → Leaves → ℕ → List ℤ → List ℤ → Source D → Source D →
+abbrev pub GradientGives : {D : Type 0} → Meaning D → Width → Bool → Leaves → ℕ → List ℤ → List ℤ → Source D → Source D →
     Result (Unit {0}) RowError → Type 0
-GradientGives d w leaves widest above row old new result =
-    ReadsRow d (steps_by leaves) (gradient_rule d w (bytes_of old.bits) widest leaves above) row result old new
+GradientGives d w clamped leaves widest above row old new result =
+    ReadsRow d (steps_by leaves) (gradient_rule d w clamped (bytes_of old.bits) widest leaves above) row result old new
 
 -- two rules read the same for each cell of a row of n cells
 abbrev pub AreAlike : {S : Type 0} → Rule S → Rule S → ℕ → Type 0
@@ -168,6 +168,7 @@ module _ {D X : Type 0} (l : Line X D) where
     pub gives : Gives (tree_of l.coding.now l.i) l.path
     pub allows : Allows l.path
     pub steps : steps_on l.path l.coding.now.config.now.tree ≤ cost_of l.coding.now
+    pub clamped : l.clamped ≡ clamps (part_of l.coding.now) l.i
 
   -- its cells are read one by one, with these rows of earlier channels at hand
   pub record IsWalked (rows : List (EarlierRow X)) : Type 0 where

@@ -6,7 +6,9 @@ use jxl_modular::flat::{FlatMaTree, Leaf};
 use jxl_modular::grid::{AlignedGrid, OutOfMemory, Region, Rows};
 use jxl_modular::image::{ChannelsWithInfo, Part, TransformedGrid};
 use jxl_modular::ma::{MaConfig, MaConfigParams};
-use jxl_modular::param::{ChannelShift, ModularChannelParams, ModularParams, PaletteTables};
+use jxl_modular::param::{
+    ChannelShift, GradientSums, ModularChannelParams, ModularParams, PaletteTables,
+};
 use jxl_modular::plain::PlainDecoder;
 use jxl_modular::predictor::{PredictionResult, Predictor, WpHeader};
 use jxl_modular::recursive::NestedHeader;
@@ -23,6 +25,7 @@ type OfModules<'a, S> = (
     MaConfig<PlainDecoder>,
     MaConfigParams,
     ChannelShift,
+    GradientSums,
     ModularChannelParams,
     ModularParams<'a, PlainDecoder>,
     PaletteTables,
@@ -37,6 +40,7 @@ type OfRoot<'a, S> = (
     jxl_modular::MaConfig<PlainDecoder>,
     jxl_modular::MaConfigParams,
     jxl_modular::ChannelShift,
+    jxl_modular::GradientSums,
     jxl_modular::ModularChannelParams,
     jxl_modular::ModularParams<'a, PlainDecoder>,
     jxl_modular::PaletteTables,
@@ -124,14 +128,22 @@ fn shift(shift: ChannelShift) -> (Option<[bool; 4]>, Option<u32>, Option<(i32, i
     }
 }
 
-fn channel(channel: ModularChannelParams) -> (u32, u32, ChannelShift, PaletteTables) {
+fn channel(channel: ModularChannelParams) -> (u32, u32, ChannelShift, PaletteTables, GradientSums) {
     let ModularChannelParams {
         width,
         height,
         shift,
         palette_tables,
+        gradient_sums,
     } = channel;
-    (width, height, shift, palette_tables)
+    (width, height, shift, palette_tables, gradient_sums)
+}
+
+fn sums(sums: GradientSums) -> bool {
+    match sums {
+        GradientSums::Wrapped => false,
+        GradientSums::Clamped => true,
+    }
 }
 
 fn tables(tables: PaletteTables) -> bool {

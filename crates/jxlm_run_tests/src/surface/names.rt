@@ -97,6 +97,7 @@ fn of_params<D: Decoder>() {
     named(ModularChannelParams::jpeg);
     named(ModularChannelParams::with_shift);
     named(ModularChannelParams::with_palette_tables);
+    named(ModularChannelParams::with_gradient_sums);
     named(ModularParams::<D>::new);
     named(ModularParams::<D>::with_channels);
     named(ModularParams::<D>::is_valid);

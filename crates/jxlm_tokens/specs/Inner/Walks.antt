@@ -1,5 +1,5 @@
 -- What the loops over channels, rows and cells keep.
-use Rattle.std.specs.Prelude.{◌≡◌, ◌⊎◌, ℕ, ◌+◌, ◌*◌, ◌<◌, ◌≤◌, ℤ, pos, List, length, get_or, slice_get}
+use Rattle.std.specs.Prelude.{◌≡◌, ◌⊎◌, ℕ, ◌+◌, ◌*◌, ◌<◌, ◌≤◌, ℤ, pos, Bool, List, length, get_or, slice_get}
 use Rattle.std.specs.Int.{Width}
 use Rattle.jxlm_base.specs.Grid.{Grid}
 use Rattle.jxlm_base.specs.Regions.{AllLie, grids_in, region_cell, store_meanings}
@@ -9,19 +9,19 @@ use Rattle.jxlm_ma.specs.Tree.{AllLeaves}
 use Rattle.jxlm_ma.specs.declared.flat.Leaf.{Leaf}
 use Rattle.jxlm_tree.specs.Holding.{surroundings}
 use Rattle.jxlm_tree.specs.Predictions.{prediction}
-use Rattle.jxlm_tree.specs.Properties.{place_property}
 use Rattle.jxlm_tree.specs.Standing.{Setting}
 use Rattle.jxlm_tree.specs.declared.predictor.Predictor.TheVariants as predictor
 use Rattle.jxlm_tokens.specs.Inner.Channels.{region_at}
-use Rattle.jxlm_part.specs.Part.{cells_before, cells_of}
+use Rattle.jxlm_part.specs.Part.{cells_before, cells_of, place_by}
 use Rattle.jxlm_part.specs.Reading.{IsCodingOf, part_of, regions_of}
 use Rattle.jxlm_part.specs.declared.coding.PartCoding.{PartCoding}
 use Rattle.jxlm_tokens.specs.Tokens.{IsSampleToken, IsTokenOfCell, MultipliesByOne}
 
--- the token of a sample that comes after these of a channel, where a state was set so and the walk is of this tree
-abbrev pub IsNextToken : FlatTree → Width → List (Grid ℤ) → Setting → List ℤ → ℤ → ℕ → Type 0
-IsNextToken flat w store s samples sample token =
-    let l : Leaf = leaf_reached flat (place_property (surroundings s store samples)) in
+-- the token of a sample that comes after these of a channel, where a state was set so, the walk is of this tree, and
+-- property 9 is clamped or not
+abbrev pub IsNextToken : Bool → FlatTree → Width → List (Grid ℤ) → Setting → List ℤ → ℤ → ℕ → Type 0
+IsNextToken clamped flat w store s samples sample token =
+    let l : Leaf = leaf_reached flat (place_by clamped (surroundings s store samples)) in
     IsSampleToken w l (prediction s.weights samples s.width l.predictor) sample token
 
 -- What holds while the tokens of a part are made: its regions lie in the store, and its leaves multiply by 1.

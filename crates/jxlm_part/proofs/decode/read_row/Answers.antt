@@ -41,5 +41,5 @@ returns-in-Constant-clause-gives g c =
       | in-Constant w ↦ rw w.leaf-is (is_zero t l.path w.in-Constant.leaf w.in-Constant.is at.gives at.allows)
       | in-Constant-2 w ↦ rw w.leaf-is (is_zero t l.path w.in-Constant.leaf w.in-Constant.is at.gives at.allows)
     ] in
-    row_of_zeros l g.D.Decoder.meaning g.S.Sealed.to_int g.S.Sealed.width (is_line l g.D.Decoder.meaning g.S.Sealed.to_int c.args.walk.now at c.requires.below) c.read_zeros.new.row (c.read_zeros.auto.row ∙ c.requires.long)
+    row_of_zeros l g.D.Decoder.meaning g.S.Sealed.to_int g.S.Sealed.width (is_line l g.D.Decoder.meaning g.S.Sealed.to_int c.args.walk.now at c.requires.below c.requires.clamped) c.read_zeros.new.row (c.read_zeros.auto.row ∙ c.requires.long)
     c.args.walk.now.source c.read_zeros.new.source c.read_zeros.result c.in-Constant-1.leaf zero.only zero.predicts c.read_zeros.ensures

@@ -5,7 +5,7 @@ use Rattle.jxlm_ma.specs.Tree.{AllLeaves}
 use Rattle.jxlm_tree.specs.Standing.{StandsAt}
 use Rattle.jxlm_part.specs.Part.{cells_before}
 use Rattle.jxlm_part.specs.Reading.{part_of, regions_of}
-use Rattle.jxlm_part.proofs.CellLaws.{flat_at}
+use Rattle.jxlm_part.proofs.CellLaws.{flat_at, sums_at}
 use Rattle.jxlm_tokens.specs.Inner.Channels.{StandsAfter, region_at, setting_of}
 use Rattle.jxlm_tokens.specs.Inner.Walks.{AreRowTokens, all_cells}
 use Rattle.jxlm_tokens.specs.Tokens.{IsTokenOfCell, MultipliesByOne}
@@ -34,6 +34,9 @@ next_token-requires-clause-rows g c κs within =
 pub next_token-requires-clause-ones : goal.next_token-requires-clause-ones
 next_token-requires-clause-ones g c κs within =
     subst (λ (t : FlatTree). AllLeaves MultipliesByOne t.tree) (sym (flat_at c.args.coding.now c.requires.here.walked.coding c.args.i c.requires.here.channel _)) c.requires.here.walked.ones
+
+pub next_token-requires-clause-sums : goal.next_token-requires-clause-sums
+next_token-requires-clause-sums g c κs within = λ yes. sums_at c.args.coding.now c.requires.here.walked.coding c.args.i c.requires.here.channel _ (sym c.requires.clamped ∙ yes)
 
 pub loop-x-init : goal.loop-x-init
 loop-x-init g c = record {
@@ -65,7 +68,7 @@ loop-x-preserved g c =
     let own : List ℤ = (grid_of (store_meanings to_int store) (region_at (regions_of coding) i)).cells in
     let next = c.next_token.ensures.token (setting_of coding i) (take j own) c.loop-x.invariant.stands in
     let here = token_is coding ok i li to_int store j (within_at coding ok i li to_int store x y px qy) w _ (to_int v) c.next_token.result
-    (flat_at coding ok i li _) value next in
+    (flat_at coding ok i li _) value (rw c.requires.clamped at next) in
     record {
       len = search rules;
       from = omega (arith, from);

@@ -6,14 +6,14 @@ use Rattle.jxlm_ma.specs.declared.flat.Leaf.{Leaf}
 use Rattle.jxlm_ma.proofs.FlatTrees.{standing_leaf}
 use Rattle.jxlm_tree.specs.Holding.{state_of, store_of, surroundings}
 use Rattle.jxlm_tree.specs.Predictions.{prediction}
-use Rattle.jxlm_tree.specs.Properties.{place_property}
 use Rattle.jxlm_tree.specs.Standing.{StandsAt}
+use Rattle.jxlm_part.specs.Part.{place_by}
 use Rattle.jxlm_tokens.specs.Tokens.{IsSampleToken, MultipliesByOne}
 use Rattle.jxlm_tokens.proofs.Cells.{room_so, stands_so}
 use Rattle.jxlm_tokens.proofs.rows.next_token.Goals as goal
 
 pub sample_token-requires-after_bounds : goal.sample_token-requires-after_bounds
-sample_token-requires-after_bounds g c κs within = standing_leaf MultipliesByOne c.args.flat.now.tree c.leaf.result.now c.requires.ones c.leaf.ensures.stands
+sample_token-requires-after_bounds g c κs within = standing_leaf MultipliesByOne c.args.flat.now.tree c.leaf_of-leaf.result c.requires.ones c.leaf_of-leaf.ensures.stands
 
 pub returns-clause-token : goal.returns-clause-token
 returns-clause-token g c s samples stands =
@@ -21,13 +21,13 @@ returns-clause-token g c s samples stands =
     let to_int = g.S.Sealed.to_int in
     let properties = c.properties_by_rows-properties.result in
     let held : StandsAt (state_of properties) s samples = rw c.properties_by_rows-properties.ensures.unchanged stands in
-    let leaf_there = c.leaf.ensures.leaf (place_property (surroundings s (store_meanings to_int (store_of properties)) samples)) (λ k v gives. gives s samples held) in
-    let leaf_is : c.leaf.result.now ≡ leaf_reached c.args.flat.now (place_property (surroundings s (store_meanings to_int c.args.store.now) samples)) =
+    let leaf_there = c.leaf_of-leaf.ensures.leaf s samples held in
+    let leaf_is : c.leaf_of-leaf.result ≡ leaf_reached c.args.flat.now (place_by c.args.clamped (surroundings s (store_meanings to_int c.args.store.now) samples)) =
     rw c.properties_by_rows-properties.ensures.store at leaf_there in
     let fits : FitsSigned w32 c.predict-predicted.result = search rules in
     let predicted_is = to_z-of_z w32 c.predict-predicted.result fits ∙ c.predict-predicted.ensures s samples held in
     subst (λ (k : Leaf). IsSampleToken w k (prediction s.weights samples s.width k.predictor) (to_int c.args.sample) c.sample_token.result) leaf_is
-    (subst (λ z. IsSampleToken w c.leaf.result.now z (to_int c.args.sample) c.sample_token.result) predicted_is c.sample_token.ensures)
+    (subst (λ z. IsSampleToken w c.leaf_of-leaf.result z (to_int c.args.sample) c.sample_token.result) predicted_is c.sample_token.ensures)
 
 pub returns-clause-stands : goal.returns-clause-stands
 returns-clause-stands g c s samples stands =
