@@ -14,7 +14,7 @@ image_reason images.Animation = codes "an animation"
 image_reason images.FloatDepth = codes "floats of other than 32 bits"
 image_reason images.ExtraFloats = codes "an extra channel of floats"
 image_reason images.ExtraSize = codes "an extra channel with a shift above 3"
-image_reason images.Xyb = codes "XYB"
+image_reason images.Xyb = codes "a lossy picture (XYB)"
 
 unfoldable pub frame_reason : FrameRefusal → List ℕ
 frame_reason frames.VarDct = codes "VarDCT"
@@ -46,7 +46,7 @@ is_refusal errors.TooManySections = true
 is_refusal (errors.TruncatedSection number) = true
 is_refusal error = false
 
--- the reason, as the error prints it
+-- the reason, as the program prints it
 unfoldable pub reason_text : FrontError → List ℕ
 reason_text (errors.Image reason) = codes "not supported: " ++ image_reason reason
 reason_text (errors.Frame reason) = codes "not supported: " ++ frame_reason reason

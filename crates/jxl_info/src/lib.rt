@@ -4,6 +4,6 @@
 mod channels;
 mod colours;
 pub mod headers;
-mod names;
-mod reasons;
+pub mod names;
+pub mod reasons;
 pub mod text;

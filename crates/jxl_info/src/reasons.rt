@@ -8,8 +8,9 @@ use jxl_front::error::FrontError;
 use jxl_headers::refusal::Refusal as ImageRefusal;
 use jxlm_base::grid::OutOfMemory;
 
+/// What of an image header is not supported.
 #[tactic(auto, unfolding(crate::specs::Reasons::image_reason))]
-fn image_reason(refusal: ImageRefusal) -> &'static str
+pub fn image_reason(refusal: ImageRefusal) -> &'static str
     ensures { result.now ≡ the_image_reason refusal }
 {
     match refusal {
@@ -18,12 +19,13 @@ fn image_reason(refusal: ImageRefusal) -> &'static str
         ImageRefusal::FloatDepth => "floats of other than 32 bits",
         ImageRefusal::ExtraFloats => "an extra channel of floats",
         ImageRefusal::ExtraSize => "an extra channel with a shift above 3",
-        ImageRefusal::Xyb => "XYB",
+        ImageRefusal::Xyb => "a lossy picture (XYB)",
     }
 }
 
+/// What of a frame header is not supported.
 #[tactic(auto, unfolding(crate::specs::Reasons::frame_reason))]
-fn frame_reason(refusal: FrameRefusal) -> &'static str
+pub fn frame_reason(refusal: FrameRefusal) -> &'static str
     ensures { result.now ≡ the_frame_reason refusal }
 {
     match refusal {

@@ -1,1 +1,7 @@
+pub mod Causes
+pub mod Failures
+pub mod Inner
+pub mod Options
+pub mod Reasons
 pub mod Texts
+pub mod Warnings

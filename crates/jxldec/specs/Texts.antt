@@ -1,32 +1,37 @@
 -- What the program writes of a file: its picture, or what its headers tell.
-use Rattle.std.specs.Prelude.{◌≡◌, ◌⊎◌, ℕ, List, Bool, true, MatchBool, Option, Some, None, if◌then◌else◌}
+use Rattle.std.specs.Prelude.{◌≡◌, ◌⊎◌, ℕ, List, [], length, Bool, true, false, MatchBool, IsTrue, Option, Some, None, if◌then◌else◌}
 use Rattle.std.specs.Io.KnownBytes.{Appends, Consumes, IsAtEnd}
 use Rattle.jxlm_entropy.specs.Parse.{decoder_at}
 use Rattle.jxlm_entropy.specs.Tokens.{entropy}
 use Rattle.jxl_headers.specs.Images.{Image, image_of}
-use Rattle.jxl_picture.specs.Formats.{left_out, suits, text_of, usual}
+use Rattle.jxl_picture.specs.Formats.{suits, text_of, usual}
 use Rattle.jxl_picture.specs.declared.format.Format.{Format}
 use Rattle.jxl_picture.specs.declared.limits.Limits.{Limits}
 use Rattle.jxl_picture.specs.declared.picture.Picture.{Picture}
 use Rattle.jxl_info.specs.Headers.{HeadersOfFile, IsInfoOfFile}
 use Rattle.jxl_lossless.specs.Pictures.{FileFails, IsPictureOfFile}
-use Rattle.jxldec.specs.declared.run.Failure.{Failure}
-use Rattle.jxldec.specs.declared.run.Failure.TheVariants as failures
+use Rattle.jxl_front.specs.declared.error.FrontError.TheVariants as fronts
+use Rattle.jxl_headers.specs.declared.size.Size.{Size}
+use Rattle.jxldec.specs.Failures.{failure_line, is_of_output, subject}
+use Rattle.jxldec.specs.Warnings.{kinds_left_out, warnings}
+use Rattle.jxldec.specs.declared.failures.Failure.{Failure}
+use Rattle.jxldec.specs.declared.failures.Failure.TheVariants as failures
 
 -- the format in which a picture is written: the one that is asked for, if it suits the picture, or that of its kind
 abbrev pub chosen : Option Format → Image → Option Format
 chosen (Some format) image = if suits format image then Some format else None
 chosen None image = usual image
 
--- The text is that of the picture of the file, and leaves out so many of its channels.
-pub record IsTextOfFile (limits : Limits) (file : List ℕ) (asked : Option Format) (text : List ℕ) (others : ℕ) : Type 0 where
+-- The text is that of the picture of the file; of its channels these kinds are left out, and perhaps its profile.
+pub record IsTextOfFile (limits : Limits) (file : List ℕ) (asked : Option Format) (text others : List ℕ) (profile : Bool) : Type 0 where
   pub picture : Picture
   pub steps : ℕ
   pub is : IsPictureOfFile limits file picture 0 steps
   pub format : Format
   pub suited : chosen asked (image_of picture.header) ≡ Some format
   pub written : text ≡ text_of format (image_of picture.header) picture.channels.items
-  pub without : others ≡ left_out format (image_of picture.header)
+  pub without : others ≡ kinds_left_out format (image_of picture.header).extra
+  pub plain : profile ≡ (image_of picture.header).shown.colour.profile
 
 -- The headers of the file are supported, of a picture that is not written in the format that is asked for, or in any;
 pub record HeadersHaveNoFormat (limits : Limits) (file : List ℕ) (asked : Option Format) : Type 0 where
@@ -44,32 +49,91 @@ pub record PictureHasNoFormat (limits : Limits) (file : List ℕ) (asked : Optio
 abbrev pub HasNoFormat : Limits → List ℕ → Option Format → Type 0
 HasNoFormat limits file asked = HeadersHaveNoFormat limits file asked ⊎ PictureHasNoFormat limits file asked
 
--- what each failure says of the file
+-- The picture of the file is above the limits: it has these sides, and so many extra channels.
+pub record IsAboveLimits (limits : Limits) (file : List ℕ) (size : Size) (extra : ℕ) (most : Limits) : Type 0 where
+  pub image : Image
+  pub headers : HeadersOfFile (entropy decoder_at) limits file image (Some fronts.TooLarge)
+  pub sides : size ≡ image.size
+  pub channels : extra ≡ length image.extra
+  pub compared : most ≡ limits
+
+-- what each failure says of the file whose picture is asked for
 abbrev pub TextFails : Limits → List ℕ → Option Format → Failure → Type 0
 TextFails limits file asked (failures.File error) = FileFails limits file error
+TextFails limits file asked (failures.TooLarge size extra most) = IsAboveLimits limits file size extra most
 TextFails limits file asked failures.NoFormat = HasNoFormat limits file asked
 TextFails limits file asked failures.NoMemory = Unit {0}
 TextFails limits file asked failure = ⊥
 
+-- what each failure says of the file whose headers are asked for
+abbrev pub InfoFails : Limits → List ℕ → Failure → Type 0
+InfoFails limits file (failures.File error) = FileFails limits file error
+InfoFails limits file failures.NoMemory = Unit {0}
+InfoFails limits file failure = ⊥
+
+-- what the headers of a file tell, of which nothing is left out
+abbrev pub IsInfo : Limits → List ℕ → List ℕ → List ℕ → Bool → Type 0
+IsInfo limits file text others profile = IsInfoOfFile (entropy decoder_at) limits file text × (others ≡ []) × (profile ≡ false)
+
 -- what is asked of a file: what its headers tell, or its picture
-abbrev pub IsAsked : Bool → Limits → Option Format → List ℕ → List ℕ → ℕ → Type 0
-IsAsked info limits asked file text others =
-    MatchBool info (IsInfoOfFile (entropy decoder_at) limits file text) (IsTextOfFile limits file asked text others)
+abbrev pub IsAsked : Bool → Limits → Option Format → List ℕ → List ℕ → List ℕ → Bool → Type 0
+IsAsked info limits asked file text others profile =
+    MatchBool info (IsInfo limits file text others profile) (IsTextOfFile limits file asked text others profile)
+
+-- why what is asked of a file is not made
+abbrev pub AskedFails : Bool → Limits → Option Format → List ℕ → Failure → Type 0
+AskedFails info limits asked file failure = MatchBool info (InfoFails limits file failure) (TextFails limits file asked failure)
+
+-- The input was read to its end, from left to rest, and what was read has this property.
+pub record IsReadWhole (left rest : Option (List ℕ)) (holds : List ℕ → Type 0) : Type 0 where
+  pub file : List ℕ
+  pub read : Consumes left rest file
+  pub ended : IsAtEnd rest
+  pub held : holds file
+
+-- The text is what is asked of a file.
+pub record IsMade (info : Bool) (limits : Limits) (asked : Option Format) (file : List ℕ) : Type 0 where
+  pub text : List ℕ
+  pub others : List ℕ
+  pub profile : Bool
+  pub is : IsAsked info limits asked file text others profile
+
+-- what each failure says of the input, from left to rest: it was read to its end, but where it cannot be read; and what is
+-- asked of it was made before the output was written
+abbrev pub InputFails : Bool → Limits → Option Format → Option (List ℕ) → Option (List ℕ) → Failure → Type 0
+InputFails info limits asked left rest (failures.Unreadable error) = Unit {0}
+InputFails info limits asked left rest (failures.Unwritable error) = IsReadWhole left rest (IsMade info limits asked)
+InputFails info limits asked left rest failures.Closed = IsReadWhole left rest (IsMade info limits asked)
+InputFails info limits asked left rest failure = IsReadWhole left rest (λ file. AskedFails info limits asked file failure)
 
 -- The input was read to its end, from left to rest, and the output, which held `held`, holds after it what was asked of
 -- what was read.
-pub record IsWritten (info : Bool) (limits : Limits) (asked : Option Format) (left rest held holds : Option (List ℕ)) (others : ℕ) : Type 0 where
+pub record IsWritten (info : Bool) (limits : Limits) (asked : Option Format) (left rest held holds : Option (List ℕ)) (others : List ℕ) (profile : Bool) : Type 0 where
   pub file : List ℕ
   pub text : List ℕ
   pub read : Consumes left rest file
   pub ended : IsAtEnd rest
-  pub is : IsAsked info limits asked file text others
+  pub is : IsAsked info limits asked file text others profile
   pub written : Appends held holds text
 
--- So it is, and nothing was printed beside it: but where channels were left out, a line may warn of that, unless nothing
--- but errors is to be printed.
-pub record IsDone (info quiet : Bool) (limits : Limits) (asked : Option Format) (left rest held holds : Option (List ℕ)) (Silent : Type 0) : Type 0 where
-  pub others : ℕ
-  pub written : IsWritten info limits asked left rest held holds others
-  pub none : others ≡ 0 → Silent
+-- if standard error, which held `held`, took the text, it holds that after it
+abbrev pub IsReported : Bool → Option (List ℕ) → Option (List ℕ) → List ℕ → Type 0
+IsReported reported held holds text = IsTrue reported → Appends held holds text
+
+-- So it is, and standard error gets the lines that warn of what is left out, unless nothing but errors is to be printed;
+-- it gets nothing then, nor where nothing is left out.
+pub record IsDone (info quiet : Bool) (limits : Limits) (asked : Option Format) (name : List ℕ) (left rest held holds : Option (List ℕ)) (Gets : List ℕ → Type 0) (Silent : Type 0) : Type 0 where
+  pub others : List ℕ
+  pub profile : Bool
+  pub written : IsWritten info limits asked left rest held holds others profile
+  pub gets : Gets (warnings quiet name others profile)
   pub kept : quiet ≡ true → Silent
+  pub none : others ≡ [] → profile ≡ false → Silent
+
+-- What is asked for is not done, by this failure; the output stays as it was, unless it is what fails; standard error gets
+-- the line of the failure, about the input or the output.
+pub record IsFailed (info : Bool) (limits : Limits) (asked : Option Format) (input output : List ℕ) (left rest : Option (List ℕ)) (Stays : Type 0) (Gets : Option (List ℕ) → Type 0) : Type 0 where
+  pub failure : Failure
+  pub why : InputFails info limits asked left rest failure
+  pub kept : is_of_output failure ≡ false → Stays
+  pub gets : Gets (failure_line (subject input output failure) failure)

@@ -1,9 +1,15 @@
 //! What the program is asked for on its command line.
 
+ghost use Rattle.std.specs.Prelude.{◌≡◌, ◌≢◌, MatchOption, Some, map};
+ghost use Rattle.std.specs.Option.{option_copied};
+ghost use Rattle.std.specs.Path.{path_extension};
+ghost use Rattle.jxldec.specs.Options.{IsNoFormat, IsWordOf};
+
 use clap::{Arg, ArgAction, ArgMatches, Command};
 use jxl_picture::format::Format;
 use jxl_picture::limits::Limits;
 use std::alloc::{AllocError, Global};
+use std::path::Path;
 
 /// What is asked for.
 #[derive(Clone, Copy)]
@@ -12,6 +18,8 @@ pub struct Options<'a> {
     pub input: &'a str,
     /// The path of the picture; standard output where there is none.
     pub output: Option<&'a str>,
+    /// What the output is called in a line of an error: its path, or `standard output`.
+    pub output_name: &'a str,
     /// Whether what the headers tell is printed, and no picture.
     pub info: bool,
     /// The format of the picture; where there is none, that of its kind.
@@ -34,14 +42,15 @@ fn output(alloc: Global) -> Arg<'static> {
         .short('o')
         .long("output")
         .value_name("FILE")
-        .help("Where to write the picture [default: standard output]")
+        .help("Where to write the picture [default, and -: standard output]")
 }
 
-fn info(alloc: Global) -> Arg<'static> {
+fn info(alloc: Global) -> Result<Arg<'static>, AllocError> {
     Arg::new(alloc, "info")
         .long("info")
         .action(ArgAction::SetTrue)
-        .help("Print what the headers tell, and decode nothing")
+        .help("Print what the headers tell, and decode nothing; not with --output")
+        .conflicts_with("output")
 }
 
 fn format(alloc: Global) -> Arg<'static> {
@@ -49,7 +58,7 @@ fn format(alloc: Global) -> Arg<'static> {
         .long("format")
         .value_name("FORMAT")
         .value_parser(["pgm", "ppm", "pam", "pfm", "text"].as_slice())
-        .help("Its format [default: by the ending of its name, or by its kind]")
+        .help("Its format [default: by the ending of its name, else by what the picture holds]")
 }
 
 fn pixels(alloc: Global) -> Arg<'static> {
@@ -57,7 +66,7 @@ fn pixels(alloc: Global) -> Arg<'static> {
         .long("max-pixels")
         .value_name("N")
         .value_parser(clap::value_parser!(u64))
-        .help("The maximum number of pixels")
+        .help("The maximum number of pixels [default: 268435456]")
 }
 
 fn quiet(alloc: Global) -> Arg<'static> {
@@ -73,7 +82,7 @@ pub fn command<'a>(alloc: Global) -> Result<Command<'a>, AllocError> {
     let args = vec![in alloc;
         input(alloc),
         output(alloc),
-        info(alloc),
+        info(alloc)?,
         format(alloc),
         pixels(alloc),
         quiet(alloc),
@@ -84,32 +93,37 @@ pub fn command<'a>(alloc: Global) -> Result<Command<'a>, AllocError> {
         .args(args)
 }
 
-// The format of this name.
-fn format_of(name: &str) -> Option<Format> {
-    match name {
-        "pgm" => Some(Format::Pgm),
-        "ppm" => Some(Format::Ppm),
-        "pam" => Some(Format::Pam),
-        "pfm" => Some(Format::Pfm),
-        "text" => Some(Format::Text),
-        _ => None,
+// The format of this name, in letters of either case.
+fn format_of(name: &str) -> Option<Format>
+    ensures { MatchOption result (IsNoFormat name.now) (IsWordOf name.now) }
+{
+    if name.eq_ignore_ascii_case("pgm") {
+        Some(Format::Pgm)
+    } else if name.eq_ignore_ascii_case("ppm") {
+        Some(Format::Ppm)
+    } else if name.eq_ignore_ascii_case("pam") {
+        Some(Format::Pam)
+    } else if name.eq_ignore_ascii_case("pfm") {
+        Some(Format::Pfm)
+    } else if name.eq_ignore_ascii_case("text") {
+        Some(Format::Text)
+    } else {
+        None
     }
 }
 
-// The ending of a path, where it has one.
-fn ending(path: &str) -> Option<&str> {
-    let (_, ending) = path.rsplit_once('.')?;
-    if ending.contains('/') {
-        None
-    } else {
-        Some(ending)
-    }
+// The ending of a path, where it has one: what stands after the last dot of its last name, unless that begins with it.
+fn ending(path: &str) -> Option<&str>
+    ensures { option_copied result ≡ path_extension path.now }
+{
+    Path::new(path).extension()
 }
 
 impl<'a> Options<'a> {
     /// What a command line asks for: of the format by its name, else by the ending of the picture's path.
     pub fn of(matches: &ArgMatches<'a>) -> Options<'a> {
-        let output = matches.get_str("output");
+        let path = matches.get_str("output").unwrap_or("-");
+        let output = if path == "-" { None } else { Some(path) };
         let mut limits = Limits::usual();
         if let Some(pixels) = matches.get_one::<u64>("pixels") {
             limits.pixels = pixels;
@@ -118,6 +132,7 @@ impl<'a> Options<'a> {
         Options {
             input: matches.get_str("input").unwrap_or(""),
             output,
+            output_name: output.unwrap_or("standard output"),
             info: matches.get_flag("info"),
             format: name.and_then(format_of),
             limits,

@@ -1,5 +1,7 @@
 //! A file that is made when it is first written to.
 
+ghost use Rattle.std.specs.Prelude.{◌≡◌, None};
+
 use std::fs;
 use std::io::{self, Write};
 use std::rt::Files;
@@ -13,8 +15,10 @@ pub struct OutputFile<'a, R: Files> {
 }
 
 impl<'a, R: Files> OutputFile<'a, R> {
-    /// The file of this path.
-    pub fn new(rt: &'a R, path: &'a str) -> OutputFile<'a, R> {
+    /// The file of this path, which is not made yet.
+    pub fn new(rt: &'a R, path: &'a str) -> OutputFile<'a, R>
+        ensures { result.file ≡ None }
+    {
         OutputFile {
             rt,
             path,

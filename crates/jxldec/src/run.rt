@@ -1,17 +1,19 @@
 //! The program over a reader and two writers.
 
-ghost use Rattle.std.specs.Prelude.{◌≡◌, ◌≢◌, true, IfErr, IfOk, IsOkUnless, OnOk, string_bytes};
+ghost use Rattle.std.specs.Prelude.{◌≡◌, ◌≤◌, [], length, true, false, IfErr, IfOk, IfSome, IsTrue, OnOk, string_bytes};
 ghost use Rattle.std.specs.Io.KnownBytes.{Appends};
-ghost use Rattle.jxlm_entropy.specs.Parse.{decoder_at};
-ghost use Rattle.jxlm_entropy.specs.Tokens.{entropy};
 ghost use Rattle.jxl_headers.specs.Images.{image_of};
-ghost use Rattle.jxl_info.specs.Headers.{IsInfoOfFile};
 ghost use Rattle.jxl_lossless.specs.Pictures.{IsPictureOfFile};
 ghost use Rattle.jxl_picture.specs.Pictures.{IsWhole};
-ghost use Rattle.jxldec.specs.Texts.{IsAsked, IsDone, IsTextOfFile, IsWritten, TextFails, chosen};
+ghost use Rattle.jxldec.specs.Failures.{IsOfWriting, failure_line, is_of_output};
+ghost use Rattle.jxldec.specs.Texts.{AskedFails, InfoFails, InputFails, IsAsked, IsDone, IsFailed, IsInfo, IsTextOfFile, IsReported, IsWritten, TextFails, chosen};
+ghost use Rattle.jxldec.specs.Warnings.{warnings};
 
+use crate::failures::Failure;
 use crate::meter::Line;
 use crate::options::Options;
+use crate::warning::{LeftOut, warn};
+use jxl_front::error::FrontError;
 use jxl_headers::image::ImageHeader;
 use jxl_info::headers::{Headers, HeadersError, is_boxed};
 use jxl_info::text::info_text;
@@ -21,28 +23,20 @@ use jxlm_entropy::decoder::EntropyDecoder;
 use std::alloc::Global;
 use std::io::{Read, Write};
 
-/// Why nothing is written.
-#[derive(Clone, Copy)]
-pub enum Failure {
-    /// The file cannot be read, or it is out of memory for it.
-    Unreadable,
-    /// It is not decoded, or its headers do not stand, by this error.
-    File(FileError),
-    /// The picture cannot be written in the format that is asked for, or in any.
-    NoFormat,
-    /// Out of memory for the text.
-    NoMemory,
-    /// The ending of the output's name is that of no format.
-    Ending,
-    /// The output cannot be written.
-    Unwritable,
-}
-
-/// The text of a file, and how many channels of its picture are left out in it.
+/// What is asked of a file, and what it leaves out.
 #[derive(Drop)]
 pub struct Output {
     pub text: Vec<u8>,
-    pub left_out: usize,
+    pub left_out: LeftOut,
+}
+
+/// How the program ends.
+#[derive(Clone, Copy)]
+pub struct End {
+    /// The status.
+    pub status: u8,
+    /// Whether lines were written on standard error, all of them.
+    pub reported: bool,
 }
 
 // The format in which a picture is written: the one that is asked for, where it suits the picture, or that of its kind.
@@ -63,14 +57,15 @@ fn format_for(asked: Option<Format>, header: &ImageHeader) -> Option<Format>
 
 // What the headers of a file tell.
 fn info_of_file(alloc: Global, file: &[u8], limits: &Limits) -> Result<Output, Failure>
-    ensures text { IfOk result (λ o. IsInfoOfFile (entropy decoder_at) limits.now file.now o.text.items) }
-    ensures err { IfErr result (λ e. TextFails limits.now file.now None e) }
+    ensures text { IfOk result (λ o. IsInfo limits.now file.now o.text.items (string_bytes o.left_out.channels)
+        o.left_out.profile) }
+    ensures err { IfErr result (InfoFails limits.now file.now) }
 {
     match Headers::read::<EntropyDecoder>(alloc, file, limits) {
         Ok(headers) => match info_text(alloc, is_boxed(file), &headers.image, headers.reason) {
             Ok(text) => Ok(Output {
                 text: text.into_bytes(),
-                left_out: 0,
+                left_out: LeftOut::nothing(alloc),
             }),
             Err(_) => Err(Failure::NoMemory),
         },
@@ -79,8 +74,20 @@ fn info_of_file(alloc: Global, file: &[u8], limits: &Limits) -> Result<Output, F
     }
 }
 
-// That a picture whose headers stand can be written: what else is wrong with the file is told when it is decoded.
-fn check_format(
+// How far a picture is above the limits.
+fn above(limits: &Limits, header: &ImageHeader) -> Failure
+    ensures { result ≡ Failure.TooLarge (image_of header.now).size (length (image_of header.now).extra) limits.now }
+{
+    Failure::TooLarge {
+        size: header.size,
+        extra: header.extra.len(),
+        limits: *limits,
+    }
+}
+
+// That a picture whose headers stand is within the limits and can be written: what else is wrong with the file is told
+// when it is decoded.
+fn check_picture(
     alloc: Global,
     file: &[u8],
     asked: Option<Format>,
@@ -88,12 +95,19 @@ fn check_format(
 ) -> Result<(), Failure>
     ensures err { IfErr result (TextFails limits.now file.now asked) }
 {
-    if let Ok(headers) = Headers::read::<EntropyDecoder>(alloc, file, limits) {
-        if headers.reason.is_none() && format_for(asked, &headers.image).is_none() {
-            return Err(Failure::NoFormat);
+    let Ok(headers) = Headers::read::<EntropyDecoder>(alloc, file, limits) else {
+        return Ok(());
+    };
+    match headers.reason {
+        None => {
+            if format_for(asked, &headers.image).is_none() {
+                return Err(Failure::NoFormat);
+            }
+            Ok(())
         }
+        Some(FrontError::TooLarge) => Err(above(limits, &headers.image)),
+        Some(_) => Ok(()),
     }
-    Ok(())
 }
 
 // The text of a picture that was decoded from a file.
@@ -107,23 +121,24 @@ fn write_picture(
 ) -> Result<Output, Failure>
     requires whole { IsWhole (image_of picture.now.header) picture.now.channels.items }
     requires is { IsPictureOfFile limits.now file.now picture.now 0 steps.now }
-    ensures text { IfOk result (λ o. IsTextOfFile limits.now file.now asked o.text.items o.left_out) }
+    ensures text { IfOk result (λ o. IsTextOfFile limits.now file.now asked o.text.items
+        (string_bytes o.left_out.channels) o.left_out.profile) }
     ensures err { IfErr result (TextFails limits.now file.now asked) }
 {
     let Some(format) = format_for(asked, &picture.header) else {
         return Err(Failure::NoFormat);
     };
+    let Ok(left_out) = LeftOut::of(alloc, format, &picture.header) else {
+        return Err(Failure::NoMemory);
+    };
     match format.write(alloc, picture) {
-        Ok(text) => Ok(Output {
-            text,
-            left_out: format.left_out(&picture.header),
-        }),
+        Ok(text) => Ok(Output { text, left_out }),
         Err(_) => Err(Failure::NoMemory),
     }
 }
 
 /// The text of the picture of a file, in the format that is asked for, or in that of its kind. Where the headers stand
-/// and there is no such format, no sample is decoded.
+/// and there is no such format, or the picture is above the limits, no sample is decoded.
 pub fn picture_text<P: Line>(
     alloc: Global,
     file: &[u8],
@@ -131,10 +146,11 @@ pub fn picture_text<P: Line>(
     limits: &Limits,
     progress: &mut P,
 ) -> Result<Output, Failure>
-    ensures text { IfOk result (λ o. IsTextOfFile limits.now file.now asked o.text.items o.left_out) }
+    ensures text { IfOk result (λ o. IsTextOfFile limits.now file.now asked o.text.items
+        (string_bytes o.left_out.channels) o.left_out.profile) }
     ensures err { IfErr result (TextFails limits.now file.now asked) }
 {
-    check_format(alloc, file, asked, limits)?;
+    check_picture(alloc, file, asked, limits)?;
     let mut steps = Steps::new();
     match decode_lossless_with(alloc, file, limits, &mut steps, progress) {
         Ok(picture) => write_picture(alloc, file, &picture, asked, limits, &steps),
@@ -149,8 +165,9 @@ fn text_asked<P: Line>(
     options: &Options<'_>,
     progress: &mut P,
 ) -> Result<Output, Failure>
-    ensures { IfOk result (λ o. IsAsked options.now.info options.now.limits options.now.format file.now o.text.items
-        o.left_out) }
+    ensures ok { IfOk result (λ o. IsAsked options.now.info options.now.limits options.now.format file.now o.text.items
+        (string_bytes o.left_out.channels) o.left_out.profile) }
+    ensures err { IfErr result (AskedFails options.now.info options.now.limits options.now.format file.now) }
 {
     if options.info {
         info_of_file(alloc, file, &options.limits)
@@ -159,31 +176,38 @@ fn text_asked<P: Line>(
     }
 }
 
+// Writes the bytes and passes them on.
 fn write_bytes<W: Write>(output: &mut W, bytes: &[u8]) -> Result<(), Failure>
     ensures ok { OnOk result (Appends (W.contents output.old) (W.contents output.new) bytes.now) }
-    ensures err { IsOkUnless result Failure.Unwritable }
+    ensures err { IfErr result IsOfWriting }
 {
-    if output.write_all(bytes).is_err() || output.flush().is_err() {
-        return Err(Failure::Unwritable);
+    if let Err(error) = output.write_all(bytes) {
+        return Err(Failure::of_write(error));
     }
-    Ok(())
+    match output.flush() {
+        Ok(()) => Ok(()),
+        Err(error) => Err(Failure::of_write(error)),
+    }
 }
 
-// Reads the file, and writes what is asked of it. It returns how many channels were left out.
+// Reads the file, and writes what is asked of it. It returns what that leaves out.
 fn carry_out<R: Read, W: Write, P: Line>(
     alloc: Global,
     options: &Options<'_>,
     input: &mut R,
     output: &mut W,
     progress: &mut P,
-) -> Result<usize, Failure>
-    ensures done { IfOk result (IsWritten options.now.info options.now.limits options.now.format
-        (R.remaining input.old) (R.remaining input.new) (W.contents output.old) (W.contents output.new)) }
-    ensures kept { IfErr result (λ failure. failure ≢ Failure.Unwritable → output.new ≡ output.old) }
+) -> Result<LeftOut, Failure>
+    ensures done { IfOk result (λ l. IsWritten options.now.info options.now.limits options.now.format
+        (R.remaining input.old) (R.remaining input.new) (W.contents output.old) (W.contents output.new)
+        (string_bytes l.channels) l.profile) }
+    ensures failed { IfErr result (InputFails options.now.info options.now.limits options.now.format
+        (R.remaining input.old) (R.remaining input.new)) }
+    ensures kept { IfErr result (λ failure. is_of_output failure ≡ false → output.new ≡ output.old) }
 {
     let mut file = Vec::new(alloc);
-    if input.read_to_end(&mut file).is_err() {
-        return Err(Failure::Unreadable);
+    if let Err(error) = input.read_to_end(&mut file) {
+        return Err(Failure::Unreadable(error));
     }
     let made = text_asked(alloc, &file, options, progress);
     progress.clear();
@@ -194,40 +218,46 @@ fn carry_out<R: Read, W: Write, P: Line>(
     }
 }
 
-/// Writes the line of a failure, as far as it can be written, and returns the status to end with.
-pub fn report<E: Write>(errors: &mut E, name: &str, failure: Failure) -> u8
-    ensures { result ≡ 1 }
+/// Writes the line of a failure about what has this name, as far as it can be written, and ends with status 1. Of a
+/// closed pipe nothing is written.
+pub fn report<E: Write>(errors: &mut E, name: &str, failure: Failure) -> End
+    ensures status { result.status ≡ 1 }
+    ensures line { IfSome (failure_line name.now failure) (λ line. IsTrue result.reported
+        → Appends (E.contents errors.old) (E.contents errors.new) line) }
+    ensures silent { failure ≡ Failure.Closed → errors.new ≡ errors.old }
 {
-    let _ = match failure {
-        Failure::Unreadable => writeln!(errors, "jxldec: {name}: cannot be read"),
-        Failure::File(error) => writeln!(errors, "jxldec: {name}: {error}"),
-        Failure::NoFormat => writeln!(errors, "jxldec: {name}: no such picture in this format"),
-        Failure::NoMemory => writeln!(errors, "jxldec: {name}: out of memory"),
-        Failure::Ending => writeln!(
-            errors,
-            "jxldec: {name}: no format has the ending of the output"
-        ),
-        Failure::Unwritable => writeln!(errors, "jxldec: {name}: the output cannot be written"),
+    let reported = match failure {
+        Failure::Closed => false,
+        _ => writeln!(errors, "jxldec: {name}: {failure}").is_ok(),
     };
-    1
+    End {
+        status: 1,
+        reported,
+    }
 }
 
-// Writes a line that warns of channels that were left out, as far as it can be written, unless there are none or
-// nothing but errors is to be printed.
-fn warn<E: Write>(errors: &mut E, options: &Options<'_>, left_out: usize)
-    ensures none { left_out ≡ 0 → errors.new ≡ errors.old }
+// Ends with status 0, after the lines that warn of what is left out, as far as they can be written, unless nothing but
+// errors is to be printed.
+fn succeed<E: Write>(errors: &mut E, options: &Options<'_>, left_out: &LeftOut) -> End
+    ensures status { result.status ≡ 0 }
+    ensures lines { IsTrue result.reported → Appends (E.contents errors.old) (E.contents errors.new)
+        (warnings options.now.quiet options.now.input.now (string_bytes left_out.now.channels) left_out.now.profile) }
     ensures quiet { options.now.quiet ≡ true → errors.new ≡ errors.old }
+    ensures none { string_bytes left_out.now.channels ≡ [] → left_out.now.profile ≡ false
+        → errors.new ≡ errors.old }
 {
-    if left_out > 0 && !options.quiet {
-        let name = options.input;
-        let _ = writeln!(errors, "jxldec: {name}: channels left out: {left_out}");
+    let reported = !options.quiet && warn(errors, options.input, left_out);
+    End {
+        status: 0,
+        reported,
     }
 }
 
 /// Reads a file from `input`, and writes to `output` what its headers tell, or its picture in a netpbm format or in
 /// decimal numbers. It returns the status to end with: 0 where the output got that text, alone and whole; else 1, and
-/// `errors` got a line. Nothing is written to the output unless the whole picture was decoded. With status 0 `errors`
-/// got nothing but a line where channels were left out. Each section that is decoded is told of to `progress`.
+/// `errors` got the line of a failure that holds of the file, unless the output is a pipe that was closed. Nothing is
+/// written to the output unless the whole picture was decoded. With status 0 `errors` got nothing but the lines that warn
+/// of what is left out. Each section that is decoded is told of to `progress`.
 pub fn run<R: Read, W: Write, E: Write, P: Line>(
     alloc: Global,
     options: Options<'_>,
@@ -235,16 +265,26 @@ pub fn run<R: Read, W: Write, E: Write, P: Line>(
     output: &mut W,
     errors: &mut E,
     progress: &mut P,
-) -> u8
-    ensures done { result ≡ 0 → IsDone options.entry.info options.entry.quiet options.entry.limits options.entry.format
-        (R.remaining input.old) (R.remaining input.new) (W.contents output.old) (W.contents output.new)
-        (errors.new ≡ errors.old) }
+) -> End
+    ensures status { result.status ≤ 1 }
+    ensures done { result.status ≡ 0 → IsDone options.entry.info options.entry.quiet options.entry.limits
+        options.entry.format options.entry.input.now (R.remaining input.old) (R.remaining input.new)
+        (W.contents output.old) (W.contents output.new)
+        (IsReported result.reported (E.contents errors.old) (E.contents errors.new)) (errors.new ≡ errors.old) }
+    ensures failed { result.status ≡ 1 → IsFailed options.entry.info options.entry.limits options.entry.format
+        options.entry.input.now options.entry.output_name.now (R.remaining input.old) (R.remaining input.new)
+        (output.new ≡ output.old)
+        (λ line. IfSome line (IsReported result.reported (E.contents errors.old) (E.contents errors.new))) }
 {
     match carry_out(alloc, &options, input, output, progress) {
-        Ok(left_out) => {
-            warn(errors, &options, left_out);
-            0
+        Ok(left_out) => succeed(errors, &options, &left_out),
+        Err(failure) => {
+            let name = if failure.is_of_output() {
+                options.output_name
+            } else {
+                options.input
+            };
+            report(errors, name, failure)
         }
-        Err(failure) => report(errors, options.input, failure),
     }
 }

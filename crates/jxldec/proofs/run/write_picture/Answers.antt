@@ -6,15 +6,16 @@ use Rattle.jxldec.proofs.run.write_picture.Goals as goal
 pub write-requires-clause-suits : goal.write-requires-clause-suits
 write-requires-clause-suits c = chosen_suits c.args.asked (image_of c.args.picture.now.header) c.in-Some.format (sym c.format_for.ensures ∙ c.in-Some.is)
 
-pub returns-in-Ok-clause-text : goal.returns-in-Ok-clause-text
-returns-in-Ok-clause-text c = record {
+pub returns-in-Ok-write-clause-text : goal.returns-in-Ok-write-clause-text
+returns-in-Ok-write-clause-text c = record {
   picture = c.args.picture.now;
   steps = c.args.steps.now;
   is = c.requires.is;
   format = c.in-Some.format;
   suited = sym c.format_for.ensures ∙ c.in-Some.is;
-  written = c.in-Ok.ensures;
-  without = c.left_out.ensures;
+  written = c.in-Ok-write.ensures;
+  without = c.in-Ok.ensures.channels;
+  plain = c.in-Ok.ensures.profile;
 }
 
 pub returns-in_default-clause-err : goal.returns-in_default-clause-err

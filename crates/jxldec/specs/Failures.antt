@@ -1,0 +1,43 @@
+-- Why the output does not get what is asked for, and the line that says so.
+use Rattle.std.specs.Prelude.{◌≡◌, ◌⊎◌, ℕ, List, [], ◌∷◌, ◌++◌, Bool, true, false, MatchBool, Option, Some, None, if◌then◌else◌, length, codes}
+use Rattle.std.specs.Option.{option_map}
+use Rattle.jxldec.specs.Reasons.{file_text}
+use Rattle.jxldec.specs.declared.failures.Failure.{Failure}
+use Rattle.jxldec.specs.declared.failures.Failure.TheVariants as failures
+
+-- why the output does not get what is asked for, in words where they are fixed: what the system says is not known, the
+-- words for a picture above the limits are left open, and of a closed pipe nothing is said
+unfoldable pub failure_text : Failure → Option (List ℕ)
+failure_text (failures.Unreadable error) = None
+failure_text (failures.File error) = Some (file_text error)
+failure_text (failures.TooLarge size extra most) = None
+failure_text failures.NoFormat = Some (codes "this format cannot hold the picture; --format text can")
+failure_text failures.NoMemory = Some (codes "out of memory")
+failure_text failures.Ending = Some (codes "no format has this ending; there are .pgm, .ppm, .pam, .pfm and .text")
+failure_text (failures.Unwritable error) = None
+failure_text failures.Closed = None
+
+-- the failure is one of the output, and not of the file
+abbrev pub is_of_output : Failure → Bool
+is_of_output failures.Ending = true
+is_of_output (failures.Unwritable error) = true
+is_of_output failures.Closed = true
+is_of_output failure = false
+
+-- the output cannot be written
+abbrev pub IsOfWriting : Failure → Type 0
+IsOfWriting (failures.Unwritable error) = Unit {0}
+IsOfWriting failures.Closed = Unit {0}
+IsOfWriting failure = ⊥
+
+-- the name of what fails: of the file or of the output
+abbrev pub subject : List ℕ → List ℕ → Failure → List ℕ
+subject input output failure = if is_of_output failure then output else input
+
+-- a line of the program about what has this name
+abbrev pub line_about : List ℕ → List ℕ → List ℕ
+line_about name text = codes "jxldec: " ++ name ++ codes ": " ++ text ++ codes "\n"
+
+-- the line that says why the output of a name does not get what is asked for
+abbrev pub failure_line : List ℕ → Failure → Option (List ℕ)
+failure_line name failure = option_map (line_about name) (failure_text failure)

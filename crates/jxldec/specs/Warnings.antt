@@ -1,0 +1,40 @@
+-- What the text of a picture leaves out, and the lines that warn of it.
+use Rattle.std.specs.Prelude.{ℕ, ◌==◌, List, [], ◌++◌, ◌∷◌, Bool, length, if◌then◌else◌, codes}
+use Rattle.std.specs.List.{flat_map}
+use Rattle.jxl_headers.specs.declared.channel.ExtraChannel.{ExtraChannel}
+use Rattle.jxl_info.specs.Names.{kind_name}
+use Rattle.jxl_picture.specs.Pictures.{is_full_alpha}
+use Rattle.jxl_picture.specs.declared.format.Format.{Format}
+use Rattle.jxl_picture.specs.declared.format.Format.TheVariants as formats
+use Rattle.jxldec.specs.Failures.{line_about}
+
+-- the kinds of channels, each after a space
+abbrev pub kinds : List ExtraChannel → List ℕ
+kinds channels = flat_map (λ c. codes " " ++ kind_name c.kind) channels
+
+-- those but the first alpha of the picture's size
+abbrev pub kinds_but_alpha : List ExtraChannel → List ℕ
+kinds_but_alpha [] = []
+kinds_but_alpha (c ∷ cs) = if is_full_alpha c then kinds cs else codes " " ++ kind_name c.kind ++ kinds_but_alpha cs
+
+-- the kinds of extra channels that a format leaves out, each after a space
+abbrev pub kinds_left_out : Format → List ExtraChannel → List ℕ
+kinds_left_out formats.Text channels = []
+kinds_left_out formats.Pam channels = kinds_but_alpha channels
+kinds_left_out format channels = kinds channels
+
+-- the line on channels that are left out, if there are any
+unfoldable pub channel_line : List ℕ → List ℕ → List ℕ
+channel_line name others = if length others == 0 then [] else line_about name (codes "channels left out:" ++ others)
+
+-- the line on a colour profile, which no format holds
+unfoldable pub profile_line : List ℕ → Bool → List ℕ
+profile_line name profile = if profile then line_about name (codes "colour profile left out") else []
+
+-- what is written on standard error beside a picture, of which these channels and perhaps a profile are left out
+unfoldable pub warning_lines : List ℕ → List ℕ → Bool → List ℕ
+warning_lines name others profile = channel_line name others ++ profile_line name profile
+
+-- so it is, unless nothing but errors is to be printed
+abbrev pub warnings : Bool → List ℕ → List ℕ → Bool → List ℕ
+warnings quiet name others profile = if quiet then [] else warning_lines name others profile

@@ -1,0 +1,98 @@
+//! Why the output does not get what is asked for.
+
+ghost use Rattle.std.specs.Prelude.{◌≡◌};
+ghost use Rattle.jxldec.specs.Failures.{IsOfWriting, failure_text, is_of_output};
+
+use crate::reason::Reason;
+use jxl_headers::size::Size;
+use jxl_lossless::{FileError, Limits};
+use std::io::ErrorKind;
+use std::{fmt, io};
+
+/// Why the output does not get what is asked for.
+#[derive(Clone, Copy)]
+pub enum Failure {
+    /// The file cannot be read, for this reason, or it is out of memory for it.
+    Unreadable(io::Error),
+    /// It is not decoded, or its headers do not stand, by this error.
+    File(FileError),
+    /// The picture is above the limits: its size, how many channels it has beside the colours, and the limits.
+    TooLarge {
+        size: Size,
+        extra: usize,
+        limits: Limits,
+    },
+    /// The picture cannot be written in the format that is asked for, or in any.
+    NoFormat,
+    /// Out of memory for the text.
+    NoMemory,
+    /// The ending of the output's name is that of no format.
+    Ending,
+    /// The output cannot be written, for this reason.
+    Unwritable(io::Error),
+    /// The output is a pipe that was closed.
+    Closed,
+}
+
+impl Failure {
+    /// Why the output cannot be written, by the error of a write.
+    pub fn of_write(error: io::Error) -> Failure
+        ensures { IsOfWriting result }
+    {
+        if error.kind() == ErrorKind::BrokenPipe {
+            Failure::Closed
+        } else {
+            Failure::Unwritable(error)
+        }
+    }
+
+    /// Whether the failure is one of the output, and not of the file.
+    pub fn is_of_output(self) -> bool
+        ensures { result ≡ is_of_output self }
+    {
+        match self {
+            Failure::Ending | Failure::Unwritable(_) | Failure::Closed => true,
+            _ => false,
+        }
+    }
+}
+
+impl fmt::Display for Failure {
+    ghost output = { failure_text };
+
+    #[tactic(auto, unfolding(crate::specs::Failures::failure_text))]
+    fn fmt<W: fmt::Write>(&self, f: &mut fmt::Formatter<W>) -> fmt::Result {
+        match *self {
+            Failure::Unreadable(error) => write!(f, "cannot read: {error}"),
+            Failure::File(error) => {
+                let reason = Reason(error);
+                write!(f, "{reason}")
+            }
+            Failure::TooLarge {
+                size,
+                extra,
+                limits,
+            } => {
+                let (width, height) = (size.width, size.height);
+                let (pixels, channels, bytes) = (limits.pixels, limits.channels, limits.bytes);
+                write!(
+                    f,
+                    "a picture above the limits: {width}x{height} with {extra} extra channels "
+                )?;
+                write!(
+                    f,
+                    "(maximum: {pixels} pixels, {channels} channels, {bytes} bytes of samples)"
+                )
+            }
+            Failure::NoFormat => {
+                f.write_str("this format cannot hold the picture; --format text can")
+            }
+            Failure::NoMemory => f.write_str("out of memory"),
+            Failure::Ending => f.write_str(
+                "no format has this ending; there are .pgm, .ppm, .pam, .pfm and .text",
+            ),
+            Failure::Unwritable(error) => write!(f, "cannot write: {error}"),
+            Failure::Closed => f.write_str("a pipe that was closed"),
+        }
+    }
+}

@@ -1,0 +1,169 @@
+//! Why a file is not decoded, in words.
+
+ghost use Rattle.std.specs.Prelude.{◌≡◌, Some};
+ghost use Rattle.jxldec.specs.Reasons.{box_text as the_box_text, front_text, patch_text, frame_text, file_text};
+
+use crate::cause::Cause;
+use crate::codes::decoder_text;
+use jxl_file::error::FileError as BoxError;
+use jxl_front::error::FrontError;
+use jxl_info::reasons::{frame_reason, image_reason};
+use jxl_lossless::FileError;
+use jxl_patches::error::PatchError;
+use jxl_still::error::FrameError;
+use std::fmt;
+
+// Why a file has no codestream that is read.
+#[tactic(auto, unfolding(crate::specs::Reasons::box_text))]
+fn box_text(error: BoxError) -> &'static str
+    ensures { result.now ≡ the_box_text error }
+{
+    match error {
+        BoxError::NotJpegXl => "not a JPEG XL file",
+        BoxError::TruncatedBox => "a box that passes the end of the file",
+        BoxError::BoxTooSmall => "a box that is too small",
+        BoxError::FileType => "a file type box that is missing, repeated or of another brand",
+        BoxError::SecondCodestream => "a second codestream",
+        BoxError::PartAfterLast => "a part of the codestream after its last part",
+        BoxError::PartOutOfOrder => "a part of the codestream out of order",
+        BoxError::NoLastPart => "a codestream without its last part",
+        BoxError::NoCodestream => "no codestream",
+        BoxError::JpegReconstruction => "not supported: a JPEG file to be rebuilt",
+        BoxError::CompressedCodestream => "not supported: a compressed box of the codestream",
+        BoxError::OutOfMemory => "out of memory",
+    }
+}
+
+// What is wrong before the sections of frames, or not supported.
+#[derive(Clone, Copy)]
+struct FrontReason(FrontError);
+
+impl fmt::Display for FrontReason {
+    ghost output = { λ reason. Some (front_text reason.0) };
+
+    #[tactic(auto, unfolding(crate::specs::Reasons::front_text))]
+    fn fmt<W: fmt::Write>(&self, f: &mut fmt::Formatter<W>) -> fmt::Result {
+        match self.0 {
+            FrontError::TooLong => f.write_str("a codestream that is too long"),
+            FrontError::ImageHeader(error) => {
+                let cause = Cause(error);
+                write!(f, "image header: {cause}")
+            }
+            FrontError::Image(refusal) => {
+                let reason = image_reason(refusal);
+                write!(f, "not supported: {reason}")
+            }
+            FrontError::TooLarge => f.write_str("a picture above the limits"),
+            FrontError::Profile(error) => {
+                let cause = Cause(error);
+                write!(f, "colour profile: {cause}")
+            }
+            FrontError::FrameHeader(error) => {
+                let cause = Cause(error);
+                write!(f, "frame header: {cause}")
+            }
+            FrontError::Frame(refusal) => {
+                let reason = frame_reason(refusal);
+                write!(f, "not supported: {reason}")
+            }
+            FrontError::FramesTooLarge => f.write_str("frames above the limits"),
+            FrontError::TooManySections => {
+                f.write_str("not supported: more than 16777216 sections")
+            }
+            FrontError::Contents(error) => {
+                let cause = Cause(error);
+                write!(f, "table of contents: {cause}")
+            }
+            FrontError::TruncatedSection(number) => write!(f, "section {number} is truncated"),
+        }
+    }
+}
+
+// What is wrong with the patches of a frame, or not supported.
+#[derive(Clone, Copy)]
+struct PatchReason(PatchError);
+
+impl fmt::Display for PatchReason {
+    ghost output = { λ reason. Some (patch_text reason.0) };
+
+    #[tactic(auto, unfolding(crate::specs::Reasons::patch_text))]
+    fn fmt<W: fmt::Write>(&self, f: &mut fmt::Formatter<W>) -> fmt::Result {
+        match self.0 {
+            PatchError::Invalid { name, value } => write!(f, "invalid value {value} for {name}"),
+            PatchError::Decoder(error) => {
+                let text = decoder_text(error);
+                write!(f, "entropy decoder error: {text}")
+            }
+            PatchError::Blended => f.write_str("patches that are blended"),
+            PatchError::TooLarge => f.write_str("patches of too many cells"),
+            PatchError::Memory => f.write_str("out of memory"),
+        }
+    }
+}
+
+// What is wrong with the samples of a frame, or not supported.
+#[derive(Clone, Copy)]
+struct FrameReason(FrameError);
+
+impl fmt::Display for FrameReason {
+    ghost output = { λ reason. Some (frame_text reason.0) };
+
+    #[tactic(auto, unfolding(crate::specs::Reasons::frame_text))]
+    fn fmt<W: fmt::Write>(&self, f: &mut fmt::Formatter<W>) -> fmt::Result {
+        match self.0 {
+            FrameError::Header(error) => {
+                let cause = Cause(error);
+                write!(f, "image: {cause}")
+            }
+            FrameError::WeightedPalette => {
+                f.write_str("not supported: a palette with weighted deltas")
+            }
+            FrameError::NoGroups => f.write_str("a group of no columns or rows"),
+            FrameError::NoSection => f.write_str("a group without a section"),
+            FrameError::GroupWeightedPalette => {
+                f.write_str("not supported: a palette with weighted deltas in a group")
+            }
+            FrameError::Samples(error) => {
+                let cause = Cause(error);
+                write!(f, "samples: {cause}")
+            }
+            FrameError::NoMemory => f.write_str("out of memory"),
+        }
+    }
+}
+
+/// Why a file is not decoded, with words for what the entropy decoder refuses.
+#[derive(Clone, Copy)]
+pub struct Reason(pub FileError);
+
+impl fmt::Display for Reason {
+    ghost output = { λ reason. Some (file_text reason.0) };
+
+    #[tactic(auto, unfolding(crate::specs::Reasons::file_text))]
+    fn fmt<W: fmt::Write>(&self, f: &mut fmt::Formatter<W>) -> fmt::Result {
+        match self.0 {
+            FileError::File(error) => f.write_str(box_text(error)),
+            FileError::Front(error) => {
+                let reason = FrontReason(error);
+                write!(f, "{reason}")
+            }
+            FileError::Patches(error) => {
+                let reason = PatchReason(error);
+                write!(f, "patches: {reason}")
+            }
+            FileError::Start(error) => {
+                let cause = Cause(error);
+                write!(f, "first section: {cause}")
+            }
+            FileError::Tree(error) => {
+                let cause = Cause(error);
+                write!(f, "global tree: {cause}")
+            }
+            FileError::Samples(error) => {
+                let reason = FrameReason(error);
+                write!(f, "{reason}")
+            }
+            FileError::NoMemory => f.write_str("out of memory"),
+        }
+    }
+}

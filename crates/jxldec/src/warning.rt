@@ -1,0 +1,126 @@
+//! What the text of a picture leaves out.
+
+ghost use Rattle.std.specs.Prelude.{◌≡◌, ◌++◌, IfOk, OnOk, IsTrue, false, [], string_bytes};
+ghost use Rattle.std.specs.Io.KnownBytes.{Appends};
+ghost use Rattle.jxl_headers.specs.Images.{image_of};
+ghost use Rattle.jxl_picture.specs.Pictures.{is_full_alpha as the_full_alpha};
+ghost use Rattle.jxldec.specs.Warnings.{kinds_left_out, warning_lines};
+ghost use Rattle.jxldec.specs.Inner.Kinds.{rest_kinds};
+
+use jxl_headers::channel::ExtraChannel;
+use jxl_headers::image::ImageHeader;
+use jxl_info::names::kind_name;
+use jxl_picture::format::Format;
+use jxlm_base::grid::OutOfMemory;
+use std::alloc::Global;
+use std::io::Write;
+use std::{fmt, io};
+
+/// What the text of a picture leaves out.
+#[derive(Drop)]
+pub struct LeftOut {
+    /// The kinds of the channels that are left out, each after a space.
+    pub channels: String,
+    /// Whether a profile says what colours mean, which no format holds.
+    pub profile: bool,
+}
+
+// Whether a channel is alpha that is as large as the picture.
+fn is_full_alpha(channel: &ExtraChannel) -> bool
+    ensures { result ≡ the_full_alpha channel.now }
+{
+    channel.kind == 0 && channel.shift == 0
+}
+
+// Adds the kinds of channels, each after a space; unless `all` is set, but the first alpha of the picture's size.
+fn append_kinds(text: &mut String, all: bool, extra: &[ExtraChannel]) -> Result<(), OutOfMemory>
+    ensures { OnOk result (string_bytes text.new ≡ string_bytes text.old ++ rest_kinds all extra.now) }
+{
+    let mut passed = all;
+    for channel in extra {
+        if !passed && is_full_alpha(channel) {
+            passed = true;
+        } else {
+            let name = kind_name(channel.kind);
+            write!(text, " {name}")?;
+        }
+    }
+    Ok(())
+}
+
+impl LeftOut {
+    /// What the text of a picture leaves out in this format.
+    pub fn of(alloc: Global, format: Format, header: &ImageHeader) -> Result<LeftOut, OutOfMemory>
+        ensures channels { IfOk result (λ l. string_bytes l.channels
+            ≡ kinds_left_out format (image_of header.now).extra) }
+        ensures profile { IfOk result (λ l. l.profile ≡ (image_of header.now).shown.colour.profile) }
+    {
+        let mut channels = String::new(alloc);
+        match format {
+            Format::Text => {}
+            Format::Pam => append_kinds(&mut channels, false, &header.extra)?,
+            _ => append_kinds(&mut channels, true, &header.extra)?,
+        }
+        Ok(LeftOut {
+            channels,
+            profile: header.shown.colour.profile,
+        })
+    }
+
+    /// Nothing.
+    pub fn nothing(alloc: Global) -> LeftOut
+        ensures channels { string_bytes result.channels ≡ [] }
+        ensures profile { result.profile ≡ false }
+    {
+        LeftOut {
+            channels: String::new(alloc),
+            profile: false,
+        }
+    }
+}
+
+// The lines that warn of what is left out of a file of this name.
+#[derive(Clone, Copy)]
+struct Warnings<'a> {
+    name: &'a str,
+    channels: &'a str,
+    profile: bool,
+}
+
+impl fmt::Display for Warnings<'_> {
+    ghost use Rattle.std.specs.Prelude.{Some};
+
+    ghost output = { λ w. Some (warning_lines w.name.now w.channels.now w.profile) };
+
+    #[tactic(auto, unfolding(crate::specs::Warnings::warning_lines, crate::specs::Warnings::channel_line, crate::specs::Warnings::profile_line))]
+    fn fmt<W: fmt::Write>(&self, f: &mut fmt::Formatter<W>) -> fmt::Result {
+        let (name, channels) = (self.name, self.channels);
+        if !channels.is_empty() {
+            writeln!(f, "jxldec: {name}: channels left out:{channels}")?;
+        }
+        if self.profile {
+            writeln!(f, "jxldec: {name}: colour profile left out")?;
+        }
+        Ok(())
+    }
+}
+
+/// Writes a line on channels that were left out, if there are any, and one on a profile, as far as they can be written.
+/// It returns whether lines were written.
+pub fn warn<E: Write>(errors: &mut E, name: &str, left_out: &LeftOut) -> bool
+    ensures lines { IsTrue result → Appends (E.contents errors.old) (E.contents errors.new)
+        (warning_lines name.now (string_bytes left_out.now.channels) left_out.now.profile) }
+    ensures none { string_bytes left_out.now.channels ≡ [] → left_out.now.profile ≡ false
+        → errors.new ≡ errors.old }
+{
+    let (channels, profile) = (left_out.channels.as_str(), left_out.profile);
+    if channels.is_empty() && !profile {
+        return false;
+    }
+    let warnings = Warnings {
+        name,
+        channels,
+        profile,
+    };
+    write!(errors, "{warnings}").is_ok()
+}
